@@ -1,0 +1,27 @@
+use Rattle.std.proofs.Common.{rules, ◌≡◌, ◌<◌, ◌≤◌, length, refl, sym, subst, ap, ◌∙◌, arith, ℤ, ◌<ℤ◌, ◌≤ℤ◌, FitsSigned, true}
+use Rattle.std.specs.Int.{w128}
+use Rattle.std.specs.Prelude.{slice_set}
+use Rattle.std.proofs.lemmas.Int.{ints, to_z-of_z}
+use Rattle.box_search.specs.Boxes.{interval_at, width, points, middle, up_to, above, is_open, IsSound}
+use Rattle.box_search.proofs.BoxLemmas.{width_below, open_column, open_ordered, interval_read, middle_least, middle_greatest, split_parts}
+use Rattle.box_search.proofs.boxes.split_box.Goals as goal
+
+pub middle-middle-requires-clause-room : goal.middle-middle-requires-clause-room
+middle-middle-requires-clause-room c =
+    let b = c.args.intervals.items in
+    let at = open_column b c.args.column c.index.result.now c.requires.«open» in
+    let is : c.index.result.now ≡ interval_at b c.args.column = interval_read b c.args.column c.index.result.now at.0 c.index.ensures in
+    let below : width (interval_at b c.args.column) < points b = width_below b c.args.column at.0 in
+    rw is (omega arith)
+
+pub above-requires-clause-below : goal.above-requires-clause-below
+above-requires-clause-below c =
+    let i = c.index.result.now in
+    let f : FitsSigned w128 c.middle-middle.result = search rules in
+    let at = open_column c.args.intervals.items c.args.column i c.requires.«open» in
+    let ordered : i.low <ℤ i.high = open_ordered i (subst (λ n. is_open n ≡ true) (sym c.index.ensures) at.1) in
+    let below : middle i <ℤ i.high = middle_greatest i ordered in
+    simp to_z-of_z (subst (λ n. n <ℤ i.high) (sym c.middle-middle.ensures) below)
+
+pub returns : goal.returns
+returns c = ?
