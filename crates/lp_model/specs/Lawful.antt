@@ -1,0 +1,55 @@
+-- Which models there are: what every `Model` keeps.
+use Rattle.std.specs.Prelude.{◌≡◌, ◌≢◌, ℕ, suc, ◌<◌, ◌≤◌, Bool, true, false, if◌then◌else◌, IsTrue, List, [], ◌∷◌, ◌++◌, length, map, All, AllPairs, sum_by, pos, Option, Some, None, IsSome}
+use Rattle.rational.specs.Rational.{ℚ, int, ◌-ℚ◌, neg_ℚ, ◌≤ℚ◌}
+use Rattle.frac128.specs.Range.{SumFits}
+use Rattle.lp_model.specs.Program.{Program}
+use Rattle.lp_model.specs.declared.types.RowId.{RowId}
+use Rattle.lp_model.specs.declared.types.Row.{Row}
+use Rattle.lp_model.specs.declared.types.Col.{Col}
+
+-- how many rows, columns and entries there may be: more in a model that was widened
+abbrev pub row_limit : Bool → ℕ
+row_limit wide = if wide then 502 else 500
+
+abbrev pub col_limit : Bool → ℕ
+col_limit wide = if wide then 1001 else 1000
+
+abbrev pub entry_limit : Bool → ℕ
+entry_limit wide = if wide then 52002 else 50000
+
+-- there is a side; two sides do not cross, and hi - lo and hi - (hi - lo) have room
+abbrev pub IsRange : Option ℚ → Option ℚ → Type 0
+IsRange None None = ⊥
+IsRange None (Some h) = Unit {0}
+IsRange (Some l) None = Unit {0}
+IsRange (Some l) (Some h) = (l ≤ℚ h) × SumFits h (neg_ℚ l) × SumFits h (neg_ℚ (h -ℚ l))
+
+-- the rows of the entries rise, from `from` on and below `to`, and no number is 0
+abbrev pub AreEntries : ℕ → ℕ → List (RowId × ℚ) → Type 0
+AreEntries from to [] = Unit {0}
+AreEntries from to (e ∷ es) = (from ≤ e.0.0) × (e.0.0 < to) × (e.1 ≢ int (pos 0)) × AreEntries (suc e.0.0) to es
+
+-- an integer column has two bounds, and the entries are of the n rows that there are
+pub record IsLawfulColumn (n : ℕ) (c : Col) : Type 0 where
+  pub bounded : IsTrue c.int → IsSome c.lo × IsSome c.up
+  pub entries : AreEntries 0 n c.rows
+
+-- the names of the objectives and the rows
+abbrev pub row_names : Program → List (List ℕ)
+row_names M = M.obj ∷ M.obj2 ∷ map (λ r. r.name) M.rows
+
+abbrev pub column_names : Program → List (List ℕ)
+column_names M = map (λ c. c.name) M.cols
+
+abbrev pub entry_count : Program → ℕ
+entry_count M = sum_by (λ c. length c.rows) M.cols
+
+pub record IsLawful (M : Program) : Type 0 where
+  pub constants : length M.consts ≡ 2
+  pub ranges : All (λ r. IsRange r.lo r.hi) M.rows
+  pub columns : All (IsLawfulColumn (length M.rows)) M.cols
+  pub rows_distinct : AllPairs (λ a b. a ≢ b) (row_names M)
+  pub columns_distinct : AllPairs (λ a b. a ≢ b) (column_names M)
+  pub few_rows : length M.rows ≤ row_limit M.wide
+  pub few_columns : length M.cols ≤ col_limit M.wide
+  pub few_entries : entry_count M ≤ entry_limit M.wide
