@@ -47,7 +47,9 @@ interval_read (a ∷ as_) zero i h e = e
 interval_read (a ∷ as_) (suc j) i h e = interval_read as_ j i (omega arith) e
 
 pub sound_at : (b : Intervals) (j : ℕ) (d : Interval) → IsProper b → j < length b → IsSound (get_or b j d)
-sound_at b j d proper h = proper j d h
+sound_at [] j d proper h = absurd (omega arith)
+sound_at (i ∷ is) zero d proper h = proper.0
+sound_at (i ∷ is) (suc j) d proper h = sound_at is j d proper.1 (omega arith)
 
 -- the two parts of a box, as they are written
 pub split_parts : (b : Intervals) (j : ℕ) (i : Interval) (lower upper : Intervals) → position is_open b ≡ Some j → i ≡ get_or b j i

@@ -1,1 +1,4 @@
 pub mod BoxLemmas
+pub mod SplitLemmas
+pub mod PartitionLemmas
+pub mod SearchLemmas

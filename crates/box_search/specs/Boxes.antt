@@ -2,8 +2,8 @@
 --     IsIn i v            v is a whole number of the interval i
 --     InBox b x           each number of the point x is one of its interval
 --     points b            how many points the box has
-use Rattle.std.specs.Prelude.{◌≡◌, ◌⊎◌, ℕ, zero, suc, ◌*◌, ◌+◌, ◌<◌, ℤ, pos, ◌-ℤ◌, ◌+ℤ◌, ◌≤ℤ◌, ◌<ℤ◌, unsigned_abs, int_lt, Bool, true, List, [], ◌∷◌, ◌++◌, map, Some, length, get_or, slice_set, ◌/◌}
-use Rattle.std.specs.List.{All}
+--     IsSplitAt           a box in two parts, by the numbers of one column up to v and above v
+use Rattle.std.specs.Prelude.{◌≡◌, ℕ, suc, ◌*◌, ◌/◌, ◌<◌, ℤ, pos, ◌-ℤ◌, ◌+ℤ◌, ◌≤ℤ◌, ◌<ℤ◌, unsigned_abs, int_lt, Bool, true, List, [], ◌∷◌, map, Some, length, get_or, slice_set}
 use Rattle.rational.specs.Rational.{ℚ, int}
 use Rattle.frac128.specs.Range.{IsNarrow}
 use Rattle.lp_model.specs.Program.{Point, IsAllowed}
@@ -28,7 +28,8 @@ pub record IsSound (i : Interval) : Type 0 where
   pub high : IsNarrow i.high
 
 abbrev pub IsProper : Intervals → Type 0
-IsProper b = All IsSound b
+IsProper [] = Unit {0}
+IsProper (i ∷ is) = IsSound i × IsProper is
 
 -- how many numbers follow the least one
 abbrev pub width : Interval → ℕ
@@ -42,19 +43,11 @@ points (i ∷ is) = suc (width i) * points is
 abbrev pub is_open : Interval → Bool
 is_open i = int_lt i.low i.high
 
--- the box has one point
-abbrev pub IsSingle : Intervals → Type 0
-IsSingle b = All (λ i. i.low ≡ i.high) b
-
 -- the least point
 abbrev pub corner : Intervals → Point
 corner b = map (λ i. int i.low) b
 
--- the box with another interval at a column
-abbrev pub with_interval : Intervals → ℕ → Interval → Intervals
-with_interval b column interval = slice_set b column interval
-
--- the interval at a column
+-- the interval of a column
 abbrev pub interval_at : Intervals → ℕ → Interval
 interval_at b column = get_or b column (record { low = pos 0; high = pos 0 })
 
@@ -64,14 +57,14 @@ up_to i v = record { low = i.low; high = v }
 abbrev pub above : Interval → ℤ → Interval
 above i v = record { low = v +ℤ pos 1; high = i.high }
 
--- a column is split above v, which has numbers on both sides
+-- the number in the middle, rounded down
+abbrev pub middle : Interval → ℤ
+middle i = i.low +ℤ pos (width i / 2)
+
+-- the column has numbers up to v and above v, and each part has those of one kind
 pub record IsSplitAt (b : Intervals) (column : ℕ) (v : ℤ) (lower upper : Intervals) : Type 0 where
   pub within : column < length b
   pub least : (interval_at b column).low ≤ℤ v
   pub greatest : v <ℤ (interval_at b column).high
-  pub lower_is : lower ≡ with_interval b column (up_to (interval_at b column) v)
-  pub upper_is : upper ≡ with_interval b column (above (interval_at b column) v)
-
--- the number in the middle, rounded down
-abbrev pub middle : Interval → ℤ
-middle i = i.low +ℤ pos (width i / 2)
+  pub lower_is : lower ≡ slice_set b column (up_to (interval_at b column) v)
+  pub upper_is : upper ≡ slice_set b column (above (interval_at b column) v)

@@ -71,6 +71,7 @@ pub(crate) fn corner_of(alloc: Global, intervals: &[Interval]) -> Result<Vec<Fra
 
 /// The box up to the middle of an interval that has more than one number, and the box above it.
 pub(crate) fn split_box(
+    alloc: Global,
     mut intervals: Vec<Interval>,
     column: usize,
 ) -> Result<(Vec<Interval>, Vec<Interval>), AllocError>
@@ -81,7 +82,7 @@ pub(crate) fn split_box(
 {
     let interval = intervals[column];
     let middle = interval.middle();
-    let mut lower = intervals.clone()?;
+    let mut lower = Vec::from_slice(alloc, &intervals)?;
     lower[column] = interval.up_to(middle);
     intervals[column] = interval.above(middle);
     Ok((lower, intervals))
