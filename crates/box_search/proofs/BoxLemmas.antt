@@ -1,9 +1,11 @@
 -- Boxes: how many points they have, and their parts.
-use Rattle.std.proofs.Common.{◌≡◌, ℕ, zero, suc, ◌+◌, ◌*◌, ◌/◌, ◌<◌, ◌≤◌, Bool, true, false, List, [], ◌∷◌, ◌++◌, length, get_or, refl, sym, subst, ap, ◌∙◌, arith, Some, ℤ, pos, ◌+ℤ◌, ◌-ℤ◌, ◌≤ℤ◌, ◌<ℤ◌, add_assoc}
+use Rattle.std.proofs.Common.{◌≡◌, ℕ, zero, suc, ◌+◌, ◌*◌, ◌/◌, ◌<◌, ◌≤◌, Bool, true, false, List, [], ◌∷◌, ◌++◌, length, get_or, take, refl, sym, subst, ap, ◌∙◌, arith, Some, ℤ, pos, ◌+ℤ◌, ◌-ℤ◌, ◌≤ℤ◌, ◌<ℤ◌, add_assoc}
 use Rattle.std.specs.Prelude.{position, unsigned_abs, int_lt, slice_set}
 use Rattle.std.proofs.lemmas.Int.{ints}
 use Rattle.std.proofs.lemmas.List.Quantifiers.{position-Some}
-use Rattle.box_search.specs.Boxes.{Intervals, interval_at, width, points, is_open, middle, up_to, above, IsSound, IsProper, IsSplitAt}
+use Rattle.std.proofs.lemmas.List.{take_more, map-append}
+use Rattle.rational.specs.Rational.{ℚ, int}
+use Rattle.box_search.specs.Boxes.{Intervals, corner, interval_at, width, points, is_open, middle, up_to, above, IsSound, IsProper, IsSplitAt}
 use Rattle.box_search.specs.declared.boxes.Interval.{Interval}
 
 pub points_positive : (b : Intervals) → 0 < points b
@@ -66,3 +68,12 @@ split_parts b j i lower upper is_open_at read low_is up_is =
       lower_is = low_is ∙ ap (λ n. slice_set b j (up_to n (middle i))) is;
       upper_is = up_is ∙ ap (λ n. slice_set b j (above n (middle i))) is;
     })
+
+-- the corner, one more number at a time
+pub corner-step : (b : Intervals) (k : ℕ) (before after : List ℚ) → k < length b → after ≡ before ++ int (interval_at b k).low ∷ []
+    → before ≡ corner (take k b) → after ≡ corner (take (k + 1) b)
+corner-step b k before after h grown was =
+    let i = interval_at b k in
+    let front : take (k + 1) b ≡ take k b ++ i ∷ [] = take_more b k _ h in
+    let f : Interval → ℚ = λ j. int j.low in
+    grown ∙ ap (λ l. l ++ int i.low ∷ []) was ∙ sym (map-append f (take k b) (i ∷ [])) ∙ ap corner (sym front)

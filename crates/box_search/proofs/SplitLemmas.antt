@@ -13,7 +13,7 @@ use Rattle.box_search.specs.declared.boxes.Interval.{Interval}
 
 -- ---- one interval
 
-below_or_above : (z v : ℤ) → (z ≤ℤ v) ⊎ ((v +ℤ pos 1) ≤ℤ z)
+pub below_or_above : (z v : ℤ) → (z ≤ℤ v) ⊎ ((v +ℤ pos 1) ≤ℤ z)
 below_or_above (pos a) (pos b) = grind (arith, ints)
 below_or_above (pos a) (negsuc b) = inr (omega (arith, ints))
 below_or_above (negsuc a) (pos b) = inl (omega (arith, ints))

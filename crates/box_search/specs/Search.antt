@@ -2,13 +2,9 @@
 use Rattle.std.specs.Prelude.{◌≡◌, ◌⊎◌, ℕ, ◌+◌, ◌*◌, List, [], ◌∷◌, ◌++◌, length, Option, Some, None}
 use Rattle.rational.specs.Rational.{ℚ, ◌≤ℚ◌}
 use Rattle.lp_model.specs.Program.{Program, Point, IsFeasible, value, least_value, in_least_form}
+use Rattle.box_search.specs.declared.search.Kept.{Kept}
 use Rattle.box_search.specs.Boxes.{Intervals, InBox, points, IsProper}
 use Rattle.box_search.specs.Partition.{EachBox, IsPartition, points_of_all}
-
--- a feasible point and its value in the first objective
-pub record Kept : Type 0 where
-  pub point : Point
-  pub value : ℚ
 
 -- the value is at least as good as that of each feasible point of the box
 abbrev pub IsAsGood : Program → ℚ → Intervals → Type 0

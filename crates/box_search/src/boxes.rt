@@ -1,7 +1,6 @@
 // Boxes of whole points: for each column of a model the least and the greatest whole number.
-ghost use Rattle.std.specs.Prelude.{◌≡◌, ◌<◌, ◌^◌, ◌+ℤ◌, ◌<ℤ◌, ◌/◌, pos, position, IfOk};
+ghost use Rattle.std.specs.Prelude.{◌≡◌, ◌<◌, ◌↔◌, IsTrue, ◌^◌, ◌+ℤ◌, ◌<ℤ◌, ◌/◌, pos, position, IfOk};
 ghost use Rattle.rational.specs.Rational.{int};
-ghost use Rattle.frac128.specs.Range.{IsNarrow};
 ghost use Rattle.box_search.specs.Boxes.{is_open, width, corner, points, up_to, above, middle, interval_at, IsSound, IsProper, IsSplitAt};
 
 use frac128::Frac;
@@ -15,6 +14,13 @@ pub struct Interval {
 }
 
 impl Interval {
+    /// Whether it has no number.
+    pub(crate) fn is_crossed(&self) -> bool
+        ensures { IsTrue result ↔ (self.now.high <ℤ self.now.low) }
+    {
+        self.high < self.low
+    }
+
     /// The number in the middle, rounded down.
     fn middle(&self) -> i128
         requires sound { IsSound self.now }
@@ -23,6 +29,14 @@ impl Interval {
     {
         let width = (self.high - self.low).unsigned_abs();
         self.low + (width / 2) as i128
+    }
+
+    /// The least number as a fraction.
+    fn least(&self) -> Frac
+        requires { IsSound self.now }
+        ensures { result ≡ int self.now.low }
+    {
+        Frac::of_whole(self.low)
     }
 
     /// The numbers up to a value.
@@ -64,7 +78,7 @@ pub(crate) fn corner_of(alloc: Global, intervals: &[Interval]) -> Result<Vec<Fra
 {
     let mut point = Vec::new(alloc);
     for interval in intervals {
-        point.push(whole(interval.low))?;
+        point.push(interval.least())?;
     }
     Ok(point)
 }
@@ -86,15 +100,4 @@ pub(crate) fn split_box(
     lower[column] = interval.up_to(middle);
     intervals[column] = interval.above(middle);
     Ok((lower, intervals))
-}
-
-/// A whole number as a fraction.
-fn whole(number: i128) -> Frac
-    requires { IsNarrow number }
-    ensures { result ≡ int number }
-{
-    match Frac::new(number, 1) {
-        Ok(fraction) => fraction,
-        Err(_) => unreachable!(),
-    }
 }

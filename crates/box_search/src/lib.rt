@@ -2,5 +2,7 @@
 #![tactic(auto)]
 
 mod boxes;
+mod root;
 
 pub use boxes::Interval;
+pub use root::cap;

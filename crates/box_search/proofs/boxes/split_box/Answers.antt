@@ -3,7 +3,7 @@ use Rattle.std.specs.Int.{w128}
 use Rattle.std.specs.Prelude.{slice_set}
 use Rattle.std.proofs.lemmas.Int.{ints, to_z-of_z}
 use Rattle.box_search.specs.Boxes.{interval_at, width, points, middle, up_to, above, is_open, IsSound}
-use Rattle.box_search.proofs.BoxLemmas.{width_below, open_column, open_ordered, interval_read, middle_least, middle_greatest, split_parts}
+use Rattle.box_search.proofs.BoxLemmas.{width_below, open_column, open_ordered, interval_read, middle_least, middle_greatest, sound_at, split_parts}
 use Rattle.box_search.proofs.boxes.split_box.Goals as goal
 
 pub middle-middle-requires-clause-room : goal.middle-middle-requires-clause-room
@@ -13,6 +13,16 @@ middle-middle-requires-clause-room c =
     let is : c.index.result.now ≡ interval_at b c.args.column = interval_read b c.args.column c.index.result.now at.0 c.index.ensures in
     let below : width (interval_at b c.args.column) < points b = width_below b c.args.column at.0 in
     rw is (omega arith)
+
+pub middle-middle-requires-clause-sound : goal.middle-middle-requires-clause-sound
+middle-middle-requires-clause-sound c =
+    let at = open_column c.args.intervals.items c.args.column c.index.result.now c.requires.«open» in
+    subst IsSound (sym c.index.ensures) (sound_at c.args.intervals.items c.args.column c.index.result.now c.requires.proper at.0)
+
+pub above-requires-clause-sound : goal.above-requires-clause-sound
+above-requires-clause-sound c =
+    let at = open_column c.args.intervals.items c.args.column c.index.result.now c.requires.«open» in
+    subst IsSound (sym c.index.ensures) (sound_at c.args.intervals.items c.args.column c.index.result.now c.requires.proper at.0)
 
 pub above-requires-clause-below : goal.above-requires-clause-below
 above-requires-clause-below c =
