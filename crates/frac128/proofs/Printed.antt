@@ -1,5 +1,5 @@
 -- What the text of a number is, whole or not.
-use Rattle.std.specs.Prelude.{◌≡◌, ◌==◌, ℤ, ◌∷◌, ◌++◌}
+use Rattle.std.specs.Prelude.{◌≡◌, ℤ, ◌∷◌, ◌++◌}
 use Rattle.std.specs.Fmt.{decimal, signed_decimal}
 use Rattle.std.proofs.Common.{refl, arith}
 use Rattle.rational.specs.Rational.{ℚ, den, int, IsWhole}

@@ -1,6 +1,6 @@
 -- Which numbers and which steps have room: whole numbers, 0, opposites, and sums turned round.
-use Rattle.std.specs.Prelude.{◌≡◌, ℕ, zero, suc, ◌*◌, ◌/◌, ◌≤◌, [], ◌∷◌, ℤ, pos, negsuc, ◌+ℤ◌, ◌*ℤ◌, neg_ℤ, unsigned_abs, Result, OkIff}
-use Rattle.std.proofs.Common.{refl, sym, ap, ap₂, subst, ◌∙◌, arith, lit≤, div-one}
+use Rattle.std.specs.Prelude.{◌≡◌, ℕ, zero, suc, ◌*◌, ◌/◌, ◌≤◌, [], ◌∷◌, ℤ, pos, negsuc, ◌+ℤ◌, ◌-ℤ◌, ◌*ℤ◌, neg_ℤ, unsigned_abs, Result, OkIff}
+use Rattle.std.proofs.Common.{sym, ap, ap₂, subst, ◌∙◌, arith, lit≤, div-one}
 use Rattle.std.proofs.lemmas.Int.{ints}
 use mathlib.Core.Path.{subst₂}
 use Rattle.std.proofs.Math.Nat.{div-le_self, div-mul_cancel}
@@ -8,7 +8,7 @@ use Rattle.rational.specs.Gcd.{gcd, gcd-one, gcd_comm, IsGcd-gcd}
 use Rattle.rational.specs.Rational.{ℚ, den, int, ◌+ℚ◌, ◌*ℚ◌, neg_ℚ, floor, ceil, floor_quotient}
 use Rattle.rational.proofs.IntegerRing.{ring_ℤ, reads_ℤ}
 use Rattle.rational.proofs.Integers.{int-num, num-neg_ℚ, den-neg_ℚ}
-use Rattle.rational.proofs.RationalRing.{int-+ℤ, int-*ℤ}
+use Rattle.rational.proofs.RationalRing.{int-+ℤ, int-*ℤ, int-neg_ℤ}
 use Rattle.frac128.specs.Range.{IsNarrow, Fits, SumFits, left_factor, right_factor, largest}
 use Rattle.frac128.proofs.SumTerms.{OkIff_same, sum_fits}
 
@@ -40,6 +40,12 @@ SumFits-int a b h k m = record {
 pub IsNarrow-from_SumFits : (a b : ℤ) → SumFits (int a) (int b) → IsNarrow (a +ℤ b)
 unfolding int gcd
 IsNarrow-from_SumFits a b f = subst IsNarrow (ap₂ ◌+ℤ◌ (over_one a) (over_one b)) f.total
+
+-- the step of `sub`
+pub SumFits-difference_int : (a b : ℤ) → IsNarrow a → IsNarrow b → IsNarrow (a -ℤ b) → SumFits (int a) (neg_ℚ (int b))
+SumFits-difference_int a b h k m =
+    let turned_narrow : IsNarrow (neg_ℤ b) = omega (arith, ints) in
+    subst (SumFits (int a)) (int-neg_ℤ b) (SumFits-int a (neg_ℤ b) h turned_narrow m)
 
 pub Fits-product_int : (a b : ℤ) → IsNarrow (a *ℤ b) → Fits (int a *ℚ int b)
 Fits-product_int a b h = subst Fits (int-*ℤ a b) (Fits-int (a *ℤ b) h)

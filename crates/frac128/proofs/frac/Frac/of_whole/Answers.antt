@@ -1,8 +1,6 @@
-use Rattle.std.proofs.Common.{FitsSigned, ◌≡◌, arith, sym, ◌∙◌, ap, unsigned_abs}
-use Rattle.std.specs.Int.{w128}
+use Rattle.std.proofs.Common.{arith, sym, unsigned_abs}
 use Rattle.std.proofs.lemmas.Int.{to_z-of_z, ints}
 use Rattle.rational.specs.Gcd.{gcd-one}
-use Rattle.rational.specs.Rational.{int}
 use Rattle.rational.proofs.RationalRing.{int_is}
 use Rattle.frac128.proofs.frac.Frac.of_whole.Goals as goal
 
