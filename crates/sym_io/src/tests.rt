@@ -4,9 +4,9 @@ use crate::{
 };
 use std::alloc::{AllocError, Global};
 use std::collections::BTreeMap;
-use std::io;
 use std::io::{ErrorKind, Read};
 use std::test::Fail;
+use std::{fs, io};
 
 /// A reader that can't be read.
 #[derive(Drop)]
@@ -51,6 +51,7 @@ fn the_current_folder_keeps_files(rt: HostRuntime) -> Result<(), Fail> {
     );
     assert_eq!(rt; folder.get(rt.alloc(), "none"), Err(StoreFault::Failed));
     assert_eq!(rt; folder.put("no/such/folder", b"abc"), Err(Failed));
+    fs::remove_file(&rt, "kept")?;
     Ok(())
 }
 
