@@ -1,0 +1,6 @@
+pub mod ScriptLemmas
+pub mod OutputLemmas
+pub mod SessionLemmas
+pub mod PieceLemmas
+pub mod ReadLemmas
+pub mod RunLemmas

@@ -1,0 +1,98 @@
+-- Sessions one after another.
+use Rattle.std.proofs.Common.{◌≡◌, ℕ, List, [], ◌∷◌, ◌++◌, refl, sym, ◌∙◌, ap, append_assoc, append-nil, arith, Bool, true, false, ◌||◌, subst}
+use Rattle.std.specs.List.{list_any, concat}
+use Rattle.std.specs.Io.KnownBytes.{Appends}
+use Rattle.std.proofs.lemmas.List.Folds.{concat-append}
+use Rattle.script_session.specs.Output.{WritesFront}
+use Rattle.script_session.specs.Reply.{wants_memory, is_error}
+use Rattle.script_session.specs.Script.{Command}
+use Rattle.script_session.specs.Session.{Moment, Serves, Breaks, Halts}
+use Rattle.script_session.specs.Stand.{Stand, Transcript}
+use Rattle.script_session.proofs.OutputLemmas.{Appends-none, Appends-append}
+
+pub Transcript-append : {S Q R : Type 0} (step : S → Q → R → S → Type 0) (a b c : S) (qs us : List Q) (rs vs : List R) → Transcript step a qs rs b → Transcript step b us vs c → Transcript step a (qs ++ us) (rs ++ vs) c
+Transcript-append step a b c [] us [] vs h k = subst (λ s. Transcript step s us vs c) h k
+Transcript-append step a b c [] us (r ∷ rs) vs h k = absurd h
+Transcript-append step a b c (q ∷ qs) us [] vs h k = absurd h
+Transcript-append step a b c (q ∷ qs) us (r ∷ rs) vs h k = (h.0, h.1, Transcript-append step h.0 b c qs us rs vs h.2 k)
+
+or_assoc : (a b c : Bool) → (a || b) || c ≡ a || (b || c)
+or_assoc true b c = refl
+or_assoc false b c = refl
+
+or_false : (b : Bool) → b ≡ b || false
+or_false true = refl
+or_false false = refl
+
+any_both : (p : List ℕ → Bool) (rs vs : List (List ℕ)) → list_any p rs || list_any p vs ≡ list_any p (rs ++ vs)
+any_both p [] vs = refl
+any_both p (r ∷ rs) vs = or_assoc (p r) (list_any p rs) (list_any p vs) ∙ ap (λ b. p r || b) (any_both p rs vs)
+
+any-append : (p : List ℕ → Bool) (b : Bool) (rs vs : List (List ℕ)) → (b || list_any p rs) || list_any p vs ≡ b || list_any p (rs ++ vs)
+any-append p b rs vs = or_assoc b (list_any p rs) (list_any p vs) ∙ ap (λ a. b || a) (any_both p rs vs)
+
+module _ {M : Type 0} (step : Stand M → Command → List ℕ → Stand M → Type 0) where
+  pub Serves-none : (old : Moment M) → Serves step old [] old
+  Serves-none old = record { replies = []; run = refl; output = Appends-none old.written; wanted = or_false old.wanted; refused = or_false old.refused }
+
+  pub Serves-append : (a b c : Moment M) (qs us : List Command) → Serves step a qs b → Serves step b us c → Serves step a (qs ++ us) c
+  Serves-append a b c qs us h k = record {
+    replies = h.replies ++ k.replies;
+    run = Transcript-append step a.state b.state c.state qs us h.replies k.replies h.run k.run;
+    output = subst (λ bytes. Appends a.written c.written bytes) (sym (concat-append h.replies k.replies)) (Appends-append a.written b.written c.written (concat h.replies) (concat k.replies) h.output k.output);
+    wanted = k.wanted ∙ ap (λ w. w || list_any wants_memory k.replies) h.wanted ∙ any-append wants_memory a.wanted h.replies k.replies;
+    refused = k.refused ∙ ap (λ w. w || list_any is_error k.replies) h.refused ∙ any-append is_error a.refused h.replies k.replies;
+  }
+
+  pub Serves-Breaks : (a b c : Moment M) (qs us : List Command) → Serves step a qs b → Breaks step b us c → Breaks step a (qs ++ us) c
+  Serves-Breaks a b c qs us h k = record {
+    replies = h.replies ++ k.replies;
+    run = Transcript-append step a.state b.state c.state qs us h.replies k.replies h.run k.run;
+    bytes = concat h.replies ++ k.bytes;
+    output = Appends-append a.written b.written c.written (concat h.replies) k.bytes h.output k.output;
+    unwritten = k.unwritten;
+    front = append_assoc (concat h.replies) k.bytes k.unwritten ∙ ap (λ bytes. concat h.replies ++ bytes) k.front ∙ sym (concat-append h.replies k.replies);
+  }
+
+  pub Serves-Halts : (a b c : Moment M) (qs us : List Command) → Serves step a qs b → Halts step b us c → Halts step a (qs ++ us) c
+  Serves-Halts a b c qs us h k = record {
+    replies = h.replies ++ k.replies;
+    missing = k.missing;
+    run = subst (λ rs. Transcript step a.state (qs ++ us) rs c.state) (sym (append_assoc h.replies k.replies k.missing)) (Transcript-append step a.state b.state c.state qs us h.replies (k.replies ++ k.missing) h.run k.run);
+    output = subst (λ bytes. Appends a.written c.written bytes) (sym (concat-append h.replies k.replies)) (Appends-append a.written b.written c.written (concat h.replies) (concat k.replies) h.output k.output);
+    one = k.one;
+  }
+
+  -- one command, whose reply was written
+  pub Serves-one : (old new : Moment M) (words : Command) (reply : List ℕ) → step old.state words reply new.state → Appends old.written new.written reply → new.wanted ≡ (old.wanted || wants_memory reply) → new.refused ≡ (old.refused || is_error reply) → Serves step old (words ∷ []) new
+  Serves-one old new words reply answered output wanted refused = record {
+    replies = reply ∷ [];
+    run = (new.state, answered, refl);
+    output = subst (λ bytes. Appends old.written new.written bytes) (sym (append-nil reply)) output;
+    wanted = wanted ∙ ap (λ b. old.wanted || b) (or_false (wants_memory reply));
+    refused = refused ∙ ap (λ b. old.refused || b) (or_false (is_error reply));
+  }
+
+  -- one whose reply was written in part
+  pub Breaks-one : (old new : Moment M) (words : Command) (reply : List ℕ) → step old.state words reply new.state → WritesFront old.written new.written reply → Breaks step old (words ∷ []) new
+  Breaks-one old new words reply answered sent = record {
+    replies = reply ∷ [];
+    run = (new.state, answered, refl);
+    bytes = sent.0;
+    output = sent.3;
+    unwritten = sent.1;
+    front = sent.2 ∙ sym (append-nil reply);
+  }
+
+  -- one whose reply couldn't be made whole
+  pub Halts-one : (old new : Moment M) (words : Command) → (reply : List ℕ) × step old.state words reply new.state → new.written ≡ old.written → Halts step old (words ∷ []) new
+  Halts-one old new words answered same = record {
+    replies = [];
+    missing = answered.0 ∷ [];
+    run = (new.state, answered.1, refl);
+    output = subst (λ written. Appends old.written written []) (sym same) (Appends-none old.written);
+    one = omega arith;
+  }
+
+  pub Halts-none : (old : Moment M) → Halts step old [] old
+  Halts-none old = record { replies = []; missing = []; run = refl; output = Appends-none old.written; one = omega arith }

@@ -1,0 +1,22 @@
+use Rattle.std.proofs.Common.{◌≤◌, ◌-◌}
+use Rattle.script_session.specs.Session.{moment_of}
+use Rattle.script_session.specs.declared.reading.TheConstants.{SCRIPT_LIMIT}
+use Rattle.script_session.proofs.ReadLemmas.{ReadsOn}
+use Rattle.script_session.proofs.session.Session.read_script.Given as goal
+
+abbrev pub invariant-loop-count : goal.invariant-loop-count
+invariant-loop-count g l =
+    let written = g.W.Sink.written in
+    let files = g.S.Store.files in
+    let faults = g.S.Store.faults in
+    record {
+      reads : ReadsOn g.M.Machine.ends g.M.Machine.step (g.R.Source.left l.fn.script) (g.R.Source.left l.script)
+          (moment_of l.fn.self l.fn.machine (written l.fn.out) (files l.fn.store) (faults l.fn.store))
+          (moment_of l.self l.machine (written l.out) (files l.store) (faults l.store)) l.taken l.pending.items;
+      limit : l.taken ≤ SCRIPT_LIMIT;
+      source_later : g.R.Source.faults l.fn.script ≤ g.R.Source.faults l.script;
+      sink_later : g.W.Sink.faults l.fn.out ≤ g.W.Sink.faults l.out;
+    }
+
+abbrev pub decreases-loop-count : goal.decreases-loop-count
+decreases-loop-count g l = SCRIPT_LIMIT - l.taken

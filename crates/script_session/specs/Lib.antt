@@ -1,0 +1,7 @@
+-- A reader starts with Run, which says what the clauses of `run_script` mean.
+pub mod Script
+pub mod Stand
+pub mod Reply
+pub mod Run
+pub mod Output
+pub mod Session

@@ -1,0 +1,56 @@
+// A script, read piece by piece.
+ghost use Rattle.std.specs.Prelude.{◌≤◌};
+ghost use Rattle.script_session.specs.Output.{SinkCause, SourceCause};
+ghost use Rattle.script_session.specs.Run.{ReadsNoFurther};
+ghost use Rattle.script_session.specs.Session.{moment_of, ServesScript};
+
+use crate::machine::Machine;
+use crate::session::{Flow, Session, Stop};
+use sym_io::{Sink, Source, Store};
+
+/// The most bytes that a script may have: 16 MiB.
+pub const SCRIPT_LIMIT: usize = 16_777_216;
+
+/// The most bytes that one read takes.
+pub const PIECE_LENGTH: usize = 4096;
+
+impl Session {
+    /// Answers each line of a script as soon as it is whole, up to its end or the first line that ends it.
+    pub(crate) fn read_script<M: Machine, R: Source, W: Sink, S: Store>(
+        &mut self,
+        machine: &mut M,
+        script: &mut R,
+        out: &mut W,
+        store: &mut S,
+    ) -> Result<(), Stop>
+        ensures served { ServesScript M.ends M.step result (R.left script.old) (R.left script.new)
+            (moment_of self.old machine.old (W.written out.old) (S.files store.old) (S.faults store.old))
+            (moment_of self.new machine.new (W.written out.new) (S.files store.new) (S.faults store.new)) }
+        ensures source_cause { SourceCause result (R.faults script.old) (R.faults script.new) }
+        ensures sink_cause { SinkCause result (W.faults out.old) (W.faults out.new) }
+        ensures no_further { ReadsNoFurther M.ends (R.left script.old) (R.left script.new) }
+        ensures source_later { R.faults script.old ≤ R.faults script.new }
+        ensures sink_later { W.faults out.old ≤ W.faults out.new }
+    {
+        let mut pending = Vec::new(self.alloc());
+        let mut piece = [0u8; PIECE_LENGTH];
+        let mut taken = 0;
+        loop {
+            let Ok(count) = script.read(&mut piece) else {
+                return Err(Stop::Source);
+            };
+            if count == 0 {
+                return self.serve_rest(machine, out, store, &pending);
+            }
+            let room = SCRIPT_LIMIT - taken;
+            match self.feed(machine, out, store, &mut pending, &piece[..count.min(room)])? {
+                Flow::Ended => return Ok(()),
+                Flow::Open => {}
+            }
+            if count > room {
+                return Err(Stop::TooLong);
+            }
+            taken += count;
+        }
+    }
+}

@@ -1,0 +1,197 @@
+// A script's lines, answered one by one as they come.
+ghost use Rattle.std.specs.Prelude.{◌≡◌, ◌<◌, ◌≤◌, ◌++◌, ◌||◌, false, length, map};
+ghost use Rattle.script_session.specs.Output.{SinkCause};
+ghost use Rattle.script_session.specs.Reply.{wants_memory, is_error, final_status};
+ghost use Rattle.script_session.specs.Script.{HasNoNewline};
+ghost use Rattle.script_session.specs.declared.session.Stop.TheVariants.{Memory, Sink as SinkStop};
+
+use crate::machine::Machine;
+use crate::output::write_all;
+use crate::reply::{is_error_reply, is_memory_reply};
+use crate::words::{cut_line, is_comment_line, without_carriage_return, words};
+use std::alloc::{AllocError, Global};
+use sym_io::{Failed, Sink, Store};
+
+/// Whether a script goes on after a line.
+#[derive(Clone, Copy, Debug, PartialEq, Eq)]
+pub(crate) enum Flow {
+    Open,
+    Ended,
+}
+
+/// Why a run ends before its script does.
+#[derive(Clone, Copy, Debug, PartialEq, Eq)]
+pub(crate) enum Stop {
+    Source,
+    Sink,
+    TooLong,
+    Memory,
+}
+
+impl From<AllocError> for Stop {
+    ghost from_gives = { λ _ stop. stop ≡ Memory };
+
+    fn from(_: AllocError) -> Self {
+        Stop::Memory
+    }
+}
+
+impl From<Failed> for Stop {
+    ghost from_gives = { λ _ stop. stop ≡ SinkStop };
+
+    fn from(_: Failed) -> Self {
+        Stop::Sink
+    }
+}
+
+/// What a run keeps beside its machine: the room for a reply, which each command uses anew, and what was answered so far.
+#[derive(Drop)]
+pub(crate) struct Session {
+    alloc: Global,
+    reply: Vec<u8>,
+    refused: bool,
+    wanted_memory: bool,
+}
+
+impl Session {
+    ghost use Rattle.script_session.specs.Session.{moment_of, ServesCommand, ServesLine, ServesPiece, ServesRest};
+
+    pub(crate) fn new(alloc: Global) -> Self
+        ensures refused { result.refused ≡ false }
+        ensures wanted { result.wanted_memory ≡ false }
+    {
+        Session {
+            alloc,
+            reply: Vec::new(alloc),
+            refused: false,
+            wanted_memory: false,
+        }
+    }
+
+    /// What the run takes its memory from.
+    pub(crate) fn alloc(&self) -> Global {
+        self.alloc
+    }
+
+    /// The status of a script that has come to its end.
+    pub(crate) fn status(&self) -> u8
+        ensures { result ≡ final_status self.now.wanted_memory self.now.refused }
+    {
+        if self.wanted_memory {
+            5
+        } else if self.refused {
+            1
+        } else {
+            0
+        }
+    }
+
+    /// Keeps in mind what the reply says.
+    fn note_reply(&mut self)
+        ensures refused { self.new.refused ≡ (self.old.refused || is_error self.old.reply.items) }
+        ensures wanted { self.new.wanted_memory ≡ (self.old.wanted_memory || wants_memory self.old.reply.items) }
+        ensures reply { self.new.reply ≡ self.old.reply }
+    {
+        self.refused |= is_error_reply(&self.reply);
+        self.wanted_memory |= is_memory_reply(&self.reply);
+    }
+
+    /// Answers one command.
+    fn serve_command<M: Machine, W: Sink, S: Store>(
+        &mut self,
+        machine: &mut M,
+        out: &mut W,
+        store: &mut S,
+        words: &[&[u8]],
+    ) -> Result<(), Stop>
+        requires { 0 < length words.now }
+        ensures served { ServesCommand M.step result (moment_of self.old machine.old (W.written out.old) (S.files store.old) (S.faults store.old))
+            (map (λ word. word.now) words.now) (moment_of self.new machine.new (W.written out.new) (S.files store.new) (S.faults store.new)) }
+        ensures cause { SinkCause result (W.faults out.old) (W.faults out.new) }
+        ensures later { W.faults out.old ≤ W.faults out.new }
+    {
+        self.reply.clear();
+        machine.answer(self.alloc, store, words, &mut self.reply)?;
+        self.note_reply();
+        write_all(out, &self.reply)?;
+        Ok(())
+    }
+
+    /// Answers one line, which is whole. A rule on all lines, such as a limit on their length, belongs here, and into
+    /// `line_commands`.
+    fn serve_line<M: Machine, W: Sink, S: Store>(
+        &mut self,
+        machine: &mut M,
+        out: &mut W,
+        store: &mut S,
+        line: &[u8],
+    ) -> Result<Flow, Stop>
+        ensures served { ServesLine M.ends M.step result (moment_of self.old machine.old (W.written out.old) (S.files store.old) (S.faults store.old))
+            line.now (moment_of self.new machine.new (W.written out.new) (S.files store.new) (S.faults store.new)) }
+        ensures cause { SinkCause result (W.faults out.old) (W.faults out.new) }
+        ensures later { W.faults out.old ≤ W.faults out.new }
+    {
+        if is_comment_line(line) {
+            return Ok(Flow::Open);
+        }
+        let words = words(self.alloc, line)?;
+        if words.is_empty() {
+            return Ok(Flow::Open);
+        }
+        self.serve_command(machine, out, store, &words)?;
+        if machine.ends_script(&words) {
+            Ok(Flow::Ended)
+        } else {
+            Ok(Flow::Open)
+        }
+    }
+
+    /// Answers the lines that the piece ends, and keeps what follows the last of them.
+    pub(crate) fn feed<M: Machine, W: Sink, S: Store>(
+        &mut self,
+        machine: &mut M,
+        out: &mut W,
+        store: &mut S,
+        pending: &mut Vec<u8>,
+        piece: &[u8],
+    ) -> Result<Flow, Stop>
+        requires { HasNoNewline pending.old.items }
+        ensures served { ServesPiece M.ends M.step result (moment_of self.old machine.old (W.written out.old) (S.files store.old) (S.faults store.old))
+            (pending.old.items ++ piece.now) (moment_of self.new machine.new (W.written out.new) (S.files store.new) (S.faults store.new)) pending.new.items }
+        ensures cause { SinkCause result (W.faults out.old) (W.faults out.new) }
+        ensures later { W.faults out.old ≤ W.faults out.new }
+    {
+        let mut rest = piece;
+        while let Some((line, more)) = cut_line(rest) {
+            pending.extend_from_slice(line)?;
+            match self.serve_line(machine, out, store, without_carriage_return(pending))? {
+                Flow::Ended => return Ok(Flow::Ended),
+                Flow::Open => pending.clear(),
+            }
+            rest = more;
+        }
+        pending.extend_from_slice(rest)?;
+        Ok(Flow::Open)
+    }
+
+    /// Answers the last line, which has no newline, where there is one.
+    pub(crate) fn serve_rest<M: Machine, W: Sink, S: Store>(
+        &mut self,
+        machine: &mut M,
+        out: &mut W,
+        store: &mut S,
+        pending: &[u8],
+    ) -> Result<(), Stop>
+        requires { HasNoNewline pending.now }
+        ensures served { ServesRest M.ends M.step result (moment_of self.old machine.old (W.written out.old) (S.files store.old) (S.faults store.old))
+            pending.now (moment_of self.new machine.new (W.written out.new) (S.files store.new) (S.faults store.new)) }
+        ensures cause { SinkCause result (W.faults out.old) (W.faults out.new) }
+        ensures later { W.faults out.old ≤ W.faults out.new }
+    {
+        if pending.is_empty() {
+            return Ok(());
+        }
+        self.serve_line(machine, out, store, pending)?;
+        Ok(())
+    }
+}
