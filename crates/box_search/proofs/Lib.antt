@@ -1,6 +1,5 @@
 pub mod BoxLemmas
 pub mod SplitLemmas
 pub mod PartitionLemmas
-pub mod SearchLemmas
 pub mod RootLemmas
 pub mod IntegralLemmas

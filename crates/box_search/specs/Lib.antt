@@ -1,5 +1,5 @@
 pub mod Boxes
 pub mod Partition
-pub mod Search
+
 pub mod Root
 pub mod Integral
