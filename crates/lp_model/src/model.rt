@@ -1,5 +1,6 @@
 // The model of a mixed-integer program.
-ghost use Rattle.std.specs.Prelude.{◌≡◌, ◌≢◌, List as Items, [], ◌∷◌, false};
+ghost use Rattle.std.specs.Prelude.{◌≡◌, ◌≢◌, [], false};
+ghost use Rattle.lp_model.specs.Lawful.{IsLawful};
 
 use crate::list::List;
 use crate::types::{Col, Name, Row, Sense};
@@ -45,5 +46,21 @@ impl Model {
             cols: List::new(alloc),
             wide: false,
         }
+    }
+
+    /// The rows in order.
+    pub fn rows(&self) -> &[Row]
+        ensures items { result.now ≡ self.now.rows }
+        ensures lawful { IsLawful self.now }
+    {
+        self.rows.as_slice()
+    }
+
+    /// The columns in order.
+    pub fn cols(&self) -> &[Col]
+        ensures items { result.now ≡ self.now.cols }
+        ensures lawful { IsLawful self.now }
+    {
+        self.cols.as_slice()
     }
 }
