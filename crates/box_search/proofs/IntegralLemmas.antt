@@ -6,7 +6,7 @@ use Rattle.rational.specs.Rational.{ℚ, int, floor, ceil, ◌≤ℚ◌, IsWhole
 use Rattle.rational.proofs.Rounding.{int-≤ℚ, ≤ℚ-int, int-floor}
 use Rattle.rational.proofs.RationalOrder.{≤ℚ_trans}
 use Rattle.rational.proofs.Integers.{int-≤ℚ-int}
-use Rattle.lp_model.specs.Sums.{of_element}
+use Rattle.lp_model.specs.Elements.{of_element}
 use Rattle.lp_model.specs.Program.{Program, Point, IsAllowed, IsFeasible, IsEmpty}
 use Rattle.lp_model.specs.declared.types.Col.{Col}
 use Rattle.box_search.specs.Boxes.{Intervals, IsIn, InBox, IsSound, IsProper, width, points}
@@ -74,3 +74,14 @@ count_sound c t s = by c.int t
 pub root-points : (cs : List Col) → AreIntegral cs → IsProper (root_of cs) → points (root_of cs) ≡ whole_points_of cs
 root-points [] i p = refl
 root-points (c ∷ cs) i p = (λ k. count_sound c i.0.0 p.0 k * root-points cs i.1 p.1 k)
+
+-- an integer column whose bounds cross has no number
+pub crossed_factor : (c : Col) → IsTrue c.int → (interval_of c.lo c.up).high <ℤ (interval_of c.lo c.up).low → factor c ≡ 0
+crossed_factor c t crossed = by c.int t
+  where
+    disordered : int_le (interval_of c.lo c.up).low (interval_of c.lo c.up).high ≡ false
+    disordered = grind (arith, ints)
+
+    by : (integer : Bool) → IsTrue integer → (if integer then count (interval_of c.lo c.up) else 1) ≡ 0
+    by true e = ap (λ b. if b then suc (width (interval_of c.lo c.up)) else 0) disordered
+    by false e = cc

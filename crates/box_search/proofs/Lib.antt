@@ -1,5 +1,9 @@
 pub mod BoxLemmas
 pub mod SplitLemmas
 pub mod PartitionLemmas
+pub mod OrderLemmas
+pub mod JudgeLemmas
+pub mod SearchLemmas
+pub mod WorkLemmas
 pub mod RootLemmas
 pub mod IntegralLemmas

@@ -6,7 +6,7 @@ use Rattle.std.proofs.lemmas.Int.{ints}
 use Rattle.std.proofs.lemmas.List.{map-append}
 use Rattle.rational.specs.Rational.{ℚ, int, floor, ceil, ◌≤ℚ◌}
 use Rattle.frac128.specs.Range.{IsNarrow}
-use Rattle.lp_model.specs.Sums.{of_element}
+use Rattle.lp_model.specs.Elements.{of_element}
 use Rattle.lp_model.specs.Program.{Program, Point, IsAllowed, IsFeasible, ColumnHolds}
 use Rattle.lp_model.specs.declared.types.Col.{Col}
 use Rattle.box_search.specs.Boxes.{Intervals, IsIn, InBox, IsSound, IsProper, width, points}

@@ -93,5 +93,5 @@ fn most_results(points: u64) -> Option<u64>
 pub fn cap(model: &Model) -> Option<u64>
     ensures { MatchOption result (2 ^ 64 ≤ cap_of model.now) (λ most. (most ≡ cap_of model.now) × (most < 2 ^ 64)) }
 {
-    most_results(whole_points_of(model.cols.as_slice()))
+    most_results(whole_points_of(model.cols()))
 }

@@ -5,5 +5,4 @@ use Rattle.box_search.proofs.root.cap.Goals as goal
 
 pub returns : goal.returns
 returns c =
-    let columns = c.as_slice.ensures ∙ ap (λ m. m.cols) c.model.view_is in
-    cap-saturated c.most_results.result c.whole_points_of.result (whole_points_of c.args.model.now.cols) (c.whole_points_of.ensures ∙ ap (λ cs. min (whole_points_of cs) (2 ^ 64 - 1)) columns) c.most_results.ensures
+    cap-saturated c.most_results.result c.whole_points_of.result (whole_points_of c.args.model.now.cols) (c.whole_points_of.ensures ∙ ap (λ cs. min (whole_points_of cs) (2 ^ 64 - 1)) c.cols.ensures.items) c.most_results.ensures
