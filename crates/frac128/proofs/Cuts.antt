@@ -1,0 +1,41 @@
+-- Where a text is cut: at its first byte that passes a test.
+use Rattle.std.specs.Prelude.{◌≡◌, ℕ, ◌<◌, ◌+◌, ◌++◌, Bool, true, false, ◌&&◌, ◌||◌, List, [], ◌∷◌, suc, zero, length}
+use Rattle.std.specs.List.{list_all, list_any, after_first, position_or_len}
+use Rattle.std.proofs.Common.{refl, sym, ap, ap₂, ◌∙◌, arith, true≢false, get_or}
+use Rattle.std.proofs.lemmas.List.{drop_all}
+use Rattle.std.proofs.lemmas.List.Folds.{list_all-append}
+use Rattle.std.proofs.lemmas.List.Sums.{position_or_len_is}
+
+neither : (a b : Bool) → (a || b) ≡ false → (a ≡ false) × (b ≡ false)
+neither true b e = absurd (true≢false e)
+neither false b e = (refl, e)
+
+pub both : (a b : Bool) → (a && b) ≡ true → (a ≡ true) × (b ≡ true)
+both true b e = (refl, e)
+both false b e = absurd (true≢false (sym e))
+
+module _ (p : ℕ → Bool) where
+  pub none_any : (bytes : List ℕ) → ((k : ℕ) → k < length bytes → p (get_or bytes k 0) ≡ false) → false ≡ list_any p bytes
+  none_any [] clean = refl
+  none_any (byte ∷ bytes) clean = none_any bytes (λ k h. clean (suc k) (omega arith)) ∙ ap (λ b. b || list_any p bytes) (sym (clean 0 (omega arith)))
+
+  pub place_of_none : (bytes : List ℕ) → ((k : ℕ) → k < length bytes → p (get_or bytes k 0) ≡ false) → position_or_len p bytes ≡ length bytes
+  place_of_none bytes clean = position_or_len_is p bytes (length bytes) 0 (omega arith) clean (λ h. absurd (omega arith))
+
+  pub place_of_first : (bytes : List ℕ) (n : ℕ) → n < length bytes → ((k : ℕ) → k < n → p (get_or bytes k 0) ≡ false) → p (get_or bytes n 0) ≡ true → position_or_len p bytes ≡ n
+  place_of_first bytes n within clean hit = position_or_len_is p bytes n 0 (omega arith) clean (λ h. hit)
+
+  clean_of_none : (bytes : List ℕ) → list_any p bytes ≡ false → (k : ℕ) → k < length bytes → p (get_or bytes k 0) ≡ false
+  clean_of_none [] none k h = absurd (omega arith)
+  clean_of_none (byte ∷ bytes) none zero h = (neither (p byte) (list_any p bytes) none).0
+  clean_of_none (byte ∷ bytes) none (suc k) h = clean_of_none bytes ((neither (p byte) (list_any p bytes) none).1) k (omega arith)
+
+  -- nothing stands behind what is not there
+  pub after_none : (bytes : List ℕ) → list_any p bytes ≡ false → after_first p bytes ≡ []
+  after_none bytes none = let place = place_of_none bytes (clean_of_none bytes none) in drop_all (position_or_len p bytes + 1) bytes (omega arith)
+
+  pub all_parts : (front back : List ℕ) → list_all p (front ++ back) ≡ true → (list_all p front ≡ true) × (list_all p back ≡ true)
+  all_parts front back h = both (list_all p front) (list_all p back) (sym (list_all-append p front back) ∙ h)
+
+  pub all_joined : (front back : List ℕ) → list_all p front ≡ true → list_all p back ≡ true → list_all p (front ++ back) ≡ true
+  all_joined front back h k = list_all-append p front back ∙ ap₂ (λ a b. a && b) h k
