@@ -1,5 +1,5 @@
 -- From what a session has done to what a run says.
-use Rattle.std.proofs.Common.{◌≡◌, ℕ, Bool, List, [], ◌++◌, sym, ◌∙◌, subst, arith, Option, Some, None, append-nil}
+use Rattle.std.proofs.Common.{◌≡◌, ℕ, Bool, List, [], sym, ◌∙◌, subst, arith, Option, Some, None, append-nil}
 use Rattle.std.specs.Prelude.{IfSome}
 use Rattle.script_session.specs.Run.{View, Answers, IsCutShort}
 use Rattle.script_session.specs.Script.{Command, script_commands, allowed_commands}

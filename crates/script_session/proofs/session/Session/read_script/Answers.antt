@@ -11,7 +11,8 @@ use Rattle.script_session.proofs.session.Session.read_script.Goals as goal
 
 pub loop-count-init : goal.loop-count-init
 loop-count-init g c = record {
-  reads = ReadsOn-start g.M.Machine.ends g.M.Machine.step _ _ c.new-pending.result.items c.new-pending.ensures.items;
+  reads = let old = moment_of c.args.self.now c.args.machine.now (g.W.Sink.written c.args.out.now) (g.S.Store.files c.args.store.now) (g.S.Store.faults c.args.store.now) in
+      ReadsOn-start g.M.Machine.ends g.M.Machine.step (g.R.Source.left c.args.script.now) old c.new-pending.result.items c.new-pending.ensures.items;
   limit = omega arith;
   source_later = omega arith;
   sink_later = omega arith;
