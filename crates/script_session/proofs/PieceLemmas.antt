@@ -2,7 +2,7 @@
 use Rattle.std.proofs.Common.{◌≡◌, ℕ, List, [], ◌∷◌, ◌++◌, refl, sym, ◌∙◌, ap, append_assoc, subst, Bool, true, false}
 use Rattle.std.specs.Prelude.{if◌then◌else◌, Result, Ok, Err}
 use Rattle.std.specs.Str.Lines.{strip_carriage_return}
-use Rattle.script_session.specs.Script.{Command, HasNoNewline, is_end, line_commands, script_commands}
+use Rattle.script_session.specs.Script.{Command, HasNoNewline, is_end, line_commands, script_commands, whole_commands}
 use Rattle.script_session.specs.Session.{Moment, Serves, Breaks, Reads, ServesCommand, ServesLine, ServesPiece}
 use Rattle.script_session.specs.Stand.{Stand}
 use Rattle.script_session.specs.declared.session.Flow.{Flow}
@@ -71,7 +71,10 @@ module _ {M : Type 0} (ends : Command → Bool) (step : Stand M → Command → 
   piece_wanting old now bytes left pending s = (
     s.done ++ [],
     Serves-Halts step old now now s.done [] s.serves (Halts-none step now),
-    record { all = λ more. (script_commands ends (left ++ more), s.reads.all more ∙ ap (λ commands. commands ++ script_commands ends (left ++ more)) (sym (nil_right s.done))) },
+    record {
+      all = λ more. (script_commands ends (left ++ more), s.reads.all more ∙ ap (λ commands. commands ++ script_commands ends (left ++ more)) (sym (nil_right s.done)));
+      whole = λ more. (whole_commands ends (left ++ more), s.reads.whole more ∙ ap (λ commands. commands ++ whole_commands ends (left ++ more)) (sym (nil_right s.done)));
+    },
   )
 
   pub piece_open : (old now : Moment M) (bytes pending : List ℕ) → HasNoNewline pending → Stands ends step old bytes now pending → ServesPiece ends step (Ok Open) old bytes now pending

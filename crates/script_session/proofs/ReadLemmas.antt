@@ -1,6 +1,6 @@
 -- A script as it is read, piece by piece.
 use Rattle.std.proofs.Common.{◌≡◌, ℕ, ◌≤◌, ◌<◌, ◌+◌, ◌-◌, List, [], ◌∷◌, ◌++◌, length, take, drop, refl, sym, ◌∙◌, ap, append_assoc, append-nil, subst, arith, Option, Some, None, true, false, Bool, length-append, inl, inr}
-use Rattle.std.specs.Prelude.{Result, Ok, Err, IfSome, if◌then◌else◌, ◌==◌}
+use Rattle.std.specs.Prelude.{Result, Ok, Err, IfSome, if◌then◌else◌, ◌==◌, nat_le}
 use Rattle.std.specs.Io.KnownBytes.{Consumes, Keeps, IsAtEnd}
 use Rattle.std.specs.Str.Lines.{lines_of_parts}
 use Rattle.std.specs.List.{list_any}
@@ -9,9 +9,9 @@ use Rattle.std.proofs.lemmas.List.{take-append-drop, take-take}
 use Rattle.std.proofs.lemmas.List.Elements.{All-nil}
 use Rattle.std.proofs.lemmas.List.Splits.{slice_split_none}
 use Rattle.std.proofs.Math.Seq.{take-append_seam, take-append-add}
-use Rattle.script_session.specs.Run.{ReadsNoFurther}
-use Rattle.script_session.specs.Script.{Command, HasNoNewline, is_newline, ended_lines, whole_lines, commands, line_commands, is_end, script_commands, whole_commands, has_ending, IsWithinLimit, IsOverlong}
-use Rattle.script_session.specs.Session.{Moment, Serves, Breaks, Reads, ServesLine, ServesPiece, ServesRest, ServesScript}
+use Rattle.script_session.specs.Run.{IsTaken, ReadsNoFurther}
+use Rattle.script_session.specs.Script.{Command, HasNoNewline, is_newline, ended_lines, whole_lines, commands, line_commands, is_end, script_commands, whole_commands, has_ending, allowed_commands, IsWithinLimit, IsOverlong}
+use Rattle.script_session.specs.Session.{Moment, Serves, Breaks, Reads, Finishes, Begins, ServesLine, ServesPiece, ServesRest, ServesScript}
 use Rattle.script_session.specs.Stand.{Stand}
 use Rattle.script_session.specs.declared.session.Flow.TheVariants.{Open, Ended}
 use Rattle.script_session.specs.declared.session.Stop.{Stop}
@@ -35,6 +35,9 @@ either_none false none = refl
 
 positive : (n : ℕ) → 0 < n → (n == 0) ≡ false
 positive n some = grind (arith, nat_tests)
+
+within_test : (n limit : ℕ) → n ≤ limit → nat_le n limit ≡ true
+within_test n limit le = grind (arith, nat_tests)
 
 -- a last line
 one_line : (line : List ℕ) → 0 < length line → (if length line == 0 then [] else line ∷ []) ≡ line ∷ []
@@ -117,6 +120,27 @@ module _ (ends : Command → Bool) where
   all_taken : (bytes : List ℕ) (done : List Command) (pending : List ℕ) → Reads ends bytes done pending → script_commands ends bytes ≡ done ++ script_commands ends pending
   all_taken bytes done pending r = ap (script_commands ends) (sym (append-nil bytes)) ∙ r.all [] ∙ ap (λ xs. done ++ script_commands ends xs) (append-nil pending)
 
+  -- a script that fits may be answered whole
+  allowed_short : (input : List ℕ) → length input ≤ SCRIPT_LIMIT → allowed_commands ends input ≡ script_commands ends input
+  allowed_short input le = ap (λ (b : Bool). if b then script_commands ends input else whole_commands ends (take SCRIPT_LIMIT input)) (within_test (length input) SCRIPT_LIMIT le)
+
+  -- first commands of what may be are first among those that may be answered
+  allowed_first : (input bytes more : List ℕ) (first : List Command) → input ≡ bytes ++ more → length bytes ≤ SCRIPT_LIMIT → Begins ends bytes first → (rest : List Command) × (allowed_commands ends input ≡ first ++ rest)
+  allowed_first input bytes more first parts le begins =
+      elim (nat_le (length input) SCRIPT_LIMIT) as (λ b. (rest : List Command) × ((if b then script_commands ends input else whole_commands ends (take SCRIPT_LIMIT input)) ≡ first ++ rest)) [
+        | true ↦ let found = begins.all more in (found.0, ap (script_commands ends) parts ∙ found.1)
+        | false ↦ let found = begins.whole (take (SCRIPT_LIMIT - length bytes) more) in
+            (found.0, ap (λ xs. whole_commands ends (take SCRIPT_LIMIT xs)) parts ∙ ap (whole_commands ends) (front_then SCRIPT_LIMIT bytes more le) ∙ found.1)
+      ]
+
+  -- where the script ended, its commands are all that may be answered
+  allowed_finished : (input bytes more : List ℕ) (done : List Command) → input ≡ bytes ++ more → length bytes ≤ SCRIPT_LIMIT → Finishes ends bytes done → allowed_commands ends input ≡ done
+  allowed_finished input bytes more done parts le finishes =
+      elim (nat_le (length input) SCRIPT_LIMIT) as (λ b. (if b then script_commands ends input else whole_commands ends (take SCRIPT_LIMIT input)) ≡ done) [
+        | true ↦ ap (script_commands ends) parts ∙ finishes.all more
+        | false ↦ ap (λ xs. whole_commands ends (take SCRIPT_LIMIT xs)) parts ∙ ap (whole_commands ends) (front_then SCRIPT_LIMIT bytes more le) ∙ finishes.whole (take (SCRIPT_LIMIT - length bytes) more)
+      ]
+
 module _ {M : Type 0} (ends : Command → Bool) (step : Stand M → Command → List ℕ → Stand M → Type 0) where
   pub rest_failed : (fault : Stop) (old new : Moment M) (pending : List ℕ) → HasNoNewline pending → 0 < length pending → ServesLine ends step (Err fault) old pending new → ServesRest ends step (Err fault) old pending new
   rest_failed stop.Sink old new pending clean some h = subst (λ commands. Breaks step old commands new) (sym (script-rest ends pending clean some)) h
@@ -141,9 +165,15 @@ module _ {M : Type 0} (ends : Command → Bool) (step : Stand M → Command → 
   }
 
   -- the source has failed
-  pub read_failed : (left left' left'' : Option (List ℕ)) (old now : Moment M) (count : ℕ) (pending : List ℕ) → ReadsOn ends step left left' old now count pending → Keeps left' left'' → (taken : List ℕ) × Consumes left left'' taken × Serves step old (whole_commands ends taken) now
-  read_failed left left' left'' old now count pending r keeps =
-      (r.taken, Consumes-keeps left left' left'' r.taken r.consumed keeps, subst (λ commands. Serves step old commands now) (sym (whole_taken ends r.taken r.stands.done pending r.stands.reads r.clean)) r.stands.serves)
+  pub read_failed : (left left' left'' : Option (List ℕ)) (old now : Moment M) (count : ℕ) (pending : List ℕ) → ReadsOn ends step left left' old now count pending → count ≤ SCRIPT_LIMIT → Keeps left' left'' → (taken : List ℕ) × IsTaken ends left left'' taken × Serves step old (whole_commands ends taken) now
+  read_failed left left' left'' old now count pending r le keeps =
+      let counted = r.length_is in
+      let taken : IsTaken ends left left'' r.taken = record {
+        consumed = Consumes-keeps left left' left'' r.taken r.consumed keeps;
+        within = omega arith;
+        unended = ending_taken ends r.taken r.stands.done pending r.stands.reads r.clean;
+      } in
+      (r.taken, taken, subst (λ commands. Serves step old commands now) (sym (whole_taken ends r.taken r.stands.done pending r.stands.reads r.clean)) r.stands.serves)
 
   -- the script is at its end
   pub read_at_end : (result : Result (Unit {0}) Stop) (left left' left'' : Option (List ℕ)) (old now new : Moment M) (count : ℕ) (pending : List ℕ) → ReadsOn ends step left left' old now count pending → count ≤ SCRIPT_LIMIT → Consumes left' left'' [] → IsAtEnd left'' → ServesRest ends step result now pending new → ServesScript ends step result left left'' old new
@@ -153,15 +183,25 @@ module _ {M : Type 0} (ends : Command → Bool) (step : Stand M → Command → 
       let commands = ap (script_commands ends) e ∙ all_taken ends r.taken r.stands.done pending r.stands.reads in
       let long = ap length e in
       let counted = r.length_is in
-      (subst (λ commands. Serves step old commands new) (sym commands) (Serves-append step old now new r.stands.done (script_commands ends pending) r.stands.serves h), inl (omega arith))
+      let fits : length input ≤ SCRIPT_LIMIT = omega arith in (
+        subst (λ commands. Serves step old commands new) (sym commands) (Serves-append step old now new r.stands.done (script_commands ends pending) r.stands.serves h),
+        allowed_short ends input fits,
+        inl fits,
+      )
   read_at_end (Err stop.Sink) None left' left'' old now new count pending r le consumed end h = tt
   read_at_end (Err stop.Sink) (Some input) left' left'' old now new count pending r le consumed end h =
       let e = at_end input left' left'' r.taken r.consumed consumed end in
-      (r.stands.done ++ script_commands ends pending, [], ap (script_commands ends) e ∙ all_taken ends r.taken r.stands.done pending r.stands.reads ∙ sym (nil_right _), Serves-Breaks step old now new r.stands.done (script_commands ends pending) r.stands.serves h)
+      let long = ap length e in
+      let counted = r.length_is in
+      let fits : length input ≤ SCRIPT_LIMIT = omega arith in
+      (r.stands.done ++ script_commands ends pending, [], allowed_short ends input fits ∙ ap (script_commands ends) e ∙ all_taken ends r.taken r.stands.done pending r.stands.reads ∙ sym (nil_right _), Serves-Breaks step old now new r.stands.done (script_commands ends pending) r.stands.serves h)
   read_at_end (Err stop.Memory) None left' left'' old now new count pending r le consumed end h = tt
   read_at_end (Err stop.Memory) (Some input) left' left'' old now new count pending r le consumed end h =
       let e = at_end input left' left'' r.taken r.consumed consumed end in
-      (r.stands.done ++ h.0, h.1, ap (script_commands ends) e ∙ all_taken ends r.taken r.stands.done pending r.stands.reads ∙ ap (λ commands. r.stands.done ++ commands) h.2 ∙ sym (append_assoc r.stands.done h.0 h.1), Serves-Halts step old now new r.stands.done h.0 r.stands.serves h.3)
+      let long = ap length e in
+      let counted = r.length_is in
+      let fits : length input ≤ SCRIPT_LIMIT = omega arith in
+      (r.stands.done ++ h.0, h.1, allowed_short ends input fits ∙ ap (script_commands ends) e ∙ all_taken ends r.taken r.stands.done pending r.stands.reads ∙ ap (λ commands. r.stands.done ++ commands) h.2 ∙ sym (append_assoc r.stands.done h.0 h.1), Serves-Halts step old now new r.stands.done h.0 r.stands.serves h.3)
   read_at_end (Err stop.Source) left left' left'' old now new count pending r le consumed end h = absurd h
   read_at_end (Err stop.TooLong) left left' left'' old now new count pending r le consumed end h = absurd h
 
@@ -179,8 +219,8 @@ module _ {M : Type 0} (ends : Command → Bool) (step : Stand M → Command → 
     clean = h.3;
   }
 
-  -- a `quit` line has come
-  pub read_ended : (left left' left'' : Option (List ℕ)) (old now new : Moment M) (count : ℕ) (pending bytes piece others pending' : List ℕ) → ReadsOn ends step left left' old now count pending → Consumes left' left'' bytes → bytes ≡ piece ++ others → count + length piece ≤ SCRIPT_LIMIT → ServesPiece ends step (Ok Ended) now (pending ++ piece) new pending' → IfSome left (λ input. Serves step old (script_commands ends input) new × IsWithinLimit ends input)
+  -- a line that ends the script has come
+  pub read_ended : (left left' left'' : Option (List ℕ)) (old now new : Moment M) (count : ℕ) (pending bytes piece others pending' : List ℕ) → ReadsOn ends step left left' old now count pending → Consumes left' left'' bytes → bytes ≡ piece ++ others → count + length piece ≤ SCRIPT_LIMIT → ServesPiece ends step (Ok Ended) now (pending ++ piece) new pending' → IfSome left (λ input. Serves step old (script_commands ends input) new × (allowed_commands ends input ≡ script_commands ends input) × IsWithinLimit ends input)
   read_ended None left' left'' old now new count pending bytes piece others pending' r consumed parts le h = tt
   read_ended (Some input) left' left'' old now new count pending bytes piece others pending' r consumed parts le h =
       let t = told_piece input left' left'' r.taken bytes piece others r.consumed consumed parts in
@@ -188,6 +228,7 @@ module _ {M : Type 0} (ends : Command → Bool) (step : Stand M → Command → 
       let counted = r.length_is in
       let fits : length (r.taken ++ piece) ≤ SCRIPT_LIMIT = omega (arith, length-append r.taken piece) in (
         subst (λ commands. Serves step old commands new) (sym (ap (script_commands ends) t.1 ∙ q.all (others ++ t.0))) (Serves-append step old now new r.stands.done h.0 r.stands.serves h.1),
+        allowed_finished ends input (r.taken ++ piece) (others ++ t.0) (r.stands.done ++ h.0) t.1 fits q ∙ sym (ap (script_commands ends) t.1 ∙ q.all (others ++ t.0)),
         inr (ap (λ xs. has_ending ends (take SCRIPT_LIMIT xs)) t.1 ∙ ap (has_ending ends) (front_then SCRIPT_LIMIT (r.taken ++ piece) (others ++ t.0) fits) ∙ q.ending _),
       )
 
@@ -209,26 +250,33 @@ module _ {M : Type 0} (ends : Command → Bool) (step : Stand M → Command → 
       )
 
   -- a line was cut short
-  pub read_stopped : (fault : Stop) (left left' left'' : Option (List ℕ)) (old now new : Moment M) (count : ℕ) (pending bytes piece others pending' : List ℕ) → ReadsOn ends step left left' old now count pending → Consumes left' left'' bytes → bytes ≡ piece ++ others → ServesPiece ends step (Err fault) now (pending ++ piece) new pending' → ServesScript ends step (Err fault) left left'' old new
-  read_stopped stop.Sink None left' left'' old now new count pending bytes piece others pending' r consumed parts h = tt
-  read_stopped stop.Sink (Some input) left' left'' old now new count pending bytes piece others pending' r consumed parts h =
+  pub read_stopped : (fault : Stop) (left left' left'' : Option (List ℕ)) (old now new : Moment M) (count : ℕ) (pending bytes piece others pending' : List ℕ) → ReadsOn ends step left left' old now count pending → Consumes left' left'' bytes → bytes ≡ piece ++ others → count + length piece ≤ SCRIPT_LIMIT → ServesPiece ends step (Err fault) now (pending ++ piece) new pending' → ServesScript ends step (Err fault) left left'' old new
+  read_stopped stop.Sink None left' left'' old now new count pending bytes piece others pending' r consumed parts le h = tt
+  read_stopped stop.Sink (Some input) left' left'' old now new count pending bytes piece others pending' r consumed parts le h =
       let t = told_piece input left' left'' r.taken bytes piece others r.consumed consumed parts in
-      let b = (Reads-Begins ends (r.taken ++ piece) (pending ++ piece) r.stands.done h.0 (Reads-more ends r.taken r.stands.done pending piece r.stands.reads) h.2).all (others ++ t.0) in
-      (r.stands.done ++ h.0, b.0, ap (script_commands ends) t.1 ∙ b.1, Serves-Breaks step old now new r.stands.done h.0 r.stands.serves h.1)
-  read_stopped stop.Memory None left' left'' old now new count pending bytes piece others pending' r consumed parts h = tt
-  read_stopped stop.Memory (Some input) left' left'' old now new count pending bytes piece others pending' r consumed parts h =
+      let counted = r.length_is in
+      let fits : length (r.taken ++ piece) ≤ SCRIPT_LIMIT = omega (arith, length-append r.taken piece) in
+      let begins = Reads-Begins ends (r.taken ++ piece) (pending ++ piece) r.stands.done h.0 (Reads-more ends r.taken r.stands.done pending piece r.stands.reads) h.2 in
+      let b = allowed_first ends input (r.taken ++ piece) (others ++ t.0) (r.stands.done ++ h.0) t.1 fits begins in
+      (r.stands.done ++ h.0, b.0, b.1, Serves-Breaks step old now new r.stands.done h.0 r.stands.serves h.1)
+  read_stopped stop.Memory None left' left'' old now new count pending bytes piece others pending' r consumed parts le h = tt
+  read_stopped stop.Memory (Some input) left' left'' old now new count pending bytes piece others pending' r consumed parts le h =
       let t = told_piece input left' left'' r.taken bytes piece others r.consumed consumed parts in
-      let b = (Reads-Begins ends (r.taken ++ piece) (pending ++ piece) r.stands.done h.0 (Reads-more ends r.taken r.stands.done pending piece r.stands.reads) h.2).all (others ++ t.0) in
-      (r.stands.done ++ h.0, b.0, ap (script_commands ends) t.1 ∙ b.1, Serves-Halts step old now new r.stands.done h.0 r.stands.serves h.1)
-  read_stopped stop.Source left left' left'' old now new count pending bytes piece others pending' r consumed parts h = absurd h
-  read_stopped stop.TooLong left left' left'' old now new count pending bytes piece others pending' r consumed parts h = absurd h
+      let counted = r.length_is in
+      let fits : length (r.taken ++ piece) ≤ SCRIPT_LIMIT = omega (arith, length-append r.taken piece) in
+      let begins = Reads-Begins ends (r.taken ++ piece) (pending ++ piece) r.stands.done h.0 (Reads-more ends r.taken r.stands.done pending piece r.stands.reads) h.2 in
+      let b = allowed_first ends input (r.taken ++ piece) (others ++ t.0) (r.stands.done ++ h.0) t.1 fits begins in
+      (r.stands.done ++ h.0, b.0, b.1, Serves-Halts step old now new r.stands.done h.0 r.stands.serves h.1)
+  read_stopped stop.Source left left' left'' old now new count pending bytes piece others pending' r consumed parts le h = absurd h
+  read_stopped stop.TooLong left left' left'' old now new count pending bytes piece others pending' r consumed parts le h = absurd h
 
-  -- what was read before this has no `quit` line
-  pub read_no_further : (left left' left'' : Option (List ℕ)) (old now : Moment M) (count : ℕ) (pending bytes : List ℕ) → ReadsOn ends step left left' old now count pending → Consumes left' left'' bytes → length bytes ≤ PIECE_LENGTH → ReadsNoFurther ends left left''
-  read_no_further left left' left'' old now count pending bytes r consumed short = record {
+  -- what was read before this may be, and has no line that ends the script
+  pub read_no_further : (left left' left'' : Option (List ℕ)) (old now : Moment M) (count : ℕ) (pending bytes : List ℕ) → ReadsOn ends step left left' old now count pending → count ≤ SCRIPT_LIMIT → Consumes left' left'' bytes → length bytes ≤ PIECE_LENGTH → ReadsNoFurther ends left left''
+  read_no_further left left' left'' old now count pending bytes r le consumed short = record {
     before = r.taken;
     last = bytes;
     taken = Consumes-append left left' left'' r.taken bytes r.consumed consumed;
+    within = let counted = r.length_is in omega arith;
     unended = ending_taken ends r.taken r.stands.done pending r.stands.reads r.clean;
     one_read = short;
   }

@@ -1,8 +1,8 @@
 -- From what a session has done to what a run says.
-use Rattle.std.proofs.Common.{◌≡◌, ℕ, List, [], ◌++◌, sym, subst, arith, Option, Some, None, append-nil, Bool}
+use Rattle.std.proofs.Common.{◌≡◌, ℕ, Bool, List, [], sym, ◌∙◌, subst, arith, Option, Some, None, append-nil}
 use Rattle.std.specs.Prelude.{IfSome}
 use Rattle.script_session.specs.Run.{View, Answers, IsCutShort}
-use Rattle.script_session.specs.Script.{Command, script_commands}
+use Rattle.script_session.specs.Script.{Command, script_commands, allowed_commands}
 use Rattle.script_session.specs.Session.{Moment, Serves}
 use Rattle.script_session.specs.Stand.{Stand, Transcript}
 use Rattle.script_session.proofs.ScriptLemmas.{nil_right}
@@ -13,13 +13,13 @@ seen moment = record { stand = moment.state; written = moment.written }
 
 module _ {M : Type 0} (ends : Command → Bool) (step : Stand M → Command → List ℕ → Stand M → Type 0) where
   -- a script that came to its end, though memory was wanting in it
-  pub cut_short : (left : Option (List ℕ)) (old new : Moment M) (P : List ℕ → Type 0) → IfSome left (λ input. Serves step old (script_commands ends input) new × P input)
-      → IfSome left (λ input. IsCutShort step (script_commands ends input) (seen old) (seen new))
+  pub cut_short : (left : Option (List ℕ)) (old new : Moment M) (P : List ℕ → Type 0) → IfSome left (λ input. Serves step old (script_commands ends input) new × (allowed_commands ends input ≡ script_commands ends input) × P input)
+      → IfSome left (λ input. IsCutShort step (allowed_commands ends input) (seen old) (seen new))
   cut_short None old new P h = tt
   cut_short (Some input) old new P h = record {
     first = script_commands ends input;
     rest = [];
-    parts = sym (nil_right (script_commands ends input));
+    parts = h.1 ∙ sym (nil_right (script_commands ends input));
     replies = h.0.replies;
     missing = [];
     one = omega arith;

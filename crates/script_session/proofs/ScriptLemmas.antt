@@ -63,9 +63,9 @@ pub spoken-commands : (line : List ℕ) (words : List (Bor (List ℕ))) → is_c
 spoken-commands line [] plain same some = absurd (omega arith)
 spoken-commands line (word ∷ words) plain same some =
     let spoken : is_silent line ≡ false =
-        ap (λ b. b || length (words_of line) == 0) plain
-        ∙ ap (λ (ws : List (List ℕ)). length ws == 0) (sym same)
-        ∙ some_left (length (map (λ (word : Bor (List ℕ)). word.now) (word ∷ words))) (omega arith) in
+    ap (λ b. b || length (words_of line) == 0) plain
+    ∙ ap (λ (ws : List (List ℕ)). length ws == 0) (sym same)
+    ∙ some_left (length (map (λ (word : Bor (List ℕ)). word.now) (word ∷ words))) (omega arith) in
     ap (λ (b : Bool). if b then [] else words_of line ∷ []) spoken ∙ ap (λ (ws : List (List ℕ)). ws ∷ []) (sym same)
 
 module _ (ends : Command → Bool) where
@@ -108,6 +108,7 @@ module _ (ends : Command → Bool) where
   pub Reads-Begins : (a b : List ℕ) (done next : List Command) → Reads ends a done b → Begins ends b next → Begins ends a (done ++ next)
   Reads-Begins a b done next r s = record {
     all = λ more. let t = s.all more in (t.0, r.all more ∙ ap (λ cs. done ++ cs) t.1 ∙ sym (append_assoc done next t.0));
+    whole = λ more. let t = s.whole more in (t.0, r.whole more ∙ ap (λ cs. done ++ cs) t.1 ∙ sym (append_assoc done next t.0));
   }
 
   -- the line's command, and then what is left
@@ -129,6 +130,8 @@ module _ (ends : Command → Bool) where
   Begins-line line rest first others none parts = record {
     all = λ more. let tail = if is_end ends (strip_carriage_return line) then [] else script_commands ends (rest ++ more) in
         (others ++ tail, ap (script_commands ends) (append_assoc line (10 ∷ rest) more) ∙ script-line line (rest ++ more) none ∙ ap (λ cs. cs ++ tail) parts ∙ append_assoc first others tail);
+    whole = λ more. let tail = if is_end ends (strip_carriage_return line) then [] else whole_commands ends (rest ++ more) in
+        (others ++ tail, ap (whole_commands ends) (append_assoc line (10 ∷ rest) more) ∙ whole-line line (rest ++ more) none ∙ ap (λ cs. cs ++ tail) parts ∙ append_assoc first others tail);
   }
 
   pub silent-end : (line : List ℕ) → is_silent line ≡ true → is_end ends line ≡ false

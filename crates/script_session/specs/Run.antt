@@ -3,7 +3,7 @@ use Rattle.std.specs.Prelude.{◌≡◌, ℕ, ◌≤◌, Bool, false, List, ◌+
 use Rattle.std.specs.List.{concat}
 use Rattle.std.specs.Io.KnownBytes.{Appends, Consumes}
 use Rattle.sym_io.specs.Files.{Files}
-use Rattle.script_session.specs.declared.reading.TheConstants.{PIECE_LENGTH}
+use Rattle.script_session.specs.declared.reading.TheConstants.{SCRIPT_LIMIT, PIECE_LENGTH}
 use Rattle.script_session.specs.Script.{Command, has_ending}
 use Rattle.script_session.specs.Stand.{Stand, stand, Transcript}
 
@@ -43,10 +43,18 @@ pub record IsCutShort {M : Type 0} (step : Stand M → Command → List ℕ → 
   pub transcript : Transcript step old.stand first (replies ++ missing) new.stand
   pub output : Appends old.written new.written (concat replies)
 
--- The bytes before the last read have no line that ends the script: nothing is read after the read that brought one.
+-- what a source gave before it failed: no more than may be, and no line that ends the script
+pub record IsTaken (ends : Command → Bool) (left left' : Option (List ℕ)) (taken : List ℕ) : Type 0 where
+  pub consumed : Consumes left left' taken
+  pub within : length taken ≤ SCRIPT_LIMIT
+  pub unended : has_ending ends taken ≡ false
+
+-- The bytes before the last read are no more than may be and have no line that ends the script: nothing is read after the
+-- read that brought a byte too many, or such a line.
 pub record ReadsNoFurther (ends : Command → Bool) (left left' : Option (List ℕ)) : Type 0 where
   pub before : List ℕ
   pub last : List ℕ
   pub taken : Consumes left left' (before ++ last)
+  pub within : length before ≤ SCRIPT_LIMIT
   pub unended : has_ending ends before ≡ false
   pub one_read : length last ≤ PIECE_LENGTH

@@ -1,6 +1,6 @@
 -- The lines of a script, the words of a line, and the commands among the lines. What ends a script is the machine's to
 -- say: ends tells it of a command's words.
-use Rattle.std.specs.Prelude.{◌≡◌, ℕ, Bool, false, ◌||◌, not, List, [], ◌∷◌, ◌++◌, length, take, ◌<◌, ◌≤◌, ◌⊎◌, true, if◌then◌else◌, ◌==◌, ◌&&◌}
+use Rattle.std.specs.Prelude.{◌≡◌, ℕ, Bool, false, ◌||◌, not, List, [], ◌∷◌, ◌++◌, length, take, ◌<◌, ◌≤◌, ◌⊎◌, true, if◌then◌else◌, ◌==◌, ◌&&◌, nat_le}
 use Rattle.std.specs.List.{slice_split, filter, list_any, All}
 use Rattle.std.specs.Str.Lines.{lines, strip_carriage_return}
 use Rattle.script_session.specs.declared.reading.TheConstants.{SCRIPT_LIMIT}
@@ -68,6 +68,10 @@ whole_commands ends script = commands ends (whole_lines script)
 -- one of the whole lines ends the script
 unfoldable pub has_ending : (Command → Bool) → List ℕ → Bool
 has_ending ends script = list_any (is_end ends) (whole_lines script)
+
+-- The commands that a run may answer: of a script that is too long, those in the whole lines of the bytes that may be.
+abbrev pub allowed_commands : (Command → Bool) → List ℕ → List Command
+allowed_commands ends input = if nat_le (length input) SCRIPT_LIMIT then script_commands ends input else whole_commands ends (take SCRIPT_LIMIT input)
 
 -- a script that fits, or that ended before it didn't
 abbrev pub IsWithinLimit : (Command → Bool) → List ℕ → Type 0

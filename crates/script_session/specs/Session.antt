@@ -1,7 +1,7 @@
 -- What a session has done between two moments: the parts of which the clauses of a run are made.
 use Rattle.std.specs.Prelude.{◌≡◌, ℕ, ◌≤◌, Bool, true, ◌||◌, List, [], ◌∷◌, ◌++◌, length, take, if◌then◌else◌, Option, Result, Ok, Err, IfSome}
 use Rattle.std.specs.List.{list_any, concat}
-use Rattle.std.specs.Io.KnownBytes.{Appends, Consumes}
+use Rattle.std.specs.Io.KnownBytes.{Appends}
 use Rattle.sym_io.specs.Files.{Files}
 use Rattle.script_session.specs.declared.reading.TheConstants.{SCRIPT_LIMIT}
 use Rattle.script_session.specs.declared.session.Session.{Session}
@@ -9,8 +9,9 @@ use Rattle.script_session.specs.declared.session.Flow.{Flow}
 use Rattle.script_session.specs.declared.session.Flow.TheVariants.{Open, Ended}
 use Rattle.script_session.specs.declared.session.Stop.{Stop}
 use Rattle.script_session.specs.declared.session.Stop.TheVariants as stop
-use Rattle.script_session.specs.Script.{Command, HasNoNewline, is_end, line_commands, script_commands, whole_commands, has_ending, IsWithinLimit, IsOverlong}
+use Rattle.script_session.specs.Script.{Command, HasNoNewline, is_end, line_commands, script_commands, whole_commands, has_ending, allowed_commands, IsWithinLimit, IsOverlong}
 use Rattle.script_session.specs.Reply.{wants_memory, is_error}
+use Rattle.script_session.specs.Run.{IsTaken}
 use Rattle.script_session.specs.Stand.{Stand, stand, Transcript}
 
 -- a machine beside its store, what the sink holds, and whether want of memory and a refusal were answered
@@ -64,6 +65,7 @@ pub record Finishes (ends : Command → Bool) (bytes : List ℕ) (commands : Lis
 -- these commands are the first
 pub record Begins (ends : Command → Bool) (bytes : List ℕ) (commands : List Command) : Type 0 where
   pub all : (more : List ℕ) → (rest : List Command) × (script_commands ends (bytes ++ more) ≡ commands ++ rest)
+  pub whole : (more : List ℕ) → (rest : List Command) × (whole_commands ends (bytes ++ more) ≡ commands ++ rest)
 
 -- what the answer to one command says
 abbrev pub ServesCommand : {M : Type 0} → (Stand M → Command → List ℕ → Stand M → Type 0) → Result (Unit {0}) Stop → Moment M → Command → Moment M → Type 0
@@ -100,8 +102,8 @@ ServesRest ends step (Err stop.TooLong) old pending new = ⊥
 
 -- what the answer to a script says, where left and left' are what the source tells before and after
 abbrev pub ServesScript : {M : Type 0} → (Command → Bool) → (Stand M → Command → List ℕ → Stand M → Type 0) → Result (Unit {0}) Stop → Option (List ℕ) → Option (List ℕ) → Moment M → Moment M → Type 0
-ServesScript ends step (Ok done) left left' old new = IfSome left (λ input. Serves step old (script_commands ends input) new × IsWithinLimit ends input)
-ServesScript ends step (Err stop.Source) left left' old new = (taken : List ℕ) × Consumes left left' taken × Serves step old (whole_commands ends taken) new
+ServesScript ends step (Ok done) left left' old new = IfSome left (λ input. Serves step old (script_commands ends input) new × (allowed_commands ends input ≡ script_commands ends input) × IsWithinLimit ends input)
+ServesScript ends step (Err stop.Source) left left' old new = (taken : List ℕ) × IsTaken ends left left' taken × Serves step old (whole_commands ends taken) new
 ServesScript ends step (Err stop.TooLong) left left' old new = IfSome left (λ input. Serves step old (whole_commands ends (take SCRIPT_LIMIT input)) new × IsOverlong ends input)
-ServesScript ends step (Err stop.Sink) left left' old new = IfSome left (λ input. (first rest : List Command) × (script_commands ends input ≡ first ++ rest) × Breaks step old first new)
-ServesScript ends step (Err stop.Memory) left left' old new = IfSome left (λ input. (first rest : List Command) × (script_commands ends input ≡ first ++ rest) × Halts step old first new)
+ServesScript ends step (Err stop.Sink) left left' old new = IfSome left (λ input. (first rest : List Command) × (allowed_commands ends input ≡ first ++ rest) × Breaks step old first new)
+ServesScript ends step (Err stop.Memory) left left' old new = IfSome left (λ input. (first rest : List Command) × (allowed_commands ends input ≡ first ++ rest) × Halts step old first new)

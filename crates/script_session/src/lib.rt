@@ -26,3 +26,6 @@ pub use machine::Machine;
 pub use output::write_all;
 pub use reading::{PIECE_LENGTH, SCRIPT_LIMIT};
 pub use run::run_script;
+
+#[cfg(test)]
+mod tests;

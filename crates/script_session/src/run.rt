@@ -1,10 +1,9 @@
 // The run of a script.
 ghost use Rattle.std.specs.Prelude.{◌≡◌, ◌<◌, ◌≤◌, ◌⊎◌, List, ℕ, take, IfSome};
-ghost use Rattle.std.specs.Io.KnownBytes.{Consumes};
 ghost use Rattle.sym_io.specs.Faults.{Rose};
 ghost use Rattle.script_session.specs.Reply.{status_of};
-ghost use Rattle.script_session.specs.Run.{view, Answers, IsCutOff, IsCutShort, ReadsNoFurther};
-ghost use Rattle.script_session.specs.Script.{script_commands, whole_commands, IsWithinLimit, IsOverlong};
+ghost use Rattle.script_session.specs.Run.{view, Answers, IsCutOff, IsCutShort, IsTaken, ReadsNoFurther};
+ghost use Rattle.script_session.specs.Script.{script_commands, whole_commands, allowed_commands, IsWithinLimit, IsOverlong};
 
 use crate::machine::Machine;
 use crate::reading::SCRIPT_LIMIT;
@@ -40,24 +39,24 @@ pub fn run_script<M: Machine, R: Source, W: Sink, S: Store>(
 
     // The source failed: the replies are those to the whole lines of what was taken.
     ensures source_failed { result ≡ 3 → Rose (R.faults script.old) (R.faults script.new) }
-    ensures until_source_failed { result ≡ 3 → (taken : List ℕ) × Consumes (R.left script.old) (R.left script.new) taken × (replies : List (List ℕ))
+    ensures until_source_failed { result ≡ 3 → (taken : List ℕ) × IsTaken M.ends (R.left script.old) (R.left script.new) taken × (replies : List (List ℕ))
         × Answers M.step (whole_commands M.ends taken) (view machine.old (S.files store.old) (S.faults store.old) (W.written out.old)) (view machine.new (S.files store.new) (S.faults store.new) (W.written out.new)) replies }
 
     // The sink failed: what is written is a front of the replies to first commands.
     ensures sink_failed { result ≡ 4 → Rose (W.faults out.old) (W.faults out.new) }
     ensures until_sink_failed { result ≡ 4 → IfSome (R.left script.old) (λ input.
-        IsCutOff M.step (script_commands M.ends input) (view machine.old (S.files store.old) (S.faults store.old) (W.written out.old)) (view machine.new (S.files store.new) (S.faults store.new) (W.written out.new))) }
+        IsCutOff M.step (allowed_commands M.ends input) (view machine.old (S.files store.old) (S.faults store.old) (W.written out.old)) (view machine.new (S.files store.new) (S.faults store.new) (W.written out.new))) }
 
     // Memory was wanting: first commands were answered, and all but at most the last of their replies are written.
     ensures until_memory_wanted { result ≡ 5 → IfSome (R.left script.old) (λ input.
-        IsCutShort M.step (script_commands M.ends input) (view machine.old (S.files store.old) (S.faults store.old) (W.written out.old)) (view machine.new (S.files store.new) (S.faults store.new) (W.written out.new))) }
+        IsCutShort M.step (allowed_commands M.ends input) (view machine.old (S.files store.old) (S.faults store.old) (W.written out.old)) (view machine.new (S.files store.new) (S.faults store.new) (W.written out.new))) }
 
     // A byte too many came: the replies are those to the whole lines of the bytes that may be.
     ensures too_long { result ≡ 6 → IfSome (R.left script.old) (IsOverlong M.ends) }
     ensures until_too_long { result ≡ 6 → IfSome (R.left script.old) (λ input. (replies : List (List ℕ))
         × Answers M.step (whole_commands M.ends (take SCRIPT_LIMIT input)) (view machine.old (S.files store.old) (S.faults store.old) (W.written out.old)) (view machine.new (S.files store.new) (S.faults store.new) (W.written out.new)) replies) }
 
-    // Nothing is read after the read that brought the end, and no count of faults falls.
+    // Nothing is read after the read that brought the end or a byte too many, and no count of faults falls.
     ensures no_further { ReadsNoFurther M.ends (R.left script.old) (R.left script.new) }
     ensures source_later { R.faults script.old ≤ R.faults script.new }
     ensures sink_later { W.faults out.old ≤ W.faults out.new }

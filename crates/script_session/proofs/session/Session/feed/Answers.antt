@@ -10,17 +10,32 @@ use Rattle.script_session.proofs.PieceLemmas.{Stands, Stands-start, Stands-line,
 use Rattle.script_session.proofs.session.Session.feed.Goals as goal
 
 pub loop-line-init : goal.loop-line-init
-loop-line-init g c = record { stands = Stands-start g.M.Machine.ends g.M.Machine.step _ _; clean = c.requires; later = omega arith }
+loop-line-init g c =
+    let written = g.W.Sink.written in
+    let files = g.S.Store.files in
+    let faults = g.S.Store.faults in
+    let old = moment_of c.args.self.now c.args.machine.now (written c.args.out.now) (files c.args.store.now) (faults c.args.store.now) in
+    record { stands = Stands-start g.M.Machine.ends g.M.Machine.step old (c.args.pending.now.items ++ c.args.piece.now); clean = c.requires; later = omega arith }
 
 pub returns-in_err-extend_from_slice-clause-served : goal.returns-in_err-extend_from_slice-clause-served
 returns-in_err-extend_from_slice-clause-served g c =
     let p = err_from_is_err_and c.from_residual.result c.from_residual.ensures.1 in
-    rw (p.1, p.2) (piece_wanting g.M.Machine.ends g.M.Machine.step _ _ _ _ c.extend_from_slice.new.self.items c.loop-line.invariant.stands)
+    let written = g.W.Sink.written in
+    let files = g.S.Store.files in
+    let faults = g.S.Store.faults in
+    let old = moment_of c.args.self.now c.args.machine.now (written c.args.out.now) (files c.args.store.now) (faults c.args.store.now) in
+    let now = moment_of c.loop-line.self c.loop-line.machine (written c.loop-line.out) (files c.loop-line.store) (faults c.loop-line.store) in
+    rw (p.1, p.2) (piece_wanting g.M.Machine.ends g.M.Machine.step old now (c.args.pending.now.items ++ c.args.piece.now) (c.loop-line.pending.items ++ c.loop-line.rest.now) c.extend_from_slice.new.self.items c.loop-line.invariant.stands)
 
 pub returns-in_err-extend_from_slice-2-clause-served : goal.returns-in_err-extend_from_slice-2-clause-served
 returns-in_err-extend_from_slice-2-clause-served g c =
     let p = err_from_is_err_and c.from_residual-in_err-extend_from_slice-2.result c.from_residual-in_err-extend_from_slice-2.ensures.1 in
-    rw (p.1, p.2) (piece_wanting g.M.Machine.ends g.M.Machine.step _ _ _ _ c.extend_from_slice-2.new.self.items c.loop-line.invariant.stands)
+    let written = g.W.Sink.written in
+    let files = g.S.Store.files in
+    let faults = g.S.Store.faults in
+    let old = moment_of c.args.self.now c.args.machine.now (written c.args.out.now) (files c.args.store.now) (faults c.args.store.now) in
+    let now = moment_of c.loop-line.self c.loop-line.machine (written c.loop-line.out) (files c.loop-line.store) (faults c.loop-line.store) in
+    rw (p.1, p.2) (piece_wanting g.M.Machine.ends g.M.Machine.step old now (c.args.pending.now.items ++ c.args.piece.now) (c.loop-line.pending.items ++ c.loop-line.rest.now) c.extend_from_slice-2.new.self.items c.loop-line.invariant.stands)
 
 pub returns-in_err-serve_line-clause-served : goal.returns-in_err-serve_line-clause-served
 returns-in_err-serve_line-clause-served g c =

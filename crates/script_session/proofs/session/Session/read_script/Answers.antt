@@ -11,7 +11,8 @@ use Rattle.script_session.proofs.session.Session.read_script.Goals as goal
 
 pub loop-count-init : goal.loop-count-init
 loop-count-init g c = record {
-  reads = ReadsOn-start g.M.Machine.ends g.M.Machine.step _ _ c.new-pending.result.items c.new-pending.ensures.items;
+  reads = let old = moment_of c.args.self.now c.args.machine.now (g.W.Sink.written c.args.out.now) (g.S.Store.files c.args.store.now) (g.S.Store.faults c.args.store.now) in
+      ReadsOn-start g.M.Machine.ends g.M.Machine.step (g.R.Source.left c.args.script.now) old c.new-pending.result.items c.new-pending.ensures.items;
   limit = omega arith;
   source_later = omega arith;
   sink_later = omega arith;
@@ -24,7 +25,7 @@ returns-in_default-clause-served g c =
     let left'' = g.R.Source.left c.read.new.self in
     let old = moment_of c.args.self.now c.args.machine.now (g.W.Sink.written c.args.out.now) (g.S.Store.files c.args.store.now) (g.S.Store.faults c.args.store.now) in
     let now = moment_of c.loop-count.self c.loop-count.machine (g.W.Sink.written c.loop-count.out) (g.S.Store.files c.loop-count.store) (g.S.Store.faults c.loop-count.store) in
-    read_failed g.M.Machine.ends g.M.Machine.step left left' left'' old now c.loop-count.taken c.loop-count.pending.items c.loop-count.invariant.reads c.in_default.ensures.bytes
+    read_failed g.M.Machine.ends g.M.Machine.step left left' left'' old now c.loop-count.taken c.loop-count.pending.items c.loop-count.invariant.reads c.loop-count.invariant.limit c.in_default.ensures.bytes
 
 pub returns-then-count-eq0-clause-served : goal.returns-then-count-eq0-clause-served
 returns-then-count-eq0-clause-served g c =
@@ -56,7 +57,7 @@ returns-in_err-feed-clause-served g c =
     let parts = front_parts c.min.result count c.read.new.buf (omega arith) in
     let bound = c.in-Ok.ensures.bound in
     let long : length piece ≡ c.min.result = length-take-le c.min.result c.read.new.buf (omega arith) in
-    rw (p.1, p.2) (read_stopped g.M.Machine.ends g.M.Machine.step c.in_err-feed.field-0.0 left left' left'' old now new c.loop-count.taken kept bytes piece others c.feed.new.pending.items c.loop-count.invariant.reads c.in-Ok.ensures.bytes.0 parts c.in_err-feed.ensures.served)
+    rw (p.1, p.2) (read_stopped g.M.Machine.ends g.M.Machine.step c.in_err-feed.field-0.0 left left' left'' old now new c.loop-count.taken kept bytes piece others c.feed.new.pending.items c.loop-count.invariant.reads c.in-Ok.ensures.bytes.0 parts (omega arith) c.in_err-feed.ensures.served)
 
 pub returns-in-Ended-clause-served : goal.returns-in-Ended-clause-served
 returns-in-Ended-clause-served g c =
@@ -130,7 +131,7 @@ returns-in_default-clause-no_further g c =
     let left'' = g.R.Source.left c.read.new.self in
     let old = moment_of c.args.self.now c.args.machine.now (g.W.Sink.written c.args.out.now) (g.S.Store.files c.args.store.now) (g.S.Store.faults c.args.store.now) in
     let now = moment_of c.loop-count.self c.loop-count.machine (g.W.Sink.written c.loop-count.out) (g.S.Store.files c.loop-count.store) (g.S.Store.faults c.loop-count.store) in
-    read_no_further g.M.Machine.ends g.M.Machine.step left left' left'' old now c.loop-count.taken c.loop-count.pending.items [] c.loop-count.invariant.reads (Consumes-kept left' left'' c.in_default.ensures.bytes) (omega arith)
+    read_no_further g.M.Machine.ends g.M.Machine.step left left' left'' old now c.loop-count.taken c.loop-count.pending.items [] c.loop-count.invariant.reads c.loop-count.invariant.limit (Consumes-kept left' left'' c.in_default.ensures.bytes) (omega arith)
 
 pub returns-then-count-eq0-clause-no_further : goal.returns-then-count-eq0-clause-no_further
 returns-then-count-eq0-clause-no_further g c =
@@ -142,7 +143,7 @@ returns-then-count-eq0-clause-no_further g c =
     let bytes = take c.in-Ok.count c.read.new.buf in
     let bound = c.in-Ok.ensures.bound in
     let short : length bytes ≤ PIECE_LENGTH = omega arith in
-    read_no_further g.M.Machine.ends g.M.Machine.step left left' left'' old now c.loop-count.taken c.loop-count.pending.items bytes c.loop-count.invariant.reads c.in-Ok.ensures.bytes.0 short
+    read_no_further g.M.Machine.ends g.M.Machine.step left left' left'' old now c.loop-count.taken c.loop-count.pending.items bytes c.loop-count.invariant.reads c.loop-count.invariant.limit c.in-Ok.ensures.bytes.0 short
 
 pub returns-in_err-feed-clause-no_further : goal.returns-in_err-feed-clause-no_further
 returns-in_err-feed-clause-no_further g c =
@@ -154,7 +155,7 @@ returns-in_err-feed-clause-no_further g c =
     let bytes = take c.in-Ok.count c.read.new.buf in
     let bound = c.in-Ok.ensures.bound in
     let short : length bytes ≤ PIECE_LENGTH = omega arith in
-    read_no_further g.M.Machine.ends g.M.Machine.step left left' left'' old now c.loop-count.taken c.loop-count.pending.items bytes c.loop-count.invariant.reads c.in-Ok.ensures.bytes.0 short
+    read_no_further g.M.Machine.ends g.M.Machine.step left left' left'' old now c.loop-count.taken c.loop-count.pending.items bytes c.loop-count.invariant.reads c.loop-count.invariant.limit c.in-Ok.ensures.bytes.0 short
 
 pub returns-in-Ended-clause-no_further : goal.returns-in-Ended-clause-no_further
 returns-in-Ended-clause-no_further g c =
@@ -166,7 +167,7 @@ returns-in-Ended-clause-no_further g c =
     let bytes = take c.in-Ok.count c.read.new.buf in
     let bound = c.in-Ok.ensures.bound in
     let short : length bytes ≤ PIECE_LENGTH = omega arith in
-    read_no_further g.M.Machine.ends g.M.Machine.step left left' left'' old now c.loop-count.taken c.loop-count.pending.items bytes c.loop-count.invariant.reads c.in-Ok.ensures.bytes.0 short
+    read_no_further g.M.Machine.ends g.M.Machine.step left left' left'' old now c.loop-count.taken c.loop-count.pending.items bytes c.loop-count.invariant.reads c.loop-count.invariant.limit c.in-Ok.ensures.bytes.0 short
 
 pub returns-then-count-room-clause-no_further : goal.returns-then-count-room-clause-no_further
 returns-then-count-room-clause-no_further g c =
@@ -178,4 +179,4 @@ returns-then-count-room-clause-no_further g c =
     let bytes = take c.in-Ok.count c.read.new.buf in
     let bound = c.in-Ok.ensures.bound in
     let short : length bytes ≤ PIECE_LENGTH = omega arith in
-    read_no_further g.M.Machine.ends g.M.Machine.step left left' left'' old now c.loop-count.taken c.loop-count.pending.items bytes c.loop-count.invariant.reads c.in-Ok.ensures.bytes.0 short
+    read_no_further g.M.Machine.ends g.M.Machine.step left left' left'' old now c.loop-count.taken c.loop-count.pending.items bytes c.loop-count.invariant.reads c.loop-count.invariant.limit c.in-Ok.ensures.bytes.0 short

@@ -1,7 +1,7 @@
-use Rattle.std.proofs.Common.{◌≡◌, ◌<◌, ℕ, List, [], map, length, Bor, true, refl, sym, ◌∙◌, ap, subst, arith}
+use Rattle.std.proofs.Common.{◌≡◌, ◌<◌, ℕ, List, [], map, length, Bor, refl, sym, ◌∙◌, ap, subst, arith}
 use Rattle.std.specs.Prelude.{if◌then◌else◌, Err}
 use Rattle.std.proofs.lemmas.Result.{err_from_is_err_and}
-use Rattle.script_session.specs.Script.{line_commands, is_silent}
+use Rattle.script_session.specs.Script.{line_commands}
 use Rattle.script_session.specs.Session.{moment_of, Serves, ServesCommand}
 use Rattle.script_session.specs.declared.session.Flow.TheVariants.{Open, Ended}
 use Rattle.script_session.proofs.SessionLemmas.{Serves-none, Halts-none}
@@ -20,7 +20,8 @@ returns-then-is_comment_line-clause-served g c =
 pub returns-in_err-words-clause-served : goal.returns-in_err-words-clause-served
 returns-in_err-words-clause-served g c =
     let p = err_from_is_err_and c.from_residual.result c.from_residual.ensures.1 in
-    rw (p.1, p.2) ([], line_commands c.args.line.now, refl, Halts-none g.M.Machine.step _)
+    let old = moment_of c.args.self.now c.args.machine.now (g.W.Sink.written c.args.out.now) (g.S.Store.files c.args.store.now) (g.S.Store.faults c.args.store.now) in
+    rw (p.1, p.2) ([], line_commands c.args.line.now, refl, Halts-none g.M.Machine.step old)
 
 pub returns-then-is_empty-clause-served : goal.returns-then-is_empty-clause-served
 returns-then-is_empty-clause-served g c =
