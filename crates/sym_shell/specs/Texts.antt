@@ -39,9 +39,13 @@ column_lines [] x = []
 column_lines (c ∷ cs) [] = []
 column_lines (c ∷ cs) (v ∷ vs) = column_line c.name v ++ column_lines cs vs
 
+-- the first line of an optimum: its value, after n results
+abbrev pub value_line : ℚ → ℕ → List ℕ
+value_line v n = codes "optimal " ++ printed v ++ codes " nodes " ++ decimal n ++ codes "\n"
+
 -- a point with its value, after n results
 abbrev pub optimal_text : Program → Point → ℕ → List ℕ
-optimal_text M x n = codes "optimal " ++ printed (value M 1 x) ++ codes " nodes " ++ decimal n ++ codes "\n" ++ column_lines M.cols x ++ codes "end\n"
+optimal_text M x n = value_line (value M 1 x) n ++ column_lines M.cols x ++ codes "end\n"
 
 abbrev pub infeasible_text : ℕ → List ℕ
 infeasible_text n = codes "infeasible nodes " ++ decimal n ++ codes "\n"

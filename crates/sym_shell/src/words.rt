@@ -66,8 +66,12 @@ pub(crate) fn file_name(word: &[u8]) -> &str
 pub(crate) fn whole_number(word: &[u8]) -> Option<u64>
     ensures { MatchOption result (IsNoCount word.now) (λ n. IsCount word.now n) }
 {
-    let text = str::from_utf8(word).ok()?;
-    let number = text.parse::<u64>().ok()?;
+    let Ok(text) = str::from_utf8(word) else {
+        return None;
+    };
+    let Ok(number) = text.parse::<u64>() else {
+        return None;
+    };
     let mut digits = itoa::Buffer::new();
     if digits.format(number).as_bytes() == word {
         Some(number)
