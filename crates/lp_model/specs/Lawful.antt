@@ -44,12 +44,15 @@ column_names M = map (λ c. c.name) M.cols
 abbrev pub entry_count : Program → ℕ
 entry_count M = sum_by (λ c. length c.rows) M.cols
 
+pub record AreWithinLimits (wide : Bool) (rows columns entries : ℕ) : Type 0 where
+  pub few_rows : rows ≤ row_limit wide
+  pub few_columns : columns ≤ col_limit wide
+  pub few_entries : entries ≤ entry_limit wide
+
 pub record IsLawful (M : Program) : Type 0 where
   pub constants : length M.consts ≡ 2
   pub ranges : All (λ r. IsRange r.lo r.hi) M.rows
   pub columns : All (IsLawfulColumn (length M.rows)) M.cols
   pub rows_distinct : AllPairs (λ a b. a ≢ b) (row_names M)
   pub columns_distinct : AllPairs (λ a b. a ≢ b) (column_names M)
-  pub few_rows : length M.rows ≤ row_limit M.wide
-  pub few_columns : length M.cols ≤ col_limit M.wide
-  pub few_entries : entry_count M ≤ entry_limit M.wide
+  pub limits : AreWithinLimits M.wide (length M.rows) (length M.cols) (entry_count M)
