@@ -1,7 +1,7 @@
 -- Names of the elements of a list.
-use Rattle.std.specs.Prelude.{◌≡◌, ℕ, zero, suc, ◌+◌, ◌<◌, Bool, true, false, if◌then◌else◌, List, [], ◌∷◌, length, get_or, map, take, drop, All, Contains, bytes_eq}
+use Rattle.std.specs.Prelude.{◌≡◌, ◌⊎◌, ℕ, zero, suc, ◌+◌, ◌<◌, Bool, true, false, if◌then◌else◌, List, [], ◌∷◌, length, get_or, map, take, drop, All, Contains, bytes_eq}
 use Rattle.std.specs.Bool.{Decides}
-use Rattle.std.proofs.Common.{refl, sym, ap, subst, ◌∙◌, arith, below_more}
+use Rattle.std.proofs.Common.{refl, sym, ap, subst, ◌∙◌, arith, below_more, inl, inr}
 use Rattle.std.proofs.lemmas.List.{get_or_default, length-map, drop_more, take-map}
 use Rattle.std.proofs.lemmas.Slice.Eq.{bytes_eq-Decides}
 use Rattle.rational.specs.Rational.{ℚ}
@@ -33,3 +33,13 @@ not_same a b e h = let t : bytes_eq a b ≡ true = (bytes_eq-Decides a b).1 h in
 
 pub same : (a b : List ℕ) → bytes_eq a b ≡ true → a ≡ b
 same a b e = (bytes_eq-Decides a b).0 e
+
+pub contains_first : (x y : List ℕ) (xs : List (List ℕ)) → x ≡ y → Contains (x ∷ xs) y
+contains_first x y xs e = (0, omega arith, e)
+
+pub contains_later : (x y : List ℕ) (xs : List (List ℕ)) → Contains xs y → Contains (x ∷ xs) y
+contains_later x y xs (k, below, e) = (suc k, omega arith, e)
+
+pub contains_cases : (x y : List ℕ) (xs : List (List ℕ)) → Contains (x ∷ xs) y → (x ≡ y) ⊎ Contains xs y
+contains_cases x y xs (zero, below, e) = inl e
+contains_cases x y xs (suc k, below, e) = inr (k, omega arith, e)

@@ -47,6 +47,13 @@ edited M (AddCol name integer lo up cost cost2 named) =
 edited M (AddRow name lo hi named) =
     record M { rows = M.rows ++ record { name = name; lo = lo; hi = hi } ∷ []; cols = map (λ c. with_entry (length M.rows) (number_beside c.name named) c) M.cols }
 
+-- the edits that add a column, its own entries aside, and a row
+abbrev pub adds_col : Col → Named → Edit
+adds_col c named = AddCol c.name c.int c.lo c.up c.cost c.cost2 named
+
+abbrev pub adds_row : Row → Named → Edit
+adds_row r named = AddRow r.name r.lo r.hi named
+
 -- ---- the faults
 
 -- the name that the edit brings

@@ -17,12 +17,17 @@ col_limit wide = if wide then 1001 else 1000
 abbrev pub entry_limit : Bool → ℕ
 entry_limit wide = if wide then 52002 else 50000
 
--- there is a side; two sides do not cross, and hi - lo and hi - (hi - lo) have room
+-- hi - lo and hi - (hi - lo) have room
+pub record AreNear (lo hi : ℚ) : Type 0 where
+  pub width : SumFits hi (neg_ℚ lo)
+  pub back : SumFits hi (neg_ℚ (hi -ℚ lo))
+
+-- there is a side, and two sides do not cross and are near
 abbrev pub IsRange : Option ℚ → Option ℚ → Type 0
 IsRange None None = ⊥
 IsRange None (Some h) = Unit {0}
 IsRange (Some l) None = Unit {0}
-IsRange (Some l) (Some h) = (l ≤ℚ h) × SumFits h (neg_ℚ l) × SumFits h (neg_ℚ (h -ℚ l))
+IsRange (Some l) (Some h) = (l ≤ℚ h) × AreNear l h
 
 -- the rows of the entries rise, from `from` on and below `to`, and no number is 0
 abbrev pub AreEntries : ℕ → ℕ → List (RowId × ℚ) → Type 0

@@ -3,6 +3,7 @@ ghost use Rattle.std.specs.Prelude.{◌≡◌, ◌≢◌, [], false, IfOk};
 ghost use Rattle.lp_model.specs.Lawful.{IsLawful};
 
 use crate::list::List;
+use crate::names::copy_name;
 use crate::types::{Col, Name, Row, Sense};
 use frac128::Frac;
 use std::alloc::{AllocError, Global};
@@ -78,12 +79,6 @@ impl Model {
             wide: self.wide,
         })
     }
-}
-
-fn copy_name(name: &Name) -> Result<Name, AllocError>
-    ensures { IfOk result (λ n. n ≡ name.now) }
-{
-    name.clone()
 }
 
 fn copy_rows(rows: &List<Row>) -> Result<List<Row>, AllocError>
