@@ -1,11 +1,12 @@
 // The model of a mixed-integer program.
-ghost use Rattle.std.specs.Prelude.{◌≡◌, ◌≢◌, [], false};
+ghost use Rattle.std.specs.Prelude.{◌≡◌, ◌≢◌, [], false, IfOk};
 ghost use Rattle.lp_model.specs.Lawful.{IsLawful};
 
 use crate::list::List;
+use crate::names::copy_name;
 use crate::types::{Col, Name, Row, Sense};
 use frac128::Frac;
-use std::alloc::Global;
+use std::alloc::{AllocError, Global};
 
 /// A mixed-integer linear program with two objectives. Rows and objectives share one name space, columns have another.
 #[derive(Drop)]
@@ -63,4 +64,31 @@ impl Model {
     {
         self.cols.as_slice()
     }
+
+    /// An equal model.
+    pub fn copy(&self) -> Result<Model, AllocError>
+        ensures { IfOk result (λ m. m ≡ self.now) }
+    {
+        Ok(Model {
+            sense: self.sense,
+            obj: copy_name(&self.obj)?,
+            obj2: copy_name(&self.obj2)?,
+            consts: self.consts,
+            rows: copy_rows(&self.rows)?,
+            cols: copy_cols(&self.cols)?,
+            wide: self.wide,
+        })
+    }
+}
+
+fn copy_rows(rows: &List<Row>) -> Result<List<Row>, AllocError>
+    ensures { IfOk result (λ r. r ≡ rows.now) }
+{
+    rows.clone()
+}
+
+fn copy_cols(cols: &List<Col>) -> Result<List<Col>, AllocError>
+    ensures { IfOk result (λ c. c ≡ cols.now) }
+{
+    cols.clone()
 }
