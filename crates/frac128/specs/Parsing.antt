@@ -1,5 +1,5 @@
 -- What `parse` answers, and the parts into which it cuts a spelling.
-use Rattle.std.specs.Prelude.{◌≡◌, ◌≢◌, ◌++◌, ℕ, Bool, true, Result, Ok, Err}
+use Rattle.std.specs.Prelude.{◌≡◌, ◌≢◌, ◌++◌, ℕ, ℤ, Bool, true, Result, Ok, Err}
 use Rattle.std.specs.List.{list_all}
 use Rattle.rational.specs.Rational.{ℚ}
 use Rattle.frac128.specs.Range.{with_sign}
@@ -25,8 +25,14 @@ marks Exponent = is_e
 marks Point = is_point
 
 -- what the parts of a decimal spelling say
+abbrev pub decimal_coefficient : DecimalParts → ℕ
+decimal_coefficient d = coefficient_of (d.whole.now ++ d.point.now)
+
+abbrev pub decimal_power : DecimalParts → ℤ
+decimal_power d = power_of (with_sign d.exponent_minus (value_of d.exponent.now)) d.point.now (d.whole.now ++ d.point.now)
+
 abbrev pub decimal_says : DecimalParts → Reading
-decimal_says d = decimal_reading d.minus (coefficient_of (d.whole.now ++ d.point.now)) (power_of (with_sign d.exponent_minus (value_of d.exponent.now)) d.point.now (d.whole.now ++ d.point.now))
+decimal_says d = decimal_reading d.minus (decimal_coefficient d) (decimal_power d)
 
 pub record AreDecimal (d : DecimalParts) : Type 0 where
   pub whole : list_all is_digit d.whole.now ≡ true

@@ -3,7 +3,7 @@ use Rattle.std.specs.List.{list_all}
 use Rattle.frac128.specs.Spelling.{is_digit}
 use Rattle.frac128.proofs.DigitTerms.{length-without_zeros, digits-without_zeros}
 use Rattle.frac128.proofs.Cuts.{all_parts, all_joined}
-use Rattle.frac128.proofs.parse.coefficient.Goals as goal
+use Rattle.frac128.proofs.parse.mantissa.Goals as goal
 
 pub overflow_sub-dropped : goal.overflow_sub-dropped
 overflow_sub-dropped c =
@@ -11,12 +11,12 @@ overflow_sub-dropped c =
     let less = length-without_zeros (c.args.whole.now ++ c.args.point.now) in
     omega (arith, simp length-append at kept, simp length-append at less)
 
-pub value_of_two-requires-clause-front : goal.value_of_two-requires-clause-front
-value_of_two-requires-clause-front c =
+pub returns-clause-front : goal.returns-clause-front
+returns-clause-front c =
     let digits = digits-without_zeros (c.args.whole.now ++ c.args.point.now) (all_joined is_digit c.args.whole.now c.args.point.now c.requires.whole c.requires.point) in
     (all_parts is_digit c.without_zeros_behind.result.0.now c.without_zeros_behind.result.1.now (ap (list_all is_digit) c.without_zeros_behind.ensures ∙ digits)).0
 
-pub value_of_two-requires-clause-back : goal.value_of_two-requires-clause-back
-value_of_two-requires-clause-back c =
+pub returns-clause-back : goal.returns-clause-back
+returns-clause-back c =
     let digits = digits-without_zeros (c.args.whole.now ++ c.args.point.now) (all_joined is_digit c.args.whole.now c.args.point.now c.requires.whole c.requires.point) in
     (all_parts is_digit c.without_zeros_behind.result.0.now c.without_zeros_behind.result.1.now (ap (list_all is_digit) c.without_zeros_behind.ensures ∙ digits)).1
