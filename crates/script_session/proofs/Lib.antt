@@ -4,3 +4,4 @@ pub mod SessionLemmas
 pub mod PieceLemmas
 pub mod ReadLemmas
 pub mod RunLemmas
+pub mod Restating

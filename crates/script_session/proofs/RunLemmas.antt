@@ -8,8 +8,8 @@ use Rattle.script_session.specs.Stand.{Stand, Transcript}
 use Rattle.script_session.proofs.ScriptLemmas.{nil_right}
 
 -- what is seen of a moment from outside
-abbrev pub seen : {M : Type 0} → Moment M → View M
-seen moment = record { stand = moment.state; written = moment.written }
+abbrev pub seen : {M : Type 0} → Moment M → View (Stand M)
+seen moment = record { state = moment.state; written = moment.written }
 
 module _ {M : Type 0} (ends : Command → Bool) (step : Stand M → Command → List ℕ → Stand M → Type 0) where
   -- a script that came to its end, though memory was wanting in it

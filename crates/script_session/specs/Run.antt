@@ -7,40 +7,41 @@ use Rattle.script_session.specs.declared.reading.TheConstants.{SCRIPT_LIMIT, PIE
 use Rattle.script_session.specs.Script.{Command, has_ending}
 use Rattle.script_session.specs.Stand.{Stand, stand, Transcript}
 
--- a machine beside its store, and the bytes that the sink holds, where it tells them
-pub record View (M : Type 0) : Type 0 where
-  pub stand : Stand M
+-- a state, and the bytes that the sink holds, where it tells them
+pub record View (S : Type 0) : Type 0 where
+  pub state : S
   pub written : Option (List ℕ)
 
-abbrev pub view : {M : Type 0} → M → Option Files → ℕ → Option (List ℕ) → View M
-view machine files faults written = record { stand = stand machine files faults; written = written }
+-- that of a machine beside its store
+abbrev pub view : {M : Type 0} → M → Option Files → ℕ → Option (List ℕ) → View (Stand M)
+view machine files faults written = record { state = stand machine files faults; written = written }
 
 -- the commands have these replies, each a step from where the last one led, and the replies were written, and nothing else
-pub record Answers {M : Type 0} (step : Stand M → Command → List ℕ → Stand M → Type 0) (commands : List Command) (old new : View M) (replies : List (List ℕ)) : Type 0 where
-  pub transcript : Transcript step old.stand commands replies new.stand
+pub record Answers {S : Type 0} (step : S → Command → List ℕ → S → Type 0) (commands : List Command) (old new : View S) (replies : List (List ℕ)) : Type 0 where
+  pub transcript : Transcript step old.state commands replies new.state
   pub output : Appends old.written new.written (concat replies)
 
 -- first commands were answered, and a front of their replies' bytes was written
-pub record IsCutOff {M : Type 0} (step : Stand M → Command → List ℕ → Stand M → Type 0) (commands : List Command) (old new : View M) : Type 0 where
+pub record IsCutOff {S : Type 0} (step : S → Command → List ℕ → S → Type 0) (commands : List Command) (old new : View S) : Type 0 where
   pub first : List Command
   pub rest : List Command
   pub parts : commands ≡ first ++ rest
   pub replies : List (List ℕ)
-  pub transcript : Transcript step old.stand first replies new.stand
+  pub transcript : Transcript step old.state first replies new.state
   pub bytes : List ℕ
   pub unwritten : List ℕ
   pub front : bytes ++ unwritten ≡ concat replies
   pub output : Appends old.written new.written bytes
 
 -- first commands were answered, and their replies were written whole, but for the last one maybe
-pub record IsCutShort {M : Type 0} (step : Stand M → Command → List ℕ → Stand M → Type 0) (commands : List Command) (old new : View M) : Type 0 where
+pub record IsCutShort {S : Type 0} (step : S → Command → List ℕ → S → Type 0) (commands : List Command) (old new : View S) : Type 0 where
   pub first : List Command
   pub rest : List Command
   pub parts : commands ≡ first ++ rest
   pub replies : List (List ℕ)
   pub missing : List (List ℕ)
   pub one : length missing ≤ 1
-  pub transcript : Transcript step old.stand first (replies ++ missing) new.stand
+  pub transcript : Transcript step old.state first (replies ++ missing) new.state
   pub output : Appends old.written new.written (concat replies)
 
 -- what a source gave before it failed: no more than may be, and no line that ends the script
