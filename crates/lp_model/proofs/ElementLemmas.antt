@@ -15,3 +15,9 @@ of_element-read d f xs ys k a same below e = sym (of_element-get d f xs k a belo
 
 pub get_or-read : {A : Type 0} (d : A) (xs ys : List A) (k : ℕ) (a : A) → ys ≡ xs → k < length xs → a ≡ get_or ys k a → a ≡ get_or xs k d
 get_or-read d xs ys k a same below e = e ∙ ap (λ l. get_or l k a) same ∙ get_or_default xs k a d below
+
+-- the element itself
+pub element : {A : Type 0} (xs : List A) (k : ℕ) → k < length xs → (a : A) × (a ≡ get_or xs k a)
+element [] k below = absurd (omega arith)
+element (x ∷ xs) zero below = (x, refl)
+element (x ∷ xs) (suc k) below = let h : k < length xs = omega arith in element xs k h

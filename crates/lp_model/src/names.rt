@@ -46,16 +46,23 @@ pub fn is_same(first: &Name, second: &Name) -> bool
     first.as_slice() == second.as_slice()
 }
 
+/// The place of the item with the name, the first if there are more.
+pub fn place_of<T: Named>(items: &[T], name: &[u8]) -> Option<usize>
+    ensures { MatchOption result (¬ Contains (map T.name items.now) name.now) (λ k. (k < length items.now) × (get_or (map T.name items.now) k [] ≡ name.now)) }
+{
+    for (place, item) in items.iter().enumerate() {
+        if item.name().as_slice() == name {
+            return Some(place);
+        }
+    }
+    None
+}
+
 /// Whether one of the items has the name.
 pub fn has_name<T: Named>(items: &[T], name: &Name) -> bool
     ensures { IsTrue result ↔ Contains (map T.name items.now) name.now }
 {
-    for item in items {
-        if is_same(item.name(), name) {
-            return true;
-        }
-    }
-    false
+    place_of(items, name.as_slice()).is_some()
 }
 
 /// Whether the number is 0.
