@@ -103,7 +103,7 @@ fn judged(model: &Model, best: Option<Kept>, point: Point) -> Result<Option<Kept
         Err(step) => return Err(step),
         Ok(value) => value,
     };
-    if improves(model.sense, &best, &value) {
+    if improves(model.sense(), &best, &value) {
         Ok(Some(Kept { point, value }))
     } else {
         Ok(best)

@@ -1,3 +1,6 @@
 pub mod NameLemmas
 pub mod NumberLemmas
 pub mod TextLemmas
+pub mod SimpleLemmas
+pub mod ReplyLemmas
+pub mod StepLemmas

@@ -3,6 +3,10 @@ pub mod Texts
 pub mod State
 pub mod FirstForm
 pub mod Refusals
+pub mod Simple
 pub mod Load
 pub mod Solve
 pub mod Step
+pub mod Present
+pub mod Reports
+pub mod Shell

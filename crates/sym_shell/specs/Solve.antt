@@ -1,5 +1,7 @@
 -- What `solve` may answer of the model that is present.
-use Rattle.std.specs.Prelude.{◌≡◌, ◌⊎◌, ℕ, ◌<◌, ◌≤◌, List, Option, Some, None}
+use Rattle.std.specs.Prelude.{◌≡◌, ◌⊎◌, ℕ, ◌<◌, ◌≤◌, List, [], ◌∷◌, codes, Option, Some, None, MatchBool}
+use Rattle.std.specs.Str.{bytes_eq}
+use Rattle.sym_shell.specs.Names.{IsCount, IsNoCount}
 use Rattle.lp_model.specs.Program.{Program, Point, IsOptimum, IsEmpty}
 use Rattle.box_search.specs.Root.{cap_of}
 use Rattle.sym_shell.specs.State.{State}
@@ -16,14 +18,27 @@ pub record ShowsEmptiness (M : Program) (reply : List ℕ) : Type 0 where
   pub empty : IsEmpty M
   pub shown : reply ≡ infeasible_text (cap_of M)
 
+-- what a search of the model may be answered
+abbrev pub Shows : Program → List ℕ → Type 0
+Shows M reply = ShowsOptimum M reply ⊎ ShowsEmptiness M reply ⊎ (reply ≡ memory_text)
+
 -- a limit below the results that a search of the model places is refused; any other search ends with an answer
 abbrev pub Solves : Option Program → ℕ → List ℕ → Type 0
 Solves None limit reply = (reply ≡ no_model_text) ⊎ (reply ≡ memory_text)
 Solves (Some M) limit reply =
-    ((limit < cap_of M) × (reply ≡ arguments_text))
-    ⊎ ((cap_of M ≤ limit) × (ShowsOptimum M reply ⊎ ShowsEmptiness M reply))
-    ⊎ (reply ≡ memory_text)
+    ((limit < cap_of M) × ((reply ≡ arguments_text) ⊎ (reply ≡ memory_text)))
+    ⊎ ((cap_of M ≤ limit) × Shows M reply)
 
-pub record SolveStep (old : State) (limit : ℕ) (reply : List ℕ) (new : State) : Type 0 where
+-- a word that is a whole number, or none
+abbrev pub SolveWith : Option Program → List ℕ → List ℕ → Type 0
+SolveWith model number reply = ((n : ℕ) × (IsCount number n × Solves model n reply)) ⊎ (IsNoCount number × ((reply ≡ arguments_text) ⊎ (reply ≡ memory_text)))
+
+-- `nodes` and one whole number
+abbrev pub SolveReply : Option Program → List (List ℕ) → List ℕ → Type 0
+SolveReply model (key ∷ number ∷ []) reply = MatchBool (bytes_eq key (codes "nodes")) (SolveWith model number reply) ((reply ≡ arguments_text) ⊎ (reply ≡ memory_text))
+SolveReply model arguments reply = (reply ≡ arguments_text) ⊎ (reply ≡ memory_text)
+
+-- nothing changes
+pub record SolveStep (old : State) (arguments : List (List ℕ)) (reply : List ℕ) (new : State) : Type 0 where
   pub unchanged : new ≡ old
-  pub answer : Solves old.model limit reply
+  pub answer : SolveReply old.model arguments reply

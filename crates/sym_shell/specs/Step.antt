@@ -1,8 +1,7 @@
 -- What a command may be answered, and what it does to the state.
-use Rattle.std.specs.Prelude.{◌≡◌, ◌⊎◌, ℕ, List, [], ◌∷◌, codes, Option, Some, None, MatchBool}
-use Rattle.std.specs.Str.{bytes_eq}
+use Rattle.std.specs.Prelude.{◌≡◌, ◌⊎◌, ℕ, List, [], ◌∷◌, Option, Some, None, MatchBool}
 use Rattle.sym_shell.specs.State.{State}
-use Rattle.sym_shell.specs.Names.{command_of, is_file_name, IsCount, IsNoCount}
+use Rattle.sym_shell.specs.Names.{command_of, is_file_name}
 use Rattle.sym_shell.specs.Texts.{unknown_text, arguments_text, memory_text}
 use Rattle.sym_shell.specs.Load.{LoadStep}
 use Rattle.sym_shell.specs.Solve.{SolveStep}
@@ -22,18 +21,9 @@ abbrev pub LoadLine : State → List (List ℕ) → List ℕ → State → Type 
 LoadLine old (name ∷ []) reply new = MatchBool (is_file_name name) (LoadStep old name reply new) (Misused old reply new)
 LoadLine old arguments reply new = Misused old reply new
 
--- a word that is a whole number, or none
-abbrev pub SolveWith : State → List ℕ → List ℕ → State → Type 0
-SolveWith old number reply new = ((n : ℕ) × (IsCount number n × SolveStep old n reply new)) ⊎ (IsNoCount number × Misused old reply new)
-
--- `solve nodes` and one whole number
-abbrev pub SolveLine : State → List (List ℕ) → List ℕ → State → Type 0
-SolveLine old (key ∷ number ∷ []) reply new = MatchBool (bytes_eq key (codes "nodes")) (SolveWith old number reply new) (Misused old reply new)
-SolveLine old arguments reply new = Misused old reply new
-
 abbrev pub Runs : Option CommandName → List ℕ → List (List ℕ) → State → List ℕ → State → Type 0
 Runs (Some Load) word arguments old reply new = LoadLine old arguments reply new
-Runs (Some Solve) word arguments old reply new = SolveLine old arguments reply new
+Runs (Some Solve) word arguments old reply new = SolveStep old arguments reply new
 Runs None word arguments old reply new = IsRefused old (unknown_text word) reply new
 
 -- From old, the command of these words may be answered with this reply, and leave new.

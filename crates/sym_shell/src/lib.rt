@@ -3,6 +3,7 @@
 
 mod reading;
 mod shell;
+mod simple;
 mod texts;
 mod words;
 

@@ -3,6 +3,7 @@ ghost use Rattle.std.specs.Prelude.{◌≡◌, ◌≤◌, true, IfOk, MatchOptio
 ghost use Rattle.sym_shell.specs.FirstForm.{ReadsAs, IsUnreadable};
 ghost use Rattle.sym_shell.specs.Names.{is_file_name};
 ghost use Rattle.sym_shell.specs.Load.{ReadsFile};
+ghost use Rattle.sym_shell.specs.Simple.{is_simple};
 
 use crate::words::file_name;
 use lp_model::Model;
@@ -64,7 +65,7 @@ impl Refusal {
 
 /// The model that a text means.
 fn model_of_text(alloc: Global, text: &[u8]) -> Result<Option<Model>, AllocError>
-    ensures { IfOk result (λ model. MatchOption model (IsUnreadable text.now) (λ m. ReadsAs text.now m)) }
+    ensures { IfOk result (λ model. MatchOption model (IsUnreadable text.now) (λ m. ReadsAs text.now m × (is_simple m ≡ true))) }
 {
     let _ = text;
     let _ = alloc;
@@ -79,6 +80,7 @@ pub(crate) fn read_model<S: Store>(
 ) -> Result<Model, Refusal>
     requires { is_file_name name.now ≡ true }
     ensures answer { ReadsFile (S.files store.old) name.now (S.faults store.old) (S.faults store.new) result }
+    ensures simple { IfOk result (λ m. is_simple m ≡ true) }
     ensures kept { S.files store.new ≡ S.files store.old }
     ensures later { S.faults store.old ≤ S.faults store.new }
 {

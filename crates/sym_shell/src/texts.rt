@@ -1,8 +1,11 @@
 // The bytes of the replies.
 ghost use Rattle.std.specs.Prelude.{◌≡◌, ◌++◌, length, IfOk};
 ghost use Rattle.lp_model.specs.Program.{value};
+ghost use Rattle.box_search.specs.Search.{Finds};
+ghost use Rattle.sym_shell.specs.Reports.{Reports};
 ghost use Rattle.sym_shell.specs.Texts.{unknown_text, value_line, column_line, column_lines, optimal_text, infeasible_text};
 
+use box_search::Outcome;
 use frac128::Frac;
 use lp_model::{Col, Model, Point};
 use std::alloc::AllocError;
@@ -16,7 +19,7 @@ pub(crate) fn write_unknown(reply: &mut Vec<u8>, word: &[u8]) -> Result<(), Allo
     Ok(())
 }
 
-pub(crate) fn write_infeasible(reply: &mut Vec<u8>, placed: u64) -> Result<(), AllocError>
+fn write_infeasible(reply: &mut Vec<u8>, placed: u64) -> Result<(), AllocError>
     ensures { IfOk result (λ _. reply.new.items ≡ reply.old.items ++ infeasible_text placed) }
 {
     let mut digits = itoa::Buffer::new();
@@ -70,7 +73,7 @@ fn write_columns(
 }
 
 /// An optimum: its value, how many results were placed, and its numbers.
-pub(crate) fn write_optimal(
+fn write_optimal(
     reply: &mut Vec<u8>,
     model: &Model,
     best: &Frac,
@@ -85,4 +88,23 @@ pub(crate) fn write_optimal(
     write_columns(reply, model.cols(), point.as_slice())?;
     reply.extend_from_slice(b"end\n")?;
     Ok(())
+}
+
+/// What a search has shown of the model.
+pub(crate) fn write_outcome(
+    reply: &mut Vec<u8>,
+    model: &Model,
+    outcome: &Outcome,
+) -> Result<(), AllocError>
+    requires { Finds model.now outcome.now }
+    ensures { IfOk result (λ _. Reports model.now outcome.now reply.old.items reply.new.items) }
+{
+    match outcome {
+        Outcome::Optimal {
+            value,
+            point,
+            placed,
+        } => write_optimal(reply, model, value, point, *placed),
+        Outcome::Infeasible { placed } => write_infeasible(reply, *placed),
+    }
 }

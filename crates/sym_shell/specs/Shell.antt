@@ -1,0 +1,17 @@
+-- A shell beside its store, as the state of which commands speak.
+use Rattle.std.specs.Prelude.{ℕ, Bool, false, List}
+use Rattle.script_session.specs.Stand.{Stand}
+use Rattle.sym_shell.specs.State.{State, state}
+use Rattle.sym_shell.specs.Present.{present}
+use Rattle.sym_shell.specs.Step.{Step}
+use Rattle.sym_shell.specs.declared.shell.Shell.{Shell}
+
+abbrev pub state_of : Stand Shell → State
+state_of stand = state (present stand.machine) stand.files stand.faults
+
+abbrev pub ShellStep : Stand Shell → List (List ℕ) → List ℕ → Stand Shell → Type 0
+ShellStep old words reply new = Step (state_of old) words reply (state_of new)
+
+-- no command ends a script yet
+abbrev pub never : List (List ℕ) → Bool
+never words = false
