@@ -4,3 +4,4 @@ pub mod TextLemmas
 pub mod SimpleLemmas
 pub mod ReplyLemmas
 pub mod StepLemmas
+pub mod RunLemmas

@@ -10,3 +10,4 @@ pub mod Step
 pub mod Present
 pub mod Reports
 pub mod Shell
+pub mod Run

@@ -1,6 +1,7 @@
 //! The shell: a script's commands, answered over the model that is loaded.
 #![tactic(auto)]
 
+mod program;
 mod reading;
 mod shell;
 mod simple;

@@ -1,0 +1,24 @@
+-- The words of the command line, and the states in which a run begins and ends.
+use Rattle.std.specs.Prelude.{◌≡◌, ℕ, List, [], ◌∷◌, codes, Option, None, String}
+use Rattle.std.specs.String.{string_bytes}
+use Rattle.std.specs.declared.alloc.Global.{Global}
+use Rattle.sym_io.specs.Files.{Files}
+use Rattle.lp_model.specs.Program.{Program}
+use Rattle.script_session.specs.Run.{View}
+use Rattle.sym_shell.specs.State.{State, state}
+
+-- the program's name, and the word `run`
+abbrev pub IsRunForm : List (String Global) → Type 0
+IsRunForm (name ∷ word ∷ []) = string_bytes word ≡ codes "run"
+IsRunForm words = ⊥
+
+abbrev pub usage : List ℕ
+usage = codes "usage: symphony run | check MODEL CERT | bench SEED ROWS COLS NODES\n"
+
+-- at the start no model is present
+abbrev pub start : Option Files → ℕ → Option (List ℕ) → View State
+start files faults written = record { state = state None files faults; written = written }
+
+-- what a run leaves: some model or none, beside what the store and the sink tell
+abbrev pub end_with : Option Program → Option Files → ℕ → Option (List ℕ) → View State
+end_with model files faults written = record { state = state model files faults; written = written }
