@@ -17,12 +17,17 @@ col_limit wide = if wide then 1001 else 1000
 abbrev pub entry_limit : Bool → ℕ
 entry_limit wide = if wide then 52002 else 50000
 
--- there is a side; two sides do not cross, and hi - lo and hi - (hi - lo) have room
+-- hi - lo and hi - (hi - lo) have room
+pub record AreNear (lo hi : ℚ) : Type 0 where
+  pub width : SumFits hi (neg_ℚ lo)
+  pub back : SumFits hi (neg_ℚ (hi -ℚ lo))
+
+-- there is a side, and two sides do not cross and are near
 abbrev pub IsRange : Option ℚ → Option ℚ → Type 0
 IsRange None None = ⊥
 IsRange None (Some h) = Unit {0}
 IsRange (Some l) None = Unit {0}
-IsRange (Some l) (Some h) = (l ≤ℚ h) × SumFits h (neg_ℚ l) × SumFits h (neg_ℚ (h -ℚ l))
+IsRange (Some l) (Some h) = (l ≤ℚ h) × AreNear l h
 
 -- the rows of the entries rise, from `from` on and below `to`, and no number is 0
 abbrev pub AreEntries : ℕ → ℕ → List (RowId × ℚ) → Type 0
@@ -44,12 +49,15 @@ column_names M = map (λ c. c.name) M.cols
 abbrev pub entry_count : Program → ℕ
 entry_count M = sum_by (λ c. length c.rows) M.cols
 
+pub record AreWithinLimits (wide : Bool) (rows columns entries : ℕ) : Type 0 where
+  pub few_rows : rows ≤ row_limit wide
+  pub few_columns : columns ≤ col_limit wide
+  pub few_entries : entries ≤ entry_limit wide
+
 pub record IsLawful (M : Program) : Type 0 where
   pub constants : length M.consts ≡ 2
   pub ranges : All (λ r. IsRange r.lo r.hi) M.rows
   pub columns : All (IsLawfulColumn (length M.rows)) M.cols
   pub rows_distinct : AllPairs (λ a b. a ≢ b) (row_names M)
   pub columns_distinct : AllPairs (λ a b. a ≢ b) (column_names M)
-  pub few_rows : length M.rows ≤ row_limit M.wide
-  pub few_columns : length M.cols ≤ col_limit M.wide
-  pub few_entries : entry_count M ≤ entry_limit M.wide
+  pub limits : AreWithinLimits M.wide (length M.rows) (length M.cols) (entry_count M)

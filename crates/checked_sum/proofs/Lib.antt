@@ -1,0 +1,4 @@
+pub mod SumLaws
+pub mod StepLaws
+pub mod AnswerLaws
+pub mod SmallSums

@@ -1,0 +1,74 @@
+-- What layers above use of models: the answers of the calls, lawful models by place, and whole objectives.
+use Rattle.std.specs.Prelude.{◌≡◌, ◌≢◌, ℕ, [], ◌∷◌, ◌+◌, ◌^◌, ◌<◌, ◌≤◌, Bool, true, false, IsTrue, List, length, get_or, All, pos, Ok, Err, Option, None, Some, IsSome}
+use Rattle.std.proofs.Common.{refl, sym, ap, subst, ◌∙◌, arith}
+use Rattle.std.proofs.lemmas.List.Elements.{All-get_or}
+use Rattle.std.specs.Ordering.{eq_by_cmp}
+use Rattle.rational.specs.Rational.{ℚ, int, ◌+ℚ◌, ◌*ℚ◌, IsWhole, rational_cmp}
+use Rattle.rational.proofs.Comparison.{eq_by_cmp-decides}
+use Rattle.rational.proofs.RationalRing.{ring, reads_ℚ}
+use Rattle.rational.proofs.Integers.{IsWhole-int, IsWhole-+ℚ, IsWhole-*ℚ}
+use Rattle.checked_sum.specs.Sums.{sum_below}
+use Rattle.checked_sum.proofs.SumLaws.{IsWhole-sum_below}
+use Rattle.lp_model.specs.Program.{Program, Point, coordinate, constant, cost, is_integer, lower, upper, low_side, high_side, activity, value, IsFeasible, HasWholeObjective}
+use Rattle.lp_model.specs.Lawful.{row_limit, col_limit, IsRange, IsLawfulColumn, IsLawful}
+use Rattle.lp_model.specs.Answers.{IsValueAnswer, IsActivityAnswer}
+use Rattle.lp_model.specs.Elements.{of_element}
+use Rattle.lp_model.specs.declared.types.Row.{Row}
+use Rattle.lp_model.specs.declared.types.Col.{Col}
+use Rattle.lp_model.proofs.ElementLemmas.{of_element-get, element}
+use Rattle.lp_model.proofs.SmallModels.{col_limit-le}
+
+-- a value that is answered is the point's value, and an activity the row's
+pub value_answer : (M : Program) (w : ℕ) (x : Point) (v : ℚ) → IsValueAnswer M w x (Ok v) → v ≡ value M w x
+value_answer M w x v answer = answer.1
+
+pub activity_answer : (M : Program) (x : Point) (i : ℕ) (v : ℚ) → IsActivityAnswer M x i (Ok v) → v ≡ activity M x i
+activity_answer M x i v answer = answer.1 ∙ ring (activity M x i ∷ []) (search reads_ℚ) tt
+
+-- ---- lawful models, by place
+
+row_limit-le : (wide : Bool) → row_limit wide ≤ 502
+row_limit-le true = omega arith
+row_limit-le false = omega arith
+
+module _ (M : Program) (lawful : IsLawful M) where
+  pub few_columns : length M.cols ≤ 1001
+  few_columns = let few = lawful.limits.few_columns in let limit = col_limit-le M.wide in omega arith
+
+  pub few_rows : length M.rows ≤ 502
+  few_rows = let few = lawful.limits.few_rows in let limit = row_limit-le M.wide in omega arith
+
+  pub lawful_row : (i : ℕ) → i < length M.rows → IsRange (low_side M i) (high_side M i)
+  lawful_row i below =
+      let (r, is) = element M.rows i below in
+      let range : IsRange r.lo r.hi = subst (λ s. IsRange s.lo s.hi) (sym is) (lawful.ranges i r below) in
+      let lo = sym (of_element-get None (λ s. s.lo) M.rows i r below is) in
+      let hi = sym (of_element-get None (λ s. s.hi) M.rows i r below is) in
+      subst (λ P. P) (λ t. IsRange (lo t) (hi t)) range
+
+  pub lawful_column : (j : ℕ) → j < length M.cols → IsTrue (is_integer M j) → IsSome (lower M j) × IsSome (upper M j)
+  lawful_column j below h =
+      let (c, is) = element M.cols j below in
+      let column : IsLawfulColumn (length M.rows) c = subst (IsLawfulColumn (length M.rows)) (sym is) (lawful.columns j c below) in
+      let integer : IsTrue c.int = subst IsTrue (of_element-get false (λ d. d.int) M.cols j c below is) h in
+      let lo = sym (of_element-get None (λ d. d.lo) M.cols j c below is) in
+      let up = sym (of_element-get None (λ d. d.up) M.cols j c below is) in
+      let both = column.bounded integer in
+      (subst IsSome lo both.0, subst IsSome up both.1)
+
+-- ---- whole objectives
+
+-- a feasible point has a whole value, where the objective is whole
+pub whole_value : (M : Program) (w : ℕ) (x : Point) → HasWholeObjective M w → IsFeasible M x → IsWhole (value M w x)
+whole_value M w x objective feasible =
+    IsWhole-+ℚ (constant M w) (sum_below (length M.cols) (λ j. cost M w j *ℚ coordinate x j)) objective.constant
+    (IsWhole-sum_below (length M.cols) (λ j. cost M w j *ℚ coordinate x j) (λ j below. by j below (eq_by_cmp rational_cmp (cost M w j) (int (pos 0))) refl))
+  where
+    by : (j : ℕ) → j < length M.cols → (b : Bool) → eq_by_cmp rational_cmp (cost M w j) (int (pos 0)) ≡ b → IsWhole (cost M w j *ℚ coordinate x j)
+    by j below true e =
+        let none : cost M w j ≡ int (pos 0) = (eq_by_cmp-decides (cost M w j) (int (pos 0))).0 e in
+        let product : int (pos 0) *ℚ coordinate x j ≡ int (pos 0) = ring (coordinate x j ∷ []) (search reads_ℚ) tt in
+        subst IsWhole (sym (ap (λ q. q *ℚ coordinate x j) none ∙ product)) (IsWhole-int (pos 0))
+    by j below false e =
+        let some : cost M w j ≢ int (pos 0) = λ h. let t : eq_by_cmp rational_cmp (cost M w j) (int (pos 0)) ≡ true = (eq_by_cmp-decides (cost M w j) (int (pos 0))).1 h in cc in
+        IsWhole-*ℚ (cost M w j) (coordinate x j) (objective.costs j below).whole ((feasible.columns j below).whole ((objective.costs j below).costed some))

@@ -1,0 +1,33 @@
+use Rattle.std.proofs.Common.{rules, ◌≡◌, ◌<◌, length, arith, ap, below_more, IsTrue, false, inr}
+use Rattle.lp_model.specs.Program.{Within}
+use Rattle.lp_model.specs.Answers.{RowPasses}
+use Rattle.lp_model.proofs.AnswerLemmas.{row-passes, row-breach, all-pass}
+use Rattle.lp_model.proofs.model.Model.is_feasible.Goals as goal
+
+pub returns-then-not-is_within : goal.returns-then-not-is_within
+returns-then-not-is_within c =
+    let M = c.args.self.now in
+    let x = c.args.point.now in
+    let items : length c.rows-row-items.result.now ≡ length M.rows = ap length c.rows-row-items.ensures.items in
+    let within : c.loop-index.index < length M.rows = omega arith in
+    let row = c.row-item.result in
+    let outside : ¬ Within row.lo row.hi c.in-Ok.activity = λ h. let t : IsTrue c.is_within.result = c.is_within.ensures.1 h in let f : c.is_within.result ≡ false = search rules in cc in
+    inr (c.loop-index.index, row-breach M x _ c.loop-index.index row c.in-Ok.activity c.rows-row-items.ensures.items within c.row-item.is c.in-Ok.ensures c.loop-index.invariant outside)
+
+pub loop-index-preserved : goal.loop-index-preserved
+loop-index-preserved c =
+    let M = c.args.self.now in
+    let x = c.args.point.now in
+    let items : length c.rows-row-items.result.now ≡ length M.rows = ap length c.rows-row-items.ensures.items in
+    let within : c.loop-index.index < length M.rows = omega arith in
+    let holds : IsTrue c.is_within.result = search rules in
+    below_more (RowPasses M x) c.loop-index.index c.loop-index.invariant
+    (row-passes M x _ c.loop-index.index c.row-item.result c.in-Ok.activity c.rows-row-items.ensures.items within c.row-item.is c.in-Ok.ensures (c.is_within.ensures.0 holds))
+
+pub returns : goal.returns
+returns c =
+    let M = c.args.self.now in
+    let x = c.args.point.now in
+    let items : length c.rows-row-items.result.now ≡ length M.rows = ap length c.rows-row-items.ensures.items in
+    let hold : IsTrue c.columns_hold.result = search rules in
+    all-pass M x c.requires (c.columns_hold.ensures.0 hold) c.loop-index.index (omega arith) c.loop-index.invariant
