@@ -1,29 +1,26 @@
 -- The numbers of a text, and the limits that BOUNDS states.
-use Rattle.std.specs.Prelude.{ℕ, ◌^◌, Bool, true, false, not, ◌&&◌, ◌||◌, if◌then◌else◌, ◌==◌, List, [], ◌∷◌, length, codes, Option, None, Some, Result, Ok, Err, pos, int_lt, unsigned_abs, nat_le}
+use Rattle.std.specs.Prelude.{ℕ, ◌^◌, Bool, true, false, not, ◌&&◌, ◌||◌, if◌then◌else◌, List, length, codes, Option, None, Some, Result, Ok, Err, pos, nat_le}
 use Rattle.std.specs.List.{list_all}
+use Rattle.std.specs.Ordering.{int_eq}
 use Rattle.rational.specs.Rational.{ℚ, int, neg_ℚ, rational_le}
 use Rattle.frac128.specs.Spelling.{Reading, Number, Wide, NoNumber, reading_of, is_minus, without_sign, is_digit}
 use Rattle.mps_model.specs.Words.{is_key}
 use Rattle.mps_model.specs.declared.words.BoundKind.{BoundKind}
 use Rattle.mps_model.specs.declared.words.BoundKind.TheVariants.{Lower, Upper, Fixed, Binary, IntegerLower, IntegerUpper}
-use Rattle.mps_model.specs.declared.numbers.NumberFlaw.{NumberFlaw}
-use Rattle.mps_model.specs.declared.numbers.NumberFlaw.TheVariants.{NotNumber, TooWide}
+use Rattle.frac128.specs.Parsing.{parsed}
+use Rattle.frac128.specs.declared.parse.NumFault.{NumFault}
+use Rattle.frac128.specs.declared.parse.NumFault.TheVariants.{NotNumber, Wide as TooWide}
 use Rattle.mps_model.specs.declared.numbers.Limit.{Limit}
 use Rattle.mps_model.specs.declared.numbers.Limit.TheVariants.{Finite, Plus, Minus}
 use Rattle.mps_model.specs.declared.numbers.Span.{Span}
 
 -- ---- numbers
 
-abbrev pub number_read : Reading → Result ℚ NumberFlaw
-number_read (Number x) = Ok x
-number_read (Wide x) = Err TooWide
-number_read NoNumber = Err NotNumber
-
 -- the number that a field spells
-abbrev pub number_of : List ℕ → Result ℚ NumberFlaw
-number_of field = number_read (reading_of field)
+abbrev pub number_of : List ℕ → Result ℚ NumFault
+number_of field = parsed (reading_of field)
 
-abbrev pub number_or_zero : Result ℚ NumberFlaw → ℚ
+abbrev pub number_or_zero : Result ℚ NumFault → ℚ
 number_or_zero (Ok x) = x
 number_or_zero (Err flaw) = int (pos 0)
 
@@ -31,18 +28,18 @@ abbrev pub number : List ℕ → ℚ
 number field = number_or_zero (number_of field)
 
 abbrev pub is_zero : ℚ → Bool
-is_zero x = unsigned_abs x.num == 0
+is_zero x = int_eq x.num (pos 0)
 
 -- an optional sign, and 1 to 9 digits
 abbrev pub is_plain : List ℕ → Bool
 is_plain field = list_all is_digit (without_sign field) && nat_le 1 (length (without_sign field)) && nat_le (length (without_sign field)) 9
 
-abbrev pub is_not_number : {A : Type 0} → Result A NumberFlaw → Bool
+abbrev pub is_not_number : {A : Type 0} → Result A NumFault → Bool
 is_not_number (Ok x) = false
 is_not_number (Err NotNumber) = true
 is_not_number (Err TooWide) = false
 
-abbrev pub is_too_wide : {A : Type 0} → Result A NumberFlaw → Bool
+abbrev pub is_too_wide : {A : Type 0} → Result A NumFault → Bool
 is_too_wide (Ok x) = false
 is_too_wide (Err NotNumber) = false
 is_too_wide (Err TooWide) = true
@@ -52,24 +49,24 @@ is_too_wide (Err TooWide) = true
 abbrev pub is_infinite_word : List ℕ → Bool
 is_infinite_word field = is_key (codes "INF") (without_sign field) || is_key (codes "INFINITY") (without_sign field)
 
-abbrev pub within : ℚ → Result Limit NumberFlaw → Result Limit NumberFlaw
+abbrev pub within : ℚ → Result Limit NumFault → Result Limit NumFault
 within x otherwise =
     if rational_le (int (pos (10 ^ 20))) x then Ok Plus
     else if rational_le x (neg_ℚ (int (pos (10 ^ 20)))) then Ok Minus
     else otherwise
 
-abbrev pub limit_read : Reading → Result Limit NumberFlaw
+abbrev pub limit_read : Reading → Result Limit NumFault
 limit_read (Number x) = within x (Ok (Finite x))
-limit_read (Wide x) = within x (Err TooWide)
+limit_read (Wide x) = Err TooWide
 limit_read NoNumber = Err NotNumber
 
 abbrev pub infinite : Bool → Limit
 infinite minus = if minus then Minus else Plus
 
-abbrev pub limit_of : List ℕ → Result Limit NumberFlaw
+abbrev pub limit_of : List ℕ → Result Limit NumFault
 limit_of field = if is_infinite_word field then Ok (infinite (is_minus field)) else limit_read (reading_of field)
 
-abbrev pub limit_or_plus : Result Limit NumberFlaw → Limit
+abbrev pub limit_or_plus : Result Limit NumFault → Limit
 limit_or_plus (Ok l) = l
 limit_or_plus (Err flaw) = Plus
 
@@ -83,7 +80,7 @@ finite Plus = None
 finite Minus = None
 
 abbrev pub is_below_zero : Limit → Bool
-is_below_zero (Finite x) = int_lt x.num (pos 0)
+is_below_zero (Finite x) = not (rational_le (int (pos 0)) x)
 is_below_zero Plus = false
 is_below_zero Minus = true
 

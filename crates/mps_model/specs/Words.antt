@@ -1,5 +1,5 @@
 -- Key words, and what a line is: by its first byte and the section that it stands in.
-use Rattle.std.specs.Prelude.{ℕ, ◌-◌, Bool, true, false, ◌&&◌, ◌==◌, if◌then◌else◌, nat_le, List, [], ◌∷◌, length, map, get_or, codes, bytes_eq, Option, None, Some}
+use Rattle.std.specs.Prelude.{ℕ, ◌-◌, Bool, true, false, ◌&&◌, ◌==◌, if◌then◌else◌, nat_le, List, [], length, map, get_or, codes, bytes_eq, Option, None, Some}
 use Rattle.std.specs.List.{list_any}
 use Rattle.mps_text.specs.Text.{Entry}
 use Rattle.mps_model.specs.declared.words.Section.{Section}

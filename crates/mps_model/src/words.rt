@@ -192,10 +192,10 @@ impl BoundKind {
 }
 
 /// The first field of a line.
-pub(crate) fn first_word<'a>(record: &Record<'a>) -> &'a [u8]
-    ensures { result.now ≡ word 0 (entry_of record.now) }
+pub(crate) fn first_word<'a>(entry: &Record<'a>) -> &'a [u8]
+    ensures { result.now ≡ word 0 (entry_of entry.now) }
 {
-    match record.fields {
+    match entry.fields {
         Fields::One(first) => first,
         Fields::Two(first, _) => first,
         Fields::Three(first, _, _) => first,
@@ -205,23 +205,23 @@ pub(crate) fn first_word<'a>(record: &Record<'a>) -> &'a [u8]
     }
 }
 
-fn is_marker_line(record: &Record) -> bool
-    ensures { result ≡ is_marker (entry_of record.now) }
+fn is_marker_line(entry: &Record) -> bool
+    ensures { result ≡ is_marker (entry_of entry.now) }
 {
-    match record.fields {
+    match entry.fields {
         Fields::Three(_, second, _) => is_key(b"'MARKER'", second),
         _ => false,
     }
 }
 
 /// What a data line of a section is.
-fn data_kind(section: Option<Section>, record: &Record) -> LineKind
-    ensures { result ≡ data_kind section (entry_of record.now) }
+fn data_kind(section: Option<Section>, entry: &Record) -> LineKind
+    ensures { result ≡ data_kind section (entry_of entry.now) }
 {
     match section {
         Some(Section::Rows) => LineKind::Row,
         Some(Section::Columns) => {
-            if is_marker_line(record) {
+            if is_marker_line(entry) {
                 LineKind::Marker
             } else {
                 LineKind::Column
@@ -234,20 +234,20 @@ fn data_kind(section: Option<Section>, record: &Record) -> LineKind
 }
 
 /// What a line that follows the section's header is.
-pub(crate) fn kind_in(section: Option<Section>, record: &Record) -> LineKind
-    ensures { result ≡ kind_in section (entry_of record.now) }
+pub(crate) fn kind_in(section: Option<Section>, entry: &Record) -> LineKind
+    ensures { result ≡ kind_in section (entry_of entry.now) }
 {
-    if record.header {
+    if entry.header {
         LineKind::Header
     } else {
-        data_kind(section, record)
+        data_kind(section, entry)
     }
 }
 
 /// Whether the line is the header ENDATA.
 #[tactic(auto, unfolding(crate::specs::Faults::is_end))]
-pub(crate) fn is_end(record: &Record) -> bool
-    ensures { result ≡ is_end (entry_of record.now) }
+pub(crate) fn is_end(entry: &Record) -> bool
+    ensures { result ≡ is_end (entry_of entry.now) }
 {
-    record.header && matches!(Section::of(first_word(record)), Some(Section::Ended))
+    entry.header && matches!(Section::of(first_word(entry)), Some(Section::Ended))
 }
