@@ -1,12 +1,12 @@
 -- Where a text is cut: at its first byte that passes a test.
-use Rattle.std.specs.Prelude.{◌≡◌, ℕ, ◌<◌, ◌+◌, ◌++◌, Bool, true, false, ◌&&◌, ◌||◌, List, [], ◌∷◌, suc, zero, length}
-use Rattle.std.specs.List.{list_all, list_any, after_first, position_or_len}
-use Rattle.std.proofs.Common.{refl, sym, ap, ap₂, ◌∙◌, arith, true≢false, get_or}
+use Rattle.std.specs.Prelude.{◌≡◌, ℕ, ◌<◌, ◌+◌, ◌++◌, Bool, true, false, ◌&&◌, ◌||◌, List, [], ◌∷◌, suc, zero, length, not, cond}
+use Rattle.std.specs.List.{list_all, list_any, before_first, after_first, position_or_len}
+use Rattle.std.proofs.Common.{refl, sym, ap, ap₂, ◌∙◌, arith, true≢false, get_or, take, drop}
 use Rattle.std.proofs.lemmas.List.{drop_all}
 use Rattle.std.proofs.lemmas.List.Folds.{list_all-append}
 use Rattle.std.proofs.lemmas.List.Sums.{position_or_len_is}
 
-neither : (a b : Bool) → (a || b) ≡ false → (a ≡ false) × (b ≡ false)
+pub neither : (a b : Bool) → (a || b) ≡ false → (a ≡ false) × (b ≡ false)
 neither true b e = absurd (true≢false e)
 neither false b e = (refl, e)
 
@@ -39,3 +39,39 @@ module _ (p : ℕ → Bool) where
 
   pub all_joined : (front back : List ℕ) → list_all p front ≡ true → list_all p back ≡ true → list_all p (front ++ back) ≡ true
   all_joined front back h k = list_all-append p front back ∙ ap₂ (λ a b. a && b) h k
+
+  -- what stands around the first byte that passes
+  place_behind : (front back : List ℕ) (byte : ℕ) → list_any p front ≡ false → p byte ≡ true → position_or_len p (front ++ byte ∷ back) ≡ length front
+  place_behind [] back byte clean hit = ap (λ b. cond (not b) (1 + position_or_len p back) 0) hit
+  place_behind (x ∷ front) back byte clean hit =
+      let parts = neither (p x) (list_any p front) clean in
+      ap (λ b. cond (not b) (1 + position_or_len p (front ++ byte ∷ back)) 0) parts.0 ∙ (let rest = place_behind front back byte parts.1 hit in omega arith)
+
+  pub cut_found : (front back : List ℕ) (byte : ℕ) → p byte ≡ true → list_any p (front ++ byte ∷ back) ≡ true
+  cut_found [] back byte hit = ap (λ b. b || list_any p back) hit
+  cut_found (x ∷ front) back byte hit = ap (λ b. p x || b) (cut_found front back byte hit) ∙ or_true (p x)
+    where
+      or_true : (b : Bool) → (b || true) ≡ true
+      or_true true = refl
+      or_true false = refl
+
+  pub cut_front : (front back : List ℕ) (byte : ℕ) → list_any p front ≡ false → p byte ≡ true → before_first p (front ++ byte ∷ back) ≡ front
+  cut_front front back byte clean hit = ap (λ n. take n (front ++ byte ∷ back)) (place_behind front back byte clean hit) ∙ taken front
+    where
+      taken : (front : List ℕ) → take (length front) (front ++ byte ∷ back) ≡ front
+      taken [] = refl
+      taken (x ∷ front) = ap (λ t. x ∷ t) (taken front)
+
+  pub cut_back : (front back : List ℕ) (byte : ℕ) → list_any p front ≡ false → p byte ≡ true → after_first p (front ++ byte ∷ back) ≡ back
+  cut_back front back byte clean hit = ap (λ n. drop (n + 1) (front ++ byte ∷ back)) (place_behind front back byte clean hit) ∙ dropped front
+    where
+      dropped : (front : List ℕ) → drop (length front + 1) (front ++ byte ∷ back) ≡ back
+      dropped [] = refl
+      dropped (x ∷ front) = ap (λ n. drop n (x ∷ (front ++ byte ∷ back))) (let e : suc (length front) + 1 ≡ suc (length front + 1) = omega arith in e) ∙ dropped front
+
+  pub before_none : (bytes : List ℕ) → list_any p bytes ≡ false → before_first p bytes ≡ bytes
+  before_none bytes none = ap (λ n. take n bytes) (place_of_none bytes (clean_of_none bytes none)) ∙ all_taken bytes
+    where
+      all_taken : (xs : List ℕ) → take (length xs) xs ≡ xs
+      all_taken [] = refl
+      all_taken (x ∷ xs) = ap (λ t. x ∷ t) (all_taken xs)

@@ -1,0 +1,115 @@
+-- The numbers of a text, and the limits that BOUNDS states.
+use Rattle.std.specs.Prelude.{ℕ, ◌^◌, Bool, true, false, not, ◌&&◌, ◌||◌, if◌then◌else◌, List, length, codes, Option, None, Some, Result, Ok, Err, pos, nat_le}
+use Rattle.std.specs.List.{list_all}
+use Rattle.std.specs.Ordering.{int_eq}
+use Rattle.rational.specs.Rational.{ℚ, int, neg_ℚ, rational_le}
+use Rattle.frac128.specs.Spelling.{Reading, Number, Wide, NoNumber, reading_of, is_minus, without_sign, is_digit}
+use Rattle.mps_model.specs.Words.{is_key}
+use Rattle.mps_model.specs.declared.words.BoundKind.{BoundKind}
+use Rattle.mps_model.specs.declared.words.BoundKind.TheVariants.{Lower, Upper, Fixed, Binary, IntegerLower, IntegerUpper}
+use Rattle.frac128.specs.Parsing.{parsed}
+use Rattle.frac128.specs.declared.parse.NumFault.{NumFault}
+use Rattle.frac128.specs.declared.parse.NumFault.TheVariants.{NotNumber, Wide as TooWide}
+use Rattle.mps_model.specs.declared.numbers.Limit.{Limit}
+use Rattle.mps_model.specs.declared.numbers.Limit.TheVariants.{Finite, Plus, Minus}
+use Rattle.mps_model.specs.declared.numbers.Span.{Span}
+
+-- ---- numbers
+
+-- the number that a field spells
+abbrev pub number_of : List ℕ → Result ℚ NumFault
+number_of field = parsed (reading_of field)
+
+abbrev pub number_or_zero : Result ℚ NumFault → ℚ
+number_or_zero (Ok x) = x
+number_or_zero (Err flaw) = int (pos 0)
+
+abbrev pub number : List ℕ → ℚ
+number field = number_or_zero (number_of field)
+
+abbrev pub is_zero : ℚ → Bool
+is_zero x = int_eq x.num (pos 0)
+
+-- an optional sign, and 1 to 9 digits
+abbrev pub is_plain : List ℕ → Bool
+is_plain field = list_all is_digit (without_sign field) && nat_le 1 (length (without_sign field)) && nat_le (length (without_sign field)) 9
+
+abbrev pub is_not_number : {A : Type 0} → Result A NumFault → Bool
+is_not_number (Ok x) = false
+is_not_number (Err NotNumber) = true
+is_not_number (Err TooWide) = false
+
+abbrev pub is_too_wide : {A : Type 0} → Result A NumFault → Bool
+is_too_wide (Ok x) = false
+is_too_wide (Err NotNumber) = false
+is_too_wide (Err TooWide) = true
+
+-- ---- limits: infinite where the magnitude is 10^20 or more
+
+abbrev pub is_infinite_word : List ℕ → Bool
+is_infinite_word field = is_key (codes "INF") (without_sign field) || is_key (codes "INFINITY") (without_sign field)
+
+abbrev pub within : ℚ → Result Limit NumFault → Result Limit NumFault
+within x otherwise =
+    if rational_le (int (pos (10 ^ 20))) x then Ok Plus
+    else if rational_le x (neg_ℚ (int (pos (10 ^ 20)))) then Ok Minus
+    else otherwise
+
+abbrev pub limit_read : Reading → Result Limit NumFault
+limit_read (Number x) = within x (Ok (Finite x))
+limit_read (Wide x) = Err TooWide
+limit_read NoNumber = Err NotNumber
+
+abbrev pub infinite : Bool → Limit
+infinite minus = if minus then Minus else Plus
+
+abbrev pub limit_of : List ℕ → Result Limit NumFault
+limit_of field = if is_infinite_word field then Ok (infinite (is_minus field)) else limit_read (reading_of field)
+
+abbrev pub limit_or_plus : Result Limit NumFault → Limit
+limit_or_plus (Ok l) = l
+limit_or_plus (Err flaw) = Plus
+
+-- what a bound line's number states (where it is no number the line is faulty, or doesn't look at it)
+abbrev pub limit : List ℕ → Limit
+limit field = limit_or_plus (limit_of field)
+
+abbrev pub finite : Limit → Option ℚ
+finite (Finite x) = Some x
+finite Plus = None
+finite Minus = None
+
+abbrev pub is_below_zero : Limit → Bool
+is_below_zero (Finite x) = not (rational_le (int (pos 0)) x)
+is_below_zero Plus = false
+is_below_zero Minus = true
+
+-- ---- the bounds of a column on the way through its lines
+
+abbrev pub with_lower : Limit → Span → Span
+with_lower l s = record { integer = s.integer; lower = finite l; upper = s.upper; named = true }
+
+-- an upper bound below 0 takes the lower bound away, where no line has named that
+abbrev pub with_upper : Limit → Span → Span
+with_upper l s = record { integer = s.integer; lower = if is_below_zero l && not s.named then None else s.lower; upper = finite l; named = s.named }
+
+abbrev pub as_integer : Span → Span
+as_integer s = record { integer = true; lower = s.lower; upper = s.upper; named = s.named }
+
+abbrev pub bounded : Span → BoundKind → Limit → Span
+bounded s Lower l = with_lower l s
+bounded s Upper l = with_upper l s
+bounded s Fixed l = record { integer = s.integer; lower = finite l; upper = finite l; named = true }
+bounded s Binary l = record { integer = true; lower = Some (int (pos 0)); upper = Some (int (pos 1)); named = true }
+bounded s IntegerLower l = as_integer (with_lower l s)
+bounded s IntegerUpper l = as_integer (with_upper l s)
+
+-- a bound with an infinite number on the wrong side
+abbrev pub is_misplaced : BoundKind → Limit → Bool
+is_misplaced Lower Plus = true
+is_misplaced IntegerLower Plus = true
+is_misplaced Fixed Plus = true
+is_misplaced Fixed Minus = true
+is_misplaced Upper Minus = true
+is_misplaced IntegerUpper Minus = true
+is_misplaced kind l = false

@@ -1,0 +1,187 @@
+// The numbers of a text, and the limits that BOUNDS states.
+ghost use Rattle.std.specs.Prelude.{◌≡◌};
+ghost use Rattle.std.specs.List.{list_all};
+ghost use Rattle.rational.specs.Rational.{rational_le};
+ghost use Rattle.frac128.specs.Spelling.{without_sign, is_minus, is_digit};
+ghost use Rattle.mps_model.specs.Numbers.{number_of, number, is_zero, limit_of, limit, within, infinite, is_infinite_word, is_misplaced, is_plain, is_not_number, is_too_wide};
+
+use crate::words::{BoundKind, is_key};
+use frac128::{Frac, NumFault};
+
+/// What the number of a bound line states. A number whose magnitude is 10^20 or more is infinite.
+#[derive(Clone, Copy, Debug, Drop)]
+pub(crate) enum Limit {
+    Finite(Frac),
+    Plus,
+    Minus,
+}
+
+/// A column's kind and bounds on the way through its bound lines.
+#[derive(Clone, Copy, Debug, Drop)]
+pub(crate) struct Span {
+    pub integer: bool,
+    pub lower: Option<Frac>,
+    pub upper: Option<Frac>,
+    /// Whether a line has named the lower bound.
+    pub named: bool,
+}
+
+/// The number that a field spells.
+fn number_of(field: &[u8]) -> Result<Frac, NumFault>
+    ensures { result ≡ number_of field.now }
+{
+    Frac::parse(field)
+}
+
+/// Whether a field is no number.
+pub(crate) fn is_not_number(field: &[u8]) -> bool
+    ensures { result ≡ is_not_number (number_of field.now) }
+{
+    matches!(number_of(field), Err(NumFault::NotNumber))
+}
+
+/// Whether a field is a number that has no room.
+pub(crate) fn is_too_wide(field: &[u8]) -> bool
+    ensures { result ≡ is_too_wide (number_of field.now) }
+{
+    matches!(number_of(field), Err(NumFault::Wide))
+}
+
+/// The number that a field spells, and 0 where it spells none.
+pub(crate) fn number_or_zero(field: &[u8]) -> Frac
+    ensures { result ≡ number field.now }
+{
+    match number_of(field) {
+        Ok(number) => number,
+        Err(_) => Frac::whole(0),
+    }
+}
+
+fn without_sign(field: &[u8]) -> &[u8]
+    ensures { result.now ≡ without_sign field.now }
+{
+    match field {
+        [b'+', rest @ ..] => rest,
+        [b'-', rest @ ..] => rest,
+        _ => field,
+    }
+}
+
+fn is_digit(byte: u8) -> bool
+    ensures { result ≡ is_digit byte }
+{
+    b'0' <= byte && byte <= b'9'
+}
+
+fn has_digits_alone(bytes: &[u8]) -> bool
+    ensures { result ≡ list_all is_digit bytes.now }
+{
+    bytes.iter().all(|byte| is_digit(*byte))
+}
+
+/// Whether a field is an optional sign and 1 to 9 digits.
+pub(crate) fn is_plain(field: &[u8]) -> bool
+    ensures { result ≡ is_plain field.now }
+{
+    let digits = without_sign(field);
+    has_digits_alone(digits) && 1 <= digits.len() && digits.len() <= 9
+}
+
+/// Whether a number is 0.
+pub(crate) fn is_zero(number: &Frac) -> bool
+    ensures { result ≡ is_zero number.now }
+{
+    *number == Frac::whole(0)
+}
+
+fn is_minus(field: &[u8]) -> bool
+    ensures { result ≡ is_minus field.now }
+{
+    matches!(field, [b'-', ..])
+}
+
+/// Whether a field is `Inf` or `Infinity` with an optional sign.
+fn is_infinite_word(field: &[u8]) -> bool
+    ensures { result ≡ is_infinite_word field.now }
+{
+    let word = without_sign(field);
+    is_key(b"INF", word) || is_key(b"INFINITY", word)
+}
+
+fn infinite(minus: bool) -> Limit
+    ensures { result ≡ infinite minus }
+{
+    if minus { Limit::Minus } else { Limit::Plus }
+}
+
+/// Whether a number is no more than another.
+pub(crate) fn is_at_most(number: &Frac, other: &Frac) -> bool
+    ensures { result ≡ rational_le number.now other.now }
+{
+    *number <= *other
+}
+
+/// What a number with room states as a limit.
+fn limit_at(number: Frac) -> Limit
+    ensures { Ok result ≡ within number (Ok (Limit.Finite number)) }
+{
+    let infinity = Frac::of_whole(100_000_000_000_000_000_000);
+    if is_at_most(&infinity, &number) {
+        Limit::Plus
+    } else if is_at_most(&number, &infinity.neg()) {
+        Limit::Minus
+    } else {
+        Limit::Finite(number)
+    }
+}
+
+/// What the number of a bound line states.
+pub(crate) fn limit_of(field: &[u8]) -> Result<Limit, NumFault>
+    ensures { result ≡ limit_of field.now }
+{
+    if is_infinite_word(field) {
+        return Ok(infinite(is_minus(field)));
+    }
+    match number_of(field) {
+        Ok(number) => Ok(limit_at(number)),
+        Err(flaw) => Err(flaw),
+    }
+}
+
+/// What the number of a bound line states, `Plus` where it states nothing.
+pub(crate) fn limit_or_plus(field: &[u8]) -> Limit
+    ensures { result ≡ limit field.now }
+{
+    match limit_of(field) {
+        Ok(limit) => limit,
+        Err(_) => Limit::Plus,
+    }
+}
+
+/// Whether the field states no limit.
+pub(crate) fn is_no_limit(field: &[u8]) -> bool
+    ensures { result ≡ is_not_number (limit_of field.now) }
+{
+    matches!(limit_of(field), Err(NumFault::NotNumber))
+}
+
+/// Whether the field is a number that has no room and isn't infinite.
+pub(crate) fn is_wide_limit(field: &[u8]) -> bool
+    ensures { result ≡ is_too_wide (limit_of field.now) }
+{
+    matches!(limit_of(field), Err(NumFault::Wide))
+}
+
+/// Whether a limit is infinite on the side where it bounds nothing.
+pub(crate) fn is_misplaced(kind: BoundKind, limit: &Limit) -> bool
+    ensures { result ≡ is_misplaced kind limit.now }
+{
+    match kind {
+        BoundKind::Lower => matches!(limit, Limit::Plus),
+        BoundKind::Upper => matches!(limit, Limit::Minus),
+        BoundKind::Fixed => !matches!(limit, Limit::Finite(_)),
+        BoundKind::Binary => false,
+        BoundKind::IntegerLower => matches!(limit, Limit::Plus),
+        BoundKind::IntegerUpper => matches!(limit, Limit::Minus),
+    }
+}

@@ -1,0 +1,71 @@
+// The model that a text means, or its first fault.
+use crate::building::{Parts, model_of};
+use crate::first_form::has_unit_bounds;
+use crate::reading::{Stop, tables_of};
+use crate::spans::column_flaw;
+use lp_model::Model;
+use std::alloc::{AllocError, Global};
+
+/// Why a text gives no model.
+#[derive(Clone, Copy, Debug, Drop)]
+pub enum MpsFault {
+    /// The first faulty line, from 1, with the least code of its faults.
+    Bad { line: u64, code: u8 },
+    /// There is no memory.
+    Memory,
+}
+
+/// The model that a text means, or its first fault. An integer column without an upper bound has `intupper`, if that is
+/// handed in.
+pub fn read(alloc: Global, text: &[u8], intupper: Option<u64>) -> Result<Model, MpsFault> {
+    let tables = match tables_of(alloc, text) {
+        Ok(tables) => tables,
+        Err(Stop::Fault(fault)) => {
+            return Err(MpsFault::Bad {
+                line: fault.line,
+                code: fault.code,
+            });
+        }
+        Err(Stop::Memory) => return Err(MpsFault::Memory),
+    };
+    let Ok(columns) = tables.columns.into_list() else {
+        return Err(MpsFault::Memory);
+    };
+    if let Some(fault) = column_flaw(intupper, tables.bounds.as_slice(), columns.as_slice()) {
+        return Err(MpsFault::Bad {
+            line: fault.line,
+            code: fault.code,
+        });
+    }
+    let parts = Parts {
+        objectives: tables.objectives.as_slice(),
+        rows: tables.rows.as_slice(),
+        columns: columns.as_slice(),
+        sides: tables.sides.as_slice(),
+        bounds: tables.bounds.as_slice(),
+        intupper,
+    };
+    match model_of(alloc, &parts) {
+        Ok(model) => Ok(model),
+        Err(_) => Err(MpsFault::Memory),
+    }
+}
+
+/// Whether a text has no fault and one N row, each of its numbers is an optional sign and 1 to 9 digits, and each
+/// column is integer and has one bound line, of type UP with the number 1.
+pub fn is_first_form(alloc: Global, text: &[u8]) -> Result<bool, AllocError> {
+    let tables = match tables_of(alloc, text) {
+        Ok(tables) => tables,
+        Err(Stop::Fault(_)) => return Ok(false),
+        Err(Stop::Memory) => return Err(AllocError),
+    };
+    let columns = tables.columns.into_list()?;
+    if column_flaw(None, tables.bounds.as_slice(), columns.as_slice()).is_some() {
+        return Ok(false);
+    }
+    Ok(
+        tables.objectives.as_slice().len() == 1
+            && tables.plain
+            && has_unit_bounds(tables.bounds.as_slice(), columns.as_slice()),
+    )
+}

@@ -1,0 +1,65 @@
+// The lines of a text, one after another, up to ENDATA or to the first fault.
+ghost use Rattle.std.specs.Prelude.{◌≡◌, MatchResult};
+ghost use Rattle.mps_text.specs.Reading.{code_of, entry_of};
+ghost use Rattle.mps_model.specs.Faults.{code_in};
+ghost use Rattle.mps_model.specs.Shown.{held};
+ghost use Rattle.mps_model.specs.ReadingOf.{IsStopAt, IsNoted};
+
+use crate::spans::LineCode;
+use crate::tables::Tables;
+use crate::words::is_end;
+use mps_text::{LineFlaw, Lines, Record};
+use std::alloc::Global;
+
+/// Why lines are read no further.
+#[derive(Clone, Copy, Debug, Drop)]
+pub(crate) enum Stop {
+    Fault(LineCode),
+    Memory,
+}
+
+fn code_of(flaw: LineFlaw) -> u8
+    ensures { result ≡ code_of flaw }
+{
+    match flaw {
+        LineFlaw::StrangeByte => 1,
+        LineFlaw::TooLong => 2,
+    }
+}
+
+/// One more line: its fault, or what the tables hold behind it.
+fn read_line(alloc: Global, tables: &mut Tables, entry: &Record) -> Result<(), Stop>
+    ensures { MatchResult result (λ _. IsNoted tables.old (entry_of entry.now) tables.new) (λ stop. IsStopAt (code_in (held tables.old) (entry_of entry.now)) entry.now.line stop) }
+{
+    if let Some(code) = tables.fault_of(entry) {
+        let line = entry.line;
+        return Err(Stop::Fault(LineCode { line, code }));
+    }
+    match tables.note(alloc, entry) {
+        Ok(()) => Ok(()),
+        Err(_) => Err(Stop::Memory),
+    }
+}
+
+/// What the lines of a text state, to ENDATA.
+pub(crate) fn tables_of(alloc: Global, text: &[u8]) -> Result<Tables, Stop> {
+    let mut lines = Lines::new(text);
+    let mut tables = Tables::new(alloc);
+    while let Some(item) = lines.next() {
+        match item {
+            Err(fault) => {
+                let line = fault.line;
+                let code = code_of(fault.flaw);
+                return Err(Stop::Fault(LineCode { line, code }));
+            }
+            Ok(entry) => {
+                read_line(alloc, &mut tables, &entry)?;
+                if is_end(&entry) {
+                    return Ok(tables);
+                }
+            }
+        }
+    }
+    let line = lines.next_number();
+    Err(Stop::Fault(LineCode { line, code: 4 }))
+}
