@@ -1,8 +1,7 @@
-use Rattle.std.proofs.Common.{◌≡◌, rules, refl, FitsSigned, arith, ap₂, ◌∙◌}
+use Rattle.std.proofs.Common.{refl, FitsSigned, arith}
 use Rattle.std.specs.Prelude.{◌*ℤ◌}
 use Rattle.std.specs.Int.{w64, w128}
 use Rattle.std.proofs.lemmas.Int.{to_z-of_z, ints}
-use Rattle.frac128.specs.Range.{IsNarrow}
 use Rattle.frac128.proofs.Terms.{word_product}
 use Rattle.frac128.proofs.arithmetic.product.Goals as goal
 
