@@ -1,9 +1,8 @@
 -- What is printed is read back, so two numbers with one text are one number.
-use Rattle.std.specs.Prelude.{◌≡◌, ◌≢◌, ℕ, zero, suc, ◌+◌, ◌-◌, ◌*◌, ◌/◌, ◌%◌, ◌^◌, ◌<◌, ◌≤◌, ◌==◌, ◌&&◌, ◌||◌, not, cond, if◌then◌else◌, Bool, true, false, nat_lt, nat_le, List, [], ◌∷◌, ◌++◌, length, ℤ, pos, negsuc, ◌*ℤ◌, neg_ℤ, unsigned_abs}
+use Rattle.std.specs.Prelude.{◌≡◌, ◌≢◌, ℕ, suc, ◌+◌, ◌-◌, ◌*◌, ◌/◌, ◌%◌, ◌^◌, ◌<◌, ◌≤◌, ◌==◌, ◌&&◌, ◌||◌, not, if◌then◌else◌, Bool, true, false, nat_lt, nat_le, List, [], ◌∷◌, ◌++◌, length, ℤ, pos, negsuc, unsigned_abs}
 use Rattle.std.specs.Fmt.{decimal, signed_decimal}
-use Rattle.std.specs.List.{list_all, list_any, before_first, after_first, position_or_len}
-use Rattle.std.proofs.Common.{refl, sym, ap, ap₂, subst, ◌∙◌, arith, true≢false, take, drop, lit≤}
-use Rattle.std.proofs.lemmas.Grind.{common_steps}
+use Rattle.std.specs.List.{list_all, list_any}
+use Rattle.std.proofs.Common.{refl, sym, ap, ap₂, subst, ◌∙◌, arith, true≢false}
 use Rattle.std.proofs.lemmas.Bool.Decides.{nat_tests, Decides-eqb}
 use Rattle.std.proofs.Math.Nat.{pow-succ', one-le-pow, pow-le-pow_right, mul-le-mul_left, mul-le-mul_right}
 use Rattle.std.proofs.lemmas.Fmt.{decimal_by_steps_wide}
@@ -14,9 +13,9 @@ use Rattle.rational.proofs.Lowest.{reduced_self, reduced-neg_ℚ}
 use Rattle.rational.proofs.RationalRing.{int-neg_ℤ}
 use Rattle.frac128.specs.Range.{Fits, largest}
 use Rattle.frac128.specs.Printing.{printed}
-use Rattle.frac128.specs.Spelling.{Reading, Number, Wide, NoNumber, reading_of, value_behind, scaled, is_quotient, is_digit, are_digits, is_empty, is_minus, without_sign, value_of, without_zeros, is_slash, is_e, is_point, signed, slash_reading, plain_reading, decimal_reading, scaled_reading, quotient_reading, coefficient_of, power_of}
-use Rattle.frac128.proofs.Cuts.{neither, both, all_joined, after_none, cut_front, cut_back, cut_found, before_none}
-use Rattle.frac128.proofs.DigitTerms.{empty_is, value_of-last, digits-without_zeros}
+use Rattle.frac128.specs.Spelling.{Number, Wide, NoNumber, reading_of, value_behind, scaled, is_quotient, is_digit, are_digits, is_empty, is_minus, without_sign, value_of, without_zeros, is_slash, is_e, is_point, signed, slash_reading, plain_reading, decimal_reading, scaled_reading, quotient_reading, coefficient_of}
+use Rattle.frac128.proofs.Cuts.{both, all_joined, after_none, cut_front, cut_back, cut_found, before_none}
+use Rattle.frac128.proofs.DigitTerms.{empty_is, value_of-last}
 use Rattle.frac128.proofs.SpellingTerms.{reads_slash, reads_plain, reads_decimal}
 use Rattle.frac128.proofs.Printed.{printed-whole, printed-fraction}
 use Rattle.frac128.proofs.Terms.{quotient-/ℚ}
