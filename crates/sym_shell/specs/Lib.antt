@@ -1,7 +1,6 @@
 pub mod Names
 pub mod Texts
 pub mod State
-pub mod FirstForm
 pub mod Refusals
 pub mod Simple
 pub mod Load

@@ -61,3 +61,60 @@ fn run_commands<R: Source, W: Sink, S: Store>(
     let mut shell = Shell::new();
     run_script(alloc, &mut shell, script, out, store)
 }
+
+/// Runs the program with these words of the command line, the first of them its name: `run` answers the script's
+/// commands on the sink. The status is 0, or 1 where some command was refused, 2 where the words are others, 3 where
+/// the source and 4 where the sink has failed, 5 where memory was wanting, and 6 where the script is too long.
+pub fn run<R: Source, W: Sink, S: Store>(
+    alloc: Global,
+    words: &[String],
+    script: &mut R,
+    out: &mut W,
+    store: &mut S,
+) -> u8
+    requires { 0 < length words.now }
+
+    ensures known { result < 7 }
+
+    // Other words: the usage line, as far as the sink takes it.
+    ensures usage { (result ≡ 2) ↔ ¬ (IsRunForm words.now) }
+    ensures usage_line { result ≡ 2 → WritesFront (W.written out.old) (W.written out.new) usage }
+    ensures untouched { result ≡ 2 → (R.left script.new ≡ R.left script.old) × (S.files store.new ≡ S.files store.old) }
+
+    // The script came to its end: the replies are those to all of its commands.
+    ensures transcript { result < 2 → IfSome (R.left script.old) (λ input. (model : Option Program) × (replies : List (List ℕ))
+        × Answers Step (script_commands never input) (start (S.files store.old) (S.faults store.old) (W.written out.old)) (end_with model (S.files store.new) (S.faults store.new) (W.written out.new)) replies
+        × (result ≡ status_of replies)) }
+    ensures within { result < 2 → IfSome (R.left script.old) (IsWithinLimit never) }
+
+    // The source failed: the replies are those to the whole lines of what was taken.
+    ensures source_failed { result ≡ 3 → Rose (R.faults script.old) (R.faults script.new) }
+    ensures until_source_failed { result ≡ 3 → (model : Option Program) × (taken : List ℕ) × IsTaken never (R.left script.old) (R.left script.new) taken × (replies : List (List ℕ))
+        × Answers Step (whole_commands never taken) (start (S.files store.old) (S.faults store.old) (W.written out.old)) (end_with model (S.files store.new) (S.faults store.new) (W.written out.new)) replies }
+
+    // The sink failed: what is written is a front of the replies to first commands.
+    ensures sink_failed { result ≡ 4 → Rose (W.faults out.old) (W.faults out.new) }
+    ensures until_sink_failed { result ≡ 4 → IfSome (R.left script.old) (λ input. (model : Option Program)
+        × IsCutOff Step (allowed_commands never input) (start (S.files store.old) (S.faults store.old) (W.written out.old)) (end_with model (S.files store.new) (S.faults store.new) (W.written out.new))) }
+
+    // Memory was wanting: first commands were answered, and all but at most the last of their replies are written.
+    ensures until_memory_wanted { result ≡ 5 → IfSome (R.left script.old) (λ input. (model : Option Program)
+        × IsCutShort Step (allowed_commands never input) (start (S.files store.old) (S.faults store.old) (W.written out.old)) (end_with model (S.files store.new) (S.faults store.new) (W.written out.new))) }
+
+    // A byte too many came: the replies are those to the whole lines among the bytes that are allowed.
+    ensures too_long { result ≡ 6 → IfSome (R.left script.old) (IsOverlong never) }
+    ensures until_too_long { result ≡ 6 → IfSome (R.left script.old) (λ input. (model : Option Program) × (replies : List (List ℕ))
+        × Answers Step (whole_commands never (take SCRIPT_LIMIT input)) (start (S.files store.old) (S.faults store.old) (W.written out.old)) (end_with model (S.files store.new) (S.faults store.new) (W.written out.new)) replies) }
+
+    // Nothing is read after the read that brought a byte too many, and no count of faults falls.
+    ensures no_further { IsRunForm words.now → ReadsNoFurther never (R.left script.old) (R.left script.new) }
+    ensures source_later { R.faults script.old ≤ R.faults script.new }
+    ensures sink_later { W.faults out.old ≤ W.faults out.new }
+{
+    if is_run_form(words) {
+        run_commands(alloc, script, out, store)
+    } else {
+        let _ = write_all(out, USAGE);
+        STATUS_USAGE
+    }
+}

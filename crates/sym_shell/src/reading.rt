@@ -1,12 +1,13 @@
 // Reading a file's model from a store.
-ghost use Rattle.std.specs.Prelude.{◌≡◌, ◌≤◌, true, IfOk, MatchOption};
-ghost use Rattle.sym_shell.specs.FirstForm.{ReadsAs, IsUnreadable};
+ghost use Rattle.std.specs.Prelude.{◌≡◌, ◌≤◌, true, IfOk, IfSome};
 ghost use Rattle.sym_shell.specs.Names.{is_file_name};
 ghost use Rattle.sym_shell.specs.Load.{ReadsFile};
 ghost use Rattle.sym_shell.specs.Simple.{is_simple};
 
+use crate::simple::is_simple_model;
 use crate::words::file_name;
 use lp_model::Model;
+use mps_model::{MpsFault, is_first_form, read};
 use std::alloc::{AllocError, Global};
 use sym_io::{Store, StoreFault};
 
@@ -63,13 +64,25 @@ impl Refusal {
     }
 }
 
-/// The model that a text means.
+/// The model that a text means, where the text has the first form: one N row, integer columns with the bounds 0 and 1,
+/// and whole numbers of at most nine digits.
 fn model_of_text(alloc: Global, text: &[u8]) -> Result<Option<Model>, AllocError>
-    ensures { IfOk result (λ model. MatchOption model (IsUnreadable text.now) (λ m. ReadsAs text.now m × (is_simple m ≡ true))) }
+    ensures { IfOk result (λ model. IfSome model (λ m. is_simple m ≡ true)) }
 {
-    let _ = text;
-    let _ = alloc;
-    Ok(None)
+    if !is_first_form(alloc, text)? {
+        return Ok(None);
+    }
+    match read(alloc, text, None) {
+        Ok(model) => {
+            if is_simple_model(&model) {
+                Ok(Some(model))
+            } else {
+                Ok(None)
+            }
+        }
+        Err(MpsFault::Bad { .. }) => Ok(None),
+        Err(MpsFault::Memory) => Err(AllocError),
+    }
 }
 
 /// The model of the named file.
