@@ -1,5 +1,5 @@
 // The model that a text means, or its first fault.
-use crate::building::{Parts, model_of};
+use crate::building::Parts;
 use crate::first_form::has_unit_bounds;
 use crate::reading::{Stop, tables_of};
 use crate::spans::column_flaw;
@@ -45,7 +45,7 @@ pub fn read(alloc: Global, text: &[u8], intupper: Option<u64>) -> Result<Model, 
         bounds: tables.bounds.as_slice(),
         intupper,
     };
-    match model_of(alloc, &parts) {
+    match parts.model(alloc) {
         Ok(model) => Ok(model),
         Err(_) => Err(MpsFault::Memory),
     }
