@@ -1,6 +1,8 @@
 // The model that the tables of a whole text mean.
 ghost use Rattle.std.specs.Prelude.{◌≡◌, codes, IfOk, OnOk};
-ghost use Rattle.mps_model.specs.Meaning.{low_side, high_side, beside_objective, objective_or, free_name};
+ghost use Rattle.mps_model.specs.Meaning.{low_side, high_side, beside_objective, objective_or, free_name, row_of, column_of, model_of};
+ghost use Rattle.lp_model.specs.Edits.{edited};
+ghost use Rattle.mps_model.specs.BuiltOf.{named_of, row_edit, column_edit};
 
 use crate::free_names::{free_name, names_of_rows};
 use crate::names::{copied, is_row, number_beside};
@@ -51,64 +53,21 @@ fn beside_objective(objectives: &[Name], numbers: &[RowNumber]) -> Frac
 }
 
 /// The numbers beside rows with sides, with copies of the names.
-fn entries(
+fn named_of(
     alloc: Global,
     rows: &[RowLine],
     numbers: &[RowNumber],
-) -> Result<List<(Name, Frac)>, AllocError> {
-    let mut entries = List::new(alloc);
+) -> Result<List<(Name, Frac)>, AllocError>
+    ensures { IfOk result (λ named. named ≡ named_of rows.now numbers.now) }
+{
+    let mut named = List::new(alloc);
     for item in numbers {
         if is_row(rows, item.row.as_slice()) {
             let name = copied(alloc, item.row.as_slice())?;
-            entries.push((name, item.number))?;
+            named.push((name, item.number))?;
         }
     }
-    Ok(entries)
-}
-
-fn add_row(
-    alloc: Global,
-    model: &mut Model,
-    sides: &[RowNumber],
-    row: &RowLine,
-) -> Result<(), AllocError> {
-    let name = copied(alloc, row.name.as_slice())?;
-    let number = number_beside(sides, row.name.as_slice());
-    let edit = Edit::AddRow {
-        name,
-        lo: low_side(row.kind, number),
-        hi: high_side(row.kind, number),
-        entries: List::new(alloc),
-    };
-    match model.apply(alloc, edit) {
-        Ok(()) => Ok(()),
-        Err(_) => Err(AllocError),
-    }
-}
-
-fn add_column(
-    alloc: Global,
-    model: &mut Model,
-    parts: &Parts,
-    column: &ColumnLines,
-) -> Result<(), AllocError> {
-    let name = copied(alloc, column.name.as_slice())?;
-    let span = Span::of(parts.bounds, column);
-    let numbers = column.numbers.as_slice();
-    let entries = entries(alloc, parts.rows, numbers)?;
-    let edit = Edit::AddCol {
-        name,
-        int: span.integer,
-        lo: span.lower,
-        up: span.upper_or(parts.intupper),
-        cost: beside_objective(parts.objectives, numbers),
-        cost2: Frac::whole(0),
-        entries,
-    };
-    match model.apply(alloc, edit) {
-        Ok(()) => Ok(()),
-        Err(_) => Err(AllocError),
-    }
+    Ok(named)
 }
 
 /// The objective's name.
@@ -121,26 +80,90 @@ fn objective_name(alloc: Global, objectives: &[Name], names: &[Name]) -> Result<
     }
 }
 
-/// The model without rows and columns.
-fn empty_model(alloc: Global, parts: &Parts) -> Result<Model, AllocError> {
-    let mut names = names_of_rows(alloc, parts.rows)?;
-    let objective = objective_name(alloc, parts.objectives, names.as_slice())?;
-    let copy = copied(alloc, objective.as_slice())?;
-    names.push(copy)?;
-    let second = free_name(alloc, names.as_slice(), b"OBJ2")?;
-    let constant = beside_objective(parts.objectives, parts.sides).neg();
-    let constants = [constant, Frac::whole(0)];
-    Ok(Model::empty(alloc, Sense::Min, objective, second, constants))
+impl Parts<'_> {
+    ghost use Rattle.mps_model.specs.Built.{parts_shown, empty_of, with_rows};
+
+    /// The model without rows and columns.
+    fn empty_model(&self, alloc: Global) -> Result<Model, AllocError>
+        ensures { IfOk result (λ m. m ≡ empty_of (parts_shown self.now)) }
+    {
+        let mut names = names_of_rows(alloc, self.rows)?;
+        let objective = objective_name(alloc, self.objectives, names.as_slice())?;
+        let copy = copied(alloc, objective.as_slice())?;
+        names.push(copy)?;
+        let second = free_name(alloc, names.as_slice(), b"OBJ2")?;
+        let constant = beside_objective(self.objectives, self.sides).neg();
+        let constants = [constant, Frac::whole(0)];
+        Ok(Model::empty(
+            alloc,
+            Sense::Min,
+            objective,
+            second,
+            constants,
+        ))
+    }
+
+    fn row_edit(&self, alloc: Global, row: &RowLine) -> Result<Edit, AllocError>
+        ensures { IfOk result (λ e. e ≡ row_edit (row_of self.now.sides.now row.now)) }
+    {
+        let name = copied(alloc, row.name.as_slice())?;
+        let number = number_beside(self.sides, row.name.as_slice());
+        Ok(Edit::AddRow {
+            name,
+            lo: low_side(row.kind, number),
+            hi: high_side(row.kind, number),
+            entries: List::new(alloc),
+        })
+    }
+
+    fn column_edit(&self, alloc: Global, column: &ColumnLines) -> Result<Edit, AllocError>
+        ensures { IfOk result (λ e. e ≡ column_edit (column_of (parts_shown self.now) self.now.intupper column.now) (named_of self.now.rows.now column.now.numbers)) }
+    {
+        let name = copied(alloc, column.name.as_slice())?;
+        let span = Span::of(self.bounds, column);
+        let numbers = column.numbers.as_slice();
+        let entries = named_of(alloc, self.rows, numbers)?;
+        Ok(Edit::AddCol {
+            name,
+            int: span.integer,
+            lo: span.lower,
+            up: span.upper_or(self.intupper),
+            cost: beside_objective(self.objectives, numbers),
+            cost2: Frac::whole(0),
+            entries,
+        })
+    }
+
+    /// The model with its rows.
+    fn with_rows(&self, alloc: Global) -> Result<Model, AllocError>
+        ensures { IfOk result (λ m. m ≡ with_rows (parts_shown self.now) self.now.rows.now) }
+    {
+        let mut model = self.empty_model(alloc)?;
+        for row in self.rows {
+            let edit = self.row_edit(alloc, row)?;
+            apply(&mut model, alloc, edit)?;
+        }
+        Ok(model)
+    }
+
+    /// The model.
+    pub(crate) fn model(&self, alloc: Global) -> Result<Model, AllocError>
+        ensures { IfOk result (λ m. m ≡ model_of (parts_shown self.now) self.now.intupper) }
+    {
+        let mut model = self.with_rows(alloc)?;
+        for column in self.columns {
+            let edit = self.column_edit(alloc, column)?;
+            apply(&mut model, alloc, edit)?;
+        }
+        Ok(model)
+    }
 }
 
-/// The model.
-pub(crate) fn model_of(alloc: Global, parts: &Parts) -> Result<Model, AllocError> {
-    let mut model = empty_model(alloc, parts)?;
-    for row in parts.rows {
-        add_row(alloc, &mut model, parts.sides, row)?;
+fn apply(model: &mut Model, alloc: Global, edit: Edit) -> Result<(), AllocError>
+    ensures { OnOk result (model.new ≡ edited model.old edit) }
+{
+    match model.apply(alloc, edit) {
+        Ok(()) => Ok(()),
+        Err(_) => Err(AllocError),
     }
-    for column in parts.columns {
-        add_column(alloc, &mut model, parts, column)?;
-    }
-    Ok(model)
 }

@@ -1,11 +1,12 @@
 // The first form of a text: one objective, integer columns with the bounds 0 and 1, and plain numbers.
-ghost use Rattle.std.specs.Prelude.{◌≡◌};
+ghost use Rattle.std.specs.Prelude.{◌≡◌, ◌==◌, ◌&&◌, length};
 ghost use Rattle.mps_model.specs.FirstForm.{is_unit, has_unit_bound, has_unit_bounds};
 
 use crate::numbers::{Limit, is_at_most};
 use crate::statements::{BoundLine, ColumnLines};
 use crate::words::BoundKind;
 use frac128::Frac;
+use lp_model::Name;
 
 /// Whether a bound line has the type UP and the number 1.
 fn is_unit(bound: &BoundLine) -> bool
@@ -36,8 +37,20 @@ fn has_unit_bound(bounds: &[BoundLine], column: &ColumnLines) -> bool
 }
 
 /// Whether each column has one bound line, which has the type UP and the number 1.
-pub(crate) fn has_unit_bounds(bounds: &[BoundLine], columns: &[ColumnLines]) -> bool
+fn has_unit_bounds(bounds: &[BoundLine], columns: &[ColumnLines]) -> bool
     ensures { result ≡ has_unit_bounds bounds.now columns.now }
 {
     columns.iter().all(|column| has_unit_bound(bounds, column))
+}
+
+/// Whether there is one objective, each number is plain, and each column has one bound line of type UP with 1.
+pub(crate) fn has_first_form(
+    objectives: &[Name],
+    plain: bool,
+    bounds: &[BoundLine],
+    columns: &[ColumnLines],
+) -> bool
+    ensures { result ≡ (length objectives.now == 1 && plain && has_unit_bounds bounds.now columns.now) }
+{
+    objectives.len() == 1 && plain && has_unit_bounds(bounds, columns)
 }

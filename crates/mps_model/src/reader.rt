@@ -1,6 +1,10 @@
 // The model that a text means, or its first fault.
-use crate::building::{Parts, model_of};
-use crate::first_form::has_unit_bounds;
+ghost use Rattle.std.specs.Prelude.{◌↔◌, IfOk, IsTrue};
+ghost use Rattle.mps_model.specs.Answers.{IsAnswer};
+ghost use Rattle.mps_model.specs.FirstForm.{IsFirstForm};
+
+use crate::building::Parts;
+use crate::first_form::has_first_form;
 use crate::reading::{Stop, tables_of};
 use crate::spans::column_flaw;
 use lp_model::Model;
@@ -17,7 +21,9 @@ pub enum MpsFault {
 
 /// The model that a text means, or its first fault. An integer column without an upper bound has `intupper`, if that is
 /// handed in.
-pub fn read(alloc: Global, text: &[u8], intupper: Option<u64>) -> Result<Model, MpsFault> {
+pub fn read(alloc: Global, text: &[u8], intupper: Option<u64>) -> Result<Model, MpsFault>
+    ensures { IsAnswer text.now intupper result }
+{
     let tables = match tables_of(alloc, text) {
         Ok(tables) => tables,
         Err(Stop::Fault(fault)) => {
@@ -45,7 +51,7 @@ pub fn read(alloc: Global, text: &[u8], intupper: Option<u64>) -> Result<Model, 
         bounds: tables.bounds.as_slice(),
         intupper,
     };
-    match model_of(alloc, &parts) {
+    match parts.model(alloc) {
         Ok(model) => Ok(model),
         Err(_) => Err(MpsFault::Memory),
     }
@@ -53,19 +59,23 @@ pub fn read(alloc: Global, text: &[u8], intupper: Option<u64>) -> Result<Model, 
 
 /// Whether a text has no fault and one N row, each of its numbers is an optional sign and 1 to 9 digits, and each
 /// column is integer and has one bound line, of type UP with the number 1.
-pub fn is_first_form(alloc: Global, text: &[u8]) -> Result<bool, AllocError> {
+pub fn is_first_form(alloc: Global, text: &[u8]) -> Result<bool, AllocError>
+    ensures { IfOk result (λ answer. IsTrue answer ↔ IsFirstForm text.now) }
+{
     let tables = match tables_of(alloc, text) {
         Ok(tables) => tables,
         Err(Stop::Fault(_)) => return Ok(false),
         Err(Stop::Memory) => return Err(AllocError),
     };
     let columns = tables.columns.into_list()?;
-    if column_flaw(None, tables.bounds.as_slice(), columns.as_slice()).is_some() {
-        return Ok(false);
+    let flaw = column_flaw(None, tables.bounds.as_slice(), columns.as_slice());
+    match flaw {
+        Some(_) => Ok(false),
+        None => Ok(has_first_form(
+            tables.objectives.as_slice(),
+            tables.plain,
+            tables.bounds.as_slice(),
+            columns.as_slice(),
+        )),
     }
-    Ok(
-        tables.objectives.as_slice().len() == 1
-            && tables.plain
-            && has_unit_bounds(tables.bounds.as_slice(), columns.as_slice()),
-    )
 }

@@ -3,7 +3,7 @@ ghost use Rattle.std.specs.Prelude.{◌≡◌, MatchResult};
 ghost use Rattle.mps_text.specs.Reading.{code_of, entry_of};
 ghost use Rattle.mps_model.specs.Faults.{code_in};
 ghost use Rattle.mps_model.specs.Shown.{held};
-ghost use Rattle.mps_model.specs.ReadingOf.{IsStopAt, IsNoted};
+ghost use Rattle.mps_model.specs.ReadingOf.{IsStopAt, IsNoted, IsReading};
 
 use crate::spans::LineCode;
 use crate::tables::Tables;
@@ -42,7 +42,9 @@ fn read_line(alloc: Global, tables: &mut Tables, entry: &Record) -> Result<(), S
 }
 
 /// What the lines of a text state, to ENDATA.
-pub(crate) fn tables_of(alloc: Global, text: &[u8]) -> Result<Tables, Stop> {
+pub(crate) fn tables_of(alloc: Global, text: &[u8]) -> Result<Tables, Stop>
+    ensures { IsReading text.now result }
+{
     let mut lines = Lines::new(text);
     let mut tables = Tables::new(alloc);
     while let Some(item) = lines.next() {

@@ -1,0 +1,20 @@
+use Rattle.std.proofs.Common.{◌≡◌, ◌<◌, ◌+◌, take, ◌++◌, ◌∷◌, [], length, ap, sym, ◌∙◌, arith}
+use Rattle.std.proofs.lemmas.List.{take_more}
+use Rattle.lp_model.specs.Edits.{edited}
+use Rattle.mps_model.specs.Built.{parts_shown, with_rows}
+use Rattle.mps_model.proofs.EditSteps.{no_rows, row_added}
+use Rattle.mps_model.proofs.building.Parts.with_rows.Goals as goal
+
+pub loop-row-init : goal.loop-row-init
+loop-row-init c = c.in_ok-model.ensures ∙ no_rows (parts_shown c.args.self.now)
+
+pub loop-row-preserved : goal.loop-row-preserved
+loop-row-preserved c =
+    let p = c.args.self.now in
+    let s = parts_shown p in
+    let i = c.loop-row.row-index in
+    let row = c.row-item.result in
+    let small : i < length p.rows.now = omega arith in
+    let before = take i p.rows.now in
+    let one : take (i + 1) p.rows.now ≡ before ++ row ∷ [] = take_more p.rows.now i row small ∙ ap (λ r. before ++ r ∷ []) (sym c.row-item.is) in
+    c.in_ok-apply.ensures ∙ ap (λ m. edited m c.in_ok-edit.edit) c.loop-row.invariant ∙ ap (edited (with_rows s before)) c.in_ok-edit.ensures ∙ row_added s before row ∙ ap (with_rows s) (sym one)

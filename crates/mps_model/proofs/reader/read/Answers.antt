@@ -1,0 +1,19 @@
+use Rattle.std.proofs.Common.{◌≡◌, ◌∙◌, ap}
+use Rattle.mps_model.specs.Shown.{held, columns_in}
+use Rattle.mps_model.specs.Built.{parts_shown}
+use Rattle.mps_model.specs.declared.building.Parts.{Parts}
+use Rattle.mps_model.proofs.ReadSteps.{of_column, meant_by}
+use Rattle.mps_model.proofs.reader.read.Goals as goal
+
+pub returns-in-Some : goal.returns-in-Some
+unfolding held
+returns-in-Some c =
+    let t = c.in-Ok.tables in
+    of_column c.args.text.now c.args.intupper (held t) c.as_slice-2.result.now c.as_slice.result.now (record { line = c.in-Some.fault.line; code = c.in-Some.fault.code }) c.in-Ok.ensures (c.as_slice-2.ensures ∙ c.in-Ok-into_list.ensures) c.as_slice.ensures c.in-Some.ensures
+
+pub returns-in-Ok-model : goal.returns-in-Ok-model
+unfolding held
+returns-in-Ok-model c =
+    let t = c.in-Ok.tables in
+    let parts : Parts = record { objectives = c.as_slice-3.result; rows = c.as_slice-4.result; columns = c.as_slice-5.result; sides = c.as_slice-6.result; bounds = c.as_slice-7.result; intupper = c.args.intupper } in
+    meant_by c.args.text.now c.args.intupper (held t) (parts_shown parts) c.as_slice-2.result.now c.as_slice.result.now c.in-Ok-model.model c.in-Ok.ensures (c.as_slice-2.ensures ∙ c.in-Ok-into_list.ensures) c.as_slice.ensures c.in_default-column_flaw.ensures c.in-Ok-model.ensures c.as_slice-3.ensures c.as_slice-4.ensures (c.as_slice-5.ensures ∙ c.in-Ok-into_list.ensures) c.as_slice-6.ensures c.as_slice-7.ensures
