@@ -1,12 +1,10 @@
 -- Numbers beside the names of a list, one name further.
-use Rattle.std.specs.Prelude.{◌≡◌, ℕ, zero, suc, ◌+◌, ◌<◌, ◌≤◌, Bool, true, false, if◌then◌else◌, not, List, [], ◌∷◌, ◌++◌, length, get_or, map, take, filter}
-use Rattle.std.proofs.Common.{refl, sym, ap, subst, ◌∙◌, arith}
-use Rattle.std.proofs.lemmas.List.{take_more, length-map, length-take-le, append-nil, length-append}
+use Rattle.std.specs.Prelude.{◌≡◌, ℕ, suc, ◌+◌, ◌<◌, true, false, not, List, [], ◌∷◌, ◌++◌, length, get_or, map, take, filter}
+use Rattle.std.proofs.Common.{refl, sym, ap, ◌∙◌, arith}
+use Rattle.std.proofs.lemmas.List.{take_more, length-map, length-take-le, append-nil}
 use Rattle.std.proofs.lemmas.List.Elements.{filter-append}
-use Rattle.std.proofs.lemmas.List.Sums.{length-filter}
 use Rattle.rational.specs.Rational.{ℚ}
 use Rattle.lp_model.specs.Edits.{Named, number_beside, numbers_beside, entries_beside, is_zero}
-use Rattle.lp_model.specs.declared.types.RowId.{RowId}
 use Rattle.lp_model.proofs.NameLemmas.{get_or-map}
 
 pub numbers_beside-append : (k : ℕ) (xs ys : List (List ℕ)) (named : Named) → numbers_beside k (xs ++ ys) named ≡ numbers_beside k xs named ++ numbers_beside (k + length xs) ys named

@@ -1,5 +1,5 @@
 -- A column's entries, by rising row.
-use Rattle.std.specs.Prelude.{◌≡◌, ℕ, suc, ◌<◌, ◌≤◌, Bool, true, false, if◌then◌else◌, nat_eq, List, [], ◌∷◌, length, get_or, drop, ◌+◌, pos}
+use Rattle.std.specs.Prelude.{◌≡◌, ℕ, suc, ◌<◌, false, nat_eq, List, [], ◌∷◌, length, get_or, drop, ◌+◌, pos}
 use Rattle.std.proofs.Common.{refl, sym, ap, subst, ◌∙◌, arith}
 use Rattle.std.proofs.lemmas.Bool.{ne_eqb}
 use Rattle.std.proofs.lemmas.List.{drop_more}

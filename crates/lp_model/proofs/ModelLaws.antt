@@ -1,20 +1,16 @@
 -- What layers above use of models: the answers of the calls, lawful models by place, and whole objectives.
-use Rattle.std.specs.Prelude.{◌≡◌, ◌≢◌, ℕ, [], ◌∷◌, ◌+◌, ◌^◌, ◌<◌, ◌≤◌, Bool, true, false, IsTrue, List, length, get_or, All, pos, Ok, Err, Option, None, Some, IsSome}
+use Rattle.std.specs.Prelude.{◌≡◌, ◌≢◌, ℕ, [], ◌∷◌, ◌<◌, ◌≤◌, Bool, true, false, IsTrue, length, pos, Ok, None, IsSome}
 use Rattle.std.proofs.Common.{refl, sym, ap, subst, ◌∙◌, arith}
-use Rattle.std.proofs.lemmas.List.Elements.{All-get_or}
 use Rattle.std.specs.Ordering.{eq_by_cmp}
-use Rattle.rational.specs.Rational.{ℚ, int, ◌+ℚ◌, ◌*ℚ◌, IsWhole, rational_cmp}
+use Rattle.rational.specs.Rational.{ℚ, int, ◌*ℚ◌, IsWhole, rational_cmp}
 use Rattle.rational.proofs.Comparison.{eq_by_cmp-decides}
 use Rattle.rational.proofs.RationalRing.{ring, reads_ℚ}
 use Rattle.rational.proofs.Integers.{IsWhole-int, IsWhole-+ℚ, IsWhole-*ℚ}
 use Rattle.checked_sum.specs.Sums.{sum_below}
 use Rattle.checked_sum.proofs.SumLaws.{IsWhole-sum_below}
 use Rattle.lp_model.specs.Program.{Program, Point, coordinate, constant, cost, is_integer, lower, upper, low_side, high_side, activity, value, IsFeasible, HasWholeObjective}
-use Rattle.lp_model.specs.Lawful.{row_limit, col_limit, IsRange, IsLawfulColumn, IsLawful}
+use Rattle.lp_model.specs.Lawful.{row_limit, IsRange, IsLawfulColumn, IsLawful}
 use Rattle.lp_model.specs.Answers.{IsValueAnswer, IsActivityAnswer}
-use Rattle.lp_model.specs.Elements.{of_element}
-use Rattle.lp_model.specs.declared.types.Row.{Row}
-use Rattle.lp_model.specs.declared.types.Col.{Col}
 use Rattle.lp_model.proofs.ElementLemmas.{of_element-get, element}
 use Rattle.lp_model.proofs.SmallModels.{col_limit-le}
 

@@ -1,11 +1,8 @@
 -- Names of the elements of a list.
-use Rattle.std.specs.Prelude.{◌≡◌, ◌⊎◌, ℕ, zero, suc, ◌+◌, ◌<◌, Bool, true, false, if◌then◌else◌, List, [], ◌∷◌, length, get_or, map, take, drop, All, Contains, bytes_eq}
-use Rattle.std.specs.Bool.{Decides}
-use Rattle.std.proofs.Common.{refl, sym, ap, subst, ◌∙◌, arith, below_more, inl, inr}
-use Rattle.std.proofs.lemmas.List.{get_or_default, length-map, drop_more, take-map}
+use Rattle.std.specs.Prelude.{◌≡◌, ◌⊎◌, ℕ, zero, suc, ◌+◌, ◌<◌, true, false, List, [], ◌∷◌, length, get_or, map, Contains, bytes_eq}
+use Rattle.std.proofs.Common.{sym, ap, ◌∙◌, arith, below_more, inl, inr}
+use Rattle.std.proofs.lemmas.List.{get_or_default, length-map}
 use Rattle.std.proofs.lemmas.Slice.Eq.{bytes_eq-Decides}
-use Rattle.rational.specs.Rational.{ℚ}
-use Rattle.lp_model.specs.Edits.{Named, number_beside}
 
 pub get_or-map : {A B : Type 0} (f : A → B) (xs : List A) (k : ℕ) (x : A) (d : B) → k < length xs → x ≡ get_or xs k x → get_or (map f xs) k d ≡ f x
 get_or-map f [] k x d below e = absurd (omega arith)

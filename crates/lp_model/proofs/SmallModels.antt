@@ -1,9 +1,8 @@
 -- A small model has room for each step at a small point, so its tests and values are never refused.
-use Rattle.std.specs.Prelude.{◌≡◌, ℕ, ◌+◌, ◌*◌, ◌^◌, ◌<◌, ◌≤◌, Bool, true, false, length, pos, Ok, Err}
+use Rattle.std.specs.Prelude.{ℕ, ◌+◌, ◌*◌, ◌^◌, ◌≤◌, Bool, true, false, length, pos, Err}
 use Rattle.std.proofs.Common.{arith, refl}
 use Rattle.std.proofs.Math.Nat.{mul-le-mul_right}
-use Rattle.rational.specs.Rational.{ℚ, int, IsWhole}
-use Rattle.rational.proofs.Integers.{IsWhole-int}
+use Rattle.rational.specs.Rational.{int}
 use Rattle.frac128.specs.Range.{largest}
 use Rattle.checked_sum.specs.Steps.{AllFit}
 use Rattle.checked_sum.specs.Small.{IsWholeWithin}

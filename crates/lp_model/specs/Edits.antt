@@ -2,7 +2,7 @@
 --     edited M e        the model after the edit: the row or column stands last, all else stays
 --     EditFits M e      nothing is wrong with the edit
 --     EditBad M e f     f is the first fault of the edit, in the order unknown name, taken name, limit, missing bound, sides
-use Rattle.std.specs.Prelude.{◌≡◌, ◌⊎◌, ℕ, suc, ◌<◌, ◌≤◌, Bool, if◌then◌else◌, not, IsTrue, List, [], ◌∷◌, ◌++◌, map, filter, length, get_or, take, pos, Option, IsSome, All, Contains, bytes_eq, Result, Ok, Err}
+use Rattle.std.specs.Prelude.{◌≡◌, ◌⊎◌, ℕ, suc, ◌<◌, ◌≤◌, Bool, if◌then◌else◌, not, IsTrue, List, [], ◌∷◌, ◌++◌, map, filter, length, get_or, take, pos, IsSome, All, Contains, bytes_eq}
 use Rattle.std.specs.Ordering.{eq_by_cmp}
 use Rattle.rational.specs.Rational.{ℚ, int, rational_cmp}
 use Rattle.lp_model.specs.Program.{Program}

@@ -1,5 +1,5 @@
 -- Models of small whole numbers, and points of small whole numbers.
-use Rattle.std.specs.Prelude.{◌≡◌, ◌⊎◌, ℕ, ◌<◌, length}
+use Rattle.std.specs.Prelude.{ℕ}
 use Rattle.checked_sum.specs.Small.{IsWholeWithin}
 use Rattle.lp_model.specs.Program.{Program, Point, coordinate, constant, cost, coefficient}
 

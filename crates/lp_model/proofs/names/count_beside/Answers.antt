@@ -1,6 +1,6 @@
-use Rattle.std.proofs.Common.{rules, ◌≡◌, ◌≤◌, ◌∙◌, sym, ap, subst, arith, true, false, length, map, take, ◌++◌, ◌∷◌, [], ◌+◌}
-use Rattle.std.proofs.lemmas.List.{length-map, take_all, length_push}
-use Rattle.lp_model.specs.Edits.{number_beside, is_zero, entries_beside}
+use Rattle.std.proofs.Common.{rules, ◌≡◌, ◌∙◌, sym, ap, arith, true, false, length, map, take, ◌+◌}
+use Rattle.std.proofs.lemmas.List.{length_push}
+use Rattle.lp_model.specs.Edits.{number_beside, entries_beside}
 use Rattle.lp_model.proofs.BesideLemmas.{zero_more, entry_more}
 use Rattle.lp_model.proofs.names.count_beside.Goals as goal
 use Rattle.lp_model.proofs.names.count_beside.Goals.{then-not-is_zero, else-not-is_zero}

@@ -1,6 +1,5 @@
-use Rattle.std.proofs.Common.{rules, ◌≡◌, ◌≤◌, ◌∙◌, sym, ap, subst, arith, true, false, length, map, take, ◌++◌, ◌∷◌, []}
-use Rattle.std.proofs.lemmas.List.{length-map, take_all}
-use Rattle.lp_model.specs.Edits.{number_beside, is_zero, entries_beside}
+use Rattle.std.proofs.Common.{rules, ◌≡◌, ◌∙◌, sym, ap, true, false, ◌++◌, ◌∷◌, []}
+use Rattle.lp_model.specs.Edits.{number_beside}
 use Rattle.lp_model.proofs.BesideLemmas.{zero_more, entry_more}
 use Rattle.lp_model.proofs.names.entries_beside.Goals as goal
 use Rattle.lp_model.proofs.names.entries_beside.Goals.{then-not-is_zero+in_ok-push, else-not-is_zero}

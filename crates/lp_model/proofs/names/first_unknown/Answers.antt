@@ -1,4 +1,4 @@
-use Rattle.std.proofs.Common.{rules, ◌≡◌, ◌≤◌, ◌<◌, ◌∙◌, sym, ap, subst, arith, true, IsTrue, length, map, take, get_or, All, Contains, [], ℕ, List}
+use Rattle.std.proofs.Common.{rules, ◌≡◌, ◌≤◌, ◌<◌, sym, subst, arith, IsTrue, length, map, get_or, All, Contains, []}
 use Rattle.std.proofs.lemmas.List.{length-map, take_all}
 use Rattle.std.proofs.lemmas.List.Elements.{All-more}
 use Rattle.lp_model.proofs.NameLemmas.{get_or-map}

@@ -1,5 +1,5 @@
-use Rattle.std.proofs.Common.{subst, length, Ok, Err, ℕ, Result, pos}
-use Rattle.rational.specs.Rational.{ℚ, int}
+use Rattle.std.proofs.Common.{subst, length, Ok, Err, ℕ, pos}
+use Rattle.rational.specs.Rational.{int}
 use Rattle.checked_sum.specs.Steps.{IsCheckedSum}
 use Rattle.checked_sum.proofs.AnswerLaws.{wide_at}
 use Rattle.lp_model.specs.Program.{coefficient, coordinate}

@@ -1,4 +1,4 @@
-use Rattle.std.proofs.Common.{rules, ◌≡◌, ◌∙◌, sym, ap, subst, inr, true, false, IsTrue, map, length, All, Contains}
+use Rattle.std.proofs.Common.{rules, ◌≡◌, sym, ap, subst, inr, false, IsTrue, map, All, Contains}
 use Rattle.lp_model.specs.Edits.{AreKnown, IsTaken, KeepsLimits, IsBounded, adds_col}
 use Rattle.lp_model.proofs.CountLemmas.{col_passes, col_within}
 use Rattle.lp_model.proofs.model.Model.check_col.Goals as goal

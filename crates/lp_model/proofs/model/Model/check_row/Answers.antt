@@ -1,4 +1,4 @@
-use Rattle.std.proofs.Common.{rules, ◌≡◌, ◌∙◌, sym, ap, subst, inr, true, false, IsTrue, map, length, All, Contains}
+use Rattle.std.proofs.Common.{rules, ◌≡◌, ap, subst, inr, false, IsTrue, map, All, Contains}
 use Rattle.lp_model.specs.Edits.{AreKnown, IsTaken, KeepsLimits, HasRange, adds_row}
 use Rattle.lp_model.proofs.CountLemmas.{row_passes, row_within}
 use Rattle.lp_model.proofs.model.Model.check_row.Goals as goal

@@ -1,4 +1,4 @@
-use Rattle.std.proofs.Common.{rules, ◌≡◌, ◌⊎◌, ◌∙◌, sym, ap, subst, false, IsTrue, map, Contains, inl, inr, ◌∷◌}
+use Rattle.std.proofs.Common.{rules, ◌≡◌, ◌∙◌, sym, ap, subst, false, map, Contains, inl, inr, ◌∷◌}
 use Rattle.lp_model.proofs.NameLemmas.{not_same, contains_later, contains_cases}
 use Rattle.lp_model.proofs.model.Model.has_row_name.Goals as goal
 

@@ -1,7 +1,6 @@
 use Rattle.std.proofs.Common.{◌≡◌, ◌∙◌, sym, ap, subst, ◌++◌, ◌∷◌, [], map}
 use Rattle.lp_model.specs.Lawful.{IsLawful}
 use Rattle.lp_model.specs.Edits.{entries_beside, adds_col, edited}
-use Rattle.lp_model.specs.declared.types.Col.{Col}
 use Rattle.lp_model.proofs.LawfulLemmas.{col-lawful}
 use Rattle.lp_model.proofs.model.Model.insert_col.Goals as goal
 

@@ -1,6 +1,6 @@
 use Rattle.std.proofs.Common.{◌≡◌, ◌∙◌, sym, ap, subst, ◌++◌, ◌∷◌, [], map, length}
 use Rattle.lp_model.specs.Lawful.{IsLawful}
-use Rattle.lp_model.specs.Edits.{with_entry, number_beside, adds_row, edited}
+use Rattle.lp_model.specs.Edits.{with_entry, number_beside}
 use Rattle.lp_model.proofs.LawfulLemmas.{row-lawful}
 use Rattle.lp_model.proofs.model.Model.insert_row.Goals as goal
 

@@ -1,5 +1,4 @@
-use Rattle.std.proofs.Common.{subst, length, Ok, Err, ℕ, Result}
-use Rattle.rational.specs.Rational.{ℚ}
+use Rattle.std.proofs.Common.{subst, length, Ok, Err, ℕ}
 use Rattle.checked_sum.specs.Steps.{IsCheckedSum}
 use Rattle.checked_sum.proofs.AnswerLaws.{wide_at}
 use Rattle.lp_model.specs.Program.{constant, cost, coordinate}

@@ -1,4 +1,4 @@
-use Rattle.std.proofs.Common.{rules, ◌≡◌, ◌<◌, length, arith, ap, sym, subst, below_more, IsTrue, false, if◌then◌else◌, nat_eq}
+use Rattle.std.proofs.Common.{rules, ◌≡◌, ◌<◌, length, arith, ap, sym, subst, below_more, IsTrue, false}
 use Rattle.lp_model.specs.Program.{IsWholeCost, is_integer, cost}
 use Rattle.lp_model.proofs.AnswerLemmas.{whole_cost_is}
 use Rattle.lp_model.proofs.model.Model.whole_objective.Goals as goal

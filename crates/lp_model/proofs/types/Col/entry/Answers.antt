@@ -1,5 +1,4 @@
-use Rattle.std.proofs.Common.{◌≡◌, ◌<◌, arith, ap, sym, ◌∙◌, length}
-use Rattle.lp_model.specs.Program.{entry_of}
+use Rattle.std.proofs.Common.{◌<◌, arith, sym, ◌∙◌, length}
 use Rattle.lp_model.proofs.EntryLemmas.{entry_of-passed}
 use Rattle.lp_model.proofs.types.Col.entry.Goals as goal
 

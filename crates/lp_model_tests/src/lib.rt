@@ -1,0 +1,7 @@
+//! Tests of `lp_model`: a knapsack worked out by hand, first steps without room, each fault of an edit, the limits.
+//!
+//! They stand apart so that the model's own crate is proved once.
+#![tactic(auto)]
+
+#[cfg(test)]
+mod tests;
