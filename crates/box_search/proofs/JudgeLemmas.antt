@@ -28,7 +28,10 @@ better-kept M old x v f e h = inl (f, ap (λ w. record { point = x; value = w })
 -- another one is not
 pub worse-stays : (M : Program) (old : Option Kept) (x : Point) (v : ℚ) → IsFeasible M x → v ≡ value M 1 x → ¬ Improves M.sense old v → Judges M old x old
 worse-stays M None x v f e h = absurd (h tt)
-worse-stays M (Some kept) x v f e h = inr (refl, inr (elim (≤ℚ_or_>ℚ (in_least_form M.sense kept.value) (in_least_form M.sense v)) [
-  | inl k ↦ subst (λ w. in_least_form M.sense kept.value ≤ℚ in_least_form M.sense w) e k
-  | inr k ↦ absurd (h k)
-]))
+worse-stays M (Some kept) x v f e h = inr (
+  refl,
+  inr (elim (≤ℚ_or_>ℚ (in_least_form M.sense kept.value) (in_least_form M.sense v)) [
+    | inl k ↦ subst (λ w. in_least_form M.sense kept.value ≤ℚ in_least_form M.sense w) e k
+    | inr k ↦ absurd (h k)
+  ]),
+)

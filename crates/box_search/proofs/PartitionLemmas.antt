@@ -24,7 +24,7 @@ each-weaker P Q (b ∷ bs) f h = (f b h.0, each-weaker P Q bs f h.1)
 -- a point of one of the boxes, and what holds of each box
 pub found : (P : Intervals → Type 0) (x : Point) (bs : List Intervals) → InOne x bs → EachBox P bs → (b : Intervals) × (InBox b x × P b)
 found P x [] h all = absurd h
-found P x (b ∷ bs) h all = elim h [ | inl k ↦ (b, (k.0, all.0)) | inr k ↦ found P x bs k.1 all.1 ]
+found P x (b ∷ bs) h all = elim h [ inl k ↦ (b, (k.0, all.0)) | inr k ↦ found P x bs k.1 all.1 ]
 
 pub points-append : (as_ bs : List Intervals) → points_of_all (as_ ++ bs) ≡ points_of_all as_ + points_of_all bs
 points-append [] bs = omega arith
@@ -43,7 +43,7 @@ module _ (b : Intervals) (j : ℕ) (v : ℤ) (lower upper : Intervals) (s : IsSp
     ]
     | inr k ↦ inr ((λ m. k.0 (split-upper b j v lower upper s x m)), inr ((λ m. k.0 (split-lower b j v lower upper s x m)), k.1))
   ]
-  one-split (r ∷ rest) more h = elim h [ | inl k ↦ inl (k.0, none-split rest more k.1) | inr k ↦ inr (k.0, one-split rest more k.1) ]
+  one-split (r ∷ rest) more h = elim h [ inl k ↦ inl (k.0, none-split rest more k.1) | inr k ↦ inr (k.0, one-split rest more k.1) ]
 
 -- a part that is split leaves a partition
 pub partition-split : (root : Intervals) (rest more : List Intervals) (b : Intervals) (j : ℕ) (v : ℤ) (lower upper : Intervals) → IsSplitAt b j v lower upper

@@ -28,7 +28,7 @@ whole_points-more (d ∷ cs) c =
 either_way : (a b : ℕ) → (a ≤ b) ⊎ (b ≤ a)
 either_way zero b = inl (omega arith)
 either_way (suc a) zero = inr (omega arith)
-either_way (suc a) (suc b) = elim (either_way a b) [ | inl h ↦ inl (omega arith) | inr h ↦ inr (omega arith) ]
+either_way (suc a) (suc b) = elim (either_way a b) [ inl h ↦ inl (omega arith) | inr h ↦ inr (omega arith) ]
 
 no_less : (k n m : ℕ) → m ≤ n → m ≤ suc k * n
 no_less k n m h = let e : suc k * n ≡ k * n + n = omega arith in omega arith
@@ -79,14 +79,13 @@ proper-more [] i p s = (s, tt)
 proper-more (a ∷ b) i p s = (p.0, proper-more b i p.1 s)
 
 ordered_unless : (i : Interval) → ¬ (i.high <ℤ i.low) → i.low ≤ℤ i.high
-ordered_unless i h = elim (below_or_above i.low i.high) [ | inl k ↦ k | inr k ↦ let crossed : i.high <ℤ i.low = omega (arith, ints) in absurd (h crossed) ]
+ordered_unless i h = elim (below_or_above i.low i.high) [ inl k ↦ k | inr k ↦ let crossed : i.high <ℤ i.low = omega (arith, ints) in absurd (h crossed) ]
 
 pub root-step : (cs : List Col) (k : ℕ) (c : Col) (b b' : Intervals) (i : Interval) → k < length cs → c ≡ get_or cs k c → i ≡ interval_of c.lo c.up → IsNarrow i.low → IsNarrow i.high → ¬ (i.high <ℤ i.low)
     → b' ≡ b ++ i ∷ [] → (b ≡ root_of (take k cs)) × IsProper b → (b' ≡ root_of (take (k + 1) cs)) × IsProper b'
 root-step cs k c b b' i h is i_is low high ordered grown before =
     let front : take (k + 1) cs ≡ take k cs ++ c ∷ [] = take_more cs k c h ∙ ap (λ d. take k cs ++ d ∷ []) (sym is) in
-    let f : Col → Interval = λ d. interval_of d.lo d.up in
-    (
+    let f : Col → Interval = λ d. interval_of d.lo d.up in (
       grown ∙ (λ n. before.0 n ++ i_is n ∷ []) ∙ sym (map-append f (take k cs) (c ∷ [])) ∙ ap (map f) (sym front),
       subst IsProper (sym grown) (proper-more b i before.1 (record { ordered = ordered_unless i ordered; low = low; high = high })),
     )

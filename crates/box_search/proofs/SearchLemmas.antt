@@ -142,17 +142,16 @@ module _ (M : Program) (b : Intervals) (judged : List Intervals) (only : (x : Po
   best-judged old None h best = ((λ x m f. h.1 (subst (IsFeasible M) (only x m) f)), subst (IsBestOf M judged) h.0 best)
   best-judged old (Some kept) h best = elim h [
     | inl k ↦ (
-        subst (λ (q : Kept). IsFeasible M q.point) (sym k.1) k.0,
-        ap (λ (q : Kept). q.value) k.1 ∙ sym (ap (λ (q : Kept). value M 1 q.point) k.1),
-        (
-          (λ x m f. subst (λ y. in_least_form M.sense kept.value ≤ℚ least_value M 1 y) (sym (only x m))
-              (subst (λ v. in_least_form M.sense kept.value ≤ℚ in_least_form M.sense v) (ap (λ (q : Kept). q.value) k.1) (≤ℚ_refl _))),
-          all_good M old kept.value judged k.2 best,
-        ),
-      )
+      subst (λ (q : Kept). IsFeasible M q.point) (sym k.1) k.0,
+      ap (λ (q : Kept). q.value) k.1 ∙ sym (ap (λ (q : Kept). value M 1 q.point) k.1),
+      (
+        (λ x m f. subst (λ y. in_least_form M.sense kept.value ≤ℚ least_value M 1 y) (sym (only x m))
+            (subst (λ v. in_least_form M.sense kept.value ≤ℚ in_least_form M.sense v) (ap (λ (q : Kept). q.value) k.1) (≤ℚ_refl _))),
+        all_good M old kept.value judged k.2 best,
+      ),
+    )
     | inr k ↦
-        let was : IsBestOf M judged (Some kept) = subst (IsBestOf M judged) k.0 best in
-        (
+        let was : IsBestOf M judged (Some kept) = subst (IsBestOf M judged) k.0 best in (
           was.0,
           was.1,
           (

@@ -24,18 +24,24 @@ use Rattle.box_search.proofs.SearchLemmas.{search-begins, search-splits, search-
 use Rattle.box_search.proofs.IntegralLemmas.{feasible-in_root, no_point-empty, root-points, crossed_factor}
 
 pub works-split : (M : Program) (part : Intervals) (column : ℕ) (old new : Search) (r : Result (Unit {0}) SearchFault) → SplitsBox part column old new r → WorksBox M part old new r
-works-split M part column old new (Ok done) h = (h.placed, λ root s.
-    let next = search-splits M root (boxes old.open.items) part column (middle (interval_at part column)) h.lower h.upper old.best old.placed h.parts s in
-    subst (λ n. Searched M root (boxes new.open.items) new.best n) (sym h.placed)
-    (subst (λ b. Searched M root (boxes new.open.items) b (old.placed + 1)) (sym h.best)
-    (subst (λ bs. Searched M root bs old.best (old.placed + 1)) (sym h.open_are) next)))
+works-split M part column old new (Ok done) h = (
+  h.placed,
+  λ root s.
+      let next = search-splits M root (boxes old.open.items) part column (middle (interval_at part column)) h.lower h.upper old.best old.placed h.parts s in
+      subst (λ n. Searched M root (boxes new.open.items) new.best n) (sym h.placed)
+      (subst (λ b. Searched M root (boxes new.open.items) b (old.placed + 1)) (sym h.best)
+      (subst (λ bs. Searched M root bs old.best (old.placed + 1)) (sym h.open_are) next)),
+)
 works-split M part column old new (Err fault) h = subst (λ f. WorksBox M part old new (Err f)) (sym h) tt
 
 pub works-judge : (M : Program) (part : Intervals) (old new : Search) (r : Result (Unit {0}) SearchFault) → position is_open part ≡ None → JudgesBox M part old new r → WorksBox M part old new r
-works-judge M part old new (Ok done) closed h = (h.placed, λ root s.
-    let next = search-judges M root (boxes old.open.items) part old.best new.best old.placed closed h.best s in
-    subst (λ n. Searched M root (boxes new.open.items) new.best n) (sym h.placed)
-    (subst (λ v. Searched M root (boxes v.items) new.best (old.placed + 1)) (sym h.open_are) next))
+works-judge M part old new (Ok done) closed h = (
+  h.placed,
+  λ root s.
+      let next = search-judges M root (boxes old.open.items) part old.best new.best old.placed closed h.best s in
+      subst (λ n. Searched M root (boxes new.open.items) new.best n) (sym h.placed)
+      (subst (λ v. Searched M root (boxes v.items) new.best (old.placed + 1)) (sym h.open_are) next),
+)
 works-judge M part old new (Err (Wide step)) closed h = h
 works-judge M part old new (Err Memory) closed h = tt
 

@@ -39,10 +39,7 @@ fn count_of(interval: &Interval) -> u64
 }
 
 /// The box of all points whose numbers are whole and within the columns' bounds, or `None` where it has no point.
-pub(crate) fn root_box(
-    alloc: Global,
-    columns: &[Col],
-) -> Result<Option<Vec<Interval>>, AllocError>
+pub(crate) fn root_box(alloc: Global, columns: &[Col]) -> Result<Option<Vec<Interval>>, AllocError>
     ensures { IfOk result (λ root. MatchOption root (HasNoPoint columns.now) (λ b. (b.items ≡ root_of columns.now) × IsProper b.items)) }
 {
     let mut root = Vec::new(alloc);

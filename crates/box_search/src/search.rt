@@ -31,7 +31,9 @@ pub enum Outcome {
         placed: u64,
     },
     /// There is no feasible point.
-    Infeasible { placed: u64 },
+    Infeasible {
+        placed: u64,
+    },
 }
 
 /// Why a search gave up.
@@ -155,12 +157,7 @@ impl Search {
     }
 
     /// Judges the one point of a box.
-    fn judge(
-        &mut self,
-        alloc: Global,
-        model: &Model,
-        part: &[Interval],
-    ) -> Result<(), SearchFault>
+    fn judge(&mut self, alloc: Global, model: &Model, part: &[Interval]) -> Result<(), SearchFault>
         requires single { position is_open part.now ≡ None }
         requires shape { length part.now ≡ length model.now.cols }
         requires proper { IsProper part.now }
@@ -175,12 +172,7 @@ impl Search {
     }
 
     /// Works a box that was taken from the open ones: one result.
-    fn work(
-        &mut self,
-        alloc: Global,
-        model: &Model,
-        part: Vec<Interval>,
-    ) -> Result<(), SearchFault>
+    fn work(&mut self, alloc: Global, model: &Model, part: Vec<Interval>) -> Result<(), SearchFault>
         requires shape { length part.items ≡ length model.now.cols }
         requires proper { IsProper part.items }
         requires room { points part.items < 2 ^ 64 }

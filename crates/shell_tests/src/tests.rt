@@ -88,7 +88,10 @@ fn store_of(alloc: Global, failing: &[u64]) -> Result<MemStore, AllocError> {
         ("junk", b"\x00\xff".as_slice()),
         ("empty", b"".as_slice()),
     ] {
-        files.insert(String::from_str(alloc, name)?, Vec::from_slice(alloc, bytes)?)?;
+        files.insert(
+            String::from_str(alloc, name)?,
+            Vec::from_slice(alloc, bytes)?,
+        )?;
     }
     Ok(MemStore::new(alloc, files, Vec::from_slice(alloc, failing)?))
 }
@@ -150,11 +153,7 @@ fn rows(rt: HostRuntime) -> Result<(), Fail> {
             b"error 03 arguments\nerror 03 arguments\nerror 03 arguments\nerror 03 arguments\nerror 03 arguments\nerror 02 unknown command frob\nerror 02 unknown command quit\nerror 02 unknown command LOAD\n",
             1,
         ),
-        (
-            b"# a comment\n\n \t \r\n  load\tK\t\r\n",
-            b"ok\n",
-            0,
-        ),
+        (b"# a comment\n\n \t \r\n  load\tK\t\r\n", b"ok\n", 0),
         (b"", b"", 0),
     ] {
         let (got, written) = answer(rt.alloc(), &["run"], script, NONE)?;
@@ -182,15 +181,24 @@ fn other_words(rt: HostRuntime) -> Result<(), Fail> {
 #[test]
 fn failures(rt: HostRuntime) -> Result<(), Fail> {
     let script = b"load K\nload K\nsolve nodes 15\n".as_slice();
-    let second = Failing { store: &[2], ..NONE };
+    let second = Failing {
+        store: &[2],
+        ..NONE
+    };
     let (status, written) = answer(rt.alloc(), &["run"], script, second)?;
-    assert_eq!(rt; written.as_slice(), b"ok\nerror 20 store\noptimal -9 nodes 15\nx X 1\nx Y 1\nend\n".as_slice());
+    assert_eq!(rt;
+        written.as_slice(),
+        b"ok\nerror 20 store\noptimal -9 nodes 15\nx X 1\nx Y 1\nend\n".as_slice()
+    );
     assert_eq!(rt; status, 1);
     let first_write = Failing { sink: &[1], ..NONE };
     let (status, written) = answer(rt.alloc(), &["run"], script, first_write)?;
     assert_eq!(rt; written.as_slice(), b"".as_slice());
     assert_eq!(rt; status, 4);
-    let first_read = Failing { source: &[1], ..NONE };
+    let first_read = Failing {
+        source: &[1],
+        ..NONE
+    };
     let (status, written) = answer(rt.alloc(), &["run"], script, first_read)?;
     assert_eq!(rt; written.as_slice(), b"".as_slice());
     assert_eq!(rt; status, 3);

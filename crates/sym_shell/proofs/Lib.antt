@@ -5,3 +5,4 @@ pub mod SimpleLemmas
 pub mod ReplyLemmas
 pub mod StepLemmas
 pub mod RunLemmas
+pub mod ReadingLemmas

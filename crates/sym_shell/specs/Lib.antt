@@ -3,6 +3,7 @@ pub mod Texts
 pub mod State
 pub mod Refusals
 pub mod Simple
+pub mod Reading
 pub mod Load
 pub mod Solve
 pub mod Step

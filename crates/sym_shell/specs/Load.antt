@@ -1,11 +1,11 @@
 -- What `load` may answer, and the model that it leaves.
-use Rattle.std.specs.Prelude.{◌≡◌, ◌⊎◌, ℕ, ◌<◌, ◌≤◌, List, length, true, Option, Some, None, IfSome, IsSomeAnd, Result, Ok, Err}
+use Rattle.std.specs.Prelude.{◌≡◌, ◌⊎◌, ℕ, ◌<◌, ◌≤◌, List, length, Option, Some, None, IfSome, IsSomeAnd, Result, Ok, Err}
 use Rattle.sym_io.specs.Faults.{Rose}
 use Rattle.sym_io.specs.Files.{Files, file}
 use Rattle.sym_io.specs.declared.traits.TheConstants.{MAX_FILE_LENGTH}
 use Rattle.lp_model.specs.Program.{Program}
 use Rattle.sym_shell.specs.State.{State}
-use Rattle.sym_shell.specs.Simple.{is_simple}
+use Rattle.sym_shell.specs.Reading.{ReadsAs, IsUnreadable}
 use Rattle.sym_shell.specs.Texts.{ok_text, store_text, file_too_long_text, unreadable_text, memory_text}
 use Rattle.sym_shell.specs.declared.reading.Refusal.{Refusal}
 use Rattle.sym_shell.specs.declared.reading.Refusal.TheVariants.{Store, FileTooLong, Unreadable, Memory}
@@ -20,18 +20,19 @@ IsMissing files name = IsSomeAnd files (λ known. file known name ≡ None)
 abbrev pub IsTooLong : Option Files → List ℕ → Type 0
 IsTooLong files name = IfSome files (λ known. IsSomeAnd (file known name) (λ text. MAX_FILE_LENGTH < length text))
 
--- the named file's text, which is no longer than a file that is read
-pub record HasText (files : Option Files) (name : List ℕ) : Type 0 where
+-- the named file's text, which is no longer than a file that is read, is so
+pub record HasText (files : Option Files) (name : List ℕ) (P : List ℕ → Type 0) : Type 0 where
   pub text : List ℕ
   pub held : MayHold files name text
   pub short : length text ≤ MAX_FILE_LENGTH
+  pub is : P text
 
 -- the causes of each answer to reading a file's model, where the count of faults goes from before to after
 abbrev pub ReadsFile : Option Files → List ℕ → ℕ → ℕ → Result Program Refusal → Type 0
-ReadsFile files name before after (Ok M) = HasText files name × (is_simple M ≡ true)
+ReadsFile files name before after (Ok M) = HasText files name (λ text. ReadsAs text M)
 ReadsFile files name before after (Err Store) = Rose before after ⊎ IsMissing files name
 ReadsFile files name before after (Err FileTooLong) = IsTooLong files name
-ReadsFile files name before after (Err Unreadable) = HasText files name
+ReadsFile files name before after (Err Unreadable) = HasText files name IsUnreadable
 ReadsFile files name before after (Err Memory) = Unit {0}
 
 abbrev pub refusal_text : Refusal → List ℕ
@@ -40,12 +41,11 @@ refusal_text FileTooLong = file_too_long_text
 refusal_text Unreadable = unreadable_text
 refusal_text Memory = memory_text
 
--- a model of zeros and ones that was read from the file is present from now on
+-- the model that the file's text means is present from now on
 pub record Loads (old : State) (name reply : List ℕ) (new : State) : Type 0 where
   pub ok : reply ≡ ok_text
   pub model : Program
-  pub read : HasText old.files name
-  pub simple : is_simple model ≡ true
+  pub read : HasText old.files name (λ text. ReadsAs text model)
   pub present : new.model ≡ Some model
 
 -- the reply tells why the file's model is refused, and the model that was present stays

@@ -1,6 +1,7 @@
 // Reading a file's model from a store.
-ghost use Rattle.std.specs.Prelude.{◌≡◌, ◌≤◌, true, IfOk, IfSome};
+ghost use Rattle.std.specs.Prelude.{◌≡◌, ◌≤◌, true, IfOk, MatchOption};
 ghost use Rattle.sym_shell.specs.Names.{is_file_name};
+ghost use Rattle.sym_shell.specs.Reading.{ReadsAs, IsUnreadable};
 ghost use Rattle.sym_shell.specs.Load.{ReadsFile};
 ghost use Rattle.sym_shell.specs.Simple.{is_simple};
 
@@ -67,7 +68,7 @@ impl Refusal {
 /// The model that a text means, where the text has the first form: one N row, integer columns with the bounds 0 and 1,
 /// and whole numbers of at most nine digits.
 fn model_of_text(alloc: Global, text: &[u8]) -> Result<Option<Model>, AllocError>
-    ensures { IfOk result (λ model. IfSome model (λ m. is_simple m ≡ true)) }
+    ensures { IfOk result (λ model. MatchOption model (IsUnreadable text.now) (λ m. ReadsAs text.now m)) }
 {
     if !is_first_form(alloc, text)? {
         return Ok(None);

@@ -9,10 +9,10 @@ ghost use Rattle.sym_shell.specs.Solve.{Solves, SolveWith, SolveReply, Shows};
 ghost use Rattle.box_search.specs.Root.{cap_of};
 
 use crate::reading::read_model;
+use crate::simple::SimpleModel;
 use crate::texts::{write_outcome, write_unknown};
 use crate::words::{CommandName, command_named, is_file_name_word, whole_number};
 use box_search::{SearchFault, best_point, cap};
-use crate::simple::SimpleModel;
 use script_session::Machine;
 use std::alloc::{AllocError, Global};
 use sym_io::Store;
@@ -84,12 +84,7 @@ impl Shell {
     }
 
     /// Searches the model that is present, where the limit allows as many results as that may take.
-    fn solve(
-        &self,
-        alloc: Global,
-        limit: u64,
-        reply: &mut Vec<u8>,
-    ) -> Result<(), AllocError>
+    fn solve(&self, alloc: Global, limit: u64, reply: &mut Vec<u8>) -> Result<(), AllocError>
         requires { reply.old.items ≡ [] }
         ensures answered { OnOk result (Solves (present self.now) limit reply.new.items) }
         ensures unfinished { OnErr result (Solves (present self.now) limit memory_text) }
@@ -207,11 +202,7 @@ fn refuse_arguments(reply: &mut Vec<u8>) -> Result<(), AllocError>
 }
 
 /// Writes what a search of the model shows.
-fn answer_search(
-    alloc: Global,
-    simple: &SimpleModel,
-    reply: &mut Vec<u8>,
-) -> Result<(), AllocError>
+fn answer_search(alloc: Global, simple: &SimpleModel, reply: &mut Vec<u8>) -> Result<(), AllocError>
     requires room { cap_of simple.now.model < 2 ^ 64 }
     requires empty { reply.old.items ≡ [] }
     ensures { OnOk result (Shows simple.now.model reply.new.items) }

@@ -58,11 +58,7 @@ fn write_column(reply: &mut Vec<u8>, name: &[u8], number: &Frac) -> Result<(), A
 }
 
 /// The lines of the columns in order.
-fn write_columns(
-    reply: &mut Vec<u8>,
-    columns: &[Col],
-    numbers: &[Frac],
-) -> Result<(), AllocError>
+fn write_columns(reply: &mut Vec<u8>, columns: &[Col], numbers: &[Frac]) -> Result<(), AllocError>
     requires { length numbers.now ≡ length columns.now }
     ensures { IfOk result (λ _. reply.new.items ≡ reply.old.items ++ column_lines columns.now numbers.now) }
 {

@@ -41,6 +41,6 @@ returns c =
     let copied : c.in_ok-lower.lower.items ≡ b = c.in_ok-lower.ensures.items ∙ c.deref.ensures.value in
     let f : FitsSigned w128 c.middle-middle.result = search rules in
     let low_is : slice_set c.in_ok-lower.lower.items j c.up_to.result ≡ slice_set b j (up_to i (middle i)) =
-        subst (λ l. slice_set l j c.up_to.result ≡ slice_set b j (up_to i (middle i))) (sym copied) (ap (slice_set b j) (simp to_z-of_z at c.up_to.ensures ∙ ap (up_to i) c.middle-middle.ensures)) in
+    subst (λ l. slice_set l j c.up_to.result ≡ slice_set b j (up_to i (middle i))) (sym copied) (ap (slice_set b j) (simp to_z-of_z at c.up_to.ensures ∙ ap (up_to i) c.middle-middle.ensures)) in
     let up_is : slice_set b j c.above.result ≡ slice_set b j (above i (middle i)) = ap (slice_set b j) (simp to_z-of_z at c.above.ensures ∙ ap (above i) c.middle-middle.ensures) in
     split_parts b j i _ _ c.requires.«open» c.index.ensures low_is up_is

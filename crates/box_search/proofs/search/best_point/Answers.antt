@@ -90,5 +90,5 @@ returns-clause-found c =
     let left : c.pop.new.self.items ≡ [] = c.in_default-pop.ensures.rest ∙ ap (λ n. take (n - 1) c.loop-part.search.open.items) c.in_default-pop.ensures.cases.0 in
     let none : c.loop-part.search.open.items ≡ [] = c.in_default-pop.ensures.items ∙ ap (λ l. l ++ []) left in
     let s : Searched M (root_of M.cols) (boxes c.pop.new.self.items) c.loop-part.search.best c.loop-part.search.placed =
-        subst (λ bs. Searched M (root_of M.cols) (boxes bs) c.loop-part.search.best c.loop-part.search.placed) (none ∙ sym left) c.loop-part.invariant in
+    subst (λ bs. Searched M (root_of M.cols) (boxes bs) c.loop-part.search.best c.loop-part.search.placed) (none ∙ sym left) c.loop-part.invariant in
     finds M last c.outcome.result c.requires.integral proper s (ap boxes left) c.outcome.ensures
