@@ -86,7 +86,11 @@ const FAULTS: [(&[u8], u64, u8); 28] = [
     (b"ROWS\n N C\nCOLUMNS\n X C 1\nBOUNDS\n FR X\n", 6, 20),
     (b"ROWS\n N C\nCOLUMNS\n X C 1\nBOUNDS\n LO X inf\n", 6, 21),
     (b"ROWS\n N C\nCOLUMNS\n X C 1\nBOUNDS\n LO X 1e75\n", 6, 21),
-    (b"ROWS\n N C\nCOLUMNS\n X C 1\nBOUNDS\n LO X 1.0000000000000000000000000000000000000001\n", 6, 13),
+    (
+        b"ROWS\n N C\nCOLUMNS\n X C 1\nBOUNDS\n LO X 1.0000000000000000000000000000000000000001\n",
+        6,
+        13,
+    ),
     (b"ROWS\n N C\nCOLUMNS\n X C 1\nRHS\n C 1\n S C 1\n", 7, 22),
 ];
 
