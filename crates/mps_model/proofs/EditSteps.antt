@@ -1,15 +1,12 @@
 -- What each edit adds to the model that is built.
 use Rattle.std.proofs.Common.{◌≡◌, ℕ, suc, Bool, true, false, List, [], ◌∷◌, ◌++◌, map, refl, sym, ◌∙◌, ap, pos, subst, append_assoc}
 use Rattle.std.specs.Prelude.{if◌then◌else◌, filter, not, bytes_eq, Option}
-use Rattle.std.specs.List.{list_any}
-use Rattle.std.specs.Ordering.{eq_by_cmp}
 use Rattle.std.proofs.lemmas.Bool.Decides.{same_from_decides}
 use Rattle.std.proofs.lemmas.Bool.{or_right, or_left, false_from_ne_true, false≢true}
 use Rattle.std.proofs.lemmas.List.Folds.{list_any-append}
 use Rattle.std.proofs.lemmas.Slice.Eq.{bytes_eq-Decides}
-use Rattle.rational.specs.Rational.{ℚ, int, rational_cmp, neg_ℚ}
+use Rattle.rational.specs.Rational.{ℚ, int, neg_ℚ}
 use Rattle.rational.proofs.Comparison.{eq_by_cmp-decides}
-use Rattle.lp_model.specs.Program.{Program}
 use Rattle.lp_model.specs.Edits as edits
 use Rattle.lp_model.specs.declared.types.Sense.TheVariants.{Min}
 use Rattle.lp_model.specs.declared.types.RowId.{RowId}
@@ -24,7 +21,6 @@ use Rattle.mps_model.specs.declared.statements.RowLine.{RowLine}
 use Rattle.mps_model.specs.declared.statements.RowNumber.{RowNumber}
 use Rattle.mps_model.specs.declared.statements.ColumnLines.{ColumnLines}
 use Rattle.mps_model.proofs.NumberFacts.{is_zero-decides}
-use Rattle.mps_model.proofs.StatedSteps.{nothing_more}
 
 map_append : {A B : Type 0} (f : A → B) (xs ys : List A) → map f (xs ++ ys) ≡ map f xs ++ map f ys
 map_append f [] ys = refl
@@ -62,11 +58,10 @@ AreRows sided (r ∷ more) = (is_row sided r.name ≡ true) × AreRows sided mor
 are_rows : (before sub : List RowLine) → AreRows (before ++ sub) sub
 unfolding AreRows
 are_rows before [] = tt
-are_rows before (r ∷ more) =
-    (
-      list_any-append (λ (q : RowLine). bytes_eq q.name r.name) before (r ∷ more) ∙ or_right (is_row before r.name) (is_row (r ∷ more) r.name) (or_left (bytes_eq r.name r.name) (is_row more r.name) ((bytes_eq-Decides r.name r.name).1 refl)),
-      subst (λ (all : List RowLine). AreRows all more) (append_assoc before (r ∷ []) more) (are_rows (before ++ r ∷ []) more),
-    )
+are_rows before (r ∷ more) = (
+  list_any-append (λ (q : RowLine). bytes_eq q.name r.name) before (r ∷ more) ∙ or_right (is_row before r.name) (is_row (r ∷ more) r.name) (or_left (bytes_eq r.name r.name) (is_row more r.name) ((bytes_eq-Decides r.name r.name).1 refl)),
+  subst (λ (all : List RowLine). AreRows all more) (append_assoc before (r ∷ []) more) (are_rows (before ++ r ∷ []) more),
+)
 
 zeros_same : (x : ℚ) → edits.is_zero x ≡ is_zero x
 zeros_same x = same_from_decides (edits.is_zero x) (is_zero x) (eq_by_cmp-decides x (int (pos 0))) (is_zero-decides x)
@@ -116,7 +111,7 @@ unfolding empty_of with_entries
 column_added s intupper before c =
     let columns = map (column_of s intupper) before in
     let same : edits.entries_beside 0 (map (λ r. r.name) (map (row_of s.sides) s.rows)) (named_of s.rows c.numbers) ≡ entries_from 0 (names_of_rows s.rows) c.numbers =
-        ap (λ names. edits.entries_beside 0 names (named_of s.rows c.numbers)) (names_kept s.sides s.rows) ∙ entries_same s.rows c.numbers 0 s.rows (are_rows [] s.rows)
+    ap (λ names. edits.entries_beside 0 names (named_of s.rows c.numbers)) (names_kept s.sides s.rows) ∙ entries_same s.rows c.numbers 0 s.rows (are_rows [] s.rows)
     in
     ap (λ entries. record (with_columns s intupper before) { cols = columns ++ with_entries s intupper c entries ∷ [] }) same
     ∙ ap (λ (cols : List Col). record (with_columns s intupper before) { cols = cols }) (sym (map_append (column_of s intupper) before (c ∷ [])))

@@ -74,8 +74,7 @@ faulty_has_no_form text flaw faulty f = either_way text flaw faulty f (exactly_o
 
 pub form_answered : (text : List ℕ) (s : Stated) (columns : List ColumnLines) (bounds : List BoundLine) (answer : Bool) → IsWholeStated text s → columns ≡ s.columns → bounds ≡ s.bounds → None ≡ column_flaw None bounds columns → answer ≡ has_first_form s → (IsTrue answer → IsFirstForm text) × (IsFirstForm text → IsTrue answer)
 form_answered text s columns bounds answer w c b f e =
-    let same : answer ≡ has_first_form (stated w.entries) = e ∙ ap has_first_form w.holds in
-    (
+    let same : answer ≡ has_first_form (stated w.entries) = e ∙ ap has_first_form w.holds in (
       (λ h. record { entries = w.entries; whole = w.whole; columns = flaw_held text None s columns bounds None w c b f; form = subst (λ (r : Bool). IsTrue r) same h }),
       (λ form. subst (λ (r : Bool). IsTrue r) (sym (same ∙ ap (λ (es : List Entry). has_first_form (stated es)) (whole_unique (records_of text) w.entries form.entries w.whole form.whole))) form.form),
     )

@@ -1,11 +1,11 @@
 -- Reading line by line: what stays the same, and where it ends.
-use Rattle.std.proofs.Common.{◌≡◌, ℕ, suc, ◌+◌, Bool, true, false, List, [], ◌∷◌, ◌++◌, length, refl, sym, ◌∙◌, ap, subst, arith}
-use Rattle.std.specs.Prelude.{Option, None, Some, Result, Ok, Err}
-use Rattle.mps_text.specs.Text.{Entry, Flaw, Item, records_of, lines_of}
+use Rattle.std.proofs.Common.{◌≡◌, ℕ, Bool, true, false, List, [], ◌∷◌, ◌++◌, sym, ◌∙◌, ap, subst}
+use Rattle.std.specs.Prelude.{Option, None, Some, Ok, Err}
+use Rattle.mps_text.specs.Text.{Entry, Flaw, Item, records_of}
 use Rattle.mps_model.specs.Statements.{Stated, stated}
-use Rattle.mps_model.specs.Faults.{code_in, code_at, is_end, Clean, IsWhole, HasFault, IsCut, reached, End, Flawed, Whole, Cut, past}
+use Rattle.mps_model.specs.Faults.{code_in, code_at, is_end, HasFault, IsCut, reached, End, past}
 use Rattle.mps_model.specs.Shown.{after}
-use Rattle.mps_model.specs.ReadingOf.{IsWholeStated, IsLineFault, OnLine, IsStopAt, IsReading, flaw_at}
+use Rattle.mps_model.specs.ReadingOf.{IsWholeStated, OnLine, IsStopAt, IsReading}
 use Rattle.mps_model.specs.declared.reading.Stop.{Stop}
 use Rattle.mps_model.specs.declared.reading.Stop.TheVariants.{Fault, Memory}
 use Rattle.mps_model.proofs.StatedSteps.{stated_more}

@@ -1,6 +1,6 @@
 -- What one more entry changes in what is stated.
-use Rattle.std.proofs.Common.{◌≡◌, ℕ, Bool, true, false, ◌||◌, ◌&&◌, List, [], ◌∷◌, ◌++◌, map, length, refl, sym, ◌∙◌, ap, append_assoc, arith, inl, inr, ◌+◌, subst}
-use Rattle.std.specs.Prelude.{not, if◌then◌else◌, fold, Option, None, Some, option_to_list, bytes_eq, codes}
+use Rattle.std.proofs.Common.{◌≡◌, ℕ, Bool, true, false, ◌||◌, ◌&&◌, List, [], ◌∷◌, ◌++◌, map, length, refl, sym, ◌∙◌, ap, append_assoc, arith, ◌+◌, subst}
+use Rattle.std.specs.Prelude.{not, if◌then◌else◌, fold, Option, None, Some, bytes_eq, codes}
 use Rattle.std.specs.List.{list_any, list_all}
 use Rattle.std.proofs.lemmas.Grind.{fold-append}
 use Rattle.std.proofs.lemmas.Bool.{or_parts, or_from, true≢false, true_from_ne_false, false_from_ne_true}
@@ -70,7 +70,6 @@ by_entries P start step es = by_entries_behind P step [] es start
 section_more : (before : List Entry) (e : Entry) → section_behind (before ++ e ∷ []) ≡ (if e.header then section_of (word 0 e) else section_behind before)
 section_more before e = fold_more (λ section x. if x.header then section_of (word 0 x) else section) None before e
 
-
 -- the section and the marker state behind a line of a kind
 section_after : LineKind → Option Section → Entry → Option Section
 section_after Header section e = section_of (word 0 e)
@@ -83,6 +82,7 @@ section_after-kind section e = by_header e.header
     by_marker : (b : Bool) → section_after (if b then Marker else Column) (Some Columns) e ≡ Some Columns
     by_marker true = refl
     by_marker false = refl
+
     by_section : (s : Option Section) → section_after (data_kind s e) s e ≡ s
     by_section None = refl
     by_section (Some Name) = refl
@@ -91,6 +91,7 @@ section_after-kind section e = by_header e.header
     by_section (Some Rhs) = refl
     by_section (Some Bounds) = refl
     by_section (Some Ended) = refl
+
     by_header : (b : Bool) → section_after (if b then Header else data_kind section e) section e ≡ (if b then section_of (word 0 e) else section)
     by_header true = refl
     by_header false = by_section section
@@ -236,8 +237,7 @@ apart_more : (found : List FirstLine) (last : FirstLine) → Apart found → is_
 unfolding Apart is_first
 apart_more [] last a h = (refl, tt)
 apart_more (f ∷ more) last a h =
-    let parts = or_parts (bytes_eq f.name last.name) (is_first more last.name) h in
-    (
+    let parts = or_parts (bytes_eq f.name last.name) (is_first more last.name) h in (
       list_any-append (λ (g : FirstLine). bytes_eq g.name f.name) more (last ∷ []) ∙ or_from (is_first more f.name) (bytes_eq last.name f.name || false) a.0 (or_from (bytes_eq last.name f.name) false (bytes_eq-flips last.name f.name ∙ parts.0) refl),
       apart_more more last a.1 parts.1,
     )
@@ -389,7 +389,7 @@ new_column seen e q unknown =
     let one : first_lines (seen ++ e ∷ []) ≡ first_lines seen ++ first ∷ [] = first_more seen e ∙ ap (λ (k : LineKind). first_lines seen ++ first_on k e (among (column_names seen) (word 0 e)) (is_marked seen)) q ∙ ap (λ b. first_lines seen ++ first_on Column e b (is_marked seen)) unknown in
     let none : is_first (first_lines seen) (word 0 e) ≡ false = firsts_known seen (word 0 e) ∙ unknown in
     let own : column_at (seen ++ e ∷ []) first ≡ with_numbers first (map read_pair (column_pairs e)) =
-        at_more seen e first ∙ ap (λ found. with_numbers first (found ++ part_of (kind_of seen e) e (word 0 e))) (no_numbers seen (word 0 e) unknown) ∙ ap (with_numbers first) (own_part seen e (word 0 e) q ((bytes_eq-Decides (word 0 e) (word 0 e)).1 refl))
+    at_more seen e first ∙ ap (λ found. with_numbers first (found ++ part_of (kind_of seen e) e (word 0 e))) (no_numbers seen (word 0 e) unknown) ∙ ap (with_numbers first) (own_part seen e (word 0 e) q ((bytes_eq-Decides (word 0 e) (word 0 e)).1 refl))
     in
     ap (map (column_at (seen ++ e ∷ []))) one
     ∙ map_append (column_at (seen ++ e ∷ [])) (first_lines seen) (first ∷ [])

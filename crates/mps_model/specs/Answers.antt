@@ -1,8 +1,7 @@
 -- What the calls on a text answer.
-use Rattle.std.specs.Prelude.{◌↔◌, ℕ, Bool, IsTrue, List, Option, Result, Ok, Err}
+use Rattle.std.specs.Prelude.{ℕ, List, Option, Result, Ok, Err}
 use Rattle.lp_model.specs.Program.{Program}
 use Rattle.mps_model.specs.Faults.{Faulty, Meant}
-use Rattle.mps_model.specs.FirstForm.{IsFirstForm}
 use Rattle.mps_model.specs.declared.reader.MpsFault.{MpsFault}
 use Rattle.mps_model.specs.declared.reader.MpsFault.TheVariants.{Bad, Memory}
 

@@ -3,7 +3,12 @@ use Rattle.std.specs.Prelude.{ℕ, ◌^◌, Bool, true, false, not, ◌&&◌, �
 use Rattle.std.specs.List.{list_all}
 use Rattle.std.specs.Ordering.{int_eq}
 use Rattle.rational.specs.Rational.{ℚ, int, neg_ℚ, rational_le}
-use Rattle.frac128.specs.Spelling.{Reading, Number, Wide, NoNumber, reading_of, is_minus, without_sign, is_digit}
+use Rattle.frac128.specs.Sides.{numeral_of}
+use Rattle.frac128.specs.declared.numeral.Side.{Side}
+use Rattle.frac128.specs.declared.numeral.Side.TheVariants.{Above, Between, Below}
+use Rattle.frac128.specs.declared.numeral.Numeral.{Numeral}
+use Rattle.frac128.specs.declared.numeral.Numeral.TheVariants.{Number, Wide, NotNumber as NoNumber}
+use Rattle.frac128.specs.Spelling.{reading_of, is_minus, without_sign, is_digit}
 use Rattle.mps_model.specs.Words.{is_key}
 use Rattle.mps_model.specs.declared.words.BoundKind.{BoundKind}
 use Rattle.mps_model.specs.declared.words.BoundKind.TheVariants.{Lower, Upper, Fixed, Binary, IntegerLower, IntegerUpper}
@@ -49,22 +54,28 @@ is_too_wide (Err TooWide) = true
 abbrev pub is_infinite_word : List ℕ → Bool
 is_infinite_word field = is_key (codes "INF") (without_sign field) || is_key (codes "INFINITY") (without_sign field)
 
-abbrev pub within : ℚ → Result Limit NumFault → Result Limit NumFault
-within x otherwise =
-    if rational_le (int (pos (10 ^ 20))) x then Ok Plus
-    else if rational_le x (neg_ℚ (int (pos (10 ^ 20)))) then Ok Minus
-    else otherwise
+abbrev pub within : ℚ → Limit
+within x =
+    if rational_le (int (pos (10 ^ 20))) x then Plus
+    else if rational_le x (neg_ℚ (int (pos (10 ^ 20)))) then Minus
+    else Finite x
 
-abbrev pub limit_read : Reading → Result Limit NumFault
-limit_read (Number x) = within x (Ok (Finite x))
-limit_read (Wide x) = Err TooWide
+-- a number that is too wide counts by the side at which it stands
+abbrev pub limit_at_side : Side → Result Limit NumFault
+limit_at_side Above = Ok Plus
+limit_at_side Below = Ok Minus
+limit_at_side Between = Err TooWide
+
+abbrev pub limit_read : Numeral → Result Limit NumFault
+limit_read (Number x) = Ok (within x)
+limit_read (Wide side) = limit_at_side side
 limit_read NoNumber = Err NotNumber
 
 abbrev pub infinite : Bool → Limit
 infinite minus = if minus then Minus else Plus
 
 abbrev pub limit_of : List ℕ → Result Limit NumFault
-limit_of field = if is_infinite_word field then Ok (infinite (is_minus field)) else limit_read (reading_of field)
+limit_of field = if is_infinite_word field then Ok (infinite (is_minus field)) else limit_read (numeral_of (reading_of field))
 
 abbrev pub limit_or_plus : Result Limit NumFault → Limit
 limit_or_plus (Ok l) = l

@@ -94,13 +94,7 @@ impl Parts<'_> {
         let second = free_name(alloc, names.as_slice(), b"OBJ2")?;
         let constant = beside_objective(self.objectives, self.sides).neg();
         let constants = [constant, Frac::whole(0)];
-        Ok(Model::empty(
-            alloc,
-            Sense::Min,
-            objective,
-            second,
-            constants,
-        ))
+        Ok(Model::empty(alloc, Sense::Min, objective, second, constants))
     }
 
     fn row_edit(&self, alloc: Global, row: &RowLine) -> Result<Edit, AllocError>

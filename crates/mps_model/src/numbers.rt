@@ -3,10 +3,10 @@ ghost use Rattle.std.specs.Prelude.{◌≡◌};
 ghost use Rattle.std.specs.List.{list_all};
 ghost use Rattle.rational.specs.Rational.{rational_le};
 ghost use Rattle.frac128.specs.Spelling.{without_sign, is_minus, is_digit};
-ghost use Rattle.mps_model.specs.Numbers.{number_of, number, is_zero, limit_of, limit, within, infinite, is_infinite_word, is_misplaced, is_plain, is_not_number, is_too_wide};
+ghost use Rattle.mps_model.specs.Numbers.{number_of, number, is_zero, limit_of, limit, within, limit_at_side, infinite, is_infinite_word, is_misplaced, is_plain, is_not_number, is_too_wide};
 
 use crate::words::{BoundKind, is_key};
-use frac128::{Frac, NumFault};
+use frac128::{Frac, NumFault, Numeral, Side};
 
 /// What the number of a bound line states. A number whose magnitude is 10^20 or more is infinite.
 #[derive(Clone, Copy, Debug, Drop)]
@@ -123,7 +123,7 @@ pub(crate) fn is_at_most(number: &Frac, other: &Frac) -> bool
 
 /// What a number with room states as a limit.
 fn limit_at(number: Frac) -> Limit
-    ensures { Ok result ≡ within number (Ok (Limit.Finite number)) }
+    ensures { result ≡ within number }
 {
     let infinity = Frac::of_whole(100_000_000_000_000_000_000);
     if is_at_most(&infinity, &number) {
@@ -135,6 +135,17 @@ fn limit_at(number: Frac) -> Limit
     }
 }
 
+/// What a number that is too wide states as a limit.
+fn limit_at_side(side: Side) -> Result<Limit, NumFault>
+    ensures { result ≡ limit_at_side side }
+{
+    match side {
+        Side::Above => Ok(Limit::Plus),
+        Side::Below => Ok(Limit::Minus),
+        Side::Between => Err(NumFault::Wide),
+    }
+}
+
 /// What the number of a bound line states.
 pub(crate) fn limit_of(field: &[u8]) -> Result<Limit, NumFault>
     ensures { result ≡ limit_of field.now }
@@ -142,9 +153,10 @@ pub(crate) fn limit_of(field: &[u8]) -> Result<Limit, NumFault>
     if is_infinite_word(field) {
         return Ok(infinite(is_minus(field)));
     }
-    match number_of(field) {
-        Ok(number) => Ok(limit_at(number)),
-        Err(flaw) => Err(flaw),
+    match Numeral::of(field) {
+        Numeral::Number(number) => Ok(limit_at(number)),
+        Numeral::Wide(side) => limit_at_side(side),
+        Numeral::NotNumber => Err(NumFault::NotNumber),
     }
 }
 

@@ -55,7 +55,7 @@ fn bounds_integer_columns(rt: HostRuntime) {
     assert!(&rt; read(rt.alloc(), UNBOUNDED, Some(100)).is_ok());
 }
 
-const FAULTS: [(&[u8], u64, u8); 26] = [
+const FAULTS: [(&[u8], u64, u8); 28] = [
     (b"ROWS\n N \x01\n", 2, 1),
     (b"ROWS\r", 1, 1),
     (b"", 1, 4),
@@ -85,6 +85,12 @@ const FAULTS: [(&[u8], u64, u8); 26] = [
     (b"ROWS\n N C\nCOLUMNS\n X C 1\nBOUNDS\n UP Y 1\n", 6, 19),
     (b"ROWS\n N C\nCOLUMNS\n X C 1\nBOUNDS\n FR X\n", 6, 20),
     (b"ROWS\n N C\nCOLUMNS\n X C 1\nBOUNDS\n LO X inf\n", 6, 21),
+    (b"ROWS\n N C\nCOLUMNS\n X C 1\nBOUNDS\n LO X 1e75\n", 6, 21),
+    (
+        b"ROWS\n N C\nCOLUMNS\n X C 1\nBOUNDS\n LO X 1.0000000000000000000000000000000000000001\n",
+        6,
+        13,
+    ),
     (b"ROWS\n N C\nCOLUMNS\n X C 1\nRHS\n C 1\n S C 1\n", 7, 22),
 ];
 

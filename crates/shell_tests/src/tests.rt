@@ -108,6 +108,9 @@ fn answer(
     for argument in arguments {
         words.push(String::from_str(alloc, argument)?)?;
     }
+    if words.is_empty() {
+        return Err(AllocError);
+    }
     let mut source = MemSource::new(
         Vec::from_slice(alloc, script)?,
         Vec::from_slice(alloc, failing.source)?,

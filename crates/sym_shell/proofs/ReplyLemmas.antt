@@ -7,7 +7,7 @@ use Rattle.lp_model.specs.Program.{Program, Point}
 use Rattle.box_search.specs.Search.{Finds}
 use Rattle.box_search.specs.declared.search.Outcome.{Outcome}
 use Rattle.box_search.specs.declared.search.Outcome.TheVariants.{Optimal, Infeasible}
-use Rattle.sym_shell.specs.Simple.{is_simple}
+use Rattle.mps_model.specs.Simple.{is_simple}
 use Rattle.sym_shell.specs.Texts.{optimal_text, infeasible_text, arguments_text, memory_text}
 use Rattle.sym_shell.specs.Reports.{Reports}
 use Rattle.sym_shell.specs.Names.{is_file_name}

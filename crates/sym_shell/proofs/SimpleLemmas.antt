@@ -23,7 +23,7 @@ use Rattle.box_search.specs.Boxes.{Intervals, IsIn, InBox}
 use Rattle.box_search.specs.Root.{interval_of, root_of, count, factor, whole_points_of, cap_of}
 use Rattle.box_search.specs.Integral.{AreIntegral, IsIntegral}
 use Rattle.box_search.specs.Search.{HasWidePoint, IsWideAt, results_of}
-use Rattle.sym_shell.specs.Simple.{is_small, is_bound, is_simple_column, is_simple}
+use Rattle.mps_model.specs.Simple.{is_small, is_bound, is_simple_column, is_simple}
 
 both_left : (a b : Bool) → a && b ≡ true → a ≡ true
 both_left true b h = refl

@@ -2,7 +2,6 @@ pub mod Names
 pub mod Texts
 pub mod State
 pub mod Refusals
-pub mod Simple
 pub mod Reading
 pub mod Load
 pub mod Solve

@@ -15,7 +15,6 @@
 mod program;
 mod reading;
 mod shell;
-mod simple;
 mod texts;
 mod words;
 

@@ -3,9 +3,8 @@ ghost use Rattle.std.specs.Prelude.{◌≡◌, ◌≤◌, true, IfOk, MatchOptio
 ghost use Rattle.sym_shell.specs.Names.{is_file_name};
 ghost use Rattle.sym_shell.specs.Reading.{ReadsAs, IsUnreadable};
 ghost use Rattle.sym_shell.specs.Load.{ReadsFile};
-ghost use Rattle.sym_shell.specs.Simple.{is_simple};
+ghost use Rattle.mps_model.specs.Simple.{is_simple};
 
-use crate::simple::is_simple_model;
 use crate::words::file_name;
 use lp_model::Model;
 use mps_model::{MpsFault, is_first_form, read};
@@ -49,6 +48,13 @@ impl From<AllocError> for Refusal {
     }
 }
 
+/// A model of zeros and ones, on which no sum of a search is without room.
+#[derive(Drop)]
+pub struct SimpleModel {
+    pub(crate) model: Model,
+    ghost simple: { is_simple model ≡ true },
+}
+
 impl Refusal {
     ghost use Rattle.sym_shell.specs.Load.{refusal_text};
 
@@ -74,13 +80,7 @@ fn model_of_text(alloc: Global, text: &[u8]) -> Result<Option<Model>, AllocError
         return Ok(None);
     }
     match read(alloc, text, None) {
-        Ok(model) => {
-            if is_simple_model(&model) {
-                Ok(Some(model))
-            } else {
-                Ok(None)
-            }
-        }
+        Ok(model) => Ok(Some(model)),
         Err(MpsFault::Bad { .. }) => Ok(None),
         Err(MpsFault::Memory) => Err(AllocError),
     }

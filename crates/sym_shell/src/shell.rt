@@ -8,8 +8,7 @@ ghost use Rattle.sym_shell.specs.Step.{LoadLine, Runs};
 ghost use Rattle.sym_shell.specs.Solve.{Solves, SolveWith, SolveReply, Shows};
 ghost use Rattle.box_search.specs.Root.{cap_of};
 
-use crate::reading::read_model;
-use crate::simple::SimpleModel;
+use crate::reading::{SimpleModel, read_model};
 use crate::texts::{write_outcome, write_unknown};
 use crate::words::{CommandName, command_named, is_file_name_word, whole_number};
 use box_search::{SearchFault, best_point, cap};

@@ -1,10 +1,10 @@
-use Rattle.std.proofs.Common.{◌≡◌, ◌∙◌, ap, true, false, None, List, ℕ}
+use Rattle.std.proofs.Common.{◌∙◌, ap, false, None, List, ℕ}
 use Rattle.std.specs.Prelude.{IsTrue, ◌==◌, ◌&&◌, length}
 use Rattle.mps_model.specs.declared.statements.ColumnLines.{ColumnLines}
 use Rattle.mps_model.specs.declared.statements.BoundLine.{BoundLine}
 use Rattle.std.proofs.lemmas.Bool.{false≢true}
 use Rattle.mps_text.specs.Text.{Flaw}
-use Rattle.mps_model.specs.Shown.{held, columns_in}
+use Rattle.mps_model.specs.Shown.{held}
 use Rattle.mps_model.specs.FirstForm.{IsFirstForm, has_unit_bounds}
 use Rattle.mps_model.specs.Faults.{Faulty}
 use Rattle.mps_model.proofs.ReadSteps.{of_line, of_column, faulty_has_no_form, form_answered}
@@ -31,9 +31,9 @@ returns c =
     let t = c.in-Ok.tables in
     let columns = c.as_slice-in-None-3.ensures ∙ c.in_ok-columns.ensures in
     let answer =
-        c.has_first_form.ensures
-        ∙ ap (λ (names : List (List ℕ)). length names == 1 && t.plain && has_unit_bounds c.as_slice-in-None-2.result.now c.as_slice-in-None-3.result.now) c.as_slice-in-None.ensures
-        ∙ ap (λ (bounds : List BoundLine). length t.objectives == 1 && t.plain && has_unit_bounds bounds c.as_slice-in-None-3.result.now) c.as_slice-in-None-2.ensures
-        ∙ ap (λ (found : List ColumnLines). length t.objectives == 1 && t.plain && has_unit_bounds t.bounds found) columns
+    c.has_first_form.ensures
+    ∙ ap (λ (names : List (List ℕ)). length names == 1 && t.plain && has_unit_bounds c.as_slice-in-None-2.result.now c.as_slice-in-None-3.result.now) c.as_slice-in-None.ensures
+    ∙ ap (λ (bounds : List BoundLine). length t.objectives == 1 && t.plain && has_unit_bounds bounds c.as_slice-in-None-3.result.now) c.as_slice-in-None-2.ensures
+    ∙ ap (λ (found : List ColumnLines). length t.objectives == 1 && t.plain && has_unit_bounds t.bounds found) columns
     in
     form_answered c.args.text.now (held t) c.as_slice-2.result.now c.as_slice.result.now c.has_first_form.result c.in-Ok.ensures (c.as_slice-2.ensures ∙ c.in_ok-columns.ensures) c.as_slice.ensures c.in-None.ensures answer

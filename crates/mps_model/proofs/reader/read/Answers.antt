@@ -1,5 +1,5 @@
-use Rattle.std.proofs.Common.{◌≡◌, ◌∙◌, ap}
-use Rattle.mps_model.specs.Shown.{held, columns_in}
+use Rattle.std.proofs.Common.{◌∙◌}
+use Rattle.mps_model.specs.Shown.{held}
 use Rattle.mps_model.specs.Built.{parts_shown}
 use Rattle.mps_model.specs.declared.building.Parts.{Parts}
 use Rattle.mps_model.proofs.ReadSteps.{of_column, meant_by}

@@ -2,9 +2,9 @@ use Rattle.std.proofs.Common.{◌≡◌, ◌∷◌, ◌∙◌, ap, sym, length, 
 use Rattle.std.proofs.lemmas.Result.{err_from_is_err_and}
 use Rattle.std.specs.Prelude.{Ok, Err}
 use Rattle.mps_text.specs.Text.{Flaw, lines_of}
-use Rattle.mps_text.specs.Reading.{items_left, item_of, entry_of, flaw_of, code_of}
+use Rattle.mps_text.specs.Reading.{items_left, item_of, entry_of, flaw_of}
 use Rattle.mps_model.specs.Shown.{held}
-use Rattle.mps_model.specs.ReadingOf.{IsLineFault, OnLine, NoEnd}
+use Rattle.mps_model.specs.ReadingOf.{OnLine, NoEnd}
 use Rattle.mps_model.proofs.ReadingSteps.{bad_line, stopped, last_line, next_line, no_line}
 use Rattle.mps_model.proofs.reading.tables_of.Goals as goal
 
