@@ -1,4 +1,4 @@
-//! Tests of `lp_model`: a knapsack worked out by hand, first steps without room, each fault of an edit, the limits.
+//! Tests of `lp_model`: a knapsack worked out by hand, first steps without room, and faults of edits.
 //!
 //! They stand apart so that the model's own crate is proved once.
 #![tactic(auto)]

@@ -229,7 +229,7 @@ fn faults(rt: HostRuntime) -> Result<(), Fail> {
     let mut model = model(&rt, rt.alloc(), KNAPSACK)?;
     for (line, kind, who) in FAULTS {
         let answer = model.apply(rt.alloc(), edit(rt.alloc(), line)?);
-        assert!(rt; tells(&answer, kind, who), "{kind} {who}");
+        assert!(rt; tells(&answer, kind, who));
     }
     assert!(rt; model.rows().len() == 3 && model.cols().len() == 4);
     Ok(())
@@ -247,50 +247,4 @@ fn tells(answer: &Result<(), EditFault>, kind: &str, who: &str) -> bool {
         Err(EditFault::Memory) => return false,
     };
     told == kind && name.as_slice() == who.as_bytes()
-}
-
-#[test]
-fn limits(rt: HostRuntime) -> Result<(), Fail> {
-    let mut model = model(&rt, rt.alloc(), &[])?;
-    assert_eq!(rt; limit(rt.alloc(), &mut model, ROW)?, (500, 500));
-    assert_eq!(rt; limit(rt.alloc(), &mut model, COL)?, (1000, 1000));
-    Ok(())
-}
-
-/// How many rows or columns there are when one more is refused, and the limit that is told.
-fn limit(alloc: Global, model: &mut Model, is_col: bool) -> Result<(u64, u64), AllocError> {
-    for place in 0..2000 {
-        let text = format!(in alloc; "N{place}")?;
-        match model.apply(alloc, plain(alloc, is_col, &text)?) {
-            Ok(()) => (),
-            Err(EditFault::Limit(limit)) => return Ok((place, limit)),
-            Err(_) => return Ok((place, 0)),
-        }
-    }
-    Ok((2000, 0))
-}
-
-/// A column, or a row, without entries.
-fn plain(alloc: Global, is_col: bool, text: &str) -> Result<Edit, AllocError> {
-    let name = name(alloc, text)?;
-    let entries = List::new(alloc);
-    let lo = Some(Frac::whole(0));
-    if is_col {
-        Ok(Edit::AddCol {
-            name,
-            int: false,
-            lo,
-            up: None,
-            cost: Frac::whole(1),
-            cost2: Frac::whole(1),
-            entries,
-        })
-    } else {
-        Ok(Edit::AddRow {
-            name,
-            lo,
-            hi: None,
-            entries,
-        })
-    }
 }
