@@ -81,7 +81,7 @@ fn model_of_text(alloc: Global, text: &[u8]) -> Result<Option<Model>, AllocError
     }
     match read(alloc, text, None) {
         Ok(model) => Ok(Some(model)),
-        Err(MpsFault::Bad { .. }) => Ok(None),
+        Err(MpsFault::Bad { .. }) => unreachable!(),
         Err(MpsFault::Memory) => Err(AllocError),
     }
 }
