@@ -31,7 +31,6 @@ model_from : List (List ℕ) → List RowLine → List ColumnLines → List RowN
 model_from objectives rows columns sides bounds intupper = model_of (record {
   section = None;
   headers = [];
-  known = [];
   objectives = objectives;
   rows = rows;
   columns = columns;

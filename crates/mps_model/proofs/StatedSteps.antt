@@ -11,7 +11,7 @@ use Rattle.std.proofs.lemmas.List.Folds.{list_any-append, list_all-append}
 use Rattle.mps_text.specs.Text.{Entry}
 use Rattle.mps_model.specs.Words.{is_key, among, word, section_of, kind_in, data_kind, is_marker}
 use Rattle.mps_model.specs.Numbers.{is_plain}
-use Rattle.mps_model.specs.Statements.{gathered_behind, gathered, section_behind, kind_of, header_on, name_on, objective_on, row_on, marker_on, is_marked, column_name_on, column_names, FirstLine, first_on, first_lines, column_pairs_on, read_pair, numbers_of_column, column_at, columns, rows, coefficients, coefficients_in, rhs_pairs_on, bound_on, numbers_on, numbers, Stated, stated, Pair, column_pairs, is_column}
+use Rattle.mps_model.specs.Statements.{gathered_behind, gathered, section_behind, kind_of, header_on, objective_on, row_on, marker_on, is_marked, column_name_on, column_names, FirstLine, first_on, first_lines, column_pairs_on, read_pair, numbers_of_column, column_at, columns, rows, coefficients, coefficients_in, rhs_pairs_on, bound_on, numbers_on, numbers, Stated, stated, Pair, column_pairs, is_column}
 use Rattle.mps_model.specs.Shown.{with_more, with_line, after_kind, after}
 use Rattle.mps_model.specs.Faults.{is_last, code_at, column_tests}
 use Rattle.mps_model.specs.declared.words.Section.{Section}
@@ -106,7 +106,6 @@ joined : LineKind → Stated → Entry → List ColumnLines → Stated
 joined kind s e found = record {
   section = section_after kind s.section e;
   headers = s.headers ++ header_on kind e;
-  known = s.known ++ name_on kind e;
   objectives = s.objectives ++ objective_on kind e;
   rows = s.rows ++ row_on kind e;
   columns = found;
@@ -122,7 +121,6 @@ unfolding stated joined
 stated_joined seen e =
     let section : section_behind (seen ++ e ∷ []) ≡ section_after (kind_of seen e) (section_behind seen) e = section_more seen e ∙ sym (section_after-kind (section_behind seen) e) in
     let headers_more = gathered_more (λ before x. header_on (kind_of before x) x) seen e in
-    let known_more = gathered_more (λ before x. name_on (kind_of before x) x) seen e in
     let objectives_more = gathered_more (λ before x. objective_on (kind_of before x) x) seen e in
     let rows_more = gathered_more (λ before x. row_on (kind_of before x) x) seen e in
     let marks_more = marked_more seen e in
@@ -145,27 +143,27 @@ and_true false = refl
 joined_after : (kind : LineKind) (s : Stated) (e : Entry) → joined kind s e (columns_after kind s e) ≡ after_kind kind s e
 unfolding joined section_after columns_after
 joined_after Header s e =
-    let k = nothing_more s.known in let o = nothing_more s.objectives in let r = nothing_more s.rows in let d = nothing_more s.sides in let b = nothing_more s.bounds in
+    let o = nothing_more s.objectives in let r = nothing_more s.rows in let d = nothing_more s.sides in let b = nothing_more s.bounds in
     let p = and_true s.plain in let n : s.count + 0 ≡ s.count = omega arith in cc
 joined_after Row s e =
     let h = nothing_more s.headers in let d = nothing_more s.sides in let b = nothing_more s.bounds in
     let p = and_true s.plain in let n : s.count + 0 ≡ s.count = omega arith in cc
 joined_after Marker s e =
-    let h = nothing_more s.headers in let k = nothing_more s.known in let o = nothing_more s.objectives in let r = nothing_more s.rows in let d = nothing_more s.sides in let b = nothing_more s.bounds in
+    let h = nothing_more s.headers in let o = nothing_more s.objectives in let r = nothing_more s.rows in let d = nothing_more s.sides in let b = nothing_more s.bounds in
     let p = and_true s.plain in let n : s.count + 0 ≡ s.count = omega arith in cc
 joined_after Column s e =
-    let h = nothing_more s.headers in let k = nothing_more s.known in let o = nothing_more s.objectives in let r = nothing_more s.rows in let d = nothing_more s.sides in let b = nothing_more s.bounds in cc
+    let h = nothing_more s.headers in let o = nothing_more s.objectives in let r = nothing_more s.rows in let d = nothing_more s.sides in let b = nothing_more s.bounds in cc
 joined_after RightSide s e =
-    let h = nothing_more s.headers in let k = nothing_more s.known in let o = nothing_more s.objectives in let r = nothing_more s.rows in let b = nothing_more s.bounds in
+    let h = nothing_more s.headers in let o = nothing_more s.objectives in let r = nothing_more s.rows in let b = nothing_more s.bounds in
     let n : s.count + 0 ≡ s.count = omega arith in cc
 joined_after Bound s e =
-    let h = nothing_more s.headers in let k = nothing_more s.known in let o = nothing_more s.objectives in let r = nothing_more s.rows in let d = nothing_more s.sides in
+    let h = nothing_more s.headers in let o = nothing_more s.objectives in let r = nothing_more s.rows in let d = nothing_more s.sides in
     let n : s.count + 0 ≡ s.count = omega arith in cc
 joined_after Stray s e =
-    let h = nothing_more s.headers in let k = nothing_more s.known in let o = nothing_more s.objectives in let r = nothing_more s.rows in let d = nothing_more s.sides in let b = nothing_more s.bounds in
+    let h = nothing_more s.headers in let o = nothing_more s.objectives in let r = nothing_more s.rows in let d = nothing_more s.sides in let b = nothing_more s.bounds in
     let p = and_true s.plain in
     let n : s.count + 0 ≡ s.count = omega arith in
-    let same : joined Stray s e s.columns ≡ record { section = s.section; headers = s.headers; known = s.known; objectives = s.objectives; rows = s.rows; columns = s.columns; marked = s.marked; count = s.count; sides = s.sides; bounds = s.bounds; plain = s.plain } = cc in
+    let same : joined Stray s e s.columns ≡ record { section = s.section; headers = s.headers; objectives = s.objectives; rows = s.rows; columns = s.columns; marked = s.marked; count = s.count; sides = s.sides; bounds = s.bounds; plain = s.plain } = cc in
     same
 
 -- ---- columns

@@ -14,7 +14,6 @@ abbrev pub parts_shown : Parts → Stated
 parts_shown p = record {
   section = None;
   headers = [];
-  known = [];
   objectives = p.objectives.now;
   rows = p.rows.now;
   columns = p.columns.now;

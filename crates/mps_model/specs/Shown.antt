@@ -4,7 +4,7 @@ use Rattle.std.specs.List.{list_all}
 use Rattle.mps_text.specs.Text.{Entry, Flaw}
 use Rattle.mps_model.specs.Words.{is_key, word, section_of, kind_in}
 use Rattle.mps_model.specs.Numbers.{is_plain}
-use Rattle.mps_model.specs.Statements.{Pair, read_pair, Stated, column_pairs, rhs_pairs, name_on, objective_on, row_on, coefficients_in, bound_on, numbers_on}
+use Rattle.mps_model.specs.Statements.{Pair, read_pair, Stated, column_pairs, rhs_pairs, objective_on, row_on, coefficients_in, bound_on, numbers_on}
 use Rattle.mps_model.specs.declared.statements.RowNumber.{RowNumber}
 use Rattle.mps_model.specs.declared.statements.ColumnLines.{ColumnLines}
 use Rattle.mps_model.specs.Faults.{is_last}
@@ -14,6 +14,7 @@ use Rattle.mps_model.specs.declared.pairs.Pair.{Pair as PairOfFields}
 use Rattle.mps_model.specs.declared.pairs.Pairs.{Pairs}
 use Rattle.mps_model.specs.declared.pairs.Pairs.TheVariants.{Nothing, One, Two}
 use Rattle.mps_model.specs.declared.spans.LineCode.{LineCode}
+use Rattle.mps_model.specs.declared.columns.OpenColumn.{OpenColumn}
 use Rattle.mps_model.specs.declared.columns.Columns.{Columns}
 use Rattle.mps_model.specs.declared.tables.Tables.{Tables}
 
@@ -29,8 +30,12 @@ abbrev pub flaw_shown : Option LineCode → Option Flaw
 flaw_shown None = None
 flaw_shown (Some f) = Some (record { line = f.line; code = f.code })
 
+-- a column that may still get lines
+abbrev pub open_shown : OpenColumn → ColumnLines
+open_shown c = record { name = c.name; line = c.line; marked = c.marked; numbers = c.numbers.numbers }
+
 abbrev pub columns_in : Columns → List ColumnLines
-columns_in c = c.done ++ option_to_list c.last
+columns_in c = c.done ++ map open_shown (option_to_list c.last)
 
 -- ---- all that the tables hold
 
@@ -38,13 +43,12 @@ unfoldable pub held : Tables → Stated
 held t = record {
   section = t.section;
   headers = t.headers;
-  known = t.known;
-  objectives = t.objectives;
-  rows = t.rows;
+  objectives = t.rows.objectives;
+  rows = t.rows.sided;
   columns = columns_in t.columns;
   marked = t.marked;
   count = t.count;
-  sides = t.sides;
+  sides = t.sides.numbers;
   bounds = t.bounds;
   plain = t.plain;
 }
@@ -64,7 +68,7 @@ with_line found name line marked more =
 
 abbrev pub after_kind : LineKind → Stated → Entry → Stated
 after_kind Header s e = record s { section = section_of (word 0 e); headers = s.headers ++ option_to_list (section_of (word 0 e)) }
-after_kind Row s e = record s { known = s.known ++ name_on Row e; objectives = s.objectives ++ objective_on Row e; rows = s.rows ++ row_on Row e }
+after_kind Row s e = record s { objectives = s.objectives ++ objective_on Row e; rows = s.rows ++ row_on Row e }
 after_kind Marker s e = record s { marked = is_key (codes "'INTORG'") (word 2 e) }
 after_kind Column s e = record s {
   columns = with_line s.columns (word 0 e) e.line s.marked (map read_pair (column_pairs e));

@@ -1,20 +1,29 @@
 // The columns that a text states.
-ghost use Rattle.std.specs.Prelude.{◌≡◌, ◌++◌, ◌∷◌, [], false, OnOk, IfOk, map, length, is_some, bytes_eq};
+ghost use Rattle.std.specs.Prelude.{◌≡◌, ◌++◌, ◌∷◌, [], false, IfOk, map, length, is_some, bytes_eq};
 ghost use Rattle.mps_model.specs.Statements.{is_column, read_pair};
 ghost use Rattle.mps_model.specs.Faults.{is_last, numbers_of_last, has_again};
 
-use crate::names::{copied, has_again, push_pairs};
+use crate::names::copied;
+use crate::numbered::Numbered;
 use crate::pairs::Pairs;
 use crate::statements::ColumnLines;
-use lp_model::List;
+use lp_model::{List, Name};
 use std::alloc::{AllocError, Global};
-use std::mem;
+
+/// A column that may still get lines.
+#[derive(Drop)]
+pub(crate) struct OpenColumn {
+    name: Name,
+    line: u64,
+    marked: bool,
+    numbers: Numbered,
+}
 
 /// The columns in order. The last one may still get lines.
 #[derive(Drop)]
 pub(crate) struct Columns {
     done: List<ColumnLines>,
-    last: Option<ColumnLines>,
+    last: Option<OpenColumn>,
     ghost started: { is_some last ≡ false → length done ≡ 0 },
 }
 
@@ -30,8 +39,75 @@ fn has_name(columns: &[ColumnLines], name: &[u8]) -> bool
     columns.iter().any(|column| is_named(column, name))
 }
 
+impl OpenColumn {
+    ghost use Rattle.mps_model.specs.Shown.{open_shown, pairs_shown};
+
+    /// A column with its first line.
+    fn new(
+        alloc: Global,
+        name: &[u8],
+        line: u64,
+        marked: bool,
+        pairs: &Pairs,
+    ) -> Result<OpenColumn, AllocError>
+        ensures { IfOk result (λ c. open_shown c ≡ record { name = name.now; line = line; marked = marked; numbers = map read_pair (pairs_shown pairs.now) }) }
+    {
+        let name = copied(alloc, name)?;
+        let numbers = Numbered::new(alloc).with(alloc, pairs)?;
+        Ok(OpenColumn {
+            name,
+            line,
+            marked,
+            numbers,
+        })
+    }
+
+    fn is_named(&self, name: &[u8]) -> bool
+        ensures { result ≡ bytes_eq self.now.name name.now }
+    {
+        self.name.as_slice() == name
+    }
+
+    /// The column with one more line.
+    fn with(self, alloc: Global, pairs: &Pairs) -> Result<OpenColumn, AllocError>
+        ensures { IfOk result (λ c. open_shown c ≡ record { name = self.name; line = self.line; marked = self.marked; numbers = self.numbers.numbers ++ map read_pair (pairs_shown pairs.now) }) }
+    {
+        let OpenColumn {
+            name,
+            line,
+            marked,
+            numbers,
+        } = self;
+        let numbers = numbers.with(alloc, pairs)?;
+        Ok(OpenColumn {
+            name,
+            line,
+            marked,
+            numbers,
+        })
+    }
+
+    /// The column without further lines.
+    fn closed(self) -> ColumnLines
+        ensures { result ≡ open_shown self }
+    {
+        let OpenColumn {
+            name,
+            line,
+            marked,
+            numbers,
+        } = self;
+        ColumnLines {
+            name,
+            line,
+            marked,
+            numbers: numbers.into_list(),
+        }
+    }
+}
+
 impl Columns {
-    ghost use Rattle.mps_model.specs.Shown.{columns_in, pairs_shown, with_line, with_more};
+    ghost use Rattle.mps_model.specs.Shown.{columns_in, pairs_shown, with_line, with_more, open_shown};
 
     /// No columns.
     pub(crate) fn new(alloc: Global) -> Columns
@@ -48,7 +124,7 @@ impl Columns {
         ensures { result ≡ is_last (columns_in self.now) name.now }
     {
         match &self.last {
-            Some(column) => is_named(column, name),
+            Some(column) => column.is_named(name),
             None => false,
         }
     }
@@ -58,7 +134,7 @@ impl Columns {
         ensures { result ≡ is_column (columns_in self.now) name.now }
     {
         match &self.last {
-            Some(column) => has_name(self.done.as_slice(), name) || is_named(column, name),
+            Some(column) => has_name(self.done.as_slice(), name) || column.is_named(name),
             None => false,
         }
     }
@@ -78,62 +154,52 @@ impl Columns {
         ensures { result ≡ has_again (numbers_of_last (columns_in self.now)) (pairs_shown pairs.now) }
     {
         match &self.last {
-            Some(column) => has_again(column.numbers.as_slice(), pairs),
+            Some(column) => column.numbers.has_again(pairs),
             None => false,
         }
     }
 
-    /// One more line of the last column.
-    fn add_line(&mut self, alloc: Global, pairs: &Pairs) -> Result<(), AllocError>
-        ensures { OnOk result (columns_in self.new ≡ with_more (columns_in self.old) (map read_pair (pairs_shown pairs.now))) }
+    /// The columns with one more line of the last one.
+    fn with_last(self, alloc: Global, pairs: &Pairs) -> Result<Columns, AllocError>
+        ensures { IfOk result (λ more. columns_in more ≡ with_more (columns_in self) (map read_pair (pairs_shown pairs.now))) }
     {
-        match &mut self.last {
-            Some(column) => push_pairs(alloc, &mut column.numbers, pairs),
-            None => Ok(()),
+        let Columns { done, last } = self;
+        match last {
+            Some(column) => {
+                let last = Some(column.with(alloc, pairs)?);
+                Ok(Columns { done, last })
+            }
+            None => Ok(Columns { done, last: None }),
         }
     }
 
-    /// One more column, with its first line.
-    fn add_column(
-        &mut self,
+    /// The columns with a further one.
+    fn with_column(self, column: OpenColumn) -> Result<Columns, AllocError>
+        ensures { IfOk result (λ more. columns_in more ≡ columns_in self ++ open_shown column ∷ []) }
+    {
+        let done = self.into_list()?;
+        Ok(Columns {
+            done,
+            last: Some(column),
+        })
+    }
+
+    /// The columns with one more line: of the last one, or of a further one.
+    pub(crate) fn with(
+        self,
         alloc: Global,
         name: &[u8],
         line: u64,
         marked: bool,
         pairs: &Pairs,
-    ) -> Result<(), AllocError>
-        ensures { OnOk result (columns_in self.new ≡ columns_in self.old ++ record { name = name.now; line = line; marked = marked; numbers = map read_pair (pairs_shown pairs.now) } ∷ []) }
-    {
-        let name = copied(alloc, name)?;
-        let mut numbers = List::new(alloc);
-        push_pairs(alloc, &mut numbers, pairs)?;
-        let column = ColumnLines {
-            name,
-            line,
-            marked,
-            numbers,
-        };
-        match mem::replace(&mut self.last, Some(column)) {
-            Some(before) => self.done.push(before),
-            None => Ok(()),
-        }
-    }
-
-    /// One more line: of the last column, or of a new one.
-    pub(crate) fn add(
-        &mut self,
-        alloc: Global,
-        name: &[u8],
-        line: u64,
-        marked: bool,
-        pairs: &Pairs,
-    ) -> Result<(), AllocError>
-        ensures { OnOk result (columns_in self.new ≡ with_line (columns_in self.old) name.now line marked (map read_pair (pairs_shown pairs.now))) }
+    ) -> Result<Columns, AllocError>
+        ensures { IfOk result (λ more. columns_in more ≡ with_line (columns_in self) name.now line marked (map read_pair (pairs_shown pairs.now))) }
     {
         if self.is_last(name) {
-            self.add_line(alloc, pairs)
+            self.with_last(alloc, pairs)
         } else {
-            self.add_column(alloc, name, line, marked, pairs)
+            let column = OpenColumn::new(alloc, name, line, marked, pairs)?;
+            self.with_column(column)
         }
     }
 
@@ -144,7 +210,7 @@ impl Columns {
         let Columns { done, last } = self;
         let mut all = done;
         match last {
-            Some(column) => all.push(column)?,
+            Some(column) => all.push(column.closed())?,
             None => {}
         }
         Ok(all)

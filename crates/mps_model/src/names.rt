@@ -1,8 +1,7 @@
 // Names, and the numbers beside them.
-ghost use Rattle.std.specs.Prelude.{◌≡◌, ◌++◌, ◌∷◌, [], OnOk, IfOk, map, length};
+ghost use Rattle.std.specs.Prelude.{◌≡◌, IfOk, map, length};
 ghost use Rattle.mps_model.specs.Words.{among};
-ghost use Rattle.mps_model.specs.Statements.{read_pair, is_row, is_numbered, is_coefficient, coefficients_in};
-ghost use Rattle.mps_model.specs.Faults.{has_again, has_unknown};
+ghost use Rattle.mps_model.specs.Statements.{read_pair, is_row, is_coefficient, coefficients_in};
 ghost use Rattle.mps_model.specs.Meaning.{number_beside};
 ghost use Rattle.mps_model.specs.Shown.{pair_shown, pairs_shown};
 
@@ -28,40 +27,11 @@ pub(crate) fn contains(names: &[Name], name: &[u8]) -> bool
     names.iter().any(|other| other.as_slice() == name)
 }
 
-/// Whether a row of the pairs isn't among the names.
-pub(crate) fn has_unknown(known: &[Name], pairs: &Pairs) -> bool
-    ensures { result ≡ has_unknown known.now (pairs_shown pairs.now) }
-{
-    match pairs {
-        Pairs::Nothing => false,
-        Pairs::One(p) => !contains(known, p.row),
-        Pairs::Two(p, q) => !contains(known, p.row) || !contains(known, q.row),
-    }
-}
-
 /// Whether a row has the name.
 pub(crate) fn is_row(rows: &[RowLine], name: &[u8]) -> bool
     ensures { result ≡ is_row rows.now name.now }
 {
     rows.iter().any(|row| row.name.as_slice() == name)
-}
-
-/// Whether a number stands beside the row.
-fn has_row(numbers: &[RowNumber], row: &[u8]) -> bool
-    ensures { result ≡ is_numbered numbers.now row.now }
-{
-    numbers.iter().any(|item| item.row.as_slice() == row)
-}
-
-/// Whether a number stands beside a row of the pairs.
-pub(crate) fn has_again(numbers: &[RowNumber], pairs: &Pairs) -> bool
-    ensures { result ≡ has_again numbers.now (pairs_shown pairs.now) }
-{
-    match pairs {
-        Pairs::Nothing => false,
-        Pairs::One(p) => has_row(numbers, p.row),
-        Pairs::Two(p, q) => has_row(numbers, p.row) || has_row(numbers, q.row),
-    }
 }
 
 /// The first number beside the row, 0 where there is none.
@@ -74,32 +44,6 @@ pub(crate) fn number_beside(numbers: &[RowNumber], row: &[u8]) -> Frac
         }
     }
     Frac::whole(0)
-}
-
-fn push_pair(alloc: Global, numbers: &mut List<RowNumber>, pair: &Pair) -> Result<(), AllocError>
-    ensures { OnOk result (numbers.new ≡ numbers.old ++ read_pair (pair_shown pair.now) ∷ []) }
-{
-    let row = copied(alloc, pair.row)?;
-    let number = number_or_zero(pair.number);
-    numbers.push(RowNumber { row, number })
-}
-
-/// The pairs of one more line at the end of the numbers.
-pub(crate) fn push_pairs(
-    alloc: Global,
-    numbers: &mut List<RowNumber>,
-    pairs: &Pairs,
-) -> Result<(), AllocError>
-    ensures { OnOk result (numbers.new ≡ numbers.old ++ map read_pair (pairs_shown pairs.now)) }
-{
-    match pairs {
-        Pairs::Nothing => Ok(()),
-        Pairs::One(p) => push_pair(alloc, numbers, p),
-        Pairs::Two(p, q) => {
-            push_pair(alloc, numbers, p)?;
-            push_pair(alloc, numbers, q)
-        }
-    }
 }
 
 fn is_coefficient(rows: &[RowLine], pair: &Pair) -> bool

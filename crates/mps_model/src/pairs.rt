@@ -1,13 +1,15 @@
 // The pairs of a row's name and a number on a line.
-ghost use Rattle.std.specs.Prelude.{◌≡◌, ◌≤◌, length, map};
-ghost use Rattle.std.specs.List.{list_all};
+ghost use Rattle.std.specs.Prelude.{◌≡◌, ◌≤◌, ◌||◌, not, length, map};
+ghost use Rattle.std.specs.List.{list_all, list_any};
 ghost use Rattle.mps_text.specs.Reading.{entry_of};
+ghost use Rattle.mps_model.specs.Words.{among};
 ghost use Rattle.mps_model.specs.Numbers.{is_plain};
-ghost use Rattle.mps_model.specs.Statements.{column_pairs, rhs_pairs};
+ghost use Rattle.mps_model.specs.Statements.{column_pairs, rhs_pairs, is_row};
 ghost use Rattle.mps_model.specs.Faults.{has_twice, has_long, has_not_number, has_too_wide, is_long, has_count};
 ghost use Rattle.mps_model.specs.Shown.{pairs_shown};
 
 use crate::numbers::{is_not_number, is_plain, is_too_wide};
+use crate::rows::Rows;
 use mps_text::{Fields, Record};
 
 /// A row's name and the field that stands beside it.
@@ -99,6 +101,17 @@ impl<'a> Pairs<'a> {
             Pairs::Nothing => false,
             Pairs::One(p) => is_long(p.row),
             Pairs::Two(p, q) => is_long(p.row) || is_long(q.row),
+        }
+    }
+
+    /// Whether a row isn't known.
+    pub(crate) fn has_unknown(&self, rows: &Rows) -> bool
+        ensures { result ≡ list_any (λ p. not (is_row rows.now.sided p.row || among rows.now.objectives p.row)) (pairs_shown self.now) }
+    {
+        match self {
+            Pairs::Nothing => false,
+            Pairs::One(p) => !rows.contains(p.row),
+            Pairs::Two(p, q) => !rows.contains(p.row) || !rows.contains(q.row),
         }
     }
 

@@ -44,10 +44,10 @@ pub fn read(alloc: Global, text: &[u8], intupper: Option<u64>) -> Result<Model, 
         });
     }
     let parts = Parts {
-        objectives: tables.objectives.as_slice(),
-        rows: tables.rows.as_slice(),
+        objectives: tables.rows.objectives.as_slice(),
+        rows: tables.rows.sided.as_slice(),
         columns: columns.as_slice(),
-        sides: tables.sides.as_slice(),
+        sides: tables.sides.numbers.as_slice(),
         bounds: tables.bounds.as_slice(),
         intupper,
     };
@@ -72,7 +72,7 @@ pub fn is_first_form(alloc: Global, text: &[u8]) -> Result<bool, AllocError>
     match flaw {
         Some(_) => Ok(false),
         None => Ok(has_first_form(
-            tables.objectives.as_slice(),
+            tables.rows.objectives.as_slice(),
             tables.plain,
             tables.bounds.as_slice(),
             columns.as_slice(),

@@ -8,28 +8,29 @@ ghost use Rattle.mps_model.specs.Statements.{Stated, stated, coefficients_in, re
 ghost use Rattle.mps_model.specs.Faults.{least, tests_of, section_tests, row_tests, marker_tests, column_tests, rhs_tests, bound_tests, place_tests, pair_tests, has_unknown, has_not_number, has_too_wide, is_late, lacks_section, code_in, has_count as has_fields};
 
 use crate::columns::Columns;
-use crate::names::{contains, copied, count_coefficients, has_again, has_unknown, push_pairs};
+use crate::names::{copied, count_coefficients};
+use crate::numbered::Numbered;
 use crate::numbers::{is_misplaced, is_no_limit, is_plain, is_wide_limit, limit_or_plus};
 use crate::pairs::{Pairs, column_pairs, has_count, is_long, rhs_pairs};
-use crate::statements::{BoundLine, RowLine, RowNumber};
+use crate::rows::Rows;
+use crate::statements::BoundLine;
 use crate::words::{BoundKind, LineKind, RowKind, Section, first_word, is_key, kind_in};
-use lp_model::{List, Name};
+use lp_model::List;
 use mps_text::{Fields, Record};
 use std::alloc::{AllocError, Global};
+use std::mem;
 
 /// What the lines before a line have stated.
 #[derive(Drop)]
 pub(crate) struct Tables {
     pub section: Option<Section>,
     pub headers: List<Section>,
-    pub known: List<Name>,
-    pub objectives: List<Name>,
-    pub rows: List<RowLine>,
+    pub rows: Rows,
     pub columns: Columns,
     pub marked: bool,
     /// How many non-zero numbers stand beside rows with sides.
     pub count: u64,
-    pub sides: List<RowNumber>,
+    pub sides: Numbered,
     pub bounds: List<BoundLine>,
     /// Whether each number is an optional sign and 1 to 9 digits.
     pub plain: bool,
@@ -108,13 +109,11 @@ impl Tables {
         Tables {
             section: None,
             headers: List::new(alloc),
-            known: List::new(alloc),
-            objectives: List::new(alloc),
-            rows: List::new(alloc),
+            rows: Rows::new(alloc),
             columns: Columns::new(alloc),
             marked: false,
             count: 0,
-            sides: List::new(alloc),
+            sides: Numbered::new(alloc),
             bounds: List::new(alloc),
             plain: true,
         }
@@ -148,9 +147,9 @@ impl Tables {
         let Some(kind) = RowKind::of(kind) else {
             return Some(8);
         };
-        if contains(self.known.as_slice(), name) {
+        if self.rows.contains(name) {
             Some(9)
-        } else if !matches!(kind, RowKind::Free) && self.rows.as_slice().len() >= 500 {
+        } else if !matches!(kind, RowKind::Free) && self.rows.sided.as_slice().len() >= 500 {
             Some(10)
         } else {
             None
@@ -173,7 +172,7 @@ impl Tables {
     fn fault_of_pairs(&self, pairs: &Pairs) -> Option<u8>
         ensures { result ≡ least (pair_tests (held self.now) (pairs_shown pairs.now)) }
     {
-        if has_unknown(self.known.as_slice(), pairs) {
+        if pairs.has_unknown(&self.rows) {
             Some(11)
         } else if pairs.has_not_number() {
             Some(12)
@@ -199,7 +198,7 @@ impl Tables {
         if !stands && self.columns.len() >= 1000 {
             return Some(16);
         }
-        if self.count + count_coefficients(self.rows.as_slice(), pairs) > 50000 {
+        if self.count + count_coefficients(self.rows.sided.as_slice(), pairs) > 50000 {
             return Some(17);
         }
         None
@@ -237,7 +236,7 @@ impl Tables {
         if fault.is_some() {
             return fault;
         }
-        if pairs.has_twice() || has_again(self.sides.as_slice(), &pairs) {
+        if pairs.has_twice() || self.sides.has_again(&pairs) {
             return Some(22);
         }
         None
@@ -313,13 +312,12 @@ impl Tables {
         let Fields::Two(kind, name) = entry.fields else {
             return Ok(());
         };
-        self.known.push(copied(alloc, name)?)?;
-        let name = copied(alloc, name)?;
-        match RowKind::of(kind) {
-            None => Ok(()),
-            Some(RowKind::Free) => self.objectives.push(name),
-            Some(kind) => self.rows.push(RowLine { name, kind }),
-        }
+        let Some(kind) = RowKind::of(kind) else {
+            return Ok(());
+        };
+        let rows = mem::replace(&mut self.rows, Rows::new(alloc));
+        self.rows = rows.with(alloc, kind, name)?;
+        Ok(())
     }
 
     fn note_marker(&mut self, entry: &Record)
@@ -330,14 +328,14 @@ impl Tables {
     }
 
     fn note_column(&mut self, alloc: Global, entry: &Record) -> Result<(), AllocError>
-        requires { self.old.count + length (coefficients_in self.old.rows (map read_pair (pairs_in_column (entry_of entry.now)))) ≤ 50000 }
+        requires { self.old.count + length (coefficients_in self.old.rows.sided (map read_pair (pairs_in_column (entry_of entry.now)))) ≤ 50000 }
         ensures { OnOk result (held self.new ≡ after_kind LineKind.Column (held self.old) (entry_of entry.now)) }
     {
         let name = first_word(entry);
         let pairs = column_pairs(entry);
-        let count = count_coefficients(self.rows.as_slice(), &pairs);
-        self.columns
-            .add(alloc, name, entry.line, self.marked, &pairs)?;
+        let count = count_coefficients(self.rows.sided.as_slice(), &pairs);
+        let columns = mem::replace(&mut self.columns, Columns::new(alloc));
+        self.columns = columns.with(alloc, name, entry.line, self.marked, &pairs)?;
         self.count += count;
         self.plain = self.plain && pairs.are_plain();
         Ok(())
@@ -347,7 +345,8 @@ impl Tables {
         ensures { OnOk result (held self.new ≡ after_kind LineKind.RightSide (held self.old) (entry_of entry.now)) }
     {
         let pairs = rhs_pairs(entry);
-        push_pairs(alloc, &mut self.sides, &pairs)?;
+        let sides = mem::replace(&mut self.sides, Numbered::new(alloc));
+        self.sides = sides.with(alloc, &pairs)?;
         self.plain = self.plain && pairs.are_plain();
         Ok(())
     }

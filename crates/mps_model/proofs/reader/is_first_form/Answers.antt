@@ -33,7 +33,7 @@ returns c =
     let answer =
     c.has_first_form.ensures
     ∙ ap (λ (names : List (List ℕ)). length names == 1 && t.plain && has_unit_bounds c.as_slice-in-None-2.result.now c.as_slice-in-None-3.result.now) c.as_slice-in-None.ensures
-    ∙ ap (λ (bounds : List BoundLine). length t.objectives == 1 && t.plain && has_unit_bounds bounds c.as_slice-in-None-3.result.now) c.as_slice-in-None-2.ensures
-    ∙ ap (λ (found : List ColumnLines). length t.objectives == 1 && t.plain && has_unit_bounds t.bounds found) columns
+    ∙ ap (λ (bounds : List BoundLine). length t.rows.objectives == 1 && t.plain && has_unit_bounds bounds c.as_slice-in-None-3.result.now) c.as_slice-in-None-2.ensures
+    ∙ ap (λ (found : List ColumnLines). length t.rows.objectives == 1 && t.plain && has_unit_bounds t.bounds found) columns
     in
     form_answered c.args.text.now (held t) c.as_slice-2.result.now c.as_slice.result.now c.has_first_form.result c.in-Ok.ensures (c.as_slice-2.ensures ∙ c.in_ok-columns.ensures) c.as_slice.ensures c.in-None.ensures answer
