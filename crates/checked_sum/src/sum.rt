@@ -1,5 +1,5 @@
 // The sum of products, or its first step that has no room.
-ghost use Rattle.std.specs.Prelude.{◌≡◌, ◌↔◌, ◌<◌, ℕ, pos, IsTrue, OkIff};
+ghost use Rattle.std.specs.Prelude.{◌≡◌, ◌≢◌, ◌↔◌, ◌<◌, ℕ, pos, IsTrue, OkIff};
 ghost use Rattle.rational.specs.Rational.{ℚ, int, ◌+ℚ◌, ◌*ℚ◌};
 ghost use Rattle.checked_sum.specs.Steps.{StepFits, IsCheckedSum};
 
@@ -36,20 +36,15 @@ fn is_zero(number: &Frac) -> bool
     *number == Frac::whole(0)
 }
 
-/// The total after one more term, if there is room for the product and the sum.
-fn add_term<T: Terms>(total: &Frac, terms: &T, index: usize) -> Result<Frac, Wide>
-    requires { index < T.count terms.now }
-    ensures { OkIff result (StepFits total.now (T.factor terms.now index) (T.number terms.now index)) (total.now +ℚ T.factor terms.now index *ℚ T.number terms.now index) }
+/// The total and the product of a number that is not 0, if there is room for both. A factor 0 makes no step.
+fn add_product(total: &Frac, factor: &Frac, number: &Frac) -> Result<Frac, Wide>
+    requires { number.now ≢ int (pos 0) }
+    ensures { OkIff result (StepFits total.now factor.now number.now) (total.now +ℚ factor.now *ℚ number.now) }
 {
-    let number = terms.number(index);
-    if is_zero(&number) {
+    if is_zero(factor) {
         return Ok(*total);
     }
-    let factor = terms.factor(index);
-    if is_zero(&factor) {
-        return Ok(*total);
-    }
-    let product = factor.mul(&number)?;
+    let product = factor.mul(number)?;
     total.add(&product)
 }
 
@@ -59,7 +54,11 @@ pub fn checked_sum<T: Terms>(start: &Frac, terms: &T) -> Result<Frac, usize>
 {
     let mut total = *start;
     for index in 0..terms.count() {
-        match add_term(&total, terms, index) {
+        let number = terms.number(index);
+        if is_zero(&number) {
+            continue;
+        }
+        match add_product(&total, &terms.factor(index), &number) {
             Ok(next) => total = next,
             Err(_) => return Err(index),
         }

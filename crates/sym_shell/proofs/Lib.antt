@@ -4,5 +4,9 @@ pub mod TextLemmas
 pub mod SimpleLemmas
 pub mod ReplyLemmas
 pub mod StepLemmas
+pub mod CaseLemmas
+pub mod CauseLemmas
 pub mod RunLemmas
 pub mod ReadingLemmas
+pub mod ShownWords
+pub mod ShownBack

@@ -1,11 +1,11 @@
 -- Which words are whole numbers of 64 bits.
-use Rattle.std.proofs.Common.{◌≡◌, ◌≢◌, ℕ, ◌<◌, ◌^◌, List, sym, subst, ap, ◌∙◌, Result, Ok, Err}
+use Rattle.std.proofs.Common.{◌≡◌, ◌≢◌, ℕ, List, sym, subst, ap, ◌∙◌, Result, Ok}
 use Rattle.std.specs.Prelude.{decimal}
-use Rattle.std.specs.Str.{IsUtf8, IsAscii}
+use Rattle.std.specs.Str.{IsUtf8}
 use Rattle.std.specs.Str.Parse.{ParsesUnsigned}
 use Rattle.std.proofs.lemmas.Fmt.{parse-decimal, IsAscii-decimal}
 use Rattle.std.proofs.lemmas.Str.{IsUtf8-from_ascii}
-use Rattle.sym_shell.specs.Names.{IsCount, IsNoCount}
+use Rattle.sym_shell.specs.Names.{IsNoCount}
 
 pub not_text : (word : List ℕ) → ¬ IsUtf8 word → IsNoCount word
 not_text word h n is = h (subst IsUtf8 (sym is.digits) (IsUtf8-from_ascii (decimal n) (IsAscii-decimal n is.room)))

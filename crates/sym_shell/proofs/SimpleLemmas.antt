@@ -1,28 +1,31 @@
 -- A model of zeros and ones has no sum without room at a point of its box.
-use Rattle.std.proofs.Common.{◌≡◌, ◌⊎◌, ℕ, zero, suc, ◌+◌, ◌-◌, ◌*◌, ◌^◌, ◌<◌, ◌≤◌, Bool, true, false, List, [], ◌∷◌, length, get_or, refl, sym, subst, ap, ◌∙◌, arith, inl, inr, Option, Some, None, ℤ, pos, negsuc, ◌≤ℤ◌, ◌&&◌, IsTrue, if◌then◌else◌, Ok, Err}
+use Rattle.std.proofs.Common.{◌≡◌, ℕ, zero, suc, ◌+◌, ◌-◌, ◌*◌, ◌^◌, ◌<◌, ◌≤◌, Bool, true, false, List, [], ◌∷◌, length, get_or, refl, sym, subst, ap, ◌∙◌, arith, inl, inr, Option, Some, None, ℤ, pos, ◌≤ℤ◌, ◌&&◌, IsTrue, if◌then◌else◌}
 use Rattle.std.specs.Prelude.{nat_eq, nat_le, unsigned_abs, IsSome}
 use Rattle.std.specs.Ordering.{int_eq}
-use Rattle.std.specs.List.{list_all}
+use Rattle.std.specs.List.{list_all, All}
+use Rattle.std.proofs.lemmas.List.Elements.{All-nil, All-cons}
+use Rattle.std.proofs.Math.Nat.{mul-le-mul_right}
 use Rattle.std.proofs.lemmas.Int.{ints}
 use Rattle.std.proofs.lemmas.List.{get_or_past}
 use Rattle.std.proofs.lemmas.Bool.Decides.{nat_tests}
-use Rattle.rational.specs.Rational.{ℚ, int, ◌≤ℚ◌, IsWhole, den, floor, ceil}
+use Rattle.rational.specs.Rational.{ℚ, int, ◌≤ℚ◌, IsWhole, floor, ceil}
 use Rattle.rational.proofs.Integers.{int-≤ℚ-int}
 use Rattle.checked_sum.specs.Small.{IsWholeWithin}
-use Rattle.checked_sum.proofs.SmallSums.{whole_is}
+use Rattle.checked_sum.proofs.SmallSums.{whole_is, small_fits, small_partial}
 use Rattle.lp_model.specs.Elements.{of_element}
-use Rattle.lp_model.specs.Program.{Program, Point, IsAllowed, constant, cost, coefficient, coordinate, entry_of, IsFeasible}
-use Rattle.lp_model.specs.Answers.{IsFeasibilityAnswer, IsValueAnswer}
+use Rattle.lp_model.specs.Program.{Program, Point, value, constant, cost, coordinate, entry_of, IsFeasible}
 use Rattle.lp_model.specs.Lawful.{IsLawful}
 use Rattle.lp_model.specs.Small.{IsSmallModel, IsSmallPoint}
 use Rattle.lp_model.specs.declared.types.Col.{Col}
 use Rattle.lp_model.specs.declared.types.RowId.{RowId}
 use Rattle.lp_model.specs.declared.types.WideStep.{WideStep}
-use Rattle.lp_model.proofs.SmallModels.{small_value_answered, small_feasibility_answered}
-use Rattle.box_search.specs.Boxes.{Intervals, IsIn, InBox}
+use Rattle.lp_model.proofs.SmallModels.{small_value_answered, small_feasibility_answered, col_limit-le}
+use Rattle.box_search.specs.Boxes.{IsIn, InBox}
 use Rattle.box_search.specs.Root.{interval_of, root_of, count, factor, whole_points_of, cap_of}
+use Rattle.frac128.specs.Range.{Fits, largest}
+use Rattle.box_search.proofs.IntegralLemmas.{feasible-in_root}
 use Rattle.box_search.specs.Integral.{AreIntegral, IsIntegral}
-use Rattle.box_search.specs.Search.{HasWidePoint, IsWideAt, results_of}
+use Rattle.box_search.specs.Search.{HasWidePoint, results_of}
 use Rattle.mps_model.specs.Simple.{is_small, is_bound, is_simple_column, is_simple}
 
 both_left : (a b : Bool) → a && b ≡ true → a ≡ true
@@ -134,6 +137,13 @@ box_small (c ∷ cs) (v ∷ vs) zero h m =
     zero_one v (subst (λ l. IsIn (interval_of l (Some (int (pos 1)))) v) (bound_is (pos 0) c.lo (column_lower c own)) (subst (λ u. IsIn (interval_of c.lo u) v) (bound_is (pos 1) c.up (column_upper c own)) m.0))
 box_small (c ∷ cs) (v ∷ vs) (suc j) h m = box_small cs vs j (both_right (is_simple_column c) _ h) m.1
 
+all_fit : (cs : List Col) (x : Point) → list_all is_simple_column cs ≡ true → InBox (root_of cs) x → All Fits x
+all_fit [] [] h m = All-nil Fits
+all_fit [] (v ∷ vs) h m = absurd m
+all_fit (c ∷ cs) [] h m = absurd m
+all_fit (c ∷ cs) (v ∷ vs) h m =
+    All-cons Fits v vs (small_fits 1 v (box_small (c ∷ cs) (v ∷ vs) 0 h m) (omega arith)) (all_fit cs vs (both_right (is_simple_column c) _ h) m.1)
+
 -- ---- models
 
 constant_small : (M : Program) (w : ℕ) → IsLawful M → is_small (constant M 1) ≡ true → is_small (constant M 2) ≡ true → IsWholeWithin (10 ^ 9) (constant M w)
@@ -168,6 +178,21 @@ module _ (M : Program) (lawful : IsLawful M) (simple : is_simple M ≡ true) whe
         | inl h ↦ small_feasibility_answered M wide.point lawful simple_small point step h
         | inr h ↦ small_value_answered M wide.point lawful simple_small point 1 step h.1
       ]
+
+  -- a feasible point's numbers and its value have room in a fraction
+  pub simple_point_fits : (x : Point) → IsFeasible M x → All Fits x
+  simple_point_fits x feasible = all_fit M.cols x simple_columns (feasible-in_root M x simple_integral feasible)
+
+  pub simple_value_fits : (x : Point) → IsFeasible M x → Fits (value M 1 x)
+  simple_value_fits x feasible =
+      let within = feasible-in_root M x simple_integral feasible in
+      let few = lawful.limits.few_columns in
+      let limit = col_limit-le M.wide in
+      let at_most : length M.cols ≤ 1001 = omega arith in
+      let product : length M.cols * (10 ^ 9 * 1) ≤ 1001 * (10 ^ 9 * 1) = mul-le-mul_right (10 ^ 9 * 1) at_most in
+      let room : 10 ^ 9 + length M.cols * (10 ^ 9 * 1) ≤ largest = omega arith in
+      let total = small_partial (10 ^ 9) (10 ^ 9) 1 (constant M 1) (λ j. cost M 1 j) (λ j. coordinate x j) (simple_small.constants 1) (length M.cols) (λ j below. simple_small.costs 1 j) (λ j below. box_small M.cols x j simple_columns within) in
+      small_fits (10 ^ 9 + length M.cols * (10 ^ 9 * 1)) (value M 1 x) total room
 
 two_numbers : count (interval_of (Some (int (pos 0))) (Some (int (pos 1)))) ≡ 2
 unfolding int floor ceil

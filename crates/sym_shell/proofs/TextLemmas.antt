@@ -1,5 +1,5 @@
 -- Texts written piece by piece.
-use Rattle.std.proofs.Common.{◌≡◌, ◌≢◌, ℕ, suc, ◌+◌, ◌<◌, Bool, true, false, List, [], ◌∷◌, ◌++◌, length, take, get_or, refl, sym, subst, ap, ◌∙◌, arith, append_assoc, if◌then◌else◌, pos, ℤ}
+use Rattle.std.proofs.Common.{◌≡◌, ℕ, ◌+◌, ◌<◌, Bool, true, false, List, [], ◌∷◌, ◌++◌, length, take, get_or, refl, sym, ap, ◌∙◌, arith, append_assoc, if◌then◌else◌, pos}
 use Rattle.std.specs.Prelude.{codes, nat_eq, unsigned_abs}
 use Rattle.std.proofs.lemmas.List.{take_more}
 use Rattle.std.proofs.Common.{length-take}

@@ -8,5 +8,8 @@ pub mod Solve
 pub mod Step
 pub mod Present
 pub mod Reports
+pub mod Cases
+pub mod Causes
 pub mod Shell
 pub mod Run
+pub mod Shown

@@ -2,16 +2,18 @@
 use Rattle.std.specs.Prelude.{◌≡◌, ◌⊎◌, ℕ, ◌<◌, ◌≤◌, List, [], ◌∷◌, codes, Option, Some, None, MatchBool}
 use Rattle.std.specs.Str.{bytes_eq}
 use Rattle.sym_shell.specs.Names.{IsCount, IsNoCount}
-use Rattle.lp_model.specs.Program.{Program, Point, IsOptimum, IsEmpty}
+use Rattle.lp_model.specs.Program.{Program, IsOptimum, IsEmpty, value}
 use Rattle.box_search.specs.Root.{cap_of}
+use Rattle.sym_shell.specs.Shown.{point_shown, value_shown}
 use Rattle.sym_shell.specs.State.{State}
 use Rattle.sym_shell.specs.Texts.{no_model_text, arguments_text, optimal_text, infeasible_text, memory_text}
 
--- the reply shows an optimum of the model
+-- The point that the reply shows is an optimum of the model, and the value that it shows is the point's. Both are read
+-- from the reply's bytes alone, and the reply is nothing but them.
 pub record ShowsOptimum (M : Program) (reply : List ℕ) : Type 0 where
-  pub point : Point
-  pub optimum : IsOptimum M point
-  pub shown : reply ≡ optimal_text M point (cap_of M)
+  pub optimum : IsOptimum M (point_shown M reply)
+  pub worth : value_shown reply ≡ Some (value M 1 (point_shown M reply))
+  pub shown : reply ≡ optimal_text M (point_shown M reply) (cap_of M)
 
 -- the reply says truly that no point is feasible
 pub record ShowsEmptiness (M : Program) (reply : List ℕ) : Type 0 where

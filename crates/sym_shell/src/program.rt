@@ -9,7 +9,7 @@ ghost use Rattle.script_session.specs.Reply.{status_of};
 ghost use Rattle.script_session.specs.Script.{script_commands, whole_commands, allowed_commands, IsWithinLimit, IsOverlong};
 ghost use Rattle.script_session.specs.Run.{Answers, IsCutOff, IsCutShort, IsTaken, ReadsNoFurther};
 ghost use Rattle.sym_shell.specs.Shell.{never};
-ghost use Rattle.sym_shell.specs.Step.{Step};
+ghost use Rattle.sym_shell.specs.Causes.{IsAnswered};
 ghost use Rattle.sym_shell.specs.Run.{IsRunForm, usage, start, end_with};
 
 use crate::shell::Shell;
@@ -40,20 +40,20 @@ fn run_commands<R: Source, W: Sink, S: Store>(
 ) -> u8
     ensures known { (result < 2) ⊎ ((2 < result) × (result < 7)) }
     ensures transcript { result < 2 → IfSome (R.left script.old) (λ input. (model : Option Program) × (replies : List (List ℕ))
-        × Answers Step (script_commands never input) (start (S.files store.old) (S.faults store.old) (W.written out.old)) (end_with model (S.files store.new) (S.faults store.new) (W.written out.new)) replies
+        × Answers IsAnswered (script_commands never input) (start (S.files store.old) (S.faults store.old) (W.written out.old)) (end_with model (S.files store.new) (S.faults store.new) (W.written out.new)) replies
         × (result ≡ status_of replies)) }
     ensures within { result < 2 → IfSome (R.left script.old) (IsWithinLimit never) }
     ensures source_failed { result ≡ 3 → Rose (R.faults script.old) (R.faults script.new) }
     ensures until_source_failed { result ≡ 3 → (model : Option Program) × (taken : List ℕ) × IsTaken never (R.left script.old) (R.left script.new) taken × (replies : List (List ℕ))
-        × Answers Step (whole_commands never taken) (start (S.files store.old) (S.faults store.old) (W.written out.old)) (end_with model (S.files store.new) (S.faults store.new) (W.written out.new)) replies }
+        × Answers IsAnswered (whole_commands never taken) (start (S.files store.old) (S.faults store.old) (W.written out.old)) (end_with model (S.files store.new) (S.faults store.new) (W.written out.new)) replies }
     ensures sink_failed { result ≡ 4 → Rose (W.faults out.old) (W.faults out.new) }
     ensures until_sink_failed { result ≡ 4 → IfSome (R.left script.old) (λ input. (model : Option Program)
-        × IsCutOff Step (allowed_commands never input) (start (S.files store.old) (S.faults store.old) (W.written out.old)) (end_with model (S.files store.new) (S.faults store.new) (W.written out.new))) }
+        × IsCutOff IsAnswered (allowed_commands never input) (start (S.files store.old) (S.faults store.old) (W.written out.old)) (end_with model (S.files store.new) (S.faults store.new) (W.written out.new))) }
     ensures until_memory_wanted { result ≡ 5 → IfSome (R.left script.old) (λ input. (model : Option Program)
-        × IsCutShort Step (allowed_commands never input) (start (S.files store.old) (S.faults store.old) (W.written out.old)) (end_with model (S.files store.new) (S.faults store.new) (W.written out.new))) }
+        × IsCutShort IsAnswered (allowed_commands never input) (start (S.files store.old) (S.faults store.old) (W.written out.old)) (end_with model (S.files store.new) (S.faults store.new) (W.written out.new))) }
     ensures too_long { result ≡ 6 → IfSome (R.left script.old) (IsOverlong never) }
     ensures until_too_long { result ≡ 6 → IfSome (R.left script.old) (λ input. (model : Option Program) × (replies : List (List ℕ))
-        × Answers Step (whole_commands never (take SCRIPT_LIMIT input)) (start (S.files store.old) (S.faults store.old) (W.written out.old)) (end_with model (S.files store.new) (S.faults store.new) (W.written out.new)) replies) }
+        × Answers IsAnswered (whole_commands never (take SCRIPT_LIMIT input)) (start (S.files store.old) (S.faults store.old) (W.written out.old)) (end_with model (S.files store.new) (S.faults store.new) (W.written out.new)) replies) }
     ensures no_further { ReadsNoFurther never (R.left script.old) (R.left script.new) }
     ensures source_later { R.faults script.old ≤ R.faults script.new }
     ensures sink_later { W.faults out.old ≤ W.faults out.new }
@@ -83,28 +83,28 @@ pub fn run<R: Source, W: Sink, S: Store>(
 
     // The script came to its end: the replies are those to all of its commands.
     ensures transcript { result < 2 → IfSome (R.left script.old) (λ input. (model : Option Program) × (replies : List (List ℕ))
-        × Answers Step (script_commands never input) (start (S.files store.old) (S.faults store.old) (W.written out.old)) (end_with model (S.files store.new) (S.faults store.new) (W.written out.new)) replies
+        × Answers IsAnswered (script_commands never input) (start (S.files store.old) (S.faults store.old) (W.written out.old)) (end_with model (S.files store.new) (S.faults store.new) (W.written out.new)) replies
         × (result ≡ status_of replies)) }
     ensures within { result < 2 → IfSome (R.left script.old) (IsWithinLimit never) }
 
     // The source failed: the replies are those to the whole lines of what was taken.
     ensures source_failed { result ≡ 3 → Rose (R.faults script.old) (R.faults script.new) }
     ensures until_source_failed { result ≡ 3 → (model : Option Program) × (taken : List ℕ) × IsTaken never (R.left script.old) (R.left script.new) taken × (replies : List (List ℕ))
-        × Answers Step (whole_commands never taken) (start (S.files store.old) (S.faults store.old) (W.written out.old)) (end_with model (S.files store.new) (S.faults store.new) (W.written out.new)) replies }
+        × Answers IsAnswered (whole_commands never taken) (start (S.files store.old) (S.faults store.old) (W.written out.old)) (end_with model (S.files store.new) (S.faults store.new) (W.written out.new)) replies }
 
     // The sink failed: what is written is a front of the replies to first commands.
     ensures sink_failed { result ≡ 4 → Rose (W.faults out.old) (W.faults out.new) }
     ensures until_sink_failed { result ≡ 4 → IfSome (R.left script.old) (λ input. (model : Option Program)
-        × IsCutOff Step (allowed_commands never input) (start (S.files store.old) (S.faults store.old) (W.written out.old)) (end_with model (S.files store.new) (S.faults store.new) (W.written out.new))) }
+        × IsCutOff IsAnswered (allowed_commands never input) (start (S.files store.old) (S.faults store.old) (W.written out.old)) (end_with model (S.files store.new) (S.faults store.new) (W.written out.new))) }
 
     // Memory was wanting: first commands were answered, and all but at most the last of their replies are written.
     ensures until_memory_wanted { result ≡ 5 → IfSome (R.left script.old) (λ input. (model : Option Program)
-        × IsCutShort Step (allowed_commands never input) (start (S.files store.old) (S.faults store.old) (W.written out.old)) (end_with model (S.files store.new) (S.faults store.new) (W.written out.new))) }
+        × IsCutShort IsAnswered (allowed_commands never input) (start (S.files store.old) (S.faults store.old) (W.written out.old)) (end_with model (S.files store.new) (S.faults store.new) (W.written out.new))) }
 
     // A byte too many came: the replies are those to the whole lines among the bytes that are allowed.
     ensures too_long { result ≡ 6 → IfSome (R.left script.old) (IsOverlong never) }
     ensures until_too_long { result ≡ 6 → IfSome (R.left script.old) (λ input. (model : Option Program) × (replies : List (List ℕ))
-        × Answers Step (whole_commands never (take SCRIPT_LIMIT input)) (start (S.files store.old) (S.faults store.old) (W.written out.old)) (end_with model (S.files store.new) (S.faults store.new) (W.written out.new)) replies) }
+        × Answers IsAnswered (whole_commands never (take SCRIPT_LIMIT input)) (start (S.files store.old) (S.faults store.old) (W.written out.old)) (end_with model (S.files store.new) (S.faults store.new) (W.written out.new)) replies) }
 
     // Nothing is read after the read that brought a byte too many, and no count of faults falls.
     ensures no_further { IsRunForm words.now → ReadsNoFurther never (R.left script.old) (R.left script.new) }

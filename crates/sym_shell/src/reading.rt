@@ -4,6 +4,7 @@ ghost use Rattle.sym_shell.specs.Names.{is_file_name};
 ghost use Rattle.sym_shell.specs.Reading.{ReadsAs, IsUnreadable};
 ghost use Rattle.sym_shell.specs.Load.{ReadsFile};
 ghost use Rattle.mps_model.specs.Simple.{is_simple};
+ghost use Rattle.mps_model.specs.PlainNames.{HasPlainNames};
 
 use crate::words::file_name;
 use lp_model::Model;
@@ -48,11 +49,12 @@ impl From<AllocError> for Refusal {
     }
 }
 
-/// A model of zeros and ones, on which no sum of a search is without room.
+/// A model of zeros and ones, on which no sum of a search is without room, and whose names are words of a reply.
 #[derive(Drop)]
 pub struct SimpleModel {
     pub(crate) model: Model,
     ghost simple: { is_simple model ≡ true },
+    ghost plain: { HasPlainNames model },
 }
 
 impl Refusal {
@@ -95,6 +97,7 @@ pub(crate) fn read_model<S: Store>(
     requires { is_file_name name.now ≡ true }
     ensures answer { ReadsFile (S.files store.old) name.now (S.faults store.old) (S.faults store.new) result }
     ensures simple { IfOk result (λ m. is_simple m ≡ true) }
+    ensures plain { IfOk result (λ m. HasPlainNames m) }
     ensures kept { S.files store.new ≡ S.files store.old }
     ensures later { S.faults store.old ≤ S.faults store.new }
 {

@@ -1,4 +1,4 @@
-use Rattle.std.proofs.Common.{ℕ, List, ◌≡◌}
+use Rattle.std.proofs.Common.{◌≡◌}
 use Rattle.std.specs.Prelude.{take}
 use Rattle.script_session.specs.Reply.{status_of}
 use Rattle.script_session.specs.Script.{script_commands, whole_commands, allowed_commands}

@@ -1,4 +1,4 @@
-use Rattle.std.proofs.Common.{rules, subst}
+use Rattle.std.proofs.Common.{subst}
 use Rattle.box_search.specs.Search.{Fails}
 use Rattle.sym_shell.proofs.SimpleLemmas.{simple_integral, simple_never_wide}
 use Rattle.sym_shell.proofs.ReplyLemmas.{search_shown}
@@ -14,4 +14,4 @@ unreachable-requires c =
 
 pub returns-in-Ok : goal.returns-in-Ok
 returns-in-Ok c =
-    search_shown c.args.simple.now.model c.in-Ok.outcome c.args.reply.now.items c.write_outcome.new.reply.items c.write_outcome.result c.args.simple.now.simple c.requires.empty c.in-Ok.ensures.found c.write_outcome.ensures
+    search_shown c.args.simple.now.model c.cols-lawful.ensures.lawful c.args.simple.now.simple c.args.simple.now.plain c.requires.room c.in-Ok.outcome c.args.reply.now.items c.write_outcome.new.reply.items c.write_outcome.result c.requires.empty c.in-Ok.ensures.found c.write_outcome.ensures

@@ -1,4 +1,4 @@
-use Rattle.std.proofs.Common.{rules, ◌++◌, ap, sym, ◌∙◌, IsTrue, false, ◌≡◌, pos}
+use Rattle.std.proofs.Common.{◌++◌, ap, sym, ◌∙◌, IsTrue, false, ◌≡◌, pos}
 use Rattle.std.specs.Prelude.{codes}
 use Rattle.rational.specs.Rational.{int}
 use Rattle.frac128.specs.Printing.{printed}

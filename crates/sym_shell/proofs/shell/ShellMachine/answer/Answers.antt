@@ -1,4 +1,3 @@
-use Rattle.std.proofs.Common.{subst, sym, List, ℕ}
 use Rattle.std.proofs.lemmas.Result.{on_err_weaker}
 use Rattle.script_session.specs.Stand.{stand}
 use Rattle.sym_shell.specs.Shell.{state_of}
