@@ -1,0 +1,3 @@
+pub mod NameLemmas
+pub mod NumberLemmas
+pub mod FormLemmas

@@ -1,0 +1,12 @@
+use Rattle.std.proofs.Common.{arith}
+use Rattle.command_words.proofs.FormLemmas.{load_asks-other}
+use Rattle.command_words.proofs.words.load_asked.Goals as goal
+use Rattle.command_words.proofs.words.load_asked.Goals.{in_default-via-then-arguments-lt1, in_default-via-else-arguments-lt1+else-arguments-lt2+then-arguments-lt3, in_default-via-else-arguments-lt1+else-arguments-lt2+else-arguments-lt3+else-arguments-lt4}
+
+pub returns-in_default : goal.returns-in_default
+returns-in_default c =
+    elim c.in_default.branch [
+      | in_default-via-then-arguments-lt1 w ↦ load_asks-other c.args.arguments.now (grind arith) (grind arith)
+      | in_default-via-else-arguments-lt1+else-arguments-lt2+then-arguments-lt3 w ↦ load_asks-other c.args.arguments.now (grind arith) (grind arith)
+      | in_default-via-else-arguments-lt1+else-arguments-lt2+else-arguments-lt3+else-arguments-lt4 w ↦ load_asks-other c.args.arguments.now (grind arith) (grind arith)
+    ]

@@ -1,0 +1,68 @@
+-- What the words of a line ask for: a command with what it is given, or which fault they have.
+use Rattle.std.specs.Prelude.{ℕ, ◌-◌, ◌^◌, ◌&&◌, List, [], ◌∷◌, codes, if◌then◌else◌, Option, Some, None}
+use Rattle.std.specs.Str.{bytes_eq}
+use Rattle.command_words.specs.Names.{command_of, is_file_name, number_of}
+use Rattle.command_words.specs.declared.words.CommandName.{CommandName}
+use Rattle.command_words.specs.declared.words.CommandName.TheVariants as name
+use Rattle.command_words.specs.declared.words.Asked.{Asked}
+use Rattle.command_words.specs.declared.words.Asked.TheVariants as asked
+
+pub data Asks : Type 0 where
+  -- the model of this file, each integer column without an upper bound having this one
+  Load : (file : List ℕ) (intupper : Option ℕ) → Asks
+  -- a search of the model that is present, which may place this many results
+  Solve : (limit : ℕ) → Asks
+  Quit : Asks
+  -- the first word is no command
+  Unknown : (word : List ℕ) → Asks
+  -- the words have none of the command's forms
+  Misused : Asks
+  -- the words have a form of the command, but this one, in a number's place, is none
+  NoNumber : (word : List ℕ) → Asks
+
+-- the most results that a search may place where no limit is named
+abbrev pub no_limit : ℕ
+no_limit = 2 ^ 64 - 1
+
+-- what is asked with the number that a word is
+abbrev pub with_number : List ℕ → Option ℕ → (ℕ → Asks) → Asks
+with_number word None asks = NoNumber word
+with_number word (Some n) asks = asks n
+
+-- `load F` and `load F intupper N`
+abbrev pub load_asks : List (List ℕ) → Asks
+load_asks (file ∷ []) = if is_file_name file then Load file None else Misused
+load_asks (file ∷ key ∷ number ∷ []) =
+    if is_file_name file && bytes_eq key (codes "intupper") then with_number number (number_of number) (λ n. Load file (Some n)) else Misused
+load_asks arguments = Misused
+
+-- `solve` and `solve nodes N`
+abbrev pub solve_asks : List (List ℕ) → Asks
+solve_asks [] = Solve no_limit
+solve_asks (key ∷ number ∷ []) = if bytes_eq key (codes "nodes") then with_number number (number_of number) Solve else Misused
+solve_asks arguments = Misused
+
+-- `quit`
+abbrev pub quit_asks : List (List ℕ) → Asks
+quit_asks [] = Quit
+quit_asks arguments = Misused
+
+abbrev pub command_asks : Option CommandName → List ℕ → List (List ℕ) → Asks
+command_asks (Some name.Load) word arguments = load_asks arguments
+command_asks (Some name.Solve) word arguments = solve_asks arguments
+command_asks (Some name.Quit) word arguments = quit_asks arguments
+command_asks None word arguments = Unknown word
+
+-- what the words ask for; there is at least one
+unfoldable pub asks_of : List (List ℕ) → Asks
+asks_of [] = Misused
+asks_of (word ∷ arguments) = command_asks (command_of word) word arguments
+
+-- what an answer of the reader of words stands for
+abbrev pub asks_shown : Asked → Asks
+asks_shown (asked.Load file intupper) = Load file.now intupper
+asks_shown (asked.Solve limit) = Solve limit
+asks_shown asked.Quit = Quit
+asks_shown (asked.Unknown word) = Unknown word.now
+asks_shown asked.Misused = Misused
+asks_shown (asked.NoNumber word) = NoNumber word.now

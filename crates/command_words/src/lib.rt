@@ -1,0 +1,24 @@
+//! What the words of a script's line ask for.
+//!
+//! A line's words are a command where the first word names one and the others have one of its forms:
+//!
+//! ```text
+//! load F                 the model of file F
+//! load F intupper N      the same, each integer column without an upper bound having the bound N
+//! solve                  a search without a limit
+//! solve nodes N          a search that may place N results
+//! quit                   the end of the script
+//! ```
+//!
+//! F is a file name: 1 to 255 letters, digits, `.`, `_` and `-`, not beginning with `.` or `-`. N is a whole number of 64
+//! bits, in decimal digits without a sign or a leading zero. Words are compared byte for byte.
+//!
+//! Contract in one sentence: `read_words` answers exactly what the words ask for, or the first of their faults: no command,
+//! none of its forms, no number where a number stands.
+//!
+//! Nothing stands below but std and `itoa`; above stands `sym_shell`, which answers what is asked.
+#![tactic(auto)]
+
+mod words;
+
+pub use words::{Asked, CommandName, file_name, read_words};

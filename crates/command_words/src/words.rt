@@ -1,0 +1,201 @@
+// What the words of a line ask for.
+ghost use Rattle.std.specs.Prelude.{◌≡◌, true, map, [], ◌∷◌};
+ghost use Rattle.std.specs.List.{list_all};
+ghost use Rattle.command_words.specs.Names.{command_of, begins_name, is_file_name, is_name_byte, number_of};
+ghost use Rattle.command_words.specs.Asks.{asks_of, asks_shown, load_asks, solve_asks, quit_asks};
+
+/// The commands that there are.
+#[derive(Clone, Copy, Debug, PartialEq, Eq)]
+pub enum CommandName {
+    Load,
+    Solve,
+    Quit,
+}
+
+/// What the words of a line ask for.
+#[derive(Clone, Copy, Debug)]
+pub enum Asked<'a> {
+    /// The model of a file. An integer column without an upper bound has `intupper`, if that is named.
+    Load {
+        file: &'a [u8],
+        intupper: Option<u64>,
+    },
+    /// A search of the model that is present, which may place this many results.
+    Solve {
+        limit: u64,
+    },
+    /// The end of the script.
+    Quit,
+    /// The first word is no command.
+    Unknown {
+        word: &'a [u8],
+    },
+    /// The words have none of the command's forms.
+    Misused,
+    /// This word stands in a number's place and is no whole number of 64 bits.
+    NoNumber {
+        word: &'a [u8],
+    },
+}
+
+/// The command that a first word names.
+fn command_named(word: &[u8]) -> Option<CommandName>
+    ensures { result ≡ command_of word.now }
+{
+    if word == b"load".as_slice() {
+        Some(CommandName::Load)
+    } else if word == b"solve".as_slice() {
+        Some(CommandName::Solve)
+    } else if word == b"quit".as_slice() {
+        Some(CommandName::Quit)
+    } else {
+        None
+    }
+}
+
+fn is_letter_digit_or_mark(byte: u8) -> bool
+    ensures { result ≡ is_name_byte byte }
+{
+    matches!(byte, b'a'..=b'z' | b'A'..=b'Z' | b'0'..=b'9' | b'.' | b'_' | b'-')
+}
+
+fn begins_as_name(word: &[u8]) -> bool
+    ensures { result ≡ begins_name word.now }
+{
+    match word {
+        [first, ..] => !(*first == b'.' || *first == b'-'),
+        [] => false,
+    }
+}
+
+fn has_name_bytes(word: &[u8]) -> bool
+    ensures { result ≡ list_all is_name_byte word.now }
+{
+    word.iter().all(|byte| is_letter_digit_or_mark(*byte))
+}
+
+/// 1 to 255 letters, digits, `.`, `_` and `-`, not beginning with `.` or `-`.
+fn is_file_name_word(word: &[u8]) -> bool
+    ensures { result ≡ is_file_name word.now }
+{
+    begins_as_name(word) && word.len() <= 255 && has_name_bytes(word)
+}
+
+/// A file name is text.
+pub fn file_name(word: &[u8]) -> &str
+    requires { is_file_name word.now ≡ true }
+    ensures { result.now ≡ word.now }
+{
+    let Ok(name) = str::from_utf8(word) else {
+        unreachable!()
+    };
+    name
+}
+
+/// The whole number of 64 bits that a word is in decimal digits, without a sign or a leading zero.
+fn whole_number(word: &[u8]) -> Option<u64>
+    ensures { result ≡ number_of word.now }
+{
+    let Ok(text) = str::from_utf8(word) else {
+        return None;
+    };
+    let Ok(number) = text.parse::<u64>() else {
+        return None;
+    };
+    let mut digits = itoa::Buffer::new();
+    if digits.format(number).as_bytes() == word {
+        Some(number)
+    } else {
+        None
+    }
+}
+
+/// What `load F intupper N` asks for, with these words behind `load`.
+fn bounded_load<'a>(file: &'a [u8], key: &[u8], number: &'a [u8]) -> Asked<'a>
+    ensures { asks_shown result ≡ load_asks (file.now ∷ key.now ∷ number.now ∷ []) }
+{
+    if !(is_file_name_word(file) && key == b"intupper".as_slice()) {
+        return Asked::Misused;
+    }
+    match whole_number(number) {
+        Some(upper) => Asked::Load {
+            file,
+            intupper: Some(upper),
+        },
+        None => Asked::NoNumber { word: number },
+    }
+}
+
+/// What `load F` asks for.
+fn plain_load(file: &[u8]) -> Asked<'_>
+    ensures { asks_shown result ≡ load_asks (file.now ∷ []) }
+{
+    if is_file_name_word(file) {
+        Asked::Load {
+            file,
+            intupper: None,
+        }
+    } else {
+        Asked::Misused
+    }
+}
+
+/// What `load` with these further words asks for.
+fn load_asked<'a>(arguments: &[&'a [u8]]) -> Asked<'a>
+    ensures { asks_shown result ≡ load_asks (map (λ word. word.now) arguments.now) }
+{
+    match arguments {
+        [file] => plain_load(file),
+        [file, key, number] => bounded_load(file, key, number),
+        _ => Asked::Misused,
+    }
+}
+
+/// What `solve nodes N` asks for, with these words behind `solve`.
+fn limited_solve<'a>(key: &[u8], number: &'a [u8]) -> Asked<'a>
+    ensures { asks_shown result ≡ solve_asks (key.now ∷ number.now ∷ []) }
+{
+    if key != b"nodes".as_slice() {
+        return Asked::Misused;
+    }
+    match whole_number(number) {
+        Some(limit) => Asked::Solve { limit },
+        None => Asked::NoNumber { word: number },
+    }
+}
+
+/// What `solve` with these further words asks for.
+fn solve_asked<'a>(arguments: &[&'a [u8]]) -> Asked<'a>
+    ensures { asks_shown result ≡ solve_asks (map (λ word. word.now) arguments.now) }
+{
+    match arguments {
+        [] => Asked::Solve { limit: u64::MAX },
+        [key, number] => limited_solve(key, number),
+        _ => Asked::Misused,
+    }
+}
+
+/// What `quit` with these further words asks for.
+fn quit_asked<'a>(arguments: &[&'a [u8]]) -> Asked<'a>
+    ensures { asks_shown result ≡ quit_asks (map (λ word. word.now) arguments.now) }
+{
+    match arguments {
+        [] => Asked::Quit,
+        _ => Asked::Misused,
+    }
+}
+
+/// What the words of a line ask for. A line that is answered has a word.
+pub fn read_words<'a>(words: &[&'a [u8]]) -> Asked<'a>
+    ensures { asks_shown result ≡ asks_of (map (λ word. word.now) words.now) }
+{
+    let [word, arguments @ ..] = words else {
+        return Asked::Misused;
+    };
+    match command_named(word) {
+        Some(CommandName::Load) => load_asked(arguments),
+        Some(CommandName::Solve) => solve_asked(arguments),
+        Some(CommandName::Quit) => quit_asked(arguments),
+        None => Asked::Unknown { word },
+    }
+}
