@@ -1,10 +1,12 @@
 -- From a line's first word and the others to its whole list of words, and words of none of a command's forms.
-use Rattle.std.proofs.Common.{◌≡◌, ℕ, ◌-◌, ◌≤◌, ◌<◌, List, [], ◌∷◌, length, get_or, take, drop, arith, refl, Bor, Option}
-use Rattle.std.specs.Prelude.{map}
+use Rattle.std.proofs.Common.{◌≡◌, ℕ, ◌-◌, ◌≤◌, ◌<◌, List, [], ◌∷◌, length, get_or, take, drop, arith, sym, refl, subst, Bor, Bool, true, false, ◌&&◌, if◌then◌else◌, Option, Some, None}
+use Rattle.std.specs.Prelude.{map, codes}
+use Rattle.std.specs.Str.{bytes_eq}
 use Rattle.std.proofs.lemmas.Grind.{common_steps}
-use Rattle.command_words.specs.Names.{command_of}
+use Rattle.command_words.specs.Names.{command_of, is_file_name, number_of}
 use Rattle.command_words.specs.declared.words.CommandName.{CommandName}
-use Rattle.command_words.specs.Asks.{Misused, load_asks, command_asks, asks_of}
+use Rattle.command_words.specs.declared.words.CommandName.TheVariants as name
+use Rattle.command_words.specs.Asks.{Asks, Load, Solve, Misused, with_number, load_asks, solve_asks, quit_asks, command_asks, asks_of, NamesFile}
 
 abbrev nows : List (Bor (List ℕ)) → List (List ℕ)
 nows words = map (λ word. word.now) words
@@ -29,3 +31,53 @@ load_asks-other (a ∷ []) h k = absurd (h refl)
 load_asks-other (a ∷ b ∷ []) h k = refl
 load_asks-other (a ∷ b ∷ c ∷ []) h k = absurd (k refl)
 load_asks-other (a ∷ b ∷ c ∷ d ∷ more) h k = refl
+
+-- ---- a file that is asked for has a file name
+
+with_number-named : (word : List ℕ) (n : Option ℕ) (asks : ℕ → Asks) → ((k : ℕ) → NamesFile (asks k)) → NamesFile (with_number word n asks)
+with_number-named word None asks h = tt
+with_number-named word (Some n) asks h = h n
+
+load_asks-named : (arguments : List (List ℕ)) → NamesFile (load_asks arguments)
+load_asks-named [] = tt
+load_asks-named (file ∷ []) = by (is_file_name file) refl
+  where
+    by : (b : Bool) → is_file_name file ≡ b → NamesFile (if b then Load file None else Misused)
+    by true e = e
+    by false e = tt
+load_asks-named (file ∷ key ∷ []) = tt
+load_asks-named (file ∷ key ∷ number ∷ []) = by (is_file_name file) (bytes_eq key (codes "intupper")) refl
+  where
+    by : (a b : Bool) → is_file_name file ≡ a → NamesFile (if a && b then with_number number (number_of number) (λ n. Load file (Some n)) else Misused)
+    by true true e = with_number-named number (number_of number) (λ n. Load file (Some n)) (λ k. e)
+    by true false e = tt
+    by false b e = tt
+load_asks-named (file ∷ key ∷ number ∷ other ∷ more) = tt
+
+solve_asks-named : (arguments : List (List ℕ)) → NamesFile (solve_asks arguments)
+solve_asks-named [] = tt
+solve_asks-named (key ∷ []) = tt
+solve_asks-named (key ∷ number ∷ []) = by (bytes_eq key (codes "nodes"))
+  where
+    by : (b : Bool) → NamesFile (if b then with_number number (number_of number) Solve else Misused)
+    by true = with_number-named number (number_of number) Solve (λ k. tt)
+    by false = tt
+solve_asks-named (key ∷ number ∷ other ∷ more) = tt
+
+quit_asks-named : (arguments : List (List ℕ)) → NamesFile (quit_asks arguments)
+quit_asks-named [] = tt
+quit_asks-named (word ∷ more) = tt
+
+command_asks-named : (c : Option CommandName) (word : List ℕ) (arguments : List (List ℕ)) → NamesFile (command_asks c word arguments)
+command_asks-named (Some name.Load) word arguments = load_asks-named arguments
+command_asks-named (Some name.Solve) word arguments = solve_asks-named arguments
+command_asks-named (Some name.Quit) word arguments = quit_asks-named arguments
+command_asks-named None word arguments = tt
+
+asks_of-named : (words : List (List ℕ)) → NamesFile (asks_of words)
+unfolding asks_of
+asks_of-named [] = tt
+asks_of-named (word ∷ arguments) = command_asks-named (command_of word) word arguments
+
+pub shown-named : (asked : Asks) (words : List (Bor (List ℕ))) → asked ≡ asks_of (nows words) → NamesFile asked
+shown-named asked words e = subst NamesFile (sym e) (asks_of-named (nows words))

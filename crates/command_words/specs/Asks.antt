@@ -1,5 +1,5 @@
 -- What the words of a line ask for: a command with what it is given, or which fault they have.
-use Rattle.std.specs.Prelude.{ℕ, ◌-◌, ◌^◌, ◌&&◌, List, [], ◌∷◌, codes, if◌then◌else◌, Option, Some, None}
+use Rattle.std.specs.Prelude.{◌≡◌, true, ℕ, ◌-◌, ◌^◌, ◌&&◌, List, [], ◌∷◌, codes, if◌then◌else◌, Option, Some, None}
 use Rattle.std.specs.Str.{bytes_eq}
 use Rattle.command_words.specs.Names.{command_of, is_file_name, number_of}
 use Rattle.command_words.specs.declared.words.CommandName.{CommandName}
@@ -66,3 +66,12 @@ asks_shown asked.Quit = Quit
 asks_shown (asked.Unknown word) = Unknown word.now
 asks_shown asked.Misused = Misused
 asks_shown (asked.NoNumber word) = NoNumber word.now
+
+-- the file that is asked for has a file name
+abbrev pub NamesFile : Asks → Type 0
+NamesFile (Load file intupper) = is_file_name file ≡ true
+NamesFile (Solve limit) = Unit {0}
+NamesFile Quit = Unit {0}
+NamesFile (Unknown word) = Unit {0}
+NamesFile Misused = Unit {0}
+NamesFile (NoNumber word) = Unit {0}

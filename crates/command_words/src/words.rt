@@ -2,7 +2,7 @@
 ghost use Rattle.std.specs.Prelude.{◌≡◌, true, map, [], ◌∷◌};
 ghost use Rattle.std.specs.List.{list_all};
 ghost use Rattle.command_words.specs.Names.{command_of, begins_name, is_file_name, is_name_byte, number_of};
-ghost use Rattle.command_words.specs.Asks.{asks_of, asks_shown, load_asks, solve_asks, quit_asks};
+ghost use Rattle.command_words.specs.Asks.{asks_of, asks_shown, load_asks, solve_asks, quit_asks, NamesFile};
 
 /// The commands that there are.
 #[derive(Clone, Copy, Debug, PartialEq, Eq)]
@@ -187,7 +187,8 @@ fn quit_asked<'a>(arguments: &[&'a [u8]]) -> Asked<'a>
 
 /// What the words of a line ask for. A line that is answered has a word.
 pub fn read_words<'a>(words: &[&'a [u8]]) -> Asked<'a>
-    ensures { asks_shown result ≡ asks_of (map (λ word. word.now) words.now) }
+    ensures asked { asks_shown result ≡ asks_of (map (λ word. word.now) words.now) }
+    ensures named { NamesFile (asks_shown result) }
 {
     let [word, arguments @ ..] = words else {
         return Asked::Misused;

@@ -1,64 +1,71 @@
--- Each reply has its exact cause. Want of memory alone is free: where a cause holds, the reply is its line or `error 90 memory`.
-use Rattle.std.specs.Prelude.{◌≡◌, ◌≢◌, ◌⊎◌, ℕ, ◌<◌, ◌≤◌, List, ◌++◌, codes, Some, None}
+-- Each reply has its exact cause. Want of memory alone is free: where a cause holds, the reply is its line or
+-- `error 90 memory`.
+use Rattle.std.specs.Prelude.{◌≡◌, ◌≢◌, ◌⊎◌, ℕ, ◌<◌, ◌≤◌, List, Option, Some, None}
 use Rattle.sym_io.specs.Faults.{Rose}
 use Rattle.lp_model.specs.Program.{Program}
 use Rattle.box_search.specs.Root.{cap_of}
+use Rattle.box_search.specs.Search.{HasRoom}
+use Rattle.command_words.specs.Asks.{Asks, Load, Solve, Quit, Unknown, Misused, NoNumber, asks_of}
 use Rattle.sym_shell.specs.State.{State}
-use Rattle.sym_shell.specs.Texts.{ok_text, unknown_text, arguments_text, no_model_text, store_text, file_too_long_text, unreadable_text, memory_text}
-use Rattle.sym_shell.specs.Reading.{IsUnreadable}
-use Rattle.sym_shell.specs.Load.{HasText, IsMissing, IsTooLong, Loads}
-use Rattle.sym_shell.specs.Solve.{ShowsOptimum, ShowsEmptiness}
+use Rattle.sym_shell.specs.Texts.{ok_text, unknown_text, arguments_text, no_model_text, number_text, store_text, file_too_long_text, mps_text, memory_text}
+use Rattle.sym_shell.specs.Load.{HasText, IsMissing, IsTooLong, IsFaulty, Loads}
+use Rattle.sym_shell.specs.Solve.{ShowsOptimum, ShowsEmptiness, ShowsNodeStop, ShowsWideStop}
 use Rattle.sym_shell.specs.Step.{Step}
-use Rattle.sym_shell.specs.Cases.{IsLoad, IsSolve, IsUnknown, IsMisused}
+use Rattle.sym_shell.specs.Kinds.{Kind, Optimal, Infeasible, StoppedNodes, StoppedWide, Done, UnknownCommand, WrongArguments, NoModel, WrongNumber, StoreFailed, FileTooLong, FaultyText, WantsMemory, Is}
 
--- the reply is this line exactly where the cause holds
-pub record Exactly (reply line : List ℕ) (Cause : Type 0) : Type 0 where
-  pub only : reply ≡ line → Cause
-  pub always : Cause → (reply ≡ line) ⊎ (reply ≡ memory_text)
-
--- `solve nodes N` on the model that is present, with N below the results that its search places
-pub record HasTooFew (old : State) (words : List (List ℕ)) : Type 0 where
+-- `solve` of the model that is present, which may place `limit` results, and P of both
+pub record Solved (old : State) (words : List (List ℕ)) (P : Program → ℕ → Type 0) : Type 0 where
   pub limit : ℕ
   pub model : Program
-  pub words_are : IsSolve words limit
+  pub asked : asks_of words ≡ Solve limit
   pub present : old.model ≡ Some model
-  pub below : limit < cap_of model
+  pub is : P model limit
 
--- `solve nodes N` where no model is present
-pub record SolvesNothing (old : State) (words : List (List ℕ)) : Type 0 where
-  pub limit : ℕ
-  pub words_are : IsSolve words limit
-  pub none : old.model ≡ None
+-- `load` of a file, and P of its name and of the bound of integer columns without one
+pub record Loaded (words : List (List ℕ)) (P : List ℕ → Option ℕ → Type 0) : Type 0 where
+  pub file : List ℕ
+  pub intupper : Option ℕ
+  pub asked : asks_of words ≡ Load file intupper
+  pub is : P file intupper
 
--- `solve nodes N` on the model that is present, with N no less than the results that its search places
-pub record SolvesModel (old : State) (words : List (List ℕ)) (M : Program) : Type 0 where
-  pub limit : ℕ
-  pub words_are : IsSolve words limit
-  pub present : old.model ≡ Some M
-  pub enough : cap_of M ≤ limit
+-- the words ask for this, and the reply is this line
+pub record Refused (words : List (List ℕ)) (reply : List ℕ) (asked : Asks) (text : List ℕ) : Type 0 where
+  pub asks : asks_of words ≡ asked
+  pub told : reply ≡ text
 
-abbrev pub Begins : List ℕ → List ℕ → Type 0
-Begins reply front = (rest : List ℕ) × (reply ≡ front ++ rest)
+-- what a reply of each kind says for sure
+abbrev pub CauseOf : Kind → State → List (List ℕ) → List ℕ → State → Type 0
+-- the headline: what is shown is an optimum of the model that is present, or it has no feasible point
+CauseOf Optimal old words reply new = Solved old words (λ M limit. ShowsOptimum M limit reply)
+CauseOf Infeasible old words reply new = Solved old words (λ M limit. ShowsEmptiness M limit reply)
+-- what is known where a search stopped
+CauseOf StoppedNodes old words reply new = Solved old words (λ M limit. ShowsNodeStop M limit reply)
+CauseOf StoppedWide old words reply new = Solved old words (λ M limit. ShowsWideStop M limit reply)
+-- the model that the file's text means is present from now on; or the script ends
+CauseOf Done old words reply new = Loaded words (λ file intupper. Loads old file intupper reply new) ⊎ ((asks_of words ≡ Quit) × (new ≡ old))
+CauseOf UnknownCommand old words reply new = (word : List ℕ) × Refused words reply (Unknown word) (unknown_text word)
+CauseOf WrongArguments old words reply new = Refused words reply Misused arguments_text
+CauseOf WrongNumber old words reply new = (word : List ℕ) × Refused words reply (NoNumber word) (number_text word)
+CauseOf NoModel old words reply new = (limit : ℕ) × (Refused words reply (Solve limit) no_model_text × (old.model ≡ None))
+CauseOf StoreFailed old words reply new = Loaded words (λ file intupper. (reply ≡ store_text) × (Rose old.faults new.faults ⊎ IsMissing old.files file))
+CauseOf FileTooLong old words reply new = Loaded words (λ file intupper. (reply ≡ file_too_long_text) × IsTooLong old.files file)
+CauseOf FaultyText old words reply new =
+    Loaded words (λ file intupper. (line : ℕ) × ((code : ℕ) × ((reply ≡ mps_text line code) × HasText old.files file (IsFaulty intupper line code))))
+CauseOf WantsMemory old words reply new = reply ≡ memory_text
 
 pub record HasCauses (old : State) (words : List (List ℕ)) (reply : List ℕ) (new : State) : Type 0 where
-  -- the headline: what is shown is an optimum of the model that is present, or it has no feasible point
-  pub optimal : Begins reply (codes "optimal ") → (M : Program) × (SolvesModel old words M × ShowsOptimum M reply)
-  pub infeasible : Begins reply (codes "infeasible ") → (M : Program) × (SolvesModel old words M × ShowsEmptiness M reply)
-  -- completeness: a search that is not refused ends with an answer, or wants memory
-  pub complete : (M : Program) → SolvesModel old words M → ShowsOptimum M reply ⊎ ShowsEmptiness M reply ⊎ (reply ≡ memory_text)
-  -- the errors
-  pub error_02 : (word : List ℕ) → IsUnknown words word → (reply ≡ unknown_text word) ⊎ (reply ≡ memory_text)
-  pub error_02_only : (word : List ℕ) → reply ≡ unknown_text word → (other : List ℕ) × IsUnknown words other
-  pub error_03 : Exactly reply arguments_text (IsMisused words ⊎ HasTooFew old words)
-  pub error_04 : Exactly reply no_model_text (SolvesNothing old words)
-  pub error_20_only : reply ≡ store_text → (name : List ℕ) × (IsLoad words name × (Rose old.faults new.faults ⊎ IsMissing old.files name))
-  pub error_21_only : reply ≡ file_too_long_text → (name : List ℕ) × (IsLoad words name × IsTooLong old.files name)
-  pub error_30_only : reply ≡ unreadable_text → (name : List ℕ) × (IsLoad words name × HasText old.files name IsUnreadable)
-  -- `ok` replaces the model by the one that the file's text means, and every other reply leaves it
-  pub ok_only : reply ≡ ok_text → (name : List ℕ) × (IsLoad words name × Loads old name reply new)
+  -- each reply is of one of the kinds
+  pub kind : Kind
+  pub is : Is kind reply
+  -- and whatever kind its bytes are of, that kind's cause holds
+  pub only : (k : Kind) → Is k reply → CauseOf k old words reply new
+  -- completeness: a search that may place as many results as it can, and meets no step without room, ends with an answer
+  pub complete : (M : Program) (limit : ℕ) → asks_of words ≡ Solve limit → old.model ≡ Some M → cap_of M ≤ limit → HasRoom M
+      → ShowsOptimum M limit reply ⊎ ShowsEmptiness M limit reply ⊎ (reply ≡ memory_text)
+  -- every reply but `ok` leaves the model
   pub kept : reply ≢ ok_text → new.model ≡ old.model
 
--- a step, and what the reply says for sure
+-- a step, which says what each command may be answered, and what the reply says for sure
 pub record IsAnswered (old : State) (words : List (List ℕ)) (reply : List ℕ) (new : State) : Type 0 where
   pub step : Step old words reply new
   pub causes : HasCauses old words reply new

@@ -1,14 +1,12 @@
-pub mod Names
 pub mod Texts
 pub mod State
 pub mod Refusals
-pub mod Reading
 pub mod Load
 pub mod Solve
 pub mod Step
 pub mod Present
 pub mod Reports
-pub mod Cases
+pub mod Kinds
 pub mod Causes
 pub mod Shell
 pub mod Run

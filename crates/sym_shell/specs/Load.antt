@@ -4,11 +4,11 @@ use Rattle.sym_io.specs.Faults.{Rose}
 use Rattle.sym_io.specs.Files.{Files, file}
 use Rattle.sym_io.specs.declared.traits.TheConstants.{MAX_FILE_LENGTH}
 use Rattle.lp_model.specs.Program.{Program}
+use Rattle.mps_model.specs.Faults.{Meant, Faulty}
 use Rattle.sym_shell.specs.State.{State}
-use Rattle.sym_shell.specs.Reading.{ReadsAs, IsUnreadable}
-use Rattle.sym_shell.specs.Texts.{ok_text, store_text, file_too_long_text, unreadable_text, memory_text}
+use Rattle.sym_shell.specs.Texts.{ok_text, store_text, file_too_long_text, mps_text, memory_text}
 use Rattle.sym_shell.specs.declared.reading.Refusal.{Refusal}
-use Rattle.sym_shell.specs.declared.reading.Refusal.TheVariants.{Store, FileTooLong, Unreadable, Memory}
+use Rattle.sym_shell.specs.declared.reading.Refusal.TheVariants as refusal
 
 -- the named file may hold this text: it does where the store tells its files
 abbrev pub MayHold : Option Files → List ℕ → List ℕ → Type 0
@@ -27,36 +27,40 @@ pub record HasText (files : Option Files) (name : List ℕ) (P : List ℕ → Ty
   pub short : length text ≤ MAX_FILE_LENGTH
   pub is : P text
 
+-- the text's first faulty line is this one, with this code as its least
+abbrev pub IsFaulty : Option ℕ → ℕ → ℕ → List ℕ → Type 0
+IsFaulty intupper line code text = Faulty text intupper (record { line = line; code = code })
+
 -- the causes of each answer to reading a file's model, where the count of faults goes from before to after
-abbrev pub ReadsFile : Option Files → List ℕ → ℕ → ℕ → Result Program Refusal → Type 0
-ReadsFile files name before after (Ok M) = HasText files name (λ text. ReadsAs text M)
-ReadsFile files name before after (Err Store) = Rose before after ⊎ IsMissing files name
-ReadsFile files name before after (Err FileTooLong) = IsTooLong files name
-ReadsFile files name before after (Err Unreadable) = HasText files name IsUnreadable
-ReadsFile files name before after (Err Memory) = Unit {0}
+abbrev pub ReadsFile : Option Files → List ℕ → Option ℕ → ℕ → ℕ → Result Program Refusal → Type 0
+ReadsFile files name intupper before after (Ok M) = HasText files name (λ text. Meant text intupper M)
+ReadsFile files name intupper before after (Err refusal.Store) = Rose before after ⊎ IsMissing files name
+ReadsFile files name intupper before after (Err refusal.FileTooLong) = IsTooLong files name
+ReadsFile files name intupper before after (Err (refusal.Faulty line code)) = HasText files name (IsFaulty intupper line code)
+ReadsFile files name intupper before after (Err refusal.Memory) = Unit {0}
 
 abbrev pub refusal_text : Refusal → List ℕ
-refusal_text Store = store_text
-refusal_text FileTooLong = file_too_long_text
-refusal_text Unreadable = unreadable_text
-refusal_text Memory = memory_text
+refusal_text refusal.Store = store_text
+refusal_text refusal.FileTooLong = file_too_long_text
+refusal_text (refusal.Faulty line code) = mps_text line code
+refusal_text refusal.Memory = memory_text
 
 -- the model that the file's text means is present from now on
-pub record Loads (old : State) (name reply : List ℕ) (new : State) : Type 0 where
+pub record Loads (old : State) (name : List ℕ) (intupper : Option ℕ) (reply : List ℕ) (new : State) : Type 0 where
   pub ok : reply ≡ ok_text
   pub model : Program
-  pub read : HasText old.files name (λ text. ReadsAs text model)
+  pub read : HasText old.files name (λ text. Meant text intupper model)
   pub present : new.model ≡ Some model
 
 -- the reply tells why the file's model is refused, and the model that was present stays
-pub record LoadRefused (old : State) (name reply : List ℕ) (new : State) : Type 0 where
+pub record LoadRefused (old : State) (name : List ℕ) (intupper : Option ℕ) (reply : List ℕ) (new : State) : Type 0 where
   pub refusal : Refusal
   pub told : reply ≡ refusal_text refusal
-  pub cause : ReadsFile old.files name old.faults new.faults (Err refusal)
+  pub cause : ReadsFile old.files name intupper old.faults new.faults (Err refusal)
   pub kept : new.model ≡ old.model
 
 -- The files stay. An accepted `load` replaces the model, a refused one leaves it.
-pub record LoadStep (old : State) (name reply : List ℕ) (new : State) : Type 0 where
+pub record LoadStep (old : State) (name : List ℕ) (intupper : Option ℕ) (reply : List ℕ) (new : State) : Type 0 where
   pub files : new.files ≡ old.files
   pub later : old.faults ≤ new.faults
-  pub answer : Loads old name reply new ⊎ LoadRefused old name reply new
+  pub answer : Loads old name intupper reply new ⊎ LoadRefused old name intupper reply new

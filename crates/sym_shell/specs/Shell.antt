@@ -1,5 +1,6 @@
 -- A shell beside its store, as the state of which commands speak.
-use Rattle.std.specs.Prelude.{ℕ, Bool, false, List}
+use Rattle.std.specs.Prelude.{ℕ, Bool, true, false, List}
+use Rattle.command_words.specs.Asks.{Asks, Quit, asks_of}
 use Rattle.script_session.specs.Stand.{Stand}
 use Rattle.sym_shell.specs.State.{State, state}
 use Rattle.sym_shell.specs.Present.{present}
@@ -12,6 +13,10 @@ state_of stand = state (present stand.machine) stand.files stand.faults
 abbrev pub ShellStep : Stand Shell → List (List ℕ) → List ℕ → Stand Shell → Type 0
 ShellStep old words reply new = Step (state_of old) words reply (state_of new)
 
--- no command ends a script yet
-abbrev pub never : List (List ℕ) → Bool
-never words = false
+-- the words ask for the end of the script
+abbrev pub is_quit : Asks → Bool
+is_quit Quit = true
+is_quit other = false
+
+abbrev pub quits : List (List ℕ) → Bool
+quits words = is_quit (asks_of words)

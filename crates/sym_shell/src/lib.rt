@@ -1,24 +1,25 @@
 //! The shell: a script's commands, answered over the model that is present.
 //!
-//! A command is its words. `load F` replaces the model by that of a file in the store, and `solve nodes N` searches the
-//! model that is present. What a command may be answered, and what it does to the state (the model, the files, the
-//! store's count of faults), is the relation `Step` of specs/: it fixes each reply's bytes, and with them the headline:
-//! `optimal` shows a feasible point that no feasible point beats, `infeasible` means that there is none.
+//! `load F [intupper N]` replaces the model by that of a file in the store, `solve [nodes N]` searches the model that is
+//! present, and `quit` ends the script. What a command may be answered, and what it does to the state (the model, the
+//! files, the store's count of faults), is the relation `Step` of specs/: it fixes each reply's bytes. What a reply says
+//! for sure, and with it the headline, is `HasCauses`: `optimal` shows a feasible point that no feasible point beats,
+//! `infeasible` means that there is none, and no feasible point passes the bound of a search that stopped.
 //!
 //! Contract in one sentence: `run` writes the replies of one `Step` after the other, for all of the script's commands or,
 //! where something failed, for its first ones, and its status says which.
 //!
-//! Below stand `script_session`, which reads the script and knows no command; `mps_model`, which reads models; and
-//! `box_search`, which finds optima. Above stands `sym_main`.
+//! Below stand `script_session`, which reads the script and knows no command; `command_words`, which says what a line's
+//! words ask for; `mps_model`, which reads models; and `box_search`, which finds optima. Above stands `sym_main`.
 #![tactic(auto)]
 
 mod program;
 mod reading;
+mod refusals;
 mod shell;
+mod stops;
 mod texts;
-mod words;
 
 pub use program::run;
 pub use reading::Refusal;
 pub use shell::Shell;
-pub use words::CommandName;

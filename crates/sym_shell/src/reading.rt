@@ -1,15 +1,14 @@
 // Reading a file's model from a store.
-ghost use Rattle.std.specs.Prelude.{◌≡◌, ◌≤◌, true, IfOk, MatchOption};
-ghost use Rattle.sym_shell.specs.Names.{is_file_name};
-ghost use Rattle.sym_shell.specs.Reading.{ReadsAs, IsUnreadable};
-ghost use Rattle.sym_shell.specs.Load.{ReadsFile};
-ghost use Rattle.mps_model.specs.Simple.{is_simple};
+ghost use Rattle.std.specs.Prelude.{◌≡◌, ◌≤◌, true, IfOk};
+ghost use Rattle.command_words.specs.Names.{is_file_name};
+ghost use Rattle.box_search.specs.Integral.{IsIntegral};
 ghost use Rattle.mps_model.specs.PlainNames.{HasPlainNames};
+ghost use Rattle.sym_shell.specs.Load.{ReadsFile};
 
-use crate::words::file_name;
+use command_words::file_name;
 use lp_model::Model;
-use mps_model::{MpsFault, is_first_form, read};
-use std::alloc::{AllocError, Global};
+use mps_model::{MpsFault, read};
+use std::alloc::Global;
 use sym_io::{Store, StoreFault};
 
 /// Why a file's model is refused.
@@ -19,16 +18,16 @@ pub enum Refusal {
     Store,
     /// The file has more bytes than are read.
     FileTooLong,
-    /// The text is not of the form that is read.
-    Unreadable,
+    /// The first faulty line of the text, from 1, and the least code of its faults.
+    Faulty { line: u64, code: u8 },
     /// There was no memory.
     Memory,
 }
 
 impl From<StoreFault> for Refusal {
-    ghost use Rattle.sym_shell.specs.Refusals.{refusal_of};
+    ghost use Rattle.sym_shell.specs.Refusals.{refusal_of_store};
 
-    ghost from_gives = { λ fault refusal. refusal ≡ refusal_of fault };
+    ghost from_gives = { λ fault refusal. refusal ≡ refusal_of_store fault };
 
     fn from(fault: StoreFault) -> Self {
         match fault {
@@ -39,71 +38,42 @@ impl From<StoreFault> for Refusal {
     }
 }
 
-impl From<AllocError> for Refusal {
-    ghost use Rattle.sym_shell.specs.declared.reading.Refusal.TheVariants.{Memory};
+impl From<MpsFault> for Refusal {
+    ghost use Rattle.sym_shell.specs.Refusals.{refusal_of_text};
 
-    ghost from_gives = { λ _ refusal. refusal ≡ Memory };
+    ghost from_gives = { λ fault refusal. refusal ≡ refusal_of_text fault };
 
-    fn from(_: AllocError) -> Self {
-        Refusal::Memory
-    }
-}
-
-/// A model of zeros and ones, on which no sum of a search is without room, and whose names are words of a reply.
-#[derive(Drop)]
-pub struct SimpleModel {
-    pub(crate) model: Model,
-    ghost simple: { is_simple model ≡ true },
-    ghost plain: { HasPlainNames model },
-}
-
-impl Refusal {
-    ghost use Rattle.sym_shell.specs.Load.{refusal_text};
-
-    /// The reply's line.
-    pub(crate) fn text(self) -> &'static [u8]
-        ensures { result.now ≡ refusal_text self }
-    {
-        match self {
-            Refusal::Store => b"error 20 store\n",
-            Refusal::FileTooLong => b"error 21 file too long\n",
-            Refusal::Unreadable => b"error 30 mps line 0 code 25\n",
-            Refusal::Memory => b"error 90 memory\n",
+    fn from(fault: MpsFault) -> Self {
+        match fault {
+            MpsFault::Bad { line, code } => Refusal::Faulty { line, code },
+            MpsFault::Memory => Refusal::Memory,
         }
     }
 }
 
-/// The model that a text means, where the text has the first form: one N row, integer columns with the bounds 0 and 1,
-/// and whole numbers of at most nine digits.
-fn model_of_text(alloc: Global, text: &[u8]) -> Result<Option<Model>, AllocError>
-    ensures { IfOk result (λ model. MatchOption model (IsUnreadable text.now) (λ m. ReadsAs text.now m)) }
-{
-    if !is_first_form(alloc, text)? {
-        return Ok(None);
-    }
-    match read(alloc, text, None) {
-        Ok(model) => Ok(Some(model)),
-        Err(MpsFault::Bad { .. }) => unreachable!(),
-        Err(MpsFault::Memory) => Err(AllocError),
-    }
+/// A model that can be searched: each column is integer with two bounds, and its names are words of a reply.
+#[derive(Drop)]
+pub struct SearchableModel {
+    pub(crate) model: Model,
+    ghost integral: { IsIntegral model },
+    ghost plain: { HasPlainNames model },
 }
 
-/// The model of the named file.
+/// The model of the named file. An integer column without an upper bound has `intupper`, if that is handed in.
 pub(crate) fn read_model<S: Store>(
     alloc: Global,
     store: &mut S,
     name: &[u8],
+    intupper: Option<u64>,
 ) -> Result<Model, Refusal>
     requires { is_file_name name.now ≡ true }
-    ensures answer { ReadsFile (S.files store.old) name.now (S.faults store.old) (S.faults store.new) result }
-    ensures simple { IfOk result (λ m. is_simple m ≡ true) }
+    ensures answer { ReadsFile (S.files store.old) name.now intupper (S.faults store.old) (S.faults store.new) result }
+    ensures integral { IfOk result (λ m. IsIntegral m) }
     ensures plain { IfOk result (λ m. HasPlainNames m) }
     ensures kept { S.files store.new ≡ S.files store.old }
     ensures later { S.faults store.old ≤ S.faults store.new }
 {
     let text = store.get(alloc, file_name(name))?;
-    match model_of_text(alloc, &text)? {
-        Some(model) => Ok(model),
-        None => Err(Refusal::Unreadable),
-    }
+    let model = read(alloc, &text, intupper)?;
+    Ok(model)
 }

@@ -1,23 +1,16 @@
-// The bytes of the replies.
+// The bytes of the reply to a search.
 ghost use Rattle.std.specs.Prelude.{◌≡◌, ◌++◌, length, IfOk};
+ghost use Rattle.std.specs.List.{All};
+ghost use Rattle.frac128.specs.Range.{Fits};
 ghost use Rattle.lp_model.specs.Program.{value};
-ghost use Rattle.box_search.specs.Search.{Finds};
-ghost use Rattle.sym_shell.specs.Reports.{Reports};
-ghost use Rattle.sym_shell.specs.Texts.{unknown_text, value_line, column_line, column_lines, optimal_text, infeasible_text};
+ghost use Rattle.sym_shell.specs.Reports.{Reports, ReportsOptimum, FitsFinding};
+ghost use Rattle.sym_shell.specs.Texts.{value_line, column_line, column_lines, infeasible_text};
 
-use box_search::Outcome;
+use crate::stops::{write_stopped_nodes, write_stopped_wide};
+use box_search::{Outcome, StopWhy};
 use frac128::Frac;
 use lp_model::{Col, Model, Point};
 use std::alloc::AllocError;
-
-pub(crate) fn write_unknown(reply: &mut Vec<u8>, word: &[u8]) -> Result<(), AllocError>
-    ensures { IfOk result (λ _. reply.new.items ≡ reply.old.items ++ unknown_text word.now) }
-{
-    reply.extend_from_slice(b"error 02 unknown command ")?;
-    reply.extend_from_slice(word)?;
-    reply.extend_from_slice(b"\n")?;
-    Ok(())
-}
 
 fn write_infeasible(reply: &mut Vec<u8>, placed: u64) -> Result<(), AllocError>
     ensures { IfOk result (λ _. reply.new.items ≡ reply.old.items ++ infeasible_text placed) }
@@ -68,6 +61,15 @@ fn write_columns(reply: &mut Vec<u8>, columns: &[Col], numbers: &[Frac]) -> Resu
     Ok(())
 }
 
+/// Nothing happens: a caller learns that each fraction has room.
+fn have_room(numbers: &[Frac])
+    ensures { All Fits numbers.now }
+{
+    for number in numbers {
+        number.has_room();
+    }
+}
+
 /// An optimum: its value, how many results were placed, and its numbers.
 fn write_optimal(
     reply: &mut Vec<u8>,
@@ -78,8 +80,10 @@ fn write_optimal(
 ) -> Result<(), AllocError>
     requires shape { length point.now ≡ length model.now.cols }
     requires best { best.now ≡ value model.now 1 point.now }
-    ensures { IfOk result (λ _. reply.new.items ≡ reply.old.items ++ optimal_text model.now point.now placed) }
+    ensures { IfOk result (λ _. ReportsOptimum model.now best.now point.now placed reply.old.items reply.new.items) }
 {
+    best.has_room();
+    have_room(point.as_slice());
     write_value(reply, best, placed)?;
     write_columns(reply, model.cols(), point.as_slice())?;
     reply.extend_from_slice(b"end\n")?;
@@ -92,7 +96,7 @@ pub(crate) fn write_outcome(
     model: &Model,
     outcome: &Outcome,
 ) -> Result<(), AllocError>
-    requires { Finds model.now outcome.now }
+    requires { FitsFinding model.now outcome.now }
     ensures { IfOk result (λ _. Reports model.now outcome.now reply.old.items reply.new.items) }
 {
     match outcome {
@@ -102,5 +106,16 @@ pub(crate) fn write_outcome(
             placed,
         } => write_optimal(reply, model, value, point, *placed),
         Outcome::Infeasible { placed } => write_infeasible(reply, *placed),
+        Outcome::Stopped {
+            why,
+            placed,
+            bound,
+            best,
+        } => match why {
+            StopWhy::Nodes => write_stopped_nodes(reply, *placed, bound, best),
+            StopWhy::Wide { path, step } => {
+                write_stopped_wide(reply, model, *placed, bound, best, path, step)
+            }
+        },
     }
 }

@@ -1,19 +1,19 @@
 use Rattle.std.proofs.Common.{rules, [], ◌∙◌, Some, None}
 use Rattle.command_words.specs.declared.words.CommandName.TheVariants as name
-use Rattle.command_words.proofs.FormLemmas.{asks_of-first, asks_of-nothing}
+use Rattle.command_words.proofs.FormLemmas.{asks_of-first, asks_of-nothing, shown-named}
 use Rattle.command_words.proofs.words.read_words.Goals as goal
 
 pub returns-in_default : goal.returns-in_default
-returns-in_default c = asks_of-nothing c.args.words.now c.in_default.len_below
+returns-in_default c = let asked = asks_of-nothing c.args.words.now c.in_default.len_below in record { asked = asked; named = shown-named _ c.args.words.now asked }
 
 pub returns-in-Some-Load : goal.returns-in-Some-Load
-returns-in-Some-Load c = c.load_asked.ensures ∙ asks_of-first c.args.words.now (record { ref_ptr = (0, 0); now = [] }) (Some name.Load) c.in-len1-up.len_at_least (search rules)
+returns-in-Some-Load c = let asked = c.load_asked.ensures ∙ asks_of-first c.args.words.now (record { ref_ptr = (0, 0); now = [] }) (Some name.Load) c.in-len1-up.len_at_least (search rules) in record { asked = asked; named = shown-named _ c.args.words.now asked }
 
 pub returns-in-Some-Solve : goal.returns-in-Some-Solve
-returns-in-Some-Solve c = c.solve_asked.ensures ∙ asks_of-first c.args.words.now (record { ref_ptr = (0, 0); now = [] }) (Some name.Solve) c.in-len1-up.len_at_least (search rules)
+returns-in-Some-Solve c = let asked = c.solve_asked.ensures ∙ asks_of-first c.args.words.now (record { ref_ptr = (0, 0); now = [] }) (Some name.Solve) c.in-len1-up.len_at_least (search rules) in record { asked = asked; named = shown-named _ c.args.words.now asked }
 
 pub returns-in-Some-Quit : goal.returns-in-Some-Quit
-returns-in-Some-Quit c = c.quit_asked.ensures ∙ asks_of-first c.args.words.now (record { ref_ptr = (0, 0); now = [] }) (Some name.Quit) c.in-len1-up.len_at_least (search rules)
+returns-in-Some-Quit c = let asked = c.quit_asked.ensures ∙ asks_of-first c.args.words.now (record { ref_ptr = (0, 0); now = [] }) (Some name.Quit) c.in-len1-up.len_at_least (search rules) in record { asked = asked; named = shown-named _ c.args.words.now asked }
 
 pub returns-in-None : goal.returns-in-None
-returns-in-None c = asks_of-first c.args.words.now (record { ref_ptr = (0, 0); now = [] }) None c.in-len1-up.len_at_least (search rules)
+returns-in-None c = let asked = asks_of-first c.args.words.now (record { ref_ptr = (0, 0); now = [] }) None c.in-len1-up.len_at_least (search rules) in record { asked = asked; named = shown-named _ c.args.words.now asked }

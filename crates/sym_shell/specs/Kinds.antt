@@ -1,0 +1,36 @@
+-- The kinds of replies, by the bytes with which they begin.
+use Rattle.std.specs.Prelude.{◌≡◌, ℕ, List, ◌++◌, codes}
+
+pub data Kind : Type 0 where
+  Optimal : Kind
+  Infeasible : Kind
+  StoppedNodes : Kind
+  StoppedWide : Kind
+  Done : Kind
+  UnknownCommand : Kind
+  WrongArguments : Kind
+  NoModel : Kind
+  WrongNumber : Kind
+  StoreFailed : Kind
+  FileTooLong : Kind
+  FaultyText : Kind
+  WantsMemory : Kind
+
+abbrev pub front_of : Kind → List ℕ
+front_of Optimal = codes "optimal "
+front_of Infeasible = codes "infeasible "
+front_of StoppedNodes = codes "stopped nodes "
+front_of StoppedWide = codes "stopped wide "
+front_of Done = codes "ok\n"
+front_of UnknownCommand = codes "error 02 "
+front_of WrongArguments = codes "error 03 "
+front_of NoModel = codes "error 04 "
+front_of WrongNumber = codes "error 07 "
+front_of StoreFailed = codes "error 20 "
+front_of FileTooLong = codes "error 21 "
+front_of FaultyText = codes "error 30 "
+front_of WantsMemory = codes "error 90 "
+
+-- the reply is of this kind
+abbrev pub Is : Kind → List ℕ → Type 0
+Is kind reply = (rest : List ℕ) × (reply ≡ front_of kind ++ rest)
