@@ -162,7 +162,8 @@ impl Session {
         ensures cause { SinkCause result (W.faults out.old) (W.faults out.new) }
         ensures later { W.faults out.old ≤ W.faults out.new }
     {
-        if raw.len() > LINE_LIMIT {
+        let is_long = raw.len() > LINE_LIMIT;
+        if is_long {
             self.refused = true;
             write_all(out, b"error 01 line too long\n")?;
             return Ok(Flow::Open);

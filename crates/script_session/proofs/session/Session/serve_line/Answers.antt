@@ -22,8 +22,8 @@ returns-in_err-write_all-clause-served g c =
     let new = moment_of refused c.args.machine.now (written c.write_all.new.out) (files c.args.store.now) (faults c.args.store.now) in
     rw (p.1, p.2) (long_broken g.M.Machine.ends (RequestStep g.M.Machine.step) old new line long (Breaks-overlong g.M.Machine.step old new refl c.in_err-write_all.ensures.err))
 
-pub returns-then-raw-gt-LINE_LIMIT-clause-served : goal.returns-then-raw-gt-LINE_LIMIT-clause-served
-returns-then-raw-gt-LINE_LIMIT-clause-served g c =
+pub returns-then-is_long-clause-served : goal.returns-then-is_long-clause-served
+returns-then-is_long-clause-served g c =
     let written = g.W.Sink.written in
     let files = g.S.Store.files in
     let faults = g.S.Store.faults in
