@@ -2,7 +2,6 @@
 use Rattle.std.proofs.Common.{◌≡◌, ℕ, ◌≤◌, ◌<◌, ◌+◌, ◌-◌, List, [], ◌∷◌, ◌++◌, length, take, drop, refl, sym, ◌∙◌, ap, append_assoc, append-nil, subst, arith, Option, Some, None, true, false, Bool, length-append, inl, inr}
 use Rattle.std.specs.Prelude.{Result, Ok, Err, IfSome, if◌then◌else◌, ◌==◌, nat_le}
 use Rattle.std.specs.Io.KnownBytes.{Consumes, Keeps, IsAtEnd}
-use Rattle.std.specs.Str.Lines.{lines_of_parts}
 use Rattle.std.specs.List.{list_any}
 use Rattle.std.proofs.lemmas.Bool.Decides.{nat_tests}
 use Rattle.std.proofs.lemmas.List.{take-append-drop, take-take}
@@ -10,7 +9,8 @@ use Rattle.std.proofs.lemmas.List.Elements.{All-nil}
 use Rattle.std.proofs.lemmas.List.Splits.{slice_split_none}
 use Rattle.std.proofs.Math.Seq.{take-append_seam, take-append-add}
 use Rattle.script_session.specs.Run.{IsTaken, ReadsNoFurther}
-use Rattle.script_session.specs.Script.{Command, HasNoNewline, is_newline, ended_lines, whole_lines, commands, line_commands, is_end, script_commands, whole_commands, has_ending, allowed_commands, IsWithinLimit, IsOverlong}
+use Rattle.script_session.specs.Request.{Command, Request}
+use Rattle.script_session.specs.Script.{HasNoNewline, is_newline, last_line, ended_lines, all_lines, whole_lines, script_lines, requests, line_requests, is_end, script_requests, whole_requests, has_ending, allowed_requests, IsWithinLimit, IsOverlong}
 use Rattle.script_session.specs.Session.{Moment, Serves, Breaks, Reads, Finishes, Begins, ServesLine, ServesPiece, ServesRest, ServesScript}
 use Rattle.script_session.specs.Stand.{Stand}
 use Rattle.script_session.specs.declared.session.Flow.TheVariants.{Open, Ended}
@@ -22,14 +22,14 @@ use Rattle.script_session.proofs.ScriptLemmas.{Reads-append, Reads-more, Reads-F
 use Rattle.script_session.proofs.PieceLemmas.{Stands, Stands-start}
 
 -- the bytes taken so far, of which pending follows the last newline
-pub record ReadsOn {M : Type 0} (ends : Command → Bool) (step : Stand M → Command → List ℕ → Stand M → Type 0) (left left' : Option (List ℕ)) (old now : Moment M) (count : ℕ) (pending : List ℕ) : Type 0 where
+pub record ReadsOn {M : Type 0} (ends : Command → Bool) (step : Stand M → Request → List ℕ → Stand M → Type 0) (left left' : Option (List ℕ)) (old now : Moment M) (count : ℕ) (pending : List ℕ) : Type 0 where
   pub taken : List ℕ
   pub consumed : Consumes left left' taken
   pub length_is : length taken ≡ count
   pub stands : Stands ends step old taken now pending
   pub clean : HasNoNewline pending
 
-either_none : (b : Bool) (none : List Command) → (if b then none else none) ≡ none
+either_none : (b : Bool) (none : List Request) → (if b then none else none) ≡ none
 either_none true none = refl
 either_none false none = refl
 
@@ -40,9 +40,9 @@ within_test : (n limit : ℕ) → n ≤ limit → nat_le n limit ≡ true
 within_test n limit le = grind (arith, nat_tests)
 
 -- a last line
-one_line : (line : List ℕ) → 0 < length line → (if length line == 0 then [] else line ∷ []) ≡ line ∷ []
+one_line : (line : List ℕ) → 0 < length line → (if length line == 0 then [] else last_line line ∷ []) ≡ last_line line ∷ []
 one_line [] some = absurd (omega arith)
-one_line (byte ∷ line) some = ap (λ (b : Bool). if b then [] else (byte ∷ line) ∷ []) (positive (length (byte ∷ line)) some)
+one_line (byte ∷ line) some = ap (λ (b : Bool). if b then [] else last_line (byte ∷ line) ∷ []) (positive (length (byte ∷ line)) some)
 
 Consumes-none : (a : Option (List ℕ)) → Consumes a a []
 Consumes-none None = tt
@@ -92,67 +92,67 @@ Consumes-kept (Some xs) None h = absurd h
 Consumes-kept (Some xs) (Some ys) h = sym h
 
 module _ (ends : Command → Bool) where
-  pub script-rest : (line : List ℕ) → HasNoNewline line → 0 < length line → script_commands ends line ≡ line_commands line
-  unfolding script_commands commands
+  pub script-rest : (line : List ℕ) → HasNoNewline line → 0 < length line → script_requests ends line ≡ line_requests (last_line line)
+  unfolding script_requests script_lines requests
   script-rest line clean some =
-      ap (commands ends) (ap lines_of_parts (slice_split_none is_newline line clean) ∙ one_line line some)
-      ∙ ap (λ rest. line_commands line ++ rest) (either_none (is_end ends line) []) ∙ nil_right (line_commands line)
+      ap (requests ends) (ap all_lines (slice_split_none is_newline line clean) ∙ one_line line some)
+      ∙ ap (λ rest. line_requests (last_line line) ++ rest) (either_none (is_end ends (last_line line)) []) ∙ nil_right (line_requests (last_line line))
 
-  pub script-empty : script_commands ends [] ≡ []
-  unfolding script_commands commands
+  pub script-empty : script_requests ends [] ≡ []
+  unfolding script_requests script_lines requests
   script-empty = refl
 
-  pub whole-rest : (line : List ℕ) → HasNoNewline line → whole_commands ends line ≡ []
-  unfolding whole_commands whole_lines commands
-  whole-rest line clean = ap (λ parts. commands ends (ended_lines parts)) (slice_split_none is_newline line clean)
+  pub whole-rest : (line : List ℕ) → HasNoNewline line → whole_requests ends line ≡ []
+  unfolding whole_requests whole_lines requests
+  whole-rest line clean = ap (λ parts. requests ends (ended_lines parts)) (slice_split_none is_newline line clean)
 
   pub ending-rest : (line : List ℕ) → HasNoNewline line → has_ending ends line ≡ false
   unfolding has_ending whole_lines
   ending-rest line clean = ap (λ parts. list_any (is_end ends) (ended_lines parts)) (slice_split_none is_newline line clean)
 
-  whole_taken : (bytes : List ℕ) (done : List Command) (pending : List ℕ) → Reads ends bytes done pending → HasNoNewline pending → whole_commands ends bytes ≡ done
+  whole_taken : (bytes : List ℕ) (done : List Request) (pending : List ℕ) → Reads ends bytes done pending → HasNoNewline pending → whole_requests ends bytes ≡ done
   whole_taken bytes done pending r clean =
-      ap (whole_commands ends) (sym (append-nil bytes)) ∙ r.whole [] ∙ ap (λ commands. done ++ commands) (ap (whole_commands ends) (append-nil pending) ∙ whole-rest pending clean) ∙ nil_right done
+      ap (whole_requests ends) (sym (append-nil bytes)) ∙ r.whole [] ∙ ap (λ requests. done ++ requests) (ap (whole_requests ends) (append-nil pending) ∙ whole-rest pending clean) ∙ nil_right done
 
-  ending_taken : (bytes : List ℕ) (done : List Command) (pending : List ℕ) → Reads ends bytes done pending → HasNoNewline pending → has_ending ends bytes ≡ false
+  ending_taken : (bytes : List ℕ) (done : List Request) (pending : List ℕ) → Reads ends bytes done pending → HasNoNewline pending → has_ending ends bytes ≡ false
   ending_taken bytes done pending r clean = ap (has_ending ends) (sym (append-nil bytes)) ∙ r.ending [] ∙ ap (has_ending ends) (append-nil pending) ∙ ending-rest pending clean
 
-  all_taken : (bytes : List ℕ) (done : List Command) (pending : List ℕ) → Reads ends bytes done pending → script_commands ends bytes ≡ done ++ script_commands ends pending
-  all_taken bytes done pending r = ap (script_commands ends) (sym (append-nil bytes)) ∙ r.all [] ∙ ap (λ xs. done ++ script_commands ends xs) (append-nil pending)
+  all_taken : (bytes : List ℕ) (done : List Request) (pending : List ℕ) → Reads ends bytes done pending → script_requests ends bytes ≡ done ++ script_requests ends pending
+  all_taken bytes done pending r = ap (script_requests ends) (sym (append-nil bytes)) ∙ r.all [] ∙ ap (λ xs. done ++ script_requests ends xs) (append-nil pending)
 
   -- a script that fits may be answered whole
-  allowed_short : (input : List ℕ) → length input ≤ SCRIPT_LIMIT → allowed_commands ends input ≡ script_commands ends input
-  allowed_short input le = ap (λ (b : Bool). if b then script_commands ends input else whole_commands ends (take SCRIPT_LIMIT input)) (within_test (length input) SCRIPT_LIMIT le)
+  allowed_short : (input : List ℕ) → length input ≤ SCRIPT_LIMIT → allowed_requests ends input ≡ script_requests ends input
+  allowed_short input le = ap (λ (b : Bool). if b then script_requests ends input else whole_requests ends (take SCRIPT_LIMIT input)) (within_test (length input) SCRIPT_LIMIT le)
 
-  -- first commands of what may be are first among those that may be answered
-  allowed_first : (input bytes more : List ℕ) (first : List Command) → input ≡ bytes ++ more → length bytes ≤ SCRIPT_LIMIT → Begins ends bytes first → (rest : List Command) × (allowed_commands ends input ≡ first ++ rest)
+  -- the first requests of what may be are first among those that may be answered
+  allowed_first : (input bytes more : List ℕ) (first : List Request) → input ≡ bytes ++ more → length bytes ≤ SCRIPT_LIMIT → Begins ends bytes first → (rest : List Request) × (allowed_requests ends input ≡ first ++ rest)
   allowed_first input bytes more first parts le begins =
-      elim (nat_le (length input) SCRIPT_LIMIT) as (λ b. (rest : List Command) × ((if b then script_commands ends input else whole_commands ends (take SCRIPT_LIMIT input)) ≡ first ++ rest)) [
-        | true ↦ let found = begins.all more in (found.0, ap (script_commands ends) parts ∙ found.1)
+      elim (nat_le (length input) SCRIPT_LIMIT) as (λ b. (rest : List Request) × ((if b then script_requests ends input else whole_requests ends (take SCRIPT_LIMIT input)) ≡ first ++ rest)) [
+        | true ↦ let found = begins.all more in (found.0, ap (script_requests ends) parts ∙ found.1)
         | false ↦ let found = begins.whole (take (SCRIPT_LIMIT - length bytes) more) in
-            (found.0, ap (λ xs. whole_commands ends (take SCRIPT_LIMIT xs)) parts ∙ ap (whole_commands ends) (front_then SCRIPT_LIMIT bytes more le) ∙ found.1)
+            (found.0, ap (λ xs. whole_requests ends (take SCRIPT_LIMIT xs)) parts ∙ ap (whole_requests ends) (front_then SCRIPT_LIMIT bytes more le) ∙ found.1)
       ]
 
-  -- where the script ended, its commands are all that may be answered
-  allowed_finished : (input bytes more : List ℕ) (done : List Command) → input ≡ bytes ++ more → length bytes ≤ SCRIPT_LIMIT → Finishes ends bytes done → allowed_commands ends input ≡ done
+  -- where the script ended, what it asked is all that may be answered
+  allowed_finished : (input bytes more : List ℕ) (done : List Request) → input ≡ bytes ++ more → length bytes ≤ SCRIPT_LIMIT → Finishes ends bytes done → allowed_requests ends input ≡ done
   allowed_finished input bytes more done parts le finishes =
-      elim (nat_le (length input) SCRIPT_LIMIT) as (λ b. (if b then script_commands ends input else whole_commands ends (take SCRIPT_LIMIT input)) ≡ done) [
-        | true ↦ ap (script_commands ends) parts ∙ finishes.all more
-        | false ↦ ap (λ xs. whole_commands ends (take SCRIPT_LIMIT xs)) parts ∙ ap (whole_commands ends) (front_then SCRIPT_LIMIT bytes more le) ∙ finishes.whole (take (SCRIPT_LIMIT - length bytes) more)
+      elim (nat_le (length input) SCRIPT_LIMIT) as (λ b. (if b then script_requests ends input else whole_requests ends (take SCRIPT_LIMIT input)) ≡ done) [
+        | true ↦ ap (script_requests ends) parts ∙ finishes.all more
+        | false ↦ ap (λ xs. whole_requests ends (take SCRIPT_LIMIT xs)) parts ∙ ap (whole_requests ends) (front_then SCRIPT_LIMIT bytes more le) ∙ finishes.whole (take (SCRIPT_LIMIT - length bytes) more)
       ]
 
-module _ {M : Type 0} (ends : Command → Bool) (step : Stand M → Command → List ℕ → Stand M → Type 0) where
-  pub rest_failed : (fault : Stop) (old new : Moment M) (pending : List ℕ) → HasNoNewline pending → 0 < length pending → ServesLine ends step (Err fault) old pending new → ServesRest ends step (Err fault) old pending new
-  rest_failed stop.Sink old new pending clean some h = subst (λ commands. Breaks step old commands new) (sym (script-rest ends pending clean some)) h
+module _ {M : Type 0} (ends : Command → Bool) (step : Stand M → Request → List ℕ → Stand M → Type 0) where
+  pub rest_failed : (fault : Stop) (old new : Moment M) (pending : List ℕ) → HasNoNewline pending → 0 < length pending → ServesLine ends step (Err fault) old (last_line pending) new → ServesRest ends step (Err fault) old pending new
+  rest_failed stop.Sink old new pending clean some h = subst (λ requests. Breaks step old requests new) (sym (script-rest ends pending clean some)) h
   rest_failed stop.Memory old new pending clean some h = (h.0, h.1, script-rest ends pending clean some ∙ h.2, h.3)
   rest_failed stop.Source old new pending clean some h = h
   rest_failed stop.TooLong old new pending clean some h = h
 
-  pub rest_done : (old new : Moment M) (pending : List ℕ) → HasNoNewline pending → 0 < length pending → Serves step old (line_commands pending) new → Serves step old (script_commands ends pending) new
-  rest_done old new pending clean some h = subst (λ commands. Serves step old commands new) (sym (script-rest ends pending clean some)) h
+  pub rest_done : (old new : Moment M) (pending : List ℕ) → HasNoNewline pending → 0 < length pending → Serves step old (line_requests (last_line pending)) new → Serves step old (script_requests ends pending) new
+  rest_done old new pending clean some h = subst (λ requests. Serves step old requests new) (sym (script-rest ends pending clean some)) h
 
-  pub rest_none : (old : Moment M) (pending : List ℕ) → length pending ≡ 0 → Serves step old (script_commands ends pending) old
-  rest_none old [] none = subst (λ commands. Serves step old commands old) (sym (script-empty ends)) (Serves-none step old)
+  pub rest_none : (old : Moment M) (pending : List ℕ) → length pending ≡ 0 → Serves step old (script_requests ends pending) old
+  rest_none old [] none = subst (λ requests. Serves step old requests old) (sym (script-empty ends)) (Serves-none step old)
   rest_none old (byte ∷ pending) none = absurd (omega arith)
 
   pub ReadsOn-start : (left : Option (List ℕ)) (old : Moment M) (pending : List ℕ) → pending ≡ [] → ReadsOn ends step left left old old 0 pending
@@ -165,7 +165,7 @@ module _ {M : Type 0} (ends : Command → Bool) (step : Stand M → Command → 
   }
 
   -- the source has failed
-  pub read_failed : (left left' left'' : Option (List ℕ)) (old now : Moment M) (count : ℕ) (pending : List ℕ) → ReadsOn ends step left left' old now count pending → count ≤ SCRIPT_LIMIT → Keeps left' left'' → (taken : List ℕ) × IsTaken ends left left'' taken × Serves step old (whole_commands ends taken) now
+  pub read_failed : (left left' left'' : Option (List ℕ)) (old now : Moment M) (count : ℕ) (pending : List ℕ) → ReadsOn ends step left left' old now count pending → count ≤ SCRIPT_LIMIT → Keeps left' left'' → (taken : List ℕ) × IsTaken ends left left'' taken × Serves step old (whole_requests ends taken) now
   read_failed left left' left'' old now count pending r le keeps =
       let counted = r.length_is in
       let taken : IsTaken ends left left'' r.taken = record {
@@ -173,18 +173,18 @@ module _ {M : Type 0} (ends : Command → Bool) (step : Stand M → Command → 
         within = omega arith;
         unended = ending_taken ends r.taken r.stands.done pending r.stands.reads r.clean;
       } in
-      (r.taken, taken, subst (λ commands. Serves step old commands now) (sym (whole_taken ends r.taken r.stands.done pending r.stands.reads r.clean)) r.stands.serves)
+      (r.taken, taken, subst (λ requests. Serves step old requests now) (sym (whole_taken ends r.taken r.stands.done pending r.stands.reads r.clean)) r.stands.serves)
 
   -- the script is at its end
   pub read_at_end : (result : Result (Unit {0}) Stop) (left left' left'' : Option (List ℕ)) (old now new : Moment M) (count : ℕ) (pending : List ℕ) → ReadsOn ends step left left' old now count pending → count ≤ SCRIPT_LIMIT → Consumes left' left'' [] → IsAtEnd left'' → ServesRest ends step result now pending new → ServesScript ends step result left left'' old new
   read_at_end (Ok done) None left' left'' old now new count pending r le consumed end h = tt
   read_at_end (Ok done) (Some input) left' left'' old now new count pending r le consumed end h =
       let e = at_end input left' left'' r.taken r.consumed consumed end in
-      let commands = ap (script_commands ends) e ∙ all_taken ends r.taken r.stands.done pending r.stands.reads in
+      let requests = ap (script_requests ends) e ∙ all_taken ends r.taken r.stands.done pending r.stands.reads in
       let long = ap length e in
       let counted = r.length_is in
       let fits : length input ≤ SCRIPT_LIMIT = omega arith in (
-        subst (λ commands. Serves step old commands new) (sym commands) (Serves-append step old now new r.stands.done (script_commands ends pending) r.stands.serves h),
+        subst (λ requests. Serves step old requests new) (sym requests) (Serves-append step old now new r.stands.done (script_requests ends pending) r.stands.serves h),
         allowed_short ends input fits,
         inl fits,
       )
@@ -194,14 +194,14 @@ module _ {M : Type 0} (ends : Command → Bool) (step : Stand M → Command → 
       let long = ap length e in
       let counted = r.length_is in
       let fits : length input ≤ SCRIPT_LIMIT = omega arith in
-      (r.stands.done ++ script_commands ends pending, [], allowed_short ends input fits ∙ ap (script_commands ends) e ∙ all_taken ends r.taken r.stands.done pending r.stands.reads ∙ sym (nil_right _), Serves-Breaks step old now new r.stands.done (script_commands ends pending) r.stands.serves h)
+      (r.stands.done ++ script_requests ends pending, [], allowed_short ends input fits ∙ ap (script_requests ends) e ∙ all_taken ends r.taken r.stands.done pending r.stands.reads ∙ sym (nil_right _), Serves-Breaks step old now new r.stands.done (script_requests ends pending) r.stands.serves h)
   read_at_end (Err stop.Memory) None left' left'' old now new count pending r le consumed end h = tt
   read_at_end (Err stop.Memory) (Some input) left' left'' old now new count pending r le consumed end h =
       let e = at_end input left' left'' r.taken r.consumed consumed end in
       let long = ap length e in
       let counted = r.length_is in
       let fits : length input ≤ SCRIPT_LIMIT = omega arith in
-      (r.stands.done ++ h.0, h.1, allowed_short ends input fits ∙ ap (script_commands ends) e ∙ all_taken ends r.taken r.stands.done pending r.stands.reads ∙ ap (λ commands. r.stands.done ++ commands) h.2 ∙ sym (append_assoc r.stands.done h.0 h.1), Serves-Halts step old now new r.stands.done h.0 r.stands.serves h.3)
+      (r.stands.done ++ h.0, h.1, allowed_short ends input fits ∙ ap (script_requests ends) e ∙ all_taken ends r.taken r.stands.done pending r.stands.reads ∙ ap (λ requests. r.stands.done ++ requests) h.2 ∙ sym (append_assoc r.stands.done h.0 h.1), Serves-Halts step old now new r.stands.done h.0 r.stands.serves h.3)
   read_at_end (Err stop.Source) left left' left'' old now new count pending r le consumed end h = absurd h
   read_at_end (Err stop.TooLong) left left' left'' old now new count pending r le consumed end h = absurd h
 
@@ -220,20 +220,20 @@ module _ {M : Type 0} (ends : Command → Bool) (step : Stand M → Command → 
   }
 
   -- a line that ends the script has come
-  pub read_ended : (left left' left'' : Option (List ℕ)) (old now new : Moment M) (count : ℕ) (pending bytes piece others pending' : List ℕ) → ReadsOn ends step left left' old now count pending → Consumes left' left'' bytes → bytes ≡ piece ++ others → count + length piece ≤ SCRIPT_LIMIT → ServesPiece ends step (Ok Ended) now (pending ++ piece) new pending' → IfSome left (λ input. Serves step old (script_commands ends input) new × (allowed_commands ends input ≡ script_commands ends input) × IsWithinLimit ends input)
+  pub read_ended : (left left' left'' : Option (List ℕ)) (old now new : Moment M) (count : ℕ) (pending bytes piece others pending' : List ℕ) → ReadsOn ends step left left' old now count pending → Consumes left' left'' bytes → bytes ≡ piece ++ others → count + length piece ≤ SCRIPT_LIMIT → ServesPiece ends step (Ok Ended) now (pending ++ piece) new pending' → IfSome left (λ input. Serves step old (script_requests ends input) new × (allowed_requests ends input ≡ script_requests ends input) × IsWithinLimit ends input)
   read_ended None left' left'' old now new count pending bytes piece others pending' r consumed parts le h = tt
   read_ended (Some input) left' left'' old now new count pending bytes piece others pending' r consumed parts le h =
       let t = told_piece input left' left'' r.taken bytes piece others r.consumed consumed parts in
       let q = Reads-Finishes ends (r.taken ++ piece) (pending ++ piece) r.stands.done h.0 (Reads-more ends r.taken r.stands.done pending piece r.stands.reads) h.2 in
       let counted = r.length_is in
       let fits : length (r.taken ++ piece) ≤ SCRIPT_LIMIT = omega (arith, length-append r.taken piece) in (
-        subst (λ commands. Serves step old commands new) (sym (ap (script_commands ends) t.1 ∙ q.all (others ++ t.0))) (Serves-append step old now new r.stands.done h.0 r.stands.serves h.1),
-        allowed_finished ends input (r.taken ++ piece) (others ++ t.0) (r.stands.done ++ h.0) t.1 fits q ∙ sym (ap (script_commands ends) t.1 ∙ q.all (others ++ t.0)),
+        subst (λ requests. Serves step old requests new) (sym (ap (script_requests ends) t.1 ∙ q.all (others ++ t.0))) (Serves-append step old now new r.stands.done h.0 r.stands.serves h.1),
+        allowed_finished ends input (r.taken ++ piece) (others ++ t.0) (r.stands.done ++ h.0) t.1 fits q ∙ sym (ap (script_requests ends) t.1 ∙ q.all (others ++ t.0)),
         inr (ap (λ xs. has_ending ends (take SCRIPT_LIMIT xs)) t.1 ∙ ap (has_ending ends) (front_then SCRIPT_LIMIT (r.taken ++ piece) (others ++ t.0) fits) ∙ q.ending _),
       )
 
   -- a byte too many has come
-  pub read_overlong : (left left' left'' : Option (List ℕ)) (old now new : Moment M) (count : ℕ) (pending bytes piece others pending' : List ℕ) → ReadsOn ends step left left' old now count pending → Consumes left' left'' bytes → bytes ≡ piece ++ others → count + length piece ≡ SCRIPT_LIMIT → 0 < length others → ServesPiece ends step (Ok Open) now (pending ++ piece) new pending' → IfSome left (λ input. Serves step old (whole_commands ends (take SCRIPT_LIMIT input)) new × IsOverlong ends input)
+  pub read_overlong : (left left' left'' : Option (List ℕ)) (old now new : Moment M) (count : ℕ) (pending bytes piece others pending' : List ℕ) → ReadsOn ends step left left' old now count pending → Consumes left' left'' bytes → bytes ≡ piece ++ others → count + length piece ≡ SCRIPT_LIMIT → 0 < length others → ServesPiece ends step (Ok Open) now (pending ++ piece) new pending' → IfSome left (λ input. Serves step old (whole_requests ends (take SCRIPT_LIMIT input)) new × IsOverlong ends input)
   read_overlong None left' left'' old now new count pending bytes piece others pending' r consumed parts full some h = tt
   read_overlong (Some input) left' left'' old now new count pending bytes piece others pending' r consumed parts full some h =
       let t = told_piece input left' left'' r.taken bytes piece others r.consumed consumed parts in
@@ -242,7 +242,7 @@ module _ {M : Type 0} (ends : Command → Bool) (step : Stand M → Command → 
       let fits : length (r.taken ++ piece) ≡ SCRIPT_LIMIT = omega (arith, length-append r.taken piece) in
       let front = ap (take SCRIPT_LIMIT) t.1 ∙ front_is SCRIPT_LIMIT (r.taken ++ piece) (others ++ t.0) fits in
       let long = ap length t.1 in (
-        subst (λ commands. Serves step old commands new) (sym (ap (whole_commands ends) front ∙ whole_taken ends (r.taken ++ piece) (r.stands.done ++ h.0) pending' next h.3)) (Serves-append step old now new r.stands.done h.0 r.stands.serves h.1),
+        subst (λ requests. Serves step old requests new) (sym (ap (whole_requests ends) front ∙ whole_taken ends (r.taken ++ piece) (r.stands.done ++ h.0) pending' next h.3)) (Serves-append step old now new r.stands.done h.0 r.stands.serves h.1),
         (
           omega (arith, length-append (r.taken ++ piece) (others ++ t.0), length-append others t.0),
           ap (has_ending ends) front ∙ ending_taken ends (r.taken ++ piece) (r.stands.done ++ h.0) pending' next h.3,

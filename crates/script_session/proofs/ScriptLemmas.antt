@@ -1,46 +1,58 @@
--- The commands of a script, line by line.
+-- What a script asks, line by line.
 use Rattle.std.proofs.Common.{◌≡◌, ℕ, ◌<◌, List, [], ◌∷◌, ◌++◌, length, refl, sym, ◌∙◌, ap, append_assoc, arith, Bool, true, false, not, ◌&&◌, ◌||◌, map, Bor}
 use Rattle.std.specs.Prelude.{if◌then◌else◌, ◌==◌}
 use Rattle.std.proofs.lemmas.Bool.Decides.{nat_tests}
 use Rattle.std.specs.List.{slice_split, list_any}
 use Rattle.std.specs.Str.Lines.{lines, lines_of_parts, strip_carriage_return}
 use Rattle.std.proofs.lemmas.List.Splits.{slice_split_at, length-slice_split}
-use Rattle.script_session.specs.Script.{Command, HasNoNewline, is_newline, is_comment, is_silent, words_of, ended_lines, whole_lines, commands, line_commands, is_end, script_commands, whole_commands, has_ending}
+use Rattle.script_session.specs.Request.{Command, Request, Overlong, Words}
+use Rattle.script_session.specs.Script.{Line, ended_line, last_line, HasNoNewline, is_newline, is_comment, is_silent, words_of, is_long, text_requests, is_end_text, all_lines, ended_lines, whole_lines, script_lines, requests, line_requests, is_end, script_requests, whole_requests, has_ending}
 use Rattle.script_session.specs.Session.{Reads, Finishes, Begins}
 
-lines-more : (part : List ℕ) (parts : List (List ℕ)) → 0 < length parts → lines_of_parts (part ∷ parts) ≡ strip_carriage_return part ∷ lines_of_parts parts
-lines-more part [] h = absurd (omega arith)
-lines-more part (next ∷ more) h = refl
+all-more : (part : List ℕ) (parts : List (List ℕ)) → 0 < length parts → all_lines (part ∷ parts) ≡ ended_line part ∷ all_lines parts
+all-more part [] h = absurd (omega arith)
+all-more part (next ∷ more) h = refl
 
-ended-more : (part : List ℕ) (parts : List (List ℕ)) → 0 < length parts → ended_lines (part ∷ parts) ≡ strip_carriage_return part ∷ ended_lines parts
+ended-more : (part : List ℕ) (parts : List (List ℕ)) → 0 < length parts → ended_lines (part ∷ parts) ≡ ended_line part ∷ ended_lines parts
 ended-more part [] h = absurd (omega arith)
 ended-more part (next ∷ more) h = refl
+
+-- the texts of the lines are the lines of the script as a text
+texts_of_parts : (parts : List (List ℕ)) → map (λ (line : Line). line.text) (all_lines parts) ≡ lines_of_parts parts
+texts_of_parts [] = refl
+texts_of_parts (part ∷ []) = elim (length part == 0) as (λ b. map (λ (line : Line). line.text) (if b then [] else last_line part ∷ []) ≡ (if b then [] else part ∷ [])) [ true ↦ refl | false ↦ refl ]
+texts_of_parts (part ∷ next ∷ more) = ap (λ texts. strip_carriage_return part ∷ texts) (texts_of_parts (next ∷ more))
+
+pub text-script_lines : (script : List ℕ) → map (λ (line : Line). line.text) (script_lines script) ≡ lines script
+unfolding script_lines
+text-script_lines script = texts_of_parts (slice_split is_newline script)
 
 has_part : (bytes : List ℕ) → 0 < length (slice_split is_newline bytes)
 has_part bytes = omega (arith, length-slice_split is_newline bytes)
 
 -- a script that begins with a whole line
-lines-line : (line rest : List ℕ) → HasNoNewline line → lines (line ++ 10 ∷ rest) ≡ strip_carriage_return line ∷ lines rest
-lines-line line rest none = ap lines_of_parts (slice_split_at is_newline line 10 rest none refl) ∙ lines-more line (slice_split is_newline rest) (has_part rest)
+script_lines-line : (line rest : List ℕ) → HasNoNewline line → script_lines (line ++ 10 ∷ rest) ≡ ended_line line ∷ script_lines rest
+unfolding script_lines
+script_lines-line line rest none = ap all_lines (slice_split_at is_newline line 10 rest none refl) ∙ all-more line (slice_split is_newline rest) (has_part rest)
 
-whole_lines-line : (line rest : List ℕ) → HasNoNewline line → whole_lines (line ++ 10 ∷ rest) ≡ strip_carriage_return line ∷ whole_lines rest
+whole_lines-line : (line rest : List ℕ) → HasNoNewline line → whole_lines (line ++ 10 ∷ rest) ≡ ended_line line ∷ whole_lines rest
 unfolding whole_lines
 whole_lines-line line rest none = ap ended_lines (slice_split_at is_newline line 10 rest none refl) ∙ ended-more line (slice_split is_newline rest) (has_part rest)
 
-goes_on : (b : Bool) (x y : List Command) → b ≡ false → (if b then x else y) ≡ y
+goes_on : (b : Bool) (x y : List Request) → b ≡ false → (if b then x else y) ≡ y
 goes_on true x y h = absurd (cc)
 goes_on false x y h = refl
 
-is_over : (b : Bool) (x y : List Command) → b ≡ true → (if b then x else y) ≡ x
+is_over : (b : Bool) (x y : List Request) → b ≡ true → (if b then x else y) ≡ x
 is_over true x y h = refl
 is_over false x y h = absurd (cc)
 
-pub nil_right : (cs : List Command) → cs ++ [] ≡ cs
+pub nil_right : (cs : List Request) → cs ++ [] ≡ cs
 nil_right [] = refl
 nil_right (c ∷ cs) = ap (λ ds. c ∷ ds) (nil_right cs)
 
-pub silent-commands : (line : List ℕ) → is_silent line ≡ true → line_commands line ≡ []
-silent-commands line h = ap (λ (b : Bool). if b then [] else words_of line ∷ []) h
+pub silent-requests : (text : List ℕ) → is_silent text ≡ true → text_requests text ≡ []
+silent-requests text h = ap (λ (b : Bool). if b then [] else Words (words_of text) ∷ []) h
 
 or_true : (b : Bool) → b || true ≡ true
 or_true true = refl
@@ -58,81 +70,99 @@ pub wordless-silent : (line : List ℕ) (words : List (Bor (List ℕ))) → map 
 wordless-silent line [] same none = ap (λ (ws : List (List ℕ)). is_comment line || length ws == 0) (sym same) ∙ or_true (is_comment line)
 wordless-silent line (word ∷ words) same none = absurd (omega arith)
 
--- a line that is neither is a command
-pub spoken-commands : (line : List ℕ) (words : List (Bor (List ℕ))) → is_comment line ≡ false → map (λ word. word.now) words ≡ words_of line → 0 < length words → line_commands line ≡ map (λ word. word.now) words ∷ []
-spoken-commands line [] plain same some = absurd (omega arith)
-spoken-commands line (word ∷ words) plain same some =
-    let spoken : is_silent line ≡ false =
+-- a text that is neither
+pub spoken : (line : List ℕ) (words : List (Bor (List ℕ))) → is_comment line ≡ false → map (λ word. word.now) words ≡ words_of line → 0 < length words → is_silent line ≡ false
+spoken line [] plain same some = absurd (omega arith)
+spoken line (word ∷ words) plain same some =
     ap (λ b. b || length (words_of line) == 0) plain
     ∙ ap (λ (ws : List (List ℕ)). length ws == 0) (sym same)
-    ∙ some_left (length (map (λ (word : Bor (List ℕ)). word.now) (word ∷ words))) (omega arith) in
-    ap (λ (b : Bool). if b then [] else words_of line ∷ []) spoken ∙ ap (λ (ws : List (List ℕ)). ws ∷ []) (sym same)
+    ∙ some_left (length (map (λ (word : Bor (List ℕ)). word.now) (word ∷ words))) (omega arith)
+
+-- is a command
+pub spoken-requests : (line : List ℕ) (words : List (List ℕ)) → is_silent line ≡ false → words ≡ words_of line → text_requests line ≡ Words words ∷ []
+spoken-requests line words speaks same = ap (λ (b : Bool). if b then [] else Words (words_of line) ∷ []) speaks ∙ ap (λ (ws : List (List ℕ)). Words ws ∷ []) (sym same)
+
+-- a line within its limit asks what its text does
+pub short-requests : (line : Line) → is_long line ≡ false → line_requests line ≡ text_requests line.text
+short-requests line h = ap (λ (b : Bool). if b then Overlong ∷ [] else text_requests line.text) h
+
+pub long-requests : (line : Line) → is_long line ≡ true → line_requests line ≡ Overlong ∷ []
+long-requests line h = ap (λ (b : Bool). if b then Overlong ∷ [] else text_requests line.text) h
 
 module _ (ends : Command → Bool) where
-  script-line : (line rest : List ℕ) → HasNoNewline line → script_commands ends (line ++ 10 ∷ rest) ≡ line_commands (strip_carriage_return line) ++ (if is_end ends (strip_carriage_return line) then [] else script_commands ends rest)
-  unfolding script_commands commands
-  script-line line rest none = ap (commands ends) (lines-line line rest none)
+  script-line : (line rest : List ℕ) → HasNoNewline line → script_requests ends (line ++ 10 ∷ rest) ≡ line_requests (ended_line line) ++ (if is_end ends (ended_line line) then [] else script_requests ends rest)
+  unfolding script_requests requests
+  script-line line rest none = ap (requests ends) (script_lines-line line rest none)
 
-  whole-line : (line rest : List ℕ) → HasNoNewline line → whole_commands ends (line ++ 10 ∷ rest) ≡ line_commands (strip_carriage_return line) ++ (if is_end ends (strip_carriage_return line) then [] else whole_commands ends rest)
-  unfolding whole_commands commands
-  whole-line line rest none = ap (commands ends) (whole_lines-line line rest none)
+  whole-line : (line rest : List ℕ) → HasNoNewline line → whole_requests ends (line ++ 10 ∷ rest) ≡ line_requests (ended_line line) ++ (if is_end ends (ended_line line) then [] else whole_requests ends rest)
+  unfolding whole_requests requests
+  whole-line line rest none = ap (requests ends) (whole_lines-line line rest none)
 
-  ending-line : (line rest : List ℕ) → HasNoNewline line → has_ending ends (line ++ 10 ∷ rest) ≡ is_end ends (strip_carriage_return line) || has_ending ends rest
+  ending-line : (line rest : List ℕ) → HasNoNewline line → has_ending ends (line ++ 10 ∷ rest) ≡ is_end ends (ended_line line) || has_ending ends rest
   unfolding has_ending
   ending-line line rest none = ap (list_any (is_end ends)) (whole_lines-line line rest none)
 
   pub Reads-start : (bytes : List ℕ) → Reads ends bytes [] bytes
   Reads-start bytes = record { all = λ more. refl; whole = λ more. refl; ending = λ more. refl }
 
-  pub Reads-more : (bytes : List ℕ) (done : List Command) (left piece : List ℕ) → Reads ends bytes done left → Reads ends (bytes ++ piece) done (left ++ piece)
+  pub Reads-more : (bytes : List ℕ) (done : List Request) (left piece : List ℕ) → Reads ends bytes done left → Reads ends (bytes ++ piece) done (left ++ piece)
   Reads-more bytes done left piece r = record {
-    all = λ more. ap (script_commands ends) (append_assoc bytes piece more) ∙ r.all (piece ++ more) ∙ ap (λ xs. done ++ script_commands ends xs) (sym (append_assoc left piece more));
-    whole = λ more. ap (whole_commands ends) (append_assoc bytes piece more) ∙ r.whole (piece ++ more) ∙ ap (λ xs. done ++ whole_commands ends xs) (sym (append_assoc left piece more));
+    all = λ more. ap (script_requests ends) (append_assoc bytes piece more) ∙ r.all (piece ++ more) ∙ ap (λ xs. done ++ script_requests ends xs) (sym (append_assoc left piece more));
+    whole = λ more. ap (whole_requests ends) (append_assoc bytes piece more) ∙ r.whole (piece ++ more) ∙ ap (λ xs. done ++ whole_requests ends xs) (sym (append_assoc left piece more));
     ending = λ more. ap (has_ending ends) (append_assoc bytes piece more) ∙ r.ending (piece ++ more) ∙ ap (has_ending ends) (sym (append_assoc left piece more));
   }
 
-  pub Reads-append : (a b c : List ℕ) (done next : List Command) → Reads ends a done b → Reads ends b next c → Reads ends a (done ++ next) c
+  pub Reads-append : (a b c : List ℕ) (done next : List Request) → Reads ends a done b → Reads ends b next c → Reads ends a (done ++ next) c
   Reads-append a b c done next r s = record {
     all = λ more. r.all more ∙ ap (λ cs. done ++ cs) (s.all more) ∙ sym (append_assoc done next _);
     whole = λ more. r.whole more ∙ ap (λ cs. done ++ cs) (s.whole more) ∙ sym (append_assoc done next _);
     ending = λ more. r.ending more ∙ s.ending more;
   }
 
-  pub Reads-Finishes : (a b : List ℕ) (done next : List Command) → Reads ends a done b → Finishes ends b next → Finishes ends a (done ++ next)
+  pub Reads-Finishes : (a b : List ℕ) (done next : List Request) → Reads ends a done b → Finishes ends b next → Finishes ends a (done ++ next)
   Reads-Finishes a b done next r s = record {
     all = λ more. r.all more ∙ ap (λ cs. done ++ cs) (s.all more);
     whole = λ more. r.whole more ∙ ap (λ cs. done ++ cs) (s.whole more);
     ending = λ more. r.ending more ∙ s.ending more;
   }
 
-  pub Reads-Begins : (a b : List ℕ) (done next : List Command) → Reads ends a done b → Begins ends b next → Begins ends a (done ++ next)
+  pub Reads-Begins : (a b : List ℕ) (done next : List Request) → Reads ends a done b → Begins ends b next → Begins ends a (done ++ next)
   Reads-Begins a b done next r s = record {
     all = λ more. let t = s.all more in (t.0, r.all more ∙ ap (λ cs. done ++ cs) t.1 ∙ sym (append_assoc done next t.0));
     whole = λ more. let t = s.whole more in (t.0, r.whole more ∙ ap (λ cs. done ++ cs) t.1 ∙ sym (append_assoc done next t.0));
   }
 
   -- the line's command, and then what is left
-  pub Reads-line : (line rest : List ℕ) → HasNoNewline line → is_end ends (strip_carriage_return line) ≡ false → Reads ends (line ++ 10 ∷ rest) (line_commands (strip_carriage_return line)) rest
+  pub Reads-line : (line rest : List ℕ) → HasNoNewline line → is_end ends (ended_line line) ≡ false → Reads ends (line ++ 10 ∷ rest) (line_requests (ended_line line)) rest
   Reads-line line rest none continues = record {
-    all = λ more. ap (script_commands ends) (append_assoc line (10 ∷ rest) more) ∙ script-line line (rest ++ more) none ∙ ap (λ cs. line_commands (strip_carriage_return line) ++ cs) (goes_on _ [] (script_commands ends (rest ++ more)) continues);
-    whole = λ more. ap (whole_commands ends) (append_assoc line (10 ∷ rest) more) ∙ whole-line line (rest ++ more) none ∙ ap (λ cs. line_commands (strip_carriage_return line) ++ cs) (goes_on _ [] (whole_commands ends (rest ++ more)) continues);
+    all = λ more. ap (script_requests ends) (append_assoc line (10 ∷ rest) more) ∙ script-line line (rest ++ more) none ∙ ap (λ cs. line_requests (ended_line line) ++ cs) (goes_on _ [] (script_requests ends (rest ++ more)) continues);
+    whole = λ more. ap (whole_requests ends) (append_assoc line (10 ∷ rest) more) ∙ whole-line line (rest ++ more) none ∙ ap (λ cs. line_requests (ended_line line) ++ cs) (goes_on _ [] (whole_requests ends (rest ++ more)) continues);
     ending = λ more. ap (has_ending ends) (append_assoc line (10 ∷ rest) more) ∙ ending-line line (rest ++ more) none ∙ ap (λ b. b || has_ending ends (rest ++ more)) continues;
   }
 
-  pub Finishes-line : (line rest : List ℕ) → HasNoNewline line → is_end ends (strip_carriage_return line) ≡ true → Finishes ends (line ++ 10 ∷ rest) (line_commands (strip_carriage_return line))
+  pub Finishes-line : (line rest : List ℕ) → HasNoNewline line → is_end ends (ended_line line) ≡ true → Finishes ends (line ++ 10 ∷ rest) (line_requests (ended_line line))
   Finishes-line line rest none ended = record {
-    all = λ more. ap (script_commands ends) (append_assoc line (10 ∷ rest) more) ∙ script-line line (rest ++ more) none ∙ ap (λ cs. line_commands (strip_carriage_return line) ++ cs) (is_over _ [] (script_commands ends (rest ++ more)) ended) ∙ nil_right _;
-    whole = λ more. ap (whole_commands ends) (append_assoc line (10 ∷ rest) more) ∙ whole-line line (rest ++ more) none ∙ ap (λ cs. line_commands (strip_carriage_return line) ++ cs) (is_over _ [] (whole_commands ends (rest ++ more)) ended) ∙ nil_right _;
+    all = λ more. ap (script_requests ends) (append_assoc line (10 ∷ rest) more) ∙ script-line line (rest ++ more) none ∙ ap (λ cs. line_requests (ended_line line) ++ cs) (is_over _ [] (script_requests ends (rest ++ more)) ended) ∙ nil_right _;
+    whole = λ more. ap (whole_requests ends) (append_assoc line (10 ∷ rest) more) ∙ whole-line line (rest ++ more) none ∙ ap (λ cs. line_requests (ended_line line) ++ cs) (is_over _ [] (whole_requests ends (rest ++ more)) ended) ∙ nil_right _;
     ending = λ more. ap (has_ending ends) (append_assoc line (10 ∷ rest) more) ∙ ending-line line (rest ++ more) none ∙ ap (λ b. b || has_ending ends (rest ++ more)) ended;
   }
 
-  pub Begins-line : (line rest : List ℕ) (first others : List Command) → HasNoNewline line → line_commands (strip_carriage_return line) ≡ first ++ others → Begins ends (line ++ 10 ∷ rest) first
+  pub Begins-line : (line rest : List ℕ) (first others : List Request) → HasNoNewline line → line_requests (ended_line line) ≡ first ++ others → Begins ends (line ++ 10 ∷ rest) first
   Begins-line line rest first others none parts = record {
-    all = λ more. let tail = if is_end ends (strip_carriage_return line) then [] else script_commands ends (rest ++ more) in
-        (others ++ tail, ap (script_commands ends) (append_assoc line (10 ∷ rest) more) ∙ script-line line (rest ++ more) none ∙ ap (λ cs. cs ++ tail) parts ∙ append_assoc first others tail);
-    whole = λ more. let tail = if is_end ends (strip_carriage_return line) then [] else whole_commands ends (rest ++ more) in
-        (others ++ tail, ap (whole_commands ends) (append_assoc line (10 ∷ rest) more) ∙ whole-line line (rest ++ more) none ∙ ap (λ cs. cs ++ tail) parts ∙ append_assoc first others tail);
+    all = λ more. let tail = if is_end ends (ended_line line) then [] else script_requests ends (rest ++ more) in
+        (others ++ tail, ap (script_requests ends) (append_assoc line (10 ∷ rest) more) ∙ script-line line (rest ++ more) none ∙ ap (λ cs. cs ++ tail) parts ∙ append_assoc first others tail);
+    whole = λ more. let tail = if is_end ends (ended_line line) then [] else whole_requests ends (rest ++ more) in
+        (others ++ tail, ap (whole_requests ends) (append_assoc line (10 ∷ rest) more) ∙ whole-line line (rest ++ more) none ∙ ap (λ cs. cs ++ tail) parts ∙ append_assoc first others tail);
   }
 
-  pub silent-end : (line : List ℕ) → is_silent line ≡ true → is_end ends line ≡ false
-  silent-end line h = ap (λ b. not b && ends (words_of line)) h
+  pub silent-end : (text : List ℕ) → is_silent text ≡ true → is_end_text ends text ≡ false
+  silent-end text h = ap (λ b. not b && ends (words_of text)) h
+
+  pub spoken-end : (text : List ℕ) (words : List (List ℕ)) → is_silent text ≡ false → words ≡ words_of text → is_end_text ends text ≡ ends words
+  spoken-end text words speaks same = ap (λ b. not b && ends (words_of text)) speaks ∙ ap ends (sym same)
+
+  pub short-end : (line : Line) → is_long line ≡ false → is_end ends line ≡ is_end_text ends line.text
+  short-end line h = ap (λ b. not b && is_end_text ends line.text) h
+
+  pub long-end : (line : Line) → is_long line ≡ true → is_end ends line ≡ false
+  long-end line h = ap (λ b. not b && is_end_text ends line.text) h

@@ -5,7 +5,7 @@ use Rattle.std.specs.Io.KnownBytes.{Appends}
 use Rattle.std.proofs.lemmas.List.Folds.{concat-append}
 use Rattle.script_session.specs.Output.{WritesFront}
 use Rattle.script_session.specs.Reply.{wants_memory, is_error}
-use Rattle.script_session.specs.Script.{Command}
+use Rattle.script_session.specs.Request.{Command, Request, Overlong, overlong_text, RequestStep}
 use Rattle.script_session.specs.Session.{Moment, Serves, Breaks, Halts}
 use Rattle.script_session.specs.Stand.{Stand, Transcript}
 use Rattle.script_session.proofs.OutputLemmas.{Appends-none, Appends-append}
@@ -24,6 +24,10 @@ or_false : (b : Bool) → b ≡ b || false
 or_false true = refl
 or_false false = refl
 
+or_true : (b : Bool) → b || true ≡ true
+or_true true = refl
+or_true false = refl
+
 any_both : (p : List ℕ → Bool) (rs vs : List (List ℕ)) → list_any p rs || list_any p vs ≡ list_any p (rs ++ vs)
 any_both p [] vs = refl
 any_both p (r ∷ rs) vs = or_assoc (p r) (list_any p rs) (list_any p vs) ∙ ap (λ b. p r || b) (any_both p rs vs)
@@ -31,11 +35,11 @@ any_both p (r ∷ rs) vs = or_assoc (p r) (list_any p rs) (list_any p vs) ∙ ap
 any-append : (p : List ℕ → Bool) (b : Bool) (rs vs : List (List ℕ)) → (b || list_any p rs) || list_any p vs ≡ b || list_any p (rs ++ vs)
 any-append p b rs vs = or_assoc b (list_any p rs) (list_any p vs) ∙ ap (λ a. b || a) (any_both p rs vs)
 
-module _ {M : Type 0} (step : Stand M → Command → List ℕ → Stand M → Type 0) where
+module _ {M : Type 0} (step : Stand M → Request → List ℕ → Stand M → Type 0) where
   pub Serves-none : (old : Moment M) → Serves step old [] old
   Serves-none old = record { replies = []; run = refl; output = Appends-none old.written; wanted = or_false old.wanted; refused = or_false old.refused }
 
-  pub Serves-append : (a b c : Moment M) (qs us : List Command) → Serves step a qs b → Serves step b us c → Serves step a (qs ++ us) c
+  pub Serves-append : (a b c : Moment M) (qs us : List Request) → Serves step a qs b → Serves step b us c → Serves step a (qs ++ us) c
   Serves-append a b c qs us h k = record {
     replies = h.replies ++ k.replies;
     run = Transcript-append step a.state b.state c.state qs us h.replies k.replies h.run k.run;
@@ -44,7 +48,7 @@ module _ {M : Type 0} (step : Stand M → Command → List ℕ → Stand M → T
     refused = k.refused ∙ ap (λ w. w || list_any is_error k.replies) h.refused ∙ any-append is_error a.refused h.replies k.replies;
   }
 
-  pub Serves-Breaks : (a b c : Moment M) (qs us : List Command) → Serves step a qs b → Breaks step b us c → Breaks step a (qs ++ us) c
+  pub Serves-Breaks : (a b c : Moment M) (qs us : List Request) → Serves step a qs b → Breaks step b us c → Breaks step a (qs ++ us) c
   Serves-Breaks a b c qs us h k = record {
     replies = h.replies ++ k.replies;
     run = Transcript-append step a.state b.state c.state qs us h.replies k.replies h.run k.run;
@@ -54,7 +58,7 @@ module _ {M : Type 0} (step : Stand M → Command → List ℕ → Stand M → T
     front = append_assoc (concat h.replies) k.bytes k.unwritten ∙ ap (λ bytes. concat h.replies ++ bytes) k.front ∙ sym (concat-append h.replies k.replies);
   }
 
-  pub Serves-Halts : (a b c : Moment M) (qs us : List Command) → Serves step a qs b → Halts step b us c → Halts step a (qs ++ us) c
+  pub Serves-Halts : (a b c : Moment M) (qs us : List Request) → Serves step a qs b → Halts step b us c → Halts step a (qs ++ us) c
   Serves-Halts a b c qs us h k = record {
     replies = h.replies ++ k.replies;
     missing = k.missing;
@@ -63,9 +67,9 @@ module _ {M : Type 0} (step : Stand M → Command → List ℕ → Stand M → T
     one = k.one;
   }
 
-  -- one command, whose reply was written
-  pub Serves-one : (old new : Moment M) (words : Command) (reply : List ℕ) → step old.state words reply new.state → Appends old.written new.written reply → new.wanted ≡ (old.wanted || wants_memory reply) → new.refused ≡ (old.refused || is_error reply) → Serves step old (words ∷ []) new
-  Serves-one old new words reply answered output wanted refused = record {
+  -- one request, whose reply was written
+  pub Serves-one : (old new : Moment M) (request : Request) (reply : List ℕ) → step old.state request reply new.state → Appends old.written new.written reply → new.wanted ≡ (old.wanted || wants_memory reply) → new.refused ≡ (old.refused || is_error reply) → Serves step old (request ∷ []) new
+  Serves-one old new request reply answered output wanted refused = record {
     replies = reply ∷ [];
     run = (new.state, answered, refl);
     output = subst (λ bytes. Appends old.written new.written bytes) (sym (append-nil reply)) output;
@@ -74,8 +78,8 @@ module _ {M : Type 0} (step : Stand M → Command → List ℕ → Stand M → T
   }
 
   -- one whose reply was written in part
-  pub Breaks-one : (old new : Moment M) (words : Command) (reply : List ℕ) → step old.state words reply new.state → WritesFront old.written new.written reply → Breaks step old (words ∷ []) new
-  Breaks-one old new words reply answered sent = record {
+  pub Breaks-one : (old new : Moment M) (request : Request) (reply : List ℕ) → step old.state request reply new.state → WritesFront old.written new.written reply → Breaks step old (request ∷ []) new
+  Breaks-one old new request reply answered sent = record {
     replies = reply ∷ [];
     run = (new.state, answered, refl);
     bytes = sent.0;
@@ -85,8 +89,8 @@ module _ {M : Type 0} (step : Stand M → Command → List ℕ → Stand M → T
   }
 
   -- one whose reply couldn't be made whole
-  pub Halts-one : (old new : Moment M) (words : Command) → (reply : List ℕ) × step old.state words reply new.state → new.written ≡ old.written → Halts step old (words ∷ []) new
-  Halts-one old new words answered same = record {
+  pub Halts-one : (old new : Moment M) (request : Request) → (reply : List ℕ) × step old.state request reply new.state → new.written ≡ old.written → Halts step old (request ∷ []) new
+  Halts-one old new request answered same = record {
     replies = [];
     missing = answered.0 ∷ [];
     run = (new.state, answered.1, refl);
@@ -96,3 +100,11 @@ module _ {M : Type 0} (step : Stand M → Command → List ℕ → Stand M → T
 
   pub Halts-none : (old : Moment M) → Halts step old [] old
   Halts-none old = record { replies = []; missing = []; run = refl; output = Appends-none old.written; one = omega arith }
+
+-- a line that is too long
+module _ {M : Type 0} (step : Stand M → Command → List ℕ → Stand M → Type 0) where
+  pub Serves-overlong : (old new : Moment M) → new.state ≡ old.state → Appends old.written new.written overlong_text → new.wanted ≡ old.wanted → new.refused ≡ true → Serves (RequestStep step) old (Overlong ∷ []) new
+  Serves-overlong old new same output wanted refused = Serves-one (RequestStep step) old new Overlong overlong_text (same, refl) output (wanted ∙ or_false old.wanted) (refused ∙ sym (or_true old.refused))
+
+  pub Breaks-overlong : (old new : Moment M) → new.state ≡ old.state → WritesFront old.written new.written overlong_text → Breaks (RequestStep step) old (Overlong ∷ []) new
+  Breaks-overlong old new same sent = Breaks-one (RequestStep step) old new Overlong overlong_text (same, refl) sent

@@ -4,7 +4,8 @@ use Rattle.std.specs.List.{concat}
 use Rattle.std.specs.Io.KnownBytes.{Appends, Consumes}
 use Rattle.sym_io.specs.Files.{Files}
 use Rattle.script_session.specs.declared.reading.TheConstants.{SCRIPT_LIMIT, PIECE_LENGTH}
-use Rattle.script_session.specs.Script.{Command, has_ending}
+use Rattle.script_session.specs.Request.{Command, Request}
+use Rattle.script_session.specs.Script.{has_ending}
 use Rattle.script_session.specs.Stand.{Stand, stand, Transcript}
 
 -- a state, and the bytes that the sink holds, where it tells them
@@ -16,16 +17,16 @@ pub record View (S : Type 0) : Type 0 where
 abbrev pub view : {M : Type 0} → M → Option Files → ℕ → Option (List ℕ) → View (Stand M)
 view machine files faults written = record { state = stand machine files faults; written = written }
 
--- the commands have these replies, each a step from where the last one led, and the replies were written, and nothing else
-pub record Answers {S : Type 0} (step : S → Command → List ℕ → S → Type 0) (commands : List Command) (old new : View S) (replies : List (List ℕ)) : Type 0 where
-  pub transcript : Transcript step old.state commands replies new.state
+-- the requests have these replies, each a step from where the last one led, and the replies were written, and nothing else
+pub record Answers {S : Type 0} (step : S → Request → List ℕ → S → Type 0) (requests : List Request) (old new : View S) (replies : List (List ℕ)) : Type 0 where
+  pub transcript : Transcript step old.state requests replies new.state
   pub output : Appends old.written new.written (concat replies)
 
--- first commands were answered, and a front of their replies' bytes was written
-pub record IsCutOff {S : Type 0} (step : S → Command → List ℕ → S → Type 0) (commands : List Command) (old new : View S) : Type 0 where
-  pub first : List Command
-  pub rest : List Command
-  pub parts : commands ≡ first ++ rest
+-- first requests were answered, and a front of their replies' bytes was written
+pub record IsCutOff {S : Type 0} (step : S → Request → List ℕ → S → Type 0) (requests : List Request) (old new : View S) : Type 0 where
+  pub first : List Request
+  pub rest : List Request
+  pub parts : requests ≡ first ++ rest
   pub replies : List (List ℕ)
   pub transcript : Transcript step old.state first replies new.state
   pub bytes : List ℕ
@@ -33,11 +34,11 @@ pub record IsCutOff {S : Type 0} (step : S → Command → List ℕ → S → Ty
   pub front : bytes ++ unwritten ≡ concat replies
   pub output : Appends old.written new.written bytes
 
--- first commands were answered, and their replies were written whole, but for the last one maybe
-pub record IsCutShort {S : Type 0} (step : S → Command → List ℕ → S → Type 0) (commands : List Command) (old new : View S) : Type 0 where
-  pub first : List Command
-  pub rest : List Command
-  pub parts : commands ≡ first ++ rest
+-- first requests were answered, and their replies were written whole, but for the last one maybe
+pub record IsCutShort {S : Type 0} (step : S → Request → List ℕ → S → Type 0) (requests : List Request) (old new : View S) : Type 0 where
+  pub first : List Request
+  pub rest : List Request
+  pub parts : requests ≡ first ++ rest
   pub replies : List (List ℕ)
   pub missing : List (List ℕ)
   pub one : length missing ≤ 1

@@ -1,13 +1,10 @@
--- The lines of a script, the words of a line, and the commands among the lines. What ends a script is the machine's to
--- say: ends tells it of a command's words.
-use Rattle.std.specs.Prelude.{◌≡◌, ℕ, Bool, false, ◌||◌, not, List, [], ◌∷◌, ◌++◌, length, take, ◌<◌, ◌≤◌, ◌⊎◌, true, if◌then◌else◌, ◌==◌, ◌&&◌, nat_le}
+-- The lines of a script, the words of a line, and what the lines ask. What ends a script is the machine's to say: ends
+-- tells it of a command's words.
+use Rattle.std.specs.Prelude.{◌≡◌, ℕ, Bool, false, ◌||◌, not, List, [], ◌∷◌, ◌++◌, length, take, ◌<◌, ◌≤◌, ◌⊎◌, true, if◌then◌else◌, ◌==◌, ◌&&◌, nat_lt, nat_le}
 use Rattle.std.specs.List.{slice_split, filter, list_any, All}
-use Rattle.std.specs.Str.Lines.{lines, strip_carriage_return}
-use Rattle.script_session.specs.declared.reading.TheConstants.{SCRIPT_LIMIT}
-
--- a command is its words, none of which is empty
-abbrev pub Command : Type 0
-Command = List (List ℕ)
+use Rattle.std.specs.Str.Lines.{strip_carriage_return}
+use Rattle.script_session.specs.declared.reading.TheConstants.{LINE_LIMIT, SCRIPT_LIMIT}
+use Rattle.script_session.specs.Request.{Command, Request, Overlong, Words}
 
 abbrev pub is_newline : ℕ → Bool
 is_newline byte = byte == 10
@@ -23,55 +20,88 @@ is_piece bytes = not (length bytes == 0)
 
 -- the pieces between blanks and tabs
 unfoldable pub words_of : List ℕ → Command
-words_of line = filter is_piece (slice_split is_blank line)
+words_of text = filter is_piece (slice_split is_blank text)
 
 -- the first byte is `#`
 abbrev pub is_comment : List ℕ → Bool
 is_comment [] = false
 is_comment (byte ∷ bytes) = byte == 35
 
--- a comment, or a line without words, has no reply
+-- a comment, or a text without words, has no reply
 abbrev pub is_silent : List ℕ → Bool
-is_silent line = is_comment line || length (words_of line) == 0
+is_silent text = is_comment text || length (words_of text) == 0
 
--- the command of a line, if the line has one
-abbrev pub line_commands : List ℕ → List Command
-line_commands line = if is_silent line then [] else words_of line ∷ []
+-- the command of a text, if the text has one
+abbrev pub text_requests : List ℕ → List Request
+text_requests text = if is_silent text then [] else Words (words_of text) ∷ []
 
--- the line ends the script
-abbrev pub is_end : (Command → Bool) → List ℕ → Bool
-is_end ends line = not (is_silent line) && ends (words_of line)
+-- the text is a command that ends the script
+abbrev pub is_end_text : (Command → Bool) → List ℕ → Bool
+is_end_text ends text = not (is_silent text) && ends (words_of text)
 
--- the commands of lines up to the first that ends the script
-unfoldable pub commands : (Command → Bool) → List (List ℕ) → List Command
-commands ends [] = []
-commands ends (line ∷ more) = line_commands line ++ (if is_end ends line then [] else commands ends more)
+-- A line: all of its bytes before its newline, and its text, which has no carriage return before the newline.
+pub record Line : Type 0 where
+  pub raw : List ℕ
+  pub text : List ℕ
 
--- The lines whose newline is there, without it and without a carriage return before it.
-abbrev pub ended_lines : List (List ℕ) → List (List ℕ)
+-- a line whose newline is there
+abbrev pub ended_line : List ℕ → Line
+ended_line bytes = record { raw = bytes; text = strip_carriage_return bytes }
+
+-- a last line, which has no newline
+abbrev pub last_line : List ℕ → Line
+last_line bytes = record { raw = bytes; text = bytes }
+
+-- the line has more bytes than it may
+abbrev pub is_long : Line → Bool
+is_long line = nat_lt LINE_LIMIT (length line.raw)
+
+-- what a line asks, if it asks for a reply: one that is too long does, even if it is a comment or blank
+abbrev pub line_requests : Line → List Request
+line_requests line = if is_long line then Overlong ∷ [] else text_requests line.text
+
+-- the line ends the script, which one that is too long never does
+abbrev pub is_end : (Command → Bool) → Line → Bool
+is_end ends line = not (is_long line) && is_end_text ends line.text
+
+-- what lines ask, up to the first that ends the script
+unfoldable pub requests : (Command → Bool) → List Line → List Request
+requests ends [] = []
+requests ends (line ∷ more) = line_requests line ++ (if is_end ends line then [] else requests ends more)
+
+-- the lines whose newline is there
+abbrev pub ended_lines : List (List ℕ) → List Line
 ended_lines [] = []
 ended_lines (part ∷ []) = []
-ended_lines (part ∷ next ∷ more) = strip_carriage_return part ∷ ended_lines (next ∷ more)
+ended_lines (part ∷ next ∷ more) = ended_line part ∷ ended_lines (next ∷ more)
 
-unfoldable pub whole_lines : List ℕ → List (List ℕ)
+unfoldable pub whole_lines : List ℕ → List Line
 whole_lines script = ended_lines (slice_split is_newline script)
 
--- The commands of a script. A last line without its newline counts where it isn't empty, and keeps a carriage return at
--- its end.
-unfoldable pub script_commands : (Command → Bool) → List ℕ → List Command
-script_commands ends script = commands ends (lines script)
+-- those, and a last line without its newline where it isn't empty
+abbrev pub all_lines : List (List ℕ) → List Line
+all_lines [] = []
+all_lines (part ∷ []) = if length part == 0 then [] else last_line part ∷ []
+all_lines (part ∷ next ∷ more) = ended_line part ∷ all_lines (next ∷ more)
 
--- the commands in the whole lines of a script
-unfoldable pub whole_commands : (Command → Bool) → List ℕ → List Command
-whole_commands ends script = commands ends (whole_lines script)
+unfoldable pub script_lines : List ℕ → List Line
+script_lines script = all_lines (slice_split is_newline script)
+
+-- what the lines of a script ask
+unfoldable pub script_requests : (Command → Bool) → List ℕ → List Request
+script_requests ends script = requests ends (script_lines script)
+
+-- what the whole lines of a script ask
+unfoldable pub whole_requests : (Command → Bool) → List ℕ → List Request
+whole_requests ends script = requests ends (whole_lines script)
 
 -- one of the whole lines ends the script
 unfoldable pub has_ending : (Command → Bool) → List ℕ → Bool
 has_ending ends script = list_any (is_end ends) (whole_lines script)
 
--- The commands that a run may answer: of a script that is too long, those in the whole lines of the bytes that may be.
-abbrev pub allowed_commands : (Command → Bool) → List ℕ → List Command
-allowed_commands ends input = if nat_le (length input) SCRIPT_LIMIT then script_commands ends input else whole_commands ends (take SCRIPT_LIMIT input)
+-- What a run may answer: of a script that is too long, what the whole lines of the bytes that may be ask.
+abbrev pub allowed_requests : (Command → Bool) → List ℕ → List Request
+allowed_requests ends input = if nat_le (length input) SCRIPT_LIMIT then script_requests ends input else whole_requests ends (take SCRIPT_LIMIT input)
 
 -- a script that fits, or that ended before it didn't
 abbrev pub IsWithinLimit : (Command → Bool) → List ℕ → Type 0

@@ -1,6 +1,7 @@
 // A script, read piece by piece.
 ghost use Rattle.std.specs.Prelude.{◌≤◌};
 ghost use Rattle.script_session.specs.Output.{SinkCause, SourceCause};
+ghost use Rattle.script_session.specs.Request.{RequestStep};
 ghost use Rattle.script_session.specs.Run.{ReadsNoFurther};
 ghost use Rattle.script_session.specs.Session.{moment_of, ServesScript};
 
@@ -10,6 +11,9 @@ use sym_io::{Sink, Source, Store};
 
 /// The most bytes that a script may have: 16 MiB.
 pub const SCRIPT_LIMIT: usize = 16_777_216;
+
+/// The most bytes that a line may have before its newline, a carriage return there counted: 4 KiB.
+pub const LINE_LIMIT: usize = 4096;
 
 /// The most bytes that one read takes.
 pub const PIECE_LENGTH: usize = 4096;
@@ -23,7 +27,7 @@ impl Session {
         out: &mut W,
         store: &mut S,
     ) -> Result<(), Stop>
-        ensures served { ServesScript M.ends M.step result (R.left script.old) (R.left script.new)
+        ensures served { ServesScript M.ends (RequestStep M.step) result (R.left script.old) (R.left script.new)
             (moment_of self.old machine.old (W.written out.old) (S.files store.old) (S.faults store.old))
             (moment_of self.new machine.new (W.written out.new) (S.files store.new) (S.faults store.new)) }
         ensures source_cause { SourceCause result (R.faults script.old) (R.faults script.new) }

@@ -2,11 +2,13 @@
 ghost use Rattle.std.specs.Prelude.{◌≡◌, ◌<◌, ◌≤◌, ◌++◌, ◌||◌, false, length, map};
 ghost use Rattle.script_session.specs.Output.{SinkCause};
 ghost use Rattle.script_session.specs.Reply.{wants_memory, is_error, final_status};
-ghost use Rattle.script_session.specs.Script.{HasNoNewline};
+ghost use Rattle.script_session.specs.Request.{RequestStep, Words};
+ghost use Rattle.script_session.specs.Script.{HasNoNewline, text_requests, is_end_text};
 ghost use Rattle.script_session.specs.declared.session.Stop.TheVariants.{Memory, Sink as SinkStop};
 
 use crate::machine::Machine;
 use crate::output::write_all;
+use crate::reading::LINE_LIMIT;
 use crate::reply::{is_error_reply, is_memory_reply};
 use crate::words::{cut_line, is_comment_line, without_carriage_return, words};
 use std::alloc::{AllocError, Global};
@@ -54,7 +56,7 @@ pub(crate) struct Session {
 }
 
 impl Session {
-    ghost use Rattle.script_session.specs.Session.{moment_of, ServesCommand, ServesLine, ServesPiece, ServesRest};
+    ghost use Rattle.script_session.specs.Session.{moment_of, ServesOne, ServesAll, ServesLine, ServesPiece, ServesRest};
 
     pub(crate) fn new(alloc: Global) -> Self
         ensures refused { result.refused ≡ false }
@@ -105,8 +107,8 @@ impl Session {
         words: &[&[u8]],
     ) -> Result<(), Stop>
         requires { 0 < length words.now }
-        ensures served { ServesCommand M.step result (moment_of self.old machine.old (W.written out.old) (S.files store.old) (S.faults store.old))
-            (map (λ word. word.now) words.now) (moment_of self.new machine.new (W.written out.new) (S.files store.new) (S.faults store.new)) }
+        ensures served { ServesOne (RequestStep M.step) result (moment_of self.old machine.old (W.written out.old) (S.files store.old) (S.faults store.old))
+            (Words (map (λ word. word.now) words.now)) (moment_of self.new machine.new (W.written out.new) (S.files store.new) (S.faults store.new)) }
         ensures cause { SinkCause result (W.faults out.old) (W.faults out.new) }
         ensures later { W.faults out.old ≤ W.faults out.new }
     {
@@ -117,24 +119,23 @@ impl Session {
         Ok(())
     }
 
-    /// Answers one line, which is whole. A rule on all lines, such as a limit on their length, belongs here, and into
-    /// `line_commands`.
-    fn serve_line<M: Machine, W: Sink, S: Store>(
+    /// Answers the text of a line, where it has a command.
+    fn serve_text<M: Machine, W: Sink, S: Store>(
         &mut self,
         machine: &mut M,
         out: &mut W,
         store: &mut S,
-        line: &[u8],
+        text: &[u8],
     ) -> Result<Flow, Stop>
-        ensures served { ServesLine M.ends M.step result (moment_of self.old machine.old (W.written out.old) (S.files store.old) (S.faults store.old))
-            line.now (moment_of self.new machine.new (W.written out.new) (S.files store.new) (S.faults store.new)) }
+        ensures served { ServesAll (RequestStep M.step) result (moment_of self.old machine.old (W.written out.old) (S.files store.old) (S.faults store.old))
+            (text_requests text.now) (is_end_text M.ends text.now) (moment_of self.new machine.new (W.written out.new) (S.files store.new) (S.faults store.new)) }
         ensures cause { SinkCause result (W.faults out.old) (W.faults out.new) }
         ensures later { W.faults out.old ≤ W.faults out.new }
     {
-        if is_comment_line(line) {
+        if is_comment_line(text) {
             return Ok(Flow::Open);
         }
-        let words = words(self.alloc, line)?;
+        let words = words(self.alloc, text)?;
         if words.is_empty() {
             return Ok(Flow::Open);
         }
@@ -144,6 +145,30 @@ impl Session {
         } else {
             Ok(Flow::Open)
         }
+    }
+
+    /// Answers one line, of which `raw` is all that stands before its newline, and `text` is that without a carriage
+    /// return before the newline. The reply to a line that is too long needs no memory.
+    fn serve_line<M: Machine, W: Sink, S: Store>(
+        &mut self,
+        machine: &mut M,
+        out: &mut W,
+        store: &mut S,
+        raw: &[u8],
+        text: &[u8],
+    ) -> Result<Flow, Stop>
+        ensures served { ServesLine M.ends (RequestStep M.step) result (moment_of self.old machine.old (W.written out.old) (S.files store.old) (S.faults store.old))
+            (record { raw = raw.now; text = text.now }) (moment_of self.new machine.new (W.written out.new) (S.files store.new) (S.faults store.new)) }
+        ensures cause { SinkCause result (W.faults out.old) (W.faults out.new) }
+        ensures later { W.faults out.old ≤ W.faults out.new }
+    {
+        let is_long = raw.len() > LINE_LIMIT;
+        if is_long {
+            self.refused = true;
+            write_all(out, b"error 01 line too long\n")?;
+            return Ok(Flow::Open);
+        }
+        self.serve_text(machine, out, store, text)
     }
 
     /// Answers the lines that the piece ends, and keeps what follows the last of them.
@@ -156,7 +181,7 @@ impl Session {
         piece: &[u8],
     ) -> Result<Flow, Stop>
         requires { HasNoNewline pending.old.items }
-        ensures served { ServesPiece M.ends M.step result (moment_of self.old machine.old (W.written out.old) (S.files store.old) (S.faults store.old))
+        ensures served { ServesPiece M.ends (RequestStep M.step) result (moment_of self.old machine.old (W.written out.old) (S.files store.old) (S.faults store.old))
             (pending.old.items ++ piece.now) (moment_of self.new machine.new (W.written out.new) (S.files store.new) (S.faults store.new)) pending.new.items }
         ensures cause { SinkCause result (W.faults out.old) (W.faults out.new) }
         ensures later { W.faults out.old ≤ W.faults out.new }
@@ -164,7 +189,8 @@ impl Session {
         let mut rest = piece;
         while let Some((line, more)) = cut_line(rest) {
             pending.extend_from_slice(line)?;
-            match self.serve_line(machine, out, store, without_carriage_return(pending))? {
+            let text = without_carriage_return(pending);
+            match self.serve_line(machine, out, store, pending, text)? {
                 Flow::Ended => return Ok(Flow::Ended),
                 Flow::Open => pending.clear(),
             }
@@ -183,7 +209,7 @@ impl Session {
         pending: &[u8],
     ) -> Result<(), Stop>
         requires { HasNoNewline pending.now }
-        ensures served { ServesRest M.ends M.step result (moment_of self.old machine.old (W.written out.old) (S.files store.old) (S.faults store.old))
+        ensures served { ServesRest M.ends (RequestStep M.step) result (moment_of self.old machine.old (W.written out.old) (S.files store.old) (S.faults store.old))
             pending.now (moment_of self.new machine.new (W.written out.new) (S.files store.new) (S.faults store.new)) }
         ensures cause { SinkCause result (W.faults out.old) (W.faults out.new) }
         ensures later { W.faults out.old ≤ W.faults out.new }
@@ -191,7 +217,7 @@ impl Session {
         if pending.is_empty() {
             return Ok(());
         }
-        self.serve_line(machine, out, store, pending)?;
+        self.serve_line(machine, out, store, pending, pending)?;
         Ok(())
     }
 }

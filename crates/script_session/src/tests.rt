@@ -1,4 +1,4 @@
-use crate::{Machine, SCRIPT_LIMIT, run_script};
+use crate::{LINE_LIMIT, Machine, SCRIPT_LIMIT, run_script};
 use std::alloc::{AllocError, Global};
 use std::collections::BTreeMap;
 use std::test::Fail;
@@ -156,32 +156,89 @@ fn faults_have_their_statuses(rt: HostRuntime) -> Result<(), Fail> {
     Ok(())
 }
 
-/// The command, and after it a comment of as many bytes, and then the end.
-fn with_comment(alloc: Global, length: usize, end: &[u8]) -> Result<Vec<u8>, AllocError> {
+/// The command, and after it a line of as many of these bytes, and then the end.
+fn with_line(alloc: Global, byte: u8, length: usize, end: &[u8]) -> Result<Vec<u8>, AllocError> {
     let mut script = Vec::from_slice(alloc, b"a\n")?;
-    let comment = vec![in alloc; b'#'; length]?;
-    script.extend_from_slice(&comment)?;
+    let line = vec![in alloc; byte; length]?;
+    script.extend_from_slice(&line)?;
     script.extend_from_slice(end)?;
     Ok(script)
 }
 
 #[test]
-fn a_script_has_a_limit(rt: HostRuntime) -> Result<(), Fail> {
-    let cases: [(usize, &[u8], u8, &[u8]); 5] = [
-        (SCRIPT_LIMIT - 2, b"", 0, b"a\n"),
-        (SCRIPT_LIMIT - 2, b"#", 6, b"a\n"),
-        (SCRIPT_LIMIT - 5, b"\nb", 0, b"a\nb\n"),
-        (SCRIPT_LIMIT - 9, b"\nx y z\nb", 0, b"a\nx y z\n"),
-        (SCRIPT_LIMIT - 8, b"\nx y z\nb", 6, b"a\n"),
+fn lines_and_scripts_have_limits(rt: HostRuntime) -> Result<(), Fail> {
+    let cases: [(u8, usize, &[u8], u8, &[u8]); 14] = [
+        (b'#', LINE_LIMIT, b"\nb\n", 0, b"a\nb\n"),
+        (
+            b'#',
+            LINE_LIMIT + 1,
+            b"\nb\n",
+            1,
+            b"a\nerror 01 line too long\nb\n",
+        ),
+        (
+            b' ',
+            LINE_LIMIT + 1,
+            b"\nb\n",
+            1,
+            b"a\nerror 01 line too long\nb\n",
+        ),
+        (b'#', LINE_LIMIT - 1, b"\r\nb\n", 0, b"a\nb\n"),
+        (
+            b'#',
+            LINE_LIMIT,
+            b"\r\nb\n",
+            1,
+            b"a\nerror 01 line too long\nb\n",
+        ),
+        (b'#', LINE_LIMIT, b"", 0, b"a\n"),
+        (b'#', LINE_LIMIT + 1, b"", 1, b"a\nerror 01 line too long\n"),
+        (b' ', LINE_LIMIT - 5, b"x y z\nb\n", 0, b"a\nx y z\n"),
+        (
+            b' ',
+            LINE_LIMIT - 4,
+            b"x y z\nb\n",
+            1,
+            b"a\nerror 01 line too long\nb\n",
+        ),
+        (
+            b'#',
+            SCRIPT_LIMIT - 2,
+            b"",
+            1,
+            b"a\nerror 01 line too long\n",
+        ),
+        (b'#', SCRIPT_LIMIT - 2, b"#", 6, b"a\n"),
+        (
+            b'#',
+            SCRIPT_LIMIT - 5,
+            b"\nb",
+            1,
+            b"a\nerror 01 line too long\nb\n",
+        ),
+        (
+            b'#',
+            SCRIPT_LIMIT - 9,
+            b"\nx y z\nb",
+            1,
+            b"a\nerror 01 line too long\nx y z\n",
+        ),
+        (
+            b'#',
+            SCRIPT_LIMIT - 8,
+            b"\nx y z\nb",
+            6,
+            b"a\nerror 01 line too long\n",
+        ),
     ];
-    for (length, end, status, replies) in cases {
-        let script = with_comment(rt.alloc(), length, end)?;
+    for (byte, length, end, status, replies) in cases {
+        let script = with_line(rt.alloc(), byte, length, end)?;
         let (found, written) = answer(rt.alloc(), &script, NONE)?;
-        assert_eq!(rt; found, status, "after {length} bytes and {end:?}");
+        assert_eq!(rt; found, status, "after {length} of {byte} and {end:?}");
         assert_eq!(rt;
             written.as_slice(),
             replies,
-            "after {length} bytes and {end:?}"
+            "after {length} of {byte} and {end:?}"
         );
     }
     Ok(())

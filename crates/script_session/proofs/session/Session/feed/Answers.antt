@@ -3,6 +3,7 @@ use Rattle.std.specs.Prelude.{Ok, Err}
 use Rattle.std.specs.Str.Lines.{strip_carriage_return}
 use Rattle.std.proofs.lemmas.Result.{err_from_is_err_and}
 use Rattle.std.proofs.lemmas.List.Elements.{All-append, All-nil}
+use Rattle.script_session.specs.Request.{RequestStep}
 use Rattle.script_session.specs.Script.{is_newline, HasNoNewline}
 use Rattle.script_session.specs.Session.{moment_of}
 use Rattle.script_session.specs.declared.session.Flow.TheVariants.{Open, Ended}
@@ -15,7 +16,7 @@ loop-line-init g c =
     let files = g.S.Store.files in
     let faults = g.S.Store.faults in
     let old = moment_of c.args.self.now c.args.machine.now (written c.args.out.now) (files c.args.store.now) (faults c.args.store.now) in
-    record { stands = Stands-start g.M.Machine.ends g.M.Machine.step old (c.args.pending.now.items ++ c.args.piece.now); clean = c.requires; later = omega arith }
+    record { stands = Stands-start g.M.Machine.ends (RequestStep g.M.Machine.step) old (c.args.pending.now.items ++ c.args.piece.now); clean = c.requires; later = omega arith }
 
 pub returns-in_err-extend_from_slice-clause-served : goal.returns-in_err-extend_from_slice-clause-served
 returns-in_err-extend_from_slice-clause-served g c =
@@ -25,7 +26,7 @@ returns-in_err-extend_from_slice-clause-served g c =
     let faults = g.S.Store.faults in
     let old = moment_of c.args.self.now c.args.machine.now (written c.args.out.now) (files c.args.store.now) (faults c.args.store.now) in
     let now = moment_of c.loop-line.self c.loop-line.machine (written c.loop-line.out) (files c.loop-line.store) (faults c.loop-line.store) in
-    rw (p.1, p.2) (piece_wanting g.M.Machine.ends g.M.Machine.step old now (c.args.pending.now.items ++ c.args.piece.now) (c.loop-line.pending.items ++ c.loop-line.rest.now) c.extend_from_slice.new.self.items c.loop-line.invariant.stands)
+    rw (p.1, p.2) (piece_wanting g.M.Machine.ends (RequestStep g.M.Machine.step) old now (c.args.pending.now.items ++ c.args.piece.now) (c.loop-line.pending.items ++ c.loop-line.rest.now) c.extend_from_slice.new.self.items c.loop-line.invariant.stands)
 
 pub returns-in_err-extend_from_slice-2-clause-served : goal.returns-in_err-extend_from_slice-2-clause-served
 returns-in_err-extend_from_slice-2-clause-served g c =
@@ -35,7 +36,7 @@ returns-in_err-extend_from_slice-2-clause-served g c =
     let faults = g.S.Store.faults in
     let old = moment_of c.args.self.now c.args.machine.now (written c.args.out.now) (files c.args.store.now) (faults c.args.store.now) in
     let now = moment_of c.loop-line.self c.loop-line.machine (written c.loop-line.out) (files c.loop-line.store) (faults c.loop-line.store) in
-    rw (p.1, p.2) (piece_wanting g.M.Machine.ends g.M.Machine.step old now (c.args.pending.now.items ++ c.args.piece.now) (c.loop-line.pending.items ++ c.loop-line.rest.now) c.extend_from_slice-2.new.self.items c.loop-line.invariant.stands)
+    rw (p.1, p.2) (piece_wanting g.M.Machine.ends (RequestStep g.M.Machine.step) old now (c.args.pending.now.items ++ c.args.piece.now) (c.loop-line.pending.items ++ c.loop-line.rest.now) c.extend_from_slice-2.new.self.items c.loop-line.invariant.stands)
 
 pub returns-in_err-serve_line-clause-served : goal.returns-in_err-serve_line-clause-served
 returns-in_err-serve_line-clause-served g c =
@@ -52,12 +53,14 @@ returns-in_err-serve_line-clause-served g c =
     let more = c.in-Some.more.now in
     let whole = kept ++ line in
     let clean = All-append (λ byte. is_newline byte ≡ false) kept line c.loop-line.invariant.clean c.in-Some.ensures.clean in
-    let passed = c.without_carriage_return.result.now in
-    let same : passed ≡ strip_carriage_return whole = c.without_carriage_return.ensures ∙ ap strip_carriage_return (c.deref.ensures.value ∙ c.in_ok-extend_from_slice.ensures.items) in
-    let stands = Stands-joined g.M.Machine.ends g.M.Machine.step old now bytes kept line more c.loop-line.rest.now c.in-Some.ensures.parts c.loop-line.invariant.stands in
+    let passed = c.without_carriage_return-text.result.now in
+    let same : passed ≡ strip_carriage_return whole = c.without_carriage_return-text.ensures ∙ ap strip_carriage_return (c.deref.ensures.value ∙ c.in_ok-extend_from_slice.ensures.items) in
+    let raw = c.deref-in-Some.result.now in
+    let all : raw ≡ whole = c.deref-in-Some.ensures.value ∙ c.in_ok-extend_from_slice.ensures.items in
+    let stands = Stands-joined g.M.Machine.ends (RequestStep g.M.Machine.step) old now bytes kept line more c.loop-line.rest.now c.in-Some.ensures.parts c.loop-line.invariant.stands in
     let fault = c.in_err-serve_line.field-0.0 in
-    let served = served_line g.M.Machine.ends g.M.Machine.step (Err fault) (Err fault) now new passed whole refl same c.in_err-serve_line.ensures.served in
-    rw (p.1, p.2) (piece_failed g.M.Machine.ends g.M.Machine.step fault old now new bytes whole more c.extend_from_slice.new.self.items clean stands served)
+    let served = served_line g.M.Machine.ends (RequestStep g.M.Machine.step) (Err fault) (Err fault) now new raw passed whole refl all same c.in_err-serve_line.ensures.served in
+    rw (p.1, p.2) (piece_failed g.M.Machine.ends (RequestStep g.M.Machine.step) fault old now new bytes whole more c.extend_from_slice.new.self.items clean stands served)
 
 pub returns-in-Ended-clause-served : goal.returns-in-Ended-clause-served
 returns-in-Ended-clause-served g c =
@@ -73,11 +76,13 @@ returns-in-Ended-clause-served g c =
     let more = c.in-Some.more.now in
     let whole = kept ++ line in
     let clean = All-append (λ byte. is_newline byte ≡ false) kept line c.loop-line.invariant.clean c.in-Some.ensures.clean in
-    let passed = c.without_carriage_return.result.now in
-    let same : passed ≡ strip_carriage_return whole = c.without_carriage_return.ensures ∙ ap strip_carriage_return (c.deref.ensures.value ∙ c.in_ok-extend_from_slice.ensures.items) in
-    let stands = Stands-joined g.M.Machine.ends g.M.Machine.step old now bytes kept line more c.loop-line.rest.now c.in-Some.ensures.parts c.loop-line.invariant.stands in
-    let served = served_line g.M.Machine.ends g.M.Machine.step (Ok c.in_ok-serve_line.field-0) (Ok Ended) now new passed whole (ap Ok c.in-Ended.is) same c.in_ok-serve_line.ensures.served in
-    piece_ended g.M.Machine.ends g.M.Machine.step old now new bytes whole more c.extend_from_slice.new.self.items clean stands served
+    let passed = c.without_carriage_return-text.result.now in
+    let same : passed ≡ strip_carriage_return whole = c.without_carriage_return-text.ensures ∙ ap strip_carriage_return (c.deref.ensures.value ∙ c.in_ok-extend_from_slice.ensures.items) in
+    let raw = c.deref-in-Some.result.now in
+    let all : raw ≡ whole = c.deref-in-Some.ensures.value ∙ c.in_ok-extend_from_slice.ensures.items in
+    let stands = Stands-joined g.M.Machine.ends (RequestStep g.M.Machine.step) old now bytes kept line more c.loop-line.rest.now c.in-Some.ensures.parts c.loop-line.invariant.stands in
+    let served = served_line g.M.Machine.ends (RequestStep g.M.Machine.step) (Ok c.in_ok-serve_line.field-0) (Ok Ended) now new raw passed whole (ap Ok c.in-Ended.is) all same c.in_ok-serve_line.ensures.served in
+    piece_ended g.M.Machine.ends (RequestStep g.M.Machine.step) old now new bytes whole more c.extend_from_slice.new.self.items clean stands served
 
 pub loop-line-preserved : goal.loop-line-preserved
 loop-line-preserved g c =
@@ -93,13 +98,15 @@ loop-line-preserved g c =
     let more = c.in-Some.more.now in
     let whole = kept ++ line in
     let clean = All-append (λ byte. is_newline byte ≡ false) kept line c.loop-line.invariant.clean c.in-Some.ensures.clean in
-    let passed = c.without_carriage_return.result.now in
-    let same : passed ≡ strip_carriage_return whole = c.without_carriage_return.ensures ∙ ap strip_carriage_return (c.deref.ensures.value ∙ c.in_ok-extend_from_slice.ensures.items) in
-    let stands = Stands-joined g.M.Machine.ends g.M.Machine.step old now bytes kept line more c.loop-line.rest.now c.in-Some.ensures.parts c.loop-line.invariant.stands in
-    let served = served_line g.M.Machine.ends g.M.Machine.step (Ok c.in_ok-serve_line.field-0) (Ok Open) now new passed whole (ap Ok c.in-Open.is) same c.in_ok-serve_line.ensures.served in
-    let after = Stands-line g.M.Machine.ends g.M.Machine.step old now new bytes whole more clean stands served in
+    let passed = c.without_carriage_return-text.result.now in
+    let same : passed ≡ strip_carriage_return whole = c.without_carriage_return-text.ensures ∙ ap strip_carriage_return (c.deref.ensures.value ∙ c.in_ok-extend_from_slice.ensures.items) in
+    let raw = c.deref-in-Some.result.now in
+    let all : raw ≡ whole = c.deref-in-Some.ensures.value ∙ c.in_ok-extend_from_slice.ensures.items in
+    let stands = Stands-joined g.M.Machine.ends (RequestStep g.M.Machine.step) old now bytes kept line more c.loop-line.rest.now c.in-Some.ensures.parts c.loop-line.invariant.stands in
+    let served = served_line g.M.Machine.ends (RequestStep g.M.Machine.step) (Ok c.in_ok-serve_line.field-0) (Ok Open) now new raw passed whole (ap Ok c.in-Open.is) all same c.in_ok-serve_line.ensures.served in
+    let after = Stands-line g.M.Machine.ends (RequestStep g.M.Machine.step) old now new bytes whole more clean stands served in
     record {
-      stands = subst (λ (kept : List ℕ). Stands g.M.Machine.ends g.M.Machine.step old bytes new (kept ++ more)) (sym c.clear.ensures.items) after;
+      stands = subst (λ (kept : List ℕ). Stands g.M.Machine.ends (RequestStep g.M.Machine.step) old bytes new (kept ++ more)) (sym c.clear.ensures.items) after;
       clean = subst HasNoNewline (sym c.clear.ensures.items) (All-nil (λ byte. is_newline byte ≡ false));
       later = omega arith;
     }

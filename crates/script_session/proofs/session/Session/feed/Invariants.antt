@@ -1,4 +1,5 @@
 use Rattle.std.proofs.Common.{◌≤◌, ◌++◌, length}
+use Rattle.script_session.specs.Request.{RequestStep}
 use Rattle.script_session.specs.Script.{HasNoNewline}
 use Rattle.script_session.specs.Session.{moment_of}
 use Rattle.script_session.proofs.PieceLemmas.{Stands}
@@ -10,7 +11,7 @@ invariant-loop-line g l =
     let files = g.S.Store.files in
     let faults = g.S.Store.faults in
     record {
-      stands : Stands g.M.Machine.ends g.M.Machine.step (moment_of l.fn.self l.fn.machine (written l.fn.out) (files l.fn.store) (faults l.fn.store)) (l.fn.pending.items ++ l.fn.piece)
+      stands : Stands g.M.Machine.ends (RequestStep g.M.Machine.step) (moment_of l.fn.self l.fn.machine (written l.fn.out) (files l.fn.store) (faults l.fn.store)) (l.fn.pending.items ++ l.fn.piece)
           (moment_of l.self l.machine (written l.out) (files l.store) (faults l.store)) (l.pending.items ++ l.rest);
       clean : HasNoNewline l.pending.items;
       later : g.W.Sink.faults l.fn.out ≤ g.W.Sink.faults l.out;

@@ -3,6 +3,7 @@ use Rattle.std.specs.Prelude.{Ok}
 use Rattle.std.specs.Io.KnownBytes.{Consumes}
 use Rattle.std.proofs.lemmas.Result.{err_from_is_err_and}
 use Rattle.std.proofs.lemmas.List.{length-take-le}
+use Rattle.script_session.specs.Request.{RequestStep}
 use Rattle.script_session.specs.Session.{moment_of, ServesPiece, ServesRest}
 use Rattle.script_session.specs.declared.session.Flow.{Flow}
 use Rattle.script_session.specs.declared.reading.TheConstants.{PIECE_LENGTH}
@@ -12,7 +13,7 @@ use Rattle.script_session.proofs.session.Session.read_script.Goals as goal
 pub loop-count-init : goal.loop-count-init
 loop-count-init g c = record {
   reads = let old = moment_of c.args.self.now c.args.machine.now (g.W.Sink.written c.args.out.now) (g.S.Store.files c.args.store.now) (g.S.Store.faults c.args.store.now) in
-      ReadsOn-start g.M.Machine.ends g.M.Machine.step (g.R.Source.left c.args.script.now) old c.new-pending.result.items c.new-pending.ensures.items;
+      ReadsOn-start g.M.Machine.ends (RequestStep g.M.Machine.step) (g.R.Source.left c.args.script.now) old c.new-pending.result.items c.new-pending.ensures.items;
   limit = omega arith;
   source_later = omega arith;
   sink_later = omega arith;
@@ -25,7 +26,7 @@ returns-in_default-clause-served g c =
     let left'' = g.R.Source.left c.read.new.self in
     let old = moment_of c.args.self.now c.args.machine.now (g.W.Sink.written c.args.out.now) (g.S.Store.files c.args.store.now) (g.S.Store.faults c.args.store.now) in
     let now = moment_of c.loop-count.self c.loop-count.machine (g.W.Sink.written c.loop-count.out) (g.S.Store.files c.loop-count.store) (g.S.Store.faults c.loop-count.store) in
-    read_failed g.M.Machine.ends g.M.Machine.step left left' left'' old now c.loop-count.taken c.loop-count.pending.items c.loop-count.invariant.reads c.loop-count.invariant.limit c.in_default.ensures.bytes
+    read_failed g.M.Machine.ends (RequestStep g.M.Machine.step) left left' left'' old now c.loop-count.taken c.loop-count.pending.items c.loop-count.invariant.reads c.loop-count.invariant.limit c.in_default.ensures.bytes
 
 pub returns-then-count-eq0-clause-served : goal.returns-then-count-eq0-clause-served
 returns-then-count-eq0-clause-served g c =
@@ -37,8 +38,8 @@ returns-then-count-eq0-clause-served g c =
     let new = moment_of c.serve_rest.new.self c.serve_rest.new.machine (g.W.Sink.written c.serve_rest.new.out) (g.S.Store.files c.serve_rest.new.store) (g.S.Store.faults c.serve_rest.new.store) in
     let kept = c.loop-count.pending.items in
     let nothing : Consumes left' left'' [] = subst (λ (n : ℕ). Consumes left' left'' (take n c.read.new.buf)) c.if-count-eq0.true c.in-Ok.ensures.bytes.0 in
-    let served = subst (λ (rest : List ℕ). ServesRest g.M.Machine.ends g.M.Machine.step c.serve_rest.result now rest new) c.deref.ensures.value c.serve_rest.ensures.served in
-    read_at_end g.M.Machine.ends g.M.Machine.step c.serve_rest.result left left' left'' old now new c.loop-count.taken kept c.loop-count.invariant.reads c.loop-count.invariant.limit nothing (c.in-Ok.ensures.bytes.1 c.if-count-eq0.true (omega arith)) served
+    let served = subst (λ (rest : List ℕ). ServesRest g.M.Machine.ends (RequestStep g.M.Machine.step) c.serve_rest.result now rest new) c.deref.ensures.value c.serve_rest.ensures.served in
+    read_at_end g.M.Machine.ends (RequestStep g.M.Machine.step) c.serve_rest.result left left' left'' old now new c.loop-count.taken kept c.loop-count.invariant.reads c.loop-count.invariant.limit nothing (c.in-Ok.ensures.bytes.1 c.if-count-eq0.true (omega arith)) served
 
 pub returns-in_err-feed-clause-served : goal.returns-in_err-feed-clause-served
 returns-in_err-feed-clause-served g c =
@@ -57,7 +58,7 @@ returns-in_err-feed-clause-served g c =
     let parts = front_parts c.min.result count c.read.new.buf (omega arith) in
     let bound = c.in-Ok.ensures.bound in
     let long : length piece ≡ c.min.result = length-take-le c.min.result c.read.new.buf (omega arith) in
-    rw (p.1, p.2) (read_stopped g.M.Machine.ends g.M.Machine.step c.in_err-feed.field-0.0 left left' left'' old now new c.loop-count.taken kept bytes piece others c.feed.new.pending.items c.loop-count.invariant.reads c.in-Ok.ensures.bytes.0 parts (omega arith) c.in_err-feed.ensures.served)
+    rw (p.1, p.2) (read_stopped g.M.Machine.ends (RequestStep g.M.Machine.step) c.in_err-feed.field-0.0 left left' left'' old now new c.loop-count.taken kept bytes piece others c.feed.new.pending.items c.loop-count.invariant.reads c.in-Ok.ensures.bytes.0 parts (omega arith) c.in_err-feed.ensures.served)
 
 pub returns-in-Ended-clause-served : goal.returns-in-Ended-clause-served
 returns-in-Ended-clause-served g c =
@@ -75,8 +76,8 @@ returns-in-Ended-clause-served g c =
     let parts = front_parts c.min.result count c.read.new.buf (omega arith) in
     let bound = c.in-Ok.ensures.bound in
     let long : length piece ≡ c.min.result = length-take-le c.min.result c.read.new.buf (omega arith) in
-    let served = subst (λ (flow : Flow). ServesPiece g.M.Machine.ends g.M.Machine.step (Ok flow) now (kept ++ piece) new c.feed.new.pending.items) c.in-Ended.is c.in_ok-feed.ensures.served in
-    read_ended g.M.Machine.ends g.M.Machine.step left left' left'' old now new c.loop-count.taken kept bytes piece others c.feed.new.pending.items c.loop-count.invariant.reads c.in-Ok.ensures.bytes.0 parts (omega arith) served
+    let served = subst (λ (flow : Flow). ServesPiece g.M.Machine.ends (RequestStep g.M.Machine.step) (Ok flow) now (kept ++ piece) new c.feed.new.pending.items) c.in-Ended.is c.in_ok-feed.ensures.served in
+    read_ended g.M.Machine.ends (RequestStep g.M.Machine.step) left left' left'' old now new c.loop-count.taken kept bytes piece others c.feed.new.pending.items c.loop-count.invariant.reads c.in-Ok.ensures.bytes.0 parts (omega arith) served
 
 pub returns-then-count-room-clause-served : goal.returns-then-count-room-clause-served
 returns-then-count-room-clause-served g c =
@@ -94,9 +95,9 @@ returns-then-count-room-clause-served g c =
     let parts = front_parts c.min.result count c.read.new.buf (omega arith) in
     let bound = c.in-Ok.ensures.bound in
     let long : length piece ≡ c.min.result = length-take-le c.min.result c.read.new.buf (omega arith) in
-    let served = subst (λ (flow : Flow). ServesPiece g.M.Machine.ends g.M.Machine.step (Ok flow) now (kept ++ piece) new c.feed.new.pending.items) c.in-Open.is c.in_ok-feed.ensures.served in
+    let served = subst (λ (flow : Flow). ServesPiece g.M.Machine.ends (RequestStep g.M.Machine.step) (Ok flow) now (kept ++ piece) new c.feed.new.pending.items) c.in-Open.is c.in_ok-feed.ensures.served in
     let some : 0 < length others = omega (arith, length-drop c.min.result bytes) in
-    read_overlong g.M.Machine.ends g.M.Machine.step left left' left'' old now new c.loop-count.taken kept bytes piece others c.feed.new.pending.items c.loop-count.invariant.reads c.in-Ok.ensures.bytes.0 parts (omega arith) some served
+    read_overlong g.M.Machine.ends (RequestStep g.M.Machine.step) left left' left'' old now new c.loop-count.taken kept bytes piece others c.feed.new.pending.items c.loop-count.invariant.reads c.in-Ok.ensures.bytes.0 parts (omega arith) some served
 
 pub loop-count-preserved : goal.loop-count-preserved
 loop-count-preserved g c =
@@ -114,11 +115,11 @@ loop-count-preserved g c =
     let parts = front_parts c.min.result count c.read.new.buf (omega arith) in
     let bound = c.in-Ok.ensures.bound in
     let long : length piece ≡ c.min.result = length-take-le c.min.result c.read.new.buf (omega arith) in
-    let served = subst (λ (flow : Flow). ServesPiece g.M.Machine.ends g.M.Machine.step (Ok flow) now (kept ++ piece) new c.feed.new.pending.items) c.in-Open.is c.in_ok-feed.ensures.served in
+    let served = subst (λ (flow : Flow). ServesPiece g.M.Machine.ends (RequestStep g.M.Machine.step) (Ok flow) now (kept ++ piece) new c.feed.new.pending.items) c.in-Open.is c.in_ok-feed.ensures.served in
     let same : c.min.result ≡ count = omega arith in
     let consumed : Consumes left' left'' piece = subst (λ (n : ℕ). Consumes left' left'' (take n c.read.new.buf)) (sym same) c.in-Ok.ensures.bytes.0 in
     record {
-      reads = ReadsOn-more g.M.Machine.ends g.M.Machine.step left left' left'' old now new c.loop-count.taken count kept piece c.feed.new.pending.items c.loop-count.invariant.reads consumed (omega arith) served;
+      reads = ReadsOn-more g.M.Machine.ends (RequestStep g.M.Machine.step) left left' left'' old now new c.loop-count.taken count kept piece c.feed.new.pending.items c.loop-count.invariant.reads consumed (omega arith) served;
       limit = omega arith;
       source_later = omega arith;
       sink_later = omega arith;
@@ -131,7 +132,7 @@ returns-in_default-clause-no_further g c =
     let left'' = g.R.Source.left c.read.new.self in
     let old = moment_of c.args.self.now c.args.machine.now (g.W.Sink.written c.args.out.now) (g.S.Store.files c.args.store.now) (g.S.Store.faults c.args.store.now) in
     let now = moment_of c.loop-count.self c.loop-count.machine (g.W.Sink.written c.loop-count.out) (g.S.Store.files c.loop-count.store) (g.S.Store.faults c.loop-count.store) in
-    read_no_further g.M.Machine.ends g.M.Machine.step left left' left'' old now c.loop-count.taken c.loop-count.pending.items [] c.loop-count.invariant.reads c.loop-count.invariant.limit (Consumes-kept left' left'' c.in_default.ensures.bytes) (omega arith)
+    read_no_further g.M.Machine.ends (RequestStep g.M.Machine.step) left left' left'' old now c.loop-count.taken c.loop-count.pending.items [] c.loop-count.invariant.reads c.loop-count.invariant.limit (Consumes-kept left' left'' c.in_default.ensures.bytes) (omega arith)
 
 pub returns-then-count-eq0-clause-no_further : goal.returns-then-count-eq0-clause-no_further
 returns-then-count-eq0-clause-no_further g c =
@@ -143,7 +144,7 @@ returns-then-count-eq0-clause-no_further g c =
     let bytes = take c.in-Ok.count c.read.new.buf in
     let bound = c.in-Ok.ensures.bound in
     let short : length bytes ≤ PIECE_LENGTH = omega arith in
-    read_no_further g.M.Machine.ends g.M.Machine.step left left' left'' old now c.loop-count.taken c.loop-count.pending.items bytes c.loop-count.invariant.reads c.loop-count.invariant.limit c.in-Ok.ensures.bytes.0 short
+    read_no_further g.M.Machine.ends (RequestStep g.M.Machine.step) left left' left'' old now c.loop-count.taken c.loop-count.pending.items bytes c.loop-count.invariant.reads c.loop-count.invariant.limit c.in-Ok.ensures.bytes.0 short
 
 pub returns-in_err-feed-clause-no_further : goal.returns-in_err-feed-clause-no_further
 returns-in_err-feed-clause-no_further g c =
@@ -155,7 +156,7 @@ returns-in_err-feed-clause-no_further g c =
     let bytes = take c.in-Ok.count c.read.new.buf in
     let bound = c.in-Ok.ensures.bound in
     let short : length bytes ≤ PIECE_LENGTH = omega arith in
-    read_no_further g.M.Machine.ends g.M.Machine.step left left' left'' old now c.loop-count.taken c.loop-count.pending.items bytes c.loop-count.invariant.reads c.loop-count.invariant.limit c.in-Ok.ensures.bytes.0 short
+    read_no_further g.M.Machine.ends (RequestStep g.M.Machine.step) left left' left'' old now c.loop-count.taken c.loop-count.pending.items bytes c.loop-count.invariant.reads c.loop-count.invariant.limit c.in-Ok.ensures.bytes.0 short
 
 pub returns-in-Ended-clause-no_further : goal.returns-in-Ended-clause-no_further
 returns-in-Ended-clause-no_further g c =
@@ -167,7 +168,7 @@ returns-in-Ended-clause-no_further g c =
     let bytes = take c.in-Ok.count c.read.new.buf in
     let bound = c.in-Ok.ensures.bound in
     let short : length bytes ≤ PIECE_LENGTH = omega arith in
-    read_no_further g.M.Machine.ends g.M.Machine.step left left' left'' old now c.loop-count.taken c.loop-count.pending.items bytes c.loop-count.invariant.reads c.loop-count.invariant.limit c.in-Ok.ensures.bytes.0 short
+    read_no_further g.M.Machine.ends (RequestStep g.M.Machine.step) left left' left'' old now c.loop-count.taken c.loop-count.pending.items bytes c.loop-count.invariant.reads c.loop-count.invariant.limit c.in-Ok.ensures.bytes.0 short
 
 pub returns-then-count-room-clause-no_further : goal.returns-then-count-room-clause-no_further
 returns-then-count-room-clause-no_further g c =
@@ -179,4 +180,4 @@ returns-then-count-room-clause-no_further g c =
     let bytes = take c.in-Ok.count c.read.new.buf in
     let bound = c.in-Ok.ensures.bound in
     let short : length bytes ≤ PIECE_LENGTH = omega arith in
-    read_no_further g.M.Machine.ends g.M.Machine.step left left' left'' old now c.loop-count.taken c.loop-count.pending.items bytes c.loop-count.invariant.reads c.loop-count.invariant.limit c.in-Ok.ensures.bytes.0 short
+    read_no_further g.M.Machine.ends (RequestStep g.M.Machine.step) left left' left'' old now c.loop-count.taken c.loop-count.pending.items bytes c.loop-count.invariant.reads c.loop-count.invariant.limit c.in-Ok.ensures.bytes.0 short

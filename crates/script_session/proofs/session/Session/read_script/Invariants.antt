@@ -1,4 +1,5 @@
 use Rattle.std.proofs.Common.{◌≤◌, ◌-◌}
+use Rattle.script_session.specs.Request.{RequestStep}
 use Rattle.script_session.specs.Session.{moment_of}
 use Rattle.script_session.specs.declared.reading.TheConstants.{SCRIPT_LIMIT}
 use Rattle.script_session.proofs.ReadLemmas.{ReadsOn}
@@ -10,7 +11,7 @@ invariant-loop-count g l =
     let files = g.S.Store.files in
     let faults = g.S.Store.faults in
     record {
-      reads : ReadsOn g.M.Machine.ends g.M.Machine.step (g.R.Source.left l.fn.script) (g.R.Source.left l.script)
+      reads : ReadsOn g.M.Machine.ends (RequestStep g.M.Machine.step) (g.R.Source.left l.fn.script) (g.R.Source.left l.script)
           (moment_of l.fn.self l.fn.machine (written l.fn.out) (files l.fn.store) (faults l.fn.store))
           (moment_of l.self l.machine (written l.out) (files l.store) (faults l.store)) l.taken l.pending.items;
       limit : l.taken ≤ SCRIPT_LIMIT;

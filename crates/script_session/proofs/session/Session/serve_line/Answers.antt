@@ -1,48 +1,46 @@
-use Rattle.std.proofs.Common.{◌≡◌, ◌<◌, ℕ, List, [], map, length, Bor, refl, sym, ◌∙◌, ap, subst, arith}
-use Rattle.std.specs.Prelude.{if◌then◌else◌, Err}
+use Rattle.std.proofs.Common.{◌≡◌, refl, true, false, arith}
+use Rattle.std.proofs.lemmas.Bool.Decides.{nat_tests}
 use Rattle.std.proofs.lemmas.Result.{err_from_is_err_and}
-use Rattle.script_session.specs.Script.{line_commands}
-use Rattle.script_session.specs.Session.{moment_of, Serves, ServesCommand}
-use Rattle.script_session.specs.declared.session.Flow.TheVariants.{Open, Ended}
-use Rattle.script_session.proofs.SessionLemmas.{Serves-none, Halts-none}
-use Rattle.script_session.proofs.ScriptLemmas.{comment-silent, wordless-silent, spoken-commands, silent-commands, silent-end}
-use Rattle.script_session.proofs.PieceLemmas.{line_failed}
+use Rattle.script_session.specs.Request.{RequestStep}
+use Rattle.script_session.specs.Script.{Line, is_long}
+use Rattle.script_session.specs.Session.{moment_of}
+use Rattle.script_session.specs.declared.session.Session.{Session}
+use Rattle.script_session.proofs.SessionLemmas.{Serves-overlong, Breaks-overlong}
+use Rattle.script_session.proofs.PieceLemmas.{long_broken, short_line, long_line}
 use Rattle.script_session.proofs.session.Session.serve_line.Goals as goal
 
-pub returns-then-is_comment_line-clause-served : goal.returns-then-is_comment_line-clause-served
-returns-then-is_comment_line-clause-served g c =
-    let silent = comment-silent c.args.line.now (sym c.is_comment_line.ensures ∙ c.if-is_comment_line.true) in
-    let old = moment_of c.args.self.now c.args.machine.now (g.W.Sink.written c.args.out.now) (g.S.Store.files c.args.store.now) (g.S.Store.faults c.args.store.now) in (
-      subst (λ commands. Serves g.M.Machine.step old commands old) (sym (silent-commands c.args.line.now silent)) (Serves-none g.M.Machine.step old),
-      ap (λ b. if b then Ended else Open) (sym (silent-end g.M.Machine.ends c.args.line.now silent)),
-    )
-
-pub returns-in_err-words-clause-served : goal.returns-in_err-words-clause-served
-returns-in_err-words-clause-served g c =
+pub returns-in_err-write_all-clause-served : goal.returns-in_err-write_all-clause-served
+returns-in_err-write_all-clause-served g c =
     let p = err_from_is_err_and c.from_residual.result c.from_residual.ensures.1 in
-    let old = moment_of c.args.self.now c.args.machine.now (g.W.Sink.written c.args.out.now) (g.S.Store.files c.args.store.now) (g.S.Store.faults c.args.store.now) in
-    rw (p.1, p.2) ([], line_commands c.args.line.now, refl, Halts-none g.M.Machine.step old)
-
-pub returns-then-is_empty-clause-served : goal.returns-then-is_empty-clause-served
-returns-then-is_empty-clause-served g c =
-    let none : length c.in_ok-words.words.items ≡ 0 = grind arith in
-    let silent = wordless-silent c.args.line.now c.in_ok-words.words.items c.in_ok-words.ensures none in
-    let old = moment_of c.args.self.now c.args.machine.now (g.W.Sink.written c.args.out.now) (g.S.Store.files c.args.store.now) (g.S.Store.faults c.args.store.now) in (
-      subst (λ commands. Serves g.M.Machine.step old commands old) (sym (silent-commands c.args.line.now silent)) (Serves-none g.M.Machine.step old),
-      ap (λ b. if b then Ended else Open) (sym (silent-end g.M.Machine.ends c.args.line.now silent)),
-    )
-
-pub returns-in_err-serve_command-clause-served : goal.returns-in_err-serve_command-clause-served
-returns-in_err-serve_command-clause-served g c =
-    let p = err_from_is_err_and c.from_residual-in_err-serve_command.result c.from_residual-in_err-serve_command.ensures.1 in
     let written = g.W.Sink.written in
     let files = g.S.Store.files in
     let faults = g.S.Store.faults in
+    let line : Line = record { raw = c.args.raw.now; text = c.args.text.now } in
+    let long : is_long line ≡ true = grind (arith, nat_tests) in
     let old = moment_of c.args.self.now c.args.machine.now (written c.args.out.now) (files c.args.store.now) (faults c.args.store.now) in
-    let new = moment_of c.serve_command.new.self c.serve_command.new.machine (written c.serve_command.new.out) (files c.serve_command.new.store) (faults c.serve_command.new.store) in
-    let words = c.in_ok-words.words.items in
-    let some : 0 < length words = grind arith in
-    let spoken = spoken-commands c.args.line.now words (sym c.is_comment_line.ensures ∙ c.if-is_comment_line.false) c.in_ok-words.ensures some in
-    let fault = c.in_err-serve_command.field-0.0 in
-    let served = subst (λ (words : List (Bor (List ℕ))). ServesCommand g.M.Machine.step (Err fault) old (map (λ word. word.now) words) new) c.deref.ensures.value c.in_err-serve_command.ensures.served in
-    rw (p.1, p.2) (line_failed g.M.Machine.ends g.M.Machine.step fault old new c.args.line.now (map (λ word. word.now) words) spoken served)
+    let refused : Session = record c.args.self.now { refused = true } in
+    let new = moment_of refused c.args.machine.now (written c.write_all.new.out) (files c.args.store.now) (faults c.args.store.now) in
+    rw (p.1, p.2) (long_broken g.M.Machine.ends (RequestStep g.M.Machine.step) old new line long (Breaks-overlong g.M.Machine.step old new refl c.in_err-write_all.ensures.err))
+
+pub returns-then-is_long-clause-served : goal.returns-then-is_long-clause-served
+returns-then-is_long-clause-served g c =
+    let written = g.W.Sink.written in
+    let files = g.S.Store.files in
+    let faults = g.S.Store.faults in
+    let line : Line = record { raw = c.args.raw.now; text = c.args.text.now } in
+    let long : is_long line ≡ true = grind (arith, nat_tests) in
+    let old = moment_of c.args.self.now c.args.machine.now (written c.args.out.now) (files c.args.store.now) (faults c.args.store.now) in
+    let refused : Session = record c.args.self.now { refused = true } in
+    let new = moment_of refused c.args.machine.now (written c.write_all.new.out) (files c.args.store.now) (faults c.args.store.now) in
+    long_line g.M.Machine.ends (RequestStep g.M.Machine.step) old new line long (Serves-overlong g.M.Machine.step old new refl c.in_ok-write_all.ensures.ok refl refl)
+
+pub returns-clause-served : goal.returns-clause-served
+returns-clause-served g c =
+    let written = g.W.Sink.written in
+    let files = g.S.Store.files in
+    let faults = g.S.Store.faults in
+    let line : Line = record { raw = c.args.raw.now; text = c.args.text.now } in
+    let short : is_long line ≡ false = grind (arith, nat_tests) in
+    let old = moment_of c.args.self.now c.args.machine.now (written c.args.out.now) (files c.args.store.now) (faults c.args.store.now) in
+    let new = moment_of c.serve_text.new.self c.serve_text.new.machine (written c.serve_text.new.out) (files c.serve_text.new.store) (faults c.serve_text.new.store) in
+    short_line g.M.Machine.ends (RequestStep g.M.Machine.step) c.serve_text.result old new line short c.serve_text.ensures.served
