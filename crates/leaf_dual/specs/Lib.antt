@@ -1,0 +1,3 @@
+pub mod Dual
+pub mod Answers
+pub mod Parts
