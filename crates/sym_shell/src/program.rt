@@ -9,7 +9,7 @@ ghost use Rattle.script_session.specs.Reply.{status_of};
 ghost use Rattle.script_session.specs.Request.{RequestStep};
 ghost use Rattle.script_session.specs.Script.{script_requests, whole_requests, allowed_requests, IsWithinLimit, IsOverlong};
 ghost use Rattle.script_session.specs.Run.{Answers, IsCutOff, IsCutShort, IsTaken, ReadsNoFurther};
-ghost use Rattle.sym_shell.specs.Shell.{never};
+ghost use Rattle.sym_shell.specs.Shell.{quits};
 ghost use Rattle.sym_shell.specs.Causes.{IsAnswered};
 ghost use Rattle.sym_shell.specs.Run.{IsRunForm, usage, start, end_with};
 
@@ -41,21 +41,21 @@ fn run_commands<R: Source, W: Sink, S: Store>(
 ) -> u8
     ensures known { (result < 2) ⊎ ((2 < result) × (result < 7)) }
     ensures transcript { result < 2 → IfSome (R.left script.old) (λ input. (model : Option Program) × (replies : List (List ℕ))
-        × Answers (RequestStep IsAnswered) (script_requests never input) (start (S.files store.old) (S.faults store.old) (W.written out.old)) (end_with model (S.files store.new) (S.faults store.new) (W.written out.new)) replies
+        × Answers (RequestStep IsAnswered) (script_requests quits input) (start (S.files store.old) (S.faults store.old) (W.written out.old)) (end_with model (S.files store.new) (S.faults store.new) (W.written out.new)) replies
         × (result ≡ status_of replies)) }
-    ensures within { result < 2 → IfSome (R.left script.old) (IsWithinLimit never) }
+    ensures within { result < 2 → IfSome (R.left script.old) (IsWithinLimit quits) }
     ensures source_failed { result ≡ 3 → Rose (R.faults script.old) (R.faults script.new) }
-    ensures until_source_failed { result ≡ 3 → (model : Option Program) × (taken : List ℕ) × IsTaken never (R.left script.old) (R.left script.new) taken × (replies : List (List ℕ))
-        × Answers (RequestStep IsAnswered) (whole_requests never taken) (start (S.files store.old) (S.faults store.old) (W.written out.old)) (end_with model (S.files store.new) (S.faults store.new) (W.written out.new)) replies }
+    ensures until_source_failed { result ≡ 3 → (model : Option Program) × (taken : List ℕ) × IsTaken quits (R.left script.old) (R.left script.new) taken × (replies : List (List ℕ))
+        × Answers (RequestStep IsAnswered) (whole_requests quits taken) (start (S.files store.old) (S.faults store.old) (W.written out.old)) (end_with model (S.files store.new) (S.faults store.new) (W.written out.new)) replies }
     ensures sink_failed { result ≡ 4 → Rose (W.faults out.old) (W.faults out.new) }
     ensures until_sink_failed { result ≡ 4 → IfSome (R.left script.old) (λ input. (model : Option Program)
-        × IsCutOff (RequestStep IsAnswered) (allowed_requests never input) (start (S.files store.old) (S.faults store.old) (W.written out.old)) (end_with model (S.files store.new) (S.faults store.new) (W.written out.new))) }
+        × IsCutOff (RequestStep IsAnswered) (allowed_requests quits input) (start (S.files store.old) (S.faults store.old) (W.written out.old)) (end_with model (S.files store.new) (S.faults store.new) (W.written out.new))) }
     ensures until_memory_wanted { result ≡ 5 → IfSome (R.left script.old) (λ input. (model : Option Program)
-        × IsCutShort (RequestStep IsAnswered) (allowed_requests never input) (start (S.files store.old) (S.faults store.old) (W.written out.old)) (end_with model (S.files store.new) (S.faults store.new) (W.written out.new))) }
-    ensures too_long { result ≡ 6 → IfSome (R.left script.old) (IsOverlong never) }
+        × IsCutShort (RequestStep IsAnswered) (allowed_requests quits input) (start (S.files store.old) (S.faults store.old) (W.written out.old)) (end_with model (S.files store.new) (S.faults store.new) (W.written out.new))) }
+    ensures too_long { result ≡ 6 → IfSome (R.left script.old) (IsOverlong quits) }
     ensures until_too_long { result ≡ 6 → IfSome (R.left script.old) (λ input. (model : Option Program) × (replies : List (List ℕ))
-        × Answers (RequestStep IsAnswered) (whole_requests never (take SCRIPT_LIMIT input)) (start (S.files store.old) (S.faults store.old) (W.written out.old)) (end_with model (S.files store.new) (S.faults store.new) (W.written out.new)) replies) }
-    ensures no_further { ReadsNoFurther never (R.left script.old) (R.left script.new) }
+        × Answers (RequestStep IsAnswered) (whole_requests quits (take SCRIPT_LIMIT input)) (start (S.files store.old) (S.faults store.old) (W.written out.old)) (end_with model (S.files store.new) (S.faults store.new) (W.written out.new)) replies) }
+    ensures no_further { ReadsNoFurther quits (R.left script.old) (R.left script.new) }
     ensures source_later { R.faults script.old ≤ R.faults script.new }
     ensures sink_later { W.faults out.old ≤ W.faults out.new }
 {
@@ -84,31 +84,31 @@ pub fn run<R: Source, W: Sink, S: Store>(
 
     // The script came to its end: the replies are those to all that its lines ask.
     ensures transcript { result < 2 → IfSome (R.left script.old) (λ input. (model : Option Program) × (replies : List (List ℕ))
-        × Answers (RequestStep IsAnswered) (script_requests never input) (start (S.files store.old) (S.faults store.old) (W.written out.old)) (end_with model (S.files store.new) (S.faults store.new) (W.written out.new)) replies
+        × Answers (RequestStep IsAnswered) (script_requests quits input) (start (S.files store.old) (S.faults store.old) (W.written out.old)) (end_with model (S.files store.new) (S.faults store.new) (W.written out.new)) replies
         × (result ≡ status_of replies)) }
-    ensures within { result < 2 → IfSome (R.left script.old) (IsWithinLimit never) }
+    ensures within { result < 2 → IfSome (R.left script.old) (IsWithinLimit quits) }
 
     // The source failed: the replies are those to the whole lines of what was taken.
     ensures source_failed { result ≡ 3 → Rose (R.faults script.old) (R.faults script.new) }
-    ensures until_source_failed { result ≡ 3 → (model : Option Program) × (taken : List ℕ) × IsTaken never (R.left script.old) (R.left script.new) taken × (replies : List (List ℕ))
-        × Answers (RequestStep IsAnswered) (whole_requests never taken) (start (S.files store.old) (S.faults store.old) (W.written out.old)) (end_with model (S.files store.new) (S.faults store.new) (W.written out.new)) replies }
+    ensures until_source_failed { result ≡ 3 → (model : Option Program) × (taken : List ℕ) × IsTaken quits (R.left script.old) (R.left script.new) taken × (replies : List (List ℕ))
+        × Answers (RequestStep IsAnswered) (whole_requests quits taken) (start (S.files store.old) (S.faults store.old) (W.written out.old)) (end_with model (S.files store.new) (S.faults store.new) (W.written out.new)) replies }
 
     // The sink failed: what is written is a front of the replies to first requests.
     ensures sink_failed { result ≡ 4 → Rose (W.faults out.old) (W.faults out.new) }
     ensures until_sink_failed { result ≡ 4 → IfSome (R.left script.old) (λ input. (model : Option Program)
-        × IsCutOff (RequestStep IsAnswered) (allowed_requests never input) (start (S.files store.old) (S.faults store.old) (W.written out.old)) (end_with model (S.files store.new) (S.faults store.new) (W.written out.new))) }
+        × IsCutOff (RequestStep IsAnswered) (allowed_requests quits input) (start (S.files store.old) (S.faults store.old) (W.written out.old)) (end_with model (S.files store.new) (S.faults store.new) (W.written out.new))) }
 
     // Memory was wanting: first requests were answered, and all but at most the last of their replies are written.
     ensures until_memory_wanted { result ≡ 5 → IfSome (R.left script.old) (λ input. (model : Option Program)
-        × IsCutShort (RequestStep IsAnswered) (allowed_requests never input) (start (S.files store.old) (S.faults store.old) (W.written out.old)) (end_with model (S.files store.new) (S.faults store.new) (W.written out.new))) }
+        × IsCutShort (RequestStep IsAnswered) (allowed_requests quits input) (start (S.files store.old) (S.faults store.old) (W.written out.old)) (end_with model (S.files store.new) (S.faults store.new) (W.written out.new))) }
 
     // A byte too many came: the replies are those to the whole lines among the bytes that are allowed.
-    ensures too_long { result ≡ 6 → IfSome (R.left script.old) (IsOverlong never) }
+    ensures too_long { result ≡ 6 → IfSome (R.left script.old) (IsOverlong quits) }
     ensures until_too_long { result ≡ 6 → IfSome (R.left script.old) (λ input. (model : Option Program) × (replies : List (List ℕ))
-        × Answers (RequestStep IsAnswered) (whole_requests never (take SCRIPT_LIMIT input)) (start (S.files store.old) (S.faults store.old) (W.written out.old)) (end_with model (S.files store.new) (S.faults store.new) (W.written out.new)) replies) }
+        × Answers (RequestStep IsAnswered) (whole_requests quits (take SCRIPT_LIMIT input)) (start (S.files store.old) (S.faults store.old) (W.written out.old)) (end_with model (S.files store.new) (S.faults store.new) (W.written out.new)) replies) }
 
     // Nothing is read after the read that brought a byte too many, and no count of faults falls.
-    ensures no_further { IsRunForm words.now → ReadsNoFurther never (R.left script.old) (R.left script.new) }
+    ensures no_further { IsRunForm words.now → ReadsNoFurther quits (R.left script.old) (R.left script.new) }
     ensures source_later { R.faults script.old ≤ R.faults script.new }
     ensures sink_later { W.faults out.old ≤ W.faults out.new }
 {
