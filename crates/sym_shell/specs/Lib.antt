@@ -11,5 +11,6 @@ pub mod Reports
 pub mod Cases
 pub mod Causes
 pub mod Shell
+pub mod CommandLine
 pub mod Run
 pub mod Shown

@@ -12,6 +12,7 @@
 //! `box_search`, which finds optima. Above stands `sym_main`.
 #![tactic(auto)]
 
+mod command_line;
 mod program;
 mod reading;
 mod shell;
