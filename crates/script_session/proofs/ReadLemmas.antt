@@ -141,6 +141,17 @@ module _ (ends : Command → Bool) where
         | false ↦ ap (λ xs. whole_requests ends (take SCRIPT_LIMIT xs)) parts ∙ ap (whole_requests ends) (front_then SCRIPT_LIMIT bytes more le) ∙ finishes.whole (take (SCRIPT_LIMIT - length bytes) more)
       ]
 
+  -- where nothing was read
+  pub ReadsNoFurther-none : (left : Option (List ℕ)) → ReadsNoFurther ends left left
+  ReadsNoFurther-none left = record {
+    before = [];
+    last = [];
+    taken = Consumes-none left;
+    within = omega arith;
+    unended = ending-rest [] (All-nil (λ byte. is_newline byte ≡ false));
+    one_read = omega arith;
+  }
+
 module _ {M : Type 0} (ends : Command → Bool) (step : Stand M → Request → List ℕ → Stand M → Type 0) where
   pub rest_failed : (fault : Stop) (old new : Moment M) (pending : List ℕ) → HasNoNewline pending → 0 < length pending → ServesLine ends step (Err fault) old (last_line pending) new → ServesRest ends step (Err fault) old pending new
   rest_failed stop.Sink old new pending clean some h = subst (λ requests. Breaks step old requests new) (sym (script-rest ends pending clean some)) h

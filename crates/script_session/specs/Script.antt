@@ -4,7 +4,8 @@ use Rattle.std.specs.Prelude.{◌≡◌, ℕ, Bool, false, ◌||◌, not, List, 
 use Rattle.std.specs.List.{slice_split, filter, list_any, All}
 use Rattle.std.specs.Str.Lines.{strip_carriage_return}
 use Rattle.script_session.specs.declared.reading.TheConstants.{LINE_LIMIT, SCRIPT_LIMIT}
-use Rattle.script_session.specs.Request.{Command, Request, Overlong, Words}
+pub use Rattle.script_session.specs.Request.{Command, Request}
+use Rattle.script_session.specs.Request.{Overlong, Words}
 
 abbrev pub is_newline : ℕ → Bool
 is_newline byte = byte == 10

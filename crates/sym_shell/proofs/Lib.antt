@@ -10,3 +10,4 @@ pub mod RunLemmas
 pub mod ReadingLemmas
 pub mod ShownWords
 pub mod ShownBack
+pub mod CommandLineLemmas

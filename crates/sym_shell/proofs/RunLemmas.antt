@@ -1,11 +1,12 @@
 -- What a run of the shell's commands says, in the states of which they speak.
-use Rattle.std.proofs.Common.{◌≡◌, ℕ, List, subst, ap, Option, Some, None}
+use Rattle.std.proofs.Common.{◌≡◌, ℕ, List, [], refl, arith, subst, ap, Option, Some, None}
 use Rattle.std.specs.Prelude.{IfSome}
 use Rattle.sym_io.specs.Files.{Files}
 use Rattle.lp_model.specs.Program.{Program}
 use Rattle.script_session.specs.Request.{Command, Request, RequestStep}
 use Rattle.script_session.specs.Stand.{Stand, stand}
 use Rattle.script_session.specs.Run.{view, Answers, IsCutOff, IsCutShort}
+use Rattle.script_session.proofs.OutputLemmas.{Appends-none}
 use Rattle.script_session.proofs.Restating.{transcript_and-through, transcript-through, until_source_failed-through, until_sink_failed-through, until_memory_wanted-through}
 use Rattle.sym_shell.specs.State.{state}
 use Rattle.sym_shell.specs.Causes.{IsAnswered}
@@ -72,3 +73,20 @@ module _ (shell shell' : Shell) (files files' : Option Files) (faults faults' : 
           → IfSome l (λ input. (model : Option Program) × IsCutShort (RequestStep IsAnswered) (requests input) (start files faults written) (end_with model files' faults' written'))
       by None k = tt
       by (Some input) k = (present shell', subst (λ v. IsCutShort (RequestStep IsAnswered) (requests input) v (end_with (present shell') files' faults' written')) started k)
+
+-- where memory was wanting before the run
+pub nothing_answered : (left : Option (List ℕ)) (requests : List ℕ → List Request) (files : Option Files) (faults : ℕ) (written : Option (List ℕ)) → IfSome left (λ input. (model : Option Program) × IsCutShort (RequestStep IsAnswered) (requests input) (start files faults written) (end_with model files faults written))
+nothing_answered None requests files faults written = tt
+nothing_answered (Some input) requests files faults written = (
+  None,
+  record {
+    first = [];
+    rest = requests input;
+    parts = refl;
+    replies = [];
+    missing = [];
+    one = omega arith;
+    transcript = refl;
+    output = Appends-none written;
+  },
+)

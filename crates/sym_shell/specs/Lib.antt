@@ -9,5 +9,6 @@ pub mod Reports
 pub mod Kinds
 pub mod Causes
 pub mod Shell
+pub mod CommandLine
 pub mod Run
 pub mod Shown

@@ -1,17 +1,11 @@
--- The words of the command line, and the states in which a run begins and ends.
-use Rattle.std.specs.Prelude.{◌≡◌, ℕ, List, [], ◌∷◌, codes, Option, None, String}
-use Rattle.std.specs.String.{string_bytes}
-use Rattle.std.specs.declared.alloc.Global.{Global}
+-- The usage line, and the states in which a run begins and ends.
+use Rattle.std.specs.Prelude.{ℕ, List, codes, Option, None}
 use Rattle.sym_io.specs.Files.{Files}
 use Rattle.lp_model.specs.Program.{Program}
 use Rattle.script_session.specs.Run.{View}
 use Rattle.sym_shell.specs.State.{State, state}
 
--- the program's name, and the word `run`
-abbrev pub IsRunForm : List (String Global) → Type 0
-IsRunForm (name ∷ word ∷ []) = string_bytes word ≡ codes "run"
-IsRunForm words = ⊥
-
+-- the line for words that are refused
 abbrev pub usage : List ℕ
 usage = codes "usage: symphony run | check MODEL CERT | bench SEED ROWS COLS NODES\n"
 

@@ -13,6 +13,7 @@
 //! words ask for; `mps_model`, which reads models; and `box_search`, which finds optima. Above stands `sym_main`.
 #![tactic(auto)]
 
+mod command_line;
 mod program;
 mod reading;
 mod refusals;

@@ -1,5 +1,5 @@
 // The top call.
-ghost use Rattle.std.specs.Prelude.{◌≡◌, ◌<◌, ◌≤◌, ◌↔◌, ◌⊎◌, true, List, ℕ, length, take, IfSome};
+ghost use Rattle.std.specs.Prelude.{◌≡◌, ◌≢◌, ◌<◌, ◌≤◌, ◌⊎◌, List, ℕ, take, IfSome};
 ghost use Rattle.std.specs.Io.KnownBytes.{Consumes};
 ghost use Rattle.std.specs.Prelude.{Option};
 ghost use Rattle.lp_model.specs.Program.{Program};
@@ -11,8 +11,10 @@ ghost use Rattle.script_session.specs.Script.{script_requests, whole_requests, a
 ghost use Rattle.script_session.specs.Run.{Answers, IsCutOff, IsCutShort, IsTaken, ReadsNoFurther};
 ghost use Rattle.sym_shell.specs.Shell.{quits};
 ghost use Rattle.sym_shell.specs.Causes.{IsAnswered};
-ghost use Rattle.sym_shell.specs.Run.{IsRunForm, usage, start, end_with};
+ghost use Rattle.sym_shell.specs.CommandLine.{IsRunForm, TakesWords};
+ghost use Rattle.sym_shell.specs.Run.{usage, start, end_with};
 
+use crate::command_line::{Form, WordsFault, form_of};
 use crate::shell::Shell;
 use script_session::{SCRIPT_LIMIT, run_script, write_all};
 use std::alloc::Global;
@@ -22,15 +24,7 @@ const USAGE: &[u8] = b"usage: symphony run | check MODEL CERT | bench SEED ROWS 
 
 const STATUS_USAGE: u8 = 2;
 
-/// The words are the program's name and `run`.
-fn is_run_form(words: &[String]) -> bool
-    ensures { (result ≡ true) ↔ IsRunForm words.now }
-{
-    match words {
-        [_, word] => word.as_str() == "run",
-        _ => false,
-    }
-}
+const STATUS_MEMORY: u8 = 5;
 
 /// Runs the script with a fresh shell, and answers its status.
 fn run_commands<R: Source, W: Sink, S: Store>(
@@ -64,8 +58,9 @@ fn run_commands<R: Source, W: Sink, S: Store>(
 }
 
 /// Runs the program with these words of the command line, the first of them its name: `run` answers the script's
-/// commands on the sink. The status is 0, or 1 where some command was refused, 2 where the words are others, 3 where
-/// the source and 4 where the sink has failed, 5 where memory was wanting, and 6 where the script is too long.
+/// commands on the sink. The status is 0, or 1 where some command was refused, 2 where the words are no form of the
+/// command line, 3 where the source and 4 where the sink has failed, 5 where memory was wanting, and 6 where the script
+/// is too long.
 pub fn run<R: Source, W: Sink, S: Store>(
     alloc: Global,
     words: &[String],
@@ -73,14 +68,17 @@ pub fn run<R: Source, W: Sink, S: Store>(
     out: &mut W,
     store: &mut S,
 ) -> u8
-    requires { 0 < length words.now }
-
     ensures known { result < 7 }
 
-    // Other words: the usage line, as far as the sink takes it.
-    ensures usage { (result ≡ 2) ↔ ¬ (IsRunForm words.now) }
+    // Words that are refused: the usage line, as far as the sink takes it, or nothing at all for want of memory.
+    ensures usage { result ≡ 2 → ¬ (TakesWords words.now) }
+    ensures usage_only { ¬ (TakesWords words.now) → (result ≡ 2) ⊎ (result ≡ 5) }
     ensures usage_line { result ≡ 2 → WritesFront (W.written out.old) (W.written out.new) usage }
-    ensures untouched { result ≡ 2 → (R.left script.new ≡ R.left script.old) × (S.files store.new ≡ S.files store.old) }
+    ensures unwritten { ¬ (TakesWords words.now) → result ≡ 5 → W.written out.new ≡ W.written out.old }
+    ensures untouched { ¬ (TakesWords words.now) → (R.left script.new ≡ R.left script.old) × (S.files store.new ≡ S.files store.old) }
+
+    // The program's name and `run` are never refused.
+    ensures run_form { IsRunForm words.now → result ≢ 2 }
 
     // The script came to its end: the replies are those to all that its lines ask.
     ensures transcript { result < 2 → IfSome (R.left script.old) (λ input. (model : Option Program) × (replies : List (List ℕ))
@@ -108,14 +106,16 @@ pub fn run<R: Source, W: Sink, S: Store>(
         × Answers (RequestStep IsAnswered) (whole_requests quits (take SCRIPT_LIMIT input)) (start (S.files store.old) (S.faults store.old) (W.written out.old)) (end_with model (S.files store.new) (S.faults store.new) (W.written out.new)) replies) }
 
     // Nothing is read after the read that brought a byte too many, and no count of faults falls.
-    ensures no_further { IsRunForm words.now → ReadsNoFurther quits (R.left script.old) (R.left script.new) }
+    ensures no_further { ReadsNoFurther quits (R.left script.old) (R.left script.new) }
     ensures source_later { R.faults script.old ≤ R.faults script.new }
     ensures sink_later { W.faults out.old ≤ W.faults out.new }
 {
-    if is_run_form(words) {
-        run_commands(alloc, script, out, store)
-    } else {
-        let _ = write_all(out, USAGE);
-        STATUS_USAGE
+    match form_of(alloc, words) {
+        Ok(Form::Run) => run_commands(alloc, script, out, store),
+        Err(WordsFault::Refused) => {
+            let _ = write_all(out, USAGE);
+            STATUS_USAGE
+        }
+        Err(WordsFault::Memory) => STATUS_MEMORY,
     }
 }
