@@ -7,7 +7,6 @@ use Rattle.rational.specs.Rational.{ℚ, int, neg_ℚ}
 use Rattle.checked_sum.specs.Steps.{StepFitsAt, AllFit, IsFirstWide, partial}
 use Rattle.lp_model.specs.Program.{Program, Point, coefficient, least_value, IsFeasible}
 use Rattle.lp_model.specs.Regions.{Path, InRegion}
-use Rattle.lp_model.specs.declared.types.ColId.{ColId}
 use Rattle.lp_model.specs.declared.types.Var.{Var}
 use Rattle.lp_model.specs.declared.types.Var.TheVariants.{Col, Row, Cut}
 use Rattle.lp_model.specs.declared.types.WideStep.{WideStep}

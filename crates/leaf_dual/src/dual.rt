@@ -183,7 +183,9 @@ impl Leaf<'_> {
             return Ok(LagValue::Minus);
         }
         let rows = self.rows_total()?;
-        let total = self.columns_total(&rows)?;
-        Ok(LagValue::Num(total))
+        match self.columns_total(&rows) {
+            Ok(total) => Ok(LagValue::Num(total)),
+            Err(step) => Err(step),
+        }
     }
 }

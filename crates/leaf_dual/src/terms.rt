@@ -61,7 +61,10 @@ pub(crate) fn side_number(side: &Bound) -> Frac
 pub(crate) fn add_term(total: &Frac, factor: &Frac, number: &Frac) -> Result<Frac, Wide>
     ensures { OkIff result (StepFits total.now factor.now number.now) (total.now +ℚ factor.now *ℚ number.now) }
 {
-    if factor.is_zero() || number.is_zero() {
+    if factor.is_zero() {
+        return Ok(*total);
+    }
+    if number.is_zero() {
         return Ok(*total);
     }
     let product = factor.mul(number)?;
