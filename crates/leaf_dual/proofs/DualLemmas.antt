@@ -1,5 +1,5 @@
 -- The parts of a leaf's number: sides, reduced costs, and one column.
-use Rattle.std.specs.Prelude.{◌≡◌, ◌↔◌, ℕ, ◌<◌, Bool, true, false, not, IsTrue, List, [], ◌∷◌, length, get_or, pos, Option, Some, None, Ok, Err}
+use Rattle.std.specs.Prelude.{◌≡◌, ◌≢◌, ◌↔◌, ℕ, ◌<◌, IsSome, Bool, true, false, not, IsTrue, List, [], ◌∷◌, length, get_or, pos, Option, Some, None, Ok, Err}
 use Rattle.std.specs.Option.{is_some}
 use Rattle.std.specs.declared.cmp.Ordering.{Ordering}
 use Rattle.std.specs.declared.cmp.Ordering.TheVariants.{Less, Equal, Greater}
@@ -36,6 +36,17 @@ module _ (y : ℚ) (lo hi : Option ℚ) where
       by Less e = absurd (h (less_from_cmp (int (pos 0)) y e))
       by Equal e = refl
       by Greater e = absurd (k (greater_from_cmp (int (pos 0)) y e))
+
+-- with both sides there, the needed one is
+pub needed-some : (y : ℚ) (lo hi : Option ℚ) → IsSome lo → IsSome hi → needed_side y lo hi ≢ None
+needed-some y lo hi low high = by (rational_cmp (int (pos 0)) y) lo hi low high
+  where
+    by : (r : Ordering) (lo hi : Option ℚ) → IsSome lo → IsSome hi → side_by r lo hi ≢ None
+    by Less None hi low high = λ e. let f : false ≡ true = low in cc
+    by Less (Some l) hi low high = λ e. cc
+    by Equal lo hi low high = λ e. cc
+    by Greater lo None low high = λ e. let f : false ≡ true = high in cc
+    by Greater lo (Some h) low high = λ e. cc
 
 pub none-decides : (o : Option ℚ) (b : Bool) → is_some o ≡ not b → IsTrue b ↔ (o ≡ None)
 none-decides None true e = ((λ t. refl), (λ h. refl))

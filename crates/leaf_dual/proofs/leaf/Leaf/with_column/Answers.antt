@@ -2,7 +2,7 @@ use Rattle.std.proofs.Common.{refl}
 use Rattle.leaf_dual.specs.Dual.{multiplier}
 use Rattle.leaf_dual.specs.Parts.{cost_of}
 use Rattle.leaf_dual.proofs.DualLemmas.{column-ok, column-wide}
-use Rattle.leaf_dual.proofs.terms.Leaf.with_column.Goals as goal
+use Rattle.leaf_dual.proofs.leaf.Leaf.with_column.Goals as goal
 
 pub returns-in-Ok-add_term : goal.returns-in-Ok-add_term
 returns-in-Ok-add_term c =

@@ -2,7 +2,7 @@ use Rattle.std.proofs.Common.{◌∙◌, sym, ap, subst, Err}
 use Rattle.leaf_dual.specs.Dual.{multiplier}
 use Rattle.leaf_dual.specs.Parts.{cost_of, IsReducedCost}
 use Rattle.leaf_dual.proofs.DualLemmas.{reduced-ok, reduced-wide}
-use Rattle.leaf_dual.proofs.terms.Leaf.reduced_cost.Goals as goal
+use Rattle.leaf_dual.proofs.leaf.Leaf.reduced_cost.Goals as goal
 
 pub returns-in-Ok : goal.returns-in-Ok
 returns-in-Ok c =

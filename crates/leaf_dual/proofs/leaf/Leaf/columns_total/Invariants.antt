@@ -3,7 +3,7 @@ use Rattle.checked_sum.specs.Steps.{partial}
 use Rattle.leaf_dual.specs.Dual.{multiplier, reduced_cost}
 use Rattle.leaf_dual.specs.Answers.{bound_number, ColumnsFit}
 use Rattle.leaf_dual.specs.Parts.{cost_of}
-use Rattle.leaf_dual.proofs.terms.Leaf.columns_total.Given as goal
+use Rattle.leaf_dual.proofs.leaf.Leaf.columns_total.Given as goal
 
 abbrev pub invariant-loop-col : goal.invariant-loop-col
 invariant-loop-col l = record {

@@ -2,7 +2,7 @@ use Rattle.std.proofs.Common.{◌≡◌, ◌<◌, false, arith, length, ap, IsTr
 use Rattle.leaf_dual.specs.Dual.{multiplier, column_side}
 use Rattle.leaf_dual.specs.Answers.{EntriesFit}
 use Rattle.leaf_dual.specs.Parts.{cost_of}
-use Rattle.leaf_dual.proofs.terms.Leaf.lacks_bound.Goals as goal
+use Rattle.leaf_dual.proofs.leaf.Leaf.lacks_bound.Goals as goal
 
 pub loop-col-preserved : goal.loop-col-preserved
 loop-col-preserved c =

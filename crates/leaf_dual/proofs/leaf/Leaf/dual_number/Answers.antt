@@ -3,7 +3,7 @@ use Rattle.leaf_dual.specs.Dual.{multiplier}
 use Rattle.leaf_dual.specs.Answers.{LacksSide}
 use Rattle.leaf_dual.specs.Parts.{constant_of, cost_of}
 use Rattle.leaf_dual.proofs.AnswerLemmas.{answer-num, answer-wide}
-use Rattle.leaf_dual.proofs.terms.Leaf.dual_number.Goals as goal
+use Rattle.leaf_dual.proofs.leaf.Leaf.dual_number.Goals as goal
 
 pub returns-in-Ok : goal.returns-in-Ok
 returns-in-Ok c =

@@ -4,7 +4,7 @@ use Rattle.checked_sum.proofs.AnswerLaws.{wide_at}
 use Rattle.leaf_dual.specs.Dual.{multiplier}
 use Rattle.leaf_dual.specs.Answers.{row_number}
 use Rattle.leaf_dual.specs.Parts.{constant_of, row_step}
-use Rattle.leaf_dual.proofs.terms.Leaf.rows_total.Goals as goal
+use Rattle.leaf_dual.proofs.leaf.Leaf.rows_total.Goals as goal
 
 pub returns-in-Err : goal.returns-in-Err
 returns-in-Err c =

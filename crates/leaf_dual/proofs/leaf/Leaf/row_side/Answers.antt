@@ -2,7 +2,7 @@ use Rattle.std.proofs.Common.{◌≡◌, ◌∙◌, None}
 use Rattle.lp_model.specs.Program.{low_side, high_side}
 use Rattle.lp_model.proofs.ElementLemmas.{of_element-read}
 use Rattle.leaf_dual.specs.Dual.{needed_side}
-use Rattle.leaf_dual.proofs.terms.Leaf.row_side.Goals as goal
+use Rattle.leaf_dual.proofs.leaf.Leaf.row_side.Goals as goal
 
 pub returns : goal.returns
 returns c =

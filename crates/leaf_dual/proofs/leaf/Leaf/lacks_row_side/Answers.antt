@@ -1,5 +1,5 @@
 use Rattle.std.proofs.Common.{◌≡◌, ◌<◌, false, arith, length, ap, IsTrue}
-use Rattle.leaf_dual.proofs.terms.Leaf.lacks_row_side.Goals as goal
+use Rattle.leaf_dual.proofs.leaf.Leaf.lacks_row_side.Goals as goal
 
 pub returns : goal.returns
 returns c =

@@ -4,7 +4,7 @@ use Rattle.leaf_dual.specs.Dual.{multiplier, reduced_cost}
 use Rattle.leaf_dual.specs.Answers.{bound_number}
 use Rattle.leaf_dual.specs.Parts.{cost_of}
 use Rattle.leaf_dual.proofs.AnswerLemmas.{columns-none, columns-next, columns-wide, columns-all}
-use Rattle.leaf_dual.proofs.terms.Leaf.columns_total.Goals as goal
+use Rattle.leaf_dual.proofs.leaf.Leaf.columns_total.Goals as goal
 
 pub loop-col-init : goal.loop-col-init
 loop-col-init c =
