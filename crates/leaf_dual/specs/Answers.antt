@@ -7,7 +7,6 @@ use Rattle.rational.specs.Rational.{ℚ, int, neg_ℚ}
 use Rattle.checked_sum.specs.Steps.{StepFitsAt, AllFit, IsFirstWide, partial}
 use Rattle.lp_model.specs.Program.{Program, Point, coefficient, least_value, IsFeasible}
 use Rattle.lp_model.specs.Regions.{Path, InRegion}
-use Rattle.lp_model.specs.declared.types.ColId.{ColId}
 use Rattle.lp_model.specs.declared.types.Var.{Var}
 use Rattle.lp_model.specs.declared.types.Var.TheVariants.{Col, Row, Cut}
 use Rattle.lp_model.specs.declared.types.WideStep.{WideStep}
@@ -101,9 +100,3 @@ IsLagAnswer M path mult r = IsDualAnswer M path (multiplier mult) (least_constan
 
 abbrev pub IsFarkasAnswer : Program → Path → Multipliers → Result LagValue WideStep → Type 0
 IsFarkasAnswer M path mult r = IsDualAnswer M path (multiplier mult) (int (pos 0)) (λ j. int (pos 0)) r
-
--- ---- the law
-
--- an answer of `lag` is no higher than the least form's value of any feasible point in the region
-abbrev pub WeakDuality : Type 0
-WeakDuality = (M : Program) (path : Path) (mult : Multipliers) (v : LagValue) (x : Point) → IsLagAnswer M path mult (Ok v) → IsFeasible M x → InRegion path x → IsLowerBound v (least_value M 1 x)

@@ -3,7 +3,7 @@
 --     reduced_cost M y c j        what is left of column j's cost
 --     lag, farkas                 with the model's costs in least form, and with all costs and the constant 0
 -- The bound is that of Lagrangian duality (G. L. Nemhauser, L. A. Wolsey, Integer and Combinatorial Optimization, II.3.6).
-use Rattle.std.specs.Prelude.{◌≡◌, ◌⊎◌, ℕ, zero, suc, ◌<◌, Bool, true, false, if◌then◌else◌, nat_eq, IsTrue, List, [], ◌∷◌, length, pos, Option, Some, None, unwrap_or}
+use Rattle.std.specs.Prelude.{◌⊎◌, ℕ, zero, suc, Bool, false, if◌then◌else◌, nat_eq, IsTrue, List, [], ◌∷◌, length, pos, Option, Some, None}
 use Rattle.std.specs.declared.cmp.Ordering.{Ordering}
 use Rattle.std.specs.declared.cmp.Ordering.TheVariants.{Less, Equal, Greater}
 use Rattle.rational.specs.Rational.{ℚ, int, ◌+ℚ◌, ◌-ℚ◌, ◌*ℚ◌, ◌≤ℚ◌, ◌<ℚ◌, rational_cmp, ceil, IsWhole}

@@ -10,8 +10,11 @@ use Rattle.lp_model.specs.declared.types.Var.{Var}
 use Rattle.lp_model.specs.declared.types.Var.TheVariants.{Col, Row, Cut}
 use Rattle.lp_model.specs.declared.types.WideStep.{WideStep}
 use Rattle.lp_model.specs.declared.types.WideStep.TheVariants.{Act, Value, LagEntry, LagTerm}
-use Rattle.leaf_dual.specs.Dual.{reduced_cost, least_constant, least_cost}
+use Rattle.leaf_dual.specs.declared.leaf.Leaf.{Leaf}
+use Rattle.leaf_dual.specs.Dual.{multiplier, reduced_cost, least_constant, least_cost}
 use Rattle.leaf_dual.specs.Answers.{row_number, bound_number, EntriesFit, IsFirstWideEntry, ColumnsFit}
+
+-- ---- a leaf's objective and multipliers
 
 -- the objective with the model's costs, and that without any
 abbrev pub constant_of : Bool → Program → ℚ
@@ -21,6 +24,18 @@ constant_of false M = int (pos 0)
 abbrev pub cost_of : Bool → Program → ℕ → ℚ
 cost_of true M j = least_cost M j
 cost_of false M j = int (pos 0)
+
+abbrev pub constant : Leaf → ℚ
+constant leaf = constant_of leaf.costed leaf.model.now
+
+abbrev pub costs : Leaf → ℕ → ℚ
+costs leaf = cost_of leaf.costed leaf.model.now
+
+-- the multipliers of the rows
+abbrev pub weights : Leaf → ℕ → ℚ
+weights leaf = multiplier leaf.mult.now
+
+-- ---- the parts
 
 -- the entries of a column, by their place among them
 abbrev pub entry_row : List (RowId × ℚ) → ℕ → ℕ

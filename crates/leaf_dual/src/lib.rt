@@ -15,13 +15,15 @@
 //!
 //! Public contract: `lag` and `farkas` answer these numbers, or `Minus`, or the first step of arithmetic that has no room
 //! (`IsLagAnswer`, `IsFarkasAnswer` in specs/Answers). No feasible point of the region has a value below its `lag`
-//! (`weak_duality_law`), and where `farkas` is above 0 the region has no feasible point.
+//! (`weak_duality_law`), where `farkas` is above 0 the region has no feasible point (`farkas_law`), and no feasible point of
+//! a leaf that `closes` against a target is below the target (`closes_law`).
 //!
 //! Below stand the models (`lp_model`) and checked sums (`checked_sum`). Above stands the search, whose leaves close by
 //! these numbers.
 #![tactic(auto)]
 
 mod dual;
+mod leaf;
 mod terms;
 
-pub use dual::{LagValue, closes, farkas, lag, weak_duality_law};
+pub use dual::{LagValue, closes, closes_law, farkas, farkas_law, lag, weak_duality_law};

@@ -1,4 +1,4 @@
-use Rattle.std.proofs.Common.{◌≡◌, ◌∙◌, Bool, false, None, if◌then◌else◌}
+use Rattle.std.proofs.Common.{◌≡◌, ◌∙◌, false, None, if◌then◌else◌}
 use Rattle.std.specs.Option.{option_map}
 use Rattle.rational.specs.Rational.{int, floor}
 use Rattle.lp_model.specs.Program.{upper, is_integer}

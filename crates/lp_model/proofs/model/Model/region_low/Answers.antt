@@ -1,4 +1,4 @@
-use Rattle.std.proofs.Common.{◌≡◌, ◌∙◌, Bool, false, None, if◌then◌else◌}
+use Rattle.std.proofs.Common.{◌≡◌, ◌∙◌, false, None, if◌then◌else◌}
 use Rattle.std.specs.Option.{option_map}
 use Rattle.rational.specs.Rational.{int, ceil}
 use Rattle.lp_model.specs.Program.{lower, is_integer}
