@@ -1,13 +1,10 @@
-pub mod NameLemmas
-pub mod NumberLemmas
 pub mod TextLemmas
-pub mod SimpleLemmas
 pub mod ReplyLemmas
 pub mod StepLemmas
-pub mod CaseLemmas
+pub mod SearchableLemmas
+pub mod KindLemmas
 pub mod CauseLemmas
 pub mod RunLemmas
-pub mod ReadingLemmas
 pub mod ShownWords
 pub mod ShownBack
 pub mod CommandLineLemmas

@@ -1,23 +1,26 @@
 -- Texts written piece by piece.
-use Rattle.std.proofs.Common.{◌≡◌, ℕ, ◌+◌, ◌<◌, Bool, true, false, List, [], ◌∷◌, ◌++◌, length, take, get_or, refl, sym, ap, ◌∙◌, arith, append_assoc, if◌then◌else◌, pos}
+use Rattle.std.proofs.Common.{◌≡◌, ℕ, zero, suc, ◌+◌, ◌<◌, ◌≤◌, Bool, true, false, List, [], ◌∷◌, ◌++◌, length, take, get_or, refl, sym, ap, ◌∙◌, arith, append_assoc, if◌then◌else◌, pos}
 use Rattle.std.specs.Prelude.{codes, nat_eq, unsigned_abs}
-use Rattle.std.proofs.lemmas.List.{take_more}
+use Rattle.std.proofs.lemmas.List.{take_more, take_all}
+use Rattle.std.proofs.lemmas.List.Elements.{All-nil, All-cons, All-append, All-same}
+use Rattle.std.specs.List.{All}
 use Rattle.std.proofs.Common.{length-take}
 use Rattle.std.proofs.lemmas.Int.{ints}
 use Rattle.std.proofs.lemmas.Bool.Decides.{nat_tests}
 use Rattle.rational.specs.Rational.{ℚ, int}
 use Rattle.rational.proofs.Rounding.{num_zero}
 use Rattle.frac128.specs.Printing.{printed}
-use Rattle.lp_model.specs.Program.{Point}
+use Rattle.frac128.specs.Range.{Fits}
+use Rattle.lp_model.specs.Elements.{of_element}
+use Rattle.lp_model.specs.Program.{Program, Point}
+use Rattle.lp_model.specs.Regions.{Path}
+use Rattle.lp_model.specs.declared.types.BoundChange.{BoundChange}
 use Rattle.lp_model.specs.declared.types.Col.{Col}
-use Rattle.sym_shell.specs.Texts.{column_line, column_lines}
+use Rattle.sym_shell.specs.Texts.{column_line, column_lines, change_text, changes_text}
 
-pub three_pieces : (r a b c p q s : List ℕ) → p ≡ r ++ a → q ≡ p ++ b → s ≡ q ++ c → s ≡ r ++ (a ++ b ++ c)
-three_pieces r a b c p q s e f g = g ∙ ap (λ t. t ++ c) (f ∙ ap (λ t. t ++ b) e) ∙ simp append_assoc
-
-pub five_pieces : (r a b c d e p q s t u : List ℕ) → p ≡ r ++ a → q ≡ p ++ b → s ≡ q ++ c → t ≡ s ++ d → u ≡ t ++ e → u ≡ r ++ (a ++ b ++ c ++ d ++ e)
-five_pieces r a b c d e p q s t u h i j k l =
-    l ∙ ap (λ w. w ++ e) (k ∙ ap (λ w. w ++ d) (j ∙ ap (λ w. w ++ c) (i ∙ ap (λ w. w ++ b) h))) ∙ simp append_assoc
+-- one piece behind another: of more pieces, the later ones first
+pub join : (r a b p q : List ℕ) → p ≡ r ++ a → q ≡ p ++ b → q ≡ r ++ (a ++ b)
+join r a b p q e f = f ∙ ap (λ t. t ++ b) e ∙ append_assoc r a b
 
 pub nothing_more : (r : List ℕ) → r ≡ r ++ []
 nothing_more [] = refl
@@ -61,3 +64,41 @@ lines-step cs xs k c x r p q h shape c_is x_is before now =
     let same : length (take k xs) ≡ length (take k cs) = omega (arith, length-take {A = ℚ}, length-take {A = Col}) in
     now ∙ ap (λ t. t ++ column_line c.name x) before ∙ append_assoc r (column_lines (take k cs) (take k xs)) (column_line c.name x)
     ∙ ap (λ t. r ++ t) (sym (lines-more (take k cs) (take k xs) c x same)) ∙ (λ i. r ++ column_lines (sym columns i) (sym numbers i))
+
+-- ---- a column or a row that isn't there
+
+pub of_element-past : {A B : Type 0} (d : B) (f : A → B) (xs : List A) (k : ℕ) → length xs ≤ k → of_element d f xs k ≡ d
+of_element-past d f [] k h = refl
+of_element-past d f (x ∷ xs) zero h = absurd (omega arith)
+of_element-past d f (x ∷ xs) (suc k) h = let less : length xs ≤ k = omega arith in of_element-past d f xs k less
+
+-- ---- bound changes
+
+changes-more : (M : Program) (path : Path) (c : BoundChange) → changes_text M (path ++ c ∷ []) ≡ changes_text M path ++ change_text M c
+unfolding changes_text
+changes-more M [] c = sym (nothing_more (change_text M c))
+changes-more M (d ∷ path) c = ap (λ t. change_text M d ++ t) (changes-more M path c) ∙ sym (append_assoc (change_text M d) (changes_text M path) (change_text M c))
+
+pub changes-begin : (M : Program) (path : Path) (r : List ℕ) → r ≡ r ++ changes_text M (take 0 path)
+unfolding changes_text
+changes-begin M path r = nothing_more r
+
+pub changes-step : (M : Program) (path : Path) (k : ℕ) (d : BoundChange) (r p q : List ℕ) → k < length path → p ≡ r ++ changes_text M (take k path) → q ≡ p ++ change_text M (get_or path k d) → q ≡ r ++ changes_text M (take (k + 1) path)
+changes-step M path k d r p q below before now =
+    let c : BoundChange = get_or path k d in
+    let taken : take (k + 1) path ≡ take k path ++ c ∷ [] = take_more path k d below in
+    now ∙ ap (λ t. t ++ change_text M c) before ∙ append_assoc r (changes_text M (take k path)) (change_text M c)
+    ∙ ap (λ t. r ++ t) (sym (changes-more M (take k path) c)) ∙ (λ i. r ++ changes_text M (sym taken i))
+
+pub changes-all : (M : Program) (path : Path) (k : ℕ) (r p : List ℕ) → length path ≤ k → p ≡ r ++ changes_text M (take k path) → p ≡ r ++ changes_text M path
+changes-all M path k r p h e = e ∙ ap (λ t. r ++ changes_text M t) (take_all k path h)
+
+-- ---- fractions that have room
+
+pub room-more : (xs : List ℚ) (k : ℕ) (x : ℚ) → k < length xs → x ≡ get_or xs k x → Fits x → All Fits (take k xs) → All Fits (take (k + 1) xs)
+room-more xs k x below is fits before =
+    let taken : take (k + 1) xs ≡ take k xs ++ x ∷ [] = take_more xs k x below ∙ ap (λ d. take k xs ++ d ∷ []) (sym is) in
+    All-same Fits (take (k + 1) xs) (take k xs ++ x ∷ []) taken (All-append Fits (take k xs) (x ∷ []) before (All-cons Fits x [] fits (All-nil Fits)))
+
+pub room-all : (xs : List ℚ) (k : ℕ) → length xs ≤ k → All Fits (take k xs) → All Fits xs
+room-all xs k h all = All-same Fits xs (take k xs) (sym (take_all k xs h)) all

@@ -5,7 +5,8 @@ use Rattle.std.specs.Str.{bytes_eq}
 use Rattle.std.specs.List.{slice_split, filter}
 use Rattle.rational.specs.Rational.{ℚ, int}
 use Rattle.frac128.specs.Spelling.{Reading, Number, reading_of}
-use Rattle.script_session.specs.Script.{Command, is_newline, words_of}
+use Rattle.script_session.specs.Request.{Command}
+use Rattle.script_session.specs.Script.{is_newline, words_of}
 use Rattle.lp_model.specs.Program.{Program, Point}
 
 -- the words of each line of a reply

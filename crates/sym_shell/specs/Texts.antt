@@ -110,7 +110,7 @@ variable_text M (var.Cut cut) = codes "cut " ++ decimal (suc cut.0)
 
 abbrev pub value_step_text : Program → Option ColId → List ℕ
 value_step_text M None = codes "value"
-value_step_text M (Some col) = codes "value" ++ codes " col " ++ column_name M col.0
+value_step_text M (Some col) = codes "value col " ++ column_name M col.0
 
 -- the place of a step of arithmetic
 abbrev pub step_text : Program → WideStep → List ℕ

@@ -1,8 +1,8 @@
 // Reading a file's model from a store.
 ghost use Rattle.std.specs.Prelude.{◌≡◌, ◌≤◌, true, IfOk};
 ghost use Rattle.command_words.specs.Names.{is_file_name};
-ghost use Rattle.box_search.specs.Integral.{IsIntegral};
 ghost use Rattle.mps_model.specs.PlainNames.{HasPlainNames};
+ghost use Rattle.mps_model.specs.Bounded.{is_bounded};
 ghost use Rattle.sym_shell.specs.Load.{ReadsFile};
 
 use command_words::file_name;
@@ -55,7 +55,7 @@ impl From<MpsFault> for Refusal {
 #[derive(Drop)]
 pub struct SearchableModel {
     pub(crate) model: Model,
-    ghost integral: { IsIntegral model },
+    ghost bounded: { is_bounded model ≡ true },
     ghost plain: { HasPlainNames model },
 }
 
@@ -68,7 +68,7 @@ pub(crate) fn read_model<S: Store>(
 ) -> Result<Model, Refusal>
     requires { is_file_name name.now ≡ true }
     ensures answer { ReadsFile (S.files store.old) name.now intupper (S.faults store.old) (S.faults store.new) result }
-    ensures integral { IfOk result (λ m. IsIntegral m) }
+    ensures bounded { IfOk result (λ m. is_bounded m ≡ true) }
     ensures plain { IfOk result (λ m. HasPlainNames m) }
     ensures kept { S.files store.new ≡ S.files store.old }
     ensures later { S.faults store.old ≤ S.faults store.new }

@@ -7,6 +7,7 @@ ghost use Rattle.sym_shell.specs.State.{state};
 ghost use Rattle.sym_shell.specs.Load.{LoadStep};
 ghost use Rattle.sym_shell.specs.Solve.{Solves, Shows};
 ghost use Rattle.sym_shell.specs.Step.{AnswersTo};
+ghost use Rattle.sym_shell.specs.Shell.{is_quit};
 
 use crate::reading::{SearchableModel, read_model};
 use crate::refusals::{write_no_number, write_refusal, write_unknown};
@@ -81,9 +82,9 @@ impl Shell {
     ) -> Result<(), AllocError>
         requires named { NamesFile (asks_shown asked) }
         requires empty { reply.old.items ≡ [] }
-        ensures answered { OnOk result (AnswersTo (asks_shown asked) (state (present self.old) (S.files store.old) (S.faults store.old)) reply.new.items
+        ensures answered { OnOk result (AnswersTo (asks_shown asked.entry) (state (present self.old) (S.files store.old) (S.faults store.old)) reply.new.items
             (state (present self.new) (S.files store.new) (S.faults store.new))) }
-        ensures unfinished { OnErr result ((bytes : List ℕ) × AnswersTo (asks_shown asked) (state (present self.old) (S.files store.old) (S.faults store.old)) bytes
+        ensures unfinished { OnErr result ((bytes : List ℕ) × AnswersTo (asks_shown asked.entry) (state (present self.old) (S.files store.old) (S.faults store.old)) bytes
             (state (present self.new) (S.files store.new) (S.faults store.new))) }
     {
         match asked {
@@ -105,7 +106,7 @@ impl Machine for Shell {
     ghost ends = { quits };
 
     fn ends_script(&self, words: &[&[u8]]) -> bool {
-        matches!(read_words(words), Asked::Quit)
+        is_quit(read_words(words))
     }
 
     fn answer<S: Store>(
@@ -117,6 +118,13 @@ impl Machine for Shell {
     ) -> Result<(), AllocError> {
         self.answer_asked(alloc, store, read_words(words), reply)
     }
+}
+
+/// The end of the script is asked for.
+fn is_quit(asked: Asked<'_>) -> bool
+    ensures { result ≡ is_quit (asks_shown asked.entry) }
+{
+    matches!(asked, Asked::Quit)
 }
 
 /// Writes what a search of the model shows.

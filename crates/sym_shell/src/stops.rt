@@ -10,9 +10,10 @@ fn write_number_or_none(reply: &mut Vec<u8>, number: &Option<Frac>) -> Result<()
     ensures { IfOk result (λ _. reply.new.items ≡ reply.old.items ++ number_or_none number.now) }
 {
     match number {
-        Some(number) => number.write_to(reply),
-        None => reply.extend_from_slice(b"none"),
+        Some(number) => number.write_to(reply)?,
+        None => reply.extend_from_slice(b"none")?,
     }
+    Ok(())
 }
 
 /// The number of results, the bound and the best value.
@@ -44,16 +45,20 @@ pub(crate) fn write_stopped_nodes(
     ensures { IfOk result (λ _. reply.new.items ≡ reply.old.items ++ stopped_nodes_text placed bound.now best.now) }
 {
     reply.extend_from_slice(b"stopped nodes ")?;
-    write_known(reply, placed, bound, best)
+    write_known(reply, placed, bound, best)?;
+    Ok(())
 }
 
 /// The name of a column, or nothing where there is no such column.
 fn column_name(model: &Model, place: ColId) -> &[u8]
     ensures { result.now ≡ column_name model.now place.0 }
 {
-    match model.cols().get(place.0 as usize) {
-        Some(column) => column.name.as_slice(),
-        None => b"",
+    let columns = model.cols();
+    let index = place.0 as usize;
+    if index < columns.len() {
+        columns[index].name.as_slice()
+    } else {
+        b""
     }
 }
 
@@ -61,9 +66,12 @@ fn column_name(model: &Model, place: ColId) -> &[u8]
 fn row_name(model: &Model, place: RowId) -> &[u8]
     ensures { result.now ≡ row_name model.now place.0 }
 {
-    match model.rows().get(place.0 as usize) {
-        Some(row) => row.name.as_slice(),
-        None => b"",
+    let rows = model.rows();
+    let index = place.0 as usize;
+    if index < rows.len() {
+        rows[index].name.as_slice()
+    } else {
+        b""
     }
 }
 
@@ -115,7 +123,7 @@ fn write_path(reply: &mut Vec<u8>, model: &Model, path: &Region) -> Result<(), A
 }
 
 fn write_column(reply: &mut Vec<u8>, model: &Model, place: ColId) -> Result<(), AllocError>
-    ensures { IfOk result (λ _. reply.new.items ≡ reply.old.items ++ codes "col " ++ column_name model.now place.0) }
+    ensures { IfOk result (λ _. reply.new.items ≡ reply.old.items ++ (codes "col " ++ column_name model.now place.0)) }
 {
     reply.extend_from_slice(b"col ")?;
     reply.extend_from_slice(column_name(model, place))?;
@@ -123,7 +131,7 @@ fn write_column(reply: &mut Vec<u8>, model: &Model, place: ColId) -> Result<(), 
 }
 
 fn write_row(reply: &mut Vec<u8>, model: &Model, place: RowId) -> Result<(), AllocError>
-    ensures { IfOk result (λ _. reply.new.items ≡ reply.old.items ++ codes "row " ++ row_name model.now place.0) }
+    ensures { IfOk result (λ _. reply.new.items ≡ reply.old.items ++ (codes "row " ++ row_name model.now place.0)) }
 {
     reply.extend_from_slice(b"row ")?;
     reply.extend_from_slice(row_name(model, place))?;
@@ -131,7 +139,7 @@ fn write_row(reply: &mut Vec<u8>, model: &Model, place: RowId) -> Result<(), All
 }
 
 fn write_cut(reply: &mut Vec<u8>, place: u32) -> Result<(), AllocError>
-    ensures { IfOk result (λ _. reply.new.items ≡ reply.old.items ++ codes "cut " ++ decimal (suc place)) }
+    ensures { IfOk result (λ _. reply.new.items ≡ reply.old.items ++ (codes "cut " ++ decimal (suc place))) }
 {
     let mut digits = itoa::Buffer::new();
     reply.extend_from_slice(b"cut ")?;
@@ -155,11 +163,19 @@ fn write_activity(
     row: RowId,
     column: ColId,
 ) -> Result<(), AllocError>
-    ensures { IfOk result (λ _. reply.new.items ≡ reply.old.items ++ codes "act row " ++ row_name model.now row.0 ++ codes " col " ++ column_name model.now column.0) }
+    ensures { IfOk result (λ _. reply.new.items ≡ reply.old.items ++ (codes "act row " ++ row_name model.now row.0 ++ codes " col " ++ column_name model.now column.0)) }
 {
     reply.extend_from_slice(b"act row ")?;
     reply.extend_from_slice(row_name(model, row))?;
     reply.extend_from_slice(b" col ")?;
+    reply.extend_from_slice(column_name(model, column))?;
+    Ok(())
+}
+
+fn write_value_at(reply: &mut Vec<u8>, model: &Model, column: ColId) -> Result<(), AllocError>
+    ensures { IfOk result (λ _. reply.new.items ≡ reply.old.items ++ (codes "value col " ++ column_name model.now column.0)) }
+{
+    reply.extend_from_slice(b"value col ")?;
     reply.extend_from_slice(column_name(model, column))?;
     Ok(())
 }
@@ -171,12 +187,10 @@ fn write_value(
 ) -> Result<(), AllocError>
     ensures { IfOk result (λ _. reply.new.items ≡ reply.old.items ++ value_step_text model.now column.now) }
 {
-    reply.extend_from_slice(b"value")?;
-    if let Some(column) = column {
-        reply.extend_from_slice(b" col ")?;
-        reply.extend_from_slice(column_name(model, *column))?;
+    match column {
+        Some(column) => write_value_at(reply, model, *column),
+        None => reply.extend_from_slice(b"value"),
     }
-    Ok(())
 }
 
 fn write_entry(
@@ -185,19 +199,21 @@ fn write_entry(
     column: ColId,
     by: &Var,
 ) -> Result<(), AllocError>
-    ensures { IfOk result (λ _. reply.new.items ≡ reply.old.items ++ codes "lag col " ++ column_name model.now column.0 ++ codes " " ++ variable_text model.now by.now) }
+    ensures { IfOk result (λ _. reply.new.items ≡ reply.old.items ++ (codes "lag col " ++ column_name model.now column.0 ++ codes " " ++ variable_text model.now by.now)) }
 {
     reply.extend_from_slice(b"lag col ")?;
     reply.extend_from_slice(column_name(model, column))?;
     reply.extend_from_slice(b" ")?;
-    write_variable(reply, model, by)
+    write_variable(reply, model, by)?;
+    Ok(())
 }
 
 fn write_term(reply: &mut Vec<u8>, model: &Model, of: &Var) -> Result<(), AllocError>
-    ensures { IfOk result (λ _. reply.new.items ≡ reply.old.items ++ codes "lag " ++ variable_text model.now of.now) }
+    ensures { IfOk result (λ _. reply.new.items ≡ reply.old.items ++ (codes "lag " ++ variable_text model.now of.now)) }
 {
     reply.extend_from_slice(b"lag ")?;
-    write_variable(reply, model, of)
+    write_variable(reply, model, of)?;
+    Ok(())
 }
 
 fn write_place(reply: &mut Vec<u8>, model: &Model, step: &WideStep) -> Result<(), AllocError>

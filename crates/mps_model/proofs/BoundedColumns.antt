@@ -1,0 +1,45 @@
+-- Each column of a model that a text means is integer with two bounds.
+use Rattle.std.proofs.Common.{◌≡◌, ℕ, Bool, true, false, ◌&&◌, ◌||◌, not, List, [], ◌∷◌, map, refl, sym, subst, ap, if◌then◌else◌, Option, Some, None}
+use Rattle.std.specs.Prelude.{is_some}
+use Rattle.std.specs.List.{list_all}
+use Rattle.rational.specs.Rational.{ℚ}
+use Rattle.lp_model.specs.Program.{Program}
+use Rattle.mps_text.specs.Text.{Entry}
+use Rattle.mps_model.specs.declared.statements.ColumnLines.{ColumnLines}
+use Rattle.mps_model.specs.Statements.{Stated, stated}
+use Rattle.mps_model.specs.Meaning.{span_of, upper_or, column_of, model_of}
+use Rattle.mps_model.specs.Faults.{is_none_of, column_code, code_on, column_flaw, flaw_of_columns, Meant}
+use Rattle.mps_model.specs.Bounded.{is_bounded_column, is_bounded}
+
+both : (a b : Bool) → a ≡ true → b ≡ true → a && b ≡ true
+both true b e f = f
+both false b e f = cc
+
+-- the code of a column with this kind and these bounds
+abbrev code_by : Bool → Option ℚ → Option ℚ → Option ℕ
+code_by integer lower upper = if not integer then Some 25 else if is_none_of lower || is_none_of upper then Some 24 else None
+
+no_code : (integer : Bool) (lower upper : Option ℚ) → code_by integer lower upper ≡ None → integer && is_some lower && is_some upper ≡ true
+no_code true (Some l) (Some u) e = refl
+no_code true (Some l) None e = absurd (cc)
+no_code true None u e = absurd (cc)
+no_code false l u e = absurd (cc)
+
+flawless : (s : Stated) (intupper : Option ℕ) (columns : List ColumnLines) → column_flaw intupper s.bounds columns ≡ None → list_all is_bounded_column (map (column_of s intupper) columns) ≡ true
+flawless s intupper [] e = refl
+flawless s intupper (c ∷ more) e = by (column_code intupper (span_of s.bounds c)) refl e (λ rest. flawless s intupper more rest)
+  where
+    by : (code : Option ℕ) → column_code intupper (span_of s.bounds c) ≡ code → code_on c.line code (column_flaw intupper s.bounds more) ≡ None
+        → (column_flaw intupper s.bounds more ≡ None → list_all is_bounded_column (map (column_of s intupper) more) ≡ true) → list_all is_bounded_column (map (column_of s intupper) (c ∷ more)) ≡ true
+    by (Some n) is h later = absurd (cc)
+    by None is h later =
+        both (is_bounded_column (column_of s intupper c)) (list_all is_bounded_column (map (column_of s intupper) more))
+        (no_code (span_of s.bounds c).integer (span_of s.bounds c).lower (upper_or intupper (span_of s.bounds c).integer (span_of s.bounds c).upper) is)
+        (later h)
+
+bounded_model : (entries : List Entry) (intupper : Option ℕ) → flaw_of_columns entries intupper ≡ None → is_bounded (model_of (stated entries) intupper) ≡ true
+unfolding model_of flaw_of_columns
+bounded_model entries intupper e = flawless (stated entries) intupper (stated entries).columns e
+
+pub meant-bounded : (text : List ℕ) (intupper : Option ℕ) (M : Program) → Meant text intupper M → is_bounded M ≡ true
+meant-bounded text intupper M m = subst (λ N. is_bounded N ≡ true) (sym m.is) (bounded_model m.entries intupper m.columns)

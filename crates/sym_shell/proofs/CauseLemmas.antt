@@ -1,0 +1,134 @@
+-- Each reply has its exact cause.
+use Rattle.std.proofs.Common.{◌≡◌, ◌≢◌, ◌⊎◌, ℕ, ◌≤◌, List, [], ◌∷◌, ◌++◌, refl, sym, subst, ap, inl, inr, arith, Option, Some, None, Err}
+use Rattle.std.specs.Prelude.{codes, decimal}
+use Rattle.rational.specs.Rational.{ℚ}
+use Rattle.frac128.specs.Printing.{printed}
+use Rattle.lp_model.specs.Program.{Program, value}
+use Rattle.box_search.specs.Root.{cap_of}
+use Rattle.box_search.specs.Search.{HasRoom}
+use Rattle.command_words.specs.Asks.{Asks, Load, Solve, Quit, Unknown, Misused, NoNumber, asks_of}
+use Rattle.sym_shell.specs.State.{State}
+use Rattle.sym_shell.specs.Texts.{ok_text, unknown_text, arguments_text, number_text, memory_text, column_lines, number_or_none, known_text, path_line, step_line}
+use Rattle.sym_shell.specs.Load.{LoadStep, Loads, LoadRefused, ReadsFile, refusal_text}
+use Rattle.sym_shell.specs.Solve.{ShowsOptimum, ShowsEmptiness, Shows, Optimum, Emptiness, NodeStop, WideStop, Wanting, Solves, SolveStep}
+use Rattle.sym_shell.specs.Shown.{point_shown}
+use Rattle.sym_shell.specs.Step.{IsRefused, AnswersTo, Step}
+use Rattle.sym_shell.specs.Kinds.{Kind, Optimal, Infeasible, StoppedNodes, StoppedWide, Done, UnknownCommand, WrongArguments, NoModel, WrongNumber, StoreFailed, FileTooLong, FaultyText, WantsMemory, Is}
+use Rattle.sym_shell.specs.Causes.{Solved, Loaded, Refused, CauseOf, HasCauses}
+use Rattle.sym_shell.specs.declared.reading.Refusal.{Refusal}
+use Rattle.sym_shell.specs.declared.reading.Refusal.TheVariants as refusal
+use Rattle.sym_shell.proofs.KindLemmas.{one_kind}
+
+-- what follows the first word of an optimum's first line
+abbrev value_tail : ℚ → ℕ → List ℕ
+value_tail v n = printed v ++ codes " nodes " ++ decimal n ++ codes "\n"
+
+-- the reply is of a kind whose cause holds
+record HasCause (old : State) (words : List (List ℕ)) (reply : List ℕ) (new : State) : Type 0 where
+  kind : Kind
+  is : Is kind reply
+  cause : CauseOf kind old words reply new
+
+module _ (old : State) (words : List (List ℕ)) (reply : List ℕ) (new : State) where
+  wants : reply ≡ memory_text → HasCause old words reply new
+  wants e = record { kind = WantsMemory; is = (codes "memory\n", e); cause = e }
+
+  load_cause : (file : List ℕ) (intupper : Option ℕ) → asks_of words ≡ Load file intupper → LoadStep old file intupper reply new → HasCause old words reply new
+  load_cause file intupper asked h =
+      elim h.answer [
+        | inl loads ↦ record { kind = Done; is = ([], loads.ok); cause = inl (record { file = file; intupper = intupper; asked = asked; is = loads }) }
+        | inr refused ↦ by refused.refusal refused.told refused.cause
+      ]
+    where
+      by : (r : Refusal) → reply ≡ refusal_text r → ReadsFile old.files file intupper old.faults new.faults (Err r) → HasCause old words reply new
+      by refusal.Store told cause = record { kind = StoreFailed; is = (codes "store\n", told); cause = record { file = file; intupper = intupper; asked = asked; is = (told, cause) } }
+      by refusal.FileTooLong told cause = record { kind = FileTooLong; is = (codes "file too long\n", told); cause = record { file = file; intupper = intupper; asked = asked; is = (told, cause) } }
+      by (refusal.Faulty line code) told cause = record {
+        kind = FaultyText;
+        is = (codes "mps line " ++ decimal line ++ codes " code " ++ decimal code ++ codes "\n", told);
+        cause = record { file = file; intupper = intupper; asked = asked; is = (line, (code, (told, cause))) };
+      }
+      by refusal.Memory told cause = wants told
+
+  shows_cause : (limit : ℕ) (M : Program) → asks_of words ≡ Solve limit → old.model ≡ Some M → Shows M limit reply → HasCause old words reply new
+  shows_cause limit M asked present (Optimum s) = record {
+    kind = Optimal;
+    is = (value_tail (value M 1 (point_shown M reply)) s.placed ++ column_lines M.cols (point_shown M reply) ++ codes "end\n", s.shown);
+    cause = record { limit = limit; model = M; asked = asked; present = present; is = s };
+  }
+  shows_cause limit M asked present (Emptiness s) = record {
+    kind = Infeasible;
+    is = (codes "nodes " ++ decimal s.placed ++ codes "\n", s.shown);
+    cause = record { limit = limit; model = M; asked = asked; present = present; is = s };
+  }
+  shows_cause limit M asked present (NodeStop s) = record {
+    kind = StoppedNodes;
+    is = (known_text limit s.bound s.best, s.shown);
+    cause = record { limit = limit; model = M; asked = asked; present = present; is = s };
+  }
+  shows_cause limit M asked present (WideStop s) = record {
+    kind = StoppedWide;
+    is = (known_text s.placed s.bound s.best ++ path_line M s.path ++ step_line M s.step ++ codes "end\n", s.shown);
+    cause = record { limit = limit; model = M; asked = asked; present = present; is = s };
+  }
+  shows_cause limit M asked present (Wanting e) = wants e
+
+  solve_cause : (limit : ℕ) → asks_of words ≡ Solve limit → SolveStep old limit reply new → HasCause old words reply new
+  solve_cause limit asked h = by old.model refl h.answer
+    where
+      by : (m : Option Program) → old.model ≡ m → Solves m limit reply → HasCause old words reply new
+      by (Some M) present s = shows_cause limit M asked present s
+      by None none s = elim s [
+        | inl e ↦ record { kind = NoModel; is = (codes "no model\n", e); cause = (limit, (record { asks = asked; told = e }, none)) }
+        | inr e ↦ wants e
+      ]
+
+  asked_cause : (a : Asks) → asks_of words ≡ a → AnswersTo a old reply new → HasCause old words reply new
+  asked_cause (Load file intupper) asked h = load_cause file intupper asked h
+  asked_cause (Solve limit) asked h = solve_cause limit asked h
+  asked_cause Quit asked h = record { kind = Done; is = ([], h.answer); cause = inr (asked, h.unchanged) }
+  asked_cause (Unknown word) asked h = elim h.answer [
+    | inl e ↦ record { kind = UnknownCommand; is = (codes "unknown command " ++ word ++ codes "\n", e); cause = (word, record { asks = asked; told = e }) }
+    | inr e ↦ wants e
+  ]
+  asked_cause Misused asked h = elim h.answer [
+    | inl e ↦ record { kind = WrongArguments; is = (codes "arguments\n", e); cause = record { asks = asked; told = e } }
+    | inr e ↦ wants e
+  ]
+  asked_cause (NoNumber word) asked h = elim h.answer [
+    | inl e ↦ record { kind = WrongNumber; is = (codes "number " ++ word ++ codes "\n", e); cause = (word, record { asks = asked; told = e }) }
+    | inr e ↦ wants e
+  ]
+
+  finishes : (M : Program) (limit : ℕ) → cap_of M ≤ limit → HasRoom M → Shows M limit reply → ShowsOptimum M limit reply ⊎ ShowsEmptiness M limit reply ⊎ (reply ≡ memory_text)
+  finishes M limit enough room (Optimum s) = inl s
+  finishes M limit enough room (Emptiness s) = inr (inl s)
+  finishes M limit enough room (NodeStop s) = let few = s.below_cap in absurd (omega arith)
+  finishes M limit enough room (WideStop s) = absurd (room s.wide.point s.wide.within.within s.step s.wide.wide)
+  finishes M limit enough room (Wanting e) = inr (inr e)
+
+  completes : (M : Program) (limit : ℕ) → AnswersTo (asks_of words) old reply new → asks_of words ≡ Solve limit → old.model ≡ Some M → cap_of M ≤ limit → HasRoom M
+      → ShowsOptimum M limit reply ⊎ ShowsEmptiness M limit reply ⊎ (reply ≡ memory_text)
+  completes M limit h asked present enough room =
+      let step : SolveStep old limit reply new = subst (λ a. AnswersTo a old reply new) asked h in
+      finishes M limit enough room (subst (λ m. Solves m limit reply) present step.answer)
+
+  keeps : (a : Asks) → AnswersTo a old reply new → reply ≢ ok_text → new.model ≡ old.model
+  keeps (Load file intupper) h other = elim h.answer [ inl loads ↦ absurd (other loads.ok) | inr refused ↦ refused.kept ]
+  keeps (Solve limit) h other = ap (λ (s : State). s.model) h.unchanged
+  keeps Quit h other = ap (λ (s : State). s.model) h.unchanged
+  keeps (Unknown word) h other = ap (λ (s : State). s.model) h.unchanged
+  keeps Misused h other = ap (λ (s : State). s.model) h.unchanged
+  keeps (NoNumber word) h other = ap (λ (s : State). s.model) h.unchanged
+
+pub step-causes : (old : State) (words : List (List ℕ)) (reply : List ℕ) (new : State) → Step old words reply new → HasCauses old words reply new
+unfolding Step
+step-causes old words reply new h =
+    let found = asked_cause old words reply new (asks_of words) refl h in
+    record {
+      kind = found.kind;
+      is = found.is;
+      only = λ k is. subst (λ j. CauseOf j old words reply new) (one_kind found.kind k reply found.is is) found.cause;
+      complete = λ M limit asked present enough room. completes old words reply new M limit h asked present enough room;
+      kept = λ other. keeps old words reply new (asks_of words) h other;
+    }

@@ -1,0 +1,50 @@
+-- A reply is of one kind: its first bytes tell which.
+use Rattle.std.proofs.Common.{◌≡◌, ℕ, ◌+◌, ◌*◌, Bool, List, ◌++◌, get_or, refl, sym, ap, ◌∙◌, if◌then◌else◌}
+use Rattle.std.specs.Prelude.{nat_eq}
+use Rattle.sym_shell.specs.Kinds.{Kind, Optimal, Infeasible, StoppedNodes, StoppedWide, Done, UnknownCommand, WrongArguments, NoModel, WrongNumber, StoreFailed, FileTooLong, FaultyText, WantsMemory, front_of, Is}
+
+-- by the two digits of an error
+error_kind : ℕ → Kind
+error_kind n =
+    if nat_eq n 530 then UnknownCommand
+    else if nat_eq n 531 then WrongArguments
+    else if nat_eq n 532 then NoModel
+    else if nat_eq n 535 then WrongNumber
+    else if nat_eq n 548 then StoreFailed
+    else if nat_eq n 549 then FileTooLong
+    else if nat_eq n 558 then FaultyText
+    else WantsMemory
+
+stop_kind : ℕ → Kind
+stop_kind byte = if nat_eq byte 110 then StoppedNodes else StoppedWide
+
+-- by the second byte
+kind_by : ℕ → ℕ → ℕ → Kind
+kind_by second digits ninth =
+    if nat_eq second 112 then Optimal
+    else if nat_eq second 110 then Infeasible
+    else if nat_eq second 116 then stop_kind ninth
+    else if nat_eq second 107 then Done
+    else error_kind digits
+
+kind_of : List ℕ → Kind
+kind_of reply = kind_by (get_or reply 1 0) (10 * get_or reply 6 0 + get_or reply 7 0) (get_or reply 8 0)
+
+kind_of-front : (k : Kind) (rest : List ℕ) → kind_of (front_of k ++ rest) ≡ k
+unfolding kind_of kind_by stop_kind error_kind
+kind_of-front Optimal rest = refl
+kind_of-front Infeasible rest = refl
+kind_of-front StoppedNodes rest = refl
+kind_of-front StoppedWide rest = refl
+kind_of-front Done rest = refl
+kind_of-front UnknownCommand rest = refl
+kind_of-front WrongArguments rest = refl
+kind_of-front NoModel rest = refl
+kind_of-front WrongNumber rest = refl
+kind_of-front StoreFailed rest = refl
+kind_of-front FileTooLong rest = refl
+kind_of-front FaultyText rest = refl
+kind_of-front WantsMemory rest = refl
+
+pub one_kind : (k l : Kind) (reply : List ℕ) → Is k reply → Is l reply → k ≡ l
+one_kind k l reply a b = sym (kind_of-front k a.0) ∙ ap kind_of (sym a.1 ∙ b.1) ∙ kind_of-front l b.0
