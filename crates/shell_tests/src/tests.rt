@@ -169,8 +169,9 @@ fn rows(rt: HostRuntime) -> Result<(), Fail> {
 #[test]
 fn words(rt: HostRuntime) -> Result<(), Fail> {
     let usage = b"usage: symphony run | check MODEL CERT | bench SEED ROWS COLS NODES\n".as_slice();
-    let cases: [(&[&str], &[u8], u8); 7] = [
+    let cases: [(&[&str], &[u8], u8); 8] = [
         (&["run"], b"ok\n", 0),
+        (&["run", "--"], b"ok\n", 0),
         (&[], usage, 2),
         (&["run", "extra"], usage, 2),
         (&["--help"], usage, 2),
