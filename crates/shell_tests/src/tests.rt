@@ -167,17 +167,23 @@ fn rows(rt: HostRuntime) -> Result<(), Fail> {
 }
 
 #[test]
-fn other_words(rt: HostRuntime) -> Result<(), Fail> {
+fn words(rt: HostRuntime) -> Result<(), Fail> {
     let usage = b"usage: symphony run | check MODEL CERT | bench SEED ROWS COLS NODES\n".as_slice();
-    let (status, written) = answer(rt.alloc(), &[], b"load K\n", NONE)?;
-    assert_eq!(rt; written.as_slice(), usage);
-    assert_eq!(rt; status, 2);
-    let (status, written) = answer(rt.alloc(), &["run", "run"], b"load K\n", NONE)?;
-    assert_eq!(rt; written.as_slice(), usage);
-    assert_eq!(rt; status, 2);
-    let (status, written) = answer(rt.alloc(), &["bench"], b"load K\n", NONE)?;
-    assert_eq!(rt; written.as_slice(), usage);
-    assert_eq!(rt; status, 2);
+    let cases: [(&[&str], &[u8], u8); 8] = [
+        (&["run"], b"ok\n", 0),
+        (&["run", "--"], b"ok\n", 0),
+        (&[], usage, 2),
+        (&["run", "extra"], usage, 2),
+        (&["--help"], usage, 2),
+        (&["help"], usage, 2),
+        (&["run", "--help"], usage, 2),
+        (&["frob"], usage, 2),
+    ];
+    for (arguments, wanted, status) in cases {
+        let (got, written) = answer(rt.alloc(), arguments, b"load K\n", NONE)?;
+        assert_eq!(rt; written.as_slice(), wanted, "of {arguments:?}");
+        assert_eq!(rt; got, status, "of {arguments:?}");
+    }
     Ok(())
 }
 
