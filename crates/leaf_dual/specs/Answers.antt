@@ -1,6 +1,6 @@
 -- What the calls on a leaf's multipliers answer, to the first step without room.
---     LacksSide M path y c              a side or a bound is missing that is needed
---     IsFirstWide M path y c₀ c step    step is the first that has no room
+--     LacksSide M path y c                  a side or a bound is missing that is needed
+--     IsFirstWideStep M path y c₀ c step    step is the first that has no room
 -- A column whose reduced cost has a step without room needs no bound.
 use Rattle.std.specs.Prelude.{◌≡◌, ◌⊎◌, ℕ, ◌<◌, length, pos, Option, None, unwrap_or, Result, Ok, Err}
 use Rattle.rational.specs.Rational.{ℚ, int, neg_ℚ}
