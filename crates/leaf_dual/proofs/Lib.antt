@@ -1,0 +1,4 @@
+pub mod EntrySums
+pub mod DualLemmas
+pub mod AnswerLemmas
+pub mod WeakDuality

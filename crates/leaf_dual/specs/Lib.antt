@@ -1,0 +1,4 @@
+pub mod Dual
+pub mod Answers
+pub mod Parts
+pub mod Laws

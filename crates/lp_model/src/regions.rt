@@ -1,0 +1,157 @@
+// The bounds of a region: the model's, and the bound changes of a path.
+ghost use Rattle.std.specs.Prelude.{◌≡◌, ◌↔◌, ◌<◌, ℕ, length, IsTrue, if◌then◌else◌};
+ghost use Rattle.std.specs.Option.{option_map};
+ghost use Rattle.rational.specs.Rational.{int, floor, ceil, min_ℚ, max_ℚ, rational_le};
+ghost use Rattle.frac128.specs.Range.{IsNarrow};
+ghost use Rattle.lp_model.specs.Program.{lower, upper, is_integer};
+ghost use Rattle.lp_model.specs.Regions.{AreNarrow, tighter_low, tighter_high, low_after, high_after, low_along, high_along, region_low, region_high, IsCrossed, IsEmptyRegion};
+
+use crate::model::Model;
+use crate::types::{Bound, BoundChange, Col, Side};
+use frac128::Frac;
+
+/// Whether the first is no more than the second.
+fn is_at_most(first: &Frac, second: &Frac) -> bool
+    ensures { result ≡ rational_le first.now second.now }
+{
+    *first <= *second
+}
+
+/// The bound, or the number where that is higher or there is no bound.
+fn tighter_low(bound: &Bound, number: Frac) -> Bound
+    ensures { result ≡ tighter_low bound.now number }
+{
+    match bound {
+        Some(low) if !is_at_most(low, &number) => Some(*low),
+        _ => Some(number),
+    }
+}
+
+/// The bound, or the number where that is lower or there is no bound.
+fn tighter_high(bound: &Bound, number: Frac) -> Bound
+    ensures { result ≡ tighter_high bound.now number }
+{
+    match bound {
+        Some(high) if is_at_most(high, &number) => Some(*high),
+        _ => Some(number),
+    }
+}
+
+/// A lower bound after a change of the column's bounds.
+fn low_after(bound: Bound, change: &BoundChange) -> Bound
+    requires { IsNarrow change.now.v }
+    ensures { result ≡ low_after change.now.side bound (int change.now.v) }
+{
+    match change.side {
+        Side::Lo => tighter_low(&bound, Frac::of_whole(change.v)),
+        Side::Hi => bound,
+    }
+}
+
+/// An upper bound after a change of the column's bounds.
+fn high_after(bound: Bound, change: &BoundChange) -> Bound
+    requires { IsNarrow change.now.v }
+    ensures { result ≡ high_after change.now.side bound (int change.now.v) }
+{
+    match change.side {
+        Side::Lo => bound,
+        Side::Hi => tighter_high(&bound, Frac::of_whole(change.v)),
+    }
+}
+
+/// A column's lower bound after the changes of a path.
+fn low_along(region: &[BoundChange], col: usize, bound: Bound) -> Bound
+    requires { AreNarrow region.now }
+    ensures { result ≡ low_along region.now col bound }
+{
+    let mut low = bound;
+    for change in region {
+        if change.col.0 as usize == col {
+            low = low_after(low, change);
+        }
+    }
+    low
+}
+
+/// A column's upper bound after the changes of a path.
+fn high_along(region: &[BoundChange], col: usize, bound: Bound) -> Bound
+    requires { AreNarrow region.now }
+    ensures { result ≡ high_along region.now col bound }
+{
+    let mut high = bound;
+    for change in region {
+        if change.col.0 as usize == col {
+            high = high_after(high, change);
+        }
+    }
+    high
+}
+
+/// Whether there are two bounds and they cross.
+#[tactic(auto, using(rational::proofs::Comparison::comparisons))]
+fn is_crossed(low: &Bound, high: &Bound) -> bool
+    ensures { IsTrue result ↔ IsCrossed low.now high.now }
+{
+    match (low, high) {
+        (Some(low), Some(high)) => *high < *low,
+        _ => false,
+    }
+}
+
+impl Col {
+    /// The lower bound, for an integer column the least whole number allowed.
+    fn least(&self) -> Bound
+        ensures { result ≡ (if self.now.int then option_map (λ l. int (ceil l)) self.now.lo else self.now.lo) }
+    {
+        match &self.lo {
+            Some(low) if self.int => Some(Frac::of_whole(low.ceil())),
+            _ => self.lo,
+        }
+    }
+
+    /// The upper bound, for an integer column the greatest whole number allowed.
+    fn greatest(&self) -> Bound
+        ensures { result ≡ (if self.now.int then option_map (λ h. int (floor h)) self.now.up else self.now.up) }
+    {
+        match &self.up {
+            Some(high) if self.int => Some(Frac::of_whole(high.floor())),
+            _ => self.up,
+        }
+    }
+}
+
+impl Model {
+    /// The lower bound of a column in a region, for an integer column the least whole number allowed.
+    pub fn region_low(&self, region: &[BoundChange], col: usize) -> Bound
+        requires within { col < length self.now.cols }
+        requires narrow { AreNarrow region.now }
+        ensures { result ≡ region_low self.now region.now col }
+    {
+        low_along(region, col, self.cols()[col].least())
+    }
+
+    /// The upper bound of a column in a region, for an integer column the greatest whole number allowed.
+    pub fn region_high(&self, region: &[BoundChange], col: usize) -> Bound
+        requires within { col < length self.now.cols }
+        requires narrow { AreNarrow region.now }
+        ensures { result ≡ region_high self.now region.now col }
+    {
+        high_along(region, col, self.cols()[col].greatest())
+    }
+
+    /// Whether a column has no number in a region.
+    pub fn is_empty_region(&self, region: &[BoundChange]) -> bool
+        requires { AreNarrow region.now }
+        ensures { IsTrue result ↔ IsEmptyRegion self.now region.now }
+    {
+        for col in 0..self.cols().len() {
+            if is_crossed(
+                &self.region_low(region, col),
+                &self.region_high(region, col),
+            ) {
+                return true;
+            }
+        }
+        false
+    }
+}
