@@ -1,12 +1,12 @@
 -- The least number of the parts, one more part at a time.
-use Rattle.std.proofs.Common.{◌≡◌, ◌≢◌, ◌⊎◌, ℕ, ◌+◌, ◌<◌, Bool, List, [], ◌∷◌, ◌++◌, length, get_or, take, refl, sym, subst, ap, ◌∙◌, arith, inl, inr, Option, Some, None}
+use Rattle.std.proofs.Common.{◌≡◌, ◌≢◌, ℕ, ◌+◌, ◌<◌, Bool, List, [], ◌∷◌, ◌++◌, length, get_or, take, sym, subst, ap, ◌∙◌, inl, inr, Option, Some, None}
 use Rattle.std.proofs.lemmas.List.{take_more}
 use Rattle.rational.specs.Rational.{ℚ, ◌≤ℚ◌}
 use Rattle.rational.proofs.RationalOrder.{≤ℚ_refl, ≤ℚ_trans}
-use Rattle.leaf_dual.specs.declared.dual.LagValue.TheVariants.{Minus, Num}
+use Rattle.leaf_dual.specs.declared.dual.LagValue.TheVariants.{Minus}
 use Rattle.box_search.specs.declared.part.Part.{Part}
 use Rattle.box_search.specs.Regions.{IsRounded}
-use Rattle.box_search.specs.Lists.{EachOf, OneOf}
+use Rattle.box_search.specs.Lists.{OneOf}
 use Rattle.box_search.specs.Parts.{IsLeastOf, IsLeastSoFar, IsLesser}
 use Rattle.box_search.proofs.ListLemmas.{each-append, each-weaker, one-front, one-back, one-at}
 

@@ -1,5 +1,5 @@
 -- The least point of a box, and boxes that have no other.
-use Rattle.std.proofs.Common.{◌≡◌, ℕ, zero, suc, ◌*◌, ◌≤◌, ◌<◌, Bool, true, false, List, [], ◌∷◌, length, get_or, refl, sym, subst, arith, Option, Some, None, ◌≤ℤ◌}
+use Rattle.std.proofs.Common.{◌≡◌, ℕ, suc, ◌*◌, ◌≤◌, ◌<◌, Bool, true, false, [], ◌∷◌, length, get_or, refl, sym, subst, arith, Some, None, ◌≤ℤ◌}
 use Rattle.std.specs.Prelude.{position, nat_lt, cond}
 use Rattle.std.specs.List.{position_or_len}
 use Rattle.std.proofs.lemmas.List.Sums.{fails_before_first}

@@ -1,7 +1,7 @@
 -- What a search shows at its end, and where it stops.
-use Rattle.std.proofs.Common.{◌≡◌, ◌≢◌, ◌↔◌, ℕ, ◌+◌, ◌-◌, ◌*◌, ◌<◌, ◌≤◌, Bool, IsTrue, List, [], ◌∷◌, ◌++◌, refl, sym, subst, ap, ◌∙◌, arith, Option, Some, None, max}
+use Rattle.std.proofs.Common.{◌≡◌, ◌≢◌, ◌↔◌, ℕ, ◌+◌, ◌*◌, ◌<◌, ◌≤◌, Bool, IsTrue, List, [], ◌∷◌, ◌++◌, sym, subst, ap, ◌∙◌, arith, Option, Some, None}
 use Rattle.std.specs.Option.{option_map}
-use Rattle.lp_model.specs.Program.{Program, IsEmpty, HasWholeObjective, in_least_form}
+use Rattle.lp_model.specs.Program.{Program, HasWholeObjective, in_least_form}
 use Rattle.box_search.specs.declared.judging.Kept.{Kept}
 use Rattle.box_search.specs.declared.part.Part.{Part}
 use Rattle.box_search.specs.declared.searching.Progress.{Progress}
@@ -12,9 +12,9 @@ use Rattle.box_search.specs.declared.searching.Outcome.TheVariants.{Optimal, Inf
 use Rattle.box_search.specs.Boxes.{points, IsProper}
 use Rattle.box_search.specs.Root.{root_of, HasNoPoint, whole_points, cap_of}
 use Rattle.box_search.specs.Integral.{IsIntegral}
-use Rattle.box_search.specs.Parts.{IsPart, PartCloses}
+use Rattle.box_search.specs.Parts.{IsPart}
 use Rattle.box_search.specs.Search.{StopsWith, StopsFor, IsWidePoint, Finds}
-use Rattle.box_search.specs.Works.{best_value, Searched, Stands, Shows, ShowsStop, StopsAt, Works, HasStopped}
+use Rattle.box_search.specs.Works.{best_value, Searched, Stands, Shows, StopsAt, Works}
 use Rattle.box_search.proofs.IntegralLemmas.{no_point-empty, root-points}
 use Rattle.box_search.proofs.SearchLemmas.{search-begins, taken-part, taken-room, ends-empty, ends-optimum}
 use Rattle.box_search.proofs.StopLemmas.{stops-with}
@@ -73,7 +73,7 @@ finds-stopped M whole limit progress why (Infeasible n) whole_is some s cause h 
 finds-stopped M whole limit progress why (Stopped reason n bound best) whole_is some s cause h =
     let t = h.1 in
     let known : StopsWith M (option_map (in_least_form M.sense) t.bound_is.0) (best_value progress.best) =
-        stops-with M whole progress.left.items progress.best progress.placed t.bound_is.0 whole_is some s t.bound_is.1.0 in (
+    stops-with M whole progress.left.items progress.best progress.placed t.bound_is.0 whole_is some s t.bound_is.1.0 in (
       subst (λ r. StopsFor M limit n r) (sym h.0) (subst (λ m. StopsFor M limit m why) (sym t.placed_is) cause),
       subst (λ b. StopsWith M bound b) (sym t.best_is) (subst (λ b. StopsWith M b (best_value progress.best)) (sym t.bound_is.1.1) known),
     )
@@ -101,7 +101,7 @@ module _ (M : Program) (whole : Bool) (limit : ℕ) (rest : List Part) (p : Part
       let n : new.placed ≡ placed = t.placed ∙ placed_is in
       let b : new.best ≡ best = t.best ∙ best_is in
       let stands : Stands M whole (rest ++ p ∷ []) new.best new.placed =
-          subst (λ c. Stands M whole (rest ++ p ∷ []) c new.placed) (sym b) (subst (λ m. Stands M whole (rest ++ p ∷ []) best m) (sym n) s) in
+      subst (λ c. Stands M whole (rest ++ p ∷ []) c new.placed) (sym b) (subst (λ m. Stands M whole (rest ++ p ∷ []) best m) (sym n) s) in
       let room = below_cap M placed i proper (taken-room M rest p best placed s.searched) in
       let part = taken-part M rest p best placed s.searched in
       finds-put_back M whole limit rest p new (Wide path step) outcome whole_is (t.left ∙ ap (λ l. l ++ p ∷ []) left_is) stands

@@ -1,13 +1,11 @@
 -- Parts: the root, and the two halves of a part.
-use Rattle.std.proofs.Common.{◌≡◌, ◌⊎◌, ◌↔◌, ℕ, zero, suc, ◌+◌, ◌<◌, List, [], ◌∷◌, ◌++◌, length, refl, sym, subst, ap, ◌∙◌, arith, ℤ, pos, ◌+ℤ◌, Bool, true, false, IsTrue, Option, Some, None, ◌≤◌, ◌^◌}
+use Rattle.std.proofs.Common.{◌≡◌, ◌⊎◌, ◌↔◌, ℕ, zero, suc, ◌+◌, ◌<◌, List, [], ◌∷◌, ◌++◌, length, refl, sym, subst, ap, ◌∙◌, arith, ℤ, pos, ◌+ℤ◌, Bool, true, false, IsTrue, Some, None, ◌≤◌, ◌^◌}
 use Rattle.std.specs.Prelude.{position}
-use Rattle.rational.specs.Rational.{ℚ, int, ◌≤ℚ◌}
 use Rattle.frac128.specs.Range.{IsNarrow}
 use Rattle.lp_model.specs.Elements.{of_element}
 use Rattle.lp_model.specs.Lawful.{IsLawful, col_limit}
-use Rattle.lp_model.specs.Program.{Program, Point, is_integer, coordinate}
+use Rattle.lp_model.specs.Program.{Program, Point, is_integer}
 use Rattle.lp_model.specs.Regions.{Path, InRegion, NamesColumns, AreNarrow, Meets}
-use Rattle.lp_model.specs.declared.types.Side.{Side}
 use Rattle.lp_model.specs.declared.types.Side.TheVariants.{Lo, Hi}
 use Rattle.lp_model.specs.declared.types.BoundChange.{BoundChange}
 use Rattle.lp_model.specs.declared.types.Col.{Col}
@@ -17,7 +15,7 @@ use Rattle.box_search.specs.Boxes.{Intervals, InBox, IsProper, corner, is_open, 
 use Rattle.box_search.specs.Root.{root_of}
 use Rattle.box_search.specs.Integral.{AreIntegral, IsIntegral}
 use Rattle.box_search.specs.Regions.{AreInteger, IsPath, IsPointOf, IsNumber}
-use Rattle.box_search.specs.Parts.{IsPart, InPart, points_of, Halves}
+use Rattle.box_search.specs.Parts.{IsPart, Halves}
 use Rattle.box_search.proofs.BoxLemmas.{open_column}
 use Rattle.box_search.proofs.CornerLemmas.{corner_in, closed_box}
 use Rattle.box_search.proofs.SplitLemmas.{split-either, split-lower, split-upper, split-narrow, split-points, split-proper_lower, split-proper_upper}

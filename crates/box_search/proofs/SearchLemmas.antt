@@ -1,18 +1,17 @@
 -- The steps of a search: it begins with all whole points, splits a part, drops one, keeps a better point, and leaves out the parts that close.
-use Rattle.std.proofs.Common.{◌≡◌, ◌⊎◌, ℕ, ◌+◌, ◌*◌, ◌≤◌, ◌<◌, Bool, IsTrue, List, [], ◌∷◌, ◌++◌, length, refl, sym, subst, ap, ◌∙◌, arith, inl, inr, Option, Some, None, length-append}
-use Rattle.rational.specs.Rational.{ℚ, ◌≤ℚ◌, ◌<ℚ◌}
+use Rattle.std.proofs.Common.{◌≡◌, ℕ, ◌+◌, ◌*◌, ◌≤◌, Bool, IsTrue, List, [], ◌∷◌, ◌++◌, length, sym, subst, ap, ◌∙◌, arith, inl, inr, Option, Some, None, length-append}
+use Rattle.rational.specs.Rational.{◌≤ℚ◌}
 use Rattle.rational.proofs.RationalOrder.{≤ℚ_trans, ≤ℚ_of_<ℚ, ≤ℚ_refl, not_both_ℚ}
 use Rattle.lp_model.specs.Program.{Program, Point, IsFeasible, IsOptimum, IsEmpty, HasWholeObjective, value, least_value, in_least_form}
-use Rattle.leaf_dual.specs.Dual.{Reaches}
 use Rattle.box_search.specs.declared.judging.Kept.{Kept}
 use Rattle.box_search.specs.declared.part.Part.{Part}
-use Rattle.box_search.specs.Lists.{EachOf, OneOf, LeavesOut}
+use Rattle.box_search.specs.Lists.{LeavesOut}
 use Rattle.box_search.specs.Boxes.{InBox, points}
 use Rattle.box_search.specs.Root.{root_of}
 use Rattle.box_search.specs.Integral.{IsIntegral}
 use Rattle.box_search.specs.Parts.{IsPart, InPart, points_of, points_of_all, PartCloses, Halves}
 use Rattle.box_search.specs.Search.{IsNoBetter}
-use Rattle.box_search.specs.Works.{best_value, IsKept, Searched, NoneCloses, Improves, Judges, Stands}
+use Rattle.box_search.specs.Works.{best_value, Searched, Improves, Judges, Stands}
 use Rattle.box_search.proofs.ListLemmas.{each-append, each-front, each-back, one-front, one-back, one-either, one-with, leaves-each, leaves-none, leaves-one}
 use Rattle.box_search.proofs.BoxLemmas.{points_positive}
 use Rattle.box_search.proofs.IntegralLemmas.{feasible-in_root}

@@ -5,8 +5,8 @@ use Rattle.std.specs.Option.{option_map}
 use Rattle.rational.specs.Rational.{ℚ, ◌≤ℚ◌, neg_ℚ, IsWhole}
 use Rattle.rational.proofs.RationalRing.{ring, reads_ℚ}
 use Rattle.rational.proofs.RationalOrder.{≤ℚ_trans}
-use Rattle.lp_model.specs.Program.{Program, Point, IsFeasible, HasWholeObjective, value, least_value, in_least_form}
-use Rattle.lp_model.specs.Regions.{Path, InRegion}
+use Rattle.lp_model.specs.Program.{Program, Point, IsFeasible, HasWholeObjective, least_value, in_least_form}
+use Rattle.lp_model.specs.Regions.{InRegion}
 use Rattle.lp_model.specs.declared.types.Sense.{Sense}
 use Rattle.lp_model.specs.declared.types.Sense.TheVariants.{Min, Max}
 use Rattle.leaf_dual.specs.declared.dual.LagValue.TheVariants.{Minus}
@@ -22,10 +22,10 @@ use Rattle.box_search.specs.declared.searching.Outcome.{Outcome}
 use Rattle.box_search.specs.declared.searching.Outcome.TheVariants.{Optimal, Infeasible, Stopped}
 use Rattle.box_search.specs.Root.{cap_of}
 use Rattle.box_search.specs.Search.{IsNoBetter, IsValueFound, IsOpen, IsLeast, StopsWith, StopsFor, Finds, IsFinished, HasRoom}
-use Rattle.box_search.specs.Works.{best_value, IsKept, Searched, NoneCloses, Stands}
+use Rattle.box_search.specs.Works.{best_value, IsKept, Stands}
 use Rattle.box_search.proofs.ListLemmas.{each-with, each-map, one-map, one-with, one-both}
 use Rattle.box_search.proofs.PartLemmas.{part-corner}
-use Rattle.box_search.proofs.LeafLemmas.{whole_value, rounded-bound, unreached-below}
+use Rattle.box_search.proofs.LeafLemmas.{least_value-whole, rounded-bound, unreached-below}
 
 abbrev numbered : Part → Numbered
 numbered p = record { path = p.path; number = p.number }
@@ -84,7 +84,7 @@ least_twice Max v = let e : neg_ℚ (neg_ℚ v) ≡ v = ring (v ∷ []) (search 
 
 -- the best value is whole where the objective is
 whole_best : (M : Program) (whole : Bool) (best : ℚ) → (IsTrue whole → HasWholeObjective M 1) → IsValueFound M (Some best) → IsTrue whole → IsWhole (in_least_form M.sense best)
-whole_best M whole best is_whole found t = subst (λ v. IsWhole (in_least_form M.sense v)) (sym found.1.1) (whole_value M found.0 (is_whole t) found.1.0)
+whole_best M whole best is_whole found t = subst (λ v. IsWhole (in_least_form M.sense v)) (sym found.1.1) (least_value-whole M found.0 (is_whole t) found.1.0)
 
 least-bound : (M : Program) (whole : Bool) (regions : List Numbered) (best : Option ℚ) (least : ℚ) (x : Point) → (IsTrue whole → HasWholeObjective M 1) → EachOf (IsOpen M whole best) regions → IsLeast whole regions (Some least) → IsValueFound M best
     → IsFeasible M x → OneOf (λ r. InRegion r.path x) regions ⊎ IsNoBetter M best x → least ≤ℚ least_value M 1 x

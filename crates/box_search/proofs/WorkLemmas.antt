@@ -1,26 +1,21 @@
 -- One part worked, and the loop over all of them.
-use Rattle.std.proofs.Common.{◌≡◌, ◌≢◌, ◌⊎◌, ◌↔◌, ℕ, ◌+◌, ◌-◌, ◌*◌, ◌<◌, ◌≤◌, Bool, IsTrue, List, [], ◌∷◌, ◌++◌, length, refl, sym, subst, ap, ◌∙◌, arith, Option, Some, None, max, inl, inr, append_assoc}
+use Rattle.std.proofs.Common.{◌≡◌, ◌+◌, Bool, IsTrue, List, [], ◌∷◌, ◌++◌, refl, sym, subst, ap, ◌∙◌, Option, Some, None, inl, inr, append_assoc}
 use Rattle.std.specs.Prelude.{position}
 use Rattle.std.proofs.lemmas.List.{append-nil}
-use Rattle.lp_model.specs.Program.{Program, Point, IsFeasible, IsEmpty, HasWholeObjective}
-use Rattle.lp_model.specs.Regions.{InRegion}
+use Rattle.lp_model.specs.Program.{Program, Point, IsFeasible, HasWholeObjective}
 use Rattle.lp_model.specs.declared.types.Sense.{Sense}
 use Rattle.lp_model.specs.declared.types.WideStep.{WideStep}
 use Rattle.box_search.specs.declared.judging.Kept.{Kept}
 use Rattle.box_search.specs.declared.part.Part.{Part}
 use Rattle.box_search.specs.declared.searching.Progress.{Progress}
-use Rattle.box_search.specs.Lists.{EachOf, LeavesOut}
-use Rattle.box_search.specs.Boxes.{is_open, corner, points, IsProper}
-use Rattle.box_search.specs.Root.{root_of, HasNoPoint, factor, whole_points_of, whole_points, cap_of}
-use Rattle.lp_model.specs.declared.types.Col.{Col}
-use Rattle.box_search.specs.Integral.{AreIntegral, IsIntegral}
+use Rattle.box_search.specs.Lists.{LeavesOut}
+use Rattle.box_search.specs.Boxes.{is_open, corner}
 use Rattle.box_search.specs.Parts.{IsPart, InPart, PartCloses, Halves, IsBarren}
-use Rattle.box_search.specs.Search.{IsNoBetter, IsWidePoint, IsWideAt}
-use Rattle.box_search.specs.Works.{best_value, Searched, NoneCloses, Judges, Adds, Keeps, Stands, HasWorked, HasStopped}
+use Rattle.box_search.specs.Search.{IsNoBetter, IsWidePoint}
+use Rattle.box_search.specs.Works.{best_value, Judges, Adds, Stands, HasWorked, HasStopped}
 use Rattle.box_search.proofs.ListLemmas.{each-front, leaves-behind}
 use Rattle.box_search.proofs.PartLemmas.{part-corner, only_point}
-use Rattle.box_search.proofs.SearchLemmas.{taken-part, taken-room, search-splits, search-drops, search-improves, kept-no_better, search-leaves}
-use Rattle.box_search.proofs.IntegralLemmas.{root-points}
+use Rattle.box_search.proofs.SearchLemmas.{taken-part, search-splits, search-drops, search-improves, kept-no_better, search-leaves}
 
 -- ---- what a call does to the parts that are left
 
@@ -40,10 +35,10 @@ added-two sense whole upper lower old mid new same first second =
       | inr h ↦ elim second [
         | inl k ↦ record { added = upper ∷ []; left = k.0 ∙ h.0; out = inr (h.1, ([], (inl (closes k.1, refl), refl))) }
         | inr k ↦ record {
-            added = upper ∷ lower ∷ [];
-            left = k.0 ∙ ap (λ l. l ++ lower ∷ []) h.0 ∙ append_assoc old.left.items (upper ∷ []) (lower ∷ []);
-            out = inr (h.1, (lower ∷ [], (inr (stays k.1, ([], (refl, refl))), refl)));
-          }
+          added = upper ∷ lower ∷ [];
+          left = k.0 ∙ ap (λ l. l ++ lower ∷ []) h.0 ∙ append_assoc old.left.items (upper ∷ []) (lower ∷ []);
+          out = inr (h.1, (lower ∷ [], (inr (stays k.1, ([], (refl, refl))), refl)));
+        }
       ]
     ]
   where
@@ -91,7 +86,7 @@ module _ (M : Program) (whole : Bool) (part : Part) (old new : Progress) (is_who
         let h = taken-part M old.left.items part old.best old.placed s.searched in
         let better = search-improves M old.best (corner part.intervals.items) kept judged (old.left.items ++ part ∷ []) old.placed s.searched in
         let dropped = search-drops M old.left.items part (Some kept) old.placed better (λ x f m.
-            subst (IsNoBetter M (Some kept.value)) (sym (only_point M part x h single ((h.agree x).0 m))) (kept-no_better M old.best (corner part.intervals.items) kept judged)) in
+        subst (IsNoBetter M (Some kept.value)) (sym (only_point M part x h single ((h.agree x).0 m))) (kept-no_better M old.best (corner part.intervals.items) kept judged)) in
         stands-at (Some kept) best (search-leaves M whole old.left.items new.left.items (Some kept) (old.placed + 1) is_whole dropped out);
   }
 

@@ -1,12 +1,11 @@
 -- The open regions that a search keeps, each beside its whole points and its number.
-use Rattle.std.specs.Prelude.{◌≡◌, ◌≢◌, ◌⊎◌, ◌↔◌, ℕ, ◌+◌, Bool, if◌then◌else◌, IsTrue, List, [], ◌∷◌, ◌++◌, Option, Some, None}
+use Rattle.std.specs.Prelude.{◌≡◌, ◌⊎◌, ◌↔◌, ℕ, ◌+◌, Bool, List, [], ◌∷◌, Option, Some, None}
 use Rattle.rational.specs.Rational.{ℚ, ◌≤ℚ◌}
 use Rattle.lp_model.specs.Program.{Program, Point, IsFeasible}
 use Rattle.lp_model.specs.Regions.{Path, InRegion}
 use Rattle.lp_model.specs.declared.types.Sense.{Sense}
 use Rattle.leaf_dual.specs.declared.dual.LagValue.{LagValue}
-use Rattle.leaf_dual.specs.declared.dual.LagValue.TheVariants.{Minus, Num}
-use Rattle.box_search.specs.declared.boxes.Interval.{Interval}
+use Rattle.leaf_dual.specs.declared.dual.LagValue.TheVariants.{Minus}
 use Rattle.box_search.specs.declared.part.Part.{Part}
 use Rattle.box_search.specs.Lists.{EachOf, OneOf}
 use Rattle.box_search.specs.Boxes.{InBox, IsProper, points}

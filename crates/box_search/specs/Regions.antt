@@ -2,7 +2,7 @@
 --     IsPath M path           the path names integer columns that are there
 --     IsPointOf M path x      x is a whole point within the columns' bounds, and in the region
 --     IsNumber M path v       v is the region's number by zero multipliers
-use Rattle.std.specs.Prelude.{◌≡◌, ◌⊎◌, Bool, if◌then◌else◌, IsTrue, List, [], ◌∷◌, Option, Some, None, Ok, Err}
+use Rattle.std.specs.Prelude.{◌≡◌, ◌⊎◌, Bool, if◌then◌else◌, IsTrue, [], ◌∷◌, Option, Some, None, Ok, Err}
 use Rattle.rational.specs.Rational.{ℚ, int, ceil}
 use Rattle.lp_model.specs.Program.{Program, Point, is_integer, in_least_form}
 use Rattle.lp_model.specs.Regions.{Path, InRegion, NamesColumns, AreNarrow}

@@ -49,12 +49,7 @@ fn improves(sense: Sense, best: &Option<Kept>, value: &Frac) -> bool
 }
 
 /// Whether no point of a region with this number is better than the kept one, if there is one.
-pub(crate) fn is_closed(
-    sense: Sense,
-    whole: bool,
-    best: &Option<Kept>,
-    number: &LagValue,
-) -> bool
+pub(crate) fn is_closed(sense: Sense, whole: bool, best: &Option<Kept>, number: &LagValue) -> bool
     ensures { IsTrue result ↔ Closes sense whole (best_value best.now) number.now }
 {
     match best {

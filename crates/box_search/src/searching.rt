@@ -9,8 +9,8 @@ ghost use Rattle.box_search.specs.Lists.{LeavesOut};
 ghost use Rattle.box_search.specs.Parts.{IsPart};
 ghost use Rattle.box_search.specs.Search.{Finds, IsFinished, HasRoom};
 
-use crate::boxes::{corner_of, first_open_column};
 use crate::bound::least_number;
+use crate::boxes::{corner_of, first_open_column};
 use crate::judging::{Kept, in_least_form, is_closed, judged};
 use crate::part::Part;
 use crate::refuting::is_refuted;
@@ -39,7 +39,9 @@ pub enum Outcome {
         placed: u64,
     },
     /// There is no feasible point.
-    Infeasible { placed: u64 },
+    Infeasible {
+        placed: u64,
+    },
     /// The search stopped. No feasible point is better than the bound; the best value is that of a feasible point.
     Stopped {
         why: StopWhy,

@@ -1,8 +1,8 @@
-use Rattle.std.proofs.Common.{rules, ◌≡◌, ◌<◌, ◌≤◌, length, refl, sym, subst, ap, ◌∙◌, arith, ℤ, ◌<ℤ◌, ◌≤ℤ◌, FitsSigned, to_z, of_z, true}
+use Rattle.std.proofs.Common.{rules, ◌≡◌, sym, subst, ap, ◌∙◌, ◌<ℤ◌, FitsSigned, to_z, of_z, true}
 use Rattle.std.specs.Int.{w128}
 use Rattle.std.specs.Prelude.{slice_set}
-use Rattle.std.proofs.lemmas.Int.{ints, to_z-of_z}
-use Rattle.box_search.specs.Boxes.{interval_at, width, middle, up_to, above, is_open, IsSound, IsSplitAt}
+use Rattle.std.proofs.lemmas.Int.{to_z-of_z}
+use Rattle.box_search.specs.Boxes.{interval_at, middle, up_to, above, is_open, IsSound, IsSplitAt}
 use Rattle.box_search.proofs.BoxLemmas.{open_column, open_ordered, interval_read, middle_greatest, sound_at, split_parts}
 use Rattle.box_search.proofs.boxes.cut_box.Goals as goal
 

@@ -1,11 +1,10 @@
-use Rattle.std.proofs.Common.{◌≡◌, [], ◌∷◌, ◌++◌, ◌-◌, ◌≤◌, take, refl, sym, subst, ap, ◌∙◌, arith, Some, None}
+use Rattle.std.proofs.Common.{◌≡◌, [], ◌∷◌, ◌++◌, ◌-◌, take, refl, sym, subst, ap, ◌∙◌, arith, Some}
 use Rattle.std.specs.Prelude.{MatchOption}
 use Rattle.box_search.specs.declared.searching.Progress.{Progress}
 use Rattle.box_search.specs.declared.searching.StopWhy.TheVariants.{Nodes}
 use Rattle.box_search.specs.Boxes.{IsProper}
 use Rattle.box_search.specs.Root.{root_of, HasNoPoint}
 use Rattle.box_search.specs.Parts.{IsPart}
-use Rattle.box_search.specs.Search.{Finds}
 use Rattle.box_search.specs.Works.{Stands, StopsAt, Works}
 use Rattle.box_search.specs.Regions.{IsNumber}
 use Rattle.box_search.proofs.PartLemmas.{root-part}
@@ -29,7 +28,7 @@ loop-part-init c =
     let box : part.intervals.items ≡ c.in-Some.root.items = ap (λ v. v.items) c.new-2.ensures.intervals in
     let is : part.intervals.items ≡ root_of M.cols = box ∙ root.0 ∙ ap root_of c.cols.ensures.items in
     let part_is : IsPart M part =
-        root-part M part (c.new-2.ensures.path ∙ c.new.ensures) is (subst IsProper (sym box) root.1) (subst (λ r. IsNumber M r part.number) (sym c.new-2.ensures.path) c.new-2.ensures.number) in
+    root-part M part (c.new-2.ensures.path ∙ c.new.ensures) is (subst IsProper (sym box) root.1) (subst (λ r. IsNumber M r part.number) (sym c.new-2.ensures.path) c.new-2.ensures.number) in
     let begun = c.in_ok-search.ensures in
     record {
       stands =

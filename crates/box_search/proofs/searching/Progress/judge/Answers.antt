@@ -1,8 +1,7 @@
-use Rattle.std.proofs.Common.{◌≡◌, refl, sym, subst, ◌∙◌, ◌+◌, ap, length, Option, Some, None, Ok, IfOk}
+use Rattle.std.proofs.Common.{◌≡◌, refl, subst, ◌∙◌, ◌+◌, ap, length, Some, None}
 use Rattle.lp_model.specs.Program.{Point}
 use Rattle.box_search.specs.Boxes.{corner}
 use Rattle.box_search.specs.declared.judging.Kept.{Kept}
-use Rattle.box_search.specs.declared.part.Part.{Part}
 use Rattle.box_search.specs.Lists.{LeavesOut}
 use Rattle.box_search.specs.Parts.{PartCloses}
 use Rattle.box_search.specs.Works.{Judges, Keeps}

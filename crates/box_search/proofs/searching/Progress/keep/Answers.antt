@@ -1,4 +1,4 @@
-use Rattle.std.proofs.Common.{refl, subst, ap, Option, Some}
+use Rattle.std.proofs.Common.{refl, subst}
 use Rattle.rational.specs.Rational.{ℚ}
 use Rattle.box_search.specs.declared.part.Part.{Part}
 use Rattle.box_search.specs.Lists.{LeavesOut}

@@ -1,4 +1,4 @@
-use Rattle.std.proofs.Common.{refl, sym, subst, ◌∙◌, ◌+◌, ap}
+use Rattle.std.proofs.Common.{refl, subst, ◌∙◌, ◌+◌, ap}
 use Rattle.box_search.specs.declared.searching.Progress.{Progress}
 use Rattle.box_search.specs.Works.{Adds}
 use Rattle.box_search.proofs.WorkLemmas.{works-split}
