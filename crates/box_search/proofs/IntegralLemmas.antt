@@ -1,6 +1,6 @@
 -- A feasible point of a model of integer columns is a point of its root box.
-use Rattle.std.proofs.Common.{◌≡◌, ◌⊎◌, ℕ, zero, suc, ◌*◌, ◌<◌, Bool, true, false, List, [], ◌∷◌, length, get_or, refl, sym, subst, ap, ◌∙◌, arith, inl, inr, Option, Some, None, ℤ, pos, ◌≤ℤ◌, ◌<ℤ◌, if◌then◌else◌, IsTrue}
-use Rattle.std.specs.Prelude.{map, IsSome, int_le}
+use Rattle.std.proofs.Common.{◌≡◌, ℕ, suc, ◌*◌, ◌<◌, Bool, true, false, List, [], ◌∷◌, length, get_or, refl, sym, subst, ap, arith, inl, inr, Option, Some, None, pos, ◌≤ℤ◌, ◌<ℤ◌, if◌then◌else◌, IsTrue}
+use Rattle.std.specs.Prelude.{IsSome, int_le}
 use Rattle.std.proofs.lemmas.Int.{ints}
 use Rattle.rational.specs.Rational.{ℚ, int, floor, ceil, ◌≤ℚ◌, IsWhole}
 use Rattle.rational.proofs.Rounding.{int-≤ℚ, ≤ℚ-int, int-floor}
@@ -9,7 +9,7 @@ use Rattle.rational.proofs.Integers.{int-≤ℚ-int}
 use Rattle.lp_model.specs.Elements.{of_element}
 use Rattle.lp_model.specs.Program.{Program, Point, IsAllowed, IsFeasible, IsEmpty}
 use Rattle.lp_model.specs.declared.types.Col.{Col}
-use Rattle.box_search.specs.Boxes.{Intervals, IsIn, InBox, IsSound, IsProper, width, points}
+use Rattle.box_search.specs.Boxes.{IsIn, InBox, IsSound, IsProper, width, points}
 use Rattle.box_search.specs.Root.{interval_of, count, factor, root_of, HasNoPoint, whole_points_of}
 use Rattle.box_search.specs.Integral.{AreIntegral, IsIntegral}
 

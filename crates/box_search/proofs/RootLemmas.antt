@@ -1,16 +1,13 @@
 -- The root box: read column by column, and all feasible points are in it.
-use Rattle.std.proofs.Common.{◌≡◌, ◌⊎◌, ℕ, zero, suc, ◌+◌, ◌*◌, ◌^◌, ◌-◌, ◌≤◌, ◌<◌, Bool, true, false, List, [], ◌∷◌, ◌++◌, length, get_or, take, refl, sym, subst, ap, ◌∙◌, arith, inl, inr, min, Option, Some, None, ℤ, pos, ◌≤ℤ◌, ◌<ℤ◌, if◌then◌else◌, IsTrue}
+use Rattle.std.proofs.Common.{◌≡◌, ◌⊎◌, ℕ, zero, suc, ◌+◌, ◌*◌, ◌^◌, ◌-◌, ◌≤◌, ◌<◌, List, [], ◌∷◌, ◌++◌, length, get_or, take, sym, subst, ap, ◌∙◌, arith, inl, inr, min, Option, Some, None, ◌≤ℤ◌, ◌<ℤ◌}
 use Rattle.std.proofs.lemmas.List.{take_more}
-use Rattle.std.specs.Prelude.{map, IsSome, MatchOption}
+use Rattle.std.specs.Prelude.{map, MatchOption}
 use Rattle.std.proofs.lemmas.Int.{ints}
 use Rattle.std.proofs.lemmas.List.{map-append}
-use Rattle.rational.specs.Rational.{ℚ, int, floor, ceil, ◌≤ℚ◌}
 use Rattle.frac128.specs.Range.{IsNarrow}
-use Rattle.lp_model.specs.Elements.{of_element}
-use Rattle.lp_model.specs.Program.{Program, Point, IsAllowed, IsFeasible, ColumnHolds}
 use Rattle.lp_model.specs.declared.types.Col.{Col}
-use Rattle.box_search.specs.Boxes.{Intervals, IsIn, InBox, IsSound, IsProper, width, points}
-use Rattle.box_search.specs.Root.{interval_of, count, factor, root_of, HasNoPoint, whole_points_of, results_for}
+use Rattle.box_search.specs.Boxes.{Intervals, IsSound, IsProper, points}
+use Rattle.box_search.specs.Root.{interval_of, factor, root_of, HasNoPoint, whole_points_of, results_for}
 use Rattle.box_search.specs.declared.boxes.Interval.{Interval}
 use Rattle.box_search.proofs.SplitLemmas.{below_or_above}
 

@@ -1,15 +1,16 @@
--- A split box: each of its points is in exactly one part, the parts have no others, and their numbers of points add up.
-use Rattle.std.proofs.Common.{◌≡◌, ◌⊎◌, ℕ, zero, suc, ◌+◌, ◌*◌, ◌<◌, ◌≤◌, true, List, [], ◌∷◌, length, refl, sym, subst, ap, ◌∙◌, arith, inl, inr, Some, ℤ, pos, negsuc, ◌+ℤ◌, ◌-ℤ◌, ◌≤ℤ◌, ◌<ℤ◌}
-use Rattle.std.specs.Prelude.{slice_set, unsigned_abs}
+-- A split box: each of its points is in one part, the parts have no others, and their numbers of points add up.
+use Rattle.std.proofs.Common.{◌≡◌, ◌⊎◌, ◌↔◌, ℕ, zero, suc, ◌+◌, ◌*◌, ◌<◌, [], ◌∷◌, length, refl, sym, subst, ap, ◌∙◌, arith, inl, inr, ℤ, pos, negsuc, ◌+ℤ◌, ◌≤ℤ◌, ◌<ℤ◌}
+use Rattle.std.specs.Prelude.{slice_set}
 use Rattle.std.proofs.lemmas.Int.{ints}
 use Rattle.rational.specs.Rational.{ℚ, int, ◌≤ℚ◌, IsWhole, floor}
 use Rattle.rational.proofs.RationalOrder.{≤ℚ_trans}
 use Rattle.rational.proofs.Rounding.{int-floor}
 use Rattle.rational.proofs.Integers.{int-≤ℚ-int}
 use Rattle.frac128.specs.Range.{IsNarrow}
-use Rattle.lp_model.specs.Program.{Point}
+use Rattle.lp_model.specs.Program.{Point, coordinate}
 use Rattle.box_search.specs.Boxes.{Intervals, IsIn, InBox, IsSound, IsProper, width, points, interval_at, up_to, above, IsSplitAt}
 use Rattle.box_search.specs.declared.boxes.Interval.{Interval}
+use Rattle.box_search.proofs.BoxLemmas.{sound_at}
 
 -- ---- one interval
 
@@ -19,24 +20,16 @@ below_or_above (pos a) (negsuc b) = inr (omega (arith, ints))
 below_or_above (negsuc a) (pos b) = inl (omega (arith, ints))
 below_or_above (negsuc a) (negsuc b) = grind (arith, ints)
 
-not_both : (z v : ℤ) → z ≤ℤ v → (v +ℤ pos 1) ≤ℤ z → ⊥
-not_both z v h k = absurd (omega (arith, ints))
-
 whole_order : (x : ℚ) (v : ℤ) → IsWhole x → (x ≤ℚ int v) ⊎ (int (v +ℤ pos 1) ≤ℚ x)
 whole_order x v w = elim (below_or_above (floor x) v) [
   | inl h ↦ inl (subst (λ y. y ≤ℚ int v) (int-floor x w) ((int-≤ℚ-int (floor x) v).1 h))
   | inr h ↦ inr (subst (λ y. int (v +ℤ pos 1) ≤ℚ y) (int-floor x w) ((int-≤ℚ-int (v +ℤ pos 1) (floor x)).1 h))
 ]
 
-whole_not_both : (x : ℚ) (v : ℤ) → x ≤ℚ int v → int (v +ℤ pos 1) ≤ℚ x → ⊥
-whole_not_both x v h k =
-    let over : (v +ℤ pos 1) ≤ℤ v = (int-≤ℚ-int (v +ℤ pos 1) v).0 (≤ℚ_trans k h) in
-    not_both v v (omega (arith, ints)) over
-
-in_part : (i : Interval) (v : ℤ) (x : ℚ) → IsIn i x → (IsIn (up_to i v) x × (¬ IsIn (above i v) x)) ⊎ ((¬ IsIn (up_to i v) x) × IsIn (above i v) x)
+in_part : (i : Interval) (v : ℤ) (x : ℚ) → IsIn i x → IsIn (up_to i v) x ⊎ IsIn (above i v) x
 in_part i v x h = elim (whole_order x v (h.whole refl)) [
-  | inl k ↦ inl (record { bounds = record { low = h.bounds.low; high = k }; whole = h.whole }, λ m. whole_not_both x v k m.bounds.low)
-  | inr k ↦ inr ((λ m. whole_not_both x v m.bounds.high k), record { bounds = record { low = k; high = h.bounds.high }; whole = h.whole })
+  | inl k ↦ inl (record { bounds = record { low = h.bounds.low; high = k }; whole = h.whole })
+  | inr k ↦ inr (record { bounds = record { low = k; high = h.bounds.high }; whole = h.whole })
 ]
 
 in_up_to : (i : Interval) (v : ℤ) (x : ℚ) → v <ℤ i.high → IsIn (up_to i v) x → IsIn i x
@@ -53,22 +46,38 @@ in_above i v x most h = record {
 
 -- ---- a box
 
-Part : Intervals → Intervals → Point → Type 0
-Part lower upper x = (InBox lower x × (¬ InBox upper x)) ⊎ ((¬ InBox lower x) × InBox upper x)
-
 part_at : (b : Intervals) (j : ℕ) (v : ℤ) (x : Point) → j < length b → InBox b x
-    → (InBox (slice_set b j (up_to (interval_at b j) v)) x × (¬ InBox (slice_set b j (above (interval_at b j) v)) x))
-    ⊎ ((¬ InBox (slice_set b j (up_to (interval_at b j) v)) x) × InBox (slice_set b j (above (interval_at b j) v)) x)
+    → InBox (slice_set b j (up_to (interval_at b j) v)) x ⊎ InBox (slice_set b j (above (interval_at b j) v)) x
 part_at [] j v x h m = absurd (omega arith)
 part_at (i ∷ is) j v [] h m = absurd m
-part_at (i ∷ is) zero v (y ∷ ys) h m = elim (in_part i v y m.0) [
-  | inl k ↦ inl ((k.0, m.1), λ n. k.1 n.0)
-  | inr k ↦ inr ((λ n. k.0 n.0), (k.1, m.1))
-]
-part_at (i ∷ is) (suc j) v (y ∷ ys) h m = elim (part_at is j v ys (omega arith) m.1) [
-  | inl k ↦ inl ((m.0, k.0), λ n. k.1 n.1)
-  | inr k ↦ inr ((λ n. k.0 n.1), (m.0, k.1))
-]
+part_at (i ∷ is) zero v (y ∷ ys) h m = elim (in_part i v y m.0) [ inl k ↦ inl (k, m.1) | inr k ↦ inr (k, m.1) ]
+part_at (i ∷ is) (suc j) v (y ∷ ys) h m = elim (part_at is j v ys (omega arith) m.1) [ inl k ↦ inl (m.0, k) | inr k ↦ inr (m.0, k) ]
+
+lower_meets : (b : Intervals) (j : ℕ) (v : ℤ) (x : Point) → j < length b → InBox (slice_set b j (up_to (interval_at b j) v)) x → coordinate x j ≤ℚ int v
+lower_meets [] j v x h m = absurd (omega arith)
+lower_meets (i ∷ is) zero v [] h m = absurd m
+lower_meets (i ∷ is) (suc j) v [] h m = absurd m
+lower_meets (i ∷ is) zero v (y ∷ ys) h m = m.0.bounds.high
+lower_meets (i ∷ is) (suc j) v (y ∷ ys) h m = lower_meets is j v ys (omega arith) m.1
+
+upper_meets : (b : Intervals) (j : ℕ) (v : ℤ) (x : Point) → j < length b → InBox (slice_set b j (above (interval_at b j) v)) x → int (v +ℤ pos 1) ≤ℚ coordinate x j
+upper_meets [] j v x h m = absurd (omega arith)
+upper_meets (i ∷ is) zero v [] h m = absurd m
+upper_meets (i ∷ is) (suc j) v [] h m = absurd m
+upper_meets (i ∷ is) zero v (y ∷ ys) h m = m.0.bounds.low
+upper_meets (i ∷ is) (suc j) v (y ∷ ys) h m = upper_meets is j v ys (omega arith) m.1
+
+meets_lower : (b : Intervals) (j : ℕ) (v : ℤ) (x : Point) → j < length b → InBox b x → coordinate x j ≤ℚ int v → InBox (slice_set b j (up_to (interval_at b j) v)) x
+meets_lower [] j v x h m k = absurd (omega arith)
+meets_lower (i ∷ is) j v [] h m k = absurd m
+meets_lower (i ∷ is) zero v (y ∷ ys) h m k = (record { bounds = record { low = m.0.bounds.low; high = k }; whole = m.0.whole }, m.1)
+meets_lower (i ∷ is) (suc j) v (y ∷ ys) h m k = (m.0, meets_lower is j v ys (omega arith) m.1 k)
+
+meets_upper : (b : Intervals) (j : ℕ) (v : ℤ) (x : Point) → j < length b → InBox b x → int (v +ℤ pos 1) ≤ℚ coordinate x j → InBox (slice_set b j (above (interval_at b j) v)) x
+meets_upper [] j v x h m k = absurd (omega arith)
+meets_upper (i ∷ is) j v [] h m k = absurd m
+meets_upper (i ∷ is) zero v (y ∷ ys) h m k = (record { bounds = record { low = k; high = m.0.bounds.high }; whole = m.0.whole }, m.1)
+meets_upper (i ∷ is) (suc j) v (y ∷ ys) h m k = (m.0, meets_upper is j v ys (omega arith) m.1 k)
 
 lower_at : (b : Intervals) (j : ℕ) (v : ℤ) (x : Point) → j < length b → v <ℤ (interval_at b j).high → InBox (slice_set b j (up_to (interval_at b j) v)) x → InBox b x
 lower_at [] j v x h k m = absurd (omega arith)
@@ -116,17 +125,31 @@ proper_upper_at (i ∷ is) zero v p h k m = (sound_above i v p.0 k m, p.1)
 proper_upper_at (i ∷ is) (suc j) v p h k m = (p.0, proper_upper_at is j v p.1 (omega arith) k m)
 
 module _ (b : Intervals) (j : ℕ) (v : ℤ) (lower upper : Intervals) (s : IsSplitAt b j v lower upper) where
-  pub split-either : (x : Point) → InBox b x → (InBox lower x × (¬ InBox upper x)) ⊎ ((¬ InBox lower x) × InBox upper x)
-  split-either x m =
-      subst (λ l. (InBox l x × (¬ InBox upper x)) ⊎ ((¬ InBox l x) × InBox upper x)) (sym s.lower_is)
-      (subst (λ u. (InBox (slice_set b j (up_to (interval_at b j) v)) x × (¬ InBox u x)) ⊎ ((¬ InBox (slice_set b j (up_to (interval_at b j) v)) x) × InBox u x)) (sym s.upper_is)
-      (part_at b j v x s.within m))
+  pub split-either : (x : Point) → InBox b x → InBox lower x ⊎ InBox upper x
+  split-either x m = elim (part_at b j v x s.within m) [
+    | inl k ↦ inl (subst (λ l. InBox l x) (sym s.lower_is) k)
+    | inr k ↦ inr (subst (λ u. InBox u x) (sym s.upper_is) k)
+  ]
 
-  pub split-lower : (x : Point) → InBox lower x → InBox b x
-  split-lower x m = lower_at b j v x s.within s.greatest (subst (λ l. InBox l x) s.lower_is m)
+  -- the points of the lower part are those whose number is at most v
+  pub split-lower : (x : Point) → InBox lower x ↔ (InBox b x × (coordinate x j ≤ℚ int v))
+  split-lower x = (
+    (λ m. let n : InBox (slice_set b j (up_to (interval_at b j) v)) x = subst (λ l. InBox l x) s.lower_is m in (lower_at b j v x s.within s.greatest n, lower_meets b j v x s.within n)),
+    (λ m. subst (λ l. InBox l x) (sym s.lower_is) (meets_lower b j v x s.within m.0 m.1)),
+  )
 
-  pub split-upper : (x : Point) → InBox upper x → InBox b x
-  split-upper x m = upper_at b j v x s.within s.least (subst (λ l. InBox l x) s.upper_is m)
+  -- and those of the upper part are above it
+  pub split-upper : (x : Point) → InBox upper x ↔ (InBox b x × (int (v +ℤ pos 1) ≤ℚ coordinate x j))
+  split-upper x = (
+    (λ m. let n : InBox (slice_set b j (above (interval_at b j) v)) x = subst (λ u. InBox u x) s.upper_is m in (upper_at b j v x s.within s.least n, upper_meets b j v x s.within n)),
+    (λ m. subst (λ u. InBox u x) (sym s.upper_is) (meets_upper b j v x s.within m.0 m.1)),
+  )
+
+  -- the value at which the box is cut and the next one are narrow
+  pub split-narrow : IsProper b → IsNarrow v × IsNarrow (v +ℤ pos 1)
+  split-narrow p =
+      let sound : IsSound (interval_at b j) = sound_at b j _ p s.within in
+      ((sound_up_to (interval_at b j) v sound s.least s.greatest).high, (sound_above (interval_at b j) v sound s.least s.greatest).low)
 
   pub split-points : points lower + points upper ≡ points b
   split-points = (λ k. points (s.lower_is k) + points (s.upper_is k)) ∙ points_at b j v s.within s.least s.greatest

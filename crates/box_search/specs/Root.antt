@@ -1,7 +1,7 @@
 -- The root box of a model: the whole numbers within each column's bounds.
 --     whole_points M      the product of the numbers of whole numbers of the integer columns
 --     cap_of M            the most results that a search places
-use Rattle.std.specs.Prelude.{◌≡◌, ◌⊎◌, ℕ, suc, ◌*◌, ◌-◌, ◌<◌, max, ℤ, pos, ◌≤ℤ◌, ◌<ℤ◌, int_le, if◌then◌else◌, List, [], ◌∷◌, map, length, get_or, Option, Some, None}
+use Rattle.std.specs.Prelude.{◌⊎◌, ℕ, suc, ◌*◌, ◌-◌, max, pos, ◌<ℤ◌, int_le, if◌then◌else◌, List, [], ◌∷◌, map, Option, Some, None}
 use Rattle.rational.specs.Rational.{ℚ, floor, ceil}
 use Rattle.lp_model.specs.Program.{Program}
 use Rattle.lp_model.specs.declared.types.Col.{Col}

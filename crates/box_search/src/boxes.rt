@@ -23,11 +23,10 @@ impl Interval {
 
     /// The number in the middle, rounded down.
     fn middle(&self) -> i128
-        requires sound { IsSound self.now }
-        requires room { width self.now < 2 ^ 64 }
+        requires { IsSound self.now }
         ensures { result ≡ middle self.now }
     {
-        let width = (self.high - self.low).unsigned_abs();
+        let width = self.high.abs_diff(self.low);
         self.low + (width / 2) as i128
     }
 
@@ -83,21 +82,32 @@ pub(crate) fn corner_of(alloc: Global, intervals: &[Interval]) -> Result<Vec<Fra
     Ok(point)
 }
 
+/// A box cut in two: by the numbers of one column up to a value, and those above it.
+#[derive(Drop)]
+pub(crate) struct Cut {
+    pub(crate) value: i128,
+    pub(crate) lower: Vec<Interval>,
+    pub(crate) upper: Vec<Interval>,
+}
+
 /// The box up to the middle of an interval that has more than one number, and the box above it.
-pub(crate) fn split_box(
+pub(crate) fn cut_box(
     alloc: Global,
     mut intervals: Vec<Interval>,
     column: usize,
-) -> Result<(Vec<Interval>, Vec<Interval>), AllocError>
+) -> Result<Cut, AllocError>
     requires open { position is_open intervals.items ≡ Some column }
     requires proper { IsProper intervals.items }
-    requires room { points intervals.items < 2 ^ 64 }
-    ensures { IfOk result (λ parts. let i = interval_at intervals.items column in IsSplitAt intervals.items column (middle i) parts.0.items parts.1.items) }
+    ensures { IfOk result (λ cut. (cut.value ≡ middle (interval_at intervals.items column)) × IsSplitAt intervals.items column cut.value cut.lower.items cut.upper.items) }
 {
     let interval = intervals[column];
-    let middle = interval.middle();
+    let value = interval.middle();
     let mut lower = Vec::from_slice(alloc, &intervals)?;
-    lower[column] = interval.up_to(middle);
-    intervals[column] = interval.above(middle);
-    Ok((lower, intervals))
+    lower[column] = interval.up_to(value);
+    intervals[column] = interval.above(value);
+    Ok(Cut {
+        value,
+        lower,
+        upper: intervals,
+    })
 }

@@ -1,6 +1,6 @@
 -- From what is asked to the words that ask it.
-use Rattle.std.proofs.Common.{◌≡◌, ℕ, List, subst, Ok, Err, Result}
-use Rattle.std.specs.Prelude.{OnOk}
+use Rattle.std.proofs.Common.{◌≡◌, ℕ, List, sym, subst, Ok, Err, Result}
+use Rattle.std.specs.Prelude.{OnOk, OnErr}
 use Rattle.command_words.specs.Asks.{Asks, asks_of}
 use Rattle.sym_shell.specs.State.{State}
 use Rattle.sym_shell.specs.Step.{AnswersTo, Step}
@@ -12,3 +12,17 @@ on_ok (Err e) f h = h
 pub step_of : (words : List (List ℕ)) (asks : Asks) (old new : State) (reply : List ℕ) → asks ≡ asks_of words → AnswersTo asks old reply new → Step old words reply new
 unfolding Step
 step_of words asks old new reply e h = subst (λ a. AnswersTo a old reply new) e h
+
+-- ---- where the reply could not be made whole
+
+pub unfinished : {E : Type 0} (r : Result (Unit {0}) E) (asks asked : Asks) (old new : State) (bytes : List ℕ) → asked ≡ asks → OnErr r (AnswersTo asks old bytes new) → OnErr r ((x : List ℕ) × AnswersTo asked old x new)
+unfinished (Ok done) asks asked old new bytes e h = tt
+unfinished (Err f) asks asked old new bytes e h = (bytes, subst (λ a. AnswersTo a old bytes new) (sym e) h)
+
+pub always : {E P : Type 0} (r : Result (Unit {0}) E) → P → OnErr r P
+always (Ok done) h = tt
+always (Err f) h = h
+
+pub on_err : {E P Q : Type 0} (r : Result (Unit {0}) E) → (P → Q) → OnErr r P → OnErr r Q
+on_err (Ok done) f h = tt
+on_err (Err e) f h = f h

@@ -1,5 +1,6 @@
 // The bytes of the reply where a search stopped.
 ghost use Rattle.std.specs.Prelude.{◌≡◌, ◌++◌, suc, codes, decimal, IfOk};
+ghost use Rattle.std.specs.Fmt.{signed_decimal};
 ghost use Rattle.sym_shell.specs.Texts.{number_or_none, known_text, stopped_nodes_text, column_name, row_name, relation_text, change_text, changes_text, path_line, variable_text, value_step_text, step_text, step_line, stopped_wide_text};
 
 use frac128::Frac;
@@ -84,6 +85,14 @@ fn relation(side: Side) -> &'static [u8]
     }
 }
 
+fn write_whole(reply: &mut Vec<u8>, number: i128) -> Result<(), AllocError>
+    ensures { IfOk result (λ _. reply.new.items ≡ reply.old.items ++ signed_decimal number) }
+{
+    let mut digits = itoa::Buffer::new();
+    reply.extend_from_slice(digits.format(number).as_bytes())?;
+    Ok(())
+}
+
 fn write_change(
     reply: &mut Vec<u8>,
     model: &Model,
@@ -91,11 +100,10 @@ fn write_change(
 ) -> Result<(), AllocError>
     ensures { IfOk result (λ _. reply.new.items ≡ reply.old.items ++ change_text model.now change.now) }
 {
-    let mut digits = itoa::Buffer::new();
     reply.extend_from_slice(relation(change.side))?;
     reply.extend_from_slice(column_name(model, change.col))?;
     reply.extend_from_slice(b" ")?;
-    reply.extend_from_slice(digits.format(change.v).as_bytes())?;
+    write_whole(reply, change.v)?;
     Ok(())
 }
 
