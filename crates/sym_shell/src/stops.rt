@@ -93,17 +93,14 @@ fn write_whole(reply: &mut Vec<u8>, number: i128) -> Result<(), AllocError>
     Ok(())
 }
 
-fn write_change(
-    reply: &mut Vec<u8>,
-    model: &Model,
-    change: &BoundChange,
-) -> Result<(), AllocError>
-    ensures { IfOk result (λ _. reply.new.items ≡ reply.old.items ++ change_text model.now change.now) }
+fn write_change(reply: &mut Vec<u8>, model: &Model, change: BoundChange) -> Result<(), AllocError>
+    ensures { IfOk result (λ _. reply.new.items ≡ reply.old.items ++ change_text model.now change) }
 {
-    reply.extend_from_slice(relation(change.side))?;
-    reply.extend_from_slice(column_name(model, change.col))?;
+    let BoundChange { col, side, v } = change;
+    reply.extend_from_slice(relation(side))?;
+    reply.extend_from_slice(column_name(model, col))?;
     reply.extend_from_slice(b" ")?;
-    write_whole(reply, change.v)?;
+    write_whole(reply, v)?;
     Ok(())
 }
 
@@ -115,7 +112,7 @@ fn write_changes(
     ensures { IfOk result (λ _. reply.new.items ≡ reply.old.items ++ changes_text model.now changes.now) }
 {
     for change in changes {
-        write_change(reply, model, change)?;
+        write_change(reply, model, *change)?;
     }
     Ok(())
 }
@@ -188,11 +185,7 @@ fn write_value_at(reply: &mut Vec<u8>, model: &Model, column: ColId) -> Result<(
     Ok(())
 }
 
-fn write_value(
-    reply: &mut Vec<u8>,
-    model: &Model,
-    column: &Option<ColId>,
-) -> Result<(), AllocError>
+fn write_value(reply: &mut Vec<u8>, model: &Model, column: &Option<ColId>) -> Result<(), AllocError>
     ensures { IfOk result (λ _. reply.new.items ≡ reply.old.items ++ value_step_text model.now column.now) }
 {
     match column {
