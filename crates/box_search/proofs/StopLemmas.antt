@@ -21,7 +21,7 @@ use Rattle.box_search.specs.declared.searching.StopWhy.TheVariants.{Nodes, Wide}
 use Rattle.box_search.specs.declared.searching.Outcome.{Outcome}
 use Rattle.box_search.specs.declared.searching.Outcome.TheVariants.{Optimal, Infeasible, Stopped}
 use Rattle.box_search.specs.Root.{cap_of}
-use Rattle.box_search.specs.Search.{IsNoBetter, IsValueFound, IsOpen, IsLeast, StopsWith, StopsFor, Finds, IsFinished, HasRoom}
+use Rattle.box_search.specs.Search.{IsNoBetter, IsValueFound, IsOpenRegion, IsLeast, StopsWith, StopsFor, Finds, IsFinished, HasRoom}
 use Rattle.box_search.specs.Works.{best_value, IsKept, Stands}
 use Rattle.box_search.proofs.ListLemmas.{each-with, each-map, one-map, one-with, one-both}
 use Rattle.box_search.proofs.PartLemmas.{part-corner}
@@ -43,7 +43,7 @@ some-regions : (left : List Part) → left ≢ [] → map numbered left ≢ []
 some-regions [] some e = some refl
 some-regions (p ∷ ps) some e = cc
 
-open-region : (M : Program) (whole : Bool) (best : Option ℚ) (p : Part) → IsPart M p → (¬ PartCloses M.sense whole best p) → IsOpen M whole best (numbered p)
+open-region : (M : Program) (whole : Bool) (best : Option ℚ) (p : Part) → IsPart M p → (¬ PartCloses M.sense whole best p) → IsOpenRegion M whole best (numbered p)
 open-region M whole best p h stays = record {
   lawful = h.path;
   point = (corner p.intervals.items, part-corner M p h);
@@ -65,8 +65,8 @@ stops-with M whole left best placed least whole_is some s is =
       regions = map numbered left;
       some = some-regions left some;
       are_open =
-          each-map (IsOpen M whole (best_value best)) numbered left
-          (each-with (IsPart M) Stays (λ p. IsOpen M whole (best_value best) (numbered p)) (open-region M whole (best_value best)) left s.searched.parts s.none_closes);
+          each-map (IsOpenRegion M whole (best_value best)) numbered left
+          (each-with (IsPart M) Stays (λ p. IsOpenRegion M whole (best_value best) (numbered p)) (open-region M whole (best_value best)) left s.searched.parts s.none_closes);
       cover = λ x f. elim (s.searched.cover x f) [
         | inl one ↦ inl (one-map (λ r. InRegion r.path x) numbered left
             (one-both (InPart x) (IsPart M) (λ p. InRegion p.path x) (λ p m h. ((h.agree x).0 m).inside) left one s.searched.parts))
@@ -86,16 +86,16 @@ least_twice Max v = let e : neg_ℚ (neg_ℚ v) ≡ v = ring (v ∷ []) (search 
 whole_best : (M : Program) (whole : Bool) (best : ℚ) → (IsTrue whole → HasWholeObjective M 1) → IsValueFound M (Some best) → IsTrue whole → IsWhole (in_least_form M.sense best)
 whole_best M whole best is_whole found t = subst (λ v. IsWhole (in_least_form M.sense v)) (sym found.1.1) (least_value-whole M found.0 (is_whole t) found.1.0)
 
-least-bound : (M : Program) (whole : Bool) (regions : List Numbered) (best : Option ℚ) (least : ℚ) (x : Point) → (IsTrue whole → HasWholeObjective M 1) → EachOf (IsOpen M whole best) regions → IsLeast whole regions (Some least) → IsValueFound M best
+least-bound : (M : Program) (whole : Bool) (regions : List Numbered) (best : Option ℚ) (least : ℚ) (x : Point) → (IsTrue whole → HasWholeObjective M 1) → EachOf (IsOpenRegion M whole best) regions → IsLeast whole regions (Some least) → IsValueFound M best
     → IsFeasible M x → OneOf (λ r. InRegion r.path x) regions ⊎ IsNoBetter M best x → least ≤ℚ least_value M 1 x
 least-bound M whole regions best least x is_whole opens is found f cover = elim cover [
   | inl one ↦
       let Above : Numbered → Type 0 = λ r. (n : ℚ) × (IsRounded whole r.number n × (least ≤ℚ n)) in
-      let all = each-with (IsOpen M whole best) Above (λ r. IsOpen M whole best r × Above r) (λ r h k. (h, k)) regions opens is.1 in
-      let at = one-with (λ r. InRegion r.path x) (λ r. IsOpen M whole best r × Above r) regions one all in
+      let all = each-with (IsOpenRegion M whole best) Above (λ r. IsOpenRegion M whole best r × Above r) (λ r h k. (h, k)) regions opens is.1 in
+      let at = one-with (λ r. InRegion r.path x) (λ r. IsOpenRegion M whole best r × Above r) regions one all in
       ≤ℚ_trans at.1.1.1.1.1 (rounded-bound M at.0.path x f at.1.0 whole at.0.number at.1.1.1.0 is_whole at.1.1.0.number at.1.1.1.1.0)
   | inr k ↦
-      let at = one-with (λ r. IsRounded whole r.number least) (IsOpen M whole best) regions is.0 opens in
+      let at = one-with (λ r. IsRounded whole r.number least) (IsOpenRegion M whole best) regions is.0 opens in
       by best found k at.0 at.1.0 at.1.1.stays
 ]
   where

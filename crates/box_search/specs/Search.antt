@@ -31,7 +31,7 @@ IsValueFound M (Some best) = (x : Point) × (IsFeasible M x × (best ≡ value M
 -- ---- the open regions where a search stops
 
 -- the region has a whole point, and its number does not reach the best value
-pub record IsOpen (M : Program) (whole : Bool) (best : Option ℚ) (region : Numbered) : Type 0 where
+pub record IsOpenRegion (M : Program) (whole : Bool) (best : Option ℚ) (region : Numbered) : Type 0 where
   pub lawful : IsPath M region.path
   pub point : (x : Point) × IsPointOf M region.path x
   pub number : IsNumber M region.path region.number
@@ -49,7 +49,7 @@ pub record StopsWith (M : Program) (bound best : Option ℚ) : Type 0 where
   pub whole_is : IsTrue whole ↔ HasWholeObjective M 1
   pub regions : List Numbered
   pub some : regions ≢ []
-  pub are_open : EachOf (IsOpen M whole best) regions
+  pub are_open : EachOf (IsOpenRegion M whole best) regions
   pub cover : (x : Point) → IsFeasible M x → OneOf (λ r. InRegion r.path x) regions ⊎ IsNoBetter M best x
   pub best_is : IsValueFound M best
   pub bound_is : (least : Option ℚ) × (IsLeast whole regions least × (bound ≡ option_map (in_least_form M.sense) least))
@@ -110,3 +110,7 @@ IsFinished (Stopped why n bound best) = ⊥
 -- no whole point within the columns' bounds has a step without room
 abbrev pub HasRoom : Program → Type 0
 HasRoom M = (x : Point) → InBox (root_of M.cols) x → (step : WideStep) → ¬ IsWideAt M x step
+
+-- no feasible point is better than the bound of a search that stopped
+abbrev pub StopBound : Type 0
+StopBound = (M : Program) (bound : ℚ) (best : Option ℚ) (x : Point) → StopsWith M (Some bound) best → IsFeasible M x → in_least_form M.sense bound ≤ℚ least_value M 1 x

@@ -7,7 +7,7 @@ ghost use Rattle.box_search.specs.Root.{cap_of};
 ghost use Rattle.box_search.specs.Integral.{IsIntegral};
 ghost use Rattle.box_search.specs.Lists.{LeavesOut};
 ghost use Rattle.box_search.specs.Parts.{IsPart};
-ghost use Rattle.box_search.specs.Search.{Finds, IsFinished, HasRoom};
+ghost use Rattle.box_search.specs.Search.{Finds, IsFinished, HasRoom, StopBound};
 
 use crate::bound::least_number;
 use crate::boxes::{corner_of, first_open_column};
@@ -263,3 +263,8 @@ pub fn search(alloc: Global, model: &Model, limit: u64) -> Result<Outcome, Alloc
     }
     Ok(search.outcome())
 }
+
+/// No feasible point is better than the bound of a search that stopped.
+pub fn stop_bound_law()
+    ensures { StopBound }
+{}

@@ -1,0 +1,5 @@
+use Rattle.box_search.proofs.StopLemmas.{stops-bound}
+use Rattle.box_search.proofs.searching.stop_bound_law.Goals as goal
+
+pub returns : goal.returns
+returns c = λ M bound best x stopped feasible. stops-bound M bound best x stopped feasible
