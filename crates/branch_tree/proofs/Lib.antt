@@ -5,3 +5,5 @@ pub mod TreeLemmas
 pub mod NumberedLaws
 pub mod KeptLemmas
 pub mod ChangeLaws
+pub mod PlaceLaws
+pub mod PathLaws

@@ -11,7 +11,7 @@ use Rattle.branch_tree.specs.Plain.{Plain, new_split, one_if_same, leaves_with, 
 use Rattle.branch_tree.specs.Numbered.{NumberedTree, IsNumbered, IsKept}
 use Rattle.branch_tree.specs.Changes.{HasLeaf, HasSplit, HasRoom, first_tree, after_split, after_collapse, after_trim, with_limit, with_leaf}
 use Rattle.branch_tree.proofs.CountLemmas.{nodes-splits, same_cases, same_other, same_at_most_one, splits_with-le}
-use Rattle.branch_tree.proofs.IdLemmas.{splits-replaced_leaf, splits-replaced_split, with-replaced, with-replaced_new, bounds-replaced, splits-collapsed, with-collapsed, with-collapsed_new, bounds-collapsed, splits-trimmed, with-trimmed, with-trimmed_none, with-trimmed_new, bounds-trimmed}
+use Rattle.branch_tree.proofs.IdLemmas.{splits-replaced_leaf, splits-replaced_split, with-replaced, with-replaced_new, each_split-replaced, splits-collapsed, with-collapsed, with-collapsed_new, each_split-collapsed, splits-trimmed, with-trimmed, with-trimmed_none, with-trimmed_new, each_split-trimmed}
 
 pub numbered-first : (limit : ℕ) → IsNumbered (first_tree limit)
 numbered-first limit = record {
@@ -57,7 +57,7 @@ numbered-with_leaf T id kept n =
       given = λ k h. omega (arith, same k, n.given k h);
       few = omega (arith, splits, n.few, nodes-splits T.root, nodes-splits (replaced id new T.root));
       left = omega (arith, splits, n.left);
-      bounds = bounds-replaced id new tt T.root n.bounds;
+      bounds = each_split-replaced id new (λ i u. u <ℤ pos (2 ^ 127 - 1)) tt T.root n.bounds;
     }
 
 module _ (T : NumberedTree) (id j : ℕ) (v : ℤ) (mult : List (Var × ℚ)) (basis : Basis) (n : IsNumbered T) (has : HasLeaf T id) (room : HasRoom T) (bound : v <ℤ pos (2 ^ 127 - 1)) where
@@ -92,7 +92,7 @@ module _ (T : NumberedTree) (id j : ℕ) (v : ℤ) (mult : List (Var × ℚ)) (b
         given = λ k h. omega (arith, n.given k (omega arith), with-replaced id new k (with-new_split k (λ e. absurd (omega arith)) (λ e. absurd (omega arith))) T.root);
         few = omega (arith, nodes-after_split, n.few);
         left = omega (arith, splits-after_split, room.ids);
-        bounds = bounds-replaced id new (bound, (tt, tt)) T.root n.bounds;
+        bounds = each_split-replaced id new (λ i u. u <ℤ pos (2 ^ 127 - 1)) (bound, (tt, tt)) T.root n.bounds;
       }
 
 module _ (T : NumberedTree) (id : ℕ) (n : IsNumbered T) (has : HasSplit T id) where
@@ -111,7 +111,7 @@ module _ (T : NumberedTree) (id : ℕ) (n : IsNumbered T) (has : HasSplit T id) 
         given = λ k h. omega (arith, n.given k (omega arith), with-collapsed id (T.last + 1) k (same_other (T.last + 1) k (λ e. absurd (omega arith))) T.root);
         few = omega (arith, splits, n.few, nodes-splits T.root, nodes-splits (collapsed id (T.last + 1) T.root));
         left = omega (arith, splits, has, n.left);
-        bounds = bounds-collapsed id (T.last + 1) T.root n.bounds;
+        bounds = each_split-collapsed id (T.last + 1) (λ i u. u <ℤ pos (2 ^ 127 - 1)) T.root n.bounds;
       }
 
 module _ (T : NumberedTree) (depth : ℕ) (n : IsNumbered T) where
@@ -130,5 +130,5 @@ module _ (T : NumberedTree) (depth : ℕ) (n : IsNumbered T) where
         given = λ k h. with-trimmed_none k depth T.last T.root (n.given k (omega arith)) (inr h);
         few = omega (arith, splits, n.few, nodes-splits T.root, nodes-splits (trimmed depth T.last T.root));
         left = omega (arith, splits, n.left);
-        bounds = bounds-trimmed depth T.last T.root n.bounds;
+        bounds = each_split-trimmed (λ i u. u <ℤ pos (2 ^ 127 - 1)) depth T.last T.root n.bounds;
       }

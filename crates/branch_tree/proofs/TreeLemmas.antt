@@ -34,14 +34,14 @@ module _ {S L : Type 0} (x : Point) where
   one_within : (M : Program) (path : Path) (t : Tree S L) → IsLawful M t → IsFeasible M x → InRegion path x → ExactlyOneLeaf (λ p kept. InRegion p x) path t
   one_within M path (Leaf kept) lawful feasible inside = inside
   one_within M path (Split kept j v left right) lawful feasible inside =
-      elim (whole_branches (coordinate x j) v ((feasible.columns j lawful.0).whole lawful.1)) [
+      elim (whole_branches (coordinate x j) v ((feasible.columns j lawful.0.0).whole lawful.0.1)) [
         | inl low ↦ inl (
-          one_within M (left_path path j v) left lawful.2.0 feasible (in_region-more x path (at_most j v) inside (record { holds = low })),
+          one_within M (left_path path j v) left lawful.1.0 feasible (in_region-more x path (at_most j v) inside (record { holds = low })),
           none_outside (right_path path j v) right (λ m. not_both_branches (coordinate x j) v low (in_region-fewer x path (at_least j (v +ℤ pos 1)) m).1.holds),
         )
         | inr high ↦ inr (
           none_outside (left_path path j v) left (λ m. not_both_branches (coordinate x j) v (in_region-fewer x path (at_most j v) m).1.holds high),
-          one_within M (right_path path j v) right lawful.2.1 feasible (in_region-more x path (at_least j (v +ℤ pos 1)) inside (record { holds = high })),
+          one_within M (right_path path j v) right lawful.1.1 feasible (in_region-more x path (at_least j (v +ℤ pos 1)) inside (record { holds = high })),
         )
       ]
 

@@ -6,7 +6,7 @@ use Rattle.rational.specs.Rational.{ℚ}
 use Rattle.lp_model.specs.declared.types.Var.{Var}
 use Rattle.lp_model.specs.declared.types.Basis.{Basis}
 use Rattle.lp_model.specs.Regions.{Path}
-use Rattle.branch_tree.specs.Tree.{Tree, Leaf, Split, leaves}
+use Rattle.branch_tree.specs.Tree.{Tree, Leaf, Split, leaves, EachSplit}
 use Rattle.branch_tree.specs.declared.node.LeafData.{LeafData}
 use Rattle.branch_tree.specs.declared.node.LeafState.TheVariants.{IsOpen}
 use Rattle.branch_tree.specs.declared.node.Node.{Node}
@@ -98,5 +98,4 @@ preorder (Split kept j v left right) = SplitNode kept.id (record { 0 = j }) v ke
 
 -- the bound v + 1 of each split's second child has 128 bits
 abbrev pub HasBounds : Plain → Type 0
-HasBounds (Leaf kept) = Unit {0}
-HasBounds (Split kept j v left right) = (v <ℤ pos (2 ^ 127 - 1)) × (HasBounds left × HasBounds right)
+HasBounds t = EachSplit (λ j v. v <ℤ pos (2 ^ 127 - 1)) t

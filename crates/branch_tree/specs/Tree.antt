@@ -1,6 +1,7 @@
 -- Branching trees as plain values: S is what a split keeps, L what a leaf keeps.
 -- A split on column j at v has the child x_j <= v first, and the child x_j >= v + 1 second.
 use Rattle.std.specs.Prelude.{◌⊎◌, ℕ, ◌+◌, ◌<◌, IsTrue, List, [], ◌∷◌, ◌++◌, length, ℤ, pos, ◌+ℤ◌}
+use Rattle.frac128.specs.Range.{IsNarrow}
 use Rattle.lp_model.specs.Program.{Program, Point, is_integer}
 use Rattle.lp_model.specs.Regions.{Path, InRegion}
 use Rattle.lp_model.specs.declared.types.Side.TheVariants.{Lo, Hi}
@@ -23,10 +24,18 @@ left_path path j v = path ++ at_most j v ∷ []
 abbrev pub right_path : Path → ℕ → ℤ → Path
 right_path path j v = path ++ at_least j (v +ℤ pos 1) ∷ []
 
+-- P of each split's column and number
+abbrev pub EachSplit : {S L : Type 0} → (ℕ → ℤ → Type 0) → Tree S L → Type 0
+EachSplit P (Leaf kept) = Unit {0}
+EachSplit P (Split kept j v left right) = P j v × (EachSplit P left × EachSplit P right)
+
 -- each split is on an integer column
 abbrev pub IsLawful : {S L : Type 0} → Program → Tree S L → Type 0
-IsLawful M (Leaf kept) = Unit {0}
-IsLawful M (Split kept j v left right) = (j < length M.cols) × IsTrue (is_integer M j) × (IsLawful M left × IsLawful M right)
+IsLawful M t = EachSplit (λ j v. (j < length M.cols) × IsTrue (is_integer M j)) t
+
+-- a fraction has room for both bounds of each split
+abbrev pub HasNarrowSplits : {S L : Type 0} → Tree S L → Type 0
+HasNarrowSplits t = EachSplit (λ j v. IsNarrow v × IsNarrow (v +ℤ pos 1)) t
 
 abbrev pub node_count : {S L : Type 0} → Tree S L → ℕ
 node_count (Leaf kept) = 1
