@@ -54,26 +54,35 @@ module _ (id : ℕ) (new : Plain) where
   replaced_at path (Split kept j v left right) one =
       elim (one_of_two (leaves_with id left) (leaves_with id right) one) [
         | inl h ↦ (
-          let r = replaced_at (left_path path j v) left h.0 in
-          let rest : Leaves = leaves (right_path path j v) right in
-          record {
-            before = r.before; place = r.place; kept = r.kept; after = r.after ++ rest; named = r.named; first = r.first;
-            were = ap (λ l. l ++ rest) r.were ∙ append_assoc r.before ((r.place, r.kept) ∷ r.after) rest;
-            are = ap (λ w. leaves (left_path path j v) (replaced id new left) ++ leaves (right_path path j v) w) (replaced-none id new right h.1)
-              ∙ ap (λ l. l ++ rest) r.are ∙ append_assoc r.before (leaves r.place new ++ r.after) rest ∙ ap (λ l. r.before ++ l) (append_assoc (leaves r.place new) r.after rest);
-          }
-        )
+            let r = replaced_at (left_path path j v) left h.0 in
+            let rest : Leaves = leaves (right_path path j v) right in
+            record {
+              before = r.before;
+              place = r.place;
+              kept = r.kept;
+              after = r.after ++ rest;
+              named = r.named;
+              first = r.first;
+              were = ap (λ l. l ++ rest) r.were ∙ append_assoc r.before ((r.place, r.kept) ∷ r.after) rest;
+              are = ap (λ w. leaves (left_path path j v) (replaced id new left) ++ leaves (right_path path j v) w) (replaced-none id new right h.1)
+                  ∙ ap (λ l. l ++ rest) r.are ∙ append_assoc r.before (leaves r.place new ++ r.after) rest ∙ ap (λ l. r.before ++ l) (append_assoc (leaves r.place new) r.after rest);
+            }
+            )
         | inr h ↦ (
-          let r = replaced_at (right_path path j v) right h.1 in
-          let front : Leaves = leaves (left_path path j v) left in
-          record {
-            before = front ++ r.before; place = r.place; kept = r.kept; after = r.after; named = r.named;
-            first = find-append (λ (l : Path × LeafKept). nat_eq l.1.id id) front r.before ∙ ap (λ o. option_or o (find_id id r.before)) (leaf_below-none id (left_path path j v) left h.0) ∙ r.first;
-            were = ap (λ l. front ++ l) r.were ∙ sym (append_assoc front r.before ((r.place, r.kept) ∷ r.after));
-            are = ap (λ w. leaves (left_path path j v) w ++ leaves (right_path path j v) (replaced id new right)) (replaced-none id new left h.0)
-              ∙ ap (λ l. front ++ l) r.are ∙ sym (append_assoc front r.before (leaves r.place new ++ r.after));
-          }
-        )
+            let r = replaced_at (right_path path j v) right h.1 in
+            let front : Leaves = leaves (left_path path j v) left in
+            record {
+              before = front ++ r.before;
+              place = r.place;
+              kept = r.kept;
+              after = r.after;
+              named = r.named;
+              first = find-append (λ (l : Path × LeafKept). nat_eq l.1.id id) front r.before ∙ ap (λ o. option_or o (find_id id r.before)) (leaf_below-none id (left_path path j v) left h.0) ∙ r.first;
+              were = ap (λ l. front ++ l) r.were ∙ sym (append_assoc front r.before ((r.place, r.kept) ∷ r.after));
+              are = ap (λ w. leaves (left_path path j v) w ++ leaves (right_path path j v) (replaced id new right)) (replaced-none id new left h.0)
+                  ∙ ap (λ l. front ++ l) r.are ∙ sym (append_assoc front r.before (leaves r.place new ++ r.after));
+            }
+            )
       ]
 
   -- another leaf stays, with its path and data
@@ -138,26 +147,36 @@ collapsed_at id new path (Split kept j v left right) one =
     (λ e h. record { before = []; place = path; kept = kept; below = leaves path (Split kept j v left right); after = []; named = e; were = sym (append-nil (leaves path (Split kept j v left right))); are = refl })
     (λ ne h. elim (one_of_two (splits_with id left) (splits_with id right) (omega (arith, h))) [
       | inl g ↦ (
-        let r = collapsed_at id new (left_path path j v) left g.0 in
-        let rest : Leaves = leaves (right_path path j v) right in
-        let leaf : Leaves = leaves r.place (open_leaf new r.kept.mult r.kept.basis) in
-        record {
-          before = r.before; place = r.place; kept = r.kept; below = r.below; after = r.after ++ rest; named = r.named;
-          were = ap (λ l. l ++ rest) r.were ∙ append_assoc r.before (r.below ++ r.after) rest ∙ ap (λ l. r.before ++ l) (append_assoc r.below r.after rest);
-          are = ap (λ w. leaves (left_path path j v) (collapsed id new left) ++ leaves (right_path path j v) w) (collapsed-none id new right g.1)
-            ∙ ap (λ l. l ++ rest) r.are ∙ append_assoc r.before (leaf ++ r.after) rest ∙ ap (λ l. r.before ++ l) (append_assoc leaf r.after rest);
-        }
-      )
+          let r = collapsed_at id new (left_path path j v) left g.0 in
+          let rest : Leaves = leaves (right_path path j v) right in
+          let leaf : Leaves = leaves r.place (open_leaf new r.kept.mult r.kept.basis) in
+          record {
+            before = r.before;
+            place = r.place;
+            kept = r.kept;
+            below = r.below;
+            after = r.after ++ rest;
+            named = r.named;
+            were = ap (λ l. l ++ rest) r.were ∙ append_assoc r.before (r.below ++ r.after) rest ∙ ap (λ l. r.before ++ l) (append_assoc r.below r.after rest);
+            are = ap (λ w. leaves (left_path path j v) (collapsed id new left) ++ leaves (right_path path j v) w) (collapsed-none id new right g.1)
+                ∙ ap (λ l. l ++ rest) r.are ∙ append_assoc r.before (leaf ++ r.after) rest ∙ ap (λ l. r.before ++ l) (append_assoc leaf r.after rest);
+          }
+          )
       | inr g ↦ (
-        let r = collapsed_at id new (right_path path j v) right g.1 in
-        let front : Leaves = leaves (left_path path j v) left in
-        let leaf : Leaves = leaves r.place (open_leaf new r.kept.mult r.kept.basis) in
-        record {
-          before = front ++ r.before; place = r.place; kept = r.kept; below = r.below; after = r.after; named = r.named;
-          were = ap (λ l. front ++ l) r.were ∙ sym (append_assoc front r.before (r.below ++ r.after));
-          are = ap (λ w. leaves (left_path path j v) w ++ leaves (right_path path j v) (collapsed id new right)) (collapsed-none id new left g.0)
-            ∙ ap (λ l. front ++ l) r.are ∙ sym (append_assoc front r.before (leaf ++ r.after));
-        }
-      )
+          let r = collapsed_at id new (right_path path j v) right g.1 in
+          let front : Leaves = leaves (left_path path j v) left in
+          let leaf : Leaves = leaves r.place (open_leaf new r.kept.mult r.kept.basis) in
+          record {
+            before = front ++ r.before;
+            place = r.place;
+            kept = r.kept;
+            below = r.below;
+            after = r.after;
+            named = r.named;
+            were = ap (λ l. front ++ l) r.were ∙ sym (append_assoc front r.before (r.below ++ r.after));
+            are = ap (λ w. leaves (left_path path j v) w ++ leaves (right_path path j v) (collapsed id new right)) (collapsed-none id new left g.0)
+                ∙ ap (λ l. front ++ l) r.are ∙ sym (append_assoc front r.before (leaf ++ r.after));
+          }
+          )
     ])
     one

@@ -25,8 +25,11 @@ abbrev pub Plain : Type 0
 Plain = Tree SplitKept LeafKept
 
 -- an open leaf without Farkas multipliers
+abbrev pub open_data : List (Var × ℚ) → Basis → LeafData
+open_data mult basis = record { state = IsOpen; mult = mult; farkas = []; basis = basis }
+
 abbrev pub open_leaf : ℕ → List (Var × ℚ) → Basis → Plain
-open_leaf id mult basis = Leaf (record { id = id; kept = record { state = IsOpen; mult = mult; farkas = []; basis = basis } })
+open_leaf id mult basis = Leaf (record { id = id; kept = open_data mult basis })
 
 -- the split that takes a leaf's place and its id, and has two open leaves
 abbrev pub new_split : ℕ → ℕ → ℤ → List (Var × ℚ) → Basis → ℕ → ℕ → Plain

@@ -1,12 +1,11 @@
 // A tree as boxed branches. Each call walks the branches, as deep as the tree is.
-ghost use Rattle.std.specs.Prelude.{◌≡◌, ◌↔◌, ◌≤◌, IsTrue, ◌+◌, ◌-◌, ◌^◌, ◌<◌, ◌<ℤ◌, ◌+ℤ◌, pos, ◌++◌, [], IfOk, MatchBool, MatchOption, Some, None};
+ghost use Rattle.std.specs.Prelude.{◌≡◌, ◌↔◌, ◌≤◌, IsTrue, ◌+◌, ◌-◌, ◌^◌, ◌<◌, ◌<ℤ◌, ◌+ℤ◌, pos, ◌++◌, IfOk, MatchBool, MatchOption, Some, None};
 ghost use Rattle.std.specs.Option.{option_copied};
 ghost use Rattle.branch_tree.specs.Tree.{at_most, at_least, node_count};
-ghost use Rattle.branch_tree.specs.Plain.{open_leaf, new_split, leaves_with, splits_with, data_of, path_below, replaced, collapsed, splits_at, trimmed, preorder, HasBounds};
+ghost use Rattle.branch_tree.specs.Plain.{open_data, open_leaf, new_split, leaves_with, splits_with, data_of, path_below, replaced, collapsed, splits_at, trimmed, preorder, HasBounds};
 ghost use Rattle.branch_tree.specs.Branches.{plain};
-ghost use Rattle.branch_tree.specs.declared.node.LeafState.TheVariants.{IsOpen};
 
-use crate::node::{LeafData, LeafState, Node, copy_basis, copy_data, copy_mult, empty_basis};
+use crate::node::{LeafData, Node, copy_basis, copy_data, copy_mult, empty_basis, open_data};
 use lp_model::{Basis, BoundChange, ColId, List, Mult, Side};
 use std::alloc::{AllocError, Global};
 use std::mem;
@@ -54,16 +53,13 @@ impl SplitNode {
 
     /// The open leaf that takes the split's place, with its multipliers and basis, which are taken out of it.
     fn take_leaf(&mut self, alloc: Global, id: u64) -> LeafNode
-        ensures { result ≡ record { id = id; kept = record { state = IsOpen; mult = self.old.mult; farkas = []; basis = self.old.basis } } }
+        ensures { result ≡ record { id = id; kept = open_data self.old.mult self.old.basis } }
     {
+        let mult = mem::replace(&mut self.mult, List::new(alloc));
+        let basis = mem::replace(&mut self.basis, empty_basis(alloc));
         LeafNode {
             id,
-            kept: LeafData {
-                state: LeafState::IsOpen,
-                mult: mem::replace(&mut self.mult, List::new(alloc)),
-                farkas: List::new(alloc),
-                basis: mem::replace(&mut self.basis, empty_basis(alloc)),
-            },
+            kept: open_data(alloc, mult, basis),
         }
     }
 }
@@ -93,15 +89,8 @@ pub(crate) fn grown(
 fn open_leaf(alloc: Global, id: u64, mult: &Mult, basis: &Basis) -> Result<Branch, AllocError>
     ensures { IfOk result (λ leaf. plain leaf ≡ open_leaf id mult.now basis.now) }
 {
-    Ok(Branch::Leaf(LeafNode {
-        id,
-        kept: LeafData {
-            state: LeafState::IsOpen,
-            mult: copy_mult(alloc, mult)?,
-            farkas: List::new(alloc),
-            basis: copy_basis(alloc, basis)?,
-        },
-    }))
+    let kept = open_data(alloc, copy_mult(alloc, mult)?, copy_basis(alloc, basis)?);
+    Ok(Branch::Leaf(LeafNode { id, kept }))
 }
 
 impl Branch {

@@ -20,6 +20,8 @@
 
 mod branch;
 mod node;
+#[cfg(test)]
+mod tests;
 mod tree;
 
 pub use node::{Job, LeafData, LeafState, Node, NodeResult, TreeFault};

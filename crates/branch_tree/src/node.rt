@@ -1,5 +1,6 @@
 // The nodes of a branching tree, and what goes to and comes from the work on a leaf.
 ghost use Rattle.std.specs.Prelude.{◌≡◌, [], IfOk};
+ghost use Rattle.branch_tree.specs.Plain.{open_data};
 ghost use Rattle.branch_tree.specs.declared.node.TreeFault.TheVariants.{Memory};
 
 use frac128::Frac;
@@ -112,6 +113,18 @@ pub(crate) fn empty_basis(alloc: Global) -> Basis
     Basis {
         basic: List::new(alloc),
         high: List::new(alloc),
+    }
+}
+
+/// The data of an open leaf without Farkas multipliers.
+pub(crate) fn open_data(alloc: Global, mult: Mult, basis: Basis) -> LeafData
+    ensures { result ≡ open_data mult basis }
+{
+    LeafData {
+        state: LeafState::IsOpen,
+        mult,
+        farkas: List::new(alloc),
+        basis,
     }
 }
 

@@ -7,7 +7,7 @@ ghost use Rattle.branch_tree.specs.Numbered.{IsNumbered};
 ghost use Rattle.branch_tree.specs.Changes.{HasLeaf, HasSplit, HasRoom, IsTreeFault, first_tree, with_limit, with_leaf, after_split, after_collapse, after_trim};
 
 use crate::branch::{Branch, LeafNode, SplitNode, grown};
-use crate::node::{LeafData, LeafState, Node, TreeFault, empty_basis};
+use crate::node::{LeafData, Node, TreeFault, empty_basis, open_data};
 use lp_model::{Basis, ColId, List, Mult, Region};
 use std::alloc::{AllocError, Global};
 use std::marker::Model;
@@ -42,12 +42,7 @@ impl Tree {
     pub fn new(alloc: Global, limit: u64) -> Result<Tree, AllocError>
         ensures { IfOk result (λ tree. tree ≡ first_tree limit) }
     {
-        let kept = LeafData {
-            state: LeafState::IsOpen,
-            mult: List::new(alloc),
-            farkas: List::new(alloc),
-            basis: empty_basis(alloc),
-        };
+        let kept = open_data(alloc, List::new(alloc), empty_basis(alloc));
         Ok(Tree {
             root: Branch::Leaf(LeafNode { id: 1, kept }),
             last: 1,
