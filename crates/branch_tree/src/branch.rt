@@ -1,12 +1,12 @@
 // A tree as boxed branches. Each call walks the branches, as deep as the tree is.
-ghost use Rattle.std.specs.Prelude.{◌≡◌, ◌↔◌, ◌≤◌, IsTrue, ◌+◌, ◌-◌, ◌^◌, ◌<◌, ◌<ℤ◌, ◌+ℤ◌, pos, ◌++◌, IfOk, MatchBool, MatchOption, Some, None};
+ghost use Rattle.std.specs.Prelude.{◌≡◌, ◌↔◌, ◌≤◌, IsTrue, ◌+◌, ◌-◌, ◌^◌, ◌<◌, ◌<ℤ◌, ◌+ℤ◌, pos, ◌++◌, IfOk, IfSome, IfNone, MatchBool, MatchOption, Some, None};
 ghost use Rattle.std.specs.Option.{option_copied};
 ghost use Rattle.branch_tree.specs.Tree.{at_most, at_least, node_count};
-ghost use Rattle.branch_tree.specs.Plain.{open_data, open_leaf, new_split, leaves_with, splits_with, data_of, path_below, replaced, collapsed, splits_at, trimmed, preorder, HasBounds};
+ghost use Rattle.branch_tree.specs.Plain.{open_data, open_leaf, new_split, leaves_with, splits_with, data_of, path_of, path_below, replaced, collapsed, splits_at, trimmed, preorder, HasBounds};
 ghost use Rattle.branch_tree.specs.Branches.{plain};
 
 use crate::node::{LeafData, Node, copy_basis, copy_data, copy_mult, empty_basis, open_data};
-use lp_model::{Basis, BoundChange, ColId, List, Mult, Side};
+use lp_model::{Basis, BoundChange, ColId, List, Mult, Region, Side};
 use std::alloc::{AllocError, Global};
 use std::mem;
 
@@ -105,9 +105,51 @@ impl Branch {
         }
     }
 
+    /// Puts a branch in the place of the leaf with the id, or hands it back where there is none. The way, where it leads
+    /// to that leaf, saves the search.
+    pub(crate) fn replace(&mut self, id: u64, way: &[bool], new: Branch) -> Option<Branch>
+        requires { leaves_with id (plain self.old) ≤ 1 }
+        ensures tree { plain self.new ≡ replaced id (plain new) (plain self.old) }
+        ensures left { MatchOption result (leaves_with id (plain self.old) ≡ 1) (λ back. (back ≡ new) × (leaves_with id (plain self.old) ≡ 0)) }
+    {
+        match self.replace_at(id, way, new) {
+            None => None,
+            Some(new) => self.search_replace(id, new),
+        }
+    }
+
+    /// Puts a branch in the place of the leaf with the id, where the way leads to it, and else hands it back.
     #[tactic(auto, using(crate::proofs::IdLemmas::no_leaf))]
+    fn replace_at(&mut self, id: u64, way: &[bool], new: Branch) -> Option<Branch>
+        requires { leaves_with id (plain self.old) ≤ 1 }
+        ensures replaced { IfNone result ((plain self.new ≡ replaced id (plain new) (plain self.old)) × (leaves_with id (plain self.old) ≡ 1)) }
+        ensures kept { IfSome result (λ back. (back ≡ new) × (plain self.new ≡ plain self.old)) }
+    {
+        match self {
+            Branch::Leaf(leaf) => {
+                if leaf.id == id {
+                    *self = new;
+                    None
+                } else {
+                    Some(new)
+                }
+            }
+            Branch::Split(_, left, right) => {
+                let Some((is_right, rest)) = way.split_first() else {
+                    return Some(new);
+                };
+                if *is_right {
+                    right.replace_at(id, rest, new)
+                } else {
+                    left.replace_at(id, rest, new)
+                }
+            }
+        }
+    }
+
     /// Puts a branch in the place of the leaf with the id, or hands it back where there is none.
-    pub(crate) fn replace(&mut self, id: u64, new: Branch) -> Option<Branch>
+    #[tactic(auto, using(crate::proofs::IdLemmas::no_leaf))]
+    fn search_replace(&mut self, id: u64, new: Branch) -> Option<Branch>
         requires { leaves_with id (plain self.old) ≤ 1 }
         ensures tree { plain self.new ≡ replaced id (plain new) (plain self.old) }
         ensures left { MatchOption result (leaves_with id (plain self.old) ≡ 1) (λ back. (back ≡ new) × (leaves_with id (plain self.old) ≡ 0)) }
@@ -121,9 +163,9 @@ impl Branch {
                     Some(new)
                 }
             }
-            Branch::Split(_, left, right) => match left.replace(id, new) {
+            Branch::Split(_, left, right) => match left.search_replace(id, new) {
                 None => None,
-                Some(new) => right.replace(id, new),
+                Some(new) => right.search_replace(id, new),
             },
         }
     }
@@ -177,8 +219,43 @@ impl Branch {
         }
     }
 
+    /// The data of the leaf with the id. The way, where it leads to that leaf, saves the search.
+    pub(crate) fn leaf(&self, id: u64, way: &[bool]) -> Option<&LeafData>
+        requires { leaves_with id (plain self.now) ≤ 1 }
+        ensures data { option_copied result ≡ data_of id (plain self.now) }
+        ensures found { MatchOption result (leaves_with id (plain self.now) ≡ 0) (λ _. leaves_with id (plain self.now) ≡ 1) }
+    {
+        match self.leaf_at(id, way) {
+            Some(kept) => Some(kept),
+            None => self.search_leaf(id),
+        }
+    }
+
+    /// The data of the leaf with the id, where the way leads to it.
+    fn leaf_at(&self, id: u64, way: &[bool]) -> Option<&LeafData>
+        requires { leaves_with id (plain self.now) ≤ 1 }
+        ensures data { IfSome result (λ kept. data_of id (plain self.now) ≡ Some kept.now) }
+        ensures found { IfSome result (λ _. leaves_with id (plain self.now) ≡ 1) }
+    {
+        match self {
+            Branch::Leaf(leaf) => if leaf.id == id {
+                Some(&leaf.kept)
+            } else {
+                None
+            },
+            Branch::Split(_, left, right) => {
+                let (is_right, rest) = way.split_first()?;
+                if *is_right {
+                    right.leaf_at(id, rest)
+                } else {
+                    left.leaf_at(id, rest)
+                }
+            }
+        }
+    }
+
     /// The data of the leaf with the id.
-    pub(crate) fn leaf(&self, id: u64) -> Option<&LeafData>
+    fn search_leaf(&self, id: u64) -> Option<&LeafData>
         ensures data { option_copied result ≡ data_of id (plain self.now) }
         ensures found { MatchOption result (leaves_with id (plain self.now) ≡ 0) (λ _. 0 < leaves_with id (plain self.now)) }
     {
@@ -188,15 +265,66 @@ impl Branch {
             } else {
                 None
             },
-            Branch::Split(_, left, right) => match left.leaf(id) {
+            Branch::Split(_, left, right) => match left.search_leaf(id) {
                 Some(kept) => Some(kept),
-                None => right.leaf(id),
+                None => right.search_leaf(id),
             },
         }
     }
 
+    /// The path of the leaf with the id. The way, where it leads to that leaf, saves the search.
+    pub(crate) fn path_of(
+        &self,
+        alloc: Global,
+        id: u64,
+        way: &[bool],
+    ) -> Result<Option<Region>, AllocError>
+        requires bounds { HasBounds (plain self.now) }
+        requires one { leaves_with id (plain self.now) ≤ 1 }
+        ensures { IfOk result (λ path. path ≡ path_of id (plain self.now)) }
+    {
+        let mut path = Vec::new(alloc);
+        if self.path_at(id, way, &mut path)? {
+            return Ok(Some(List::from_vec(path)));
+        }
+        path.clear();
+        if self.search_path(id, &mut path)? {
+            Ok(Some(List::from_vec(path)))
+        } else {
+            Ok(None)
+        }
+    }
+
+    /// Puts the changes on the way to the leaf with the id behind those of the path, where the way leads to it.
+    fn path_at(
+        &self,
+        id: u64,
+        way: &[bool],
+        path: &mut Vec<BoundChange>,
+    ) -> Result<bool, AllocError>
+        requires bounds { HasBounds (plain self.now) }
+        requires one { leaves_with id (plain self.now) ≤ 1 }
+        ensures { IfOk result (λ found. IsTrue found → path_below id path.old.items (plain self.now) ≡ Some path.new.items) }
+    {
+        match self {
+            Branch::Leaf(leaf) => Ok(leaf.id == id),
+            Branch::Split(split, left, right) => {
+                let Some((is_right, rest)) = way.split_first() else {
+                    return Ok(false);
+                };
+                if *is_right {
+                    path.push(split.at_least())?;
+                    right.path_at(id, rest, path)
+                } else {
+                    path.push(split.at_most())?;
+                    left.path_at(id, rest, path)
+                }
+            }
+        }
+    }
+
     /// Puts the changes on the way to the leaf with the id behind those of the path. Where no leaf has it the path stays.
-    pub(crate) fn find_path(&self, id: u64, path: &mut Vec<BoundChange>) -> Result<bool, AllocError>
+    fn search_path(&self, id: u64, path: &mut Vec<BoundChange>) -> Result<bool, AllocError>
         requires { HasBounds (plain self.now) }
         ensures { IfOk result (λ found. MatchBool found (path_below id path.old.items (plain self.now) ≡ Some path.new.items) ((path_below id path.old.items (plain self.now) ≡ None) × (path.new.items ≡ path.old.items))) }
     {
@@ -205,16 +333,50 @@ impl Branch {
             Branch::Split(split, left, right) => {
                 let depth = path.len();
                 path.push(split.at_most())?;
-                if left.find_path(id, path)? {
+                if left.search_path(id, path)? {
                     return Ok(true);
                 }
                 path.truncate(depth);
                 path.push(split.at_least())?;
-                if right.find_path(id, path)? {
+                if right.search_path(id, path)? {
                     return Ok(true);
                 }
                 path.truncate(depth);
                 Ok(false)
+            }
+        }
+    }
+
+    /// The way down to the leaf with the id, `true` for a right child: the given one where it leads to that leaf.
+    pub(crate) fn way_to(
+        &self,
+        alloc: Global,
+        id: u64,
+        way: &[bool],
+    ) -> Result<Vec<bool>, AllocError>
+        requires { leaves_with id (plain self.now) ≤ 1 }
+    {
+        if self.leaf_at(id, way).is_some() {
+            return Vec::from_slice(alloc, way);
+        }
+        let mut found = Vec::new(alloc);
+        let _ = self.search_way(id, &mut found)?;
+        Ok(found)
+    }
+
+    /// Puts the way down to the leaf with the id behind the one that there is, and answers whether there is such a leaf.
+    fn search_way(&self, id: u64, way: &mut Vec<bool>) -> Result<bool, AllocError> {
+        match self {
+            Branch::Leaf(leaf) => Ok(leaf.id == id),
+            Branch::Split(_, left, right) => {
+                let depth = way.len();
+                way.push(false)?;
+                if left.search_way(id, way)? {
+                    return Ok(true);
+                }
+                way.truncate(depth);
+                way.push(true)?;
+                right.search_way(id, way)
             }
         }
     }

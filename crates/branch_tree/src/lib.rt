@@ -23,6 +23,7 @@ mod node;
 #[cfg(test)]
 mod tests;
 mod tree;
+mod ways;
 
 pub use node::{Job, LeafData, LeafState, Node, NodeResult, TreeFault};
 pub use tree::Tree;

@@ -8,6 +8,7 @@ ghost use Rattle.branch_tree.specs.Changes.{HasLeaf, HasSplit, HasRoom, IsTreeFa
 
 use crate::branch::{Branch, LeafNode, SplitNode, grown};
 use crate::node::{LeafData, Node, TreeFault, empty_basis, open_data};
+use crate::ways::Ways;
 use lp_model::{Basis, ColId, List, Mult, Region};
 use std::alloc::{AllocError, Global};
 use std::marker::Model;
@@ -19,6 +20,7 @@ pub struct Tree {
     last: u64,
     count: u64,
     limit: u64,
+    ways: Ways,
     alloc: Global,
 }
 
@@ -48,6 +50,7 @@ impl Tree {
             last: 1,
             count: 1,
             limit,
+            ways: Ways::new(alloc),
             alloc,
         })
     }
@@ -73,7 +76,7 @@ impl Tree {
         ensures found { MatchOption result (leaves_with id self.now.root ≡ 0) (λ _. HasLeaf self.now id) }
         ensures numbered { IsNumbered self.now }
     {
-        self.root.leaf(id)
+        self.root.leaf(id, self.ways.to(id))
     }
 
     /// Other data of the leaf with the id.
@@ -81,7 +84,10 @@ impl Tree {
         requires { HasLeaf self.old id }
         ensures { self.new ≡ with_leaf self.old id kept }
     {
-        let _ = self.root.replace(id, Branch::Leaf(LeafNode { id, kept }));
+        let way = self.ways.to(id);
+        let _ = self
+            .root
+            .replace(id, way, Branch::Leaf(LeafNode { id, kept }));
     }
 
     /// The bound changes on the way from the root to the leaf with the id.
@@ -89,12 +95,7 @@ impl Tree {
         ensures region { IfOk result (λ region. region ≡ path_of id self.now.root) }
         ensures found { IfOk result (λ region. MatchOption region (leaves_with id self.now.root ≡ 0) (λ _. HasLeaf self.now id)) }
     {
-        let mut path = Vec::new(self.alloc);
-        if self.root.find_path(id, &mut path)? {
-            Ok(Some(List::from_vec(path)))
-        } else {
-            Ok(None)
-        }
+        self.root.path_of(self.alloc, id, self.ways.to(id))
     }
 
     /// Whether two more nodes are within the limit, and two more ids leave one for each split.
@@ -121,7 +122,7 @@ impl Tree {
         ensures fault { IfErr result (λ fault. IsTreeFault self.old id fault) }
         ensures kept { IfErr result (λ _. self.new ≡ self.old) }
     {
-        if self.root.leaf(id).is_none() {
+        if self.root.leaf(id, self.ways.to(id)).is_none() {
             return Err(TreeFault::NoLeaf);
         }
         if !self.has_room() {
@@ -137,7 +138,10 @@ impl Tree {
             basis,
         };
         let split = grown(self.alloc, split, left, right)?;
-        let _ = self.root.replace(id, split);
+        let way = self.root.way_to(self.alloc, id, self.ways.to(id))?;
+        self.ways.split(self.alloc, &way, left, right)?;
+        let _ = self.root.replace(id, &way, split);
+        self.ways.forget(id);
         self.last = right;
         self.count += 2;
         Ok((left, right))
@@ -161,6 +165,7 @@ impl Tree {
         self.root.collapse(self.alloc, id, new);
         self.last = new;
         self.count = self.root.count();
+        self.ways.clear();
         new
     }
 
@@ -170,6 +175,7 @@ impl Tree {
     {
         self.last = self.root.trim(self.alloc, depth, self.last);
         self.count = self.root.count();
+        self.ways.clear();
     }
 
     /// A copy of each node, each before those below it, the left ones first.
