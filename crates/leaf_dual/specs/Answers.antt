@@ -1,19 +1,19 @@
 -- What the calls on a leaf's multipliers answer, to the first step without room.
---     LacksSide M path y c              a side or a bound is missing that is needed
---     IsFirstWide M path y c₀ c step    step is the first that has no room
+--     LacksSide M path y c                  a side or a bound is missing that is needed
+--     IsFirstWideStep M path y c₀ c step    step is the first that has no room
 -- A column whose reduced cost has a step without room needs no bound.
 use Rattle.std.specs.Prelude.{◌≡◌, ◌⊎◌, ℕ, ◌<◌, length, pos, Option, None, unwrap_or, Result, Ok, Err}
 use Rattle.rational.specs.Rational.{ℚ, int, neg_ℚ}
 use Rattle.checked_sum.specs.Steps.{StepFitsAt, AllFit, IsFirstWide, partial}
-use Rattle.lp_model.specs.Program.{Program, Point, coefficient, least_value, IsFeasible}
-use Rattle.lp_model.specs.Regions.{Path, InRegion}
+use Rattle.lp_model.specs.Program.{Program, coefficient}
+use Rattle.lp_model.specs.Regions.{Path}
 use Rattle.lp_model.specs.declared.types.Var.{Var}
 use Rattle.lp_model.specs.declared.types.Var.TheVariants.{Col, Row, Cut}
 use Rattle.lp_model.specs.declared.types.WideStep.{WideStep}
 use Rattle.lp_model.specs.declared.types.WideStep.TheVariants.{Act, Value, LagEntry, LagTerm}
 use Rattle.leaf_dual.specs.declared.dual.LagValue.{LagValue}
 use Rattle.leaf_dual.specs.declared.dual.LagValue.TheVariants.{Minus, Num}
-use Rattle.leaf_dual.specs.Dual.{Multipliers, multiplier, reduced_cost, row_side, column_side, dual_number, least_constant, least_cost, IsLowerBound}
+use Rattle.leaf_dual.specs.Dual.{Multipliers, multiplier, reduced_cost, row_side, column_side, dual_number, least_constant, least_cost}
 
 -- ---- the steps
 

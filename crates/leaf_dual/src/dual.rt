@@ -2,7 +2,7 @@
 ghost use Rattle.std.specs.Prelude.{◌↔◌, IsTrue};
 ghost use Rattle.rational.specs.Rational.{int, ceil, ◌≤ℚ◌, IsWhole};
 ghost use Rattle.lp_model.specs.Regions.{AreNarrow};
-ghost use Rattle.leaf_dual.specs.Dual.{Reaches};
+ghost use Rattle.leaf_dual.specs.Dual.{IsPositive, Reaches};
 ghost use Rattle.leaf_dual.specs.Answers.{IsLagAnswer, IsFarkasAnswer};
 ghost use Rattle.leaf_dual.specs.Laws.{WeakDuality, FarkasLaw, ClosesLaw};
 
@@ -17,6 +17,18 @@ pub enum LagValue {
     Minus,
     /// No feasible point of the region has a lower value in least form.
     Num(Frac),
+}
+
+impl LagValue {
+    /// Whether it is a number above 0. Of an answer of `farkas` this says that the region has no feasible point.
+    pub fn is_positive(&self) -> bool
+        ensures { IsTrue result ↔ IsPositive self.now }
+    {
+        match self {
+            LagValue::Minus => false,
+            LagValue::Num(number) => number.is_positive(),
+        }
+    }
 }
 
 /// The number of the multipliers in the region, with the costs of objective 1, or the first step that has no room.

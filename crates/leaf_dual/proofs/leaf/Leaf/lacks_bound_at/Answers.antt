@@ -1,4 +1,4 @@
-use Rattle.std.proofs.Common.{◌≡◌, IsTrue, false}
+use Rattle.std.proofs.Common.{IsTrue, false}
 use Rattle.lp_model.specs.Regions.{region_low, region_high}
 use Rattle.leaf_dual.specs.Dual.{multiplier, reduced_cost}
 use Rattle.leaf_dual.specs.Parts.{cost_of}
