@@ -13,3 +13,4 @@ pub mod StopLemmas
 pub mod WorkLemmas
 pub mod RetainLemmas
 pub mod FindLemmas
+pub mod RefuteLemmas

@@ -1,9 +1,13 @@
 -- The open regions that a search keeps, each beside its whole points and its number.
-use Rattle.std.specs.Prelude.{◌≡◌, ◌⊎◌, ◌↔◌, ℕ, ◌+◌, Bool, List, [], ◌∷◌, Option, Some, None}
-use Rattle.rational.specs.Rational.{ℚ, ◌≤ℚ◌}
+use Rattle.std.specs.Prelude.{◌≡◌, ◌⊎◌, ◌↔◌, ℕ, ◌+◌, ◌<◌, pos, negsuc, Bool, true, false, IsTrue, List, [], ◌∷◌, length, Option, Some, None, Result, Ok, Err}
+use Rattle.rational.specs.Rational.{ℚ, int, ◌≤ℚ◌}
 use Rattle.lp_model.specs.Program.{Program, Point, IsFeasible}
 use Rattle.lp_model.specs.Regions.{Path, InRegion}
 use Rattle.lp_model.specs.declared.types.Sense.{Sense}
+use Rattle.lp_model.specs.declared.types.Var.TheVariants.{Row}
+use Rattle.lp_model.specs.declared.types.WideStep.{WideStep}
+use Rattle.leaf_dual.specs.Dual.{IsPositive}
+use Rattle.leaf_dual.specs.Answers.{IsFarkasAnswer}
 use Rattle.leaf_dual.specs.declared.dual.LagValue.{LagValue}
 use Rattle.leaf_dual.specs.declared.dual.LagValue.TheVariants.{Minus}
 use Rattle.box_search.specs.declared.part.Part.{Part}
@@ -42,6 +46,22 @@ pub record Halves (M : Program) (part lower upper : Part) : Type 0 where
 -- the region has no feasible point
 abbrev pub IsBarren : Program → Path → Type 0
 IsBarren M path = (x : Point) → IsFeasible M x → ¬ InRegion path x
+
+-- the answer is a number above 0
+abbrev pub IsPositiveAnswer : Result LagValue WideStep → Type 0
+IsPositiveAnswer (Ok v) = IsPositive v
+IsPositiveAnswer (Err step) = ⊥
+
+-- whether the Farkas number of a row with this multiplier is above 0
+pub record IsRowRefuted (M : Program) (path : Path) (row : ℕ) (multiplier : ℚ) (refuted : Bool) : Type 0 where
+  pub answer : Result LagValue WideStep
+  pub is : IsFarkasAnswer M path ((Row (record { 0 = row }), multiplier) ∷ []) answer
+  pub positive : IsTrue refuted ↔ IsPositiveAnswer answer
+
+-- whether that of some row, with the multiplier 1 or -1, is
+abbrev pub IsRefuted : Program → Path → Bool → Type 0
+IsRefuted M path true = (row : ℕ) × ((row < length M.rows) × (IsRowRefuted M path row (int (pos 1)) true ⊎ IsRowRefuted M path row (int (negsuc 0)) true))
+IsRefuted M path false = (row : ℕ) → row < length M.rows → IsRowRefuted M path row (int (pos 1)) false × IsRowRefuted M path row (int (negsuc 0)) false
 
 -- the least of the parts' numbers, and None where one has none
 abbrev pub IsLeastOf : Bool → List Part → Option ℚ → Type 0
