@@ -1,16 +1,15 @@
 -- Which ids leaves and splits have after each change.
-use Rattle.std.specs.Prelude.{◌≡◌, ◌≢◌, ℕ, ◌+◌, ◌<◌, ◌≤◌, List, ℤ}
+use Rattle.std.specs.Prelude.{◌≡◌, ◌≢◌, ℕ, ◌+◌, ◌≤◌, List, ℤ}
 use Rattle.std.proofs.Common.{refl, ap, inl, inr, arith}
-use Rattle.std.proofs.lemmas.Bool.{eq-eqb}
 use Rattle.rational.specs.Rational.{ℚ}
 use Rattle.lp_model.specs.declared.types.Var.{Var}
 use Rattle.lp_model.specs.declared.types.Basis.{Basis}
 use Rattle.branch_tree.specs.declared.node.LeafData.{LeafData}
 use Rattle.branch_tree.specs.Tree.{Leaf, Split}
-use Rattle.branch_tree.specs.Plain.{Plain, one_if_same, open_leaf, new_split, leaves_with, splits_with, nodes_with, replaced, collapsed}
+use Rattle.branch_tree.specs.Plain.{Plain, one_if_same, new_split, leaves_with, splits_with, replaced, collapsed}
 use Rattle.branch_tree.specs.Numbered.{NumberedTree, IsNumbered}
 use Rattle.branch_tree.specs.Changes.{HasLeaf, HasSplit, after_split, after_collapse, with_leaf}
-use Rattle.branch_tree.proofs.CountLemmas.{same_cases, same_other, same_at_most_one, leaf_case, split_case}
+use Rattle.branch_tree.proofs.CountLemmas.{same_cases, same_other, leaf_case, split_case}
 use Rattle.branch_tree.proofs.NumberedLaws.{id-given}
 
 same_self : (a : ℕ) → one_if_same a a ≡ 1
