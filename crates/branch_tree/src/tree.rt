@@ -40,7 +40,7 @@ impl Model for Tree {
 }
 
 impl Tree {
-    /// One open leaf with id 1, without multipliers. There will be at most `limit` nodes.
+    /// One open leaf with id 1, without multipliers. A split keeps within `limit` nodes.
     pub fn new(alloc: Global, limit: u64) -> Result<Tree, AllocError>
         ensures { IfOk result (λ tree. tree ≡ first_tree limit) }
     {
@@ -106,7 +106,8 @@ impl Tree {
     }
 
     /// Makes the leaf with the id a split on a column at `v`, with these multipliers and this basis, which its two open
-    /// leaves inherit. Answers the ids of the left and of the right one. After a refusal nothing has changed.
+    /// leaves inherit. Answers the ids of the left and of the right one. A missing leaf is told before a full tree, and
+    /// after a refusal nothing has changed.
     pub fn replace_leaf(
         &mut self,
         id: u64,
