@@ -1,5 +1,6 @@
 -- What a search shows at its end, and where it stops.
 use Rattle.std.proofs.Common.{◌≡◌, ◌≢◌, ◌↔◌, ℕ, ◌+◌, ◌*◌, ◌<◌, ◌≤◌, Bool, IsTrue, List, [], ◌∷◌, ◌++◌, sym, subst, ap, ◌∙◌, arith, Option, Some, None}
+use Rattle.std.specs.Prelude.{map}
 use Rattle.std.specs.Option.{option_map}
 use Rattle.lp_model.specs.Program.{Program, HasWholeObjective, in_least_form}
 use Rattle.box_search.specs.declared.judging.Kept.{Kept}
@@ -13,11 +14,11 @@ use Rattle.box_search.specs.Boxes.{points, IsProper}
 use Rattle.box_search.specs.Root.{root_of, HasNoPoint, whole_points, cap_of}
 use Rattle.box_search.specs.Integral.{IsIntegral}
 use Rattle.box_search.specs.Parts.{IsPart}
-use Rattle.box_search.specs.Search.{StopsWith, StopsFor, IsWidePoint, Finds}
+use Rattle.box_search.specs.Search.{IsAmong, StopsWith, StopsFor, IsWidePoint, Finds}
 use Rattle.box_search.specs.Works.{best_value, Searched, Stands, Shows, StopsAt, Works}
 use Rattle.box_search.proofs.IntegralLemmas.{no_point-empty, root-points}
 use Rattle.box_search.proofs.SearchLemmas.{search-begins, taken-part, taken-room, ends-empty, ends-optimum}
-use Rattle.box_search.proofs.StopLemmas.{stops-with}
+use Rattle.box_search.proofs.StopLemmas.{numbered, stops-with, among-last}
 use Rattle.box_search.proofs.WorkLemmas.{wide-point}
 
 pub shows_nothing : (M : Program) (limit : ℕ) → IsIntegral M → HasNoPoint M.cols → Finds M limit (Infeasible 0)
@@ -66,16 +67,16 @@ finds-ended M whole limit progress outcome i p small s shows = by outcome shows
 
 -- ---- the stops
 
-finds-stopped : (M : Program) (whole : Bool) (limit : ℕ) (progress : Progress) (why : StopWhy) (outcome : Outcome) → (IsTrue whole ↔ HasWholeObjective M 1) → progress.left.items ≢ []
+finds-stopped : (M : Program) (whole : Bool) (limit : ℕ) (progress : Progress) (why : StopWhy) (outcome : Outcome) → (IsTrue whole ↔ HasWholeObjective M 1) → progress.left.items ≢ [] → IsAmong why (map numbered progress.left.items)
     → Stands M whole progress.left.items progress.best progress.placed → StopsFor M limit progress.placed why → StopsAt M.sense whole progress why outcome → Finds M limit outcome
-finds-stopped M whole limit progress why (Optimal v x n) whole_is some s cause h = absurd h
-finds-stopped M whole limit progress why (Infeasible n) whole_is some s cause h = absurd h
-finds-stopped M whole limit progress why (Stopped reason n bound best) whole_is some s cause h =
+finds-stopped M whole limit progress why (Optimal v x n) whole_is some among s cause h = absurd h
+finds-stopped M whole limit progress why (Infeasible n) whole_is some among s cause h = absurd h
+finds-stopped M whole limit progress why (Stopped reason n bound best) whole_is some among s cause h =
     let t = h.1 in
-    let known : StopsWith M (option_map (in_least_form M.sense) t.bound_is.0) (best_value progress.best) =
-    stops-with M whole progress.left.items progress.best progress.placed t.bound_is.0 whole_is some s t.bound_is.1.0 in (
+    let known : StopsWith M why (option_map (in_least_form M.sense) t.bound_is.0) (best_value progress.best) =
+    stops-with M whole progress.left.items progress.best progress.placed t.bound_is.0 why whole_is some among s t.bound_is.1.0 in (
       subst (λ r. StopsFor M limit n r) (sym h.0) (subst (λ m. StopsFor M limit m why) (sym t.placed_is) cause),
-      subst (λ b. StopsWith M bound b) (sym t.best_is) (subst (λ b. StopsWith M b (best_value progress.best)) (sym t.bound_is.1.1) known),
+      subst (λ r. StopsWith M r bound best) (sym h.0) (subst (λ b. StopsWith M why bound b) (sym t.best_is) (subst (λ b. StopsWith M why b (best_value progress.best)) (sym t.bound_is.1.1) known)),
     )
 
 not_empty : (ps : List Part) (p : Part) → ps ++ p ∷ [] ≢ []
@@ -83,10 +84,11 @@ not_empty [] p e = cc
 not_empty (q ∷ ps) p e = cc
 
 -- a stop with the part that was taken put back
-pub finds-put_back : (M : Program) (whole : Bool) (limit : ℕ) (rest : List Part) (p : Part) (progress : Progress) (why : StopWhy) (outcome : Outcome) → (IsTrue whole ↔ HasWholeObjective M 1) → progress.left.items ≡ rest ++ p ∷ []
+pub finds-put_back : (M : Program) (whole : Bool) (limit : ℕ) (rest : List Part) (p : Part) (progress : Progress) (why : StopWhy) (outcome : Outcome) → (IsTrue whole ↔ HasWholeObjective M 1) → progress.left.items ≡ rest ++ p ∷ [] → IsAmong why (map numbered (rest ++ p ∷ []))
     → Stands M whole (rest ++ p ∷ []) progress.best progress.placed → StopsFor M limit progress.placed why → StopsAt M.sense whole progress why outcome → Finds M limit outcome
-finds-put_back M whole limit rest p progress why outcome whole_is is s cause h =
+finds-put_back M whole limit rest p progress why outcome whole_is is among s cause h =
     finds-stopped M whole limit progress why outcome whole_is (λ none. not_empty rest p (sym is ∙ none))
+    (subst (λ l. IsAmong why (map numbered l)) (sym is) among)
     (subst (λ l. Stands M whole l progress.best progress.placed) (sym is) s) cause h
 
 module _ (M : Program) (whole : Bool) (limit : ℕ) (rest : List Part) (p : Part) (best : Option Kept) (placed : ℕ) (i : IsIntegral M) (proper : IsProper (root_of M.cols)) (s : Stands M whole (rest ++ p ∷ []) best placed) where
@@ -104,7 +106,7 @@ module _ (M : Program) (whole : Bool) (limit : ℕ) (rest : List Part) (p : Part
       subst (λ c. Stands M whole (rest ++ p ∷ []) c new.placed) (sym b) (subst (λ m. Stands M whole (rest ++ p ∷ []) best m) (sym n) s) in
       let room = below_cap M placed i proper (taken-room M rest p best placed s.searched) in
       let part = taken-part M rest p best placed s.searched in
-      finds-put_back M whole limit rest p new (Wide path step) outcome whole_is (t.left ∙ ap (λ l. l ++ p ∷ []) left_is) stands
+      finds-put_back M whole limit rest p new (Wide path step) outcome whole_is (t.left ∙ ap (λ l. l ++ p ∷ []) left_is) (among-last rest p path step w.0) stands
       (record {
         within_limit = omega arith;
         below_cap = omega arith;

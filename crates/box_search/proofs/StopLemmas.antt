@@ -1,12 +1,13 @@
 -- What is known where a search stops.
-use Rattle.std.proofs.Common.{◌≡◌, ◌≢◌, ◌⊎◌, ◌↔◌, ℕ, ◌≤◌, Bool, IsTrue, List, [], ◌∷◌, arith, refl, sym, subst, ap, ◌∙◌, inl, inr, Option, Some, None}
+use Rattle.std.proofs.Common.{◌≡◌, ◌≢◌, ◌⊎◌, ◌↔◌, ℕ, ◌≤◌, Bool, IsTrue, List, [], ◌∷◌, ◌++◌, arith, refl, sym, subst, ap, ◌∙◌, inl, inr, Option, Some, None}
 use Rattle.std.specs.Prelude.{map}
 use Rattle.std.specs.Option.{option_map}
 use Rattle.rational.specs.Rational.{ℚ, ◌≤ℚ◌, neg_ℚ, IsWhole}
 use Rattle.rational.proofs.RationalRing.{ring, reads_ℚ}
 use Rattle.rational.proofs.RationalOrder.{≤ℚ_trans}
 use Rattle.lp_model.specs.Program.{Program, Point, IsFeasible, HasWholeObjective, least_value, in_least_form}
-use Rattle.lp_model.specs.Regions.{InRegion}
+use Rattle.lp_model.specs.Regions.{Path, InRegion}
+use Rattle.lp_model.specs.declared.types.WideStep.{WideStep}
 use Rattle.lp_model.specs.declared.types.Sense.{Sense}
 use Rattle.lp_model.specs.declared.types.Sense.TheVariants.{Min, Max}
 use Rattle.leaf_dual.specs.declared.dual.LagValue.TheVariants.{Minus}
@@ -21,13 +22,13 @@ use Rattle.box_search.specs.declared.searching.StopWhy.TheVariants.{Nodes, Wide}
 use Rattle.box_search.specs.declared.searching.Outcome.{Outcome}
 use Rattle.box_search.specs.declared.searching.Outcome.TheVariants.{Optimal, Infeasible, Stopped}
 use Rattle.box_search.specs.Root.{cap_of}
-use Rattle.box_search.specs.Search.{IsNoBetter, IsValueFound, IsOpenRegion, IsLeast, StopsWith, StopsFor, Finds, IsFinished, HasRoom}
+use Rattle.box_search.specs.Search.{IsAmong, IsNoBetter, IsValueFound, IsOpenRegion, IsLeast, StopsWith, StopsFor, Finds, IsFinished, HasRoom}
 use Rattle.box_search.specs.Works.{best_value, IsKept, Stands}
 use Rattle.box_search.proofs.ListLemmas.{each-with, each-map, one-map, one-with, one-both}
 use Rattle.box_search.proofs.PartLemmas.{part-corner}
 use Rattle.box_search.proofs.LeafLemmas.{least_value-whole, rounded-bound, unreached-below}
 
-abbrev numbered : Part → Numbered
+abbrev pub numbered : Part → Numbered
 numbered p = record { path = p.path; number = p.number }
 
 -- ---- from the parts to their regions
@@ -55,15 +56,16 @@ value-found : (M : Program) (best : Option Kept) → IsKept M best → IsValueFo
 value-found M None h = tt
 value-found M (Some kept) h = (kept.point, (h.0, h.1))
 
-pub stops-with : (M : Program) (whole : Bool) (left : List Part) (best : Option Kept) (placed : ℕ) (least : Option ℚ) → (IsTrue whole ↔ HasWholeObjective M 1) → left ≢ [] → Stands M whole left best placed → IsLeastOf whole left least
-    → StopsWith M (option_map (in_least_form M.sense) least) (best_value best)
-stops-with M whole left best placed least whole_is some s is =
+pub stops-with : (M : Program) (whole : Bool) (left : List Part) (best : Option Kept) (placed : ℕ) (least : Option ℚ) (why : StopWhy) → (IsTrue whole ↔ HasWholeObjective M 1) → left ≢ [] → IsAmong why (map numbered left) → Stands M whole left best placed → IsLeastOf whole left least
+    → StopsWith M why (option_map (in_least_form M.sense) least) (best_value best)
+stops-with M whole left best placed least why whole_is some among s is =
     let Stays : Part → Type 0 = λ p. ¬ PartCloses M.sense whole (best_value best) p in
     record {
       whole = whole;
       whole_is = whole_is;
       regions = map numbered left;
       some = some-regions left some;
+      among = among;
       are_open =
           each-map (IsOpenRegion M whole (best_value best)) numbered left
           (each-with (IsPart M) Stays (λ p. IsOpenRegion M whole (best_value best) (numbered p)) (open-region M whole (best_value best)) left s.searched.parts s.none_closes);
@@ -75,6 +77,10 @@ stops-with M whole left best placed least whole_is some s is =
       best_is = value-found M best s.searched.best_is;
       bound_is = (least, (least-regions whole left least is, refl));
     }
+
+pub among-last : (rest : List Part) (p : Part) (path : Path) (step : WideStep) → path ≡ p.path → IsAmong (Wide path step) (map numbered (rest ++ p ∷ []))
+among-last [] p path step e = inl (sym e)
+among-last (q ∷ rest) p path step e = inr (among-last rest p path step e)
 
 -- ---- the bound
 
@@ -104,8 +110,8 @@ least-bound M whole regions best least x is_whole opens is found f cover = elim 
     by (Some b) v k r n stays = ≤ℚ_trans (unreached-below whole r.number least (in_least_form M.sense b) (whole_best M whole b is_whole v) stays n) k
 
 -- no feasible point is better than the bound
-pub stops-bound : (M : Program) (b : ℚ) (best : Option ℚ) (x : Point) → StopsWith M (Some b) best → IsFeasible M x → in_least_form M.sense b ≤ℚ least_value M 1 x
-stops-bound M b best x s f = by s.bound_is.0 s.bound_is.1.0 s.bound_is.1.1
+pub stops-bound : (M : Program) (why : StopWhy) (b : ℚ) (best : Option ℚ) (x : Point) → StopsWith M why (Some b) best → IsFeasible M x → in_least_form M.sense b ≤ℚ least_value M 1 x
+stops-bound M why b best x s f = by s.bound_is.0 s.bound_is.1.0 s.bound_is.1.1
   where
     by : (least : Option ℚ) → IsLeast s.whole s.regions least → Some b ≡ option_map (in_least_form M.sense) least → in_least_form M.sense b ≤ℚ least_value M 1 x
     by None is e = cc

@@ -43,12 +43,18 @@ IsLeast whole regions None = OneOf (λ r. r.number ≡ Minus) regions
 IsLeast whole regions (Some least) =
     OneOf (λ r. IsRounded whole r.number least) regions × EachOf (λ r. (n : ℚ) × (IsRounded whole r.number n × (least ≤ℚ n))) regions
 
+-- a region whose point could not be judged is open
+abbrev pub IsAmong : StopWhy → List Numbered → Type 0
+IsAmong Nodes regions = Unit {0}
+IsAmong (Wide path step) regions = OneOf (λ r. r.path ≡ path) regions
+
 -- each feasible point is in an open region or no better than the best value, and the bound is the least of the open regions' numbers
-pub record StopsWith (M : Program) (bound best : Option ℚ) : Type 0 where
+pub record StopsWith (M : Program) (why : StopWhy) (bound best : Option ℚ) : Type 0 where
   pub whole : Bool
   pub whole_is : IsTrue whole ↔ HasWholeObjective M 1
   pub regions : List Numbered
   pub some : regions ≢ []
+  pub among : IsAmong why regions
   pub are_open : EachOf (IsOpenRegion M whole best) regions
   pub cover : (x : Point) → IsFeasible M x → OneOf (λ r. InRegion r.path x) regions ⊎ IsNoBetter M best x
   pub best_is : IsValueFound M best
@@ -99,7 +105,7 @@ StopsFor M limit n (Wide path step) = StopsAtPoint M limit n path step
 abbrev pub Finds : Program → ℕ → Outcome → Type 0
 Finds M limit (Optimal v x n) = FindsOptimum M limit v x n
 Finds M limit (Infeasible n) = FindsNone M limit n
-Finds M limit (Stopped why n bound best) = StopsFor M limit n why × StopsWith M bound best
+Finds M limit (Stopped why n bound best) = StopsFor M limit n why × StopsWith M why bound best
 
 -- the search went to the end
 abbrev pub IsFinished : Outcome → Type 0
@@ -113,4 +119,4 @@ HasRoom M = (x : Point) → InBox (root_of M.cols) x → (step : WideStep) → �
 
 -- no feasible point is better than the bound of a search that stopped
 abbrev pub StopBound : Type 0
-StopBound = (M : Program) (bound : ℚ) (best : Option ℚ) (x : Point) → StopsWith M (Some bound) best → IsFeasible M x → in_least_form M.sense bound ≤ℚ least_value M 1 x
+StopBound = (M : Program) (why : StopWhy) (bound : ℚ) (best : Option ℚ) (x : Point) → StopsWith M why (Some bound) best → IsFeasible M x → in_least_form M.sense bound ≤ℚ least_value M 1 x

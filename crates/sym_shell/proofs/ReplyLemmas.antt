@@ -7,6 +7,7 @@ use Rattle.lp_model.specs.Program.{Program, IsOptimum, value}
 use Rattle.lp_model.specs.Lawful.{IsLawful}
 use Rattle.box_search.specs.Root.{cap_of}
 use Rattle.box_search.specs.Search.{Finds, StopsWith}
+use Rattle.box_search.specs.declared.searching.StopWhy.{StopWhy}
 use Rattle.box_search.specs.declared.searching.StopWhy.TheVariants.{Nodes, Wide}
 use Rattle.box_search.specs.declared.searching.Outcome.{Outcome}
 use Rattle.box_search.specs.declared.searching.Outcome.TheVariants.{Optimal, Infeasible, Stopped}
@@ -23,9 +24,9 @@ finds-fits M limit (Optimal v x n) f = (f.optimum.feasible.shape, f.value)
 finds-fits M limit (Infeasible n) f = tt
 finds-fits M limit (Stopped why n bound best) f = tt
 
-is_bound : (M : Program) (bound best : Option ℚ) → StopsWith M bound best → IsBound M bound
-is_bound M None best known = tt
-is_bound M (Some b) best known = λ x feasible. stops-bound M b best x known feasible
+is_bound : (M : Program) (why : StopWhy) (bound best : Option ℚ) → StopsWith M why bound best → IsBound M bound
+is_bound M why None best known = tt
+is_bound M why (Some b) best known = λ x feasible. stops-bound M why b best x known feasible
 
 module _ (M : Program) (limit : ℕ) (lawful : IsLawful M) (plain : HasPlainNames M) where
   shown : (outcome : Outcome) (old new : List ℕ) → old ≡ [] → Finds M limit outcome → Reports M outcome old new → Shows M limit new
@@ -49,7 +50,7 @@ module _ (M : Program) (limit : ℕ) (lawful : IsLawful M) (plain : HasPlainName
         bound = bound;
         best = best;
         known = f.1;
-        holds = is_bound M bound best f.1;
+        holds = is_bound M Nodes bound best f.1;
         below_cap = subst (λ k. k < cap_of M) f.0.all f.0.below_cap;
         shown = r ∙ ap (λ t. t ++ stopped_nodes_text n bound best) empty ∙ ap (λ k. stopped_nodes_text k bound best) f.0.all;
       })
@@ -61,7 +62,7 @@ module _ (M : Program) (limit : ℕ) (lawful : IsLawful M) (plain : HasPlainName
         path = path;
         step = step;
         known = f.1;
-        holds = is_bound M bound best f.1;
+        holds = is_bound M (Wide path step) bound best f.1;
         wide = f.0.wide;
         within_limit = f.0.within_limit;
         below_cap = f.0.below_cap;

@@ -6,6 +6,7 @@ use Rattle.lp_model.specs.Regions.{Path}
 use Rattle.lp_model.specs.declared.types.WideStep.{WideStep}
 use Rattle.box_search.specs.Root.{cap_of}
 use Rattle.box_search.specs.Search.{StopsWith, IsWidePoint}
+use Rattle.box_search.specs.declared.searching.StopWhy.TheVariants.{Nodes, Wide}
 use Rattle.sym_shell.specs.Shown.{point_shown, value_shown}
 use Rattle.sym_shell.specs.State.{State}
 use Rattle.sym_shell.specs.Texts.{no_model_text, optimal_text, infeasible_text, stopped_nodes_text, stopped_wide_text, memory_text}
@@ -38,19 +39,19 @@ IsBound M (Some bound) = (x : Point) → IsFeasible M x → in_least_form M.sens
 pub record ShowsNodeStop (M : Program) (limit : ℕ) (reply : List ℕ) : Type 0 where
   pub bound : Option ℚ
   pub best : Option ℚ
-  pub known : StopsWith M bound best
+  pub known : StopsWith M Nodes bound best
   pub holds : IsBound M bound
   pub below_cap : limit < cap_of M
   pub shown : reply ≡ stopped_nodes_text limit bound best
 
--- the search stopped at a region whose one whole point has a step without room
+-- the search stopped at an open region whose one whole point has a step without room
 pub record ShowsWideStop (M : Program) (limit : ℕ) (reply : List ℕ) : Type 0 where
   pub placed : ℕ
   pub bound : Option ℚ
   pub best : Option ℚ
   pub path : Path
   pub step : WideStep
-  pub known : StopsWith M bound best
+  pub known : StopsWith M (Wide path step) bound best
   pub holds : IsBound M bound
   pub wide : IsWidePoint M path step
   pub within_limit : placed ≤ limit

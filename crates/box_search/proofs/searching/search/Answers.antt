@@ -57,7 +57,7 @@ returns-then-search-limit-clause-found c =
     let proper : IsProper (root_of M.cols) = subst IsProper (root.0 ∙ ap root_of c.cols.ensures.items) root.1 in
     let progress : Progress = record { left = c.push.new.self; best = best; placed = placed } in
     let shown : StopsAt M.sense whole progress Nodes c.stopped.result = subst (λ z. StopsAt z whole progress Nodes c.stopped.result) c.sense.ensures c.stopped.ensures in
-    finds-put_back M whole c.args.limit c.pop.new.self.items c.in-Some-pop.part progress Nodes c.stopped.result c.has_whole_objective-whole.ensures c.in_ok-push.ensures.items s
+    finds-put_back M whole c.args.limit c.pop.new.self.items c.in-Some-pop.part progress Nodes c.stopped.result c.has_whole_objective-whole.ensures c.in_ok-push.ensures.items tt s
     (stops-at_limit M whole c.args.limit c.pop.new.self.items c.in-Some-pop.part best placed c.requires proper s c.if-search-limit.true) shown
 
 pub returns-then-search-limit-clause-complete : goal.returns-then-search-limit-clause-complete
@@ -73,7 +73,7 @@ returns-then-search-limit-clause-complete c =
     let progress : Progress = record { left = c.push.new.self; best = best; placed = placed } in
     let shown : StopsAt M.sense whole progress Nodes c.stopped.result = subst (λ z. StopsAt z whole progress Nodes c.stopped.result) c.sense.ensures c.stopped.ensures in
     finds-complete M c.args.limit c.stopped.result
-    (finds-put_back M whole c.args.limit c.pop.new.self.items c.in-Some-pop.part progress Nodes c.stopped.result c.has_whole_objective-whole.ensures c.in_ok-push.ensures.items s
+    (finds-put_back M whole c.args.limit c.pop.new.self.items c.in-Some-pop.part progress Nodes c.stopped.result c.has_whole_objective-whole.ensures c.in_ok-push.ensures.items tt s
     (stops-at_limit M whole c.args.limit c.pop.new.self.items c.in-Some-pop.part best placed c.requires proper s c.if-search-limit.true) shown)
 
 pub returns-in-Some-2-clause-found : goal.returns-in-Some-2-clause-found
