@@ -1,4 +1,3 @@
 pub mod SumLaws
 pub mod StepLaws
 pub mod AnswerLaws
-pub mod SmallSums

@@ -15,7 +15,7 @@
 //! how many terms there are and gives the k-th factor and number (`Terms`).
 //!
 //! Below stand `rational`, the numbers of contracts, and `frac128`, the fractions. Beside the definitions stand the laws
-//! of sums by index (`proofs/SumLaws`), and that a sum of small whole numbers always has room (`proofs/SmallSums`).
+//! of sums by index (`proofs/SumLaws`).
 #![tactic(auto)]
 
 mod sum;

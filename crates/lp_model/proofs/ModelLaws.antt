@@ -9,10 +9,9 @@ use Rattle.rational.proofs.Integers.{IsWhole-int, IsWhole-+ℚ, IsWhole-*ℚ}
 use Rattle.checked_sum.specs.Sums.{sum_below}
 use Rattle.checked_sum.proofs.SumLaws.{IsWhole-sum_below}
 use Rattle.lp_model.specs.Program.{Program, Point, coordinate, constant, cost, is_integer, lower, upper, low_side, high_side, activity, value, IsFeasible, HasWholeObjective}
-use Rattle.lp_model.specs.Lawful.{row_limit, IsRange, IsLawfulColumn, IsLawful}
+use Rattle.lp_model.specs.Lawful.{row_limit, col_limit, IsRange, IsLawfulColumn, IsLawful}
 use Rattle.lp_model.specs.Answers.{IsValueAnswer, IsActivityAnswer}
 use Rattle.lp_model.proofs.ElementLemmas.{of_element-get, element}
-use Rattle.lp_model.proofs.SmallModels.{col_limit-le}
 
 -- a value that is answered is the point's value, and an activity the row's
 pub value_answer : (M : Program) (w : ℕ) (x : Point) (v : ℚ) → IsValueAnswer M w x (Ok v) → v ≡ value M w x
@@ -26,6 +25,10 @@ activity_answer M x i v answer = answer.1 ∙ ring (activity M x i ∷ []) (sear
 row_limit-le : (wide : Bool) → row_limit wide ≤ 502
 row_limit-le true = omega arith
 row_limit-le false = omega arith
+
+col_limit-le : (wide : Bool) → col_limit wide ≤ 1001
+col_limit-le true = omega arith
+col_limit-le false = omega arith
 
 module _ (M : Program) (lawful : IsLawful M) where
   pub few_columns : length M.cols ≤ 1001

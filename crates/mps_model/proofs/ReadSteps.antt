@@ -1,13 +1,11 @@
 -- From the tables of a whole text to its model or its fault.
-use Rattle.std.proofs.Common.{◌≡◌, ℕ, Bool, false, List, [], refl, sym, ◌∙◌, ap, subst, inl, inr}
-use Rattle.std.specs.Prelude.{◌⊎◌, Option, None, Some, IsTrue}
+use Rattle.std.proofs.Common.{◌≡◌, ℕ, false, List, [], refl, sym, ◌∙◌, ap}
+use Rattle.std.specs.Prelude.{Option, None, Some}
 use Rattle.lp_model.specs.Program.{Program}
-use Rattle.mps_text.specs.Text.{Entry, Flaw, records_of}
-use Rattle.mps_model.specs.Statements.{Stated, stated}
+use Rattle.mps_text.specs.Text.{Flaw}
+use Rattle.mps_model.specs.Statements.{Stated}
 use Rattle.mps_model.specs.Meaning.{model_of}
-use Rattle.mps_model.specs.Faults.{column_flaw, flaw_of_columns, Faulty, OnLine as FaultyOnLine, NoEnd as FaultyNoEnd, OnColumn, Meant, MeansOne, HasOneFault}
-use Rattle.mps_model.specs.FirstForm.{IsFirstForm, has_first_form}
-use Rattle.mps_model.proofs.Verdict.{exactly_one, whole_unique}
+use Rattle.mps_model.specs.Faults.{column_flaw, flaw_of_columns, Faulty, OnLine as FaultyOnLine, NoEnd as FaultyNoEnd, OnColumn, Meant}
 use Rattle.mps_model.specs.ReadingOf.{IsWholeStated, IsLineFault, OnLine, NoEnd}
 use Rattle.mps_model.specs.declared.statements.RowLine.{RowLine}
 use Rattle.mps_model.specs.declared.statements.RowNumber.{RowNumber}
@@ -38,7 +36,6 @@ model_from objectives rows columns sides bounds intupper = model_of (record {
   count = 0;
   sides = sides;
   bounds = bounds;
-  plain = false;
 }) intupper
 
 from_lists : (s : Stated) (intupper : Option ℕ) → model_of s intupper ≡ model_from s.objectives s.rows s.columns s.sides s.bounds intupper
@@ -58,22 +55,3 @@ meant_by text intupper s t columns bounds m w looked_columns looked_bounds f e o
   columns = flaw_held text intupper s columns bounds None w looked_columns looked_bounds f;
   is = e ∙ same_model t s intupper o r c d b ∙ ap (λ (u : Stated). model_of u intupper) w.holds;
 }
-
--- ---- the first form
-
-means : (text : List ℕ) (f : IsFirstForm text) → Meant text None (model_of (stated f.entries) None)
-means text f = record { entries = f.entries; whole = f.whole; columns = f.columns; is = refl }
-
-either_way : (text : List ℕ) (flaw : Flaw) → Faulty text None flaw → IsFirstForm text → (MeansOne text None ⊎ HasOneFault text None) → ⊥
-either_way text flaw faulty f (inl m) = m.faultless flaw faulty
-either_way text flaw faulty f (inr h) = h.meaningless (model_of (stated f.entries) None) (means text f)
-
-pub faulty_has_no_form : (text : List ℕ) (flaw : Flaw) → Faulty text None flaw → IsFirstForm text → ⊥
-faulty_has_no_form text flaw faulty f = either_way text flaw faulty f (exactly_one text None)
-
-pub form_answered : (text : List ℕ) (s : Stated) (columns : List ColumnLines) (bounds : List BoundLine) (answer : Bool) → IsWholeStated text s → columns ≡ s.columns → bounds ≡ s.bounds → None ≡ column_flaw None bounds columns → answer ≡ has_first_form s → (IsTrue answer → IsFirstForm text) × (IsFirstForm text → IsTrue answer)
-form_answered text s columns bounds answer w c b f e =
-    let same : answer ≡ has_first_form (stated w.entries) = e ∙ ap has_first_form w.holds in (
-      (λ h. record { entries = w.entries; whole = w.whole; columns = flaw_held text None s columns bounds None w c b f; form = subst (λ (r : Bool). IsTrue r) same h }),
-      (λ form. subst (λ (r : Bool). IsTrue r) (sym (same ∙ ap (λ (es : List Entry). has_first_form (stated es)) (whole_unique (records_of text) w.entries form.entries w.whole form.whole))) form.form),
-    )

@@ -1,17 +1,16 @@
 -- What one more entry changes in what is stated.
 use Rattle.std.proofs.Common.{◌≡◌, ℕ, Bool, true, false, ◌||◌, ◌&&◌, List, [], ◌∷◌, ◌++◌, map, length, refl, sym, ◌∙◌, ap, append_assoc, arith, ◌+◌, subst}
 use Rattle.std.specs.Prelude.{not, if◌then◌else◌, fold, Option, None, Some, bytes_eq, codes}
-use Rattle.std.specs.List.{list_any, list_all}
+use Rattle.std.specs.List.{list_any}
 use Rattle.std.proofs.lemmas.Grind.{fold-append}
 use Rattle.std.proofs.lemmas.Bool.{or_parts, or_from, true≢false, true_from_ne_false, false_from_ne_true}
 use Rattle.mps_model.proofs.TestFacts.{none_holds, code_of_kind}
 use Rattle.mps_model.proofs.ListFacts.{bytes_eq-flips}
 use Rattle.std.proofs.lemmas.Slice.Eq.{bytes_eq-Decides}
-use Rattle.std.proofs.lemmas.List.Folds.{list_any-append, list_all-append}
+use Rattle.std.proofs.lemmas.List.Folds.{list_any-append}
 use Rattle.mps_text.specs.Text.{Entry}
 use Rattle.mps_model.specs.Words.{is_key, among, word, section_of, kind_in, data_kind, is_marker}
-use Rattle.mps_model.specs.Numbers.{is_plain}
-use Rattle.mps_model.specs.Statements.{gathered_behind, gathered, section_behind, kind_of, header_on, objective_on, row_on, marker_on, is_marked, column_name_on, column_names, FirstLine, first_on, first_lines, column_pairs_on, read_pair, numbers_of_column, column_at, columns, rows, coefficients, coefficients_in, rhs_pairs_on, bound_on, numbers_on, numbers, Stated, stated, Pair, column_pairs, is_column}
+use Rattle.mps_model.specs.Statements.{gathered_behind, gathered, section_behind, kind_of, header_on, objective_on, row_on, marker_on, is_marked, column_name_on, column_names, FirstLine, first_on, first_lines, column_pairs_on, read_pair, numbers_of_column, column_at, columns, rows, coefficients, coefficients_in, rhs_pairs_on, bound_on, Stated, stated, Pair, column_pairs, is_column}
 use Rattle.mps_model.specs.Shown.{with_more, with_line, after_kind, after}
 use Rattle.mps_model.specs.Faults.{is_last, code_at, column_tests}
 use Rattle.mps_model.specs.declared.words.Section.{Section}
@@ -113,7 +112,6 @@ joined kind s e found = record {
   count = s.count + length (coefficients_in s.rows (map read_pair (column_pairs_on kind e)));
   sides = s.sides ++ map read_pair (rhs_pairs_on kind e);
   bounds = s.bounds ++ bound_on kind e;
-  plain = s.plain && list_all is_plain (numbers_on kind e);
 }
 
 stated_joined : (seen : List Entry) (e : Entry) → stated (seen ++ e ∷ []) ≡ joined (kind_of seen e) (stated seen) e (columns (seen ++ e ∷ []))
@@ -127,7 +125,6 @@ stated_joined seen e =
     let count_more = ap length (gathered_more (λ before x. coefficients_in (rows before) (map read_pair (column_pairs_on (kind_of before x) x))) seen e) ∙ length_append (coefficients seen) (coefficients_in (rows seen) (map read_pair (column_pairs_on (kind_of seen e) e))) in
     let sides_more = gathered_more (λ before x. map read_pair (rhs_pairs_on (kind_of before x) x)) seen e in
     let bounds_more = gathered_more (λ before x. bound_on (kind_of before x) x) seen e in
-    let plain_more = ap (list_all is_plain) (gathered_more (λ before x. numbers_on (kind_of before x) x) seen e) ∙ list_all-append is_plain (numbers seen) (numbers_on (kind_of seen e) e) in
     cc
 
 -- the columns behind a line of a kind
@@ -135,22 +132,18 @@ columns_after : LineKind → Stated → Entry → List ColumnLines
 columns_after Column s e = with_line s.columns (word 0 e) e.line s.marked (map read_pair (column_pairs e))
 columns_after kind s e = s.columns
 
-and_true : (b : Bool) → (b && true) ≡ b
-and_true true = refl
-and_true false = refl
-
 -- where a line adds nothing to a list, the list stays
 joined_after : (kind : LineKind) (s : Stated) (e : Entry) → joined kind s e (columns_after kind s e) ≡ after_kind kind s e
 unfolding joined section_after columns_after
 joined_after Header s e =
     let o = nothing_more s.objectives in let r = nothing_more s.rows in let d = nothing_more s.sides in let b = nothing_more s.bounds in
-    let p = and_true s.plain in let n : s.count + 0 ≡ s.count = omega arith in cc
+    let n : s.count + 0 ≡ s.count = omega arith in cc
 joined_after Row s e =
     let h = nothing_more s.headers in let d = nothing_more s.sides in let b = nothing_more s.bounds in
-    let p = and_true s.plain in let n : s.count + 0 ≡ s.count = omega arith in cc
+    let n : s.count + 0 ≡ s.count = omega arith in cc
 joined_after Marker s e =
     let h = nothing_more s.headers in let o = nothing_more s.objectives in let r = nothing_more s.rows in let d = nothing_more s.sides in let b = nothing_more s.bounds in
-    let p = and_true s.plain in let n : s.count + 0 ≡ s.count = omega arith in cc
+    let n : s.count + 0 ≡ s.count = omega arith in cc
 joined_after Column s e =
     let h = nothing_more s.headers in let o = nothing_more s.objectives in let r = nothing_more s.rows in let d = nothing_more s.sides in let b = nothing_more s.bounds in cc
 joined_after RightSide s e =
@@ -161,9 +154,8 @@ joined_after Bound s e =
     let n : s.count + 0 ≡ s.count = omega arith in cc
 joined_after Stray s e =
     let h = nothing_more s.headers in let o = nothing_more s.objectives in let r = nothing_more s.rows in let d = nothing_more s.sides in let b = nothing_more s.bounds in
-    let p = and_true s.plain in
     let n : s.count + 0 ≡ s.count = omega arith in
-    let same : joined Stray s e s.columns ≡ record { section = s.section; headers = s.headers; objectives = s.objectives; rows = s.rows; columns = s.columns; marked = s.marked; count = s.count; sides = s.sides; bounds = s.bounds; plain = s.plain } = cc in
+    let same : joined Stray s e s.columns ≡ record { section = s.section; headers = s.headers; objectives = s.objectives; rows = s.rows; columns = s.columns; marked = s.marked; count = s.count; sides = s.sides; bounds = s.bounds } = cc in
     same
 
 -- ---- columns

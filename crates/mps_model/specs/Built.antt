@@ -21,7 +21,6 @@ parts_shown p = record {
   count = 0;
   sides = p.sides.now;
   bounds = p.bounds.now;
-  plain = false;
 }
 
 unfoldable pub empty_of : Stated → Program

@@ -1,6 +1,5 @@
 -- The numbers of a text, and the limits that BOUNDS states.
-use Rattle.std.specs.Prelude.{ℕ, ◌^◌, Bool, true, false, not, ◌&&◌, ◌||◌, if◌then◌else◌, List, length, codes, Option, None, Some, Result, Ok, Err, pos, nat_le}
-use Rattle.std.specs.List.{list_all}
+use Rattle.std.specs.Prelude.{ℕ, ◌^◌, Bool, true, false, not, ◌&&◌, ◌||◌, if◌then◌else◌, List, codes, Option, None, Some, Result, Ok, Err, pos}
 use Rattle.std.specs.Ordering.{int_eq}
 use Rattle.rational.specs.Rational.{ℚ, int, neg_ℚ, rational_le}
 use Rattle.frac128.specs.Sides.{numeral_of}
@@ -8,7 +7,7 @@ use Rattle.frac128.specs.declared.numeral.Side.{Side}
 use Rattle.frac128.specs.declared.numeral.Side.TheVariants.{Above, Between, Below}
 use Rattle.frac128.specs.declared.numeral.Numeral.{Numeral}
 use Rattle.frac128.specs.declared.numeral.Numeral.TheVariants.{Number, Wide, NotNumber as NoNumber}
-use Rattle.frac128.specs.Spelling.{reading_of, is_minus, without_sign, is_digit}
+use Rattle.frac128.specs.Spelling.{reading_of, is_minus, without_sign}
 use Rattle.mps_model.specs.Words.{is_key}
 use Rattle.mps_model.specs.declared.words.BoundKind.{BoundKind}
 use Rattle.mps_model.specs.declared.words.BoundKind.TheVariants.{Lower, Upper, Fixed, Binary, IntegerLower, IntegerUpper}
@@ -34,10 +33,6 @@ number field = number_or_zero (number_of field)
 
 abbrev pub is_zero : ℚ → Bool
 is_zero x = int_eq x.num (pos 0)
-
--- an optional sign, and 1 to 9 digits
-abbrev pub is_plain : List ℕ → Bool
-is_plain field = list_all is_digit (without_sign field) && nat_le 1 (length (without_sign field)) && nat_le (length (without_sign field)) 9
 
 abbrev pub is_not_number : {A : Type 0} → Result A NumFault → Bool
 is_not_number (Ok x) = false

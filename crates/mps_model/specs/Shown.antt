@@ -1,10 +1,8 @@
 -- What the reader's values stand for, and what one more clean line adds to what is stated.
-use Rattle.std.specs.Prelude.{ℕ, ◌+◌, Bool, ◌&&◌, if◌then◌else◌, List, [], ◌∷◌, ◌++◌, length, map, codes, option_to_list, Option, None, Some}
-use Rattle.std.specs.List.{list_all}
+use Rattle.std.specs.Prelude.{ℕ, ◌+◌, Bool, if◌then◌else◌, List, [], ◌∷◌, ◌++◌, length, map, codes, option_to_list, Option, None, Some}
 use Rattle.mps_text.specs.Text.{Entry, Flaw}
 use Rattle.mps_model.specs.Words.{is_key, word, section_of, kind_in}
-use Rattle.mps_model.specs.Numbers.{is_plain}
-use Rattle.mps_model.specs.Statements.{Pair, read_pair, Stated, column_pairs, rhs_pairs, objective_on, row_on, coefficients_in, bound_on, numbers_on}
+use Rattle.mps_model.specs.Statements.{Pair, read_pair, Stated, column_pairs, rhs_pairs, objective_on, row_on, coefficients_in, bound_on}
 use Rattle.mps_model.specs.declared.statements.RowNumber.{RowNumber}
 use Rattle.mps_model.specs.declared.statements.ColumnLines.{ColumnLines}
 use Rattle.mps_model.specs.Faults.{is_last}
@@ -50,7 +48,6 @@ held t = record {
   count = t.count;
   sides = t.sides.numbers;
   bounds = t.bounds;
-  plain = t.plain;
 }
 
 -- ---- what one more line adds
@@ -73,10 +70,9 @@ after_kind Marker s e = record s { marked = is_key (codes "'INTORG'") (word 2 e)
 after_kind Column s e = record s {
   columns = with_line s.columns (word 0 e) e.line s.marked (map read_pair (column_pairs e));
   count = s.count + length (coefficients_in s.rows (map read_pair (column_pairs e)));
-  plain = s.plain && list_all is_plain (numbers_on Column e);
 }
-after_kind RightSide s e = record s { sides = s.sides ++ map read_pair (rhs_pairs e); plain = s.plain && list_all is_plain (numbers_on RightSide e) }
-after_kind Bound s e = record s { bounds = s.bounds ++ bound_on Bound e; plain = s.plain && list_all is_plain (numbers_on Bound e) }
+after_kind RightSide s e = record s { sides = s.sides ++ map read_pair (rhs_pairs e) }
+after_kind Bound s e = record s { bounds = s.bounds ++ bound_on Bound e }
 after_kind Stray s e = s
 
 unfoldable pub after : Stated → Entry → Stated

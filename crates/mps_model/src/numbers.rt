@@ -1,9 +1,8 @@
 // The numbers of a text, and the limits that BOUNDS states.
 ghost use Rattle.std.specs.Prelude.{◌≡◌};
-ghost use Rattle.std.specs.List.{list_all};
 ghost use Rattle.rational.specs.Rational.{rational_le};
-ghost use Rattle.frac128.specs.Spelling.{without_sign, is_minus, is_digit};
-ghost use Rattle.mps_model.specs.Numbers.{number_of, number, is_zero, limit_of, limit, within, limit_at_side, infinite, is_infinite_word, is_misplaced, is_plain, is_not_number, is_too_wide};
+ghost use Rattle.frac128.specs.Spelling.{without_sign, is_minus};
+ghost use Rattle.mps_model.specs.Numbers.{number_of, number, is_zero, limit_of, limit, within, limit_at_side, infinite, is_infinite_word, is_misplaced, is_not_number, is_too_wide};
 
 use crate::words::{BoundKind, is_key};
 use frac128::{Frac, NumFault, Numeral, Side};
@@ -65,26 +64,6 @@ fn without_sign(field: &[u8]) -> &[u8]
         [b'-', rest @ ..] => rest,
         _ => field,
     }
-}
-
-fn is_digit(byte: u8) -> bool
-    ensures { result ≡ is_digit byte }
-{
-    b'0' <= byte && byte <= b'9'
-}
-
-fn has_digits_alone(bytes: &[u8]) -> bool
-    ensures { result ≡ list_all is_digit bytes.now }
-{
-    bytes.iter().all(|byte| is_digit(*byte))
-}
-
-/// Whether a field is an optional sign and 1 to 9 digits.
-pub(crate) fn is_plain(field: &[u8]) -> bool
-    ensures { result ≡ is_plain field.now }
-{
-    let digits = without_sign(field);
-    has_digits_alone(digits) && 1 <= digits.len() && digits.len() <= 9
 }
 
 /// Whether a number is 0.

@@ -1,14 +1,13 @@
 // The pairs of a row's name and a number on a line.
 ghost use Rattle.std.specs.Prelude.{◌≡◌, ◌≤◌, ◌||◌, not, length, map};
-ghost use Rattle.std.specs.List.{list_all, list_any};
+ghost use Rattle.std.specs.List.{list_any};
 ghost use Rattle.mps_text.specs.Reading.{entry_of};
 ghost use Rattle.mps_model.specs.Words.{among};
-ghost use Rattle.mps_model.specs.Numbers.{is_plain};
 ghost use Rattle.mps_model.specs.Statements.{column_pairs, rhs_pairs, is_row};
 ghost use Rattle.mps_model.specs.Faults.{has_twice, has_long, has_not_number, has_too_wide, is_long, has_count};
 ghost use Rattle.mps_model.specs.Shown.{pairs_shown};
 
-use crate::numbers::{is_not_number, is_plain, is_too_wide};
+use crate::numbers::{is_not_number, is_too_wide};
 use crate::rows::Rows;
 use mps_text::{Fields, Record};
 
@@ -145,17 +144,6 @@ impl<'a> Pairs<'a> {
             Pairs::Nothing => false,
             Pairs::One(_) => false,
             Pairs::Two(p, q) => q.row == p.row,
-        }
-    }
-
-    /// Whether each number is an optional sign and 1 to 9 digits.
-    pub(crate) fn are_plain(&self) -> bool
-        ensures { result ≡ list_all is_plain (map (λ p. p.number) (pairs_shown self.now)) }
-    {
-        match self {
-            Pairs::Nothing => true,
-            Pairs::One(p) => is_plain(p.number),
-            Pairs::Two(p, q) => is_plain(p.number) && is_plain(q.number),
         }
     }
 }

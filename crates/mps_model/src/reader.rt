@@ -1,14 +1,11 @@
 // The model that a text means, or its first fault.
-ghost use Rattle.std.specs.Prelude.{◌↔◌, IfOk, IsTrue};
 ghost use Rattle.mps_model.specs.Answers.{IsAnswer};
-ghost use Rattle.mps_model.specs.FirstForm.{IsFirstForm};
 
 use crate::building::Parts;
-use crate::first_form::has_first_form;
 use crate::reading::{Stop, tables_of};
 use crate::spans::column_flaw;
 use lp_model::Model;
-use std::alloc::{AllocError, Global};
+use std::alloc::Global;
 
 /// Why a text gives no model.
 #[derive(Clone, Copy, Debug, Drop)]
@@ -54,28 +51,5 @@ pub fn read(alloc: Global, text: &[u8], intupper: Option<u64>) -> Result<Model, 
     match parts.model(alloc) {
         Ok(model) => Ok(model),
         Err(_) => Err(MpsFault::Memory),
-    }
-}
-
-/// Whether a text has no fault and one N row, each of its numbers is an optional sign and 1 to 9 digits, and each
-/// column is integer and has one bound line, of type UP with the number 1.
-pub fn is_first_form(alloc: Global, text: &[u8]) -> Result<bool, AllocError>
-    ensures { IfOk result (λ answer. IsTrue answer ↔ IsFirstForm text.now) }
-{
-    let tables = match tables_of(alloc, text) {
-        Ok(tables) => tables,
-        Err(Stop::Fault(_)) => return Ok(false),
-        Err(Stop::Memory) => return Err(AllocError),
-    };
-    let columns = tables.columns.into_list()?;
-    let flaw = column_flaw(None, tables.bounds.as_slice(), columns.as_slice());
-    match flaw {
-        Some(_) => Ok(false),
-        None => Ok(has_first_form(
-            tables.rows.objectives.as_slice(),
-            tables.plain,
-            tables.bounds.as_slice(),
-            columns.as_slice(),
-        )),
     }
 }

@@ -10,7 +10,7 @@ ghost use Rattle.mps_model.specs.Faults.{least, tests_of, section_tests, row_tes
 use crate::columns::Columns;
 use crate::names::{copied, count_coefficients};
 use crate::numbered::Numbered;
-use crate::numbers::{is_misplaced, is_no_limit, is_plain, is_wide_limit, limit_or_plus};
+use crate::numbers::{is_misplaced, is_no_limit, is_wide_limit, limit_or_plus};
 use crate::pairs::{Pairs, column_pairs, has_count, is_long, rhs_pairs};
 use crate::rows::Rows;
 use crate::statements::BoundLine;
@@ -32,8 +32,6 @@ pub(crate) struct Tables {
     pub count: u64,
     pub sides: Numbered,
     pub bounds: List<BoundLine>,
-    /// Whether each number is an optional sign and 1 to 9 digits.
-    pub plain: bool,
     ghost few: { count ≤ 50000 },
 }
 
@@ -115,7 +113,6 @@ impl Tables {
             count: 0,
             sides: Numbered::new(alloc),
             bounds: List::new(alloc),
-            plain: true,
         }
     }
 
@@ -337,7 +334,6 @@ impl Tables {
         let columns = mem::replace(&mut self.columns, Columns::new(alloc));
         self.columns = columns.with(alloc, name, entry.line, self.marked, &pairs)?;
         self.count += count;
-        self.plain = self.plain && pairs.are_plain();
         Ok(())
     }
 
@@ -347,7 +343,6 @@ impl Tables {
         let pairs = rhs_pairs(entry);
         let sides = mem::replace(&mut self.sides, Numbered::new(alloc));
         self.sides = sides.with(alloc, &pairs)?;
-        self.plain = self.plain && pairs.are_plain();
         Ok(())
     }
 
@@ -358,15 +353,13 @@ impl Tables {
         let Some(kind) = BoundKind::of(first_word(entry)) else {
             return Ok(());
         };
-        let number = last_word(entry);
         let column = copied(alloc, bound_column(kind, entry))?;
-        let limit = limit_or_plus(number);
+        let limit = limit_or_plus(last_word(entry));
         self.bounds.push(BoundLine {
             column,
             kind,
             limit,
         })?;
-        self.plain = self.plain && (!kind.takes_number() || is_plain(number));
         Ok(())
     }
 

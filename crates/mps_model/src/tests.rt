@@ -1,5 +1,5 @@
 // Texts with what they mean or their first fault, each worked by hand.
-use crate::reader::{MpsFault, is_first_form, read};
+use crate::reader::{MpsFault, read};
 use std::process::Abort;
 
 const FILE_K: &[u8] =
@@ -33,17 +33,6 @@ fn reads_a_model(rt: HostRuntime) {
 }
 
 #[test]
-fn knows_the_first_form(rt: HostRuntime) {
-    for text in [FILE_K, MARKED] {
-        assert!(&rt; is_first_form(rt.alloc(), text).expect(&rt, "memory"));
-        assert!(&rt; read(rt.alloc(), text, None).is_ok());
-    }
-    for text in [ONE_ROW, UNBOUNDED, b"" as &[u8]] {
-        assert!(&rt; !is_first_form(rt.alloc(), text).expect(&rt, "memory"));
-    }
-}
-
-#[test]
 fn bounds_integer_columns(rt: HostRuntime) {
     assert!(&rt; read(rt.alloc(), ONE_ROW, None).is_ok());
     assert!(&rt;
@@ -53,6 +42,7 @@ fn bounds_integer_columns(rt: HostRuntime) {
         )
     );
     assert!(&rt; read(rt.alloc(), UNBOUNDED, Some(100)).is_ok());
+    assert!(&rt; read(rt.alloc(), MARKED, None).is_ok());
 }
 
 const FAULTS: [(&[u8], u64, u8); 28] = [
