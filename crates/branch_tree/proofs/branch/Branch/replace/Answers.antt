@@ -1,6 +1,6 @@
 use Rattle.std.proofs.Common.{◌≡◌, sym, ap, ◌∙◌}
 use Rattle.std.proofs.lemmas.Bool.{MatchBool-at_false}
-use Rattle.branch_tree.specs.Plain.{leaves_with, replaced}
+use Rattle.branch_tree.specs.Plain.{leaves_with}
 use Rattle.branch_tree.specs.Branches.{plain}
 use Rattle.branch_tree.proofs.IdLemmas.{replaced-none}
 use Rattle.branch_tree.proofs.branch.Branch.replace.Goals as goal
