@@ -1,9 +1,9 @@
 // A tree as boxed branches. Each call walks the branches, as deep as the tree is.
-ghost use Rattle.std.specs.Prelude.{◌≡◌, ◌↔◌, ◌≤◌, IsTrue, ◌+◌, ◌-◌, ◌^◌, ◌<◌, ◌<ℤ◌, ◌+ℤ◌, pos, ◌++◌, IfOk, IfSome, IfNone, MatchBool, MatchOption, Some, None};
+ghost use Rattle.std.specs.Prelude.{◌≡◌, ◌↔◌, ◌≤◌, IsTrue, ◌+◌, ◌-◌, ◌^◌, ◌<◌, ◌<ℤ◌, ◌+ℤ◌, pos, ◌++◌, IsSome, IfOk, IfSome, MatchBool, MatchOption, Some, None};
 ghost use Rattle.std.specs.Option.{option_copied};
 ghost use Rattle.branch_tree.specs.Tree.{at_most, at_least, node_count};
 ghost use Rattle.branch_tree.specs.Plain.{open_data, open_leaf, new_split, leaves_with, splits_with, data_of, path_of, path_below, replaced, collapsed, splits_at, trimmed, preorder, HasBounds};
-ghost use Rattle.branch_tree.specs.Branches.{plain};
+ghost use Rattle.branch_tree.specs.Branches.{plain, IsReplaced, IsKept};
 
 use crate::node::{LeafData, Node, copy_basis, copy_data, copy_mult, empty_basis, open_data};
 use lp_model::{Basis, BoundChange, ColId, List, Mult, Region, Side};
@@ -112,61 +112,75 @@ impl Branch {
         ensures tree { plain self.new ≡ replaced id (plain new) (plain self.old) }
         ensures left { MatchOption result (leaves_with id (plain self.old) ≡ 1) (λ back. (back ≡ new) × (leaves_with id (plain self.old) ≡ 0)) }
     {
-        match self.replace_at(id, way, new) {
-            None => None,
-            Some(new) => self.search_replace(id, new),
+        let mut slot = Some(new);
+        if self.replace_at(id, way, &mut slot) {
+            return None;
+        }
+        if self.search_replace(id, &mut slot) {
+            return None;
+        }
+        slot
+    }
+
+    /// Takes the branch out of the slot in its own place. It stands apart so that the walks below need little stack.
+    fn become_slot(&mut self, slot: &mut Option<Branch>)
+        requires { IsSome slot.old }
+        ensures place { IfSome slot.old (λ new. self.new ≡ new) }
+        ensures taken { slot.new ≡ None }
+    {
+        if let Some(new) = slot.take() {
+            *self = new;
         }
     }
 
-    /// Puts a branch in the place of the leaf with the id, where the way leads to it, and else hands it back.
+    /// Puts the branch of the slot in the place of the leaf with the id, where the way leads to it.
     #[tactic(auto, using(crate::proofs::IdLemmas::no_leaf))]
-    fn replace_at(&mut self, id: u64, way: &[bool], new: Branch) -> Option<Branch>
-        requires { leaves_with id (plain self.old) ≤ 1 }
-        ensures replaced { IfNone result ((plain self.new ≡ replaced id (plain new) (plain self.old)) × (leaves_with id (plain self.old) ≡ 1)) }
-        ensures kept { IfSome result (λ back. (back ≡ new) × (plain self.new ≡ plain self.old)) }
+    fn replace_at(&mut self, id: u64, way: &[bool], slot: &mut Option<Branch>) -> bool
+        requires one { leaves_with id (plain self.old) ≤ 1 }
+        requires full { IsSome slot.old }
+        ensures { MatchBool result (IsReplaced id self.old slot.old self.new) (IsKept self.old slot.old self.new slot.new) }
     {
         match self {
             Branch::Leaf(leaf) => {
                 if leaf.id == id {
-                    *self = new;
-                    None
+                    self.become_slot(slot);
+                    true
                 } else {
-                    Some(new)
+                    false
                 }
             }
             Branch::Split(_, left, right) => {
                 let Some((is_right, rest)) = way.split_first() else {
-                    return Some(new);
+                    return false;
                 };
                 if *is_right {
-                    right.replace_at(id, rest, new)
+                    right.replace_at(id, rest, slot)
                 } else {
-                    left.replace_at(id, rest, new)
+                    left.replace_at(id, rest, slot)
                 }
             }
         }
     }
 
-    /// Puts a branch in the place of the leaf with the id, or hands it back where there is none.
+    /// Puts the branch of the slot in the place of the leaf with the id, if there is one.
     #[tactic(auto, using(crate::proofs::IdLemmas::no_leaf))]
-    fn search_replace(&mut self, id: u64, new: Branch) -> Option<Branch>
-        requires { leaves_with id (plain self.old) ≤ 1 }
-        ensures tree { plain self.new ≡ replaced id (plain new) (plain self.old) }
-        ensures left { MatchOption result (leaves_with id (plain self.old) ≡ 1) (λ back. (back ≡ new) × (leaves_with id (plain self.old) ≡ 0)) }
+    fn search_replace(&mut self, id: u64, slot: &mut Option<Branch>) -> bool
+        requires one { leaves_with id (plain self.old) ≤ 1 }
+        requires full { IsSome slot.old }
+        ensures { MatchBool result (IsReplaced id self.old slot.old self.new) (IsKept self.old slot.old self.new slot.new × (leaves_with id (plain self.old) ≡ 0)) }
     {
         match self {
             Branch::Leaf(leaf) => {
                 if leaf.id == id {
-                    *self = new;
-                    None
+                    self.become_slot(slot);
+                    true
                 } else {
-                    Some(new)
+                    false
                 }
             }
-            Branch::Split(_, left, right) => match left.search_replace(id, new) {
-                None => None,
-                Some(new) => right.search_replace(id, new),
-            },
+            Branch::Split(_, left, right) => {
+                left.search_replace(id, slot) || right.search_replace(id, slot)
+            }
         }
     }
 
