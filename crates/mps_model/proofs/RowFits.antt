@@ -1,6 +1,6 @@
 -- Each row of a text without fault is an edit that fits: its name is free, its sides are near, and no limit is passed.
-use Rattle.std.proofs.Common.{◌≡◌, ◌≢◌, ℕ, suc, ◌+◌, ◌*◌, ◌/◌, ◌<◌, ◌≤◌, ◌^◌, Bool, true, false, ◌||◌, List, [], ◌∷◌, ◌++◌, map, length, pos, refl, sym, ◌∙◌, ap, ap₂, subst, arith, length-append, inl, inr, Contains, get_or, ℤ, ◌+ℤ◌, ◌*ℤ◌}
-use Rattle.std.specs.Prelude.{codes, bytes_eq, Option, None, Some, unsigned_abs}
+use Rattle.std.proofs.Common.{◌≡◌, ℕ, ◌*◌, ◌/◌, ◌<◌, ◌≤◌, true, false, List, [], ◌∷◌, ◌++◌, map, length, pos, refl, sym, ◌∙◌, ap, ap₂, subst, arith, length-append, inl, inr, Contains, ℤ, ◌+ℤ◌, ◌*ℤ◌}
+use Rattle.std.specs.Prelude.{codes, bytes_eq, unsigned_abs}
 use Rattle.std.proofs.Math.Nat.{div_self}
 use Rattle.std.proofs.lemmas.Bool.{or_left, or_right, or_parts, true≢false}
 use Rattle.std.proofs.lemmas.Int.{ints}
@@ -9,17 +9,17 @@ use Rattle.std.proofs.Math.Seq.{get_or-append_seam}
 use Rattle.std.proofs.lemmas.List.Folds.{list_any-append}
 use Rattle.std.proofs.lemmas.Slice.Eq.{bytes_eq-Decides}
 use Rattle.rational.specs.Gcd.{gcd, gcd-mul, gcd-one}
-use Rattle.rational.specs.Rational.{ℚ, int, den, neg_ℚ, ◌-ℚ◌}
+use Rattle.rational.specs.Rational.{ℚ, int, den, neg_ℚ}
 use Rattle.rational.proofs.RationalOrder.{≤ℚ_refl}
 use Rattle.rational.proofs.IntegerRing.{ring_ℤ, reads_ℤ}
 use Rattle.rational.proofs.Integers.{num-neg_ℚ, den-neg_ℚ}
 use Rattle.rational.proofs.RationalRing.{ring, reads_ℚ, +ℚ-neg_ℚ}
 use Rattle.frac128.specs.Range.{largest, IsNarrow, Fits, SumFits, left_factor, right_factor}
-use Rattle.lp_model.specs.Lawful.{AreNear, IsRange, AreWithinLimits, row_names}
+use Rattle.lp_model.specs.Lawful.{AreNear, IsRange, row_names}
 use Rattle.lp_model.specs.Edits.{EditFits}
 use Rattle.lp_model.proofs.NameLemmas.{contains_cases}
 use Rattle.mps_model.specs.Words.{among}
-use Rattle.mps_model.specs.Statements.{Stated, is_row}
+use Rattle.mps_model.specs.Statements.{Stated}
 use Rattle.mps_model.specs.Meaning.{names_of_rows, number_beside, low_side, high_side, row_of, free_name, objective_or, objective_name, second_name}
 use Rattle.mps_model.specs.Built.{empty_of, with_rows}
 use Rattle.mps_model.specs.BuiltOf.{row_edit}
@@ -28,7 +28,8 @@ use Rattle.mps_model.specs.declared.words.RowKind.TheVariants.{Free, AtMost, AtL
 use Rattle.mps_model.specs.declared.statements.RowLine.{RowLine}
 use Rattle.mps_model.proofs.EditSteps.{names_kept}
 use Rattle.mps_model.proofs.FreeNames.{never_taken}
-use Rattle.mps_model.proofs.StatedLimits.{AreApart, KeepsLimits, row_among}
+use Rattle.mps_model.specs.Limits.{AreApart, KeepsLimits}
+use Rattle.mps_model.proofs.StatedLimits.{row_among}
 
 -- ---- sides: a number is near itself
 
@@ -152,10 +153,10 @@ row_fits s before r more keeps e fits = record {
   free = row_free s before r more keeps e;
   limits = record {
     few_rows =
-      let few = keeps.few_rows in
-      let all = ap length e ∙ length-append before (r ∷ more) in
-      let before_is = length-map before (row_of s.sides) in
-      omega (arith, length-append (map (row_of s.sides) before) (row_of s.sides r ∷ []));
+        let few = keeps.few_rows in
+        let all = ap length e ∙ length-append before (r ∷ more) in
+        let before_is = length-map before (row_of s.sides) in
+        omega (arith, length-append (map (row_of s.sides) before) (row_of s.sides r ∷ []));
     few_columns = omega arith;
     few_entries = omega arith;
   };
