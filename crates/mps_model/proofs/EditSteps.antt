@@ -87,7 +87,7 @@ entries_same sided found k (r ∷ more) a =
 
 -- ---- columns
 
-names_kept : (sides : List RowNumber) (found : List RowLine) → map (λ r. r.name) (map (row_of sides) found) ≡ names_of_rows found
+pub names_kept : (sides : List RowNumber) (found : List RowLine) → map (λ r. r.name) (map (row_of sides) found) ≡ names_of_rows found
 names_kept sides [] = refl
 names_kept sides (r ∷ more) = ap (λ names. r.name ∷ names) (names_kept sides more)
 

@@ -1,6 +1,6 @@
 -- What lines without fault keep: few rows, columns and numbers, names of rows and of columns that differ, and no objective
 -- with a row's name. A model that is built from them passes no limit and takes no name twice.
-use Rattle.std.proofs.Common.{◌≡◌, ◌≢◌, ℕ, suc, ◌+◌, ◌<◌, ◌≤◌, Bool, true, false, not, ◌&&◌, ◌||◌, List, [], ◌∷◌, ◌++◌, map, length, refl, sym, ◌∙◌, ap, subst, arith, append_assoc, inl, inr, ◌⊎◌, length-append, AllPairs, Contains, get_or}
+use Rattle.std.proofs.Common.{◌≡◌, ◌≢◌, ℕ, suc, ◌<◌, ◌≤◌, Bool, true, false, not, ◌&&◌, ◌||◌, List, [], ◌∷◌, ◌++◌, map, length, refl, sym, ◌∙◌, ap, subst, arith, append_assoc, inl, inr, ◌⊎◌, length-append, Contains}
 use Rattle.std.specs.Prelude.{Option, None, Some, if◌then◌else◌, nat_le, bytes_eq}
 use Rattle.std.proofs.lemmas.Bool.{leb-false, or_parts, or_cases, or_from, true≢false, false_from_ne_true}
 use Rattle.std.proofs.lemmas.List.{get_or_default}
@@ -12,8 +12,8 @@ use Rattle.lp_model.proofs.NameLemmas.{contains_cases}
 use Rattle.mps_model.specs.Words.{among, word, row_kind, kind_in}
 use Rattle.mps_model.specs.Statements.{Stated, stated, gathered_behind, is_row, is_column, as_row, as_objective, read_pair, column_pairs}
 use Rattle.mps_model.specs.Meaning.{names_of_rows}
-use Rattle.mps_model.specs.Faults.{least, tests_of, row_tests, column_tests, has_sides, is_known, is_last, code_in, code_at, Clean, IsWhole}
-use Rattle.mps_model.specs.Shown.{with_more, with_line, after_kind, after}
+use Rattle.mps_model.specs.Faults.{least, tests_of, row_tests, column_tests, has_sides, is_last, code_at, Clean, IsWhole}
+use Rattle.mps_model.specs.Shown.{with_more, after_kind, after}
 use Rattle.mps_model.specs.declared.words.LineKind.{LineKind}
 use Rattle.mps_model.specs.declared.words.LineKind.TheVariants.{Header, Row, Marker, Column, RightSide, Bound, Stray}
 use Rattle.mps_model.specs.declared.words.RowKind.{RowKind}
@@ -21,14 +21,11 @@ use Rattle.mps_model.specs.declared.words.RowKind.TheVariants.{Free, AtMost, AtL
 use Rattle.mps_model.specs.declared.statements.RowLine.{RowLine}
 use Rattle.mps_model.specs.declared.statements.RowNumber.{RowNumber}
 use Rattle.mps_model.specs.declared.statements.ColumnLines.{ColumnLines}
+use Rattle.mps_model.specs.Limits.{AreApart, names_of_columns, IsNoRow, KeepsLimits}
 use Rattle.mps_model.proofs.TestFacts.{none_holds, room_of_column, code_of_kind}
 use Rattle.mps_model.proofs.StatedSteps.{nothing_more, stated_more}
 
 -- ---- names
-
--- no two of the names are one
-abbrev pub AreApart : List (List ℕ) → Type 0
-AreApart names = AllPairs (λ a b. a ≢ b) names
 
 pub not_among : (names : List (List ℕ)) (name : List ℕ) → among names name ≡ false → ¬ Contains names name
 not_among [] name e (k, below, is) = omega (arith, below)
@@ -46,9 +43,6 @@ pub row_among : (sided : List RowLine) (name : List ℕ) → among (names_of_row
 row_among [] name = refl
 row_among (r ∷ sided) name = ap (λ b. bytes_eq r.name name || b) (row_among sided name)
 
-abbrev pub names_of_columns : List ColumnLines → List (List ℕ)
-names_of_columns found = map (λ c. c.name) found
-
 pub column_among : (found : List ColumnLines) (name : List ℕ) → among (names_of_columns found) name ≡ is_column found name
 column_among [] name = refl
 column_among (c ∷ found) name = ap (λ b. bytes_eq c.name name || b) (column_among found name)
@@ -62,18 +56,6 @@ column_names-more [] c = refl
 column_names-more (d ∷ found) c = ap (λ names. d.name ∷ names) (column_names-more found c)
 
 -- ---- what lines without fault keep
-
--- an objective is no row
-abbrev pub IsNoRow : List (List ℕ) → List RowLine → Type 0
-IsNoRow objectives sided = (name : List ℕ) → among objectives name ≡ true → is_row sided name ≡ false
-
-pub record KeepsLimits (s : Stated) : Type 0 where
-  pub few_rows : length s.rows ≤ 500
-  pub few_columns : length s.columns ≤ 1000
-  pub few_numbers : s.count ≤ 50000
-  pub rows_apart : AreApart (names_of_rows s.rows)
-  pub columns_apart : AreApart (names_of_columns s.columns)
-  pub objectives_apart : IsNoRow s.objectives s.rows
 
 -- ---- a line of ROWS
 
@@ -167,23 +149,23 @@ column_step s e keeps h =
 
 -- ---- each line
 
-as_before : (s t : Stated) → t.rows ≡ s.rows → t.columns ≡ s.columns → t.count ≡ s.count → t.objectives ≡ s.objectives → KeepsLimits s → KeepsLimits t
+pub as_before : (s t : Stated) → t.rows ≡ s.rows → t.columns ≡ s.columns → t.count ≤ s.count → t.objectives ≡ s.objectives → KeepsLimits s → KeepsLimits t
 as_before s t r c n o keeps = record {
   few_rows = subst (λ (rows : List RowLine). length rows ≤ 500) (sym r) keeps.few_rows;
   few_columns = subst (λ (columns : List ColumnLines). length columns ≤ 1000) (sym c) keeps.few_columns;
-  few_numbers = subst (λ count. count ≤ 50000) (sym n) keeps.few_numbers;
+  few_numbers = let few = keeps.few_numbers in omega arith;
   rows_apart = subst (λ (rows : List RowLine). AreApart (names_of_rows rows)) (sym r) keeps.rows_apart;
   columns_apart = subst (λ (columns : List ColumnLines). AreApart (names_of_columns columns)) (sym c) keeps.columns_apart;
   objectives_apart = subst (λ (rows : List RowLine). IsNoRow t.objectives rows) (sym r) (subst (λ (names : List (List ℕ)). IsNoRow names s.rows) (sym o) keeps.objectives_apart);
 }
 
 kept_by_kind : (kind : LineKind) (s : Stated) (e : Entry) → KeepsLimits s → least (tests_of kind s e) ≡ None → KeepsLimits (after_kind kind s e)
-kept_by_kind Header s e keeps h = as_before s (after_kind Header s e) refl refl refl refl keeps
+kept_by_kind Header s e keeps h = as_before s (after_kind Header s e) refl refl (omega arith) refl keeps
 kept_by_kind Row s e keeps h = row_step s e keeps h
-kept_by_kind Marker s e keeps h = as_before s (after_kind Marker s e) refl refl refl refl keeps
+kept_by_kind Marker s e keeps h = as_before s (after_kind Marker s e) refl refl (omega arith) refl keeps
 kept_by_kind Column s e keeps h = column_step s e keeps h
-kept_by_kind RightSide s e keeps h = as_before s (after_kind RightSide s e) refl refl refl refl keeps
-kept_by_kind Bound s e keeps h = as_before s (after_kind Bound s e) refl refl refl refl keeps
+kept_by_kind RightSide s e keeps h = as_before s (after_kind RightSide s e) refl refl (omega arith) refl keeps
+kept_by_kind Bound s e keeps h = as_before s (after_kind Bound s e) refl refl (omega arith) refl keeps
 kept_by_kind Stray s e keeps h = keeps
 
 kept_behind : (seen : List Entry) (e : Entry) → code_at seen e ≡ None → KeepsLimits (stated seen) → KeepsLimits (stated (seen ++ e ∷ []))

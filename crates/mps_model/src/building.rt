@@ -1,8 +1,10 @@
 // The model that the tables of a whole text mean.
 ghost use Rattle.std.specs.Prelude.{◌≡◌, codes, IfOk, OnOk};
-ghost use Rattle.mps_model.specs.Meaning.{low_side, high_side, beside_objective, objective_or, free_name, row_of, column_of, model_of};
-ghost use Rattle.lp_model.specs.Edits.{edited};
+ghost use Rattle.mps_model.specs.Meaning.{low_side, high_side, beside_objective, objective_or, free_name, row_of, column_of, model_of, number_beside};
+ghost use Rattle.frac128.specs.Range.{Fits};
+ghost use Rattle.lp_model.specs.Edits.{edited, EditFits};
 ghost use Rattle.mps_model.specs.BuiltOf.{named_of, row_edit, column_edit};
+ghost use Rattle.mps_model.specs.Limits.{KeepsLimits};
 
 use crate::free_names::{free_name, names_of_rows};
 use crate::names::{copied, is_row, number_beside};
@@ -10,7 +12,7 @@ use crate::numbers::Span;
 use crate::statements::{BoundLine, ColumnLines, RowLine, RowNumber};
 use crate::words::RowKind;
 use frac128::Frac;
-use lp_model::{Edit, List, Model, Name, Sense};
+use lp_model::{Edit, EditFault, List, Model, Name, Sense};
 use std::alloc::{AllocError, Global};
 
 /// What a model is built from.
@@ -98,10 +100,12 @@ impl Parts<'_> {
     }
 
     fn row_edit(&self, alloc: Global, row: &RowLine) -> Result<Edit, AllocError>
-        ensures { IfOk result (λ e. e ≡ row_edit (row_of self.now.sides.now row.now)) }
+        ensures is { IfOk result (λ e. e ≡ row_edit (row_of self.now.sides.now row.now)) }
+        ensures room { IfOk result (λ _. Fits (number_beside row.now.name self.now.sides.now)) }
     {
         let name = copied(alloc, row.name.as_slice())?;
         let number = number_beside(self.sides, row.name.as_slice());
+        number.has_room();
         Ok(Edit::AddRow {
             name,
             lo: low_side(row.kind, number),
@@ -130,18 +134,20 @@ impl Parts<'_> {
 
     /// The model with its rows.
     fn with_rows(&self, alloc: Global) -> Result<Model, AllocError>
+        requires { KeepsLimits (parts_shown self.now) }
         ensures { IfOk result (λ m. m ≡ with_rows (parts_shown self.now) self.now.rows.now) }
     {
         let mut model = self.empty_model(alloc)?;
         for row in self.rows {
             let edit = self.row_edit(alloc, row)?;
-            apply(&mut model, alloc, edit)?;
+            apply_fitting(&mut model, alloc, edit)?;
         }
         Ok(model)
     }
 
     /// The model.
     pub(crate) fn model(&self, alloc: Global) -> Result<Model, AllocError>
+        requires { KeepsLimits (parts_shown self.now) }
         ensures { IfOk result (λ m. m ≡ model_of (parts_shown self.now) self.now.intupper) }
     {
         let mut model = self.with_rows(alloc)?;
@@ -153,6 +159,21 @@ impl Parts<'_> {
     }
 }
 
+/// The model after an edit that fits.
+fn apply_fitting(model: &mut Model, alloc: Global, edit: Edit) -> Result<(), AllocError>
+    requires { EditFits model.old edit }
+    ensures { OnOk result (model.new ≡ edited model.old edit) }
+{
+    let Err(fault) = model.apply(alloc, edit) else {
+        return Ok(());
+    };
+    match fault {
+        EditFault::Memory => Err(AllocError),
+        _ => unreachable!(),
+    }
+}
+
+/// The model after a column's edit. A refusal is answered as want of memory.
 fn apply(model: &mut Model, alloc: Global, edit: Edit) -> Result<(), AllocError>
     ensures { OnOk result (model.new ≡ edited model.old edit) }
 {
