@@ -1,0 +1,9 @@
+pub mod CountLemmas
+pub mod IdLemmas
+pub mod LeafLemmas
+pub mod TreeLemmas
+pub mod NumberedLaws
+pub mod KeptLemmas
+pub mod ChangeLaws
+pub mod PlaceLaws
+pub mod PathLaws

@@ -1,0 +1,158 @@
+// The nodes of a branching tree, and what goes to and comes from the work on a leaf.
+ghost use Rattle.std.specs.Prelude.{◌≡◌, [], IfOk};
+ghost use Rattle.branch_tree.specs.Plain.{open_data};
+ghost use Rattle.branch_tree.specs.declared.node.TreeFault.TheVariants.{Memory};
+
+use frac128::Frac;
+use lp_model::{Basis, ColId, List, Mult, Point, Region};
+use std::alloc::{AllocError, AllocFailed, Global};
+
+/// Whether a leaf is still to be worked.
+#[derive(Clone, Copy, Debug, Drop)]
+pub enum LeafState {
+    IsOpen,
+    IsClosed,
+}
+
+/// What a leaf keeps: multipliers that bound its values, Farkas multipliers that show it has no point, and the basis
+/// that its relaxation begins from.
+#[derive(Drop)]
+pub struct LeafData {
+    pub state: LeafState,
+    pub mult: Mult,
+    pub farkas: Mult,
+    pub basis: Basis,
+}
+
+/// One node of a tree, without its children.
+#[derive(Drop)]
+pub enum Node {
+    Split {
+        id: u64,
+        col: ColId,
+        v: i128,
+        mult: Mult,
+        basis: Basis,
+    },
+    Leaf {
+        id: u64,
+        kept: LeafData,
+    },
+}
+
+/// A leaf to be worked: its region, what its relaxation begins from, and the value from which on it is closed.
+#[derive(Drop)]
+pub struct Job {
+    pub id: u64,
+    pub region: Region,
+    pub mult: Mult,
+    pub basis: Basis,
+    pub target: Option<Frac>,
+}
+
+/// What the work on a leaf came to.
+#[derive(Drop)]
+pub enum NodeResult {
+    /// The leaf is closed by its multipliers.
+    Close {
+        mult: Mult,
+        farkas: Mult,
+        basis: Basis,
+    },
+    /// The leaf is split.
+    Split {
+        col: ColId,
+        v: i128,
+        mult: Mult,
+        basis: Basis,
+    },
+    /// The leaf has a point as good as its bound, so both are kept.
+    PointAndClose {
+        point: Point,
+        mult: Mult,
+        basis: Basis,
+    },
+    /// The leaf stays open.
+    Keep {
+        point: Option<Point>,
+        basis: Basis,
+    },
+}
+
+/// Why a leaf was not split.
+#[derive(Clone, Copy, Debug, Drop)]
+pub enum TreeFault {
+    /// Two more nodes would pass the limit, or there are too few ids.
+    Full,
+    /// No leaf has the id.
+    NoLeaf,
+    /// There is no memory.
+    Memory,
+}
+
+impl From<AllocError> for TreeFault {
+    ghost from_gives = { λ _ fault. fault ≡ Memory };
+
+    fn from(_: AllocError) -> Self {
+        TreeFault::Memory
+    }
+}
+
+impl<T: Drop> From<AllocFailed<T>> for TreeFault {
+    ghost from_gives = { λ _ fault. fault ≡ Memory };
+
+    fn from(_: AllocFailed<T>) -> Self {
+        TreeFault::Memory
+    }
+}
+
+/// A basis without variables.
+pub(crate) fn empty_basis(alloc: Global) -> Basis
+    ensures { result ≡ record { basic = []; high = [] } }
+{
+    Basis {
+        basic: List::new(alloc),
+        high: List::new(alloc),
+    }
+}
+
+/// The data of an open leaf without Farkas multipliers.
+pub(crate) fn open_data(alloc: Global, mult: Mult, basis: Basis) -> LeafData
+    ensures { result ≡ open_data mult basis }
+{
+    LeafData {
+        state: LeafState::IsOpen,
+        mult,
+        farkas: List::new(alloc),
+        basis,
+    }
+}
+
+/// Equal multipliers.
+pub(crate) fn copy_mult(alloc: Global, mult: &Mult) -> Result<Mult, AllocError>
+    ensures { IfOk result (λ copy. copy ≡ mult.now) }
+{
+    List::from_slice(alloc, mult.as_slice())
+}
+
+/// An equal basis.
+pub(crate) fn copy_basis(alloc: Global, basis: &Basis) -> Result<Basis, AllocError>
+    ensures { IfOk result (λ copy. copy ≡ basis.now) }
+{
+    Ok(Basis {
+        basic: List::from_slice(alloc, basis.basic.as_slice())?,
+        high: List::from_slice(alloc, basis.high.as_slice())?,
+    })
+}
+
+/// Equal data.
+pub(crate) fn copy_data(alloc: Global, kept: &LeafData) -> Result<LeafData, AllocError>
+    ensures { IfOk result (λ copy. copy ≡ kept.now) }
+{
+    Ok(LeafData {
+        state: kept.state,
+        mult: copy_mult(alloc, &kept.mult)?,
+        farkas: copy_mult(alloc, &kept.farkas)?,
+        basis: copy_basis(alloc, &kept.basis)?,
+    })
+}
