@@ -24,5 +24,5 @@ mod node;
 mod tests;
 mod tree;
 
-pub use node::{Job, LeafData, LeafState, Node, NodeResult, TreeFault};
+pub use node::{Job, LeafData, LeafState, Node, NodeResult, PlacedLeaf, TreeFault};
 pub use tree::Tree;
