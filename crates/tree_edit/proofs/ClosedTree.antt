@@ -20,7 +20,7 @@ use Rattle.branch_tree.specs.declared.node.LeafData.{LeafData}
 use Rattle.branch_tree.proofs.TreeLemmas.{point_in_one_leaf, leaf_with_both}
 use Rattle.tree_edit.specs.declared.judging.LeafNumber.{LeafNumber}
 use Rattle.tree_edit.specs.declared.judging.LeafNumber.TheVariants.{Empty, Lag, Wide}
-use Rattle.tree_edit.specs.Closing.{IsRefuted, IsSetAside, IsNumber, ReachesIn, NumberCloses, StateSays, IsJudged}
+use Rattle.tree_edit.specs.Closing.{IsRefuted, IsSetAside, IsNumber, ReachesIn, NumberCloses, StateSays, IsJudgedLeaf}
 use Rattle.tree_edit.specs.Points.{IsKeepable, lesser, target, IsIncumbent, IsIncumbentAt}
 use Rattle.tree_edit.specs.Sound.{PlainSearch, IsSound}
 use Rattle.tree_edit.specs.Laws.{HasNoOpenLeaf, IsNoBetter, IsBelowLeaf, IsBelowOpen}
@@ -32,26 +32,26 @@ module _ (M : Program) (y : Point) (feasible : IsFeasible M y) (path : Path) (in
   refuted-none [] h = h
   refuted-none (m ∷ ms) h = farkas_answer-none M path (m ∷ ms) y feasible h.0 h.1.0 h.1.1 inside
 
-  pub set_aside-none : (kept : LeafData) → ¬ IsSetAside M path kept
-  set_aside-none kept aside =
+  pub set_aside-none : (farkas : Multipliers) → ¬ IsSetAside M path farkas
+  set_aside-none farkas aside =
       elim aside [
         | inl empty ↦ empty_region M y path empty feasible inside
-        | inr refuted ↦ refuted-none kept.farkas refuted
+        | inr refuted ↦ refuted-none farkas refuted
       ]
 
   -- a point of a leaf that closes is no better than the value against which it closes
-  pub number-bound : (t : Option ℚ) (kept : LeafData) (n : LeafNumber) → IsNumber M path kept n → NumberCloses M t n → IsNoBetter M t y
-  number-bound t kept Empty is closes = absurd (set_aside-none kept is)
-  number-bound None kept (Lag v) is closes = closes
-  number-bound (Some t) kept (Lag v) is closes =
+  pub number-bound : (t : Option ℚ) (mult farkas : Multipliers) (n : LeafNumber) → IsNumber M path mult farkas n → NumberCloses M t n → IsNoBetter M t y
+  number-bound t mult farkas Empty is closes = absurd (set_aside-none farkas is)
+  number-bound None mult farkas (Lag v) is closes = closes
+  number-bound (Some t) mult farkas (Lag v) is closes =
       elim closes [
-        | inl plain ↦ closes-bound M path kept.mult v t false is.1 (λ e. let f : false ≡ true = e in cc) plain y feasible inside
-        | inr rounded ↦ closes-bound M path kept.mult v t true is.1 (λ e. rounded.0) rounded.1 y feasible inside
+        | inl plain ↦ closes-bound M path mult v t false is.1 (λ e. let f : false ≡ true = e in cc) plain y feasible inside
+        | inr rounded ↦ closes-bound M path mult v t true is.1 (λ e. rounded.0) rounded.1 y feasible inside
       ]
-  number-bound t kept (Wide step) is closes = absurd closes
+  number-bound t mult farkas (Wide step) is closes = absurd closes
 
-  pub judged-bound : (t : Option ℚ) (kept : LeafData) → IsJudged M t path kept → kept.state ≡ IsClosed → IsNoBetter M t y
-  judged-bound t kept judged closed = number-bound t kept judged.number judged.number_is (subst (λ s. StateSays s (NumberCloses M t judged.number)) closed judged.state)
+  pub judged-bound : (t : Option ℚ) (kept : LeafData) → IsJudgedLeaf M t path kept → kept.state ≡ IsClosed → IsNoBetter M t y
+  judged-bound t kept judged closed = number-bound t kept.mult kept.farkas judged.number judged.number_is (subst (λ s. StateSays s (NumberCloses M t judged.number)) closed judged.says)
 
   below-bound : (b : ℚ) (l : LeafKept) → IsBelowLeaf M b path l → b ≤ℚ least_value M 1 y
   below-bound b l below = ≤ℚ_trans below.1.1 (lag_answer-bound M path l.kept.mult y feasible (Num below.0) below.1.0.1 inside)
@@ -86,8 +86,8 @@ module _ (S : PlainSearch) (sound : IsSound S) where
   pub closed-bound : HasNoOpenLeaf S → (y : Point) → IsFeasible S.model y → IsNoBetter S.model (target S.model S.points) y
   closed-bound closed y feasible =
       let one = point_in_one_leaf S.model S.tree.root y sound.tree.lawful feasible in
-      let both = leaf_with_both (λ path l. InRegion path y) (λ path l. IsJudged S.model (target S.model S.points) path l.kept × (l.kept.state ≡ IsClosed)) [] S.tree.root
-      (each_both (λ path l. IsJudged S.model (target S.model S.points) path l.kept) (λ path l. l.kept.state ≡ IsClosed) [] S.tree.root sound.judged closed) one in
+      let both = leaf_with_both (λ path l. InRegion path y) (λ path l. IsJudgedLeaf S.model (target S.model S.points) path l.kept × (l.kept.state ≡ IsClosed)) [] S.tree.root
+      (each_both (λ path l. IsJudgedLeaf S.model (target S.model S.points) path l.kept) (λ path l. l.kept.state ≡ IsClosed) [] S.tree.root sound.judged closed) one in
       judged-bound S.model y feasible both.0 both.1.1.0 (target S.model S.points) both.1.0.kept both.1.1.1.0 both.1.1.1.1
 
 pub sound-empty : (S : PlainSearch) → IsSound S → HasNoOpenLeaf S → S.points ≡ [] → IsEmpty S.model
@@ -110,11 +110,11 @@ pub sound-bound : (S : PlainSearch) (b : ℚ) → IsSound S → IsBelowOpen S b 
     (b ≤ℚ least_value S.model 1 y) ⊎ IsNoBetter S.model (target S.model S.points) y
 sound-bound S b sound below y feasible =
     let one = point_in_one_leaf S.model S.tree.root y sound.tree.lawful feasible in
-    let both = leaf_with_both (λ path l. InRegion path y) (λ path l. IsJudged S.model (target S.model S.points) path l.kept × (l.kept.state ≡ IsOpen → IsBelowLeaf S.model b path l)) [] S.tree.root
-    (each_both (λ path l. IsJudged S.model (target S.model S.points) path l.kept) (λ path l. l.kept.state ≡ IsOpen → IsBelowLeaf S.model b path l) [] S.tree.root sound.judged below) one in
+    let both = leaf_with_both (λ path l. InRegion path y) (λ path l. IsJudgedLeaf S.model (target S.model S.points) path l.kept × (l.kept.state ≡ IsOpen → IsBelowLeaf S.model b path l)) [] S.tree.root
+    (each_both (λ path l. IsJudgedLeaf S.model (target S.model S.points) path l.kept) (λ path l. l.kept.state ≡ IsOpen → IsBelowLeaf S.model b path l) [] S.tree.root sound.judged below) one in
     by both.0 both.1.0 both.1.0.kept.state refl both.1.1.0 both.1.1.1.0 both.1.1.1.1
   where
-    by : (path : Path) (l : LeafKept) (s : LeafState) → l.kept.state ≡ s → InRegion path y → IsJudged S.model (target S.model S.points) path l.kept → (l.kept.state ≡ IsOpen → IsBelowLeaf S.model b path l) →
+    by : (path : Path) (l : LeafKept) (s : LeafState) → l.kept.state ≡ s → InRegion path y → IsJudgedLeaf S.model (target S.model S.points) path l.kept → (l.kept.state ≡ IsOpen → IsBelowLeaf S.model b path l) →
         (b ≤ℚ least_value S.model 1 y) ⊎ IsNoBetter S.model (target S.model S.points) y
     by path l IsOpen e inside judged h = inl (below-bound S.model y feasible path inside b l (h e))
     by path l IsClosed e inside judged h = inr (judged-bound S.model y feasible path inside (target S.model S.points) l.kept judged e)

@@ -1,7 +1,7 @@
 -- When a leaf closes: its number, and a value that some feasible point has.
---     IsNumber M path kept number     what the leaf's multipliers say of its region
---     NumberCloses M t number         no feasible point of a leaf with this number has a value below t
---     IsJudged M t path kept          the leaf is marked closed exactly where its number closes
+--     IsNumber M path mult farkas n            what a leaf's multipliers and Farkas multipliers say of its region
+--     NumberCloses M t n                       no feasible point of a leaf with this number has a value below t
+--     IsJudged M t path mult farkas state      the leaf is marked closed exactly where its number closes
 use Rattle.std.specs.Prelude.{◌⊎◌, Bool, true, false, List, [], ◌∷◌, Option, Some, None, Ok, Err}
 use Rattle.rational.specs.Rational.{ℚ}
 use Rattle.lp_model.specs.Program.{Program, HasWholeObjective}
@@ -21,13 +21,13 @@ IsRefuted M path [] = ⊥
 IsRefuted M path (m ∷ ms) = (v : LagValue) × (IsFarkasAnswer M path (m ∷ ms) (Ok v) × IsPositive v)
 
 -- the region is seen to have no feasible point, by its bounds or by the Farkas multipliers
-abbrev pub IsSetAside : Program → Path → LeafData → Type 0
-IsSetAside M path kept = IsEmptyRegion M path ⊎ IsRefuted M path kept.farkas
+abbrev pub IsSetAside : Program → Path → Multipliers → Type 0
+IsSetAside M path farkas = IsEmptyRegion M path ⊎ IsRefuted M path farkas
 
-abbrev pub IsNumber : Program → Path → LeafData → LeafNumber → Type 0
-IsNumber M path kept Empty = IsSetAside M path kept
-IsNumber M path kept (Lag v) = (¬ IsSetAside M path kept) × IsLagAnswer M path kept.mult (Ok v)
-IsNumber M path kept (Wide step) = (¬ IsSetAside M path kept) × IsLagAnswer M path kept.mult (Err step)
+abbrev pub IsNumber : Program → Path → Multipliers → Multipliers → LeafNumber → Type 0
+IsNumber M path mult farkas Empty = IsSetAside M path farkas
+IsNumber M path mult farkas (Lag v) = (¬ IsSetAside M path farkas) × IsLagAnswer M path mult (Ok v)
+IsNumber M path mult farkas (Wide step) = (¬ IsSetAside M path farkas) × IsLagAnswer M path mult (Err step)
 
 -- the number is at least t, or, where the objective is whole and t is, its ceiling is
 abbrev pub ReachesIn : Program → LagValue → ℚ → Type 0
@@ -44,7 +44,11 @@ abbrev pub StateSays : LeafState → Type 0 → Type 0
 StateSays IsOpen P = ¬ P
 StateSays IsClosed P = P
 
-pub record IsJudged (M : Program) (t : Option ℚ) (path : Path) (kept : LeafData) : Type 0 where
+pub record IsJudged (M : Program) (t : Option ℚ) (path : Path) (mult farkas : Multipliers) (state : LeafState) : Type 0 where
   pub number : LeafNumber
-  pub number_is : IsNumber M path kept number
-  pub state : StateSays kept.state (NumberCloses M t number)
+  pub number_is : IsNumber M path mult farkas number
+  pub says : StateSays state (NumberCloses M t number)
+
+-- a leaf with this path is marked closed exactly where it closes
+abbrev pub IsJudgedLeaf : Program → Option ℚ → Path → LeafData → Type 0
+IsJudgedLeaf M t path kept = IsJudged M t path kept.mult kept.farkas kept.state

@@ -23,7 +23,7 @@ IsNoBetter M (Some t) y = t ≤ℚ least_value M 1 y
 
 -- the leaf has a number, and b is no more than it
 abbrev pub IsBelowLeaf : Program → ℚ → Path → LeafKept → Type 0
-IsBelowLeaf M b path l = (q : ℚ) × (IsNumber M path l.kept (Lag (Num q)) × (b ≤ℚ q))
+IsBelowLeaf M b path l = (q : ℚ) × (IsNumber M path l.kept.mult l.kept.farkas (Lag (Num q)) × (b ≤ℚ q))
 
 -- b is no more than the number of each open leaf
 abbrev pub IsBelowOpen : PlainSearch → ℚ → Type 0

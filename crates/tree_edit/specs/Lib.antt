@@ -1,5 +1,6 @@
 pub mod Closing
 pub mod Points
 pub mod Lists
+pub mod Judged
 pub mod Sound
 pub mod Laws

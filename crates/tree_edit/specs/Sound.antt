@@ -1,10 +1,10 @@
 -- A search as a plain record, and what each search keeps.
 use Rattle.std.specs.Prelude.{ℕ, ◌≤◌, List, [], length, All}
 use Rattle.lp_model.specs.Program.{Program, Point}
-use Rattle.branch_tree.specs.Tree.{EachLeaf, IsLawful, HasNarrowSplits}
+use Rattle.branch_tree.specs.Tree.{IsLawful, HasNarrowSplits}
 use Rattle.branch_tree.specs.Plain.{Plain}
 use Rattle.branch_tree.specs.Numbered.{NumberedTree}
-use Rattle.tree_edit.specs.Closing.{IsJudged}
+use Rattle.tree_edit.specs.Judged.{AreJudged}
 use Rattle.tree_edit.specs.Points.{IsKeepable, target}
 use Rattle.tree_edit.specs.Lists.{HasNodeLists}
 
@@ -24,6 +24,6 @@ pub record IsSoundTree (M : Program) (t : Plain) : Type 0 where
 -- feasible, and at most 100 are kept.
 pub record IsSound (S : PlainSearch) : Type 0 where
   pub tree : IsSoundTree S.model S.tree.root
-  pub judged : EachLeaf (λ path l. IsJudged S.model (target S.model S.points) path l.kept) [] S.tree.root
+  pub judged : AreJudged S.model (target S.model S.points) S.tree.root
   pub points : All (IsKeepable S.model) S.points
   pub few : length S.points ≤ 100
