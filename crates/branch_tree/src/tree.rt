@@ -61,6 +61,13 @@ impl Tree {
         self.count
     }
 
+    /// How many nodes there may be.
+    pub fn limit(&self) -> u64
+        ensures { result ≡ self.now.limit }
+    {
+        self.limit
+    }
+
     /// Another limit on the nodes. Those that there are stay.
     pub fn set_limit(&mut self, limit: u64)
         ensures { self.new ≡ with_limit self.old limit }

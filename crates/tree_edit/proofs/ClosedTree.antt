@@ -58,7 +58,7 @@ module _ (M : Program) (y : Point) (feasible : IsFeasible M y) (path : Path) (in
 
 -- ---- the least value of the points
 
-abbrev IsBelow : ℚ → Option ℚ → Type 0
+abbrev pub IsBelow : ℚ → Option ℚ → Type 0
 IsBelow b None = Unit {0}
 IsBelow b (Some t) = b ≤ℚ t
 
@@ -66,7 +66,7 @@ lesser-above : (b v : ℚ) (w : Option ℚ) → b ≤ℚ v → IsBelow b w → b
 lesser-above b v None h k = h
 lesser-above b v (Some w) h k = ≤ℚ-min b v w h k
 
-target-above : (M : Program) (b : ℚ) (points : List Point) → All (λ y. b ≤ℚ least_value M 1 y) points → IsBelow b (target M points)
+pub target-above : (M : Program) (b : ℚ) (points : List Point) → All (λ y. b ≤ℚ least_value M 1 y) points → IsBelow b (target M points)
 target-above M b [] h = tt
 target-above M b (x ∷ xs) h =
     lesser-above b (least_value M 1 x) (target M xs) (All-head (λ y. b ≤ℚ least_value M 1 y) x xs h) (target-above M b xs (All-tail (λ y. b ≤ℚ least_value M 1 y) x xs h))

@@ -22,6 +22,9 @@
 
 mod judging;
 mod laws;
+mod points;
+mod search;
 
 pub use judging::LeafNumber;
 pub use laws::{bound_law, empty_law, optimum_law};
+pub use search::Search;
