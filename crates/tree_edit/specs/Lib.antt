@@ -5,4 +5,5 @@ pub mod Judged
 pub mod Sound
 pub mod SearchCode
 pub mod Laws
+pub mod Checks
 pub mod Calls

@@ -20,8 +20,10 @@
 //! drivers of a search: those that choose a leaf, work it and place the result.
 #![tactic(auto)]
 
+mod checks;
 mod judging;
 mod laws;
+mod lists;
 mod points;
 mod search;
 
