@@ -21,6 +21,7 @@
 #![tactic(auto)]
 
 mod checks;
+mod choosing;
 mod judging;
 mod laws;
 mod lists;
