@@ -8,7 +8,7 @@ use Rattle.lp_model.specs.Program.{Program}
 use Rattle.branch_tree.specs.declared.node.LeafState.TheVariants.{IsClosed}
 use Rattle.branch_tree.specs.declared.node.PlacedLeaf.{PlacedLeaf}
 use Rattle.tree_edit.specs.declared.choosing.Candidate.{Candidate}
-use Rattle.tree_edit.specs.Choosing.{GoesFirst, IsCandidate, IsOneOf, GoesBeforeAll, AreClosed, IsFirst, IsCandidateAnswer, IsSooner}
+use Rattle.tree_edit.specs.Choosing.{GoesFirst, IsCandidate, IsOneOf, GoesBeforeAll, AreClosed, IsFirst, IsSooner}
 
 goes_trans : (p q r : Option ℚ) (i j k : ℕ) → GoesFirst p i q j → GoesFirst q j r k → GoesFirst p i r k
 goes_trans None None None i j k h m = omega arith

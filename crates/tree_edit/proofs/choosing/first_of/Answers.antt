@@ -1,4 +1,4 @@
-use Rattle.std.proofs.Common.{◌≡◌, ◌+◌, Some, None, Option, take, sym, subst}
+use Rattle.std.proofs.Common.{◌+◌, Option, take, sym, subst}
 use Rattle.tree_edit.specs.declared.choosing.Candidate.{Candidate}
 use Rattle.tree_edit.specs.Choosing.{IsFirst, IsCandidateAnswer}
 use Rattle.tree_edit.proofs.ChoosingLemmas.{first-kept, first-more}
