@@ -1,6 +1,7 @@
 pub mod CountLemmas
 pub mod IdLemmas
 pub mod LeafLemmas
+pub mod StateLemmas
 pub mod TreeLemmas
 pub mod NumberedLaws
 pub mod KeptLemmas

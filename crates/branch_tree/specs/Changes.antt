@@ -6,7 +6,9 @@ use Rattle.lp_model.specs.declared.types.Basis.{Basis}
 use Rattle.branch_tree.specs.Tree.{Leaf, node_count, split_count}
 use Rattle.branch_tree.specs.Plain.{open_leaf, new_split, leaves_with, splits_with, replaced, collapsed, trimmed, splits_at}
 use Rattle.branch_tree.specs.Numbered.{NumberedTree}
+use Rattle.branch_tree.specs.Leaves.{with_states}
 use Rattle.branch_tree.specs.declared.node.LeafData.{LeafData}
+use Rattle.branch_tree.specs.declared.node.LeafState.{LeafState}
 use Rattle.branch_tree.specs.declared.node.TreeFault.{TreeFault}
 use Rattle.branch_tree.specs.declared.node.TreeFault.TheVariants.{Full, NoLeaf, Memory}
 
@@ -35,6 +37,9 @@ after_trim T depth = record { root = trimmed depth T.last T.root; last = T.last 
 
 abbrev pub with_leaf : NumberedTree → ℕ → LeafData → NumberedTree
 with_leaf T id kept = record { root = replaced id (Leaf (record { id = id; kept = kept })) T.root; last = T.last; limit = T.limit }
+
+abbrev pub with_leaf_states : NumberedTree → List LeafState → NumberedTree
+with_leaf_states T states = record { root = with_states states T.root; last = T.last; limit = T.limit }
 
 -- two more nodes are within the limit, and after two more ids there is one left for each split, the new one too
 pub record HasRoom (T : NumberedTree) : Type 0 where

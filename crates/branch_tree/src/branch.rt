@@ -1,11 +1,14 @@
 // A tree as boxed branches. Each call walks the branches, as deep as the tree is.
-ghost use Rattle.std.specs.Prelude.{◌≡◌, ◌↔◌, ◌≤◌, IsTrue, ◌+◌, ◌-◌, ◌^◌, ◌<◌, ◌<ℤ◌, ◌+ℤ◌, pos, ◌++◌, IsSome, IfOk, IfSome, MatchBool, MatchOption, Some, None};
+ghost use Rattle.std.specs.Prelude.{◌≡◌, ◌↔◌, ◌≤◌, IsTrue, length, ◌+◌, ◌-◌, ◌^◌, ◌<◌, ◌<ℤ◌, ◌+ℤ◌, pos, ◌++◌, IsSome, IfOk, IfSome, MatchBool, MatchOption, Some, None};
 ghost use Rattle.std.specs.Option.{option_copied};
 ghost use Rattle.branch_tree.specs.Tree.{at_most, at_least, node_count};
 ghost use Rattle.branch_tree.specs.Plain.{open_data, open_leaf, new_split, leaves_with, splits_with, data_of, path_of, path_below, replaced, collapsed, splits_at, trimmed, preorder, HasBounds};
+ghost use Rattle.branch_tree.specs.Leaves.{leaf_count, open_count, placed_leaves, with_states};
 ghost use Rattle.branch_tree.specs.Branches.{plain, IsReplaced, IsKept};
 
-use crate::node::{LeafData, Node, copy_basis, copy_data, copy_mult, empty_basis, open_data};
+use crate::node::{
+    LeafData, LeafState, Node, PlacedLeaf, copy_basis, copy_data, copy_mult, empty_basis, open_data,
+};
 use lp_model::{Basis, BoundChange, ColId, List, Mult, Region, Side};
 use std::alloc::{AllocError, Global};
 use std::mem;
@@ -419,5 +422,70 @@ impl Branch {
             }
         }
         Ok(())
+    }
+
+    /// Puts a copy of each leaf behind those in the list, from left to right, each with its changes behind those of the
+    /// path, which stays as it is.
+    pub(crate) fn leaves(
+        &self,
+        alloc: Global,
+        path: &mut Vec<BoundChange>,
+        found: &mut Vec<PlacedLeaf>,
+    ) -> Result<(), AllocError>
+        requires { HasBounds (plain self.now) }
+        ensures leaves { IfOk result (λ _. found.new.items ≡ found.old.items ++ placed_leaves path.old.items (plain self.now)) }
+        ensures path { IfOk result (λ _. path.new.items ≡ path.old.items) }
+    {
+        match self {
+            Branch::Leaf(leaf) => {
+                found.push(PlacedLeaf {
+                    id: leaf.id,
+                    region: List::from_slice(alloc, path)?,
+                    kept: copy_data(alloc, &leaf.kept)?,
+                })?;
+            }
+            Branch::Split(split, left, right) => {
+                let depth = path.len();
+                path.push(split.at_most())?;
+                left.leaves(alloc, path, found)?;
+                path.truncate(depth);
+                path.push(split.at_least())?;
+                right.leaves(alloc, path, found)?;
+                path.truncate(depth);
+            }
+        }
+        Ok(())
+    }
+
+    /// Gives the leaves these states, from left to right, and answers how many leaves there are.
+    pub(crate) fn set_states(&mut self, states: &[LeafState]) -> usize
+        requires { leaf_count (plain self.old) ≤ length states.now }
+        ensures tree { plain self.new ≡ with_states states.now (plain self.old) }
+        ensures count { result ≡ leaf_count (plain self.old) }
+    {
+        match self {
+            Branch::Leaf(leaf) => {
+                leaf.kept.state = states[0];
+                1
+            }
+            Branch::Split(_, left, right) => {
+                let count = left.set_states(states);
+                count + right.set_states(&states[count..])
+            }
+        }
+    }
+
+    /// How many leaves are open.
+    pub(crate) fn open_leaves(&self) -> u64
+        requires { open_count (plain self.now) < 2 ^ 64 }
+        ensures { result ≡ open_count (plain self.now) }
+    {
+        match self {
+            Branch::Leaf(leaf) => match leaf.kept.state {
+                LeafState::IsOpen => 1,
+                LeafState::IsClosed => 0,
+            },
+            Branch::Split(_, left, right) => left.open_leaves() + right.open_leaves(),
+        }
     }
 }

@@ -30,5 +30,5 @@ mod tests;
 mod tree;
 mod ways;
 
-pub use node::{Job, LeafData, LeafState, Node, NodeResult, TreeFault};
+pub use node::{Job, LeafData, LeafState, Node, NodeResult, PlacedLeaf, TreeFault};
 pub use tree::Tree;

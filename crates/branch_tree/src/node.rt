@@ -40,6 +40,14 @@ pub enum Node {
     },
 }
 
+/// A copy of a leaf, beside the bound changes on the way to it.
+#[derive(Drop)]
+pub struct PlacedLeaf {
+    pub id: u64,
+    pub region: Region,
+    pub kept: LeafData,
+}
+
 /// A leaf to be worked: its region, what its relaxation begins from, and the value from which on it is closed.
 #[derive(Drop)]
 pub struct Job {

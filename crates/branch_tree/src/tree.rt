@@ -1,13 +1,14 @@
 // The tree that the search grows.
-ghost use Rattle.std.specs.Prelude.{◌≡◌, ◌↔◌, ◌+◌, ◌-◌, ◌^◌, ◌<◌, ◌<ℤ◌, pos, IsTrue, IfOk, IfErr, MatchOption};
+ghost use Rattle.std.specs.Prelude.{◌≡◌, ◌↔◌, ◌+◌, ◌-◌, ◌^◌, ◌<◌, ◌≤◌, [], length, ◌<ℤ◌, pos, IsTrue, IfOk, IfErr, MatchOption};
 ghost use Rattle.std.specs.Option.{option_copied};
 ghost use Rattle.branch_tree.specs.Tree.{node_count};
 ghost use Rattle.branch_tree.specs.Plain.{leaves_with, data_of, path_of, preorder};
+ghost use Rattle.branch_tree.specs.Leaves.{leaf_count, open_count, placed_leaves};
 ghost use Rattle.branch_tree.specs.Numbered.{IsNumbered};
-ghost use Rattle.branch_tree.specs.Changes.{HasLeaf, HasSplit, HasRoom, IsTreeFault, first_tree, with_limit, with_leaf, after_split, after_collapse, after_trim};
+ghost use Rattle.branch_tree.specs.Changes.{HasLeaf, HasSplit, HasRoom, IsTreeFault, first_tree, with_limit, with_leaf, after_split, after_collapse, after_trim, with_leaf_states};
 
 use crate::branch::{Branch, LeafNode, SplitNode, grown};
-use crate::node::{LeafData, Node, TreeFault, empty_basis, open_data};
+use crate::node::{LeafData, LeafState, Node, PlacedLeaf, TreeFault, empty_basis, open_data};
 use crate::ways::Ways;
 use lp_model::{Basis, ColId, List, Mult, Region};
 use std::alloc::{AllocError, Global};
@@ -61,6 +62,13 @@ impl Tree {
         ensures numbered { IsNumbered self.now }
     {
         self.count
+    }
+
+    /// How many nodes there may be.
+    pub fn limit(&self) -> u64
+        ensures { result ≡ self.now.limit }
+    {
+        self.limit
     }
 
     /// Another limit on the nodes. Those that there are stay.
@@ -187,5 +195,31 @@ impl Tree {
         let mut nodes = Vec::new(self.alloc);
         self.root.preorder(self.alloc, &mut nodes)?;
         Ok(nodes)
+    }
+
+    /// A copy of each leaf with its region, from left to right.
+    pub fn leaves(&self) -> Result<Vec<PlacedLeaf>, AllocError>
+        ensures leaves { IfOk result (λ leaves. leaves.items ≡ placed_leaves [] self.now.root) }
+        ensures numbered { IsNumbered self.now }
+    {
+        let mut path = Vec::new(self.alloc);
+        let mut leaves = Vec::new(self.alloc);
+        self.root.leaves(self.alloc, &mut path, &mut leaves)?;
+        Ok(leaves)
+    }
+
+    /// Gives the leaves these states, from left to right.
+    pub fn set_states(&mut self, states: &[LeafState])
+        requires { leaf_count self.old.root ≤ length states.now }
+        ensures { self.new ≡ with_leaf_states self.old states.now }
+    {
+        let _ = self.root.set_states(states);
+    }
+
+    /// How many leaves are open.
+    pub fn open_leaves(&self) -> u64
+        ensures { result ≡ open_count self.now.root }
+    {
+        self.root.open_leaves()
     }
 }

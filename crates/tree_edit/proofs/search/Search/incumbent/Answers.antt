@@ -1,0 +1,16 @@
+use Rattle.std.proofs.Common.{List, subst}
+use Rattle.rational.specs.Rational.{ℚ}
+use Rattle.tree_edit.specs.Points.{IsOldestLeast, IsIncumbentAt}
+use Rattle.tree_edit.specs.Sound.{PlainSearch}
+use Rattle.tree_edit.proofs.PointLemmas.{incumbent-at}
+use Rattle.tree_edit.proofs.search.Search.incumbent.Goals as goal
+
+pub returns-in-Some : goal.returns-in-Some
+returns-in-Some c =
+    let i = c.self.inside in
+    let k = c.in-Some.place in
+    let best = subst (λ (vs : List ℚ). IsOldestLeast vs k) c.deref.ensures.value c.in-Some.ensures in (
+      k,
+      subst (λ (S : PlainSearch). IsIncumbentAt S.model S.points c.index.result.now k) c.self.view_is
+          (incumbent-at i.model i.points.items i.values.items c.self.invariant.values_are k c.index.result.now best c.index.ensures),
+    )

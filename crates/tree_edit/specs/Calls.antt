@@ -1,0 +1,35 @@
+-- What the calls of a search make and answer.
+use Rattle.std.specs.Prelude.{◌≡◌, ℕ, [], Option, Some, None}
+use Rattle.lp_model.specs.Program.{Program}
+use Rattle.lp_model.specs.Regions.{Path}
+use Rattle.branch_tree.specs.Plain.{Plain, leaves_with, path_of, data_of}
+use Rattle.branch_tree.specs.Changes.{first_tree, with_limit}
+use Rattle.branch_tree.specs.declared.node.LeafData.{LeafData}
+use Rattle.tree_edit.specs.declared.judging.LeafNumber.{LeafNumber}
+use Rattle.tree_edit.specs.Closing.{IsNumber}
+use Rattle.tree_edit.specs.Judged.{JudgesAll}
+use Rattle.tree_edit.specs.Sound.{PlainSearch}
+
+-- one leaf with id 1, judged, and no point
+pub record IsFresh (M : Program) (limit : ℕ) (S : PlainSearch) : Type 0 where
+  pub model : S.model ≡ M
+  pub tree : JudgesAll M None (first_tree limit) S.tree
+  pub points : S.points ≡ []
+
+abbrev pub search_with_limit : PlainSearch → ℕ → PlainSearch
+search_with_limit S n = record { model = S.model; tree = with_limit S.tree n; points = S.points }
+
+-- the leaf with the id has this path and these data
+pub record IsLeafAt (t : Plain) (id : ℕ) (path : Path) (kept : LeafData) : Type 0 where
+  pub path_is : path_of id t ≡ Some path
+  pub data_is : data_of id t ≡ Some kept
+
+pub record HasNumber (S : PlainSearch) (id : ℕ) (number : LeafNumber) : Type 0 where
+  pub path : Path
+  pub kept : LeafData
+  pub leaf : IsLeafAt S.tree.root id path kept
+  pub number_is : IsNumber S.model path kept.mult kept.farkas number
+
+abbrev pub IsNumberAnswer : PlainSearch → ℕ → Option LeafNumber → Type 0
+IsNumberAnswer S id None = leaves_with id S.tree.root ≡ 0
+IsNumberAnswer S id (Some number) = HasNumber S id number

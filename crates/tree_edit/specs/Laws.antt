@@ -1,0 +1,43 @@
+-- What a sound search says of its model.
+use Rattle.std.specs.Prelude.{◌≡◌, ◌⊎◌, [], Option, Some, None}
+use Rattle.rational.specs.Rational.{ℚ, ◌≤ℚ◌}
+use Rattle.lp_model.specs.Program.{Program, Point, least_value, IsFeasible, IsOptimum, IsEmpty}
+use Rattle.lp_model.specs.Regions.{Path}
+use Rattle.leaf_dual.specs.declared.dual.LagValue.TheVariants.{Num}
+use Rattle.branch_tree.specs.Tree.{EachLeaf}
+use Rattle.branch_tree.specs.Plain.{LeafKept}
+use Rattle.branch_tree.specs.declared.node.LeafState.TheVariants.{IsOpen, IsClosed}
+use Rattle.tree_edit.specs.declared.judging.LeafNumber.TheVariants.{Lag}
+use Rattle.tree_edit.specs.Closing.{IsNumber}
+use Rattle.tree_edit.specs.Points.{target, IsIncumbent}
+use Rattle.tree_edit.specs.Sound.{PlainSearch, IsSound}
+
+abbrev pub HasNoOpenLeaf : PlainSearch → Type 0
+HasNoOpenLeaf S = EachLeaf (λ path l. l.kept.state ≡ IsClosed) [] S.tree.root
+
+-- the point's value is no less than t, if there is one
+abbrev pub IsNoBetter : Program → Option ℚ → Point → Type 0
+IsNoBetter M None y = ⊥
+IsNoBetter M (Some t) y = t ≤ℚ least_value M 1 y
+
+-- the leaf has a number, and b is no more than it
+abbrev pub IsBelowLeaf : Program → ℚ → Path → LeafKept → Type 0
+IsBelowLeaf M b path l = (q : ℚ) × (IsNumber M path l.kept.mult l.kept.farkas (Lag (Num q)) × (b ≤ℚ q))
+
+-- b is no more than the number of each open leaf
+abbrev pub IsBelowOpen : PlainSearch → ℚ → Type 0
+IsBelowOpen S b = EachLeaf (λ path l. l.kept.state ≡ IsOpen → IsBelowLeaf S.model b path l) [] S.tree.root
+
+-- no leaf is open: the point of least value is an optimum
+abbrev pub OptimumLaw : Type 0
+OptimumLaw = (S : PlainSearch) (x : Point) → IsSound S → HasNoOpenLeaf S → IsIncumbent S.model S.points (Some x) → IsOptimum S.model x
+
+-- no leaf is open and there is no point: the model has no feasible one
+abbrev pub EmptyLaw : Type 0
+EmptyLaw = (S : PlainSearch) → IsSound S → HasNoOpenLeaf S → S.points ≡ [] → IsEmpty S.model
+
+-- no feasible point is below the least number of the open leaves and below the kept points
+abbrev pub BoundLaw : Type 0
+BoundLaw =
+    (S : PlainSearch) (b : ℚ) → IsSound S → IsBelowOpen S b → (y : Point) → IsFeasible S.model y →
+    (b ≤ℚ least_value S.model 1 y) ⊎ IsNoBetter S.model (target S.model S.points) y

@@ -1,0 +1,12 @@
+pub mod Closing
+pub mod Points
+pub mod Lists
+pub mod Judged
+pub mod Sound
+pub mod SearchCode
+pub mod Choosing
+pub mod Others
+pub mod Laws
+pub mod Checks
+pub mod Calls
+pub mod Placing

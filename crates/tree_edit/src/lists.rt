@@ -1,0 +1,143 @@
+// Lists of variables that are there, each once.
+ghost use Rattle.std.specs.Prelude.{◌≡◌, ◌≢◌, ◌↔◌, IsTrue, All, AllPairs, Contains, IfOk, map};
+ghost use Rattle.tree_edit.specs.Lists.{IsThere, IsRowThere, NamesOnce, AreMultipliers, IsBasis, HasLists};
+
+use branch_tree::LeafData;
+use frac128::Frac;
+use lp_model::{Basis, Model, Mult, Var};
+use std::alloc::{AllocError, Global};
+
+/// Whether the two are one variable.
+fn is_same(first: &Var, second: &Var) -> bool
+    ensures { IsTrue result ↔ (first.now ≡ second.now) }
+{
+    match (first, second) {
+        (Var::Col(a), Var::Col(b)) => a.0 == b.0,
+        (Var::Row(a), Var::Row(b)) => a.0 == b.0,
+        (Var::Cut(a), Var::Cut(b)) => a.0 == b.0,
+        _ => false,
+    }
+}
+
+/// Whether the variable is among these.
+fn is_named(vars: &[Var], var: &Var) -> bool
+    ensures { IsTrue result ↔ Contains vars.now var.now }
+{
+    for other in vars {
+        if is_same(other, var) {
+            return true;
+        }
+    }
+    false
+}
+
+/// Whether no variable is named twice.
+fn is_once(vars: &[Var]) -> bool
+    ensures { IsTrue result ↔ AllPairs (λ a b. a ≢ b) vars.now }
+{
+    for place in 0..vars.len() {
+        if is_named(&vars[..place], &vars[place]) {
+            return false;
+        }
+    }
+    true
+}
+
+/// Whether the row is there.
+fn is_row_there(model: &Model, var: &Var) -> bool
+    ensures { IsTrue result ↔ IsRowThere model.now var.now }
+{
+    match var {
+        Var::Col(_) => false,
+        Var::Row(row) => (row.0 as usize) < model.rows().len(),
+        Var::Cut(_) => false,
+    }
+}
+
+/// Whether the variable is there.
+fn is_there(model: &Model, var: &Var) -> bool
+    ensures { IsTrue result ↔ IsThere model.now var.now }
+{
+    match var {
+        Var::Col(col) => (col.0 as usize) < model.cols().len(),
+        Var::Row(row) => (row.0 as usize) < model.rows().len(),
+        Var::Cut(_) => false,
+    }
+}
+
+/// Whether all of them are rows that are there.
+fn are_rows(model: &Model, vars: &[Var]) -> bool
+    ensures { IsTrue result ↔ All (IsRowThere model.now) vars.now }
+{
+    for var in vars {
+        if !is_row_there(model, var) {
+            return false;
+        }
+    }
+    true
+}
+
+/// Whether all of them are there.
+fn are_there(model: &Model, vars: &[Var]) -> bool
+    ensures { IsTrue result ↔ All (IsThere model.now) vars.now }
+{
+    for var in vars {
+        if !is_there(model, var) {
+            return false;
+        }
+    }
+    true
+}
+
+/// The variables of a list of multipliers.
+fn vars_of(alloc: Global, mult: &[(Var, Frac)]) -> Result<Vec<Var>, AllocError>
+    ensures { IfOk result (λ vars. vars.items ≡ map (λ m. m.0) mult.now) }
+{
+    let mut vars = Vec::new(alloc);
+    for (var, _) in mult {
+        vars.push(*var)?;
+    }
+    Ok(vars)
+}
+
+/// Whether all of them are rows that are there, each once.
+fn are_rows_once(model: &Model, vars: &[Var]) -> bool
+    ensures { IsTrue result ↔ NamesOnce (IsRowThere model.now) vars.now }
+{
+    are_rows(model, vars) && is_once(vars)
+}
+
+/// Whether the multipliers are of rows that are there, each once.
+pub(crate) fn are_multipliers(alloc: Global, model: &Model, mult: &Mult) -> Result<bool, AllocError>
+    ensures { IfOk result (λ are. IsTrue are ↔ AreMultipliers model.now mult.now) }
+{
+    let vars = vars_of(alloc, mult.as_slice())?;
+    Ok(are_rows_once(model, &vars))
+}
+
+/// Whether the variables are there, each once.
+fn names_once(model: &Model, vars: &[Var]) -> bool
+    ensures { IsTrue result ↔ NamesOnce (IsThere model.now) vars.now }
+{
+    are_there(model, vars) && is_once(vars)
+}
+
+/// Whether both lists of the basis name what is there, each once.
+pub(crate) fn is_basis(model: &Model, basis: &Basis) -> bool
+    ensures { IsTrue result ↔ IsBasis model.now basis.now }
+{
+    names_once(model, basis.basic.as_slice()) && names_once(model, basis.high.as_slice())
+}
+
+/// Whether each list of a leaf's data names what is there, each once.
+pub(crate) fn has_lists(alloc: Global, model: &Model, kept: &LeafData) -> Result<bool, AllocError>
+    ensures { IfOk result (λ has. IsTrue has ↔ HasLists model.now kept.now) }
+{
+    if !are_multipliers(alloc, model, &kept.mult)? {
+        return Ok(false);
+    }
+    if !are_multipliers(alloc, model, &kept.farkas)? {
+        return Ok(false);
+    }
+    Ok(is_basis(model, &kept.basis))
+}
