@@ -28,6 +28,8 @@ mod lists;
 mod placing;
 mod points;
 mod search;
+#[cfg(test)]
+mod tests;
 
 pub use judging::LeafNumber;
 pub use laws::{bound_law, empty_law, optimum_law, others_law};
