@@ -1,8 +1,7 @@
 // One search by hand: the least whole number from 0 to 3, found by a split, a point in each part, and a late result.
-use crate::{LeafNumber, Search, Taken};
+use crate::{Search, Taken};
 use branch_tree::NodeResult;
 use frac128::Frac;
-use leaf_dual::LagValue;
 use lp_model::{Basis, ColId, Edit, List, Model, Name, Point, Sense};
 use std::alloc::{AllocError, Global};
 use std::test::Fail;
@@ -32,13 +31,6 @@ fn column(alloc: Global) -> Result<Edit, AllocError> {
         cost2: Frac::whole(0),
         entries: List::new(alloc),
     })
-}
-
-fn is_number(number: &Option<LeafNumber>, value: i64) -> bool {
-    match number {
-        Some(LeafNumber::Lag(LagValue::Num(number))) => *number == Frac::whole(value),
-        _ => false,
-    }
 }
 
 fn split(alloc: Global, v: i128) -> NodeResult {
@@ -81,12 +73,10 @@ fn least(rt: HostRuntime) -> Result<(), Fail> {
     assert!(rt; model.apply(alloc, column(alloc)?).is_ok());
     let mut search = Search::new(alloc, model)?;
     assert_eq!(rt; search.next_leaf()?, Some(1));
-    assert!(rt; is_number(&search.number(1)?, 0));
     assert!(rt; matches!(search.place(1, keep(alloc, 4)?)?, Taken::Refused));
     assert!(rt; matches!(search.place(1, keep(alloc, 2)?)?, Taken::Kept));
     assert!(rt; matches!(search.place(1, split(alloc, 3))?, Taken::Refused));
     assert!(rt; matches!(search.place(1, split(alloc, 1))?, Taken::Split));
-    assert!(rt; is_number(&search.number(3)?, 2));
     assert_eq!(rt; search.open_leaves(), 1);
     assert_eq!(rt; search.next_leaf()?, Some(2));
     assert!(rt; matches!(search.place(2, close_with(alloc, 1)?)?, Taken::Reopened));
