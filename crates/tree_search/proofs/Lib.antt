@@ -1,0 +1,2 @@
+pub mod RefuteLemmas
+pub mod SingleLemmas

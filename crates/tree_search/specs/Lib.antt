@@ -1,0 +1,3 @@
+pub mod Refuting
+pub mod Single
+pub mod Laws

@@ -1,0 +1,5 @@
+//! The search.
+#![tactic(auto)]
+
+mod laws;
+mod refuting;
