@@ -10,7 +10,7 @@ use Rattle.lp_model.specs.Regions.{Path, AreNarrow}
 use Rattle.lp_model.specs.declared.types.Var.TheVariants.{Col, Row, Cut}
 use Rattle.lp_model.specs.declared.types.WideStep.{WideStep}
 use Rattle.lp_model.specs.declared.types.WideStep.TheVariants.{Act, Value, LagEntry, LagTerm}
-use Rattle.leaf_dual.specs.Dual.{Multipliers, multiplier, IsPositive, Reaches}
+use Rattle.leaf_dual.specs.Dual.{Multipliers, multiplier, least_constant, least_cost, IsPositive, Reaches}
 use Rattle.leaf_dual.specs.Answers.{IsDualAnswer, IsFarkasAnswer, IsFirstWideStep}
 use Rattle.leaf_dual.specs.declared.dual.LagValue.{LagValue}
 use Rattle.leaf_dual.specs.declared.dual.LagValue.TheVariants.{Minus, Num}
@@ -22,7 +22,9 @@ use Rattle.branch_tree.specs.declared.node.LeafState.{LeafState}
 use Rattle.branch_tree.specs.declared.node.PlacedLeaf.{PlacedLeaf}
 use Rattle.branch_tree.proofs.TreeLemmas.{each_leaf-leaves}
 use Rattle.branch_tree.proofs.PathLaws.{narrow_paths}
-use Rattle.tree_edit.specs.Closing.{IsRefuted, ReachesIn, IsJudged, IsJudgedLeaf}
+use Rattle.tree_edit.specs.declared.judging.LeafNumber.{LeafNumber}
+use Rattle.tree_edit.specs.declared.judging.LeafNumber.TheVariants.{Empty, Lag, Wide}
+use Rattle.tree_edit.specs.Closing.{IsRefuted, IsNumber, NumberCloses, ReachesIn, IsJudged, IsJudgedLeaf}
 
 -- ---- whole objectives
 
@@ -69,6 +71,21 @@ module _ (M : Program) (path : Path) where
   pub refuted-wide : (mult : Multipliers) (step : WideStep) → IsFarkasAnswer M path mult (Err step) → ¬ IsRefuted M path mult
   refuted-wide [] step wide h = h
   refuted-wide (m ∷ ms) step wide h = wide_alone M path (multiplier (m ∷ ms)) (int (pos 0)) (λ j. int (pos 0)) step h.0 wide h.1.0
+
+-- ---- numbers
+
+-- a leaf has one number, so it closes by any that it has
+pub closes_same : (M : Program) (path : Path) (mult farkas : Multipliers) (t : Option ℚ) (n k : LeafNumber) → IsNumber M path mult farkas n → IsNumber M path mult farkas k → NumberCloses M t k → NumberCloses M t n
+closes_same M path mult farkas t Empty k is also closes = tt
+closes_same M path mult farkas t (Lag v) Empty is also closes = absurd (is.0 also)
+closes_same M path mult farkas None (Lag v) (Lag w) is also closes = closes
+closes_same M path mult farkas (Some t) (Lag v) (Lag w) is also closes =
+    let same : w ≡ v = dual_answer-is M path (multiplier mult) (least_cost M) (least_constant M) w also.1 ∙ sym (dual_answer-is M path (multiplier mult) (least_cost M) (least_constant M) v is.1) in
+    subst (λ u. ReachesIn M u t) same closes
+closes_same M path mult farkas t (Lag v) (Wide step) is also closes = absurd closes
+closes_same M path mult farkas t (Wide step) Empty is also closes = absurd (is.0 also)
+closes_same M path mult farkas t (Wide step) (Lag w) is also closes = absurd (wide_alone M path (multiplier mult) (least_constant M) (least_cost M) step w is.1 also.1)
+closes_same M path mult farkas t (Wide step) (Wide other) is also closes = absurd closes
 
 -- ---- lists
 

@@ -39,6 +39,10 @@ NumberCloses M None (Lag v) = ⊥
 NumberCloses M (Some t) (Lag v) = ReachesIn M v t
 NumberCloses M t (Wide step) = ⊥
 
+-- the number of the region by these multipliers closes
+abbrev pub ClosesBy : Program → Option ℚ → Path → LeafData → Type 0
+ClosesBy M t path kept = (n : LeafNumber) × (IsNumber M path kept.mult kept.farkas n × NumberCloses M t n)
+
 -- P, or not P where the leaf is open
 abbrev pub StateSays : LeafState → Type 0 → Type 0
 StateSays IsOpen P = ¬ P

@@ -1,9 +1,10 @@
 -- All leaves of a tree judged.
-use Rattle.std.specs.Prelude.{◌≡◌, List, [], Option}
+use Rattle.std.specs.Prelude.{◌≡◌, ◌≤◌, List, [], length, Option}
 use Rattle.rational.specs.Rational.{ℚ}
 use Rattle.lp_model.specs.Program.{Program}
 use Rattle.branch_tree.specs.Tree.{EachLeaf}
 use Rattle.branch_tree.specs.Plain.{Plain}
+use Rattle.branch_tree.specs.Leaves.{leaf_count, with_states}
 use Rattle.branch_tree.specs.Numbered.{NumberedTree}
 use Rattle.branch_tree.specs.Changes.{with_leaf_states}
 use Rattle.branch_tree.specs.declared.node.LeafState.{LeafState}
@@ -11,6 +12,11 @@ use Rattle.tree_edit.specs.Closing.{IsJudgedLeaf}
 
 abbrev pub AreJudged : Program → Option ℚ → Plain → Type 0
 AreJudged M t tree = EachLeaf (λ path l. IsJudgedLeaf M t path l.kept) [] tree
+
+-- there is a state for each leaf, and by these each is judged
+pub record AreStates (M : Program) (t : Option ℚ) (tree : Plain) (states : List LeafState) : Type 0 where
+  pub enough : leaf_count tree ≤ length states
+  pub judged : AreJudged M t (with_states states tree)
 
 -- the tree with other states of its leaves, by which each is judged
 pub record JudgesAll (M : Program) (t : Option ℚ) (old new : NumberedTree) : Type 0 where

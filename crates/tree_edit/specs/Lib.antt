@@ -7,3 +7,4 @@ pub mod SearchCode
 pub mod Laws
 pub mod Checks
 pub mod Calls
+pub mod Placing

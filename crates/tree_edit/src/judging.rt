@@ -3,11 +3,11 @@ ghost use Rattle.std.specs.Prelude.{◌≡◌, ◌↔◌, IsTrue, All, IfOk, OnE
 ghost use Rattle.std.specs.List.{AllZip};
 ghost use Rattle.lp_model.specs.Program.{HasWholeObjective};
 ghost use Rattle.lp_model.specs.Regions.{AreNarrow};
-ghost use Rattle.tree_edit.specs.Closing.{IsRefuted, IsSetAside, IsNumber, NumberCloses, IsJudged};
+ghost use Rattle.tree_edit.specs.Closing.{IsRefuted, IsSetAside, IsNumber, NumberCloses, IsJudged, ClosesBy};
 ghost use Rattle.branch_tree.specs.Tree.{HasNarrowSplits};
-ghost use Rattle.tree_edit.specs.Judged.{JudgesAll};
+ghost use Rattle.tree_edit.specs.Judged.{AreStates, JudgesAll};
 
-use branch_tree::{LeafState, PlacedLeaf, Tree};
+use branch_tree::{LeafData, LeafState, PlacedLeaf, Tree};
 use frac128::Frac;
 use leaf_dual::{LagValue, closes, farkas, lag};
 use lp_model::{Model, Mult, Region, WideStep};
@@ -81,6 +81,20 @@ pub(crate) fn number_closes(model: &Model, target: &Option<Frac>, number: &LeafN
     }
 }
 
+/// Whether a leaf of a region with these data closes against the target.
+pub(crate) fn closes_by(
+    model: &Model,
+    target: &Option<Frac>,
+    region: &Region,
+    kept: &LeafData,
+) -> bool
+    requires { AreNarrow region.now }
+    ensures { IsTrue result ↔ ClosesBy model.now target.now region.now kept.now }
+{
+    let number = number_of(model, region, &kept.mult, &kept.farkas);
+    number_closes(model, target, &number)
+}
+
 /// The state of a leaf with these multipliers.
 pub(crate) fn judge(
     model: &Model,
@@ -116,6 +130,21 @@ fn judge_leaves(
     Ok(states)
 }
 
+/// The states of a tree's leaves against a target, in their order.
+pub(crate) fn judged_states(
+    alloc: Global,
+    model: &Model,
+    target: &Option<Frac>,
+    tree: &Tree,
+) -> Result<Vec<LeafState>, AllocError>
+    requires { HasNarrowSplits tree.now.root }
+    ensures { IfOk result (λ states. AreStates model.now target.now tree.now.root states.items) }
+{
+    let leaves = tree.leaves()?;
+    let states = judge_leaves(alloc, model, target, &leaves)?;
+    Ok(states)
+}
+
 /// Judges each leaf of a tree. Where there is no memory the tree stays as it was.
 pub(crate) fn judge_all(
     alloc: Global,
@@ -127,8 +156,7 @@ pub(crate) fn judge_all(
     ensures judged { IfOk result (λ _. JudgesAll model.now target.now tree.old tree.new) }
     ensures kept { OnErr result (tree.new ≡ tree.old) }
 {
-    let leaves = tree.leaves()?;
-    let states = judge_leaves(alloc, model, target, &leaves)?;
+    let states = judged_states(alloc, model, target, tree)?;
     tree.set_states(&states);
     Ok(())
 }

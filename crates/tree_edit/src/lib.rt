@@ -24,9 +24,11 @@ mod checks;
 mod judging;
 mod laws;
 mod lists;
+mod placing;
 mod points;
 mod search;
 
 pub use judging::LeafNumber;
 pub use laws::{bound_law, empty_law, optimum_law};
+pub use placing::Taken;
 pub use search::Search;

@@ -1,7 +1,8 @@
 // Lists of variables that are there, each once.
 ghost use Rattle.std.specs.Prelude.{◌≡◌, ◌≢◌, ◌↔◌, IsTrue, All, AllPairs, Contains, IfOk, map};
-ghost use Rattle.tree_edit.specs.Lists.{IsThere, IsRowThere, NamesOnce, AreMultipliers, IsBasis};
+ghost use Rattle.tree_edit.specs.Lists.{IsThere, IsRowThere, NamesOnce, AreMultipliers, IsBasis, HasLists};
 
+use branch_tree::LeafData;
 use frac128::Frac;
 use lp_model::{Basis, Model, Mult, Var};
 use std::alloc::{AllocError, Global};
@@ -126,4 +127,17 @@ pub(crate) fn is_basis(model: &Model, basis: &Basis) -> bool
     ensures { IsTrue result ↔ IsBasis model.now basis.now }
 {
     names_once(model, basis.basic.as_slice()) && names_once(model, basis.high.as_slice())
+}
+
+/// Whether each list of a leaf's data names what is there, each once.
+pub(crate) fn has_lists(alloc: Global, model: &Model, kept: &LeafData) -> Result<bool, AllocError>
+    ensures { IfOk result (λ has. IsTrue has ↔ HasLists model.now kept.now) }
+{
+    if !are_multipliers(alloc, model, &kept.mult)? {
+        return Ok(false);
+    }
+    if !are_multipliers(alloc, model, &kept.farkas)? {
+        return Ok(false);
+    }
+    Ok(is_basis(model, &kept.basis))
 }

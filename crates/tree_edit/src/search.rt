@@ -20,11 +20,11 @@ const NODE_LIMIT: u64 = 1_000_000;
 /// Contracts see a `PlainSearch`, and each search is sound (`IsSound`).
 #[derive(Drop)]
 pub struct Search {
-    model: Model,
-    tree: Tree,
-    points: Vec<Point>,
-    values: Vec<Frac>,
-    alloc: Global,
+    pub(crate) model: Model,
+    pub(crate) tree: Tree,
+    pub(crate) points: Vec<Point>,
+    pub(crate) values: Vec<Frac>,
+    pub(crate) alloc: Global,
 }
 
 impl std::marker::Model for Search {

@@ -1,0 +1,134 @@
+-- What a placed result makes of a search.
+--     IsStale, IsSoundResult, IsReopened, IsFull      why a result is not placed, in this order
+--     Takes S id result S' taken                      what was answered, and the search after it
+use Rattle.std.specs.Prelude.{◌≡◌, ◌⊎◌, ℕ, ◌+◌, ◌<◌, ◌≤◌, List, [], ◌∷◌, ◌++◌, length, map, get_or, pos, ℤ, Option, Some, None}
+use Rattle.std.specs.List.{remove}
+use Rattle.rational.specs.Rational.{ℚ, int, ◌≤ℚ◌, ◌<ℚ◌}
+use Rattle.lp_model.specs.Program.{Program, Point, least_value}
+use Rattle.lp_model.specs.Regions.{Path}
+use Rattle.lp_model.specs.declared.types.Basis.{Basis}
+use Rattle.leaf_dual.specs.Dual.{Multipliers}
+use Rattle.branch_tree.specs.Tree.{EachLeaf}
+use Rattle.branch_tree.specs.Plain.{Plain, data_of, replaced}
+use Rattle.branch_tree.specs.Leaves.{with_state}
+use Rattle.branch_tree.specs.Numbered.{NumberedTree}
+use Rattle.branch_tree.specs.Changes.{with_leaf, HasLeaf, HasRoom}
+use Rattle.branch_tree.specs.declared.node.LeafState.{LeafState}
+use Rattle.branch_tree.specs.declared.node.LeafState.TheVariants.{IsOpen, IsClosed}
+use Rattle.branch_tree.specs.declared.node.LeafData.{LeafData}
+use Rattle.tree_edit.specs.declared.placing.Taken.{Taken}
+use Rattle.tree_edit.specs.declared.placing.Taken.TheVariants.{Stale, Refused, Reopened, Full, Closed, Split, Kept}
+use Rattle.tree_edit.specs.declared.points.Joined.{Joined}
+use Rattle.tree_edit.specs.Closing.{IsJudged, ClosesBy}
+use Rattle.tree_edit.specs.Points.{IsKeepable, target, value_at, IsOldestLeast}
+use Rattle.tree_edit.specs.Lists.{IsBasis, HasLists}
+use Rattle.tree_edit.specs.Judged.{JudgesAll}
+use Rattle.tree_edit.specs.Sound.{PlainSearch}
+use Rattle.tree_edit.specs.Calls.{IsLeafAt}
+
+-- ---- points
+
+-- the value at k is the greatest of the first n, and the first of those equal to it
+pub record IsOldestGreatestOf (values : List ℚ) (n k : ℕ) : Type 0 where
+  pub within : k < n
+  pub greatest : (i : ℕ) → i < n → value_at values i ≤ℚ value_at values k
+  pub oldest : (i : ℕ) → i < k → value_at values i <ℚ value_at values k
+
+-- the value that goes: beyond 100 the greatest, of equals the oldest
+abbrev pub IsWorst : List ℚ → Option ℕ → Type 0
+IsWorst values None = length values ≤ 100
+IsWorst values (Some k) = (100 < length values) × IsOldestGreatestOf values (length values) k
+
+abbrev pub IsWithin : ℕ → Option ℕ → Type 0
+IsWithin n None = Unit {0}
+IsWithin n (Some k) = k < n
+
+abbrev pub without : {A : Type 0} → List A → Option ℕ → List A
+without xs None = xs
+without xs (Some k) = remove xs k
+
+-- the points with x last, and beyond 100 without the worst
+abbrev pub AddsPoint : Program → List Point → Point → List Point → Type 0
+AddsPoint M points x new = (worst : Option ℕ) × (IsWorst (map (least_value M 1) (points ++ x ∷ [])) worst × (new ≡ without (points ++ x ∷ []) worst))
+
+-- the least of the values, if there are any
+abbrev pub IsLeastValue : List ℚ → Option ℚ → Type 0
+IsLeastValue values None = values ≡ []
+IsLeastValue values (Some v) = (k : ℕ) × (IsOldestLeast values k × (v ≡ value_at values k))
+
+-- the values with v last, and beyond 100 without the worst
+pub record Joins (values : List ℚ) (v : ℚ) (joined : Joined) : Type 0 where
+  pub worst : IsWorst (values ++ v ∷ []) joined.worst
+  pub values_are : joined.values.items ≡ without (values ++ v ∷ []) joined.worst
+  pub target : IsLeastValue joined.values.items joined.target
+
+-- what the points' values come to with x
+pub record JoinsPoint (S : PlainSearch) (x : Point) (joined : Joined) : Type 0 where
+  pub worst : IsWorst (map (least_value S.model 1) (S.points ++ x ∷ [])) joined.worst
+  pub values_are : joined.values.items ≡ map (least_value S.model 1) (without (S.points ++ x ∷ []) joined.worst)
+  pub target_is : joined.target ≡ target S.model (without (S.points ++ x ∷ []) joined.worst)
+
+-- x is kept, and all leaves are judged against the least value
+pub record TakesPoint (old : PlainSearch) (x : Point) (new : PlainSearch) : Type 0 where
+  pub model : new.model ≡ old.model
+  pub points : AddsPoint old.model old.points x new.points
+  pub tree : JudgesAll old.model (target old.model new.points) old.tree new.tree
+
+-- the leaf closes against the least value that there is with x
+abbrev pub ClosesWith : PlainSearch → Point → Path → LeafData → Type 0
+ClosesWith S x path kept = (points : List Point) × (AddsPoint S.model S.points x points × ClosesBy S.model (target S.model points) path kept)
+
+-- ---- leaves
+
+-- each leaf with the id has this path
+abbrev pub IsAt : ℕ → Path → Plain → Type 0
+IsAt id path t = EachLeaf (λ p l. l.id ≡ id → p ≡ path) [] t
+
+abbrev pub search_with_leaf : PlainSearch → ℕ → LeafData → PlainSearch
+search_with_leaf S id kept = record { model = S.model; tree = with_leaf S.tree id kept; points = S.points }
+
+-- ---- answers, where a leaf with this path is open
+
+-- the leaf is to be closed with these data, without a point
+abbrev pub TakesClose : PlainSearch → ℕ → Path → LeafData → PlainSearch → Taken → Type 0
+TakesClose S id path kept S' Stale = ⊥
+TakesClose S id path kept S' Refused = (¬ HasLists S.model kept) × (S' ≡ S)
+TakesClose S id path kept S' Reopened = HasLists S.model kept × (¬ ClosesBy S.model (target S.model S.points) path kept) × (S' ≡ S)
+TakesClose S id path kept S' Full = ⊥
+TakesClose S id path kept S' Closed = HasLists S.model kept × ClosesBy S.model (target S.model S.points) path kept × (S' ≡ search_with_leaf S id kept)
+TakesClose S id path kept S' Split = ⊥
+TakesClose S id path kept S' Kept = ⊥
+
+-- it is to be closed, and a point comes with it
+abbrev pub TakesPointClose : PlainSearch → ℕ → Path → Point → LeafData → PlainSearch → Taken → Type 0
+TakesPointClose S id path x kept S' Stale = ⊥
+TakesPointClose S id path x kept S' Refused = (¬ (IsKeepable S.model x × HasLists S.model kept)) × (S' ≡ S)
+TakesPointClose S id path x kept S' Reopened = IsKeepable S.model x × HasLists S.model kept × (¬ ClosesWith S x path kept) × (S' ≡ S)
+TakesPointClose S id path x kept S' Full = ⊥
+TakesPointClose S id path x kept S' Closed = IsKeepable S.model x × HasLists S.model kept × ClosesWith S x path kept × ((mid : PlainSearch) × (TakesPoint S x mid × (S' ≡ search_with_leaf mid id kept)))
+TakesPointClose S id path x kept S' Split = ⊥
+TakesPointClose S id path x kept S' Kept = ⊥
+
+-- the leaf has these data, but for its state, which is judged
+abbrev pub PutsJudged : PlainSearch → ℕ → Path → LeafData → PlainSearch → Type 0
+PutsJudged S id path kept S' = (state : LeafState) × (IsJudged S.model (target S.model S.points) path kept.mult kept.farkas state × (S' ≡ search_with_leaf S id (with_state state kept)))
+
+-- it is to have these data, with another basis
+abbrev pub TakesKeep : PlainSearch → ℕ → Path → LeafData → PlainSearch → Taken → Type 0
+TakesKeep S id path kept S' Stale = ⊥
+TakesKeep S id path kept S' Refused = (¬ IsBasis S.model kept.basis) × (S' ≡ S)
+TakesKeep S id path kept S' Reopened = ⊥
+TakesKeep S id path kept S' Full = ⊥
+TakesKeep S id path kept S' Closed = ⊥
+TakesKeep S id path kept S' Split = ⊥
+TakesKeep S id path kept S' Kept = IsBasis S.model kept.basis × PutsJudged S id path kept S'
+
+-- and a point comes with it
+abbrev pub TakesPointKeep : PlainSearch → ℕ → Path → Point → LeafData → PlainSearch → Taken → Type 0
+TakesPointKeep S id path x kept S' Stale = ⊥
+TakesPointKeep S id path x kept S' Refused = (¬ (IsKeepable S.model x × IsBasis S.model kept.basis)) × (S' ≡ S)
+TakesPointKeep S id path x kept S' Reopened = ⊥
+TakesPointKeep S id path x kept S' Full = ⊥
+TakesPointKeep S id path x kept S' Closed = ⊥
+TakesPointKeep S id path x kept S' Split = ⊥
+TakesPointKeep S id path x kept S' Kept = IsKeepable S.model x × IsBasis S.model kept.basis × ((mid : PlainSearch) × (TakesPoint S x mid × PutsJudged mid id path kept S'))
