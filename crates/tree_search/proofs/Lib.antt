@@ -1,2 +1,4 @@
 pub mod RefuteLemmas
 pub mod SingleLemmas
+pub mod RegionLemmas
+pub mod PointLemmas

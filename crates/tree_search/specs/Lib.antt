@@ -1,3 +1,5 @@
 pub mod Refuting
 pub mod Single
 pub mod Laws
+pub mod Integral
+pub mod Points

@@ -3,3 +3,4 @@
 
 mod laws;
 mod refuting;
+mod regions;
