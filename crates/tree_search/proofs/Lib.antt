@@ -2,3 +2,4 @@ pub mod RefuteLemmas
 pub mod SingleLemmas
 pub mod RegionLemmas
 pub mod PointLemmas
+pub mod CapLemmas

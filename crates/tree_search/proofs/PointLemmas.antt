@@ -43,29 +43,29 @@ module _ (M : Program) (path : Path) (j : ℕ) (v : ℤ) where
   first_high : ℕ → Option ℚ
   first_high k = if is_integer M k then option_map (λ h. int (floor h)) (upper M k) else upper M k
 
-  low-left : (k : ℕ) → region_low M (left_path path j v) k ≡ region_low M path k
+  pub low-left : (k : ℕ) → region_low M (left_path path j v) k ≡ region_low M path k
   low-left k = low_along-more path (at_most j v) k (if is_integer M k then option_map (λ l. int (ceil l)) (lower M k) else lower M k) ∙ if_same (nat_eq j k) (region_low M path k)
 
-  high-right : (k : ℕ) → region_high M (right_path path j v) k ≡ region_high M path k
+  pub high-right : (k : ℕ) → region_high M (right_path path j v) k ≡ region_high M path k
   high-right k = high_along-more path (at_least j (v +ℤ pos 1)) k (if is_integer M k then option_map (λ h. int (floor h)) (upper M k) else upper M k) ∙ if_same (nat_eq j k) (region_high M path k)
 
-  high-left : region_high M (left_path path j v) j ≡ tighter_high (region_high M path j) (int v)
+  pub high-left : region_high M (left_path path j v) j ≡ tighter_high (region_high M path j) (int v)
   high-left =
       high_along-more path (at_most j v) j (if is_integer M j then option_map (λ h. int (floor h)) (upper M j) else upper M j)
       ∙ ap (λ (t : Bool). if t then tighter_high (region_high M path j) (int v) else region_high M path j) (itself j)
 
-  low-right : region_low M (right_path path j v) j ≡ tighter_low (region_low M path j) (int (v +ℤ pos 1))
+  pub low-right : region_low M (right_path path j v) j ≡ tighter_low (region_low M path j) (int (v +ℤ pos 1))
   low-right =
       low_along-more path (at_least j (v +ℤ pos 1)) j (if is_integer M j then option_map (λ l. int (ceil l)) (lower M j) else lower M j)
       ∙ ap (λ (t : Bool). if t then tighter_low (region_low M path j) (int (v +ℤ pos 1)) else region_low M path j) (itself j)
 
   module _ (k : ℕ) (other : j ≡ k → ⊥) where
-    high-left_other : region_high M (left_path path j v) k ≡ region_high M path k
+    pub high-left_other : region_high M (left_path path j v) k ≡ region_high M path k
     high-left_other =
         high_along-more path (at_most j v) k (if is_integer M k then option_map (λ h. int (floor h)) (upper M k) else upper M k)
         ∙ ap (λ (t : Bool). if t then tighter_high (region_high M path k) (int v) else region_high M path k) (ne_eqb j k other)
 
-    low-right_other : region_low M (right_path path j v) k ≡ region_low M path k
+    pub low-right_other : region_low M (right_path path j v) k ≡ region_low M path k
     low-right_other =
         low_along-more path (at_least j (v +ℤ pos 1)) k (if is_integer M k then option_map (λ l. int (ceil l)) (lower M k) else lower M k)
         ∙ ap (λ (t : Bool). if t then tighter_low (region_low M path k) (int (v +ℤ pos 1)) else region_low M path k) (ne_eqb j k other)
@@ -85,7 +85,7 @@ numbers-split : (l v h : ℤ) → l ≤ℤ v → v ≤ℤ h → numbers_from l v
 numbers-split l v h low high = grind (arith, ints)
 
 -- the numbers below and those above a split, of a column's bounds
-bounds-split : (lo hi : Option ℚ) (v : ℤ) → IsFrom lo v → IsUnder hi v
+pub bounds-split : (lo hi : Option ℚ) (v : ℤ) → IsFrom lo v → IsUnder hi v
     → numbers_within lo (tighter_high hi (int v)) + numbers_within (tighter_low lo (int (v +ℤ pos 1))) hi ≡ numbers_within lo hi
 bounds-split None hi v from under = absurd from
 bounds-split (Some l) None v from under = absurd under
@@ -104,7 +104,7 @@ product-same zero f g h = refl
 product-same (suc n) f g h = (λ t. product-same n f g (λ k below. h k (omega arith)) t * h n (omega arith) t)
 
 -- products that differ at j alone, where the factors add up
-product-split : (n j : ℕ) (f g k : ℕ → ℕ) → j < n → ((i : ℕ) → (j ≡ i → ⊥) → g i ≡ f i) → ((i : ℕ) → (j ≡ i → ⊥) → k i ≡ f i) → g j + k j ≡ f j
+pub product-split : (n j : ℕ) (f g k : ℕ → ℕ) → j < n → ((i : ℕ) → (j ≡ i → ⊥) → g i ≡ f i) → ((i : ℕ) → (j ≡ i → ⊥) → k i ≡ f i) → g j + k j ≡ f j
     → product_below n g + product_below n k ≡ product_below n f
 product-split zero j f g k within left right add = absurd (omega arith)
 product-split (suc n) j f g k within left right add = elim (eqb_tells j n) [

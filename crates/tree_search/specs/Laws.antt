@@ -1,8 +1,10 @@
 -- What single rows show of a region with one whole point.
-use Rattle.std.specs.Prelude.{◌≡◌, ℕ, ◌+◌, ◌<◌, ◌≤◌, ℤ, None, length}
+use Rattle.std.specs.Prelude.{◌≡◌, ℕ, ◌+◌, ◌<◌, ◌≤◌, ℤ, [], None, length}
 use Rattle.lp_model.specs.Program.{Program, Point, RowHolds}
 use Rattle.lp_model.specs.Regions.{Path, IsEmptyRegion}
-use Rattle.branch_tree.specs.Tree.{left_path, right_path}
+use Rattle.branch_tree.specs.Tree.{left_path, right_path, IsLawful}
+use Rattle.branch_tree.specs.Plain.{Plain}
+use Rattle.tree_search.specs.Work.{work, cap_of}
 use Rattle.tree_edit.specs.Checks.{IsSplitAllowed}
 use Rattle.tree_search.specs.Integral.{IsIntegral}
 use Rattle.tree_search.specs.Points.{points, IsOpenColumn}
@@ -29,3 +31,7 @@ SplitLaw = (M : Program) (path : Path) (j : ℕ) (v : ℤ) → IsSplitAllowed M 
 -- a region that is not seen to be empty has a point
 abbrev pub SomePointLaw : Type 0
 SomePointLaw = (M : Program) (path : Path) → IsIntegral M → (¬ IsEmptyRegion M path) → 1 ≤ points M path
+
+-- the work of a tree is at most the cap of its model
+abbrev pub CapLaw : Type 0
+CapLaw = (M : Program) (t : Plain) → IsIntegral M → IsLawful M t → work M [] t ≤ cap_of M

@@ -3,3 +3,4 @@ pub mod Single
 pub mod Laws
 pub mod Integral
 pub mod Points
+pub mod Work

@@ -1,5 +1,5 @@
 // What regions are: their points, and what single rows show of those with one.
-ghost use Rattle.tree_search.specs.Laws.{SingleLaw, CornerLaw, SplitLaw, SomePointLaw};
+ghost use Rattle.tree_search.specs.Laws.{SingleLaw, CornerLaw, SplitLaw, SomePointLaw, CapLaw};
 
 /// Where no trial of a row refutes a region with one whole point, and no trial has a step without room, that point breaks
 /// no row.
@@ -20,4 +20,9 @@ pub fn split_law()
 /// A region that is not seen to be empty has a point.
 pub fn some_point_law()
     ensures { SomePointLaw }
+{}
+
+/// The open leaves of a tree can take at most as many results as the model's cap.
+pub fn cap_law()
+    ensures { CapLaw }
 {}
