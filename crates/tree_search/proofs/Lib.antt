@@ -3,3 +3,4 @@ pub mod SingleLemmas
 pub mod RegionLemmas
 pub mod PointLemmas
 pub mod CapLemmas
+pub mod WorkLemmas
