@@ -64,8 +64,8 @@ module _ (M : Program) (path : Path) where
   refuted-ok (m ∷ ms) some v answer b d = (
     (λ h. (v, (answer, d.0 h))),
     (λ h. d.1 (subst IsPositive
-    (dual_answer-is M path (multiplier (m ∷ ms)) (λ j. int (pos 0)) (int (pos 0)) h.0 h.1.0 ∙ sym (dual_answer-is M path (multiplier (m ∷ ms)) (λ j. int (pos 0)) (int (pos 0)) v answer))
-    h.1.1)),
+        (dual_answer-is M path (multiplier (m ∷ ms)) (λ j. int (pos 0)) (int (pos 0)) h.0 h.1.0 ∙ sym (dual_answer-is M path (multiplier (m ∷ ms)) (λ j. int (pos 0)) (int (pos 0)) v answer))
+        h.1.1)),
   )
 
   pub refuted-wide : (mult : Multipliers) (step : WideStep) → IsFarkasAnswer M path mult (Err step) → ¬ IsRefuted M path mult

@@ -23,8 +23,8 @@ module _ {A : Type 0} (P : A → Type 0) (xs : List A) where
   once-more n e within not h =
       below_more (λ j. (i : ℕ) (d : A) → i < j → get_or xs i d ≢ get_or xs j d) n h
       (λ i d below same.
-          let x = get_or xs n e in
-          not (i, omega (arith, length-take n xs), get_or-take n xs i x below ∙ get_or_default xs i x d (omega arith) ∙ same ∙ get_or_default xs n d e within))
+      let x = get_or xs n e in
+      not (i, omega (arith, length-take n xs), get_or-take n xs i x below ∙ get_or_default xs i x d (omega arith) ∙ same ∙ get_or_default xs n d e within))
 
   pub before-all : (n : ℕ) → length xs ≡ n → HoldsBefore n → All P xs
   before-all n e h k d below = h k (omega arith) d

@@ -1,6 +1,6 @@
 -- What a placed result makes of a search.
---     IsStale, IsSoundResult, IsReopened, IsFull      why a result is not placed, in this order
---     Takes S id result S' taken                      what was answered, and the search after it
+--     Takes S id result S' taken      what was answered, and the search after it: the first that applies of
+--                                     Stale, Refused, Reopened, Full, and else Closed, Split or Kept
 use Rattle.std.specs.Prelude.{◌≡◌, ◌⊎◌, ℕ, ◌+◌, ◌<◌, ◌≤◌, List, [], ◌∷◌, ◌++◌, length, map, get_or, pos, ℤ, Option, Some, None}
 use Rattle.std.specs.List.{remove}
 use Rattle.rational.specs.Rational.{ℚ, int, ◌≤ℚ◌, ◌<ℚ◌}
@@ -8,7 +8,7 @@ use Rattle.lp_model.specs.Program.{Program, Point, least_value}
 use Rattle.lp_model.specs.Regions.{Path}
 use Rattle.lp_model.specs.declared.types.Basis.{Basis}
 use Rattle.leaf_dual.specs.Dual.{Multipliers}
-use Rattle.branch_tree.specs.Tree.{EachLeaf}
+use Rattle.branch_tree.specs.Tree.{Leaf, Split as Split', left_path, right_path, EachLeaf}
 use Rattle.branch_tree.specs.Plain.{Plain, data_of, replaced}
 use Rattle.branch_tree.specs.Leaves.{with_state}
 use Rattle.branch_tree.specs.Numbered.{NumberedTree}
@@ -16,12 +16,15 @@ use Rattle.branch_tree.specs.Changes.{with_leaf, HasLeaf, HasRoom}
 use Rattle.branch_tree.specs.declared.node.LeafState.{LeafState}
 use Rattle.branch_tree.specs.declared.node.LeafState.TheVariants.{IsOpen, IsClosed}
 use Rattle.branch_tree.specs.declared.node.LeafData.{LeafData}
+use Rattle.branch_tree.specs.declared.node.NodeResult.{NodeResult}
+use Rattle.branch_tree.specs.declared.node.NodeResult.TheVariants.{Close, Split as SplitAt, PointAndClose, Keep}
 use Rattle.tree_edit.specs.declared.placing.Taken.{Taken}
 use Rattle.tree_edit.specs.declared.placing.Taken.TheVariants.{Stale, Refused, Reopened, Full, Closed, Split, Kept}
 use Rattle.tree_edit.specs.declared.points.Joined.{Joined}
-use Rattle.tree_edit.specs.Closing.{IsJudged, ClosesBy}
+use Rattle.tree_edit.specs.Closing.{IsJudged, IsJudgedLeaf, ClosesBy}
 use Rattle.tree_edit.specs.Points.{IsKeepable, target, value_at, IsOldestLeast}
-use Rattle.tree_edit.specs.Lists.{IsBasis, HasLists}
+use Rattle.tree_edit.specs.Lists.{AreMultipliers, IsBasis, HasLists}
+use Rattle.tree_edit.specs.Checks.{IsSplitAllowed}
 use Rattle.tree_edit.specs.Judged.{JudgesAll}
 use Rattle.tree_edit.specs.Sound.{PlainSearch}
 use Rattle.tree_edit.specs.Calls.{IsLeafAt}
@@ -132,3 +135,85 @@ TakesPointKeep S id path x kept S' Full = ⊥
 TakesPointKeep S id path x kept S' Closed = ⊥
 TakesPointKeep S id path x kept S' Split = ⊥
 TakesPointKeep S id path x kept S' Kept = IsKeepable S.model x × IsBasis S.model kept.basis × ((mid : PlainSearch) × (TakesPoint S x mid × PutsJudged mid id path kept S'))
+
+-- with a point or without
+abbrev pub TakesBasis : PlainSearch → ℕ → Path → Option Point → LeafData → PlainSearch → Taken → Type 0
+TakesBasis S id path None kept S' taken = TakesKeep S id path kept S' taken
+TakesBasis S id path (Some point) kept S' taken = TakesPointKeep S id path point kept S' taken
+
+-- ---- splits
+
+-- the region of this path keeps these multipliers and this basis, no Farkas multipliers, and is judged
+pub record IsChild (S : PlainSearch) (path : Path) (mult : Multipliers) (basis : Basis) (kept : LeafData) : Type 0 where
+  pub mult_is : kept.mult ≡ mult
+  pub farkas_is : kept.farkas ≡ []
+  pub basis_is : kept.basis ≡ basis
+  pub judged : IsJudgedLeaf S.model (target S.model S.points) path kept
+
+-- the split with its two leaves, the ids of which follow the last one
+abbrev pub split_node : ℕ → ℕ → ℕ → ℤ → Multipliers → Basis → LeafData → LeafData → Plain
+split_node last id j v mult basis left right =
+    Split' (record { id = id; mult = mult; basis = basis }) j v (Leaf (record { id = last + 1; kept = left })) (Leaf (record { id = last + 2; kept = right }))
+
+abbrev pub tree_with_split : NumberedTree → ℕ → ℕ → ℤ → Multipliers → Basis → LeafData → LeafData → NumberedTree
+tree_with_split T id j v mult basis left right = record { root = replaced id (split_node T.last id j v mult basis left right) T.root; last = T.last + 2; limit = T.limit }
+
+abbrev pub search_with_split : PlainSearch → ℕ → ℕ → ℤ → Multipliers → Basis → LeafData → LeafData → PlainSearch
+search_with_split S id j v mult basis left right = record { model = S.model; tree = tree_with_split S.tree id j v mult basis left right; points = S.points }
+
+-- the parts of a split fit
+pub record IsSplitSound (M : Program) (path : Path) (j : ℕ) (v : ℤ) (mult : Multipliers) (basis : Basis) : Type 0 where
+  pub allowed : IsSplitAllowed M path j v
+  pub mult_is : AreMultipliers M mult
+  pub basis_is : IsBasis M basis
+
+-- the leaf is split, and its children are judged
+abbrev pub Splits : PlainSearch → ℕ → Path → ℕ → ℤ → Multipliers → Basis → PlainSearch → Type 0
+Splits S id path j v mult basis S' =
+    (left : LeafData) × ((right : LeafData) ×
+    (IsChild S (left_path path j v) mult basis left × (IsChild S (right_path path j v) mult basis right × (S' ≡ search_with_split S id j v mult basis left right))))
+
+abbrev pub TakesSplit : PlainSearch → ℕ → Path → ℕ → ℤ → Multipliers → Basis → PlainSearch → Taken → Type 0
+TakesSplit S id path j v mult basis S' Stale = ⊥
+TakesSplit S id path j v mult basis S' Refused = (¬ IsSplitSound S.model path j v mult basis) × (S' ≡ S)
+TakesSplit S id path j v mult basis S' Reopened = ⊥
+TakesSplit S id path j v mult basis S' Full = IsSplitSound S.model path j v mult basis × (¬ HasRoom S.tree) × (S' ≡ S)
+TakesSplit S id path j v mult basis S' Closed = ⊥
+TakesSplit S id path j v mult basis S' Split = IsSplitSound S.model path j v mult basis × HasRoom S.tree × Splits S id path j v mult basis S'
+TakesSplit S id path j v mult basis S' Kept = ⊥
+
+-- ---- results
+
+-- no open leaf has the id
+abbrev pub IsStale : PlainSearch → ℕ → Type 0
+IsStale S id = (kept : LeafData) → data_of id S.tree.root ≡ Some kept → kept.state ≡ IsClosed
+
+abbrev pub closed_data : Multipliers → Multipliers → Basis → LeafData
+closed_data mult farkas basis = record { state = IsClosed; mult = mult; farkas = farkas; basis = basis }
+
+abbrev pub with_basis : LeafData → Basis → LeafData
+with_basis kept basis = record { state = kept.state; mult = kept.mult; farkas = kept.farkas; basis = basis }
+
+-- what a result for the open leaf with this path and these data is answered, and the search after it
+abbrev pub TakesResult : PlainSearch → ℕ → Path → LeafData → NodeResult → PlainSearch → Taken → Type 0
+TakesResult S id path kept (Close mult farkas basis) S' taken = TakesClose S id path (closed_data mult farkas basis) S' taken
+TakesResult S id path kept (SplitAt col v mult basis) S' taken = TakesSplit S id path col.0 v mult basis S' taken
+TakesResult S id path kept (PointAndClose point mult basis) S' taken = TakesPointClose S id path point (closed_data mult [] basis) S' taken
+TakesResult S id path kept (Keep point basis) S' taken = TakesBasis S id path point (with_basis kept basis) S' taken
+
+-- an open leaf has the id, and the result is taken there
+pub record TakesOpen (S : PlainSearch) (id : ℕ) (result : NodeResult) (S' : PlainSearch) (taken : Taken) : Type 0 where
+  pub path : Path
+  pub kept : LeafData
+  pub leaf : IsLeafAt S.tree.root id path kept
+  pub state : kept.state ≡ IsOpen
+  pub result_is : TakesResult S id path kept result S' taken
+
+abbrev pub Takes : PlainSearch → ℕ → NodeResult → PlainSearch → Taken → Type 0
+Takes S id result S' Stale = IsStale S id × (S' ≡ S)
+Takes S id result S' Refused = TakesOpen S id result S' Refused
+Takes S id result S' Reopened = TakesOpen S id result S' Reopened
+Takes S id result S' Full = TakesOpen S id result S' Full
+Takes S id result S' Closed = TakesOpen S id result S' Closed
+Takes S id result S' Split = TakesOpen S id result S' Split
+Takes S id result S' Kept = TakesOpen S id result S' Kept

@@ -125,7 +125,13 @@ fn judge_leaves(
 {
     let mut states = Vec::new(alloc);
     for leaf in leaves {
-        states.push(judge(model, target, &leaf.region, &leaf.kept.mult, &leaf.kept.farkas))?;
+        states.push(judge(
+            model,
+            target,
+            &leaf.region,
+            &leaf.kept.mult,
+            &leaf.kept.farkas,
+        ))?;
     }
     Ok(states)
 }

@@ -17,5 +17,5 @@ returns-clause-judged c =
       states = c.deref.result.now;
       tree = c.set_states.ensures;
       judged = subst (λ (T : NumberedTree). AreJudged M t T.root) (sym c.set_states.ensures)
-        (subst (λ (ss : List LeafState). AreJudged M t (with_states ss c.args.tree.now.root)) (sym c.deref.ensures.value) c.in_ok-states.ensures.judged);
+          (subst (λ (ss : List LeafState). AreJudged M t (with_states ss c.args.tree.now.root)) (sym c.deref.ensures.value) c.in_ok-states.ensures.judged);
     }

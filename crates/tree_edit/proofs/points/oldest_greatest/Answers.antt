@@ -18,8 +18,8 @@ loop-place-preserved c =
     let at_k : c.index-values-worst.result ≡ value_at values k = get_or-read (int (pos 0)) values values k c.index-values-worst.result refl k_in c.index-values-worst.is in
     elim c.if-is_less.branch [
       | then-is_less w ↦ subst (IsOldestGreatestOf values (n + 1)) (sym w.worst-is)
-        (worst-higher values n k c.loop-place.invariant (subst (λ q. q <ℚ value_at values n) at_k (subst (λ q. c.index-values-worst.result <ℚ q) at_n (c.is_less.ensures.0 w.if-is_less.true))))
+          (worst-higher values n k c.loop-place.invariant (subst (λ q. q <ℚ value_at values n) at_k (subst (λ q. c.index-values-worst.result <ℚ q) at_n (c.is_less.ensures.0 w.if-is_less.true))))
       | else-is_less w ↦ subst (IsOldestGreatestOf values (n + 1)) (sym w.worst-is)
-        (worst-same values n k c.loop-place.invariant
-        (λ less. let t : IsTrue c.is_less.result = c.is_less.ensures.1 (subst (λ q. q <ℚ c.index-values-place.result) (sym at_k) (subst (λ q. value_at values k <ℚ q) (sym at_n) less)) in let f = w.if-is_less.false in cc))
+          (worst-same values n k c.loop-place.invariant
+          (λ less. let t : IsTrue c.is_less.result = c.is_less.ensures.1 (subst (λ q. q <ℚ c.index-values-place.result) (sym at_k) (subst (λ q. value_at values k <ℚ q) (sym at_n) less)) in let f = w.if-is_less.false in cc))
     ]

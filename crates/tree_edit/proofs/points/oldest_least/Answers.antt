@@ -17,8 +17,8 @@ loop-place-preserved c =
     let at_k : c.index-values-best.result ≡ value_at values k = get_or-read (int (pos 0)) values values k c.index-values-best.result refl k_in c.index-values-best.is in
     elim c.if-is_less.branch [
       | then-is_less w ↦ subst (IsOldestOf values (n + 1)) (sym w.best-is)
-        (oldest-lower values n k c.loop-place.invariant (subst (λ q. q <ℚ value_at values k) at_n (subst (λ q. c.index-values-place.result <ℚ q) at_k (c.is_less.ensures.0 w.if-is_less.true))))
+          (oldest-lower values n k c.loop-place.invariant (subst (λ q. q <ℚ value_at values k) at_n (subst (λ q. c.index-values-place.result <ℚ q) at_k (c.is_less.ensures.0 w.if-is_less.true))))
       | else-is_less w ↦ subst (IsOldestOf values (n + 1)) (sym w.best-is)
-        (oldest-same values n k c.loop-place.invariant
-        (λ less. let t : IsTrue c.is_less.result = c.is_less.ensures.1 (subst (λ q. q <ℚ c.index-values-best.result) (sym at_n) (subst (λ q. value_at values n <ℚ q) (sym at_k) less)) in let f = w.if-is_less.false in cc))
+          (oldest-same values n k c.loop-place.invariant
+          (λ less. let t : IsTrue c.is_less.result = c.is_less.ensures.1 (subst (λ q. q <ℚ c.index-values-best.result) (sym at_n) (subst (λ q. value_at values n <ℚ q) (sym at_k) less)) in let f = w.if-is_less.false in cc))
     ]

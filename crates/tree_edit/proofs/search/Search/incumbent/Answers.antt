@@ -9,6 +9,8 @@ pub returns-in-Some : goal.returns-in-Some
 returns-in-Some c =
     let i = c.self.inside in
     let k = c.in-Some.place in
-    let best = subst (λ (vs : List ℚ). IsOldestLeast vs k) c.deref.ensures.value c.in-Some.ensures in
-    (k, subst (λ (S : PlainSearch). IsIncumbentAt S.model S.points c.index.result.now k) c.self.view_is
-    (incumbent-at i.model i.points.items i.values.items c.self.invariant.values_are k c.index.result.now best c.index.ensures))
+    let best = subst (λ (vs : List ℚ). IsOldestLeast vs k) c.deref.ensures.value c.in-Some.ensures in (
+      k,
+      subst (λ (S : PlainSearch). IsIncumbentAt S.model S.points c.index.result.now k) c.self.view_is
+          (incumbent-at i.model i.points.items i.values.items c.self.invariant.values_are k c.index.result.now best c.index.ensures),
+    )

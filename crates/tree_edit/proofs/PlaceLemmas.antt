@@ -1,0 +1,63 @@
+-- The open leaf of a result, and what its answer means for the whole search.
+use Rattle.std.specs.Prelude.{◌≡◌, ℕ, List, [], Option, Some, None, IfOk, Result, Ok, Err}
+use Rattle.std.specs.Option.{option_map}
+use Rattle.std.proofs.Common.{refl, sym, subst, ap, ◌∙◌}
+use Rattle.lp_model.specs.Program.{Program}
+use Rattle.lp_model.specs.Regions.{Path, AreNarrow}
+use Rattle.branch_tree.specs.Tree.{Leaf, Split, left_path, right_path, EachLeaf}
+use Rattle.branch_tree.specs.Plain.{LeafKept, Plain, leaf_below, data_of, path_of}
+use Rattle.branch_tree.specs.declared.node.LeafData.{LeafData}
+use Rattle.branch_tree.specs.declared.node.LeafState.TheVariants.{IsOpen}
+use Rattle.branch_tree.specs.declared.node.NodeResult.{NodeResult}
+use Rattle.branch_tree.specs.declared.node.NodeResult.TheVariants.{Close, Split as SplitAt, PointAndClose, Keep}
+use Rattle.branch_tree.proofs.PathLaws.{narrow_paths, path-found, each-found}
+use Rattle.tree_edit.specs.declared.placing.Taken.{Taken}
+use Rattle.tree_edit.specs.declared.placing.Taken.TheVariants.{Stale, Refused, Reopened, Full, Closed, Split as SplitTaken, Kept}
+use Rattle.tree_edit.specs.Lists.{HasLists, HasNodeLists}
+use Rattle.tree_edit.specs.Sound.{PlainSearch, IsSound}
+use Rattle.tree_edit.specs.Calls.{IsLeafAt}
+use Rattle.tree_edit.specs.Placing.{TakesResult, TakesOpen, Takes}
+
+-- ---- the leaf
+
+each-lists : (M : Program) (path : Path) (t : Plain) → HasNodeLists M t → EachLeaf (λ p l. HasLists M l.kept) path t
+each-lists M path (Leaf l) h = h
+each-lists M path (Split kept j v left right) h = (each-lists M (left_path path j v) left h.1.0, each-lists M (right_path path j v) right h.1.1)
+
+some_same : {A : Type 0} (a b : A) → Some a ≡ Some b → a ≡ b
+some_same a b h = cc
+
+leaf_of_data : (o : Option (Path × LeafKept)) (kept : LeafData) → option_map (λ (l : Path × LeafKept). l.1.kept) o ≡ Some kept → (l : Path × LeafKept) × ((o ≡ Some l) × (l.1.kept ≡ kept))
+leaf_of_data None kept h = absurd (cc)
+leaf_of_data (Some l) kept h = (l, (refl, some_same l.1.kept kept h))
+
+pub lists-found : (S : PlainSearch) (id : ℕ) (kept : LeafData) → IsSound S → data_of id S.tree.root ≡ Some kept → HasLists S.model kept
+lists-found S id kept sound found =
+    let l = leaf_of_data (leaf_below id [] S.tree.root) kept found in
+    subst (HasLists S.model) l.1.1 (each-found (λ p k. HasLists S.model k.kept) id [] S.tree.root l.0 (each-lists S.model [] S.tree.root sound.tree.lists) l.1.0).0
+
+pub narrow-found : (S : PlainSearch) (id : ℕ) (path : Path) → IsSound S → path_of id S.tree.root ≡ Some path → AreNarrow path
+narrow-found S id path sound at = path-found AreNarrow id S.tree.root path (narrow_paths [] S.tree.root sound.tree.narrow tt) at
+
+-- ---- the answer
+
+never_stale : (S : PlainSearch) (id : ℕ) (path : Path) (kept : LeafData) (done : NodeResult) (S' : PlainSearch) → ¬ TakesResult S id path kept done S' Stale
+never_stale S id path kept (Close mult farkas basis) S' h = h
+never_stale S id path kept (SplitAt col v mult basis) S' h = h
+never_stale S id path kept (PointAndClose point mult basis) S' h = h
+never_stale S id path kept (Keep None basis) S' h = h
+never_stale S id path kept (Keep (Some point) basis) S' h = h
+
+module _ (S : PlainSearch) (id : ℕ) (path : Path) (kept : LeafData) (done : NodeResult) (S' : PlainSearch) (leaf : IsLeafAt S.tree.root id path kept) (is_open : kept.state ≡ IsOpen) where
+  takes : (taken : Taken) → TakesResult S id path kept done S' taken → Takes S id done S' taken
+  takes Stale h = absurd (never_stale S id path kept done S' h)
+  takes Refused h = record { path = path; kept = kept; leaf = leaf; state = is_open; result_is = h }
+  takes Reopened h = record { path = path; kept = kept; leaf = leaf; state = is_open; result_is = h }
+  takes Full h = record { path = path; kept = kept; leaf = leaf; state = is_open; result_is = h }
+  takes Closed h = record { path = path; kept = kept; leaf = leaf; state = is_open; result_is = h }
+  takes SplitTaken h = record { path = path; kept = kept; leaf = leaf; state = is_open; result_is = h }
+  takes Kept h = record { path = path; kept = kept; leaf = leaf; state = is_open; result_is = h }
+
+  pub takes_ok : {E : Type 0} (r : Result Taken E) → IfOk r (λ t. TakesResult S id path kept done S' t) → IfOk r (λ t. Takes S id done S' t)
+  takes_ok (Ok t) h = takes t h
+  takes_ok (Err e) h = h
