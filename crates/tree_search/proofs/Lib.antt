@@ -4,3 +4,4 @@ pub mod RegionLemmas
 pub mod PointLemmas
 pub mod CapLemmas
 pub mod WorkLemmas
+pub mod OnePointLemmas

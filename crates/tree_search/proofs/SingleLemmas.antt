@@ -49,14 +49,14 @@ sum_single (suc n) i y f h = elim (eqb_tells i n) [
 
 -- ---- totals of numbers
 
-total-is : (n : ℕ) (f : ℕ → LagValue) (g : ℕ → ℚ) → ((k : ℕ) → k < n → f k ≡ Num (g k)) → total_below n f ≡ Num (sum_below n g)
+pub total-is : (n : ℕ) (f : ℕ → LagValue) (g : ℕ → ℚ) → ((k : ℕ) → k < n → f k ≡ Num (g k)) → total_below n f ≡ Num (sum_below n g)
 total-is zero f g h = refl
 total-is (suc n) f g h = (λ t. plus (total-is n f g (λ k below. h k (omega arith)) t) (h n (omega arith) t))
 
 -- ---- a region with one whole point
 
 -- a weight times the side that it takes of a column with one number
-single-side : (r v : ℚ) → times r (needed_side r (Some v) (Some v)) ≡ Num (r *ℚ v)
+pub single-side : (r v : ℚ) → times r (needed_side r (Some v) (Some v)) ≡ Num (r *ℚ v)
 single-side r v = by (rational_cmp (int (pos 0)) r) refl
   where
     by : (o : Ordering) → rational_cmp (int (pos 0)) r ≡ o → times r (side_by o (Some v) (Some v)) ≡ Num (r *ℚ v)
@@ -64,7 +64,7 @@ single-side r v = by (rational_cmp (int (pos 0)) r) refl
     by Equal e = ap Num (subst (λ z. z *ℚ int (pos 0) ≡ z *ℚ v) (same_from_cmp (int (pos 0)) r e) (ring (v ∷ []) (search reads_ℚ) tt))
     by Greater e = refl
 
-single-there : (r v : ℚ) → needed_side r (Some v) (Some v) ≢ None
+pub single-there : (r v : ℚ) → needed_side r (Some v) (Some v) ≢ None
 single-there r v = by (rational_cmp (int (pos 0)) r)
   where
     by : (o : Ordering) → side_by o (Some v) (Some v) ≢ None
