@@ -5,3 +5,4 @@ pub mod PointLemmas
 pub mod CapLemmas
 pub mod WorkLemmas
 pub mod OnePointLemmas
+pub mod TakenLemmas
