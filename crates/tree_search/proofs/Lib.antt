@@ -6,3 +6,5 @@ pub mod CapLemmas
 pub mod WorkLemmas
 pub mod OnePointLemmas
 pub mod TakenLemmas
+pub mod JudgeLemmas
+pub mod PlacedLemmas

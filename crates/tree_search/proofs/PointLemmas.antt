@@ -72,10 +72,10 @@ module _ (M : Program) (path : Path) (j : ℕ) (v : ℤ) where
 
 -- ---- the numbers of one column
 
-min-below : (h : ℚ) (v : ℤ) → int v <ℚ h → min_ℚ h (int v) ≡ int v
+pub min-below : (h : ℚ) (v : ℤ) → int v <ℚ h → min_ℚ h (int v) ≡ int v
 min-below h v less = ≤ℚ_antisymm ((min-≤ℚ h (int v)).1) (≤ℚ-min (int v) h (int v) (≤ℚ_of_<ℚ less) (≤ℚ_refl (int v)))
 
-max-above : (l : ℚ) (v : ℤ) → l ≤ℚ int v → max_ℚ l (int v) ≡ int v
+pub max-above : (l : ℚ) (v : ℤ) → l ≤ℚ int v → max_ℚ l (int v) ≡ int v
 max-above l v under = ≤ℚ_antisymm (max-≤ℚ l (int v) (int v) under (≤ℚ_refl (int v))) ((≤ℚ-max l (int v)).1)
 
 numbers-some : (l h : ℤ) → l ≤ℤ h → numbers_from l h ≡ suc (unsigned_abs (h -ℤ l))

@@ -46,7 +46,7 @@ found_each path (Split kept j v left right) once = (
       (right_path path j v) right (found_each (right_path path j v) right (λ id. let h = once id in omega arith)),
 )
 
-some_is : {A : Type 0} (a b : A) → Some a ≡ Some b → a ≡ b
+pub some_is : {A : Type 0} (a b : A) → Some a ≡ Some b → a ≡ b
 some_is a b e = ap (λ o. unwrap_or o a) e
 
 -- the leaf with the id has this path and these data, and no other leaf has the id

@@ -4,3 +4,5 @@ pub mod Laws
 pub mod Integral
 pub mod Points
 pub mod Work
+pub mod Working
+pub mod Steps

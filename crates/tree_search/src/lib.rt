@@ -4,3 +4,4 @@
 mod laws;
 mod refuting;
 mod regions;
+mod working;

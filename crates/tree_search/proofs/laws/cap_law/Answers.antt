@@ -2,6 +2,7 @@ use Rattle.tree_search.proofs.CapLemmas.{work-cap}
 use Rattle.tree_search.proofs.WorkLemmas.{work-closed, at_leaf, work-replaced, open-not_empty}
 use Rattle.tree_search.proofs.OnePointLemmas.{lag-value}
 use Rattle.tree_search.proofs.TakenLemmas.{old_closes, new_below, adds}
+use Rattle.tree_search.proofs.PlacedLemmas.{}
 use Rattle.tree_search.proofs.laws.cap_law.Goals as goal
 
 pub returns : goal.returns
