@@ -35,7 +35,7 @@ ceil-int z =
 pub floor-int : (z : ℤ) → floor (int z) ≡ z
 floor-int z = int_injective (floor (int z)) z (int-floor (int z) (IsWhole-int z))
 
-floor-less : (l h : ℚ) → IsWhole l → IsWhole h → l <ℚ h → floor l <ℤ floor h
+pub floor-less : (l h : ℚ) → IsWhole l → IsWhole h → l <ℚ h → floor l <ℤ floor h
 floor-less l h u w less = elim (branches l (floor h)) [
   | inl under ↦ not_both_ℚ (subst (λ z. z ≤ℚ l) (int-floor h w) (≤ℚ_trans under (floor-≤ℚ l))) less
   | inr over ↦ let next : (floor l +ℤ pos 1) ≤ℤ floor h = (int-≤ℚ-int (floor l +ℤ pos 1) (floor h)).0 over in omega (arith, ints)
