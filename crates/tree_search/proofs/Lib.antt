@@ -8,3 +8,4 @@ pub mod OnePointLemmas
 pub mod TakenLemmas
 pub mod JudgeLemmas
 pub mod PlacedLemmas
+pub mod StepLemmas

@@ -46,7 +46,7 @@ use Rattle.tree_search.proofs.RegionLemmas.{IsWholeBound, region_high-whole, flo
 use Rattle.tree_edit.proofs.SoundLemmas.{each-weaker}
 use Rattle.rational.proofs.Rounding.{int-≤ℚ}
 use Rattle.tree_search.proofs.PointLemmas.{points-split, points-some, low-left, high-left, low-right, high-right, high-left_other, low-right_other, min-below, max-above}
-use Rattle.tree_search.proofs.WorkLemmas.{at_leaf, work-replaced, work-closed, open-not_empty, some_is}
+use Rattle.tree_search.proofs.WorkLemmas.{at_leaf, work-replaced, work-closed, open-found, leaf_at, some_is}
 use Rattle.tree_search.proofs.OnePointLemmas.{lag-value}
 use Rattle.tree_search.proofs.TakenLemmas.{adds, old_closes, new_below}
 use Rattle.std.proofs.lemmas.Bool.Decides.{eqb_tells}
@@ -129,14 +129,6 @@ module _ (M : Program) (integral : IsIntegral M) (path : Path) (some : ¬ IsEmpt
 
 -- ---- the open leaf
 
-leaf_at : (t : Plain) (id : ℕ) (path : Path) (kept : LeafData) → IsLeafAt t id path kept → (l : LeafKept) × ((leaf_below id [] t ≡ Some (path, l)) × (l.kept ≡ kept))
-leaf_at t id path kept at = by (leaf_below id [] t) refl at.path_is at.data_is
-  where
-    by : (o : Option (Path × LeafKept)) → leaf_below id [] t ≡ o → option_map (λ (l : Path × LeafKept). l.0) o ≡ Some path → option_map (λ (l : Path × LeafKept). l.1.kept) o ≡ Some kept
-        → (l : LeafKept) × ((leaf_below id [] t ≡ Some (path, l)) × (l.kept ≡ kept))
-    by None e h k = absurd cc
-    by (Some q) e h k = (q.1, (e ∙ (λ t. Some (some_is q.0 path h t, q.1)), some_is q.1.kept kept k))
-
 -- what becomes of the search
 abbrev pub AfterPlace : PlainSearch → Path → PlainSearch → Taken → Type 0
 AfterPlace S path S' Full = IsTooFull S path × (S' ≡ S)
@@ -148,13 +140,8 @@ AfterPlace S path S' Split = Lowers S S'
 AfterPlace S path S' Kept = Lowers S S'
 
 module _ (S : PlainSearch) (sound : IsSound S) (once : (id : ℕ) → leaves_with id S.tree.root ≤ 1) (integral : IsIntegral S.model) (id : ℕ) (path : Path) (kept : LeafData) (at : IsLeafAt S.tree.root id path kept) (is_open : kept.state ≡ IsOpen) where
-  judged : IsJudgedLeaf S.model (target S.model S.points) path kept
-  judged =
-      let l = leaf_at S.tree.root id path kept at in
-      subst (IsJudgedLeaf S.model (target S.model S.points) path) l.1.1 (each-found (λ p k. IsJudgedLeaf S.model (target S.model S.points) p k.kept) id [] S.tree.root (path, l.0) sound.judged l.1.0).0
-
-  pub not_empty : ¬ IsEmptyRegion S.model path
-  not_empty = open-not_empty S.model (target S.model S.points) path kept judged is_open
+  not_empty : ¬ IsEmptyRegion S.model path
+  not_empty = open-found S sound id path kept at is_open
 
   one : leaves_with id S.tree.root ≡ 1
   one =

@@ -20,6 +20,9 @@ use Rattle.branch_tree.proofs.StateLemmas.{leaves_with-states}
 use Rattle.tree_edit.specs.declared.judging.LeafNumber.{LeafNumber}
 use Rattle.tree_edit.specs.declared.judging.LeafNumber.TheVariants.{Empty}
 use Rattle.tree_edit.specs.Closing.{IsNumber, NumberCloses, StateSays, IsJudged, IsJudgedLeaf}
+use Rattle.branch_tree.proofs.PathLaws.{each-found}
+use Rattle.tree_edit.specs.Points.{target}
+use Rattle.tree_edit.specs.Sound.{PlainSearch, IsSound}
 use Rattle.tree_edit.specs.Calls.{IsLeafAt}
 use Rattle.tree_edit.proofs.JudgeLemmas.{closes_same}
 use Rattle.tree_edit.proofs.SoundLemmas.{each-weaker}
@@ -148,3 +151,19 @@ pub open-not_empty : (M : Program) (t : Option ℚ) (path : Path) (kept : LeafDa
 open-not_empty M t path kept judged is_open empty =
     let says : ¬ NumberCloses M t judged.number = subst (λ s. StateSays s (NumberCloses M t judged.number)) is_open judged.says in
     says (closes_same M path kept.mult kept.farkas t judged.number Empty judged.number_is (inl empty) tt)
+
+pub leaf_at : (t : Plain) (id : ℕ) (path : Path) (kept : LeafData) → IsLeafAt t id path kept → (l : LeafKept) × ((leaf_below id [] t ≡ Some (path, l)) × (l.kept ≡ kept))
+leaf_at t id path kept at = by (leaf_below id [] t) refl at.path_is at.data_is
+  where
+    by : (o : Option (Path × LeafKept)) → leaf_below id [] t ≡ o → option_map (λ (l : Path × LeafKept). l.0) o ≡ Some path → option_map (λ (l : Path × LeafKept). l.1.kept) o ≡ Some kept
+        → (l : LeafKept) × ((leaf_below id [] t ≡ Some (path, l)) × (l.kept ≡ kept))
+    by None e h k = absurd cc
+    by (Some q) e h k = (q.1, (e ∙ (λ t. Some (some_is q.0 path h t, q.1)), some_is q.1.kept kept k))
+
+-- that of an open leaf of a sound search
+pub open-found : (S : PlainSearch) → IsSound S → (id : ℕ) (path : Path) (kept : LeafData) → IsLeafAt S.tree.root id path kept → kept.state ≡ IsOpen → ¬ IsEmptyRegion S.model path
+open-found S sound id path kept at is_open =
+    let l = leaf_at S.tree.root id path kept at in
+    let judged : IsJudgedLeaf S.model (target S.model S.points) path kept =
+    subst (IsJudgedLeaf S.model (target S.model S.points) path) l.1.1 (each-found (λ p k. IsJudgedLeaf S.model (target S.model S.points) p k.kept) id [] S.tree.root (path, l.0) sound.judged l.1.0).0 in
+    open-not_empty S.model (target S.model S.points) path kept judged is_open

@@ -1,5 +1,5 @@
 -- What a placed result does to a search.
-use Rattle.std.specs.Prelude.{◌≡◌, ℕ, ◌+◌, ◌≤◌, []}
+use Rattle.std.specs.Prelude.{◌≡◌, ℕ, ◌+◌, ◌≤◌, [], Option, Some, None}
 use Rattle.lp_model.specs.Program.{Program}
 use Rattle.lp_model.specs.Regions.{Path}
 use Rattle.branch_tree.specs.Changes.{HasRoom}
@@ -9,6 +9,9 @@ use Rattle.tree_edit.specs.Sound.{PlainSearch}
 use Rattle.tree_edit.specs.Calls.{IsLeafAt}
 use Rattle.tree_search.specs.Points.{IsFirstOpen}
 use Rattle.tree_search.specs.Work.{work}
+use Rattle.tree_search.specs.Working.{IsWidePoint}
+use Rattle.tree_search.specs.declared.stepping.StopWhy.{StopWhy}
+use Rattle.tree_search.specs.declared.stepping.StopWhy.TheVariants.{Nodes, Tree, Wide}
 
 -- an open leaf with this path has the id
 pub record IsOpenLeaf (S : PlainSearch) (id : ℕ) (path : Path) : Type 0 where
@@ -30,3 +33,10 @@ pub record IsTooFull (S : PlainSearch) (path : Path) : Type 0 where
   pub column : ℕ
   pub is_open : IsFirstOpen S.model path column
   pub full : ¬ HasRoom S.tree
+
+-- what one step on an open leaf with this path does: a result was placed, or why there is none, the search being as it was
+abbrev pub Steps : PlainSearch → Path → PlainSearch → Option StopWhy → Type 0
+Steps old path new None = Lowers old new
+Steps old path new (Some Nodes) = ⊥
+Steps old path new (Some Tree) = IsTooFull old path × (new ≡ old)
+Steps old path new (Some (Wide p step)) = (p ≡ path) × IsWidePoint old.model path step × (new ≡ old)

@@ -4,4 +4,5 @@
 mod laws;
 mod refuting;
 mod regions;
+mod stepping;
 mod working;

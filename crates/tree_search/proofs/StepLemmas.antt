@@ -1,0 +1,71 @@
+-- Open leaves: each is found by its id, and where the scan finds none no leaf is open.
+use Rattle.std.specs.Prelude.{◌≡◌, ◌≢◌, ◌⊎◌, ℕ, ◌+◌, ◌<◌, ◌≤◌, List, [], ◌∷◌, ◌++◌, length, get_or, map, All, Option, Some, None}
+use Rattle.std.specs.Option.{option_map}
+use Rattle.std.proofs.Common.{refl, sym, subst, ap, ◌∙◌, inl, inr, arith}
+use Rattle.std.proofs.lemmas.List.{get_or-map, length-map}
+use Rattle.std.proofs.lemmas.List.Elements.{All-map, All-head, All-tail, All-cons}
+use Rattle.lp_model.specs.Regions.{Path, AreNarrow, IsEmptyRegion}
+use Rattle.branch_tree.specs.Tree.{Tree, Leaf, Split, left_path, right_path, EachLeaf, leaves}
+use Rattle.branch_tree.specs.Plain.{Plain, LeafKept, leaves_with, splits_with, leaf_below}
+use Rattle.branch_tree.specs.Numbered.{NumberedTree, IsNumbered}
+use Rattle.branch_tree.specs.Leaves.{placed, placed_leaves}
+use Rattle.branch_tree.specs.declared.node.PlacedLeaf.{PlacedLeaf}
+use Rattle.branch_tree.specs.declared.node.LeafState.{LeafState}
+use Rattle.branch_tree.specs.declared.node.LeafState.TheVariants.{IsOpen, IsClosed}
+use Rattle.branch_tree.proofs.TreeLemmas.{each_leaf-leaves}
+use Rattle.tree_edit.specs.Sound.{PlainSearch, IsSound}
+use Rattle.tree_edit.specs.Calls.{IsLeafAt}
+use Rattle.tree_edit.specs.Points.{target}
+use Rattle.tree_edit.proofs.PlaceLemmas.{narrow-found}
+use Rattle.tree_search.specs.Integral.{IsIntegral}
+use Rattle.tree_search.specs.Steps.{IsOpenLeaf}
+use Rattle.tree_search.proofs.WorkLemmas.{found_each}
+use Rattle.tree_search.specs.Steps.{Lowers}
+use Rattle.tree_edit.specs.declared.placing.Taken.{Taken}
+use Rattle.tree_edit.specs.declared.placing.Taken.TheVariants.{Stale, Refused, Reopened, Full, Closed, Split as SplitTaken, Kept}
+use Rattle.tree_search.proofs.PlacedLemmas.{AfterPlace}
+
+pub once : (T : NumberedTree) → IsNumbered T → (id : ℕ) → leaves_with id T.root ≤ 1
+once T n id = let h = n.distinct id in omega (arith, h)
+
+-- each of the leaves is the one with its id
+pub placed-at : (t : Plain) → ((id : ℕ) → leaves_with id t ≤ 1) → All (λ l. IsLeafAt t l.id l.region l.kept) (placed_leaves [] t)
+placed-at t one =
+    All-map (λ (l : PlacedLeaf). IsLeafAt t l.id l.region l.kept) placed (leaves [] t)
+    (λ k d below.
+    let found = each_leaf-leaves (λ p l. leaf_below l.id [] t ≡ Some (p, l)) [] t (found_each [] t one) k d below in
+    record { path_is = ap (option_map (λ (l : Path × LeafKept). l.0)) found; data_is = ap (option_map (λ (l : Path × LeafKept). l.1.kept)) found })
+
+apart_append : {A : Type 0} (P : A → Type 0) (xs ys : List A) → All P (xs ++ ys) → All P xs × All P ys
+apart_append P [] ys h = ((λ k d below. absurd (omega arith)), h)
+apart_append P (x ∷ xs) ys h = let rest = apart_append P xs ys (All-tail P x (xs ++ ys) h) in (All-cons P x xs (All-head P x (xs ++ ys) h) rest.0, rest.1)
+
+leaves-each : (P : Path → LeafKept → Type 0) (path : Path) (t : Plain) → All (λ (q : Path × LeafKept). P q.0 q.1) (leaves path t) → EachLeaf P path t
+leaves-each P path (Leaf l) h = All-head (λ (q : Path × LeafKept). P q.0 q.1) (path, l) [] h
+leaves-each P path (Split kept j v left right) h =
+    let parts = apart_append (λ (q : Path × LeafKept). P q.0 q.1) (leaves (left_path path j v) left) (leaves (right_path path j v) right) h in
+    (leaves-each P (left_path path j v) left parts.0, leaves-each P (right_path path j v) right parts.1)
+
+-- where each of the leaves is closed, no leaf of the tree is open
+pub none-open : (t : Plain) → All (λ l. l.kept.state ≡ IsClosed) (placed_leaves [] t) → EachLeaf (λ p l. l.kept.state ≡ IsClosed) [] t
+none-open t h =
+    leaves-each (λ p l. l.kept.state ≡ IsClosed) [] t
+    (λ k d below.
+    subst (λ (l : PlacedLeaf). l.kept.state ≡ IsClosed) (get_or-map placed (leaves [] t) k d (placed d) below)
+    (h k (placed d) (let same : length (map placed (leaves [] t)) ≡ length (leaves [] t) = length-map (leaves [] t) placed in omega (arith, same))))
+
+pub not-open : (s : LeafState) → (s ≡ IsOpen → ⊥) → s ≡ IsClosed
+not-open IsOpen h = absurd (h refl)
+not-open IsClosed h = refl
+
+pub leaf-narrow : (S : PlainSearch) (id : ℕ) (path : Path) → IsSound S → IsOpenLeaf S id path → AreNarrow path
+leaf-narrow S id path sound leaf = narrow-found S id path sound leaf.leaf.path_is
+
+pub not-full : (S : PlainSearch) (path : Path) (S' : PlainSearch) (taken : Taken) → AfterPlace S path S' taken → (taken ≡ Full → ⊥) → Lowers S S'
+not-full S path S' Stale h other = h
+not-full S path S' Refused h other = h
+not-full S path S' Reopened h other = h
+not-full S path S' Full h other = absurd (other refl)
+not-full S path S' Closed h other = h
+not-full S path S' SplitTaken h other = h
+not-full S path S' Kept h other = h
