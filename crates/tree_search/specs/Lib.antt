@@ -6,3 +6,4 @@ pub mod Points
 pub mod Work
 pub mod Working
 pub mod Steps
+pub mod Search

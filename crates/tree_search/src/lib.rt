@@ -4,5 +4,6 @@
 mod laws;
 mod refuting;
 mod regions;
+mod searching;
 mod stepping;
 mod working;
