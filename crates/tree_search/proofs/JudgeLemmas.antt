@@ -1,14 +1,14 @@
 -- The one whole point of a region: it holds each column, and a row that it breaks refutes the region or has a step without room.
-use Rattle.std.specs.Prelude.{◌≡◌, ◌⊎◌, ℕ, ◌<◌, Bool, true, false, if◌then◌else◌, nat_eq, IsTrue, [], ◌∷◌, length, pos, Option, Some, None, Ok}
+use Rattle.std.specs.Prelude.{ℕ, Bool, true, false, if◌then◌else◌, nat_eq, [], ◌∷◌, Option, Some, None, Ok}
 use Rattle.std.specs.Option.{option_map}
-use Rattle.std.proofs.Common.{refl, sym, subst, ap, ◌∙◌, inl, inr}
-use Rattle.rational.specs.Rational.{ℚ, int, ◌≤ℚ◌, floor, ceil, IsWhole}
+use Rattle.std.proofs.Common.{sym, subst, inl, inr}
+use Rattle.rational.specs.Rational.{ℚ, int, floor, ceil}
 use Rattle.rational.proofs.RationalOrder.{≤ℚ_refl, ≤ℚ_trans}
 use Rattle.rational.proofs.Rounding.{floor-≤ℚ, ≤ℚ-ceil}
 use Rattle.rational.proofs.Division.{min-≤ℚ, ≤ℚ-max}
-use Rattle.lp_model.specs.Program.{Program, Point, coordinate, lower, upper, is_integer, AtLeast, AtMost, ColumnHolds}
+use Rattle.lp_model.specs.Program.{Program, Point, coordinate, lower, upper, is_integer, AtLeast, AtMost}
 use Rattle.lp_model.specs.Answers.{ColumnsHold, IsFeasibilityAnswer}
-use Rattle.lp_model.specs.Regions.{Path, low_after, high_after, low_along, high_along, region_low, region_high}
+use Rattle.lp_model.specs.Regions.{Path, low_after, high_after, low_along, high_along}
 use Rattle.lp_model.specs.declared.types.Side.{Side}
 use Rattle.lp_model.specs.declared.types.Side.TheVariants.{Lo, Hi}
 use Rattle.tree_search.specs.Integral.{IsIntegral}

@@ -9,3 +9,4 @@ pub mod TakenLemmas
 pub mod JudgeLemmas
 pub mod PlacedLemmas
 pub mod StepLemmas
+pub mod SearchLemmas

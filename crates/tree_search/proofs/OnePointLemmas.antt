@@ -1,10 +1,10 @@
 -- A region with one whole point: without multipliers its number is the value of the point.
-use Rattle.std.specs.Prelude.{◌≡◌, ◌≢◌, ◌⊎◌, ℕ, zero, suc, ◌<◌, ◌≤◌, ◌*◌, Bool, true, false, [], ◌∷◌, length, pos, Option, Some, None, Ok, ℤ, ◌*ℤ◌, ◌+ℤ◌, neg_ℤ, unsigned_abs}
+use Rattle.std.specs.Prelude.{◌≡◌, ◌⊎◌, ℕ, ◌<◌, ◌≤◌, ◌*◌, [], ◌∷◌, length, pos, Option, Some, None, Ok, ℤ, ◌*ℤ◌, ◌+ℤ◌, neg_ℤ, unsigned_abs}
 use Rattle.std.proofs.Common.{refl, sym, subst, ap, ◌∙◌, inl, inr, arith}
 use Rattle.std.proofs.lemmas.Int.{ints}
 use Rattle.std.specs.declared.cmp.Ordering.{Ordering}
 use Rattle.std.specs.declared.cmp.Ordering.TheVariants.{Less, Equal, Greater}
-use Rattle.rational.specs.Rational.{ℚ, int, den, ◌+ℚ◌, ◌-ℚ◌, ◌*ℚ◌, neg_ℚ, ◌≤ℚ◌, ◌<ℚ◌, rational_cmp}
+use Rattle.rational.specs.Rational.{ℚ, int, ◌+ℚ◌, ◌-ℚ◌, ◌*ℚ◌, neg_ℚ, rational_cmp}
 use Rattle.rational.proofs.RationalRing.{ring, reads_ℚ}
 use Rattle.rational.proofs.Comparison.{same_from_cmp, cmp_self}
 use Rattle.rational.proofs.Integers.{num-neg_ℚ, den-neg_ℚ}
@@ -13,16 +13,15 @@ use Rattle.rational.specs.Gcd.{gcd}
 use Rattle.std.specs.Prelude.{◌/◌}
 use Rattle.frac128.specs.Range.{IsNarrow, Fits, SumFits, left_factor, right_factor, largest}
 use Rattle.checked_sum.specs.Sums.{sum_below}
-use Rattle.checked_sum.specs.Steps.{HasRoom, StepFits, StepFitsAt, AllFit, partial}
+use Rattle.checked_sum.specs.Steps.{StepFits, AllFit, partial}
 use Rattle.checked_sum.proofs.SumLaws.{sum_below-same, sum_below-neg, sum_below-zero}
-use Rattle.lp_model.specs.Program.{Program, Point, coordinate, coefficient, constant, cost, low_side, high_side, value, least_value, in_least_form}
+use Rattle.lp_model.specs.Program.{Program, Point, coordinate, coefficient, constant, cost, low_side, high_side, least_value, in_least_form}
 use Rattle.lp_model.specs.declared.types.Sense.{Sense}
 use Rattle.lp_model.specs.declared.types.Sense.TheVariants.{Min, Max}
-use Rattle.lp_model.specs.Regions.{Path, region_low, region_high}
-use Rattle.leaf_dual.specs.declared.dual.LagValue.{LagValue}
-use Rattle.leaf_dual.specs.declared.dual.LagValue.TheVariants.{Minus, Num}
-use Rattle.leaf_dual.specs.Dual.{Multipliers, multiplier, side_by, needed_side, reduced_cost, row_side, column_side, times, plus, total_below, dual_number, least_constant, least_cost}
-use Rattle.leaf_dual.specs.Answers.{IsLagAnswer, LacksSide, RowsFit, ColumnsFit, EntriesFit, rows_total, row_number, bound_number, side_number}
+use Rattle.lp_model.specs.Regions.{Path}
+use Rattle.leaf_dual.specs.declared.dual.LagValue.TheVariants.{Num}
+use Rattle.leaf_dual.specs.Dual.{side_by, needed_side, reduced_cost, row_side, column_side, times, plus, total_below, dual_number, least_constant, least_cost}
+use Rattle.leaf_dual.specs.Answers.{IsLagAnswer, LacksSide, RowsFit, ColumnsFit, rows_total, row_number, bound_number, side_number}
 use Rattle.tree_search.specs.Single.{IsOnlyPoint}
 use Rattle.tree_search.proofs.SingleLemmas.{total-is, single-side, single-there}
 
@@ -123,8 +122,10 @@ module _ (M : Program) (path : Path) (x : Point) (only : IsOnlyPoint M path x) (
     where
       side_low : ℕ → Option ℚ
       side_low i = low_side M i
+
       side_high : ℕ → Option ℚ
       side_high i = high_side M i
+
       some_none : (Some (int (pos 0)) ≡ None) → ⊥
       some_none e = cc
 
@@ -163,6 +164,7 @@ module _ (M : Program) (path : Path) (x : Point) (only : IsOnlyPoint M path x) (
     where
       old : StepFits (in_least_form M.sense (partial (constant M 1) (λ k. cost M 1 k) (λ k. coordinate x k) j)) (least_cost M j) (coordinate x j)
       old = step-least M.sense (partial (constant M 1) (λ k. cost M 1 k) (λ k. coordinate x k) j) (cost M 1 j) (coordinate x j) (fits j below)
+
       term : StepFits (partial (rows_total M none (least_constant M)) (reduced_cost M none (least_cost M)) (bound_number M path none (least_cost M)) j) (reduced_cost M none (least_cost M) j) (bound_number M path none (least_cost M) j)
       term = elim (bound_is j below) [
         | inl zero_cost ↦ inl (reduced_is j ∙ zero_cost)
@@ -177,8 +179,10 @@ module _ (M : Program) (path : Path) (x : Point) (only : IsOnlyPoint M path x) (
     where
       row_term : (i : ℕ) → times (int (pos 0)) (row_side M none i) ≡ Num (int (pos 0))
       row_term i = ap (times (int (pos 0))) (no_side (low_side M i) (high_side M i)) ∙ ap Num (ring [] (search reads_ℚ) tt)
+
       rows_sum : total_below (length M.rows) (λ i. times (none i) (row_side M none i)) ≡ Num (int (pos 0))
       rows_sum = total-is (length M.rows) (λ i. times (none i) (row_side M none i)) (λ i. int (pos 0)) (λ i below. row_term i) ∙ ap Num (sum_below-zero (length M.rows))
+
       column_term : (j : ℕ) → j < length M.cols → times (reduced_cost M none (least_cost M) j) (column_side M path none (least_cost M) j) ≡ Num (least_cost M j *ℚ coordinate x j)
       column_term j below = (λ t. times (reduced_is j t) (column_is j below t)) ∙ single-side (least_cost M j) (coordinate x j)
 

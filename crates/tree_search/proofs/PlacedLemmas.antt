@@ -1,10 +1,9 @@
 -- The result of the work on an open leaf is taken, but where the tree is full, and there is less to place then.
-use Rattle.std.specs.Prelude.{◌≡◌, ◌≢◌, ◌⊎◌, ℕ, zero, suc, ◌+◌, ◌*◌, ◌-◌, ◌<◌, ◌≤◌, Bool, true, false, List, [], ◌∷◌, length, pos, Option, Some, None, Ok, ℤ, ◌+ℤ◌, ◌≤ℤ◌, ◌<ℤ◌, All, AllPairs, map, unwrap_or, MatchOption}
-use Rattle.std.specs.Option.{option_map}
+use Rattle.std.specs.Prelude.{◌≡◌, ℕ, ◌+◌, ◌*◌, ◌-◌, ◌<◌, ◌≤◌, List, [], ◌∷◌, length, pos, Option, Some, None, Ok, ℤ, ◌+ℤ◌, ◌≤ℤ◌, ◌<ℤ◌, MatchOption}
 use Rattle.std.proofs.Common.{refl, sym, subst, ap, ◌∙◌, inl, inr, arith}
 use Rattle.std.proofs.lemmas.List.Elements.{All-nil, All-cons}
-use Rattle.rational.specs.Rational.{ℚ, int, ◌≤ℚ◌, ◌<ℚ◌, min_ℚ, max_ℚ, floor}
-use Rattle.rational.proofs.RationalOrder.{≤ℚ_refl, ≤ℚ_trans, ≤ℚ_of_<ℚ, not_both_ℚ}
+use Rattle.rational.specs.Rational.{ℚ, int, ◌≤ℚ◌, floor}
+use Rattle.rational.proofs.RationalOrder.{≤ℚ_trans, not_both_ℚ}
 use Rattle.lp_model.specs.Program.{Program, Point, least_value}
 use Rattle.lp_model.specs.Regions.{Path, region_low, region_high, tighter_low, tighter_high, IsCrossed, IsEmptyRegion}
 use Rattle.lp_model.specs.declared.types.Basis.{Basis}
@@ -12,18 +11,17 @@ use Rattle.lp_model.specs.declared.types.Var.{Var}
 use Rattle.lp_model.specs.declared.types.Var.TheVariants.{Row}
 use Rattle.leaf_dual.specs.Dual.{Multipliers}
 use Rattle.leaf_dual.specs.declared.dual.LagValue.TheVariants.{Num}
-use Rattle.branch_tree.specs.Tree.{Leaf, Split as SplitTree, left_path, right_path, EachLeaf}
-use Rattle.branch_tree.specs.Plain.{Plain, LeafKept, leaves_with, leaf_below, replaced}
+use Rattle.branch_tree.specs.Tree.{Leaf, left_path, right_path, EachLeaf}
+use Rattle.branch_tree.specs.Plain.{Plain, leaves_with, replaced}
 use Rattle.branch_tree.specs.Leaves.{with_states}
 use Rattle.branch_tree.specs.Numbered.{NumberedTree}
-use Rattle.branch_tree.specs.Changes.{HasRoom, with_leaf_states}
+use Rattle.branch_tree.specs.Changes.{with_leaf_states}
 use Rattle.branch_tree.specs.declared.node.LeafData.{LeafData}
 use Rattle.branch_tree.specs.declared.node.LeafState.{LeafState}
 use Rattle.branch_tree.specs.declared.node.LeafState.TheVariants.{IsOpen, IsClosed}
 use Rattle.branch_tree.specs.declared.node.NodeResult.{NodeResult}
 use Rattle.branch_tree.specs.declared.node.NodeResult.TheVariants.{Close, Split as SplitAt, PointAndClose, Keep}
 use Rattle.branch_tree.proofs.LeafLemmas.{leaf_below-found}
-use Rattle.branch_tree.proofs.PathLaws.{each-found}
 use Rattle.tree_edit.specs.declared.placing.Taken.{Taken}
 use Rattle.tree_edit.specs.declared.placing.Taken.TheVariants.{Stale, Refused, Reopened, Full, Closed, Split, Kept}
 use Rattle.tree_edit.specs.declared.judging.LeafNumber.TheVariants.{Empty, Lag}
@@ -34,14 +32,14 @@ use Rattle.tree_edit.specs.Lists.{NamesOnce, IsRowThere, AreMultipliers, IsBasis
 use Rattle.tree_edit.specs.Checks.{IsSplitAllowed, IsFrom, IsUnder}
 use Rattle.tree_edit.specs.Sound.{PlainSearch, IsSound}
 use Rattle.tree_edit.specs.Calls.{IsLeafAt}
-use Rattle.tree_edit.specs.Placing.{ClosesWith, TakesClose, TakesPointClose, TakesSplit, TakesResult, TakesOpen, Takes, TakesPoint, IsSplitSound, search_with_leaf, search_with_split, split_node, closed_data}
+use Rattle.tree_edit.specs.Placing.{ClosesWith, TakesClose, TakesPointClose, TakesSplit, TakesResult, TakesOpen, Takes, TakesPoint, IsSplitSound, split_node, closed_data}
 use Rattle.tree_search.specs.Integral.{IsIntegral}
-use Rattle.tree_search.specs.Points.{points, IsFirstOpen, middle_within}
-use Rattle.tree_search.specs.Refuting.{one_row, IsTrial, RowRefutes}
+use Rattle.tree_search.specs.Points.{points, IsFirstOpen}
+use Rattle.tree_search.specs.Refuting.{one_row}
 use Rattle.tree_search.specs.Single.{IsOnlyPoint}
 use Rattle.tree_search.specs.Work.{leaf_work, work}
-use Rattle.tree_search.specs.Working.{no_basis, IsClosing, IsSplitting, IsKeeping, IsResultFor}
-use Rattle.tree_search.specs.Steps.{work_of, Lowers, IsTooFull}
+use Rattle.tree_search.specs.Working.{no_basis, IsResultFor}
+use Rattle.tree_search.specs.Steps.{Lowers, IsTooFull}
 use Rattle.tree_search.proofs.RegionLemmas.{IsWholeBound, region_high-whole, floor-less, floor-int, middle-allowed}
 use Rattle.tree_edit.proofs.SoundLemmas.{each-weaker}
 use Rattle.rational.proofs.Rounding.{int-≤ℚ}

@@ -1,12 +1,12 @@
 -- Open leaves: each is found by its id, and where the scan finds none no leaf is open.
-use Rattle.std.specs.Prelude.{◌≡◌, ◌≢◌, ◌⊎◌, ℕ, ◌+◌, ◌<◌, ◌≤◌, List, [], ◌∷◌, ◌++◌, length, get_or, map, All, Option, Some, None}
+use Rattle.std.specs.Prelude.{◌≡◌, ℕ, ◌≤◌, List, [], ◌∷◌, ◌++◌, length, map, All, Some}
 use Rattle.std.specs.Option.{option_map}
-use Rattle.std.proofs.Common.{refl, sym, subst, ap, ◌∙◌, inl, inr, arith}
+use Rattle.std.proofs.Common.{refl, subst, ap, arith}
 use Rattle.std.proofs.lemmas.List.{get_or-map, length-map}
 use Rattle.std.proofs.lemmas.List.Elements.{All-map, All-head, All-tail, All-cons}
-use Rattle.lp_model.specs.Regions.{Path, AreNarrow, IsEmptyRegion}
-use Rattle.branch_tree.specs.Tree.{Tree, Leaf, Split, left_path, right_path, EachLeaf, leaves}
-use Rattle.branch_tree.specs.Plain.{Plain, LeafKept, leaves_with, splits_with, leaf_below}
+use Rattle.lp_model.specs.Regions.{Path, AreNarrow}
+use Rattle.branch_tree.specs.Tree.{Leaf, Split, left_path, right_path, EachLeaf, leaves}
+use Rattle.branch_tree.specs.Plain.{Plain, LeafKept, leaves_with, leaf_below}
 use Rattle.branch_tree.specs.Numbered.{NumberedTree, IsNumbered}
 use Rattle.branch_tree.specs.Leaves.{placed, placed_leaves}
 use Rattle.branch_tree.specs.declared.node.PlacedLeaf.{PlacedLeaf}
@@ -15,9 +15,7 @@ use Rattle.branch_tree.specs.declared.node.LeafState.TheVariants.{IsOpen, IsClos
 use Rattle.branch_tree.proofs.TreeLemmas.{each_leaf-leaves}
 use Rattle.tree_edit.specs.Sound.{PlainSearch, IsSound}
 use Rattle.tree_edit.specs.Calls.{IsLeafAt}
-use Rattle.tree_edit.specs.Points.{target}
 use Rattle.tree_edit.proofs.PlaceLemmas.{narrow-found}
-use Rattle.tree_search.specs.Integral.{IsIntegral}
 use Rattle.tree_search.specs.Steps.{IsOpenLeaf}
 use Rattle.tree_search.proofs.WorkLemmas.{found_each}
 use Rattle.tree_search.specs.Steps.{Lowers}

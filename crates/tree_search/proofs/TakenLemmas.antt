@@ -1,24 +1,22 @@
 -- A point that comes: the least value is no more than its own and than the one before, so leaves that were closed stay closed.
-use Rattle.std.specs.Prelude.{◌≡◌, ◌≢◌, ◌⊎◌, ℕ, zero, suc, ◌+◌, ◌-◌, ◌<◌, ◌≤◌, Bool, true, false, IsTrue, List, [], ◌∷◌, ◌++◌, length, get_or, map, take, drop, All, pos, Option, Some, None, Ok}
+use Rattle.std.specs.Prelude.{◌≡◌, ℕ, zero, suc, ◌+◌, ◌<◌, true, false, List, [], ◌∷◌, ◌++◌, length, get_or, map, take, drop, All, pos, Option, Some, None}
 use Rattle.std.specs.List.{remove}
 use Rattle.std.proofs.Common.{refl, sym, subst, ap, ◌∙◌, inl, inr, arith, length-append}
 use Rattle.std.proofs.lemmas.Bool.{cases_order}
 use Rattle.std.proofs.lemmas.List.{get_or-map, length-map, length-take, length-drop}
-use Rattle.std.proofs.lemmas.List.Elements.{All-push, All-append, All-take, All-drop, All-cons, All-head, All-tail, All-nil, All-from_get_or}
-use Rattle.rational.specs.Rational.{ℚ, int, ◌≤ℚ◌, ◌<ℚ◌, min_ℚ, ceil, IsWhole}
+use Rattle.std.proofs.lemmas.List.Elements.{All-push, All-append, All-take, All-drop, All-cons, All-head, All-tail, All-nil}
+use Rattle.rational.specs.Rational.{ℚ, int, ◌≤ℚ◌, IsWhole}
 use Rattle.rational.proofs.RationalOrder.{≤ℚ_refl, ≤ℚ_trans, ≤ℚ_antisymm, ≤ℚ_or_>ℚ, ≤ℚ_of_<ℚ, not_both_ℚ}
 use Rattle.rational.proofs.Division.{min-≤ℚ, ≤ℚ-min}
 use Rattle.rational.proofs.Integers.{IsWhole-neg_ℚ}
-use Rattle.lp_model.specs.Program.{Program, Point, value, least_value, in_least_form, IsFeasible, HasWholeObjective}
+use Rattle.lp_model.specs.Program.{Program, Point, value, least_value, in_least_form, IsFeasible}
 use Rattle.lp_model.specs.declared.types.Sense.{Sense}
 use Rattle.lp_model.specs.declared.types.Sense.TheVariants.{Min, Max}
 use Rattle.lp_model.proofs.ModelLaws.{whole_value}
-use Rattle.leaf_dual.specs.declared.dual.LagValue.{LagValue}
 use Rattle.leaf_dual.specs.declared.dual.LagValue.TheVariants.{Minus, Num}
-use Rattle.leaf_dual.specs.Dual.{Reaches}
 use Rattle.tree_edit.specs.declared.judging.LeafNumber.{LeafNumber}
 use Rattle.tree_edit.specs.declared.judging.LeafNumber.TheVariants.{Empty, Lag, Wide}
-use Rattle.tree_edit.specs.Closing.{NumberCloses, ReachesIn}
+use Rattle.tree_edit.specs.Closing.{NumberCloses}
 use Rattle.tree_edit.specs.Points.{IsKeepable, target, lesser, value_at}
 use Rattle.tree_edit.specs.Placing.{IsOldestGreatestOf, IsWorst, without, AddsPoint}
 use Rattle.tree_edit.proofs.WorstLemmas.{worst-higher, worst-same}
@@ -49,7 +47,7 @@ worst_of values (suc n) e = elim (cases_order n 100) [
 
 module _ (M : Program) where
   -- it is that of one of them
-  least_is : (P : Point → Type 0) (x : Point) (xs : List Point) → All P (x ∷ xs) → (y : Point) × (P y × ((target M (x ∷ xs) ≡ Some (least_value M 1 y)) × All (λ z. least_value M 1 y ≤ℚ least_value M 1 z) (x ∷ xs)))
+  pub least_is : (P : Point → Type 0) (x : Point) (xs : List Point) → All P (x ∷ xs) → (y : Point) × (P y × ((target M (x ∷ xs) ≡ Some (least_value M 1 y)) × All (λ z. least_value M 1 y ≤ℚ least_value M 1 z) (x ∷ xs)))
   least_is P x [] all = (x, (All-head P x [] all, (refl, All-cons (λ z. least_value M 1 x ≤ℚ least_value M 1 z) x [] (≤ℚ_refl (least_value M 1 x)) (All-nil (λ z. least_value M 1 x ≤ℚ least_value M 1 z)))))
   least_is P x (w ∷ ws) all =
       let (y, (p, (is, least))) = least_is P w ws (All-tail P x (w ∷ ws) all) in
@@ -57,25 +55,25 @@ module _ (M : Program) where
       let u : ℚ = least_value M 1 y in
       elim (≤ℚ_or_>ℚ v u) [
         | inl first ↦ (
-            x,
+          x,
+          (
+            All-head P x (w ∷ ws) all,
             (
-              All-head P x (w ∷ ws) all,
-              (
-                ap (λ t. Some (lesser v t)) is ∙ ap Some (≤ℚ_antisymm ((min-≤ℚ v u).0) (≤ℚ-min v v u (≤ℚ_refl v) first)),
-                All-cons (λ z. v ≤ℚ least_value M 1 z) x (w ∷ ws) (≤ℚ_refl v) (λ k d below. ≤ℚ_trans first (least k d below)),
-              ),
+              ap (λ t. Some (lesser v t)) is ∙ ap Some (≤ℚ_antisymm ((min-≤ℚ v u).0) (≤ℚ-min v v u (≤ℚ_refl v) first)),
+              All-cons (λ z. v ≤ℚ least_value M 1 z) x (w ∷ ws) (≤ℚ_refl v) (λ k d below. ≤ℚ_trans first (least k d below)),
             ),
-          )
+          ),
+        )
         | inr second ↦ (
-            y,
+          y,
+          (
+            p,
             (
-              p,
-              (
-                ap (λ t. Some (lesser v t)) is ∙ ap Some (≤ℚ_antisymm ((min-≤ℚ v u).1) (≤ℚ-min u v u (≤ℚ_of_<ℚ second) (≤ℚ_refl u))),
-                All-cons (λ z. u ≤ℚ least_value M 1 z) x (w ∷ ws) (≤ℚ_of_<ℚ second) least,
-              ),
+              ap (λ t. Some (lesser v t)) is ∙ ap Some (≤ℚ_antisymm ((min-≤ℚ v u).1) (≤ℚ-min u v u (≤ℚ_of_<ℚ second) (≤ℚ_refl u))),
+              All-cons (λ z. u ≤ℚ least_value M 1 z) x (w ∷ ws) (≤ℚ_of_<ℚ second) least,
             ),
-          )
+          ),
+        )
       ]
 
 all_back : {A : Type 0} (P : A → Type 0) (xs : List A) (k : ℕ) → All P (remove xs k) → ((d : A) → P (get_or xs k d)) → All P xs
@@ -131,12 +129,12 @@ closer_to M t y feasible less (Lag Minus) h = elim h [ inl plain ↦ absurd plai
 closer_to M t y feasible less (Lag (Num q)) h = elim h [
   | inl plain ↦ elim plain [ inl reach ↦ inl (inl (≤ℚ_trans less reach)) | inr other ↦ let f : false ≡ true = other.0 in cc ]
   | inr rounded ↦ inr (
-      rounded.0,
-      elim rounded.1 [
-        | inl reach ↦ inl (≤ℚ_trans less reach)
-        | inr up ↦ inr (refl, whole_least M.sense (value M 1 y) (whole_value M 1 y rounded.0 feasible), ≤ℚ_trans less up.2)
-      ],
-    )
+    rounded.0,
+    elim rounded.1 [
+      | inl reach ↦ inl (≤ℚ_trans less reach)
+      | inr up ↦ inr (refl, whole_least M.sense (value M 1 y) (whole_value M 1 y rounded.0 feasible), ≤ℚ_trans less up.2)
+    ],
+  )
 ]
 closer_to M t y feasible less (Wide step) h = absurd h
 

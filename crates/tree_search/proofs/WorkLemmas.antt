@@ -1,5 +1,5 @@
 -- What changes of a tree do to its work: a placed result lowers it.
-use Rattle.std.specs.Prelude.{◌≡◌, ◌≢◌, ◌⊎◌, ℕ, zero, suc, ◌+◌, ◌*◌, ◌-◌, ◌<◌, ◌≤◌, Bool, true, false, if◌then◌else◌, nat_eq, List, [], ◌∷◌, length, drop, pos, Option, Some, None, ℤ, unwrap_or, MatchOption}
+use Rattle.std.specs.Prelude.{◌≡◌, ◌⊎◌, ℕ, zero, suc, ◌+◌, ◌<◌, ◌≤◌, Bool, true, if◌then◌else◌, nat_eq, List, [], ◌∷◌, drop, Option, Some, None, unwrap_or, MatchOption}
 use Rattle.std.specs.Option.{option_map, option_or}
 use Rattle.std.proofs.Common.{refl, sym, subst, ap, ◌∙◌, inl, inr, arith}
 use Rattle.std.proofs.lemmas.Bool.Decides.{eqb_tells}
@@ -8,8 +8,8 @@ use Rattle.lp_model.specs.Program.{Program}
 use Rattle.lp_model.specs.Regions.{Path, IsEmptyRegion}
 use Rattle.leaf_dual.specs.Dual.{Multipliers}
 use Rattle.lp_model.specs.declared.types.Basis.{Basis}
-use Rattle.branch_tree.specs.Tree.{Tree, Leaf, Split, left_path, right_path, EachLeaf}
-use Rattle.branch_tree.specs.Plain.{Plain, LeafKept, SplitKept, leaves_with, one_if_same, leaf_below, data_of, path_of, replaced}
+use Rattle.branch_tree.specs.Tree.{Leaf, Split, left_path, right_path, EachLeaf}
+use Rattle.branch_tree.specs.Plain.{Plain, LeafKept, leaves_with, one_if_same, leaf_below, replaced}
 use Rattle.branch_tree.specs.Leaves.{with_states, with_state, leaf_count}
 use Rattle.branch_tree.specs.declared.node.LeafData.{LeafData}
 use Rattle.branch_tree.specs.declared.node.LeafState.{LeafState}
@@ -19,7 +19,7 @@ use Rattle.branch_tree.proofs.IdLemmas.{no_leaf}
 use Rattle.branch_tree.proofs.StateLemmas.{leaves_with-states}
 use Rattle.tree_edit.specs.declared.judging.LeafNumber.{LeafNumber}
 use Rattle.tree_edit.specs.declared.judging.LeafNumber.TheVariants.{Empty}
-use Rattle.tree_edit.specs.Closing.{IsNumber, NumberCloses, StateSays, IsJudged, IsJudgedLeaf}
+use Rattle.tree_edit.specs.Closing.{NumberCloses, StateSays, IsJudged, IsJudgedLeaf}
 use Rattle.branch_tree.proofs.PathLaws.{each-found}
 use Rattle.tree_edit.specs.Points.{target}
 use Rattle.tree_edit.specs.Sound.{PlainSearch, IsSound}

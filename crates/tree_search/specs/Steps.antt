@@ -1,6 +1,5 @@
 -- What a placed result does to a search.
 use Rattle.std.specs.Prelude.{◌≡◌, ℕ, ◌+◌, ◌≤◌, [], Option, Some, None}
-use Rattle.lp_model.specs.Program.{Program}
 use Rattle.lp_model.specs.Regions.{Path}
 use Rattle.branch_tree.specs.Changes.{HasRoom}
 use Rattle.branch_tree.specs.declared.node.LeafData.{LeafData}

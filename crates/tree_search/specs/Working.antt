@@ -1,7 +1,7 @@
 -- What the work on an open leaf comes to.
 --     IsResultFor M path done     the result closes the region by one row, splits it at a middle, or closes it with its one point
 --     IsWidePoint M path step     the region has one whole point, and a step without room keeps it from being judged
-use Rattle.std.specs.Prelude.{◌≡◌, ◌⊎◌, ℕ, [], ◌<◌, Option, Some, None, Ok, Err, false}
+use Rattle.std.specs.Prelude.{◌≡◌, ◌⊎◌, ℕ, [], Ok, Err, false}
 use Rattle.rational.specs.Rational.{ℚ}
 use Rattle.lp_model.specs.Program.{Program, Point, IsFeasible}
 use Rattle.lp_model.specs.Answers.{IsFeasibilityAnswer, IsValueAnswer}

@@ -54,12 +54,7 @@ fn best_value(search: &Search) -> Option<Frac>
 }
 
 /// What a search without an open leaf has shown.
-fn finished(
-    alloc: Global,
-    search: &Search,
-    limit: u64,
-    placed: u64,
-) -> Result<Outcome, AllocError>
+fn finished(alloc: Global, search: &Search, limit: u64, placed: u64) -> Result<Outcome, AllocError>
     requires none_open { HasNoOpenLeaf search.now }
     requires within_limit { placed ≤ limit }
     requires within_cap { placed ≤ cap_of search.now.model }
@@ -99,6 +94,7 @@ pub fn solve(alloc: Global, search: &mut Search, limit: u64) -> Result<Outcome, 
     requires { IsIntegral search.old.model }
     ensures { IfOk result (λ outcome. Finds search.old search.new limit outcome) }
 {
+    let _sound = search.points();
     let mut placed = 0;
     while let Some(leaf) = next_open(alloc, search)? {
         if placed == limit {

@@ -2,6 +2,7 @@
 ghost use Rattle.std.specs.Prelude.{◌≡◌, ◌↔◌, IsTrue, IfOk, MatchOption};
 ghost use Rattle.branch_tree.specs.declared.node.LeafState.TheVariants.{IsOpen};
 ghost use Rattle.tree_edit.specs.Laws.{HasNoOpenLeaf};
+ghost use Rattle.tree_edit.specs.Sound.{IsSound};
 ghost use Rattle.tree_search.specs.Integral.{IsIntegral};
 ghost use Rattle.tree_search.specs.Working.{IsResultFor};
 ghost use Rattle.tree_search.specs.Steps.{IsOpenLeaf, Steps};
@@ -43,7 +44,8 @@ fn is_open(state: &LeafState) -> bool
 
 /// An open leaf, if there is one: the first from the left.
 pub(crate) fn next_open(alloc: Global, search: &Search) -> Result<Option<OpenLeaf>, AllocError>
-    ensures { IfOk result (λ leaf. MatchOption leaf (HasNoOpenLeaf search.now) (λ l. IsOpenLeaf search.now l.id l.region)) }
+    ensures found { IfOk result (λ leaf. MatchOption leaf (HasNoOpenLeaf search.now) (λ l. IsOpenLeaf search.now l.id l.region)) }
+    ensures sound { IsSound search.now }
 {
     let leaves = search.tree().leaves()?;
     for leaf in &leaves {

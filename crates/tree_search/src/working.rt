@@ -116,11 +116,7 @@ fn judge_point(
 }
 
 /// The work on an open leaf's region.
-pub(crate) fn work_on(
-    alloc: Global,
-    model: &Model,
-    region: &Region,
-) -> Result<Work, AllocError>
+pub(crate) fn work_on(alloc: Global, model: &Model, region: &Region) -> Result<Work, AllocError>
     requires integral { IsIntegral model.now }
     requires narrow { AreNarrow region.now }
     requires some { ¬ IsEmptyRegion model.now region.now }

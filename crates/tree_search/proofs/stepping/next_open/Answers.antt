@@ -1,17 +1,16 @@
-use Rattle.std.specs.Prelude.{◌≡◌, ℕ, ◌<◌, ◌≤◌, List, [], length, get_or, All}
+use Rattle.std.specs.Prelude.{◌≡◌, ◌≤◌, List, [], length, All}
 use Rattle.std.proofs.Common.{subst, sym, ap, ◌∙◌, arith, refl}
-use Rattle.branch_tree.specs.Plain.{Plain}
 use Rattle.branch_tree.specs.Numbered.{NumberedTree, IsNumbered}
 use Rattle.branch_tree.specs.Leaves.{placed_leaves}
 use Rattle.branch_tree.specs.declared.node.PlacedLeaf.{PlacedLeaf}
-use Rattle.branch_tree.specs.declared.node.LeafState.TheVariants.{IsOpen, IsClosed}
+use Rattle.branch_tree.specs.declared.node.LeafState.TheVariants.{IsClosed}
 use Rattle.tree_edit.specs.Calls.{IsLeafAt}
 use Rattle.tree_search.specs.Steps.{IsOpenLeaf}
 use Rattle.tree_search.proofs.StepLemmas.{once, placed-at, none-open}
 use Rattle.tree_search.proofs.stepping.next_open.Goals as goal
 
-pub returns-then-is_open : goal.returns-then-is_open
-returns-then-is_open c =
+pub returns-then-is_open-clause-found : goal.returns-then-is_open-clause-found
+returns-then-is_open-clause-found c =
     let S = c.args.search.now in
     let numbered : IsNumbered S.tree = subst IsNumbered c.tree.ensures.tree c.in_ok-leaves.ensures.numbered in
     let items : List PlacedLeaf = c.deref-leaf-items.result.now in
@@ -21,8 +20,8 @@ returns-then-is_open c =
     let at : IsLeafAt S.tree.root l.id l.region l.kept = subst (λ (k : PlacedLeaf). IsLeafAt S.tree.root k.id k.region k.kept) (sym c.leaf-item.is) (all c.loop-leaf.leaf-index l c.loop-leaf-test.true) in
     subst (IsOpenLeaf S l.id) (sym (c.in_ok-region.ensures ∙ c.as_slice.ensures)) (record { kept = l.kept; leaf = at; state = c.if-is_open.ensures.0 refl })
 
-pub returns : goal.returns
-returns c =
+pub returns-clause-found : goal.returns-clause-found
+returns-clause-found c =
     let S = c.args.search.now in
     let items : List PlacedLeaf = c.deref-leaf-items.result.now in
     let are : items ≡ placed_leaves [] S.tree.root = c.deref-leaf-items.ensures.value ∙ c.in_ok-leaves.ensures.leaves ∙ ap (λ (T : NumberedTree). placed_leaves [] T.root) c.tree.ensures.tree in

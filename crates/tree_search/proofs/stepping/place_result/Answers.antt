@@ -1,5 +1,4 @@
-use Rattle.std.proofs.Common.{subst, sym, ap}
-use Rattle.branch_tree.specs.Numbered.{NumberedTree}
+use Rattle.std.proofs.Common.{subst}
 use Rattle.tree_search.proofs.PlacedLemmas.{AfterPlace, after_place}
 use Rattle.tree_search.proofs.StepLemmas.{once, not-full}
 use Rattle.branch_tree.specs.Numbered.{IsNumbered}

@@ -1,4 +1,4 @@
-use Rattle.std.specs.Prelude.{◌≡◌, None, Some}
+use Rattle.std.specs.Prelude.{Some}
 use Rattle.std.proofs.Common.{subst, sym, inl, inr}
 use Rattle.tree_search.specs.Refuting.{IsTrial, IsRefutingOf}
 use Rattle.tree_search.specs.declared.refuting.Refuting.TheVariants.{NotRefuted}
