@@ -1,12 +1,12 @@
 -- The leaf with an id: in the left child, else in the right one.
-use Rattle.std.specs.Prelude.{◌≡◌, ℕ, ◌+◌, ◌<◌, MatchOption, length, ◌++◌, take, Bool, true, false, if◌then◌else◌, nat_eq, [], Option, Some, None, ℤ}
+use Rattle.std.specs.Prelude.{◌≡◌, ℕ, ◌+◌, ◌<◌, ◌≤◌, MatchOption, IfSome, IfOk, Result, Ok, Err, IsTrue, length, ◌++◌, take, Bool, true, false, if◌then◌else◌, nat_eq, [], Option, Some, None, ℤ}
 use Rattle.std.specs.Option.{option_map, option_or}
 use Rattle.std.proofs.Common.{refl, sym, ap, subst, ◌∙◌, arith}
 use Rattle.std.proofs.lemmas.List.Folds.{find-append}
 use Rattle.std.proofs.Math.Seq.{take-append_seam}
 use Rattle.lp_model.specs.Regions.{Path}
 use Rattle.branch_tree.specs.Tree.{Leaf, Split, leaves, left_path, right_path}
-use Rattle.branch_tree.specs.Plain.{SplitKept, LeafKept, Plain, leaves_with, leaf_below, path_below, data_of}
+use Rattle.branch_tree.specs.Plain.{SplitKept, LeafKept, Plain, leaves_with, leaf_below, path_below, path_of, data_of}
 use Rattle.branch_tree.specs.declared.node.LeafData.{LeafData}
 
 option_map-or : {A B : Type 0} (f : A → B) (a b : Option A) → option_map f (option_or a b) ≡ option_or (option_map f a) (option_map f b)
@@ -99,6 +99,42 @@ module _ (id : ℕ) (kept : SplitKept) (j : ℕ) (v : ℤ) (left right : Plain) 
 
   pub path_below-right : (path : Path) (found : Option Path) → path_below id (left_path path j v) left ≡ None → path_below id (right_path path j v) right ≡ found → path_below id path (Split kept j v left right) ≡ found
   path_below-right path found h e = path_below-split id path kept j v left right ∙ ap (λ o. option_or o (path_below id (right_path path j v) right)) h ∙ e
+
+-- what the way finds in one child is what there is, since one leaf at most has the id
+module _ (id : ℕ) (kept : SplitKept) (j : ℕ) (v : ℤ) (left right : Plain) where
+  pub data_at-left : {R : Type 0} (found : Option R) (now : R → LeafData) → IfSome found (λ k. data_of id left ≡ Some (now k)) → IfSome found (λ k. data_of id (Split kept j v left right) ≡ Some (now k))
+  data_at-left None now h = h
+  data_at-left (Some k) now h = sym (data_of-left id kept j v left right (now k) (sym h))
+
+  pub data_at-right : {R : Type 0} (found : Option R) (now : R → LeafData) → leaves_with id left + leaves_with id right ≤ 1 → IfSome found (λ k. leaves_with id right ≡ 1)
+      → IfSome found (λ k. data_of id right ≡ Some (now k)) → IfSome found (λ k. data_of id (Split kept j v left right) ≡ Some (now k))
+  data_at-right None now one has h = h
+  data_at-right (Some k) now one has h =
+      let none : leaf_below id [] left ≡ None = leaf_below-none id [] left (omega (arith, one, has)) in
+      sym (data_of-right id kept j v left right (Some (now k)) (sym (ap (option_map (λ (l : Path × LeafKept). l.1.kept)) none)) (sym h))
+
+  pub path_at-left : {E : Type 0} (found : Result Bool E) (path longer new : Path) → longer ≡ left_path path j v
+      → IfOk found (λ b. IsTrue b → path_below id longer left ≡ Some new) → IfOk found (λ b. IsTrue b → path_below id path (Split kept j v left right) ≡ Some new)
+  path_at-left (Ok b) path longer new on h = λ t. path_below-left id kept j v left right path new (subst (λ p. path_below id p left ≡ Some new) on (h t))
+  path_at-left (Err e) path longer new on h = h
+
+  pub path_at-right : {E : Type 0} (found : Result Bool E) (path longer new : Path) → leaves_with id left + leaves_with id right ≤ 1 → longer ≡ right_path path j v
+      → IfOk found (λ b. IsTrue b → path_below id longer right ≡ Some new) → IfOk found (λ b. IsTrue b → path_below id path (Split kept j v left right) ≡ Some new)
+  path_at-right (Ok b) path longer new one on h = λ t.
+      let there : path_below id (right_path path j v) right ≡ Some new = subst (λ p. path_below id p right ≡ Some new) on (h t) in
+      let has : 0 < leaves_with id right = subst (λ o. MatchOption o (leaves_with id right ≡ 0) (λ _. 0 < leaves_with id right)) there (path_below-found id (right_path path j v) right) in
+      let none : leaf_below id (left_path path j v) left ≡ None = leaf_below-none id (left_path path j v) left (omega (arith, one, has)) in
+      path_below-right id kept j v left right path (Some new) (ap (option_map (λ (l : Path × LeafKept). l.0)) none) there
+  path_at-right (Err e) path longer new one on h = h
+
+one_found : (o : Option Path) (n : ℕ) → n ≤ 1 → MatchOption o (n ≡ 0) (λ _. 0 < n) → MatchOption o (n ≡ 0) (λ _. n ≡ 1)
+one_found None n one h = h
+one_found (Some p) n one h = omega (arith, one, h)
+
+-- a region is answered just where a leaf has the id
+pub region_found : {E : Type 0} (r : Result (Option Path) E) (id : ℕ) (t : Plain) → leaves_with id t ≤ 1 → IfOk r (λ p. p ≡ path_of id t) → IfOk r (λ p. MatchOption p (leaves_with id t ≡ 0) (λ _. leaves_with id t ≡ 1))
+region_found (Ok p) id t one h = subst (λ o. MatchOption o (leaves_with id t ≡ 0) (λ _. leaves_with id t ≡ 1)) (sym h) (one_found (path_of id t) (leaves_with id t) one (path_below-found id [] t))
+region_found (Err e) id t one h = h
 
 -- what was put behind a path is taken off again
 pub take_front : (path more : Path) (n : ℕ) → n ≡ length path → take n (path ++ more) ≡ path

@@ -6,5 +6,6 @@ pub mod TreeLemmas
 pub mod NumberedLaws
 pub mod KeptLemmas
 pub mod ChangeLaws
+pub mod LeafLaws
 pub mod PlaceLaws
 pub mod PathLaws

@@ -1,15 +1,15 @@
 // A tree as boxed branches. Each call walks the branches, as deep as the tree is.
-ghost use Rattle.std.specs.Prelude.{◌≡◌, ◌↔◌, ◌≤◌, IsTrue, length, ◌+◌, ◌-◌, ◌^◌, ◌<◌, ◌<ℤ◌, ◌+ℤ◌, pos, ◌++◌, IfOk, MatchBool, MatchOption, Some, None};
+ghost use Rattle.std.specs.Prelude.{◌≡◌, ◌↔◌, ◌≤◌, IsTrue, length, ◌+◌, ◌-◌, ◌^◌, ◌<◌, ◌<ℤ◌, ◌+ℤ◌, pos, ◌++◌, IsSome, IfOk, IfSome, MatchBool, MatchOption, Some, None};
 ghost use Rattle.std.specs.Option.{option_copied};
 ghost use Rattle.branch_tree.specs.Tree.{at_most, at_least, node_count};
-ghost use Rattle.branch_tree.specs.Plain.{open_data, open_leaf, new_split, leaves_with, splits_with, data_of, path_below, replaced, collapsed, splits_at, trimmed, preorder, HasBounds};
+ghost use Rattle.branch_tree.specs.Plain.{open_data, open_leaf, new_split, leaves_with, splits_with, data_of, path_of, path_below, replaced, collapsed, splits_at, trimmed, preorder, HasBounds};
 ghost use Rattle.branch_tree.specs.Leaves.{leaf_count, open_count, placed_leaves, with_states};
-ghost use Rattle.branch_tree.specs.Branches.{plain};
+ghost use Rattle.branch_tree.specs.Branches.{plain, IsReplaced, IsKept};
 
 use crate::node::{
     LeafData, LeafState, Node, PlacedLeaf, copy_basis, copy_data, copy_mult, empty_basis, open_data,
 };
-use lp_model::{Basis, BoundChange, ColId, List, Mult, Side};
+use lp_model::{Basis, BoundChange, ColId, List, Mult, Region, Side};
 use std::alloc::{AllocError, Global};
 use std::mem;
 
@@ -108,26 +108,82 @@ impl Branch {
         }
     }
 
-    #[tactic(auto, using(crate::proofs::IdLemmas::no_leaf))]
-    /// Puts a branch in the place of the leaf with the id, or hands it back where there is none.
-    pub(crate) fn replace(&mut self, id: u64, new: Branch) -> Option<Branch>
+    /// Puts a branch in the place of the leaf with the id, or hands it back where there is none. The way, where it leads
+    /// to that leaf, saves the search.
+    pub(crate) fn replace(&mut self, id: u64, way: &[bool], new: Branch) -> Option<Branch>
         requires { leaves_with id (plain self.old) ≤ 1 }
         ensures tree { plain self.new ≡ replaced id (plain new) (plain self.old) }
         ensures left { MatchOption result (leaves_with id (plain self.old) ≡ 1) (λ back. (back ≡ new) × (leaves_with id (plain self.old) ≡ 0)) }
     {
+        let mut slot = Some(new);
+        if self.replace_at(id, way, &mut slot) {
+            return None;
+        }
+        if self.search_replace(id, &mut slot) {
+            return None;
+        }
+        slot
+    }
+
+    /// Takes the branch out of the slot in its own place. It stands apart so that the walks below need little stack.
+    fn become_slot(&mut self, slot: &mut Option<Branch>)
+        requires { IsSome slot.old }
+        ensures place { IfSome slot.old (λ new. self.new ≡ new) }
+        ensures taken { slot.new ≡ None }
+    {
+        if let Some(new) = slot.take() {
+            *self = new;
+        }
+    }
+
+    /// Puts the branch of the slot in the place of the leaf with the id, where the way leads to it.
+    #[tactic(auto, using(crate::proofs::IdLemmas::no_leaf))]
+    fn replace_at(&mut self, id: u64, way: &[bool], slot: &mut Option<Branch>) -> bool
+        requires one { leaves_with id (plain self.old) ≤ 1 }
+        requires full { IsSome slot.old }
+        ensures { MatchBool result (IsReplaced id self.old slot.old self.new) (IsKept self.old slot.old self.new slot.new) }
+    {
         match self {
             Branch::Leaf(leaf) => {
                 if leaf.id == id {
-                    *self = new;
-                    None
+                    self.become_slot(slot);
+                    true
                 } else {
-                    Some(new)
+                    false
                 }
             }
-            Branch::Split(_, left, right) => match left.replace(id, new) {
-                None => None,
-                Some(new) => right.replace(id, new),
-            },
+            Branch::Split(_, left, right) => {
+                let Some((is_right, rest)) = way.split_first() else {
+                    return false;
+                };
+                if *is_right {
+                    right.replace_at(id, rest, slot)
+                } else {
+                    left.replace_at(id, rest, slot)
+                }
+            }
+        }
+    }
+
+    /// Puts the branch of the slot in the place of the leaf with the id, if there is one.
+    #[tactic(auto, using(crate::proofs::IdLemmas::no_leaf))]
+    fn search_replace(&mut self, id: u64, slot: &mut Option<Branch>) -> bool
+        requires one { leaves_with id (plain self.old) ≤ 1 }
+        requires full { IsSome slot.old }
+        ensures { MatchBool result (IsReplaced id self.old slot.old self.new) (IsKept self.old slot.old self.new slot.new × (leaves_with id (plain self.old) ≡ 0)) }
+    {
+        match self {
+            Branch::Leaf(leaf) => {
+                if leaf.id == id {
+                    self.become_slot(slot);
+                    true
+                } else {
+                    false
+                }
+            }
+            Branch::Split(_, left, right) => {
+                left.search_replace(id, slot) || right.search_replace(id, slot)
+            }
         }
     }
 
@@ -180,8 +236,43 @@ impl Branch {
         }
     }
 
+    /// The data of the leaf with the id. The way, where it leads to that leaf, saves the search.
+    pub(crate) fn leaf(&self, id: u64, way: &[bool]) -> Option<&LeafData>
+        requires { leaves_with id (plain self.now) ≤ 1 }
+        ensures data { option_copied result ≡ data_of id (plain self.now) }
+        ensures found { MatchOption result (leaves_with id (plain self.now) ≡ 0) (λ _. leaves_with id (plain self.now) ≡ 1) }
+    {
+        match self.leaf_at(id, way) {
+            Some(kept) => Some(kept),
+            None => self.search_leaf(id),
+        }
+    }
+
+    /// The data of the leaf with the id, where the way leads to it.
+    fn leaf_at(&self, id: u64, way: &[bool]) -> Option<&LeafData>
+        requires { leaves_with id (plain self.now) ≤ 1 }
+        ensures data { IfSome result (λ kept. data_of id (plain self.now) ≡ Some kept.now) }
+        ensures found { IfSome result (λ _. leaves_with id (plain self.now) ≡ 1) }
+    {
+        match self {
+            Branch::Leaf(leaf) => if leaf.id == id {
+                Some(&leaf.kept)
+            } else {
+                None
+            },
+            Branch::Split(_, left, right) => {
+                let (is_right, rest) = way.split_first()?;
+                if *is_right {
+                    right.leaf_at(id, rest)
+                } else {
+                    left.leaf_at(id, rest)
+                }
+            }
+        }
+    }
+
     /// The data of the leaf with the id.
-    pub(crate) fn leaf(&self, id: u64) -> Option<&LeafData>
+    fn search_leaf(&self, id: u64) -> Option<&LeafData>
         ensures data { option_copied result ≡ data_of id (plain self.now) }
         ensures found { MatchOption result (leaves_with id (plain self.now) ≡ 0) (λ _. 0 < leaves_with id (plain self.now)) }
     {
@@ -191,15 +282,66 @@ impl Branch {
             } else {
                 None
             },
-            Branch::Split(_, left, right) => match left.leaf(id) {
+            Branch::Split(_, left, right) => match left.search_leaf(id) {
                 Some(kept) => Some(kept),
-                None => right.leaf(id),
+                None => right.search_leaf(id),
             },
         }
     }
 
+    /// The path of the leaf with the id. The way, where it leads to that leaf, saves the search.
+    pub(crate) fn path_of(
+        &self,
+        alloc: Global,
+        id: u64,
+        way: &[bool],
+    ) -> Result<Option<Region>, AllocError>
+        requires bounds { HasBounds (plain self.now) }
+        requires one { leaves_with id (plain self.now) ≤ 1 }
+        ensures { IfOk result (λ path. path ≡ path_of id (plain self.now)) }
+    {
+        let mut path = Vec::new(alloc);
+        if self.path_at(id, way, &mut path)? {
+            return Ok(Some(List::from_vec(path)));
+        }
+        path.clear();
+        if self.search_path(id, &mut path)? {
+            Ok(Some(List::from_vec(path)))
+        } else {
+            Ok(None)
+        }
+    }
+
+    /// Puts the changes on the way to the leaf with the id behind those of the path, where the way leads to it.
+    fn path_at(
+        &self,
+        id: u64,
+        way: &[bool],
+        path: &mut Vec<BoundChange>,
+    ) -> Result<bool, AllocError>
+        requires bounds { HasBounds (plain self.now) }
+        requires one { leaves_with id (plain self.now) ≤ 1 }
+        ensures { IfOk result (λ found. IsTrue found → path_below id path.old.items (plain self.now) ≡ Some path.new.items) }
+    {
+        match self {
+            Branch::Leaf(leaf) => Ok(leaf.id == id),
+            Branch::Split(split, left, right) => {
+                let Some((is_right, rest)) = way.split_first() else {
+                    return Ok(false);
+                };
+                if *is_right {
+                    path.push(split.at_least())?;
+                    right.path_at(id, rest, path)
+                } else {
+                    path.push(split.at_most())?;
+                    left.path_at(id, rest, path)
+                }
+            }
+        }
+    }
+
     /// Puts the changes on the way to the leaf with the id behind those of the path. Where no leaf has it the path stays.
-    pub(crate) fn find_path(&self, id: u64, path: &mut Vec<BoundChange>) -> Result<bool, AllocError>
+    fn search_path(&self, id: u64, path: &mut Vec<BoundChange>) -> Result<bool, AllocError>
         requires { HasBounds (plain self.now) }
         ensures { IfOk result (λ found. MatchBool found (path_below id path.old.items (plain self.now) ≡ Some path.new.items) ((path_below id path.old.items (plain self.now) ≡ None) × (path.new.items ≡ path.old.items))) }
     {
@@ -208,16 +350,50 @@ impl Branch {
             Branch::Split(split, left, right) => {
                 let depth = path.len();
                 path.push(split.at_most())?;
-                if left.find_path(id, path)? {
+                if left.search_path(id, path)? {
                     return Ok(true);
                 }
                 path.truncate(depth);
                 path.push(split.at_least())?;
-                if right.find_path(id, path)? {
+                if right.search_path(id, path)? {
                     return Ok(true);
                 }
                 path.truncate(depth);
                 Ok(false)
+            }
+        }
+    }
+
+    /// The way down to the leaf with the id, `true` for a right child: the given one where it leads to that leaf.
+    pub(crate) fn way_to(
+        &self,
+        alloc: Global,
+        id: u64,
+        way: &[bool],
+    ) -> Result<Vec<bool>, AllocError>
+        requires { leaves_with id (plain self.now) ≤ 1 }
+    {
+        if self.leaf_at(id, way).is_some() {
+            return Vec::from_slice(alloc, way);
+        }
+        let mut found = Vec::new(alloc);
+        let _ = self.search_way(id, &mut found)?;
+        Ok(found)
+    }
+
+    /// Puts the way down to the leaf with the id behind the one that there is, and answers whether there is such a leaf.
+    fn search_way(&self, id: u64, way: &mut Vec<bool>) -> Result<bool, AllocError> {
+        match self {
+            Branch::Leaf(leaf) => Ok(leaf.id == id),
+            Branch::Split(_, left, right) => {
+                let depth = way.len();
+                way.push(false)?;
+                if left.search_way(id, way)? {
+                    return Ok(true);
+                }
+                way.truncate(depth);
+                way.push(true)?;
+                right.search_way(id, way)
             }
         }
     }

@@ -74,7 +74,7 @@ pub enum NodeResult {
         mult: Mult,
         basis: Basis,
     },
-    /// The leaf has a point as good as its bound, so both are kept.
+    /// A point is found, and the leaf is closed with it.
     PointAndClose {
         point: Point,
         mult: Mult,

@@ -9,6 +9,7 @@ ghost use Rattle.branch_tree.specs.Changes.{HasLeaf, HasSplit, HasRoom, IsTreeFa
 
 use crate::branch::{Branch, LeafNode, SplitNode, grown};
 use crate::node::{LeafData, LeafState, Node, PlacedLeaf, TreeFault, empty_basis, open_data};
+use crate::ways::Ways;
 use lp_model::{Basis, ColId, List, Mult, Region};
 use std::alloc::{AllocError, Global};
 use std::marker::Model;
@@ -20,6 +21,7 @@ pub struct Tree {
     last: u64,
     count: u64,
     limit: u64,
+    ways: Ways,
     alloc: Global,
 }
 
@@ -39,7 +41,7 @@ impl Model for Tree {
 }
 
 impl Tree {
-    /// One open leaf with id 1, without multipliers. There will be at most `limit` nodes.
+    /// One open leaf with id 1, without multipliers. A split keeps within `limit` nodes.
     pub fn new(alloc: Global, limit: u64) -> Result<Tree, AllocError>
         ensures { IfOk result (λ tree. tree ≡ first_tree limit) }
     {
@@ -49,6 +51,7 @@ impl Tree {
             last: 1,
             count: 1,
             limit,
+            ways: Ways::new(alloc),
             alloc,
         })
     }
@@ -81,7 +84,7 @@ impl Tree {
         ensures found { MatchOption result (leaves_with id self.now.root ≡ 0) (λ _. HasLeaf self.now id) }
         ensures numbered { IsNumbered self.now }
     {
-        self.root.leaf(id)
+        self.root.leaf(id, self.ways.to(id))
     }
 
     /// Other data of the leaf with the id.
@@ -89,7 +92,10 @@ impl Tree {
         requires { HasLeaf self.old id }
         ensures { self.new ≡ with_leaf self.old id kept }
     {
-        let _ = self.root.replace(id, Branch::Leaf(LeafNode { id, kept }));
+        let way = self.ways.to(id);
+        let _ = self
+            .root
+            .replace(id, way, Branch::Leaf(LeafNode { id, kept }));
     }
 
     /// The bound changes on the way from the root to the leaf with the id.
@@ -97,12 +103,7 @@ impl Tree {
         ensures region { IfOk result (λ region. region ≡ path_of id self.now.root) }
         ensures found { IfOk result (λ region. MatchOption region (leaves_with id self.now.root ≡ 0) (λ _. HasLeaf self.now id)) }
     {
-        let mut path = Vec::new(self.alloc);
-        if self.root.find_path(id, &mut path)? {
-            Ok(Some(List::from_vec(path)))
-        } else {
-            Ok(None)
-        }
+        self.root.path_of(self.alloc, id, self.ways.to(id))
     }
 
     /// Whether two more nodes are within the limit, and two more ids leave one for each split.
@@ -113,7 +114,8 @@ impl Tree {
     }
 
     /// Makes the leaf with the id a split on a column at `v`, with these multipliers and this basis, which its two open
-    /// leaves inherit. Answers the ids of the left and of the right one. After a refusal nothing has changed.
+    /// leaves inherit. Answers the ids of the left and of the right one. A missing leaf is told before a full tree, and
+    /// after a refusal nothing has changed.
     pub fn replace_leaf(
         &mut self,
         id: u64,
@@ -129,7 +131,7 @@ impl Tree {
         ensures fault { IfErr result (λ fault. IsTreeFault self.old id fault) }
         ensures kept { IfErr result (λ _. self.new ≡ self.old) }
     {
-        if self.root.leaf(id).is_none() {
+        if self.root.leaf(id, self.ways.to(id)).is_none() {
             return Err(TreeFault::NoLeaf);
         }
         if !self.has_room() {
@@ -145,7 +147,10 @@ impl Tree {
             basis,
         };
         let split = grown(self.alloc, split, left, right)?;
-        let _ = self.root.replace(id, split);
+        let way = self.root.way_to(self.alloc, id, self.ways.to(id))?;
+        self.ways.split(self.alloc, &way, left, right)?;
+        let _ = self.root.replace(id, &way, split);
+        self.ways.forget(id);
         self.last = right;
         self.count += 2;
         Ok((left, right))
@@ -169,6 +174,7 @@ impl Tree {
         self.root.collapse(self.alloc, id, new);
         self.last = new;
         self.count = self.root.count();
+        self.ways.clear();
         new
     }
 
@@ -178,6 +184,7 @@ impl Tree {
     {
         self.last = self.root.trim(self.alloc, depth, self.last);
         self.count = self.root.count();
+        self.ways.clear();
     }
 
     /// A copy of each node, each before those below it, the left ones first.

@@ -1,8 +1,8 @@
 -- The checks of a result's parts.
-use Rattle.std.specs.Prelude.{◌≡◌, ◌↔◌, ℕ, ◌<◌, Bool, IsTrue, List, length, get_or, Option, Some, None, Ok, Err, false, ℤ, ◌≤ℤ◌, ◌<ℤ◌}
-use Rattle.std.proofs.Common.{refl, sym, subst, ap, ◌∙◌, arith, inl, inr}
+use Rattle.std.specs.Prelude.{◌≡◌, ◌↔◌, ℕ, ◌<◌, List, length, get_or, Err, false, ℤ, ◌≤ℤ◌, ◌<ℤ◌}
+use Rattle.std.proofs.Common.{sym, subst, ap, ◌∙◌, arith}
 use Rattle.std.proofs.lemmas.Int.{ints, by_lt_z}
-use Rattle.rational.specs.Rational.{ℚ, int, ceil, ◌≤ℚ◌, ◌<ℚ◌}
+use Rattle.rational.specs.Rational.{ℚ, int, ceil, ◌<ℚ◌}
 use Rattle.rational.proofs.RationalOrder.{not_both_ℚ, <ℚ_from_not}
 use Rattle.rational.proofs.Rounding.{≤ℚ-int}
 use Rattle.lp_model.specs.Program.{Program, Point, is_integer}

@@ -1,12 +1,12 @@
 -- What the leaves of a sound search say of each feasible point: it lies in one leaf, and where that is closed the point is
 -- no better than the kept ones.
-use Rattle.std.specs.Prelude.{◌≡◌, ◌⊎◌, ℕ, ◌<◌, Bool, true, false, IsTrue, List, [], ◌∷◌, length, All, get_or, Option, Some, None, Ok}
-use Rattle.std.proofs.Common.{refl, sym, subst, ap, ◌∙◌, arith, inl, inr}
+use Rattle.std.specs.Prelude.{◌≡◌, ◌⊎◌, true, false, List, [], ◌∷◌, All, Option, Some, None}
+use Rattle.std.proofs.Common.{refl, subst, inl, inr}
 use Rattle.std.proofs.lemmas.List.Elements.{All-get_or, All-head, All-tail}
-use Rattle.rational.specs.Rational.{ℚ, ◌≤ℚ◌, min_ℚ}
+use Rattle.rational.specs.Rational.{ℚ, ◌≤ℚ◌}
 use Rattle.rational.proofs.RationalOrder.{≤ℚ_trans, not_both_ℚ}
 use Rattle.rational.proofs.Division.{≤ℚ-min}
-use Rattle.lp_model.specs.Program.{Program, Point, least_value, IsFeasible, IsOptimum, IsEmpty, HasWholeObjective}
+use Rattle.lp_model.specs.Program.{Program, Point, least_value, IsFeasible, IsOptimum, IsEmpty}
 use Rattle.lp_model.specs.Regions.{Path, InRegion}
 use Rattle.lp_model.proofs.RegionLemmas.{empty_region}
 use Rattle.leaf_dual.specs.Dual.{Multipliers}
@@ -20,7 +20,7 @@ use Rattle.branch_tree.specs.declared.node.LeafData.{LeafData}
 use Rattle.branch_tree.proofs.TreeLemmas.{point_in_one_leaf, leaf_with_both}
 use Rattle.tree_edit.specs.declared.judging.LeafNumber.{LeafNumber}
 use Rattle.tree_edit.specs.declared.judging.LeafNumber.TheVariants.{Empty, Lag, Wide}
-use Rattle.tree_edit.specs.Closing.{IsRefuted, IsSetAside, IsNumber, ReachesIn, NumberCloses, StateSays, IsJudgedLeaf}
+use Rattle.tree_edit.specs.Closing.{IsRefuted, IsSetAside, IsNumber, NumberCloses, StateSays, IsJudgedLeaf}
 use Rattle.tree_edit.specs.Points.{IsKeepable, lesser, target, IsIncumbent, IsIncumbentAt}
 use Rattle.tree_edit.specs.Sound.{PlainSearch, IsSound}
 use Rattle.tree_edit.specs.Laws.{HasNoOpenLeaf, IsNoBetter, IsBelowLeaf, IsBelowOpen}

@@ -1,5 +1,5 @@
 -- Leaves judged one after the other.
-use Rattle.std.specs.Prelude.{◌≡◌, ◌⊎◌, ◌↔◌, ℕ, suc, ◌+◌, ◌≤◌, Bool, true, false, IsTrue, List, [], ◌∷◌, ◌++◌, length, take, drop, get_or, map, ◌<◌, ◌≢◌, pos, All, Option, Some, None, Ok, Err}
+use Rattle.std.specs.Prelude.{◌≡◌, ◌↔◌, ℕ, suc, ◌+◌, ◌≤◌, Bool, true, false, IsTrue, List, [], ◌∷◌, ◌++◌, length, take, drop, get_or, ◌<◌, ◌≢◌, pos, All, Option, Some, None, Ok, Err}
 use Rattle.std.specs.List.{AllZip}
 use Rattle.std.proofs.Common.{refl, sym, subst, ap, ◌∙◌, arith, inl, inr, append_assoc, length-append}
 use Rattle.std.proofs.lemmas.List.{map-append, drop-drop, append-nil, take_more}
@@ -15,8 +15,8 @@ use Rattle.leaf_dual.specs.Answers.{IsDualAnswer, IsFarkasAnswer, IsFirstWideSte
 use Rattle.leaf_dual.specs.declared.dual.LagValue.{LagValue}
 use Rattle.leaf_dual.specs.declared.dual.LagValue.TheVariants.{Minus, Num}
 use Rattle.leaf_dual.proofs.AnswerLemmas.{dual_answer-is}
-use Rattle.branch_tree.specs.Tree.{Tree, Leaf, Split, leaves, left_path, right_path, EachLeaf, HasNarrowSplits}
-use Rattle.branch_tree.specs.Plain.{LeafKept, Plain}
+use Rattle.branch_tree.specs.Tree.{Leaf, Split, leaves, left_path, right_path, EachLeaf, HasNarrowSplits}
+use Rattle.branch_tree.specs.Plain.{Plain}
 use Rattle.branch_tree.specs.Leaves.{placed, placed_leaves, leaf_count, with_states}
 use Rattle.branch_tree.specs.declared.node.LeafState.{LeafState}
 use Rattle.branch_tree.specs.declared.node.PlacedLeaf.{PlacedLeaf}

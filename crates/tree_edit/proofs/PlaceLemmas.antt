@@ -1,7 +1,7 @@
 -- The open leaf of a result, and what its answer means for the whole search.
-use Rattle.std.specs.Prelude.{◌≡◌, ℕ, List, [], Option, Some, None, IfOk, Result, Ok, Err}
+use Rattle.std.specs.Prelude.{◌≡◌, ℕ, [], Option, Some, None, IfOk, Result, Ok, Err}
 use Rattle.std.specs.Option.{option_map}
-use Rattle.std.proofs.Common.{refl, sym, subst, ap, ◌∙◌}
+use Rattle.std.proofs.Common.{refl, subst}
 use Rattle.lp_model.specs.Program.{Program}
 use Rattle.lp_model.specs.Regions.{Path, AreNarrow}
 use Rattle.branch_tree.specs.Tree.{Leaf, Split, left_path, right_path, EachLeaf}
@@ -16,7 +16,7 @@ use Rattle.tree_edit.specs.declared.placing.Taken.TheVariants.{Stale, Refused, R
 use Rattle.tree_edit.specs.Lists.{HasLists, HasNodeLists}
 use Rattle.tree_edit.specs.Sound.{PlainSearch, IsSound}
 use Rattle.tree_edit.specs.Calls.{IsLeafAt}
-use Rattle.tree_edit.specs.Placing.{TakesResult, TakesOpen, Takes}
+use Rattle.tree_edit.specs.Placing.{TakesResult, Takes}
 
 -- ---- the leaf
 

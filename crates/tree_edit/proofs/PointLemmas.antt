@@ -1,8 +1,8 @@
 -- The least of the kept points' values, and the oldest point that has it.
-use Rattle.std.specs.Prelude.{◌≡◌, ◌↔◌, ℕ, zero, suc, ◌+◌, ◌<◌, ◌≤◌, Bool, true, false, IsTrue, pos, List, [], ◌∷◌, length, map, get_or, All, Option, Some, None}
+use Rattle.std.specs.Prelude.{◌≡◌, ℕ, zero, suc, ◌+◌, ◌<◌, pos, List, [], ◌∷◌, length, map, get_or, Option, Some, None}
 use Rattle.std.proofs.Common.{refl, sym, subst, ap, ◌∙◌, arith}
 use Rattle.std.proofs.lemmas.List.{length-map}
-use Rattle.rational.specs.Rational.{ℚ, int, ◌≤ℚ◌, ◌<ℚ◌, min_ℚ}
+use Rattle.rational.specs.Rational.{ℚ, int, ◌≤ℚ◌, ◌<ℚ◌}
 use Rattle.rational.proofs.RationalOrder.{≤ℚ_refl, ≤ℚ_trans, <ℚ-≤ℚ_trans, ≤ℚ_of_<ℚ, ≤ℚ_from_not, ≤ℚ_antisymm}
 use Rattle.rational.proofs.Division.{min-≤ℚ}
 use Rattle.lp_model.specs.Program.{Program, Point, least_value}

@@ -1,14 +1,13 @@
 -- What keeps a search sound: other states of its leaves, other data of one leaf.
-use Rattle.std.specs.Prelude.{◌≡◌, ◌≢◌, ◌⊎◌, ℕ, ◌+◌, ◌<◌, ◌≤◌, Bool, true, false, List, [], ◌∷◌, length, drop, Option, Some, None, nat_eq, if◌then◌else◌}
+use Rattle.std.specs.Prelude.{◌≡◌, ◌≢◌, ℕ, ◌<◌, Bool, true, false, List, [], ◌∷◌, drop, Option, Some, None, nat_eq, if◌then◌else◌}
 use Rattle.std.specs.Option.{MatchOption, option_map}
-use Rattle.std.proofs.Common.{refl, sym, subst, ap, ◌∙◌, arith, inl, inr}
+use Rattle.std.proofs.Common.{refl, sym, subst, ◌∙◌, arith, inl, inr}
 use Rattle.rational.specs.Rational.{ℚ}
 use Rattle.lp_model.specs.Program.{Program}
 use Rattle.lp_model.specs.Regions.{Path}
 use Rattle.branch_tree.specs.Tree.{Tree, Leaf, Split, left_path, right_path, EachLeaf}
-use Rattle.branch_tree.specs.Plain.{SplitKept, LeafKept, Plain, one_if_same, leaves_with, path_below, replaced}
+use Rattle.branch_tree.specs.Plain.{LeafKept, Plain, one_if_same, leaves_with, path_below, replaced}
 use Rattle.branch_tree.specs.Leaves.{leaf_count, with_states}
-use Rattle.branch_tree.specs.Changes.{with_leaf, with_leaf_states}
 use Rattle.branch_tree.specs.declared.node.LeafState.{LeafState}
 use Rattle.branch_tree.specs.declared.node.LeafData.{LeafData}
 use Rattle.branch_tree.proofs.CountLemmas.{same_cases, leaf_case}

@@ -1,5 +1,5 @@
 -- A leaf that is split, whose children then get their data.
-use Rattle.std.specs.Prelude.{◌≡◌, ◌≢◌, ℕ, ◌+◌, ◌*◌, ◌<◌, Bool, true, false, nat_eq, if◌then◌else◌, List, [], ◌∷◌, ◌++◌, IsTrue, length, ℤ, pos, neg_ℤ, ◌+ℤ◌, ◌≤ℤ◌, ◌<ℤ◌, Option}
+use Rattle.std.specs.Prelude.{◌≡◌, ◌≢◌, ℕ, ◌+◌, ◌<◌, Bool, true, false, nat_eq, if◌then◌else◌, List, [], ◌∷◌, ◌++◌, ℤ, pos, neg_ℤ, ◌+ℤ◌, ◌≤ℤ◌, ◌<ℤ◌}
 use Rattle.std.proofs.Common.{refl, sym, subst, ap, ◌∙◌, arith, inl, inr}
 use Rattle.std.proofs.lemmas.Int.{ints}
 use Rattle.rational.specs.Rational.{ℚ}
@@ -9,16 +9,16 @@ use Rattle.lp_model.specs.Regions.{Path, AreNarrow}
 use Rattle.lp_model.specs.declared.types.BoundChange.{BoundChange}
 use Rattle.lp_model.specs.declared.types.Basis.{Basis}
 use Rattle.leaf_dual.specs.Dual.{Multipliers}
-use Rattle.branch_tree.specs.Tree.{Tree, Leaf, Split, at_most, at_least, left_path, right_path, EachLeaf}
-use Rattle.branch_tree.specs.Plain.{SplitKept, LeafKept, Plain, one_if_same, leaves_with, nodes_with, replaced, open_data, open_leaf, new_split}
+use Rattle.branch_tree.specs.Tree.{Leaf, Split, at_most, at_least, left_path, right_path}
+use Rattle.branch_tree.specs.Plain.{SplitKept, LeafKept, Plain, one_if_same, leaves_with, replaced, open_data, open_leaf, new_split}
 use Rattle.branch_tree.specs.Numbered.{NumberedTree, IsNumbered}
 use Rattle.branch_tree.specs.Changes.{HasLeaf, with_leaf, after_split}
 use Rattle.branch_tree.specs.declared.node.LeafData.{LeafData}
 use Rattle.branch_tree.proofs.CountLemmas.{leaf_case, same_cases, same_other}
 use Rattle.branch_tree.proofs.IdLemmas.{replaced-none}
 use Rattle.tree_edit.specs.Points.{target}
-use Rattle.tree_edit.specs.Lists.{HasLists, HasSplitLists, AreMultipliers, IsBasis}
-use Rattle.tree_edit.specs.Sound.{PlainSearch, IsSoundTree, IsSound, IsKept}
+use Rattle.tree_edit.specs.Lists.{HasLists, AreMultipliers, IsBasis}
+use Rattle.tree_edit.specs.Sound.{PlainSearch, IsKept}
 use Rattle.tree_edit.specs.Placing.{IsAt, IsChild, IsSplitSound, split_node, tree_with_split, search_with_split}
 use Rattle.tree_edit.proofs.SoundLemmas.{tree-replaced, judged-replaced}
 

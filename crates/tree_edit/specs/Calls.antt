@@ -3,7 +3,6 @@ use Rattle.std.specs.Prelude.{◌≡◌, ℕ, [], Option, Some, None}
 use Rattle.lp_model.specs.Program.{Program}
 use Rattle.lp_model.specs.Regions.{Path}
 use Rattle.branch_tree.specs.Plain.{Plain, leaves_with, path_of, data_of}
-use Rattle.branch_tree.specs.Numbered.{NumberedTree}
 use Rattle.branch_tree.specs.Changes.{first_tree, with_limit}
 use Rattle.branch_tree.specs.declared.node.LeafData.{LeafData}
 use Rattle.tree_edit.specs.declared.judging.LeafNumber.{LeafNumber}

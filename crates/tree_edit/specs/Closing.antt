@@ -2,7 +2,7 @@
 --     IsNumber M path mult farkas n            what a leaf's multipliers and Farkas multipliers say of its region
 --     NumberCloses M t n                       no feasible point of a leaf with this number has a value below t
 --     IsJudged M t path mult farkas state      the leaf is marked closed exactly where its number closes
-use Rattle.std.specs.Prelude.{◌⊎◌, Bool, true, false, List, [], ◌∷◌, Option, Some, None, Ok, Err}
+use Rattle.std.specs.Prelude.{◌⊎◌, true, false, [], ◌∷◌, Option, Some, None, Ok, Err}
 use Rattle.rational.specs.Rational.{ℚ}
 use Rattle.lp_model.specs.Program.{Program, HasWholeObjective}
 use Rattle.lp_model.specs.Regions.{Path, IsEmptyRegion}

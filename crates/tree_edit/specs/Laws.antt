@@ -1,5 +1,5 @@
 -- What a sound search says of its model.
-use Rattle.std.specs.Prelude.{◌≡◌, ◌⊎◌, List, [], Option, Some, None}
+use Rattle.std.specs.Prelude.{◌≡◌, ◌⊎◌, [], Option, Some, None}
 use Rattle.rational.specs.Rational.{ℚ, ◌≤ℚ◌}
 use Rattle.lp_model.specs.Program.{Program, Point, least_value, IsFeasible, IsOptimum, IsEmpty}
 use Rattle.lp_model.specs.Regions.{Path}
@@ -7,7 +7,6 @@ use Rattle.leaf_dual.specs.declared.dual.LagValue.TheVariants.{Num}
 use Rattle.branch_tree.specs.Tree.{EachLeaf}
 use Rattle.branch_tree.specs.Plain.{LeafKept}
 use Rattle.branch_tree.specs.declared.node.LeafState.TheVariants.{IsOpen, IsClosed}
-use Rattle.tree_edit.specs.declared.judging.LeafNumber.{LeafNumber}
 use Rattle.tree_edit.specs.declared.judging.LeafNumber.TheVariants.{Lag}
 use Rattle.tree_edit.specs.Closing.{IsNumber}
 use Rattle.tree_edit.specs.Points.{target, IsIncumbent}

@@ -4,6 +4,8 @@ pub mod Lists
 pub mod Judged
 pub mod Sound
 pub mod SearchCode
+pub mod Choosing
+pub mod Others
 pub mod Laws
 pub mod Checks
 pub mod Calls

@@ -1,5 +1,5 @@
 -- Lists of variables that are there, each once. There are no cuts.
-use Rattle.std.specs.Prelude.{◌≡◌, ◌≢◌, ℕ, ◌<◌, List, length, map, All, AllPairs}
+use Rattle.std.specs.Prelude.{◌≢◌, ◌<◌, List, length, map, All, AllPairs}
 use Rattle.rational.specs.Rational.{ℚ}
 use Rattle.lp_model.specs.Program.{Program}
 use Rattle.lp_model.specs.declared.types.Var.{Var}

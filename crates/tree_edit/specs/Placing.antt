@@ -1,9 +1,9 @@
 -- What a placed result makes of a search.
 --     Takes S id result S' taken      what was answered, and the search after it: the first that applies of
 --                                     Stale, Refused, Reopened, Full, and else Closed, Split or Kept
-use Rattle.std.specs.Prelude.{◌≡◌, ◌⊎◌, ℕ, ◌+◌, ◌<◌, ◌≤◌, List, [], ◌∷◌, ◌++◌, length, map, get_or, pos, ℤ, Option, Some, None}
+use Rattle.std.specs.Prelude.{◌≡◌, ℕ, ◌+◌, ◌<◌, ◌≤◌, List, [], ◌∷◌, ◌++◌, length, map, ℤ, Option, Some, None}
 use Rattle.std.specs.List.{remove}
-use Rattle.rational.specs.Rational.{ℚ, int, ◌≤ℚ◌, ◌<ℚ◌}
+use Rattle.rational.specs.Rational.{ℚ, ◌≤ℚ◌, ◌<ℚ◌}
 use Rattle.lp_model.specs.Program.{Program, Point, least_value}
 use Rattle.lp_model.specs.Regions.{Path}
 use Rattle.lp_model.specs.declared.types.Basis.{Basis}
@@ -12,7 +12,7 @@ use Rattle.branch_tree.specs.Tree.{Leaf, Split as Split', left_path, right_path,
 use Rattle.branch_tree.specs.Plain.{Plain, data_of, replaced}
 use Rattle.branch_tree.specs.Leaves.{with_state}
 use Rattle.branch_tree.specs.Numbered.{NumberedTree}
-use Rattle.branch_tree.specs.Changes.{with_leaf, HasLeaf, HasRoom}
+use Rattle.branch_tree.specs.Changes.{with_leaf, HasRoom}
 use Rattle.branch_tree.specs.declared.node.LeafState.{LeafState}
 use Rattle.branch_tree.specs.declared.node.LeafState.TheVariants.{IsOpen, IsClosed}
 use Rattle.branch_tree.specs.declared.node.LeafData.{LeafData}

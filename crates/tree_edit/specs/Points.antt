@@ -1,5 +1,5 @@
 -- The kept points of a search, oldest first.
-use Rattle.std.specs.Prelude.{◌≡◌, ℕ, ◌<◌, Bool, true, List, [], ◌∷◌, length, All, get_or, pos, Option, Some, None, Ok}
+use Rattle.std.specs.Prelude.{◌≡◌, ℕ, ◌<◌, true, List, [], ◌∷◌, length, All, get_or, pos, Option, Some, None, Ok}
 use Rattle.rational.specs.Rational.{ℚ, int, ◌≤ℚ◌, ◌<ℚ◌, min_ℚ}
 use Rattle.lp_model.specs.Program.{Program, Point, least_value, value}
 use Rattle.lp_model.specs.Answers.{IsFeasibilityAnswer, IsValueAnswer}

@@ -1,5 +1,5 @@
 -- A search as a plain record, and what each search keeps.
-use Rattle.std.specs.Prelude.{◌≡◌, ℕ, ◌≤◌, List, [], length, map, All}
+use Rattle.std.specs.Prelude.{◌≡◌, ◌≤◌, List, length, map, All}
 use Rattle.rational.specs.Rational.{ℚ}
 use Rattle.lp_model.specs.Program.{Program, Point, least_value}
 use Rattle.branch_tree.specs.Tree.{IsLawful, HasNarrowSplits}

@@ -1,5 +1,6 @@
 // What a sound search says of its model, as clauses of calls that do nothing.
 ghost use Rattle.tree_edit.specs.Laws.{OptimumLaw, EmptyLaw, BoundLaw};
+ghost use Rattle.tree_edit.specs.Others.{OthersLaw};
 
 /// Where no leaf of a sound search is open, its best point is an optimum.
 pub fn optimum_law()
@@ -15,4 +16,9 @@ pub fn empty_law()
 /// that are no better than a kept one.
 pub fn bound_law()
     ensures { BoundLaw }
+{}
+
+/// A placed result leaves every node as it was, but for the leaf that it is for and for the states of leaves.
+pub fn others_law()
+    ensures { OthersLaw }
 {}

@@ -21,14 +21,17 @@
 #![tactic(auto)]
 
 mod checks;
+mod choosing;
 mod judging;
 mod laws;
 mod lists;
 mod placing;
 mod points;
 mod search;
+#[cfg(test)]
+mod tests;
 
 pub use judging::LeafNumber;
-pub use laws::{bound_law, empty_law, optimum_law};
+pub use laws::{bound_law, empty_law, optimum_law, others_law};
 pub use placing::Taken;
 pub use search::Search;

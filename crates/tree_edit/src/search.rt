@@ -4,8 +4,10 @@ ghost use Rattle.std.specs.Option.{option_copied};
 ghost use Rattle.branch_tree.specs.Leaves.{open_count};
 ghost use Rattle.tree_edit.specs.Points.{target, IsIncumbent};
 ghost use Rattle.tree_edit.specs.Sound.{IsSound};
+ghost use Rattle.tree_edit.specs.Choosing.{IsNext};
 ghost use Rattle.tree_edit.specs.Calls.{IsFresh, search_with_limit, IsNumberAnswer};
 
+use crate::choosing::first_of;
 use crate::judging::{LeafNumber, judge_all, number_of};
 use crate::points::oldest_least;
 use branch_tree::Tree;
@@ -137,5 +139,17 @@ impl Search {
             return Ok(None);
         };
         Ok(Some(number_of(&self.model, &region, &kept.mult, &kept.farkas)))
+    }
+
+    /// The id of the open leaf with the least number. One whose number is `Minus` or could not be computed goes before
+    /// all numbers, and of equals the one with the least id.
+    pub fn next_leaf(&self) -> Result<Option<u64>, AllocError>
+        ensures { IfOk result (λ next. IsNext self.now next) }
+    {
+        let leaves = self.tree.leaves()?;
+        match first_of(&self.model, &leaves) {
+            None => Ok(None),
+            Some(first) => Ok(Some(first.id)),
+        }
     }
 }

@@ -2,7 +2,6 @@ use Rattle.std.specs.Int.{w128}
 use Rattle.std.proofs.lemmas.Int.{to_z-of_z}
 use Rattle.std.proofs.Common.{rules, FitsSigned, ◌↔◌, ◌≤ℤ◌, IsTrue, subst, sym}
 use Rattle.rational.proofs.Rounding.{≤ℚ-int}
-use Rattle.tree_edit.specs.Checks.{IsFrom}
 use Rattle.tree_edit.proofs.checks.is_from.Goals as goal
 
 pub returns-in-Some-clause-from : goal.returns-in-Some-clause-from

@@ -1,5 +1,4 @@
-use Rattle.std.proofs.Common.{◌≡◌, ◌<◌, IsTrue, length, subst, sym, arith}
-use Rattle.lp_model.specs.Program.{is_integer}
+use Rattle.std.proofs.Common.{◌<◌, IsTrue, length, subst, sym}
 use Rattle.tree_edit.proofs.CheckLemmas.{integer-read}
 use Rattle.tree_edit.proofs.checks.is_integer.Goals as goal
 

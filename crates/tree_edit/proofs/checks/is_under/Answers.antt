@@ -1,7 +1,6 @@
 use Rattle.std.specs.Int.{w128}
 use Rattle.std.proofs.lemmas.Int.{to_z-of_z}
 use Rattle.std.proofs.Common.{rules, FitsSigned, ◌↔◌, ◌<ℤ◌, IsTrue, subst, sym}
-use Rattle.tree_edit.specs.Checks.{IsUnder}
 use Rattle.tree_edit.proofs.CheckLemmas.{under-ceil}
 use Rattle.tree_edit.proofs.checks.is_under.Goals as goal
 

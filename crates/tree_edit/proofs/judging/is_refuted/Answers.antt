@@ -1,4 +1,4 @@
-use Rattle.std.proofs.Common.{◌≡◌, [], ap, length, ◌∙◌, sym, IsTrue, true, false, eqb}
+use Rattle.std.proofs.Common.{◌≡◌, ap, length, ◌∙◌, sym, true, false, eqb}
 use Rattle.tree_edit.proofs.JudgeLemmas.{refuted-ok, refuted-wide}
 use Rattle.tree_edit.proofs.judging.is_refuted.Goals as goal
 

@@ -1,4 +1,4 @@
-use Rattle.std.proofs.Common.{subst, sym, ◌++◌, ◌∷◌, [], take, ◌+◌, List}
+use Rattle.std.proofs.Common.{subst, sym, take, ◌+◌, List}
 use Rattle.std.specs.List.{AllZip}
 use Rattle.lp_model.specs.Regions.{AreNarrow}
 use Rattle.branch_tree.specs.declared.node.LeafState.{LeafState}

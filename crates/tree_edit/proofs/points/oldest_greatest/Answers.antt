@@ -1,5 +1,5 @@
-use Rattle.std.proofs.Common.{◌≡◌, ◌+◌, ◌<◌, ◌∙◌, refl, sym, subst, length, pos, IsTrue, arith}
-use Rattle.rational.specs.Rational.{ℚ, int, ◌<ℚ◌}
+use Rattle.std.proofs.Common.{◌≡◌, ◌+◌, ◌<◌, refl, sym, subst, length, pos, IsTrue, arith}
+use Rattle.rational.specs.Rational.{int, ◌<ℚ◌}
 use Rattle.lp_model.proofs.ElementLemmas.{get_or-read}
 use Rattle.tree_edit.specs.Points.{value_at}
 use Rattle.tree_edit.specs.Placing.{IsOldestGreatestOf}

@@ -8,8 +8,8 @@ use Rattle.branch_tree.specs.Changes.{HasLeaf, HasRoom}
 use Rattle.branch_tree.proofs.KeptLemmas.{kept-after_split}
 use Rattle.branch_tree.proofs.tree.Tree.replace_leaf.Goals as goal
 
-pub invariant_of-self : goal.invariant_of-self
-invariant_of-self c =
+pub invariant_of-self-2 : goal.invariant_of-self-2
+invariant_of-self-2 c =
     let i = c.self.inside in
     let T : NumberedTree = record { root = plain i.root; last = i.last; limit = i.limit } in
     let has : HasLeaf T c.args.id = grind arith in

@@ -1,4 +1,4 @@
-use Rattle.std.proofs.Common.{◌≡◌, List, ℕ, subst}
+use Rattle.std.proofs.Common.{List, subst}
 use Rattle.rational.specs.Rational.{ℚ}
 use Rattle.tree_edit.specs.Points.{IsOldestLeast, IsIncumbentAt}
 use Rattle.tree_edit.specs.Sound.{PlainSearch}

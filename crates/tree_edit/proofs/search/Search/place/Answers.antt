@@ -1,19 +1,19 @@
 use Rattle.std.specs.Int.{w128}
 use Rattle.std.proofs.lemmas.Int.{to_z-of_z}
-use Rattle.std.proofs.Common.{rules, ℤ, FitsSigned, to_z, of_z, ◌≡◌, ◌∙◌, Some, [], List, ap, sym, subst}
+use Rattle.std.proofs.Common.{rules, ℤ, FitsSigned, to_z, of_z, ◌≡◌, ◌∙◌, Some, ap, sym, subst}
 use Rattle.std.specs.Prelude.{IfOk}
 use Rattle.std.proofs.lemmas.Bool.{MatchBool-at_false}
-use Rattle.lp_model.specs.Regions.{Path, AreNarrow}
+use Rattle.lp_model.specs.Regions.{Path}
 use Rattle.leaf_dual.specs.Dual.{Multipliers}
 use Rattle.branch_tree.specs.Plain.{path_of, data_of}
 use Rattle.branch_tree.specs.declared.node.LeafData.{LeafData}
 use Rattle.branch_tree.specs.declared.node.LeafState.TheVariants.{IsOpen}
-use Rattle.branch_tree.specs.declared.node.NodeResult.TheVariants.{Close, Split, PointAndClose, Keep}
+use Rattle.branch_tree.specs.declared.node.NodeResult.TheVariants.{Close, Split, PointAndClose}
 use Rattle.tree_edit.specs.declared.placing.Taken.{Taken}
 use Rattle.tree_edit.specs.Lists.{AreMultipliers, HasLists}
 use Rattle.tree_edit.specs.Sound.{PlainSearch}
 use Rattle.tree_edit.specs.Calls.{IsLeafAt}
-use Rattle.tree_edit.specs.Placing.{IsAt, TakesClose, TakesSplit, TakesPointClose, TakesBasis, closed_data}
+use Rattle.tree_edit.specs.Placing.{IsAt, TakesClose, TakesSplit, TakesPointClose, closed_data}
 use Rattle.tree_edit.proofs.SoundLemmas.{is_at}
 use Rattle.tree_edit.proofs.PlaceLemmas.{lists-found, narrow-found, takes_ok}
 use Rattle.tree_edit.proofs.search.Search.place.Goals as goal

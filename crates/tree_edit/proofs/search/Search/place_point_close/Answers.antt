@@ -1,5 +1,4 @@
-use Rattle.std.proofs.Common.{◌≡◌, refl, subst, sym, IsTrue}
-use Rattle.lp_model.specs.Program.{Point}
+use Rattle.std.proofs.Common.{refl, subst, IsTrue}
 use Rattle.tree_edit.specs.Sound.{PlainSearch}
 use Rattle.tree_edit.specs.Closing.{ClosesBy}
 use Rattle.tree_edit.specs.Points.{IsKeepable}

@@ -1,4 +1,4 @@
-use Rattle.std.proofs.Common.{rules, ◌≡◌, ◌∙◌, ◌≤ℤ◌, ◌<ℤ◌, pos, neg_ℤ, FitsSigned, ap, sym, subst, ◌++◌, ◌∷◌, [], to_z, of_z}
+use Rattle.std.proofs.Common.{rules, ◌≡◌, ◌≤ℤ◌, ◌<ℤ◌, pos, neg_ℤ, FitsSigned, ap, sym, subst, ◌++◌, ◌∷◌, []}
 use Rattle.std.specs.Int.{w128}
 use Rattle.std.proofs.lemmas.Int.{to_z-of_z}
 use Rattle.frac128.specs.Range.{largest}

@@ -1,6 +1,6 @@
 use Rattle.std.proofs.Common.{sym, subst}
 use Rattle.branch_tree.specs.Numbered.{NumberedTree}
-use Rattle.tree_edit.specs.Sound.{PlainSearch, IsSound, IsKept}
+use Rattle.tree_edit.specs.Sound.{PlainSearch, IsKept}
 use Rattle.tree_edit.specs.Placing.{IsAt}
 use Rattle.tree_edit.specs.Closing.{IsJudgedLeaf}
 use Rattle.tree_edit.specs.Points.{target}

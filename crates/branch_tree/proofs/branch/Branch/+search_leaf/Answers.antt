@@ -3,7 +3,7 @@ use Rattle.branch_tree.specs.Plain.{SplitKept, data_of}
 use Rattle.branch_tree.specs.Branches.{plain}
 use Rattle.branch_tree.specs.declared.node.LeafData.{LeafData}
 use Rattle.branch_tree.proofs.LeafLemmas.{data_of-left, data_of-right}
-use Rattle.branch_tree.proofs.branch.Branch.+leaf.Goals as goal
+use Rattle.branch_tree.proofs.branch.Branch.+search_leaf.Goals as goal
 
 pub returns-in-Some-clause-data : goal.returns-in-Some-clause-data
 returns-in-Some-clause-data t c =
@@ -17,4 +17,4 @@ returns-in-None-clause-data t c =
     let s = c.in-Split in
     let kept : SplitKept = record { id = s.field-0.id; mult = s.field-0.mult; basis = s.field-0.basis } in
     let none : ◌≡◌ {A = Option LeafData} None (data_of c.args.id (plain s.left.value)) = subst (λ b. ◌≡◌ {A = Option LeafData} None (data_of c.args.id (plain b))) c.deref.ensures c.in-None.ensures.data in
-    rw s.is (data_of-right c.args.id kept s.field-0.col.0 s.field-0.v (plain s.left.value) (plain s.right.value) _ none (rw (← c.deref-in-None.ensures) c.leaf-in-None.ensures.data))
+    rw s.is (data_of-right c.args.id kept s.field-0.col.0 s.field-0.v (plain s.left.value) (plain s.right.value) _ none (rw (← c.deref-in-None.ensures) c.search_leaf-in-None.ensures.data))

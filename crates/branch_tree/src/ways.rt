@@ -1,0 +1,62 @@
+// Where leaves are, as hints: a way that is missing or old costs a search and changes no answer, so nothing here has a
+// contract.
+use std::alloc::{AllocError, Global};
+use std::collections::BTreeMap;
+
+/// The ways down from the root to leaves, by their ids, with `true` for a right child.
+#[derive(Drop)]
+pub(crate) struct Ways {
+    ways: BTreeMap<u64, Vec<bool>>,
+}
+
+impl Ways {
+    /// No way is known.
+    pub(crate) fn new(alloc: Global) -> Ways {
+        Ways {
+            ways: BTreeMap::new(alloc),
+        }
+    }
+
+    /// The way to the leaf with the id, and that to the root where none is known.
+    pub(crate) fn to(&self, id: u64) -> &[bool] {
+        match self.ways.get(&id) {
+            Some(way) => way.as_slice(),
+            None => &[],
+        }
+    }
+
+    /// The ways to the two children of the node that this way leads to.
+    pub(crate) fn split(
+        &mut self,
+        alloc: Global,
+        way: &[bool],
+        left: u64,
+        right: u64,
+    ) -> Result<(), AllocError> {
+        self.add(alloc, way, false, left)?;
+        self.add(alloc, way, true, right)
+    }
+
+    fn add(
+        &mut self,
+        alloc: Global,
+        way: &[bool],
+        is_right: bool,
+        id: u64,
+    ) -> Result<(), AllocError> {
+        let mut longer = Vec::from_slice(alloc, way)?;
+        longer.push(is_right)?;
+        self.ways.insert(id, longer)?;
+        Ok(())
+    }
+
+    /// A leaf is no more.
+    pub(crate) fn forget(&mut self, id: u64) {
+        let _ = self.ways.remove(&id);
+    }
+
+    /// Many leaves are no more.
+    pub(crate) fn clear(&mut self) {
+        self.ways.clear();
+    }
+}
