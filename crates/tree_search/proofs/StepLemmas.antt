@@ -1,7 +1,7 @@
 -- Open leaves: each is found by its id, and where the scan finds none no leaf is open.
-use Rattle.std.specs.Prelude.{◌≡◌, ℕ, ◌≤◌, List, [], ◌∷◌, ◌++◌, length, map, All, Some}
+use Rattle.std.specs.Prelude.{◌≡◌, ◌⊎◌, ℕ, ◌+◌, ◌<◌, ◌≤◌, List, [], ◌∷◌, ◌++◌, length, get_or, map, All, Option, Some, None}
 use Rattle.std.specs.Option.{option_map}
-use Rattle.std.proofs.Common.{refl, subst, ap, arith}
+use Rattle.std.proofs.Common.{refl, sym, subst, ap, ◌∙◌, inl, inr, arith}
 use Rattle.std.proofs.lemmas.List.{get_or-map, length-map}
 use Rattle.std.proofs.lemmas.List.Elements.{All-map, All-head, All-tail, All-cons}
 use Rattle.lp_model.specs.Regions.{Path, AreNarrow}
@@ -17,7 +17,11 @@ use Rattle.tree_edit.specs.Sound.{PlainSearch, IsSound}
 use Rattle.tree_edit.specs.Calls.{IsLeafAt}
 use Rattle.tree_edit.proofs.PlaceLemmas.{narrow-found}
 use Rattle.tree_search.specs.Steps.{IsOpenLeaf}
-use Rattle.tree_search.proofs.WorkLemmas.{found_each}
+use Rattle.lp_model.specs.Program.{Program}
+use Rattle.branch_tree.specs.Plain.{path_of}
+use Rattle.tree_edit.specs.Choosing.{IsNext, IsOneOf, IsCandidate, AreClosed}
+use Rattle.tree_search.specs.Steps.{IsNextLeaf}
+use Rattle.tree_search.proofs.WorkLemmas.{found_each, some_is}
 use Rattle.tree_search.specs.Steps.{Lowers}
 use Rattle.tree_edit.specs.declared.placing.Taken.{Taken}
 use Rattle.tree_edit.specs.declared.placing.Taken.TheVariants.{Stale, Refused, Reopened, Full, Closed, Split as SplitTaken, Kept}
@@ -67,3 +71,30 @@ not-full S path S' Full h other = absurd (other refl)
 not-full S path S' Closed h other = h
 not-full S path S' SplitTaken h other = h
 not-full S path S' Kept h other = h
+
+-- ---- the next leaf
+
+pub closed-all : (ls : List PlacedLeaf) → AreClosed ls → All (λ (l : PlacedLeaf). l.kept.state ≡ IsClosed) ls
+closed-all [] h = λ k d below. absurd (omega arith)
+closed-all (l ∷ ls) h = All-cons (λ (l : PlacedLeaf). l.kept.state ≡ IsClosed) l ls h.0 (closed-all ls h.1)
+
+one-of : (M : Program) (P : PlacedLeaf → Type 0) (ls : List PlacedLeaf) (c : _) → All P ls → IsOneOf M ls c → (l : PlacedLeaf) × (IsCandidate M l c × P l)
+one-of M P [] c all h = absurd h
+one-of M P (l ∷ ls) c all (inl h) = (l, (h, All-head P l ls all))
+one-of M P (l ∷ ls) c all (inr h) = one-of M P ls c (All-tail P l ls all) h
+
+pub next-found : (S : PlainSearch) (id : ℕ) → IsNumbered S.tree → IsNext S (Some id) → (l : PlacedLeaf) × ((l.kept.state ≡ IsOpen) × IsLeafAt S.tree.root id l.region l.kept)
+next-found S id numbered next =
+    let (l, (candidate, at)) = one-of S.model (λ l. IsLeafAt S.tree.root l.id l.region l.kept) (placed_leaves [] S.tree.root) next.0 (placed-at S.tree.root (once S.tree numbered)) next.1.0.0 in
+    (l, (candidate.state, subst (λ n. IsLeafAt S.tree.root n l.region l.kept) (sym (next.1.1 ∙ candidate.id)) at))
+
+pub next-leaf : (S : PlainSearch) (id : ℕ) (path : Path) → IsNumbered S.tree → IsNext S (Some id) → Some path ≡ path_of id S.tree.root → IsNextLeaf S id path
+next-leaf S id path numbered next is =
+    let (l, (state, at)) = next-found S id numbered next in
+    let same : path ≡ l.region = some_is path l.region (is ∙ at.path_is) in
+    record { leaf = record { kept = l.kept; leaf = subst (λ p. IsLeafAt S.tree.root id p l.kept) (sym same) at; state = state }; next = next }
+
+pub next-there : (S : PlainSearch) (id : ℕ) → IsNumbered S.tree → IsNext S (Some id) → None ≡ path_of id S.tree.root → ⊥
+next-there S id numbered next is =
+    let found = next-found S id numbered next in
+    let e : None ≡ Some found.0.region = is ∙ found.1.1.path_is in cc

@@ -6,6 +6,7 @@ use Rattle.branch_tree.specs.declared.node.LeafData.{LeafData}
 use Rattle.branch_tree.specs.declared.node.LeafState.TheVariants.{IsOpen}
 use Rattle.tree_edit.specs.Sound.{PlainSearch}
 use Rattle.tree_edit.specs.Calls.{IsLeafAt}
+use Rattle.tree_edit.specs.Choosing.{IsNext}
 use Rattle.tree_search.specs.Points.{IsFirstOpen}
 use Rattle.tree_search.specs.Work.{work}
 use Rattle.tree_search.specs.Working.{IsWidePoint}
@@ -17,6 +18,11 @@ pub record IsOpenLeaf (S : PlainSearch) (id : ℕ) (path : Path) : Type 0 where
   pub kept : LeafData
   pub leaf : IsLeafAt S.tree.root id path kept
   pub state : kept.state ≡ IsOpen
+
+-- and its number is the least, or it has none
+pub record IsNextLeaf (S : PlainSearch) (id : ℕ) (path : Path) : Type 0 where
+  pub leaf : IsOpenLeaf S id path
+  pub next : IsNext S (Some id)
 
 -- how many results the search can still place
 abbrev pub work_of : PlainSearch → ℕ

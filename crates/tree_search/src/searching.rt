@@ -96,7 +96,7 @@ pub fn solve(alloc: Global, search: &mut Search, limit: u64) -> Result<Outcome, 
 {
     let _sound = search.points();
     let mut placed = 0;
-    while let Some(leaf) = next_open(alloc, search)? {
+    while let Some(leaf) = next_open(search)? {
         if placed == limit {
             return Ok(stopped(search, limit, StopWhy::Nodes, placed));
         }

@@ -1,15 +1,14 @@
 // One step of a search: an open leaf is chosen, worked, and the result placed.
-ghost use Rattle.std.specs.Prelude.{◌≡◌, ◌↔◌, IsTrue, IfOk, MatchOption};
-ghost use Rattle.branch_tree.specs.declared.node.LeafState.TheVariants.{IsOpen};
+ghost use Rattle.std.specs.Prelude.{◌≡◌, IfOk, MatchOption};
 ghost use Rattle.tree_edit.specs.Laws.{HasNoOpenLeaf};
 ghost use Rattle.tree_edit.specs.Sound.{IsSound};
 ghost use Rattle.tree_search.specs.Integral.{IsIntegral};
 ghost use Rattle.tree_search.specs.Working.{IsResultFor};
-ghost use Rattle.tree_search.specs.Steps.{IsOpenLeaf, Steps};
+ghost use Rattle.tree_search.specs.Steps.{IsOpenLeaf, IsNextLeaf, Steps};
 
 use crate::working::{Work, work_on};
-use branch_tree::{LeafState, NodeResult};
-use lp_model::{List, Region, WideStep};
+use branch_tree::NodeResult;
+use lp_model::{Region, WideStep};
 use std::alloc::{AllocError, Global};
 use tree_edit::{Search, Taken};
 
@@ -32,32 +31,20 @@ pub(crate) struct OpenLeaf {
     pub(crate) region: Region,
 }
 
-/// Whether a leaf is open.
-fn is_open(state: &LeafState) -> bool
-    ensures { IsTrue result ↔ (state.now ≡ IsOpen) }
-{
-    match state {
-        LeafState::IsOpen => true,
-        LeafState::IsClosed => false,
-    }
-}
-
-/// An open leaf, if there is one: the first from the left.
-pub(crate) fn next_open(alloc: Global, search: &Search) -> Result<Option<OpenLeaf>, AllocError>
-    ensures found { IfOk result (λ leaf. MatchOption leaf (HasNoOpenLeaf search.now) (λ l. IsOpenLeaf search.now l.id l.region)) }
+/// The open leaf with the least number, if there is an open one.
+pub(crate) fn next_open(search: &Search) -> Result<Option<OpenLeaf>, AllocError>
+    ensures found { IfOk result (λ leaf. MatchOption leaf (HasNoOpenLeaf search.now) (λ l. IsNextLeaf search.now l.id l.region)) }
     ensures sound { IsSound search.now }
 {
-    let leaves = search.tree().leaves()?;
-    for leaf in &leaves {
-        if is_open(&leaf.kept.state) {
-            let region = List::from_slice(alloc, leaf.region.as_slice())?;
-            return Ok(Some(OpenLeaf {
-                id: leaf.id,
-                region,
-            }));
-        }
-    }
-    Ok(None)
+    let _sound = search.points();
+    let _numbered = search.tree().nodes();
+    let Some(id) = search.next_leaf()? else {
+        return Ok(None);
+    };
+    let Some(region) = search.tree().region_of(id)? else {
+        unreachable!()
+    };
+    Ok(Some(OpenLeaf { id, region }))
 }
 
 /// Places the result of the work on an open leaf.
