@@ -10,3 +10,4 @@ pub mod JudgeLemmas
 pub mod PlacedLemmas
 pub mod StepLemmas
 pub mod SearchLemmas
+pub mod BoundLemmas

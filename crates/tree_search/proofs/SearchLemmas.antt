@@ -82,3 +82,8 @@ pub stops-for : (S : PlainSearch) (path : Path) (new : PlainSearch) (limit n : �
 stops-for S path new limit n Nodes h leaf below = absurd h
 stops-for S path new limit n Tree h leaf below = subst (λ T. StopsFor T limit n Tree) (sym h.1) (below, (path, (leaf, h.0)))
 stops-for S path new limit n (Wide p step) h leaf below = subst (λ q. StopsFor new limit n (Wide q step)) (sym h.0) (subst (λ T. StopsFor T limit n (Wide path step)) (sym h.2) (below, leaf, h.1))
+
+pub stop-leaf : (S : PlainSearch) (limit n : ℕ) (why : StopWhy) → StopsFor S limit n why → (id : ℕ) × ((path : Path) × IsOpenLeaf S id path)
+stop-leaf S limit n Nodes h = (h.1.1.id, (h.1.0, h.1.1.leaf))
+stop-leaf S limit n Tree h = (h.1.1.0.id, (h.1.0, h.1.1.0.leaf))
+stop-leaf S limit n (Wide path step) h = (h.1.id, (path, h.1.leaf))

@@ -1,5 +1,5 @@
 -- Open leaves: each is found by its id, and where the scan finds none no leaf is open.
-use Rattle.std.specs.Prelude.{◌≡◌, ◌⊎◌, ℕ, ◌+◌, ◌<◌, ◌≤◌, List, [], ◌∷◌, ◌++◌, length, get_or, map, All, Option, Some, None}
+use Rattle.std.specs.Prelude.{◌≡◌, ℕ, ◌≤◌, List, [], ◌∷◌, ◌++◌, length, map, All, Some, None}
 use Rattle.std.specs.Option.{option_map}
 use Rattle.std.proofs.Common.{refl, sym, subst, ap, ◌∙◌, inl, inr, arith}
 use Rattle.std.proofs.lemmas.List.{get_or-map, length-map}
@@ -21,7 +21,9 @@ use Rattle.lp_model.specs.Program.{Program}
 use Rattle.branch_tree.specs.Plain.{path_of}
 use Rattle.tree_edit.specs.Choosing.{IsNext, IsOneOf, IsCandidate, AreClosed}
 use Rattle.tree_search.specs.Steps.{IsNextLeaf}
-use Rattle.tree_search.proofs.WorkLemmas.{found_each, some_is}
+use Rattle.branch_tree.specs.declared.node.LeafData.{LeafData}
+use Rattle.branch_tree.proofs.PathLaws.{each-found}
+use Rattle.tree_search.proofs.WorkLemmas.{found_each, leaf_at, some_is}
 use Rattle.tree_search.specs.Steps.{Lowers}
 use Rattle.tree_edit.specs.declared.placing.Taken.{Taken}
 use Rattle.tree_edit.specs.declared.placing.Taken.TheVariants.{Stale, Refused, Reopened, Full, Closed, Split as SplitTaken, Kept}
@@ -42,7 +44,7 @@ apart_append : {A : Type 0} (P : A → Type 0) (xs ys : List A) → All P (xs ++
 apart_append P [] ys h = ((λ k d below. absurd (omega arith)), h)
 apart_append P (x ∷ xs) ys h = let rest = apart_append P xs ys (All-tail P x (xs ++ ys) h) in (All-cons P x xs (All-head P x (xs ++ ys) h) rest.0, rest.1)
 
-leaves-each : (P : Path → LeafKept → Type 0) (path : Path) (t : Plain) → All (λ (q : Path × LeafKept). P q.0 q.1) (leaves path t) → EachLeaf P path t
+pub leaves-each : (P : Path → LeafKept → Type 0) (path : Path) (t : Plain) → All (λ (q : Path × LeafKept). P q.0 q.1) (leaves path t) → EachLeaf P path t
 leaves-each P path (Leaf l) h = All-head (λ (q : Path × LeafKept). P q.0 q.1) (path, l) [] h
 leaves-each P path (Split kept j v left right) h =
     let parts = apart_append (λ (q : Path × LeafKept). P q.0 q.1) (leaves (left_path path j v) left) (leaves (right_path path j v) right) h in
@@ -78,7 +80,7 @@ pub closed-all : (ls : List PlacedLeaf) → AreClosed ls → All (λ (l : Placed
 closed-all [] h = λ k d below. absurd (omega arith)
 closed-all (l ∷ ls) h = All-cons (λ (l : PlacedLeaf). l.kept.state ≡ IsClosed) l ls h.0 (closed-all ls h.1)
 
-one-of : (M : Program) (P : PlacedLeaf → Type 0) (ls : List PlacedLeaf) (c : _) → All P ls → IsOneOf M ls c → (l : PlacedLeaf) × (IsCandidate M l c × P l)
+pub one-of : (M : Program) (P : PlacedLeaf → Type 0) (ls : List PlacedLeaf) (c : _) → All P ls → IsOneOf M ls c → (l : PlacedLeaf) × (IsCandidate M l c × P l)
 one-of M P [] c all h = absurd h
 one-of M P (l ∷ ls) c all (inl h) = (l, (h, All-head P l ls all))
 one-of M P (l ∷ ls) c all (inr h) = one-of M P ls c (All-tail P l ls all) h
@@ -98,3 +100,11 @@ pub next-there : (S : PlainSearch) (id : ℕ) → IsNumbered S.tree → IsNext S
 next-there S id numbered next is =
     let found = next-found S id numbered next in
     let e : None ≡ Some found.0.region = is ∙ found.1.1.path_is in cc
+
+-- where no leaf goes first none is open
+pub next-none : (S : PlainSearch) (id : ℕ) (path : Path) → IsNext S None → IsOpenLeaf S id path → ⊥
+next-none S id path next leaf =
+    let l = leaf_at S.tree.root id path leaf.kept leaf.leaf in
+    let closed : l.0.kept.state ≡ IsClosed = (each-found (λ p k. k.kept.state ≡ IsClosed) id [] S.tree.root (path, l.0) (none-open S.tree.root (closed-all (placed_leaves [] S.tree.root) next)) l.1.0).0 in
+    let state : l.0.kept.state ≡ IsOpen = ap (λ (k : LeafData). k.state) l.1.1 ∙ leaf.state in
+    let e : IsOpen ≡ IsClosed = sym state ∙ closed in cc

@@ -160,10 +160,11 @@ leaf_at t id path kept at = by (leaf_below id [] t) refl at.path_is at.data_is
     by None e h k = absurd cc
     by (Some q) e h k = (q.1, (e ∙ (λ t. Some (some_is q.0 path h t, q.1)), some_is q.1.kept kept k))
 
--- that of an open leaf of a sound search
-pub open-found : (S : PlainSearch) → IsSound S → (id : ℕ) (path : Path) (kept : LeafData) → IsLeafAt S.tree.root id path kept → kept.state ≡ IsOpen → ¬ IsEmptyRegion S.model path
-open-found S sound id path kept at is_open =
+-- an open leaf of a sound search was judged so
+pub open-judged : (S : PlainSearch) → IsSound S → (id : ℕ) (path : Path) (kept : LeafData) → IsLeafAt S.tree.root id path kept → IsJudgedLeaf S.model (target S.model S.points) path kept
+open-judged S sound id path kept at =
     let l = leaf_at S.tree.root id path kept at in
-    let judged : IsJudgedLeaf S.model (target S.model S.points) path kept =
-    subst (IsJudgedLeaf S.model (target S.model S.points) path) l.1.1 (each-found (λ p k. IsJudgedLeaf S.model (target S.model S.points) p k.kept) id [] S.tree.root (path, l.0) sound.judged l.1.0).0 in
-    open-not_empty S.model (target S.model S.points) path kept judged is_open
+    subst (IsJudgedLeaf S.model (target S.model S.points) path) l.1.1 (each-found (λ p k. IsJudgedLeaf S.model (target S.model S.points) p k.kept) id [] S.tree.root (path, l.0) sound.judged l.1.0).0
+
+pub open-found : (S : PlainSearch) → IsSound S → (id : ℕ) (path : Path) (kept : LeafData) → IsLeafAt S.tree.root id path kept → kept.state ≡ IsOpen → ¬ IsEmptyRegion S.model path
+open-found S sound id path kept at is_open = open-not_empty S.model (target S.model S.points) path kept (open-judged S sound id path kept at) is_open

@@ -7,3 +7,4 @@ pub mod Work
 pub mod Working
 pub mod Steps
 pub mod Search
+pub mod Bounds

@@ -7,6 +7,7 @@ use Rattle.lp_model.specs.Regions.{Path}
 use Rattle.lp_model.specs.declared.types.WideStep.{WideStep}
 use Rattle.tree_edit.specs.Points.{target}
 use Rattle.tree_edit.specs.Sound.{PlainSearch}
+use Rattle.tree_search.specs.Bounds.{IsBoundOf}
 use Rattle.tree_search.specs.Work.{cap_of}
 use Rattle.tree_search.specs.Working.{IsWidePoint}
 use Rattle.tree_search.specs.Steps.{IsOpenLeaf, IsTooFull}
@@ -61,7 +62,7 @@ StopsFor S limit n (Wide path step) = StopsAtPoint S limit n path step
 abbrev pub Shows : PlainSearch → ℕ → Outcome → Type 0
 Shows S limit (Optimal v x n) = FindsOptimum S.model limit v x n
 Shows S limit (Infeasible n) = FindsNone S.model limit n
-Shows S limit (Stopped why n best) = StopsFor S limit n why × IsValueFound S.model best
+Shows S limit (Stopped why n bound best) = StopsFor S limit n why × IsBoundOf S bound × IsValueFound S.model best
 
 -- the model is as it was
 pub record Finds (old new : PlainSearch) (limit : ℕ) (outcome : Outcome) : Type 0 where

@@ -17,6 +17,7 @@
 //! the shell, whose command for a solution calls this.
 #![tactic(auto)]
 
+mod bounds;
 mod laws;
 mod refuting;
 mod regions;

@@ -1,11 +1,15 @@
 // The search: open leaves are worked until none is left, or it stops.
-ghost use Rattle.std.specs.Prelude.{◌≡◌, ◌≤◌, IfOk};
+ghost use Rattle.std.specs.Prelude.{◌≡◌, ◌≤◌, ℕ, IfOk};
 ghost use Rattle.lp_model.specs.Program.{in_least_form};
 ghost use Rattle.tree_edit.specs.Laws.{HasNoOpenLeaf};
 ghost use Rattle.tree_search.specs.Integral.{IsIntegral};
+ghost use Rattle.lp_model.specs.Regions.{Path};
+ghost use Rattle.tree_search.specs.Steps.{IsOpenLeaf};
+ghost use Rattle.tree_search.specs.Bounds.{IsBoundOf};
 ghost use Rattle.tree_search.specs.Work.{cap_of};
 ghost use Rattle.tree_search.specs.Search.{StopsFor, Shows, Finds, best_value};
 
+use crate::bounds::least_number;
 use crate::stepping::{StopWhy, next_open, step};
 use frac128::Frac;
 use lp_model::{Point, Sense};
@@ -25,10 +29,11 @@ pub enum Outcome {
     Infeasible {
         placed: u64,
     },
-    /// The search stopped. The best value is that of a feasible point.
+    /// The search stopped. No feasible point is better than the bound; the best value is that of a feasible point.
     Stopped {
         why: StopWhy,
         placed: u64,
+        bound: Option<Frac>,
         best: Option<Frac>,
     },
 }
@@ -74,17 +79,32 @@ fn finished(alloc: Global, search: &Search, limit: u64, placed: u64) -> Result<O
     })
 }
 
-/// What is known where a search stops with an open leaf.
-fn stopped(search: &Search, limit: u64, why: StopWhy, placed: u64) -> Outcome
-    requires { StopsFor search.now limit placed why }
-    ensures { Shows search.now limit result }
+/// The least number of an open leaf in the model's own sense, if each has one. No feasible point is better.
+fn bound_of(search: &Search) -> Result<Option<Frac>, AllocError>
+    requires { (id : ℕ) × ((path : Path) × IsOpenLeaf search.now id path) }
+    ensures { IfOk result (λ bound. IsBoundOf search.now bound) }
 {
     let _sound = search.points();
-    Outcome::Stopped {
+    let _numbered = search.tree().nodes();
+    match least_number(search)? {
+        None => Ok(None),
+        Some(least) => Ok(Some(in_least_form(search.model().sense(), &least))),
+    }
+}
+
+/// What is known where a search stops with an open leaf.
+fn stopped(search: &Search, limit: u64, why: StopWhy, placed: u64) -> Result<Outcome, AllocError>
+    requires { StopsFor search.now limit placed why }
+    ensures { IfOk result (λ outcome. Shows search.now limit outcome) }
+{
+    let _sound = search.points();
+    let bound = bound_of(search)?;
+    Ok(Outcome::Stopped {
         why,
         placed,
+        bound,
         best: best_value(search),
-    }
+    })
 }
 
 /// Works open leaves until none is left. It stops where it has placed as many results as the limit allows and a leaf is
@@ -98,10 +118,10 @@ pub fn solve(alloc: Global, search: &mut Search, limit: u64) -> Result<Outcome, 
     let mut placed = 0;
     while let Some(leaf) = next_open(search)? {
         if placed == limit {
-            return Ok(stopped(search, limit, StopWhy::Nodes, placed));
+            return stopped(search, limit, StopWhy::Nodes, placed);
         }
         if let Some(why) = step(alloc, search, leaf)? {
-            return Ok(stopped(search, limit, why, placed));
+            return stopped(search, limit, why, placed);
         }
         placed += 1;
     }

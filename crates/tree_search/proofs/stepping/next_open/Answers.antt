@@ -1,4 +1,4 @@
-use Rattle.std.specs.Prelude.{◌≡◌, [], Some, None}
+use Rattle.std.specs.Prelude.{[], Some, None}
 use Rattle.std.proofs.Common.{subst, sym, ap, ◌∙◌}
 use Rattle.branch_tree.specs.Plain.{path_of}
 use Rattle.branch_tree.specs.Numbered.{NumberedTree, IsNumbered}
