@@ -1,0 +1,13 @@
+pub mod RefuteLemmas
+pub mod SingleLemmas
+pub mod RegionLemmas
+pub mod PointLemmas
+pub mod CapLemmas
+pub mod WorkLemmas
+pub mod OnePointLemmas
+pub mod TakenLemmas
+pub mod JudgeLemmas
+pub mod PlacedLemmas
+pub mod StepLemmas
+pub mod SearchLemmas
+pub mod BoundLemmas

@@ -1,0 +1,110 @@
+-- Open leaves: each is found by its id, and where the scan finds none no leaf is open.
+use Rattle.std.specs.Prelude.{◌≡◌, ℕ, ◌≤◌, List, [], ◌∷◌, ◌++◌, length, map, All, Some, None}
+use Rattle.std.specs.Option.{option_map}
+use Rattle.std.proofs.Common.{refl, sym, subst, ap, ◌∙◌, inl, inr, arith}
+use Rattle.std.proofs.lemmas.List.{get_or-map, length-map}
+use Rattle.std.proofs.lemmas.List.Elements.{All-map, All-head, All-tail, All-cons}
+use Rattle.lp_model.specs.Regions.{Path, AreNarrow}
+use Rattle.branch_tree.specs.Tree.{Leaf, Split, left_path, right_path, EachLeaf, leaves}
+use Rattle.branch_tree.specs.Plain.{Plain, LeafKept, leaves_with, leaf_below}
+use Rattle.branch_tree.specs.Numbered.{NumberedTree, IsNumbered}
+use Rattle.branch_tree.specs.Leaves.{placed, placed_leaves}
+use Rattle.branch_tree.specs.declared.node.PlacedLeaf.{PlacedLeaf}
+use Rattle.branch_tree.specs.declared.node.LeafState.{LeafState}
+use Rattle.branch_tree.specs.declared.node.LeafState.TheVariants.{IsOpen, IsClosed}
+use Rattle.branch_tree.proofs.TreeLemmas.{each_leaf-leaves}
+use Rattle.tree_edit.specs.Sound.{PlainSearch, IsSound}
+use Rattle.tree_edit.specs.Calls.{IsLeafAt}
+use Rattle.tree_edit.proofs.PlaceLemmas.{narrow-found}
+use Rattle.tree_search.specs.Steps.{IsOpenLeaf}
+use Rattle.lp_model.specs.Program.{Program}
+use Rattle.branch_tree.specs.Plain.{path_of}
+use Rattle.tree_edit.specs.Choosing.{IsNext, IsOneOf, IsCandidate, AreClosed}
+use Rattle.tree_search.specs.Steps.{IsNextLeaf}
+use Rattle.branch_tree.specs.declared.node.LeafData.{LeafData}
+use Rattle.branch_tree.proofs.PathLaws.{each-found}
+use Rattle.tree_search.proofs.WorkLemmas.{found_each, leaf_at, some_is}
+use Rattle.tree_search.specs.Steps.{Lowers}
+use Rattle.tree_edit.specs.declared.placing.Taken.{Taken}
+use Rattle.tree_edit.specs.declared.placing.Taken.TheVariants.{Stale, Refused, Reopened, Full, Closed, Split as SplitTaken, Kept}
+use Rattle.tree_search.proofs.PlacedLemmas.{AfterPlace}
+
+pub once : (T : NumberedTree) → IsNumbered T → (id : ℕ) → leaves_with id T.root ≤ 1
+once T n id = let h = n.distinct id in omega (arith, h)
+
+-- each of the leaves is the one with its id
+pub placed-at : (t : Plain) → ((id : ℕ) → leaves_with id t ≤ 1) → All (λ l. IsLeafAt t l.id l.region l.kept) (placed_leaves [] t)
+placed-at t one =
+    All-map (λ (l : PlacedLeaf). IsLeafAt t l.id l.region l.kept) placed (leaves [] t)
+    (λ k d below.
+    let found = each_leaf-leaves (λ p l. leaf_below l.id [] t ≡ Some (p, l)) [] t (found_each [] t one) k d below in
+    record { path_is = ap (option_map (λ (l : Path × LeafKept). l.0)) found; data_is = ap (option_map (λ (l : Path × LeafKept). l.1.kept)) found })
+
+apart_append : {A : Type 0} (P : A → Type 0) (xs ys : List A) → All P (xs ++ ys) → All P xs × All P ys
+apart_append P [] ys h = ((λ k d below. absurd (omega arith)), h)
+apart_append P (x ∷ xs) ys h = let rest = apart_append P xs ys (All-tail P x (xs ++ ys) h) in (All-cons P x xs (All-head P x (xs ++ ys) h) rest.0, rest.1)
+
+pub leaves-each : (P : Path → LeafKept → Type 0) (path : Path) (t : Plain) → All (λ (q : Path × LeafKept). P q.0 q.1) (leaves path t) → EachLeaf P path t
+leaves-each P path (Leaf l) h = All-head (λ (q : Path × LeafKept). P q.0 q.1) (path, l) [] h
+leaves-each P path (Split kept j v left right) h =
+    let parts = apart_append (λ (q : Path × LeafKept). P q.0 q.1) (leaves (left_path path j v) left) (leaves (right_path path j v) right) h in
+    (leaves-each P (left_path path j v) left parts.0, leaves-each P (right_path path j v) right parts.1)
+
+-- where each of the leaves is closed, no leaf of the tree is open
+pub none-open : (t : Plain) → All (λ l. l.kept.state ≡ IsClosed) (placed_leaves [] t) → EachLeaf (λ p l. l.kept.state ≡ IsClosed) [] t
+none-open t h =
+    leaves-each (λ p l. l.kept.state ≡ IsClosed) [] t
+    (λ k d below.
+    subst (λ (l : PlacedLeaf). l.kept.state ≡ IsClosed) (get_or-map placed (leaves [] t) k d (placed d) below)
+    (h k (placed d) (let same : length (map placed (leaves [] t)) ≡ length (leaves [] t) = length-map (leaves [] t) placed in omega (arith, same))))
+
+pub not-open : (s : LeafState) → (s ≡ IsOpen → ⊥) → s ≡ IsClosed
+not-open IsOpen h = absurd (h refl)
+not-open IsClosed h = refl
+
+pub leaf-narrow : (S : PlainSearch) (id : ℕ) (path : Path) → IsSound S → IsOpenLeaf S id path → AreNarrow path
+leaf-narrow S id path sound leaf = narrow-found S id path sound leaf.leaf.path_is
+
+pub not-full : (S : PlainSearch) (path : Path) (S' : PlainSearch) (taken : Taken) → AfterPlace S path S' taken → (taken ≡ Full → ⊥) → Lowers S S'
+not-full S path S' Stale h other = h
+not-full S path S' Refused h other = h
+not-full S path S' Reopened h other = h
+not-full S path S' Full h other = absurd (other refl)
+not-full S path S' Closed h other = h
+not-full S path S' SplitTaken h other = h
+not-full S path S' Kept h other = h
+
+-- ---- the next leaf
+
+pub closed-all : (ls : List PlacedLeaf) → AreClosed ls → All (λ (l : PlacedLeaf). l.kept.state ≡ IsClosed) ls
+closed-all [] h = λ k d below. absurd (omega arith)
+closed-all (l ∷ ls) h = All-cons (λ (l : PlacedLeaf). l.kept.state ≡ IsClosed) l ls h.0 (closed-all ls h.1)
+
+pub one-of : (M : Program) (P : PlacedLeaf → Type 0) (ls : List PlacedLeaf) (c : _) → All P ls → IsOneOf M ls c → (l : PlacedLeaf) × (IsCandidate M l c × P l)
+one-of M P [] c all h = absurd h
+one-of M P (l ∷ ls) c all (inl h) = (l, (h, All-head P l ls all))
+one-of M P (l ∷ ls) c all (inr h) = one-of M P ls c (All-tail P l ls all) h
+
+pub next-found : (S : PlainSearch) (id : ℕ) → IsNumbered S.tree → IsNext S (Some id) → (l : PlacedLeaf) × ((l.kept.state ≡ IsOpen) × IsLeafAt S.tree.root id l.region l.kept)
+next-found S id numbered next =
+    let (l, (candidate, at)) = one-of S.model (λ l. IsLeafAt S.tree.root l.id l.region l.kept) (placed_leaves [] S.tree.root) next.0 (placed-at S.tree.root (once S.tree numbered)) next.1.0.0 in
+    (l, (candidate.state, subst (λ n. IsLeafAt S.tree.root n l.region l.kept) (sym (next.1.1 ∙ candidate.id)) at))
+
+pub next-leaf : (S : PlainSearch) (id : ℕ) (path : Path) → IsNumbered S.tree → IsNext S (Some id) → Some path ≡ path_of id S.tree.root → IsNextLeaf S id path
+next-leaf S id path numbered next is =
+    let (l, (state, at)) = next-found S id numbered next in
+    let same : path ≡ l.region = some_is path l.region (is ∙ at.path_is) in
+    record { leaf = record { kept = l.kept; leaf = subst (λ p. IsLeafAt S.tree.root id p l.kept) (sym same) at; state = state }; next = next }
+
+pub next-there : (S : PlainSearch) (id : ℕ) → IsNumbered S.tree → IsNext S (Some id) → None ≡ path_of id S.tree.root → ⊥
+next-there S id numbered next is =
+    let found = next-found S id numbered next in
+    let e : None ≡ Some found.0.region = is ∙ found.1.1.path_is in cc
+
+-- where no leaf goes first none is open
+pub next-none : (S : PlainSearch) (id : ℕ) (path : Path) → IsNext S None → IsOpenLeaf S id path → ⊥
+next-none S id path next leaf =
+    let l = leaf_at S.tree.root id path leaf.kept leaf.leaf in
+    let closed : l.0.kept.state ≡ IsClosed = (each-found (λ p k. k.kept.state ≡ IsClosed) id [] S.tree.root (path, l.0) (none-open S.tree.root (closed-all (placed_leaves [] S.tree.root) next)) l.1.0).0 in
+    let state : l.0.kept.state ≡ IsOpen = ap (λ (k : LeafData). k.state) l.1.1 ∙ leaf.state in
+    let e : IsOpen ≡ IsClosed = sym state ∙ closed in cc

@@ -1,0 +1,14 @@
+use Rattle.std.proofs.Common.{subst}
+use Rattle.tree_search.proofs.PlacedLemmas.{AfterPlace, after_place}
+use Rattle.tree_search.proofs.StepLemmas.{once, not-full}
+use Rattle.branch_tree.specs.Numbered.{IsNumbered}
+use Rattle.tree_search.proofs.stepping.place_result.Goals as goal
+
+pub returns-in_default : goal.returns-in_default
+returns-in_default c =
+    let S = c.args.search.now in
+    let leaf = c.args.leaf.now in
+    let numbered : IsNumbered S.tree = subst IsNumbered c.tree.ensures.tree c.nodes-numbered.ensures.numbered in
+    let after : AfterPlace S leaf.region c.place.new.self c.in_ok-place.field-0 =
+    after_place S c.points-sound.ensures.sound (once S.tree numbered) c.requires.integral leaf.id leaf.region c.requires.leaf.kept c.requires.leaf.leaf c.requires.leaf.state c.place.new.self c.args.done c.requires.done c.in_ok-place.field-0 c.in_ok-place.ensures.taken in
+    not-full S leaf.region c.place.new.self c.in_ok-place.field-0 after c.in_default.not-Full

@@ -1,0 +1,74 @@
+-- What a search shows of its model: an optimum, that there is no feasible point, or what is known where it stopped.
+use Rattle.std.specs.Prelude.{◌≡◌, ℕ, ◌<◌, ◌≤◌, Option, Some, None}
+use Rattle.std.specs.Option.{option_map}
+use Rattle.rational.specs.Rational.{ℚ}
+use Rattle.lp_model.specs.Program.{Program, Point, IsFeasible, IsOptimum, IsEmpty, value, in_least_form}
+use Rattle.lp_model.specs.Regions.{Path}
+use Rattle.lp_model.specs.declared.types.WideStep.{WideStep}
+use Rattle.tree_edit.specs.Points.{target}
+use Rattle.tree_edit.specs.Sound.{PlainSearch}
+use Rattle.tree_search.specs.Bounds.{IsBoundOf}
+use Rattle.tree_search.specs.Work.{cap_of}
+use Rattle.tree_search.specs.Working.{IsWidePoint}
+use Rattle.tree_search.specs.Steps.{IsOpenLeaf, IsTooFull}
+use Rattle.tree_search.specs.declared.stepping.StopWhy.{StopWhy}
+use Rattle.tree_search.specs.declared.stepping.StopWhy.TheVariants.{Nodes, Tree, Wide}
+use Rattle.tree_search.specs.declared.searching.Outcome.{Outcome}
+use Rattle.tree_search.specs.declared.searching.Outcome.TheVariants.{Optimal, Infeasible, Stopped}
+
+-- the best value is that of a feasible point, if there is one
+abbrev pub IsValueFound : Program → Option ℚ → Type 0
+IsValueFound M None = Unit {0}
+IsValueFound M (Some best) = (x : Point) × (IsFeasible M x × (best ≡ value M 1 x))
+
+-- ---- what a search shows, n results having been placed
+
+pub record FindsOptimum (M : Program) (limit : ℕ) (v : ℚ) (x : Point) (n : ℕ) : Type 0 where
+  pub optimum : IsOptimum M x
+  pub value : v ≡ value M 1 x
+  pub within_limit : n ≤ limit
+  pub within_cap : n ≤ cap_of M
+
+pub record FindsNone (M : Program) (limit n : ℕ) : Type 0 where
+  pub none : IsEmpty M
+  pub within_limit : n ≤ limit
+  pub within_cap : n ≤ cap_of M
+
+-- ---- where it stops, with an open leaf left
+
+-- an open leaf is left, and no result was placed for it
+pub record StopsAtLeaf (S : PlainSearch) (n : ℕ) (path : Path) : Type 0 where
+  pub id : ℕ
+  pub leaf : IsOpenLeaf S id path
+  pub below_cap : n < cap_of S.model
+
+-- all results that the limit allows were placed
+abbrev pub StopsAtLimit : PlainSearch → ℕ → ℕ → Type 0
+StopsAtLimit S limit n = (n ≡ limit) × ((path : Path) × StopsAtLeaf S n path)
+
+-- an open leaf is to be split, and the tree is full
+abbrev pub StopsAtFull : PlainSearch → ℕ → ℕ → Type 0
+StopsAtFull S limit n = (n < limit) × ((path : Path) × (StopsAtLeaf S n path × IsTooFull S path))
+
+-- the one point of an open leaf could not be judged
+abbrev pub StopsAtPoint : PlainSearch → ℕ → ℕ → Path → WideStep → Type 0
+StopsAtPoint S limit n path step = (n < limit) × StopsAtLeaf S n path × IsWidePoint S.model path step
+
+abbrev pub StopsFor : PlainSearch → ℕ → ℕ → StopWhy → Type 0
+StopsFor S limit n Nodes = StopsAtLimit S limit n
+StopsFor S limit n Tree = StopsAtFull S limit n
+StopsFor S limit n (Wide path step) = StopsAtPoint S limit n path step
+
+abbrev pub Shows : PlainSearch → ℕ → Outcome → Type 0
+Shows S limit (Optimal v x n) = FindsOptimum S.model limit v x n
+Shows S limit (Infeasible n) = FindsNone S.model limit n
+Shows S limit (Stopped why n bound best) = StopsFor S limit n why × IsBoundOf S bound × IsValueFound S.model best
+
+-- the model is as it was
+pub record Finds (old new : PlainSearch) (limit : ℕ) (outcome : Outcome) : Type 0 where
+  pub model : new.model ≡ old.model
+  pub shows : Shows new limit outcome
+
+-- the best value of the kept points in the model's own sense, if there is one
+abbrev pub best_value : PlainSearch → Option ℚ
+best_value S = option_map (in_least_form S.model.sense) (target S.model S.points)

@@ -1,0 +1,47 @@
+-- What a placed result does to a search.
+use Rattle.std.specs.Prelude.{◌≡◌, ℕ, ◌+◌, ◌≤◌, [], Option, Some, None}
+use Rattle.lp_model.specs.Regions.{Path}
+use Rattle.branch_tree.specs.Changes.{HasRoom}
+use Rattle.branch_tree.specs.declared.node.LeafData.{LeafData}
+use Rattle.branch_tree.specs.declared.node.LeafState.TheVariants.{IsOpen}
+use Rattle.tree_edit.specs.Sound.{PlainSearch}
+use Rattle.tree_edit.specs.Calls.{IsLeafAt}
+use Rattle.tree_edit.specs.Choosing.{IsNext}
+use Rattle.tree_search.specs.Points.{IsFirstOpen}
+use Rattle.tree_search.specs.Work.{work}
+use Rattle.tree_search.specs.Working.{IsWidePoint}
+use Rattle.tree_search.specs.declared.stepping.StopWhy.{StopWhy}
+use Rattle.tree_search.specs.declared.stepping.StopWhy.TheVariants.{Nodes, Tree, Wide}
+
+-- an open leaf with this path has the id
+pub record IsOpenLeaf (S : PlainSearch) (id : ℕ) (path : Path) : Type 0 where
+  pub kept : LeafData
+  pub leaf : IsLeafAt S.tree.root id path kept
+  pub state : kept.state ≡ IsOpen
+
+-- and its number is the least, or it has none
+pub record IsNextLeaf (S : PlainSearch) (id : ℕ) (path : Path) : Type 0 where
+  pub leaf : IsOpenLeaf S id path
+  pub next : IsNext S (Some id)
+
+-- how many results the search can still place
+abbrev pub work_of : PlainSearch → ℕ
+work_of S = work S.model [] S.tree.root
+
+-- a result was placed: there is less to place
+pub record Lowers (old new : PlainSearch) : Type 0 where
+  pub model : new.model ≡ old.model
+  pub work : work_of new + 1 ≤ work_of old
+
+-- a leaf of this region is to be split, and there is no room for two more nodes
+pub record IsTooFull (S : PlainSearch) (path : Path) : Type 0 where
+  pub column : ℕ
+  pub is_open : IsFirstOpen S.model path column
+  pub full : ¬ HasRoom S.tree
+
+-- what one step on an open leaf with this path does: a result was placed, or why there is none, the search being as it was
+abbrev pub Steps : PlainSearch → Path → PlainSearch → Option StopWhy → Type 0
+Steps old path new None = Lowers old new
+Steps old path new (Some Nodes) = ⊥
+Steps old path new (Some Tree) = IsTooFull old path × (new ≡ old)
+Steps old path new (Some (Wide p step)) = (p ≡ path) × IsWidePoint old.model path step × (new ≡ old)

@@ -1,0 +1,28 @@
+// What regions are: their points, and what single rows show of those with one.
+ghost use Rattle.tree_search.specs.Laws.{SingleLaw, CornerLaw, SplitLaw, SomePointLaw, CapLaw};
+
+/// Where no trial of a row refutes a region with one whole point, and no trial has a step without room, that point breaks
+/// no row.
+pub fn single_law()
+    ensures { SingleLaw }
+{}
+
+/// A region without a column that has more than one number has one whole point, its corner.
+pub fn corner_law()
+    ensures { CornerLaw }
+{}
+
+/// A split's two children have together the points of their parent.
+pub fn split_law()
+    ensures { SplitLaw }
+{}
+
+/// A region that is not seen to be empty has a point.
+pub fn some_point_law()
+    ensures { SomePointLaw }
+{}
+
+/// The open leaves of a tree can take at most as many results as the model's cap.
+pub fn cap_law()
+    ensures { CapLaw }
+{}
