@@ -130,12 +130,12 @@ module _ (M : Program) (integral : IsIntegral M) (path : Path) (some : ¬ IsEmpt
 -- what becomes of the search
 abbrev pub AfterPlace : PlainSearch → Path → PlainSearch → Taken → Type 0
 AfterPlace S path S' Full = IsTooFull S path × (S' ≡ S)
-AfterPlace S path S' Stale = Lowers S S'
-AfterPlace S path S' Refused = Lowers S S'
-AfterPlace S path S' Reopened = Lowers S S'
+AfterPlace S path S' Stale = ⊥
+AfterPlace S path S' Refused = ⊥
+AfterPlace S path S' Reopened = ⊥
 AfterPlace S path S' Closed = Lowers S S'
 AfterPlace S path S' Split = Lowers S S'
-AfterPlace S path S' Kept = Lowers S S'
+AfterPlace S path S' Kept = ⊥
 
 module _ (S : PlainSearch) (sound : IsSound S) (once : (id : ℕ) → leaves_with id S.tree.root ≤ 1) (integral : IsIntegral S.model) (id : ℕ) (path : Path) (kept : LeafData) (at : IsLeafAt S.tree.root id path kept) (is_open : kept.state ≡ IsOpen) where
   not_empty : ¬ IsEmptyRegion S.model path

@@ -1,5 +1,5 @@
 -- What a search shows where it ends or stops.
-use Rattle.std.specs.Prelude.{◌≡◌, ℕ, ◌+◌, ◌-◌, ◌*◌, ◌<◌, ◌≤◌, Bool, true, false, if◌then◌else◌, nat_eq, List, [], ◌∷◌, All, Option, Some, None}
+use Rattle.std.specs.Prelude.{◌≡◌, ℕ, ◌+◌, ◌-◌, ◌*◌, ◌<◌, ◌≤◌, Bool, true, false, if◌then◌else◌, nat_eq, List, [], ◌∷◌, All, Option, Some, None, IfOk, Result, Ok, Err}
 use Rattle.std.specs.Option.{option_map, option_or}
 use Rattle.std.proofs.Common.{refl, sym, subst, ap, ◌∙◌, arith}
 use Rattle.rational.specs.Rational.{ℚ}
@@ -22,7 +22,9 @@ use Rattle.tree_search.specs.Work.{leaf_work, work, cap_of}
 use Rattle.tree_search.specs.Steps.{IsOpenLeaf, work_of, Steps}
 use Rattle.tree_search.specs.declared.stepping.StopWhy.{StopWhy}
 use Rattle.tree_search.specs.declared.stepping.StopWhy.TheVariants.{Nodes, Tree, Wide}
-use Rattle.tree_search.specs.Search.{IsValueFound, best_value, StopsAtLeaf, StopsFor}
+use Rattle.tree_search.specs.Search.{IsValueFound, best_value, StopsAtLeaf, StopsFor, ShowsFor, Finds}
+use Rattle.tree_search.specs.declared.searching.Outcome.{Outcome}
+use Rattle.tree_search.specs.Steps.{PlacesMany}
 use Rattle.tree_search.proofs.PointLemmas.{points-some}
 use Rattle.tree_search.proofs.WorkLemmas.{leaf_at, open-found, some_is}
 use Rattle.tree_search.proofs.TakenLemmas.{least_is}
@@ -87,3 +89,12 @@ pub stop-leaf : (S : PlainSearch) (limit n : ℕ) (why : StopWhy) → StopsFor S
 stop-leaf S limit n Nodes h = (h.1.1.id, (h.1.0, h.1.1.leaf))
 stop-leaf S limit n Tree h = (h.1.1.0.id, (h.1.0, h.1.1.0.leaf))
 stop-leaf S limit n (Wide path step) h = (h.1.id, (path, h.1.leaf))
+
+pub step-same : (S : PlainSearch) (path : Path) (new : PlainSearch) (why : StopWhy) → Steps S path new (Some why) → new ≡ S
+step-same S path new Nodes h = absurd h
+step-same S path new Tree h = h.1
+step-same S path new (Wide p step) h = h.2
+
+pub finds : {E : Type 0} (old new : PlainSearch) (limit n : ℕ) (r : Result Outcome E) → new.model ≡ old.model → PlacesMany n old new → IfOk r (λ outcome. ShowsFor new limit n outcome) → IfOk r (λ outcome. Finds old new limit outcome)
+finds old new limit n (Ok outcome) model placed h = record { model = model; placed = subst (λ m. PlacesMany m old new) (sym h.0) placed; shows = h.1 }
+finds old new limit n (Err e) model placed h = tt

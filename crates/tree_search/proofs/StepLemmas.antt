@@ -1,5 +1,5 @@
 -- Open leaves: each is found by its id, and where the scan finds none no leaf is open.
-use Rattle.std.specs.Prelude.{◌≡◌, ℕ, ◌≤◌, List, [], ◌∷◌, ◌++◌, length, map, All, Some, None}
+use Rattle.std.specs.Prelude.{◌≡◌, ℕ, suc, ◌+◌, ◌≤◌, List, [], ◌∷◌, ◌++◌, length, map, All, Some, None}
 use Rattle.std.specs.Option.{option_map}
 use Rattle.std.proofs.Common.{refl, sym, subst, ap, ◌∙◌, inl, inr, arith}
 use Rattle.std.proofs.lemmas.List.{get_or-map, length-map}
@@ -24,7 +24,9 @@ use Rattle.tree_search.specs.Steps.{IsNextLeaf}
 use Rattle.branch_tree.specs.declared.node.LeafData.{LeafData}
 use Rattle.branch_tree.proofs.PathLaws.{each-found}
 use Rattle.tree_search.proofs.WorkLemmas.{found_each, leaf_at, some_is}
-use Rattle.tree_search.specs.Steps.{Lowers}
+use Rattle.tree_search.specs.Steps.{Lowers, Places, PlacesMany}
+use Rattle.tree_edit.specs.Placing.{Takes}
+use Rattle.branch_tree.specs.declared.node.NodeResult.{NodeResult}
 use Rattle.tree_edit.specs.declared.placing.Taken.{Taken}
 use Rattle.tree_edit.specs.declared.placing.Taken.TheVariants.{Stale, Refused, Reopened, Full, Closed, Split as SplitTaken, Kept}
 use Rattle.tree_search.proofs.PlacedLemmas.{AfterPlace}
@@ -65,14 +67,17 @@ not-open IsClosed h = refl
 pub leaf-narrow : (S : PlainSearch) (id : ℕ) (path : Path) → IsSound S → IsOpenLeaf S id path → AreNarrow path
 leaf-narrow S id path sound leaf = narrow-found S id path sound leaf.leaf.path_is
 
-pub not-full : (S : PlainSearch) (path : Path) (S' : PlainSearch) (taken : Taken) → AfterPlace S path S' taken → (taken ≡ Full → ⊥) → Lowers S S'
-not-full S path S' Stale h other = h
-not-full S path S' Refused h other = h
-not-full S path S' Reopened h other = h
-not-full S path S' Full h other = absurd (other refl)
-not-full S path S' Closed h other = h
-not-full S path S' SplitTaken h other = h
-not-full S path S' Kept h other = h
+pub not-full : (S : PlainSearch) (path : Path) (S' : PlainSearch) (id : ℕ) (done : NodeResult) (taken : Taken) → AfterPlace S path S' taken → Takes S id done S' taken → (taken ≡ Full → ⊥) → Lowers S S' × Places S S'
+not-full S path S' id done Stale h takes other = absurd h
+not-full S path S' id done Refused h takes other = absurd h
+not-full S path S' id done Reopened h takes other = absurd h
+not-full S path S' id done Full h takes other = absurd (other refl)
+not-full S path S' id done Closed h takes other = (h, record { id = id; done = done; taken = Closed; takes = takes; effective = tt })
+not-full S path S' id done SplitTaken h takes other = (h, record { id = id; done = done; taken = SplitTaken; takes = takes; effective = tt })
+not-full S path S' id done Kept h takes other = absurd h
+
+pub places-more : (n : ℕ) (old mid new : PlainSearch) → PlacesMany n old mid → Places mid new → PlacesMany (n + 1) old new
+places-more n old mid new h p = let e : suc n ≡ n + 1 = omega arith in subst (λ m. PlacesMany m old new) e (mid, (h, p))
 
 -- ---- the next leaf
 

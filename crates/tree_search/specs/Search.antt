@@ -10,7 +10,7 @@ use Rattle.tree_edit.specs.Sound.{PlainSearch}
 use Rattle.tree_search.specs.Bounds.{IsBoundOf}
 use Rattle.tree_search.specs.Work.{cap_of}
 use Rattle.tree_search.specs.Working.{IsWidePoint}
-use Rattle.tree_search.specs.Steps.{IsOpenLeaf, IsTooFull}
+use Rattle.tree_search.specs.Steps.{IsOpenLeaf, IsTooFull, PlacesMany}
 use Rattle.tree_search.specs.declared.stepping.StopWhy.{StopWhy}
 use Rattle.tree_search.specs.declared.stepping.StopWhy.TheVariants.{Nodes, Tree, Wide}
 use Rattle.tree_search.specs.declared.searching.Outcome.{Outcome}
@@ -64,9 +64,19 @@ Shows S limit (Optimal v x n) = FindsOptimum S.model limit v x n
 Shows S limit (Infeasible n) = FindsNone S.model limit n
 Shows S limit (Stopped why n bound best) = StopsFor S limit n why × IsBoundOf S bound × IsValueFound S.model best
 
--- the model is as it was
+abbrev pub placed_of : Outcome → ℕ
+placed_of (Optimal v x n) = n
+placed_of (Infeasible n) = n
+placed_of (Stopped why n bound best) = n
+
+-- and this is how many
+abbrev pub ShowsFor : PlainSearch → ℕ → ℕ → Outcome → Type 0
+ShowsFor S limit n outcome = (placed_of outcome ≡ n) × Shows S limit outcome
+
+-- the model is as it was, and so many results were placed
 pub record Finds (old new : PlainSearch) (limit : ℕ) (outcome : Outcome) : Type 0 where
   pub model : new.model ≡ old.model
+  pub placed : PlacesMany (placed_of outcome) old new
   pub shows : Shows new limit outcome
 
 -- the best value of the kept points in the model's own sense, if there is one

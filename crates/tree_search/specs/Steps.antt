@@ -1,9 +1,13 @@
 -- What a placed result does to a search.
-use Rattle.std.specs.Prelude.{◌≡◌, ℕ, ◌+◌, ◌≤◌, [], Option, Some, None}
+use Rattle.std.specs.Prelude.{◌≡◌, ℕ, zero, suc, ◌+◌, ◌≤◌, [], Option, Some, None}
 use Rattle.lp_model.specs.Regions.{Path}
 use Rattle.branch_tree.specs.Changes.{HasRoom}
 use Rattle.branch_tree.specs.declared.node.LeafData.{LeafData}
 use Rattle.branch_tree.specs.declared.node.LeafState.TheVariants.{IsOpen}
+use Rattle.branch_tree.specs.declared.node.NodeResult.{NodeResult}
+use Rattle.tree_edit.specs.declared.placing.Taken.{Taken}
+use Rattle.tree_edit.specs.declared.placing.Taken.TheVariants.{Stale, Refused, Reopened, Full, Closed, Split, Kept}
+use Rattle.tree_edit.specs.Placing.{Takes}
 use Rattle.tree_edit.specs.Sound.{PlainSearch}
 use Rattle.tree_edit.specs.Calls.{IsLeafAt}
 use Rattle.tree_edit.specs.Choosing.{IsNext}
@@ -39,9 +43,32 @@ pub record IsTooFull (S : PlainSearch) (path : Path) : Type 0 where
   pub is_open : IsFirstOpen S.model path column
   pub full : ¬ HasRoom S.tree
 
+-- the leaf was closed or split
+abbrev pub IsEffective : Taken → Type 0
+IsEffective Stale = ⊥
+IsEffective Refused = ⊥
+IsEffective Reopened = ⊥
+IsEffective Full = ⊥
+IsEffective Closed = Unit {0}
+IsEffective Split = Unit {0}
+IsEffective Kept = ⊥
+
+-- a result closed or split a leaf
+pub record Places (old new : PlainSearch) : Type 0 where
+  pub id : ℕ
+  pub done : NodeResult
+  pub taken : Taken
+  pub takes : Takes old id done new taken
+  pub effective : IsEffective taken
+
+-- so many results, one after the other
+abbrev pub PlacesMany : ℕ → PlainSearch → PlainSearch → Type 0
+PlacesMany zero old new = new ≡ old
+PlacesMany (suc n) old new = (mid : PlainSearch) × (PlacesMany n old mid × Places mid new)
+
 -- what one step on an open leaf with this path does: a result was placed, or why there is none, the search being as it was
 abbrev pub Steps : PlainSearch → Path → PlainSearch → Option StopWhy → Type 0
-Steps old path new None = Lowers old new
+Steps old path new None = Lowers old new × Places old new
 Steps old path new (Some Nodes) = ⊥
 Steps old path new (Some Tree) = IsTooFull old path × (new ≡ old)
 Steps old path new (Some (Wide p step)) = (p ≡ path) × IsWidePoint old.model path step × (new ≡ old)

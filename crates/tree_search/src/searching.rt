@@ -7,7 +7,7 @@ ghost use Rattle.lp_model.specs.Regions.{Path};
 ghost use Rattle.tree_search.specs.Steps.{IsOpenLeaf};
 ghost use Rattle.tree_search.specs.Bounds.{IsBoundOf};
 ghost use Rattle.tree_search.specs.Work.{cap_of};
-ghost use Rattle.tree_search.specs.Search.{StopsFor, Shows, Finds, best_value};
+ghost use Rattle.tree_search.specs.Search.{StopsFor, ShowsFor, Finds, best_value};
 
 use crate::bounds::least_number;
 use crate::stepping::{StopWhy, next_open, step};
@@ -63,7 +63,7 @@ fn finished(alloc: Global, search: &Search, limit: u64, placed: u64) -> Result<O
     requires none_open { HasNoOpenLeaf search.now }
     requires within_limit { placed ≤ limit }
     requires within_cap { placed ≤ cap_of search.now.model }
-    ensures { IfOk result (λ outcome. Shows search.now limit outcome) }
+    ensures { IfOk result (λ outcome. ShowsFor search.now limit placed outcome) }
 {
     let _sound = search.points();
     let Some(point) = search.incumbent() else {
@@ -95,7 +95,7 @@ fn bound_of(search: &Search) -> Result<Option<Frac>, AllocError>
 /// What is known where a search stops with an open leaf.
 fn stopped(search: &Search, limit: u64, why: StopWhy, placed: u64) -> Result<Outcome, AllocError>
     requires { StopsFor search.now limit placed why }
-    ensures { IfOk result (λ outcome. Shows search.now limit outcome) }
+    ensures { IfOk result (λ outcome. ShowsFor search.now limit placed outcome) }
 {
     let _sound = search.points();
     let bound = bound_of(search)?;

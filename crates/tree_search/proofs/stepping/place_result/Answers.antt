@@ -11,4 +11,4 @@ returns-in_default c =
     let numbered : IsNumbered S.tree = subst IsNumbered c.tree.ensures.tree c.nodes-numbered.ensures.numbered in
     let after : AfterPlace S leaf.region c.place.new.self c.in_ok-place.field-0 =
     after_place S c.points-sound.ensures.sound (once S.tree numbered) c.requires.integral leaf.id leaf.region c.requires.leaf.kept c.requires.leaf.leaf c.requires.leaf.state c.place.new.self c.args.done c.requires.done c.in_ok-place.field-0 c.in_ok-place.ensures.taken in
-    not-full S leaf.region c.place.new.self c.in_ok-place.field-0 after c.in_default.not-Full
+    not-full S leaf.region c.place.new.self leaf.id c.args.done c.in_ok-place.field-0 after c.in_ok-place.ensures.taken c.in_default.not-Full
