@@ -13,8 +13,8 @@
 //! Public contract: what `solve` answers is a theorem (`Finds` in specs/Search): an optimum, or that no point is feasible,
 //! or why it stopped and what is known there.
 //!
-//! Below stand the searches (`tree_edit`), the numbers of leaves (`leaf_dual`) and the models (`lp_model`). Above stands
-//! the shell, whose command for a solution calls this.
+//! Below stand the searches (`tree_edit`), the numbers of leaves (`leaf_dual`) and the models (`lp_model`). No command calls
+//! this yet: the shell searches with `box_search`, whose place this is to take.
 #![tactic(auto)]
 
 mod bounds;
