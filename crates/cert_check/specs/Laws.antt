@@ -1,0 +1,16 @@
+-- What an accepted certificate proves.
+use Rattle.std.specs.Prelude.{◌≡◌}
+use Rattle.rational.specs.Rational.{ℚ}
+use Rattle.lp_model.specs.Program.{Program, Point, value, IsOptimum, IsEmpty}
+use Rattle.cert_check.specs.declared.cert.Claim.{Claim}
+use Rattle.cert_check.specs.declared.cert.Claim.TheVariants.{Optimal, Infeasible}
+use Rattle.cert_check.specs.declared.cert.Cert.{Cert}
+use Rattle.cert_check.specs.Accepted.{Accepts}
+
+-- a feasible point that no feasible point beats has the value; no point is feasible
+abbrev pub IsTrueClaim : Program → Claim → Type 0
+IsTrueClaim M (Optimal v) = (x : Point) × (IsOptimum M x × (value M 1 x ≡ v))
+IsTrueClaim M Infeasible = IsEmpty M
+
+abbrev pub AcceptedLaw : Type 0
+AcceptedLaw = (M : Program) (cert : Cert) → Accepts M cert → IsTrueClaim M cert.claim
