@@ -1,3 +1,6 @@
 pub mod Tree
 pub mod Accepted
 pub mod Laws
+pub mod Lines
+pub mod Text
+pub mod Reading

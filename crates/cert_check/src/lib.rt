@@ -21,6 +21,10 @@
 
 mod cert;
 mod laws;
+mod line;
+mod named;
+mod reader;
+mod reading;
 
 pub use cert::{Cert, CertLeaf, CertNode, Claim};
 pub use laws::accepted_law;

@@ -1,0 +1,12 @@
+use Rattle.std.proofs.Common.{ap, ℕ}
+use Rattle.std.specs.Prelude.{[], false, List}
+use Rattle.cert_check.specs.Text.{Stated, stated}
+use Rattle.cert_check.specs.declared.cert.CertNode.{CertNode}
+use Rattle.cert_check.proofs.reading.Reading.new.Goals as goal
+
+first : List CertNode → Stated
+first nodes = record { count = 0; claims = []; points = []; nodes = nodes; ended = false }
+
+pub returns : goal.returns
+unfolding stated first
+returns c = ap first c.new.ensures
