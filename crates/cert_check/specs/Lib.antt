@@ -4,3 +4,5 @@ pub mod Laws
 pub mod Lines
 pub mod Text
 pub mod Reading
+pub mod Verdict
+pub mod Walk

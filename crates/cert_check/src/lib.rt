@@ -20,11 +20,18 @@
 #![tactic(auto)]
 
 mod cert;
+mod checking;
+mod judging;
 mod laws;
 mod line;
+mod names;
 mod named;
 mod reader;
 mod reading;
+mod verdict;
 
 pub use cert::{Cert, CertLeaf, CertNode, Claim};
-pub use laws::accepted_law;
+pub use checking::{RegionBuf, check};
+pub use laws::{accepted_law, verdict_law};
+pub use reader::{CertFault, read_cert};
+pub use verdict::Verdict;
