@@ -18,7 +18,8 @@ use Rattle.cert_check.specs.declared.cert.CertNode.TheVariants as node
 use Rattle.cert_check.specs.declared.judging.PlacedNode.{PlacedNode}
 use Rattle.cert_check.specs.declared.judging.PlacedNode.TheVariants as placed
 use Rattle.cert_check.specs.Tree.{CertTree, Leaf, Split, preorder, place_among}
-use Rattle.cert_check.specs.Verdict.{visits, IsNarrowNode}
+use Rattle.cert_check.specs.Verdict.{visits}
+use Rattle.cert_check.specs.Whole.{IsNarrowNode}
 use Rattle.cert_check.specs.Walk.{CanTurn, after_leaf, after_node, IsPlace}
 use Rattle.cert_check.proofs.WalkLemmas.{after_leaf-low, after_leaf-high}
 

@@ -22,7 +22,8 @@ use Rattle.cert_check.specs.declared.verdict.Judgement.TheVariants.{Passes, Brea
 use Rattle.cert_check.specs.declared.verdict.Verdict.TheVariants.{Accepted}
 use Rattle.cert_check.specs.Tree.{CertTree, Leaf, Split, place_among, placed}
 use Rattle.cert_check.specs.Accepted.{multipliers, point_of, Closes, HasPoint, ReachesClaim, Accepts}
-use Rattle.cert_check.specs.Verdict.{NumberReaches, IsNumberJudged, IsFarkasJudged, IsLeafJudged, IsClaimJudged, IsPointJudged, visits, IsVisitJudged, IsVerdict, IsCertificate, HasNoPoint}
+use Rattle.cert_check.specs.Verdict.{NumberReaches, IsNumberJudged, IsFarkasJudged, IsLeafJudged, IsClaimJudged, IsPointJudged, visits, IsVisitJudged, IsVerdict}
+use Rattle.cert_check.specs.Whole.{IsCertificate, HasNoPoint}
 use Rattle.cert_check.proofs.PairLemmas.{place_within}
 
 no_pass : Passes ≡ Breaks 1 → ⊥

@@ -20,7 +20,8 @@ use Rattle.cert_check.specs.declared.verdict.Judgement.{Judgement}
 use Rattle.cert_check.specs.declared.verdict.Judgement.TheVariants.{Passes, Breaks}
 use Rattle.cert_check.specs.Tree.{CertTree, preorder, place_among}
 use Rattle.cert_check.specs.Accepted.{names_of_rows}
-use Rattle.cert_check.specs.Verdict.{IsKindJudged, IsNumberJudged, IsFarkasJudged, IsNodeJudged, IsPointJudged, IsClaimJudged, IsNarrowNode, visits, IsVisitJudged, IsJudgedAt}
+use Rattle.cert_check.specs.Verdict.{IsKindJudged, IsNumberJudged, IsFarkasJudged, IsNodeJudged, IsPointJudged, IsClaimJudged, visits, IsVisitJudged, IsJudgedAt}
+use Rattle.cert_check.specs.Whole.{IsNarrowNode}
 use Rattle.cert_check.specs.Walk.{IsPlace, IsPlacedJudged, IsWalked, IsPointOf, CanTurn, after_node}
 use Rattle.cert_check.proofs.PairLemmas.{place_in}
 use Rattle.cert_check.proofs.PlaceLemmas.{column_known}

@@ -1,5 +1,5 @@
 -- What an accepted certificate proves.
-use Rattle.std.specs.Prelude.{◌≡◌, ℕ, List}
+use Rattle.std.specs.Prelude.{◌≡◌}
 use Rattle.rational.specs.Rational.{ℚ}
 use Rattle.lp_model.specs.Program.{Program, Point, value, IsOptimum, IsEmpty}
 use Rattle.cert_check.specs.declared.cert.Claim.{Claim}
@@ -7,8 +7,8 @@ use Rattle.cert_check.specs.declared.cert.Claim.TheVariants.{Optimal, Infeasible
 use Rattle.cert_check.specs.declared.cert.Cert.{Cert}
 use Rattle.cert_check.specs.declared.verdict.Verdict.TheVariants.{Accepted}
 use Rattle.cert_check.specs.Accepted.{Accepts}
-use Rattle.cert_check.specs.Verdict.{IsVerdict, IsCertificate}
-use Rattle.cert_check.specs.Text.{Meant}
+use Rattle.cert_check.specs.Verdict.{IsVerdict}
+use Rattle.cert_check.specs.Whole.{IsCertificate}
 
 -- a feasible point that no feasible point beats has the value; no point is feasible
 abbrev pub IsTrueClaim : Program → Claim → Type 0
@@ -21,7 +21,3 @@ AcceptedLaw = (M : Program) (cert : Cert) → Accepts M cert → IsTrueClaim M c
 -- a certificate that is judged and found accepted is accepted by the definition
 abbrev pub VerdictLaw : Type 0
 VerdictLaw = (M : Program) (cert : Cert) → IsCertificate cert → IsVerdict M cert Accepted → Accepts M cert
-
--- what a text states can be judged
-abbrev pub MeantLaw : Type 0
-MeantLaw = (text : List ℕ) (cert : Cert) → Meant text cert → IsCertificate cert

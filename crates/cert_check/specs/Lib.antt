@@ -6,3 +6,4 @@ pub mod Text
 pub mod Reading
 pub mod Verdict
 pub mod Walk
+pub mod Whole

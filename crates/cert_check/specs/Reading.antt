@@ -1,8 +1,9 @@
 -- What the reader's values stand for.
-use Rattle.std.specs.Prelude.{◌≡◌, ℕ, suc, ◌+◌, ◌<◌, ◌||◌, ◌++◌, List, length, min, option_to_list, Option, None, Some, Result, Ok, Err}
+use Rattle.std.specs.Prelude.{◌≡◌, ℕ, suc, ◌+◌, ◌<◌, ◌||◌, ◌++◌, List, length, min, option_to_list, true, All, Option, None, Some, Result, Ok, Err}
 use Rattle.lp_model.specs.Edits.{Named}
 use Rattle.cert_check.specs.declared.cert.Cert.{Cert}
 use Rattle.cert_check.specs.Lines.{line_says}
+use Rattle.cert_check.specs.Whole.{TakesAll, IsPointed, IsNarrowNode}
 use Rattle.cert_check.specs.Text.{claim_in, point_in, node_in, is_end, Stated, stated, code_in, code_at, AreClean, Meant, Faulty}
 use Rattle.cert_check.specs.declared.line.Statement.{Statement}
 use Rattle.cert_check.specs.declared.reader.CertFault.{CertFault}
@@ -62,3 +63,10 @@ abbrev pub IsAnswer : List ℕ → Result Cert CertFault → Type 0
 IsAnswer text (Ok cert) = Meant text cert
 IsAnswer text (Err (Bad line code)) = Faulty text line code
 IsAnswer text (Err NoMemory) = Unit {0}
+
+-- what the reader keeps: nodes stand only where a tree is due, none is due at the end, and splits have room
+pub record IsKept (r : Reading) : Type 0 where
+  pub takes : TakesAll 1 r.nodes
+  pub whole : r.ended ≡ true → r.due ≡ 0
+  pub narrow : All IsNarrowNode r.nodes
+  pub pointed : IsPointed r.claim r.point

@@ -134,21 +134,3 @@ pub record IsVerdict (M : Program) (cert : Cert) (verdict : Verdict) : Type 0 wh
   pub tree : CertTree
   pub nodes : preorder tree ≡ cert.nodes
   pub is : IsVerdictOn M cert tree verdict
-
--- ---- which certificates are judged: those that a text states
-
--- a fraction has room for both numbers of a split
-abbrev pub IsNarrowNode : CertNode → Type 0
-IsNarrowNode (node.Split col v) = IsNarrow v × IsNarrow (v +ℤ pos 1)
-IsNarrowNode (node.Leaf leaf) = Unit {0}
-
-abbrev pub HasNoPoint : Claim → Named → Type 0
-HasNoPoint (Optimal v) named = Unit {0}
-HasNoPoint Infeasible named = named ≡ []
-
--- the nodes are one whole tree, splits have room, and a claim that no point is feasible has none
-pub record IsCertificate (cert : Cert) : Type 0 where
-  pub tree : CertTree
-  pub nodes : preorder tree ≡ cert.nodes
-  pub narrow : All IsNarrowNode cert.nodes
-  pub point : HasNoPoint cert.claim cert.point

@@ -23,7 +23,8 @@ use Rattle.cert_check.specs.declared.judging.PlacedNode.TheVariants.{Misnamed, S
 use Rattle.cert_check.specs.declared.checking.RegionBuf.{RegionBuf}
 use Rattle.cert_check.specs.Tree.{CertTree, preorder, place_among}
 use Rattle.cert_check.specs.Accepted.{AreNames, names_of_rows, point_of, multipliers}
-use Rattle.cert_check.specs.Verdict.{IsNumberJudged, IsFarkasJudged, IsEmptyJudged, IsKindJudged, visits, IsVisitJudged, IsJudgedAt, IsNarrowNode}
+use Rattle.cert_check.specs.Verdict.{IsNumberJudged, IsFarkasJudged, IsEmptyJudged, IsKindJudged, visits, IsVisitJudged, IsJudgedAt}
+use Rattle.cert_check.specs.Whole.{IsNarrowNode}
 
 -- ---- nodes with places
 

@@ -2,6 +2,7 @@
 ghost use Rattle.std.specs.Prelude.{◌≡◌, map, IfOk, Ok};
 ghost use Rattle.cert_check.specs.Lines.{is_blank, words_of, begins_blank, ends_blank, is_whole, word_of, named_in, as_point, cert_says, claim_says, split_at, split_says, leaf_says, end_says, word_says, words_say, line_says};
 ghost use Rattle.cert_check.specs.Reading.{Says};
+ghost use Rattle.cert_check.specs.Whole.{IsNarrowStatement};
 
 use crate::cert::{CertLeaf, CertNode, Claim};
 use crate::named::{named_in, number_code, rows_in};
@@ -116,7 +117,8 @@ fn line_word(word: &[u8]) -> Option<LineWord>
 
 /// What `cert` with these further words says.
 fn cert_says(words: &[&[u8]]) -> Result<Statement, LineFault>
-    ensures { Says (cert_says (map (λ word. word.now) words.now)) result }
+    ensures says { Says (cert_says (map (λ word. word.now) words.now)) result }
+    ensures narrow { IfOk result IsNarrowStatement }
 {
     match words {
         [version] if *version == b"1".as_slice() => Ok(Statement::Header),
@@ -126,7 +128,8 @@ fn cert_says(words: &[&[u8]]) -> Result<Statement, LineFault>
 
 /// What `claim` with these further words says.
 fn claim_says(words: &[&[u8]]) -> Result<Statement, LineFault>
-    ensures { Says (claim_says (map (λ word. word.now) words.now)) result }
+    ensures says { Says (claim_says (map (λ word. word.now) words.now)) result }
+    ensures narrow { IfOk result IsNarrowStatement }
 {
     match words {
         [kind] if *kind == b"infeasible".as_slice() => Ok(Statement::Claims(Claim::Infeasible)),
@@ -140,7 +143,8 @@ fn claim_says(words: &[&[u8]]) -> Result<Statement, LineFault>
 
 /// What `end` with these further words says.
 fn end_says(words: &[&[u8]]) -> Result<Statement, LineFault>
-    ensures { Says (end_says (map (λ word. word.now) words.now)) result }
+    ensures says { Says (end_says (map (λ word. word.now) words.now)) result }
+    ensures narrow { IfOk result IsNarrowStatement }
 {
     match words {
         [] => Ok(Statement::End),
@@ -150,7 +154,8 @@ fn end_says(words: &[&[u8]]) -> Result<Statement, LineFault>
 
 /// What `split` with these further words says.
 fn split_says(alloc: Global, words: &[&[u8]]) -> Result<Statement, LineFault>
-    ensures { Says (split_says (map (λ word. word.now) words.now)) result }
+    ensures says { Says (split_says (map (λ word. word.now) words.now)) result }
+    ensures narrow { IfOk result IsNarrowStatement }
 {
     let [name, number] = words else {
         return Err(LineFault::Code(3));
@@ -163,11 +168,13 @@ fn split_says(alloc: Global, words: &[&[u8]]) -> Result<Statement, LineFault>
 
 /// The split of a column at a number.
 fn split_at(alloc: Global, name: &[u8], value: &Frac) -> Result<Statement, LineFault>
-    ensures { Says (split_at name.now (Ok value.now)) result }
+    ensures says { Says (split_at name.now (Ok value.now)) result }
+    ensures narrow { IfOk result IsNarrowStatement }
 {
     if !is_whole(value) {
         return Err(LineFault::Code(3));
     }
+    value.has_room();
     let v = value.numerator();
     if v == i128::MAX {
         return Err(LineFault::Code(5));
@@ -184,7 +191,8 @@ fn is_whole(value: &Frac) -> bool
 
 /// What `leaf` with these further words says.
 fn leaf_says(alloc: Global, words: &[&[u8]]) -> Result<Statement, LineFault>
-    ensures { Says (leaf_says (map (λ word. word.now) words.now)) result }
+    ensures says { Says (leaf_says (map (λ word. word.now) words.now)) result }
+    ensures narrow { IfOk result IsNarrowStatement }
 {
     let [kind, more @ ..] = words else {
         return Err(LineFault::Code(3));
@@ -205,7 +213,8 @@ fn leaf_says(alloc: Global, words: &[&[u8]]) -> Result<Statement, LineFault>
 
 /// What `point` with these further words says.
 fn point_says(alloc: Global, words: &[&[u8]]) -> Result<Statement, LineFault>
-    ensures { Says (as_point (named_in (map (λ word. word.now) words.now))) result }
+    ensures says { Says (as_point (named_in (map (λ word. word.now) words.now))) result }
+    ensures narrow { IfOk result IsNarrowStatement }
 {
     let named = named_in(alloc, words)?;
     Ok(Statement::Point(named))
@@ -213,7 +222,8 @@ fn point_says(alloc: Global, words: &[&[u8]]) -> Result<Statement, LineFault>
 
 /// What a known first word with these further words says.
 fn word_says(alloc: Global, word: LineWord, words: &[&[u8]]) -> Result<Statement, LineFault>
-    ensures { Says (word_says word (map (λ word. word.now) words.now)) result }
+    ensures says { Says (word_says word (map (λ word. word.now) words.now)) result }
+    ensures narrow { IfOk result IsNarrowStatement }
 {
     match word {
         LineWord::Cert => cert_says(words),
@@ -228,7 +238,8 @@ fn word_says(alloc: Global, word: LineWord, words: &[&[u8]]) -> Result<Statement
 
 /// What words say, in a line that ends with a blank or not.
 fn words_say(alloc: Global, blank: bool, words: &[&[u8]]) -> Result<Statement, LineFault>
-    ensures { Says (words_say blank (map (λ word. word.now) words.now)) result }
+    ensures says { Says (words_say blank (map (λ word. word.now) words.now)) result }
+    ensures narrow { IfOk result IsNarrowStatement }
 {
     let [first, more @ ..] = words else {
         return Err(LineFault::Code(2));
@@ -242,7 +253,8 @@ fn words_say(alloc: Global, blank: bool, words: &[&[u8]]) -> Result<Statement, L
 
 /// What a line says by itself.
 pub(crate) fn line_says(alloc: Global, line: &[u8]) -> Result<Statement, LineFault>
-    ensures { Says (line_says line.now) result }
+    ensures says { Says (line_says line.now) result }
+    ensures narrow { IfOk result IsNarrowStatement }
 {
     if begins_blank(line) {
         return Err(LineFault::Code(2));

@@ -2,7 +2,8 @@
 ghost use Rattle.std.specs.Prelude.{◌≡◌, ◌+◌, ◌<◌, ◌^◌, map, IfOk};
 ghost use Rattle.std.specs.List.{slice_split};
 ghost use Rattle.cert_check.specs.Lines.{is_newline, lines_of};
-ghost use Rattle.cert_check.specs.Reading.{held, IsNoted, IsReading, IsAnswer};
+ghost use Rattle.cert_check.specs.Whole.{IsCertificate};
+ghost use Rattle.cert_check.specs.Reading.{held, IsKept, IsNoted, IsReading, IsAnswer};
 
 use crate::cert::Cert;
 use crate::line::{LineFault, line_says};
@@ -48,8 +49,10 @@ fn read_line(
     line: &[u8],
     number: u64,
 ) -> Result<(), CertFault>
-    requires { reading.old.count + 1 < 2 ^ 64 }
-    ensures { IsNoted (held reading.old) line.now number (held reading.new) result }
+    requires room { reading.old.count + 1 < 2 ^ 64 }
+    requires kept { IsKept reading.old }
+    ensures noted { IsNoted (held reading.old) line.now number (held reading.new) result }
+    ensures kept { IfOk result (λ _. IsKept reading.new) }
 {
     let statement = match line_says(alloc, line) {
         Ok(statement) => statement,
@@ -70,7 +73,8 @@ fn read_line(
 
 /// What the lines state, or the first faulty one.
 fn read_lines(alloc: Global, lines: &[&[u8]]) -> Result<Reading, CertFault>
-    ensures { IsReading (map (λ line. line.now) lines.now) result }
+    ensures reading { IsReading (map (λ line. line.now) lines.now) result }
+    ensures kept { IfOk result IsKept }
 {
     let mut reading = Reading::new(alloc);
     for (index, line) in lines.iter().enumerate() {
@@ -84,7 +88,8 @@ fn read_lines(alloc: Global, lines: &[&[u8]]) -> Result<Reading, CertFault>
 /// The certificate that the text states, or its first faulty line with the least code of its faults. The nodes of a
 /// certificate that is read are one whole tree.
 pub fn read_cert(alloc: Global, text: &[u8]) -> Result<Cert, CertFault>
-    ensures { IsAnswer text.now result }
+    ensures answer { IsAnswer text.now result }
+    ensures certificate { IfOk result IsCertificate }
 {
     let Ok(lines) = lines_of(alloc, text) else {
         return Err(CertFault::Memory);

@@ -1,5 +1,6 @@
 // What the lines of a certificate's text state so far.
 ghost use Rattle.std.specs.Prelude.{◌≡◌, ◌+◌, ◌<◌, ◌≤◌, ◌^◌, ◌++◌, ◌∷◌, [], length, IfOk, Ok, Err, Some, None};
+ghost use Rattle.cert_check.specs.Whole.{IsNarrowStatement, IsCertificate};
 ghost use Rattle.cert_check.specs.Text.{stated, lacks_point, lacks_part, node_code, place_code, code_in, end_code, cert_of, due_after};
 
 use crate::cert::{Cert, CertNode, Claim};
@@ -23,12 +24,13 @@ pub(crate) struct Reading {
 }
 
 impl Reading {
-    ghost use Rattle.cert_check.specs.Reading.{held, after};
+    ghost use Rattle.cert_check.specs.Reading.{held, after, IsKept};
     ghost use Rattle.cert_check.specs.declared.line.Statement.TheVariants.{End};
 
     /// Nothing yet.
     pub(crate) fn new(alloc: Global) -> Reading
-        ensures { held result ≡ stated [] }
+        ensures stated { held result ≡ stated [] }
+        ensures kept { IsKept result }
     {
         Reading {
             count: 0,
@@ -143,7 +145,9 @@ impl Reading {
     fn add_node(&mut self, node: CertNode) -> Result<(), AllocError>
         requires due { 0 < self.old.due }
         requires room { self.old.due ≤ self.old.count }
-        ensures { IfOk result (λ _. held self.new ≡ record (held self.old) { nodes = self.old.nodes ++ node ∷ [] }) }
+        ensures stated { IfOk result (λ _. held self.new ≡ record (held self.old) { nodes = self.old.nodes ++ node ∷ [] }) }
+        ensures nodes { IfOk result (λ _. self.new.nodes ≡ self.old.nodes ++ node ∷ []) }
+        ensures parts { IfOk result (λ _. (self.new.claim ≡ self.old.claim) × (self.new.point ≡ self.old.point) × (self.new.ended ≡ self.old.ended)) }
     {
         let due = match &node {
             CertNode::Split { .. } => self.due + 1,
@@ -158,7 +162,10 @@ impl Reading {
     pub(crate) fn note(&mut self, statement: Statement) -> Result<(), AllocError>
         requires clean { code_in (held self.old) (Ok statement) ≡ None }
         requires room { self.old.count + 1 < 2 ^ 64 }
-        ensures { IfOk result (λ _. held self.new ≡ after (held self.old) (Ok statement)) }
+        requires narrow { IsNarrowStatement statement }
+        requires kept { IsKept self.old }
+        ensures stated { IfOk result (λ _. held self.new ≡ after (held self.old) (Ok statement)) }
+        ensures kept { IfOk result (λ _. IsKept self.new) }
     {
         self.count += 1;
         match statement {
@@ -171,8 +178,18 @@ impl Reading {
         Ok(())
     }
 
-    /// The certificate that the lines state.
+    /// The certificate that the lines state, where they have no code and the text ends here.
     pub(crate) fn into_cert(self, alloc: Global) -> Cert
+        requires ended { end_code (held self) ≡ None }
+        requires kept { IsKept self }
+        ensures cert { result ≡ cert_of (held self) }
+        ensures certificate { IsCertificate result }
+    {
+        self.parts(alloc)
+    }
+
+    /// The claim, the point and the nodes, as far as they are there.
+    fn parts(self, alloc: Global) -> Cert
         ensures { result ≡ cert_of (held self) }
     {
         let Reading {

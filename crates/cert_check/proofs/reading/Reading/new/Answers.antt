@@ -7,6 +7,6 @@ use Rattle.cert_check.proofs.reading.Reading.new.Goals as goal
 first : List CertNode → Stated
 first nodes = record { count = 0; claims = []; points = []; nodes = nodes; ended = false }
 
-pub returns : goal.returns
+pub returns-clause-stated : goal.returns-clause-stated
 unfolding stated first
-returns c = ap first c.new.ensures
+returns-clause-stated c = ap first c.new.ensures
