@@ -1,9 +1,9 @@
 -- A lawful tree whose leaves close as they say proves the claim.
-use Rattle.std.specs.Prelude.{◌≡◌, true, false, [], IsTrue}
-use Rattle.std.proofs.Common.{subst, sym, ap, inl, inr}
+use Rattle.std.specs.Prelude.{◌≡◌, true, false, []}
+use Rattle.std.proofs.Common.{subst, sym, inl, inr}
 use Rattle.rational.specs.Rational.{ℚ, ◌≤ℚ◌}
 use Rattle.rational.proofs.RationalOrder.{not_both_ℚ}
-use Rattle.lp_model.specs.Program.{Program, Point, value, least_value, in_least_form, IsFeasible, IsEmpty}
+use Rattle.lp_model.specs.Program.{Program, Point, least_value, in_least_form, IsFeasible, IsEmpty}
 use Rattle.lp_model.specs.Edits.{Named}
 use Rattle.lp_model.specs.Regions.{Path, InRegion}
 use Rattle.lp_model.proofs.RegionLemmas.{empty_region}
@@ -57,7 +57,7 @@ module _ (M : Program) (tree : CertTree) (lawful : IsLawful M (placed M tree)) w
       record {
         feasible = point.feasible;
         unbeaten = λ y y_feasible beats.
-          not_both_ℚ (subst (λ w. in_least_form M.sense w ≤ℚ least_value M 1 y) (sym point.is) (tree-bound v closed y y_feasible)) beats.better;
+            not_both_ℚ (subst (λ w. in_least_form M.sense w ≤ℚ least_value M 1 y) (sym point.is) (tree-bound v closed y y_feasible)) beats.better;
       },
       point.is,
     ),

@@ -1,5 +1,5 @@
 -- What the reader keeps: one more node, and the whole certificate.
-use Rattle.std.proofs.Common.{◌≡◌, ℕ, zero, suc, ◌<◌, Bool, true, false, List, [], ◌∷◌, ◌++◌, refl, sym, subst, ap, ◌∙◌, arith, if◌then◌else◌}
+use Rattle.std.proofs.Common.{◌≡◌, ℕ, zero, suc, ◌<◌, Bool, true, false, [], ◌∷◌, ◌++◌, refl, sym, subst, ap, ◌∙◌, arith, if◌then◌else◌}
 use Rattle.std.specs.Prelude.{All, Option, Some, None, Ok, ◌==◌, option_to_list}
 use Rattle.std.proofs.lemmas.List.Elements.{All-append}
 use Rattle.lp_model.specs.Edits.{Named}

@@ -2,7 +2,7 @@
 use Rattle.std.proofs.Common.{◌≡◌, ℕ, Bool, true, false, List, [], ◌∷◌, ◌++◌, length, arith, map, Bor, ap, sym, ◌∙◌, refl, subst, if◌then◌else◌}
 use Rattle.std.proofs.lemmas.List.{map-append}
 use Rattle.std.specs.List.{slice_split}
-use Rattle.std.specs.Prelude.{Result, Ok, Err}
+use Rattle.std.specs.Prelude.{Result, Err}
 use Rattle.cert_check.specs.Lines.{begins_blank, ends_blank, words_of, words_say, line_says, is_nothing, is_newline, without_last, lines_of}
 use Rattle.cert_check.specs.Reading.{Says}
 use Rattle.cert_check.specs.declared.line.Statement.{Statement}

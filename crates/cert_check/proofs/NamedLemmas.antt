@@ -1,5 +1,5 @@
 -- Numbers beside names, from the first one on.
-use Rattle.std.proofs.Common.{◌≡◌, ℕ, ◌-◌, ◌≤◌, ◌<◌, List, [], ◌∷◌, ◌++◌, length, get_or, take, drop, arith, sym, ap, ◌∙◌, refl, Bor, Bool, true, false, if◌then◌else◌}
+use Rattle.std.proofs.Common.{◌≡◌, ℕ, ◌-◌, ◌≤◌, ◌<◌, List, [], ◌∷◌, length, get_or, take, drop, arith, sym, ap, refl, Bor, Bool, true, false, if◌then◌else◌}
 use Rattle.std.proofs.Math.Nat.{min-eq_right}
 use Rattle.std.specs.Prelude.{map, codes, bytes_eq, Option, Some, None, Result, Ok, Err}
 use Rattle.std.specs.Option.{ForSome}

@@ -35,7 +35,7 @@ module _ (named : Named) (k : ℕ) (e : List ℕ × Rattle.rational.specs.Ration
   pub once_more : AllPairs (λ a b. a ≢ b) (take k (names named)) → ¬ Contains (take k (names named)) e.0 → AllPairs (λ a b. a ≢ b) (take (k + 1) (names named))
   once_more once none =
       let longer : AllPairs (λ a b. a ≢ b) (take k (names named) ++ e.0 ∷ []) =
-        all_pairs_push (λ a b. a ≢ b) (take k (names named)) e.0 once (λ j d below_j same. none (j, below_j, get_or_default (take k (names named)) j e.0 d below_j ∙ same)) in
+      all_pairs_push (λ a b. a ≢ b) (take k (names named)) e.0 once (λ j d below_j same. none (j, below_j, get_or_default (take k (names named)) j e.0 d below_j ∙ same)) in
       subst (AllPairs (λ a b. a ≢ b)) (sym (take_more (names named) k [] within ∙ ap (λ n. take k (names named) ++ n ∷ []) (name_here []))) longer
 
   pub once_none : Contains (take k (names named)) e.0 → ¬ AllPairs (λ a b. a ≢ b) (names named)

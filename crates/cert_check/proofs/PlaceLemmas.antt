@@ -1,5 +1,5 @@
 -- The places of columns and rows by their names.
-use Rattle.std.proofs.Common.{◌≡◌, ◌≢◌, ℕ, suc, ◌<◌, List, [], ◌∷◌, length, get_or, map, refl, sym, ap, subst, ◌∙◌, arith}
+use Rattle.std.proofs.Common.{◌≡◌, ◌≢◌, ℕ, suc, ◌<◌, List, [], length, get_or, subst, arith}
 use Rattle.std.specs.Prelude.{AllPairs, Contains, Option, Some, None, MatchOption}
 use Rattle.std.proofs.lemmas.List.{length-map}
 use Rattle.lp_model.specs.Program.{Program}

@@ -1,14 +1,12 @@
 -- What the lines so far and the next one come to.
-use Rattle.std.proofs.Common.{◌≡◌, ℕ, zero, suc, ◌+◌, ◌<◌, ◌≤◌, List, [], ◌∷◌, length, take, get_or, map, Bor, refl, sym, ap, subst, ◌∙◌, arith}
-use Rattle.std.specs.Prelude.{Result, Ok, Err, Some}
-use Rattle.std.proofs.Math.Seq.{take-length}
+use Rattle.std.proofs.Common.{◌≡◌, ℕ, zero, suc, ◌+◌, ◌<◌, ◌≤◌, List, [], ◌∷◌, length, take, get_or, map, Bor, refl, ap, subst, ◌∙◌, arith}
+use Rattle.std.specs.Prelude.{Ok, Err, Some}
 use Rattle.std.proofs.lemmas.List.{length-take-le, length-map}
 use Rattle.cert_check.specs.declared.reader.CertFault.{CertFault}
 use Rattle.cert_check.specs.declared.reader.CertFault.TheVariants.{Bad, Memory}
 use Rattle.cert_check.specs.Lines.{lines_of}
-use Rattle.cert_check.specs.Text.{Stated, stated, AreClean, OnLine, AtEnd}
-use Rattle.cert_check.specs.Reading.{held, IsNoted, IsReading, IsFaultyLine, IsAnswer}
-use Rattle.cert_check.specs.declared.reading.Reading.{Reading}
+use Rattle.cert_check.specs.Text.{Stated, stated, AreClean, OnLine}
+use Rattle.cert_check.specs.Reading.{IsNoted, IsReading, IsFaultyLine, IsAnswer}
 use Rattle.cert_check.proofs.TextLemmas.{code_here, holds_more, clean_more}
 
 abbrev pub nows : List (Bor (List ℕ)) → List (List ℕ)

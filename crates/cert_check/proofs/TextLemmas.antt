@@ -1,15 +1,15 @@
 -- What one more line adds to what some lines state.
-use Rattle.std.proofs.Common.{◌≡◌, ℕ, suc, ◌+◌, ◌<◌, ◌≤◌, Bool, true, false, ◌||◌, List, [], ◌∷◌, ◌++◌, length, take, get_or, map, refl, sym, ap, ◌∙◌, subst, arith, below_more}
-use Rattle.std.specs.Prelude.{option_to_list, Option, None, Some, Result, Ok, Err}
+use Rattle.std.proofs.Common.{◌≡◌, ℕ, suc, ◌+◌, ◌<◌, Bool, true, false, ◌||◌, List, [], ◌∷◌, ◌++◌, length, take, get_or, refl, sym, ap, ◌∙◌, arith, below_more}
+use Rattle.std.specs.Prelude.{option_to_list, Option, None, Some, Result}
 use Rattle.std.specs.List.{filter_map, cons_option, list_any}
-use Rattle.std.proofs.Math.Seq.{take-suc, take-length}
+use Rattle.std.proofs.Math.Seq.{take-suc}
 use Rattle.std.proofs.lemmas.List.{length-append}
 use Rattle.std.proofs.lemmas.List.Elements.{filter_map-append}
 use Rattle.std.proofs.lemmas.List.Folds.{list_any-append}
 use Rattle.cert_check.specs.declared.line.Statement.{Statement}
 use Rattle.cert_check.specs.Lines.{line_says}
 use Rattle.cert_check.specs.Text.{claim_in, point_in, node_in, is_end, Stated, stated, code_in, code_at, AreClean}
-use Rattle.cert_check.specs.Reading.{after, IsFaultyLine}
+use Rattle.cert_check.specs.Reading.{after}
 
 one_more : {A : Type 0} (x : Option A) → cons_option x [] ≡ option_to_list x
 one_more None = refl

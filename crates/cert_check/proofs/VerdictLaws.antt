@@ -1,14 +1,13 @@
 -- A certificate whose point and nodes pass is accepted.
-use Rattle.std.proofs.Common.{◌≡◌, ℕ, zero, suc, ◌+◌, ◌<◌, List, [], ◌∷◌, ◌++◌, length, get_or, refl, sym, ap, subst, ◌∙◌, arith, inl, inr, length-append, map}
+use Rattle.std.proofs.Common.{◌≡◌, suc, ◌+◌, List, [], ◌∷◌, ◌++◌, length, sym, subst, arith, inl, inr, length-append}
 use Rattle.std.specs.Prelude.{ℤ, All, Contains, Ok}
 use Rattle.std.proofs.lemmas.List.{get_or_append_left, get_or-append-add, length-map}
-use Rattle.rational.specs.Rational.{ℚ, int}
-use Rattle.lp_model.specs.Program.{Program, Point, value, in_least_form}
+use Rattle.rational.specs.Rational.{int}
+use Rattle.lp_model.specs.Program.{Program, in_least_form}
 use Rattle.lp_model.specs.Lawful.{column_names}
 use Rattle.lp_model.specs.Edits.{Named}
 use Rattle.lp_model.specs.Regions.{Path}
 use Rattle.leaf_dual.specs.Dual.{multiplier, least_constant, least_cost, IsPositive}
-use Rattle.leaf_dual.specs.declared.dual.LagValue.{LagValue}
 use Rattle.leaf_dual.proofs.AnswerLemmas.{dual_answer-is}
 use Rattle.branch_tree.specs.Tree.{IsLawful, EachLeaf, left_path, right_path}
 use Rattle.cert_check.specs.declared.cert.Claim.{Claim}
@@ -21,8 +20,8 @@ use Rattle.cert_check.specs.declared.cert.CertNode.TheVariants as node
 use Rattle.cert_check.specs.declared.verdict.Judgement.TheVariants.{Passes, Breaks}
 use Rattle.cert_check.specs.declared.verdict.Verdict.TheVariants.{Accepted}
 use Rattle.cert_check.specs.Tree.{CertTree, Leaf, Split, place_among, placed}
-use Rattle.cert_check.specs.Accepted.{multipliers, point_of, Closes, HasPoint, ReachesClaim, Accepts}
-use Rattle.cert_check.specs.Verdict.{NumberReaches, IsNumberJudged, IsFarkasJudged, IsLeafJudged, IsClaimJudged, IsPointJudged, visits, IsVisitJudged, IsVerdict}
+use Rattle.cert_check.specs.Accepted.{multipliers, Closes, HasPoint, ReachesClaim, Accepts}
+use Rattle.cert_check.specs.Verdict.{NumberReaches, IsNumberJudged, IsLeafJudged, IsClaimJudged, visits, IsVisitJudged, IsVerdict}
 use Rattle.cert_check.specs.Whole.{IsCertificate, HasNoPoint}
 use Rattle.cert_check.proofs.PairLemmas.{place_within}
 
@@ -77,8 +76,7 @@ module _ (M : Program) (claim : Claim) where
   tree_lawful path (Split col v left right) all =
       let j = place_among (column_names M) col in
       let first = all_first P (path, node.Split col v) _ all in
-      let rest = all_rest P (path, node.Split col v) _ all in
-      (
+      let rest = all_rest P (path, node.Split col v) _ all in (
         elim first [
           | inl good ↦ (let h = place_within (column_names M) col good.0 in let l = length-map M.cols (λ c. c.name) in omega (arith, h, l), good.1)
           | inr bad ↦ absurd (no_pass bad.1)
@@ -93,8 +91,7 @@ module _ (M : Program) (claim : Claim) where
   tree_closes path (Leaf leaf) all = leaf_closes M claim path leaf (all_first P (path, node.Leaf leaf) [] all)
   tree_closes path (Split col v left right) all =
       let j = place_among (column_names M) col in
-      let rest = all_rest P (path, node.Split col v) _ all in
-      (
+      let rest = all_rest P (path, node.Split col v) _ all in (
         tree_closes (left_path path j v) left (all_left P (visits M (left_path path j v) left) (visits M (right_path path j v) right) rest),
         tree_closes (right_path path j v) right (all_right P (visits M (left_path path j v) left) (visits M (right_path path j v) right) rest),
       )

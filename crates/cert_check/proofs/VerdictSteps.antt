@@ -1,12 +1,11 @@
 -- The verdict on the nodes, one further.
-use Rattle.std.proofs.Common.{◌≡◌, ℕ, zero, suc, ◌+◌, ◌-◌, ◌<◌, ◌≤◌, List, [], ◌∷◌, ◌++◌, length, take, drop, get_or, map, refl, sym, ap, subst, ◌∙◌, arith, append_assoc, inl, inr}
+use Rattle.std.proofs.Common.{◌≡◌, ℕ, ◌+◌, ◌<◌, ◌≤◌, List, [], ◌∷◌, ◌++◌, length, take, drop, get_or, sym, ap, subst, ◌∙◌, arith, append_assoc, inl, inr}
 use Rattle.std.specs.Prelude.{All, Some}
 use Rattle.rational.specs.Rational.{ℚ}
 use Rattle.lp_model.specs.Edits.{Named}
 use Rattle.std.proofs.lemmas.List.{length-map, length-take-le, take_more, take_all, take-append-drop}
 use Rattle.std.proofs.lemmas.List.Elements.{All-more}
 use Rattle.lp_model.specs.Program.{Program, Point}
-use Rattle.lp_model.specs.Lawful.{column_names}
 use Rattle.lp_model.specs.Regions.{Path, AreNarrow}
 use Rattle.lp_model.proofs.NameLemmas.{get_or-map}
 use Rattle.cert_check.specs.declared.cert.Claim.{Claim}
@@ -18,12 +17,10 @@ use Rattle.cert_check.specs.declared.judging.PlacedNode.{PlacedNode}
 use Rattle.cert_check.specs.declared.judging.PlacedNode.TheVariants as placed
 use Rattle.cert_check.specs.declared.verdict.Judgement.{Judgement}
 use Rattle.cert_check.specs.declared.verdict.Judgement.TheVariants.{Passes, Breaks}
-use Rattle.cert_check.specs.Tree.{CertTree, preorder, place_among}
-use Rattle.cert_check.specs.Accepted.{names_of_rows}
+use Rattle.cert_check.specs.Tree.{CertTree, preorder}
 use Rattle.cert_check.specs.Verdict.{IsKindJudged, IsNumberJudged, IsFarkasJudged, IsNodeJudged, IsPointJudged, IsClaimJudged, visits, IsVisitJudged, IsJudgedAt}
 use Rattle.cert_check.specs.Whole.{IsNarrowNode}
 use Rattle.cert_check.specs.Walk.{IsPlace, IsPlacedJudged, IsWalked, IsPointOf, CanTurn, after_node}
-use Rattle.cert_check.proofs.PairLemmas.{place_in}
 use Rattle.cert_check.proofs.PlaceLemmas.{column_known}
 use Rattle.cert_check.proofs.Standing.{Stands, Visits, visits_next, stands_first, nodes_of, path_narrow, path_turns}
 
@@ -107,9 +104,9 @@ module _ (M : Program) (claim : Claim) (tree : CertTree) (nodes : List PlacedNod
     visit = (path, here.node);
     behind = drop (k + 1) (visits M [] tree);
     parts =
-      sym (take-append-drop (k + 1) (visits M [] tree))
-      ∙ ap (λ t. t ++ drop (k + 1) (visits M [] tree)) (take_more (visits M [] tree) k (path, here.node) inside ∙ ap (λ v. take k (visits M [] tree) ++ v ∷ []) (here.is (path, here.node)))
-      ∙ append_assoc (take k (visits M [] tree)) ((path, here.node) ∷ []) (drop (k + 1) (visits M [] tree));
+        sym (take-append-drop (k + 1) (visits M [] tree))
+        ∙ ap (λ t. t ++ drop (k + 1) (visits M [] tree)) (take_more (visits M [] tree) k (path, here.node) inside ∙ ap (λ v. take k (visits M [] tree) ++ v ∷ []) (here.is (path, here.node)))
+        ∙ append_assoc (take k (visits M [] tree)) ((path, here.node) ∷ []) (drop (k + 1) (visits M [] tree));
     pass = goes.pass;
     judged = judged_here p j is judged;
     counted = let t = length-take-le k (visits M [] tree) (omega (arith, inside)) in omega (arith, t);

@@ -1,11 +1,10 @@
 -- The walk: nodes with places, and the path behind a leaf.
-use Rattle.std.proofs.Common.{◌≡◌, ℕ, zero, suc, ◌+◌, ◌-◌, ◌<◌, ◌≤◌, List, [], ◌∷◌, ◌++◌, length, take, get_or, refl, sym, ap, subst, ◌∙◌, arith, below_more}
-use Rattle.std.specs.Prelude.{ℤ, pos, ◌+ℤ◌, set}
+use Rattle.std.proofs.Common.{◌≡◌, ℕ, ◌+◌, ◌-◌, ◌<◌, ◌≤◌, List, [], ◌∷◌, ◌++◌, length, take, get_or, refl, sym, ap, subst, ◌∙◌, arith, below_more}
+use Rattle.std.specs.Prelude.{pos, ◌+ℤ◌, set}
 use Rattle.std.proofs.lemmas.List.{take_more, take_more_set, length-append, get_or_append_left}
 use Rattle.std.proofs.Math.Seq.{get_or-append_seam}
 use Rattle.lp_model.specs.Program.{Program}
 use Rattle.lp_model.specs.Regions.{Path}
-use Rattle.lp_model.specs.declared.types.Side.{Side}
 use Rattle.lp_model.specs.declared.types.Side.TheVariants.{Lo, Hi}
 use Rattle.lp_model.specs.declared.types.BoundChange.{BoundChange}
 use Rattle.branch_tree.specs.Tree.{at_least}
@@ -18,11 +17,11 @@ module _ (M : Program) (node : CertNode) (one : PlacedNode) (here : IsPlace M no
   placed_last ns ps (same, each) =
       let P : ℕ → Type 0 = λ k. (n : CertNode) (p : PlacedNode) → IsPlace M (get_or (ns ++ node ∷ []) k n) (get_or (ps ++ one ∷ []) k p) in
       let all : (k : ℕ) → k < length ns + 1 → P k =
-        below_more P (length ns)
-        (λ k below n p.
-        subst (λ T. T) (λ i. IsPlace M (sym (get_or_append_left ns (node ∷ []) n k below) i) (sym (get_or_append_left ps (one ∷ []) p k (omega (arith, same, below))) i)) (each k n p below))
-        (λ n p.
-        subst (λ T. T) (λ i. IsPlace M (sym (get_or-append_seam ns node [] n) i) (sym (ap (λ k. get_or (ps ++ one ∷ []) k p) (sym same) ∙ get_or-append_seam ps one [] p) i)) here) in
+      below_more P (length ns)
+      (λ k below n p.
+      subst (λ T. T) (λ i. IsPlace M (sym (get_or_append_left ns (node ∷ []) n k below) i) (sym (get_or_append_left ps (one ∷ []) p k (omega (arith, same, below))) i)) (each k n p below))
+      (λ n p.
+      subst (λ T. T) (λ i. IsPlace M (sym (get_or-append_seam ns node [] n) i) (sym (ap (λ k. get_or (ps ++ one ∷ []) k p) (sym same) ∙ get_or-append_seam ps one [] p) i)) here) in
       let long = length-append ns (node ∷ []) in
       let long_ps = length-append ps (one ∷ []) in
       (omega (arith, same, long, long_ps), λ k n p below. all k (omega (arith, below, long)) n p)

@@ -1,13 +1,12 @@
 -- When a certificate is accepted for a model. Names not in this file:
 --     lag, farkas        the numbers of a leaf's multipliers in a region, with the costs and without (leaf_dual)
 --     IsLawful, EachLeaf each split is on an integer column; what holds of each leaf and its path (branch_tree)
-use Rattle.std.specs.Prelude.{◌≡◌, ◌≢◌, ◌⊎◌, ℕ, true, false, List, [], ◌∷◌, map, All, AllPairs, Contains}
+use Rattle.std.specs.Prelude.{◌≡◌, ◌≢◌, ◌⊎◌, ℕ, true, false, List, [], map, All, AllPairs, Contains}
 use Rattle.rational.specs.Rational.{ℚ}
 use Rattle.lp_model.specs.Program.{Program, Point, value, in_least_form, IsFeasible, HasWholeObjective}
 use Rattle.lp_model.specs.Lawful.{column_names}
 use Rattle.lp_model.specs.Edits.{Named, number_beside}
 use Rattle.lp_model.specs.Regions.{Path, IsEmptyRegion}
-use Rattle.lp_model.specs.declared.types.Var.{Var}
 use Rattle.lp_model.specs.declared.types.Var.TheVariants.{Row}
 use Rattle.leaf_dual.specs.Dual.{Multipliers, lag, farkas, IsPositive, Reaches}
 use Rattle.branch_tree.specs.Tree.{IsLawful, EachLeaf}

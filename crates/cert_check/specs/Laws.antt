@@ -1,6 +1,5 @@
 -- What an accepted certificate proves.
 use Rattle.std.specs.Prelude.{◌≡◌}
-use Rattle.rational.specs.Rational.{ℚ}
 use Rattle.lp_model.specs.Program.{Program, Point, value, IsOptimum, IsEmpty}
 use Rattle.cert_check.specs.declared.cert.Claim.{Claim}
 use Rattle.cert_check.specs.declared.cert.Claim.TheVariants.{Optimal, Infeasible}

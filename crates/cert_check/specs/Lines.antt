@@ -3,7 +3,7 @@
 --     3   its form: the words behind the first one, a blank at its end, or a split's number that is not whole
 --     4   no number stands where one is due
 --     5   a number is too wide, or a split's is 2^127 - 1
-use Rattle.std.specs.Prelude.{◌≡◌, ℕ, ◌+◌, ◌-◌, ◌^◌, Bool, true, false, ◌||◌, ◌&&◌, if◌then◌else◌, ◌==◌, min, List, [], ◌∷◌, length, get_or, codes, pos, bytes_eq, Option, None, Some, Result, Ok, Err}
+use Rattle.std.specs.Prelude.{ℕ, ◌-◌, ◌^◌, Bool, true, false, ◌||◌, if◌then◌else◌, ◌==◌, min, List, [], ◌∷◌, length, get_or, codes, pos, bytes_eq, Option, None, Some, Result, Ok, Err}
 use Rattle.std.specs.Ordering.{int_eq}
 use Rattle.std.specs.List.{slice_split, filter}
 use Rattle.rational.specs.Rational.{ℚ, den}
@@ -12,11 +12,9 @@ use Rattle.frac128.specs.Parsing.{parsed}
 use Rattle.frac128.specs.declared.parse.NumFault.{NumFault}
 use Rattle.frac128.specs.declared.parse.NumFault.TheVariants.{NotNumber, Wide}
 use Rattle.lp_model.specs.Edits.{Named}
-use Rattle.cert_check.specs.declared.cert.Claim.{Claim}
 use Rattle.cert_check.specs.declared.cert.Claim.TheVariants.{Optimal, Infeasible}
 use Rattle.cert_check.specs.declared.cert.CertLeaf.{CertLeaf}
 use Rattle.cert_check.specs.declared.cert.CertLeaf.TheVariants.{Bound, Farkas, Empty}
-use Rattle.cert_check.specs.declared.cert.CertNode.{CertNode}
 use Rattle.cert_check.specs.declared.cert.CertNode.TheVariants.{Split, Leaf}
 use Rattle.cert_check.specs.declared.line.LineWord.{LineWord}
 use Rattle.cert_check.specs.declared.line.LineWord.TheVariants as word

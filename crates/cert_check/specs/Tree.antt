@@ -1,5 +1,5 @@
 -- A certificate's tree, and the tree with places for names that it is in a model.
-use Rattle.std.specs.Prelude.{◌≡◌, ℕ, zero, suc, if◌then◌else◌, List, [], ◌∷◌, ◌++◌, ℤ, bytes_eq}
+use Rattle.std.specs.Prelude.{ℕ, zero, suc, if◌then◌else◌, List, [], ◌∷◌, ◌++◌, ℤ, bytes_eq}
 use Rattle.lp_model.specs.Program.{Program}
 use Rattle.lp_model.specs.Lawful.{column_names}
 use Rattle.branch_tree.specs.Tree.{Tree}

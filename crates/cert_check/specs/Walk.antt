@@ -1,5 +1,5 @@
 -- The walk through a certificate's nodes in preorder: the path to each, and the nodes with their names as places.
-use Rattle.std.specs.Prelude.{◌≡◌, ℕ, ◌<◌, ◌≤◌, ◌++◌, List, [], ◌∷◌, length, get_or, All, Contains, ℤ, pos, ◌+ℤ◌, Option, MatchOption}
+use Rattle.std.specs.Prelude.{◌≡◌, ℕ, ◌<◌, ◌≤◌, ◌++◌, List, [], ◌∷◌, length, get_or, All, Contains, pos, ◌+ℤ◌, Option, MatchOption}
 use Rattle.lp_model.specs.Edits.{Named}
 use Rattle.frac128.specs.Range.{IsNarrow}
 use Rattle.lp_model.specs.Program.{Program, Point}

@@ -1,10 +1,9 @@
 -- Which certificates are judged: those that a text states.
-use Rattle.std.specs.Prelude.{◌≡◌, ℕ, zero, suc, List, [], ◌∷◌, All, ℤ, pos, ◌+ℤ◌, Option, Some, None}
+use Rattle.std.specs.Prelude.{◌≡◌, ℕ, zero, suc, List, [], ◌∷◌, All, pos, ◌+ℤ◌, Option, Some, None}
 use Rattle.frac128.specs.Range.{IsNarrow}
 use Rattle.lp_model.specs.Edits.{Named}
 use Rattle.cert_check.specs.declared.cert.Claim.{Claim}
 use Rattle.cert_check.specs.declared.cert.Claim.TheVariants.{Optimal, Infeasible}
-use Rattle.cert_check.specs.declared.cert.CertLeaf.{CertLeaf}
 use Rattle.cert_check.specs.declared.cert.CertNode.{CertNode}
 use Rattle.cert_check.specs.declared.cert.CertNode.TheVariants as node
 use Rattle.cert_check.specs.declared.cert.Cert.{Cert}

@@ -12,7 +12,9 @@ ghost use Rattle.cert_check.specs.Tree.{CertTree};
 ghost use Rattle.cert_check.specs.declared.cert.CertNode.{CertNode};
 
 use crate::cert::{Cert, CertLeaf, CertNode, Claim};
-use crate::judging::{PlacedNode, is_whole, judge_empty, judge_farkas, judge_number, judge_point, judge_split};
+use crate::judging::{
+    PlacedNode, is_whole, judge_empty, judge_farkas, judge_number, judge_point, judge_split,
+};
 use crate::names::{column_place, multipliers, point};
 use crate::verdict::{Judgement, Verdict};
 use lp_model::{BoundChange, ColId, Model, Point, Side};

@@ -16,10 +16,7 @@ use lp_model::{BoundChange, ColId, Model, Mult, Point, Sense, Var};
 pub(crate) enum PlacedNode {
     /// A name is unknown or stands twice.
     Misnamed,
-    Split {
-        col: ColId,
-        v: i128,
-    },
+    Split { col: ColId, v: i128 },
     Bound(Mult),
     Farkas(Mult),
     Empty,

@@ -66,10 +66,7 @@ impl Gathered {
 }
 
 /// `NAME V` any number of times.
-pub(crate) fn named_in(
-    alloc: Global,
-    words: &[&[u8]],
-) -> Result<List<(Name, Frac)>, LineFault>
+pub(crate) fn named_in(alloc: Global, words: &[&[u8]]) -> Result<List<(Name, Frac)>, LineFault>
     ensures { Says (named_in (map (λ word. word.now) words.now)) result }
 {
     let mut gathered = Gathered {

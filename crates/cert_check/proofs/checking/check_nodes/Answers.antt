@@ -1,9 +1,5 @@
 use Rattle.std.proofs.Common.{◌∙◌, ◌≤◌, ◌+◌, sym, subst, arith, take, get_or, [], length}
-use Rattle.cert_check.specs.declared.verdict.Judgement.TheVariants.{Passes, Breaks, NoRoom}
-use Rattle.cert_check.specs.Tree.{preorder}
-use Rattle.cert_check.specs.declared.cert.CertNode.{CertNode}
-use Rattle.cert_check.specs.declared.cert.CertNode.TheVariants.{Leaf}
-use Rattle.cert_check.specs.declared.cert.CertLeaf.TheVariants.{Empty}
+use Rattle.cert_check.specs.declared.verdict.Judgement.TheVariants.{Breaks, NoRoom}
 use Rattle.cert_check.proofs.VerdictSteps.{Goes, goes_first, goes_narrow, goes_turns, goes_next, goes_wrong, goes_all, place_here}
 use Rattle.cert_check.proofs.checking.check_nodes.Goals as goal
 
@@ -40,8 +36,8 @@ loop-index-preserved c = record {
   deep = omega (arith, c.step_on-depth.ensures.within, c.loop-index.invariant.deep);
   long = c.step_on-depth.auto.path ∙ c.loop-index.invariant.long;
   goes = λ tree walked.
-    subst (Goes c.args.model.now c.args.claim.now tree (c.loop-index.index + 1)) (sym c.step_on-depth.ensures.path)
-    (goes_next c.args.model.now c.args.claim.now tree c.args.nodes.now walked c.loop-index.index _ c.loop-index-test.true (c.loop-index.invariant.goes tree walked) c.index-nodes-index.result c.index-nodes-index.is c.in-Passes.ensures);
+      subst (Goes c.args.model.now c.args.claim.now tree (c.loop-index.index + 1)) (sym c.step_on-depth.ensures.path)
+      (goes_next c.args.model.now c.args.claim.now tree c.args.nodes.now walked c.loop-index.index _ c.loop-index-test.true (c.loop-index.invariant.goes tree walked) c.index-nodes-index.result c.index-nodes-index.is c.in-Passes.ensures);
 }
 
 pub returns : goal.returns

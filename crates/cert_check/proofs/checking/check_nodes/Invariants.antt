@@ -1,5 +1,4 @@
-use Rattle.std.proofs.Common.{◌≤◌, take, length, ◌≡◌, ◌↔◌, IsTrue}
-use Rattle.lp_model.specs.Program.{HasWholeObjective}
+use Rattle.std.proofs.Common.{◌≤◌, take, length, ◌≡◌}
 use Rattle.cert_check.specs.Tree.{CertTree}
 use Rattle.cert_check.specs.Walk.{IsWalked}
 use Rattle.cert_check.proofs.VerdictSteps.{Goes}

@@ -1,9 +1,8 @@
-use Rattle.std.proofs.Common.{◌≡◌, ◌-◌, ◌<◌, ◌≤◌, ap, sym, ◌∙◌, arith, take, get_or, length, pos}
+use Rattle.std.proofs.Common.{◌-◌, ap, sym, ◌∙◌, arith, take, get_or, pos}
 use Rattle.std.specs.Prelude.{set, ◌+ℤ◌}
 use Rattle.branch_tree.specs.Tree.{at_least}
 use Rattle.lp_model.specs.declared.types.BoundChange.{BoundChange}
 use Rattle.lp_model.specs.declared.types.Side.TheVariants.{Lo}
-use Rattle.cert_check.specs.Walk.{after_leaf}
 use Rattle.cert_check.proofs.WalkLemmas.{turn_low, turn_high}
 use Rattle.cert_check.proofs.checking.turn.Goals as goal
 
@@ -19,9 +18,9 @@ loop-depth-preserved c =
       within = omega (arith, c.loop-depth.invariant.within);
       unchanged = same;
       same =
-        c.loop-depth.invariant.same
-        ∙ turn_low c.args.path.now n some_change c.loop-depth-test.true (omega (arith, c.loop-depth.invariant.within, c.requires.within))
-        (ap (λ p. (get_or p (n - 1) some_change).side) (sym same) ∙ c.in-Lo.is);
+          c.loop-depth.invariant.same
+          ∙ turn_low c.args.path.now n some_change c.loop-depth-test.true (omega (arith, c.loop-depth.invariant.within, c.requires.within))
+          (ap (λ p. (get_or p (n - 1) some_change).side) (sym same) ∙ c.in-Lo.is);
     }
 
 pub returns-in-Hi-clause-path : goal.returns-in-Hi-clause-path

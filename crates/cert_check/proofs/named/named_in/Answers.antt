@@ -1,4 +1,4 @@
-use Rattle.std.proofs.Common.{map, [], ap, sym, ◌∙◌, arith}
+use Rattle.std.proofs.Common.{map, ap, sym, ◌∙◌, arith}
 use Rattle.std.specs.Prelude.{None}
 use Rattle.std.proofs.lemmas.Grind.{common_steps}
 use Rattle.cert_check.specs.Lines.{named_in}

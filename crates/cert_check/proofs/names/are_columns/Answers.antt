@@ -1,8 +1,7 @@
-use Rattle.std.proofs.Common.{◌<◌, subst, arith, length, map}
+use Rattle.std.proofs.Common.{subst, arith}
 use Rattle.std.specs.Prelude.{All, Contains}
-use Rattle.std.proofs.lemmas.List.{length-map}
 use Rattle.lp_model.specs.Lawful.{column_names}
-use Rattle.cert_check.proofs.PairLemmas.{is_so, is_not, done, all_more, all_none, place_in}
+use Rattle.cert_check.proofs.PairLemmas.{is_so, is_not, done, all_more, all_none}
 use Rattle.cert_check.proofs.PlaceLemmas.{column_known}
 use Rattle.cert_check.proofs.names.are_columns.Goals as goal
 

@@ -1,6 +1,5 @@
-use Rattle.std.proofs.Common.{sym, subst}
-use Rattle.lp_model.specs.Lawful.{column_names}
-use Rattle.cert_check.proofs.PlaceLemmas.{column_told, column_found, rows_differ}
+use Rattle.std.proofs.Common.{subst}
+use Rattle.cert_check.proofs.PlaceLemmas.{column_told, column_found}
 use Rattle.cert_check.proofs.names.column_place.Goals as goal
 
 pub returns : goal.returns

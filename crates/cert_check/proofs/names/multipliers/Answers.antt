@@ -1,4 +1,4 @@
-use Rattle.std.proofs.Common.{rules, ◌≡◌, ap, sym, ◌∙◌, arith, IsTrue, ◌++◌, ◌∷◌, []}
+use Rattle.std.proofs.Common.{rules, ap, ◌∙◌, arith, IsTrue, ◌++◌, ◌∷◌, []}
 use Rattle.std.specs.Prelude.{Contains}
 use Rattle.lp_model.specs.declared.types.Var.TheVariants.{Row}
 use Rattle.cert_check.specs.Tree.{place_among}
@@ -20,8 +20,7 @@ pub returns : goal.returns
 returns c =
     let M = c.args.model.now in
     let rows : IsTrue c.are_rows.result = search rules in
-    let once : IsTrue c.stand_once.result = search rules in
-    (
+    let once : IsTrue c.stand_once.result = search rules in (
       record { there = c.are_rows.ensures.0 rows; once = c.stand_once.ensures.0 once },
       pushed_all (λ p. (Row (record { 0 = place_among (names_of_rows M) p.0 }), p.1)) c.args.named.now c.loop-name.name-index c.loop-name.mult (omega arith) c.loop-name.invariant,
     )

@@ -1,4 +1,4 @@
-use Rattle.std.proofs.Common.{rules, ◌≡◌, ◌<◌, ap, sym, subst, ◌∙◌, arith, IsTrue, ◌++◌, ◌∷◌, [], length, get_or}
+use Rattle.std.proofs.Common.{rules, ◌<◌, ap, subst, ◌∙◌, arith, IsTrue, ◌++◌, ◌∷◌, [], length, get_or}
 use Rattle.lp_model.specs.Edits.{number_beside}
 use Rattle.cert_check.proofs.PairLemmas.{pushed_more, pushed_all}
 use Rattle.cert_check.proofs.names.point.Goals as goal
@@ -18,8 +18,7 @@ returns c =
     let M = c.args.model.now in
     let cols : IsTrue c.are_columns.result = search rules in
     let once : IsTrue c.stand_once.result = search rules in
-    let same = ap length c.cols-col-items.ensures.items in
-    (
+    let same = ap length c.cols-col-items.ensures.items in (
       record { there = c.are_columns.ensures.0 cols; once = c.stand_once.ensures.0 once },
       pushed_all (λ col. number_beside col.name c.args.named.now) M.cols c.loop-col.col-index c.loop-col.numbers (omega (arith, same)) c.loop-col.invariant,
     )

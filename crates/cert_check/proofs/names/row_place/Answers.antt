@@ -1,5 +1,4 @@
-use Rattle.std.proofs.Common.{sym, subst}
-use Rattle.cert_check.specs.Accepted.{names_of_rows}
+use Rattle.std.proofs.Common.{subst}
 use Rattle.cert_check.proofs.PlaceLemmas.{row_told, row_found, rows_differ}
 use Rattle.cert_check.proofs.names.row_place.Goals as goal
 

@@ -1,7 +1,7 @@
-use Rattle.std.proofs.Common.{rules, ◌≡◌, ◌≢◌, subst, sym, arith, true, IsTrue, take}
+use Rattle.std.proofs.Common.{rules, ◌≢◌, subst, sym, arith, IsTrue}
 use Rattle.std.specs.Prelude.{AllPairs, Contains}
 use Rattle.std.proofs.lemmas.Bool.{iff_false}
-use Rattle.cert_check.proofs.PairLemmas.{is_so, is_not, names, names_taken, done, once_more, once_none}
+use Rattle.cert_check.proofs.PairLemmas.{is_so, is_not, names_taken, done, once_more, once_none}
 use Rattle.cert_check.proofs.names.stand_once.Goals as goal
 
 pub returns-then-stands_in : goal.returns-then-stands_in

@@ -1,4 +1,4 @@
-use Rattle.std.proofs.Common.{rules, ◌≡◌, ◌≤◌, ◌∙◌, sym, arith, true, false, length}
+use Rattle.std.proofs.Common.{rules, ◌≡◌, ◌∙◌, sym, arith, true, false, length}
 use Rattle.lp_model.proofs.NameLemmas.{same, not_same, contains_at, none_before-more, not_contained, NoneBefore}
 use Rattle.cert_check.proofs.PairLemmas.{is_so, is_not}
 use Rattle.cert_check.proofs.names.stands_in.Goals as goal

@@ -1,5 +1,4 @@
-use Rattle.std.proofs.Common.{◌+◌, ◌<◌, ◌^◌, suc, ◌≡◌, length, map, arith, Bor, List, ℕ}
-use Rattle.std.proofs.lemmas.Grind.{common_steps}
+use Rattle.std.proofs.Common.{◌+◌, ◌≡◌, arith}
 use Rattle.cert_check.specs.Reading.{held}
 use Rattle.cert_check.proofs.ReadSteps.{nows, line_at, below_nows, count_is, told, noted_clean, noted_holds}
 use Rattle.cert_check.proofs.reader.read_lines.Goals as goal

@@ -1,4 +1,4 @@
-use Rattle.std.proofs.Common.{ap, ℕ}
+use Rattle.std.proofs.Common.{ap}
 use Rattle.std.specs.Prelude.{[], false, List}
 use Rattle.cert_check.specs.Text.{Stated, stated}
 use Rattle.cert_check.specs.declared.cert.CertNode.{CertNode}

@@ -1,4 +1,4 @@
-use Rattle.std.proofs.Common.{subst, sym}
+use Rattle.std.proofs.Common.{subst}
 use Rattle.std.specs.Prelude.{Ok, None, ◌≡◌}
 use Rattle.cert_check.specs.Text.{code_in}
 use Rattle.cert_check.specs.Reading.{held}
