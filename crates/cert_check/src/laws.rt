@@ -1,5 +1,5 @@
 // What accepted certificates prove.
-ghost use Rattle.cert_check.specs.Laws.{AcceptedLaw, VerdictLaw};
+ghost use Rattle.cert_check.specs.Laws.{AcceptedLaw, VerdictLaw, TextLaw};
 
 /// For every model and certificate: where the certificate is accepted its claim is true.
 pub fn accepted_law()
@@ -9,4 +9,9 @@ pub fn accepted_law()
 /// A certificate that `check` answers Accepted on is accepted by the definition, so that its claim is true.
 pub fn verdict_law()
     ensures { VerdictLaw }
+{}
+
+/// Each text states one certificate or has one fault.
+pub fn text_law()
+    ensures { TextLaw }
 {}

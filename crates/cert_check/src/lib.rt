@@ -40,6 +40,6 @@ mod verdict;
 
 pub use cert::{Cert, CertLeaf, CertNode, Claim};
 pub use checking::{RegionBuf, check};
-pub use laws::{accepted_law, verdict_law};
+pub use laws::{accepted_law, text_law, verdict_law};
 pub use reader::{CertFault, read_cert};
 pub use verdict::Verdict;
