@@ -227,6 +227,7 @@ pub fn check(model: &Model, cert: &Cert, buf: &mut RegionBuf) -> Verdict
     requires certificate { IsCertificate cert.now }
     requires buffer { IsBufferOf model.now cert.now buf.old }
     ensures verdict { IsVerdict model.now cert.now result }
+    ensures buffer { IsBufferOf model.now cert.now buf.new }
 {
     match check_point(model, &cert.claim, &buf.point) {
         Judgement::Passes => {}

@@ -17,7 +17,7 @@
 //! `bound`.
 //!
 //! Contract: `read_cert` answers the certificate that a text states or its first faulty line with the least code, a
-//! function of the whole text (`specs/Lines`, `specs/Text`). `check` answers Accepted, or the first node that does not
+//! function of the whole text (`specs/Lines`, `specs/Text`; `text_law`). `check` answers Accepted, or the first node that does not
 //! hold with its reason, or that has a step without room (`specs/Verdict`), without memory. For every model and every
 //! certificate, whoever wrote it, an accepted claim is true (`accepted_law`, `verdict_law`).
 //!
