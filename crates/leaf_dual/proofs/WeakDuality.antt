@@ -149,9 +149,16 @@ reaches-bound (Num q) t w whole r h k =
       | inr rounded ↦ ≤ℚ_trans rounded.2 (ceil-≤ℚ_whole q w (k rounded.0) h)
     ]
 
+-- no feasible point of a region whose number reaches t has a value below t
+pub reached-bound : (M : Program) (path : Path) (mult : Multipliers) (t : ℚ) (whole : Bool) → (IsTrue whole → HasWholeObjective M 1) → Reaches (lag M path mult) t whole →
+    (x : Point) → IsFeasible M x → InRegion path x → t ≤ℚ least_value M 1 x
+reached-bound M path mult t whole objective reaches x feasible inside =
+    reaches-bound (lag M path mult) t (least_value M 1 x) whole reaches (lag-bound M path mult x feasible inside)
+    (λ is. whole_least M.sense (value M 1 x) (whole_value M 1 x (objective is) feasible))
+
 -- no feasible point of a leaf that closes against t has a value below t
 pub closes-bound : (M : Program) (path : Path) (mult : Multipliers) (v : LagValue) (t : ℚ) (whole : Bool) → IsLagAnswer M path mult (Ok v) → (IsTrue whole → HasWholeObjective M 1) → Reaches v t whole →
     (x : Point) → IsFeasible M x → InRegion path x → t ≤ℚ least_value M 1 x
-closes-bound M path mult v t whole answer objective reaches x feasible inside =
-    reaches-bound v t (least_value M 1 x) whole reaches (lag_answer-bound M path mult x feasible v answer inside)
-    (λ is. whole_least M.sense (value M 1 x) (whole_value M 1 x (objective is) feasible))
+closes-bound M path mult v t whole answer objective reaches =
+    reached-bound M path mult t whole objective
+    (subst (λ w. Reaches w t whole) (dual_answer-is M path (multiplier mult) (least_cost M) (least_constant M) v answer) reaches)

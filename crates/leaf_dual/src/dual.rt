@@ -8,7 +8,7 @@ ghost use Rattle.leaf_dual.specs.Laws.{WeakDuality, FarkasLaw, ClosesLaw};
 
 use crate::leaf::Leaf;
 use frac128::Frac;
-use lp_model::{Model, Mult, Region, WideStep};
+use lp_model::{BoundChange, Model, Mult, Region, Var, WideStep};
 
 /// What multipliers prove of a region.
 #[derive(Clone, Copy, Debug, Drop)]
@@ -36,11 +36,41 @@ pub fn lag(model: &Model, region: &Region, mult: &Mult) -> Result<LagValue, Wide
     requires { AreNarrow region.now }
     ensures { IsLagAnswer model.now region.now mult.now result }
 {
+    path_lag(model, region.as_slice(), mult.as_slice())
+}
+
+/// The same as `lag` of the changes of a path.
+pub fn path_lag(
+    model: &Model,
+    path: &[BoundChange],
+    mult: &[(Var, Frac)],
+) -> Result<LagValue, WideStep>
+    requires { AreNarrow path.now }
+    ensures { IsLagAnswer model.now path.now mult.now result }
+{
     let leaf = Leaf {
         model,
-        region: region.as_slice(),
-        mult: mult.as_slice(),
+        region: path,
+        mult,
         costed: true,
+    };
+    leaf.dual_number()
+}
+
+/// The same as `farkas` of the changes of a path.
+pub fn path_farkas(
+    model: &Model,
+    path: &[BoundChange],
+    mult: &[(Var, Frac)],
+) -> Result<LagValue, WideStep>
+    requires { AreNarrow path.now }
+    ensures { IsFarkasAnswer model.now path.now mult.now result }
+{
+    let leaf = Leaf {
+        model,
+        region: path,
+        mult,
+        costed: false,
     };
     leaf.dual_number()
 }
@@ -51,13 +81,7 @@ pub fn farkas(model: &Model, region: &Region, mult: &Mult) -> Result<LagValue, W
     requires { AreNarrow region.now }
     ensures { IsFarkasAnswer model.now region.now mult.now result }
 {
-    let leaf = Leaf {
-        model,
-        region: region.as_slice(),
-        mult: mult.as_slice(),
-        costed: false,
-    };
-    leaf.dual_number()
+    path_farkas(model, region.as_slice(), mult.as_slice())
 }
 
 /// Whether a leaf with this `lag` needs no search below it, where a point with the target's value in least form is known:

@@ -26,4 +26,6 @@ mod dual;
 mod leaf;
 mod terms;
 
-pub use dual::{LagValue, closes, closes_law, farkas, farkas_law, lag, weak_duality_law};
+pub use dual::{
+    LagValue, closes, closes_law, farkas, farkas_law, lag, path_farkas, path_lag, weak_duality_law,
+};

@@ -1,0 +1,62 @@
+-- The walk: nodes with places, and the path behind a leaf.
+use Rattle.std.proofs.Common.{◌≡◌, ℕ, ◌+◌, ◌-◌, ◌<◌, ◌≤◌, List, [], ◌∷◌, ◌++◌, length, take, get_or, refl, sym, ap, subst, ◌∙◌, arith, below_more}
+use Rattle.std.specs.Prelude.{pos, ◌+ℤ◌, set}
+use Rattle.std.proofs.lemmas.List.{take_more, take_more_set, length-append, get_or_append_left}
+use Rattle.std.proofs.Math.Seq.{get_or-append_seam}
+use Rattle.lp_model.specs.Program.{Program}
+use Rattle.lp_model.specs.Regions.{Path}
+use Rattle.lp_model.specs.declared.types.Side.TheVariants.{Lo, Hi}
+use Rattle.lp_model.specs.declared.types.BoundChange.{BoundChange}
+use Rattle.branch_tree.specs.Tree.{at_least}
+use Rattle.cert_check.specs.declared.cert.CertNode.{CertNode}
+use Rattle.cert_check.specs.declared.judging.PlacedNode.{PlacedNode}
+use Rattle.cert_check.specs.Walk.{IsPlace, ArePlaced, turned, in_front, after_leaf}
+
+module _ (M : Program) (node : CertNode) (one : PlacedNode) (here : IsPlace M node one) where
+  placed_last : (ns : List CertNode) (ps : List PlacedNode) → ArePlaced M ns ps → ArePlaced M (ns ++ node ∷ []) (ps ++ one ∷ [])
+  placed_last ns ps (same, each) =
+      let P : ℕ → Type 0 = λ k. (n : CertNode) (p : PlacedNode) → IsPlace M (get_or (ns ++ node ∷ []) k n) (get_or (ps ++ one ∷ []) k p) in
+      let all : (k : ℕ) → k < length ns + 1 → P k =
+      below_more P (length ns)
+      (λ k below n p.
+      subst (λ T. T) (λ i. IsPlace M (sym (get_or_append_left ns (node ∷ []) n k below) i) (sym (get_or_append_left ps (one ∷ []) p k (omega (arith, same, below))) i)) (each k n p below))
+      (λ n p.
+      subst (λ T. T) (λ i. IsPlace M (sym (get_or-append_seam ns node [] n) i) (sym (ap (λ k. get_or (ps ++ one ∷ []) k p) (sym same) ∙ get_or-append_seam ps one [] p) i)) here) in
+      let long = length-append ns (node ∷ []) in
+      let long_ps = length-append ps (one ∷ []) in
+      (omega (arith, same, long, long_ps), λ k n p below. all k (omega (arith, below, long)) n p)
+
+  pub placed_more : (nodes : List CertNode) (k : ℕ) (old new : List PlacedNode) → k < length nodes → node ≡ get_or nodes k node → ArePlaced M (take k nodes) old → new ≡ old ++ one ∷ [] → ArePlaced M (take (k + 1) nodes) new
+  placed_more nodes k old new below is before after =
+      let more : take (k + 1) nodes ≡ take k nodes ++ node ∷ [] = take_more nodes k node below ∙ ap (λ n. take k nodes ++ n ∷ []) (sym is) in
+      subst (λ T. T) (λ i. ArePlaced M (sym more i) (sym after i)) (placed_last (take k nodes) old before)
+
+-- ---- paths
+
+pub after_leaf-low : (path : Path) (c : BoundChange) → c.side ≡ Lo → after_leaf (path ++ c ∷ []) ≡ after_leaf path
+after_leaf-low [] c low = ap (λ s. turned s c) low
+after_leaf-low (d ∷ path) c low = ap (in_front d) (after_leaf-low path c low)
+
+in_front-some : (d : BoundChange) (path : Path) (c : BoundChange) → in_front d (path ++ c ∷ []) ≡ d ∷ (path ++ c ∷ [])
+in_front-some d [] c = refl
+in_front-some d (e ∷ path) c = refl
+
+pub after_leaf-high : (path : Path) (c : BoundChange) → c.side ≡ Hi → after_leaf (path ++ c ∷ []) ≡ path ++ at_least c.col.0 (c.v +ℤ pos 1) ∷ []
+after_leaf-high [] c high = ap (λ s. turned s c) high
+after_leaf-high (d ∷ path) c high = ap (in_front d) (after_leaf-high path c high) ∙ in_front-some d path (at_least c.col.0 (c.v +ℤ pos 1))
+
+module _ (path : Path) (depth : ℕ) (d : BoundChange) (some : 0 < depth) (within : depth ≤ length path) where
+  last_is : take depth path ≡ take (depth - 1) path ++ get_or path (depth - 1) d ∷ []
+  last_is =
+      let up : depth ≡ depth - 1 + 1 = omega arith in
+      ap (λ n. take n path) up ∙ take_more path (depth - 1) d (omega arith)
+
+  pub turn_low : (get_or path (depth - 1) d).side ≡ Lo → after_leaf (take depth path) ≡ after_leaf (take (depth - 1) path)
+  turn_low low = ap after_leaf last_is ∙ after_leaf-low (take (depth - 1) path) (get_or path (depth - 1) d) low
+
+  pub turn_high : (get_or path (depth - 1) d).side ≡ Hi → (c : BoundChange) → c ≡ at_least (get_or path (depth - 1) d).col.0 ((get_or path (depth - 1) d).v +ℤ pos 1) →
+      take depth (set path (depth - 1) c) ≡ after_leaf (take depth path)
+  turn_high high c is =
+      let up : depth ≡ depth - 1 + 1 = omega arith in
+      ap (λ n. take n (set path (depth - 1) c)) up ∙ take_more_set path (depth - 1) c (omega arith) ∙ ap (λ e. take (depth - 1) path ++ e ∷ []) is
+      ∙ sym (ap after_leaf last_is ∙ after_leaf-high (take (depth - 1) path) (get_or path (depth - 1) d) high)

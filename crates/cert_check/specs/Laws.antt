@@ -1,0 +1,33 @@
+-- What an accepted certificate proves.
+use Rattle.std.specs.Prelude.{◌≡◌, ◌⊎◌, ℕ, List}
+use Rattle.lp_model.specs.Program.{Program, Point, value, IsOptimum, IsEmpty}
+use Rattle.cert_check.specs.declared.cert.Claim.{Claim}
+use Rattle.cert_check.specs.declared.cert.Claim.TheVariants.{Optimal, Infeasible}
+use Rattle.cert_check.specs.declared.cert.Cert.{Cert}
+use Rattle.cert_check.specs.declared.verdict.Verdict.TheVariants.{Accepted}
+use Rattle.cert_check.specs.Accepted.{Accepts}
+use Rattle.cert_check.specs.Text.{Meant, Faulty}
+use Rattle.cert_check.specs.Verdict.{IsVerdict}
+use Rattle.cert_check.specs.Whole.{IsCertificate}
+
+-- a feasible point that no feasible point beats has the value; no point is feasible
+abbrev pub IsTrueClaim : Program → Claim → Type 0
+IsTrueClaim M (Optimal v) = (x : Point) × (IsOptimum M x × (value M 1 x ≡ v))
+IsTrueClaim M Infeasible = IsEmpty M
+
+abbrev pub AcceptedLaw : Type 0
+AcceptedLaw = (M : Program) (cert : Cert) → Accepts M cert → IsTrueClaim M cert.claim
+
+-- a certificate that is judged and found accepted is accepted by the definition
+abbrev pub VerdictLaw : Type 0
+VerdictLaw = (M : Program) (cert : Cert) → IsCertificate cert → IsVerdict M cert Accepted → Accepts M cert
+
+-- A text states one certificate, or has one first faulty line with one least code, and never both.
+pub record MeansOne (text : List ℕ) : Type 0 where
+  pub some : ((cert : Cert) × Meant text cert) ⊎ ((line : ℕ) × ((code : ℕ) × Faulty text line code))
+  pub one_meaning : (a b : Cert) → Meant text a → Meant text b → a ≡ b
+  pub one_fault : (line code other_line other_code : ℕ) → Faulty text line code → Faulty text other_line other_code → (line ≡ other_line) × (code ≡ other_code)
+  pub not_both : (cert : Cert) (line code : ℕ) → Meant text cert → Faulty text line code → ⊥
+
+abbrev pub TextLaw : Type 0
+TextLaw = (text : List ℕ) → MeansOne text

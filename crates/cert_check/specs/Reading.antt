@@ -1,0 +1,72 @@
+-- What the reader's values stand for.
+use Rattle.std.specs.Prelude.{◌≡◌, ℕ, suc, ◌+◌, ◌<◌, ◌||◌, ◌++◌, List, length, min, option_to_list, true, All, Option, None, Some, Result, Ok, Err}
+use Rattle.lp_model.specs.Edits.{Named}
+use Rattle.cert_check.specs.declared.cert.Cert.{Cert}
+use Rattle.cert_check.specs.Lines.{line_says}
+use Rattle.cert_check.specs.Whole.{TakesAll, IsPointed, IsNarrowNode}
+use Rattle.cert_check.specs.Text.{claim_in, point_in, node_in, is_end, Stated, stated, code_in, code_at, AreClean, Meant, Faulty}
+use Rattle.cert_check.specs.declared.line.Statement.{Statement}
+use Rattle.cert_check.specs.declared.reader.CertFault.{CertFault}
+use Rattle.cert_check.specs.declared.reader.CertFault.TheVariants.{Bad, Memory as NoMemory}
+use Rattle.cert_check.specs.declared.line.LineFault.{LineFault}
+use Rattle.cert_check.specs.declared.line.LineFault.TheVariants.{Code, Memory}
+use Rattle.cert_check.specs.declared.reading.Reading.{Reading}
+
+-- the answer is what is said, or its code, or there is no memory
+abbrev pub Says : {A : Type 0} → Result A ℕ → Result A LineFault → Type 0
+Says said (Ok value) = said ≡ Ok value
+Says said (Err (Code code)) = said ≡ Err code
+Says said (Err Memory) = Unit {0}
+
+-- the lesser of a code and the least one so far
+abbrev pub min_or : Option ℕ → ℕ → ℕ
+min_or None code = code
+min_or (Some least) code = min least code
+
+-- numbers beside names, the least code of what is none among them, and what follows
+abbrev pub joined : Option ℕ → Named → Result Named ℕ → Result Named ℕ
+joined None named (Ok more) = Ok (named ++ more)
+joined (Some least) named (Ok more) = Err least
+joined least named (Err code) = Err (min_or least code)
+
+-- what the reader holds
+abbrev pub held : Reading → Stated
+held r = record { count = r.count; claims = option_to_list r.claim; points = option_to_list r.point; nodes = r.nodes; ended = r.ended }
+
+-- what is stated with one more line that says this
+abbrev pub after : Stated → Result Statement ℕ → Stated
+after s said = record {
+  count = s.count + 1;
+  claims = s.claims ++ option_to_list (claim_in said);
+  points = s.points ++ option_to_list (point_in said);
+  nodes = s.nodes ++ option_to_list (node_in said);
+  ended = s.ended || is_end said;
+}
+
+-- a line without code is noted, another one is told with its number
+abbrev pub IsNoted : Stated → List ℕ → ℕ → Stated → Result (Unit {0}) CertFault → Type 0
+IsNoted old line number new (Ok _) = (code_in old (line_says line) ≡ None) × (new ≡ after old (line_says line))
+IsNoted old line number new (Err (Bad at code)) = (code_in old (line_says line) ≡ Some code) × (at ≡ number)
+IsNoted old line number new (Err NoMemory) = Unit {0}
+
+-- the line of this number is the first with a code
+abbrev pub IsFaultyLine : List (List ℕ) → ℕ → ℕ → Type 0
+IsFaultyLine lines number code = (k : ℕ) × ((k < length lines) × (AreClean lines k × ((code_at lines k ≡ Some code) × (number ≡ suc k))))
+
+abbrev pub IsReading : List (List ℕ) → Result Reading CertFault → Type 0
+IsReading lines (Ok r) = AreClean lines (length lines) × (held r ≡ stated lines)
+IsReading lines (Err (Bad number code)) = IsFaultyLine lines number code
+IsReading lines (Err NoMemory) = Unit {0}
+
+-- the certificate that the text states, its first faulty line with the least code, or want of memory
+abbrev pub IsAnswer : List ℕ → Result Cert CertFault → Type 0
+IsAnswer text (Ok cert) = Meant text cert
+IsAnswer text (Err (Bad line code)) = Faulty text line code
+IsAnswer text (Err NoMemory) = Unit {0}
+
+-- what the reader keeps: nodes stand only where a tree is due, none is due at the end, and splits have room
+pub record IsKept (r : Reading) : Type 0 where
+  pub takes : TakesAll 1 r.nodes
+  pub whole : r.ended ≡ true → r.due ≡ 0
+  pub narrow : All IsNarrowNode r.nodes
+  pub pointed : IsPointed r.claim r.point

@@ -1,0 +1,134 @@
+-- What the judging of a certificate answers. Its point comes first, then the nodes in preorder; the first that does not
+-- pass decides. Node 0 is the point, and nodes are counted from 1. What does not pass breaks for a reason
+--     1   a name is unknown, or stands twice on a line
+--     2   the point is not feasible
+--     3   its value is not the claimed one
+--     6   a split on a column that is not integer
+--     7   a leaf does not close as it says
+-- or has a step of arithmetic without room.
+use Rattle.std.specs.Prelude.{◌≡◌, ◌≢◌, ◌⊎◌, ℕ, suc, ◌++◌, true, false, IsTrue, List, [], ◌∷◌, length, Contains, All, Ok, Err}
+use Rattle.rational.specs.Rational.{ℚ}
+use Rattle.lp_model.specs.Program.{Program, Point, is_integer, in_least_form, HasWholeObjective}
+use Rattle.lp_model.specs.Lawful.{column_names}
+use Rattle.lp_model.specs.Answers.{IsValueAnswer, IsFeasibilityAnswer}
+use Rattle.lp_model.specs.Edits.{Named}
+use Rattle.lp_model.specs.Regions.{Path, IsEmptyRegion}
+use Rattle.leaf_dual.specs.Dual.{Multipliers, IsPositive, Reaches}
+use Rattle.leaf_dual.specs.Answers.{IsLagAnswer, IsFarkasAnswer}
+use Rattle.leaf_dual.specs.declared.dual.LagValue.{LagValue}
+use Rattle.branch_tree.specs.Tree.{left_path, right_path}
+use Rattle.cert_check.specs.declared.cert.Claim.{Claim}
+use Rattle.cert_check.specs.declared.cert.Claim.TheVariants.{Optimal, Infeasible}
+use Rattle.cert_check.specs.declared.cert.CertLeaf.{CertLeaf}
+use Rattle.cert_check.specs.declared.cert.CertLeaf.TheVariants.{Bound, Farkas, Empty}
+use Rattle.cert_check.specs.declared.cert.CertNode.{CertNode}
+use Rattle.cert_check.specs.declared.cert.CertNode.TheVariants as node
+use Rattle.cert_check.specs.declared.cert.Cert.{Cert}
+use Rattle.cert_check.specs.declared.verdict.Judgement.{Judgement}
+use Rattle.cert_check.specs.declared.verdict.Judgement.TheVariants.{Passes, Breaks, NoRoom}
+use Rattle.cert_check.specs.declared.verdict.Verdict.{Verdict}
+use Rattle.cert_check.specs.declared.verdict.Verdict.TheVariants.{Accepted, Rejected, Wide}
+use Rattle.cert_check.specs.Tree.{CertTree, Leaf, Split, preorder, place_among}
+use Rattle.cert_check.specs.Accepted.{AreNames, names_of_rows, point_of, multipliers}
+
+-- where each name is a known one and none stands twice what holds of the judgement; else it breaks for that
+abbrev pub WhereNamed : List (List ℕ) → Named → (Judgement → Type 0) → Judgement → Type 0
+WhereNamed known named P j = (AreNames known named × P j) ⊎ ((¬ AreNames known named) × (j ≡ Breaks 1))
+
+-- ---- a leaf
+
+-- a number that was answered is at least t, or rounded up in a whole objective is
+abbrev pub NumberReaches : Program → LagValue → ℚ → Type 0
+NumberReaches M q t = Reaches q t false ⊎ (HasWholeObjective M 1 × Reaches q t true)
+
+abbrev pub IsBoundJudged : Program → ℚ → Path → Multipliers → Judgement → Type 0
+IsBoundJudged M t path mult Passes = (q : LagValue) × (IsLagAnswer M path mult (Ok q) × NumberReaches M q t)
+IsBoundJudged M t path mult (Breaks why) = (q : LagValue) × (IsLagAnswer M path mult (Ok q) × ((¬ NumberReaches M q t) × (why ≡ 7)))
+IsBoundJudged M t path mult (NoRoom step) = IsLagAnswer M path mult (Err step)
+
+-- where no value is claimed a number reaches nothing
+abbrev pub IsNumberJudged : Program → Claim → Path → Multipliers → Judgement → Type 0
+IsNumberJudged M (Optimal v) path mult j = IsBoundJudged M (in_least_form M.sense v) path mult j
+IsNumberJudged M Infeasible path mult j = j ≡ Breaks 7
+
+abbrev pub IsFarkasJudged : Program → Path → Multipliers → Judgement → Type 0
+IsFarkasJudged M path mult Passes = (q : LagValue) × (IsFarkasAnswer M path mult (Ok q) × IsPositive q)
+IsFarkasJudged M path mult (Breaks why) = (q : LagValue) × (IsFarkasAnswer M path mult (Ok q) × ((¬ IsPositive q) × (why ≡ 7)))
+IsFarkasJudged M path mult (NoRoom step) = IsFarkasAnswer M path mult (Err step)
+
+abbrev pub IsEmptyJudged : Program → Path → Judgement → Type 0
+IsEmptyJudged M path Passes = IsEmptyRegion M path
+IsEmptyJudged M path (Breaks why) = (¬ IsEmptyRegion M path) × (why ≡ 7)
+IsEmptyJudged M path (NoRoom step) = ⊥
+
+abbrev pub IsLeafJudged : Program → Claim → Path → CertLeaf → Judgement → Type 0
+IsLeafJudged M claim path (Bound named) j = WhereNamed (names_of_rows M) named (IsNumberJudged M claim path (multipliers M named)) j
+IsLeafJudged M claim path (Farkas named) j = WhereNamed (names_of_rows M) named (IsFarkasJudged M path (multipliers M named)) j
+IsLeafJudged M claim path Empty j = IsEmptyJudged M path j
+
+-- ---- a node
+
+abbrev pub IsKindJudged : Program → ℕ → Judgement → Type 0
+IsKindJudged M col Passes = IsTrue (is_integer M col)
+IsKindJudged M col (Breaks why) = (¬ IsTrue (is_integer M col)) × (why ≡ 6)
+IsKindJudged M col (NoRoom step) = ⊥
+
+abbrev pub IsSplitJudged : Program → List ℕ → Judgement → Type 0
+IsSplitJudged M col j =
+    (Contains (column_names M) col × IsKindJudged M (place_among (column_names M) col) j) ⊎ ((¬ Contains (column_names M) col) × (j ≡ Breaks 1))
+
+abbrev pub IsNodeJudged : Program → Claim → Path → CertNode → Judgement → Type 0
+IsNodeJudged M claim path (node.Split col v) j = IsSplitJudged M col j
+IsNodeJudged M claim path (node.Leaf leaf) j = IsLeafJudged M claim path leaf j
+
+-- ---- the point
+
+abbrev pub IsPointJudged : Program → ℚ → Point → Judgement → Type 0
+IsPointJudged M v x Passes = IsFeasibilityAnswer M x (Ok true) × IsValueAnswer M 1 x (Ok v)
+IsPointJudged M v x (Breaks why) =
+    (IsFeasibilityAnswer M x (Ok false) × (why ≡ 2))
+    ⊎ (IsFeasibilityAnswer M x (Ok true) × ((w : ℚ) × (IsValueAnswer M 1 x (Ok w) × ((w ≢ v) × (why ≡ 3)))))
+IsPointJudged M v x (NoRoom step) = IsFeasibilityAnswer M x (Err step) ⊎ (IsFeasibilityAnswer M x (Ok true) × IsValueAnswer M 1 x (Err step))
+
+abbrev pub IsClaimJudged : Program → Claim → Named → Judgement → Type 0
+IsClaimJudged M (Optimal v) named j = WhereNamed (column_names M) named (IsPointJudged M v (point_of M named)) j
+IsClaimJudged M Infeasible named j = j ≡ Passes
+
+-- ---- the certificate
+
+-- the nodes in preorder, each with its path
+abbrev pub visits : Program → Path → CertTree → List (Path × CertNode)
+visits M path (Leaf leaf) = (path, node.Leaf leaf) ∷ []
+visits M path (Split col v left right) =
+    (path, node.Split col v)
+    ∷ (visits M (left_path path (place_among (column_names M) col) v) left
+    ++ visits M (right_path path (place_among (column_names M) col) v) right)
+
+abbrev pub IsVisitJudged : Program → Claim → (Path × CertNode) → Judgement → Type 0
+IsVisitJudged M claim visit j = IsNodeJudged M claim visit.0 visit.1 j
+
+-- some nodes of the tree pass, and then there is one that is judged so; it has this number
+pub record IsJudgedAt (M : Program) (claim : Claim) (tree : CertTree) (number : ℕ) (j : Judgement) : Type 0 where
+  pub before : List (Path × CertNode)
+  pub visit : Path × CertNode
+  pub behind : List (Path × CertNode)
+  pub parts : visits M [] tree ≡ before ++ visit ∷ behind
+  pub pass : All (λ p. IsVisitJudged M claim p Passes) before
+  pub judged : IsVisitJudged M claim visit j
+  pub counted : number ≡ suc (length before)
+
+-- The judgement j of node `number`, 0 being the point, is the first that is no pass.
+abbrev pub IsFirst : Program → Cert → CertTree → ℕ → Judgement → Type 0
+IsFirst M cert tree number j =
+    ((number ≡ 0) × IsClaimJudged M cert.claim cert.point j)
+    ⊎ (IsClaimJudged M cert.claim cert.point Passes × IsJudgedAt M cert.claim tree number j)
+
+abbrev pub IsVerdictOn : Program → Cert → CertTree → Verdict → Type 0
+IsVerdictOn M cert tree Accepted = IsClaimJudged M cert.claim cert.point Passes × All (λ p. IsVisitJudged M cert.claim p Passes) (visits M [] tree)
+IsVerdictOn M cert tree (Rejected number why) = IsFirst M cert tree number (Breaks why)
+IsVerdictOn M cert tree (Wide number step) = IsFirst M cert tree number (NoRoom step)
+
+pub record IsVerdict (M : Program) (cert : Cert) (verdict : Verdict) : Type 0 where
+  pub tree : CertTree
+  pub nodes : preorder tree ≡ cert.nodes
+  pub is : IsVerdictOn M cert tree verdict

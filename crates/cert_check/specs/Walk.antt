@@ -1,0 +1,100 @@
+-- The walk through a certificate's nodes in preorder: the path to each, and the nodes with their names as places.
+use Rattle.std.specs.Prelude.{◌≡◌, ℕ, ◌<◌, ◌≤◌, ◌++◌, List, [], ◌∷◌, length, get_or, All, Contains, pos, ◌+ℤ◌, Option, MatchOption}
+use Rattle.lp_model.specs.Edits.{Named}
+use Rattle.frac128.specs.Range.{IsNarrow}
+use Rattle.lp_model.specs.Program.{Program, Point}
+use Rattle.lp_model.specs.Lawful.{column_names}
+use Rattle.lp_model.specs.Regions.{Path}
+use Rattle.lp_model.specs.declared.types.Side.{Side}
+use Rattle.lp_model.specs.declared.types.Side.TheVariants.{Lo, Hi}
+use Rattle.lp_model.specs.declared.types.BoundChange.{BoundChange}
+use Rattle.branch_tree.specs.Tree.{at_most, at_least}
+use Rattle.cert_check.specs.declared.cert.Claim.{Claim}
+use Rattle.cert_check.specs.declared.cert.CertLeaf.TheVariants as leaf
+use Rattle.cert_check.specs.declared.cert.CertNode.{CertNode}
+use Rattle.cert_check.specs.declared.cert.CertNode.TheVariants as node
+use Rattle.cert_check.specs.declared.cert.Cert.{Cert}
+use Rattle.cert_check.specs.declared.verdict.Judgement.{Judgement}
+use Rattle.cert_check.specs.declared.verdict.Judgement.TheVariants.{Passes, Breaks, NoRoom}
+use Rattle.cert_check.specs.declared.verdict.Verdict.{Verdict}
+use Rattle.cert_check.specs.declared.verdict.Verdict.TheVariants.{Accepted, Rejected, Wide}
+use Rattle.cert_check.specs.declared.judging.PlacedNode.{PlacedNode}
+use Rattle.cert_check.specs.declared.judging.PlacedNode.TheVariants.{Misnamed, Split, Bound, Farkas, Empty}
+use Rattle.cert_check.specs.declared.checking.RegionBuf.{RegionBuf}
+use Rattle.cert_check.specs.Tree.{CertTree, preorder, place_among}
+use Rattle.cert_check.specs.Accepted.{AreNames, names_of_rows, point_of, multipliers}
+use Rattle.cert_check.specs.Verdict.{IsNumberJudged, IsFarkasJudged, IsEmptyJudged, IsKindJudged, visits, IsVisitJudged, IsJudgedAt}
+use Rattle.cert_check.specs.Whole.{IsNarrowNode}
+
+-- ---- nodes with places
+
+-- the node with its names as places; Misnamed where one is unknown or stands twice
+abbrev pub IsPlace : Program → CertNode → PlacedNode → Type 0
+IsPlace M (node.Split col v) Misnamed = ¬ Contains (column_names M) col
+IsPlace M (node.Split col v) (Split place w) = (place.0 < length M.cols) × (place.0 ≡ place_among (column_names M) col) × (w ≡ v)
+IsPlace M (node.Leaf (leaf.Bound named)) Misnamed = ¬ AreNames (names_of_rows M) named
+IsPlace M (node.Leaf (leaf.Bound named)) (Bound mult) = AreNames (names_of_rows M) named × (mult ≡ multipliers M named)
+IsPlace M (node.Leaf (leaf.Farkas named)) Misnamed = ¬ AreNames (names_of_rows M) named
+IsPlace M (node.Leaf (leaf.Farkas named)) (Farkas mult) = AreNames (names_of_rows M) named × (mult ≡ multipliers M named)
+IsPlace M (node.Leaf leaf.Empty) Empty = Unit {0}
+IsPlace M n placed = ⊥
+
+abbrev pub IsPlacedJudged : Program → Claim → Path → PlacedNode → Judgement → Type 0
+IsPlacedJudged M claim path Misnamed j = j ≡ Breaks 1
+IsPlacedJudged M claim path (Split col v) j = IsKindJudged M col.0 j
+IsPlacedJudged M claim path (Bound mult) j = IsNumberJudged M claim path mult j
+IsPlacedJudged M claim path (Farkas mult) j = IsFarkasJudged M path mult j
+IsPlacedJudged M claim path Empty j = IsEmptyJudged M path j
+
+-- ---- paths
+
+-- the side of a change that has another child behind it: its number has a successor
+abbrev pub CanTurn : BoundChange → Type 0
+CanTurn c = c.side ≡ Hi → IsNarrow (c.v +ℤ pos 1)
+
+abbrev pub turned : Side → BoundChange → Path
+turned Hi c = at_least c.col.0 (c.v +ℤ pos 1) ∷ []
+turned Lo c = []
+
+abbrev pub in_front : BoundChange → Path → Path
+in_front c [] = turned c.side c
+in_front c (d ∷ path) = c ∷ d ∷ path
+
+-- the path to the node behind a leaf: the last change to a left child becomes that to the right one
+abbrev pub after_leaf : Path → Path
+after_leaf [] = []
+after_leaf (c ∷ path) = in_front c (after_leaf path)
+
+-- the path to the node behind a node
+abbrev pub after_node : PlacedNode → Path → Path
+after_node (Split col v) path = path ++ at_most col.0 v ∷ []
+after_node Misnamed path = after_leaf path
+after_node (Bound mult) path = after_leaf path
+after_node (Farkas mult) path = after_leaf path
+after_node Empty path = after_leaf path
+
+-- ---- the buffer
+
+abbrev pub ArePlaced : Program → List CertNode → List PlacedNode → Type 0
+ArePlaced M nodes placed = (length placed ≡ length nodes) × ((k : ℕ) (n : CertNode) (p : PlacedNode) → k < length nodes → IsPlace M (get_or nodes k n) (get_or placed k p))
+
+-- the places are those of a tree's nodes, and fractions have room for its splits
+pub record IsWalked (M : Program) (tree : CertTree) (placed : List PlacedNode) : Type 0 where
+  pub places : ArePlaced M (preorder tree) placed
+  pub narrow : All IsNarrowNode (preorder tree)
+
+-- the verdict on the nodes alone
+abbrev pub IsNodesVerdict : Program → Claim → CertTree → Verdict → Type 0
+IsNodesVerdict M claim tree Accepted = All (λ p. IsVisitJudged M claim p Passes) (visits M [] tree)
+IsNodesVerdict M claim tree (Rejected number why) = IsJudgedAt M claim tree number (Breaks why)
+IsNodesVerdict M claim tree (Wide number step) = IsJudgedAt M claim tree number (NoRoom step)
+
+-- the numbers beside names as a point, if each name is a column's and none stands twice
+abbrev pub IsPointOf : Program → Named → Option Point → Type 0
+IsPointOf M named point = MatchOption point (¬ AreNames (column_names M) named) (λ x. AreNames (column_names M) named × (x ≡ point_of M named))
+
+-- the buffer was made for this model and this certificate
+pub record IsBufferOf (M : Program) (cert : Cert) (buf : RegionBuf) : Type 0 where
+  pub nodes : ArePlaced M cert.nodes buf.nodes.items
+  pub path : length cert.nodes ≤ length buf.path.items
+  pub point : IsPointOf M cert.point buf.point

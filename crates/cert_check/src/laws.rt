@@ -1,0 +1,17 @@
+// What accepted certificates prove.
+ghost use Rattle.cert_check.specs.Laws.{AcceptedLaw, VerdictLaw, TextLaw};
+
+/// For every model and certificate: where the certificate is accepted its claim is true.
+pub fn accepted_law()
+    ensures { AcceptedLaw }
+{}
+
+/// A certificate that `check` answers Accepted on is accepted by the definition, so that its claim is true.
+pub fn verdict_law()
+    ensures { VerdictLaw }
+{}
+
+/// Each text states one certificate or has one fault.
+pub fn text_law()
+    ensures { TextLaw }
+{}

@@ -1,0 +1,27 @@
+// What the judging of a certificate answers.
+
+use lp_model::WideStep;
+
+/// What the judging of a point or of one node answers.
+#[derive(Clone, Copy, Debug, Drop)]
+pub(crate) enum Judgement {
+    Passes,
+    /// It does not hold, for this reason.
+    Breaks(u8),
+    /// This step of arithmetic has no room.
+    NoRoom(WideStep),
+}
+
+/// Whether a certificate is accepted for a model. Nodes are counted from 1 in the order of the text, and node 0 is the
+/// point.
+#[derive(Clone, Copy, Debug, Drop)]
+pub enum Verdict {
+    /// The claim is true.
+    Accepted,
+    /// The first node that does not hold, and why: 1 a name is unknown or stands twice on a line, 2 the point is not
+    /// feasible, 3 its value is not the claimed one, 6 a split on a column that is not integer, 7 a leaf does not close as
+    /// it says.
+    Rejected { node: u64, why: u8 },
+    /// The first node with a step of arithmetic that has no room, all before it holding.
+    Wide { node: u64, step: WideStep },
+}
