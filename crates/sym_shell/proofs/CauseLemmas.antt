@@ -4,16 +4,18 @@ use Rattle.std.specs.Prelude.{codes, decimal}
 use Rattle.rational.specs.Rational.{ℚ}
 use Rattle.frac128.specs.Printing.{printed}
 use Rattle.lp_model.specs.Program.{Program, value}
-use Rattle.box_search.specs.Root.{cap_of}
-use Rattle.box_search.specs.Search.{HasRoom}
+use Rattle.tree_edit.specs.Sound.{PlainSearch}
+use Rattle.tree_search.specs.Causes.{IsJudgeable}
+use Rattle.tree_search.specs.Work.{cap_of}
 use Rattle.command_words.specs.Asks.{Asks, Load, Solve, Quit, Unknown, Misused, NoNumber, asks_of}
+use Rattle.sym_shell.specs.Searched.{node_limit}
 use Rattle.sym_shell.specs.State.{State}
 use Rattle.sym_shell.specs.Texts.{ok_text, unknown_text, arguments_text, number_text, memory_text, column_lines, number_or_none, known_text, path_line, step_line}
 use Rattle.sym_shell.specs.Load.{LoadStep, Loads, LoadRefused, ReadsFile, refusal_text}
-use Rattle.sym_shell.specs.Solve.{ShowsOptimum, ShowsEmptiness, Shows, Optimum, Emptiness, NodeStop, WideStop, Wanting, Solves, SolveStep}
+use Rattle.sym_shell.specs.Solve.{ShowsOptimum, ShowsEmptiness, Shows, Optimum, Emptiness, NodeStop, TreeStop, WideStop, Wanting, Solves, SolveStep}
 use Rattle.sym_shell.specs.Shown.{point_shown}
 use Rattle.sym_shell.specs.Step.{IsRefused, AnswersTo, Step}
-use Rattle.sym_shell.specs.Kinds.{Kind, Optimal, Infeasible, StoppedNodes, StoppedWide, Done, UnknownCommand, WrongArguments, NoModel, WrongNumber, StoreFailed, FileTooLong, FaultyText, WantsMemory, Is}
+use Rattle.sym_shell.specs.Kinds.{Kind, Optimal, Infeasible, StoppedNodes, StoppedTree, StoppedWide, Done, UnknownCommand, WrongArguments, NoModel, WrongNumber, StoreFailed, FileTooLong, FaultyText, WantsMemory, Is, IsError}
 use Rattle.sym_shell.specs.Causes.{Solved, Loaded, Refused, CauseOf, HasCauses}
 use Rattle.sym_shell.specs.declared.reading.Refusal.{Refusal}
 use Rattle.sym_shell.specs.declared.reading.Refusal.TheVariants as refusal
@@ -50,7 +52,7 @@ module _ (old : State) (words : List (List ℕ)) (reply : List ℕ) (new : State
       }
       by refusal.Memory told cause = wants told
 
-  shows_cause : (limit : ℕ) (M : Program) → asks_of words ≡ Solve limit → old.model ≡ Some M → Shows M limit reply → HasCause old words reply new
+  shows_cause : (limit : ℕ) (M : Program) → asks_of words ≡ Solve limit → old.model ≡ Some M → Shows M limit reply new.held → HasCause old words reply new
   shows_cause limit M asked present (Optimum s) = record {
     kind = Optimal;
     is = (value_tail (value M 1 (point_shown M reply)) s.placed ++ column_lines M.cols (point_shown M reply) ++ codes "end\n", s.shown);
@@ -61,24 +63,29 @@ module _ (old : State) (words : List (List ℕ)) (reply : List ℕ) (new : State
     is = (codes "nodes " ++ decimal s.placed ++ codes "\n", s.shown);
     cause = record { limit = limit; model = M; asked = asked; present = present; is = s };
   }
-  shows_cause limit M asked present (NodeStop s) = record {
+  shows_cause limit M asked present (NodeStop s none) = record {
     kind = StoppedNodes;
     is = (known_text limit s.bound s.best, s.shown);
     cause = record { limit = limit; model = M; asked = asked; present = present; is = s };
   }
-  shows_cause limit M asked present (WideStop s) = record {
+  shows_cause limit M asked present (TreeStop s none) = record {
+    kind = StoppedTree;
+    is = (known_text s.placed s.bound s.best, s.shown);
+    cause = record { limit = limit; model = M; asked = asked; present = present; is = s };
+  }
+  shows_cause limit M asked present (WideStop s none) = record {
     kind = StoppedWide;
     is = (known_text s.placed s.bound s.best ++ path_line M s.path ++ step_line M s.step ++ codes "end\n", s.shown);
     cause = record { limit = limit; model = M; asked = asked; present = present; is = s };
   }
-  shows_cause limit M asked present (Wanting e) = wants e
+  shows_cause limit M asked present (Wanting e none) = wants e
 
   solve_cause : (limit : ℕ) → asks_of words ≡ Solve limit → SolveStep old limit reply new → HasCause old words reply new
   solve_cause limit asked h = by old.model refl h.answer
     where
-      by : (m : Option Program) → old.model ≡ m → Solves m limit reply → HasCause old words reply new
+      by : (m : Option Program) → old.model ≡ m → Solves m limit reply old.held new.held → HasCause old words reply new
       by (Some M) present s = shows_cause limit M asked present s
-      by None none s = elim s [
+      by None none s = elim s.0 [
         | inl e ↦ record { kind = NoModel; is = (codes "no model\n", e); cause = (limit, (record { asks = asked; told = e }, none)) }
         | inr e ↦ wants e
       ]
@@ -100,18 +107,19 @@ module _ (old : State) (words : List (List ℕ)) (reply : List ℕ) (new : State
     | inr e ↦ wants e
   ]
 
-  finishes : (M : Program) (limit : ℕ) → cap_of M ≤ limit → HasRoom M → Shows M limit reply → ShowsOptimum M limit reply ⊎ ShowsEmptiness M limit reply ⊎ (reply ≡ memory_text)
-  finishes M limit enough room (Optimum s) = inl s
-  finishes M limit enough room (Emptiness s) = inr (inl s)
-  finishes M limit enough room (NodeStop s) = let few = s.below_cap in absurd (omega arith)
-  finishes M limit enough room (WideStop s) = absurd (room s.wide.point s.wide.within.within s.step s.wide.wide)
-  finishes M limit enough room (Wanting e) = inr (inr e)
+  finishes : (M : Program) (limit : ℕ) → cap_of M ≤ limit → cap_of M ≤ node_limit → IsJudgeable M → Shows M limit reply new.held → ShowsOptimum M limit reply new.held ⊎ ShowsEmptiness M limit reply new.held ⊎ (reply ≡ memory_text)
+  finishes M limit enough roomy judgeable (Optimum s) = inl s
+  finishes M limit enough roomy judgeable (Emptiness s) = inr (inl s)
+  finishes M limit enough roomy judgeable (NodeStop s none) = let few = s.below_cap in absurd (omega arith)
+  finishes M limit enough roomy judgeable (TreeStop s none) = let small = s.small in absurd (omega arith)
+  finishes M limit enough roomy judgeable (WideStop s none) = absurd (judgeable s.path s.step s.wide)
+  finishes M limit enough roomy judgeable (Wanting e none) = inr (inr e)
 
-  completes : (M : Program) (limit : ℕ) → AnswersTo (asks_of words) old reply new → asks_of words ≡ Solve limit → old.model ≡ Some M → cap_of M ≤ limit → HasRoom M
-      → ShowsOptimum M limit reply ⊎ ShowsEmptiness M limit reply ⊎ (reply ≡ memory_text)
-  completes M limit h asked present enough room =
+  completes : (M : Program) (limit : ℕ) → AnswersTo (asks_of words) old reply new → asks_of words ≡ Solve limit → old.model ≡ Some M → cap_of M ≤ limit → cap_of M ≤ node_limit → IsJudgeable M
+      → ShowsOptimum M limit reply new.held ⊎ ShowsEmptiness M limit reply new.held ⊎ (reply ≡ memory_text)
+  completes M limit h asked present enough roomy judgeable =
       let step : SolveStep old limit reply new = subst (λ a. AnswersTo a old reply new) asked h in
-      finishes M limit enough room (subst (λ m. Solves m limit reply) present step.answer)
+      finishes M limit enough roomy judgeable (subst (λ m. Solves m limit reply old.held new.held) present step.answer)
 
   keeps : (a : Asks) → AnswersTo a old reply new → reply ≢ ok_text → new.model ≡ old.model
   keeps (Load file intupper) h other = elim h.answer [ inl loads ↦ absurd (other loads.ok) | inr refused ↦ refused.kept ]
@@ -121,6 +129,27 @@ module _ (old : State) (words : List (List ℕ)) (reply : List ℕ) (new : State
   keeps Misused h other = ap (λ (s : State). s.model) h.unchanged
   keeps (NoNumber word) h other = ap (λ (s : State). s.model) h.unchanged
 
+  -- a reply of another kind than an error's
+  not_error : {P : Type 0} (k l : Kind) → IsError k → Is k reply → Is l reply → ¬ IsError l → P
+  not_error k l error a b other = absurd (other (subst IsError (one_kind k l reply a b) error))
+
+  solve_holds : (limit : ℕ) (k : Kind) → IsError k → Is k reply → (m : Option Program) → Solves m limit reply old.held new.held → new.held ≡ old.held
+  solve_holds limit k error is None h = h.1
+  solve_holds limit k error is (Some M) (Optimum s) = not_error k Optimal error is (value_tail (value M 1 (point_shown M reply)) s.placed ++ column_lines M.cols (point_shown M reply) ++ codes "end\n", s.shown) (λ e. e)
+  solve_holds limit k error is (Some M) (Emptiness s) = not_error k Infeasible error is (codes "nodes " ++ decimal s.placed ++ codes "\n", s.shown) (λ e. e)
+  solve_holds limit k error is (Some M) (NodeStop s none) = not_error k StoppedNodes error is (known_text limit s.bound s.best, s.shown) (λ e. e)
+  solve_holds limit k error is (Some M) (TreeStop s none) = not_error k StoppedTree error is (known_text s.placed s.bound s.best, s.shown) (λ e. e)
+  solve_holds limit k error is (Some M) (WideStop s none) = not_error k StoppedWide error is (known_text s.placed s.bound s.best ++ path_line M s.path ++ step_line M s.step ++ codes "end\n", s.shown) (λ e. e)
+  solve_holds limit k error is (Some M) (Wanting e none) = not_error k WantsMemory error is (codes "memory\n", e) (λ e. e)
+
+  holds : (a : Asks) → AnswersTo a old reply new → (k : Kind) → IsError k → Is k reply → new.held ≡ old.held
+  holds (Load file intupper) h k error is = elim h.answer [ inl loads ↦ not_error k Done error is ([], loads.ok) (λ e. e) | inr refused ↦ refused.held ]
+  holds (Solve limit) h k error is = solve_holds limit k error is old.model h.answer
+  holds Quit h k error is = ap (λ (s : State). s.held) h.unchanged
+  holds (Unknown word) h k error is = ap (λ (s : State). s.held) h.unchanged
+  holds Misused h k error is = ap (λ (s : State). s.held) h.unchanged
+  holds (NoNumber word) h k error is = ap (λ (s : State). s.held) h.unchanged
+
 pub step-causes : (old : State) (words : List (List ℕ)) (reply : List ℕ) (new : State) → Step old words reply new → HasCauses old words reply new
 unfolding Step
 step-causes old words reply new h =
@@ -129,6 +158,7 @@ step-causes old words reply new h =
       kind = found.kind;
       is = found.is;
       only = λ k is. subst (λ j. CauseOf j old words reply new) (one_kind found.kind k reply found.is is) found.cause;
-      complete = λ M limit asked present enough room. completes old words reply new M limit h asked present enough room;
+      complete = λ M limit asked present enough roomy judgeable. completes old words reply new M limit h asked present enough roomy judgeable;
       kept = λ other. keeps old words reply new (asks_of words) h other;
+      held = λ k error is. holds old words reply new (asks_of words) h k error is;
     }

@@ -1,7 +1,7 @@
 -- A reply is of one kind: its first bytes tell which.
 use Rattle.std.proofs.Common.{◌≡◌, ℕ, ◌+◌, ◌*◌, Bool, List, ◌++◌, get_or, refl, sym, ap, ◌∙◌, if◌then◌else◌}
 use Rattle.std.specs.Prelude.{nat_eq}
-use Rattle.sym_shell.specs.Kinds.{Kind, Optimal, Infeasible, StoppedNodes, StoppedWide, Done, UnknownCommand, WrongArguments, NoModel, WrongNumber, StoreFailed, FileTooLong, FaultyText, WantsMemory, front_of, Is}
+use Rattle.sym_shell.specs.Kinds.{Kind, Optimal, Infeasible, StoppedNodes, StoppedTree, StoppedWide, Done, UnknownCommand, WrongArguments, NoModel, WrongNumber, StoreFailed, FileTooLong, FaultyText, WantsMemory, front_of, Is}
 
 -- by the two digits of an error
 error_kind : ℕ → Kind
@@ -16,7 +16,7 @@ error_kind n =
     else WantsMemory
 
 stop_kind : ℕ → Kind
-stop_kind byte = if nat_eq byte 110 then StoppedNodes else StoppedWide
+stop_kind byte = if nat_eq byte 110 then StoppedNodes else if nat_eq byte 116 then StoppedTree else StoppedWide
 
 -- by the second byte
 kind_by : ℕ → ℕ → ℕ → Kind
@@ -35,6 +35,7 @@ unfolding kind_of kind_by stop_kind error_kind
 kind_of-front Optimal rest = refl
 kind_of-front Infeasible rest = refl
 kind_of-front StoppedNodes rest = refl
+kind_of-front StoppedTree rest = refl
 kind_of-front StoppedWide rest = refl
 kind_of-front Done rest = refl
 kind_of-front UnknownCommand rest = refl

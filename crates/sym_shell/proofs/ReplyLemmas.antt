@@ -1,59 +1,100 @@
 -- What the reply to a search shows.
-use Rattle.std.proofs.Common.{◌≡◌, ℕ, ◌<◌, List, [], ◌++◌, true, subst, sym, ap, ◌∙◌, Option, Some, None, Ok, Err, Result}
+use Rattle.std.proofs.Common.{◌≡◌, ℕ, ◌<◌, Bool, List, [], ◌++◌, true, if◌then◌else◌, refl, subst, sym, ap, ◌∙◌, Option, Some, None, Ok, Err, Result}
 use Rattle.std.specs.Prelude.{OnOk, IfOk}
+use Rattle.std.specs.Option.{option_map}
 use Rattle.frac128.specs.Range.{Fits}
-use Rattle.rational.specs.Rational.{ℚ}
-use Rattle.lp_model.specs.Program.{Program, IsOptimum, value}
+use Rattle.rational.specs.Rational.{ℚ, ◌≤ℚ◌}
+use Rattle.lp_model.specs.Program.{Program, IsOptimum, value, least_value, in_least_form}
 use Rattle.lp_model.specs.Lawful.{IsLawful}
-use Rattle.box_search.specs.Root.{cap_of}
-use Rattle.box_search.specs.Search.{Finds, StopsWith}
-use Rattle.box_search.specs.declared.searching.StopWhy.{StopWhy}
-use Rattle.box_search.specs.declared.searching.StopWhy.TheVariants.{Nodes, Wide}
-use Rattle.box_search.specs.declared.searching.Outcome.{Outcome}
-use Rattle.box_search.specs.declared.searching.Outcome.TheVariants.{Optimal, Infeasible, Stopped}
-use Rattle.box_search.proofs.StopLemmas.{stops-bound}
+use Rattle.tree_edit.specs.Calls.{IsFresh}
+use Rattle.tree_edit.specs.Sound.{PlainSearch}
+use Rattle.tree_search.specs.Bounds.{IsUnbeaten, IsBoundOf}
+use Rattle.tree_search.specs.Work.{cap_of}
+use Rattle.tree_search.specs.Search.{Finds}
+use Rattle.tree_search.specs.declared.stepping.StopWhy.{StopWhy}
+use Rattle.tree_search.specs.declared.stepping.StopWhy.TheVariants.{Nodes, Tree, Wide}
+use Rattle.tree_search.specs.declared.searching.Outcome.{Outcome}
+use Rattle.tree_search.specs.declared.searching.Outcome.TheVariants.{Optimal, Infeasible, Stopped}
+use Rattle.tree_search.proofs.SearchLemmas.{least_again}
 use Rattle.mps_model.specs.PlainNames.{HasPlainNames}
 use Rattle.sym_shell.specs.Shown.{point_shown, value_shown}
-use Rattle.sym_shell.specs.Texts.{optimal_text, infeasible_text, stopped_nodes_text, stopped_wide_text}
+use Rattle.sym_shell.specs.Texts.{optimal_text, infeasible_text, stopped_nodes_text, stopped_tree_text, stopped_wide_text}
 use Rattle.sym_shell.specs.Reports.{Reports, FitsFinding}
-use Rattle.sym_shell.specs.Solve.{IsBound, Shows, Optimum, Emptiness, NodeStop, WideStop}
+use Rattle.sym_shell.specs.Searched.{node_limit, Searches, has_ended, Searched, Finished, IsBound, Stops}
+use Rattle.sym_shell.specs.Solve.{Shows, Optimum, Emptiness, NodeStop, TreeStop, WideStop}
 use Rattle.sym_shell.proofs.ShownBack.{point-shown, value-shown}
 
-pub finds-fits : (M : Program) (limit : ℕ) (outcome : Outcome) → Finds M limit outcome → FitsFinding M outcome
-finds-fits M limit (Optimal v x n) f = (f.optimum.feasible.shape, f.value)
-finds-fits M limit (Infeasible n) f = tt
-finds-fits M limit (Stopped why n bound best) f = tt
+pub finds-fits : (fresh S : PlainSearch) (limit : ℕ) (outcome : Outcome) → Finds fresh S limit outcome → FitsFinding S.model outcome
+finds-fits fresh S limit (Optimal v x n) f = (f.shows.optimum.feasible.shape, f.shows.value)
+finds-fits fresh S limit (Infeasible n) f = tt
+finds-fits fresh S limit (Stopped why n bound best) f = tt
 
-is_bound : (M : Program) (why : StopWhy) (bound best : Option ℚ) → StopsWith M why bound best → IsBound M bound
-is_bound M why None best known = tt
-is_bound M why (Some b) best known = λ x feasible. stops-bound M why b best x known feasible
+least-bound : (M : Program) (least : Option ℚ) → IsUnbeaten M least → IsBound M (option_map (in_least_form M.sense) least)
+least-bound M None h = tt
+least-bound M (Some r) h = λ x feasible. subst (λ q. q ≤ℚ least_value M 1 x) (sym (least_again M.sense r)) (h x feasible)
 
-module _ (M : Program) (limit : ℕ) (lawful : IsLawful M) (plain : HasPlainNames M) where
-  shown : (outcome : Outcome) (old new : List ℕ) → old ≡ [] → Finds M limit outcome → Reports M outcome old new → Shows M limit new
+stop-bound : (S : PlainSearch) (bound : Option ℚ) → IsBoundOf S bound → IsBound S.model bound
+stop-bound S bound b = subst (IsBound S.model) (sym b.bound_is) (least-bound S.model b.least b.unbeaten)
+
+module _ (fresh S : PlainSearch) (limit : ℕ) (lawful : IsLawful S.model) (plain : HasPlainNames S.model) (begins : IsFresh S.model node_limit fresh) where
+  stops : (why : StopWhy) (n : ℕ) (bound best : Option ℚ) → Finds fresh S limit (Stopped why n bound best) → Stops S.model limit n why bound best
+  stops why n bound best f = record {
+    search = S;
+    searched = record { fresh = fresh; begins = begins; placed = f.goes.placed; model = refl };
+    cause = f.shows.0;
+    known = f.shows.1;
+    holds = stop-bound S bound f.shows.1.bound_is;
+  }
+
+  shown : (outcome : Outcome) (old new : List ℕ) → old ≡ [] → Finds fresh S limit outcome → Reports S.model outcome old new → Shows S.model limit new (if has_ended outcome then Some S else None)
   shown (Optimal v x n) old new empty f r =
+      let M : Program = S.model in
       let e : new ≡ optimal_text M x n = r.told ∙ ap (λ t. t ++ optimal_text M x n) empty in
-      let shape = f.optimum.feasible.shape in
-      let fits : Fits (value M 1 x) = subst Fits f.value r.value in
+      let shape = f.shows.optimum.feasible.shape in
+      let fits : Fits (value M 1 x) = subst Fits f.shows.value r.value in
       let back : point_shown M new ≡ x = ap (point_shown M) e ∙ point-shown M x n r.count shape plain lawful.columns_distinct r.numbers fits in
       Optimum (record {
-        optimum = subst (λ y. IsOptimum M y) (sym back) f.optimum;
+        optimum = subst (λ y. IsOptimum M y) (sym back) f.shows.optimum;
         worth = ap value_shown e ∙ value-shown M x n r.count shape plain lawful.columns_distinct r.numbers fits ∙ ap (λ y. Some (value M 1 y)) (sym back);
         placed = n;
+        search = S;
+        finished = record { searched = record { fresh = fresh; begins = begins; placed = f.goes.placed; model = refl }; none_open = f.shows.finished };
+        held_is = refl;
         shown = e ∙ ap (λ y. optimal_text M y n) (sym back);
-        within_limit = f.within_limit;
-        within_cap = f.within_cap;
+        within_limit = f.shows.within_limit;
+        within_cap = f.shows.within_cap;
       })
   shown (Infeasible n) old new empty f r =
-      Emptiness (record { empty = f.none; placed = n; shown = r ∙ ap (λ t. t ++ infeasible_text n) empty; within_limit = f.within_limit; within_cap = f.within_cap })
+      Emptiness (record {
+        empty = f.shows.none;
+        placed = n;
+        search = S;
+        finished = record { searched = record { fresh = fresh; begins = begins; placed = f.goes.placed; model = refl }; none_open = f.shows.finished };
+        held_is = refl;
+        shown = r ∙ ap (λ t. t ++ infeasible_text n) empty;
+        within_limit = f.shows.within_limit;
+        within_cap = f.shows.within_cap;
+      })
   shown (Stopped Nodes n bound best) old new empty f r =
+      let all : n ≡ limit = f.shows.0.0 in
       NodeStop (record {
         bound = bound;
         best = best;
-        known = f.1;
-        holds = is_bound M Nodes bound best f.1;
-        below_cap = subst (λ k. k < cap_of M) f.0.all f.0.below_cap;
-        shown = r ∙ ap (λ t. t ++ stopped_nodes_text n bound best) empty ∙ ap (λ k. stopped_nodes_text k bound best) f.0.all;
-      })
+        known = subst (λ k. Stops S.model limit k Nodes bound best) all (stops Nodes n bound best f);
+        below_cap = subst (λ k. k < cap_of S.model) all f.shows.0.1.1.below_cap;
+        shown = r ∙ ap (λ t. t ++ stopped_nodes_text n bound best) empty ∙ ap (λ k. stopped_nodes_text k bound best) all;
+      }) refl
+  shown (Stopped Tree n bound best) old new empty f r =
+      TreeStop (record {
+        placed = n;
+        bound = bound;
+        best = best;
+        known = stops Tree n bound best f;
+        small = small_tree limit begins f.cause;
+        within_limit = f.shows.0.0;
+        below_cap = f.shows.0.1.1.0.below_cap;
+        shown = r ∙ ap (λ t. t ++ stopped_tree_text n bound best) empty;
+      }) refl
   shown (Stopped (Wide path step) n bound best) old new empty f r =
       WideStop (record {
         placed = n;
@@ -61,14 +102,20 @@ module _ (M : Program) (limit : ℕ) (lawful : IsLawful M) (plain : HasPlainName
         best = best;
         path = path;
         step = step;
-        known = f.1;
-        holds = is_bound M (Wide path step) bound best f.1;
-        wide = f.0.wide;
-        within_limit = f.0.within_limit;
-        below_cap = f.0.below_cap;
-        shown = r ∙ ap (λ t. t ++ stopped_wide_text M n bound best path step) empty;
-      })
+        known = stops (Wide path step) n bound best f;
+        wide = f.shows.0.2;
+        within_limit = f.shows.0.0;
+        below_cap = f.shows.0.1.below_cap;
+        shown = r ∙ ap (λ t. t ++ stopped_wide_text S.model n bound best path step) empty;
+      }) refl
 
-  pub search_shown : {E : Type 0} (outcome : Outcome) (old new : List ℕ) (r : Result (Unit {0}) E) → old ≡ [] → Finds M limit outcome → IfOk r (λ _. Reports M outcome old new) → OnOk r (Shows M limit new)
-  search_shown outcome old new (Ok done) empty f h = shown outcome old new empty f h
-  search_shown outcome old new (Err e) empty f h = tt
+-- the reply to a search of M that has left S, of which an answer is held where it went to its end
+pub search_shown : {E : Type 0} (M : Program) (S : PlainSearch) (limit : ℕ) (outcome : Outcome) (held : Bool) (old new : List ℕ) (r : Result (Unit {0}) E)
+    → IsLawful S.model → HasPlainNames S.model → Searches M limit S outcome → held ≡ has_ended outcome → old ≡ [] → IfOk r (λ _. Reports S.model outcome old new)
+    → OnOk r (Shows M limit new (if held then Some S else None))
+search_shown M S limit outcome held old new (Ok done) lawful plain s ended empty h =
+    let same : S.model ≡ M = s.finds.goes.model ∙ s.begins.model in
+    subst (λ N. Shows N limit new (if held then Some S else None)) same
+        (subst (λ b. Shows S.model limit new (if b then Some S else None)) (sym ended)
+            (shown s.fresh S limit lawful plain (subst (λ N. IsFresh N node_limit s.fresh) (sym same) s.begins) outcome old new empty s.finds h))
+search_shown M S limit outcome held old new (Err e) lawful plain s ended empty h = tt

@@ -5,7 +5,7 @@ use Rattle.std.specs.List.{list_all}
 use Rattle.lp_model.specs.Program.{Program}
 use Rattle.lp_model.specs.declared.types.Col.{Col}
 use Rattle.mps_model.specs.Bounded.{is_bounded_column, is_bounded}
-use Rattle.box_search.specs.Integral.{AreIntegral, IsIntegral}
+use Rattle.tree_search.specs.Integral.{AreIntegral, IsIntegral}
 
 left : (a b : Bool) → a && b ≡ true → a ≡ true
 left true b h = refl

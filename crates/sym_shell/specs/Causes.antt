@@ -3,15 +3,16 @@
 use Rattle.std.specs.Prelude.{◌≡◌, ◌≢◌, ◌⊎◌, ℕ, ◌<◌, ◌≤◌, List, Option, Some, None}
 use Rattle.sym_io.specs.Faults.{Rose}
 use Rattle.lp_model.specs.Program.{Program}
-use Rattle.box_search.specs.Root.{cap_of}
-use Rattle.box_search.specs.Search.{HasRoom}
+use Rattle.tree_search.specs.Causes.{IsJudgeable}
+use Rattle.tree_search.specs.Work.{cap_of}
 use Rattle.command_words.specs.Asks.{Asks, Load, Solve, Quit, Unknown, Misused, NoNumber, asks_of}
+use Rattle.sym_shell.specs.Searched.{node_limit}
 use Rattle.sym_shell.specs.State.{State}
 use Rattle.sym_shell.specs.Texts.{ok_text, unknown_text, arguments_text, no_model_text, number_text, store_text, file_too_long_text, mps_text, memory_text}
 use Rattle.sym_shell.specs.Load.{HasText, IsMissing, IsTooLong, IsFaulty, Loads}
-use Rattle.sym_shell.specs.Solve.{ShowsOptimum, ShowsEmptiness, ShowsNodeStop, ShowsWideStop}
+use Rattle.sym_shell.specs.Solve.{ShowsOptimum, ShowsEmptiness, ShowsNodeStop, ShowsTreeStop, ShowsWideStop}
 use Rattle.sym_shell.specs.Step.{Step}
-use Rattle.sym_shell.specs.Kinds.{Kind, Optimal, Infeasible, StoppedNodes, StoppedWide, Done, UnknownCommand, WrongArguments, NoModel, WrongNumber, StoreFailed, FileTooLong, FaultyText, WantsMemory, Is}
+use Rattle.sym_shell.specs.Kinds.{Kind, Optimal, Infeasible, StoppedNodes, StoppedTree, StoppedWide, Done, UnknownCommand, WrongArguments, NoModel, WrongNumber, StoreFailed, FileTooLong, FaultyText, WantsMemory, Is, IsError}
 
 -- `solve` of the model that is present, which may place `limit` results, and P of both
 pub record Solved (old : State) (words : List (List ℕ)) (P : Program → ℕ → Type 0) : Type 0 where
@@ -36,10 +37,11 @@ pub record Refused (words : List (List ℕ)) (reply : List ℕ) (asked : Asks) (
 -- what a reply of each kind says for sure
 abbrev pub CauseOf : Kind → State → List (List ℕ) → List ℕ → State → Type 0
 -- the headline: what is shown is an optimum of the model that is present, or it has no feasible point
-CauseOf Optimal old words reply new = Solved old words (λ M limit. ShowsOptimum M limit reply)
-CauseOf Infeasible old words reply new = Solved old words (λ M limit. ShowsEmptiness M limit reply)
+CauseOf Optimal old words reply new = Solved old words (λ M limit. ShowsOptimum M limit reply new.held)
+CauseOf Infeasible old words reply new = Solved old words (λ M limit. ShowsEmptiness M limit reply new.held)
 -- what is known where a search stopped
 CauseOf StoppedNodes old words reply new = Solved old words (λ M limit. ShowsNodeStop M limit reply)
+CauseOf StoppedTree old words reply new = Solved old words (λ M limit. ShowsTreeStop M limit reply)
 CauseOf StoppedWide old words reply new = Solved old words (λ M limit. ShowsWideStop M limit reply)
 -- the model that the file's text means is present from now on; or the script ends
 CauseOf Done old words reply new = Loaded words (λ file intupper. Loads old file intupper reply new) ⊎ ((asks_of words ≡ Quit) × (new ≡ old))
@@ -59,11 +61,14 @@ pub record HasCauses (old : State) (words : List (List ℕ)) (reply : List ℕ) 
   pub is : Is kind reply
   -- and whatever kind its bytes are of, that kind's cause holds
   pub only : (k : Kind) → Is k reply → CauseOf k old words reply new
-  -- completeness: a search that may place as many results as it can, and meets no step without room, ends with an answer
-  pub complete : (M : Program) (limit : ℕ) → asks_of words ≡ Solve limit → old.model ≡ Some M → cap_of M ≤ limit → HasRoom M
-      → ShowsOptimum M limit reply ⊎ ShowsEmptiness M limit reply ⊎ (reply ≡ memory_text)
+  -- completeness: a search that may place as many results as it can, in a tree that may have as many nodes, and meets no
+  -- step without room, ends with an answer
+  pub complete : (M : Program) (limit : ℕ) → asks_of words ≡ Solve limit → old.model ≡ Some M → cap_of M ≤ limit → cap_of M ≤ node_limit → IsJudgeable M
+      → ShowsOptimum M limit reply new.held ⊎ ShowsEmptiness M limit reply new.held ⊎ (reply ≡ memory_text)
   -- every reply but `ok` leaves the model
   pub kept : reply ≢ ok_text → new.model ≡ old.model
+  -- an error, but for want of memory, leaves the answer that is held
+  pub held : (k : Kind) → IsError k → Is k reply → new.held ≡ old.held
 
 -- a step, which says what each command may be answered, and what the reply says for sure
 pub record IsAnswered (old : State) (words : List (List ℕ)) (reply : List ℕ) (new : State) : Type 0 where

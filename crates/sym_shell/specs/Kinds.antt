@@ -5,6 +5,7 @@ pub data Kind : Type 0 where
   Optimal : Kind
   Infeasible : Kind
   StoppedNodes : Kind
+  StoppedTree : Kind
   StoppedWide : Kind
   Done : Kind
   UnknownCommand : Kind
@@ -20,6 +21,7 @@ abbrev pub front_of : Kind → List ℕ
 front_of Optimal = codes "optimal "
 front_of Infeasible = codes "infeasible "
 front_of StoppedNodes = codes "stopped nodes "
+front_of StoppedTree = codes "stopped tree "
 front_of StoppedWide = codes "stopped wide "
 front_of Done = codes "ok\n"
 front_of UnknownCommand = codes "error 02 "
@@ -34,3 +36,20 @@ front_of WantsMemory = codes "error 90 "
 -- the reply is of this kind
 abbrev pub Is : Kind → List ℕ → Type 0
 Is kind reply = (rest : List ℕ) × (reply ≡ front_of kind ++ rest)
+
+-- an error other than want of memory
+abbrev pub IsError : Kind → Type 0
+IsError Optimal = ⊥
+IsError Infeasible = ⊥
+IsError StoppedNodes = ⊥
+IsError StoppedTree = ⊥
+IsError StoppedWide = ⊥
+IsError Done = ⊥
+IsError UnknownCommand = Unit {0}
+IsError WrongArguments = Unit {0}
+IsError NoModel = Unit {0}
+IsError WrongNumber = Unit {0}
+IsError StoreFailed = Unit {0}
+IsError FileTooLong = Unit {0}
+IsError FaultyText = Unit {0}
+IsError WantsMemory = ⊥

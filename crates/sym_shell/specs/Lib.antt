@@ -2,8 +2,10 @@ pub mod Texts
 pub mod State
 pub mod Refusals
 pub mod Load
+pub mod Searched
 pub mod Solve
 pub mod Step
+pub mod Loaded
 pub mod Present
 pub mod Reports
 pub mod Kinds

@@ -45,19 +45,21 @@ refusal_text refusal.FileTooLong = file_too_long_text
 refusal_text (refusal.Faulty line code) = mps_text line code
 refusal_text refusal.Memory = memory_text
 
--- the model that the file's text means is present from now on
+-- the model that the file's text means is present from now on, and no answer is held
 pub record Loads (old : State) (name : List ℕ) (intupper : Option ℕ) (reply : List ℕ) (new : State) : Type 0 where
   pub ok : reply ≡ ok_text
   pub model : Program
   pub read : HasText old.files name (λ text. Meant text intupper model)
   pub present : new.model ≡ Some model
+  pub none_held : new.held ≡ None
 
--- the reply tells why the file's model is refused, and the model that was present stays
+-- the reply tells why the file's model is refused, and the model that was present stays, with the answer that is held
 pub record LoadRefused (old : State) (name : List ℕ) (intupper : Option ℕ) (reply : List ℕ) (new : State) : Type 0 where
   pub refusal : Refusal
   pub told : reply ≡ refusal_text refusal
   pub cause : ReadsFile old.files name intupper old.faults new.faults (Err refusal)
   pub kept : new.model ≡ old.model
+  pub held : new.held ≡ old.held
 
 -- The files stay. An accepted `load` replaces the model, a refused one leaves it.
 pub record LoadStep (old : State) (name : List ℕ) (intupper : Option ℕ) (reply : List ℕ) (new : State) : Type 0 where

@@ -1,8 +1,12 @@
--- The model that a shell holds.
-use Rattle.std.specs.Prelude.{Option}
-use Rattle.std.specs.Option.{option_map}
-use Rattle.lp_model.specs.Program.{Program}
+-- What a shell holds: a model, and the finished search whose answer is held.
+use Rattle.std.specs.Prelude.{if◌then◌else◌, Option, Some, None}
+use Rattle.sym_shell.specs.Loaded.{PlainLoaded}
+use Rattle.sym_shell.specs.State.{Present, nothing_present}
 use Rattle.sym_shell.specs.declared.shell.Shell.{Shell}
 
-abbrev pub present : Shell → Option Program
-present shell = option_map (λ s. s.model) shell.model
+abbrev pub present_of : Option PlainLoaded → Present
+present_of None = nothing_present
+present_of (Some l) = record { model = Some l.search.model; held = if l.held then Some l.search else None }
+
+abbrev pub present : Shell → Present
+present shell = present_of shell.loaded

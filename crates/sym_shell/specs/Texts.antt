@@ -81,6 +81,9 @@ known_text n bound best = decimal n ++ codes " bound " ++ number_or_none bound +
 abbrev pub stopped_nodes_text : ℕ → Option ℚ → Option ℚ → List ℕ
 stopped_nodes_text n bound best = codes "stopped nodes " ++ known_text n bound best
 
+abbrev pub stopped_tree_text : ℕ → Option ℚ → Option ℚ → List ℕ
+stopped_tree_text n bound best = codes "stopped tree " ++ known_text n bound best
+
 abbrev pub column_name : Program → ℕ → List ℕ
 column_name M j = of_element [] (λ c. c.name) M.cols j
 

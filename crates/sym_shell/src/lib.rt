@@ -10,10 +10,11 @@
 //! where something failed, for its first ones, and its status says which.
 //!
 //! Below stand `script_session`, which reads the script and knows no command; `command_words`, which says what a line's
-//! words ask for; `mps_model`, which reads models; and `box_search`, which finds optima. Above stands `sym_main`.
+//! words ask for; `mps_model`, which reads models; and `tree_search`, which searches them. Above stands `sym_main`.
 #![tactic(auto)]
 
 mod command_line;
+mod loaded;
 mod program;
 mod reading;
 mod refusals;

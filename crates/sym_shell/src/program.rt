@@ -1,14 +1,13 @@
 // The top call.
 ghost use Rattle.std.specs.Prelude.{◌≡◌, ◌≢◌, ◌<◌, ◌≤◌, ◌⊎◌, List, ℕ, take, IfSome};
 ghost use Rattle.std.specs.Io.KnownBytes.{Consumes};
-ghost use Rattle.std.specs.Prelude.{Option};
-ghost use Rattle.lp_model.specs.Program.{Program};
 ghost use Rattle.sym_io.specs.Faults.{Rose};
 ghost use Rattle.script_session.specs.Output.{WritesFront};
 ghost use Rattle.script_session.specs.Reply.{status_of};
 ghost use Rattle.script_session.specs.Request.{RequestStep};
 ghost use Rattle.script_session.specs.Script.{script_requests, whole_requests, allowed_requests, IsWithinLimit, IsOverlong};
 ghost use Rattle.script_session.specs.Run.{Answers, IsCutOff, IsCutShort, IsTaken, ReadsNoFurther};
+ghost use Rattle.sym_shell.specs.State.{Present};
 ghost use Rattle.sym_shell.specs.Shell.{quits};
 ghost use Rattle.sym_shell.specs.Causes.{IsAnswered};
 ghost use Rattle.sym_shell.specs.CommandLine.{IsRunForm, TakesWords};
@@ -34,21 +33,21 @@ fn run_commands<R: Source, W: Sink, S: Store>(
     store: &mut S,
 ) -> u8
     ensures known { (result < 2) ⊎ ((2 < result) × (result < 7)) }
-    ensures transcript { result < 2 → IfSome (R.left script.old) (λ input. (model : Option Program) × (replies : List (List ℕ))
-        × Answers (RequestStep IsAnswered) (script_requests quits input) (start (S.files store.old) (S.faults store.old) (W.written out.old)) (end_with model (S.files store.new) (S.faults store.new) (W.written out.new)) replies
+    ensures transcript { result < 2 → IfSome (R.left script.old) (λ input. (present : Present) × (replies : List (List ℕ))
+        × Answers (RequestStep IsAnswered) (script_requests quits input) (start (S.files store.old) (S.faults store.old) (W.written out.old)) (end_with present (S.files store.new) (S.faults store.new) (W.written out.new)) replies
         × (result ≡ status_of replies)) }
     ensures within { result < 2 → IfSome (R.left script.old) (IsWithinLimit quits) }
     ensures source_failed { result ≡ 3 → Rose (R.faults script.old) (R.faults script.new) }
-    ensures until_source_failed { result ≡ 3 → (model : Option Program) × (taken : List ℕ) × IsTaken quits (R.left script.old) (R.left script.new) taken × (replies : List (List ℕ))
-        × Answers (RequestStep IsAnswered) (whole_requests quits taken) (start (S.files store.old) (S.faults store.old) (W.written out.old)) (end_with model (S.files store.new) (S.faults store.new) (W.written out.new)) replies }
+    ensures until_source_failed { result ≡ 3 → (present : Present) × (taken : List ℕ) × IsTaken quits (R.left script.old) (R.left script.new) taken × (replies : List (List ℕ))
+        × Answers (RequestStep IsAnswered) (whole_requests quits taken) (start (S.files store.old) (S.faults store.old) (W.written out.old)) (end_with present (S.files store.new) (S.faults store.new) (W.written out.new)) replies }
     ensures sink_failed { result ≡ 4 → Rose (W.faults out.old) (W.faults out.new) }
-    ensures until_sink_failed { result ≡ 4 → IfSome (R.left script.old) (λ input. (model : Option Program)
-        × IsCutOff (RequestStep IsAnswered) (allowed_requests quits input) (start (S.files store.old) (S.faults store.old) (W.written out.old)) (end_with model (S.files store.new) (S.faults store.new) (W.written out.new))) }
-    ensures until_memory_wanted { result ≡ 5 → IfSome (R.left script.old) (λ input. (model : Option Program)
-        × IsCutShort (RequestStep IsAnswered) (allowed_requests quits input) (start (S.files store.old) (S.faults store.old) (W.written out.old)) (end_with model (S.files store.new) (S.faults store.new) (W.written out.new))) }
+    ensures until_sink_failed { result ≡ 4 → IfSome (R.left script.old) (λ input. (present : Present)
+        × IsCutOff (RequestStep IsAnswered) (allowed_requests quits input) (start (S.files store.old) (S.faults store.old) (W.written out.old)) (end_with present (S.files store.new) (S.faults store.new) (W.written out.new))) }
+    ensures until_memory_wanted { result ≡ 5 → IfSome (R.left script.old) (λ input. (present : Present)
+        × IsCutShort (RequestStep IsAnswered) (allowed_requests quits input) (start (S.files store.old) (S.faults store.old) (W.written out.old)) (end_with present (S.files store.new) (S.faults store.new) (W.written out.new))) }
     ensures too_long { result ≡ 6 → IfSome (R.left script.old) (IsOverlong quits) }
-    ensures until_too_long { result ≡ 6 → IfSome (R.left script.old) (λ input. (model : Option Program) × (replies : List (List ℕ))
-        × Answers (RequestStep IsAnswered) (whole_requests quits (take SCRIPT_LIMIT input)) (start (S.files store.old) (S.faults store.old) (W.written out.old)) (end_with model (S.files store.new) (S.faults store.new) (W.written out.new)) replies) }
+    ensures until_too_long { result ≡ 6 → IfSome (R.left script.old) (λ input. (present : Present) × (replies : List (List ℕ))
+        × Answers (RequestStep IsAnswered) (whole_requests quits (take SCRIPT_LIMIT input)) (start (S.files store.old) (S.faults store.old) (W.written out.old)) (end_with present (S.files store.new) (S.faults store.new) (W.written out.new)) replies) }
     ensures no_further { ReadsNoFurther quits (R.left script.old) (R.left script.new) }
     ensures source_later { R.faults script.old ≤ R.faults script.new }
     ensures sink_later { W.faults out.old ≤ W.faults out.new }
@@ -81,29 +80,29 @@ pub fn run<R: Source, W: Sink, S: Store>(
     ensures run_form { IsRunForm words.now → result ≢ 2 }
 
     // The script came to its end: the replies are those to all that its lines ask.
-    ensures transcript { result < 2 → IfSome (R.left script.old) (λ input. (model : Option Program) × (replies : List (List ℕ))
-        × Answers (RequestStep IsAnswered) (script_requests quits input) (start (S.files store.old) (S.faults store.old) (W.written out.old)) (end_with model (S.files store.new) (S.faults store.new) (W.written out.new)) replies
+    ensures transcript { result < 2 → IfSome (R.left script.old) (λ input. (present : Present) × (replies : List (List ℕ))
+        × Answers (RequestStep IsAnswered) (script_requests quits input) (start (S.files store.old) (S.faults store.old) (W.written out.old)) (end_with present (S.files store.new) (S.faults store.new) (W.written out.new)) replies
         × (result ≡ status_of replies)) }
     ensures within { result < 2 → IfSome (R.left script.old) (IsWithinLimit quits) }
 
     // The source failed: the replies are those to the whole lines of what was taken.
     ensures source_failed { result ≡ 3 → Rose (R.faults script.old) (R.faults script.new) }
-    ensures until_source_failed { result ≡ 3 → (model : Option Program) × (taken : List ℕ) × IsTaken quits (R.left script.old) (R.left script.new) taken × (replies : List (List ℕ))
-        × Answers (RequestStep IsAnswered) (whole_requests quits taken) (start (S.files store.old) (S.faults store.old) (W.written out.old)) (end_with model (S.files store.new) (S.faults store.new) (W.written out.new)) replies }
+    ensures until_source_failed { result ≡ 3 → (present : Present) × (taken : List ℕ) × IsTaken quits (R.left script.old) (R.left script.new) taken × (replies : List (List ℕ))
+        × Answers (RequestStep IsAnswered) (whole_requests quits taken) (start (S.files store.old) (S.faults store.old) (W.written out.old)) (end_with present (S.files store.new) (S.faults store.new) (W.written out.new)) replies }
 
     // The sink failed: what is written is a front of the replies to first requests.
     ensures sink_failed { result ≡ 4 → Rose (W.faults out.old) (W.faults out.new) }
-    ensures until_sink_failed { result ≡ 4 → IfSome (R.left script.old) (λ input. (model : Option Program)
-        × IsCutOff (RequestStep IsAnswered) (allowed_requests quits input) (start (S.files store.old) (S.faults store.old) (W.written out.old)) (end_with model (S.files store.new) (S.faults store.new) (W.written out.new))) }
+    ensures until_sink_failed { result ≡ 4 → IfSome (R.left script.old) (λ input. (present : Present)
+        × IsCutOff (RequestStep IsAnswered) (allowed_requests quits input) (start (S.files store.old) (S.faults store.old) (W.written out.old)) (end_with present (S.files store.new) (S.faults store.new) (W.written out.new))) }
 
     // Memory was wanting: first requests were answered, and all but at most the last of their replies are written.
-    ensures until_memory_wanted { result ≡ 5 → IfSome (R.left script.old) (λ input. (model : Option Program)
-        × IsCutShort (RequestStep IsAnswered) (allowed_requests quits input) (start (S.files store.old) (S.faults store.old) (W.written out.old)) (end_with model (S.files store.new) (S.faults store.new) (W.written out.new))) }
+    ensures until_memory_wanted { result ≡ 5 → IfSome (R.left script.old) (λ input. (present : Present)
+        × IsCutShort (RequestStep IsAnswered) (allowed_requests quits input) (start (S.files store.old) (S.faults store.old) (W.written out.old)) (end_with present (S.files store.new) (S.faults store.new) (W.written out.new))) }
 
     // A byte too many came: the replies are those to the whole lines among the bytes that are allowed.
     ensures too_long { result ≡ 6 → IfSome (R.left script.old) (IsOverlong quits) }
-    ensures until_too_long { result ≡ 6 → IfSome (R.left script.old) (λ input. (model : Option Program) × (replies : List (List ℕ))
-        × Answers (RequestStep IsAnswered) (whole_requests quits (take SCRIPT_LIMIT input)) (start (S.files store.old) (S.faults store.old) (W.written out.old)) (end_with model (S.files store.new) (S.faults store.new) (W.written out.new)) replies) }
+    ensures until_too_long { result ≡ 6 → IfSome (R.left script.old) (λ input. (present : Present) × (replies : List (List ℕ))
+        × Answers (RequestStep IsAnswered) (whole_requests quits (take SCRIPT_LIMIT input)) (start (S.files store.old) (S.faults store.old) (W.written out.old)) (end_with present (S.files store.new) (S.faults store.new) (W.written out.new)) replies) }
 
     // Nothing is read after the read that brought a byte too many, and no count of faults falls.
     ensures no_further { ReadsNoFurther quits (R.left script.old) (R.left script.new) }

@@ -51,15 +51,7 @@ impl From<MpsFault> for Refusal {
     }
 }
 
-/// A model that can be searched: each column is integer with two bounds, and its names are words of a reply.
-#[derive(Drop)]
-pub struct SearchableModel {
-    pub(crate) model: Model,
-    ghost bounded: { is_bounded model ≡ true },
-    ghost plain: { HasPlainNames model },
-}
-
-/// The model of the named file. An integer column without an upper bound has `intupper`, if that is handed in.
+/// The model of the named file: each column is integer with two bounds, and its names are words of a reply. An integer column without an upper bound has `intupper`, if that is handed in.
 pub(crate) fn read_model<S: Store>(
     alloc: Global,
     store: &mut S,

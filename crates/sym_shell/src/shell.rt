@@ -1,37 +1,39 @@
 // The machine behind the script: the model that is present, and what a command does to it.
-ghost use Rattle.std.specs.Prelude.{◌≡◌, true, [], OnOk, OnErr, ℕ, List, map, None};
+ghost use Rattle.std.specs.Prelude.{◌≡◌, true, false, [], OnOk, OnErr, ℕ, List, map, Some};
 ghost use Rattle.command_words.specs.Names.{is_file_name};
 ghost use Rattle.command_words.specs.Asks.{asks_shown, NamesFile};
 ghost use Rattle.sym_shell.specs.Texts.{memory_text};
 ghost use Rattle.sym_shell.specs.State.{state};
+ghost use Rattle.sym_shell.specs.Present.{present_of};
 ghost use Rattle.sym_shell.specs.Load.{LoadStep};
 ghost use Rattle.sym_shell.specs.Solve.{Solves, Shows};
 ghost use Rattle.sym_shell.specs.Step.{AnswersTo};
 ghost use Rattle.sym_shell.specs.Shell.{is_quit};
 
-use crate::reading::{SearchableModel, read_model};
+use crate::loaded::Loaded;
+use crate::reading::read_model;
 use crate::refusals::{write_no_number, write_refusal, write_unknown};
 use crate::texts::write_outcome;
-use box_search::search;
 use command_words::{Asked, read_words};
 use script_session::Machine;
 use std::alloc::{AllocError, Global};
 use sym_io::Store;
 
-/// The solver's state between commands: the model that is present, if one was loaded.
+/// The solver's state between commands: the model that is present with its search, if one was loaded.
 #[derive(Drop)]
 pub struct Shell {
-    model: Option<SearchableModel>,
+    loaded: Option<Loaded>,
 }
 
 impl Shell {
+    ghost use Rattle.sym_shell.specs.State.{nothing_present};
     ghost use Rattle.sym_shell.specs.Present.{present};
 
     /// No model is present.
     pub fn new() -> Shell
-        ensures { present result ≡ None }
+        ensures { present result ≡ nothing_present }
     {
-        Shell { model: None }
+        Shell { loaded: None }
     }
 
     /// Replaces the model by the file's.
@@ -52,8 +54,9 @@ impl Shell {
     {
         match read_model(alloc, store, name, intupper) {
             Ok(model) => {
+                let loaded = Loaded::new(alloc, model)?;
                 reply.extend_from_slice(b"ok\n")?;
-                self.model = Some(SearchableModel { model });
+                self.loaded = Some(loaded);
                 Ok(())
             }
             Err(refusal) => write_refusal(reply, refusal),
@@ -61,13 +64,14 @@ impl Shell {
     }
 
     /// Searches the model that is present.
-    fn solve(&self, alloc: Global, limit: u64, reply: &mut Vec<u8>) -> Result<(), AllocError>
+    fn solve(&mut self, alloc: Global, limit: u64, reply: &mut Vec<u8>) -> Result<(), AllocError>
         requires { reply.old.items ≡ [] }
-        ensures answered { OnOk result (Solves (present self.now) limit reply.new.items) }
-        ensures unfinished { OnErr result (Solves (present self.now) limit memory_text) }
+        ensures model { (present self.new).model ≡ (present self.old).model }
+        ensures answered { OnOk result (Solves (present self.old).model limit reply.new.items (present self.old).held (present self.new).held) }
+        ensures unfinished { OnErr result (Solves (present self.old).model limit memory_text (present self.old).held (present self.new).held) }
     {
-        match &self.model {
-            Some(searchable) => answer_search(alloc, searchable, limit, reply),
+        match &mut self.loaded {
+            Some(loaded) => answer_search(alloc, loaded, limit, reply),
             None => reply.extend_from_slice(b"error 04 no model\n"),
         }
     }
@@ -127,19 +131,26 @@ fn is_quit(asked: Asked<'_>) -> bool
     matches!(asked, Asked::Quit)
 }
 
-/// Writes what a search of the model shows.
+/// Writes what a search of the model shows. No answer is held of a search whose reply could not be written.
 fn answer_search(
     alloc: Global,
-    searchable: &SearchableModel,
+    loaded: &mut Loaded,
     limit: u64,
     reply: &mut Vec<u8>,
 ) -> Result<(), AllocError>
     requires { reply.old.items ≡ [] }
-    ensures { OnOk result (Shows searchable.now.model limit reply.new.items) }
+    ensures model { loaded.new.search.model ≡ loaded.old.search.model }
+    ensures answered { OnOk result (Shows loaded.old.search.model limit reply.new.items (present_of (Some loaded.new)).held) }
+    ensures unfinished { OnErr result (loaded.new.held ≡ false) }
 {
-    let _lawful = searchable.model.cols();
-    match search(alloc, &searchable.model, limit) {
-        Ok(outcome) => write_outcome(reply, &searchable.model, &outcome),
+    match loaded.solve(alloc, limit) {
+        Ok(outcome) => {
+            let written = write_outcome(reply, loaded.model(), &outcome);
+            if written.is_err() {
+                loaded.drop_answer();
+            }
+            written
+        }
         Err(AllocError) => reply.extend_from_slice(b"error 90 memory\n"),
     }
 }

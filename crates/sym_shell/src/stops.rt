@@ -1,7 +1,7 @@
 // The bytes of the reply where a search stopped.
 ghost use Rattle.std.specs.Prelude.{◌≡◌, ◌++◌, suc, codes, decimal, IfOk};
 ghost use Rattle.std.specs.Fmt.{signed_decimal};
-ghost use Rattle.sym_shell.specs.Texts.{number_or_none, known_text, stopped_nodes_text, column_name, row_name, relation_text, change_text, changes_text, path_line, variable_text, value_step_text, step_text, step_line, stopped_wide_text};
+ghost use Rattle.sym_shell.specs.Texts.{number_or_none, known_text, stopped_nodes_text, stopped_tree_text, column_name, row_name, relation_text, change_text, changes_text, path_line, variable_text, value_step_text, step_text, step_line, stopped_wide_text};
 
 use frac128::Frac;
 use lp_model::{BoundChange, ColId, Model, Region, RowId, Side, Var, WideStep};
@@ -46,6 +46,20 @@ pub(crate) fn write_stopped_nodes(
     ensures { IfOk result (λ _. reply.new.items ≡ reply.old.items ++ stopped_nodes_text placed bound.now best.now) }
 {
     reply.extend_from_slice(b"stopped nodes ")?;
+    write_known(reply, placed, bound, best)?;
+    Ok(())
+}
+
+/// A search stopped where a leaf is to be split and the tree has no room for two more nodes.
+pub(crate) fn write_stopped_tree(
+    reply: &mut Vec<u8>,
+    placed: u64,
+    bound: &Option<Frac>,
+    best: &Option<Frac>,
+) -> Result<(), AllocError>
+    ensures { IfOk result (λ _. reply.new.items ≡ reply.old.items ++ stopped_tree_text placed bound.now best.now) }
+{
+    reply.extend_from_slice(b"stopped tree ")?;
     write_known(reply, placed, bound, best)?;
     Ok(())
 }

@@ -6,11 +6,11 @@ ghost use Rattle.lp_model.specs.Program.{value};
 ghost use Rattle.sym_shell.specs.Reports.{Reports, ReportsOptimum, FitsFinding};
 ghost use Rattle.sym_shell.specs.Texts.{value_line, column_line, column_lines, infeasible_text};
 
-use crate::stops::{write_stopped_nodes, write_stopped_wide};
-use box_search::{Outcome, StopWhy};
+use crate::stops::{write_stopped_nodes, write_stopped_tree, write_stopped_wide};
 use frac128::Frac;
 use lp_model::{Col, Model, Point};
 use std::alloc::AllocError;
+use tree_search::{Outcome, StopWhy};
 
 fn write_infeasible(reply: &mut Vec<u8>, placed: u64) -> Result<(), AllocError>
     ensures { IfOk result (λ _. reply.new.items ≡ reply.old.items ++ infeasible_text placed) }
@@ -113,6 +113,7 @@ pub(crate) fn write_outcome(
             best,
         } => match why {
             StopWhy::Nodes => write_stopped_nodes(reply, *placed, bound, best),
+            StopWhy::Tree => write_stopped_tree(reply, *placed, bound, best),
             StopWhy::Wide { path, step } => {
                 write_stopped_wide(reply, model, *placed, bound, best, path, step)
             }
