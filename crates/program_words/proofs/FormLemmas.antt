@@ -1,0 +1,69 @@
+-- What the faults of the command line's words say.
+use Rattle.std.proofs.Common.{◌≡◌, List, [], ◌∷◌, map, inl, inr, refl, sym, ◌∙◌, ap, true, codes, Option}
+use Rattle.std.specs.Prelude.{String}
+use Rattle.std.specs.String.{string_bytes}
+use Rattle.std.specs.declared.alloc.Global.{Global}
+use Rattle.clap.specs.Words.{App, Row, Text, HasKind, IsAmong, Kinds, fault_of, is_simple, is_simple_and_free, kind_of, subcommand_of}
+use Rattle.clap.specs.declared.error.Error.{Error}
+use Rattle.clap.specs.declared.error.ErrorKind.{ErrorKind}
+use Rattle.clap.specs.declared.error.ErrorKind.TheVariants.{OutOfMemory}
+use Rattle.clap.proofs.OnLiterals.{clap_on_literals}
+use Rattle.program_words.specs.Forms.{AskedForm, Script, symphony, TakesWords, asked_by, asked_form}
+use Rattle.program_words.specs.Laws.{AsksScript, RunLaw}
+
+is_simple_app : is_simple symphony ≡ true
+unfolding clap_on_literals
+is_simple_app = refl
+
+is_read : is_simple_and_free symphony ≡ true
+unfolding clap_on_literals
+is_read = refl
+
+none_among : (k : ErrorKind) (kinds : Kinds) → kinds ≡ [] → IsAmong k kinds → ⊥
+none_among k [] none among = among
+none_among k (x ∷ xs) none among = absurd (cc)
+
+pub taken : (app : App) (words : List (String Global)) → app ≡ symphony
+    → (is_simple_and_free app ≡ true → fault_of app (map string_bytes words) ≡ []) → TakesWords words
+unfolding TakesWords
+taken app words same h = ap (λ (a : App). fault_of a (map string_bytes words)) (sym same) ∙ h (ap is_simple_and_free same ∙ is_read)
+
+pub refused : (app : App) (words : List (String Global)) (error : Error) → app ≡ symphony
+    → (is_simple_and_free app ≡ true → HasKind (fault_of app (map string_bytes words)) error)
+    → (kind_of error ≡ OutOfMemory → ⊥) → TakesWords words → ⊥
+unfolding TakesWords
+refused app words error same h other takes =
+    elim (h (ap is_simple_and_free same ∙ is_read)) [
+      | inl memory ↦ other memory
+      | inr among ↦ none_among (kind_of error) (fault_of app (map string_bytes words)) (ap (λ (a : App). fault_of a (map string_bytes words)) same ∙ takes) among
+    ]
+
+-- the program's name and `run` are taken
+run_alone : (name : Text) → fault_of symphony (name ∷ codes "run" ∷ []) ≡ []
+unfolding clap_on_literals
+run_alone name = refl
+
+run_asks : (name : Text) → asked_by (subcommand_of symphony (name ∷ codes "run" ∷ [])) ≡ Script
+unfolding clap_on_literals
+run_asks name = refl
+
+run_form : (name word : String Global) → string_bytes word ≡ codes "run" → AsksScript (name ∷ word ∷ [])
+unfolding TakesWords asked_form
+run_form name word form = record {
+  taken = ap (λ (bytes : Text). fault_of symphony (string_bytes name ∷ bytes ∷ [])) form ∙ run_alone (string_bytes name);
+  script = ap (λ (bytes : Text). asked_by (subcommand_of symphony (string_bytes name ∷ bytes ∷ []))) form ∙ run_asks (string_bytes name);
+}
+
+pub run_law : RunLaw
+run_law [] form = absurd form
+run_law (name ∷ []) form = absurd form
+run_law (name ∷ word ∷ []) form = run_form name word form
+run_law (name ∷ word ∷ other ∷ words) form = absurd form
+
+-- ---- what is asked for
+
+pub asked : (app : App) (words : List (String Global)) (form : AskedForm) (rows : Option (Text × List Row)) → app ≡ symphony
+    → (is_simple app ≡ true → rows ≡ subcommand_of app (map string_bytes words)) → form ≡ asked_by rows → form ≡ asked_form words
+unfolding asked_form
+asked app words form rows same h is =
+    is ∙ ap asked_by (h (ap is_simple same ∙ is_simple_app) ∙ ap (λ (a : App). subcommand_of a (map string_bytes words)) same)

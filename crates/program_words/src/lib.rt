@@ -1,0 +1,22 @@
+//! What the words of the command line ask the program to do.
+//!
+//! The words are the program's name and one of the forms
+//!
+//! ```text
+//! run                    the commands of a script are to be answered
+//! check MODEL CERT       a certificate is to be checked, MODEL and CERT being names of files
+//! ```
+//!
+//! as `clap` reads them: a command without help and version, which needs one of its two subcommands.
+//!
+//! Contract in one sentence: `form_of` answers what the words ask for (`asked_form`, a function of what `clap` finds in
+//! them), and refuses them exactly where `clap` finds a fault (`TakesWords`).
+//!
+//! Below stands `clap`; above stands `sym_shell`, which does what is asked.
+#![tactic(auto)]
+
+mod laws;
+mod words;
+
+pub use laws::run_law;
+pub use words::{Form, WordsFault, form_of};

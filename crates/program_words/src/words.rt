@@ -1,0 +1,114 @@
+// The words of the command line.
+ghost use Rattle.std.specs.Prelude.{◌≡◌, false, IfOk, IsErrOf};
+ghost use Rattle.clap.specs.Words.{app_of, found_of, subcommand_rows_of};
+ghost use Rattle.clap.specs.Walk.{rows_of};
+ghost use Rattle.clap.specs.declared.builder.command.Command.TheViews.{out-Command};
+ghost use Rattle.program_words.specs.Forms.{run_app, check_app, symphony, TakesWords, asked_by, asked_form, form_shown, text_in};
+ghost use Rattle.program_words.specs.declared.words.WordsFault.TheVariants.{Memory};
+
+use clap::error::ErrorKind;
+use clap::{Arg, ArgMatches, Command};
+use std::alloc::{AllocError, Global};
+
+/// What the words ask the program to do.
+#[derive(Clone, Copy, Debug, PartialEq, Eq)]
+pub enum Form<'a> {
+    /// To answer the commands of a script.
+    Run,
+    /// To check a certificate, both being names of files.
+    Check { model: &'a str, cert: &'a str },
+}
+
+/// Why the words have no form.
+#[derive(Clone, Copy, Debug, PartialEq, Eq)]
+pub enum WordsFault {
+    /// They are none of the program's forms.
+    Refused,
+    /// Memory was wanting to read them.
+    Memory,
+}
+
+impl From<AllocError> for WordsFault {
+    ghost from_gives = { λ _ fault. fault ≡ Memory };
+
+    fn from(_: AllocError) -> Self {
+        WordsFault::Memory
+    }
+}
+
+/// The form `run`.
+fn run_command<'a>(alloc: Global) -> Command<'a>
+    ensures app { app_of result ≡ run_app }
+    ensures local { (out-Command result).has_globals ≡ false }
+{
+    Command::new(alloc, "run")
+}
+
+/// The form `check MODEL CERT`.
+fn check_command<'a>(alloc: Global) -> Result<Command<'a>, AllocError>
+    ensures app { IfOk result (λ command. app_of command ≡ check_app) }
+    ensures local { IfOk result (λ command. (out-Command command).has_globals ≡ false) }
+{
+    let model = Arg::new(alloc, "MODEL").required(true);
+    let cert = Arg::new(alloc, "CERT").required(true);
+    Command::new(alloc, "check").arg(model)?.arg(cert)
+}
+
+/// The command line: the program's name and a subcommand for each form. Help and the version are no subcommands or flags:
+/// other words have the usage line.
+fn command_line<'a>(alloc: Global) -> Result<Command<'a>, AllocError>
+    ensures { IfOk result (λ command. app_of command ≡ symphony) }
+{
+    let check = check_command(alloc)?;
+    Command::new(alloc, "symphony")
+        .disable_help_flag(true)
+        .disable_version_flag(true)
+        .disable_help_subcommand(true)
+        .subcommand_required(true)
+        .subcommand(run_command(alloc))?
+        .subcommand(check)
+}
+
+/// The value of an argument, or no text where it has none.
+fn value_of<'a>(matches: &ArgMatches<'a>, name: &str) -> &'a str
+    ensures { result.now ≡ text_in name.now (rows_of (found_of matches.now)) }
+{
+    match matches.get_str(name) {
+        Some(value) => value,
+        None => "",
+    }
+}
+
+/// What the matches ask for.
+fn form_in<'a>(matches: &ArgMatches<'a>) -> Form<'a>
+    ensures { form_shown result ≡ asked_by (subcommand_rows_of matches.now) }
+{
+    match matches.subcommand() {
+        Some((name, values)) => {
+            if name == "check" {
+                Form::Check {
+                    model: value_of(values, "MODEL"),
+                    cert: value_of(values, "CERT"),
+                }
+            } else {
+                Form::Run
+            }
+        }
+        None => Form::Run,
+    }
+}
+
+/// What the words ask for, of which the first is the program's name.
+pub fn form_of<'a>(alloc: Global, words: &'a [String]) -> Result<Form<'a>, WordsFault>
+    ensures taken { IfOk result (λ _. TakesWords words.now) }
+    ensures asked { IfOk result (λ form. form_shown form ≡ asked_form words.now) }
+    ensures refused { IsErrOf result WordsFault.Refused → ¬ (TakesWords words.now) }
+{
+    match command_line(alloc)?.try_get_matches_from(words) {
+        Ok(matches) => Ok(form_in(&matches)),
+        Err(error) => match error.kind() {
+            ErrorKind::OutOfMemory => Err(WordsFault::Memory),
+            _ => Err(WordsFault::Refused),
+        },
+    }
+}
