@@ -6,7 +6,7 @@ use Rattle.std.proofs.lemmas.Grind.{common_steps}
 use Rattle.command_words.specs.Names.{command_of, is_file_name, number_of}
 use Rattle.command_words.specs.declared.words.CommandName.{CommandName}
 use Rattle.command_words.specs.declared.words.CommandName.TheVariants as name
-use Rattle.command_words.specs.Asks.{Asks, Load, Solve, Misused, with_number, load_asks, solve_asks, quit_asks, command_asks, asks_of, NamesFile}
+use Rattle.command_words.specs.Asks.{Asks, Load, Solve, Cert, Misused, with_number, load_asks, solve_asks, cert_asks, quit_asks, command_asks, asks_of, NamesFile}
 
 abbrev nows : List (Bor (List ℕ)) → List (List ℕ)
 nows words = map (λ word. word.now) words
@@ -64,6 +64,15 @@ solve_asks-named (key ∷ number ∷ []) = by (bytes_eq key (codes "nodes"))
     by false = tt
 solve_asks-named (key ∷ number ∷ other ∷ more) = tt
 
+cert_asks-named : (arguments : List (List ℕ)) → NamesFile (cert_asks arguments)
+cert_asks-named [] = tt
+cert_asks-named (file ∷ []) = by (is_file_name file) refl
+  where
+    by : (b : Bool) → is_file_name file ≡ b → NamesFile (if b then Cert file else Misused)
+    by true e = e
+    by false e = tt
+cert_asks-named (file ∷ other ∷ more) = tt
+
 quit_asks-named : (arguments : List (List ℕ)) → NamesFile (quit_asks arguments)
 quit_asks-named [] = tt
 quit_asks-named (word ∷ more) = tt
@@ -71,6 +80,7 @@ quit_asks-named (word ∷ more) = tt
 command_asks-named : (c : Option CommandName) (word : List ℕ) (arguments : List (List ℕ)) → NamesFile (command_asks c word arguments)
 command_asks-named (Some name.Load) word arguments = load_asks-named arguments
 command_asks-named (Some name.Solve) word arguments = solve_asks-named arguments
+command_asks-named (Some name.Cert) word arguments = cert_asks-named arguments
 command_asks-named (Some name.Quit) word arguments = quit_asks-named arguments
 command_asks-named None word arguments = tt
 

@@ -12,6 +12,8 @@ pub data Asks : Type 0 where
   Load : (file : List ℕ) (intupper : Option ℕ) → Asks
   -- a search of the model that is present, which may place this many results
   Solve : (limit : ℕ) → Asks
+  -- the certificate of the answer that is held, as this file
+  Cert : (file : List ℕ) → Asks
   Quit : Asks
   -- the first word is no command
   Unknown : (word : List ℕ) → Asks
@@ -42,6 +44,11 @@ solve_asks [] = Solve no_limit
 solve_asks (key ∷ number ∷ []) = if bytes_eq key (codes "nodes") then with_number number (number_of number) Solve else Misused
 solve_asks arguments = Misused
 
+-- `cert F`
+abbrev pub cert_asks : List (List ℕ) → Asks
+cert_asks (file ∷ []) = if is_file_name file then Cert file else Misused
+cert_asks arguments = Misused
+
 -- `quit`
 abbrev pub quit_asks : List (List ℕ) → Asks
 quit_asks [] = Quit
@@ -50,6 +57,7 @@ quit_asks arguments = Misused
 abbrev pub command_asks : Option CommandName → List ℕ → List (List ℕ) → Asks
 command_asks (Some name.Load) word arguments = load_asks arguments
 command_asks (Some name.Solve) word arguments = solve_asks arguments
+command_asks (Some name.Cert) word arguments = cert_asks arguments
 command_asks (Some name.Quit) word arguments = quit_asks arguments
 command_asks None word arguments = Unknown word
 
@@ -62,6 +70,7 @@ asks_of (word ∷ arguments) = command_asks (command_of word) word arguments
 abbrev pub asks_shown : Asked → Asks
 asks_shown (asked.Load file intupper) = Load file.now intupper
 asks_shown (asked.Solve limit) = Solve limit
+asks_shown (asked.Cert file) = Cert file.now
 asks_shown asked.Quit = Quit
 asks_shown (asked.Unknown word) = Unknown word.now
 asks_shown asked.Misused = Misused
@@ -71,6 +80,7 @@ asks_shown (asked.NoNumber word) = NoNumber word.now
 abbrev pub NamesFile : Asks → Type 0
 NamesFile (Load file intupper) = is_file_name file ≡ true
 NamesFile (Solve limit) = Unit {0}
+NamesFile (Cert file) = is_file_name file ≡ true
 NamesFile Quit = Unit {0}
 NamesFile (Unknown word) = Unit {0}
 NamesFile Misused = Unit {0}

@@ -4,13 +4,14 @@ use Rattle.std.specs.List.{list_all}
 use Rattle.std.specs.Str.{bytes_eq}
 use Rattle.std.specs.Str.Parse.{digits_value}
 use Rattle.command_words.specs.declared.words.CommandName.{CommandName}
-use Rattle.command_words.specs.declared.words.CommandName.TheVariants.{Load, Solve, Quit}
+use Rattle.command_words.specs.declared.words.CommandName.TheVariants.{Load, Solve, Cert, Quit}
 
 -- the command that a first word names
 abbrev pub command_of : List ℕ → Option CommandName
 command_of word =
     if bytes_eq word (codes "load") then Some Load
     else if bytes_eq word (codes "solve") then Some Solve
+    else if bytes_eq word (codes "cert") then Some Cert
     else if bytes_eq word (codes "quit") then Some Quit
     else None
 

@@ -7,6 +7,7 @@
 //! load F intupper N      the same, each integer column without an upper bound having the bound N
 //! solve                  a search without a limit
 //! solve nodes N          a search that may place N results
+//! cert F                 the certificate of the held answer, as file F
 //! quit                   the end of the script
 //! ```
 //!
@@ -21,4 +22,4 @@
 
 mod words;
 
-pub use words::{Asked, CommandName, file_name, read_words};
+pub use words::{Asked, CommandName, file_name, is_file_name_word, read_words};

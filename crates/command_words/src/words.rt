@@ -2,13 +2,14 @@
 ghost use Rattle.std.specs.Prelude.{◌≡◌, true, map, [], ◌∷◌};
 ghost use Rattle.std.specs.List.{list_all};
 ghost use Rattle.command_words.specs.Names.{command_of, begins_name, is_file_name, is_name_byte, number_of};
-ghost use Rattle.command_words.specs.Asks.{asks_of, asks_shown, load_asks, solve_asks, quit_asks, NamesFile};
+ghost use Rattle.command_words.specs.Asks.{asks_of, asks_shown, load_asks, solve_asks, cert_asks, quit_asks, NamesFile};
 
 /// The commands that there are.
 #[derive(Clone, Copy, Debug, PartialEq, Eq)]
 pub enum CommandName {
     Load,
     Solve,
+    Cert,
     Quit,
 }
 
@@ -23,6 +24,10 @@ pub enum Asked<'a> {
     /// A search of the model that is present, which may place this many results.
     Solve {
         limit: u64,
+    },
+    /// The certificate of the answer that is held, as a file.
+    Cert {
+        file: &'a [u8],
     },
     /// The end of the script.
     Quit,
@@ -46,6 +51,8 @@ fn command_named(word: &[u8]) -> Option<CommandName>
         Some(CommandName::Load)
     } else if word == b"solve".as_slice() {
         Some(CommandName::Solve)
+    } else if word == b"cert".as_slice() {
+        Some(CommandName::Cert)
     } else if word == b"quit".as_slice() {
         Some(CommandName::Quit)
     } else {
@@ -74,8 +81,8 @@ fn has_name_bytes(word: &[u8]) -> bool
     word.iter().all(|byte| is_letter_digit_or_mark(*byte))
 }
 
-/// 1 to 255 letters, digits, `.`, `_` and `-`, not beginning with `.` or `-`.
-fn is_file_name_word(word: &[u8]) -> bool
+/// Whether a word is a file name: 1 to 255 letters, digits, `.`, `_` and `-`, not beginning with `.` or `-`.
+pub fn is_file_name_word(word: &[u8]) -> bool
     ensures { result ≡ is_file_name word.now }
 {
     begins_as_name(word) && word.len() <= 255 && has_name_bytes(word)
@@ -175,6 +182,27 @@ fn solve_asked<'a>(arguments: &[&'a [u8]]) -> Asked<'a>
     }
 }
 
+/// What `cert F` asks for.
+fn named_cert(file: &[u8]) -> Asked<'_>
+    ensures { asks_shown result ≡ cert_asks (file.now ∷ []) }
+{
+    if is_file_name_word(file) {
+        Asked::Cert { file }
+    } else {
+        Asked::Misused
+    }
+}
+
+/// What `cert` with these further words asks for.
+fn cert_asked<'a>(arguments: &[&'a [u8]]) -> Asked<'a>
+    ensures { asks_shown result ≡ cert_asks (map (λ word. word.now) arguments.now) }
+{
+    match arguments {
+        [file] => named_cert(file),
+        _ => Asked::Misused,
+    }
+}
+
 /// What `quit` with these further words asks for.
 fn quit_asked<'a>(arguments: &[&'a [u8]]) -> Asked<'a>
     ensures { asks_shown result ≡ quit_asks (map (λ word. word.now) arguments.now) }
@@ -196,6 +224,7 @@ pub fn read_words<'a>(words: &[&'a [u8]]) -> Asked<'a>
     match command_named(word) {
         Some(CommandName::Load) => load_asked(arguments),
         Some(CommandName::Solve) => solve_asked(arguments),
+        Some(CommandName::Cert) => cert_asked(arguments),
         Some(CommandName::Quit) => quit_asked(arguments),
         None => Asked::Unknown { word },
     }

@@ -101,9 +101,9 @@ text_one_line line h = by line.ended
 -- ---- entries
 
 -- its words are plain, and there is one
-record IsPlainEntry (e : Entry) : Type 0 where
-  all : All IsPlainName e.words
-  some : 0 < length e.words
+pub record IsPlainEntry (e : Entry) : Type 0 where
+  pub all : All IsPlainName e.words
+  pub some : 0 < length e.words
 
 abbrev IsPlainItem : Item → Type 0
 IsPlainItem (Ok e) = IsPlainEntry e
@@ -153,7 +153,7 @@ plain_before (e ∷ before) last after h =
     All-cons IsPlainEntry e (before ++ last ∷ []) (All-head IsPlainItem (Ok e) (map Ok before ++ Ok last ∷ after) h)
     (plain_before before last after (All-tail IsPlainItem (Ok e) (map Ok before ++ Ok last ∷ after) h))
 
-plain_entries : (text : List ℕ) (entries : List Entry) → IsWhole [] (records_of text) entries → All IsPlainEntry entries
+pub plain_entries : (text : List ℕ) (entries : List Entry) → IsWhole [] (records_of text) entries → All IsPlainEntry entries
 plain_entries text entries w =
     All-same IsPlainEntry entries (w.before ++ w.last ∷ []) w.all
     (plain_before w.before w.last w.after (All-same IsPlainItem (map Ok w.before ++ Ok w.last ∷ w.after) (records_of text) (sym w.parts) (plain_records text)))

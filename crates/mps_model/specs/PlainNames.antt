@@ -13,3 +13,7 @@ pub record IsPlainName (name : List ℕ) : Type 0 where
 -- the names of the columns
 abbrev pub HasPlainNames : Program → Type 0
 HasPlainNames M = All (λ c. IsPlainName c.name) M.cols
+
+-- the names of the rows
+abbrev pub HasPlainRows : Program → Type 0
+HasPlainRows M = All (λ r. IsPlainName r.name) M.rows

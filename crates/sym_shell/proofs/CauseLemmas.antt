@@ -1,22 +1,24 @@
 -- Each reply has its exact cause.
-use Rattle.std.proofs.Common.{◌≡◌, ◌≢◌, ◌⊎◌, ℕ, ◌≤◌, List, [], ◌∷◌, ◌++◌, refl, sym, subst, ap, inl, inr, arith, Option, Some, None, Err}
-use Rattle.std.specs.Prelude.{codes, decimal}
+use Rattle.std.proofs.Common.{◌≡◌, ◌≢◌, ◌⊎◌, ℕ, ◌≤◌, List, [], ◌∷◌, ◌++◌, refl, sym, subst, ap, inl, inr, arith, ◌∙◌, Option, Some, None, Err}
+use Rattle.std.specs.Prelude.{codes, decimal, IsSome}
 use Rattle.rational.specs.Rational.{ℚ}
 use Rattle.frac128.specs.Printing.{printed}
 use Rattle.lp_model.specs.Program.{Program, value}
 use Rattle.tree_edit.specs.Sound.{PlainSearch}
 use Rattle.tree_search.specs.Causes.{IsJudgeable}
 use Rattle.tree_search.specs.Work.{cap_of}
-use Rattle.command_words.specs.Asks.{Asks, Load, Solve, Quit, Unknown, Misused, NoNumber, asks_of}
+use Rattle.command_words.specs.Asks.{Asks, Load, Solve, Cert, Quit, Unknown, Misused, NoNumber, asks_of}
 use Rattle.sym_shell.specs.Searched.{node_limit}
 use Rattle.sym_shell.specs.State.{State}
 use Rattle.sym_shell.specs.Texts.{ok_text, unknown_text, arguments_text, number_text, memory_text, column_lines, number_or_none, known_text, path_line, step_line}
 use Rattle.sym_shell.specs.Load.{LoadStep, Loads, LoadRefused, ReadsFile, refusal_text}
 use Rattle.sym_shell.specs.Solve.{ShowsOptimum, ShowsEmptiness, Shows, Optimum, Emptiness, NodeStop, TreeStop, WideStop, Wanting, Solves, SolveStep}
 use Rattle.sym_shell.specs.Shown.{point_shown}
+use Rattle.sym_shell.specs.Certify.{Writes, Written, TooLong, Failed, Certifies, CertStep}
+use Rattle.sym_shell.specs.Certify as certify
 use Rattle.sym_shell.specs.Step.{IsRefused, AnswersTo, Step}
-use Rattle.sym_shell.specs.Kinds.{Kind, Optimal, Infeasible, StoppedNodes, StoppedTree, StoppedWide, Done, UnknownCommand, WrongArguments, NoModel, WrongNumber, StoreFailed, FileTooLong, FaultyText, WantsMemory, Is, IsError}
-use Rattle.sym_shell.specs.Causes.{Solved, Loaded, Refused, CauseOf, HasCauses}
+use Rattle.sym_shell.specs.Kinds.{Kind, Optimal, Infeasible, StoppedNodes, StoppedTree, StoppedWide, Done, UnknownCommand, WrongArguments, NoModel, WrongNumber, NoAnswer, StoreFailed, FileTooLong, FaultyText, WantsMemory, Is, IsError}
+use Rattle.sym_shell.specs.Causes.{Solved, Loaded, Certified, NeedsModel, Refused, CauseOf, HasCauses}
 use Rattle.sym_shell.specs.declared.reading.Refusal.{Refusal}
 use Rattle.sym_shell.specs.declared.reading.Refusal.TheVariants as refusal
 use Rattle.sym_shell.proofs.KindLemmas.{one_kind}
@@ -38,13 +40,13 @@ module _ (old : State) (words : List (List ℕ)) (reply : List ℕ) (new : State
   load_cause : (file : List ℕ) (intupper : Option ℕ) → asks_of words ≡ Load file intupper → LoadStep old file intupper reply new → HasCause old words reply new
   load_cause file intupper asked h =
       elim h.answer [
-        | inl loads ↦ record { kind = Done; is = ([], loads.ok); cause = inl (record { file = file; intupper = intupper; asked = asked; is = loads }) }
+        | inl loads ↦ record { kind = Done; is = ([], loads.ok); cause = inl (inl (record { file = file; intupper = intupper; asked = asked; is = loads })) }
         | inr refused ↦ by refused.refusal refused.told refused.cause
       ]
     where
       by : (r : Refusal) → reply ≡ refusal_text r → ReadsFile old.files file intupper old.faults new.faults (Err r) → HasCause old words reply new
-      by refusal.Store told cause = record { kind = StoreFailed; is = (codes "store\n", told); cause = record { file = file; intupper = intupper; asked = asked; is = (told, cause) } }
-      by refusal.FileTooLong told cause = record { kind = FileTooLong; is = (codes "file too long\n", told); cause = record { file = file; intupper = intupper; asked = asked; is = (told, cause) } }
+      by refusal.Store told cause = record { kind = StoreFailed; is = (codes "store\n", told); cause = inl (record { file = file; intupper = intupper; asked = asked; is = (told, cause) }) }
+      by refusal.FileTooLong told cause = record { kind = FileTooLong; is = (codes "file too long\n", told); cause = inl (record { file = file; intupper = intupper; asked = asked; is = (told, cause) }) }
       by (refusal.Faulty line code) told cause = record {
         kind = FaultyText;
         is = (codes "mps line " ++ decimal line ++ codes " code " ++ decimal code ++ codes "\n", told);
@@ -86,13 +88,46 @@ module _ (old : State) (words : List (List ℕ)) (reply : List ℕ) (new : State
       by : (m : Option Program) → old.model ≡ m → Solves m limit reply old.held new.held → HasCause old words reply new
       by (Some M) present s = shows_cause limit M asked present s
       by None none s = elim s.0 [
-        | inl e ↦ record { kind = NoModel; is = (codes "no model\n", e); cause = (limit, (record { asks = asked; told = e }, none)) }
+        | inl e ↦ record { kind = NoModel; is = (codes "no model\n", e); cause = (subst NeedsModel (sym asked) tt, e, none) }
         | inr e ↦ wants e
       ]
+
+  writes_cause : (file : List ℕ) (S : PlainSearch) → asks_of words ≡ Cert file → old.model ≡ Some S.model → old.held ≡ Some S → Writes S file old.files old.faults reply new.files new.faults → HasCause old words reply new
+  writes_cause file S asked present held (Written text is short sets told) = record {
+    kind = Done;
+    is = ([], told);
+    cause = inl (inr (record { file = file; search = S; asked = asked; present = present; held = held; is = (text, (is, short, sets)) }));
+  }
+  writes_cause file S asked present held (TooLong text is long kept told) = record {
+    kind = FileTooLong;
+    is = (codes "file too long\n", told);
+    cause = inr (record { file = file; search = S; asked = asked; present = present; held = held; is = (told, (text, (is, long))) });
+  }
+  writes_cause file S asked present held (Failed rose kept told) = record {
+    kind = StoreFailed;
+    is = (codes "store\n", told);
+    cause = inr (record { file = file; search = S; asked = asked; present = present; held = held; is = (told, rose) });
+  }
+  writes_cause file S asked present held (certify.Wanting kept told) = wants told
+
+  cert_cause : (file : List ℕ) → asks_of words ≡ Cert file → CertStep old file reply new → HasCause old words reply new
+  cert_cause file asked h = by old.model old.held refl refl h.answer
+    where
+      by : (m : Option Program) (held : Option PlainSearch) → old.model ≡ m → old.held ≡ held → Certifies m held old file reply new → HasCause old words reply new
+      by None held none e t = elim t.told [
+        | inl told ↦ record { kind = NoModel; is = (codes "no model\n", told); cause = (subst NeedsModel (sym asked) tt, told, none) }
+        | inr told ↦ wants told
+      ]
+      by (Some M) None present none t = elim t.told [
+        | inl told ↦ record { kind = NoAnswer; is = (codes "no finished answer\n", told); cause = (file, (record { asks = asked; told = told }, subst IsSome (sym present) tt, none)) }
+        | inr told ↦ wants told
+      ]
+      by (Some M) (Some S) present held w = writes_cause file S asked (present ∙ ap Some (sym w.0)) held w.1
 
   asked_cause : (a : Asks) → asks_of words ≡ a → AnswersTo a old reply new → HasCause old words reply new
   asked_cause (Load file intupper) asked h = load_cause file intupper asked h
   asked_cause (Solve limit) asked h = solve_cause limit asked h
+  asked_cause (Cert file) asked h = cert_cause file asked h
   asked_cause Quit asked h = record { kind = Done; is = ([], h.answer); cause = inr (asked, h.unchanged) }
   asked_cause (Unknown word) asked h = elim h.answer [
     | inl e ↦ record { kind = UnknownCommand; is = (codes "unknown command " ++ word ++ codes "\n", e); cause = (word, record { asks = asked; told = e }) }
@@ -124,6 +159,7 @@ module _ (old : State) (words : List (List ℕ)) (reply : List ℕ) (new : State
   keeps : (a : Asks) → AnswersTo a old reply new → reply ≢ ok_text → new.model ≡ old.model
   keeps (Load file intupper) h other = elim h.answer [ inl loads ↦ absurd (other loads.ok) | inr refused ↦ refused.kept ]
   keeps (Solve limit) h other = ap (λ (s : State). s.model) h.unchanged
+  keeps (Cert file) h other = h.model
   keeps Quit h other = ap (λ (s : State). s.model) h.unchanged
   keeps (Unknown word) h other = ap (λ (s : State). s.model) h.unchanged
   keeps Misused h other = ap (λ (s : State). s.model) h.unchanged
@@ -145,6 +181,7 @@ module _ (old : State) (words : List (List ℕ)) (reply : List ℕ) (new : State
   holds : (a : Asks) → AnswersTo a old reply new → (k : Kind) → IsError k → Is k reply → new.held ≡ old.held
   holds (Load file intupper) h k error is = elim h.answer [ inl loads ↦ not_error k Done error is ([], loads.ok) (λ e. e) | inr refused ↦ refused.held ]
   holds (Solve limit) h k error is = solve_holds limit k error is old.model h.answer
+  holds (Cert file) h k error is = h.held
   holds Quit h k error is = ap (λ (s : State). s.held) h.unchanged
   holds (Unknown word) h k error is = ap (λ (s : State). s.held) h.unchanged
   holds Misused h k error is = ap (λ (s : State). s.held) h.unchanged

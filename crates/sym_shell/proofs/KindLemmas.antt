@@ -1,7 +1,7 @@
 -- A reply is of one kind: its first bytes tell which.
 use Rattle.std.proofs.Common.{◌≡◌, ℕ, ◌+◌, ◌*◌, Bool, List, ◌++◌, get_or, refl, sym, ap, ◌∙◌, if◌then◌else◌}
 use Rattle.std.specs.Prelude.{nat_eq}
-use Rattle.sym_shell.specs.Kinds.{Kind, Optimal, Infeasible, StoppedNodes, StoppedTree, StoppedWide, Done, UnknownCommand, WrongArguments, NoModel, WrongNumber, StoreFailed, FileTooLong, FaultyText, WantsMemory, front_of, Is}
+use Rattle.sym_shell.specs.Kinds.{Kind, Optimal, Infeasible, StoppedNodes, StoppedTree, StoppedWide, Done, UnknownCommand, WrongArguments, NoModel, WrongNumber, NoAnswer, StoreFailed, FileTooLong, FaultyText, WantsMemory, front_of, Is}
 
 -- by the two digits of an error
 error_kind : ℕ → Kind
@@ -10,6 +10,7 @@ error_kind n =
     else if nat_eq n 531 then WrongArguments
     else if nat_eq n 532 then NoModel
     else if nat_eq n 535 then WrongNumber
+    else if nat_eq n 541 then NoAnswer
     else if nat_eq n 548 then StoreFailed
     else if nat_eq n 549 then FileTooLong
     else if nat_eq n 558 then FaultyText
@@ -42,6 +43,7 @@ kind_of-front UnknownCommand rest = refl
 kind_of-front WrongArguments rest = refl
 kind_of-front NoModel rest = refl
 kind_of-front WrongNumber rest = refl
+kind_of-front NoAnswer rest = refl
 kind_of-front StoreFailed rest = refl
 kind_of-front FileTooLong rest = refl
 kind_of-front FaultyText rest = refl

@@ -7,4 +7,3 @@ pub mod CauseLemmas
 pub mod RunLemmas
 pub mod ShownWords
 pub mod ShownBack
-pub mod CommandLineLemmas

@@ -1,18 +1,22 @@
 -- Each reply has its exact cause. Want of memory alone is free: where a cause holds, the reply is its line or
 -- `error 90 memory`.
-use Rattle.std.specs.Prelude.{◌≡◌, ◌≢◌, ◌⊎◌, ℕ, ◌<◌, ◌≤◌, List, Option, Some, None}
+use Rattle.std.specs.Prelude.{◌≡◌, ◌≢◌, ◌⊎◌, ℕ, ◌<◌, ◌≤◌, List, length, Option, Some, None, IsSome}
 use Rattle.sym_io.specs.Faults.{Rose}
+use Rattle.sym_io.specs.Files.{Sets}
+use Rattle.sym_io.specs.declared.traits.TheConstants.{MAX_FILE_LENGTH}
 use Rattle.lp_model.specs.Program.{Program}
+use Rattle.tree_edit.specs.Sound.{PlainSearch}
 use Rattle.tree_search.specs.Causes.{IsJudgeable}
 use Rattle.tree_search.specs.Work.{cap_of}
-use Rattle.command_words.specs.Asks.{Asks, Load, Solve, Quit, Unknown, Misused, NoNumber, asks_of}
+use Rattle.command_words.specs.Asks.{Asks, Load, Solve, Cert, Quit, Unknown, Misused, NoNumber, asks_of}
 use Rattle.sym_shell.specs.Searched.{node_limit}
 use Rattle.sym_shell.specs.State.{State}
-use Rattle.sym_shell.specs.Texts.{ok_text, unknown_text, arguments_text, no_model_text, number_text, store_text, file_too_long_text, mps_text, memory_text}
+use Rattle.sym_shell.specs.Texts.{ok_text, unknown_text, arguments_text, no_model_text, no_answer_text, number_text, store_text, file_too_long_text, mps_text, memory_text}
 use Rattle.sym_shell.specs.Load.{HasText, IsMissing, IsTooLong, IsFaulty, Loads}
 use Rattle.sym_shell.specs.Solve.{ShowsOptimum, ShowsEmptiness, ShowsNodeStop, ShowsTreeStop, ShowsWideStop}
+use Rattle.sym_shell.specs.Certify.{IsCertificateText}
 use Rattle.sym_shell.specs.Step.{Step}
-use Rattle.sym_shell.specs.Kinds.{Kind, Optimal, Infeasible, StoppedNodes, StoppedTree, StoppedWide, Done, UnknownCommand, WrongArguments, NoModel, WrongNumber, StoreFailed, FileTooLong, FaultyText, WantsMemory, Is, IsError}
+use Rattle.sym_shell.specs.Kinds.{Kind, Optimal, Infeasible, StoppedNodes, StoppedTree, StoppedWide, Done, UnknownCommand, WrongArguments, NoModel, WrongNumber, NoAnswer, StoreFailed, FileTooLong, FaultyText, WantsMemory, Is, IsError}
 
 -- `solve` of the model that is present, which may place `limit` results, and P of both
 pub record Solved (old : State) (words : List (List ℕ)) (P : Program → ℕ → Type 0) : Type 0 where
@@ -29,6 +33,25 @@ pub record Loaded (words : List (List ℕ)) (P : List ℕ → Option ℕ → Typ
   pub asked : asks_of words ≡ Load file intupper
   pub is : P file intupper
 
+-- `cert` as a file, where there is a model and the answer of its finished search is held, and P of the file and the search
+pub record Certified (old : State) (words : List (List ℕ)) (P : List ℕ → PlainSearch → Type 0) : Type 0 where
+  pub file : List ℕ
+  pub search : PlainSearch
+  pub asked : asks_of words ≡ Cert file
+  pub present : old.model ≡ Some search.model
+  pub held : old.held ≡ Some search
+  pub is : P file search
+
+-- a command that needs a model
+abbrev pub NeedsModel : Asks → Type 0
+NeedsModel (Load file intupper) = ⊥
+NeedsModel (Solve limit) = Unit {0}
+NeedsModel (Cert file) = Unit {0}
+NeedsModel Quit = ⊥
+NeedsModel (Unknown word) = ⊥
+NeedsModel Misused = ⊥
+NeedsModel (NoNumber word) = ⊥
+
 -- the words ask for this, and the reply is this line
 pub record Refused (words : List (List ℕ)) (reply : List ℕ) (asked : Asks) (text : List ℕ) : Type 0 where
   pub asks : asks_of words ≡ asked
@@ -43,14 +66,23 @@ CauseOf Infeasible old words reply new = Solved old words (λ M limit. ShowsEmpt
 CauseOf StoppedNodes old words reply new = Solved old words (λ M limit. ShowsNodeStop M limit reply)
 CauseOf StoppedTree old words reply new = Solved old words (λ M limit. ShowsTreeStop M limit reply)
 CauseOf StoppedWide old words reply new = Solved old words (λ M limit. ShowsWideStop M limit reply)
--- the model that the file's text means is present from now on; or the script ends
-CauseOf Done old words reply new = Loaded words (λ file intupper. Loads old file intupper reply new) ⊎ ((asks_of words ≡ Quit) × (new ≡ old))
+-- The model that the file's text means is present from now on; or the file has a text that states a certificate which is
+-- accepted for the model that is present; or the script ends.
+CauseOf Done old words reply new =
+    Loaded words (λ file intupper. Loads old file intupper reply new)
+    ⊎ Certified old words (λ file S. (text : List ℕ) × (IsCertificateText S text × (length text ≤ MAX_FILE_LENGTH) × Sets old.files new.files file text))
+    ⊎ ((asks_of words ≡ Quit) × (new ≡ old))
 CauseOf UnknownCommand old words reply new = (word : List ℕ) × Refused words reply (Unknown word) (unknown_text word)
 CauseOf WrongArguments old words reply new = Refused words reply Misused arguments_text
 CauseOf WrongNumber old words reply new = (word : List ℕ) × Refused words reply (NoNumber word) (number_text word)
-CauseOf NoModel old words reply new = (limit : ℕ) × (Refused words reply (Solve limit) no_model_text × (old.model ≡ None))
-CauseOf StoreFailed old words reply new = Loaded words (λ file intupper. (reply ≡ store_text) × (Rose old.faults new.faults ⊎ IsMissing old.files file))
-CauseOf FileTooLong old words reply new = Loaded words (λ file intupper. (reply ≡ file_too_long_text) × IsTooLong old.files file)
+CauseOf NoModel old words reply new = NeedsModel (asks_of words) × (reply ≡ no_model_text) × (old.model ≡ None)
+CauseOf NoAnswer old words reply new = (file : List ℕ) × (Refused words reply (Cert file) no_answer_text × IsSome old.model × (old.held ≡ None))
+CauseOf StoreFailed old words reply new =
+    Loaded words (λ file intupper. (reply ≡ store_text) × (Rose old.faults new.faults ⊎ IsMissing old.files file))
+    ⊎ Certified old words (λ file S. (reply ≡ store_text) × Rose old.faults new.faults)
+CauseOf FileTooLong old words reply new =
+    Loaded words (λ file intupper. (reply ≡ file_too_long_text) × IsTooLong old.files file)
+    ⊎ Certified old words (λ file S. (reply ≡ file_too_long_text) × ((text : List ℕ) × (IsCertificateText S text × (MAX_FILE_LENGTH < length text))))
 CauseOf FaultyText old words reply new =
     Loaded words (λ file intupper. (line : ℕ) × ((code : ℕ) × ((reply ≡ mps_text line code) × HasText old.files file (IsFaulty intupper line code))))
 CauseOf WantsMemory old words reply new = reply ≡ memory_text

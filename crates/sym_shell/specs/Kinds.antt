@@ -12,6 +12,7 @@ pub data Kind : Type 0 where
   WrongArguments : Kind
   NoModel : Kind
   WrongNumber : Kind
+  NoAnswer : Kind
   StoreFailed : Kind
   FileTooLong : Kind
   FaultyText : Kind
@@ -28,6 +29,7 @@ front_of UnknownCommand = codes "error 02 "
 front_of WrongArguments = codes "error 03 "
 front_of NoModel = codes "error 04 "
 front_of WrongNumber = codes "error 07 "
+front_of NoAnswer = codes "error 13 "
 front_of StoreFailed = codes "error 20 "
 front_of FileTooLong = codes "error 21 "
 front_of FaultyText = codes "error 30 "
@@ -49,6 +51,7 @@ IsError UnknownCommand = Unit {0}
 IsError WrongArguments = Unit {0}
 IsError NoModel = Unit {0}
 IsError WrongNumber = Unit {0}
+IsError NoAnswer = Unit {0}
 IsError StoreFailed = Unit {0}
 IsError FileTooLong = Unit {0}
 IsError FaultyText = Unit {0}

@@ -4,13 +4,15 @@ pub mod Refusals
 pub mod Load
 pub mod Searched
 pub mod Solve
+pub mod Certify
 pub mod Step
 pub mod Loaded
+pub mod Held
 pub mod Present
 pub mod Reports
 pub mod Kinds
 pub mod Causes
 pub mod Shell
-pub mod CommandLine
+pub mod Checking
 pub mod Run
 pub mod Shown

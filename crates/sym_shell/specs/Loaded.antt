@@ -5,7 +5,7 @@ use Rattle.tree_edit.specs.Laws.{HasNoOpenLeaf}
 use Rattle.tree_edit.specs.Sound.{PlainSearch}
 use Rattle.tree_edit.specs.SearchCode.{search_code}
 use Rattle.mps_model.specs.Bounded.{is_bounded}
-use Rattle.mps_model.specs.PlainNames.{HasPlainNames}
+use Rattle.mps_model.specs.PlainNames.{HasPlainNames, HasPlainRows}
 
 pub record PlainLoaded : Type 0 where
   pub search : PlainSearch
@@ -19,4 +19,5 @@ loaded_code = code_by (PlainSearch × Bool) (coded× search_code coded_bool) (λ
 pub record IsLoaded (l : PlainLoaded) : Type 0 where
   pub bounded : is_bounded l.search.model ≡ true
   pub plain : HasPlainNames l.search.model
+  pub plain_rows : HasPlainRows l.search.model
   pub finished : IsTrue l.held → HasNoOpenLeaf l.search

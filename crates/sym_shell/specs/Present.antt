@@ -1,12 +1,7 @@
 -- What a shell holds: a model, and the finished search whose answer is held.
-use Rattle.std.specs.Prelude.{if◌then◌else◌, Option, Some, None}
-use Rattle.sym_shell.specs.Loaded.{PlainLoaded}
-use Rattle.sym_shell.specs.State.{Present, nothing_present}
+use Rattle.sym_shell.specs.Held.{present_of}
+use Rattle.sym_shell.specs.State.{Present}
 use Rattle.sym_shell.specs.declared.shell.Shell.{Shell}
-
-abbrev pub present_of : Option PlainLoaded → Present
-present_of None = nothing_present
-present_of (Some l) = record { model = Some l.search.model; held = if l.held then Some l.search else None }
 
 abbrev pub present : Shell → Present
 present shell = present_of shell.loaded

@@ -1,10 +1,11 @@
 -- What a command may be answered, and what it does to the state.
 use Rattle.std.specs.Prelude.{◌≡◌, ◌⊎◌, ℕ, List}
-use Rattle.command_words.specs.Asks.{Asks, Load, Solve, Quit, Unknown, Misused, NoNumber, asks_of}
+use Rattle.command_words.specs.Asks.{Asks, Load, Solve, Cert, Quit, Unknown, Misused, NoNumber, asks_of}
 use Rattle.sym_shell.specs.State.{State}
 use Rattle.sym_shell.specs.Texts.{ok_text, unknown_text, arguments_text, number_text, memory_text}
 use Rattle.sym_shell.specs.Load.{LoadStep}
 use Rattle.sym_shell.specs.Solve.{SolveStep}
+use Rattle.sym_shell.specs.Certify.{CertStep}
 
 -- the command is refused with this reply, or for want of memory, and nothing changes
 pub record IsRefused (old : State) (text reply : List ℕ) (new : State) : Type 0 where
@@ -20,6 +21,7 @@ pub record IsQuit (old : State) (reply : List ℕ) (new : State) : Type 0 where
 abbrev pub AnswersTo : Asks → State → List ℕ → State → Type 0
 AnswersTo (Load file intupper) old reply new = LoadStep old file intupper reply new
 AnswersTo (Solve limit) old reply new = SolveStep old limit reply new
+AnswersTo (Cert file) old reply new = CertStep old file reply new
 AnswersTo Quit old reply new = IsQuit old reply new
 AnswersTo (Unknown word) old reply new = IsRefused old (unknown_text word) reply new
 AnswersTo Misused old reply new = IsRefused old arguments_text reply new

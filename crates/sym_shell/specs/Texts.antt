@@ -30,6 +30,9 @@ arguments_text = codes "error 03 arguments\n"
 abbrev pub no_model_text : List ℕ
 no_model_text = codes "error 04 no model\n"
 
+abbrev pub no_answer_text : List ℕ
+no_answer_text = codes "error 13 no finished answer\n"
+
 abbrev pub number_text : List ℕ → List ℕ
 number_text word = codes "error 07 number " ++ word ++ codes "\n"
 

@@ -13,7 +13,8 @@
 //! words ask for; `mps_model`, which reads models; and `tree_search`, which searches them. Above stands `sym_main`.
 #![tactic(auto)]
 
-mod command_line;
+mod certifying;
+mod checking;
 mod loaded;
 mod program;
 mod reading;
@@ -22,6 +23,7 @@ mod shell;
 mod stops;
 mod texts;
 
+pub use checking::check_text;
 pub use program::run;
 pub use reading::Refusal;
 pub use shell::Shell;

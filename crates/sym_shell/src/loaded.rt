@@ -1,7 +1,10 @@
 // The model that is present, with its search.
-ghost use Rattle.std.specs.Prelude.{◌≡◌, true, false, IfOk, OnErr};
+ghost use Rattle.std.specs.Prelude.{◌≡◌, true, false, IfOk, OnErr, IfSome, Some};
+ghost use Rattle.std.specs.Option.{option_copied};
+ghost use Rattle.tree_edit.specs.Laws.{HasNoOpenLeaf};
+ghost use Rattle.sym_shell.specs.Held.{present_of};
 ghost use Rattle.mps_model.specs.Bounded.{is_bounded};
-ghost use Rattle.mps_model.specs.PlainNames.{HasPlainNames};
+ghost use Rattle.mps_model.specs.PlainNames.{HasPlainNames, HasPlainRows};
 ghost use Rattle.sym_shell.specs.Searched.{Searches, has_ended};
 
 use lp_model::Model;
@@ -47,6 +50,7 @@ impl Loaded {
     pub(crate) fn new(alloc: Global, model: Model) -> Result<Loaded, AllocError>
         requires bounded { is_bounded model ≡ true }
         requires plain { HasPlainNames model }
+        requires plain_rows { HasPlainRows model }
         ensures model { IfOk result (λ loaded. loaded.search.model ≡ model) }
         ensures none_held { IfOk result (λ loaded. loaded.held ≡ false) }
     {
@@ -61,6 +65,17 @@ impl Loaded {
         ensures { result.now ≡ self.now.search.model }
     {
         self.search.model()
+    }
+
+    /// The finished search whose answer is held.
+    pub(crate) fn answer(&self) -> Option<&Search>
+        ensures answer { option_copied result ≡ (present_of (Some self.now)).held }
+        ensures finished { IfSome result (λ search. HasNoOpenLeaf search.now) }
+        ensures model { IfSome result (λ search. search.now.model ≡ self.now.search.model) }
+        ensures plain { HasPlainNames self.now.search.model }
+        ensures plain_rows { HasPlainRows self.now.search.model }
+    {
+        if self.held { Some(&self.search) } else { None }
     }
 
     /// Holds no answer any more.

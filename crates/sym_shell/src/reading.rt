@@ -1,7 +1,7 @@
 // Reading a file's model from a store.
 ghost use Rattle.std.specs.Prelude.{◌≡◌, ◌≤◌, true, IfOk};
 ghost use Rattle.command_words.specs.Names.{is_file_name};
-ghost use Rattle.mps_model.specs.PlainNames.{HasPlainNames};
+ghost use Rattle.mps_model.specs.PlainNames.{HasPlainNames, HasPlainRows};
 ghost use Rattle.mps_model.specs.Bounded.{is_bounded};
 ghost use Rattle.sym_shell.specs.Load.{ReadsFile};
 
@@ -62,6 +62,7 @@ pub(crate) fn read_model<S: Store>(
     ensures answer { ReadsFile (S.files store.old) name.now intupper (S.faults store.old) (S.faults store.new) result }
     ensures bounded { IfOk result (λ m. is_bounded m ≡ true) }
     ensures plain { IfOk result (λ m. HasPlainNames m) }
+    ensures plain_rows { IfOk result (λ m. HasPlainRows m) }
     ensures kept { S.files store.new ≡ S.files store.old }
     ensures later { S.faults store.old ≤ S.faults store.new }
 {

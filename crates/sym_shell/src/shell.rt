@@ -4,12 +4,14 @@ ghost use Rattle.command_words.specs.Names.{is_file_name};
 ghost use Rattle.command_words.specs.Asks.{asks_shown, NamesFile};
 ghost use Rattle.sym_shell.specs.Texts.{memory_text};
 ghost use Rattle.sym_shell.specs.State.{state};
-ghost use Rattle.sym_shell.specs.Present.{present_of};
+ghost use Rattle.sym_shell.specs.Held.{present_of};
 ghost use Rattle.sym_shell.specs.Load.{LoadStep};
 ghost use Rattle.sym_shell.specs.Solve.{Solves, Shows};
+ghost use Rattle.sym_shell.specs.Certify.{CertStep};
 ghost use Rattle.sym_shell.specs.Step.{AnswersTo};
 ghost use Rattle.sym_shell.specs.Shell.{is_quit};
 
+use crate::certifying::write_certificate;
 use crate::loaded::Loaded;
 use crate::reading::read_model;
 use crate::refusals::{write_no_number, write_refusal, write_unknown};
@@ -76,6 +78,30 @@ impl Shell {
         }
     }
 
+    /// Writes the certificate of the answer that is held to a file.
+    fn cert<S: Store>(
+        &self,
+        alloc: Global,
+        store: &mut S,
+        name: &[u8],
+        reply: &mut Vec<u8>,
+    ) -> Result<(), AllocError>
+        requires name { is_file_name name.now ≡ true }
+        requires empty { reply.old.items ≡ [] }
+        ensures answered { OnOk result (CertStep (state (present self.now) (S.files store.old) (S.faults store.old)) name.now reply.new.items
+            (state (present self.now) (S.files store.new) (S.faults store.new))) }
+        ensures unfinished { OnErr result (CertStep (state (present self.now) (S.files store.old) (S.faults store.old)) name.now memory_text
+            (state (present self.now) (S.files store.new) (S.faults store.new))) }
+    {
+        let Some(loaded) = &self.loaded else {
+            return reply.extend_from_slice(b"error 04 no model\n");
+        };
+        match loaded.answer() {
+            Some(search) => write_certificate(alloc, store, name, search, reply),
+            None => reply.extend_from_slice(b"error 13 no finished answer\n"),
+        }
+    }
+
     /// Answers what is asked.
     fn answer_asked<S: Store>(
         &mut self,
@@ -94,6 +120,7 @@ impl Shell {
         match asked {
             Asked::Load { file, intupper } => self.load(alloc, store, file, intupper, reply),
             Asked::Solve { limit } => self.solve(alloc, limit, reply),
+            Asked::Cert { file } => self.cert(alloc, store, file, reply),
             Asked::Quit => reply.extend_from_slice(b"ok\n"),
             Asked::Unknown { word } => write_unknown(reply, word),
             Asked::Misused => reply.extend_from_slice(b"error 03 arguments\n"),
