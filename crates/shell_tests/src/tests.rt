@@ -4,6 +4,7 @@ use std::test::Fail;
 use sym_io::{MemSink, MemSource, MemStore};
 use sym_shell::run;
 
+mod certificates;
 mod examples;
 mod faults;
 mod models;
@@ -108,7 +109,7 @@ const SEARCHES: [(&[u8], &[u8], &[u8], u64); 9] = [
     (
         b"load BIG\nsolve\n",
         b"ok\nstopped wide ",
-        b" bound -10 best -1\npath <= X 5 <= X 2 >= X 2\nat act row R col X\nend\n",
+        b" bound -10 best none\npath >= X 6 >= X 9 >= X 10\nat act row R col X\nend\n",
         20,
     ),
 ];
