@@ -1,4 +1,4 @@
--- The work of a tree is at most the cap of its model.
+-- The work of a tree is at most the cap of its model, and its splits are fewer than the model's points.
 use Rattle.std.specs.Prelude.{◌≡◌, ℕ, zero, suc, ◌+◌, ◌*◌, ◌-◌, ◌<◌, ◌≤◌, max, Bool, true, false, if◌then◌else◌, IsTrue, IsSome, List, [], ◌∷◌, length, pos, Option, Some, None, ℤ, ◌+ℤ◌, ◌≤ℤ◌, ◌<ℤ◌}
 use Rattle.std.specs.Option.{option_map}
 use Rattle.std.proofs.Common.{refl, subst, ap, ◌∙◌, inl, inr, arith}
@@ -18,7 +18,7 @@ use Rattle.branch_tree.specs.declared.node.LeafState.{LeafState}
 use Rattle.branch_tree.specs.declared.node.LeafState.TheVariants.{IsOpen, IsClosed}
 use Rattle.tree_search.specs.Integral.{AreIntegral, IsIntegral}
 use Rattle.tree_search.specs.Points.{numbers_from, numbers_within, product_below, points}
-use Rattle.tree_search.specs.Work.{whole_points_of, cap_of, leaf_work, work}
+use Rattle.tree_search.specs.Work.{whole_points_of, whole_points, cap_of, if_open, sum_open, work, splits}
 use Rattle.tree_search.proofs.RegionLemmas.{IsWholeBound, ceil-int, floor-int, region_low-whole, region_high-whole}
 use Rattle.tree_search.proofs.PointLemmas.{bounds-split, product-split, low-left, high-left, low-right, high-right, high-left_other, low-right_other}
 
@@ -86,19 +86,20 @@ module _ (M : Program) (integral : IsIntegral M) where
       ((λ t. numbers_within (low-left M path j v j t) (high-left M path j v t) + numbers_within (low-right M path j v t) (high-right M path j v j t))
       ∙ bounds-any (region_low M path j) (region_high M path j) v (region_low-whole M integral path j there) (region_high-whole M integral path j there))
 
-  leaf_work-le : (s : LeafState) (n : ℕ) → leaf_work s n ≤ 2 * n - 1
-  leaf_work-le IsOpen n = omega arith
-  leaf_work-le IsClosed n = omega arith
+  -- a sum over the open leaves is at most that of the root's points, where parts of a number have no more together than the number
+  module _ (f : ℕ → ℕ) (more : (p q : ℕ) → f p + f q ≤ f (p + q)) where
+    if_open-le : (s : LeafState) (n : ℕ) → if_open f s n ≤ f n
+    if_open-le IsOpen n = omega arith
+    if_open-le IsClosed n = omega arith
 
-  work-le : (path : Path) (t : Plain) → IsLawful M t → work M path t ≤ 2 * points M path - 1
-  work-le path (Leaf l) h = leaf_work-le l.kept.state (points M path)
-  work-le path (Split kept j v left right) h =
-      let a : work M (left_path path j v) left ≤ 2 * points M (left_path path j v) - 1 = work-le (left_path path j v) left h.1.0 in
-      let b : work M (right_path path j v) right ≤ 2 * points M (right_path path j v) - 1 = work-le (right_path path j v) right h.1.1 in
-      both (work M (left_path path j v) left) (work M (right_path path j v) right) (points M (left_path path j v)) (points M (right_path path j v)) (points M path) a b (points-any path j v h.0.0)
-    where
-      both : (a b p q n : ℕ) → a ≤ 2 * p - 1 → b ≤ 2 * q - 1 → p + q ≡ n → a + b ≤ 2 * n - 1
-      both a b p q n h k e = omega arith
+    sum-le : (path : Path) (t : Plain) → IsLawful M t → sum_open f M path t ≤ f (points M path)
+    sum-le path (Leaf l) h = if_open-le l.kept.state (points M path)
+    sum-le path (Split kept j v left right) h =
+        let a : sum_open f M (left_path path j v) left ≤ f (points M (left_path path j v)) = sum-le (left_path path j v) left h.1.0 in
+        let b : sum_open f M (right_path path j v) right ≤ f (points M (right_path path j v)) = sum-le (right_path path j v) right h.1.1 in
+        let c : f (points M (left_path path j v)) + f (points M (right_path path j v)) ≤ f (points M path) =
+        subst (λ n. f (points M (left_path path j v)) + f (points M (right_path path j v)) ≤ f n) (points-any path j v h.0.0) (more (points M (left_path path j v)) (points M (right_path path j v))) in
+        omega (arith, a, b, c)
 
 -- ---- the root
 
@@ -127,12 +128,15 @@ root-points [] h = refl
 root-points (c ∷ cs) h =
     product-front (length cs) (column_numbers (c ∷ cs)) ∙ (λ t. first_numbers c.int c.lo c.up h.0.0 h.0.1 h.0.2 t * root-points cs h.1 t)
 
-pub work-cap : (M : Program) (t : Plain) → IsIntegral M → IsLawful M t → work M [] t ≤ cap_of M
-unfolding column_numbers
-work-cap M t integral lawful =
-    let is : points M [] ≡ whole_points_of M.cols = root-points M.cols integral in
-    let h : work M [] t ≤ 2 * points M [] - 1 = work-le M integral [] t lawful in
-    below (work M [] t) (points M []) (whole_points_of M.cols) h is
-  where
-    below : (a p n : ℕ) → a ≤ 2 * p - 1 → p ≡ n → a ≤ max 1 (2 * n - 1)
-    below a p n h e = omega (arith, h, e)
+module _ (M : Program) (t : Plain) (integral : IsIntegral M) (lawful : IsLawful M t) where
+  root-sum : (f : ℕ → ℕ) (more : (p q : ℕ) → f p + f q ≤ f (p + q)) → sum_open f M [] t ≤ f (whole_points M)
+  unfolding column_numbers
+  root-sum f more = subst (λ n. sum_open f M [] t ≤ f n) (root-points M.cols integral) (sum-le M integral f more [] t lawful)
+
+  pub work-cap : work M [] t ≤ cap_of M
+  work-cap =
+      let h : work M [] t ≤ 2 * whole_points M - 1 = root-sum (λ n. 2 * n - 1) (λ p q. omega arith) in
+      omega (arith, h)
+
+  pub splits-cap : splits M [] t ≤ whole_points M - 1
+  splits-cap = root-sum (λ n. n - 1) (λ p q. omega arith)

@@ -1,13 +1,17 @@
+pub mod IntegralLemmas
 pub mod RefuteLemmas
 pub mod SingleLemmas
 pub mod RegionLemmas
 pub mod PointLemmas
 pub mod CapLemmas
+pub mod CountLemmas
 pub mod WorkLemmas
 pub mod OnePointLemmas
+pub mod RoomLemmas
 pub mod TakenLemmas
 pub mod JudgeLemmas
 pub mod PlacedLemmas
 pub mod StepLemmas
 pub mod SearchLemmas
+pub mod CauseLemmas
 pub mod BoundLemmas

@@ -11,17 +11,19 @@ use Rattle.lp_model.specs.declared.types.Var.{Var}
 use Rattle.lp_model.specs.declared.types.Var.TheVariants.{Row}
 use Rattle.leaf_dual.specs.Dual.{Multipliers}
 use Rattle.leaf_dual.specs.declared.dual.LagValue.TheVariants.{Num}
-use Rattle.branch_tree.specs.Tree.{Leaf, left_path, right_path, EachLeaf}
+use Rattle.branch_tree.specs.Tree.{Leaf, left_path, right_path, EachLeaf, split_count}
 use Rattle.branch_tree.specs.Plain.{Plain, leaves_with, replaced}
 use Rattle.branch_tree.specs.Leaves.{with_states}
 use Rattle.branch_tree.specs.Numbered.{NumberedTree}
-use Rattle.branch_tree.specs.Changes.{with_leaf_states}
+use Rattle.branch_tree.specs.Changes.{with_leaf_states, with_leaf}
 use Rattle.branch_tree.specs.declared.node.LeafData.{LeafData}
 use Rattle.branch_tree.specs.declared.node.LeafState.{LeafState}
 use Rattle.branch_tree.specs.declared.node.LeafState.TheVariants.{IsOpen, IsClosed}
 use Rattle.branch_tree.specs.declared.node.NodeResult.{NodeResult}
 use Rattle.branch_tree.specs.declared.node.NodeResult.TheVariants.{Close, Split as SplitAt, PointAndClose, Keep}
 use Rattle.branch_tree.proofs.LeafLemmas.{leaf_below-found}
+use Rattle.branch_tree.proofs.IdLemmas.{splits-replaced_leaf, splits-replaced_split}
+use Rattle.branch_tree.proofs.StateLemmas.{split_count-states}
 use Rattle.tree_edit.specs.declared.placing.Taken.{Taken}
 use Rattle.tree_edit.specs.declared.placing.Taken.TheVariants.{Stale, Refused, Reopened, Full, Closed, Split, Kept}
 use Rattle.tree_edit.specs.declared.judging.LeafNumber.TheVariants.{Empty, Lag}
@@ -32,19 +34,20 @@ use Rattle.tree_edit.specs.Lists.{NamesOnce, IsRowThere, AreMultipliers, IsBasis
 use Rattle.tree_edit.specs.Checks.{IsSplitAllowed, IsFrom, IsUnder}
 use Rattle.tree_edit.specs.Sound.{PlainSearch, IsSound}
 use Rattle.tree_edit.specs.Calls.{IsLeafAt}
-use Rattle.tree_edit.specs.Placing.{ClosesWith, TakesClose, TakesPointClose, TakesSplit, TakesResult, TakesOpen, Takes, TakesPoint, IsSplitSound, split_node, closed_data}
+use Rattle.tree_edit.specs.Placing.{ClosesWith, TakesClose, TakesPointClose, TakesSplit, TakesResult, TakesOpen, Takes, TakesPoint, IsSplitSound, split_node, tree_with_split, closed_data}
 use Rattle.tree_search.specs.Integral.{IsIntegral}
 use Rattle.tree_search.specs.Points.{points, IsFirstOpen}
 use Rattle.tree_search.specs.Refuting.{one_row}
 use Rattle.tree_search.specs.Single.{IsOnlyPoint}
-use Rattle.tree_search.specs.Work.{leaf_work, work}
+use Rattle.tree_search.specs.Work.{if_open, sum_open, work, splits, HasRoomFor}
 use Rattle.tree_search.specs.Working.{no_basis, IsResultFor}
-use Rattle.tree_search.specs.Steps.{Lowers, IsTooFull}
+use Rattle.tree_search.specs.Steps.{splits_of, IsRoomy, Lowers, IsTooFull}
 use Rattle.tree_search.proofs.RegionLemmas.{IsWholeBound, region_high-whole, floor-less, floor-int, middle-allowed}
 use Rattle.tree_edit.proofs.SoundLemmas.{each-weaker}
 use Rattle.rational.proofs.Rounding.{int-≤ℚ}
 use Rattle.tree_search.proofs.PointLemmas.{points-split, points-some, low-left, high-left, low-right, high-right, high-left_other, low-right_other, min-below, max-above}
-use Rattle.tree_search.proofs.WorkLemmas.{at_leaf, work-replaced, work-closed, open-found, leaf_at, some_is}
+use Rattle.tree_search.proofs.WorkLemmas.{at_leaf, sum-replaced, sum-closed, open-found, leaf_at, some_is}
+use Rattle.tree_search.proofs.RoomLemmas.{room-after}
 use Rattle.tree_search.proofs.OnePointLemmas.{lag-value}
 use Rattle.tree_search.proofs.TakenLemmas.{adds, old_closes, new_below}
 use Rattle.std.proofs.lemmas.Bool.Decides.{eqb_tells}
@@ -109,21 +112,29 @@ module _ (M : Program) (integral : IsIntegral M) (path : Path) (some : ¬ IsEmpt
     | inr other ↦ some (k, (within, subst (λ P. P) (λ t. IsCrossed (low-right_other M path j v k other.1 t) (high-right M path j v k t)) crossed))
   ]
 
-  leaf_most : (s : LeafState) (n : ℕ) → leaf_work s n ≤ 2 * n - 1
-  leaf_most IsOpen n = omega arith
-  leaf_most IsClosed n = omega arith
+  some_left : 1 ≤ points M (left_path path j v)
+  some_left = points-some M (left_path path j v) integral left_some
 
-  -- the two children have less work together than an open leaf of the region
-  split_less : (s s' : LeafState) → leaf_work s (points M (left_path path j v)) + leaf_work s' (points M (right_path path j v)) + 1 ≤ 2 * points M path - 1
-  split_less s s' =
-      let l : 1 ≤ points M (left_path path j v) = points-some M (left_path path j v) integral left_some in
-      let r : 1 ≤ points M (right_path path j v) = points-some M (right_path path j v) integral right_some in
-      let a : leaf_work s (points M (left_path path j v)) ≤ 2 * points M (left_path path j v) - 1 = leaf_most s (points M (left_path path j v)) in
-      let b : leaf_work s' (points M (right_path path j v)) ≤ 2 * points M (right_path path j v) - 1 = leaf_most s' (points M (right_path path j v)) in
-      together (leaf_work s (points M (left_path path j v))) (leaf_work s' (points M (right_path path j v))) (points M (left_path path j v)) (points M (right_path path j v)) (points M path) l r a b (points-split M path j v allowed)
-    where
-      together : (a b p q n : ℕ) → 1 ≤ p → 1 ≤ q → a ≤ 2 * p - 1 → b ≤ 2 * q - 1 → p + q ≡ n → a + b + 1 ≤ 2 * n - 1
-      together a b p q n l r h k e = omega (arith, l, r, h, k, e)
+  some_right : 1 ≤ points M (right_path path j v)
+  some_right = points-some M (right_path path j v) integral right_some
+
+  -- a region that can be split has two points or more
+  pub two_points : 2 ≤ points M path
+  two_points = let l = some_left in let r = some_right in let n = points-split M path j v allowed in omega (arith, l, r, n)
+
+  module _ (f : ℕ → ℕ) (fewer : (p q : ℕ) → 1 ≤ p → 1 ≤ q → f p + f q + 1 ≤ f (p + q)) where
+    leaf_most : (s : LeafState) (n : ℕ) → if_open f s n ≤ f n
+    leaf_most IsOpen n = omega arith
+    leaf_most IsClosed n = omega arith
+
+    -- the two children have less together than an open leaf of the region
+    split_less : (s s' : LeafState) → if_open f s (points M (left_path path j v)) + if_open f s' (points M (right_path path j v)) + 1 ≤ f (points M path)
+    split_less s s' =
+        let a : if_open f s (points M (left_path path j v)) ≤ f (points M (left_path path j v)) = leaf_most s (points M (left_path path j v)) in
+        let b : if_open f s' (points M (right_path path j v)) ≤ f (points M (right_path path j v)) = leaf_most s' (points M (right_path path j v)) in
+        let c : f (points M (left_path path j v)) + f (points M (right_path path j v)) + 1 ≤ f (points M path) =
+        subst (λ n. f (points M (left_path path j v)) + f (points M (right_path path j v)) + 1 ≤ f n) (points-split M path j v allowed) (fewer (points M (left_path path j v)) (points M (right_path path j v)) some_left some_right) in
+        omega (arith, a, b, c)
 
 -- ---- the open leaf
 
@@ -148,14 +159,14 @@ module _ (S : PlainSearch) (sound : IsSound S) (once : (id : ℕ) → leaves_wit
       let most : leaves_with id S.tree.root ≤ 1 = once id in
       omega (arith, some, most)
 
-  -- less work in the place of the leaf
-  lowered : (new : Plain) → work S.model path new + 1 ≤ 2 * points S.model path - 1 → work S.model [] (replaced id new S.tree.root) + 1 ≤ work S.model [] S.tree.root
-  lowered new less =
-      work-replaced S.model id new [] S.tree.root one
-      (each-weaker (λ p l. l.id ≡ id → (p ≡ path) × (l.kept ≡ kept)) (λ p l. l.id ≡ id → work S.model p new + 1 ≤ leaf_work l.kept.state (points S.model p))
+  -- d less in the place of the leaf
+  lowered : (f : ℕ → ℕ) (d : ℕ) (new : Plain) → sum_open f S.model path new + d ≤ f (points S.model path) → sum_open f S.model [] (replaced id new S.tree.root) + d ≤ sum_open f S.model [] S.tree.root
+  lowered f d new less =
+      sum-replaced f S.model id new d [] S.tree.root one
+      (each-weaker (λ p l. l.id ≡ id → (p ≡ path) × (l.kept ≡ kept)) (λ p l. l.id ≡ id → sum_open f S.model p new + d ≤ if_open f l.kept.state (points S.model p))
       (λ p l h same.
       let state : l.kept.state ≡ IsOpen = ap (λ (k : LeafData). k.state) (h same).1 ∙ is_open in
-      subst (λ q. work S.model q new + 1 ≤ leaf_work l.kept.state (points S.model q)) (sym (h same).0) (subst (λ s. work S.model path new + 1 ≤ leaf_work s (points S.model path)) (sym state) less))
+      subst (λ q. sum_open f S.model q new + d ≤ if_open f l.kept.state (points S.model q)) (sym (h same).0) (subst (λ s. sum_open f S.model path new + d ≤ if_open f s (points S.model path)) (sym state) less))
       [] S.tree.root (at_leaf S.tree.root id path kept once at))
 
   some_points : 1 ≤ points S.model path
@@ -171,9 +182,16 @@ module _ (S : PlainSearch) (sound : IsSound S) (once : (id : ℕ) → leaves_wit
     closed mult farkas basis lists closes Reopened h = absurd (h.1 closes)
     closed mult farkas basis lists closes Full h = absurd h
     closed mult farkas basis lists closes Closed h =
+        let data : LeafData = closed_data mult farkas basis in
         let less : 0 + 1 ≤ 2 * points S.model path - 1 = let some : 1 ≤ points S.model path = some_points in omega (arith, some) in
-        let lower : work S.model [] (replaced id (Leaf (record { id = id; kept = closed_data mult farkas basis })) S.tree.root) + 1 ≤ work S.model [] S.tree.root = lowered (Leaf (record { id = id; kept = closed_data mult farkas basis })) less in
-        subst (Lowers S) (sym h.2) (record { model = refl; work = lower })
+        subst (Lowers S) (sym h.2)
+        (record {
+          model = refl;
+          work = lowered (λ n. 2 * n - 1) 1 (Leaf (record { id = id; kept = data })) less;
+          room = room-after S.tree (with_leaf S.tree id data) (splits_of S) (splits S.model [] (with_leaf S.tree id data).root) 0 refl (omega arith)
+              (splits-replaced_leaf id (Leaf (record { id = id; kept = data })) refl S.tree.root ∙ omega arith)
+              (lowered (λ n. n - 1) 0 (Leaf (record { id = id; kept = data })) (omega arith));
+        })
     closed mult farkas basis lists closes Split h = absurd h
     closed mult farkas basis lists closes Kept h = absurd h
 
@@ -189,9 +207,15 @@ module _ (S : PlainSearch) (sound : IsSound S) (once : (id : ℕ) → leaves_wit
     split j v mult basis first fits Split h =
         let left : LeafData = h.2.0 in
         let right : LeafData = h.2.1.0 in
-        let lower : work S.model [] (replaced id (split_node S.tree.last id j v mult basis left right) S.tree.root) + 1 ≤ work S.model [] S.tree.root =
-        lowered (split_node S.tree.last id j v mult basis left right) (split_less S.model integral path not_empty j v fits.allowed left.state right.state) in
-        subst (Lowers S) (sym h.2.1.1.1.1) (record { model = refl; work = lower })
+        let node : Plain = split_node S.tree.last id j v mult basis left right in
+        subst (Lowers S) (sym h.2.1.1.1.1)
+        (record {
+          model = refl;
+          work = lowered (λ n. 2 * n - 1) 1 node (split_less S.model integral path not_empty j v fits.allowed (λ n. 2 * n - 1) (λ p q a b. omega (arith, a, b)) left.state right.state);
+          room = room-after S.tree (tree_with_split S.tree id j v mult basis left right) (splits_of S) (splits S.model [] (tree_with_split S.tree id j v mult basis left right).root) 1 refl (omega arith)
+              (splits-replaced_split id node refl S.tree.root ∙ ap (λ n. split_count S.tree.root + n) one)
+              (lowered (λ n. n - 1) 1 node (split_less S.model integral path not_empty j v fits.allowed (λ n. n - 1) (λ p q a b. omega (arith, a, b)) left.state right.state));
+        })
     split j v mult basis first fits Kept h = absurd h
 
     -- ---- closed with its one point
@@ -217,18 +241,28 @@ module _ (S : PlainSearch) (sound : IsSound S) (once : (id : ℕ) → leaves_wit
         let root_is : mid.tree.root ≡ with_states states S.tree.root = ap (λ (T : NumberedTree). T.root) tree_is in
         let again : EachLeaf (λ p l. IsJudgedLeaf S.model (target S.model mid.points) p l.kept) [] (with_states states S.tree.root) =
         subst (λ t. EachLeaf (λ p l. IsJudgedLeaf S.model (target S.model mid.points) p l.kept) [] t) root_is takes.tree.judged in
-        let some : EachLeaf (λ p l. l.id ≡ id → 1 ≤ leaf_work l.kept.state (points S.model p)) [] S.tree.root =
-        each-weaker (λ p l. l.id ≡ id → (p ≡ path) × (l.kept ≡ kept)) (λ p l. l.id ≡ id → 1 ≤ leaf_work l.kept.state (points S.model p))
+        let data : LeafData = closed_data mult [] basis in
+        let leaf : Plain = Leaf (record { id = id; kept = data }) in
+        let less : (f : ℕ → ℕ) (d : ℕ) → d ≤ f (points S.model path) → sum_open f S.model [] (replaced id leaf (with_states states S.tree.root)) + d ≤ sum_open f S.model [] S.tree.root = λ f d here.
+        sum-closed f S.model (target S.model S.points) (target S.model mid.points) (old_closes S.model S.points x sound.points keepable mid.points takes.points) id mult [] basis d [] S.tree.root states one sound.judged again
+        (each-weaker (λ p l. l.id ≡ id → (p ≡ path) × (l.kept ≡ kept)) (λ p l. l.id ≡ id → d ≤ if_open f l.kept.state (points S.model p))
         (λ p l same_leaf same.
         let state : l.kept.state ≡ IsOpen = ap (λ (k : LeafData). k.state) (same_leaf same).1 ∙ is_open in
-        let here : 1 ≤ 2 * points S.model path - 1 = let some : 1 ≤ points S.model path = some_points in omega (arith, some) in
-        subst (λ q. 1 ≤ leaf_work l.kept.state (points S.model q)) (sym (same_leaf same).0) (subst (λ s. 1 ≤ leaf_work s (points S.model path)) (sym state) here))
-        [] S.tree.root (at_leaf S.tree.root id path kept once at) in
-        let lower : work S.model [] (replaced id (Leaf (record { id = id; kept = closed_data mult [] basis })) (with_states states S.tree.root)) + 1 ≤ work S.model [] S.tree.root =
-        work-closed S.model (target S.model S.points) (target S.model mid.points) (old_closes S.model S.points x sound.points keepable mid.points takes.points) id mult [] basis [] S.tree.root states one sound.judged again some in
-        let lower_mid : work S.model [] (replaced id (Leaf (record { id = id; kept = closed_data mult [] basis })) mid.tree.root) + 1 ≤ work S.model [] S.tree.root =
-        subst (λ t. work S.model [] (replaced id (Leaf (record { id = id; kept = closed_data mult [] basis })) t) + 1 ≤ work S.model [] S.tree.root) (sym root_is) lower in
-        subst (Lowers S) (sym h.3.1.1) (record { model = takes.model; work = subst (λ m. work m [] (replaced id (Leaf (record { id = id; kept = closed_data mult [] basis })) mid.tree.root) + 1 ≤ work S.model [] S.tree.root) (sym takes.model) lower_mid })
+        subst (λ q. d ≤ if_open f l.kept.state (points S.model q)) (sym (same_leaf same).0) (subst (λ s. d ≤ if_open f s (points S.model path)) (sym state) here))
+        [] S.tree.root (at_leaf S.tree.root id path kept once at)) in
+        let work_less : work S.model [] (replaced id leaf (with_states states S.tree.root)) + 1 ≤ work S.model [] S.tree.root =
+        less (λ n. 2 * n - 1) 1 (let some : 1 ≤ points S.model path = some_points in omega (arith, some)) in
+        let room : IsRoomy S → HasRoomFor (splits S.model [] (with_leaf (with_leaf_states S.tree states) id data).root) (with_leaf (with_leaf_states S.tree states) id data) =
+        room-after S.tree (with_leaf (with_leaf_states S.tree states) id data) (splits_of S) (splits S.model [] (with_leaf (with_leaf_states S.tree states) id data).root) 0 refl (omega arith)
+        (splits-replaced_leaf id leaf refl (with_states states S.tree.root) ∙ split_count-states states S.tree.root ∙ omega arith) (less (λ n. n - 1) 0 (omega arith)) in
+        subst (Lowers S) (sym h.3.1.1)
+        (record {
+          model = takes.model;
+          work = subst (λ m. work m [] (replaced id leaf mid.tree.root) + 1 ≤ work S.model [] S.tree.root) (sym takes.model)
+              (subst (λ t. work S.model [] (replaced id leaf t) + 1 ≤ work S.model [] S.tree.root) (sym root_is) work_less);
+          room = subst (λ m. IsRoomy S → HasRoomFor (splits m [] (with_leaf mid.tree id data).root) (with_leaf mid.tree id data)) (sym takes.model)
+              (subst (λ T. IsRoomy S → HasRoomFor (splits S.model [] (with_leaf T id data).root) (with_leaf T id data)) (sym tree_is) room);
+        })
     kept_point x mult basis lists keepable closes Split h = absurd h
     kept_point x mult basis lists keepable closes Kept h = absurd h
 

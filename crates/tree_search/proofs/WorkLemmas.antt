@@ -1,4 +1,4 @@
--- What changes of a tree do to its work: a placed result lowers it.
+-- What changes of a tree do to sums over its open leaves: a placed result lowers them.
 use Rattle.std.specs.Prelude.{◌≡◌, ◌⊎◌, ℕ, zero, suc, ◌+◌, ◌<◌, ◌≤◌, Bool, true, if◌then◌else◌, nat_eq, List, [], ◌∷◌, drop, Option, Some, None, unwrap_or, MatchOption}
 use Rattle.std.specs.Option.{option_map, option_or}
 use Rattle.std.proofs.Common.{refl, sym, subst, ap, ◌∙◌, inl, inr, arith}
@@ -27,7 +27,7 @@ use Rattle.tree_edit.specs.Calls.{IsLeafAt}
 use Rattle.tree_edit.proofs.JudgeLemmas.{closes_same}
 use Rattle.tree_edit.proofs.SoundLemmas.{each-weaker}
 use Rattle.tree_search.specs.Points.{points}
-use Rattle.tree_search.specs.Work.{leaf_work, work}
+use Rattle.tree_search.specs.Work.{if_open, sum_open}
 
 -- ---- the leaf with an id
 
@@ -69,78 +69,78 @@ one_of : (m n : ℕ) → m + n ≡ 1 → ((m ≡ 1) × (n ≡ 0)) ⊎ ((m ≡ 0)
 one_of zero n e = inr (refl, omega arith)
 one_of (suc m) n e = inl (omega arith, omega arith)
 
-module _ (M : Program) (id : ℕ) (new : Plain) where
-  -- with less work in the place of the leaf with the id there is less of it
-  pub work-replaced : (path : Path) (t : Plain) → leaves_with id t ≡ 1 → EachLeaf (λ p l. l.id ≡ id → work M p new + 1 ≤ leaf_work l.kept.state (points M p)) path t → work M path (replaced id new t) + 1 ≤ work M path t
-  work-replaced path (Leaf l) one less = elim (eqb_tells l.id id) [
-    | inl same ↦ subst (λ (c : Bool). work M path (if c then new else Leaf l) + 1 ≤ leaf_work l.kept.state (points M path)) (sym same.0) (less same.1)
+module _ (f : ℕ → ℕ) (M : Program) (id : ℕ) (new : Plain) (d : ℕ) where
+  -- with d less in the place of the leaf with the id there is d less of it
+  pub sum-replaced : (path : Path) (t : Plain) → leaves_with id t ≡ 1 → EachLeaf (λ p l. l.id ≡ id → sum_open f M p new + d ≤ if_open f l.kept.state (points M p)) path t → sum_open f M path (replaced id new t) + d ≤ sum_open f M path t
+  sum-replaced path (Leaf l) one less = elim (eqb_tells l.id id) [
+    | inl same ↦ subst (λ (c : Bool). sum_open f M path (if c then new else Leaf l) + d ≤ if_open f l.kept.state (points M path)) (sym same.0) (less same.1)
     | inr apart ↦ let none : one_if_same l.id id ≡ 0 = ap (λ (c : Bool). if c then 1 else 0) apart.0 in absurd (omega (arith, none, one))
   ]
-  work-replaced path (Split kept j v left right) one less = elim (one_of (leaves_with id left) (leaves_with id right) one) [
+  sum-replaced path (Split kept j v left right) one less = elim (one_of (leaves_with id left) (leaves_with id right) one) [
     | inl first ↦
-        let h : work M (left_path path j v) (replaced id new left) + 1 ≤ work M (left_path path j v) left = work-replaced (left_path path j v) left first.0 less.0 in
-        let same : work M (right_path path j v) (replaced id new right) ≡ work M (right_path path j v) right = ap (work M (right_path path j v)) (no_leaf id new right first.1) in
+        let h : sum_open f M (left_path path j v) (replaced id new left) + d ≤ sum_open f M (left_path path j v) left = sum-replaced (left_path path j v) left first.0 less.0 in
+        let same : sum_open f M (right_path path j v) (replaced id new right) ≡ sum_open f M (right_path path j v) right = ap (sum_open f M (right_path path j v)) (no_leaf id new right first.1) in
         omega (arith, h, same)
     | inr second ↦
-        let h : work M (right_path path j v) (replaced id new right) + 1 ≤ work M (right_path path j v) right = work-replaced (right_path path j v) right second.1 less.1 in
-        let same : work M (left_path path j v) (replaced id new left) ≡ work M (left_path path j v) left = ap (work M (left_path path j v)) (no_leaf id new left second.0) in
+        let h : sum_open f M (right_path path j v) (replaced id new right) + d ≤ sum_open f M (right_path path j v) right = sum-replaced (right_path path j v) right second.1 less.1 in
+        let same : sum_open f M (left_path path j v) (replaced id new left) ≡ sum_open f M (left_path path j v) left = ap (sum_open f M (left_path path j v)) (no_leaf id new left second.0) in
         omega (arith, h, same)
   ]
 
 -- ---- leaves judged again
 
-module _ (M : Program) (t t' : Option ℚ) (closer : (n : LeafNumber) → NumberCloses M t n → NumberCloses M t' n) where
+module _ (f : ℕ → ℕ) (M : Program) (t t' : Option ℚ) (closer : (n : LeafNumber) → NumberCloses M t n → NumberCloses M t' n) where
   -- a leaf that was closed stays closed
-  judged-le : (path : Path) (mult farkas : Multipliers) (s s' : LeafState) (n : ℕ) → IsJudged M t path mult farkas s → IsJudged M t' path mult farkas s' → leaf_work s' n ≤ leaf_work s n
+  judged-le : (path : Path) (mult farkas : Multipliers) (s s' : LeafState) (n : ℕ) → IsJudged M t path mult farkas s → IsJudged M t' path mult farkas s' → if_open f s' n ≤ if_open f s n
   judged-le path mult farkas s s' n old new = by s s' old.says new.says
     where
-      by : (s s' : LeafState) → StateSays s (NumberCloses M t old.number) → StateSays s' (NumberCloses M t' new.number) → leaf_work s' n ≤ leaf_work s n
+      by : (s s' : LeafState) → StateSays s (NumberCloses M t old.number) → StateSays s' (NumberCloses M t' new.number) → if_open f s' n ≤ if_open f s n
       by IsOpen IsOpen h k = omega arith
       by IsOpen IsClosed h k = omega arith
       by IsClosed IsClosed h k = omega arith
       by IsClosed IsOpen h k = absurd (k (closes_same M path mult farkas t' new.number old.number new.number_is old.number_is (closer old.number h)))
 
-  work-states : (path : Path) (u : Plain) (states : List LeafState) → EachLeaf (λ p l. IsJudgedLeaf M t p l.kept) path u → EachLeaf (λ p l. IsJudgedLeaf M t' p l.kept) path (with_states states u)
-      → work M path (with_states states u) ≤ work M path u
-  work-states path (Leaf l) [] old new = omega arith
-  work-states path (Leaf l) (s ∷ states) old new = judged-le path l.kept.mult l.kept.farkas l.kept.state s (points M path) old new
-  work-states path (Split kept j v left right) states old new =
-      let a : work M (left_path path j v) (with_states states left) ≤ work M (left_path path j v) left = work-states (left_path path j v) left states old.0 new.0 in
-      let b : work M (right_path path j v) (with_states (drop (leaf_count left) states) right) ≤ work M (right_path path j v) right = work-states (right_path path j v) right (drop (leaf_count left) states) old.1 new.1 in
+  sum-states : (path : Path) (u : Plain) (states : List LeafState) → EachLeaf (λ p l. IsJudgedLeaf M t p l.kept) path u → EachLeaf (λ p l. IsJudgedLeaf M t' p l.kept) path (with_states states u)
+      → sum_open f M path (with_states states u) ≤ sum_open f M path u
+  sum-states path (Leaf l) [] old new = omega arith
+  sum-states path (Leaf l) (s ∷ states) old new = judged-le path l.kept.mult l.kept.farkas l.kept.state s (points M path) old new
+  sum-states path (Split kept j v left right) states old new =
+      let a : sum_open f M (left_path path j v) (with_states states left) ≤ sum_open f M (left_path path j v) left = sum-states (left_path path j v) left states old.0 new.0 in
+      let b : sum_open f M (right_path path j v) (with_states (drop (leaf_count left) states) right) ≤ sum_open f M (right_path path j v) right = sum-states (right_path path j v) right (drop (leaf_count left) states) old.1 new.1 in
       omega (arith, a, b)
 
-  module _ (id : ℕ) (mult farkas : Multipliers) (basis : Basis) where
+  module _ (id : ℕ) (mult farkas : Multipliers) (basis : Basis) (d : ℕ) where
     abbrev pub closed : LeafKept
     closed = record { id = id; kept = record { state = IsClosed; mult = mult; farkas = farkas; basis = basis } }
 
     -- and the leaf with the id closed
-    pub work-closed : (path : Path) (u : Plain) (states : List LeafState) → leaves_with id u ≡ 1 → EachLeaf (λ p l. IsJudgedLeaf M t p l.kept) path u → EachLeaf (λ p l. IsJudgedLeaf M t' p l.kept) path (with_states states u)
-        → EachLeaf (λ p l. l.id ≡ id → 1 ≤ leaf_work l.kept.state (points M p)) path u → work M path (replaced id (Leaf closed) (with_states states u)) + 1 ≤ work M path u
-    work-closed path (Leaf l) states one old new some = by states
+    pub sum-closed : (path : Path) (u : Plain) (states : List LeafState) → leaves_with id u ≡ 1 → EachLeaf (λ p l. IsJudgedLeaf M t p l.kept) path u → EachLeaf (λ p l. IsJudgedLeaf M t' p l.kept) path (with_states states u)
+        → EachLeaf (λ p l. l.id ≡ id → d ≤ if_open f l.kept.state (points M p)) path u → sum_open f M path (replaced id (Leaf closed) (with_states states u)) + d ≤ sum_open f M path u
+    sum-closed path (Leaf l) states one old new some = by states
       where
-        by : (states : List LeafState) → work M path (replaced id (Leaf closed) (with_states states (Leaf l))) + 1 ≤ leaf_work l.kept.state (points M path)
+        by : (states : List LeafState) → sum_open f M path (replaced id (Leaf closed) (with_states states (Leaf l))) + d ≤ if_open f l.kept.state (points M path)
         by [] = elim (eqb_tells l.id id) [
-          | inl same ↦ subst (λ (c : Bool). work M path (if c then Leaf closed else Leaf l) + 1 ≤ leaf_work l.kept.state (points M path)) (sym same.0) (let h : 1 ≤ leaf_work l.kept.state (points M path) = some same.1 in omega (arith, h))
+          | inl same ↦ subst (λ (c : Bool). sum_open f M path (if c then Leaf closed else Leaf l) + d ≤ if_open f l.kept.state (points M path)) (sym same.0) (let h : d ≤ if_open f l.kept.state (points M path) = some same.1 in omega (arith, h))
           | inr apart ↦ let none : one_if_same l.id id ≡ 0 = ap (λ (c : Bool). if c then 1 else 0) apart.0 in absurd (omega (arith, none, one))
         ]
         by (s ∷ states) = elim (eqb_tells l.id id) [
-          | inl same ↦ subst (λ (c : Bool). work M path (if c then Leaf closed else Leaf (record { id = l.id; kept = with_state s l.kept })) + 1 ≤ leaf_work l.kept.state (points M path)) (sym same.0) (let h : 1 ≤ leaf_work l.kept.state (points M path) = some same.1 in omega (arith, h))
+          | inl same ↦ subst (λ (c : Bool). sum_open f M path (if c then Leaf closed else Leaf (record { id = l.id; kept = with_state s l.kept })) + d ≤ if_open f l.kept.state (points M path)) (sym same.0) (let h : d ≤ if_open f l.kept.state (points M path) = some same.1 in omega (arith, h))
           | inr apart ↦ let none : one_if_same l.id id ≡ 0 = ap (λ (c : Bool). if c then 1 else 0) apart.0 in absurd (omega (arith, none, one))
         ]
-    work-closed path (Split kept j v left right) states one old new some = elim (one_of (leaves_with id left) (leaves_with id right) one) [
+    sum-closed path (Split kept j v left right) states one old new some = elim (one_of (leaves_with id left) (leaves_with id right) one) [
       | inl first ↦
           let later : List LeafState = drop (leaf_count left) states in
-          let h : work M (left_path path j v) (replaced id (Leaf closed) (with_states states left)) + 1 ≤ work M (left_path path j v) left = work-closed (left_path path j v) left states first.0 old.0 new.0 some.0 in
-          let same : work M (right_path path j v) (replaced id (Leaf closed) (with_states later right)) ≡ work M (right_path path j v) (with_states later right) =
-          ap (work M (right_path path j v)) (no_leaf id (Leaf closed) (with_states later right) (leaves_with-states id later right ∙ first.1)) in
-          let k : work M (right_path path j v) (with_states later right) ≤ work M (right_path path j v) right = work-states (right_path path j v) right later old.1 new.1 in
+          let h : sum_open f M (left_path path j v) (replaced id (Leaf closed) (with_states states left)) + d ≤ sum_open f M (left_path path j v) left = sum-closed (left_path path j v) left states first.0 old.0 new.0 some.0 in
+          let same : sum_open f M (right_path path j v) (replaced id (Leaf closed) (with_states later right)) ≡ sum_open f M (right_path path j v) (with_states later right) =
+          ap (sum_open f M (right_path path j v)) (no_leaf id (Leaf closed) (with_states later right) (leaves_with-states id later right ∙ first.1)) in
+          let k : sum_open f M (right_path path j v) (with_states later right) ≤ sum_open f M (right_path path j v) right = sum-states (right_path path j v) right later old.1 new.1 in
           omega (arith, h, same, k)
       | inr second ↦
           let later : List LeafState = drop (leaf_count left) states in
-          let h : work M (right_path path j v) (replaced id (Leaf closed) (with_states later right)) + 1 ≤ work M (right_path path j v) right = work-closed (right_path path j v) right later second.1 old.1 new.1 some.1 in
-          let same : work M (left_path path j v) (replaced id (Leaf closed) (with_states states left)) ≡ work M (left_path path j v) (with_states states left) =
-          ap (work M (left_path path j v)) (no_leaf id (Leaf closed) (with_states states left) (leaves_with-states id states left ∙ second.0)) in
-          let k : work M (left_path path j v) (with_states states left) ≤ work M (left_path path j v) left = work-states (left_path path j v) left states old.0 new.0 in
+          let h : sum_open f M (right_path path j v) (replaced id (Leaf closed) (with_states later right)) + d ≤ sum_open f M (right_path path j v) right = sum-closed (right_path path j v) right later second.1 old.1 new.1 some.1 in
+          let same : sum_open f M (left_path path j v) (replaced id (Leaf closed) (with_states states left)) ≡ sum_open f M (left_path path j v) (with_states states left) =
+          ap (sum_open f M (left_path path j v)) (no_leaf id (Leaf closed) (with_states states left) (leaves_with-states id states left ∙ second.0)) in
+          let k : sum_open f M (left_path path j v) (with_states states left) ≤ sum_open f M (left_path path j v) left = sum-states (left_path path j v) left states old.0 new.0 in
           omega (arith, h, same, k)
     ]
 

@@ -1,11 +1,16 @@
--- What single rows show of a region with one whole point.
-use Rattle.std.specs.Prelude.{◌≡◌, ℕ, ◌+◌, ◌<◌, ◌≤◌, ℤ, [], None, length}
-use Rattle.lp_model.specs.Program.{Program, Point, RowHolds}
+-- Laws of regions, of what a search can still do, and of its bound.
+use Rattle.std.specs.Prelude.{◌≡◌, ℕ, ◌+◌, ◌-◌, ◌^◌, ◌<◌, ◌≤◌, ℤ, [], Some, None, length}
+use Rattle.rational.specs.Rational.{ℚ, ◌≤ℚ◌}
+use Rattle.lp_model.specs.Program.{Program, Point, RowHolds, IsFeasible, least_value, in_least_form}
 use Rattle.lp_model.specs.Regions.{Path, IsEmptyRegion}
 use Rattle.branch_tree.specs.Tree.{left_path, right_path, IsLawful}
 use Rattle.branch_tree.specs.Plain.{Plain}
-use Rattle.tree_search.specs.Work.{work, cap_of}
+use Rattle.tree_search.specs.Work.{whole_points, cap_of, work, splits}
 use Rattle.tree_edit.specs.Checks.{IsSplitAllowed}
+use Rattle.tree_edit.specs.Calls.{IsFresh}
+use Rattle.tree_edit.specs.Sound.{PlainSearch}
+use Rattle.tree_search.specs.Bounds.{IsBoundOf}
+use Rattle.tree_search.specs.Causes.{IsEnough}
 use Rattle.tree_search.specs.Integral.{IsIntegral}
 use Rattle.tree_search.specs.Points.{points, IsOpenColumn}
 use Rattle.tree_search.specs.Refuting.{IsTrial, IsRefutingOf}
@@ -35,3 +40,16 @@ SomePointLaw = (M : Program) (path : Path) → IsIntegral M → (¬ IsEmptyRegio
 -- the work of a tree is at most the cap of its model
 abbrev pub CapLaw : Type 0
 CapLaw = (M : Program) (t : Plain) → IsIntegral M → IsLawful M t → work M [] t ≤ cap_of M
+
+-- a search's splits are fewer than the model's points, if it has any
+abbrev pub SplitCapLaw : Type 0
+SplitCapLaw = (M : Program) (t : Plain) → IsIntegral M → IsLawful M t → splits M [] t ≤ whole_points M - 1
+
+-- a new search whose tree may have as many nodes as the cap says has enough with as many results
+abbrev pub EnoughLaw : Type 0
+EnoughLaw = (M : Program) (nodes limit : ℕ) (S : PlainSearch) → IsFresh M nodes S → cap_of M ≤ nodes → nodes ≤ 2 ^ 63 → cap_of M ≤ limit → IsEnough S limit
+
+-- no feasible point is better than the bound of the open leaves
+abbrev pub StopBoundLaw : Type 0
+StopBoundLaw =
+    (S : PlainSearch) (bound : ℚ) (x : Point) → IsBoundOf S (Some bound) → IsFeasible S.model x → in_least_form S.model.sense bound ≤ℚ least_value S.model 1 x

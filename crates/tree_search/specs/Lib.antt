@@ -6,5 +6,6 @@ pub mod Points
 pub mod Work
 pub mod Working
 pub mod Steps
+pub mod Causes
 pub mod Search
 pub mod Bounds

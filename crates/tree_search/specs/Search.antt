@@ -1,16 +1,18 @@
 -- What a search shows of its model: an optimum, that there is no feasible point, or what is known where it stopped.
-use Rattle.std.specs.Prelude.{◌≡◌, ℕ, ◌<◌, ◌≤◌, Option, Some, None}
+use Rattle.std.specs.Prelude.{◌≡◌, ◌⊎◌, ℕ, ◌<◌, ◌≤◌, Option, Some, None}
 use Rattle.std.specs.Option.{option_map}
 use Rattle.rational.specs.Rational.{ℚ}
 use Rattle.lp_model.specs.Program.{Program, Point, IsFeasible, IsOptimum, IsEmpty, value, in_least_form}
-use Rattle.lp_model.specs.Regions.{Path}
+use Rattle.lp_model.specs.Regions.{Path, InRegion}
 use Rattle.lp_model.specs.declared.types.WideStep.{WideStep}
 use Rattle.tree_edit.specs.Points.{target}
+use Rattle.tree_edit.specs.Laws.{IsNoBetter}
 use Rattle.tree_edit.specs.Sound.{PlainSearch}
 use Rattle.tree_search.specs.Bounds.{IsBoundOf}
 use Rattle.tree_search.specs.Work.{cap_of}
 use Rattle.tree_search.specs.Working.{IsWidePoint}
-use Rattle.tree_search.specs.Steps.{IsOpenLeaf, IsTooFull, PlacesMany}
+use Rattle.tree_search.specs.Steps.{IsOpenLeaf, IsTooFull, Goes}
+use Rattle.tree_search.specs.Causes.{HasCause}
 use Rattle.tree_search.specs.declared.stepping.StopWhy.{StopWhy}
 use Rattle.tree_search.specs.declared.stepping.StopWhy.TheVariants.{Nodes, Tree, Wide}
 use Rattle.tree_search.specs.declared.searching.Outcome.{Outcome}
@@ -59,10 +61,33 @@ StopsFor S limit n Nodes = StopsAtLimit S limit n
 StopsFor S limit n Tree = StopsAtFull S limit n
 StopsFor S limit n (Wide path step) = StopsAtPoint S limit n path step
 
+-- ---- what is known there
+
+-- x is in the region of an open leaf
+pub record IsInOpenLeaf (S : PlainSearch) (x : Point) : Type 0 where
+  pub id : ℕ
+  pub path : Path
+  pub leaf : IsOpenLeaf S id path
+  pub inside : InRegion path x
+
+-- the best value of the kept points in the model's own sense, if there is one
+abbrev pub best_value : PlainSearch → Option ℚ
+best_value S = option_map (in_least_form S.model.sense) (target S.model S.points)
+
+-- each feasible point is in an open leaf's region or no better than the best kept one, whose value this is, and the bound
+-- is that of the open leaves
+pub record StopsWith (S : PlainSearch) (bound best : Option ℚ) : Type 0 where
+  pub cover : (x : Point) → IsFeasible S.model x → IsInOpenLeaf S x ⊎ IsNoBetter S.model (target S.model S.points) x
+  pub bound_is : IsBoundOf S bound
+  pub best_is : best ≡ best_value S
+  pub found : IsValueFound S.model best
+
+-- ---- the whole search
+
 abbrev pub Shows : PlainSearch → ℕ → Outcome → Type 0
 Shows S limit (Optimal v x n) = FindsOptimum S.model limit v x n
 Shows S limit (Infeasible n) = FindsNone S.model limit n
-Shows S limit (Stopped why n bound best) = StopsFor S limit n why × IsBoundOf S bound × IsValueFound S.model best
+Shows S limit (Stopped why n bound best) = StopsFor S limit n why × StopsWith S bound best
 
 abbrev pub placed_of : Outcome → ℕ
 placed_of (Optimal v x n) = n
@@ -73,12 +98,14 @@ placed_of (Stopped why n bound best) = n
 abbrev pub ShowsFor : PlainSearch → ℕ → ℕ → Outcome → Type 0
 ShowsFor S limit n outcome = (placed_of outcome ≡ n) × Shows S limit outcome
 
--- the model is as it was, and so many results were placed
+-- so many results were placed, the search had from its start a cause to stop, if it stops, and this it shows now
 pub record Finds (old new : PlainSearch) (limit : ℕ) (outcome : Outcome) : Type 0 where
-  pub model : new.model ≡ old.model
-  pub placed : PlacesMany (placed_of outcome) old new
+  pub goes : Goes (placed_of outcome) old new
+  pub cause : HasCause old limit outcome
   pub shows : Shows new limit outcome
 
--- the best value of the kept points in the model's own sense, if there is one
-abbrev pub best_value : PlainSearch → Option ℚ
-best_value S = option_map (in_least_form S.model.sense) (target S.model S.points)
+-- without memory: results were placed, no more than the limit allows, and the search can go on
+pub record GivesUp (old new : PlainSearch) (limit : ℕ) : Type 0 where
+  pub placed : ℕ
+  pub within_limit : placed ≤ limit
+  pub goes : Goes placed old new

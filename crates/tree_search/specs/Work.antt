@@ -2,12 +2,15 @@
 --     whole_points M       how many whole points the integer columns have within their bounds
 --     cap_of M             the most results of a search of a model
 --     work M path t        the most results of a search from a tree: for each open leaf one for each of its points, and one for each split before it
-use Rattle.std.specs.Prelude.{ℕ, ◌+◌, ◌*◌, ◌-◌, max, if◌then◌else◌, List, [], ◌∷◌}
+--     splits M path t      the most splits among them
+--     HasRoomFor n T       the tree T has room for n more splits
+use Rattle.std.specs.Prelude.{ℕ, ◌+◌, ◌*◌, ◌-◌, ◌^◌, ◌<◌, ◌≤◌, max, if◌then◌else◌, List, [], ◌∷◌}
 use Rattle.lp_model.specs.Program.{Program}
 use Rattle.lp_model.specs.Regions.{Path}
 use Rattle.lp_model.specs.declared.types.Col.{Col}
-use Rattle.branch_tree.specs.Tree.{Leaf, Split, left_path, right_path}
+use Rattle.branch_tree.specs.Tree.{Leaf, Split, left_path, right_path, node_count, split_count}
 use Rattle.branch_tree.specs.Plain.{Plain}
+use Rattle.branch_tree.specs.Numbered.{NumberedTree}
 use Rattle.branch_tree.specs.declared.node.LeafState.{LeafState}
 use Rattle.branch_tree.specs.declared.node.LeafState.TheVariants.{IsOpen, IsClosed}
 use Rattle.tree_search.specs.Points.{points, numbers_within}
@@ -30,10 +33,24 @@ results_for n = max 1 (2 * n - 1)
 abbrev pub cap_of : Program → ℕ
 cap_of M = results_for (whole_points M)
 
-abbrev pub leaf_work : LeafState → ℕ → ℕ
-leaf_work IsOpen n = 2 * n - 1
-leaf_work IsClosed n = 0
+-- ---- what is left to do in a tree
+
+-- f of how many points an open leaf has
+abbrev pub if_open : (ℕ → ℕ) → LeafState → ℕ → ℕ
+if_open f IsOpen n = f n
+if_open f IsClosed n = 0
+
+abbrev pub sum_open : (ℕ → ℕ) → Program → Path → Plain → ℕ
+sum_open f M path (Leaf l) = if_open f l.kept.state (points M path)
+sum_open f M path (Split kept j v left right) = sum_open f M (left_path path j v) left + sum_open f M (right_path path j v) right
 
 abbrev pub work : Program → Path → Plain → ℕ
-work M path (Leaf l) = leaf_work l.kept.state (points M path)
-work M path (Split kept j v left right) = work M (left_path path j v) left + work M (right_path path j v) right
+work M path t = sum_open (λ n. 2 * n - 1) M path t
+
+abbrev pub splits : Program → Path → Plain → ℕ
+splits M path t = sum_open (λ n. n - 1) M path t
+
+-- each split takes two nodes and two ids, and one id more is left for it, for its collapse
+pub record HasRoomFor (n : ℕ) (T : NumberedTree) : Type 0 where
+  pub nodes : node_count T.root + 2 * n ≤ T.limit
+  pub ids : T.last + split_count T.root + 3 * n < 2 ^ 64

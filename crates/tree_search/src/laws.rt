@@ -1,5 +1,5 @@
-// What regions are: their points, and what single rows show of those with one.
-ghost use Rattle.tree_search.specs.Laws.{SingleLaw, CornerLaw, SplitLaw, SomePointLaw, CapLaw};
+// Laws of regions, of what a search can still do, and of its bound, as clauses of calls that do nothing.
+ghost use Rattle.tree_search.specs.Laws.{SingleLaw, CornerLaw, SplitLaw, SomePointLaw, CapLaw, SplitCapLaw, EnoughLaw, StopBoundLaw};
 
 /// Where no trial of a row refutes a region with one whole point, and no trial has a step without room, that point breaks
 /// no row.
@@ -25,4 +25,19 @@ pub fn some_point_law()
 /// The open leaves of a tree can take at most as many results as the model's cap.
 pub fn cap_law()
     ensures { CapLaw }
+{}
+
+/// The open leaves of a tree can take fewer splits than the model has whole points, if it has any.
+pub fn split_cap_law()
+    ensures { SplitCapLaw }
+{}
+
+/// A new search whose tree may have as many nodes as the model's cap has enough with as many results.
+pub fn enough_law()
+    ensures { EnoughLaw }
+{}
+
+/// No feasible point is better than the bound of a search that stopped.
+pub fn stop_bound_law()
+    ensures { StopBoundLaw }
 {}

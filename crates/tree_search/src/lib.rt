@@ -11,20 +11,30 @@
 //! its one point. An open leaf takes at most 2 points - 1 results: one for each point, and one for each split before it.
 //!
 //! Public contract: what `solve` answers is a theorem (`Finds` in specs/Search): an optimum, or that no point is feasible,
-//! or why it stopped and what is known there.
+//! or why it stopped and what is known there. Each stop had its cause from the start (`HasCause` in specs/Causes), so a
+//! search with a limit of `cap`, room in the tree for each split and room for each step goes to the end.
 //!
 //! Below stand the searches (`tree_edit`), the numbers of leaves (`leaf_dual`) and the models (`lp_model`). No command calls
 //! this yet: the shell searches with `box_search`, whose place this is to take.
 #![tactic(auto)]
 
 mod bounds;
+mod counting;
+mod integral;
 mod laws;
 mod refuting;
 mod regions;
 mod searching;
 mod stepping;
+#[cfg(test)]
+mod tests;
 mod working;
 
-pub use laws::{cap_law, corner_law, single_law, some_point_law, split_law};
+pub use counting::cap;
+pub use integral::is_integral;
+pub use laws::{
+    cap_law, corner_law, enough_law, single_law, some_point_law, split_cap_law, split_law,
+    stop_bound_law,
+};
 pub use searching::{Outcome, solve};
 pub use stepping::StopWhy;

@@ -1,5 +1,5 @@
 // The search: open leaves are worked until none is left, or it stops.
-ghost use Rattle.std.specs.Prelude.{◌≡◌, ◌≤◌, ℕ, IfOk};
+ghost use Rattle.std.specs.Prelude.{◌≡◌, ◌≤◌, ℕ, IfOk, OnErr};
 ghost use Rattle.lp_model.specs.Program.{in_least_form};
 ghost use Rattle.tree_edit.specs.Laws.{HasNoOpenLeaf};
 ghost use Rattle.tree_search.specs.Integral.{IsIntegral};
@@ -7,7 +7,8 @@ ghost use Rattle.lp_model.specs.Regions.{Path};
 ghost use Rattle.tree_search.specs.Steps.{IsOpenLeaf};
 ghost use Rattle.tree_search.specs.Bounds.{IsBoundOf};
 ghost use Rattle.tree_search.specs.Work.{cap_of};
-ghost use Rattle.tree_search.specs.Search.{StopsFor, ShowsFor, Finds, best_value};
+ghost use Rattle.tree_search.specs.Causes.{IsEnough, IsJudgeable, IsFinished};
+ghost use Rattle.tree_search.specs.Search.{StopsFor, ShowsFor, Finds, GivesUp, best_value};
 
 use crate::bounds::least_number;
 use crate::stepping::{StopWhy, next_open, step};
@@ -98,6 +99,7 @@ fn stopped(search: &Search, limit: u64, why: StopWhy, placed: u64) -> Result<Out
     ensures { IfOk result (λ outcome. ShowsFor search.now limit placed outcome) }
 {
     let _sound = search.points();
+    let _numbered = search.tree().nodes();
     let bound = bound_of(search)?;
     Ok(Outcome::Stopped {
         why,
@@ -109,10 +111,13 @@ fn stopped(search: &Search, limit: u64, why: StopWhy, placed: u64) -> Result<Out
 
 /// Works open leaves until none is left. It stops where it has placed as many results as the limit allows and a leaf is
 /// open, where the tree has no room for a split, and where a step without room keeps the one point of a region from being
-/// judged.
+/// judged. With enough results and nodes for the model, and room for each step, it goes to the end. Where there is no
+/// memory the results that were placed stay, and the search can go on.
 pub fn solve(alloc: Global, search: &mut Search, limit: u64) -> Result<Outcome, AllocError>
     requires { IsIntegral search.old.model }
-    ensures { IfOk result (λ outcome. Finds search.old search.new limit outcome) }
+    ensures found { IfOk result (λ outcome. Finds search.old search.new limit outcome) }
+    ensures complete { IfOk result (λ outcome. IsEnough search.old limit → IsJudgeable search.old.model → IsFinished outcome) }
+    ensures unfinished { OnErr result (GivesUp search.old search.new limit) }
 {
     let _sound = search.points();
     let mut placed = 0;

@@ -1,5 +1,5 @@
 // One step of a search: an open leaf is chosen, worked, and the result placed.
-ghost use Rattle.std.specs.Prelude.{◌≡◌, IfOk, MatchOption};
+ghost use Rattle.std.specs.Prelude.{◌≡◌, IfOk, OnErr, MatchOption};
 ghost use Rattle.tree_edit.specs.Laws.{HasNoOpenLeaf};
 ghost use Rattle.tree_edit.specs.Sound.{IsSound};
 ghost use Rattle.tree_search.specs.Integral.{IsIntegral};
@@ -56,7 +56,8 @@ fn place_result(
     requires integral { IsIntegral search.old.model }
     requires leaf { IsOpenLeaf search.old leaf.now.id leaf.now.region }
     requires done { IsResultFor search.old.model leaf.now.region done }
-    ensures { IfOk result (λ why. Steps search.old leaf.now.region search.new why) }
+    ensures steps { IfOk result (λ why. Steps search.old leaf.now.region search.new why) }
+    ensures kept { OnErr result (search.new ≡ search.old) }
 {
     let _sound = search.points();
     let _numbered = search.tree().nodes();
@@ -74,7 +75,8 @@ pub(crate) fn step(
 ) -> Result<Option<StopWhy>, AllocError>
     requires integral { IsIntegral search.old.model }
     requires leaf { IsOpenLeaf search.old leaf.id leaf.region }
-    ensures { IfOk result (λ why. Steps search.old leaf.region search.new why) }
+    ensures steps { IfOk result (λ why. Steps search.old leaf.region search.new why) }
+    ensures kept { OnErr result (search.new ≡ search.old) }
 {
     let _sound = search.points();
     match work_on(alloc, search.model(), &leaf.region)? {

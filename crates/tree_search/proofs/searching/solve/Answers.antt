@@ -1,20 +1,19 @@
 use Rattle.std.specs.Prelude.{◌≡◌, ◌<◌, ◌≤◌, MatchOption, Some}
-use Rattle.std.proofs.Common.{subst, sym, ap, ◌∙◌, arith, refl}
+use Rattle.std.proofs.Common.{subst, sym, arith, refl}
 use Rattle.tree_edit.specs.Laws.{HasNoOpenLeaf}
 use Rattle.tree_search.specs.Work.{cap_of}
-use Rattle.tree_search.specs.Steps.{IsOpenLeaf, IsNextLeaf, Steps, work_of}
+use Rattle.tree_search.specs.Steps.{IsOpenLeaf, IsNextLeaf, Steps, Goes, work_of}
 use Rattle.tree_search.specs.Search.{StopsAtLeaf}
 use Rattle.tree_search.proofs.CapLemmas.{work-cap}
-use Rattle.tree_search.proofs.SearchLemmas.{at-leaf, stops-for, step-same, finds}
-use Rattle.tree_edit.specs.Sound.{PlainSearch}
-use Rattle.tree_search.specs.Steps.{PlacesMany}
+use Rattle.tree_search.proofs.SearchLemmas.{at-leaf, stops-for, step-same}
+use Rattle.tree_search.proofs.CauseLemmas.{goes-on, found, complete, gives-up}
 use Rattle.tree_search.proofs.searching.solve.Goals as goal
 
 pub loop-leaf-init : goal.loop-leaf-init
 loop-leaf-init c =
     let S = c.args.search.now in
     let cap : work_of S ≤ cap_of S.model = work-cap S.model S.tree.root c.requires c.points-sound.ensures.sound.tree.lawful in
-    record { model = refl; placed = refl; integral = c.requires; limit = omega arith; cap = omega (arith, cap) }
+    record { model = refl; placed = refl; work = omega arith; room = λ roomy. roomy; integral = c.requires; limit = omega arith; cap = omega (arith, cap) }
 
 pub stopped-requires : goal.stopped-requires
 stopped-requires c =
@@ -30,21 +29,47 @@ stopped-requires-in-Some-2 c =
     let leaf : IsOpenLeaf S c.in-Some.leaf.id c.in-Some.leaf.region = next.leaf in
     let here : StopsAtLeaf S c.loop-leaf.placed c.in-Some.leaf.region = at-leaf S c.in_ok-leaf.ensures.sound c.loop-leaf.invariant.integral c.loop-leaf.placed c.in-Some.leaf.id c.in-Some.leaf.region leaf c.loop-leaf.invariant.cap in
     let below : c.loop-leaf.placed < c.args.limit = let most : c.loop-leaf.placed ≤ c.args.limit = c.loop-leaf.invariant.limit in let other : c.loop-leaf.placed ≡ c.args.limit → ⊥ = c.if-placed-limit.false in omega (arith, most, other) in
-    let steps : Steps S c.in-Some.leaf.region c.step.new.search (Some c.in-Some-2.why) = subst (Steps S c.in-Some.leaf.region c.step.new.search) c.in-Some-2.is c.in_ok-why.ensures in
+    let steps : Steps S c.in-Some.leaf.region c.step.new.search (Some c.in-Some-2.why) = subst (Steps S c.in-Some.leaf.region c.step.new.search) c.in-Some-2.is c.in_ok-why.ensures.steps in
     stops-for S c.in-Some.leaf.region c.step.new.search c.args.limit c.loop-leaf.placed c.in-Some-2.why steps here below
 
-pub returns-then-placed-limit : goal.returns-then-placed-limit
-returns-then-placed-limit c = finds c.args.search.now c.loop-leaf.search c.args.limit c.loop-leaf.placed c.stopped.result c.loop-leaf.invariant.model c.loop-leaf.invariant.placed c.stopped.ensures
+pub returns-then-placed-limit-clause-found : goal.returns-then-placed-limit-clause-found
+returns-then-placed-limit-clause-found c = found c.args.search.now c.loop-leaf.search c.args.limit c.loop-leaf.placed c.stopped.result c.points-sound.ensures.sound c.requires c.loop-leaf.invariant.limit (goes-on c.args.search.now c.loop-leaf.search c.loop-leaf.placed c.loop-leaf.invariant.model c.loop-leaf.invariant.placed c.loop-leaf.invariant.work c.loop-leaf.invariant.room c.in_ok-leaf.ensures.sound) c.stopped.ensures
 
-pub returns-in-Some-2 : goal.returns-in-Some-2
-returns-in-Some-2 c =
+pub returns-then-placed-limit-clause-complete : goal.returns-then-placed-limit-clause-complete
+returns-then-placed-limit-clause-complete c = complete c.args.search.now c.loop-leaf.search c.args.limit c.loop-leaf.placed c.stopped.result c.points-sound.ensures.sound c.requires c.loop-leaf.invariant.limit (goes-on c.args.search.now c.loop-leaf.search c.loop-leaf.placed c.loop-leaf.invariant.model c.loop-leaf.invariant.placed c.loop-leaf.invariant.work c.loop-leaf.invariant.room c.in_ok-leaf.ensures.sound) c.stopped.ensures
+
+pub returns-then-placed-limit-clause-unfinished : goal.returns-then-placed-limit-clause-unfinished
+returns-then-placed-limit-clause-unfinished c = gives-up c.args.search.now c.loop-leaf.search c.args.limit c.loop-leaf.placed c.stopped.result c.points-sound.ensures.sound c.requires c.loop-leaf.invariant.limit (goes-on c.args.search.now c.loop-leaf.search c.loop-leaf.placed c.loop-leaf.invariant.model c.loop-leaf.invariant.placed c.loop-leaf.invariant.work c.loop-leaf.invariant.room c.in_ok-leaf.ensures.sound)
+
+pub returns-clause-found : goal.returns-clause-found
+returns-clause-found c = found c.args.search.now c.loop-leaf.search c.args.limit c.loop-leaf.placed c.finished.result c.points-sound.ensures.sound c.requires c.loop-leaf.invariant.limit (goes-on c.args.search.now c.loop-leaf.search c.loop-leaf.placed c.loop-leaf.invariant.model c.loop-leaf.invariant.placed c.loop-leaf.invariant.work c.loop-leaf.invariant.room c.in_ok-leaf.ensures.sound) c.finished.ensures
+
+pub returns-clause-complete : goal.returns-clause-complete
+returns-clause-complete c = complete c.args.search.now c.loop-leaf.search c.args.limit c.loop-leaf.placed c.finished.result c.points-sound.ensures.sound c.requires c.loop-leaf.invariant.limit (goes-on c.args.search.now c.loop-leaf.search c.loop-leaf.placed c.loop-leaf.invariant.model c.loop-leaf.invariant.placed c.loop-leaf.invariant.work c.loop-leaf.invariant.room c.in_ok-leaf.ensures.sound) c.finished.ensures
+
+pub returns-clause-unfinished : goal.returns-clause-unfinished
+returns-clause-unfinished c = gives-up c.args.search.now c.loop-leaf.search c.args.limit c.loop-leaf.placed c.finished.result c.points-sound.ensures.sound c.requires c.loop-leaf.invariant.limit (goes-on c.args.search.now c.loop-leaf.search c.loop-leaf.placed c.loop-leaf.invariant.model c.loop-leaf.invariant.placed c.loop-leaf.invariant.work c.loop-leaf.invariant.room c.in_ok-leaf.ensures.sound)
+
+pub returns-in-Some-2-clause-found : goal.returns-in-Some-2-clause-found
+returns-in-Some-2-clause-found c =
     let S = c.loop-leaf.search in
-    let steps : Steps S c.in-Some.leaf.region c.step.new.search (Some c.in-Some-2.why) = subst (Steps S c.in-Some.leaf.region c.step.new.search) c.in-Some-2.is c.in_ok-why.ensures in
+    let steps : Steps S c.in-Some.leaf.region c.step.new.search (Some c.in-Some-2.why) = subst (Steps S c.in-Some.leaf.region c.step.new.search) c.in-Some-2.is c.in_ok-why.ensures.steps in
     let same : c.step.new.search ≡ S = step-same S c.in-Some.leaf.region c.step.new.search c.in-Some-2.why steps in
-    finds c.args.search.now c.step.new.search c.args.limit c.loop-leaf.placed c.stopped-in-Some-2.result
-    (ap (λ (T : PlainSearch). T.model) same ∙ c.loop-leaf.invariant.model)
-    (subst (PlacesMany c.loop-leaf.placed c.args.search.now) (sym same) c.loop-leaf.invariant.placed)
-    c.stopped-in-Some-2.ensures
+    let goes : Goes c.loop-leaf.placed c.args.search.now c.step.new.search = subst (Goes c.loop-leaf.placed c.args.search.now) (sym same) (goes-on c.args.search.now S c.loop-leaf.placed c.loop-leaf.invariant.model c.loop-leaf.invariant.placed c.loop-leaf.invariant.work c.loop-leaf.invariant.room c.in_ok-leaf.ensures.sound) in
+    found c.args.search.now c.step.new.search c.args.limit c.loop-leaf.placed c.stopped-in-Some-2.result c.points-sound.ensures.sound c.requires c.loop-leaf.invariant.limit goes c.stopped-in-Some-2.ensures
 
-pub returns : goal.returns
-returns c = finds c.args.search.now c.loop-leaf.search c.args.limit c.loop-leaf.placed c.finished.result c.loop-leaf.invariant.model c.loop-leaf.invariant.placed c.finished.ensures
+pub returns-in-Some-2-clause-complete : goal.returns-in-Some-2-clause-complete
+returns-in-Some-2-clause-complete c =
+    let S = c.loop-leaf.search in
+    let steps : Steps S c.in-Some.leaf.region c.step.new.search (Some c.in-Some-2.why) = subst (Steps S c.in-Some.leaf.region c.step.new.search) c.in-Some-2.is c.in_ok-why.ensures.steps in
+    let same : c.step.new.search ≡ S = step-same S c.in-Some.leaf.region c.step.new.search c.in-Some-2.why steps in
+    let goes : Goes c.loop-leaf.placed c.args.search.now c.step.new.search = subst (Goes c.loop-leaf.placed c.args.search.now) (sym same) (goes-on c.args.search.now S c.loop-leaf.placed c.loop-leaf.invariant.model c.loop-leaf.invariant.placed c.loop-leaf.invariant.work c.loop-leaf.invariant.room c.in_ok-leaf.ensures.sound) in
+    complete c.args.search.now c.step.new.search c.args.limit c.loop-leaf.placed c.stopped-in-Some-2.result c.points-sound.ensures.sound c.requires c.loop-leaf.invariant.limit goes c.stopped-in-Some-2.ensures
+
+pub returns-in-Some-2-clause-unfinished : goal.returns-in-Some-2-clause-unfinished
+returns-in-Some-2-clause-unfinished c =
+    let S = c.loop-leaf.search in
+    let steps : Steps S c.in-Some.leaf.region c.step.new.search (Some c.in-Some-2.why) = subst (Steps S c.in-Some.leaf.region c.step.new.search) c.in-Some-2.is c.in_ok-why.ensures.steps in
+    let same : c.step.new.search ≡ S = step-same S c.in-Some.leaf.region c.step.new.search c.in-Some-2.why steps in
+    let goes : Goes c.loop-leaf.placed c.args.search.now c.step.new.search = subst (Goes c.loop-leaf.placed c.args.search.now) (sym same) (goes-on c.args.search.now S c.loop-leaf.placed c.loop-leaf.invariant.model c.loop-leaf.invariant.placed c.loop-leaf.invariant.work c.loop-leaf.invariant.room c.in_ok-leaf.ensures.sound) in
+    gives-up c.args.search.now c.step.new.search c.args.limit c.loop-leaf.placed c.stopped-in-Some-2.result c.points-sound.ensures.sound c.requires c.loop-leaf.invariant.limit goes

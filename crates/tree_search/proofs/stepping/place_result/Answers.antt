@@ -4,8 +4,8 @@ use Rattle.tree_search.proofs.StepLemmas.{once, not-full}
 use Rattle.branch_tree.specs.Numbered.{IsNumbered}
 use Rattle.tree_search.proofs.stepping.place_result.Goals as goal
 
-pub returns-in_default : goal.returns-in_default
-returns-in_default c =
+pub returns-in_default-clause-steps : goal.returns-in_default-clause-steps
+returns-in_default-clause-steps c =
     let S = c.args.search.now in
     let leaf = c.args.leaf.now in
     let numbered : IsNumbered S.tree = subst IsNumbered c.tree.ensures.tree c.nodes-numbered.ensures.numbered in
