@@ -1,5 +1,5 @@
 -- Why a search stops, as seen from its start; and where there is enough it goes to the end.
-use Rattle.std.specs.Prelude.{◌≡◌, ◌⊎◌, ℕ, ◌+◌, ◌*◌, ◌-◌, ◌^◌, ◌<◌, ◌≤◌, max, [], IfOk, OnErr, Result, Ok, Err}
+use Rattle.std.specs.Prelude.{◌≡◌, ℕ, ◌+◌, ◌*◌, ◌-◌, ◌^◌, ◌<◌, ◌≤◌, max, [], IfOk, OnErr, Result, Ok, Err}
 use Rattle.std.proofs.Common.{sym, subst, ap, ◌∙◌, arith}
 use Rattle.lp_model.specs.Program.{Program}
 use Rattle.lp_model.specs.Regions.{Path}
@@ -129,3 +129,15 @@ fresh-enough M nodes limit S fresh within few enough =
 
     ids_fit : (s p : ℕ) → s ≡ 0 → max 1 (2 * p - 1) ≤ nodes → 1 + s + 3 * (p - 1) < 2 ^ 64
     ids_fit s p e h = omega (arith, e, h, few)
+
+-- a new search whose tree has no room for all splits may have fewer nodes than the cap
+pub fresh-small : (M : Program) (nodes : ℕ) (S : PlainSearch) → IsFresh M nodes S → IsSound S → IsIntegral M → nodes ≤ 2 ^ 63 → (¬ IsRoomy S) → nodes < cap_of M
+fresh-small M nodes S fresh sound integral few unroomy = less nodes (cap_of M) not
+  where
+    not : cap_of M ≤ nodes → ⊥
+    not within =
+        let enough : IsEnough S (cap_of M) = fresh-enough M nodes (cap_of M) S fresh within few (omega arith) in
+        unroomy (room-fewer S.tree (whole_points S.model - 1) (splits_of S) (splits-cap S.model S.tree.root (subst IsIntegral (sym fresh.model) integral) sound.tree.lawful) enough.room)
+
+    less : (a b : ℕ) → (b ≤ a → ⊥) → a < b
+    less a b h = grind arith

@@ -1,6 +1,6 @@
 -- Numbers of points counted up to a greatest number.
 use Rattle.std.specs.Prelude.{MatchOption}
-use Rattle.std.proofs.Common.{◌≡◌, ◌⊎◌, ℕ, zero, suc, ◌+◌, ◌*◌, ◌^◌, ◌-◌, ◌≤◌, ◌<◌, List, [], ◌∷◌, ◌++◌, length, get_or, take, sym, subst, ap, ◌∙◌, arith, inl, inr, min, Option, Some, None}
+use Rattle.std.proofs.Common.{◌≡◌, ◌⊎◌, ℕ, zero, suc, ◌+◌, ◌*◌, ◌^◌, ◌-◌, ◌≤◌, ◌<◌, List, [], ◌∷◌, ◌++◌, length, get_or, take, sym, ap, ◌∙◌, arith, inl, inr, min, Option, Some, None}
 use Rattle.std.proofs.lemmas.List.{take_more}
 use Rattle.lp_model.specs.declared.types.Col.{Col}
 use Rattle.tree_search.specs.Work.{factor, whole_points_of, results_for}

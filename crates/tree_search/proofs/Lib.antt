@@ -1,4 +1,3 @@
-pub mod IntegralLemmas
 pub mod RefuteLemmas
 pub mod SingleLemmas
 pub mod RegionLemmas

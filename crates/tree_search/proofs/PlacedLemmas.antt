@@ -182,15 +182,15 @@ module _ (S : PlainSearch) (sound : IsSound S) (once : (id : ℕ) → leaves_wit
     closed mult farkas basis lists closes Reopened h = absurd (h.1 closes)
     closed mult farkas basis lists closes Full h = absurd h
     closed mult farkas basis lists closes Closed h =
-        let data : LeafData = closed_data mult farkas basis in
+        let shut : LeafData = closed_data mult farkas basis in
         let less : 0 + 1 ≤ 2 * points S.model path - 1 = let some : 1 ≤ points S.model path = some_points in omega (arith, some) in
         subst (Lowers S) (sym h.2)
         (record {
           model = refl;
-          work = lowered (λ n. 2 * n - 1) 1 (Leaf (record { id = id; kept = data })) less;
-          room = room-after S.tree (with_leaf S.tree id data) (splits_of S) (splits S.model [] (with_leaf S.tree id data).root) 0 refl (omega arith)
-              (splits-replaced_leaf id (Leaf (record { id = id; kept = data })) refl S.tree.root ∙ omega arith)
-              (lowered (λ n. n - 1) 0 (Leaf (record { id = id; kept = data })) (omega arith));
+          work = lowered (λ n. 2 * n - 1) 1 (Leaf (record { id = id; kept = shut })) less;
+          room = room-after S.tree (with_leaf S.tree id shut) (splits_of S) (splits S.model [] (with_leaf S.tree id shut).root) 0 refl (omega arith)
+              (splits-replaced_leaf id (Leaf (record { id = id; kept = shut })) refl S.tree.root ∙ omega arith)
+              (lowered (λ n. n - 1) 0 (Leaf (record { id = id; kept = shut })) (omega arith));
         })
     closed mult farkas basis lists closes Split h = absurd h
     closed mult farkas basis lists closes Kept h = absurd h
@@ -241,8 +241,8 @@ module _ (S : PlainSearch) (sound : IsSound S) (once : (id : ℕ) → leaves_wit
         let root_is : mid.tree.root ≡ with_states states S.tree.root = ap (λ (T : NumberedTree). T.root) tree_is in
         let again : EachLeaf (λ p l. IsJudgedLeaf S.model (target S.model mid.points) p l.kept) [] (with_states states S.tree.root) =
         subst (λ t. EachLeaf (λ p l. IsJudgedLeaf S.model (target S.model mid.points) p l.kept) [] t) root_is takes.tree.judged in
-        let data : LeafData = closed_data mult [] basis in
-        let leaf : Plain = Leaf (record { id = id; kept = data }) in
+        let shut : LeafData = closed_data mult [] basis in
+        let leaf : Plain = Leaf (record { id = id; kept = shut }) in
         let less : (f : ℕ → ℕ) (d : ℕ) → d ≤ f (points S.model path) → sum_open f S.model [] (replaced id leaf (with_states states S.tree.root)) + d ≤ sum_open f S.model [] S.tree.root = λ f d here.
         sum-closed f S.model (target S.model S.points) (target S.model mid.points) (old_closes S.model S.points x sound.points keepable mid.points takes.points) id mult [] basis d [] S.tree.root states one sound.judged again
         (each-weaker (λ p l. l.id ≡ id → (p ≡ path) × (l.kept ≡ kept)) (λ p l. l.id ≡ id → d ≤ if_open f l.kept.state (points S.model p))
@@ -252,16 +252,16 @@ module _ (S : PlainSearch) (sound : IsSound S) (once : (id : ℕ) → leaves_wit
         [] S.tree.root (at_leaf S.tree.root id path kept once at)) in
         let work_less : work S.model [] (replaced id leaf (with_states states S.tree.root)) + 1 ≤ work S.model [] S.tree.root =
         less (λ n. 2 * n - 1) 1 (let some : 1 ≤ points S.model path = some_points in omega (arith, some)) in
-        let room : IsRoomy S → HasRoomFor (splits S.model [] (with_leaf (with_leaf_states S.tree states) id data).root) (with_leaf (with_leaf_states S.tree states) id data) =
-        room-after S.tree (with_leaf (with_leaf_states S.tree states) id data) (splits_of S) (splits S.model [] (with_leaf (with_leaf_states S.tree states) id data).root) 0 refl (omega arith)
+        let room : IsRoomy S → HasRoomFor (splits S.model [] (with_leaf (with_leaf_states S.tree states) id shut).root) (with_leaf (with_leaf_states S.tree states) id shut) =
+        room-after S.tree (with_leaf (with_leaf_states S.tree states) id shut) (splits_of S) (splits S.model [] (with_leaf (with_leaf_states S.tree states) id shut).root) 0 refl (omega arith)
         (splits-replaced_leaf id leaf refl (with_states states S.tree.root) ∙ split_count-states states S.tree.root ∙ omega arith) (less (λ n. n - 1) 0 (omega arith)) in
         subst (Lowers S) (sym h.3.1.1)
         (record {
           model = takes.model;
           work = subst (λ m. work m [] (replaced id leaf mid.tree.root) + 1 ≤ work S.model [] S.tree.root) (sym takes.model)
               (subst (λ t. work S.model [] (replaced id leaf t) + 1 ≤ work S.model [] S.tree.root) (sym root_is) work_less);
-          room = subst (λ m. IsRoomy S → HasRoomFor (splits m [] (with_leaf mid.tree id data).root) (with_leaf mid.tree id data)) (sym takes.model)
-              (subst (λ T. IsRoomy S → HasRoomFor (splits S.model [] (with_leaf T id data).root) (with_leaf T id data)) (sym tree_is) room);
+          room = subst (λ m. IsRoomy S → HasRoomFor (splits m [] (with_leaf mid.tree id shut).root) (with_leaf mid.tree id shut)) (sym takes.model)
+              (subst (λ T. IsRoomy S → HasRoomFor (splits S.model [] (with_leaf T id shut).root) (with_leaf T id shut)) (sym tree_is) room);
         })
     kept_point x mult basis lists keepable closes Split h = absurd h
     kept_point x mult basis lists keepable closes Kept h = absurd h

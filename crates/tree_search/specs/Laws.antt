@@ -8,8 +8,9 @@ use Rattle.branch_tree.specs.Plain.{Plain}
 use Rattle.tree_search.specs.Work.{whole_points, cap_of, work, splits}
 use Rattle.tree_edit.specs.Checks.{IsSplitAllowed}
 use Rattle.tree_edit.specs.Calls.{IsFresh}
-use Rattle.tree_edit.specs.Sound.{PlainSearch}
+use Rattle.tree_edit.specs.Sound.{PlainSearch, IsSound}
 use Rattle.tree_search.specs.Bounds.{IsBoundOf}
+use Rattle.tree_search.specs.Steps.{IsRoomy}
 use Rattle.tree_search.specs.Causes.{IsEnough}
 use Rattle.tree_search.specs.Integral.{IsIntegral}
 use Rattle.tree_search.specs.Points.{points, IsOpenColumn}
@@ -48,6 +49,10 @@ SplitCapLaw = (M : Program) (t : Plain) → IsIntegral M → IsLawful M t → sp
 -- a new search whose tree may have as many nodes as the cap says has enough with as many results
 abbrev pub EnoughLaw : Type 0
 EnoughLaw = (M : Program) (nodes limit : ℕ) (S : PlainSearch) → IsFresh M nodes S → cap_of M ≤ nodes → nodes ≤ 2 ^ 63 → cap_of M ≤ limit → IsEnough S limit
+
+-- a new search whose tree has no room for all its splits may have fewer nodes than the cap says
+abbrev pub TooFewNodesLaw : Type 0
+TooFewNodesLaw = (M : Program) (nodes : ℕ) (S : PlainSearch) → IsFresh M nodes S → IsSound S → IsIntegral M → nodes ≤ 2 ^ 63 → (¬ IsRoomy S) → nodes < cap_of M
 
 -- no feasible point is better than the bound of the open leaves
 abbrev pub StopBoundLaw : Type 0

@@ -1,5 +1,5 @@
 // Laws of regions, of what a search can still do, and of its bound, as clauses of calls that do nothing.
-ghost use Rattle.tree_search.specs.Laws.{SingleLaw, CornerLaw, SplitLaw, SomePointLaw, CapLaw, SplitCapLaw, EnoughLaw, StopBoundLaw};
+ghost use Rattle.tree_search.specs.Laws.{SingleLaw, CornerLaw, SplitLaw, SomePointLaw, CapLaw, SplitCapLaw, EnoughLaw, TooFewNodesLaw, StopBoundLaw};
 
 /// Where no trial of a row refutes a region with one whole point, and no trial has a step without room, that point breaks
 /// no row.
@@ -35,6 +35,11 @@ pub fn split_cap_law()
 /// A new search whose tree may have as many nodes as the model's cap has enough with as many results.
 pub fn enough_law()
     ensures { EnoughLaw }
+{}
+
+/// A new search whose tree has no room for all its splits may have fewer nodes than the model's cap.
+pub fn too_few_nodes_law()
+    ensures { TooFewNodesLaw }
 {}
 
 /// No feasible point is better than the bound of a search that stopped.

@@ -34,7 +34,7 @@ pub use counting::cap;
 pub use integral::is_integral;
 pub use laws::{
     cap_law, corner_law, enough_law, single_law, some_point_law, split_cap_law, split_law,
-    stop_bound_law,
+    stop_bound_law, too_few_nodes_law,
 };
 pub use searching::{Outcome, solve};
 pub use stepping::StopWhy;

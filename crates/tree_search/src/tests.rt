@@ -147,8 +147,17 @@ fn wide(rt: &impl Abort, alloc: Global) -> Result<Search, AllocError>
         alloc,
         Sense::Min,
         0,
-        &[("R", None, Some(150_000_000_000_000_000_000_000_000_000_000_000_000))],
-        &[("X", 10, -1, &[("R", 100_000_000_000_000_000_000_000_000_000_000_000_000)])],
+        &[(
+            "R",
+            None,
+            Some(150_000_000_000_000_000_000_000_000_000_000_000_000),
+        )],
+        &[(
+            "X",
+            10,
+            -1,
+            &[("R", 100_000_000_000_000_000_000_000_000_000_000_000_000)],
+        )],
     )
 }
 
@@ -207,14 +216,29 @@ fn told(alloc: Global, outcome: &Outcome) -> Result<String, AllocError> {
 const SEARCHES: &[(&str, u64, u64, &str)] = &[
     ("knapsack", 1_000_000, 15, "optimal -9 nodes 5 at 1 1 0"),
     ("knapsack", 7, 5, "optimal -9 nodes 5 at 1 1 0"),
-    ("knapsack", 1_000_000, 4, "stopped nodes 4 bound -9 best none"),
-    ("knapsack", 1_000_000, 0, "stopped nodes 0 bound -12 best none"),
+    (
+        "knapsack",
+        1_000_000,
+        4,
+        "stopped nodes 4 bound -9 best none",
+    ),
+    (
+        "knapsack",
+        1_000_000,
+        0,
+        "stopped nodes 0 bound -12 best none",
+    ),
     ("knapsack", 6, 15, "stopped tree 2 bound -12 best none"),
     ("parity", 1_000_000, 15, "infeasible nodes 11"),
     ("parity", 1_000_000, 1, "stopped nodes 1 bound 0 best none"),
     ("parity", 2, 15, "stopped tree 0 bound 0 best none"),
     ("greatest", 1_000_000, 7, "optimal 11 nodes 4 at 2"),
-    ("greatest", 1_000_000, 0, "stopped nodes 0 bound 13 best none"),
+    (
+        "greatest",
+        1_000_000,
+        0,
+        "stopped nodes 0 bound 13 best none",
+    ),
     ("wide", 1_000_000, 21, "stopped wide 3 bound -10 best none"),
     ("crossed", 1_000_000, 0, "infeasible nodes 0"),
 ];
@@ -264,7 +288,15 @@ fn wide_place(rt: HostRuntime) -> Result<(), Fail> {
             ..
         } => {
             assert_eq!(rt; path.as_slice().len(), 3);
-            assert!(rt; matches!(step, WideStep::Act { row: RowId(0), col: ColId(0) }));
+            assert!(rt;
+                matches!(
+                    step,
+                    WideStep::Act {
+                        row: RowId(0),
+                        col: ColId(0)
+                    }
+                )
+            );
         }
         _ => assert!(rt; false),
     }
@@ -304,7 +336,11 @@ fn caps(rt: HostRuntime) -> Result<(), Fail> {
         ("wide", 21),
         ("crossed", 1),
     ] {
-        assert_eq!(rt; cap(named(&rt, alloc, model)?.model()), Some(wanted), "{model}");
+        assert_eq!(rt;
+            cap(named(&rt, alloc, model)?.model()),
+            Some(wanted),
+            "{model}"
+        );
     }
     let many = i128::from(u64::MAX) / 2;
     let search = built(&rt, alloc, Sense::Min, 0, &[], &[("X", many, 0, &[])])?;
