@@ -1,21 +1,28 @@
 -- What the reply to a search shows.
-use Rattle.std.proofs.Common.{◌≡◌, ℕ, ◌<◌, Bool, List, [], ◌++◌, true, if◌then◌else◌, refl, subst, sym, ap, ◌∙◌, Option, Some, None, Ok, Err, Result}
-use Rattle.std.specs.Prelude.{OnOk, IfOk}
+use Rattle.std.proofs.Common.{◌≡◌, ℕ, ◌-◌, ◌<◌, ◌≤◌, arith, Bool, false, List, [], ◌++◌, true, if◌then◌else◌, refl, subst, sym, ap, ◌∙◌, Option, Some, None, Ok, Err, Result}
+use Rattle.std.specs.Prelude.{OnOk, IfOk, nat_le}
+use Rattle.std.proofs.lemmas.Bool.{leb-false, leb-true}
 use Rattle.std.specs.Option.{option_map}
 use Rattle.frac128.specs.Range.{Fits}
 use Rattle.rational.specs.Rational.{ℚ, ◌≤ℚ◌}
 use Rattle.lp_model.specs.Program.{Program, IsOptimum, value, least_value, in_least_form}
 use Rattle.lp_model.specs.Lawful.{IsLawful}
 use Rattle.tree_edit.specs.Calls.{IsFresh}
-use Rattle.tree_edit.specs.Sound.{PlainSearch}
+use Rattle.tree_edit.specs.Sound.{PlainSearch, IsSound}
 use Rattle.tree_search.specs.Bounds.{IsUnbeaten, IsBoundOf}
-use Rattle.tree_search.specs.Work.{cap_of}
+use Rattle.tree_search.specs.Work.{whole_points, cap_of}
+use Rattle.tree_search.specs.Integral.{IsIntegral}
+use Rattle.tree_search.specs.Causes.{IsEnough}
+use Rattle.tree_search.specs.Steps.{splits_of, IsRoomy}
 use Rattle.tree_search.specs.Search.{Finds}
 use Rattle.tree_search.specs.declared.stepping.StopWhy.{StopWhy}
 use Rattle.tree_search.specs.declared.stepping.StopWhy.TheVariants.{Nodes, Tree, Wide}
 use Rattle.tree_search.specs.declared.searching.Outcome.{Outcome}
 use Rattle.tree_search.specs.declared.searching.Outcome.TheVariants.{Optimal, Infeasible, Stopped}
 use Rattle.tree_search.proofs.SearchLemmas.{least_again}
+use Rattle.tree_search.proofs.CapLemmas.{splits-cap}
+use Rattle.tree_search.proofs.RoomLemmas.{room-fewer}
+use Rattle.tree_search.proofs.CauseLemmas.{fresh-enough}
 use Rattle.mps_model.specs.PlainNames.{HasPlainNames}
 use Rattle.sym_shell.specs.Shown.{point_shown, value_shown}
 use Rattle.sym_shell.specs.Texts.{optimal_text, infeasible_text, stopped_nodes_text, stopped_tree_text, stopped_wide_text}
@@ -36,7 +43,19 @@ least-bound M (Some r) h = λ x feasible. subst (λ q. q ≤ℚ least_value M 1 
 stop-bound : (S : PlainSearch) (bound : Option ℚ) → IsBoundOf S bound → IsBound S.model bound
 stop-bound S bound b = subst (IsBound S.model) (sym b.bound_is) (least-bound S.model b.least b.unbeaten)
 
-module _ (fresh S : PlainSearch) (limit : ℕ) (lawful : IsLawful S.model) (plain : HasPlainNames S.model) (begins : IsFresh S.model node_limit fresh) where
+-- the tree has no room for each split only where it may have fewer nodes than the cap
+small_tree : (M : Program) (fresh : PlainSearch) → IsFresh M node_limit fresh → IsSound fresh → IsIntegral M → ¬ IsRoomy fresh → node_limit < cap_of M
+small_tree M fresh begins sound integral unroomy = by (nat_le (cap_of M) node_limit) refl
+  where
+    by : (b : Bool) → nat_le (cap_of M) node_limit ≡ b → node_limit < cap_of M
+    by false e = leb-false (cap_of M) node_limit e
+    by true e =
+        let within : cap_of M ≤ node_limit = leb-true (cap_of M) node_limit e in
+        let enough : IsEnough fresh (cap_of M) = fresh-enough M node_limit (cap_of M) fresh begins within (omega arith) (omega arith) in
+        let integral_too : IsIntegral fresh.model = subst IsIntegral (sym begins.model) integral in
+        absurd (unroomy (room-fewer fresh.tree (whole_points fresh.model - 1) (splits_of fresh) (splits-cap fresh.model fresh.tree.root integral_too sound.tree.lawful) enough.room))
+
+module _ (fresh S : PlainSearch) (limit : ℕ) (lawful : IsLawful S.model) (plain : HasPlainNames S.model) (begins : IsFresh S.model node_limit fresh) (sound : IsSound fresh) (integral : IsIntegral S.model) where
   stops : (why : StopWhy) (n : ℕ) (bound best : Option ℚ) → Finds fresh S limit (Stopped why n bound best) → Stops S.model limit n why bound best
   stops why n bound best f = record {
     search = S;
@@ -90,7 +109,7 @@ module _ (fresh S : PlainSearch) (limit : ℕ) (lawful : IsLawful S.model) (plai
         bound = bound;
         best = best;
         known = stops Tree n bound best f;
-        small = small_tree limit begins f.cause;
+        small = small_tree S.model fresh begins sound integral f.cause;
         within_limit = f.shows.0.0;
         below_cap = f.shows.0.1.1.0.below_cap;
         shown = r ∙ ap (λ t. t ++ stopped_tree_text n bound best) empty;
@@ -111,11 +130,11 @@ module _ (fresh S : PlainSearch) (limit : ℕ) (lawful : IsLawful S.model) (plai
 
 -- the reply to a search of M that has left S, of which an answer is held where it went to its end
 pub search_shown : {E : Type 0} (M : Program) (S : PlainSearch) (limit : ℕ) (outcome : Outcome) (held : Bool) (old new : List ℕ) (r : Result (Unit {0}) E)
-    → IsLawful S.model → HasPlainNames S.model → Searches M limit S outcome → held ≡ has_ended outcome → old ≡ [] → IfOk r (λ _. Reports S.model outcome old new)
+    → IsLawful S.model → HasPlainNames S.model → IsIntegral S.model → Searches M limit S outcome → held ≡ has_ended outcome → old ≡ [] → IfOk r (λ _. Reports S.model outcome old new)
     → OnOk r (Shows M limit new (if held then Some S else None))
-search_shown M S limit outcome held old new (Ok done) lawful plain s ended empty h =
+search_shown M S limit outcome held old new (Ok done) lawful plain integral s ended empty h =
     let same : S.model ≡ M = s.finds.goes.model ∙ s.begins.model in
     subst (λ N. Shows N limit new (if held then Some S else None)) same
         (subst (λ b. Shows S.model limit new (if b then Some S else None)) (sym ended)
-            (shown s.fresh S limit lawful plain (subst (λ N. IsFresh N node_limit s.fresh) (sym same) s.begins) outcome old new empty s.finds h))
-search_shown M S limit outcome held old new (Err e) lawful plain s ended empty h = tt
+            (shown s.fresh S limit lawful plain (subst (λ N. IsFresh N node_limit s.fresh) (sym same) s.begins) s.sound integral outcome old new empty s.finds h))
+search_shown M S limit outcome held old new (Err e) lawful plain integral s ended empty h = tt

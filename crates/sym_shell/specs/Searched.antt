@@ -4,7 +4,7 @@ use Rattle.rational.specs.Rational.{ℚ, ◌≤ℚ◌}
 use Rattle.lp_model.specs.Program.{Program, Point, IsFeasible, least_value, in_least_form}
 use Rattle.tree_edit.specs.Calls.{IsFresh}
 use Rattle.tree_edit.specs.Laws.{HasNoOpenLeaf}
-use Rattle.tree_edit.specs.Sound.{PlainSearch}
+use Rattle.tree_edit.specs.Sound.{PlainSearch, IsSound}
 use Rattle.tree_search.specs.Search.{StopsFor, StopsWith, Finds}
 use Rattle.tree_search.specs.Steps.{PlacesMany}
 use Rattle.tree_search.specs.declared.searching.Outcome.{Outcome}
@@ -19,6 +19,7 @@ node_limit = 1000000
 pub record Searches (M : Program) (limit : ℕ) (S : PlainSearch) (outcome : Outcome) : Type 0 where
   pub fresh : PlainSearch
   pub begins : IsFresh M node_limit fresh
+  pub sound : IsSound fresh
   pub finds : Finds fresh S limit outcome
 
 -- the search went to its end

@@ -95,6 +95,7 @@ impl Loaded {
         self.held = false;
         self.search.set_limit(NODE_LIMIT);
         self.search.restart()?;
+        let _sound = self.search.points();
         let outcome = solve(alloc, &mut self.search, limit)?;
         self.held = has_ended(&outcome);
         Ok(outcome)
