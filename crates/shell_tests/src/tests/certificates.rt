@@ -20,7 +20,6 @@ const CHECKS: [(&str, &[u8], &[u8], u8); 20] = [
         b"accepted infeasible\n",
         0,
     ),
-    // the empty leaves of a split that is not within the bounds
     (
         "K",
         b"cert 1\nclaim optimal -9\npoint X 1 Y 1\nleaf bound\nend\n",
@@ -132,7 +131,11 @@ fn names(rt: HostRuntime) -> Result<(), Fail> {
 
 /// Models, what their certificates claim, and the bytes of those that have only one.
 const WRITTEN: [(&str, &[u8], Option<&[u8]>); 6] = [
-    ("K", b"accepted optimal -9\n", None),
+    (
+        "K",
+        b"accepted optimal -9\n",
+        Some(b"cert 1\nclaim optimal -9\npoint X 1 Y 1\nsplit X 0\nleaf bound\nsplit Y 0\nleaf bound\nsplit Z 0\nleaf bound\nleaf farkas row A -1\nend\n"),
+    ),
     ("P", b"accepted infeasible\n", None),
     (
         "H",

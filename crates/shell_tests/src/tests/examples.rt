@@ -75,8 +75,8 @@ quit
 ";
 
 const SHIFTS_REPLIES: &[u8] = b"ok
-stopped nodes 100 bound 1 best 8
-optimal 6 nodes 265
+stopped nodes 100 bound 4 best none
+optimal 6 nodes 244
 x ANNA_TUE 1
 x BORIS_WED 1
 x BORIS_THU 1
@@ -128,8 +128,8 @@ quit
 ";
 
 const AMOUNTS_REPLIES: &[u8] = b"ok
-stopped nodes 20 bound -326/3 best -71/3
-optimal -233/6 nodes 471
+stopped nodes 20 bound -505/6 best none
+optimal -233/6 nodes 425
 x FLOUR 5
 x SUGAR 1
 x TEA 2
