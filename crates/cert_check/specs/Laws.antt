@@ -4,6 +4,7 @@ use Rattle.lp_model.specs.Program.{Program, Point, value, IsOptimum, IsEmpty}
 use Rattle.cert_check.specs.declared.cert.Claim.{Claim}
 use Rattle.cert_check.specs.declared.cert.Claim.TheVariants.{Optimal, Infeasible}
 use Rattle.cert_check.specs.declared.cert.Cert.{Cert}
+use Rattle.cert_check.specs.declared.verdict.Verdict.{Verdict}
 use Rattle.cert_check.specs.declared.verdict.Verdict.TheVariants.{Accepted}
 use Rattle.cert_check.specs.Accepted.{Accepts}
 use Rattle.cert_check.specs.Text.{Meant, Faulty}
@@ -21,6 +22,10 @@ AcceptedLaw = (M : Program) (cert : Cert) → Accepts M cert → IsTrueClaim M c
 -- a certificate that is judged and found accepted is accepted by the definition
 abbrev pub VerdictLaw : Type 0
 VerdictLaw = (M : Program) (cert : Cert) → IsCertificate cert → IsVerdict M cert Accepted → Accepts M cert
+
+-- a certificate has at most one verdict for a model
+abbrev pub OneVerdictLaw : Type 0
+OneVerdictLaw = (M : Program) (cert : Cert) (a b : Verdict) → IsVerdict M cert a → IsVerdict M cert b → a ≡ b
 
 -- A text states one certificate, or has one first faulty line with one least code, and never both.
 pub record MeansOne (text : List ℕ) : Type 0 where
