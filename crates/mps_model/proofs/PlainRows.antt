@@ -1,5 +1,5 @@
 -- The rows of a model that a text means have plain names: each is the second word of a line of two.
-use Rattle.std.proofs.Common.{◌≡◌, ℕ, suc, refl, ◌<◌, ◌≤◌, true, false, not, ◌&&◌, List, [], ◌∷◌, ◌++◌, length, sym, subst, arith, append_assoc}
+use Rattle.std.proofs.Common.{◌≡◌, ℕ, zero, suc, refl, ◌<◌, ◌≤◌, true, false, not, ◌&&◌, List, [], ◌∷◌, ◌++◌, length, sym, subst, arith, append_assoc}
 use Rattle.std.specs.Prelude.{Bool, nat_le, Option, None, Some}
 use Rattle.std.specs.List.{All}
 use Rattle.std.proofs.lemmas.List.Elements.{All-nil, All-cons, All-append, All-head, All-tail, All-map, All-get_or}
@@ -40,8 +40,8 @@ second : (e : Entry) → IsPlainEntry e → not (has_count e 2 2) ≡ false → 
 second e p h = All-get_or IsPlainName e.words 1 [] (two (length e.words) h) p.all
   where
     two : (n : ℕ) → not (nat_le 2 n && nat_le n 2) ≡ false → 1 < n
-    two 0 e = absurd (cc)
-    two 1 e = absurd (cc)
+    two zero e = absurd (cc)
+    two (suc zero) e = absurd (cc)
     two (suc (suc n)) e = omega arith
 
 kept_by_kind : (kind : LineKind) (s : Stated) (e : Entry) → IsPlainEntry e → least (tests_of kind s e) ≡ None → ArePlain s.rows → ArePlain (after_kind kind s e).rows

@@ -4,6 +4,8 @@ pub mod StepLemmas
 pub mod SearchableLemmas
 pub mod KindLemmas
 pub mod CauseLemmas
+pub mod FormLemmas
+pub mod CertLemmas
 pub mod RunLemmas
 pub mod ShownWords
 pub mod ShownBack

@@ -64,7 +64,9 @@ verdict_text M claim (Wide node step) = wide_text M node step
 
 -- the verdict on the certificate is told, or that memory was wanting for it
 abbrev pub WritesVerdict : Program → Cert → List ℕ → List ℕ → Type 0
-WritesVerdict M cert old new = ((verdict : Verdict) × (IsVerdict M cert verdict × (new ≡ old ++ verdict_text M cert.claim verdict))) ⊎ (new ≡ old ++ memory_text)
+WritesVerdict M cert old new =
+    ((verdict : Verdict) × (IsVerdict M cert verdict × (verdict ≡ Accepted → IsTrueClaim M cert.claim) × (new ≡ old ++ verdict_text M cert.claim verdict)))
+    ⊎ (new ≡ old ++ memory_text)
 
 -- ---- all that is printed
 

@@ -6,10 +6,11 @@ ghost use Rattle.tree_edit.specs.Laws.{HasNoOpenLeaf};
 ghost use Rattle.sym_shell.specs.Texts.{memory_text};
 ghost use Rattle.sym_shell.specs.Certify.{IsCertificateText, Writes};
 
+use cert_check::{accepted_law, verdict_law};
 use command_words::file_name;
 use std::alloc::{AllocError, Global};
 use sym_io::{MAX_FILE_LENGTH, Store};
-use tree_cert::{certificate, print_cert};
+use tree_cert::{certificate, names_law, print_cert};
 use tree_edit::Search;
 
 /// The text of a finished search's certificate.
@@ -20,6 +21,9 @@ fn certificate_text(alloc: Global, search: &Search) -> Result<Vec<u8>, AllocErro
     ensures { IfOk result (λ text. IsCertificateText search.now text.items) }
 {
     let _sound = search.points();
+    names_law();
+    verdict_law();
+    accepted_law();
     let cert = certificate(alloc, search)?;
     print_cert(alloc, &cert)
 }

@@ -8,7 +8,9 @@ ghost use Rattle.sym_shell.specs.Checking.{ReadsCert, cert_fault_text, cert_refu
 use crate::reading::{Refusal, read_model};
 use crate::refusals::write_refusal;
 use crate::stops::write_place;
-use cert_check::{Cert, CertFault, Claim, RegionBuf, Verdict, check, read_cert};
+use cert_check::{
+    Cert, CertFault, Claim, RegionBuf, Verdict, accepted_law, check, read_cert, verdict_law,
+};
 use command_words::is_file_name_word;
 use frac128::Frac;
 use lp_model::{Model, WideStep};
@@ -148,6 +150,8 @@ fn write_judged(
     requires { IsCertificate cert.now }
     ensures { IfOk result (λ _. WritesVerdict model.now cert.now reply.old.items reply.new.items) }
 {
+    verdict_law();
+    accepted_law();
     match judged(alloc, model, cert) {
         Ok(verdict) => write_verdict(reply, model, &cert.claim, &verdict),
         Err(AllocError) => reply.extend_from_slice(b"error 90 memory\n"),
