@@ -42,5 +42,6 @@ mod verdict;
 pub use cert::{Cert, CertLeaf, CertNode, Claim};
 pub use checking::{RegionBuf, check};
 pub use laws::{accepted_law, one_verdict_law, text_law, verdict_law};
+pub use line::{LineWord, Statement};
 pub use reader::{CertFault, read_cert};
-pub use verdict::Verdict;
+pub use verdict::{Judgement, Verdict};

@@ -12,7 +12,7 @@ use std::alloc::{AllocError, Global};
 
 /// The first words that there are.
 #[derive(Clone, Copy, Debug, PartialEq, Eq)]
-pub(crate) enum LineWord {
+pub enum LineWord {
     Cert,
     Claim,
     Point,
@@ -25,7 +25,7 @@ pub(crate) enum LineWord {
 
 /// What a line says.
 #[derive(Drop)]
-pub(crate) enum Statement {
+pub enum Statement {
     Header,
     Claims(Claim),
     Point(List<(Name, Frac)>),

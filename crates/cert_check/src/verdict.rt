@@ -4,7 +4,7 @@ use lp_model::WideStep;
 
 /// What the judging of a point or of one node answers.
 #[derive(Clone, Copy, Debug, Drop)]
-pub(crate) enum Judgement {
+pub enum Judgement {
     Passes,
     /// It does not hold, for this reason.
     Breaks(u8),

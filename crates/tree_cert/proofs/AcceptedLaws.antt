@@ -1,0 +1,189 @@
+-- The certificate of a finished search passes: its point is kept, and each of its leaves is judged closed by the very
+-- numbers that the certificate gives.
+use Rattle.std.proofs.Common.{◌≡◌, ◌≢◌, ℕ, ◌<◌, List, [], ◌∷◌, ◌++◌, length, refl, sym, ap, subst, ◌∙◌, inl, inr}
+use Rattle.std.specs.Prelude.{All, AllPairs, Contains, IsTrue, true, Option, Some, None, Ok}
+use Rattle.std.proofs.lemmas.List.Elements.{All-append}
+use Rattle.std.proofs.lemmas.List.Elements.{All-get_or}
+use Rattle.rational.specs.Rational.{ℚ, neg_ℚ}
+use Rattle.lp_model.specs.Program.{Program, Point, value, least_value, in_least_form, is_integer}
+use Rattle.lp_model.specs.Lawful.{IsLawful as IsLawfulModel, column_names}
+use Rattle.lp_model.specs.Edits.{Named}
+use Rattle.rational.proofs.RationalRing.{ring, reads_ℚ}
+use Rattle.lp_model.specs.declared.types.Sense.{Sense}
+use Rattle.lp_model.specs.declared.types.Sense.TheVariants.{Min, Max}
+use Rattle.lp_model.specs.Regions.{Path, IsEmptyRegion}
+use Rattle.leaf_dual.specs.Dual.{Multipliers, IsPositive}
+use Rattle.leaf_dual.specs.Answers.{IsFarkasAnswer}
+use Rattle.leaf_dual.specs.declared.dual.LagValue.{LagValue}
+use Rattle.branch_tree.specs.Tree.{Leaf, Split, left_path, right_path, IsLawful, HasNarrowSplits, EachLeaf}
+use Rattle.branch_tree.specs.Plain.{Plain, LeafKept}
+use Rattle.branch_tree.specs.declared.node.LeafState.TheVariants.{IsClosed}
+use Rattle.branch_tree.specs.declared.node.LeafData.{LeafData}
+use Rattle.tree_edit.specs.declared.judging.LeafNumber.{LeafNumber}
+use Rattle.tree_edit.specs.declared.judging.LeafNumber.TheVariants as number
+use Rattle.tree_edit.specs.Closing.{IsRefuted, IsNumber, NumberCloses, StateSays, IsJudgedLeaf}
+use Rattle.tree_edit.specs.Judged.{AreJudged}
+use Rattle.tree_edit.specs.Laws.{HasNoOpenLeaf}
+use Rattle.tree_edit.specs.Lists.{HasLists, HasNodeLists}
+use Rattle.tree_edit.specs.Points.{IsKeepable, target, IsIncumbent, IsIncumbentAt}
+use Rattle.tree_edit.specs.Sound.{PlainSearch, IsSound}
+use Rattle.tree_edit.proofs.PointLemmas.{target-at}
+use Rattle.cert_check.specs.declared.cert.Claim.{Claim}
+use Rattle.cert_check.specs.declared.cert.Claim.TheVariants.{Optimal, Infeasible}
+use Rattle.cert_check.specs.declared.cert.CertLeaf.{CertLeaf}
+use Rattle.cert_check.specs.declared.cert.CertLeaf.TheVariants.{Bound, Farkas, Empty}
+use Rattle.cert_check.specs.declared.cert.CertNode.{CertNode}
+use Rattle.cert_check.specs.declared.cert.CertNode.TheVariants as node
+use Rattle.cert_check.specs.declared.cert.Cert.{Cert}
+use Rattle.cert_check.specs.declared.verdict.Judgement.TheVariants.{Passes}
+use Rattle.cert_check.specs.declared.verdict.Verdict.TheVariants.{Accepted}
+use Rattle.cert_check.specs.Accepted.{names_of_rows, multipliers, point_of}
+use Rattle.cert_check.specs.Tree.{CertTree, preorder, place_among}
+use Rattle.cert_check.specs.Tree.{Leaf as CertLeafTree, Split as CertSplitTree}
+use Rattle.cert_check.specs.Verdict.{IsNumberJudged, IsFarkasJudged, IsLeafJudged, IsPointJudged, IsClaimJudged, visits, IsVisitJudged, IsVerdict}
+use Rattle.cert_check.specs.Whole.{IsNarrowNode, HasNoPoint, IsCertificate}
+use Rattle.cert_check.proofs.PlaceLemmas.{rows_differ}
+use Rattle.tree_cert.specs.Certificates.{column_name, named_rows, claim_of, nonzero_numbers, point_numbers, IsReason, IsTreeOf, IsCertificateOf}
+use Rattle.tree_cert.proofs.NameLaws.{all_cons, all_none, column_place, column_there, rows_read, rows_named, numbers_named, numbers_read}
+
+-- ---- values
+
+twice : (M : Program) (v : ℚ) → in_least_form M.sense (in_least_form M.sense v) ≡ v
+twice M v = by M.sense
+  where
+    by : (s : Sense) → in_least_form s (in_least_form s v) ≡ v
+    by Min = refl
+    by Max = let e : neg_ℚ (neg_ℚ v) ≡ v = ring (v ∷ []) (search reads_ℚ) tt in e
+
+-- the claim is that of the target against which leaves are judged
+abbrev pub IsClaimFor : Program → Option ℚ → Claim → Type 0
+IsClaimFor M t (Optimal v) = t ≡ Some (in_least_form M.sense v)
+IsClaimFor M t Infeasible = t ≡ None
+
+pub claim_for : (S : PlainSearch) (best : Option Point) → IsIncumbent S.model S.points best → IsClaimFor S.model (target S.model S.points) (claim_of S.model best)
+claim_for S None none = ap (target S.model) none
+claim_for S (Some x) (k, at) = target-at S.model S.points x k at
+
+pub claim_some : (M : Program) (points : List Point) (best : Option Point) (t : ℚ) → Some t ≡ target M points → IsIncumbent M points best → Optimal (in_least_form M.sense t) ≡ claim_of M best
+claim_some M points None t e none = absurd (let f : Some t ≡ None = e ∙ ap (target M) none in cc)
+claim_some M points (Some x) t e (k, at) =
+    let f : Some t ≡ Some (least_value M 1 x) = e ∙ target-at M points x k at in
+    let g : t ≡ least_value M 1 x = cc in
+    ap (λ v. Optimal v) (ap (in_least_form M.sense) g ∙ twice M (value M 1 x))
+
+pub claim_none : (M : Program) (points : List Point) (best : Option Point) → None ≡ target M points → IsIncumbent M points best → Infeasible ≡ claim_of M best
+claim_none M points None e none = refl
+claim_none M points (Some x) e (k, at) = absurd (let f : None ≡ Some (least_value M 1 x) = e ∙ target-at M points x k at in cc)
+
+-- ---- leaves
+
+module _ (M : Program) (lawful_model : IsLawfulModel M) where
+  rows_once : AllPairs (λ a b. a ≢ b) (names_of_rows M)
+  rows_once = rows_differ M lawful_model.rows_distinct
+
+  refuted-passes : (path : Path) (mult : Multipliers) → IsRefuted M path mult → IsFarkasJudged M path mult Passes
+  refuted-passes path [] h = absurd h
+  refuted-passes path (m ∷ mult) h = h
+
+  number-passes : (t : Option ℚ) (claim : Claim) → IsClaimFor M t claim → (path : Path) (kept : LeafData) (n : LeafNumber) → IsNumber M path kept.mult kept.farkas n → NumberCloses M t n →
+      (¬ IsEmptyRegion M path) → (¬ IsRefuted M path kept.farkas) → IsNumberJudged M claim path kept.mult Passes
+  number-passes t claim for path kept number.Empty is closes some stands =
+      absurd (
+        elim is [
+          | inl empty ↦ some empty
+          | inr refuted ↦ stands refuted
+        ]
+      )
+  number-passes t (Optimal v) for path kept (number.Lag q) is closes some stands = (q, (is.1, subst (λ u. NumberCloses M u (number.Lag q)) for closes))
+  number-passes t Infeasible for path kept (number.Lag q) is closes some stands = absurd (subst (λ u. NumberCloses M u (number.Lag q)) for closes)
+  number-passes t claim for path kept (number.Wide step) is closes some stands = absurd closes
+
+  leaf-passes : (t : Option ℚ) (claim : Claim) → IsClaimFor M t claim → (path : Path) (kept : LeafData) (leaf : CertLeaf) → HasLists M kept → IsJudgedLeaf M t path kept → kept.state ≡ IsClosed → IsReason M path kept leaf → IsLeafJudged M claim path leaf Passes
+  leaf-passes t claim for path kept Empty lists judged closed reason = reason
+  leaf-passes t claim for path kept (Farkas named) lists judged closed reason =
+      subst (λ ns. IsLeafJudged M claim path (Farkas ns) Passes) (sym reason.1.1)
+      (inl (rows_named M rows_once kept.farkas lists.farkas, subst (λ mult. IsFarkasJudged M path mult Passes) (sym (rows_read M rows_once kept.farkas lists.farkas.each)) (refuted-passes path kept.farkas reason.1.0)))
+  leaf-passes t claim for path kept (Bound named) lists judged closed reason =
+      let closes = subst (λ s. StateSays s (NumberCloses M t judged.number)) closed judged.says in
+      subst (λ ns. IsLeafJudged M claim path (Bound ns) Passes) (sym reason.1.1)
+      (inl (
+        rows_named M rows_once kept.mult lists.mult,
+        subst (λ mult. IsNumberJudged M claim path mult Passes) (sym (rows_read M rows_once kept.mult lists.mult.each)) (number-passes t claim for path kept judged.number judged.number_is closes reason.0 reason.1.0),
+      ))
+
+  -- ---- the tree
+
+  module _ (t : Option ℚ) (claim : Claim) (for : IsClaimFor M t claim) where
+    abbrev P : (Path × CertNode) → Type 0
+    P p = IsVisitJudged M claim p Passes
+
+    pub tree-passes : (path : Path) (s : Plain) (tree : CertTree) → IsLawful M s → HasNodeLists M s → EachLeaf (λ p l. IsJudgedLeaf M t p l.kept) path s → EachLeaf (λ p l. l.kept.state ≡ IsClosed) path s → IsTreeOf M path s tree → All P (visits M path tree)
+    tree-passes path (Leaf l) (CertLeafTree leaf) lawful lists judged closed like = all_cons P (path, node.Leaf leaf) [] (leaf-passes t claim for path l.kept leaf lists judged closed like) (all_none P)
+    tree-passes path (Leaf l) (CertSplitTree col w first second) lawful lists judged closed like = absurd like
+    tree-passes path (Split kept j v left right) (CertLeafTree leaf) lawful lists judged closed like = absurd like
+    tree-passes path (Split kept j v left right) (CertSplitTree col w first second) lawful lists judged closed like =
+        subst (λ name. All P (visits M path (CertSplitTree name w first second))) (sym like.0)
+        (subst (λ u. All P (visits M path (CertSplitTree (column_name M j) u first second))) (sym like.1.0)
+        (all_cons P (path, node.Split (column_name M j) v) (below (place_among (column_names M) (column_name M j)))
+        (inl (column_there M columns_once j lawful.0.0, subst (λ k. IsTrue (is_integer M k)) (sym place) lawful.0.1))
+        (subst (λ k. All P (below k)) (sym place)
+        (All-append P (visits M (left_path path j v) first) (visits M (right_path path j v) second) (tree-passes (left_path path j v) left first lawful.1.0 lists.1.0 judged.0 closed.0 like.1.1.0)
+        (tree-passes (right_path path j v) right second lawful.1.1 lists.1.1 judged.1 closed.1 like.1.1.1)))))
+      where
+        columns_once : AllPairs (λ a b. a ≢ b) (column_names M)
+        columns_once = lawful_model.columns_distinct
+
+        below : ℕ → List (Path × CertNode)
+        below k = visits M (left_path path k v) first ++ visits M (right_path path k v) second
+
+        place : place_among (column_names M) (column_name M j) ≡ j
+        place = column_place M columns_once j lawful.0.0
+
+narrow-tree : (M : Program) (path : Path) (s : Plain) (tree : CertTree) → HasNarrowSplits s → IsTreeOf M path s tree → All IsNarrowNode (preorder tree)
+narrow-tree M path (Leaf l) (CertLeafTree leaf) narrow like = all_cons IsNarrowNode (node.Leaf leaf) [] tt (all_none IsNarrowNode)
+narrow-tree M path (Leaf l) (CertSplitTree col w first second) narrow like = absurd like
+narrow-tree M path (Split kept j v left right) (CertLeafTree leaf) narrow like = absurd like
+narrow-tree M path (Split kept j v left right) (CertSplitTree col w first second) narrow like =
+    all_cons IsNarrowNode (node.Split col w) (preorder first ++ preorder second) (subst (λ u. IsNarrowNode (node.Split col u)) (sym like.1.0) narrow.0)
+    (All-append IsNarrowNode (preorder first) (preorder second) (narrow-tree M (left_path path j v) left first narrow.1.0 like.1.1.0) (narrow-tree M (right_path path j v) right second narrow.1.1 like.1.1.1))
+
+-- ---- points and certificates
+
+incumbent-keepable : (S : PlainSearch) (x : Point) (k : ℕ) → IsSound S → IsIncumbentAt S.model S.points x k → IsKeepable S.model x
+incumbent-keepable S x k sound at = subst (IsKeepable S.model) at.is (All-get_or (IsKeepable S.model) S.points k x at.within sound.points)
+
+pub point_shape : (S : PlainSearch) (x : Point) → IsSound S → IsIncumbent S.model S.points (Some x) → length x ≡ length S.model.cols
+point_shape S x sound (k, at) = (incumbent-keepable S x k sound at).shape
+
+claim-passes : (S : PlainSearch) (best : Option Point) → IsSound S → IsLawfulModel S.model → IsIncumbent S.model S.points best → IsClaimJudged S.model (claim_of S.model best) (point_numbers S.model best) Passes
+claim-passes S None sound lawful none = refl
+claim-passes S (Some x) sound lawful (k, at) =
+    let M = S.model in
+    let kept = incumbent-keepable S x k sound at in
+    inl (
+      numbers_named M x lawful.columns_distinct,
+      subst (λ y. IsPointJudged M (value M 1 x) y Passes) (sym (numbers_read M x lawful.columns_distinct kept.shape)) (kept.feasible, kept.value),
+    )
+
+none-claimed : (M : Program) (best : Option Point) → HasNoPoint (claim_of M best) (point_numbers M best)
+none-claimed M None = refl
+none-claimed M (Some x) = tt
+
+module _ (S : PlainSearch) (cert : Cert) (sound : IsSound S) (of : IsCertificateOf S cert) where
+  pub is_certificate : IsCertificate cert
+  is_certificate = record {
+    tree = of.tree;
+    nodes = of.nodes;
+    narrow = subst (All IsNarrowNode) of.nodes (narrow-tree S.model [] S.tree.root of.tree sound.tree.narrow of.like);
+    point = subst (λ T. T) (λ i. HasNoPoint (sym of.claim i) (sym of.point i)) (none-claimed S.model of.incumbent);
+  }
+
+  pub is_accepted : IsLawfulModel S.model → HasNoOpenLeaf S → IsVerdict S.model cert Accepted
+  is_accepted lawful closed = record {
+    tree = of.tree;
+    nodes = of.nodes;
+    is = (
+      subst (λ T. T) (λ i. IsClaimJudged S.model (sym of.claim i) (sym of.point i) Passes) (claim-passes S of.incumbent sound lawful of.best),
+      tree-passes S.model lawful (target S.model S.points) cert.claim (subst (IsClaimFor S.model (target S.model S.points)) (sym of.claim) (claim_for S of.incumbent of.best)) [] S.tree.root of.tree sound.tree.lawful sound.tree.lists sound.judged closed of.like,
+    );
+  }

@@ -1,0 +1,11 @@
+pub mod TreeWalk
+pub mod NameLaws
+pub mod AcceptedLaws
+pub mod WordLaws
+pub mod StatedLaws
+pub mod PrintedLaws
+pub mod FitLaws
+pub mod SaidLaws
+pub mod KeptLaws
+pub mod NamesLaws
+pub mod PutLaws

@@ -1,0 +1,79 @@
+-- The names in the certificate of a search are words where the model's are.
+use Rattle.std.proofs.Common.{◌≡◌, ℕ, ◌<◌, Bool, true, false, List, [], ◌∷◌, ◌++◌, length, get_or, map, refl, sym, ap, subst, ◌∙◌, arith, if◌then◌else◌}
+use Rattle.std.specs.Prelude.{All, Option, Some, None}
+use Rattle.std.proofs.lemmas.List.{length-map}
+use Rattle.std.proofs.lemmas.List.Elements.{All-nil, All-cons, All-head, All-tail, All-append}
+use Rattle.rational.specs.Rational.{ℚ}
+use Rattle.lp_model.specs.Program.{Program, Point}
+use Rattle.lp_model.specs.Edits.{Named, is_zero}
+use Rattle.lp_model.specs.Lawful.{column_names}
+use Rattle.lp_model.specs.Regions.{Path}
+use Rattle.lp_model.specs.declared.types.Col.{Col}
+use Rattle.lp_model.specs.declared.types.Var.{Var}
+use Rattle.lp_model.specs.declared.types.Var.TheVariants.{Row, Col as ColVar, Cut}
+use Rattle.leaf_dual.specs.Dual.{Multipliers}
+use Rattle.branch_tree.specs.Tree.{Leaf, Split, left_path, right_path, IsLawful}
+use Rattle.branch_tree.specs.Plain.{Plain}
+use Rattle.branch_tree.specs.declared.node.LeafData.{LeafData}
+use Rattle.tree_edit.specs.Lists.{IsRowThere, HasLists, HasNodeLists}
+use Rattle.tree_edit.specs.Sound.{PlainSearch, IsSound}
+use Rattle.cert_check.specs.declared.cert.CertLeaf.{CertLeaf}
+use Rattle.cert_check.specs.declared.cert.CertLeaf.TheVariants.{Bound, Farkas, Empty}
+use Rattle.cert_check.specs.declared.cert.CertNode.TheVariants as node
+use Rattle.cert_check.specs.declared.cert.Cert.{Cert}
+use Rattle.cert_check.specs.Accepted.{names_of_rows}
+use Rattle.cert_check.specs.Tree.{CertTree, preorder}
+use Rattle.cert_check.specs.Tree.{Leaf as CertLeafTree, Split as CertSplitTree}
+use Rattle.tree_cert.specs.Certificates.{column_name, row_name, named_rows, nonzero_numbers, point_numbers, IsReason, IsTreeOf, IsCertificateOf}
+use Rattle.tree_cert.specs.CertText.{IsWord, HasWords, HasLeafWords, HasNodeWords, HasCertWords, HasWordNames}
+use Rattle.tree_cert.proofs.NameLaws.{element-get}
+
+abbrev Worded : List ℕ × ℚ → Type 0
+Worded e = IsWord e.0
+
+module _ (M : Program) (plain : HasWordNames M) where
+  column-word : (j : ℕ) → j < length M.cols → IsWord (column_name M j)
+  column-word j there = subst IsWord (element-get [] (λ c. c.name) M.cols j) (plain.columns j [] (let l = length-map M.cols (λ c. c.name) in omega (arith, l, there)))
+
+  row-word : (m : Var) → IsRowThere M m → IsWord (row_name M m)
+  row-word (Row row) there = subst IsWord (element-get [] (λ r. r.name) M.rows row.0) (plain.rows row.0 [] (let l = length-map M.rows (λ r. r.name) in omega (arith, l, there)))
+  row-word (ColVar col) there = absurd there
+  row-word (Cut cut) there = absurd there
+
+  rows-words : (mult : Multipliers) → All (IsRowThere M) (map (λ (m : Var × ℚ). m.0) mult) → HasWords (named_rows M mult)
+  rows-words [] there = All-nil Worded
+  rows-words (m ∷ mult) there =
+      All-cons Worded (row_name M m.0, m.1) (named_rows M mult) (row-word m.0 (All-head (IsRowThere M) m.0 (map (λ (m : Var × ℚ). m.0) mult) there))
+      (rows-words mult (All-tail (IsRowThere M) m.0 (map (λ (m : Var × ℚ). m.0) mult) there))
+
+  leaf-words : (path : Path) (kept : LeafData) (leaf : CertLeaf) → HasLists M kept → IsReason M path kept leaf → HasLeafWords leaf
+  leaf-words path kept Empty lists reason = tt
+  leaf-words path kept (Farkas named) lists reason = subst HasWords (sym reason.1.1) (rows-words kept.farkas lists.farkas.each)
+  leaf-words path kept (Bound named) lists reason = subst HasWords (sym reason.1.1) (rows-words kept.mult lists.mult.each)
+
+  tree-words : (path : Path) (s : Plain) (tree : CertTree) → IsLawful M s → HasNodeLists M s → IsTreeOf M path s tree → All HasNodeWords (preorder tree)
+  tree-words path (Leaf l) (CertLeafTree leaf) lawful lists like = All-cons HasNodeWords (node.Leaf leaf) [] (leaf-words path l.kept leaf lists like) (All-nil HasNodeWords)
+  tree-words path (Leaf l) (CertSplitTree col w first second) lawful lists like = absurd like
+  tree-words path (Split kept j v left right) (CertLeafTree leaf) lawful lists like = absurd like
+  tree-words path (Split kept j v left right) (CertSplitTree col w first second) lawful lists like =
+      All-cons HasNodeWords (node.Split col w) (preorder first ++ preorder second) (subst IsWord (sym like.0) (column-word j lawful.0.0))
+      (All-append HasNodeWords (preorder first) (preorder second) (tree-words (left_path path j v) left first lawful.1.0 lists.1.0 like.1.1.0) (tree-words (right_path path j v) right second lawful.1.1 lists.1.1 like.1.1.1))
+
+numbers-words : (cols : List Col) (x : Point) → All IsWord (map (λ c. c.name) cols) → HasWords (nonzero_numbers cols x)
+numbers-words [] x plain = All-nil Worded
+numbers-words (c ∷ cols) [] plain = All-nil Worded
+numbers-words (c ∷ cols) (v ∷ x) plain = by (is_zero v) (All-head IsWord c.name (map (λ c. c.name) cols) plain) (numbers-words cols x (All-tail IsWord c.name (map (λ c. c.name) cols) plain))
+  where
+    by : (b : Bool) → IsWord c.name → HasWords (nonzero_numbers cols x) → HasWords (if b then nonzero_numbers cols x else (c.name, v) ∷ nonzero_numbers cols x)
+    by true here rest = rest
+    by false here rest = All-cons Worded (c.name, v) (nonzero_numbers cols x) here rest
+
+point-words : (M : Program) (best : Option Point) → HasWordNames M → HasWords (point_numbers M best)
+point-words M None plain = All-nil Worded
+point-words M (Some x) plain = numbers-words M.cols x plain.columns
+
+pub certificate_words : (S : PlainSearch) (cert : Cert) → IsSound S → IsCertificateOf S cert → HasWordNames S.model → HasCertWords cert
+certificate_words S cert sound of plain = record {
+  point = subst HasWords (sym of.point) (point-words S.model of.incumbent plain);
+  nodes = subst (All HasNodeWords) of.nodes (tree-words S.model plain [] S.tree.root of.tree sound.tree.lawful sound.tree.lists of.like);
+}

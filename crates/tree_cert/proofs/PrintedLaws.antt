@@ -1,0 +1,156 @@
+-- What the lines of a printed certificate say.
+use Rattle.std.proofs.Common.{◌≡◌, ℕ, ◌+◌, ◌-◌, ◌^◌, ◌<◌, Bool, true, false, List, [], ◌∷◌, ◌++◌, map, refl, sym, ap, subst, ◌∙◌, arith, if◌then◌else◌}
+use Rattle.std.specs.Prelude.{All, codes, Result, Ok, Err, ℤ, pos, ◌+ℤ◌}
+use Rattle.std.specs.Ordering.{int_eq}
+use Rattle.std.specs.Fmt.{signed_decimal}
+use Rattle.std.proofs.lemmas.Bool.{false_from_ne_true}
+use Rattle.std.proofs.lemmas.Bool.Decides.{Decides-int_eq}
+use Rattle.std.proofs.lemmas.Int.{ints}
+use Rattle.std.proofs.lemmas.List.{map-append}
+use Rattle.std.proofs.lemmas.List.Elements.{All-nil, All-cons, All-head, All-tail, All-append}
+use Rattle.rational.specs.Rational.{ℚ, int}
+use Rattle.frac128.specs.Range.{Fits, IsNarrow, largest}
+use Rattle.frac128.specs.Parsing.{parsed}
+use Rattle.frac128.specs.Printing.{printed}
+use Rattle.frac128.proofs.Printed.{printed-int}
+use Rattle.frac128.proofs.PrintedReads.{reading_of-printed}
+use Rattle.frac128.proofs.Whole.{Fits-int}
+use Rattle.lp_model.specs.Edits.{Named}
+use Rattle.cert_check.specs.declared.cert.Claim.{Claim}
+use Rattle.cert_check.specs.declared.cert.Claim.TheVariants.{Optimal, Infeasible}
+use Rattle.cert_check.specs.declared.cert.CertLeaf.{CertLeaf}
+use Rattle.cert_check.specs.declared.cert.CertLeaf.TheVariants.{Bound, Farkas, Empty}
+use Rattle.cert_check.specs.declared.cert.CertNode.{CertNode}
+use Rattle.cert_check.specs.declared.cert.CertNode.TheVariants as node
+use Rattle.cert_check.specs.declared.cert.Cert.{Cert}
+use Rattle.cert_check.specs.declared.line.Statement.{Statement}
+use Rattle.cert_check.specs.declared.line.Statement.TheVariants as says
+use Rattle.cert_check.specs.Lines.{lines_of, number_of, beside, with_named, named_in, rows_in, claimed, split_at, as_leaf, as_point, words_say, line_says}
+use Rattle.cert_check.specs.Text.{Meant}
+use Rattle.cert_check.specs.Whole.{IsNarrowNode, IsCertificate}
+use Rattle.tree_cert.specs.CertText.{Words, named_words, row_words, claim_words, leaf_words, node_words, point_lines, cert_lines, line_text, lines_text, cert_text, IsWord, HasWords, HasNodeWords, HasCertWords}
+use Rattle.tree_cert.specs.Printed.{HasRoom, HasClaimRoom, HasPointRoom, HasLeafRoom, HasNodeRoom, HasCertRoom}
+use Rattle.tree_cert.proofs.WordLaws.{plain_word, signed_word, number_word, line-says, lines-cut}
+use Rattle.tree_cert.proofs.StatedLaws.{SayAll, all_statements, point_statements, cert_statements, states}
+
+-- ---- numbers
+
+pub number_read : (x : ℚ) → Fits x → number_of (printed x) ≡ Ok x
+number_read x fits = ap parsed (reading_of-printed x fits)
+
+whole_read : (v : ℤ) → IsNarrow v → number_of (signed_decimal v) ≡ Ok (int v)
+whole_read v narrow = ap number_of (sym (printed-int v)) ∙ number_read (int v) (Fits-int v narrow)
+
+-- ---- words
+
+abbrev All₂ : Named → Type 0
+All₂ named = HasWords named × HasRoom named
+
+named_read : (named : Named) → HasRoom named → named_in (named_words named) ≡ Ok named
+named_read [] room = refl
+named_read (e ∷ named) room =
+    (λ i. beside e.0 (number_read e.1 (All-head (λ (d : List ℕ × ℚ). Fits d.1) e named room) i) (named_read named (All-tail (λ (d : List ℕ × ℚ). Fits d.1) e named room) i))
+
+rows_read : (named : Named) → HasRoom named → rows_in (row_words named) ≡ Ok named
+rows_read [] room = refl
+rows_read (e ∷ named) room =
+    (λ i. beside e.0 (number_read e.1 (All-head (λ (d : List ℕ × ℚ). Fits d.1) e named room) i) (rows_read named (All-tail (λ (d : List ℕ × ℚ). Fits d.1) e named room) i))
+
+named_are : (named : Named) → HasWords named → HasRoom named → All IsWord (named_words named)
+named_are [] words room = All-nil IsWord
+named_are (e ∷ named) words room =
+    All-cons IsWord e.0 (printed e.1 ∷ named_words named) (All-head (λ (d : List ℕ × ℚ). IsWord d.0) e named words)
+    (All-cons IsWord (printed e.1) (named_words named) (number_word e.1 (All-head (λ (d : List ℕ × ℚ). Fits d.1) e named room))
+    (named_are named (All-tail (λ (d : List ℕ × ℚ). IsWord d.0) e named words) (All-tail (λ (d : List ℕ × ℚ). Fits d.1) e named room)))
+
+rows_are : (named : Named) → HasWords named → HasRoom named → All IsWord (row_words named)
+rows_are [] words room = All-nil IsWord
+rows_are (e ∷ named) words room =
+    All-cons IsWord (codes "row") (e.0 ∷ printed e.1 ∷ row_words named) (plain_word (codes "row") refl)
+    (All-cons IsWord e.0 (printed e.1 ∷ row_words named) (All-head (λ (d : List ℕ × ℚ). IsWord d.0) e named words)
+    (All-cons IsWord (printed e.1) (row_words named) (number_word e.1 (All-head (λ (d : List ℕ × ℚ). Fits d.1) e named room))
+    (rows_are named (All-tail (λ (d : List ℕ × ℚ). IsWord d.0) e named words) (All-tail (λ (d : List ℕ × ℚ). Fits d.1) e named room))))
+
+-- ---- lines
+
+-- a line of words that says a statement
+record Line (words : Words) (x : Statement) : Type 0 where
+  are : All IsWord words
+  say : line_says (line_text words) ≡ Ok x
+
+line_by : (word : List ℕ) (words : Words) (x : Statement) → IsWord word → All IsWord words → words_say false (word ∷ words) ≡ Ok x → Line (word ∷ words) x
+line_by word words x first rest said = record { are = All-cons IsWord word words first rest; say = line-says word words first rest ∙ said }
+
+two : (a b : List ℕ) → IsWord a → IsWord b → All IsWord (a ∷ b ∷ [])
+two a b p q = All-cons IsWord a (b ∷ []) p (All-cons IsWord b [] q (All-nil IsWord))
+
+header_line : Line (codes "cert" ∷ codes "1" ∷ []) says.Header
+header_line = line_by (codes "cert") (codes "1" ∷ []) says.Header (plain_word (codes "cert") refl) (All-cons IsWord (codes "1") [] (plain_word (codes "1") refl) (All-nil IsWord)) refl
+
+end_line : Line (codes "end" ∷ []) says.End
+end_line = line_by (codes "end") [] says.End (plain_word (codes "end") refl) (All-nil IsWord) refl
+
+claim_line : (claim : Claim) → HasClaimRoom claim → Line (claim_words claim) (says.Claims claim)
+claim_line (Optimal v) room =
+    line_by (codes "claim") (codes "optimal" ∷ printed v ∷ []) (says.Claims (Optimal v)) (plain_word (codes "claim") refl) (two (codes "optimal") (printed v) (plain_word (codes "optimal") refl) (number_word v room)) (ap claimed (number_read v room))
+claim_line Infeasible room =
+    line_by (codes "claim") (codes "infeasible" ∷ []) (says.Claims Infeasible) (plain_word (codes "claim") refl) (All-cons IsWord (codes "infeasible") [] (plain_word (codes "infeasible") refl) (All-nil IsWord)) refl
+
+point_line : (named : Named) → HasWords named → HasRoom named → Line (codes "point" ∷ named_words named) (says.Point named)
+point_line named words room = line_by (codes "point") (named_words named) (says.Point named) (plain_word (codes "point") refl) (named_are named words room) (ap as_point (named_read named room))
+
+below_largest : (v : ℤ) → IsNarrow (v +ℤ pos 1) → int_eq v (pos (2 ^ 127 - 1)) ≡ false
+below_largest v narrow = false_from_ne_true (int_eq v (pos (2 ^ 127 - 1))) (λ t. let e = (Decides-int_eq v (pos (2 ^ 127 - 1))).0 t in omega (arith, ints, e, narrow))
+
+split_reads : (col : List ℕ) (v : ℤ) → IsNarrow (v +ℤ pos 1) → split_at col (Ok (int v)) ≡ Ok (says.Node (node.Split col v))
+unfolding int
+split_reads col v narrow = ap (λ (b : Bool). if b then Err 5 else Ok (says.Node (node.Split col v))) (below_largest v narrow)
+
+leaf_line : (leaf : CertLeaf) → HasNodeWords (node.Leaf leaf) → HasLeafRoom leaf → Line (leaf_words leaf) (says.Node (node.Leaf leaf))
+leaf_line (Bound named) words room =
+    line_by (codes "leaf") (codes "bound" ∷ row_words named) (says.Node (node.Leaf (Bound named))) (plain_word (codes "leaf") refl) (All-cons IsWord (codes "bound") (row_words named) (plain_word (codes "bound") refl) (rows_are named words room)) (ap (as_leaf Bound) (rows_read named room))
+leaf_line (Farkas named) words room =
+    line_by (codes "leaf") (codes "farkas" ∷ row_words named) (says.Node (node.Leaf (Farkas named))) (plain_word (codes "leaf") refl) (All-cons IsWord (codes "farkas") (row_words named) (plain_word (codes "farkas") refl) (rows_are named words room)) (ap (as_leaf Farkas) (rows_read named room))
+leaf_line Empty words room =
+    line_by (codes "leaf") (codes "empty" ∷ []) (says.Node (node.Leaf Empty)) (plain_word (codes "leaf") refl) (All-cons IsWord (codes "empty") [] (plain_word (codes "empty") refl) (All-nil IsWord)) refl
+
+node_line : (n : CertNode) → IsNarrowNode n → HasNodeWords n → HasNodeRoom n → Line (node_words n) (says.Node n)
+node_line (node.Split col v) narrow words room =
+    line_by (codes "split") (col ∷ signed_decimal v ∷ []) (says.Node (node.Split col v)) (plain_word (codes "split") refl) (two col (signed_decimal v) words (signed_word v narrow.0))
+    (ap (split_at col) (whole_read v narrow.0) ∙ split_reads col v narrow.1)
+node_line (node.Leaf leaf) narrow words room = leaf_line leaf words room
+
+-- ---- all lines
+
+record Lines (lines : List Words) (xs : List Statement) : Type 0 where
+  are : All (All IsWord) lines
+  say : SayAll (map line_text lines) xs
+
+lines_none : Lines [] []
+lines_none = record { are = All-nil (All IsWord); say = tt }
+
+lines_cons : (words : Words) (x : Statement) (lines : List Words) (xs : List Statement) → Line words x → Lines lines xs → Lines (words ∷ lines) (x ∷ xs)
+lines_cons words x lines xs line rest = record { are = All-cons (All IsWord) words lines line.are rest.are; say = (line.say, rest.say) }
+
+nodes_lines : (nodes : List CertNode) → All IsNarrowNode nodes → All HasNodeWords nodes → All HasNodeRoom nodes → Lines (map node_words nodes ++ (codes "end" ∷ []) ∷ []) (all_statements nodes ++ says.End ∷ [])
+nodes_lines [] narrow words room = lines_cons (codes "end" ∷ []) says.End [] [] end_line lines_none
+nodes_lines (n ∷ nodes) narrow words room =
+    lines_cons (node_words n) (says.Node n) (map node_words nodes ++ (codes "end" ∷ []) ∷ []) (all_statements nodes ++ says.End ∷ [])
+    (node_line n (All-head IsNarrowNode n nodes narrow) (All-head HasNodeWords n nodes words) (All-head HasNodeRoom n nodes room))
+    (nodes_lines nodes (All-tail IsNarrowNode n nodes narrow) (All-tail HasNodeWords n nodes words) (All-tail HasNodeRoom n nodes room))
+
+point_behind : (claim : Claim) (point : Named) (lines : List Words) (xs : List Statement) → HasWords point → HasPointRoom claim point → Lines lines xs → Lines (point_lines claim point ++ lines) (point_statements claim point ++ xs)
+point_behind (Optimal v) point lines xs words room rest = lines_cons (codes "point" ∷ named_words point) (says.Point point) lines xs (point_line point words room) rest
+point_behind Infeasible point lines xs words room rest = rest
+
+-- the printed text of a certificate whose names are words states it
+pub printed_states : (cert : Cert) → IsCertificate cert → HasCertWords cert → HasCertRoom cert → Meant (cert_text cert) cert
+unfolding cert_text
+printed_states cert whole words room =
+    let nodes = nodes_lines cert.nodes whole.narrow words.nodes room.nodes in
+    let point = point_behind cert.claim cert.point (map node_words cert.nodes ++ (codes "end" ∷ []) ∷ []) (all_statements cert.nodes ++ says.End ∷ []) words.point room.point nodes in
+    let all : Lines (cert_lines cert) (cert_statements cert) =
+    lines_cons (codes "cert" ∷ codes "1" ∷ []) says.Header (claim_words cert.claim ∷ _) (says.Claims cert.claim ∷ _) header_line
+    (lines_cons (claim_words cert.claim) (says.Claims cert.claim) _ _ (claim_line cert.claim room.claim) point) in
+    states (lines_text (cert_lines cert)) cert.nodes whole.tree whole.nodes cert.claim cert.point whole.point
+    (subst (λ ls. SayAll ls (cert_statements cert)) (sym (lines-cut (cert_lines cert) all.are)) all.say)

@@ -1,0 +1,76 @@
+-- One item further: what was put so far, and what is to be put of the items that are left, is what is to be put of all.
+use Rattle.std.proofs.Common.{◌≡◌, ℕ, ◌+◌, ◌<◌, ◌≤◌, List, [], ◌∷◌, ◌++◌, length, take, drop, get_or, map, refl, sym, ap, subst, ◌∙◌, append_assoc}
+use Rattle.std.specs.Prelude.{All, codes}
+use Rattle.rational.specs.Rational.{ℚ}
+use Rattle.frac128.specs.Printing.{printed}
+use Rattle.lp_model.specs.Edits.{Named}
+use Rattle.cert_check.specs.declared.cert.CertNode.{CertNode}
+use Rattle.cert_check.specs.declared.cert.Cert.{Cert}
+use Rattle.tree_cert.specs.CertText.{Words, named_words, row_words, claim_words, node_words, point_lines, spaced, line_text, lines_text, cert_text}
+use Rattle.std.proofs.lemmas.List.{drop_more, drop_all, take_all}
+use Rattle.std.proofs.lemmas.List.Elements.{All-more}
+
+nil_right : {A : Type 0} (l : List A) → l ++ [] ≡ l
+nil_right [] = refl
+nil_right (x ∷ l) = ap (λ m. x ∷ m) (nil_right l)
+
+module _ {A B : Type 0} (all : List A → List B) (one : A → List B) (step : (x : A) (xs : List A) → all (x ∷ xs) ≡ one x ++ all xs) (items : List A) (k : ℕ) (whole old : List B) (before : whole ≡ old ++ all (drop k items)) where
+  pub put_next : (x : A) (new : List B) → k < length items → x ≡ get_or items k x → new ≡ old ++ one x → whole ≡ new ++ all (drop (k + 1) items)
+  put_next x new below is after =
+      let rest = drop (k + 1) items in
+      let cut : drop k items ≡ x ∷ rest = drop_more items k x below ∙ ap (λ y. y ∷ rest) (sym is) in
+      before ∙ ap (λ l. old ++ all l) cut ∙ ap (λ l. old ++ l) (step x rest) ∙ sym (append_assoc old (one x) (all rest)) ∙ ap (λ l. l ++ all rest) (sym after)
+
+  pub put_end : length items ≤ k → all [] ≡ [] → old ≡ whole
+  put_end past none = sym (before ∙ ap (λ l. old ++ all l) (drop_all k items past) ∙ ap (λ l. old ++ l) none ∙ nil_right old)
+
+module _ {A : Type 0} (P : A → Type 0) (items : List A) (k : ℕ) where
+  pub all_next : (x : A) → k < length items → x ≡ get_or items k x → All P (take k items) → P x → All P (take (k + 1) items)
+  all_next x below is before here = All-more P items k x below before (subst P is here)
+
+  pub all_end : length items ≤ k → All P (take k items) → All P items
+  all_end past all = subst (All P) (take_all k items past) all
+
+-- ---- words and lines
+
+pub spaced_append : (a b : Words) → spaced (a ++ b) ≡ spaced a ++ spaced b
+spaced_append [] b = refl
+spaced_append (word ∷ a) b = ap (λ l. 32 ∷ (word ++ l)) (spaced_append a b) ∙ ap (λ l. 32 ∷ l) (sym (append_assoc word (spaced a) (spaced b)))
+
+pub lines_append : (a b : List Words) → lines_text (a ++ b) ≡ lines_text a ++ lines_text b
+lines_append [] b = refl
+lines_append (line ∷ a) b = ap (λ l. line_text line ++ 10 ∷ l) (lines_append a b) ∙ sym (append_assoc (line_text line) (10 ∷ lines_text a) (lines_text b))
+
+pub named_step : (e : List ℕ × ℚ) (named : Named) → spaced (named_words (e ∷ named)) ≡ spaced (e.0 ∷ printed e.1 ∷ []) ++ spaced (named_words named)
+named_step e named = spaced_append (e.0 ∷ printed e.1 ∷ []) (named_words named)
+
+pub row_step : (e : List ℕ × ℚ) (named : Named) → spaced (row_words (e ∷ named)) ≡ spaced (codes "row" ∷ e.0 ∷ printed e.1 ∷ []) ++ spaced (row_words named)
+row_step e named = spaced_append (codes "row" ∷ e.0 ∷ printed e.1 ∷ []) (row_words named)
+
+pub row_put : (name : List ℕ) (x : ℚ) (old one new : List ℕ) → one ≡ old ++ spaced (codes "row" ∷ []) → new ≡ one ++ spaced (name ∷ printed x ∷ []) → new ≡ old ++ spaced (codes "row" ∷ name ∷ printed x ∷ [])
+row_put name x old one new first second =
+    second ∙ ap (λ l. l ++ spaced (name ∷ printed x ∷ [])) first ∙ append_assoc old (spaced (codes "row" ∷ [])) (spaced (name ∷ printed x ∷ []))
+    ∙ ap (λ l. old ++ l) (sym (spaced_append (codes "row" ∷ []) (name ∷ printed x ∷ [])))
+
+pub line_step : (n : CertNode) (nodes : List CertNode) → lines_text (map node_words (n ∷ nodes)) ≡ (line_text (node_words n) ++ 10 ∷ []) ++ lines_text (map node_words nodes)
+line_step n nodes = sym (append_assoc (line_text (node_words n)) (10 ∷ []) (lines_text (map node_words nodes)))
+
+pub line_put : (old line one new : List ℕ) → one ≡ old ++ line → new ≡ one ++ 10 ∷ [] → new ≡ old ++ (line ++ 10 ∷ [])
+line_put old line one new first second = second ∙ ap (λ l. l ++ 10 ∷ []) first ∙ append_assoc old line (10 ∷ [])
+
+-- the parts of a certificate's text one after the other
+pub text_parts : (cert : Cert) (a b c d e f : List ℕ) → a ≡ codes "cert 1\n" → b ≡ a ++ line_text (claim_words cert.claim) → c ≡ b ++ 10 ∷ [] → d ≡ c ++ lines_text (point_lines cert.claim cert.point) →
+    e ≡ d ++ lines_text (map node_words cert.nodes) → f ≡ e ++ codes "end\n" → f ≡ cert_text cert
+unfolding cert_text
+text_parts cert a b c d e f first second third fourth fifth last =
+    let claim = line_text (claim_words cert.claim) in
+    let points = lines_text (point_lines cert.claim cert.point) in
+    let nodes = lines_text (map node_words cert.nodes) in
+    let ended = codes "end\n" in
+    last
+    ∙ ap (λ l. l ++ ended) (fifth ∙ ap (λ l. l ++ nodes) (fourth ∙ ap (λ l. l ++ points) (third ∙ ap (λ l. l ++ 10 ∷ []) (second ∙ ap (λ l. l ++ claim) first))))
+    ∙ append_assoc (((codes "cert 1\n" ++ claim) ++ 10 ∷ []) ++ points) nodes ended
+    ∙ append_assoc ((codes "cert 1\n" ++ claim) ++ 10 ∷ []) points (nodes ++ ended)
+    ∙ append_assoc (codes "cert 1\n" ++ claim) (10 ∷ []) (points ++ (nodes ++ ended))
+    ∙ append_assoc (codes "cert 1\n") claim (10 ∷ (points ++ (nodes ++ ended)))
+    ∙ ap (λ l. codes "cert 1\n" ++ (claim ++ 10 ∷ l)) (ap (λ l. points ++ l) (sym (lines_append (map node_words cert.nodes) ((codes "end" ∷ []) ∷ []))) ∙ sym (lines_append (point_lines cert.claim cert.point) (map node_words cert.nodes ++ (codes "end" ∷ []) ∷ [])))

@@ -1,0 +1,256 @@
+-- What a line of a text says has names that are words, and numbers that have room.
+use Rattle.std.proofs.Common.{◌≡◌, ℕ, ◌-◌, ◌^◌, ◌<◌, Bool, true, false, List, [], ◌∷◌, length, refl, sym, subst, ◌∙◌, arith, if◌then◌else◌}
+use Rattle.std.specs.Prelude.{All, codes, bytes_eq, Option, Some, None, Result, Ok, Err, ℤ, pos, ◌+ℤ◌}
+use Rattle.std.specs.List.{filter, slice_split, onto_first}
+use Rattle.std.specs.Ordering.{int_eq}
+use Rattle.std.proofs.lemmas.Bool.Decides.{Decides-int_eq}
+use Rattle.std.proofs.lemmas.Int.{ints}
+use Rattle.std.proofs.lemmas.List.Elements.{All-nil, All-cons, All-head, All-tail}
+use Rattle.rational.specs.Rational.{ℚ}
+use Rattle.frac128.specs.Range.{Fits, IsNarrow, largest}
+use Rattle.frac128.specs.declared.parse.NumFault.{NumFault}
+use Rattle.lp_model.specs.Edits.{Named}
+use Rattle.cert_check.specs.declared.cert.Claim.TheVariants.{Optimal, Infeasible}
+use Rattle.cert_check.specs.declared.cert.CertLeaf.{CertLeaf}
+use Rattle.cert_check.specs.declared.cert.CertLeaf.TheVariants.{Bound, Farkas, Empty}
+use Rattle.cert_check.specs.declared.cert.CertNode.{CertNode}
+use Rattle.cert_check.specs.declared.cert.CertNode.TheVariants as node
+use Rattle.cert_check.specs.declared.line.LineWord.{LineWord}
+use Rattle.cert_check.specs.declared.line.LineWord.TheVariants as word
+use Rattle.cert_check.specs.declared.line.Statement.{Statement}
+use Rattle.cert_check.specs.declared.line.Statement.TheVariants as says
+use Rattle.cert_check.specs.Lines.{is_newline, is_blank, is_nothing, is_piece, without_last, lines_of, words_of, begins_blank, ends_blank, number_of, with_named, beside, named_in, rows_in, cert_says, claimed, claim_says, as_point, is_whole, split_at, split_says, as_leaf, empty_says, leaf_says, end_says, word_of, word_says, known_says, words_say, line_says}
+use Rattle.cert_check.specs.Whole.{IsNarrowNode}
+use Rattle.tree_cert.specs.CertText.{IsWord, HasWords, HasNodeWords}
+use Rattle.tree_cert.specs.Printed.{HasRoom, HasClaimRoom, HasLeafRoom, HasNodeRoom}
+use Rattle.tree_cert.proofs.WordLaws.{OneLine, OneWord}
+use Rattle.tree_cert.proofs.FitLaws.{FitsOk, number-fits}
+
+pub record GoodNamed (named : Named) : Type 0 where
+  pub words : HasWords named
+  pub room : HasRoom named
+
+pub record GoodNode (n : CertNode) : Type 0 where
+  pub narrow : IsNarrowNode n
+  pub words : HasNodeWords n
+  pub room : HasNodeRoom n
+
+abbrev pub GoodStatement : Statement → Type 0
+GoodStatement says.Header = Unit {0}
+GoodStatement (says.Claims claim) = HasClaimRoom claim
+GoodStatement (says.Point named) = GoodNamed named
+GoodStatement (says.Node n) = GoodNode n
+GoodStatement says.End = Unit {0}
+GoodStatement says.Foreign = Unit {0}
+
+abbrev pub Good : Result Statement ℕ → Type 0
+Good (Ok x) = GoodStatement x
+Good (Err code) = Unit {0}
+
+-- ---- numbers beside names
+
+abbrev GoodOk : Result Named ℕ → Type 0
+GoodOk (Ok named) = GoodNamed named
+GoodOk (Err code) = Unit {0}
+
+good_none : GoodNamed []
+good_none = record { words = All-nil (λ (e : List ℕ × ℚ). IsWord e.0); room = All-nil (λ (e : List ℕ × ℚ). Fits e.1) }
+
+with_named-good : (name : List ℕ) (x : ℚ) (rest : Result Named ℕ) → IsWord name → Fits x → GoodOk rest → GoodOk (with_named name x rest)
+with_named-good name x (Ok named) w fits good = record {
+  words = All-cons (λ (e : List ℕ × ℚ). IsWord e.0) (name, x) named w good.words;
+  room = All-cons (λ (e : List ℕ × ℚ). Fits e.1) (name, x) named fits good.room;
+}
+with_named-good name x (Err code) w fits good = tt
+
+beside-good : (name : List ℕ) (r : Result ℚ NumFault) (rest : Result Named ℕ) → IsWord name → FitsOk r → GoodOk rest → GoodOk (beside name r rest)
+beside-good name (Ok x) rest w fits good = with_named-good name x rest w fits good
+beside-good name (Err fault) rest w fits good = tt
+
+named-good : (words : List (List ℕ)) → All IsWord words → GoodOk (named_in words)
+named-good [] all = good_none
+named-good (name ∷ []) all = tt
+named-good (name ∷ number ∷ more) all =
+    let rest = All-tail IsWord name (number ∷ more) all in
+    beside-good name (number_of number) (named_in more) (All-head IsWord name (number ∷ more) all) (number-fits number) (named-good more (All-tail IsWord number more rest))
+
+rows-good : (words : List (List ℕ)) → All IsWord words → GoodOk (rows_in words)
+rows-good [] all = good_none
+rows-good (a ∷ []) all = tt
+rows-good (a ∷ b ∷ []) all = tt
+rows-good (key ∷ name ∷ number ∷ more) all =
+    let rest = All-tail IsWord key (name ∷ number ∷ more) all in
+    let last = All-tail IsWord number more (All-tail IsWord name (number ∷ more) rest) in
+    by (bytes_eq key (codes "row")) (beside-good name (number_of number) (rows_in more) (All-head IsWord name (number ∷ more) rest) (number-fits number) (rows-good more last))
+  where
+    by : (b : Bool) → GoodOk (beside name (number_of number) (rows_in more)) → GoodOk (if b then beside name (number_of number) (rows_in more) else Err 3)
+    by true good = good
+    by false good = tt
+
+-- ---- statements
+
+cert-good : (words : List (List ℕ)) → Good (cert_says words)
+cert-good [] = tt
+cert-good (version ∷ []) = by (bytes_eq version (codes "1"))
+  where
+    by : (b : Bool) → Good (if b then Ok says.Header else Err 3)
+    by true = tt
+    by false = tt
+cert-good (a ∷ b ∷ more) = tt
+
+claimed-good : (r : Result ℚ NumFault) → FitsOk r → Good (claimed r)
+claimed-good (Ok v) fits = fits
+claimed-good (Err fault) fits = tt
+
+claim-good : (words : List (List ℕ)) → Good (claim_says words)
+claim-good [] = tt
+claim-good (kind ∷ []) = by (bytes_eq kind (codes "infeasible"))
+  where
+    by : (b : Bool) → Good (if b then Ok (says.Claims Infeasible) else Err 3)
+    by true = tt
+    by false = tt
+claim-good (kind ∷ number ∷ []) = by (bytes_eq kind (codes "optimal")) (claimed-good (number_of number) (number-fits number))
+  where
+    by : (b : Bool) → Good (claimed (number_of number)) → Good (if b then claimed (number_of number) else Err 3)
+    by true good = good
+    by false good = tt
+claim-good (a ∷ b ∷ c ∷ more) = tt
+
+point-good : (r : Result Named ℕ) → GoodOk r → Good (as_point r)
+point-good (Ok named) good = good
+point-good (Err code) good = tt
+
+next_narrow : (v : ℤ) → IsNarrow v → int_eq v (pos (2 ^ 127 - 1)) ≡ false → IsNarrow (v +ℤ pos 1)
+next_narrow v narrow e =
+    let apart : ¬ (v ≡ pos (2 ^ 127 - 1)) = λ same. let f : false ≡ true = sym e ∙ (Decides-int_eq v (pos (2 ^ 127 - 1))).1 same in cc in
+    omega (arith, ints, narrow, apart)
+
+split-good : (name : List ℕ) (r : Result ℚ NumFault) → IsWord name → FitsOk r → Good (split_at name r)
+split-good name (Err fault) w fits = tt
+split-good name (Ok x) w fits = by (is_whole x) (int_eq x.num (pos (2 ^ 127 - 1))) refl
+  where
+    by : (a b : Bool) → int_eq x.num (pos (2 ^ 127 - 1)) ≡ b → Good (if a then if b then Err 5 else Ok (says.Node (node.Split name x.num)) else Err 3)
+    by true true e = tt
+    by true false e = record { narrow = (fits.numerator, next_narrow x.num fits.numerator e); words = w; room = tt }
+    by false b e = tt
+
+split_says-good : (words : List (List ℕ)) → All IsWord words → Good (split_says words)
+split_says-good [] all = tt
+split_says-good (name ∷ []) all = tt
+split_says-good (name ∷ number ∷ []) all = split-good name (number_of number) (All-head IsWord name (number ∷ []) all) (number-fits number)
+split_says-good (a ∷ b ∷ c ∷ more) all = tt
+
+bound-good : (r : Result Named ℕ) → GoodOk r → Good (as_leaf Bound r)
+bound-good (Ok named) good = record { narrow = tt; words = good.words; room = good.room }
+bound-good (Err code) good = tt
+
+farkas-good : (r : Result Named ℕ) → GoodOk r → Good (as_leaf Farkas r)
+farkas-good (Ok named) good = record { narrow = tt; words = good.words; room = good.room }
+farkas-good (Err code) good = tt
+
+empty-good : (words : List (List ℕ)) → Good (empty_says words)
+empty-good [] = record { narrow = tt; words = tt; room = tt }
+empty-good (a ∷ more) = tt
+
+leaf-good : (words : List (List ℕ)) → All IsWord words → Good (leaf_says words)
+leaf-good [] all = tt
+leaf-good (kind ∷ words) all =
+    let rows = rows-good words (All-tail IsWord kind words all) in
+    by (bytes_eq kind (codes "bound")) (bytes_eq kind (codes "farkas")) (bytes_eq kind (codes "empty")) (bound-good (rows_in words) rows) (farkas-good (rows_in words) rows) (empty-good words)
+  where
+    by : (a b c : Bool) → Good (as_leaf Bound (rows_in words)) → Good (as_leaf Farkas (rows_in words)) → Good (empty_says words) →
+        Good (if a then as_leaf Bound (rows_in words) else if b then as_leaf Farkas (rows_in words) else if c then empty_says words else Err 3)
+    by true b c first second third = first
+    by false true c first second third = second
+    by false false true first second third = third
+    by false false false first second third = tt
+
+end-good : (words : List (List ℕ)) → Good (end_says words)
+end-good [] = tt
+end-good (a ∷ more) = tt
+
+word-good : (known : LineWord) (words : List (List ℕ)) → All IsWord words → Good (word_says known words)
+word-good word.Cert words all = cert-good words
+word-good word.Claim words all = claim-good words
+word-good word.Point words all = point-good (named_in words) (named-good words all)
+word-good word.Split words all = split_says-good words all
+word-good word.Leaf words all = leaf-good words all
+word-good word.End words all = end-good words
+word-good word.Foreign words all = tt
+
+known-good : (known : Option LineWord) (blank : Bool) (words : List (List ℕ)) → All IsWord words → Good (known_says known blank words)
+known-good None blank words all = tt
+known-good (Some known) true words all = tt
+known-good (Some known) false words all = word-good known words all
+
+words-good : (blank : Bool) (words : List (List ℕ)) → All IsWord words → Good (words_say blank words)
+words-good blank [] all = tt
+words-good blank (first ∷ words) all = known-good (word_of first) blank words (All-tail IsWord first words all)
+
+-- ---- pieces of a list
+
+module _ {X : Type 0} (P : X → Type 0) where
+  onto_first-all : (x : X) (parts : List (List X)) → P x → All (All P) parts → All (All P) (onto_first x parts)
+  onto_first-all x [] p h = All-cons (All P) (x ∷ []) [] (All-cons P x [] p (All-nil P)) (All-nil (All P))
+  onto_first-all x (part ∷ parts) p h = All-cons (All P) (x ∷ part) parts (All-cons P x part p (All-head (All P) part parts h)) (All-tail (All P) part parts h)
+
+  -- what holds of each element that does not cut holds in each piece
+  pieces_all : (cuts : X → Bool) (xs : List X) → All (λ x. cuts x ≡ false → P x) xs → All (All P) (slice_split cuts xs)
+  pieces_all cuts [] h = All-cons (All P) [] [] (All-nil P) (All-nil (All P))
+  pieces_all cuts (x ∷ xs) h = by (cuts x) refl (pieces_all cuts xs (All-tail (λ x. cuts x ≡ false → P x) x xs h))
+    where
+      by : (b : Bool) → cuts x ≡ b → All (All P) (slice_split cuts xs) → All (All P) (if b then [] ∷ slice_split cuts xs else onto_first x (slice_split cuts xs))
+      by true e rest = All-cons (All P) [] (slice_split cuts xs) (All-nil P) rest
+      by false e rest = onto_first-all x (slice_split cuts xs) (All-head (λ x. cuts x ≡ false → P x) x xs h e) rest
+
+every : {X : Type 0} (P : X → Type 0) → ((x : X) → P x) → (xs : List X) → All P xs
+every P h [] = All-nil P
+every P h (x ∷ xs) = All-cons P x xs (h x) (every P h xs)
+
+word_by : (bytes : List ℕ) → is_piece bytes ≡ true → OneLine bytes → OneWord bytes → IsWord bytes
+word_by bytes some h k = record { some = some_byte bytes some; one_line = h; one_word = k }
+  where
+    some_byte : (bytes : List ℕ) → is_piece bytes ≡ true → 0 < length bytes
+    some_byte [] e = absurd (cc)
+    some_byte (byte ∷ bytes) e = omega arith
+
+pieces_words : (parts : List (List ℕ)) → All OneLine parts → All OneWord parts → All IsWord (filter is_piece parts)
+pieces_words [] h k = All-nil IsWord
+pieces_words (part ∷ parts) h k = by (is_piece part) refl (pieces_words parts (All-tail OneLine part parts h) (All-tail OneWord part parts k))
+  where
+    by : (b : Bool) → is_piece part ≡ b → All IsWord (filter is_piece parts) → All IsWord (if b then part ∷ filter is_piece parts else filter is_piece parts)
+    by true e rest = All-cons IsWord part (filter is_piece parts) (word_by part e (All-head OneLine part parts h) (All-head OneWord part parts k)) rest
+    by false e rest = rest
+
+weak : (line : List ℕ) → OneLine line → All (λ byte. is_blank byte ≡ false → is_newline byte ≡ false) line
+weak [] h = All-nil (λ byte. is_blank byte ≡ false → is_newline byte ≡ false)
+weak (byte ∷ line) h = All-cons (λ byte. is_blank byte ≡ false → is_newline byte ≡ false) byte line (λ _. All-head (λ byte. is_newline byte ≡ false) byte line h) (weak line (All-tail (λ byte. is_newline byte ≡ false) byte line h))
+
+line-words : (line : List ℕ) → OneLine line → All IsWord (words_of line)
+unfolding words_of
+line-words line h =
+    pieces_words (slice_split is_blank line) (pieces_all (λ byte. is_newline byte ≡ false) is_blank line (weak line h))
+    (pieces_all (λ byte. is_blank byte ≡ false) is_blank line (every (λ byte. is_blank byte ≡ false → is_blank byte ≡ false) (λ byte e. e) line))
+
+pub line-good : (line : List ℕ) → OneLine line → Good (line_says line)
+unfolding line_says
+line-good line h = by (begins_blank line) (words-good (ends_blank line) (words_of line) (line-words line h))
+  where
+    by : (b : Bool) → Good (words_say (ends_blank line) (words_of line)) → Good (if b then Err 2 else words_say (ends_blank line) (words_of line))
+    by true good = tt
+    by false good = good
+
+-- ---- the lines of a text
+
+without-all : (pieces : List (List ℕ)) → All OneLine pieces → All OneLine (without_last pieces)
+without-all [] h = All-nil OneLine
+without-all (piece ∷ []) h = by (is_nothing piece)
+  where
+    by : (b : Bool) → All OneLine (if b then [] else piece ∷ [])
+    by true = All-nil OneLine
+    by false = h
+without-all (piece ∷ next ∷ more) h = All-cons OneLine piece (without_last (next ∷ more)) (All-head OneLine piece (next ∷ more) h) (without-all (next ∷ more) (All-tail OneLine piece (next ∷ more) h))
+
+pub text-lines : (text : List ℕ) → All OneLine (lines_of text)
+unfolding lines_of
+text-lines text = without-all (slice_split is_newline text) (pieces_all (λ byte. is_newline byte ≡ false) is_newline text (every (λ byte. is_newline byte ≡ false → is_newline byte ≡ false) (λ byte e. e) text))

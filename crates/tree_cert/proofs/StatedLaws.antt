@@ -1,0 +1,208 @@
+-- A text whose lines say a certificate's statements in order states that certificate.
+use Rattle.std.proofs.Common.{◌≡◌, ℕ, zero, suc, ◌+◌, ◌-◌, ◌<◌, Bool, true, false, ◌||◌, ◌&&◌, List, [], ◌∷◌, ◌++◌, length, take, get_or, map, refl, sym, ap, subst, ◌∙◌, arith, append_assoc, length-append, if◌then◌else◌}
+use Rattle.std.specs.Prelude.{not, ◌==◌, Option, Some, None, Result, Ok, Err, ℤ}
+use Rattle.std.proofs.lemmas.List.{take-append-le, take_all}
+use Rattle.std.proofs.Math.Seq.{get_or-append_seam}
+use Rattle.std.proofs.lemmas.Bool.{false_from_ne_true}
+use Rattle.std.proofs.lemmas.Bool.Decides.{Decides-eqb}
+use Rattle.lp_model.specs.Edits.{Named}
+use Rattle.cert_check.specs.declared.cert.Claim.{Claim}
+use Rattle.cert_check.specs.declared.cert.Claim.TheVariants.{Optimal, Infeasible}
+use Rattle.cert_check.specs.declared.cert.CertLeaf.{CertLeaf}
+use Rattle.cert_check.specs.declared.cert.CertNode.{CertNode}
+use Rattle.cert_check.specs.declared.cert.CertNode.TheVariants as node
+use Rattle.cert_check.specs.declared.cert.Cert.{Cert}
+use Rattle.cert_check.specs.declared.line.Statement.{Statement}
+use Rattle.cert_check.specs.declared.line.Statement.TheVariants as says
+use Rattle.cert_check.specs.Lines.{lines_of, line_says}
+use Rattle.cert_check.specs.Reading.{after}
+use Rattle.cert_check.specs.Text.{Stated, stated, due_after, is_whole_tree, are_none, lacks_part, node_code, place_code, said_code, code_in, code_at, AreClean, or_no_end, end_code, first_claim, first_point, cert_of, Meant}
+use Rattle.cert_check.specs.Tree.{CertTree, Leaf, Split, preorder}
+use Rattle.cert_check.specs.Whole.{TakesAll, HasNoPoint, IsCertificate}
+use Rattle.cert_check.proofs.DueLemmas.{due_after-split, due_after-leaf}
+use Rattle.cert_check.proofs.TextLemmas.{stated_more, code_here, clean_more}
+
+nil_right : {A : Type 0} (l : List A) → l ++ [] ≡ l
+nil_right [] = refl
+nil_right (x ∷ l) = ap (λ m. x ∷ m) (nil_right l)
+
+-- ---- lines taken one after the other
+
+-- none of the statements has a code where it stands, and behind them this is stated
+abbrev pub Takes : Stated → List Statement → Stated → Type 0
+Takes s [] t = s ≡ t
+Takes s (x ∷ xs) t = (code_in s (Ok x) ≡ None) × Takes (after s (Ok x)) xs t
+
+-- each line says its statement
+abbrev pub SayAll : List (List ℕ) → List Statement → Type 0
+SayAll [] [] = Unit {0}
+SayAll [] (x ∷ xs) = ⊥
+SayAll (line ∷ lines) [] = ⊥
+SayAll (line ∷ lines) (x ∷ xs) = (line_says line ≡ Ok x) × SayAll lines xs
+
+record IsTaken (lines : List (List ℕ)) (t : Stated) : Type 0 where
+  clean : AreClean lines (length lines)
+  is : stated lines ≡ t
+
+taken : (done lines : List (List ℕ)) (xs : List Statement) (t : Stated) → AreClean (done ++ lines) (length done) → SayAll lines xs → Takes (stated done) xs t → IsTaken (done ++ lines) t
+taken done [] [] t clean say takes = record {
+  clean = subst (AreClean (done ++ [])) (sym (ap length (nil_right done))) clean;
+  is = ap stated (nil_right done) ∙ takes;
+}
+taken done [] (x ∷ xs) t clean say takes = absurd say
+taken done (line ∷ lines) [] t clean say takes = absurd say
+taken done (line ∷ lines) (x ∷ xs) t clean say takes =
+    let all = done ++ line ∷ lines in
+    let few : length done < length all = let l = length-append done (line ∷ lines) in omega (arith, l) in
+    let front : done ≡ take (length done) all = sym (take-append-le (length done) done (line ∷ lines) (omega arith) ∙ take_all (length done) done (omega arith)) in
+    let here : code_at all (length done) ≡ None =
+    code_here all (length done) few (stated done) line None (ap stated front) (sym (get_or-append_seam done line lines [])) (ap (code_in (stated done)) say.0 ∙ takes.0) in
+    let more : AreClean all (length done + 1) = clean_more all (length done) clean here in
+    let joined : all ≡ (done ++ line ∷ []) ++ lines = sym (append_assoc done (line ∷ []) lines) in
+    let longer : length done + 1 ≡ length (done ++ line ∷ []) = sym (length-append done (line ∷ [])) in
+    subst (λ ls. IsTaken ls t) (sym joined)
+    (taken (done ++ line ∷ []) lines xs t (subst (λ T. T) (λ i. AreClean (joined i) (longer i)) more) say.1
+    (subst (λ s. Takes s xs t) (sym (stated_more done line ∙ ap (after (stated done)) say.0)) takes.1))
+
+-- ---- nodes
+
+abbrev pub all_statements : List CertNode → List Statement
+all_statements nodes = map (λ n. says.Node n) nodes
+
+-- what is stated behind the claim and the point
+abbrev pub with_nodes : ℕ → Claim → List Named → List CertNode → Stated
+with_nodes count claim points nodes = record { count = suc count; claims = claim ∷ []; points = points; nodes = nodes; ended = false }
+
+-- a point stands where a value is claimed
+abbrev pub HasPart : Claim → List Named → Type 0
+HasPart (Optimal v) [] = ⊥
+HasPart (Optimal v) (named ∷ points) = Unit {0}
+HasPart Infeasible points = Unit {0}
+
+no_part : (count : ℕ) (claim : Claim) (points : List Named) (nodes : List CertNode) → HasPart claim points → lacks_part (with_nodes count claim points nodes) ≡ false
+no_part count (Optimal v) [] nodes h = absurd h
+no_part count (Optimal v) (named ∷ points) nodes h = refl
+no_part count Infeasible points nodes h = refl
+
+some_due : (n : ℕ) → 0 < n → (n == 0) ≡ false
+some_due n h = false_from_ne_true (n == 0) (λ t. let e = (Decides-eqb n 0).0 t in omega (arith, h, e))
+
+-- a line that is not the first
+abbrev opened : Bool → Option ℕ → Option ℕ
+opened b code = if b then Some 1 else code
+
+abbrev node_test : Bool → Bool → Option ℕ
+node_test a b = if a then Some 6 else if b then Some 7 else None
+
+abbrev end_test : Bool → Bool → Option ℕ
+end_test a b = if a then Some 6 else if b then None else Some 7
+
+not_first : (count : ℕ) → (suc count == 0) ≡ false
+not_first count = some_due (suc count) (omega arith)
+
+node_taken : (count : ℕ) (claim : Claim) (points : List Named) (nodes : List CertNode) (n : CertNode) → HasPart claim points → 0 < due_after 1 nodes → code_in (with_nodes count claim points nodes) (Ok (says.Node n)) ≡ None
+node_taken count claim points nodes n part due =
+    ap (λ (b : Bool). opened b (node_test (lacks_part (with_nodes count claim points nodes)) (is_whole_tree nodes))) (not_first count)
+    ∙ ap (λ (b : Bool). node_test b (is_whole_tree nodes)) (no_part count claim points nodes part)
+    ∙ ap (λ (b : Bool). node_test false b) (some_due (due_after 1 nodes) due)
+
+next_state : (count : ℕ) (claim : Claim) (points : List Named) (nodes : List CertNode) (n : CertNode) → after (with_nodes count claim points nodes) (Ok (says.Node n)) ≡ with_nodes (suc count) claim points (nodes ++ n ∷ [])
+next_state count claim points nodes n =
+    let up : suc count + 1 ≡ suc (suc count) = omega arith in
+    (λ i. record { count = up i; claims = claim ∷ []; points = nil_right points i; nodes = nodes ++ n ∷ []; ended = false })
+
+module _ (claim : Claim) (points : List Named) (part : HasPart claim points) (xs : List Statement) (t : Stated) where
+  moved : (n : CertNode) (more : List CertNode) (count : ℕ) (nodes : List CertNode) → Takes (with_nodes (length (n ∷ more) + count) claim points (nodes ++ n ∷ more)) xs t → Takes (with_nodes (length more + suc count) claim points ((nodes ++ n ∷ []) ++ more)) xs t
+  moved n more count nodes rest =
+      let joined : nodes ++ n ∷ more ≡ (nodes ++ n ∷ []) ++ more = sym (append_assoc nodes (n ∷ []) more) in
+      let later : length (n ∷ more) + count ≡ length more + suc count = omega arith in
+      subst (λ T. T) (λ i. Takes (with_nodes (later i) claim points (joined i)) xs t) rest
+
+  one_taken : (n : CertNode) (more : List CertNode) (count : ℕ) (nodes : List CertNode) → 0 < due_after 1 nodes → Takes (with_nodes (suc count) claim points (nodes ++ n ∷ [])) (all_statements more ++ xs) t →
+      Takes (with_nodes count claim points nodes) (all_statements (n ∷ more) ++ xs) t
+  one_taken n more count nodes some rest = (
+    node_taken count claim points nodes n part some,
+    subst (λ s. Takes s (all_statements more ++ xs) t) (sym (next_state count claim points nodes n)) rest,
+  )
+
+  -- nodes that are due stand, and what stands behind them
+  nodes_taken : (more : List CertNode) (count due : ℕ) (nodes : List CertNode) → due_after 1 nodes ≡ due → TakesAll due more →
+      Takes (with_nodes (length more + count) claim points (nodes ++ more)) xs t → Takes (with_nodes count claim points nodes) (all_statements more ++ xs) t
+  nodes_taken [] count due nodes is takes rest =
+      let none : 0 + count ≡ count = omega arith in
+      subst (λ T. T) (λ i. Takes (with_nodes (none i) claim points (nil_right nodes i)) xs t) rest
+  nodes_taken (n ∷ more) count zero nodes is takes rest = absurd takes
+  nodes_taken (node.Split col v ∷ more) count (suc due) nodes is takes rest =
+      one_taken (node.Split col v) more count nodes (omega (arith, is))
+      (nodes_taken more (suc count) (suc (suc due)) (nodes ++ node.Split col v ∷ []) (let e = due_after-split 1 nodes col v in omega (arith, e, is)) takes (moved (node.Split col v) more count nodes rest))
+  nodes_taken (node.Leaf leaf ∷ more) count (suc due) nodes is takes rest =
+      one_taken (node.Leaf leaf) more count nodes (omega (arith, is))
+      (nodes_taken more (suc count) due (nodes ++ node.Leaf leaf ∷ []) (let e = due_after-leaf 1 nodes leaf in omega (arith, e, is)) takes (moved (node.Leaf leaf) more count nodes rest))
+
+-- ---- whole trees
+
+takes_tree : (tree : CertTree) (due : ℕ) (rest : List CertNode) → TakesAll due rest → TakesAll (suc due) (preorder tree ++ rest)
+takes_tree (Leaf leaf) due rest h = h
+takes_tree (Split col v left right) due rest h =
+    subst (TakesAll (suc (suc due))) (sym (append_assoc (preorder left) (preorder right) rest)) (takes_tree left (suc due) (preorder right ++ rest) (takes_tree right due rest h))
+
+due_tree : (tree : CertTree) (due : ℕ) (rest : List CertNode) → due_after (suc due) (preorder tree ++ rest) ≡ due_after due rest
+due_tree (Leaf leaf) due rest = let less : suc due - 1 ≡ due = omega arith in ap (λ d. due_after d rest) less
+due_tree (Split col v left right) due rest =
+    ap (due_after (suc (suc due))) (append_assoc (preorder left) (preorder right) rest) ∙ due_tree left (suc due) (preorder right ++ rest) ∙ due_tree right due rest
+
+some_nodes : (tree : CertTree) → are_none (preorder tree) ≡ false
+some_nodes (Leaf leaf) = refl
+some_nodes (Split col v left right) = refl
+
+module _ (nodes : List CertNode) (tree : CertTree) (whole : preorder tree ≡ nodes) where
+  pub takes_whole : TakesAll 1 nodes
+  takes_whole = subst (TakesAll 1) (nil_right (preorder tree) ∙ whole) (takes_tree tree 0 [] tt)
+
+  pub due_whole : due_after 1 nodes ≡ 0
+  due_whole = ap (due_after 1) (sym whole ∙ sym (nil_right (preorder tree))) ∙ due_tree tree 0 []
+
+  end_taken : (count : ℕ) (claim : Claim) (points : List Named) → HasPart claim points → code_in (with_nodes count claim points nodes) (Ok says.End) ≡ None
+  end_taken count claim points part =
+      ap (λ (b : Bool). opened b (end_test (lacks_part (with_nodes count claim points nodes) || are_none nodes) (is_whole_tree nodes))) (not_first count)
+      ∙ (λ i. end_test (no_part count claim points nodes part i || (ap are_none (sym whole) ∙ some_nodes tree) i) (is_whole_tree nodes))
+      ∙ ap (λ (d : ℕ). end_test false (d == 0)) due_whole
+
+-- ---- certificates
+
+abbrev pub point_statements : Claim → Named → List Statement
+point_statements (Optimal v) named = says.Point named ∷ []
+point_statements Infeasible named = []
+
+abbrev pub cert_statements : Cert → List Statement
+cert_statements c = says.Header ∷ says.Claims c.claim ∷ (point_statements c.claim c.point ++ (all_statements c.nodes ++ says.End ∷ []))
+
+-- what is stated in the end
+abbrev pub final : ℕ → Claim → List Named → List CertNode → Stated
+final count claim points nodes = after (with_nodes count claim points nodes) (Ok says.End)
+
+module _ (text : List ℕ) (nodes : List CertNode) (tree : CertTree) (whole : preorder tree ≡ nodes) where
+  behind : (claim : Claim) (points : List Named) → HasPart claim points → (count : ℕ) → Takes (with_nodes count claim points []) (all_statements nodes ++ says.End ∷ []) (final (length nodes + count) claim points nodes)
+  behind claim points part count =
+      nodes_taken claim points part (says.End ∷ []) (final (length nodes + count) claim points nodes) nodes count 1 [] refl (takes_whole nodes tree whole) (end_taken nodes tree whole (length nodes + count) claim points part, refl)
+
+  meant_by : (claim : Claim) (point : Named) (points : List Named) (count : ℕ) → first_point (points ++ []) ≡ point → IsTaken (lines_of text) (final count claim points nodes) → Meant text (record { claim = claim; point = point; nodes = nodes })
+  meant_by claim point points count same taken = record {
+    clean = taken.clean;
+    ended =
+        ap end_code taken.is
+        ∙ ap (λ (b : Bool). if b then Some 1 else None) (some_due (suc count + 1) (omega arith));
+    is = (λ i. record { claim = claim; point = sym same i; nodes = sym (nil_right nodes) i }) ∙ ap cert_of (sym taken.is);
+  }
+
+  no_line : AreClean (lines_of text) 0
+  no_line k below = absurd (omega arith)
+
+  pub states : (claim : Claim) (point : Named) → HasNoPoint claim point → SayAll (lines_of text) (cert_statements (record { claim = claim; point = point; nodes = nodes })) → Meant text (record { claim = claim; point = point; nodes = nodes })
+  unfolding stated
+  states (Optimal v) point none say =
+      meant_by (Optimal v) point (point ∷ []) (length nodes + 2) refl
+      (taken [] (lines_of text) (cert_statements (record { claim = Optimal v; point = point; nodes = nodes })) (final (length nodes + 2) (Optimal v) (point ∷ []) nodes) no_line say (refl, (refl, (refl, behind (Optimal v) (point ∷ []) tt 2))))
+  states Infeasible point none say =
+      meant_by Infeasible point [] (length nodes + 1) (sym none)
+      (taken [] (lines_of text) (cert_statements (record { claim = Infeasible; point = point; nodes = nodes })) (final (length nodes + 1) Infeasible [] nodes) no_line say (refl, (refl, behind Infeasible [] tt 1)))

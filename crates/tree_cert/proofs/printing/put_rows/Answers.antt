@@ -1,0 +1,22 @@
+use Rattle.std.proofs.Common.{◌++◌, ◌∷◌, [], List, ℕ, arith}
+use Rattle.std.specs.Prelude.{codes}
+use Rattle.rational.specs.Rational.{ℚ}
+use Rattle.frac128.specs.Range.{Fits}
+use Rattle.frac128.specs.Printing.{printed}
+use Rattle.lp_model.specs.Edits.{Named}
+use Rattle.tree_cert.specs.CertText.{row_words, spaced}
+use Rattle.tree_cert.proofs.PutLaws.{put_next, all_next, all_end, row_step, row_put}
+use Rattle.tree_cert.proofs.printing.put_rows.Goals as goal
+
+pub loop-name-preserved : goal.loop-name-preserved
+loop-name-preserved c =
+    let e = c.loop-name-item.result in
+    record {
+      put =
+          put_next (λ (ns : Named). spaced (row_words ns)) (λ (e : List ℕ × ℚ). spaced (codes "row" ∷ e.0 ∷ printed e.1 ∷ [])) row_step c.args.named.now c.loop-name.name-index (c.args.text.now.items ++ spaced (row_words c.args.named.now)) c.loop-name.text.items c.loop-name.invariant.put
+          e c.put_pair.new.text.items c.loop-name-test.true c.loop-name-item.is (row_put e.0 e.1 c.loop-name.text.items c.put_word.new.text.items c.put_pair.new.text.items c.in_ok-put_word.ensures c.in_ok-put_pair.ensures.text);
+      room = all_next (λ (d : List ℕ × ℚ). Fits d.1) c.args.named.now c.loop-name.name-index e c.loop-name-test.true c.loop-name-item.is c.loop-name.invariant.room c.in_ok-put_pair.ensures.room;
+    }
+
+pub returns-clause-room : goal.returns-clause-room
+returns-clause-room c = all_end (λ (d : List ℕ × ℚ). Fits d.1) c.args.named.now c.loop-name.name-index (omega arith) c.loop-name.invariant.room

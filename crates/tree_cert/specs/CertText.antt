@@ -1,0 +1,101 @@
+-- The text of a certificate: its lines, each of words with one blank between them and a newline behind it.
+use Rattle.std.specs.Prelude.{◌≡◌, ℕ, ◌<◌, List, [], ◌∷◌, ◌++◌, length, map, codes, false, All}
+use Rattle.std.specs.Fmt.{signed_decimal}
+use Rattle.frac128.specs.Printing.{printed}
+use Rattle.lp_model.specs.Program.{Program}
+use Rattle.lp_model.specs.Edits.{Named}
+use Rattle.lp_model.specs.Lawful.{column_names}
+use Rattle.cert_check.specs.declared.cert.Claim.{Claim}
+use Rattle.cert_check.specs.declared.cert.Claim.TheVariants.{Optimal, Infeasible}
+use Rattle.cert_check.specs.declared.cert.CertLeaf.{CertLeaf}
+use Rattle.cert_check.specs.declared.cert.CertLeaf.TheVariants.{Bound, Farkas, Empty}
+use Rattle.cert_check.specs.declared.cert.CertNode.{CertNode}
+use Rattle.cert_check.specs.declared.cert.CertNode.TheVariants.{Split, Leaf}
+use Rattle.cert_check.specs.declared.cert.Cert.{Cert}
+use Rattle.cert_check.specs.Accepted.{names_of_rows}
+use Rattle.cert_check.specs.Lines.{is_newline, is_blank}
+
+-- ---- words
+
+abbrev pub Words : Type 0
+Words = List (List ℕ)
+
+-- `NAME V` for each
+abbrev pub named_words : Named → Words
+named_words [] = []
+named_words (e ∷ named) = e.0 ∷ printed e.1 ∷ named_words named
+
+-- `row NAME V` for each
+abbrev pub row_words : Named → Words
+row_words [] = []
+row_words (e ∷ named) = codes "row" ∷ e.0 ∷ printed e.1 ∷ row_words named
+
+abbrev pub claim_words : Claim → Words
+claim_words (Optimal v) = codes "claim" ∷ codes "optimal" ∷ printed v ∷ []
+claim_words Infeasible = codes "claim" ∷ codes "infeasible" ∷ []
+
+abbrev pub leaf_words : CertLeaf → Words
+leaf_words (Bound named) = codes "leaf" ∷ codes "bound" ∷ row_words named
+leaf_words (Farkas named) = codes "leaf" ∷ codes "farkas" ∷ row_words named
+leaf_words Empty = codes "leaf" ∷ codes "empty" ∷ []
+
+abbrev pub node_words : CertNode → Words
+node_words (Split col v) = codes "split" ∷ col ∷ signed_decimal v ∷ []
+node_words (Leaf leaf) = leaf_words leaf
+
+-- a point has a line where a value is claimed
+abbrev pub point_lines : Claim → Named → List Words
+point_lines (Optimal v) named = (codes "point" ∷ named_words named) ∷ []
+point_lines Infeasible named = []
+
+abbrev pub cert_lines : Cert → List Words
+cert_lines c = (codes "cert" ∷ codes "1" ∷ []) ∷ claim_words c.claim ∷ (point_lines c.claim c.point ++ (map node_words c.nodes ++ (codes "end" ∷ []) ∷ []))
+
+-- ---- bytes
+
+-- further words, a blank before each
+abbrev pub spaced : Words → List ℕ
+spaced [] = []
+spaced (word ∷ words) = 32 ∷ (word ++ spaced words)
+
+abbrev pub line_text : Words → List ℕ
+line_text [] = []
+line_text (word ∷ words) = word ++ spaced words
+
+-- a newline behind each
+abbrev pub lines_text : List Words → List ℕ
+lines_text [] = []
+lines_text (line ∷ lines) = line_text line ++ 10 ∷ lines_text lines
+
+unfoldable pub cert_text : Cert → List ℕ
+cert_text c = lines_text (cert_lines c)
+
+-- ---- names that are words
+
+-- one byte at least, and no newline, blank or tab
+pub record IsWord (word : List ℕ) : Type 0 where
+  pub some : 0 < length word
+  pub one_line : All (λ byte. is_newline byte ≡ false) word
+  pub one_word : All (λ byte. is_blank byte ≡ false) word
+
+abbrev pub HasWords : Named → Type 0
+HasWords named = All (λ e. IsWord e.0) named
+
+abbrev pub HasLeafWords : CertLeaf → Type 0
+HasLeafWords (Bound named) = HasWords named
+HasLeafWords (Farkas named) = HasWords named
+HasLeafWords Empty = Unit {0}
+
+abbrev pub HasNodeWords : CertNode → Type 0
+HasNodeWords (Split col v) = IsWord col
+HasNodeWords (Leaf leaf) = HasLeafWords leaf
+
+-- each name in the certificate is a word
+pub record HasCertWords (cert : Cert) : Type 0 where
+  pub point : HasWords cert.point
+  pub nodes : All HasNodeWords cert.nodes
+
+-- each name of a column or a row of the model is a word
+pub record HasWordNames (M : Program) : Type 0 where
+  pub columns : All IsWord (column_names M)
+  pub rows : All IsWord (names_of_rows M)

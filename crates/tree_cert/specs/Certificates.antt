@@ -1,0 +1,89 @@
+-- The certificate of a search that is finished, exactly.
+--     IsCertificateOf S cert     its claim and its point are the incumbent's, and its tree is the search's tree, split by
+--                                split and leaf by leaf, with names in the place of places
+use Rattle.std.specs.Prelude.{◌≡◌, ◌≢◌, ℕ, suc, ◌-◌, if◌then◌else◌, List, [], ◌∷◌, map, ℤ, Option, Some, None}
+use Rattle.rational.specs.Rational.{ℚ}
+use Rattle.lp_model.specs.Program.{Program, Point, value}
+use Rattle.lp_model.specs.Elements.{of_element}
+use Rattle.lp_model.specs.Edits.{Named, is_zero}
+use Rattle.lp_model.specs.Regions.{Path, IsEmptyRegion}
+use Rattle.lp_model.specs.declared.types.Col.{Col}
+use Rattle.lp_model.specs.declared.types.Var.{Var}
+use Rattle.lp_model.specs.declared.types.Var.TheVariants.{Row, Col as ColVar, Cut}
+use Rattle.leaf_dual.specs.Dual.{Multipliers}
+use Rattle.branch_tree.specs.Tree.{Leaf, Split, left_path, right_path}
+use Rattle.branch_tree.specs.Plain.{Plain}
+use Rattle.branch_tree.specs.declared.node.LeafData.{LeafData}
+use Rattle.tree_edit.specs.Closing.{IsRefuted}
+use Rattle.tree_edit.specs.Points.{IsIncumbent}
+use Rattle.tree_edit.specs.Sound.{PlainSearch}
+use Rattle.cert_check.specs.declared.cert.Claim.{Claim}
+use Rattle.cert_check.specs.declared.cert.Claim.TheVariants.{Optimal, Infeasible}
+use Rattle.cert_check.specs.declared.cert.CertLeaf.{CertLeaf}
+use Rattle.cert_check.specs.declared.cert.CertLeaf.TheVariants.{Bound, Farkas, Empty}
+use Rattle.cert_check.specs.declared.cert.Cert.{Cert}
+use Rattle.cert_check.specs.Tree.{CertTree, preorder}
+use Rattle.cert_check.specs.Tree.{Leaf as CertLeafTree, Split as CertSplitTree}
+
+-- ---- names
+
+abbrev pub column_name : Program → ℕ → List ℕ
+column_name M j = of_element [] (λ c. c.name) M.cols j
+
+-- multipliers are those of rows
+abbrev pub row_name : Program → Var → List ℕ
+row_name M (Row row) = of_element [] (λ r. r.name) M.rows row.0
+row_name M (ColVar col) = []
+row_name M (Cut cut) = []
+
+-- multipliers beside the names of their rows
+abbrev pub named_rows : Program → Multipliers → Named
+named_rows M mult = map (λ (m : Var × ℚ). (row_name M m.0, m.1)) mult
+
+-- ---- the claim and the point
+
+-- its value in the model's own sense, where there is a point
+abbrev pub claim_of : Program → Option Point → Claim
+claim_of M None = Infeasible
+claim_of M (Some x) = Optimal (value M 1 x)
+
+abbrev pub unless_zero : List ℕ → ℚ → Named → Named
+unless_zero name v named = if is_zero v then named else (name, v) ∷ named
+
+-- the numbers that are not 0, beside the names of their columns, in the order of the columns
+abbrev pub nonzero_numbers : List Col → Point → Named
+nonzero_numbers [] x = []
+nonzero_numbers (c ∷ cols) [] = []
+nonzero_numbers (c ∷ cols) (v ∷ x) = unless_zero c.name v (nonzero_numbers cols x)
+
+abbrev pub point_numbers : Program → Option Point → Named
+point_numbers M None = []
+point_numbers M (Some x) = nonzero_numbers M.cols x
+
+-- ---- the tree
+
+-- Why the leaf of a region is closed: the region is empty, or else the leaf's Farkas multipliers refute it, or else its
+-- multipliers bound it.
+abbrev pub IsReason : Program → Path → LeafData → CertLeaf → Type 0
+IsReason M path kept Empty = IsEmptyRegion M path
+IsReason M path kept (Farkas named) = (¬ IsEmptyRegion M path) × (IsRefuted M path kept.farkas × (named ≡ named_rows M kept.farkas))
+IsReason M path kept (Bound named) = (¬ IsEmptyRegion M path) × ((¬ IsRefuted M path kept.farkas) × (named ≡ named_rows M kept.mult))
+
+-- the same splits, by the names of their columns, and each leaf's reason, where the root has this path
+abbrev pub IsTreeOf : Program → Path → Plain → CertTree → Type 0
+IsTreeOf M path (Leaf l) (CertLeafTree leaf) = IsReason M path l.kept leaf
+IsTreeOf M path (Leaf l) (CertSplitTree col w first second) = ⊥
+IsTreeOf M path (Split kept j v left right) (CertLeafTree leaf) = ⊥
+IsTreeOf M path (Split kept j v left right) (CertSplitTree col w first second) =
+    (col ≡ column_name M j) × ((w ≡ v) × (IsTreeOf M (left_path path j v) left first × IsTreeOf M (right_path path j v) right second))
+
+-- ---- the certificate
+
+pub record IsCertificateOf (S : PlainSearch) (cert : Cert) : Type 0 where
+  pub incumbent : Option Point
+  pub best : IsIncumbent S.model S.points incumbent
+  pub claim : cert.claim ≡ claim_of S.model incumbent
+  pub point : cert.point ≡ point_numbers S.model incumbent
+  pub tree : CertTree
+  pub nodes : preorder tree ≡ cert.nodes
+  pub like : IsTreeOf S.model [] S.tree.root tree

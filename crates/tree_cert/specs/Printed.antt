@@ -1,0 +1,37 @@
+-- The numbers in a certificate are those that a fraction has room for, as they are in each that the program holds.
+use Rattle.std.specs.Prelude.{All}
+use Rattle.frac128.specs.Range.{Fits}
+use Rattle.lp_model.specs.Edits.{Named}
+use Rattle.cert_check.specs.declared.cert.Claim.{Claim}
+use Rattle.cert_check.specs.declared.cert.Claim.TheVariants.{Optimal, Infeasible}
+use Rattle.cert_check.specs.declared.cert.CertLeaf.{CertLeaf}
+use Rattle.cert_check.specs.declared.cert.CertLeaf.TheVariants.{Bound, Farkas, Empty}
+use Rattle.cert_check.specs.declared.cert.CertNode.{CertNode}
+use Rattle.cert_check.specs.declared.cert.CertNode.TheVariants.{Split, Leaf}
+use Rattle.cert_check.specs.declared.cert.Cert.{Cert}
+
+abbrev pub HasRoom : Named → Type 0
+HasRoom named = All (λ e. Fits e.1) named
+
+abbrev pub HasClaimRoom : Claim → Type 0
+HasClaimRoom (Optimal v) = Fits v
+HasClaimRoom Infeasible = Unit {0}
+
+-- the numbers of a point that is printed
+abbrev pub HasPointRoom : Claim → Named → Type 0
+HasPointRoom (Optimal v) named = HasRoom named
+HasPointRoom Infeasible named = Unit {0}
+
+abbrev pub HasLeafRoom : CertLeaf → Type 0
+HasLeafRoom (Bound named) = HasRoom named
+HasLeafRoom (Farkas named) = HasRoom named
+HasLeafRoom Empty = Unit {0}
+
+abbrev pub HasNodeRoom : CertNode → Type 0
+HasNodeRoom (Split col v) = Unit {0}
+HasNodeRoom (Leaf leaf) = HasLeafRoom leaf
+
+pub record HasCertRoom (cert : Cert) : Type 0 where
+  pub claim : HasClaimRoom cert.claim
+  pub point : HasPointRoom cert.claim cert.point
+  pub nodes : All HasNodeRoom cert.nodes

@@ -1,0 +1,164 @@
+// The text of a certificate.
+ghost use Rattle.std.specs.Prelude.{◌≡◌, ◌++◌, ◌∷◌, [], map, codes, IfOk, OnOk, All};
+ghost use Rattle.std.specs.Fmt.{signed_decimal};
+ghost use Rattle.frac128.specs.Range.{Fits};
+ghost use Rattle.frac128.specs.Printing.{printed};
+ghost use Rattle.cert_check.specs.Text.{Meant};
+ghost use Rattle.cert_check.specs.Whole.{IsCertificate};
+ghost use Rattle.tree_cert.specs.CertText.{named_words, row_words, claim_words, leaf_words, node_words, point_lines, spaced, line_text, lines_text, cert_text, HasCertWords};
+ghost use Rattle.tree_cert.specs.Printed.{HasRoom, HasLeafRoom, HasNodeRoom, HasClaimRoom, HasPointRoom};
+
+use cert_check::{Cert, CertLeaf, CertNode, Claim};
+use frac128::Frac;
+use itoa::Buffer;
+use lp_model::Name;
+use std::alloc::{AllocError, Global};
+
+/// One more word of a line.
+fn put_word(text: &mut Vec<u8>, word: &[u8]) -> Result<(), AllocError>
+    ensures { IfOk result (λ _. text.new.items ≡ text.old.items ++ spaced (word.now ∷ [])) }
+{
+    text.push(b' ')?;
+    text.extend_from_slice(word)?;
+    Ok(())
+}
+
+/// A number as one more word.
+fn put_number(text: &mut Vec<u8>, number: &Frac) -> Result<(), AllocError>
+    ensures text { IfOk result (λ _. text.new.items ≡ text.old.items ++ spaced (printed number.now ∷ [])) }
+    ensures room { Fits number.now }
+{
+    number.has_room();
+    text.push(b' ')?;
+    number.write_to(text)?;
+    Ok(())
+}
+
+/// A name and a number.
+fn put_pair(text: &mut Vec<u8>, name: &Name, number: &Frac) -> Result<(), AllocError>
+    ensures text { IfOk result (λ _. text.new.items ≡ text.old.items ++ spaced (name.now ∷ printed number.now ∷ [])) }
+    ensures room { IfOk result (λ _. Fits number.now) }
+{
+    put_word(text, name.as_slice())?;
+    put_number(text, number)
+}
+
+/// `NAME V` for each.
+fn put_named(text: &mut Vec<u8>, named: &[(Name, Frac)]) -> Result<(), AllocError>
+    ensures text { IfOk result (λ _. text.new.items ≡ text.old.items ++ spaced (named_words named.now)) }
+    ensures room { IfOk result (λ _. HasRoom named.now) }
+{
+    for (name, number) in named {
+        put_pair(text, name, number)?;
+    }
+    Ok(())
+}
+
+/// `row NAME V` for each.
+fn put_rows(text: &mut Vec<u8>, named: &[(Name, Frac)]) -> Result<(), AllocError>
+    ensures text { IfOk result (λ _. text.new.items ≡ text.old.items ++ spaced (row_words named.now)) }
+    ensures room { IfOk result (λ _. HasRoom named.now) }
+{
+    for (name, number) in named {
+        put_word(text, b"row")?;
+        put_pair(text, name, number)?;
+    }
+    Ok(())
+}
+
+/// The claim's line.
+fn put_claim(text: &mut Vec<u8>, claim: &Claim) -> Result<(), AllocError>
+    ensures text { IfOk result (λ _. text.new.items ≡ text.old.items ++ line_text (claim_words claim.now)) }
+    ensures room { IfOk result (λ _. HasClaimRoom claim.now) }
+{
+    match claim {
+        Claim::Optimal(value) => {
+            text.extend_from_slice(b"claim optimal")?;
+            put_number(text, value)
+        }
+        Claim::Infeasible => text.extend_from_slice(b"claim infeasible"),
+    }
+}
+
+/// A leaf's line.
+fn put_leaf(text: &mut Vec<u8>, leaf: &CertLeaf) -> Result<(), AllocError>
+    ensures text { IfOk result (λ _. text.new.items ≡ text.old.items ++ line_text (leaf_words leaf.now)) }
+    ensures room { IfOk result (λ _. HasLeafRoom leaf.now) }
+{
+    match leaf {
+        CertLeaf::Bound(named) => {
+            text.extend_from_slice(b"leaf bound")?;
+            put_rows(text, named.as_slice())
+        }
+        CertLeaf::Farkas(named) => {
+            text.extend_from_slice(b"leaf farkas")?;
+            put_rows(text, named.as_slice())
+        }
+        CertLeaf::Empty => text.extend_from_slice(b"leaf empty"),
+    }
+}
+
+/// A split's line.
+fn put_split(text: &mut Vec<u8>, col: &Name, v: i128) -> Result<(), AllocError>
+    ensures { IfOk result (λ _. text.new.items ≡ text.old.items ++ line_text (codes "split" ∷ col.now ∷ signed_decimal v ∷ [])) }
+{
+    let mut buffer = Buffer::new();
+    text.extend_from_slice(b"split")?;
+    put_word(text, col.as_slice())?;
+    put_word(text, buffer.format(v).as_bytes())
+}
+
+/// A node's line.
+fn put_node(text: &mut Vec<u8>, node: &CertNode) -> Result<(), AllocError>
+    ensures text { IfOk result (λ _. text.new.items ≡ text.old.items ++ line_text (node_words node.now)) }
+    ensures room { IfOk result (λ _. HasNodeRoom node.now) }
+{
+    match node {
+        CertNode::Split { col, v } => put_split(text, col, *v),
+        CertNode::Leaf(leaf) => put_leaf(text, leaf),
+    }
+}
+
+/// The nodes' lines.
+fn put_nodes(text: &mut Vec<u8>, nodes: &[CertNode]) -> Result<(), AllocError>
+    ensures text { IfOk result (λ _. text.new.items ≡ text.old.items ++ lines_text (map node_words nodes.now)) }
+    ensures room { IfOk result (λ _. All HasNodeRoom nodes.now) }
+{
+    for node in nodes {
+        put_node(text, node)?;
+        text.push(b'\n')?;
+    }
+    Ok(())
+}
+
+/// The point's line, where a value is claimed.
+fn put_point(text: &mut Vec<u8>, cert: &Cert) -> Result<(), AllocError>
+    ensures text { IfOk result (λ _. text.new.items ≡ text.old.items ++ lines_text (point_lines cert.now.claim cert.now.point)) }
+    ensures room { IfOk result (λ _. HasPointRoom cert.now.claim cert.now.point) }
+{
+    match cert.claim {
+        Claim::Infeasible => Ok(()),
+        Claim::Optimal(_) => {
+            text.extend_from_slice(b"point")?;
+            put_named(text, cert.point.as_slice())?;
+            text.push(b'\n')?;
+            Ok(())
+        }
+    }
+}
+
+/// The text of a certificate. Where the certificate is one whole tree, and its names are words, the text states it, so
+/// that `read_cert` reads it back.
+pub fn print_cert(alloc: Global, cert: &Cert) -> Result<Vec<u8>, AllocError>
+    ensures text { IfOk result (λ text. text.items ≡ cert_text cert.now) }
+    ensures states { IfOk result (λ text. IsCertificate cert.now → HasCertWords cert.now → Meant text.items cert.now) }
+{
+    let mut text = Vec::new(alloc);
+    text.extend_from_slice(b"cert 1\n")?;
+    put_claim(&mut text, &cert.claim)?;
+    text.push(b'\n')?;
+    put_point(&mut text, cert)?;
+    put_nodes(&mut text, cert.nodes.as_slice())?;
+    text.extend_from_slice(b"end\n")?;
+    Ok(text)
+}

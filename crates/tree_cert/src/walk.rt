@@ -1,0 +1,106 @@
+// The walk through the nodes of a tree.
+ghost use Rattle.std.specs.Prelude.{◌≡◌, ◌<◌, ◌+ℤ◌, ◌++◌, ◌∷◌, [], pos, length, IfOk};
+ghost use Rattle.frac128.specs.Range.{IsNarrow};
+ghost use Rattle.branch_tree.specs.Tree.{at_most, at_least};
+ghost use Rattle.cert_check.specs.Walk.{after_leaf};
+ghost use Rattle.tree_cert.specs.Walked.{path_after, IsNodeOf, AreNodesOf, IsFit, AreFit, HasTurns};
+
+use crate::leaf::reason;
+use crate::names::column_name;
+use branch_tree::Node;
+use cert_check::CertNode;
+use lp_model::{BoundChange, ColId, List, Model, Side};
+use std::alloc::{AllocError, Global};
+
+/// The change to the second child of a split, whose first child is that of the change.
+fn second_child(first: &BoundChange) -> BoundChange
+    requires { IsNarrow (first.now.v +ℤ pos 1) }
+    ensures { result ≡ at_least first.now.col.0 (first.now.v +ℤ pos 1) }
+{
+    BoundChange {
+        col: first.col,
+        side: Side::Lo,
+        v: first.v + 1,
+    }
+}
+
+/// From the path to a leaf to that of the node behind it.
+fn turn(path: &mut Vec<BoundChange>) -> Result<(), AllocError>
+    requires { HasTurns path.old.items }
+    ensures { IfOk result (λ _. path.new.items ≡ after_leaf path.old.items) }
+{
+    while let Some(last) = path.pop() {
+        match last.side {
+            Side::Lo => {}
+            Side::Hi => {
+                path.push(second_child(&last))?;
+                return Ok(());
+            }
+        }
+    }
+    Ok(())
+}
+
+/// The change to the first child of a split.
+fn first_child(col: ColId, v: i128) -> BoundChange
+    ensures { result ≡ at_most col.0 v }
+{
+    BoundChange {
+        col,
+        side: Side::Hi,
+        v,
+    }
+}
+
+/// From the path to a node to that of the node behind it.
+fn step_on(path: &mut Vec<BoundChange>, node: &Node) -> Result<(), AllocError>
+    requires { HasTurns path.old.items }
+    ensures { IfOk result (λ _. path.new.items ≡ path_after path.old.items node.now) }
+{
+    match node {
+        Node::Split { col, v, .. } => {
+            path.push(first_child(*col, *v))?;
+            Ok(())
+        }
+        Node::Leaf { .. } => turn(path),
+    }
+}
+
+/// The certificate's node for a node with this path.
+fn cert_node(
+    alloc: Global,
+    model: &Model,
+    path: &[BoundChange],
+    node: &Node,
+) -> Result<CertNode, AllocError>
+    requires turns { HasTurns path.now }
+    requires fit { IsFit model.now node.now }
+    ensures { IfOk result (λ c. IsNodeOf model.now path.now node.now c) }
+{
+    match node {
+        Node::Split { col, v, .. } => Ok(CertNode::Split {
+            col: column_name(alloc, model, *col)?,
+            v: *v,
+        }),
+        Node::Leaf { kept, .. } => Ok(CertNode::Leaf(reason(alloc, model, path, kept)?)),
+    }
+}
+
+/// The certificate's nodes for the nodes of a tree in preorder.
+pub(crate) fn cert_nodes(
+    alloc: Global,
+    model: &Model,
+    nodes: &[Node],
+) -> Result<List<CertNode>, AllocError>
+    requires { AreFit model.now nodes.now }
+    ensures { IfOk result (λ certs. AreNodesOf model.now [] nodes.now certs) }
+{
+    let mut path = Vec::new(alloc);
+    let mut certs = List::new(alloc);
+    for node in nodes {
+        let cert = cert_node(alloc, model, &path, node)?;
+        certs.push(cert)?;
+        step_on(&mut path, node)?;
+    }
+    Ok(certs)
+}

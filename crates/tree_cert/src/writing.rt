@@ -1,0 +1,78 @@
+// The certificate of a finished search.
+ghost use Rattle.std.specs.Prelude.{◌≡◌, IfOk, length, Option};
+ghost use Rattle.lp_model.specs.Program.{Point, in_least_form};
+ghost use Rattle.tree_edit.specs.Laws.{HasNoOpenLeaf};
+ghost use Rattle.tree_edit.specs.Sound.{IsSound};
+ghost use Rattle.tree_edit.specs.Points.{IsIncumbent};
+ghost use Rattle.cert_check.specs.Verdict.{IsVerdict};
+ghost use Rattle.cert_check.specs.Whole.{IsCertificate};
+ghost use Rattle.cert_check.specs.declared.verdict.Verdict.TheVariants.{Accepted};
+ghost use Rattle.tree_cert.specs.Walked.{AreOfTree};
+ghost use Rattle.tree_cert.specs.Certificates.{claim_of, point_numbers, IsCertificateOf};
+
+use crate::names::nonzero_numbers;
+use crate::walk::cert_nodes;
+use cert_check::{Cert, CertNode, Claim};
+use frac128::Frac;
+use lp_model::{List, Name, Sense};
+use std::alloc::{AllocError, Global};
+use tree_edit::Search;
+
+/// A value in the model's own sense, from its least form.
+fn in_own_sense(sense: Sense, value: &Frac) -> Frac
+    ensures { result ≡ in_least_form sense value.now }
+{
+    match sense {
+        Sense::Min => *value,
+        Sense::Max => value.neg(),
+    }
+}
+
+/// The incumbent's value, or that no point is feasible.
+fn claim(search: &Search) -> Claim
+    ensures { (best : Option Point) → IsIncumbent search.now.model search.now.points best → result ≡ claim_of search.now.model best }
+{
+    match search.target() {
+        Some(value) => Claim::Optimal(in_own_sense(search.model().sense(), &value)),
+        None => Claim::Infeasible,
+    }
+}
+
+/// The incumbent's numbers that are not 0.
+fn point(alloc: Global, search: &Search) -> Result<List<(Name, Frac)>, AllocError>
+    ensures { IfOk result (λ named. (best : Option Point) × (IsIncumbent search.now.model search.now.points best × (named ≡ point_numbers search.now.model best))) }
+{
+    let _sound = search.points();
+    match search.incumbent() {
+        Some(point) => nonzero_numbers(alloc, search.model(), point),
+        None => Ok(List::new(alloc)),
+    }
+}
+
+/// The nodes of the search's tree.
+fn nodes(alloc: Global, search: &Search) -> Result<List<CertNode>, AllocError>
+    ensures { IfOk result (λ certs. AreOfTree search.now.model search.now.tree.root certs) }
+{
+    let nodes = search.tree().preorder()?;
+    let certs = cert_nodes(alloc, search.model(), &nodes)?;
+    Ok(certs)
+}
+
+/// The certificate of a search without an open leaf. `check` accepts it for the search's model.
+pub fn certificate(alloc: Global, search: &Search) -> Result<Cert, AllocError>
+    requires finished { HasNoOpenLeaf search.now }
+    ensures exact { IfOk result (λ cert. IsCertificateOf search.now cert) }
+    ensures certificate { IfOk result IsCertificate }
+    ensures accepted { IfOk result (λ cert. IsVerdict search.now.model cert Accepted) }
+{
+    let _sound = search.points();
+    let _lawful = search.model().rows();
+    let claim = claim(search);
+    let point = point(alloc, search)?;
+    let nodes = nodes(alloc, search)?;
+    Ok(Cert {
+        claim,
+        point,
+        nodes,
+    })
+}
