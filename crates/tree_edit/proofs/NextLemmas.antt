@@ -1,11 +1,11 @@
 -- The leaf at the front of the queue is the one that is worked next.
-use Rattle.std.specs.Prelude.{◌≡◌, ◌⊎◌, ℕ, List, [], ◌∷◌, ◌++◌, map, Option, Some, None, ℤ}
+use Rattle.std.specs.Prelude.{◌≡◌, ◌⊎◌, ℕ, List, [], ◌∷◌, ◌++◌, Some, None, ℤ}
 use Rattle.std.proofs.Common.{refl, sym, subst, inl, inr}
 use Rattle.std.proofs.lemmas.List.{map-append}
 use Rattle.lp_model.specs.Program.{Program}
 use Rattle.lp_model.specs.Regions.{Path}
 use Rattle.branch_tree.specs.Tree.{Leaf, Split, leaves, left_path, right_path, EachLeaf}
-use Rattle.branch_tree.specs.Plain.{SplitKept, LeafKept, Plain}
+use Rattle.branch_tree.specs.Plain.{SplitKept, Plain}
 use Rattle.branch_tree.specs.Leaves.{placed, placed_leaves}
 use Rattle.branch_tree.specs.declared.node.LeafState.TheVariants.{IsClosed}
 use Rattle.branch_tree.specs.declared.node.PlacedLeaf.{PlacedLeaf}
@@ -13,7 +13,7 @@ use Rattle.tree_edit.specs.declared.choosing.Candidate.{Candidate}
 use Rattle.tree_edit.specs.declared.queue.LeafQueue.{LeafQueue}
 use Rattle.tree_edit.specs.Choosing.{GoesFirst, IsCandidate, IsOneOf, GoesBeforeAll, AreClosed, IsNext}
 use Rattle.tree_edit.specs.Sound.{PlainSearch}
-use Rattle.tree_edit.specs.Queued.{Has, HasNone, IsFrontOf, SomeLeaf, IsQueued, IsQueueOf}
+use Rattle.tree_edit.specs.Queued.{HasNone, IsFrontOf, SomeLeaf, IsQueued, IsQueueOf}
 use Rattle.tree_edit.proofs.SoundLemmas.{each-weaker}
 
 two-parts : (path : Path) (kept : SplitKept) (j : ℕ) (v : ℤ) (left right : Plain) → placed_leaves path (Split kept j v left right) ≡ placed_leaves (left_path path j v) left ++ placed_leaves (right_path path j v) right

@@ -1,5 +1,5 @@
 -- The queue after a leaf is closed, stays with its multipliers, or is split.
-use Rattle.std.specs.Prelude.{◌≡◌, ◌≢◌, ◌⊎◌, ℕ, ◌+◌, ◌<◌, [], Option, Some, None, ℤ}
+use Rattle.std.specs.Prelude.{◌≡◌, ◌≢◌, ℕ, ◌+◌, ◌<◌, [], Option, Some, None, ℤ}
 use Rattle.std.proofs.Common.{refl, sym, subst, ap, ◌∙◌, arith, inl, inr}
 use Rattle.rational.specs.Rational.{ℚ}
 use Rattle.lp_model.specs.Program.{Program}
@@ -17,7 +17,7 @@ use Rattle.branch_tree.specs.declared.node.LeafData.{LeafData}
 use Rattle.tree_edit.specs.declared.choosing.Candidate.{Candidate}
 use Rattle.tree_edit.specs.declared.queue.LeafQueue.{LeafQueue}
 use Rattle.tree_edit.specs.Closing.{IsNumber, IsJudgedLeaf}
-use Rattle.tree_edit.specs.Choosing.{rank, IsCandidate}
+use Rattle.tree_edit.specs.Choosing.{IsCandidate}
 use Rattle.tree_edit.specs.Judged.{AreJudged}
 use Rattle.tree_edit.specs.Queued.{Has, IsThat, AddsBoth, Removes, RemovesBoth, IsSameQueue, IsNew, SomeLeaf, IsQueued, IsQueueOf, IsRank, HasRank, HasMultipliers, IsChildCandidate, candidate_of}
 use Rattle.tree_edit.specs.Placing.{IsAt, split_node}
@@ -25,7 +25,7 @@ use Rattle.tree_edit.proofs.JudgeLemmas.{rank_same, judged_same}
 use Rattle.tree_edit.proofs.ClosedTree.{each_both}
 use Rattle.tree_edit.proofs.SoundLemmas.{each-weaker}
 use Rattle.tree_edit.proofs.QueueLemmas.{both-undone}
-use Rattle.tree_edit.proofs.QueuedLemmas.{some-weaker, some-put, some-id, each-changed, some-changed}
+use Rattle.tree_edit.proofs.QueuedLemmas.{some-put, some-id, each-changed, some-changed}
 
 apart-by_id : (c d : Candidate) → c.id ≢ d.id → c ≢ d
 apart-by_id c d ne e = ne (ap (λ (k : Candidate). k.id) e)

@@ -1,5 +1,5 @@
 -- Candidates in their order, and queues after each change.
-use Rattle.std.specs.Prelude.{◌≡◌, ◌≢◌, ◌⊎◌, ◌↔◌, ℕ, ◌<◌, ◌≤◌, Bool, true, false, IsTrue, List, [], ◌∷◌, length, slice_get, Option, Some, None, cond}
+use Rattle.std.specs.Prelude.{◌≡◌, ◌≢◌, ◌⊎◌, ◌↔◌, ℕ, ◌<◌, ◌≤◌, Bool, true, false, IsTrue, Option, Some, None, cond}
 use Rattle.std.specs.List.{list_any}
 use Rattle.std.specs.Option.{option_cmp}
 use Rattle.std.specs.declared.cmp.Ordering.{Ordering}
@@ -12,7 +12,7 @@ use Rattle.rational.proofs.Comparison.{rational_ranked, cmp_self}
 use Rattle.tree_edit.specs.declared.choosing.Candidate.{Candidate}
 use Rattle.tree_edit.specs.declared.queue.LeafQueue.{LeafQueue}
 use Rattle.tree_edit.specs.Choosing.{GoesFirst}
-use Rattle.tree_edit.specs.Queued.{candidate_cmp, Has, IsThat, Adds, AddsBoth, Removes, RemovesBoth, IsSameQueue, IsNew}
+use Rattle.tree_edit.specs.Queued.{candidate_cmp, Has, Adds, AddsBoth, Removes, RemovesBoth, IsSameQueue, IsNew}
 
 -- ---- the order
 

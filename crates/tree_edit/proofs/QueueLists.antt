@@ -7,7 +7,7 @@ use Rattle.lp_model.specs.Program.{Program}
 use Rattle.lp_model.specs.Regions.{Path}
 use Rattle.branch_tree.specs.Tree.{Leaf, Split, left_path, right_path}
 use Rattle.branch_tree.specs.Plain.{LeafKept, Plain}
-use Rattle.branch_tree.specs.Leaves.{placed, placed_leaves, leaf_count, with_state, with_states}
+use Rattle.branch_tree.specs.Leaves.{placed, placed_leaves, leaf_count, with_states}
 use Rattle.branch_tree.specs.declared.node.LeafState.{LeafState}
 use Rattle.branch_tree.specs.declared.node.PlacedLeaf.{PlacedLeaf}
 use Rattle.tree_edit.specs.declared.choosing.Candidate.{Candidate}

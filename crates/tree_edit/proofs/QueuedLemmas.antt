@@ -1,29 +1,18 @@
 -- The queue of a tree after one leaf is changed.
-use Rattle.std.specs.Prelude.{◌≡◌, ◌≢◌, ◌⊎◌, ℕ, ◌+◌, ◌<◌, Bool, true, false, [], ◌∷◌, Option, Some, None, nat_eq, if◌then◌else◌, ℤ, Ok, Err}
+use Rattle.std.specs.Prelude.{◌≡◌, ◌≢◌, ℕ, ◌<◌, Bool, true, false, [], Option, Some, None, nat_eq, if◌then◌else◌}
 use Rattle.std.specs.Option.{MatchOption, option_map, option_or}
 use Rattle.std.proofs.Common.{refl, sym, subst, ap, ◌∙◌, arith, inl, inr}
 use Rattle.std.proofs.lemmas.Bool.{cases_lt}
 use Rattle.rational.specs.Rational.{ℚ}
 use Rattle.lp_model.specs.Program.{Program}
 use Rattle.lp_model.specs.Regions.{Path}
-use Rattle.leaf_dual.specs.Dual.{Multipliers}
 use Rattle.branch_tree.specs.Tree.{Tree, Leaf, Split, left_path, right_path, EachLeaf}
-use Rattle.branch_tree.specs.Plain.{SplitKept, LeafKept, Plain, leaves_with, leaf_below, data_of, replaced}
-use Rattle.branch_tree.specs.Leaves.{placed, placed_leaves}
-use Rattle.branch_tree.specs.declared.node.LeafState.{LeafState}
-use Rattle.branch_tree.specs.declared.node.LeafState.TheVariants.{IsOpen, IsClosed}
+use Rattle.branch_tree.specs.Plain.{LeafKept, Plain, leaves_with, leaf_below, data_of, replaced}
 use Rattle.branch_tree.specs.declared.node.LeafData.{LeafData}
 use Rattle.branch_tree.proofs.CountLemmas.{leaf_case, same_cases}
 use Rattle.branch_tree.proofs.LeafLemmas.{leaf_below-found, leaf_below-split}
-use Rattle.tree_edit.specs.declared.choosing.Candidate.{Candidate}
-use Rattle.tree_edit.specs.declared.queue.LeafQueue.{LeafQueue}
-use Rattle.tree_edit.specs.declared.judging.LeafNumber.{LeafNumber}
-use Rattle.tree_edit.specs.Closing.{IsNumber, IsJudgedLeaf}
-use Rattle.tree_edit.specs.Choosing.{rank, IsCandidate}
-use Rattle.tree_edit.specs.Judged.{AreJudged}
-use Rattle.tree_edit.specs.Queued.{Has, IsThat, AddsBoth, Removes, IsSameQueue, IsNew, SomeLeaf, IsQueued, IsQueueOf, IsRank, HasRank, HasMultipliers, IsChildCandidate}
+use Rattle.tree_edit.specs.Queued.{SomeLeaf, IsRank, HasRank, HasMultipliers}
 use Rattle.tree_edit.specs.Placing.{IsAt}
-use Rattle.tree_edit.proofs.JudgeLemmas.{rank_same, judged_same}
 use Rattle.tree_edit.proofs.ClosedTree.{each_both}
 use Rattle.tree_edit.proofs.SoundLemmas.{each-weaker}
 

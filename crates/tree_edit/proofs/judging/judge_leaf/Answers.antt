@@ -1,5 +1,3 @@
-use Rattle.std.proofs.Common.{◌≡◌, Option, Some, sym, subst}
-use Rattle.rational.specs.Rational.{ℚ}
 use Rattle.branch_tree.specs.declared.node.LeafData.{LeafData}
 use Rattle.tree_edit.specs.Queued.{leaf_in}
 use Rattle.tree_edit.proofs.QueueChanges.{child-candidate}

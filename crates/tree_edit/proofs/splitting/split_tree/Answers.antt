@@ -1,10 +1,8 @@
-use Rattle.std.proofs.Common.{◌≡◌, ◌∙◌, ℕ, ◌+◌, ◌<ℤ◌, pos, FitsSigned, rules, ap, sym, subst, arith}
+use Rattle.std.proofs.Common.{◌≡◌, ◌∙◌, ℕ, ◌+◌, FitsSigned, rules, ap, sym, subst}
 use Rattle.std.specs.Int.{w128}
-use Rattle.std.proofs.lemmas.Int.{ints, to_z-of_z}
-use Rattle.frac128.specs.Range.{largest}
+use Rattle.std.proofs.lemmas.Int.{to_z-of_z}
 use Rattle.branch_tree.specs.Numbered.{NumberedTree, IsNumbered}
 use Rattle.branch_tree.specs.Changes.{HasLeaf, with_leaf, after_split}
-use Rattle.tree_edit.specs.Placing.{tree_with_split}
 use Rattle.tree_edit.proofs.SplitLemmas.{has-first, has-second, tree-split}
 use Rattle.tree_edit.proofs.splitting.split_tree.Goals as goal
 

@@ -1,4 +1,4 @@
-use Rattle.std.proofs.Common.{rules, Option, None, Some, ℕ, subst}
+use Rattle.std.proofs.Common.{rules, None, Some, subst}
 use Rattle.tree_edit.specs.Sound.{PlainSearch}
 use Rattle.tree_edit.specs.Choosing.{IsNext}
 use Rattle.tree_edit.proofs.NextLemmas.{next-none, next-some}

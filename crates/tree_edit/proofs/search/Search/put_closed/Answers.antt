@@ -1,6 +1,5 @@
-use Rattle.std.proofs.Common.{◌≡◌, Some, sym, ap, subst}
+use Rattle.std.proofs.Common.{sym, subst}
 use Rattle.branch_tree.specs.Numbered.{NumberedTree}
-use Rattle.tree_edit.specs.declared.choosing.Candidate.{Candidate}
 use Rattle.tree_edit.specs.Sound.{PlainSearch}
 use Rattle.tree_edit.specs.Queued.{IsKept, HasRank}
 use Rattle.tree_edit.specs.Placing.{IsAt}

@@ -1,4 +1,4 @@
-use Rattle.std.proofs.Common.{rules, ◌≡◌, Some, sym, subst}
+use Rattle.std.proofs.Common.{rules}
 use Rattle.tree_edit.proofs.QueuedLemmas.{has-rank}
 use Rattle.tree_edit.proofs.search.Search.rank_of.Goals as goal
 
