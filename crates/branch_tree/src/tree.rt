@@ -113,6 +113,17 @@ impl Tree {
         self.count + 2 <= self.limit && self.count / 2 + 3 <= u64::MAX - self.last
     }
 
+    /// The ids that the left and the right leaf of a split would get, and `None` where there is no room for one.
+    pub fn next_ids(&self) -> Option<(u64, u64)>
+        ensures { MatchOption result (¬ HasRoom self.now) (λ ids. HasRoom self.now × (ids ≡ (self.now.last + 1, self.now.last + 2))) }
+    {
+        if self.has_room() {
+            Some((self.last + 1, self.last + 2))
+        } else {
+            None
+        }
+    }
+
     /// Makes the leaf with the id a split on a column at `v`, with these multipliers and this basis, which its two open
     /// leaves inherit. Answers the ids of the left and of the right one. A missing leaf is told before a full tree, and
     /// after a refusal nothing has changed.

@@ -7,7 +7,7 @@ use Rattle.lp_model.specs.Program.{Program}
 use Rattle.lp_model.specs.Regions.{Path}
 use Rattle.branch_tree.specs.Tree.{Tree, Leaf, Split, left_path, right_path, EachLeaf}
 use Rattle.branch_tree.specs.Plain.{LeafKept, Plain, one_if_same, leaves_with, path_below, replaced}
-use Rattle.branch_tree.specs.Leaves.{leaf_count, with_states}
+use Rattle.branch_tree.specs.Leaves.{leaf_count, with_state, with_states}
 use Rattle.branch_tree.specs.declared.node.LeafState.{LeafState}
 use Rattle.branch_tree.specs.declared.node.LeafData.{LeafData}
 use Rattle.branch_tree.proofs.CountLemmas.{same_cases, leaf_case}
@@ -19,6 +19,7 @@ use Rattle.tree_edit.specs.Points.{target}
 use Rattle.tree_edit.specs.Lists.{HasLists, HasNodeLists}
 use Rattle.tree_edit.specs.Judged.{AreJudged}
 use Rattle.tree_edit.specs.Sound.{PlainSearch, IsSoundTree, IsSound}
+use Rattle.tree_edit.specs.Queued.{HasMultipliers}
 use Rattle.tree_edit.specs.Placing.{IsAt, search_with_leaf}
 use Rattle.tree_edit.proofs.ClosedTree.{each_both}
 
@@ -87,6 +88,16 @@ is_at id path t one found = own_path id path [] t one found
 
 pub is_at-states : (id : ℕ) (path : Path) (states : List LeafState) (t : Plain) → IsAt id path t → IsAt id path (with_states states t)
 is_at-states id path states t h = at-states id path [] states t h
+
+-- other states leave the multipliers
+multipliers-states : (P : LeafKept → Type 0) → ((l : LeafKept) (s : LeafState) → P l → P (record { id = l.id; kept = with_state s l.kept })) → (path : Path) (states : List LeafState) (t : Plain) → EachLeaf (λ p l. P l) path t → EachLeaf (λ p l. P l) path (with_states states t)
+multipliers-states P w path [] (Leaf l) h = h
+multipliers-states P w path (s ∷ states) (Leaf l) h = w l s h
+multipliers-states P w path [] (Split kept j v left right) h = (multipliers-states P w (left_path path j v) [] left h.0, multipliers-states P w (right_path path j v) (drop (leaf_count left) []) right h.1)
+multipliers-states P w path (s ∷ states) (Split kept j v left right) h = (multipliers-states P w (left_path path j v) (s ∷ states) left h.0, multipliers-states P w (right_path path j v) (drop (leaf_count left) (s ∷ states)) right h.1)
+
+pub own-states : (id : ℕ) (kept : LeafData) (states : List LeafState) (t : Plain) → HasMultipliers id kept t → HasMultipliers id kept (with_states states t)
+own-states id kept states t h = multipliers-states (λ l. l.id ≡ id → (l.kept.mult ≡ kept.mult) × (l.kept.farkas ≡ kept.farkas)) (λ l s k. k) [] states t h
 
 -- what holds of each leaf holds of each after it, where it holds of the new ones below the replaced leaf's path
 replaced-with : (P : Path → LeafKept → Type 0) (id : ℕ) (at : Path) (new : Plain) (path : Path) (u : Plain) → EachLeaf (λ p l. P p l × (l.id ≡ id → p ≡ at)) path u → EachLeaf P at new → EachLeaf P path (replaced id new u)

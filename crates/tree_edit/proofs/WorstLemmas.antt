@@ -7,7 +7,9 @@ use Rattle.std.proofs.lemmas.List.Elements.{All-push, All-append, All-take, All-
 use Rattle.rational.specs.Rational.{ℚ, ◌≤ℚ◌, ◌<ℚ◌}
 use Rattle.rational.proofs.RationalOrder.{not_both_ℚ, ≤ℚ_refl, ≤ℚ-<ℚ_trans, ≤ℚ_of_<ℚ, ≤ℚ_from_not}
 use Rattle.lp_model.specs.Program.{Program, Point, least_value}
-use Rattle.branch_tree.specs.Leaves.{with_states}
+use Rattle.branch_tree.specs.Tree.{Leaf, Split}
+use Rattle.branch_tree.specs.Plain.{Plain}
+use Rattle.branch_tree.specs.Leaves.{leaf_count, with_states}
 use Rattle.branch_tree.specs.Numbered.{NumberedTree}
 use Rattle.branch_tree.specs.Changes.{with_leaf_states, HasLeaf}
 use Rattle.branch_tree.specs.declared.node.LeafData.{LeafData}
@@ -17,9 +19,11 @@ use Rattle.tree_edit.specs.Closing.{ClosesBy}
 use Rattle.branch_tree.specs.declared.node.LeafState.{LeafState}
 use Rattle.tree_edit.specs.declared.points.Joined.{Joined}
 use Rattle.tree_edit.specs.Judged.{AreJudged, AreStates}
-use Rattle.tree_edit.specs.Sound.{PlainSearch, IsKept}
+use Rattle.tree_edit.specs.Sound.{PlainSearch}
+use Rattle.tree_edit.specs.declared.queue.LeafQueue.{LeafQueue}
+use Rattle.tree_edit.specs.Queued.{IsQueueOf, IsKept, HasMultipliers}
 use Rattle.tree_edit.proofs.PointLemmas.{target-value, target-none}
-use Rattle.tree_edit.proofs.SoundLemmas.{tree-states, is_at-states}
+use Rattle.tree_edit.proofs.SoundLemmas.{tree-states, is_at-states, own-states}
 use Rattle.tree_edit.specs.Points.{value_at, target, IsKeepable}
 use Rattle.tree_edit.specs.Placing.{IsOldestGreatestOf, IsWorst, without, AddsPoint, IsLeastValue, Joins, JoinsPoint, TakesPoint, ClosesWith, IsAt}
 use borrow.Author.Count.{below_more}
@@ -85,9 +89,9 @@ joins-point S values x v joined are v_is h =
     }
 
 -- the search with the point and the states
-pub kept-taken : (S : PlainSearch) (values : List ℚ) (x : Point) (joined : Joined) (states : List LeafState) → IsKept S values → IsKeepable S.model x → JoinsPoint S x joined → AreStates S.model joined.target S.tree.root states
-    → IsKept (record { model = S.model; tree = with_leaf_states S.tree states; points = without (S.points ++ x ∷ []) joined.worst }) joined.values.items
-kept-taken S values x joined states kept keepable h s =
+pub kept-taken : (S : PlainSearch) (values : List ℚ) (queue new : LeafQueue) (x : Point) (joined : Joined) (states : List LeafState) → IsKept S values queue → IsKeepable S.model x → JoinsPoint S x joined → AreStates S.model joined.target S.tree.root states → IsQueueOf S.model (with_states states S.tree.root) new
+    → IsKept (record { model = S.model; tree = with_leaf_states S.tree states; points = without (S.points ++ x ∷ []) joined.worst }) joined.values.items new
+kept-taken S values queue new x joined states kept keepable h s q =
     let all_length : length (S.points ++ x ∷ []) ≡ length S.points + 1 = length-append S.points (x ∷ []) in
     record {
       sound = record {
@@ -97,7 +101,46 @@ kept-taken S values x joined states kept keepable h s =
         few = few-without (S.points ++ x ∷ []) 100 (map (least_value S.model 1) (S.points ++ x ∷ [])) joined.worst (length-map (S.points ++ x ∷ []) (least_value S.model 1)) (let few : length S.points ≤ 100 = kept.sound.few in omega (arith, all_length)) refl h.worst;
       };
       values_are = h.values_are;
+      queue_is = q;
     }
+
+-- the search with the point and the same states, where the target stays
+pub kept-added : (S : PlainSearch) (values : List ℚ) (queue : LeafQueue) (x : Point) (joined : Joined) → IsKept S values queue → IsKeepable S.model x → JoinsPoint S x joined → joined.target ≡ target S.model S.points
+    → IsKept (record { model = S.model; tree = S.tree; points = without (S.points ++ x ∷ []) joined.worst }) joined.values.items queue
+kept-added S values queue x joined kept keepable h same =
+    let all_length : length (S.points ++ x ∷ []) ≡ length S.points + 1 = length-append S.points (x ∷ []) in
+    record {
+      sound = record {
+        tree = kept.sound.tree;
+        judged = subst (λ t. AreJudged S.model t S.tree.root) (sym same ∙ h.target_is) kept.sound.judged;
+        points = all-without (IsKeepable S.model) (S.points ++ x ∷ []) joined.worst (All-push (IsKeepable S.model) S.points x kept.sound.points keepable);
+        few = few-without (S.points ++ x ∷ []) 100 (map (least_value S.model 1) (S.points ++ x ∷ [])) joined.worst (length-map (S.points ++ x ∷ []) (least_value S.model 1)) (let few : length S.points ≤ 100 = kept.sound.few in omega (arith, all_length)) refl h.worst;
+      };
+      values_are = h.values_are;
+      queue_is = kept.queue_is;
+    }
+
+none_dropped : (n : ℕ) (u : Plain) → with_states [] u ≡ u → with_states (drop n []) u ≡ u
+none_dropped zero u h = h
+none_dropped (suc n) u h = h
+
+-- no states leave each leaf's
+no_states : (t : Plain) → with_states [] t ≡ t
+no_states (Leaf l) = refl
+no_states (Split kept j v left right) = λ i. Split kept j v (no_states left i) (none_dropped (leaf_count left) right (no_states right) i)
+
+-- where the target stays, each leaf is judged against it as it is
+pub taken-added : (S : PlainSearch) (values : List ℚ) (queue : LeafQueue) (x : Point) (joined : Joined) → IsKept S values queue → JoinsPoint S x joined → joined.target ≡ target S.model S.points
+    → TakesPoint S x (record { model = S.model; tree = S.tree; points = without (S.points ++ x ∷ []) joined.worst })
+taken-added S values queue x joined kept h same = record {
+  model = refl;
+  points = (joined.worst, (h.worst, refl));
+  tree = record {
+    states = [];
+    tree = ap (λ r. let T : NumberedTree = record { root = r; last = S.tree.last; limit = S.tree.limit } in T) (sym (no_states S.tree.root));
+    judged = subst (λ t. AreJudged S.model t S.tree.root) (sym same ∙ h.target_is) kept.sound.judged;
+  };
+}
 
 -- ---- one way to take a point
 
@@ -128,3 +171,6 @@ module _ (S : PlainSearch) (x : Point) where
 
   pub at-taken : (mid : PlainSearch) (id : ℕ) (path : Path) → TakesPoint S x mid → IsAt id path S.tree.root → IsAt id path mid.tree.root
   at-taken mid id path taken at = subst (λ (T : NumberedTree). IsAt id path T.root) (sym taken.tree.tree) (is_at-states id path taken.tree.states S.tree.root at)
+
+  pub own-taken : (mid : PlainSearch) (id : ℕ) (kept : LeafData) → TakesPoint S x mid → HasMultipliers id kept S.tree.root → HasMultipliers id kept mid.tree.root
+  own-taken mid id kept taken own = subst (λ (T : NumberedTree). HasMultipliers id kept T.root) (sym taken.tree.tree) (own-states id kept taken.tree.states S.tree.root own)

@@ -58,13 +58,3 @@ IsFirst M leaves (Some c) = IsOneOf M leaves c × GoesBeforeAll M c leaves
 abbrev pub IsNext : PlainSearch → Option ℕ → Type 0
 IsNext S None = AreClosed (placed_leaves [] S.tree.root)
 IsNext S (Some id) = (c : Candidate) × (IsFirst S.model (placed_leaves [] S.tree.root) (Some c) × (id ≡ c.id))
-
--- what a leaf is, as a candidate
-abbrev pub IsCandidateAnswer : Program → PlacedLeaf → Option Candidate → Type 0
-IsCandidateAnswer M leaf None = leaf.kept.state ≡ IsClosed
-IsCandidateAnswer M leaf (Some c) = IsCandidate M leaf c
-
--- the first of one candidate, if there is one, and another
-abbrev pub IsSooner : Option Candidate → Candidate → Candidate → Type 0
-IsSooner None other c = c ≡ other
-IsSooner (Some best) other c = ((c ≡ best) × GoesFirst best.rank best.id other.rank other.id) ⊎ ((c ≡ other) × GoesFirst other.rank other.id best.rank best.id)

@@ -5,6 +5,7 @@ pub mod Judged
 pub mod Sound
 pub mod SearchCode
 pub mod Choosing
+pub mod Queued
 pub mod Others
 pub mod Laws
 pub mod Checks

@@ -1,7 +1,6 @@
 -- A search as a plain record, and what each search keeps.
-use Rattle.std.specs.Prelude.{◌≡◌, ◌≤◌, List, length, map, All}
-use Rattle.rational.specs.Rational.{ℚ}
-use Rattle.lp_model.specs.Program.{Program, Point, least_value}
+use Rattle.std.specs.Prelude.{◌≤◌, List, length, All}
+use Rattle.lp_model.specs.Program.{Program, Point}
 use Rattle.branch_tree.specs.Tree.{IsLawful, HasNarrowSplits}
 use Rattle.branch_tree.specs.Plain.{Plain}
 use Rattle.branch_tree.specs.Numbered.{NumberedTree}
@@ -28,8 +27,3 @@ pub record IsSound (S : PlainSearch) : Type 0 where
   pub judged : AreJudged S.model (target S.model S.points) S.tree.root
   pub points : All (IsKeepable S.model) S.points
   pub few : length S.points ≤ 100
-
--- the values of the points stand beside them
-pub record IsKept (S : PlainSearch) (values : List ℚ) : Type 0 where
-  pub sound : IsSound S
-  pub values_are : values ≡ map (least_value S.model 1) S.points

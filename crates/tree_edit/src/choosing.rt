@@ -1,25 +1,24 @@
 // Which leaf is worked next.
-ghost use Rattle.std.specs.Prelude.{◌≡◌, ℕ, All, MatchBool, Some};
-ghost use Rattle.lp_model.specs.Regions.{AreNarrow};
+ghost use Rattle.std.specs.Prelude.{◌≡◌};
 ghost use Rattle.tree_edit.specs.declared.judging.LeafNumber.TheVariants.{Lag};
-ghost use Rattle.tree_edit.specs.Choosing.{rank, GoesFirst, IsSooner, IsCandidateAnswer, IsFirst};
+ghost use Rattle.tree_edit.specs.Choosing.{rank};
+ghost use Rattle.tree_edit.specs.Queued.{candidate_of};
 
-use crate::judging::{LeafNumber, number_of};
-use branch_tree::{LeafState, PlacedLeaf};
+use crate::judging::LeafNumber;
+use branch_tree::LeafState;
 use frac128::Frac;
 use leaf_dual::LagValue;
-use lp_model::Model;
-use std::cmp::Ordering;
 
-/// An open leaf with its number, if it has one.
-#[derive(Clone, Copy, Drop)]
+/// An open leaf with its number, if it has one. The first of two is the one that is worked first: `None` is less than
+/// each number.
+#[derive(Clone, Copy, PartialEq, Eq, PartialOrd, Ord, Drop)]
 pub(crate) struct Candidate {
-    pub(crate) id: u64,
     pub(crate) rank: Option<Frac>,
+    pub(crate) id: u64,
 }
 
 /// The number, if there is one.
-fn rank(number: &LeafNumber) -> Option<Frac>
+pub(crate) fn rank(number: &LeafNumber) -> Option<Frac>
     ensures { result ≡ rank number.now }
 {
     match number {
@@ -39,71 +38,12 @@ fn rank_of(value: &LagValue) -> Option<Frac>
     }
 }
 
-/// Whether the first number with its id goes no later than the second.
-#[tactic(auto, using(rational::proofs::Comparison::comparisons))]
-fn is_lesser(first: &Frac, id: u64, second: &Frac, other: u64) -> bool
-    ensures { MatchBool result (GoesFirst (Some first.now) id (Some second.now) other) (GoesFirst (Some second.now) other (Some first.now) id) }
+/// A leaf with this rank and id as a candidate, if it is open.
+pub(crate) fn as_candidate(state: &LeafState, rank: Option<Frac>, id: u64) -> Option<Candidate>
+    ensures { result ≡ candidate_of state.now rank id }
 {
-    match first.cmp(second) {
-        Ordering::Less => true,
-        Ordering::Equal => id <= other,
-        Ordering::Greater => false,
-    }
-}
-
-/// Whether the first goes no later than the second.
-fn goes_first(first: &Candidate, second: &Candidate) -> bool
-    ensures { MatchBool result (GoesFirst first.now.rank first.now.id second.now.rank second.now.id) (GoesFirst second.now.rank second.now.id first.now.rank first.now.id) }
-{
-    match (&first.rank, &second.rank) {
-        (None, None) => first.id <= second.id,
-        (None, Some(_)) => true,
-        (Some(_), None) => false,
-        (Some(one), Some(other)) => is_lesser(one, first.id, other, second.id),
-    }
-}
-
-/// The first of one candidate, if there is one, and another.
-fn sooner(best: Option<Candidate>, other: Candidate) -> Candidate
-    ensures { IsSooner best other result }
-{
-    match best {
-        None => other,
-        Some(best) => if goes_first(&best, &other) {
-            best
-        } else {
-            other
-        },
-    }
-}
-
-/// The leaf as a candidate, if it is open.
-fn as_candidate(model: &Model, leaf: &PlacedLeaf) -> Option<Candidate>
-    requires { AreNarrow leaf.now.region }
-    ensures { IsCandidateAnswer model.now leaf.now result }
-{
-    match leaf.kept.state {
+    match state {
         LeafState::IsClosed => None,
-        LeafState::IsOpen => {
-            let number = number_of(model, &leaf.region, &leaf.kept.mult, &leaf.kept.farkas);
-            Some(Candidate {
-                id: leaf.id,
-                rank: rank(&number),
-            })
-        }
+        LeafState::IsOpen => Some(Candidate { rank, id }),
     }
-}
-
-/// The open leaf that goes first.
-pub(crate) fn first_of(model: &Model, leaves: &[PlacedLeaf]) -> Option<Candidate>
-    requires { All (λ l. AreNarrow l.region) leaves.now }
-    ensures { IsFirst model.now leaves.now result }
-{
-    let mut best = None;
-    for leaf in leaves {
-        if let Some(other) = as_candidate(model, leaf) {
-            best = Some(sooner(best, other));
-        }
-    }
-    best
 }

@@ -1,12 +1,16 @@
 // Leaves judged: their numbers, and whether they close.
-ghost use Rattle.std.specs.Prelude.{◌≡◌, ◌↔◌, IsTrue, All, IfOk, OnErr};
+ghost use Rattle.std.specs.Prelude.{◌≡◌, ◌↔◌, IsTrue, All, IfOk, OnOk, OnErr};
 ghost use Rattle.std.specs.List.{AllZip};
 ghost use Rattle.lp_model.specs.Program.{HasWholeObjective};
 ghost use Rattle.lp_model.specs.Regions.{AreNarrow};
-ghost use Rattle.tree_edit.specs.Closing.{IsRefuted, IsSetAside, IsNumber, NumberCloses, IsJudged, ClosesBy};
+ghost use Rattle.tree_edit.specs.Closing.{IsRefuted, IsSetAside, IsNumber, NumberCloses, StateSays, IsJudged, ClosesBy};
 ghost use Rattle.branch_tree.specs.Tree.{HasNarrowSplits};
+ghost use Rattle.branch_tree.specs.Leaves.{with_states};
 ghost use Rattle.tree_edit.specs.Judged.{AreStates, JudgesAll};
+ghost use Rattle.tree_edit.specs.Queued.{IsQueueOf, IsChildCandidate, leaf_in, AreQueued};
 
+use crate::choosing::{Candidate, as_candidate, rank};
+use crate::queue::LeafQueue;
 use branch_tree::{LeafData, LeafState, PlacedLeaf, Tree};
 use frac128::Frac;
 use leaf_dual::{LagValue, closes, farkas, lag};
@@ -95,6 +99,17 @@ pub(crate) fn closes_by(
     number_closes(model, target, &number)
 }
 
+/// The state of a leaf with this number.
+pub(crate) fn state_by(model: &Model, target: &Option<Frac>, number: &LeafNumber) -> LeafState
+    ensures { StateSays result (NumberCloses model.now target.now number.now) }
+{
+    if number_closes(model, target, number) {
+        LeafState::IsClosed
+    } else {
+        LeafState::IsOpen
+    }
+}
+
 /// The state of a leaf with these multipliers.
 pub(crate) fn judge(
     model: &Model,
@@ -106,63 +121,87 @@ pub(crate) fn judge(
     requires { AreNarrow region.now }
     ensures { IsJudged model.now target.now region.now mult.now farkas.now result }
 {
-    if number_closes(model, target, &number_of(model, region, mult, farkas)) {
-        LeafState::IsClosed
-    } else {
-        LeafState::IsOpen
+    state_by(model, target, &number_of(model, region, mult, farkas))
+}
+
+/// A leaf's state, and its place in the queue where it is open.
+#[derive(Drop)]
+struct JudgedLeaf {
+    state: LeafState,
+    candidate: Option<Candidate>,
+}
+
+/// Judges a leaf.
+fn judge_leaf(model: &Model, target: &Option<Frac>, leaf: &PlacedLeaf) -> JudgedLeaf
+    requires { AreNarrow leaf.now.region }
+    ensures judged { IsJudged model.now target.now leaf.now.region leaf.now.kept.mult leaf.now.kept.farkas result.state }
+    ensures candidate { IsChildCandidate model.now leaf.now.region (leaf_in result.state leaf.now) result.candidate }
+{
+    let number = number_of(model, &leaf.region, &leaf.kept.mult, &leaf.kept.farkas);
+    let state = state_by(model, target, &number);
+    JudgedLeaf {
+        state,
+        candidate: as_candidate(&state, rank(&number), leaf.id),
     }
 }
 
-/// The states of the leaves, in their order.
+/// Leaves judged: their states, in their order, and the queue of those that are open.
+#[derive(Drop)]
+pub(crate) struct Judgement {
+    pub(crate) states: Vec<LeafState>,
+    pub(crate) queue: LeafQueue,
+}
+
+/// Judges leaves.
 fn judge_leaves(
     alloc: Global,
     model: &Model,
     target: &Option<Frac>,
     leaves: &[PlacedLeaf],
-) -> Result<Vec<LeafState>, AllocError>
+) -> Result<Judgement, AllocError>
     requires { All (λ l. AreNarrow l.region) leaves.now }
-    ensures { IfOk result (λ states. AllZip (λ l s. IsJudged model.now target.now l.region l.kept.mult l.kept.farkas s) leaves.now states.items) }
+    ensures states { IfOk result (λ j. AllZip (λ l s. IsJudged model.now target.now l.region l.kept.mult l.kept.farkas s) leaves.now j.states.items) }
+    ensures queue { IfOk result (λ j. AreQueued model.now leaves.now j.states.items j.queue) }
 {
     let mut states = Vec::new(alloc);
+    let mut queue = LeafQueue::new(alloc);
     for leaf in leaves {
-        states.push(judge(
-            model,
-            target,
-            &leaf.region,
-            &leaf.kept.mult,
-            &leaf.kept.farkas,
-        ))?;
+        let judged = judge_leaf(model, target, leaf);
+        queue.add(&judged.candidate)?;
+        states.push(judged.state)?;
     }
-    Ok(states)
+    Ok(Judgement { states, queue })
 }
 
-/// The states of a tree's leaves against a target, in their order.
-pub(crate) fn judged_states(
+/// The leaves of a tree, judged against a target.
+pub(crate) fn judge_tree(
     alloc: Global,
     model: &Model,
     target: &Option<Frac>,
     tree: &Tree,
-) -> Result<Vec<LeafState>, AllocError>
+) -> Result<Judgement, AllocError>
     requires { HasNarrowSplits tree.now.root }
-    ensures { IfOk result (λ states. AreStates model.now target.now tree.now.root states.items) }
+    ensures states { IfOk result (λ j. AreStates model.now target.now tree.now.root j.states.items) }
+    ensures queue { IfOk result (λ j. IsQueueOf model.now (with_states j.states.items tree.now.root) j.queue) }
 {
     let leaves = tree.leaves()?;
-    let states = judge_leaves(alloc, model, target, &leaves)?;
-    Ok(states)
+    let judgement = judge_leaves(alloc, model, target, &leaves)?;
+    Ok(judgement)
 }
 
-/// Judges each leaf of a tree. Where there is no memory the tree stays as it was.
+/// Judges each leaf of a tree, and answers the queue of the open ones. Where there is no memory the tree stays as it was.
 pub(crate) fn judge_all(
     alloc: Global,
     model: &Model,
     target: &Option<Frac>,
     tree: &mut Tree,
-) -> Result<(), AllocError>
+) -> Result<LeafQueue, AllocError>
     requires { HasNarrowSplits tree.old.root }
-    ensures judged { IfOk result (λ _. JudgesAll model.now target.now tree.old tree.new) }
+    ensures judged { OnOk result (JudgesAll model.now target.now tree.old tree.new) }
+    ensures queue { IfOk result (λ queue. IsQueueOf model.now tree.new.root queue) }
     ensures kept { OnErr result (tree.new ≡ tree.old) }
 {
-    let states = judged_states(alloc, model, target, tree)?;
-    tree.set_states(&states);
-    Ok(())
+    let judgement = judge_tree(alloc, model, target, tree)?;
+    tree.set_states(&judgement.states);
+    Ok(judgement.queue)
 }

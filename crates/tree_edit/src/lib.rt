@@ -11,6 +11,8 @@
 //!
 //! where a step of arithmetic without room counts as not closing. A leaf is marked closed exactly where it closes
 //! (`IsSound` in specs/Sound): leaves are judged when they are made, and all of them when the best kept point improves.
+//! The open leaves stand in a queue in the order in which they are worked (`IsQueueOf` in specs/Queued), so that the next
+//! one is found, and a result placed, in time that grows as the logarithm of the leaves and as the depth of the leaf.
 //!
 //! Public contract: each `Search` is sound, and what a sound search says of its model is a theorem: where no leaf is open
 //! its best point is an optimum (`optimum_law`), or without a point the model has no feasible one (`empty_law`), and the
@@ -27,7 +29,9 @@ mod laws;
 mod lists;
 mod placing;
 mod points;
+mod queue;
 mod search;
+mod splitting;
 #[cfg(test)]
 mod tests;
 

@@ -1,22 +1,25 @@
 // Results placed in a search. What takes memory comes before the first change.
-ghost use Rattle.std.specs.Prelude.{◌≡◌, ◌++◌, ◌∷◌, [], ◌≤ℤ◌, ◌<ℤ◌, pos, neg_ℤ, IfOk, OnErr, MatchOption, MatchBool};
-ghost use Rattle.frac128.specs.Range.{largest};
-ghost use Rattle.branch_tree.specs.Tree.{left_path, right_path};
+ghost use Rattle.std.specs.Prelude.{◌≡◌, IfOk, OnOk, OnErr, MatchOption, MatchBool};
 ghost use Rattle.lp_model.specs.Regions.{AreNarrow};
 ghost use Rattle.branch_tree.specs.Changes.{HasLeaf};
 ghost use Rattle.branch_tree.specs.declared.node.LeafState.TheVariants.{IsOpen, IsClosed};
 ghost use Rattle.tree_edit.specs.Closing.{IsJudgedLeaf};
 ghost use Rattle.tree_edit.specs.Points.{IsKeepable, target};
 ghost use Rattle.tree_edit.specs.Lists.{AreMultipliers, HasLists};
+ghost use Rattle.branch_tree.specs.Leaves.{with_state};
+ghost use Rattle.tree_edit.specs.Queued.{HasRank, HasMultipliers};
 ghost use Rattle.tree_edit.specs.Placing.{JoinsPoint, TakesPoint, IsAt, search_with_leaf, TakesClose, TakesPointClose, PutsJudged, TakesKeep, TakesPointKeep, TakesBasis, IsChild, IsSplitSound, TakesSplit, Takes, closed_data, with_basis};
 
-use crate::checks::{at_least, at_most, is_split_allowed, keepable_value};
-use crate::judging::{closes_by, judge, judged_states};
-use crate::lists::{are_multipliers, has_lists, is_basis};
-use crate::points::{Joined, join_value, take_out};
+use crate::checks::keepable_value;
+use crate::choosing::{Candidate, rank};
+use crate::judging::{closes_by, judge, judge_tree, number_of};
+use crate::lists::{has_lists, is_basis};
+use crate::points::{Joined, is_same_value, join_value, take_out};
 use crate::search::Search;
-use branch_tree::{LeafData, LeafState, NodeResult, TreeFault};
-use lp_model::{Basis, BoundChange, ColId, List, Mult, Point, Region};
+use crate::splitting::Split;
+use branch_tree::{LeafData, LeafState, NodeResult};
+use frac128::Frac;
+use lp_model::{Basis, List, Mult, Point, Region};
 use std::alloc::{AllocError, Global};
 
 /// What became of a result.
@@ -38,15 +41,6 @@ pub enum Taken {
     Kept,
 }
 
-/// A split of a leaf.
-#[derive(Drop)]
-struct Split {
-    col: ColId,
-    v: i128,
-    mult: Mult,
-    basis: Basis,
-}
-
 impl Search {
     /// What the points' values come to with one more point, where it is feasible and no step lacks room.
     fn join(&self, point: &Point) -> Result<Option<Joined>, AllocError>
@@ -59,28 +53,89 @@ impl Search {
         Ok(Some(joined))
     }
 
-    /// Keeps a point, and judges all leaves against the least value.
-    fn take_point(&mut self, point: Point, joined: Joined) -> Result<(), AllocError>
+    /// Keeps a point that isn't better than those that there are: no leaf is judged anew.
+    fn add_point(&mut self, point: Point, joined: Joined) -> Result<(), AllocError>
         requires keepable { IsKeepable self.old.model point }
         requires joined { JoinsPoint self.old point joined }
-        ensures taken { IfOk result (λ _. TakesPoint self.old point self.new) }
-        ensures target { IfOk result (λ _. target self.new.model self.new.points ≡ joined.target) }
+        requires same { joined.target ≡ target self.old.model self.old.points }
+        ensures taken { OnOk result (TakesPoint self.old point self.new) }
+        ensures target { OnOk result (target self.new.model self.new.points ≡ joined.target) }
         ensures kept { OnErr result (self.new ≡ self.old) }
     {
-        let states = judged_states(self.alloc, &self.model, &joined.target, &self.tree)?;
         self.points.push(point)?;
         take_out(&mut self.points, joined.worst);
         self.values = joined.values;
-        self.tree.set_states(&states);
         Ok(())
     }
 
-    /// Gives the leaf with the id other data.
-    fn put_leaf(&mut self, id: u64, region: &Region, kept: LeafData)
+    /// Keeps a point, and judges all leaves against the least value.
+    fn add_better(&mut self, point: Point, joined: Joined) -> Result<(), AllocError>
+        requires keepable { IsKeepable self.old.model point }
+        requires joined { JoinsPoint self.old point joined }
+        ensures taken { OnOk result (TakesPoint self.old point self.new) }
+        ensures target { OnOk result (target self.new.model self.new.points ≡ joined.target) }
+        ensures kept { OnErr result (self.new ≡ self.old) }
+    {
+        let judgement = judge_tree(self.alloc, &self.model, &joined.target, &self.tree)?;
+        self.points.push(point)?;
+        take_out(&mut self.points, joined.worst);
+        self.values = joined.values;
+        self.tree.set_states(&judgement.states);
+        self.queue = judgement.queue;
+        Ok(())
+    }
+
+    /// Keeps a point. The leaves are judged anew only where the least value changes.
+    fn take_point(&mut self, point: Point, joined: Joined) -> Result<(), AllocError>
+        requires keepable { IsKeepable self.old.model point }
+        requires joined { JoinsPoint self.old point joined }
+        ensures taken { OnOk result (TakesPoint self.old point self.new) }
+        ensures target { OnOk result (target self.new.model self.new.points ≡ joined.target) }
+        ensures kept { OnErr result (self.new ≡ self.old) }
+    {
+        if is_same_value(&joined.target, &self.target()) {
+            self.add_point(point, joined)
+        } else {
+            self.add_better(point, joined)
+        }
+    }
+
+    /// The number of the leaf with the id, if it has one.
+    pub(crate) fn rank_of(&self, id: u64, region: &Region) -> Option<Frac>
+        requires has { HasLeaf self.now.tree id }
+        requires at { IsAt id region.now self.now.tree.root }
+        requires narrow { AreNarrow region.now }
+        ensures { HasRank self.now.model self.now.tree.root (record { rank = result; id = id }) }
+    {
+        let Some(kept) = self.tree.leaf(id) else {
+            unreachable!()
+        };
+        rank(&number_of(&self.model, region, &kept.mult, &kept.farkas))
+    }
+
+    /// Gives the leaf with the id data by which it is closed.
+    fn put_closed(&mut self, id: u64, region: &Region, kept: LeafData)
         requires has { HasLeaf self.old.tree id }
         requires at { IsAt id region.now self.old.tree.root }
+        requires narrow { AreNarrow region.now }
         requires lists { HasLists self.old.model kept }
         requires judged { IsJudgedLeaf self.old.model (target self.old.model self.old.points) region.now kept }
+        requires closed { kept.state ≡ IsClosed }
+        ensures { self.new ≡ search_with_leaf self.old id kept }
+    {
+        let rank = self.rank_of(id, region);
+        self.queue.remove(&Some(Candidate { rank, id }));
+        self.tree.set_leaf(id, kept);
+    }
+
+    /// Gives the leaf with the id other data with its own multipliers, by which it is open.
+    fn put_open(&mut self, id: u64, region: &Region, kept: LeafData)
+        requires has { HasLeaf self.old.tree id }
+        requires at { IsAt id region.now self.old.tree.root }
+        requires own { HasMultipliers id kept self.old.tree.root }
+        requires lists { HasLists self.old.model kept }
+        requires judged { IsJudgedLeaf self.old.model (target self.old.model self.old.points) region.now kept }
+        requires open { kept.state ≡ IsOpen }
         ensures { self.new ≡ search_with_leaf self.old id kept }
     {
         self.tree.set_leaf(id, kept);
@@ -101,7 +156,7 @@ impl Search {
         if !closes_by(&self.model, &self.target(), region, &kept) {
             return Ok(Taken::Reopened);
         }
-        self.put_leaf(id, region, kept);
+        self.put_closed(id, region, kept);
         Ok(Taken::Closed)
     }
 
@@ -130,42 +185,34 @@ impl Search {
             return Ok(Taken::Reopened);
         }
         self.take_point(point, joined)?;
-        self.put_leaf(id, region, kept);
+        self.put_closed(id, region, kept);
         Ok(Taken::Closed)
     }
 
-    /// Gives the leaf with the id these data, and judges it.
+    /// Gives the leaf with the id these data with its own multipliers, and judges it.
     fn put_judged(&mut self, id: u64, region: &Region, kept: LeafData)
         requires has { HasLeaf self.old.tree id }
         requires at { IsAt id region.now self.old.tree.root }
+        requires own { HasMultipliers id kept self.old.tree.root }
         requires narrow { AreNarrow region.now }
         requires lists { HasLists self.old.model kept }
         ensures { PutsJudged self.old id region.now kept self.new }
     {
         let target = self.target();
         let state = judge(&self.model, &target, region, &kept.mult, &kept.farkas);
-        let LeafData {
-            state: _,
-            mult,
-            farkas,
-            basis,
-        } = kept;
-        self.put_leaf(
-            id,
-            region,
-            LeafData {
-                state,
-                mult,
-                farkas,
-                basis,
-            },
-        );
+        let kept = in_state(state, kept);
+        if is_closed(&kept.state) {
+            self.put_closed(id, region, kept);
+        } else {
+            self.put_open(id, region, kept);
+        }
     }
 
     /// Gives the leaf with the id these data, which are its own but for the basis.
     fn place_keep(&mut self, id: u64, region: &Region, kept: LeafData) -> Result<Taken, AllocError>
         requires has { HasLeaf self.old.tree id }
         requires at { IsAt id region.now self.old.tree.root }
+        requires own { HasMultipliers id kept self.old.tree.root }
         requires narrow { AreNarrow region.now }
         requires mult { AreMultipliers self.old.model kept.mult }
         requires farkas { AreMultipliers self.old.model kept.farkas }
@@ -189,6 +236,7 @@ impl Search {
     ) -> Result<Taken, AllocError>
         requires has { HasLeaf self.old.tree id }
         requires at { IsAt id region.now self.old.tree.root }
+        requires own { HasMultipliers id kept self.old.tree.root }
         requires narrow { AreNarrow region.now }
         requires mult { AreMultipliers self.old.model kept.mult }
         requires farkas { AreMultipliers self.old.model kept.farkas }
@@ -216,6 +264,7 @@ impl Search {
     ) -> Result<Taken, AllocError>
         requires has { HasLeaf self.old.tree id }
         requires at { IsAt id region.now self.old.tree.root }
+        requires own { HasMultipliers id kept self.old.tree.root }
         requires narrow { AreNarrow region.now }
         requires mult { AreMultipliers self.old.model kept.mult }
         requires farkas { AreMultipliers self.old.model kept.farkas }
@@ -226,96 +275,6 @@ impl Search {
             None => self.place_keep(id, region, kept),
             Some(point) => self.place_point_keep(id, region, point, kept),
         }
-    }
-
-    /// The data of a split's child, judged.
-    fn child(
-        &self,
-        region: &Region,
-        change: BoundChange,
-        mult: &Mult,
-        basis: &Basis,
-    ) -> Result<LeafData, AllocError>
-        requires { AreNarrow (region.now ++ change ∷ []) }
-        ensures { IfOk result (λ kept. IsChild self.now (region.now ++ change ∷ []) mult.now basis.now kept) }
-    {
-        let mut path = List::from_slice(self.alloc, region.as_slice())?;
-        path.push(change)?;
-        let mult = List::from_slice(self.alloc, mult.as_slice())?;
-        let basis = Basis {
-            basic: List::from_slice(self.alloc, basis.basic.as_slice())?,
-            high: List::from_slice(self.alloc, basis.high.as_slice())?,
-        };
-        let farkas = List::new(self.alloc);
-        let target = self.target();
-        let state = judge(&self.model, &target, &path, &mult, &farkas);
-        Ok(LeafData {
-            state,
-            mult,
-            farkas,
-            basis,
-        })
-    }
-
-    /// Splits the leaf with the id, whose children have these data.
-    fn split_leaf(
-        &mut self,
-        id: u64,
-        region: &Region,
-        split: Split,
-        left: LeafData,
-        right: LeafData,
-    ) -> Result<Taken, AllocError>
-        requires has { HasLeaf self.old.tree id }
-        requires at { IsAt id region.now self.old.tree.root }
-        requires sound { IsSplitSound self.old.model region.now split.col.0 split.v split.mult split.basis }
-        requires room { (neg_ℤ (pos largest) ≤ℤ split.v) × (split.v <ℤ pos largest) }
-        requires left { IsChild self.old (left_path region.now split.col.0 split.v) split.mult split.basis left }
-        requires right { IsChild self.old (right_path region.now split.col.0 split.v) split.mult split.basis right }
-        ensures taken { IfOk result (λ taken. TakesSplit self.old id region.now split.col.0 split.v split.mult split.basis self.new taken) }
-        ensures kept { OnErr result (self.new ≡ self.old) }
-    {
-        let Split {
-            col,
-            v,
-            mult,
-            basis,
-        } = split;
-        let _numbered = self.tree.nodes();
-        match self.tree.replace_leaf(id, col, v, mult, basis) {
-            Ok((first, second)) => {
-                self.tree.set_leaf(first, left);
-                self.tree.set_leaf(second, right);
-                Ok(Taken::Split)
-            }
-            Err(TreeFault::Full) => Ok(Taken::Full),
-            Err(TreeFault::NoLeaf) => Ok(Taken::Stale),
-            Err(TreeFault::Memory) => Err(AllocError),
-        }
-    }
-
-    /// Splits the leaf with the id, if the split fits the model and the leaf.
-    fn place_split(&mut self, id: u64, region: &Region, split: Split) -> Result<Taken, AllocError>
-        requires has { HasLeaf self.old.tree id }
-        requires at { IsAt id region.now self.old.tree.root }
-        requires narrow { AreNarrow region.now }
-        ensures taken { IfOk result (λ taken. TakesSplit self.old id region.now split.col.0 split.v split.mult split.basis self.new taken) }
-        ensures kept { OnErr result (self.new ≡ self.old) }
-    {
-        if !is_split_allowed(&self.model, region, split.col, split.v) {
-            return Ok(Taken::Refused);
-        }
-        if !are_multipliers(self.alloc, &self.model, &split.mult)? {
-            return Ok(Taken::Refused);
-        }
-        if !is_basis(&self.model, &split.basis) {
-            return Ok(Taken::Refused);
-        }
-        let up_to = at_most(split.col, split.v);
-        let above = at_least(split.col, split.v);
-        let left = self.child(region, up_to, &split.mult, &split.basis)?;
-        let right = self.child(region, above, &split.mult, &split.basis)?;
-        self.split_leaf(id, region, split, left, right)
     }
 
     /// Places the result of the work on the leaf with the id. After `Stale`, `Refused`, `Reopened` and `Full`, and where
@@ -372,6 +331,24 @@ fn is_closed(state: &LeafState) -> bool
     match state {
         LeafState::IsOpen => false,
         LeafState::IsClosed => true,
+    }
+}
+
+/// The data with another state.
+fn in_state(state: LeafState, kept: LeafData) -> LeafData
+    ensures { result ≡ with_state state kept }
+{
+    let LeafData {
+        state: _,
+        mult,
+        farkas,
+        basis,
+    } = kept;
+    LeafData {
+        state,
+        mult,
+        farkas,
+        basis,
     }
 }
 

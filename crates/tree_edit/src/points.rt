@@ -26,6 +26,18 @@ pub(crate) fn is_less(first: &Frac, second: &Frac) -> bool
     *first < *second
 }
 
+/// Whether the two are one number, or both none.
+#[tactic(auto, using(rational::proofs::Comparison::comparisons))]
+pub(crate) fn is_same_value(first: &Option<Frac>, second: &Option<Frac>) -> bool
+    ensures { IsTrue result ↔ (first.now ≡ second.now) }
+{
+    match (first, second) {
+        (None, None) => true,
+        (Some(one), Some(other)) => *one == *other,
+        _ => false,
+    }
+}
+
 /// The place of the least value, the first of equals.
 pub(crate) fn oldest_least(values: &[Frac]) -> Option<usize>
     ensures { MatchOption result (values.now ≡ []) (λ k. IsOldestLeast values.now k) }

@@ -7,9 +7,9 @@ ghost use Rattle.tree_edit.specs.Sound.{IsSound};
 ghost use Rattle.tree_edit.specs.Choosing.{IsNext};
 ghost use Rattle.tree_edit.specs.Calls.{IsFresh, search_with_limit, IsNumberAnswer};
 
-use crate::choosing::first_of;
 use crate::judging::{LeafNumber, judge_all, number_of};
 use crate::points::oldest_least;
+use crate::queue::LeafQueue;
 use branch_tree::Tree;
 use frac128::Frac;
 use lp_model::{Model, Point};
@@ -26,11 +26,13 @@ pub struct Search {
     pub(crate) tree: Tree,
     pub(crate) points: Vec<Point>,
     pub(crate) values: Vec<Frac>,
+    pub(crate) queue: LeafQueue,
     pub(crate) alloc: Global,
 }
 
 impl std::marker::Model for Search {
-    ghost use Rattle.tree_edit.specs.Sound.{PlainSearch, IsKept};
+    ghost use Rattle.tree_edit.specs.Sound.{PlainSearch};
+    ghost use Rattle.tree_edit.specs.Queued.{IsKept};
     ghost use Rattle.tree_edit.specs.SearchCode.{search_code};
 
     ghost Value = { PlainSearch };
@@ -39,7 +41,7 @@ impl std::marker::Model for Search {
 
     ghost view = { λ s. record { model = s.model; tree = s.tree; points = s.points.items } };
 
-    ghost invariant = { λ s. IsKept (record { model = s.model; tree = s.tree; points = s.points.items }) s.values.items };
+    ghost invariant = { λ s. IsKept (record { model = s.model; tree = s.tree; points = s.points.items }) s.values.items s.queue };
 }
 
 impl Search {
@@ -48,12 +50,13 @@ impl Search {
         ensures { IfOk result (λ s. IsFresh model 1000000 s) }
     {
         let mut tree = Tree::new(alloc, NODE_LIMIT)?;
-        judge_all(alloc, &model, &None, &mut tree)?;
+        let queue = judge_all(alloc, &model, &None, &mut tree)?;
         Ok(Search {
             model,
             tree,
             points: Vec::new(alloc),
             values: Vec::new(alloc),
+            queue,
             alloc,
         })
     }
@@ -64,10 +67,11 @@ impl Search {
         ensures kept { OnErr result (self.new ≡ self.old) }
     {
         let mut tree = Tree::new(self.alloc, self.tree.limit())?;
-        judge_all(self.alloc, &self.model, &None, &mut tree)?;
+        let queue = judge_all(self.alloc, &self.model, &None, &mut tree)?;
         self.tree = tree;
         self.points = Vec::new(self.alloc);
         self.values = Vec::new(self.alloc);
+        self.queue = queue;
         Ok(())
     }
 
@@ -146,8 +150,7 @@ impl Search {
     pub fn next_leaf(&self) -> Result<Option<u64>, AllocError>
         ensures { IfOk result (λ next. IsNext self.now next) }
     {
-        let leaves = self.tree.leaves()?;
-        match first_of(&self.model, &leaves) {
+        match self.queue.first() {
             None => Ok(None),
             Some(first) => Ok(Some(first.id)),
         }

@@ -1,12 +1,19 @@
-use Rattle.std.proofs.Common.{◌≡◌, ◌∙◌, All, [], List, sym, subst}
-use Rattle.lp_model.specs.Regions.{AreNarrow}
-use Rattle.branch_tree.specs.Leaves.{placed_leaves}
-use Rattle.branch_tree.specs.declared.node.PlacedLeaf.{PlacedLeaf}
-use Rattle.tree_edit.proofs.JudgeLemmas.{narrow-placed}
+use Rattle.std.proofs.Common.{rules, None, Some, subst}
+use Rattle.tree_edit.specs.Sound.{PlainSearch}
+use Rattle.tree_edit.specs.Choosing.{IsNext}
+use Rattle.tree_edit.proofs.NextLemmas.{next-none, next-some}
 use Rattle.tree_edit.proofs.search.Search.next_leaf.Goals as goal
 
-pub first_of-requires : goal.first_of-requires
-first_of-requires c =
-    let root = c.self.inside.tree.root in
-    let are : c.deref.result.now ≡ placed_leaves [] root = c.deref.ensures.value ∙ c.in_ok-leaves.ensures.leaves in
-    subst (λ (ls : List PlacedLeaf). All (λ l. AreNarrow l.region) ls) (sym are) (narrow-placed root c.self.invariant.sound.tree.narrow)
+pub returns-in-None : goal.returns-in-None
+returns-in-None c =
+    let i = c.self.inside in
+    let S : PlainSearch = record { model = i.model; tree = i.tree; points = i.points.items } in
+    let none : IsNext S None = next-none S i.queue c.self.invariant.queue_is (search rules) in
+    subst (λ (T : PlainSearch). IsNext T None) c.self.view_is none
+
+pub returns-in-Some : goal.returns-in-Some
+returns-in-Some c =
+    let i = c.self.inside in
+    let S : PlainSearch = record { model = i.model; tree = i.tree; points = i.points.items } in
+    let some : IsNext S (Some c.in-Some.first.id) = next-some S i.queue c.in-Some.first c.self.invariant.queue_is c.in-Some.ensures in
+    subst (λ (T : PlainSearch). IsNext T (Some c.in-Some.first.id)) c.self.view_is some

@@ -13,8 +13,10 @@ use Rattle.tree_edit.specs.declared.placing.Taken.{Taken}
 use Rattle.tree_edit.specs.Lists.{AreMultipliers, HasLists}
 use Rattle.tree_edit.specs.Sound.{PlainSearch}
 use Rattle.tree_edit.specs.Calls.{IsLeafAt}
+use Rattle.tree_edit.specs.Queued.{HasMultipliers}
 use Rattle.tree_edit.specs.Placing.{IsAt, TakesClose, TakesSplit, TakesPointClose, closed_data}
 use Rattle.tree_edit.proofs.SoundLemmas.{is_at}
+use Rattle.tree_edit.proofs.QueuedLemmas.{own-multipliers}
 use Rattle.tree_edit.proofs.PlaceLemmas.{lists-found, narrow-found, takes_ok}
 use Rattle.tree_edit.proofs.search.Search.place.Goals as goal
 
@@ -81,6 +83,15 @@ place_basis-requires-clause-narrow c =
     let path : Path = c.in-Some-2.region in
     let path_is : path_of c.args.id S.tree.root ≡ Some path = sym c.in_ok-region.ensures.region ∙ c.in-Some-2.is in
     narrow-found S c.args.id path c.self.invariant.sound path_is
+
+pub place_basis-requires-clause-own : goal.place_basis-requires-clause-own
+place_basis-requires-clause-own c =
+    let i = c.self.inside in
+    let S : PlainSearch = record { model = i.model; tree = i.tree; points = i.points.items } in
+    let kept : LeafData = c.in-Some.leaf.now in
+    let data_is : data_of c.args.id S.tree.root ≡ Some kept = sym c.in-Some.ensures.data in
+    let own : HasMultipliers c.args.id kept S.tree.root = own-multipliers c.args.id S.tree.root kept c.in-Some.ensures.found data_is in
+    subst (λ (d : LeafData). HasMultipliers c.args.id d c.args.self.now.tree.root) (sym c.in_ok-kept-in-Keep.ensures) (subst (λ (R : PlainSearch). HasMultipliers c.args.id kept R.tree.root) c.self.view_is own)
 
 pub place_basis-requires-clause-mult : goal.place_basis-requires-clause-mult
 place_basis-requires-clause-mult c =

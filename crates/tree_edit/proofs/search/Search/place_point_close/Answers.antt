@@ -17,8 +17,8 @@ returns-then-not-closes_by-clause-taken c =
     subst (λ (T : PlainSearch). ¬ ClosesBy T.model j.target c.args.region.now c.args.kept) c.self.view_is (λ closes. let t : IsTrue c.closes_by.result = c.closes_by.ensures.1 closes in let f = c.if-not-closes_by.true in cc) in
     (joins.0, lists, not-closes_with S c.args.point c.args.region.now c.args.kept j joins.1 not, refl)
 
-pub put_leaf-requires-clause-has : goal.put_leaf-requires-clause-has
-put_leaf-requires-clause-has c = has-taken c.args.self.now c.args.point c.take_point.new.self c.args.id c.in_ok-take_point.ensures.taken c.requires.has
+pub put_closed-requires-clause-has : goal.put_closed-requires-clause-has
+put_closed-requires-clause-has c = has-taken c.args.self.now c.args.point c.take_point.new.self c.args.id c.in_ok-take_point.ensures.taken c.requires.has
 
-pub put_leaf-requires-clause-at : goal.put_leaf-requires-clause-at
-put_leaf-requires-clause-at c = at-taken c.args.self.now c.args.point c.take_point.new.self c.args.id c.args.region.now c.in_ok-take_point.ensures.taken c.requires.at
+pub put_closed-requires-clause-at : goal.put_closed-requires-clause-at
+put_closed-requires-clause-at c = at-taken c.args.self.now c.args.point c.take_point.new.self c.args.id c.args.region.now c.in_ok-take_point.ensures.taken c.requires.at

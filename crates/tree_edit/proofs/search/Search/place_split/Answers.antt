@@ -6,6 +6,7 @@ use Rattle.lp_model.specs.Regions.{Path, AreNarrow}
 use Rattle.lp_model.specs.declared.types.BoundChange.{BoundChange}
 use Rattle.branch_tree.specs.Tree.{left_path, right_path}
 use Rattle.tree_edit.specs.Sound.{PlainSearch}
+use Rattle.tree_edit.specs.Queued.{IsRank}
 use Rattle.tree_edit.specs.Placing.{IsChild, IsSplitSound}
 use Rattle.tree_edit.specs.Checks.{IsSplitAllowed}
 use Rattle.tree_edit.proofs.SplitLemmas.{narrow-left, narrow-right}
@@ -50,7 +51,7 @@ split_leaf-requires-clause-left c =
     let fits : FitsSigned w128 split.v = search rules in
     let room : (neg_ℤ (pos largest) ≤ℤ split.v) × (split.v <ℤ pos largest) = simp to_z-of_z at (c.is_split_allowed.ensures.room c.if-not-is_split_allowed.false) in
     let left_is : path ++ c.at_most-up_to.result ∷ [] ≡ left_path path split.col.0 split.v = ap (λ (b : BoundChange). path ++ b ∷ []) (simp to_z-of_z at c.at_most-up_to.ensures) in
-    subst (λ (p : Path). IsChild S p split.mult split.basis c.in_ok-left.left) left_is c.in_ok-left.ensures
+    subst (λ (p : Path). IsChild S p split.mult split.basis c.in_ok-left.left.kept) left_is c.in_ok-left.ensures.child
 
 pub split_leaf-requires-clause-right : goal.split_leaf-requires-clause-right
 split_leaf-requires-clause-right c =
@@ -60,4 +61,24 @@ split_leaf-requires-clause-right c =
     let fits : FitsSigned w128 split.v = search rules in
     let room : (neg_ℤ (pos largest) ≤ℤ split.v) × (split.v <ℤ pos largest) = simp to_z-of_z at (c.is_split_allowed.ensures.room c.if-not-is_split_allowed.false) in
     let right_is : path ++ c.at_least-above.result ∷ [] ≡ right_path path split.col.0 split.v = ap (λ (b : BoundChange). path ++ b ∷ []) (simp to_z-of_z at c.at_least-above.ensures) in
-    subst (λ (p : Path). IsChild S p split.mult split.basis c.in_ok-right.right) right_is c.in_ok-right.ensures
+    subst (λ (p : Path). IsChild S p split.mult split.basis c.in_ok-right.right.kept) right_is c.in_ok-right.ensures.child
+
+pub split_leaf-requires-clause-left_rank : goal.split_leaf-requires-clause-left_rank
+split_leaf-requires-clause-left_rank c =
+    let S : PlainSearch = c.args.self.now in
+    let path = c.args.region.now in
+    let split = c.args.split in
+    let fits : FitsSigned w128 split.v = search rules in
+    let room : (neg_ℤ (pos largest) ≤ℤ split.v) × (split.v <ℤ pos largest) = simp to_z-of_z at (c.is_split_allowed.ensures.room c.if-not-is_split_allowed.false) in
+    let left_is : path ++ c.at_most-up_to.result ∷ [] ≡ left_path path split.col.0 split.v = ap (λ (b : BoundChange). path ++ b ∷ []) (simp to_z-of_z at c.at_most-up_to.ensures) in
+    subst (λ (p : Path). IsRank S.model p c.in_ok-left.left.kept c.in_ok-left.left.rank) left_is c.in_ok-left.ensures.rank
+
+pub split_leaf-requires-clause-right_rank : goal.split_leaf-requires-clause-right_rank
+split_leaf-requires-clause-right_rank c =
+    let S : PlainSearch = c.args.self.now in
+    let path = c.args.region.now in
+    let split = c.args.split in
+    let fits : FitsSigned w128 split.v = search rules in
+    let room : (neg_ℤ (pos largest) ≤ℤ split.v) × (split.v <ℤ pos largest) = simp to_z-of_z at (c.is_split_allowed.ensures.room c.if-not-is_split_allowed.false) in
+    let right_is : path ++ c.at_least-above.result ∷ [] ≡ right_path path split.col.0 split.v = ap (λ (b : BoundChange). path ++ b ∷ []) (simp to_z-of_z at c.at_least-above.ensures) in
+    subst (λ (p : Path). IsRank S.model p c.in_ok-right.right.kept c.in_ok-right.right.rank) right_is c.in_ok-right.ensures.rank
