@@ -11,7 +11,7 @@ use Rattle.tree_edit.specs.Sound.{PlainSearch}
 use Rattle.tree_search.specs.Bounds.{IsBoundOf}
 use Rattle.tree_search.specs.Work.{cap_of}
 use Rattle.tree_search.specs.Working.{IsWidePoint}
-use Rattle.tree_search.specs.Steps.{IsOpenLeaf, IsTooFull, Goes}
+use Rattle.tree_search.specs.Steps.{IsOpenLeaf, IsNextLeaf, IsTooFull, Goes}
 use Rattle.tree_search.specs.Causes.{HasCause}
 use Rattle.tree_search.specs.declared.stepping.StopWhy.{StopWhy}
 use Rattle.tree_search.specs.declared.stepping.StopWhy.TheVariants.{Nodes, Tree, Wide}
@@ -38,10 +38,10 @@ pub record FindsNone (M : Program) (limit n : ℕ) : Type 0 where
 
 -- ---- where it stops, with an open leaf left
 
--- an open leaf is left, and no result was placed for it
+-- the leaf that goes first is left, and no result was placed for it
 pub record StopsAtLeaf (S : PlainSearch) (n : ℕ) (path : Path) : Type 0 where
   pub id : ℕ
-  pub leaf : IsOpenLeaf S id path
+  pub leaf : IsNextLeaf S id path
   pub below_cap : n < cap_of S.model
 
 -- all results that the limit allows were placed
