@@ -1,12 +1,12 @@
 -- What a search shows of its model: an optimum, that there is no feasible point, or what is known where it stopped.
-use Rattle.std.specs.Prelude.{◌≡◌, ◌⊎◌, ℕ, ◌<◌, ◌≤◌, Option, Some, None}
+use Rattle.std.specs.Prelude.{◌≡◌, ◌⊎◌, ℕ, ◌<◌, ◌≤◌, [], Option, Some, None}
 use Rattle.std.specs.Option.{option_map}
 use Rattle.rational.specs.Rational.{ℚ}
 use Rattle.lp_model.specs.Program.{Program, Point, IsFeasible, IsOptimum, IsEmpty, value, in_least_form}
 use Rattle.lp_model.specs.Regions.{Path, InRegion}
 use Rattle.lp_model.specs.declared.types.WideStep.{WideStep}
-use Rattle.tree_edit.specs.Points.{target}
-use Rattle.tree_edit.specs.Laws.{IsNoBetter}
+use Rattle.tree_edit.specs.Points.{target, IsIncumbent}
+use Rattle.tree_edit.specs.Laws.{HasNoOpenLeaf, IsNoBetter}
 use Rattle.tree_edit.specs.Sound.{PlainSearch}
 use Rattle.tree_search.specs.Bounds.{IsBoundOf}
 use Rattle.tree_search.specs.Work.{cap_of}
@@ -25,16 +25,22 @@ IsValueFound M (Some best) = (x : Point) × (IsFeasible M x × (best ≡ value M
 
 -- ---- what a search shows, n results having been placed
 
-pub record FindsOptimum (M : Program) (limit : ℕ) (v : ℚ) (x : Point) (n : ℕ) : Type 0 where
-  pub optimum : IsOptimum M x
-  pub value : v ≡ value M 1 x
+-- no leaf is open, and the best kept point is an optimum
+pub record FindsOptimum (S : PlainSearch) (limit : ℕ) (v : ℚ) (x : Point) (n : ℕ) : Type 0 where
+  pub finished : HasNoOpenLeaf S
+  pub incumbent : IsIncumbent S.model S.points (Some x)
+  pub optimum : IsOptimum S.model x
+  pub value : v ≡ value S.model 1 x
   pub within_limit : n ≤ limit
-  pub within_cap : n ≤ cap_of M
+  pub within_cap : n ≤ cap_of S.model
 
-pub record FindsNone (M : Program) (limit n : ℕ) : Type 0 where
-  pub none : IsEmpty M
+-- no leaf is open, and no point was kept
+pub record FindsNone (S : PlainSearch) (limit n : ℕ) : Type 0 where
+  pub finished : HasNoOpenLeaf S
+  pub no_point : S.points ≡ []
+  pub none : IsEmpty S.model
   pub within_limit : n ≤ limit
-  pub within_cap : n ≤ cap_of M
+  pub within_cap : n ≤ cap_of S.model
 
 -- ---- where it stops, with an open leaf left
 
@@ -85,8 +91,8 @@ pub record StopsWith (S : PlainSearch) (bound best : Option ℚ) : Type 0 where
 -- ---- the whole search
 
 abbrev pub Shows : PlainSearch → ℕ → Outcome → Type 0
-Shows S limit (Optimal v x n) = FindsOptimum S.model limit v x n
-Shows S limit (Infeasible n) = FindsNone S.model limit n
+Shows S limit (Optimal v x n) = FindsOptimum S limit v x n
+Shows S limit (Infeasible n) = FindsNone S limit n
 Shows S limit (Stopped why n bound best) = StopsFor S limit n why × StopsWith S bound best
 
 abbrev pub placed_of : Outcome → ℕ
