@@ -52,10 +52,10 @@ full-unroomy S sound integral id path leaf full roomy =
 stop-cause : (old S : PlainSearch) (limit n : ℕ) (why : StopWhy) → IsIntegral S.model → Goes n old S → StopsFor S limit n why → IsCause old limit why
 stop-cause old S limit n Nodes integral goes h =
     let all : n ≡ limit = h.0 in
-    let some : 1 ≤ work_of S = open-work S goes.sound integral h.1.1.id h.1.0 h.1.1.leaf in
+    let some : 1 ≤ work_of S = open-work S goes.sound integral h.1.1.id h.1.0 h.1.1.leaf.leaf in
     let most : n + work_of S ≤ work_of old = goes.work in
     omega (arith, all, some, most)
-stop-cause old S limit n Tree integral goes h = λ roomy. full-unroomy S goes.sound integral h.1.1.0.id h.1.0 h.1.1.0.leaf h.1.1.1 (goes.room roomy)
+stop-cause old S limit n Tree integral goes h = λ roomy. full-unroomy S goes.sound integral h.1.1.0.id h.1.0 h.1.1.0.leaf.leaf h.1.1.1 (goes.room roomy)
 stop-cause old S limit n (Wide path step) integral goes h = subst (λ M. IsWidePoint M path step) goes.model h.2
 
 has-cause : (old S : PlainSearch) (limit n : ℕ) (outcome : Outcome) → IsIntegral S.model → Goes n old S → ShowsFor S limit n outcome → HasCause old limit outcome

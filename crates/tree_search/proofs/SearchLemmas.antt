@@ -24,7 +24,7 @@ use Rattle.tree_edit.proofs.PointLemmas.{target-at}
 use Rattle.tree_search.specs.Integral.{IsIntegral}
 use Rattle.tree_search.specs.Points.{points}
 use Rattle.tree_search.specs.Work.{if_open, sum_open, cap_of}
-use Rattle.tree_search.specs.Steps.{IsOpenLeaf, work_of, Steps}
+use Rattle.tree_search.specs.Steps.{IsOpenLeaf, IsNextLeaf, work_of, Steps}
 use Rattle.tree_search.specs.declared.stepping.StopWhy.{StopWhy}
 use Rattle.tree_search.specs.declared.stepping.StopWhy.TheVariants.{Nodes, Tree, Wide}
 use Rattle.tree_search.specs.Search.{IsValueFound, best_value, StopsAtLeaf, StopsFor, IsInOpenLeaf}
@@ -82,8 +82,8 @@ open-work S sound integral id path leaf =
 
 -- ---- stops
 
-pub at-leaf : (S : PlainSearch) → IsSound S → IsIntegral S.model → (n id : ℕ) (path : Path) → IsOpenLeaf S id path → n + work_of S ≤ cap_of S.model → StopsAtLeaf S n path
-at-leaf S sound integral n id path leaf cap = let some : 1 ≤ work_of S = open-work S sound integral id path leaf in record { id = id; leaf = leaf; below_cap = omega (arith, some, cap) }
+pub at-leaf : (S : PlainSearch) → IsSound S → IsIntegral S.model → (n id : ℕ) (path : Path) → IsNextLeaf S id path → n + work_of S ≤ cap_of S.model → StopsAtLeaf S n path
+at-leaf S sound integral n id path leaf cap = let some : 1 ≤ work_of S = open-work S sound integral id path leaf.leaf in record { id = id; leaf = leaf; below_cap = omega (arith, some, cap) }
 
 pub stops-for : (S : PlainSearch) (path : Path) (new : PlainSearch) (limit n : ℕ) (why : StopWhy) → Steps S path new (Some why) → StopsAtLeaf S n path → n < limit → StopsFor new limit n why
 stops-for S path new limit n Nodes h leaf below = absurd h
@@ -91,9 +91,9 @@ stops-for S path new limit n Tree h leaf below = subst (λ T. StopsFor T limit n
 stops-for S path new limit n (Wide p step) h leaf below = subst (λ q. StopsFor new limit n (Wide q step)) (sym h.0) (subst (λ T. StopsFor T limit n (Wide path step)) (sym h.2) (below, leaf, h.1))
 
 pub stop-leaf : (S : PlainSearch) (limit n : ℕ) (why : StopWhy) → StopsFor S limit n why → (id : ℕ) × ((path : Path) × IsOpenLeaf S id path)
-stop-leaf S limit n Nodes h = (h.1.1.id, (h.1.0, h.1.1.leaf))
-stop-leaf S limit n Tree h = (h.1.1.0.id, (h.1.0, h.1.1.0.leaf))
-stop-leaf S limit n (Wide path step) h = (h.1.id, (path, h.1.leaf))
+stop-leaf S limit n Nodes h = (h.1.1.id, (h.1.0, h.1.1.leaf.leaf))
+stop-leaf S limit n Tree h = (h.1.1.0.id, (h.1.0, h.1.1.0.leaf.leaf))
+stop-leaf S limit n (Wide path step) h = (h.1.id, (path, h.1.leaf.leaf))
 
 pub step-same : (S : PlainSearch) (path : Path) (new : PlainSearch) (why : StopWhy) → Steps S path new (Some why) → new ≡ S
 step-same S path new Nodes h = absurd h

@@ -21,6 +21,7 @@ use Rattle.lp_model.specs.Program.{Program}
 use Rattle.branch_tree.specs.Plain.{path_of}
 use Rattle.tree_edit.specs.Choosing.{IsNext, IsOneOf, IsCandidate, AreClosed}
 use Rattle.tree_search.specs.Steps.{IsNextLeaf}
+use Rattle.tree_search.specs.Working.{IsResultFor}
 use Rattle.branch_tree.specs.declared.node.LeafData.{LeafData}
 use Rattle.branch_tree.proofs.PathLaws.{each-found}
 use Rattle.tree_search.proofs.WorkLemmas.{found_each, leaf_at, some_is}
@@ -67,14 +68,14 @@ not-open IsClosed h = refl
 pub leaf-narrow : (S : PlainSearch) (id : ℕ) (path : Path) → IsSound S → IsOpenLeaf S id path → AreNarrow path
 leaf-narrow S id path sound leaf = narrow-found S id path sound leaf.leaf.path_is
 
-pub not-full : (S : PlainSearch) (path : Path) (S' : PlainSearch) (id : ℕ) (done : NodeResult) (taken : Taken) → AfterPlace S path S' taken → Takes S id done S' taken → (taken ≡ Full → ⊥) → Lowers S S' × Places S S'
-not-full S path S' id done Stale h takes other = absurd h
-not-full S path S' id done Refused h takes other = absurd h
-not-full S path S' id done Reopened h takes other = absurd h
-not-full S path S' id done Full h takes other = absurd (other refl)
-not-full S path S' id done Closed h takes other = (h, record { id = id; done = done; taken = Closed; takes = takes; effective = tt })
-not-full S path S' id done SplitTaken h takes other = (h, record { id = id; done = done; taken = SplitTaken; takes = takes; effective = tt })
-not-full S path S' id done Kept h takes other = absurd h
+pub not-full : (S : PlainSearch) (path : Path) (S' : PlainSearch) (id : ℕ) (done : NodeResult) (taken : Taken) → IsNextLeaf S id path → IsResultFor S.model path done → AfterPlace S path S' taken → Takes S id done S' taken → (taken ≡ Full → ⊥) → Lowers S S' × Places S S'
+not-full S path S' id done Stale next result h takes other = absurd h
+not-full S path S' id done Refused next result h takes other = absurd h
+not-full S path S' id done Reopened next result h takes other = absurd h
+not-full S path S' id done Full next result h takes other = absurd (other refl)
+not-full S path S' id done Closed next result h takes other = (h, record { id = id; path = path; next = next; done = done; result = result; taken = Closed; takes = takes; effective = tt })
+not-full S path S' id done SplitTaken next result h takes other = (h, record { id = id; path = path; next = next; done = done; result = result; taken = SplitTaken; takes = takes; effective = tt })
+not-full S path S' id done Kept next result h takes other = absurd h
 
 pub places-more : (n : ℕ) (old mid new : PlainSearch) → PlacesMany n old mid → Places mid new → PlacesMany (n + 1) old new
 places-more n old mid new h p = let e : suc n ≡ n + 1 = omega arith in subst (λ m. PlacesMany m old new) e (mid, (h, p))

@@ -11,7 +11,7 @@ use Rattle.tree_edit.specs.Sound.{PlainSearch}
 use Rattle.tree_search.specs.Bounds.{IsBoundOf}
 use Rattle.tree_search.specs.Work.{cap_of}
 use Rattle.tree_search.specs.Working.{IsWidePoint}
-use Rattle.tree_search.specs.Steps.{IsOpenLeaf, IsTooFull, Goes}
+use Rattle.tree_search.specs.Steps.{IsOpenLeaf, IsNextLeaf, IsTooFull, Goes}
 use Rattle.tree_search.specs.Causes.{HasCause}
 use Rattle.tree_search.specs.declared.stepping.StopWhy.{StopWhy}
 use Rattle.tree_search.specs.declared.stepping.StopWhy.TheVariants.{Nodes, Tree, Wide}
@@ -25,7 +25,7 @@ IsValueFound M (Some best) = (x : Point) × (IsFeasible M x × (best ≡ value M
 
 -- ---- what a search shows, n results having been placed
 
--- no leaf is open, and the oldest of the best kept points is an optimum
+-- no leaf is open, and the best kept point is an optimum
 pub record FindsOptimum (S : PlainSearch) (limit : ℕ) (v : ℚ) (x : Point) (n : ℕ) : Type 0 where
   pub finished : HasNoOpenLeaf S
   pub incumbent : IsIncumbent S.model S.points (Some x)
@@ -34,20 +34,20 @@ pub record FindsOptimum (S : PlainSearch) (limit : ℕ) (v : ℚ) (x : Point) (n
   pub within_limit : n ≤ limit
   pub within_cap : n ≤ cap_of S.model
 
--- no leaf is open, and no point is kept: none is feasible
+-- no leaf is open, and no point was kept
 pub record FindsNone (S : PlainSearch) (limit n : ℕ) : Type 0 where
   pub finished : HasNoOpenLeaf S
-  pub no_points : S.points ≡ []
+  pub no_point : S.points ≡ []
   pub none : IsEmpty S.model
   pub within_limit : n ≤ limit
   pub within_cap : n ≤ cap_of S.model
 
 -- ---- where it stops, with an open leaf left
 
--- an open leaf is left, and no result was placed for it
+-- the leaf that goes first is left, and no result was placed for it
 pub record StopsAtLeaf (S : PlainSearch) (n : ℕ) (path : Path) : Type 0 where
   pub id : ℕ
-  pub leaf : IsOpenLeaf S id path
+  pub leaf : IsNextLeaf S id path
   pub below_cap : n < cap_of S.model
 
 -- all results that the limit allows were placed

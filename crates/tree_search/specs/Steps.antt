@@ -13,7 +13,7 @@ use Rattle.tree_edit.specs.Calls.{IsLeafAt}
 use Rattle.tree_edit.specs.Choosing.{IsNext}
 use Rattle.tree_search.specs.Points.{IsFirstOpen}
 use Rattle.tree_search.specs.Work.{work, splits, HasRoomFor}
-use Rattle.tree_search.specs.Working.{IsWidePoint}
+use Rattle.tree_search.specs.Working.{IsWidePoint, IsResultFor}
 use Rattle.tree_search.specs.declared.stepping.StopWhy.{StopWhy}
 use Rattle.tree_search.specs.declared.stepping.StopWhy.TheVariants.{Nodes, Tree, Wide}
 
@@ -61,10 +61,13 @@ IsEffective Closed = Unit {0}
 IsEffective Split = Unit {0}
 IsEffective Kept = ⊥
 
--- a result closed or split a leaf
+-- the leaf that goes first was worked, and the result closed or split it
 pub record Places (old new : PlainSearch) : Type 0 where
   pub id : ℕ
+  pub path : Path
+  pub next : IsNextLeaf old id path
   pub done : NodeResult
+  pub result : IsResultFor old.model path done
   pub taken : Taken
   pub takes : Takes old id done new taken
   pub effective : IsEffective taken
@@ -82,7 +85,7 @@ pub record Goes (n : ℕ) (old new : PlainSearch) : Type 0 where
   pub room : IsRoomy old → IsRoomy new
   pub sound : IsSound new
 
--- what one step on an open leaf with this path does: a result was placed, or why there is none, the search being as it was
+-- what one step on the first leaf, with this path, does: a result was placed, or why there is none, the search being as it was
 abbrev pub Steps : PlainSearch → Path → PlainSearch → Option StopWhy → Type 0
 Steps old path new None = Lowers old new × Places old new
 Steps old path new (Some Nodes) = ⊥

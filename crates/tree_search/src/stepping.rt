@@ -4,7 +4,7 @@ ghost use Rattle.tree_edit.specs.Laws.{HasNoOpenLeaf};
 ghost use Rattle.tree_edit.specs.Sound.{IsSound};
 ghost use Rattle.tree_search.specs.Integral.{IsIntegral};
 ghost use Rattle.tree_search.specs.Working.{IsResultFor};
-ghost use Rattle.tree_search.specs.Steps.{IsOpenLeaf, IsNextLeaf, Steps};
+ghost use Rattle.tree_search.specs.Steps.{IsNextLeaf, Steps};
 
 use crate::working::{Work, work_on};
 use branch_tree::NodeResult;
@@ -47,14 +47,14 @@ pub(crate) fn next_open(search: &Search) -> Result<Option<OpenLeaf>, AllocError>
     Ok(Some(OpenLeaf { id, region }))
 }
 
-/// Places the result of the work on an open leaf.
+/// Places the result of the work on the leaf that goes first.
 fn place_result(
     search: &mut Search,
     leaf: &OpenLeaf,
     done: NodeResult,
 ) -> Result<Option<StopWhy>, AllocError>
     requires integral { IsIntegral search.old.model }
-    requires leaf { IsOpenLeaf search.old leaf.now.id leaf.now.region }
+    requires leaf { IsNextLeaf search.old leaf.now.id leaf.now.region }
     requires done { IsResultFor search.old.model leaf.now.region done }
     ensures steps { IfOk result (λ why. Steps search.old leaf.now.region search.new why) }
     ensures kept { OnErr result (search.new ≡ search.old) }
@@ -67,14 +67,14 @@ fn place_result(
     }
 }
 
-/// Works an open leaf, and places the result if there is one.
+/// Works the leaf that goes first, and places the result if there is one.
 pub(crate) fn step(
     alloc: Global,
     search: &mut Search,
     leaf: OpenLeaf,
 ) -> Result<Option<StopWhy>, AllocError>
     requires integral { IsIntegral search.old.model }
-    requires leaf { IsOpenLeaf search.old leaf.id leaf.region }
+    requires leaf { IsNextLeaf search.old leaf.id leaf.region }
     ensures steps { IfOk result (λ why. Steps search.old leaf.region search.new why) }
     ensures kept { OnErr result (search.new ≡ search.old) }
 {

@@ -6,7 +6,7 @@ use Rattle.tree_search.proofs.SearchLemmas.{value-best}
 use Rattle.tree_search.proofs.searching.finished.Goals as goal
 
 pub returns-in_default : goal.returns-in_default
-returns-in_default c = (refl, record { finished = c.requires.none_open; no_points = c.in_default.ensures; none = sound-empty c.args.search.now c.points-sound.ensures.sound c.requires.none_open c.in_default.ensures; within_limit = c.requires.within_limit; within_cap = c.requires.within_cap })
+returns-in_default c = (refl, record { finished = c.requires.none_open; no_point = c.in_default.ensures; none = sound-empty c.args.search.now c.points-sound.ensures.sound c.requires.none_open c.in_default.ensures; within_limit = c.requires.within_limit; within_cap = c.requires.within_cap })
 
 pub returns : goal.returns
 returns c =
