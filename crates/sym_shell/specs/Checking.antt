@@ -102,10 +102,14 @@ pub data ChecksFiles (files : Option Files) (model cert : List ℕ) (before afte
   BadCert : RefusesCert files model cert before after reply → ChecksFiles files model cert before after reply
   Wanting : reply ≡ memory_text → ChecksFiles files model cert before after reply
 
+-- what is printed, by whether both words are names of files
+abbrev pub ChecksWhere : Bool → Option Files → List ℕ → List ℕ → ℕ → ℕ → List ℕ → Type 0
+ChecksWhere true files model cert before after reply = ChecksFiles files model cert before after reply
+ChecksWhere false files model cert before after reply = reply ≡ arguments_text
+
 -- what is printed of two words: they are tested first
 abbrev pub Checks : Option Files → List ℕ → List ℕ → ℕ → ℕ → List ℕ → Type 0
-Checks files model cert before after reply =
-    if is_file_name model && is_file_name cert then ChecksFiles files model cert before after reply else (reply ≡ arguments_text)
+Checks files model cert before after reply = ChecksWhere (is_file_name model && is_file_name cert) files model cert before after reply
 
 abbrev pub is_accepted : List ℕ → Bool
 is_accepted reply = starts_with ◌==◌ reply (codes "accepted ")
