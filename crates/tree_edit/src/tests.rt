@@ -75,6 +75,7 @@ fn least(rt: HostRuntime) -> Result<(), Fail> {
     assert_eq!(rt; search.next_leaf()?, Some(1));
     assert!(rt; matches!(search.place(1, keep(alloc, 4)?)?, Taken::Refused));
     assert!(rt; matches!(search.place(1, keep(alloc, 2)?)?, Taken::Kept));
+    assert!(rt; matches!(search.place(1, keep(alloc, 3)?)?, Taken::Kept));
     assert!(rt; matches!(search.place(1, split(alloc, 3))?, Taken::Refused));
     assert!(rt; matches!(search.place(1, split(alloc, 1))?, Taken::Split));
     assert_eq!(rt; search.open_leaves(), 1);
@@ -83,7 +84,7 @@ fn least(rt: HostRuntime) -> Result<(), Fail> {
     assert!(rt; matches!(search.place(2, close_with(alloc, 0)?)?, Taken::Closed));
     assert_eq!(rt; search.open_leaves(), 0);
     assert!(rt; matches!(search.place(2, close_with(alloc, 0)?)?, Taken::Stale));
-    assert_eq!(rt; search.points().len(), 2);
+    assert_eq!(rt; search.points().len(), 3);
     search.restart()?;
     assert_eq!(rt; search.open_leaves(), 1);
     assert!(rt; search.incumbent().is_none());
