@@ -40,7 +40,7 @@ module _ (old : State) (words : List (List ℕ)) (reply : List ℕ) (new : State
   load_cause : (file : List ℕ) (intupper : Option ℕ) → asks_of words ≡ Load file intupper → LoadStep old file intupper reply new → HasCause old words reply new
   load_cause file intupper asked h =
       elim h.answer [
-        | inl loads ↦ record { kind = Done; is = ([], loads.ok); cause = inl (inl (record { file = file; intupper = intupper; asked = asked; is = loads })) }
+        | inl loads ↦ record { kind = Done; is = ([], loads.ok); cause = inl (record { file = file; intupper = intupper; asked = asked; is = loads }) }
         | inr refused ↦ by refused.refusal refused.told refused.cause
       ]
     where
@@ -96,7 +96,7 @@ module _ (old : State) (words : List (List ℕ)) (reply : List ℕ) (new : State
   writes_cause file S asked present held (Written text is short sets told) = record {
     kind = Done;
     is = ([], told);
-    cause = inl (inr (record { file = file; search = S; asked = asked; present = present; held = held; is = (text, (is, short, sets)) }));
+    cause = inr (inl (record { file = file; search = S; asked = asked; present = present; held = held; is = (text, (is, short, sets)) }));
   }
   writes_cause file S asked present held (TooLong text is long kept told) = record {
     kind = FileTooLong;
@@ -119,7 +119,7 @@ module _ (old : State) (words : List (List ℕ)) (reply : List ℕ) (new : State
         | inr told ↦ wants told
       ]
       by (Some M) None present none t = elim t.told [
-        | inl told ↦ record { kind = NoAnswer; is = (codes "no finished answer\n", told); cause = (file, (record { asks = asked; told = told }, subst IsSome (sym present) tt, none)) }
+        | inl told ↦ record { kind = NoAnswer; is = (codes "no finished answer\n", told); cause = (file, (record { asks = asked; told = told }, subst IsSome (sym present) refl, none)) }
         | inr told ↦ wants told
       ]
       by (Some M) (Some S) present held w = writes_cause file S asked (present ∙ ap Some (sym w.0)) held w.1
@@ -128,7 +128,7 @@ module _ (old : State) (words : List (List ℕ)) (reply : List ℕ) (new : State
   asked_cause (Load file intupper) asked h = load_cause file intupper asked h
   asked_cause (Solve limit) asked h = solve_cause limit asked h
   asked_cause (Cert file) asked h = cert_cause file asked h
-  asked_cause Quit asked h = record { kind = Done; is = ([], h.answer); cause = inr (asked, h.unchanged) }
+  asked_cause Quit asked h = record { kind = Done; is = ([], h.answer); cause = inr (inr (asked, h.unchanged)) }
   asked_cause (Unknown word) asked h = elim h.answer [
     | inl e ↦ record { kind = UnknownCommand; is = (codes "unknown command " ++ word ++ codes "\n", e); cause = (word, record { asks = asked; told = e }) }
     | inr e ↦ wants e

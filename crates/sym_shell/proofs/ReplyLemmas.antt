@@ -1,6 +1,6 @@
 -- What the reply to a search shows.
 use Rattle.std.proofs.Common.{◌≡◌, ℕ, ◌-◌, ◌<◌, ◌≤◌, arith, Bool, false, List, [], ◌++◌, true, if◌then◌else◌, refl, subst, sym, ap, ◌∙◌, Option, Some, None, Ok, Err, Result}
-use Rattle.std.specs.Prelude.{OnOk, IfOk, nat_le}
+use Rattle.std.specs.Prelude.{OnOk, IfOk, is_err, nat_le}
 use Rattle.std.proofs.lemmas.Bool.{leb-false, leb-true}
 use Rattle.std.specs.Option.{option_map}
 use Rattle.frac128.specs.Range.{Fits}
@@ -138,3 +138,7 @@ search_shown M S limit outcome held old new (Ok done) lawful plain integral s en
         (subst (λ b. Shows S.model limit new (if b then Some S else None)) (sym ended)
             (shown s.fresh S limit lawful plain (subst (λ N. IsFresh N node_limit s.fresh) (sym same) s.begins) s.sound integral outcome old new empty s.finds h))
 search_shown M S limit outcome held old new (Err e) lawful plain integral s ended empty h = tt
+
+pub none_shown : {E P : Type 0} (r : Result (Unit {0}) E) → is_err r ≡ true → OnOk r P
+none_shown (Ok done) h = absurd (cc)
+none_shown (Err e) h = tt

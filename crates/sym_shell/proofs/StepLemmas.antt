@@ -1,8 +1,11 @@
 -- From what is asked to the words that ask it.
-use Rattle.std.proofs.Common.{◌≡◌, ℕ, List, sym, subst, Ok, Err, Result}
+use Rattle.std.proofs.Common.{◌≡◌, ℕ, List, ap, sym, subst, Option, Ok, Err, Result}
 use Rattle.std.specs.Prelude.{OnOk, OnErr}
 use Rattle.command_words.specs.Asks.{Asks, asks_of}
-use Rattle.sym_shell.specs.State.{State}
+use Rattle.sym_io.specs.Files.{Files}
+use Rattle.lp_model.specs.Program.{Program}
+use Rattle.sym_shell.specs.State.{Present, State, state}
+use Rattle.sym_shell.specs.Solve.{Solves, SolveStep}
 use Rattle.sym_shell.specs.Step.{AnswersTo, Step}
 
 pub on_ok : {E P Q : Type 0} (r : Result (Unit {0}) E) → (P → Q) → OnOk r P → OnOk r Q
@@ -26,3 +29,10 @@ always (Err f) h = h
 pub on_err : {E P Q : Type 0} (r : Result (Unit {0}) E) → (P → Q) → OnErr r P → OnErr r Q
 on_err (Ok done) f h = tt
 on_err (Err e) f h = f h
+
+-- a search leaves the model and the files
+pub solve-step : (old new : Present) (files : Option Files) (faults limit : ℕ) (reply : List ℕ) → new.model ≡ old.model → Solves old.model limit reply old.held new.held → SolveStep (state old files faults) limit reply (state new files faults)
+solve-step old new files faults limit reply same solves = record {
+  unchanged = ap (λ (m : Option Program). record { model = m; held = new.held; files = files; faults = faults }) same;
+  answer = solves;
+}

@@ -62,7 +62,9 @@ impl Loaded {
 
     /// The model.
     pub(crate) fn model(&self) -> &Model
-        ensures { result.now ≡ self.now.search.model }
+        ensures model { result.now ≡ self.now.search.model }
+        ensures bounded { is_bounded self.now.search.model ≡ true }
+        ensures plain { HasPlainNames self.now.search.model }
     {
         self.search.model()
     }

@@ -1,8 +1,10 @@
 // The machine behind the script: the model that is present, and what a command does to it.
-ghost use Rattle.std.specs.Prelude.{◌≡◌, true, false, [], OnOk, OnErr, ℕ, List, map, Some};
+ghost use Rattle.std.specs.Prelude.{◌≡◌, true, false, [], ◌++◌, OnOk, OnErr, ℕ, List, map, Some, None};
+ghost use Rattle.mps_model.specs.Bounded.{is_bounded};
+ghost use Rattle.mps_model.specs.PlainNames.{HasPlainNames, HasPlainRows};
 ghost use Rattle.command_words.specs.Names.{is_file_name};
 ghost use Rattle.command_words.specs.Asks.{asks_shown, NamesFile};
-ghost use Rattle.sym_shell.specs.Texts.{memory_text};
+ghost use Rattle.sym_shell.specs.Texts.{ok_text, memory_text};
 ghost use Rattle.sym_shell.specs.State.{state};
 ghost use Rattle.sym_shell.specs.Held.{present_of};
 ghost use Rattle.sym_shell.specs.Load.{LoadStep};
@@ -17,6 +19,7 @@ use crate::reading::read_model;
 use crate::refusals::{write_no_number, write_refusal, write_unknown};
 use crate::texts::write_outcome;
 use command_words::{Asked, read_words};
+use lp_model::Model;
 use script_session::Machine;
 use std::alloc::{AllocError, Global};
 use sym_io::Store;
@@ -38,6 +41,26 @@ impl Shell {
         Shell { loaded: None }
     }
 
+    /// Replaces the model, of whose search no answer is held yet.
+    fn keep(
+        &mut self,
+        alloc: Global,
+        model: Model,
+        reply: &mut Vec<u8>,
+    ) -> Result<(), AllocError>
+        requires bounded { is_bounded model ≡ true }
+        requires plain { HasPlainNames model }
+        requires plain_rows { HasPlainRows model }
+        ensures present { OnOk result (present self.new ≡ record { model = Some model; held = None }) }
+        ensures told { OnOk result (reply.new.items ≡ reply.old.items ++ ok_text) }
+        ensures kept { OnErr result (self.new ≡ self.old) }
+    {
+        let loaded = Loaded::new(alloc, model)?;
+        reply.extend_from_slice(b"ok\n")?;
+        self.loaded = Some(loaded);
+        Ok(())
+    }
+
     /// Replaces the model by the file's.
     fn load<S: Store>(
         &mut self,
@@ -55,12 +78,7 @@ impl Shell {
             (state (present self.new) (S.files store.new) (S.faults store.new))) }
     {
         match read_model(alloc, store, name, intupper) {
-            Ok(model) => {
-                let loaded = Loaded::new(alloc, model)?;
-                reply.extend_from_slice(b"ok\n")?;
-                self.loaded = Some(loaded);
-                Ok(())
-            }
+            Ok(model) => self.keep(alloc, model, reply),
             Err(refusal) => write_refusal(reply, refusal),
         }
     }
@@ -172,7 +190,9 @@ fn answer_search(
 {
     match loaded.solve(alloc, limit) {
         Ok(outcome) => {
-            let written = write_outcome(reply, loaded.model(), &outcome);
+            let model = loaded.model();
+            let _lawful = model.cols();
+            let written = write_outcome(reply, model, &outcome);
             if written.is_err() {
                 loaded.drop_answer();
             }

@@ -1,9 +1,9 @@
 use Rattle.std.proofs.Common.{ap, refl, inr}
-use Rattle.command_words.specs.Asks.{Load, Solve, Quit, Unknown, Misused, NoNumber, asks_shown}
+use Rattle.command_words.specs.Asks.{Load, Solve, Cert, Quit, Unknown, Misused, NoNumber, asks_shown}
 use Rattle.sym_shell.specs.Present.{present}
 use Rattle.sym_shell.specs.State.{state}
 use Rattle.sym_shell.specs.Texts.{ok_text, memory_text}
-use Rattle.sym_shell.proofs.StepLemmas.{unfinished, always, on_err}
+use Rattle.sym_shell.proofs.StepLemmas.{unfinished, always, on_err, solve-step}
 use Rattle.sym_shell.proofs.shell.Shell.answer_asked.Goals as goal
 
 pub returns-in-Load-clause-unfinished : goal.returns-in-Load-clause-unfinished
@@ -15,7 +15,15 @@ returns-in-Load-clause-unfinished g c =
 pub returns-in-Solve-clause-unfinished : goal.returns-in-Solve-clause-unfinished
 returns-in-Solve-clause-unfinished g c =
     let old = (state (present c.args.self.now) (g.S.Store.files c.args.store.now) (g.S.Store.faults c.args.store.now)) in
-    unfinished c.solve.result (Solve c.in-Solve.limit) (asks_shown c.args.asked) old old memory_text (ap asks_shown c.in-Solve.is) (on_err c.solve.result (λ h. record { unchanged = refl; answer = h }) c.solve.ensures.unfinished)
+    let new = state (present c.solve.new.self) (g.S.Store.files c.args.store.now) (g.S.Store.faults c.args.store.now) in
+    unfinished c.solve.result (Solve c.in-Solve.limit) (asks_shown c.args.asked) old new memory_text (ap asks_shown c.in-Solve.is)
+    (on_err c.solve.result (solve-step (present c.args.self.now) (present c.solve.new.self) (g.S.Store.files c.args.store.now) (g.S.Store.faults c.args.store.now) c.in-Solve.limit memory_text c.solve.ensures.model) c.solve.ensures.unfinished)
+
+pub returns-in-Cert-clause-unfinished : goal.returns-in-Cert-clause-unfinished
+returns-in-Cert-clause-unfinished g c =
+    let old = (state (present c.args.self.now) (g.S.Store.files c.args.store.now) (g.S.Store.faults c.args.store.now)) in
+    let new = state (present c.args.self.now) (g.S.Store.files c.cert.new.store) (g.S.Store.faults c.cert.new.store) in
+    unfinished c.cert.result (Cert c.in-Cert.file.now) (asks_shown c.args.asked) old new memory_text (ap asks_shown c.in-Cert.is) c.cert.ensures.unfinished
 
 pub returns-in-Quit-clause-unfinished : goal.returns-in-Quit-clause-unfinished
 returns-in-Quit-clause-unfinished g c =
