@@ -1,6 +1,6 @@
 -- Each question about a point or a leaf has one answer.
-use Rattle.std.specs.Prelude.{◌≡◌, ◌⊎◌, ℕ, ◌<◌, Bool, true, false, pos, length, Result, Ok, Err}
-use Rattle.std.proofs.Common.{refl, sym, ap, subst, ◌∙◌, inl, inr, arith}
+use Rattle.std.specs.Prelude.{◌≡◌, ℕ, Bool, true, false, pos, length, Result, Ok, Err}
+use Rattle.std.proofs.Common.{refl, sym, ap, subst, ◌∙◌, inl, inr}
 use Rattle.std.proofs.lemmas.Bool.{cases_order}
 use Rattle.rational.specs.Rational.{ℚ, int}
 use Rattle.checked_sum.specs.Steps.{AllFit, IsFirstWide, IsCheckedSum}

@@ -1,7 +1,7 @@
 -- A certificate has at most one verdict for a model.
 use Rattle.std.specs.Prelude.{◌≡◌, ◌≢◌, ◌⊎◌, ℕ, suc, ◌+◌, ◌<◌, true, false, IsTrue, List, [], ◌∷◌, ◌++◌, length, Contains, All, Result, Ok, Err}
-use Rattle.std.proofs.Common.{refl, sym, ap, subst, ◌∙◌, inl, inr, arith, append_assoc}
-use Rattle.std.proofs.lemmas.List.Elements.{All-nil, All-head, All-tail}
+use Rattle.std.proofs.Common.{refl, sym, ap, subst, ◌∙◌, inl, inr, append_assoc}
+use Rattle.std.proofs.lemmas.List.Elements.{All-head, All-tail}
 use Rattle.rational.specs.Rational.{ℚ}
 use Rattle.lp_model.specs.Program.{Program, Point, in_least_form}
 use Rattle.lp_model.specs.Lawful.{column_names}
@@ -23,8 +23,8 @@ use Rattle.cert_check.specs.declared.verdict.Judgement.TheVariants.{Passes, Brea
 use Rattle.cert_check.specs.declared.verdict.Verdict.{Verdict}
 use Rattle.cert_check.specs.declared.verdict.Verdict.TheVariants.{Accepted, Rejected, Wide}
 use Rattle.cert_check.specs.Tree.{CertTree, Leaf, Split, preorder, place_among}
-use Rattle.cert_check.specs.Accepted.{AreNames, names_of_rows, point_of, multipliers}
-use Rattle.cert_check.specs.Verdict.{WhereNamed, NumberReaches, IsBoundJudged, IsNumberJudged, IsFarkasJudged, IsEmptyJudged, IsLeafJudged, IsKindJudged, IsSplitJudged, IsNodeJudged, IsPointJudged, IsClaimJudged, visits, IsVisitJudged, IsJudgedAt, IsFirst, IsVerdictOn, IsVerdict}
+use Rattle.cert_check.specs.Accepted.{names_of_rows, point_of, multipliers}
+use Rattle.cert_check.specs.Verdict.{WhereNamed, NumberReaches, IsBoundJudged, IsNumberJudged, IsFarkasJudged, IsEmptyJudged, IsLeafJudged, IsKindJudged, IsSplitJudged, IsNodeJudged, IsPointJudged, IsClaimJudged, visits, IsVisitJudged, IsFirst, IsVerdictOn, IsVerdict}
 use Rattle.cert_check.proofs.OneAnswer.{sum_one, feasibility_one, dual_one}
 
 -- ---- judgements
@@ -231,7 +231,7 @@ module _ (M : Program) (cert : Cert) (tree : CertTree) where
 
 -- ---- one tree
 
-tree_one : (t s : CertTree) (rest other : List CertNode) → preorder t ++ rest ≡ preorder s ++ other → (t ≡ s) × (rest ≡ other)
+pub tree_one : (t s : CertTree) (rest other : List CertNode) → preorder t ++ rest ≡ preorder s ++ other → (t ≡ s) × (rest ≡ other)
 tree_one (Leaf leaf) (Leaf other_leaf) rest other e = (let f : leaf ≡ other_leaf = cc in ap Leaf f, cc)
 tree_one (Leaf leaf) (Split col v left right) rest other e = absurd cc
 tree_one (Split col v left right) (Leaf leaf) rest other e = absurd cc

@@ -5,7 +5,7 @@ use Rattle.cert_check.specs.declared.cert.Claim.{Claim}
 use Rattle.cert_check.specs.declared.cert.Claim.TheVariants.{Optimal, Infeasible}
 use Rattle.cert_check.specs.declared.cert.Cert.{Cert}
 use Rattle.cert_check.specs.declared.verdict.Verdict.{Verdict}
-use Rattle.cert_check.specs.declared.verdict.Verdict.TheVariants.{Accepted}
+use Rattle.cert_check.specs.declared.verdict.Verdict.TheVariants.{Accepted, Rejected}
 use Rattle.cert_check.specs.Accepted.{Accepts}
 use Rattle.cert_check.specs.Text.{Meant, Faulty}
 use Rattle.cert_check.specs.Verdict.{IsVerdict}
@@ -22,6 +22,10 @@ AcceptedLaw = (M : Program) (cert : Cert) → Accepts M cert → IsTrueClaim M c
 -- a certificate that is judged and found accepted is accepted by the definition
 abbrev pub VerdictLaw : Type 0
 VerdictLaw = (M : Program) (cert : Cert) → IsCertificate cert → IsVerdict M cert Accepted → Accepts M cert
+
+-- a certificate that is rejected is not accepted by the definition
+abbrev pub RejectedLaw : Type 0
+RejectedLaw = (M : Program) (cert : Cert) (number why : ℕ) → IsVerdict M cert (Rejected number why) → ¬ Accepts M cert
 
 -- a certificate has at most one verdict for a model
 abbrev pub OneVerdictLaw : Type 0

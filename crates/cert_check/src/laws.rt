@@ -1,5 +1,5 @@
 // What accepted certificates prove.
-ghost use Rattle.cert_check.specs.Laws.{AcceptedLaw, VerdictLaw, OneVerdictLaw, TextLaw};
+ghost use Rattle.cert_check.specs.Laws.{AcceptedLaw, VerdictLaw, RejectedLaw, OneVerdictLaw, TextLaw};
 
 /// For every model and certificate: where the certificate is accepted its claim is true.
 pub fn accepted_law()
@@ -9,6 +9,11 @@ pub fn accepted_law()
 /// A certificate that `check` answers Accepted on is accepted by the definition, so that its claim is true.
 pub fn verdict_law()
     ensures { VerdictLaw }
+{}
+
+/// A certificate that `check` answers Rejected on is not accepted by the definition.
+pub fn rejected_law()
+    ensures { RejectedLaw }
 {}
 
 /// A certificate has at most one verdict for a model.

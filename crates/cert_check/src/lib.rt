@@ -19,8 +19,8 @@
 //! Contract: `read_cert` answers the certificate that a text states or its first faulty line with the least code, a
 //! function of the whole text (`specs/Lines`, `specs/Text`; `text_law`). `check` answers Accepted, or the first node that does not
 //! hold with its reason, or that has a step without room (`specs/Verdict`; there is one such verdict, `one_verdict_law`),
-//! without memory. For every model and every certificate, whoever wrote it, an accepted claim is true (`accepted_law`,
-//! `verdict_law`).
+//! without memory. Where each step has room it answers Accepted exactly where the definition accepts (`verdict_law`,
+//! `rejected_law`). For every model and every certificate, whoever wrote it, an accepted claim is true (`accepted_law`).
 //!
 //! Below stand `lp_model`, the numbers of a leaf (`leaf_dual`), plain trees (`branch_tree`) and the spelling of numbers
 //! (`frac128`). Above stand what writes certificates and the words `check MODEL CERT`.
@@ -41,7 +41,7 @@ mod verdict;
 
 pub use cert::{Cert, CertLeaf, CertNode, Claim};
 pub use checking::{RegionBuf, check};
-pub use laws::{accepted_law, one_verdict_law, text_law, verdict_law};
+pub use laws::{accepted_law, one_verdict_law, rejected_law, text_law, verdict_law};
 pub use line::{LineWord, Statement};
 pub use reader::{CertFault, read_cert};
 pub use verdict::{Judgement, Verdict};

@@ -1,28 +1,24 @@
 -- The certificate of a finished search passes: its point is kept, and each of its leaves is judged closed by the very
 -- numbers that the certificate gives.
-use Rattle.std.proofs.Common.{◌≡◌, ◌≢◌, ℕ, ◌<◌, List, [], ◌∷◌, ◌++◌, length, refl, sym, ap, subst, ◌∙◌, inl, inr}
-use Rattle.std.specs.Prelude.{All, AllPairs, Contains, IsTrue, true, Option, Some, None, Ok}
+use Rattle.std.proofs.Common.{◌≡◌, ◌≢◌, ℕ, List, [], ◌∷◌, ◌++◌, length, refl, sym, ap, subst, ◌∙◌, inl, inr}
+use Rattle.std.specs.Prelude.{All, AllPairs, IsTrue, Option, Some, None}
 use Rattle.std.proofs.lemmas.List.Elements.{All-append}
 use Rattle.std.proofs.lemmas.List.Elements.{All-get_or}
 use Rattle.rational.specs.Rational.{ℚ, neg_ℚ}
 use Rattle.lp_model.specs.Program.{Program, Point, value, least_value, in_least_form, is_integer}
 use Rattle.lp_model.specs.Lawful.{IsLawful as IsLawfulModel, column_names}
-use Rattle.lp_model.specs.Edits.{Named}
 use Rattle.rational.proofs.RationalRing.{ring, reads_ℚ}
 use Rattle.lp_model.specs.declared.types.Sense.{Sense}
 use Rattle.lp_model.specs.declared.types.Sense.TheVariants.{Min, Max}
 use Rattle.lp_model.specs.Regions.{Path, IsEmptyRegion}
-use Rattle.leaf_dual.specs.Dual.{Multipliers, IsPositive}
-use Rattle.leaf_dual.specs.Answers.{IsFarkasAnswer}
-use Rattle.leaf_dual.specs.declared.dual.LagValue.{LagValue}
+use Rattle.leaf_dual.specs.Dual.{Multipliers}
 use Rattle.branch_tree.specs.Tree.{Leaf, Split, left_path, right_path, IsLawful, HasNarrowSplits, EachLeaf}
-use Rattle.branch_tree.specs.Plain.{Plain, LeafKept}
+use Rattle.branch_tree.specs.Plain.{Plain}
 use Rattle.branch_tree.specs.declared.node.LeafState.TheVariants.{IsClosed}
 use Rattle.branch_tree.specs.declared.node.LeafData.{LeafData}
 use Rattle.tree_edit.specs.declared.judging.LeafNumber.{LeafNumber}
 use Rattle.tree_edit.specs.declared.judging.LeafNumber.TheVariants as number
 use Rattle.tree_edit.specs.Closing.{IsRefuted, IsNumber, NumberCloses, StateSays, IsJudgedLeaf}
-use Rattle.tree_edit.specs.Judged.{AreJudged}
 use Rattle.tree_edit.specs.Laws.{HasNoOpenLeaf}
 use Rattle.tree_edit.specs.Lists.{HasLists, HasNodeLists}
 use Rattle.tree_edit.specs.Points.{IsKeepable, target, IsIncumbent, IsIncumbentAt}
@@ -37,13 +33,13 @@ use Rattle.cert_check.specs.declared.cert.CertNode.TheVariants as node
 use Rattle.cert_check.specs.declared.cert.Cert.{Cert}
 use Rattle.cert_check.specs.declared.verdict.Judgement.TheVariants.{Passes}
 use Rattle.cert_check.specs.declared.verdict.Verdict.TheVariants.{Accepted}
-use Rattle.cert_check.specs.Accepted.{names_of_rows, multipliers, point_of}
+use Rattle.cert_check.specs.Accepted.{names_of_rows}
 use Rattle.cert_check.specs.Tree.{CertTree, preorder, place_among}
 use Rattle.cert_check.specs.Tree.{Leaf as CertLeafTree, Split as CertSplitTree}
 use Rattle.cert_check.specs.Verdict.{IsNumberJudged, IsFarkasJudged, IsLeafJudged, IsPointJudged, IsClaimJudged, visits, IsVisitJudged, IsVerdict}
 use Rattle.cert_check.specs.Whole.{IsNarrowNode, HasNoPoint, IsCertificate}
 use Rattle.cert_check.proofs.PlaceLemmas.{rows_differ}
-use Rattle.tree_cert.specs.Certificates.{column_name, named_rows, claim_of, nonzero_numbers, point_numbers, IsReason, IsTreeOf, IsCertificateOf}
+use Rattle.tree_cert.specs.Certificates.{column_name, claim_of, point_numbers, IsReason, IsTreeOf, IsCertificateOf}
 use Rattle.tree_cert.proofs.NameLaws.{all_cons, all_none, column_place, column_there, rows_read, rows_named, numbers_named, numbers_read}
 
 -- ---- values
@@ -89,10 +85,10 @@ module _ (M : Program) (lawful_model : IsLawfulModel M) where
       (¬ IsEmptyRegion M path) → (¬ IsRefuted M path kept.farkas) → IsNumberJudged M claim path kept.mult Passes
   number-passes t claim for path kept number.Empty is closes some stands =
       absurd (
-        elim is [
-          | inl empty ↦ some empty
-          | inr refuted ↦ stands refuted
-        ]
+      elim is [
+        | inl empty ↦ some empty
+        | inr refuted ↦ stands refuted
+      ]
       )
   number-passes t (Optimal v) for path kept (number.Lag q) is closes some stands = (q, (is.1, subst (λ u. NumberCloses M u (number.Lag q)) for closes))
   number-passes t Infeasible for path kept (number.Lag q) is closes some stands = absurd (subst (λ u. NumberCloses M u (number.Lag q)) for closes)

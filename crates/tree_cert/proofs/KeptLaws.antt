@@ -1,6 +1,6 @@
 -- What lines without fault state: nodes that are due, with words and room.
-use Rattle.std.proofs.Common.{◌≡◌, ℕ, zero, suc, ◌+◌, ◌-◌, ◌<◌, ◌≤◌, Bool, true, false, ◌||◌, ◌&&◌, List, [], ◌∷◌, ◌++◌, length, take, get_or, refl, sym, ap, subst, ◌∙◌, arith, if◌then◌else◌}
-use Rattle.std.specs.Prelude.{All, not, ◌==◌, Option, Some, None, Result, Ok, Err, option_to_list}
+use Rattle.std.proofs.Common.{◌≡◌, ℕ, zero, suc, ◌+◌, ◌<◌, ◌≤◌, Bool, true, false, ◌||◌, ◌&&◌, List, [], ◌∷◌, ◌++◌, length, take, get_or, refl, sym, ap, subst, ◌∙◌, arith, if◌then◌else◌}
+use Rattle.std.specs.Prelude.{All, not, ◌==◌, Option, Some, None, Result, Ok, Err}
 use Rattle.std.proofs.lemmas.Bool.Decides.{Decides-eqb}
 use Rattle.std.proofs.lemmas.List.{take_all}
 use Rattle.std.proofs.lemmas.List.Elements.{All-nil, All-cons, All-head, All-append}
@@ -13,11 +13,11 @@ use Rattle.cert_check.specs.declared.line.Statement.{Statement}
 use Rattle.cert_check.specs.declared.line.Statement.TheVariants as says
 use Rattle.cert_check.specs.Lines.{lines_of, line_says}
 use Rattle.cert_check.specs.Reading.{after}
-use Rattle.cert_check.specs.Text.{is_header, Stated, stated, due_after, is_whole_tree, are_none, takes_point, lacks_point, lacks_part, place_code, said_code, code_in, code_at, AreClean, or_no_end, end_code, first_claim, first_point, cert_of, Meant}
+use Rattle.cert_check.specs.Text.{Stated, stated, due_after, is_whole_tree, are_none, takes_point, lacks_part, place_code, code_in, code_at, AreClean, or_no_end, end_code, first_claim, first_point, cert_of, Meant}
 use Rattle.cert_check.specs.Whole.{TakesAll, IsNarrowNode, HasNoPoint, IsCertificate}
 use Rattle.cert_check.proofs.DueLemmas.{takes-more, whole_tree}
 use Rattle.cert_check.proofs.TextLemmas.{taken_more}
-use Rattle.tree_cert.specs.CertText.{IsWord, HasWords, HasNodeWords, HasCertWords, cert_text}
+use Rattle.tree_cert.specs.CertText.{IsWord, HasNodeWords, HasCertWords, cert_text}
 use Rattle.tree_cert.specs.Printed.{HasRoom, HasClaimRoom, HasPointRoom, HasNodeRoom, HasCertRoom}
 use Rattle.tree_cert.proofs.WordLaws.{OneLine}
 use Rattle.tree_cert.proofs.SaidLaws.{GoodNamed, GoodNode, Good, line-good, text-lines}

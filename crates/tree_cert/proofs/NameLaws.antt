@@ -12,7 +12,6 @@ use Rattle.lp_model.specs.Lawful.{column_names}
 use Rattle.lp_model.specs.Edits.{Named, number_beside, is_zero}
 use Rattle.lp_model.proofs.NameLemmas.{get_or-map}
 use Rattle.lp_model.specs.declared.types.Col.{Col}
-use Rattle.lp_model.specs.declared.types.Row.{Row as RowRecord}
 use Rattle.lp_model.specs.declared.types.Var.{Var}
 use Rattle.lp_model.specs.declared.types.Var.TheVariants.{Row, Col as ColVar, Cut}
 use Rattle.leaf_dual.specs.Dual.{Multipliers}

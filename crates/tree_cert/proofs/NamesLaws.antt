@@ -1,12 +1,11 @@
 -- The names in the certificate of a search are words where the model's are.
-use Rattle.std.proofs.Common.{◌≡◌, ℕ, ◌<◌, Bool, true, false, List, [], ◌∷◌, ◌++◌, length, get_or, map, refl, sym, ap, subst, ◌∙◌, arith, if◌then◌else◌}
+use Rattle.std.proofs.Common.{ℕ, ◌<◌, Bool, true, false, List, [], ◌∷◌, ◌++◌, length, map, sym, subst, arith, if◌then◌else◌}
 use Rattle.std.specs.Prelude.{All, Option, Some, None}
 use Rattle.std.proofs.lemmas.List.{length-map}
 use Rattle.std.proofs.lemmas.List.Elements.{All-nil, All-cons, All-head, All-tail, All-append}
 use Rattle.rational.specs.Rational.{ℚ}
 use Rattle.lp_model.specs.Program.{Program, Point}
-use Rattle.lp_model.specs.Edits.{Named, is_zero}
-use Rattle.lp_model.specs.Lawful.{column_names}
+use Rattle.lp_model.specs.Edits.{is_zero}
 use Rattle.lp_model.specs.Regions.{Path}
 use Rattle.lp_model.specs.declared.types.Col.{Col}
 use Rattle.lp_model.specs.declared.types.Var.{Var}
@@ -21,7 +20,6 @@ use Rattle.cert_check.specs.declared.cert.CertLeaf.{CertLeaf}
 use Rattle.cert_check.specs.declared.cert.CertLeaf.TheVariants.{Bound, Farkas, Empty}
 use Rattle.cert_check.specs.declared.cert.CertNode.TheVariants as node
 use Rattle.cert_check.specs.declared.cert.Cert.{Cert}
-use Rattle.cert_check.specs.Accepted.{names_of_rows}
 use Rattle.cert_check.specs.Tree.{CertTree, preorder}
 use Rattle.cert_check.specs.Tree.{Leaf as CertLeafTree, Split as CertSplitTree}
 use Rattle.tree_cert.specs.Certificates.{column_name, row_name, named_rows, nonzero_numbers, point_numbers, IsReason, IsTreeOf, IsCertificateOf}

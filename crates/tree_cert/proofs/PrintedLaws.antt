@@ -1,15 +1,14 @@
 -- What the lines of a printed certificate say.
-use Rattle.std.proofs.Common.{◌≡◌, ℕ, ◌+◌, ◌-◌, ◌^◌, ◌<◌, Bool, true, false, List, [], ◌∷◌, ◌++◌, map, refl, sym, ap, subst, ◌∙◌, arith, if◌then◌else◌}
-use Rattle.std.specs.Prelude.{All, codes, Result, Ok, Err, ℤ, pos, ◌+ℤ◌}
+use Rattle.std.proofs.Common.{◌≡◌, ℕ, ◌-◌, ◌^◌, Bool, false, List, [], ◌∷◌, ◌++◌, map, refl, sym, ap, subst, ◌∙◌, arith, if◌then◌else◌}
+use Rattle.std.specs.Prelude.{All, codes, Ok, Err, ℤ, pos, ◌+ℤ◌}
 use Rattle.std.specs.Ordering.{int_eq}
 use Rattle.std.specs.Fmt.{signed_decimal}
 use Rattle.std.proofs.lemmas.Bool.{false_from_ne_true}
 use Rattle.std.proofs.lemmas.Bool.Decides.{Decides-int_eq}
 use Rattle.std.proofs.lemmas.Int.{ints}
-use Rattle.std.proofs.lemmas.List.{map-append}
-use Rattle.std.proofs.lemmas.List.Elements.{All-nil, All-cons, All-head, All-tail, All-append}
+use Rattle.std.proofs.lemmas.List.Elements.{All-nil, All-cons, All-head, All-tail}
 use Rattle.rational.specs.Rational.{ℚ, int}
-use Rattle.frac128.specs.Range.{Fits, IsNarrow, largest}
+use Rattle.frac128.specs.Range.{Fits, IsNarrow}
 use Rattle.frac128.specs.Parsing.{parsed}
 use Rattle.frac128.specs.Printing.{printed}
 use Rattle.frac128.proofs.Printed.{printed-int}
@@ -25,7 +24,7 @@ use Rattle.cert_check.specs.declared.cert.CertNode.TheVariants as node
 use Rattle.cert_check.specs.declared.cert.Cert.{Cert}
 use Rattle.cert_check.specs.declared.line.Statement.{Statement}
 use Rattle.cert_check.specs.declared.line.Statement.TheVariants as says
-use Rattle.cert_check.specs.Lines.{lines_of, number_of, beside, with_named, named_in, rows_in, claimed, split_at, as_leaf, as_point, words_say, line_says}
+use Rattle.cert_check.specs.Lines.{number_of, beside, named_in, rows_in, claimed, split_at, as_leaf, as_point, words_say, line_says}
 use Rattle.cert_check.specs.Text.{Meant}
 use Rattle.cert_check.specs.Whole.{IsNarrowNode, IsCertificate}
 use Rattle.tree_cert.specs.CertText.{Words, named_words, row_words, claim_words, leaf_words, node_words, point_lines, cert_lines, line_text, lines_text, cert_text, IsWord, HasWords, HasNodeWords, HasCertWords}

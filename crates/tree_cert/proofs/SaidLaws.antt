@@ -1,5 +1,5 @@
 -- What a line of a text says has names that are words, and numbers that have room.
-use Rattle.std.proofs.Common.{◌≡◌, ℕ, ◌-◌, ◌^◌, ◌<◌, Bool, true, false, List, [], ◌∷◌, length, refl, sym, subst, ◌∙◌, arith, if◌then◌else◌}
+use Rattle.std.proofs.Common.{◌≡◌, ℕ, ◌-◌, ◌^◌, ◌<◌, Bool, true, false, List, [], ◌∷◌, length, refl, sym, ◌∙◌, arith, if◌then◌else◌}
 use Rattle.std.specs.Prelude.{All, codes, bytes_eq, Option, Some, None, Result, Ok, Err, ℤ, pos, ◌+ℤ◌}
 use Rattle.std.specs.List.{filter, slice_split, onto_first}
 use Rattle.std.specs.Ordering.{int_eq}
@@ -7,12 +7,11 @@ use Rattle.std.proofs.lemmas.Bool.Decides.{Decides-int_eq}
 use Rattle.std.proofs.lemmas.Int.{ints}
 use Rattle.std.proofs.lemmas.List.Elements.{All-nil, All-cons, All-head, All-tail}
 use Rattle.rational.specs.Rational.{ℚ}
-use Rattle.frac128.specs.Range.{Fits, IsNarrow, largest}
+use Rattle.frac128.specs.Range.{Fits, IsNarrow}
 use Rattle.frac128.specs.declared.parse.NumFault.{NumFault}
 use Rattle.lp_model.specs.Edits.{Named}
-use Rattle.cert_check.specs.declared.cert.Claim.TheVariants.{Optimal, Infeasible}
-use Rattle.cert_check.specs.declared.cert.CertLeaf.{CertLeaf}
-use Rattle.cert_check.specs.declared.cert.CertLeaf.TheVariants.{Bound, Farkas, Empty}
+use Rattle.cert_check.specs.declared.cert.Claim.TheVariants.{Infeasible}
+use Rattle.cert_check.specs.declared.cert.CertLeaf.TheVariants.{Bound, Farkas}
 use Rattle.cert_check.specs.declared.cert.CertNode.{CertNode}
 use Rattle.cert_check.specs.declared.cert.CertNode.TheVariants as node
 use Rattle.cert_check.specs.declared.line.LineWord.{LineWord}
@@ -22,7 +21,7 @@ use Rattle.cert_check.specs.declared.line.Statement.TheVariants as says
 use Rattle.cert_check.specs.Lines.{is_newline, is_blank, is_nothing, is_piece, without_last, lines_of, words_of, begins_blank, ends_blank, number_of, with_named, beside, named_in, rows_in, cert_says, claimed, claim_says, as_point, is_whole, split_at, split_says, as_leaf, empty_says, leaf_says, end_says, word_of, word_says, known_says, words_say, line_says}
 use Rattle.cert_check.specs.Whole.{IsNarrowNode}
 use Rattle.tree_cert.specs.CertText.{IsWord, HasWords, HasNodeWords}
-use Rattle.tree_cert.specs.Printed.{HasRoom, HasClaimRoom, HasLeafRoom, HasNodeRoom}
+use Rattle.tree_cert.specs.Printed.{HasRoom, HasClaimRoom, HasNodeRoom}
 use Rattle.tree_cert.proofs.WordLaws.{OneLine, OneWord}
 use Rattle.tree_cert.proofs.FitLaws.{FitsOk, number-fits}
 

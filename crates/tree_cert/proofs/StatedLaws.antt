@@ -1,6 +1,6 @@
 -- A text whose lines say a certificate's statements in order states that certificate.
-use Rattle.std.proofs.Common.{◌≡◌, ℕ, zero, suc, ◌+◌, ◌-◌, ◌<◌, Bool, true, false, ◌||◌, ◌&&◌, List, [], ◌∷◌, ◌++◌, length, take, get_or, map, refl, sym, ap, subst, ◌∙◌, arith, append_assoc, length-append, if◌then◌else◌}
-use Rattle.std.specs.Prelude.{not, ◌==◌, Option, Some, None, Result, Ok, Err, ℤ}
+use Rattle.std.proofs.Common.{◌≡◌, ℕ, zero, suc, ◌+◌, ◌-◌, ◌<◌, Bool, false, ◌||◌, List, [], ◌∷◌, ◌++◌, length, take, map, refl, sym, ap, subst, ◌∙◌, arith, append_assoc, length-append, if◌then◌else◌}
+use Rattle.std.specs.Prelude.{◌==◌, Option, Some, None, Ok}
 use Rattle.std.proofs.lemmas.List.{take-append-le, take_all}
 use Rattle.std.proofs.Math.Seq.{get_or-append_seam}
 use Rattle.std.proofs.lemmas.Bool.{false_from_ne_true}
@@ -8,7 +8,6 @@ use Rattle.std.proofs.lemmas.Bool.Decides.{Decides-eqb}
 use Rattle.lp_model.specs.Edits.{Named}
 use Rattle.cert_check.specs.declared.cert.Claim.{Claim}
 use Rattle.cert_check.specs.declared.cert.Claim.TheVariants.{Optimal, Infeasible}
-use Rattle.cert_check.specs.declared.cert.CertLeaf.{CertLeaf}
 use Rattle.cert_check.specs.declared.cert.CertNode.{CertNode}
 use Rattle.cert_check.specs.declared.cert.CertNode.TheVariants as node
 use Rattle.cert_check.specs.declared.cert.Cert.{Cert}
@@ -16,9 +15,9 @@ use Rattle.cert_check.specs.declared.line.Statement.{Statement}
 use Rattle.cert_check.specs.declared.line.Statement.TheVariants as says
 use Rattle.cert_check.specs.Lines.{lines_of, line_says}
 use Rattle.cert_check.specs.Reading.{after}
-use Rattle.cert_check.specs.Text.{Stated, stated, due_after, is_whole_tree, are_none, lacks_part, node_code, place_code, said_code, code_in, code_at, AreClean, or_no_end, end_code, first_claim, first_point, cert_of, Meant}
+use Rattle.cert_check.specs.Text.{Stated, stated, due_after, is_whole_tree, are_none, lacks_part, code_in, code_at, AreClean, end_code, first_point, cert_of, Meant}
 use Rattle.cert_check.specs.Tree.{CertTree, Leaf, Split, preorder}
-use Rattle.cert_check.specs.Whole.{TakesAll, HasNoPoint, IsCertificate}
+use Rattle.cert_check.specs.Whole.{TakesAll, HasNoPoint}
 use Rattle.cert_check.proofs.DueLemmas.{due_after-split, due_after-leaf}
 use Rattle.cert_check.proofs.TextLemmas.{stated_more, code_here, clean_more}
 

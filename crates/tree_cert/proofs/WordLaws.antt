@@ -1,19 +1,18 @@
 -- Words: what is printed with a blank between words and a newline behind lines is cut where it was joined.
-use Rattle.std.proofs.Common.{◌≡◌, ℕ, zero, suc, ◌+◌, ◌-◌, ◌*◌, ◌/◌, ◌%◌, ◌^◌, ◌<◌, ◌≤◌, Bool, true, false, ◌||◌, ◌&&◌, List, [], ◌∷◌, ◌++◌, length, get_or, map, refl, sym, ap, subst, ◌∙◌, arith, append_assoc, length-append, if◌then◌else◌}
+use Rattle.std.proofs.Common.{◌≡◌, ℕ, suc, ◌+◌, ◌-◌, ◌%◌, ◌^◌, ◌<◌, ◌≤◌, Bool, true, false, ◌&&◌, List, [], ◌∷◌, ◌++◌, length, get_or, map, refl, sym, ap, subst, ◌∙◌, arith, length-append, if◌then◌else◌}
 use Rattle.std.specs.Prelude.{All, not, pos, negsuc, unsigned_abs, ◌==◌, nat_le}
 use Rattle.std.specs.List.{list_all, filter, slice_split}
 use Rattle.std.specs.Fmt.{decimal, signed_decimal}
 use Rattle.std.proofs.lemmas.Bool.Decides.{nat_tests, Decides-eqb}
 use Rattle.std.proofs.lemmas.Fmt.{decimal_by_steps_wide}
-use Rattle.std.proofs.lemmas.List.{get_or_append_left}
 use Rattle.std.proofs.lemmas.List.Elements.{All-nil, All-cons, All-head, All-tail, All-append}
 use Rattle.std.proofs.lemmas.List.Splits.{slice_split_none, slice_split_at}
 use Rattle.std.proofs.Math.Seq.{get_or-append-add}
 use Rattle.rational.specs.Rational.{ℚ, den, IsWhole}
-use Rattle.frac128.specs.Range.{Fits, IsNarrow, largest}
+use Rattle.frac128.specs.Range.{Fits, IsNarrow}
 use Rattle.frac128.specs.Printing.{printed}
 use Rattle.frac128.proofs.Printed.{printed-whole, printed-fraction}
-use Rattle.cert_check.specs.Lines.{is_newline, is_blank, is_nothing, is_piece, without_last, lines_of, words_of, begins_blank, ends_blank, words_say, line_says}
+use Rattle.cert_check.specs.Lines.{is_newline, is_blank, is_piece, without_last, lines_of, words_of, ends_blank, words_say, line_says}
 use Rattle.tree_cert.specs.CertText.{Words, spaced, line_text, lines_text, IsWord}
 
 abbrev pub OneLine : List ℕ → Type 0

@@ -1,7 +1,7 @@
 -- The certificate of a search that is finished, exactly.
 --     IsCertificateOf S cert     its claim and its point are the incumbent's, and its tree is the search's tree, split by
 --                                split and leaf by leaf, with names in the place of places
-use Rattle.std.specs.Prelude.{◌≡◌, ◌≢◌, ℕ, suc, ◌-◌, if◌then◌else◌, List, [], ◌∷◌, map, ℤ, Option, Some, None}
+use Rattle.std.specs.Prelude.{◌≡◌, ℕ, if◌then◌else◌, List, [], ◌∷◌, map, Option, Some, None}
 use Rattle.rational.specs.Rational.{ℚ}
 use Rattle.lp_model.specs.Program.{Program, Point, value}
 use Rattle.lp_model.specs.Elements.{of_element}

@@ -1,4 +1,26 @@
-//! Certificates of finished searches.
+//! Certificates of finished searches, and their text.
+//!
+//! A search without an open leaf proves its answer, and a certificate writes that proof down, so that it can be checked
+//! without the search. The search's tree in preorder becomes the certificate's:
+//!
+//! ```text
+//! a split on column j at v      split NAME v             NAME is column j's
+//! a closed leaf                 leaf empty               some column has no number between its bounds in the region
+//!                               leaf farkas [row NAME y] else, the leaf's Farkas multipliers, where their number is above 0
+//!                               leaf bound [row NAME y]  else, the leaf's multipliers
+//! the best kept point x         claim optimal V          V is its value, in the model's own sense
+//!                               point [NAME x]           its numbers that are not 0, in the order of the columns
+//! no kept point                 claim infeasible
+//! ```
+//!
+//! Public contract: `certificate` is exactly this of a finished search (`IsCertificateOf` in specs/Certificates), and
+//! `check` accepts it for the search's model: no step lacks room, since each leaf was closed by the same steps.
+//! `print_cert` writes a text that states the certificate, where its names are words (specs/CertText); they are where the
+//! model's are (`names_law`), and in what some text states (`print_law`). So `read_cert` reads back what was printed.
+//!
+//! The walk keeps the path to a node and no stack of its own, and memory is linear in the tree.
+//!
+//! Below stand the search (`tree_edit`) and the checker (`cert_check`). Above stands the command that writes a certificate.
 #![tactic(auto)]
 
 mod laws;

@@ -3,9 +3,7 @@ use crate::{certificate, print_cert};
 use branch_tree::NodeResult;
 use cert_check::{RegionBuf, Verdict, check, read_cert};
 use frac128::Frac;
-use lp_model::{
-    Basis, ColId, Edit, EditFault, List, Model, Mult, Name, Point, RowId, Sense, Var,
-};
+use lp_model::{Basis, ColId, Edit, EditFault, List, Model, Mult, Name, Point, RowId, Sense, Var};
 use std::alloc::{AllocError, Global};
 use std::process::Abort;
 use std::test::Fail;

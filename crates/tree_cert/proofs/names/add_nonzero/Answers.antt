@@ -1,6 +1,5 @@
 use Rattle.std.proofs.Common.{ap, sym, ◌∙◌, [], ◌∷◌, ◌++◌, ◌≡◌, Bool, true, false, rules, if◌then◌else◌, List, ℕ}
-use Rattle.rational.specs.Rational.{ℚ}
-use Rattle.lp_model.specs.Edits.{Named, is_zero}
+use Rattle.lp_model.specs.Edits.{Named}
 use Rattle.tree_cert.proofs.NameLaws.{is_zero_by}
 use Rattle.tree_cert.proofs.names.add_nonzero.Goals as goal
 

@@ -1,8 +1,8 @@
-use Rattle.std.proofs.Common.{ap, ◌∙◌, ◌++◌, ◌∷◌, [], arith}
+use Rattle.std.proofs.Common.{ap, ◌∙◌, ◌++◌, ◌∷◌, []}
 use Rattle.rational.specs.Rational.{ℚ}
 use Rattle.lp_model.specs.declared.types.Var.{Var}
 use Rattle.tree_edit.specs.Lists.{IsRowThere}
-use Rattle.cert_check.proofs.PairLemmas.{pushed_more, pushed_all}
+use Rattle.cert_check.proofs.PairLemmas.{pushed_more}
 use Rattle.tree_cert.specs.Certificates.{row_name}
 use Rattle.tree_cert.proofs.NameLaws.{there_here}
 use Rattle.tree_cert.proofs.names.named_rows.Goals as goal

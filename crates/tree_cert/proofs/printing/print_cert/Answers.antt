@@ -1,7 +1,7 @@
 use Rattle.std.proofs.Common.{◌≡◌, sym, subst, ap, ◌∙◌, map, ◌++◌}
 use Rattle.std.specs.Prelude.{All, codes}
 use Rattle.cert_check.specs.Text.{Meant}
-use Rattle.tree_cert.specs.CertText.{node_words, lines_text, cert_text}
+use Rattle.tree_cert.specs.CertText.{node_words, lines_text}
 use Rattle.tree_cert.specs.Printed.{HasNodeRoom}
 use Rattle.tree_cert.proofs.PutLaws.{text_parts}
 use Rattle.tree_cert.proofs.PrintedLaws.{printed_states}

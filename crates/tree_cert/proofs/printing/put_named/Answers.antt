@@ -1,11 +1,10 @@
 use Rattle.std.proofs.Common.{◌++◌, ◌∷◌, [], List, ℕ, arith}
-use Rattle.std.specs.Prelude.{codes}
 use Rattle.rational.specs.Rational.{ℚ}
 use Rattle.frac128.specs.Range.{Fits}
 use Rattle.frac128.specs.Printing.{printed}
 use Rattle.lp_model.specs.Edits.{Named}
 use Rattle.tree_cert.specs.CertText.{named_words, spaced}
-use Rattle.tree_cert.proofs.PutLaws.{put_next, all_next, all_end, named_step, row_put}
+use Rattle.tree_cert.proofs.PutLaws.{put_next, all_next, all_end, named_step}
 use Rattle.tree_cert.proofs.printing.put_named.Goals as goal
 
 pub loop-name-preserved : goal.loop-name-preserved

@@ -1,0 +1,99 @@
+-- A certificate that is rejected is not accepted by the definition: what was found wrong of it is so.
+use Rattle.std.specs.Prelude.{◌≡◌, ℕ, ◌<◌, true, false, IsTrue, List, [], ◌∷◌, ◌++◌, length, pos, All}
+use Rattle.std.proofs.Common.{refl, sym, ap, subst, ◌∙◌, inl, inr}
+use Rattle.std.proofs.lemmas.List.Elements.{All-nil, All-cons, All-head, All-tail, All-append}
+use Rattle.rational.specs.Rational.{ℚ, int}
+use Rattle.lp_model.specs.Program.{Program, in_least_form, is_integer}
+use Rattle.lp_model.specs.Lawful.{column_names}
+use Rattle.lp_model.specs.Edits.{Named}
+use Rattle.lp_model.specs.Regions.{Path}
+use Rattle.lp_model.proofs.AnswerLemmas.{feasible_answer}
+use Rattle.leaf_dual.specs.Dual.{Reaches, IsPositive, multiplier, least_constant, least_cost, lag}
+use Rattle.leaf_dual.proofs.AnswerLemmas.{dual_answer-is}
+use Rattle.branch_tree.specs.Tree.{IsLawful, EachLeaf, left_path, right_path}
+use Rattle.cert_check.specs.declared.cert.Claim.{Claim}
+use Rattle.cert_check.specs.declared.cert.Claim.TheVariants.{Optimal, Infeasible}
+use Rattle.cert_check.specs.declared.cert.CertLeaf.{CertLeaf}
+use Rattle.cert_check.specs.declared.cert.CertLeaf.TheVariants.{Bound, Farkas, Empty}
+use Rattle.cert_check.specs.declared.cert.CertNode.{CertNode}
+use Rattle.cert_check.specs.declared.cert.CertNode.TheVariants as node
+use Rattle.cert_check.specs.declared.cert.Cert.{Cert}
+use Rattle.cert_check.specs.declared.verdict.Judgement.TheVariants.{Breaks}
+use Rattle.cert_check.specs.declared.verdict.Verdict.TheVariants.{Rejected}
+use Rattle.cert_check.specs.Tree.{CertTree, Leaf, Split, place_among, placed}
+use Rattle.cert_check.specs.Accepted.{multipliers, point_of, ReachesValue, Closes, HasPoint, Accepts}
+use Rattle.cert_check.specs.Verdict.{IsNumberJudged, IsLeafJudged, IsNodeJudged, IsClaimJudged, visits, IsFirst, IsVerdict}
+use Rattle.cert_check.proofs.PlaceLemmas.{column_known}
+use Rattle.cert_check.proofs.OneVerdict.{tree_one}
+
+-- ---- leaves
+
+module _ (M : Program) (claim : Claim) (path : Path) where
+  number-true : (v : ℚ) (named : Named) (why : ℕ) → ReachesValue M path named (in_least_form M.sense v) → IsNumberJudged M (Optimal v) path (multipliers M named) (Breaks why) → ⊥
+  number-true v named why reaches (q, (answer, (none, seven))) =
+      let t = in_least_form M.sense v in
+      let same : lag M path (multipliers M named) ≡ q = sym (dual_answer-is M path (multiplier (multipliers M named)) (least_cost M) (least_constant M) q answer) in
+      none (
+      elim reaches [
+        | inl plain ↦ inl (subst (λ n. Reaches n t false) same plain)
+        | inr rounded ↦ inr (rounded.0, subst (λ n. Reaches n t true) same rounded.1)
+      ]
+      )
+
+  bound-true : (c : Claim) (named : Named) (why : ℕ) → Closes M c path (Bound named) → IsLeafJudged M c path (Bound named) (Breaks why) → ⊥
+  bound-true (Optimal v) named why closes (inl judged) = number-true v named why closes.1 judged.1
+  bound-true Infeasible named why closes judged = closes.1
+  bound-true (Optimal v) named why closes (inr judged) = judged.0 closes.0
+
+  leaf-true : (leaf : CertLeaf) (why : ℕ) → Closes M claim path leaf → IsLeafJudged M claim path leaf (Breaks why) → ⊥
+  leaf-true (Bound named) why closes judged = bound-true claim named why closes judged
+  leaf-true (Farkas named) why closes (inl (names, (q, (answer, (none, seven))))) =
+      none (subst IsPositive (sym (dual_answer-is M path (multiplier (multipliers M named)) (λ j. int (pos 0)) (int (pos 0)) q answer)) closes.1)
+  leaf-true (Farkas named) why closes (inr judged) = judged.0 closes.0
+  leaf-true Empty why closes judged = judged.0 closes
+
+-- ---- nodes
+
+module _ (M : Program) (claim : Claim) where
+  -- the split is on an integer column, the leaf closes
+  abbrev IsTrueNode : Path × CertNode → Type 0
+  IsTrueNode (path, node.Split col v) = (place_among (column_names M) col < length M.cols) × IsTrue (is_integer M (place_among (column_names M) col))
+  IsTrueNode (path, node.Leaf leaf) = Closes M claim path leaf
+
+  node-true : (path : Path) (n : CertNode) (why : ℕ) → IsTrueNode (path, n) → IsNodeJudged M claim path n (Breaks why) → ⊥
+  node-true path (node.Split col v) why here (inl judged) = judged.1.0 here.1
+  node-true path (node.Split col v) why here (inr judged) = judged.0 (column_known M col (place_among (column_names M) col) (here.0, refl))
+  node-true path (node.Leaf leaf) why here judged = leaf-true M claim path leaf why here judged
+
+  tree-true : (path : Path) (tree : CertTree) → IsLawful M (placed M tree) → EachLeaf (Closes M claim) path (placed M tree) → All IsTrueNode (visits M path tree)
+  tree-true path (Leaf leaf) lawful closes = All-cons IsTrueNode (path, node.Leaf leaf) [] closes (All-nil IsTrueNode)
+  tree-true path (Split col v left right) lawful closes =
+      let j = place_among (column_names M) col in
+      All-cons IsTrueNode (path, node.Split col v) (visits M (left_path path j v) left ++ visits M (right_path path j v) right) lawful.0
+      (All-append IsTrueNode (visits M (left_path path j v) left) (visits M (right_path path j v) right) (tree-true (left_path path j v) left lawful.1.0 closes.0) (tree-true (right_path path j v) right lawful.1.1 closes.1))
+
+-- ---- the point
+
+point-true : (M : Program) (claim : Claim) (named : Named) (why : ℕ) → HasPoint M claim named → IsClaimJudged M claim named (Breaks why) → ⊥
+point-true M Infeasible named why has judged = cc
+point-true M (Optimal v) named why has (inr judged) = judged.0 has.names
+point-true M (Optimal v) named why has (inl (names, inl wrong)) = let f : false ≡ true = (feasible_answer M (point_of M named) false wrong.0).1 has.feasible in cc
+point-true M (Optimal v) named why has (inl (names, inr wrong)) = wrong.1.1.1.0 (wrong.1.1.0.1 ∙ has.is)
+
+-- ---- certificates
+
+among : {A : Type 0} (P : A → Type 0) (before : List A) (x : A) (behind : List A) → All P (before ++ x ∷ behind) → P x
+among P [] x behind all = All-head P x behind all
+among P (y ∷ before) x behind all = among P before x behind (All-tail P y (before ++ x ∷ behind) all)
+
+first-true : (M : Program) (cert : Cert) (accepts : Accepts M cert) (n why : ℕ) → IsFirst M cert accepts.tree n (Breaks why) → ⊥
+first-true M cert accepts n why (inl claim) = point-true M cert.claim cert.point why accepts.point claim.1
+first-true M cert accepts n why (inr node) =
+    let at = node.1 in
+    let here = among (IsTrueNode M cert.claim) at.before at.visit at.behind (subst (All (IsTrueNode M cert.claim)) at.parts (tree-true M cert.claim [] accepts.tree accepts.splits accepts.leaves)) in
+    node-true M cert.claim at.visit.0 at.visit.1 why here at.judged
+
+pub not_accepted : (M : Program) (cert : Cert) (n why : ℕ) → IsVerdict M cert (Rejected n why) → Accepts M cert → ⊥
+not_accepted M cert n why verdict accepts =
+    let same = tree_one verdict.tree accepts.tree [] [] (ap (λ ns. ns ++ []) (verdict.nodes ∙ sym accepts.nodes)) in
+    first-true M cert accepts n why (subst (λ t. IsFirst M cert t n (Breaks why)) same.0 verdict.is)
