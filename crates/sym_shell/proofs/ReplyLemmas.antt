@@ -139,6 +139,6 @@ search_shown M S limit outcome held old new (Ok done) lawful plain integral s en
             (shown s.fresh S limit lawful plain (subst (λ N. IsFresh N node_limit s.fresh) (sym same) s.begins) s.sound integral outcome old new empty s.finds h))
 search_shown M S limit outcome held old new (Err e) lawful plain integral s ended empty h = tt
 
-pub none_shown : {E P : Type 0} (r : Result (Unit {0}) E) → is_err r ≡ true → OnOk r P
-none_shown (Ok done) h = absurd (cc)
-none_shown (Err e) h = tt
+pub none_shown : {E : Type 0} (P : Type 0) (r : Result (Unit {0}) E) → is_err r ≡ true → OnOk r P
+none_shown P (Ok done) h = absurd (cc)
+none_shown P (Err e) h = tt
