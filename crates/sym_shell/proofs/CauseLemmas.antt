@@ -1,5 +1,5 @@
 -- Each reply has its exact cause.
-use Rattle.std.proofs.Common.{◌≡◌, ◌≢◌, ◌⊎◌, ℕ, ◌≤◌, List, [], ◌∷◌, ◌++◌, refl, sym, subst, ap, inl, inr, arith, ◌∙◌, Option, Some, None, Err}
+use Rattle.std.proofs.Common.{◌≡◌, ◌≢◌, ◌⊎◌, ℕ, ◌≤◌, List, [], ◌++◌, refl, sym, subst, ap, inl, inr, arith, ◌∙◌, Option, Some, None, Err}
 use Rattle.std.specs.Prelude.{codes, decimal, IsSome}
 use Rattle.rational.specs.Rational.{ℚ}
 use Rattle.frac128.specs.Printing.{printed}
@@ -10,15 +10,15 @@ use Rattle.tree_search.specs.Work.{cap_of}
 use Rattle.command_words.specs.Asks.{Asks, Load, Solve, Cert, Quit, Unknown, Misused, NoNumber, asks_of}
 use Rattle.sym_shell.specs.Searched.{node_limit}
 use Rattle.sym_shell.specs.State.{State}
-use Rattle.sym_shell.specs.Texts.{ok_text, unknown_text, arguments_text, number_text, memory_text, column_lines, number_or_none, known_text, path_line, step_line}
-use Rattle.sym_shell.specs.Load.{LoadStep, Loads, LoadRefused, ReadsFile, refusal_text}
+use Rattle.sym_shell.specs.Texts.{ok_text, memory_text, column_lines, known_text, path_line, step_line}
+use Rattle.sym_shell.specs.Load.{LoadStep, ReadsFile, refusal_text}
 use Rattle.sym_shell.specs.Solve.{ShowsOptimum, ShowsEmptiness, Shows, Optimum, Emptiness, NodeStop, TreeStop, WideStop, Wanting, Solves, SolveStep}
 use Rattle.sym_shell.specs.Shown.{point_shown}
 use Rattle.sym_shell.specs.Certify.{Writes, Written, TooLong, Failed, Certifies, CertStep}
 use Rattle.sym_shell.specs.Certify as certify
-use Rattle.sym_shell.specs.Step.{IsRefused, AnswersTo, Step}
+use Rattle.sym_shell.specs.Step.{AnswersTo, Step}
 use Rattle.sym_shell.specs.Kinds.{Kind, Optimal, Infeasible, StoppedNodes, StoppedTree, StoppedWide, Done, UnknownCommand, WrongArguments, NoModel, WrongNumber, NoAnswer, StoreFailed, FileTooLong, FaultyText, WantsMemory, Is, IsError}
-use Rattle.sym_shell.specs.Causes.{Solved, Loaded, Certified, NeedsModel, Refused, CauseOf, HasCauses}
+use Rattle.sym_shell.specs.Causes.{NeedsModel, CauseOf, HasCauses}
 use Rattle.sym_shell.specs.declared.reading.Refusal.{Refusal}
 use Rattle.sym_shell.specs.declared.reading.Refusal.TheVariants as refusal
 use Rattle.sym_shell.proofs.KindLemmas.{one_kind}

@@ -4,12 +4,10 @@ use Rattle.std.specs.Prelude.{IfOk, OnOk, OnErr, is_ok, is_err, if◌then◌else
 use Rattle.std.specs.List.{All}
 use Rattle.std.proofs.lemmas.List.Elements.{All-nil, All-cons, All-head, All-tail}
 use Rattle.lp_model.specs.Program.{Program}
-use Rattle.lp_model.specs.Lawful.{column_names}
 use Rattle.lp_model.specs.declared.types.Col.{Col}
 use Rattle.lp_model.specs.declared.types.Row.{Row}
 use Rattle.mps_model.specs.PlainNames.{IsPlainName, HasPlainNames, HasPlainRows}
 use Rattle.tree_edit.specs.Sound.{PlainSearch, IsSound}
-use Rattle.cert_check.specs.Accepted.{names_of_rows}
 use Rattle.cert_check.specs.Laws.{AcceptedLaw, VerdictLaw}
 use Rattle.cert_check.specs.Text.{Meant}
 use Rattle.cert_check.specs.Verdict.{IsVerdict}

@@ -27,7 +27,7 @@ use Rattle.mps_model.specs.PlainNames.{HasPlainNames}
 use Rattle.sym_shell.specs.Shown.{point_shown, value_shown}
 use Rattle.sym_shell.specs.Texts.{optimal_text, infeasible_text, stopped_nodes_text, stopped_tree_text, stopped_wide_text}
 use Rattle.sym_shell.specs.Reports.{Reports, FitsFinding}
-use Rattle.sym_shell.specs.Searched.{node_limit, Searches, has_ended, Searched, Finished, IsBound, Stops}
+use Rattle.sym_shell.specs.Searched.{node_limit, Searches, has_ended, IsBound, Stops}
 use Rattle.sym_shell.specs.Solve.{Shows, Optimum, Emptiness, NodeStop, TreeStop, WideStop}
 use Rattle.sym_shell.proofs.ShownBack.{point-shown, value-shown}
 
@@ -135,8 +135,8 @@ pub search_shown : {E : Type 0} (M : Program) (S : PlainSearch) (limit : ℕ) (o
 search_shown M S limit outcome held old new (Ok done) lawful plain integral s ended empty h =
     let same : S.model ≡ M = s.finds.goes.model ∙ s.begins.model in
     subst (λ N. Shows N limit new (if held then Some S else None)) same
-        (subst (λ b. Shows S.model limit new (if b then Some S else None)) (sym ended)
-            (shown s.fresh S limit lawful plain (subst (λ N. IsFresh N node_limit s.fresh) (sym same) s.begins) s.sound integral outcome old new empty s.finds h))
+    (subst (λ b. Shows S.model limit new (if b then Some S else None)) (sym ended)
+    (shown s.fresh S limit lawful plain (subst (λ N. IsFresh N node_limit s.fresh) (sym same) s.begins) s.sound integral outcome old new empty s.finds h))
 search_shown M S limit outcome held old new (Err e) lawful plain integral s ended empty h = tt
 
 pub none_shown : {E : Type 0} (P : Type 0) (r : Result (Unit {0}) E) → is_err r ≡ true → OnOk r P

@@ -1,5 +1,5 @@
 -- What `check MODEL CERT` prints.
-use Rattle.std.specs.Prelude.{◌≡◌, ◌⊎◌, ℕ, Bool, true, false, ◌&&◌, if◌then◌else◌, List, [], ◌++◌, codes, decimal, length, Option, None, Result, Ok, Err, ◌==◌}
+use Rattle.std.specs.Prelude.{◌≡◌, ◌⊎◌, ℕ, Bool, true, false, ◌&&◌, if◌then◌else◌, List, ◌++◌, codes, decimal, Option, None, Result, Ok, Err, ◌==◌}
 use Rattle.std.specs.List.{starts_with}
 use Rattle.rational.specs.Rational.{ℚ}
 use Rattle.frac128.specs.Printing.{printed}

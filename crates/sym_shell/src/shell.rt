@@ -42,12 +42,7 @@ impl Shell {
     }
 
     /// Replaces the model, of whose search no answer is held yet.
-    fn keep(
-        &mut self,
-        alloc: Global,
-        model: Model,
-        reply: &mut Vec<u8>,
-    ) -> Result<(), AllocError>
+    fn keep(&mut self, alloc: Global, model: Model, reply: &mut Vec<u8>) -> Result<(), AllocError>
         requires bounded { is_bounded model ≡ true }
         requires plain { HasPlainNames model }
         requires plain_rows { HasPlainRows model }

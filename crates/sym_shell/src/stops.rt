@@ -231,7 +231,11 @@ fn write_term(reply: &mut Vec<u8>, model: &Model, of: &Var) -> Result<(), AllocE
     Ok(())
 }
 
-pub(crate) fn write_place(reply: &mut Vec<u8>, model: &Model, step: &WideStep) -> Result<(), AllocError>
+pub(crate) fn write_place(
+    reply: &mut Vec<u8>,
+    model: &Model,
+    step: &WideStep,
+) -> Result<(), AllocError>
     ensures { IfOk result (λ _. reply.new.items ≡ reply.old.items ++ step_text model.now step.now) }
 {
     match step {

@@ -39,13 +39,43 @@ const CHECKS: [(&str, &[u8], &[u8], u8); 20] = [
         0,
     ),
     // a claim that no point is feasible closes no leaf by a bound, nor by an empty region that is not empty
-    ("E1", b"cert 1\nclaim infeasible\nleaf bound\nend\n", b"rejected 1 7\n", 1),
-    ("E1", b"cert 1\nclaim infeasible\nleaf empty\nend\n", b"rejected 1 7\n", 1),
+    (
+        "E1",
+        b"cert 1\nclaim infeasible\nleaf bound\nend\n",
+        b"rejected 1 7\n",
+        1,
+    ),
+    (
+        "E1",
+        b"cert 1\nclaim infeasible\nleaf empty\nend\n",
+        b"rejected 1 7\n",
+        1,
+    ),
     // points: unknown and twice named columns, one that breaks a row, one of another value
-    ("K", b"cert 1\nclaim optimal -9\npoint Q 1\nleaf bound\nend\n", b"rejected 0 1\n", 1),
-    ("K", b"cert 1\nclaim optimal -9\npoint X 1 X 1\nleaf bound\nend\n", b"rejected 0 1\n", 1),
-    ("K", b"cert 1\nclaim optimal -12\npoint X 1 Y 1 Z 1\nleaf bound\nend\n", b"rejected 0 2\n", 1),
-    ("K", b"cert 1\nclaim optimal -12\npoint X 1 Y 1\nleaf bound\nend\n", b"rejected 0 3\n", 1),
+    (
+        "K",
+        b"cert 1\nclaim optimal -9\npoint Q 1\nleaf bound\nend\n",
+        b"rejected 0 1\n",
+        1,
+    ),
+    (
+        "K",
+        b"cert 1\nclaim optimal -9\npoint X 1 X 1\nleaf bound\nend\n",
+        b"rejected 0 1\n",
+        1,
+    ),
+    (
+        "K",
+        b"cert 1\nclaim optimal -12\npoint X 1 Y 1 Z 1\nleaf bound\nend\n",
+        b"rejected 0 2\n",
+        1,
+    ),
+    (
+        "K",
+        b"cert 1\nclaim optimal -12\npoint X 1 Y 1\nleaf bound\nend\n",
+        b"rejected 0 3\n",
+        1,
+    ),
     // nodes: an unknown column, an unknown row
     (
         "H",
@@ -53,7 +83,12 @@ const CHECKS: [(&str, &[u8], &[u8], u8); 20] = [
         b"rejected 1 1\n",
         1,
     ),
-    ("H", b"cert 1\nclaim infeasible\nleaf farkas row Q 1\nend\n", b"rejected 1 1\n", 1),
+    (
+        "H",
+        b"cert 1\nclaim infeasible\nleaf farkas row Q 1\nend\n",
+        b"rejected 1 1\n",
+        1,
+    ),
     // the second child is not that of the first one's bound
     (
         "H",
@@ -63,9 +98,24 @@ const CHECKS: [(&str, &[u8], &[u8], u8); 20] = [
     ),
     // texts
     ("H", b"", b"error 32 cert line 1 code 1\n", 1),
-    ("H", b"cert 1\nclaim infeasible\nleaf empty\n", b"error 32 cert line 4 code 8\n", 1),
-    ("H", b"cert 1\nclaim infeasible\nsplit X 0\nleaf empty\nend\n", b"error 32 cert line 5 code 7\n", 1),
-    ("H", b"cert 1\nclaim unbounded\n", b"error 32 cert line 2 code 3\n", 1),
+    (
+        "H",
+        b"cert 1\nclaim infeasible\nleaf empty\n",
+        b"error 32 cert line 4 code 8\n",
+        1,
+    ),
+    (
+        "H",
+        b"cert 1\nclaim infeasible\nsplit X 0\nleaf empty\nend\n",
+        b"error 32 cert line 5 code 7\n",
+        1,
+    ),
+    (
+        "H",
+        b"cert 1\nclaim unbounded\n",
+        b"error 32 cert line 2 code 3\n",
+        1,
+    ),
     // files
     ("nothing", b"", b"error 20 store\n", 1),
     ("junk", b"", b"error 30 mps line 1 code 1\n", 1),
@@ -134,13 +184,17 @@ const WRITTEN: [(&str, &[u8], Option<&[u8]>); 6] = [
     (
         "K",
         b"accepted optimal -9\n",
-        Some(b"cert 1\nclaim optimal -9\npoint X 1 Y 1\nsplit X 0\nleaf bound\nsplit Y 0\nleaf bound\nsplit Z 0\nleaf bound\nleaf farkas row A -1\nend\n"),
+        Some(
+            b"cert 1\nclaim optimal -9\npoint X 1 Y 1\nsplit X 0\nleaf bound\nsplit Y 0\nleaf bound\nsplit Z 0\nleaf bound\nleaf farkas row A -1\nend\n",
+        ),
     ),
     ("P", b"accepted infeasible\n", None),
     (
         "H",
         b"accepted infeasible\n",
-        Some(b"cert 1\nclaim infeasible\nsplit X 0\nleaf farkas row R 1\nleaf farkas row R -1\nend\n"),
+        Some(
+            b"cert 1\nclaim infeasible\nsplit X 0\nleaf farkas row R 1\nleaf farkas row R -1\nend\n",
+        ),
     ),
     ("Q", b"accepted optimal -1\n", None),
     (
@@ -182,7 +236,10 @@ fn written(rt: HostRuntime) -> Result<(), Fail> {
 const NONE_HELD: [(&[u8], &[u8]); 6] = [
     (b"cert F\n", b"error 04 no model\n"),
     (b"load K\ncert F\n", b"ok\nerror 13 no finished answer\n"),
-    (b"cert\ncert .x\ncert F G\n", b"error 03 arguments\nerror 03 arguments\nerror 03 arguments\n"),
+    (
+        b"cert\ncert .x\ncert F G\n",
+        b"error 03 arguments\nerror 03 arguments\nerror 03 arguments\n",
+    ),
     (
         b"load K\nsolve nodes 0\ncert F\n",
         b"ok\nstopped nodes 0 bound -12 best none\nerror 13 no finished answer\n",
