@@ -95,7 +95,7 @@ const SEARCHES: [(&[u8], &[u8], &[u8], u64); 9] = [
     (
         b"load Q\nsolve\n",
         b"ok\noptimal -1 nodes ",
-        b"\nx Y 1\nend\n",
+        b"\nx X 1\nend\n",
         7,
     ),
     (b"load E0\nsolve\n", b"ok\noptimal 0 nodes ", b"\nend\n", 1),

@@ -1,16 +1,18 @@
 //! The shell: a script's commands, answered over the model that is present.
 //!
 //! `load F [intupper N]` replaces the model by that of a file in the store, `solve [nodes N]` searches the model that is
-//! present, and `quit` ends the script. What a command may be answered, and what it does to the state (the model, the
+//! present, `cert F` writes the certificate of the answer that is held, and `quit` ends the script. What a command may be answered, and what it does to the state (the model, the
 //! files, the store's count of faults), is the relation `Step` of specs/: it fixes each reply's bytes. What a reply says
 //! for sure, and with it the headline, is `HasCauses`: `optimal` shows a feasible point that no feasible point beats,
-//! `infeasible` means that there is none, and no feasible point passes the bound of a search that stopped.
+//! `infeasible` means that there is none, no feasible point passes the bound of a search that stopped, and the certificate
+//! that was written is accepted for the model. `check MODEL CERT` prints the verdict on a certificate's file (`Checks`).
 //!
 //! Contract in one sentence: `run` writes the replies of one `Step` after the other, for all of the script's commands or,
-//! where something failed, for its first ones, and its status says which.
+//! where something failed, for its first ones, or what a check says, and its status says which.
 //!
-//! Below stand `script_session`, which reads the script and knows no command; `command_words`, which says what a line's
-//! words ask for; `mps_model`, which reads models; and `tree_search`, which searches them. Above stands `sym_main`.
+//! Below stand `program_words`, which says what the command line asks for; `script_session`, which reads the script and knows
+//! no command; `command_words`, which says what a line's words ask for; `mps_model`, which reads models; `tree_search`, which
+//! searches them; and `tree_cert` and `cert_check`, which write and check certificates. Above stands `sym_main`.
 #![tactic(auto)]
 
 mod certifying;

@@ -14,8 +14,8 @@
 //! or why it stopped and what is known there. Each stop had its cause from the start (`HasCause` in specs/Causes), so a
 //! search with a limit of `cap`, room in the tree for each split and room for each step goes to the end.
 //!
-//! Below stand the searches (`tree_edit`), the numbers of leaves (`leaf_dual`) and the models (`lp_model`). No command calls
-//! this yet: the shell searches with `box_search`, whose place this is to take.
+//! Below stand the searches (`tree_edit`), the numbers of leaves (`leaf_dual`) and the models (`lp_model`). Above stands the
+//! shell, which answers what this shows.
 #![tactic(auto)]
 
 mod bounds;
