@@ -5,7 +5,7 @@ ghost use Rattle.std.specs.Prelude.{IfOk};
 use crate::{Outcome, StopWhy, cap, is_integral, solve};
 use branch_tree::NodeResult;
 use frac128::Frac;
-use lp_model::{Basis, Bound, ColId, Edit, List, Model, Name, Point, RowId, Sense, WideStep};
+use lp_model::{Basis, Bound, Edit, List, Model, Name, Point, Sense};
 use std::alloc::{AllocError, Global};
 use std::process::Abort;
 use std::test::Fail;
@@ -275,30 +275,6 @@ fn searches(rt: HostRuntime) -> Result<(), Fail> {
         search.set_limit(*nodes);
         let line = answer(&rt, alloc, &mut search, *limit)?;
         assert!(rt; line.as_str() == *wanted, "{model} {nodes} {limit}: {line}");
-    }
-    Ok(())
-}
-
-#[test]
-fn wide_place(rt: HostRuntime) -> Result<(), Fail> {
-    let mut search = wide(&rt, rt.alloc())?;
-    match solve(rt.alloc(), &mut search, 21)? {
-        Outcome::Stopped {
-            why: StopWhy::Wide { path, step },
-            ..
-        } => {
-            assert_eq!(rt; path.as_slice().len(), 3);
-            assert!(rt;
-                matches!(
-                    step,
-                    WideStep::Act {
-                        row: RowId(0),
-                        col: ColId(0)
-                    }
-                )
-            );
-        }
-        _ => assert!(rt; false),
     }
     Ok(())
 }
