@@ -27,8 +27,8 @@ mod laws;
 mod leaf;
 mod names;
 mod printing;
-#[cfg(test)]
-mod tests;
+// (certificates of whole searches are tried where they are written and checked,
+// in `shell_tests`)
 mod walk;
 mod writing;
 
