@@ -1,0 +1,6 @@
+pub mod StepLemmas
+pub mod PivotLemmas
+pub mod InverseLemmas
+pub mod ListLemmas
+pub mod ExchangeLemmas
+pub mod SlackLemmas

@@ -1,0 +1,4 @@
+pub mod Dense
+pub mod FlatSteps
+pub mod Relaxations
+pub mod Variables
