@@ -150,17 +150,17 @@ module _ (n : ℕ) (f g : ℕ → ℕ) (f_once : (s t : ℕ) → s < n → t < n
           not_both_ℚ whole (linear_strict (sum_below n but ∷ []) zero-<ℚ-one (search reads_ℚ depth 9) tt)
 
 -- a list of as many variables as there are rows, each once and each of them basic, names the basic variables
-pub named_from_basic : (p : Relaxation) (list : List ℕ) (d : Table) → IsArranged p d → length list ≡ p.activities
+pub named_from_basic : (n : ℕ) (list : List ℕ) (d : Table) → ((i j : ℕ) → i < n → j < n → d.basic i ≡ d.basic j → i ≡ j) → length list ≡ n
     → ((s t : ℕ) → s < length list → t < length list → listed list s ≡ listed list t → s ≡ t)
-    → ((t : ℕ) → t < length list → Found p.activities d.basic (listed list t)) → IsNamedBy p.activities list d
-named_from_basic p list d is size once names = record {
+    → ((t : ℕ) → t < length list → Found n d.basic (listed list t)) → IsNamedBy n list d
+named_from_basic n list d basic_once size once names = record {
   size = size;
   once = once;
-  basics = λ i q. subst (λ n. Found n (listed list) (d.basic i)) (sym size) (all_found p.activities (listed list) d.basic (λ s t q_s q_t e. once s t (within s q_s) (within t q_t) e) is.basic_once (λ t w. names t (within t w)) i q);
+  basics = λ i q. subst (λ m. Found m (listed list) (d.basic i)) (sym size) (all_found n (listed list) d.basic (λ s t q_s q_t e. once s t (within s q_s) (within t q_t) e) basic_once (λ t w. names t (within t w)) i q);
   names = names;
 }
   where
-    within : (t : ℕ) → t < p.activities → t < length list
+    within : (t : ℕ) → t < n → t < length list
     within t q = omega (arith, q, size)
 
 -- the tables of one list have the same basic variables

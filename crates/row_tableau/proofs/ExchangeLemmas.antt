@@ -1,5 +1,5 @@
 -- What is said of the value of a tableau, from what is said of its fields.
-use Rattle.std.specs.Prelude.{◌≡◌, ◌≢◌, ℕ, ◌+◌, ◌*◌, ◌/◌, ◌%◌, ◌<◌, ◌==◌, List, [], get_or, set, length, pos}
+use Rattle.std.specs.Prelude.{◌≡◌, ℕ, ◌+◌, ◌*◌, ◌/◌, ◌%◌, ◌<◌, ◌==◌, List, [], get_or, set, length, pos}
 use Rattle.std.proofs.Common.{sym, ap, subst, ◌∙◌, arith, ⊎_elim, mul-zero}
 use Rattle.std.proofs.lemmas.Bool.{cases_lt}
 use Rattle.std.proofs.lemmas.Nat.{div-add-mod'}
@@ -8,9 +8,9 @@ use Rattle.std.proofs.lemmas.List.{length-set}
 use Rattle.rational.specs.Rational.{ℚ, int}
 use Rattle.bases.specs.Relaxation.{Table, Agree, pivoted}
 use Rattle.bases.specs.Steps.{StepFits, ExchangeFits, IsFirstWideEntry}
-use Rattle.row_tableau.specs.Dense.{Dense, table_of, entry_at, Leads, IsShaped}
+use Rattle.row_tableau.specs.Dense.{Dense, table_of, entry_at, IsShaped}
 use Rattle.row_tableau.specs.FlatSteps.{FlatFits}
-use Rattle.row_tableau.proofs.PivotLemmas.{all_fit, earlier_fit, entry_fits}
+use Rattle.row_tableau.proofs.PivotLemmas.{earlier_fit}
 use Rattle.row_tableau.proofs.InverseLemmas.{placed', found'}
 
 -- the value of the fields is the value of the tableau

@@ -4,3 +4,5 @@ pub mod InverseLemmas
 pub mod ListLemmas
 pub mod ExchangeLemmas
 pub mod SlackLemmas
+pub mod EntryLemmas
+pub mod BringInLemmas

@@ -1,13 +1,12 @@
 -- The slack basis: its lists, and its table in each kind of relaxation.
-use Rattle.std.specs.Prelude.{◌≡◌, ℕ, ◌+◌, ◌-◌, ◌*◌, ◌/◌, ◌%◌, ◌<◌, ltb, if◌then◌else◌, List, get_or, length, pos}
+use Rattle.std.specs.Prelude.{◌≡◌, ℕ, ◌+◌, ◌-◌, ◌*◌, ◌/◌, ◌%◌, ◌<◌, if◌then◌else◌, List, get_or, length, pos}
 use Rattle.std.proofs.Common.{refl, sym, ap, ap₂, subst, ◌∙◌, arith, ⊎_elim}
 use Rattle.std.proofs.lemmas.Bool.{cases_lt, lt-ltb, le-ltb}
 use Rattle.std.proofs.lemmas.Nat.{div-mul-add, mod-mul-add}
 use Rattle.rational.specs.Rational.{ℚ, int}
 use Rattle.lp_model.specs.Program.{Program, coefficient}
 use Rattle.lp_model.specs.Regions.{Path}
-use Rattle.bases.specs.Relaxation.{Relaxation, Table, IsTable, IsArranged, Agree, slack_table}
-use Rattle.bases.specs.Bases.{IsTableOf}
+use Rattle.bases.specs.Relaxation.{Relaxation, Agree, slack_table}
 use Rattle.bases.proofs.Pivot.{IsTable-slack}
 use Rattle.bases.proofs.Arranged.{IsArranged-slack}
 use Rattle.bases.proofs.OneTable.{IsTableOf-agree, agree_turned}
@@ -46,17 +45,17 @@ of_each_kind CostsZero p t is = record {
   columns = is.columns;
   activities = is.activities;
   is = record {
-      table = record { holds = is.is.table.holds; suffices = is.is.table.suffices };
-      arranged = record { basic_once = is.is.arranged.basic_once; nonbasic_once = is.is.arranged.nonbasic_once; apart = is.is.arranged.apart; sums = is.is.arranged.sums };
-    };
+    table = record { holds = is.is.table.holds; suffices = is.is.table.suffices };
+    arranged = record { basic_once = is.is.arranged.basic_once; nonbasic_once = is.is.arranged.nonbasic_once; apart = is.is.arranged.apart; sums = is.is.arranged.sums };
+  };
 }
 of_each_kind Directions p t is = record {
   columns = is.columns;
   activities = is.activities;
   is = record {
-      table = record { holds = is.is.table.holds; suffices = is.is.table.suffices };
-      arranged = record { basic_once = is.is.arranged.basic_once; nonbasic_once = is.is.arranged.nonbasic_once; apart = is.is.arranged.apart; sums = is.is.arranged.sums };
-    };
+    table = record { holds = is.is.table.holds; suffices = is.is.table.suffices };
+    arranged = record { basic_once = is.is.arranged.basic_once; nonbasic_once = is.is.arranged.nonbasic_once; apart = is.is.arranged.apart; sums = is.is.arranged.sums };
+  };
 }
 
 abbrev pub slack_dense : Program → List ℕ → List ℚ → Dense

@@ -29,6 +29,13 @@ pub record IsTableauOf (p : Relaxation) (t : Dense) : Type 0 where
   pub activities : t.activities ≡ p.activities
   pub is : IsTableOf p (table_of t)
 
+-- the variables that a tableau may have: each is there, none has two rows or places, and an index of 32 bits names it
+pub record IsWellFormed (t : Dense) : Type 0 where
+  pub few : t.columns + t.activities < 2 ^ 32
+  pub cuts_last : t.rows ≤ t.activities
+  pub there : (s : ℕ) → s < t.activities + t.columns → get_or t.variables s 0 < t.activities + t.columns
+  pub once : (r s : ℕ) → r < t.activities + t.columns → s < t.activities + t.columns → get_or t.variables r 0 ≡ get_or t.variables s 0 → r ≡ s
+
 -- each number below n leads by f to one below n, from which g leads back
 pub record Leads (n : ℕ) (f g : ℕ → ℕ) : Type 0 where
   pub within : (k : ℕ) → k < n → f k < n

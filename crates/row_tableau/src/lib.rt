@@ -21,14 +21,17 @@
 //! dual simplex method.
 #![tactic(auto)]
 
-
+mod bring_in;
 mod entries;
+mod pivot;
+mod position;
 mod relax;
 mod slack;
 mod tableau;
 mod variables;
 
-
 pub use entries::WideEntry;
+pub use pivot::WidePivot;
+pub use position::Position;
 pub use relax::{Relax, RelaxKind};
 pub use tableau::Tableau;

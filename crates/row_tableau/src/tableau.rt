@@ -1,10 +1,10 @@
 // The table of a basis.
 ghost use Rattle.std.specs.Prelude.{◌≡◌, ◌≢◌, ◌<◌, ◌≤◌, ◌+◌, ◌*◌, ◌^◌, ℕ, length, get_or, pos, OnOk, OnErr, IfErr, IfOk};
 ghost use Rattle.rational.specs.Rational.{int};
-ghost use Rattle.bases.specs.Relaxation.{Agree, pivoted, slack_table};
+ghost use Rattle.bases.specs.Relaxation.{Relaxation, Agree, pivoted, slack_table};
 ghost use Rattle.bases.specs.Steps.{ExchangeFits, IsFirstWideEntry};
 ghost use Rattle.row_tableau.specs.Relaxations.{plain, relaxation_of};
-ghost use Rattle.row_tableau.specs.Dense.{Dense, table_of, entry_at, IsTableauOf, IsShaped};
+ghost use Rattle.row_tableau.specs.Dense.{Dense, table_of, entry_at, IsTableauOf, IsWellFormed, IsShaped};
 
 use crate::entries::{WideEntry, flat_index, write_exchanged};
 use crate::relax::Relax;
@@ -61,7 +61,7 @@ impl Tableau {
     /// How many columns there are, which is how many places.
     pub fn columns(&self) -> usize
         ensures value { result ≡ self.now.columns }
-        ensures few { self.now.columns + self.now.activities < 2 ^ 32 }
+        ensures lawful { IsWellFormed self.now }
     {
         self.columns
     }
@@ -108,6 +108,16 @@ impl Tableau {
         self.variables[self.activities + place]
     }
 
+    /// The slot of a variable: its row, or its place behind all rows.
+    pub(crate) fn slot(&self, variable: usize) -> usize
+        requires { variable < self.now.columns + self.now.activities }
+        ensures within { result < self.now.activities + self.now.columns }
+        ensures value { get_or self.now.variables result 0 ≡ variable }
+        ensures lawful { IsWellFormed self.now }
+    {
+        self.positions[variable]
+    }
+
     /// Exchanges the basic variable of a row with the variable at a place, or finds the first entry, row by row, whose
     /// step has no room.
     pub fn exchange(&mut self, row: usize, place: usize) -> Result<(), WideEntry>
@@ -118,6 +128,7 @@ impl Tableau {
         ensures rows { self.new.rows ≡ self.old.rows }
         ensures activities { self.new.activities ≡ self.old.activities }
         ensures table { OnOk result (Agree self.old.columns self.old.activities (table_of self.new) (pivoted (table_of self.old) row place)) }
+        ensures basis { OnOk result ((p : Relaxation) → IsTableauOf p self.old → IsTableauOf p self.new) }
         ensures fits { OnOk result (ExchangeFits self.old.columns self.old.activities (table_of self.old) row place) }
         ensures kept { OnErr result (self.new ≡ self.old) }
         ensures wide { IfErr result (λ e. IsFirstWideEntry self.old.columns self.old.activities (table_of self.old) row place e.row e.place) }

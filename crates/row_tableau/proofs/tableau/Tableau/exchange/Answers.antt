@@ -1,6 +1,7 @@
-use Rattle.std.proofs.Common.{arith, sym, ap, subst, ◌∙◌, ◌≡◌, ◌<◌, ◌+◌, length, ℕ}
+use Rattle.std.proofs.Common.{arith, sym, ap, subst, ◌∙◌, ◌≡◌, ◌<◌, ◌+◌, length}
 use Rattle.std.proofs.lemmas.List.{with_items_is}
 use Rattle.row_tableau.specs.Dense.{Dense}
+use Rattle.row_tableau.proofs.EntryLemmas.{tableau_after}
 use Rattle.row_tableau.proofs.PivotLemmas.{all_fit, agree_pivoted, read_number}
 use Rattle.row_tableau.proofs.ExchangeLemmas.{agree_at, fits_at, wide_at, first_wide, shaped_after}
 use Rattle.row_tableau.proofs.tableau.Tableau.exchange.Goals as goal
@@ -45,3 +46,8 @@ returns-in-Err-clause-wide c =
     let self = c.self.inside in
     let v : Dense = record { columns = self.columns; rows = self.rows; activities = self.activities; variables = self.variables.items; entries = self.entries.items } in
     wide_at v c.args.self.now c.self.view_is c.args.row c.args.place _ _ (first_wide v c.args.row c.args.place c.deref.result.now c.deref.ensures.value c.in-Err.at c.in-Err.ensures.within c.in-Err.ensures.earlier c.in-Err.ensures.wide)
+
+pub returns-in-Ok-clause-basis : goal.returns-in-Ok-clause-basis
+returns-in-Ok-clause-basis c = λ p is.
+    let t = c.args.self.now in
+    tableau_after p t _ c.args.row c.args.place c.requires.row c.requires.place c.requires.some (ap (λ d. d.columns) c.self.view_is) (ap (λ d. d.activities) c.self.view_is) (returns-in-Ok-clause-table c) is
