@@ -6,7 +6,7 @@ use Rattle.rational.proofs.RationalRing.{ring, reads_ℚ}
 use Rattle.rational.proofs.RationalOrder.{zero-<ℚ-one, <ℚ_irrefl, linear_strict}
 use Rattle.bases.specs.Relaxation.{Relaxation, slack_table, reduced_cost}
 use Rattle.bases.specs.States.{IsPositive, IsLess, Separates, perturbed, State, IsGood, reduced_parts, key, IsStep, stepped, ratio}
-use Rattle.bases.specs.States.Stand.{Low}
+use Rattle.bases.specs.declared.stand.Stand.TheVariants.{Low}
 use Rattle.bases.proofs.Pivot.{IsTable-slack}
 use Rattle.bases.proofs.Arranged.{IsArranged-slack}
 use Rattle.bases.proofs.Walk.{Separates-perturbed, key_greater}

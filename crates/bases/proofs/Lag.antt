@@ -9,8 +9,9 @@ use Rattle.checked_sum.specs.Sums.{sum_below}
 use Rattle.bases.specs.Relaxation.{Relaxation, Table, Solves, IsTable, IsArranged, assigned, point, reduced_cost, value, multipliers, row_weights, IsLag, IsWithin, left_of}
 use Rattle.bases.specs.Bases.{IsTableOf}
 use Rattle.bases.specs.Laws.{IsFarkas}
-use Rattle.bases.specs.States.{IsPositive, Stand, sign, State, Standing, LawfulAt, IsLawful, reduced_parts, basic_value, IsOutside, MayEnter, farkas_weights}
-use Rattle.bases.specs.States.Stand.{Low, High, Free}
+use Rattle.bases.specs.declared.stand.Stand.{Stand}
+use Rattle.bases.specs.States.{IsPositive, sign, State, Standing, LawfulAt, IsLawful, reduced_parts, basic_value, IsOutside, MayEnter, farkas_weights}
+use Rattle.bases.specs.declared.stand.Stand.TheVariants.{Low, High, Free}
 use Rattle.checked_sum.proofs.SumLaws.{sum_below-≤ℚ, sum_below-same, sum_below-scale}
 use Rattle.bases.proofs.SumBelowLaws.{if_same, if_other, sum_below-zero}
 use Rattle.bases.proofs.Pivot.{unit, sum_unit}

@@ -6,8 +6,9 @@ use Rattle.rational.specs.Rational.{ℚ, int, ◌+ℚ◌, ◌-ℚ◌, ◌*ℚ◌
 use Rattle.rational.proofs.RationalRing.{ring, reads_ℚ}
 use Rattle.rational.proofs.RationalOrder.{≤ℚ_or_>ℚ, ≤ℚ_antisymm, <ℚ_irrefl, not_both_ℚ, <ℚ-sub}
 use Rattle.bases.specs.Relaxation.{Relaxation, reduced_cost}
-use Rattle.bases.specs.States.{IsLess, IsSame, Stand, State, sign, MayEnter, ratio, Enters}
-use Rattle.bases.specs.States.Stand.{Low, High, Free}
+use Rattle.bases.specs.declared.stand.Stand.{Stand}
+use Rattle.bases.specs.States.{IsLess, IsSame, State, sign, MayEnter, ratio, Enters}
+use Rattle.bases.specs.declared.stand.Stand.TheVariants.{Low, High, Free}
 use Rattle.bases.proofs.SumBelowLaws.{sum_below-zero}
 use Rattle.bases.proofs.Parts.{positive_same, less_trans, not_less_self}
 

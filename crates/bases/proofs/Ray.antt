@@ -7,8 +7,9 @@ use Rattle.rational.proofs.RationalRing.{ring, reads_ℚ, zero-+ℚ}
 use Rattle.rational.proofs.RationalOrder.{≤ℚ_or_>ℚ, ≤ℚ_antisymm, <ℚ_irrefl, ≤ℚ_refl, ≤ℚ_of_<ℚ, ≤ℚ_of_≡, add-≤ℚ, linear, zero-≤ℚ-+ℚ, zero-≤ℚ-*ℚ, mul-≤ℚ_nonpositive, zero-<ℚ-one}
 use Rattle.checked_sum.specs.Sums.{sum_below}
 use Rattle.bases.specs.Relaxation.{Relaxation, Table, IsArranged, point, reduced_cost, value, IsWithin, Solves}
-use Rattle.bases.specs.States.{perturbed, IsPositive, IsFree, Separates, Stand, State, Standing, LawfulAt, reduced_parts, IsLawful}
-use Rattle.bases.specs.States.Stand.{Low, High, Free}
+use Rattle.bases.specs.declared.stand.Stand.{Stand}
+use Rattle.bases.specs.States.{perturbed, IsPositive, IsFree, Separates, State, Standing, LawfulAt, reduced_parts, IsLawful}
+use Rattle.bases.specs.declared.stand.Stand.TheVariants.{Low, High, Free}
 use Rattle.bases.specs.Directions.{direction_side, directions, Continues, side_number, model_stand, model_state, IsRay}
 use Rattle.checked_sum.proofs.SumLaws.{sum_below-same, sum_below-scale}
 use Rattle.bases.proofs.SumBelowLaws.{if_same, if_other, sum_below-zero}

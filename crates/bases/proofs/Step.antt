@@ -10,8 +10,9 @@ use Rattle.rational.proofs.Division.{ring_from}
 use Rattle.rational.proofs.Rounding.{*ℚ-inverse}
 use Rattle.checked_sum.specs.Sums.{sum_below}
 use Rattle.bases.specs.Relaxation.{Relaxation, Table, IsArranged, pivoted, reduced_cost}
-use Rattle.bases.specs.States.{IsPositive, IsLess, IsSame, IsFree, Separates, Stand, sign, State, Standing, LawfulAt, reduced_parts, IsLawful, basic_value, key, IsOutside, MayEnter, ratio, Enters, stepped}
-use Rattle.bases.specs.States.Stand.{Low, High, Free}
+use Rattle.bases.specs.declared.stand.Stand.{Stand}
+use Rattle.bases.specs.States.{IsPositive, IsLess, IsSame, IsFree, Separates, sign, State, Standing, LawfulAt, reduced_parts, IsLawful, basic_value, key, IsOutside, MayEnter, ratio, Enters, stepped}
+use Rattle.bases.specs.declared.stand.Stand.TheVariants.{Low, High, Free}
 use Rattle.checked_sum.proofs.SumLaws.{sum_below-same}
 use Rattle.bases.proofs.SumBelowLaws.{if_same, if_other, sum_below-changed}
 use Rattle.bases.proofs.Exchange.{sum_moved}

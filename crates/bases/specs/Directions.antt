@@ -2,8 +2,9 @@
 use Rattle.std.specs.Prelude.{◌≡◌, ◌≢◌, ℕ, ◌+◌, ◌<◌, ◌≤◌, pos, negsuc, Option, Some, None, Bool, ltb, if◌then◌else◌}
 use Rattle.rational.specs.Rational.{ℚ, int, ◌≤ℚ◌, ◌<ℚ◌}
 use Rattle.bases.specs.Relaxation.{Relaxation, Solves, value}
-use Rattle.bases.specs.States.{Stand, State}
-use Rattle.bases.specs.States.Stand.{Low, High, Free}
+use Rattle.bases.specs.declared.stand.Stand.{Stand}
+use Rattle.bases.specs.States.{State}
+use Rattle.bases.specs.declared.stand.Stand.TheVariants.{Low, High, Free}
 
 -- 0 where the variable has that side, and else a bound for a column and none for an activity
 abbrev pub direction_side : Bool → ℚ → Option ℚ → Option ℚ

@@ -2,7 +2,8 @@
 use Rattle.std.specs.Prelude.{◌≡◌, ◌≢◌, ◌⊎◌, ℕ, suc, ◌<◌, ◌≤◌, List, pos}
 use Rattle.rational.specs.Rational.{ℚ, int, ◌≤ℚ◌, ◌<ℚ◌}
 use Rattle.bases.specs.Relaxation.{Relaxation, Table, Solves, IsArranged, pivoted, point, value, multipliers, left_of, IsLag, IsWithin}
-use Rattle.bases.specs.States.{Stand, State, IsFree, perturbed, Separates, Standing, IsLawful, IsGood, key, IsLess, IsOutside, MayEnter, Enters, IsStep, SameState, farkas_weights}
+use Rattle.bases.specs.declared.stand.Stand.{Stand}
+use Rattle.bases.specs.States.{State, IsFree, perturbed, Separates, Standing, IsLawful, IsGood, key, IsLess, IsOutside, MayEnter, Enters, IsStep, SameState, farkas_weights}
 use Rattle.bases.specs.Bases.{IsTableOf, IsNamedBy, IsBasis, IsStuck}
 use Rattle.bases.specs.Directions.{directions, Continues, model_state, IsRay}
 

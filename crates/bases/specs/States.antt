@@ -2,6 +2,8 @@
 use Rattle.std.specs.Prelude.{◌≡◌, ◌≢◌, ◌⊎◌, ℕ, zero, suc, ◌<◌, ◌≤◌, pos, negsuc, Some, None, if◌then◌else◌, ◌==◌, ◌&&◌, is_none}
 use Rattle.rational.specs.Rational.{ℚ, int, ◌-ℚ◌, ◌*ℚ◌, ◌/ℚ◌, neg_ℚ, ◌<ℚ◌}
 use Rattle.checked_sum.specs.Sums.{sum_below}
+use Rattle.bases.specs.declared.stand.Stand.{Stand}
+use Rattle.bases.specs.declared.stand.Stand.TheVariants.{Low, High, Free}
 use Rattle.bases.specs.Relaxation.{Relaxation, Table, IsTable, IsArranged, pivoted, reduced_cost, row_weights}
 
 -- ---- numbers with parts, compared part by part
@@ -35,11 +37,6 @@ pub record Separates (p : Relaxation) (parts : ℕ → ℕ → ℚ) : Type 0 whe
   pub own_alone : (v u : ℕ) → ¬ (IsFree p v) → ¬ (u ≡ v) → parts (own v) u ≡ int (pos 0)
 
 -- ---- states
-
-pub data Stand : Type 0 where
-  Low : Stand
-  High : Stand
-  Free : Stand
 
 abbrev pub sign : Stand → ℚ
 sign Low = int (pos 1)

@@ -26,8 +26,10 @@
 #![tactic(auto)]
 
 mod laws;
+mod stand;
 
 pub use laws::{
     directions_law, entering_law, exchange_law, farkas_law, no_state_twice_law, one_table_law,
     ray_law, separation_law, step_law, strong_duality_law, stuck_law, weak_duality_law,
 };
+pub use stand::Stand;

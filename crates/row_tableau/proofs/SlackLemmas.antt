@@ -24,20 +24,6 @@ turned_back front back s =
     ap (λ b. if b then back + (front + s) else front + s - front) (le-ltb (front + s) front (omega arith))
     ∙ (let e : front + s - front ≡ s = omega arith in e)
 
--- turned one way and the other
-pub leads_turned : (a b : ℕ) (vs ps : List ℕ) → ((s : ℕ) → s < a + b → get_or vs s 0 ≡ turned a b s) → ((v : ℕ) → v < b + a → get_or ps v 0 ≡ turned b a v)
-    → Leads (a + b) (λ s. get_or vs s 0) (λ v. get_or ps v 0)
-leads_turned a b vs ps vs_is ps_is = record { within = λ s q. (both s q).0; back = λ s q. (both s q).1 }
-  where
-    both : (s : ℕ) → s < a + b → (get_or vs s 0 < a + b) × (get_or ps (get_or vs s 0) 0 ≡ s)
-    both s q = ⊎_elim
-        (λ h. let is : get_or vs s 0 ≡ b + s = vs_is s q ∙ turned_front a b s h in
-        (subst (λ v. v < a + b) (sym is) (omega (arith, h)), ap (λ v. get_or ps v 0) is ∙ ps_is (b + s) (omega (arith, h)) ∙ turned_back b a s))
-        (λ h. let k : ℕ = s - a in let e : s ≡ a + k = omega (arith, h) in let k_within : k < b = omega (arith, h, q) in
-        let is : get_or vs s 0 ≡ k = vs_is s q ∙ ap (turned a b) e ∙ turned_back a b k in
-        (subst (λ v. v < a + b) (sym is) (omega (arith, k_within)), ap (λ v. get_or ps v 0) is ∙ ps_is k (omega (arith, k_within)) ∙ turned_front b a k k_within ∙ sym e))
-        (cases_lt s a)
-
 -- the same table is one of each kind
 pub of_each_kind : (kind : RelaxKind) (p : Relaxation) (t : Dense) → IsTableauOf p t → IsTableauOf (of_kind kind p) t
 of_each_kind Plain p t is = is
