@@ -28,7 +28,7 @@ pub data ComparedTo (n : ℕ) (f g : ℕ → ℚ) : Type 0 where
   same_to : ((q : ℕ) → q < n → f q ≡ g q) → ComparedTo n f g
   greater_to : IsLess g f → ComparedTo n f g
 
-first_differs : (n : ℕ) (f g : ℕ → ℚ) → ((q : ℕ) → q < n → f q ≡ g q) → f n <ℚ g n → IsLess f g
+pub first_differs : (n : ℕ) (f g : ℕ → ℚ) → ((q : ℕ) → q < n → f q ≡ g q) → f n <ℚ g n → IsLess f g
 first_differs n f g e h = record {
   first = n;
   before = λ q w. ap (λ x. g q -ℚ x) (e q w) ∙ ring (g q ∷ []) (search reads_ℚ) tt;
@@ -63,7 +63,7 @@ compared n f g f_ends g_ends = by (compared_to n f g)
 
 -- ---- the least of finitely many
 
-less_from_same : (f g h : ℕ → ℚ) → IsLess f g → IsSame g h → IsLess f h
+pub less_from_same : (f g h : ℕ → ℚ) → IsLess f g → IsSame g h → IsLess f h
 less_from_same f g h l e = positive_same _ _ (λ q. ap (λ x. x -ℚ f q) (e q)) l
 
 pub record Least (n : ℕ) (May : ℕ → Type 0) (values : ℕ → ℕ → ℚ) : Type 0 where
@@ -75,58 +75,59 @@ pub record Least (n : ℕ) (May : ℕ → Type 0) (values : ℕ → ℕ → ℚ)
 abbrev pub NoneMay : ℕ → (ℕ → Type 0) → Type 0
 NoneMay n May = (k : ℕ) → k < n → ¬ (May k)
 
+module _ (n : ℕ) (May : ℕ → Type 0) (values : ℕ → ℕ → ℚ) where
+  pub none_more : NoneMay n May → ¬ (May n) → NoneMay (suc n) May
+  none_more none not k q may = ⊎_elim (λ e. not (subst May e may)) (λ e. none k (omega (arith, e, q)) may) (cases_eq k n)
+
+  unfoldable pub least_alone : NoneMay n May → May n → Least (suc n) May values
+  least_alone none may = record {
+    place = n;
+    within = omega arith;
+    may = may;
+    least = λ k q m. ⊎_elim (λ e. inr ((λ r. ap (λ v. values v r) (sym e)), omega (arith, e))) (λ e. absurd (none k (omega (arith, e, q)) m)) (cases_eq k n);
+  }
+
+  unfoldable pub least_kept : Least n May values → ¬ (May n) → Least (suc n) May values
+  least_kept found not = record {
+    place = found.place;
+    within = let w = found.within in omega arith;
+    may = found.may;
+    least = λ k q m. ⊎_elim (λ e. absurd (not (subst May e m))) (λ e. found.least k (omega (arith, e, q)) m) (cases_eq k n);
+  }
+
+  unfoldable pub least_against : (found : Least n May values) → May n → Compared (values found.place) (values n) → Least (suc n) May values
+  least_against found may (less h) = record {
+    place = found.place;
+    within = let w = found.within in omega arith;
+    may = found.may;
+    least = λ k q m. ⊎_elim (λ e. inl (less_from_same _ _ _ h (λ r. ap (λ v. values v r) (sym e)))) (λ e. found.least k (omega (arith, e, q)) m) (cases_eq k n);
+  }
+  least_against found may (same h) = record {
+    place = found.place;
+    within = let w = found.within in omega arith;
+    may = found.may;
+    least = λ k q m. ⊎_elim (λ e. inr ((λ r. h r ∙ ap (λ v. values v r) (sym e)), (let w = found.within in omega (arith, e, w)))) (λ e. found.least k (omega (arith, e, q)) m) (cases_eq k n);
+  }
+  least_against found may (greater h) = record {
+    place = n;
+    within = omega arith;
+    may = may;
+    least = λ k q m. ⊎_elim
+        (λ e. inr ((λ r. ap (λ v. values v r) (sym e)), omega (arith, e)))
+        (λ e. inl (⊎_elim (λ l. less_trans _ _ _ h l) (λ s. less_from_same _ _ _ h s.0) (found.least k (omega (arith, e, q)) m)))
+        (cases_eq k n);
+  }
+
 pub least_or_none : (n : ℕ) (May : ℕ → Type 0) (values : ℕ → ℕ → ℚ) → ((k : ℕ) → May k ⊎ ¬ (May k)) → ((k l : ℕ) → Compared (values k) (values l)) → NoneMay n May ⊎ Least n May values
 least_or_none zero May values decided order = inl (λ k q. absurd (omega (arith, q)))
 least_or_none (suc n) May values decided order = ⊎_elim
-    (λ none. ⊎_elim (λ may. inr (alone none may)) (λ not. inl (still none not)) (decided n))
-    (λ found. ⊎_elim (λ may. inr (against found may (order found.place n))) (λ not. inr (kept found not)) (decided n))
+    (λ none. ⊎_elim (λ may. inr (least_alone n May values none may)) (λ not. inl (none_more n May values none not)) (decided n))
+    (λ found. ⊎_elim (λ may. inr (least_against n May values found may (order found.place n))) (λ not. inr (least_kept n May values found not)) (decided n))
     (least_or_none n May values decided order)
-  where
-    still : NoneMay n May → ¬ (May n) → NoneMay (suc n) May
-    still none not k q may = ⊎_elim (λ e. not (subst May e may)) (λ e. none k (omega (arith, e, q)) may) (cases_eq k n)
-
-    alone : NoneMay n May → May n → Least (suc n) May values
-    alone none may = record {
-      place = n;
-      within = omega arith;
-      may = may;
-      least = λ k q m. ⊎_elim (λ e. inr ((λ r. ap (λ v. values v r) (sym e)), omega (arith, e))) (λ e. absurd (none k (omega (arith, e, q)) m)) (cases_eq k n);
-    }
-
-    kept : Least n May values → ¬ (May n) → Least (suc n) May values
-    kept found not = record {
-      place = found.place;
-      within = let w = found.within in omega arith;
-      may = found.may;
-      least = λ k q m. ⊎_elim (λ e. absurd (not (subst May e m))) (λ e. found.least k (omega (arith, e, q)) m) (cases_eq k n);
-    }
-
-    against : (found : Least n May values) → May n → Compared (values found.place) (values n) → Least (suc n) May values
-    against found may (less h) = record {
-      place = found.place;
-      within = let w = found.within in omega arith;
-      may = found.may;
-      least = λ k q m. ⊎_elim (λ e. inl (less_from_same _ _ _ h (λ r. ap (λ v. values v r) (sym e)))) (λ e. found.least k (omega (arith, e, q)) m) (cases_eq k n);
-    }
-    against found may (same h) = record {
-      place = found.place;
-      within = let w = found.within in omega arith;
-      may = found.may;
-      least = λ k q m. ⊎_elim (λ e. inr ((λ r. h r ∙ ap (λ v. values v r) (sym e)), (let w = found.within in omega (arith, e, w)))) (λ e. found.least k (omega (arith, e, q)) m) (cases_eq k n);
-    }
-    against found may (greater h) = record {
-      place = n;
-      within = omega arith;
-      may = may;
-      least = λ k q m. ⊎_elim
-          (λ e. inr ((λ r. ap (λ v. values v r) (sym e)), omega (arith, e)))
-          (λ e. inl (⊎_elim (λ l. less_trans _ _ _ h l) (λ s. less_from_same _ _ _ h s.0) (found.least k (omega (arith, e, q)) m)))
-          (cases_eq k n);
-    }
 
 -- ---- who enters
 
-positive_decided : (x : ℚ) → (int (pos 0) <ℚ x) ⊎ ¬ (int (pos 0) <ℚ x)
+pub positive_decided : (x : ℚ) → (int (pos 0) <ℚ x) ⊎ ¬ (int (pos 0) <ℚ x)
 positive_decided x = ⊎_elim (λ h. inr (λ k. not_both_ℚ h k)) inl (≤ℚ_or_>ℚ x (int (pos 0)))
 
 nonzero_decided : (t : ℚ) → (t ≢ int (pos 0)) ⊎ ¬ (t ≢ int (pos 0))
@@ -145,7 +146,7 @@ may_decided side Free t = nonzero_decided t
 
 -- with finitely many parts, none may enter or one does by the rule
 module _ (p : Relaxation) (parts : ℕ → ℕ → ℚ) (n : ℕ) (ends : (q v : ℕ) → n ≤ q → parts q v ≡ int (pos 0)) (st : State) (r : ℕ) (side : Stand) where
-  ratio_ends : (k : ℕ) → EndsAt n (ratio p parts st r side k)
+  pub ratio_ends : (k : ℕ) → EndsAt n (ratio p parts st r side k)
   ratio_ends k q w =
       let none : reduced_cost p st.table (parts q) k ≡ int (pos 0) =
       ap₂ ◌+ℚ◌ (ends q (st.table.nonbasic k) w) (sum_below-zero p.activities _ (λ i h. ap (λ t. t *ℚ st.table.entry i k) (ends q (st.table.basic i) w) ∙ ring (st.table.entry i k ∷ []) (search reads_ℚ) tt))

@@ -1,0 +1,5 @@
+pub mod PointLemmas
+pub mod SideLemmas
+pub mod RatioLemmas
+pub mod EnterLemmas
+pub mod MoveLemmas

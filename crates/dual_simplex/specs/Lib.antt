@@ -1,0 +1,4 @@
+pub mod Held
+pub mod Breach
+pub mod Answers
+pub mod Moves
