@@ -75,7 +75,7 @@ outside_gap p st r High b h = linear_strict (b ∷ basic_value p st r ∷ []) h.
 outside_gap p st r Free b h = absurd h
 
 -- whether a variable is counted as one without sides
-abbrev counted : Relaxation → ℕ → ℚ
+abbrev pub counted : Relaxation → ℕ → ℚ
 counted p v = if is_none (p.low v) && is_none (p.high v) then int (pos 1) else int (pos 0)
 
 sided_not_counted : (p : Relaxation) (v : ℕ) → ¬ (IsFree p v) → counted p v ≡ int (pos 0)

@@ -3,3 +3,4 @@ pub mod SideLemmas
 pub mod RatioLemmas
 pub mod EnterLemmas
 pub mod MoveLemmas
+pub mod WalkLemmas

@@ -1,18 +1,20 @@
 -- A move leads from a lawful state to a lawful one.
-use Rattle.std.specs.Prelude.{◌≡◌, ℕ, ◌+◌, ◌<◌, ◌==◌, if◌then◌else◌, List, get_or, set, length, None}
+use Rattle.std.specs.Prelude.{◌≡◌, ℕ, zero, suc, ◌+◌, ◌<◌, ◌==◌, if◌then◌else◌, List, get_or, set, length, None}
 use Rattle.std.proofs.Common.{refl, sym, ap, ap₂, subst, ◌∙◌, ⊎_elim}
 use Rattle.std.proofs.lemmas.Bool.{cases_eq}
 use Rattle.std.proofs.lemmas.List.{get_or-set_same, get_or-set_other, length-set}
-use Rattle.rational.specs.Rational.{ℚ, ◌+ℚ◌, ◌*ℚ◌}
+use Rattle.rational.specs.Rational.{ℚ, ◌+ℚ◌, ◌-ℚ◌, ◌*ℚ◌}
 use Rattle.checked_sum.proofs.SumLaws.{sum_below-same}
 use Rattle.bases.specs.declared.stand.Stand.{Stand}
 use Rattle.bases.specs.declared.stand.Stand.TheVariants.{Low, High, Free}
 use Rattle.bases.specs.Relaxation.{Relaxation, Table, Agree, updated, reduced_cost}
-use Rattle.bases.specs.States.{State, Standing, LawfulAt, Separates, IsGood, IsOutside, IsStep, stepped}
+use Rattle.bases.specs.States.{IsLess, key, State, Standing, LawfulAt, Separates, IsGood, IsOutside, IsStep, stepped}
 use Rattle.bases.specs.Directions.{side_number}
 use Rattle.bases.proofs.SumBelowLaws.{if_same, if_other}
 use Rattle.bases.proofs.OneTable.{IsTable-agree, IsArranged-agree, agree_turned}
-use Rattle.bases.proofs.Walk.{good_step}
+use Rattle.bases.proofs.Walk.{good_step, key_greater}
+use Rattle.bases.proofs.Parts.{positive_same}
+use Rattle.bases.proofs.Step.{counted}
 use Rattle.dual_simplex.specs.Held.{Held, IsKept, relaxation, parts, state, table, variables}
 use Rattle.dual_simplex.specs.Answers.{IsFirstOut}
 use Rattle.dual_simplex.specs.Moves.{IsEntered, IsMove}
@@ -132,3 +134,13 @@ module _ (s after : Held) (kept : IsKept s) (row : ℕ) (side : Stand) (place : 
 
   pub kept_after : IsKept after
   kept_after = subst IsKept moved_is kept_moved
+
+  -- the key is that of the next state
+  key_moved : (n : ℕ) → key p (parts s) next n ≡ key p (parts s) (state moved) n
+  key_moved zero = sum_below-same p.activities _ _ (λ i q. ap (counted p) (sym (move.exchanged.basic i q)))
+  key_moved (suc n) = sum_below-same p.columns _ _ (λ k q. ap₂ ◌*ℚ◌ (reduced_agree p (parts s n) next.table (table after) move.exchanged k q) (same_at k q))
+
+  pub key_after : IsLess (key p (parts s) (state s)) (key p (parts s) (state after))
+  key_after =
+      subst (λ t. IsLess (key p (parts s) (state s)) (key p (parts s) (state t))) moved_is
+      (positive_same _ _ (λ n. ap (λ y. y -ℚ key p (parts s) (state s) n) (key_moved n)) (key_greater p (parts s) kept.separates (state s) next kept.good step))

@@ -22,13 +22,17 @@
 
 mod costs;
 mod entering;
+mod laws;
 mod leaving;
 mod point;
 mod ratio;
 mod sides;
 mod state;
 mod step;
+mod walk;
 
+pub use laws::{blocked_law, move_law, optimal_law};
 pub use leaving::Leaving;
 pub use state::{LpState, LpStep};
 pub use step::Step;
+pub use walk::Walk;

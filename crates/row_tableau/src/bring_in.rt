@@ -1,13 +1,11 @@
 // Bringing a list of variables in.
-ghost use Rattle.std.specs.Prelude.{◌≡◌, ◌↔◌, ◌<◌, ◌≤◌, ◌+◌, ℕ, IsTrue, pos};
-ghost use Rattle.rational.specs.Rational.{int};
+ghost use Rattle.std.specs.Prelude.{◌≡◌, ◌↔◌, ◌<◌, ◌≤◌, ◌+◌, ℕ, IsTrue};
 ghost use Rattle.bases.specs.Relaxation.{Relaxation};
 ghost use Rattle.bases.specs.Bases.{MayLeave, IsOnWay};
 
 use crate::pivot::WidePivot;
 use crate::position::Position;
 use crate::tableau::Tableau;
-use frac128::Frac;
 use lp_model::{Basis, Var};
 
 impl Tableau {
@@ -39,7 +37,7 @@ impl Tableau {
         requires place { place < self.now.columns }
         ensures { IsTrue result ↔ MayLeave (numbers self.now list.now) (table_of self.now) place row }
     {
-        !is_zero(&self.entry(row, place)) && !self.lists(list, self.basic(row))
+        !self.entry(row, place).is_zero() && !self.lists(list, self.basic(row))
     }
 
     /// Of the rows before this one that may leave, the one whose basic variable comes first, and this one with them.
@@ -142,12 +140,4 @@ impl Tableau {
     {
         self.bring_list_in(basis.basic.as_slice())
     }
-}
-
-/// Whether the number is 0.
-#[tactic(auto, using(rational::proofs::Comparison::comparisons))]
-fn is_zero(number: &Frac) -> bool
-    ensures { IsTrue result ↔ number.now ≡ int (pos 0) }
-{
-    *number == Frac::whole(0)
 }
