@@ -26,7 +26,7 @@ IsSide Low = Unit {0}
 IsSide High = Unit {0}
 IsSide Free = ⊥
 
-sign_squared : (side : Stand) → IsSide side → sign side *ℚ sign side ≡ int (pos 1)
+pub sign_squared : (side : Stand) → IsSide side → sign side *ℚ sign side ≡ int (pos 1)
 sign_squared Low h = ring [] (search reads_ℚ) tt
 sign_squared High h = ring [] (search reads_ℚ) tt
 sign_squared Free h = absurd h

@@ -4,3 +4,6 @@ pub mod RatioLemmas
 pub mod EnterLemmas
 pub mod MoveLemmas
 pub mod WalkLemmas
+pub mod SideListLemmas
+pub mod SlackLemmas
+pub mod SlackStartLemmas

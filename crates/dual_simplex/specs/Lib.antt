@@ -4,3 +4,4 @@ pub mod Answers
 pub mod Moves
 pub mod Walks
 pub mod Laws
+pub mod Slack

@@ -27,6 +27,8 @@ mod leaving;
 mod point;
 mod ratio;
 mod sides;
+mod sides_of;
+mod slack;
 mod state;
 mod step;
 mod walk;

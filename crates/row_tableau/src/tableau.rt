@@ -37,7 +37,9 @@ impl std::marker::Model for Tableau {
 impl Tableau {
     /// The table of the slack basis: the activities are basic, in order, and the entries are the coefficients.
     pub fn slack_start(alloc: Global, relax: &Relax<'_>) -> Result<Tableau, AllocError>
+        ensures columns { IfOk result (λ t. t.columns ≡ length relax.now.model.now.cols) }
         ensures rows { IfOk result (λ t. t.rows ≡ length relax.now.model.now.rows) }
+        ensures activities { IfOk result (λ t. t.activities ≡ length relax.now.model.now.rows) }
         ensures table { IfOk result (IsTableauOf (relaxation_of relax.now)) }
         ensures slack { IfOk result (λ t. Agree (length relax.now.model.now.cols) (length relax.now.model.now.rows) (table_of t) (slack_table (plain relax.now.model.now relax.now.region.now))) }
     {
