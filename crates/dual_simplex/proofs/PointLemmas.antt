@@ -1,15 +1,15 @@
 -- Sums over all variables at a state are sums over rows or places.
-use Rattle.std.specs.Prelude.{◌≡◌, ℕ, ◌<◌, [], ◌∷◌, pos, Ok, Err}
+use Rattle.std.specs.Prelude.{◌≡◌, ℕ, ◌<◌, [], ◌∷◌, pos, Ok, Err, if◌then◌else◌, ◌==◌}
 use Rattle.std.proofs.Common.{refl, sym, ap, ap₂, subst, ◌∙◌}
-use Rattle.rational.specs.Rational.{ℚ, int, ◌+ℚ◌, ◌*ℚ◌}
+use Rattle.rational.specs.Rational.{ℚ, int, ◌+ℚ◌, ◌*ℚ◌, neg_ℚ}
 use Rattle.rational.proofs.RationalRing.{ring, reads_ℚ}
 use Rattle.checked_sum.specs.Sums.{sum_below}
 use Rattle.checked_sum.specs.Steps.{StepFitsAt, IsCheckedSum}
 use Rattle.checked_sum.proofs.SumLaws.{sum_below-same}
-use Rattle.bases.specs.Relaxation.{IsArranged, reduced_cost}
+use Rattle.bases.specs.Relaxation.{IsArranged, reduced_cost, point, multipliers, row_weights}
 use Rattle.bases.specs.States.{basic_value}
 use Rattle.bases.specs.Steps.{nothing, at_nonbasic, at_basic, PointFits, CostFits}
-use Rattle.bases.proofs.SumBelowLaws.{sum_below-zero}
+use Rattle.bases.proofs.SumBelowLaws.{sum_below-zero, if_same, if_other}
 use Rattle.bases.proofs.Arranged.{assigned-basic, assigned-nonbasic}
 use Rattle.dual_simplex.specs.Held.{Held, IsKept, relaxation, state, table, variables}
 use Rattle.dual_simplex.specs.Answers.{IsWidePoint, IsWideCost}
@@ -93,3 +93,31 @@ module _ (s : Held) (kept : IsKept s) where
     wide = λ fits. h.1.0.here (subst (λ z. StepFitsAt z (relaxation s).cost (at_basic (relaxation s) (table s) (λ i. (table s).entry i place)) h.0) (sym own)
         (subst (CostFits (relaxation s) (table s) (relaxation s).cost place) (b_is ∙ h.1.1) fits));
   }
+
+  -- ---- the point and the multipliers, variable by variable
+
+  pub point_basic : (v row : ℕ) → row < s.tableau.activities → (table s).basic row ≡ v → basic_value (relaxation s) (state s) row ≡ point (relaxation s) (table s) (state s).at v
+  point_basic v row within e = sym (ap (point (relaxation s) (table s) (state s).at) (sym e) ∙ assigned-basic (relaxation s) (table s) arranged _ (state s).at row within)
+
+  pub point_nonbasic : (v k : ℕ) → k < s.tableau.columns → (table s).nonbasic k ≡ v → (state s).at k ≡ point (relaxation s) (table s) (state s).at v
+  point_nonbasic v k within e = sym (ap (point (relaxation s) (table s) (state s).at) (sym e) ∙ assigned-nonbasic (relaxation s) (table s) arranged _ (state s).at k within)
+
+  pub multiplier_basic : (v row : ℕ) → row < s.tableau.activities → (table s).basic row ≡ v → int (pos 0) ≡ multipliers (relaxation s) (table s) (relaxation s).cost v
+  multiplier_basic v row within e =
+      sym (ap (multipliers (relaxation s) (table s) (relaxation s).cost) (sym e) ∙ assigned-basic (relaxation s) (table s) arranged _ (reduced_cost (relaxation s) (table s) (relaxation s).cost) row within)
+
+  pub multiplier_nonbasic : (v k : ℕ) → k < s.tableau.columns → (table s).nonbasic k ≡ v → reduced_cost (relaxation s) (table s) (relaxation s).cost k ≡ multipliers (relaxation s) (table s) (relaxation s).cost v
+  multiplier_nonbasic v k within e =
+      sym (ap (multipliers (relaxation s) (table s) (relaxation s).cost) (sym e) ∙ assigned-nonbasic (relaxation s) (table s) arranged _ (reduced_cost (relaxation s) (table s) (relaxation s).cost) k within)
+
+  pub weight_leaving : (r v i : ℕ) → i ≡ r → i < s.tableau.activities → (table s).basic i ≡ v → int (pos 1) ≡ row_weights (relaxation s) (table s) r v
+  weight_leaving r v i same within e =
+      sym (ap (row_weights (relaxation s) (table s) r) (sym e) ∙ assigned-basic (relaxation s) (table s) arranged _ (λ k. neg_ℚ ((table s).entry r k)) i within
+      ∙ ap (λ j. if j == r then int (pos 1) else int (pos 0)) same ∙ if_same r (int (pos 1)) (int (pos 0)))
+
+  pub weight_basic : (r v i : ℕ) → ¬ (i ≡ r) → i < s.tableau.activities → (table s).basic i ≡ v → int (pos 0) ≡ row_weights (relaxation s) (table s) r v
+  weight_basic r v i other within e =
+      sym (ap (row_weights (relaxation s) (table s) r) (sym e) ∙ assigned-basic (relaxation s) (table s) arranged _ (λ k. neg_ℚ ((table s).entry r k)) i within ∙ if_other i r (int (pos 1)) (int (pos 0)) other)
+
+  pub weight_nonbasic : (r v k : ℕ) → k < s.tableau.columns → (table s).nonbasic k ≡ v → neg_ℚ ((table s).entry r k) ≡ row_weights (relaxation s) (table s) r v
+  weight_nonbasic r v k within e = sym (ap (row_weights (relaxation s) (table s) r) (sym e) ∙ assigned-nonbasic (relaxation s) (table s) arranged _ (λ l. neg_ℚ ((table s).entry r l)) k within)

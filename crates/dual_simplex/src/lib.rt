@@ -24,6 +24,7 @@ mod costs;
 mod entering;
 mod laws;
 mod leaving;
+mod numbers;
 mod point;
 mod ratio;
 mod sides;
