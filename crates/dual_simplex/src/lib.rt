@@ -17,7 +17,8 @@
 //!
 //! Public contract: `step` answers Optimal exactly where no basic variable is outside a side, Infeasible exactly where
 //! one is and none may enter, and else makes the step that `bases` defines, or names a step of arithmetic without room
-//! and changes nothing. Below stand `row_tableau` and `bases`; above, the search.
+//! and changes nothing. `walk` makes steps up to a limit; `slack` is a lawful state to begin at, where there is one.
+//! Below stand `row_tableau` and `bases`; above, the search.
 #![tactic(auto)]
 
 mod costs;

@@ -55,7 +55,7 @@ impl LpState<'_> {
     ghost use Rattle.dual_simplex.specs.Answers.{IsNumber};
 
     /// How many variables there are.
-    pub(crate) fn variables(&self) -> usize
+    pub fn variables(&self) -> usize
         ensures { result ≡ variables self.now }
     {
         self.tableau.columns() + self.tableau.activities()
