@@ -144,3 +144,9 @@ module _ (s after : Held) (kept : IsKept s) (row : ℕ) (side : Stand) (place : 
   key_after =
       subst (λ t. IsLess (key p (parts s) (state s)) (key p (parts s) (state t))) moved_is
       (positive_same _ _ (λ n. ap (λ y. y -ℚ key p (parts s) (state s) n) (key_moved n)) (key_greater p (parts s) kept.separates (state s) next kept.good step))
+
+  pub relaxation_after : p ≡ relaxation after
+  relaxation_after = same_relaxation ∙ ap relaxation moved_is
+
+  pub parts_after : parts s ≡ parts after
+  parts_after = ap parts moved_is

@@ -1,5 +1,5 @@
 -- Moves one after the other, and what their ends mean.
-use Rattle.std.specs.Prelude.{◌≡◌, ℕ, suc, ◌+◌, ◌<◌, is_none, Option, Some, None}
+use Rattle.std.specs.Prelude.{◌≡◌, ℕ, zero, suc, ◌+◌, ◌<◌, is_none, Option, Some, None}
 use Rattle.std.proofs.Common.{sym, ap, subst, ◌∙◌, arith, ⊎_elim}
 use Rattle.std.proofs.lemmas.Bool.{false≢true}
 use Rattle.rational.specs.Rational.{ℚ, ◌≤ℚ◌}
@@ -16,10 +16,36 @@ use Rattle.dual_simplex.specs.Held.{Held, IsKept, relaxation, parts, state, tabl
 use Rattle.dual_simplex.specs.Answers.{IsInside}
 use Rattle.dual_simplex.specs.Moves.{IsMoved}
 use Rattle.dual_simplex.specs.Walks.{Moves}
-use Rattle.dual_simplex.specs.Laws.{HasNoCrossedSides, IsOptimal}
+use Rattle.dual_simplex.specs.Laws.{Rises, HasNoCrossedSides, IsOptimal}
+use Rattle.bases.specs.States.{IsLess, key}
+use Rattle.bases.proofs.Parts.{less_trans}
+use Rattle.dual_simplex.proofs.MoveLemmas.{kept_after, key_after, relaxation_after, parts_after}
 
 pub moves_more : (n : ℕ) (s mid after : Held) → Moves n s mid → IsMoved mid after → Moves (n + 1) s after
 moves_more n s mid after moves move = let e : suc n ≡ n + 1 = omega arith in subst (λ m. Moves m s after) e (mid, (moves, move))
+
+-- ---- keys rise
+
+rises_once : (s after : Held) → IsKept s → IsMoved s after → Rises s after
+rises_once s after kept moved = record {
+  kept = kept_after s after kept moved.row moved.side moved.place moved.out moved.enters moved.move;
+  same_relaxation = relaxation_after s after kept moved.row moved.side moved.place moved.out moved.enters moved.move;
+  same_parts = parts_after s after kept moved.row moved.side moved.place moved.out moved.enters moved.move;
+  key = key_after s after kept moved.row moved.side moved.place moved.out moved.enters moved.move;
+}
+
+rises_both : (s mid after : Held) → Rises s mid → Rises mid after → Rises s after
+rises_both s mid after first second = record {
+  kept = second.kept;
+  same_relaxation = first.same_relaxation ∙ second.same_relaxation;
+  same_parts = first.same_parts ∙ second.same_parts;
+  key = less_trans _ _ _ first.key
+      (subst (λ X. X) (λ i. IsLess (key (sym first.same_relaxation i) (sym first.same_parts i) (state mid)) (key (sym first.same_relaxation i) (sym first.same_parts i) (state after))) second.key);
+}
+
+pub rises : (n : ℕ) (s after : Held) → IsKept s → Moves (suc n) s after → Rises s after
+rises zero s after kept (mid, (same, moved)) = subst (λ m. IsMoved m after → Rises s after) (sym same) (rises_once s after kept) moved
+rises (suc n) s after kept (mid, (moves, moved)) = let first = rises n s mid kept moves in rises_both s mid after first (rises_once mid after first.kept moved)
 
 -- ---- an optimal state
 

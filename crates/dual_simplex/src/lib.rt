@@ -35,7 +35,7 @@ mod state;
 mod step;
 mod walk;
 
-pub use laws::{blocked_law, move_law, optimal_law};
+pub use laws::{blocked_law, move_law, optimal_law, walk_law};
 pub use leaving::Leaving;
 pub use state::{LpState, LpStep};
 pub use step::Step;
