@@ -1,0 +1,16 @@
+pub mod SumBelowLaws
+pub mod Exchange
+pub mod Pivot
+pub mod Arranged
+pub mod Duality
+pub mod Parts
+pub mod ReducedCosts
+pub mod Step
+pub mod OneTable
+pub mod BringIn
+pub mod Lag
+pub mod Walk
+pub mod SameState
+pub mod Least
+pub mod Ray
+pub mod Example

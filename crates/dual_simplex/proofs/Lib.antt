@@ -1,0 +1,9 @@
+pub mod PointLemmas
+pub mod SideLemmas
+pub mod RatioLemmas
+pub mod EnterLemmas
+pub mod MoveLemmas
+pub mod WalkLemmas
+pub mod SideListLemmas
+pub mod SlackLemmas
+pub mod SlackStartLemmas

@@ -1,0 +1,24 @@
+-- Steps one after the other.
+use Rattle.std.specs.Prelude.{◌≡◌, ℕ, zero, suc, ◌<◌, ◌≤◌, Result, Ok, Err}
+use Rattle.bases.specs.declared.stand.Stand.{Stand}
+use Rattle.dual_simplex.specs.Held.{Held}
+use Rattle.dual_simplex.specs.Answers.{IsWide, IsInside, IsFirstOut}
+use Rattle.dual_simplex.specs.Moves.{IsMoved, IsBlocked}
+use Rattle.dual_simplex.specs.declared.state.LpStep.{LpStep}
+use Rattle.dual_simplex.specs.declared.walk.Walk.{Walk}
+use Rattle.dual_simplex.specs.declared.walk.Walk.TheVariants.{Optimal, Infeasible, Pivots}
+
+-- n moves lead from one state to another
+abbrev pub Moves : ℕ → Held → Held → Type 0
+Moves zero s after = after ≡ s
+Moves (suc n) s after = (mid : Held) × (Moves n s mid × IsMoved mid after)
+
+-- what holds where n moves of at most so many end
+abbrev pub IsEnd : ℕ → ℕ → Result Walk LpStep → Held → Type 0
+IsEnd n limit (Ok Optimal) after = (i : ℕ) → i < after.tableau.activities → IsInside after i
+IsEnd n limit (Ok Infeasible) after = IsBlocked after
+IsEnd n limit (Ok Pivots) after = (n ≡ limit) × ((row : ℕ) × ((side : Stand) × IsFirstOut after row side))
+IsEnd n limit (Err e) after = IsWide after e
+
+abbrev pub IsWalked : Held → ℕ → Result Walk LpStep → Held → Type 0
+IsWalked s limit r after = (n : ℕ) × ((n ≤ limit) × (Moves n s after × IsEnd n limit r after))

@@ -1,0 +1,77 @@
+// Reduced costs.
+ghost use Rattle.std.specs.Prelude.{◌≡◌, ◌<◌};
+ghost use Rattle.bases.specs.Relaxation.{reduced_cost};
+ghost use Rattle.bases.specs.Steps.{at_basic};
+ghost use Rattle.dual_simplex.specs.Held.{relaxation, table, variables};
+ghost use Rattle.dual_simplex.specs.Answers.{IsNumber};
+
+use crate::state::{LpState, LpStep};
+use checked_sum::{Terms, checked_sum};
+use frac128::Frac;
+use row_tableau::Position;
+
+/// The terms of the reduced cost of a place, by variable: cost times entry of the basic ones.
+#[derive(Drop)]
+struct CostTerms<'a, 'b> {
+    state: &'b LpState<'a>,
+    place: usize,
+    ghost within: { place < state.now.tableau.columns },
+}
+
+impl Terms for CostTerms<'_, '_> {
+    ghost count = { λ t. variables t.state.now };
+
+    ghost factor = { λ t v. (relaxation t.state.now).cost v };
+
+    ghost number = { λ t v. at_basic (relaxation t.state.now) (table t.state.now) (λ i. (table t.state.now).entry i t.place) v };
+
+    fn count(&self) -> usize {
+        self.state.variables()
+    }
+
+    fn number(&self, index: usize) -> Frac {
+        self.state.saved_of(self.place, index)
+    }
+
+    fn factor(&self, index: usize) -> Frac {
+        self.state.cost_of(index)
+    }
+}
+
+impl LpState<'_> {
+    /// The cost of a variable.
+    pub(crate) fn cost_of(&self, variable: usize) -> Frac
+        requires { variable < variables self.now }
+        ensures { result ≡ (relaxation self.now).cost variable }
+    {
+        self.cost[variable]
+    }
+
+    /// The entry of a basic variable at a place, 0 for another one.
+    pub(crate) fn saved_of(&self, place: usize, variable: usize) -> Frac
+        requires place { place < self.now.tableau.columns }
+        requires variable { variable < variables self.now }
+        ensures { result ≡ at_basic (relaxation self.now) (table self.now) (λ i. (table self.now).entry i place) variable }
+    {
+        match self.tableau.find(variable) {
+            Position::Row(row) => self.tableau.entry(row, place),
+            Position::Place(_) => Frac::whole(0),
+        }
+    }
+
+    /// The reduced cost of a place, or the first of its terms, in the order of the variables, that has no room.
+    pub(crate) fn reduced_cost(&self, place: usize) -> Result<Frac, LpStep>
+        requires { place < self.now.tableau.columns }
+        ensures { IsNumber self.now (reduced_cost (relaxation self.now) (table self.now) (relaxation self.now).cost place) result }
+    {
+        let variable = self.tableau.nonbasic(place);
+        let terms = CostTerms { state: self, place };
+        match checked_sum(&self.cost_of(variable), &terms) {
+            Ok(cost) => Ok(cost),
+            Err(basic) => Err(LpStep::Cost {
+                k: self.tableau.variable(variable),
+                b: self.tableau.variable(basic),
+            }),
+        }
+    }
+}

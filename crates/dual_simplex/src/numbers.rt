@@ -1,0 +1,52 @@
+// What a state gives: the numbers of its point, its multipliers, and the Farkas multipliers of a row.
+ghost use Rattle.std.specs.Prelude.{◌≡◌, ◌<◌};
+ghost use Rattle.bases.specs.Relaxation.{point, multipliers};
+ghost use Rattle.bases.specs.States.{farkas_weights};
+ghost use Rattle.dual_simplex.specs.Held.{relaxation, state, table, variables};
+ghost use Rattle.dual_simplex.specs.Answers.{IsNumber};
+
+use crate::leaving::Leaving;
+use crate::sides::signed;
+use crate::state::{LpState, LpStep};
+use frac128::Frac;
+use row_tableau::Position;
+
+impl LpState<'_> {
+    /// The number of a variable at the state's point, or the first step that has no room.
+    pub fn number_of(&self, variable: usize) -> Result<Frac, LpStep>
+        requires { variable < variables self.now }
+        ensures { IsNumber self.now (point (relaxation self.now) (table self.now) (state self.now).at variable) result }
+    {
+        match self.tableau.find(variable) {
+            Position::Row(row) => self.basic_value(row),
+            Position::Place(place) => Ok(self.place_number(place)),
+        }
+    }
+
+    /// The multiplier of a variable: its reduced cost, 0 for a basic one; or the first step that has no room.
+    pub fn multiplier_of(&self, variable: usize) -> Result<Frac, LpStep>
+        requires { variable < variables self.now }
+        ensures { IsNumber self.now (multipliers (relaxation self.now) (table self.now) (relaxation self.now).cost variable) result }
+    {
+        match self.tableau.find(variable) {
+            Position::Row(_) => Ok(Frac::whole(0)),
+            Position::Place(place) => self.reduced_cost(place),
+        }
+    }
+
+    /// The Farkas multiplier of a variable where a basic variable is outside a side and none may enter for it: of the
+    /// leaving one 1, of each nonbasic one the negative of its entry in the row, all negated above the high side.
+    pub fn farkas_of(&self, leaving: &Leaving, variable: usize) -> Frac
+        requires row { leaving.now.row < self.now.tableau.activities }
+        requires variable { variable < variables self.now }
+        ensures { result ≡ farkas_weights (relaxation self.now) (state self.now) leaving.now.row leaving.now.side variable }
+    {
+        match self.tableau.find(variable) {
+            Position::Row(row) if row == leaving.row => signed(leaving.side, &Frac::whole(1)),
+            Position::Row(_) => signed(leaving.side, &Frac::whole(0)),
+            Position::Place(place) => {
+                signed(leaving.side, &self.tableau.entry(leaving.row, place).neg())
+            }
+        }
+    }
+}

@@ -1,0 +1,71 @@
+// Numbers and sides.
+ghost use Rattle.std.specs.Prelude.{◌≡◌, ◌↔◌, IsTrue};
+ghost use Rattle.rational.specs.Rational.{◌*ℚ◌, ◌<ℚ◌};
+ghost use Rattle.bases.specs.States.{sign, MayEnter};
+ghost use Rattle.dual_simplex.specs.Breach.{IsUnder, IsOver, IsBreach};
+
+use bases::Stand;
+use frac128::Frac;
+use lp_model::Bound;
+
+/// Whether the first is below the second.
+#[tactic(auto, using(rational::proofs::Comparison::comparisons))]
+pub fn is_below(first: &Frac, second: &Frac) -> bool
+    ensures { IsTrue result ↔ (first.now <ℚ second.now) }
+{
+    *first < *second
+}
+
+/// Whether there is a low side and the number is below it.
+fn is_under(low: &Bound, value: &Frac) -> bool
+    ensures { IsTrue result ↔ IsUnder low.now value.now }
+{
+    match low {
+        Some(bound) => is_below(value, bound),
+        None => false,
+    }
+}
+
+/// Whether there is a high side and the number is above it.
+fn is_over(high: &Bound, value: &Frac) -> bool
+    ensures { IsTrue result ↔ IsOver high.now value.now }
+{
+    match high {
+        Some(bound) => is_below(bound, value),
+        None => false,
+    }
+}
+
+/// The side that a number is outside of, if any.
+pub fn breach(low: &Bound, high: &Bound, value: &Frac) -> Option<Stand>
+    ensures { IsBreach low.now high.now value.now result }
+{
+    if is_under(low, value) {
+        Some(Stand::Low)
+    } else if is_over(high, value) {
+        Some(Stand::High)
+    } else {
+        None
+    }
+}
+
+/// The number times the sign of a side: 1 for the low one, -1 for the high one, 0 for none.
+pub fn signed(stand: Stand, number: &Frac) -> Frac
+    ensures { result ≡ sign stand *ℚ number.now }
+{
+    match stand {
+        Stand::Low => *number,
+        Stand::High => number.neg(),
+        Stand::Free => Frac::whole(0),
+    }
+}
+
+/// Whether a variable that stands so, with this entry, moves a variable back that is outside that side.
+pub fn moves_back(side: Stand, stand: Stand, entry: &Frac) -> bool
+    ensures { IsTrue result ↔ MayEnter side stand entry.now }
+{
+    match stand {
+        Stand::Free => !entry.is_zero(),
+        _ => signed(side, &signed(stand, entry)).is_positive(),
+    }
+}

@@ -1,0 +1,222 @@
+// Sides, costs and tilts of the variables of a relaxation.
+ghost use Rattle.std.specs.Prelude.{◌≡◌, ◌<◌, ◌+◌, ℕ, length, get_or, pos, IfOk, None};
+ghost use Rattle.rational.specs.Rational.{int};
+ghost use Rattle.lp_model.specs.Regions.{AreNarrow};
+ghost use Rattle.row_tableau.specs.Relaxations.{plain, relaxation_of};
+ghost use Rattle.lp_model.specs.Program.{in_least_form};
+ghost use Rattle.bases.specs.declared.stand.Stand.TheVariants.{Free};
+ghost use Rattle.dual_simplex.specs.Slack.{stand_by_sides, free_tilt, tilt_of};
+ghost use Rattle.bases.specs.Directions.{direction_side};
+
+use bases::Stand;
+use frac128::Frac;
+use lp_model::{Bound, Sense};
+use row_tableau::{Relax, RelaxKind};
+use std::alloc::{AllocError, Global};
+
+/// The low side that a variable has in the model's relaxation.
+fn plain_low(relax: &Relax<'_>, variable: usize) -> Bound
+    requires within { variable < length relax.now.model.now.cols + length relax.now.model.now.rows }
+    requires narrow { AreNarrow relax.now.region.now }
+    ensures { result ≡ (plain relax.now.model.now relax.now.region.now).low variable }
+{
+    let columns = relax.model.cols().len();
+    if variable < columns {
+        relax.model.region_low(relax.region, variable)
+    } else {
+        relax.model.rows()[variable - columns].lo
+    }
+}
+
+/// The high side that a variable has in the model's relaxation.
+fn plain_high(relax: &Relax<'_>, variable: usize) -> Bound
+    requires within { variable < length relax.now.model.now.cols + length relax.now.model.now.rows }
+    requires narrow { AreNarrow relax.now.region.now }
+    ensures { result ≡ (plain relax.now.model.now relax.now.region.now).high variable }
+{
+    let columns = relax.model.cols().len();
+    if variable < columns {
+        relax.model.region_high(relax.region, variable)
+    } else {
+        relax.model.rows()[variable - columns].hi
+    }
+}
+
+/// The side of the directions: 0 where there is one, and else a bound for a column alone.
+fn direction_side(is_column: bool, bound: i64, side: &Bound) -> Bound
+    ensures { result ≡ direction_side is_column (int bound) side.now }
+{
+    match side {
+        Some(_) => Some(Frac::whole(0)),
+        None if is_column => Some(Frac::whole(bound)),
+        None => None,
+    }
+}
+
+/// The low side of a variable.
+pub fn low_of(relax: &Relax<'_>, variable: usize) -> Bound
+    requires within { variable < length relax.now.model.now.cols + length relax.now.model.now.rows }
+    requires narrow { AreNarrow relax.now.region.now }
+    ensures { result ≡ (relaxation_of relax.now).low variable }
+{
+    let side = plain_low(relax, variable);
+    match relax.kind {
+        RelaxKind::Plain => side,
+        RelaxKind::CostsZero => side,
+        RelaxKind::Directions => direction_side(variable < relax.model.cols().len(), -1, &side),
+    }
+}
+
+/// The high side of a variable.
+pub fn high_of(relax: &Relax<'_>, variable: usize) -> Bound
+    requires within { variable < length relax.now.model.now.cols + length relax.now.model.now.rows }
+    requires narrow { AreNarrow relax.now.region.now }
+    ensures { result ≡ (relaxation_of relax.now).high variable }
+{
+    let side = plain_high(relax, variable);
+    match relax.kind {
+        RelaxKind::Plain => side,
+        RelaxKind::CostsZero => side,
+        RelaxKind::Directions => direction_side(variable < relax.model.cols().len(), 1, &side),
+    }
+}
+
+/// The low sides of all variables.
+pub fn lows(alloc: Global, relax: &Relax<'_>) -> Result<Vec<Bound>, AllocError>
+    requires { AreNarrow relax.now.region.now }
+    ensures length { IfOk result (λ v. length v.items ≡ length relax.now.model.now.cols + length relax.now.model.now.rows) }
+    ensures items { IfOk result (λ v. (u : ℕ) → u < length relax.now.model.now.cols + length relax.now.model.now.rows → get_or v.items u None ≡ (relaxation_of relax.now).low u) }
+{
+    let variables = relax.model.cols().len() + relax.model.rows().len();
+    let mut list = Vec::new(alloc);
+    for variable in 0..variables {
+        list.push(low_of(relax, variable))?;
+    }
+    Ok(list)
+}
+
+/// The high sides of all variables.
+pub fn highs(alloc: Global, relax: &Relax<'_>) -> Result<Vec<Bound>, AllocError>
+    requires { AreNarrow relax.now.region.now }
+    ensures length { IfOk result (λ v. length v.items ≡ length relax.now.model.now.cols + length relax.now.model.now.rows) }
+    ensures items { IfOk result (λ v. (u : ℕ) → u < length relax.now.model.now.cols + length relax.now.model.now.rows → get_or v.items u None ≡ (relaxation_of relax.now).high u) }
+{
+    let variables = relax.model.cols().len() + relax.model.rows().len();
+    let mut list = Vec::new(alloc);
+    for variable in 0..variables {
+        list.push(high_of(relax, variable))?;
+    }
+    Ok(list)
+}
+
+/// A number of an objective in least form.
+fn in_least_form(sense: Sense, number: &Frac) -> Frac
+    ensures { result ≡ in_least_form sense number.now }
+{
+    match sense {
+        Sense::Min => *number,
+        Sense::Max => number.neg(),
+    }
+}
+
+/// The cost that a variable has in the model's relaxation.
+fn plain_cost(relax: &Relax<'_>, variable: usize) -> Frac
+    ensures { result ≡ (plain relax.now.model.now relax.now.region.now).cost variable }
+{
+    if variable < relax.model.cols().len() {
+        in_least_form(relax.model.sense(), relax.model.cost(1, variable))
+    } else {
+        Frac::whole(0)
+    }
+}
+
+/// The cost of a variable.
+pub fn cost_of(relax: &Relax<'_>, variable: usize) -> Frac
+    ensures { result ≡ (relaxation_of relax.now).cost variable }
+{
+    match relax.kind {
+        RelaxKind::Plain => plain_cost(relax, variable),
+        RelaxKind::CostsZero => Frac::whole(0),
+        RelaxKind::Directions => plain_cost(relax, variable),
+    }
+}
+
+/// The costs of all variables.
+pub fn costs(alloc: Global, relax: &Relax<'_>) -> Result<Vec<Frac>, AllocError>
+    ensures length { IfOk result (λ v. length v.items ≡ length relax.now.model.now.cols + length relax.now.model.now.rows) }
+    ensures items { IfOk result (λ v. (u : ℕ) → u < length relax.now.model.now.cols + length relax.now.model.now.rows → get_or v.items u (int (pos 0)) ≡ (relaxation_of relax.now).cost u) }
+{
+    let variables = relax.model.cols().len() + relax.model.rows().len();
+    let mut list = Vec::new(alloc);
+    for variable in 0..variables {
+        list.push(cost_of(relax, variable))?;
+    }
+    Ok(list)
+}
+
+/// The low side where there is one, else the high one, else what is given.
+fn stand_by_sides(none: Stand, low: &Bound, high: &Bound) -> Stand
+    ensures { result ≡ stand_by_sides none low.now high.now }
+{
+    match (low, high) {
+        (Some(_), _) => Stand::Low,
+        (None, Some(_)) => Stand::High,
+        (None, None) => none,
+    }
+}
+
+/// How a variable without sides is tilted.
+fn free_tilt(relax: &Relax<'_>, variable: usize) -> Stand
+    ensures { result ≡ free_tilt relax.now.kind (length relax.now.model.now.cols) variable }
+{
+    match relax.kind {
+        RelaxKind::Plain => Stand::Free,
+        RelaxKind::CostsZero => Stand::Free,
+        RelaxKind::Directions => {
+            if variable < relax.model.cols().len() {
+                Stand::Low
+            } else {
+                Stand::Free
+            }
+        }
+    }
+}
+
+/// The tilt of a variable.
+pub fn tilt_of(relax: &Relax<'_>, variable: usize) -> Stand
+    requires within { variable < length relax.now.model.now.cols + length relax.now.model.now.rows }
+    requires narrow { AreNarrow relax.now.region.now }
+    ensures { result ≡ tilt_of relax.now variable }
+{
+    stand_by_sides(
+        free_tilt(relax, variable),
+        &plain_low(relax, variable),
+        &plain_high(relax, variable),
+    )
+}
+
+/// The tilts of all variables.
+pub fn tilts(alloc: Global, relax: &Relax<'_>) -> Result<Vec<Stand>, AllocError>
+    requires { AreNarrow relax.now.region.now }
+    ensures length { IfOk result (λ v. length v.items ≡ length relax.now.model.now.cols + length relax.now.model.now.rows) }
+    ensures items { IfOk result (λ v. (u : ℕ) → u < length relax.now.model.now.cols + length relax.now.model.now.rows → get_or v.items u Free ≡ tilt_of relax.now u) }
+{
+    let variables = relax.model.cols().len() + relax.model.rows().len();
+    let mut list = Vec::new(alloc);
+    for variable in 0..variables {
+        list.push(tilt_of(relax, variable))?;
+    }
+    Ok(list)
+}
+
+/// The numbers of all variables, in order.
+pub fn numbers(alloc: Global, count: usize) -> Result<Vec<usize>, AllocError>
+    ensures length { IfOk result (λ v. length v.items ≡ count) }
+    ensures items { IfOk result (λ v. (q : ℕ) → q < count → get_or v.items q 0 ≡ q) }
+{
+    let mut list = Vec::new(alloc);
+    for number in 0..count {
+        list.push(number)?;
+    }
+    Ok(list)
+}
