@@ -1,7 +1,7 @@
 -- The walk: nodes with places, and the path behind a leaf.
-use Rattle.std.proofs.Common.{◌≡◌, ℕ, ◌+◌, ◌-◌, ◌<◌, ◌≤◌, List, [], ◌∷◌, ◌++◌, length, take, get_or, refl, sym, ap, subst, ◌∙◌, arith, below_more}
-use Rattle.std.specs.Prelude.{pos, ◌+ℤ◌, set}
-use Rattle.std.proofs.lemmas.List.{take_more, take_more_set, length-append, get_or_append_left}
+use Rattle.std.proofs.Common.{◌≡◌, ℕ, ◌+◌, ◌<◌, List, [], ◌∷◌, ◌++◌, length, take, get_or, refl, sym, ap, subst, ◌∙◌, arith, below_more}
+use Rattle.std.specs.Prelude.{pos, ◌+ℤ◌}
+use Rattle.std.proofs.lemmas.List.{take_more, length-append, get_or_append_left}
 use Rattle.std.proofs.Math.Seq.{get_or-append_seam}
 use Rattle.lp_model.specs.Program.{Program}
 use Rattle.lp_model.specs.Regions.{Path}
@@ -44,19 +44,3 @@ in_front-some d (e ∷ path) c = refl
 pub after_leaf-high : (path : Path) (c : BoundChange) → c.side ≡ Hi → after_leaf (path ++ c ∷ []) ≡ path ++ at_least c.col.0 (c.v +ℤ pos 1) ∷ []
 after_leaf-high [] c high = ap (λ s. turned s c) high
 after_leaf-high (d ∷ path) c high = ap (in_front d) (after_leaf-high path c high) ∙ in_front-some d path (at_least c.col.0 (c.v +ℤ pos 1))
-
-module _ (path : Path) (depth : ℕ) (d : BoundChange) (some : 0 < depth) (within : depth ≤ length path) where
-  last_is : take depth path ≡ take (depth - 1) path ++ get_or path (depth - 1) d ∷ []
-  last_is =
-      let up : depth ≡ depth - 1 + 1 = omega arith in
-      ap (λ n. take n path) up ∙ take_more path (depth - 1) d (omega arith)
-
-  pub turn_low : (get_or path (depth - 1) d).side ≡ Lo → after_leaf (take depth path) ≡ after_leaf (take (depth - 1) path)
-  turn_low low = ap after_leaf last_is ∙ after_leaf-low (take (depth - 1) path) (get_or path (depth - 1) d) low
-
-  pub turn_high : (get_or path (depth - 1) d).side ≡ Hi → (c : BoundChange) → c ≡ at_least (get_or path (depth - 1) d).col.0 ((get_or path (depth - 1) d).v +ℤ pos 1) →
-      take depth (set path (depth - 1) c) ≡ after_leaf (take depth path)
-  turn_high high c is =
-      let up : depth ≡ depth - 1 + 1 = omega arith in
-      ap (λ n. take n (set path (depth - 1) c)) up ∙ take_more_set path (depth - 1) c (omega arith) ∙ ap (λ e. take (depth - 1) path ++ e ∷ []) is
-      ∙ sym (ap after_leaf last_is ∙ after_leaf-high (take (depth - 1) path) (get_or path (depth - 1) d) high)

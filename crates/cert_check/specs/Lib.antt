@@ -5,5 +5,6 @@ pub mod Lines
 pub mod Text
 pub mod Reading
 pub mod Verdict
+pub mod Tight
 pub mod Walk
 pub mod Whole

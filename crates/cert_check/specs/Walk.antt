@@ -25,6 +25,7 @@ use Rattle.cert_check.specs.Tree.{CertTree, preorder, place_among}
 use Rattle.cert_check.specs.Accepted.{AreNames, names_of_rows, point_of, multipliers}
 use Rattle.cert_check.specs.Verdict.{IsNumberJudged, IsFarkasJudged, IsEmptyJudged, IsKindJudged, visits, IsVisitJudged, IsJudgedAt}
 use Rattle.cert_check.specs.Whole.{IsNarrowNode}
+use Rattle.cert_check.specs.Tight.{IsTrail, room}
 
 -- ---- nodes with places
 
@@ -96,5 +97,6 @@ IsPointOf M named point = MatchOption point (¬ AreNames (column_names M) named)
 -- the buffer was made for this model and this certificate
 pub record IsBufferOf (M : Program) (cert : Cert) (buf : RegionBuf) : Type 0 where
   pub nodes : ArePlaced M cert.nodes buf.nodes.items
-  pub path : length cert.nodes ≤ length buf.path.items
+  pub trail : IsTrail buf.trail
+  pub room : length cert.nodes ≤ room buf.trail
   pub point : IsPointOf M cert.point buf.point

@@ -1,10 +1,11 @@
 // The walk through a certificate's nodes.
-ghost use Rattle.std.specs.Prelude.{◌≡◌, ◌↔◌, ◌<◌, ◌≤◌, ◌+◌, ◌+ℤ◌, pos, length, take, All, IsTrue, IfOk, MatchOption};
+ghost use Rattle.std.specs.Prelude.{◌≡◌, ◌↔◌, ◌<◌, ◌≤◌, ◌+◌, ◌+ℤ◌, pos, length, All, IsTrue, IfOk, MatchOption};
 ghost use Rattle.frac128.specs.Range.{IsNarrow};
 ghost use Rattle.branch_tree.specs.Tree.{at_least};
 ghost use Rattle.lp_model.specs.Program.{HasWholeObjective};
 ghost use Rattle.lp_model.specs.Regions.{AreNarrow};
 ghost use Rattle.cert_check.specs.Walk.{IsPlace, ArePlaced, IsBufferOf, IsPlacedJudged, CanTurn, after_leaf, after_node, IsWalked, IsNodesVerdict, IsPointOf};
+ghost use Rattle.cert_check.specs.Tight.{IsTrail, path_of, room};
 ghost use Rattle.cert_check.specs.Verdict.{IsClaimJudged, IsVerdict};
 ghost use Rattle.cert_check.specs.Whole.{IsCertificate, HasNoPoint};
 ghost use Rattle.lp_model.specs.Edits.{Named};
@@ -16,16 +17,17 @@ use crate::judging::{
     PlacedNode, is_whole, judge_empty, judge_farkas, judge_number, judge_point, judge_split,
 };
 use crate::names::{column_place, multipliers, point};
+use crate::trail::Trail;
 use crate::verdict::{Judgement, Verdict};
-use lp_model::{BoundChange, ColId, Model, Point, Side};
+use lp_model::{BoundChange, Model, Point, Side};
 use std::alloc::{AllocError, Global};
 
 /// What the judging of a certificate works in: its nodes and its point with the names as places, and room for the path
-/// to a node.
+/// to a node and the region's changes.
 #[derive(Drop)]
 pub struct RegionBuf {
     pub(crate) nodes: Vec<PlacedNode>,
-    pub(crate) path: Vec<BoundChange>,
+    pub(crate) trail: Trail,
     pub(crate) point: Option<Point>,
 }
 
@@ -70,34 +72,23 @@ fn placed_nodes(
     Ok(all)
 }
 
-/// A path with room for so many changes.
-fn long_path(alloc: Global, room: usize) -> Result<Vec<BoundChange>, AllocError>
-    ensures { IfOk result (λ path. room ≤ length path.items) }
-{
-    let mut path = Vec::new(alloc);
-    while path.len() < room {
-        path.push(BoundChange {
-            col: ColId(0),
-            side: Side::Lo,
-            v: 0,
-        })?;
-    }
-    Ok(path)
-}
-
 impl RegionBuf {
     /// The buffer for a model and a certificate: the names are looked up. Memory is linear in the certificate.
     pub fn new(alloc: Global, model: &Model, cert: &Cert) -> Result<RegionBuf, AllocError>
         ensures { IfOk result (λ buf. IsBufferOf model.now cert.now buf) }
     {
         let nodes = placed_nodes(alloc, model, cert.nodes.as_slice())?;
-        let path = long_path(alloc, cert.nodes.as_slice().len())?;
+        let trail = Trail::new(alloc, cert.nodes.as_slice().len())?;
         let point = point(alloc, model, cert.point.as_slice())?;
-        Ok(RegionBuf { nodes, path, point })
+        Ok(RegionBuf {
+            nodes,
+            trail,
+            point,
+        })
     }
 }
 
-/// One node, with the path to it.
+/// One node, by the changes of a path to it or others that leave the same bounds.
 fn judge(
     model: &Model,
     claim: &Claim,
@@ -131,64 +122,62 @@ fn second_child(first: &BoundChange) -> BoundChange
     }
 }
 
-/// The first `depth` changes are the path to a leaf; how many of the path to the node behind it are there afterwards.
-fn turn(path: &mut [BoundChange], depth: usize) -> usize
-    requires within { depth ≤ length path.old }
-    requires turns { All CanTurn (take depth path.old) }
-    ensures path { take result path.new ≡ after_leaf (take depth path.old) }
-    ensures within { result ≤ depth }
+/// From a leaf's path to that of the node behind it.
+fn turn(trail: &mut Trail)
+    requires trail { IsTrail trail.old }
+    requires turns { All CanTurn (path_of trail.old) }
+    ensures trail { IsTrail trail.new }
+    ensures path { path_of trail.new ≡ after_leaf (path_of trail.old) }
+    ensures within { trail.new.depth ≤ trail.old.depth }
+    ensures room { room trail.new ≡ room trail.old }
 {
-    let mut depth = depth;
-    while depth > 0 {
-        let last = path[depth - 1];
+    while trail.depth > 0 {
+        let last = trail.pop();
         match last.side {
-            Side::Lo => depth -= 1,
+            Side::Lo => {}
             Side::Hi => {
-                path[depth - 1] = second_child(&last);
-                return depth;
+                trail.push(second_child(&last));
+                return;
             }
         }
     }
-    0
 }
 
-/// The first `depth` changes are the path to a node; how many of the path to the node behind it are there afterwards.
-fn step_on(path: &mut [BoundChange], depth: usize, node: &PlacedNode) -> usize
-    requires within { depth < length path.old }
-    requires turns { All CanTurn (take depth path.old) }
-    ensures path { take result path.new ≡ after_node node.now (take depth path.old) }
-    ensures within { result ≤ depth + 1 }
+/// From a node's path to that of the node behind it.
+fn step_on(trail: &mut Trail, node: &PlacedNode)
+    requires trail { IsTrail trail.old }
+    requires room { trail.old.depth < room trail.old }
+    requires turns { All CanTurn (path_of trail.old) }
+    ensures trail { IsTrail trail.new }
+    ensures path { path_of trail.new ≡ after_node node.now (path_of trail.old) }
+    ensures within { trail.new.depth ≤ trail.old.depth + 1 }
+    ensures room { room trail.new ≡ room trail.old }
 {
     match node {
-        PlacedNode::Split { col, v } => {
-            path[depth] = BoundChange {
-                col: *col,
-                side: Side::Hi,
-                v: *v,
-            };
-            depth + 1
-        }
-        _ => turn(path, depth),
+        PlacedNode::Split { col, v } => trail.push(BoundChange {
+            col: *col,
+            side: Side::Hi,
+            v: *v,
+        }),
+        _ => turn(trail),
     }
 }
 
-/// The nodes in order, each with the path to it.
-fn check_nodes(
-    model: &Model,
-    claim: &Claim,
-    nodes: &[PlacedNode],
-    path: &mut [BoundChange],
-) -> Verdict
-    requires room { length nodes.now ≤ length path.old }
+/// The nodes in order, each judged by the region of its path.
+fn check_nodes(model: &Model, claim: &Claim, nodes: &[PlacedNode], trail: &mut Trail) -> Verdict
+    requires trail { IsTrail trail.old }
+    requires room { length nodes.now ≤ room trail.old }
     requires tree { (tree : CertTree) × IsWalked model.now tree nodes.now }
-    ensures { (tree : CertTree) → IsWalked model.now tree nodes.now → IsNodesVerdict model.now claim.now tree result }
+    ensures verdict { (tree : CertTree) → IsWalked model.now tree nodes.now → IsNodesVerdict model.now claim.now tree result }
+    ensures trail { IsTrail trail.new }
+    ensures room { room trail.new ≡ room trail.old }
 {
     let whole = is_whole(model);
-    let mut depth = 0;
+    trail.restart();
     for index in 0..nodes.len() {
         let node = &nodes[index];
-        match judge(model, claim, whole, &path[..depth], node) {
-            Judgement::Passes => depth = step_on(path, depth, node),
+        match judge(model, claim, whole, trail.region(), node) {
+            Judgement::Passes => step_on(trail, node),
             Judgement::Breaks(why) => {
                 return Verdict::Rejected {
                     node: index as u64 + 1,
@@ -234,5 +223,5 @@ pub fn check(model: &Model, cert: &Cert, buf: &mut RegionBuf) -> Verdict
         Judgement::Breaks(why) => return Verdict::Rejected { node: 0, why },
         Judgement::NoRoom(step) => return Verdict::Wide { node: 0, step },
     }
-    check_nodes(model, &cert.claim, &buf.nodes, &mut buf.path)
+    check_nodes(model, &cert.claim, &buf.nodes, &mut buf.trail)
 }

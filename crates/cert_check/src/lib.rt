@@ -22,6 +22,10 @@
 //! without memory. Where each step has room it answers Accepted exactly where the definition accepts (`verdict_law`,
 //! `rejected_law`). For every model and every certificate, whoever wrote it, an accepted claim is true (`accepted_law`).
 //!
+//! A leaf is judged by the tightest changes of its path, at most one for each side of each column (`trail`, `specs/Tight`).
+//! The walk keeps them, and what each change replaced for the way back, so that a deep leaf costs no more than one below
+//! few splits of the same columns. The verdict is that of the whole path: it depends on the path by the bounds alone.
+//!
 //! Below stand `lp_model`, the numbers of a leaf (`leaf_dual`), plain trees (`branch_tree`) and the spelling of numbers
 //! (`frac128`). Above stand what writes certificates and the words `check MODEL CERT`.
 #![tactic(auto)]
@@ -37,6 +41,7 @@ mod reader;
 mod reading;
 #[cfg(test)]
 mod tests;
+mod trail;
 mod verdict;
 
 pub use cert::{Cert, CertLeaf, CertNode, Claim};

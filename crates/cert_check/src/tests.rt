@@ -120,7 +120,7 @@ fn model(rt: &impl Abort, alloc: Global, equal: bool) -> Result<Model, EditFault
 }
 
 /// Whether R is an equation, a certificate, and the node and reason of its verdict, reason 0 being Accepted.
-const VERDICTS: [(bool, &[u8], u64, u8); 12] = [
+const VERDICTS: [(bool, &[u8], u64, u8); 14] = [
     (
         true,
         b"cert 1\nclaim infeasible\nsplit X 0\nleaf farkas row R 1\nleaf farkas row R -1\nend\n",
@@ -191,6 +191,18 @@ const VERDICTS: [(bool, &[u8], u64, u8); 12] = [
         false,
         b"cert 1\nclaim infeasible\nsplit X 0\nleaf empty\nleaf empty\nend\n",
         2,
+        7,
+    ),
+    (
+        false,
+        b"cert 1\nclaim optimal 0\npoint\nsplit X 0\nsplit X 5\nleaf bound\nleaf empty\nleaf farkas row R -1\nend\n",
+        0,
+        0,
+    ),
+    (
+        false,
+        b"cert 1\nclaim optimal 0\npoint\nsplit X 0\nsplit X 5\nleaf bound\nleaf empty\nleaf empty\nend\n",
+        5,
         7,
     ),
 ];

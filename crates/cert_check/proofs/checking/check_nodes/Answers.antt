@@ -1,45 +1,76 @@
-use Rattle.std.proofs.Common.{◌∙◌, ◌≤◌, ◌+◌, sym, subst, arith, take, get_or, [], length}
-use Rattle.cert_check.specs.declared.verdict.Judgement.TheVariants.{Breaks, NoRoom}
+use Rattle.std.proofs.Common.{◌∙◌, ◌+◌, sym, subst, arith}
+use Rattle.cert_check.specs.declared.verdict.Judgement.TheVariants.{Passes, Breaks, NoRoom}
+use Rattle.lp_model.specs.Regions.{AreNarrow}
+use Rattle.cert_check.specs.Walk.{IsPlacedJudged}
+use Rattle.cert_check.specs.Tight.{path_of}
+use Rattle.cert_check.proofs.SameRegion.{judged-same}
+use Rattle.cert_check.proofs.TrailLemmas.{trail-bounds, trail-narrow}
 use Rattle.cert_check.proofs.VerdictSteps.{Goes, goes_first, goes_narrow, goes_turns, goes_next, goes_wrong, goes_all, place_here}
 use Rattle.cert_check.proofs.checking.check_nodes.Goals as goal
 
 pub loop-index-init : goal.loop-index-init
-loop-index-init c = record { deep = omega arith; long = Rattle.std.proofs.Common.refl; goes = λ tree walked. goes_first c.args.model.now c.args.claim.now tree }
+loop-index-init c = record {
+  trail = c.restart.ensures.trail;
+  deep = omega (arith, c.restart.ensures.depth);
+  room = c.restart.ensures.room;
+  goes = λ tree walked. subst (Goes c.args.model.now c.args.claim.now tree 0) (sym c.restart.ensures.path) (goes_first c.args.model.now c.args.claim.now tree);
+}
 
 pub judge-requires-clause-narrow : goal.judge-requires-clause-narrow
 judge-requires-clause-narrow c =
     let t = c.requires.tree in
-    goes_narrow c.args.model.now c.args.claim.now t.0 c.loop-index.index _ (c.loop-index.invariant.goes t.0 t.1)
+    let trail = c.loop-index.trail in
+    subst AreNarrow (sym c.region.ensures.region)
+    (trail-narrow trail c.loop-index.invariant.trail (goes_narrow c.args.model.now c.args.claim.now t.0 c.loop-index.index (path_of trail) (c.loop-index.invariant.goes t.0 t.1)))
 
 pub judge-requires-clause-placed : goal.judge-requires-clause-placed
 judge-requires-clause-placed c =
     let t = c.requires.tree in
     place_here c.args.model.now t.0 c.args.nodes.now t.1 c.loop-index.index c.loop-index-test.true c.index-nodes-index.result c.index-nodes-index.is
 
-pub step_on-depth-requires-clause-turns : goal.step_on-depth-requires-clause-turns
-step_on-depth-requires-clause-turns c =
+pub step_on-requires-clause-turns : goal.step_on-requires-clause-turns
+step_on-requires-clause-turns c =
     let t = c.requires.tree in
-    goes_turns c.args.model.now c.args.claim.now t.0 c.loop-index.index _ (c.loop-index.invariant.goes t.0 t.1)
+    goes_turns c.args.model.now c.args.claim.now t.0 c.loop-index.index (path_of c.loop-index.trail) (c.loop-index.invariant.goes t.0 t.1)
 
-pub returns-in-Breaks : goal.returns-in-Breaks
-returns-in-Breaks c = λ tree walked.
-    goes_wrong c.args.model.now c.args.claim.now tree c.args.nodes.now walked c.loop-index.index _ c.loop-index-test.true (c.loop-index.invariant.goes tree walked) c.index-nodes-index.result (Breaks c.in-Breaks.why)
-    c.index-nodes-index.is c.in-Breaks.ensures
+pub returns-in-Breaks-clause-verdict : goal.returns-in-Breaks-clause-verdict
+returns-in-Breaks-clause-verdict c = λ tree walked.
+    let M = c.args.model.now in
+    let claim = c.args.claim.now in
+    let trail = c.loop-index.trail in
+    let node = c.index-nodes-index.result in
+    let j = Breaks c.in-Breaks.why in
+    let same = trail-bounds trail c.loop-index.invariant.trail in
+    let judged = judged-same M _ (path_of trail) same claim node j (subst (λ R. IsPlacedJudged M claim R node j) c.region.ensures.region c.in-Breaks.ensures) in
+    goes_wrong M claim tree c.args.nodes.now walked c.loop-index.index (path_of trail) c.loop-index-test.true (c.loop-index.invariant.goes tree walked) node j c.index-nodes-index.is judged
 
-pub returns-in-NoRoom : goal.returns-in-NoRoom
-returns-in-NoRoom c = λ tree walked.
-    goes_wrong c.args.model.now c.args.claim.now tree c.args.nodes.now walked c.loop-index.index _ c.loop-index-test.true (c.loop-index.invariant.goes tree walked) c.index-nodes-index.result (NoRoom c.in-NoRoom.step)
-    c.index-nodes-index.is c.in-NoRoom.ensures
+pub returns-in-NoRoom-clause-verdict : goal.returns-in-NoRoom-clause-verdict
+returns-in-NoRoom-clause-verdict c = λ tree walked.
+    let M = c.args.model.now in
+    let claim = c.args.claim.now in
+    let trail = c.loop-index.trail in
+    let node = c.index-nodes-index.result in
+    let j = NoRoom c.in-NoRoom.step in
+    let same = trail-bounds trail c.loop-index.invariant.trail in
+    let judged = judged-same M _ (path_of trail) same claim node j (subst (λ R. IsPlacedJudged M claim R node j) c.region.ensures.region c.in-NoRoom.ensures) in
+    goes_wrong M claim tree c.args.nodes.now walked c.loop-index.index (path_of trail) c.loop-index-test.true (c.loop-index.invariant.goes tree walked) node j c.index-nodes-index.is judged
 
 pub loop-index-preserved : goal.loop-index-preserved
 loop-index-preserved c = record {
-  deep = omega (arith, c.step_on-depth.ensures.within, c.loop-index.invariant.deep);
-  long = c.step_on-depth.auto.path ∙ c.loop-index.invariant.long;
+  trail = c.step_on.ensures.trail;
+  deep = omega (arith, c.step_on.ensures.within, c.loop-index.invariant.deep);
+  room = c.step_on.ensures.room ∙ c.loop-index.invariant.room;
   goes = λ tree walked.
-      subst (Goes c.args.model.now c.args.claim.now tree (c.loop-index.index + 1)) (sym c.step_on-depth.ensures.path)
-      (goes_next c.args.model.now c.args.claim.now tree c.args.nodes.now walked c.loop-index.index _ c.loop-index-test.true (c.loop-index.invariant.goes tree walked) c.index-nodes-index.result c.index-nodes-index.is c.in-Passes.ensures);
+      let M = c.args.model.now in
+      let claim = c.args.claim.now in
+      let trail = c.loop-index.trail in
+      let node = c.index-nodes-index.result in
+      let same = trail-bounds trail c.loop-index.invariant.trail in
+      let judged = judged-same M _ (path_of trail) same claim node Passes (subst (λ R. IsPlacedJudged M claim R node Passes) c.region.ensures.region c.in-Passes.ensures) in
+      subst (Goes M claim tree (c.loop-index.index + 1)) (sym c.step_on.ensures.path)
+      (goes_next M claim tree c.args.nodes.now walked c.loop-index.index (path_of trail) c.loop-index-test.true (c.loop-index.invariant.goes tree walked) node c.index-nodes-index.is judged);
 }
 
-pub returns : goal.returns
-returns c = λ tree walked.
-    goes_all c.args.model.now c.args.claim.now tree c.args.nodes.now c.loop-index.index _ walked (omega arith) (c.loop-index.invariant.goes tree walked)
+pub returns-clause-verdict : goal.returns-clause-verdict
+returns-clause-verdict c = λ tree walked.
+    goes_all c.args.model.now c.args.claim.now tree c.args.nodes.now c.loop-index.index (path_of c.loop-index.trail) walked (omega (arith, c.loop-index-test.false)) (c.loop-index.invariant.goes tree walked)

@@ -1,9 +1,17 @@
-use Rattle.std.proofs.Common.{◌≡◌, ◌≤◌, take}
-use Rattle.cert_check.specs.Walk.{after_leaf}
+use Rattle.std.proofs.Common.{◌≡◌, ◌≤◌}
+use Rattle.std.specs.Prelude.{All}
+use Rattle.cert_check.specs.Walk.{CanTurn, after_leaf}
+use Rattle.cert_check.specs.Tight.{IsTrail, path_of, room}
 use Rattle.cert_check.proofs.checking.turn.Given as goal
 
-abbrev pub invariant-loop-depth : goal.invariant-loop-depth
-invariant-loop-depth l = record { within : l.depth ≤ l.fn.depth; unchanged : l.path ≡ l.fn.path; same : after_leaf (take l.fn.depth l.fn.path) ≡ after_leaf (take l.depth l.fn.path) }
+abbrev pub invariant-loop-trail : goal.invariant-loop-trail
+invariant-loop-trail l = record {
+  trail : IsTrail l.trail;
+  turns : All CanTurn (path_of l.trail);
+  path : after_leaf (path_of l.fn.trail) ≡ after_leaf (path_of l.trail);
+  within : l.trail.depth ≤ l.fn.trail.depth;
+  room : room l.trail ≡ room l.fn.trail;
+}
 
-abbrev pub decreases-loop-depth : goal.decreases-loop-depth
-decreases-loop-depth l = l.depth
+abbrev pub decreases-loop-trail : goal.decreases-loop-trail
+decreases-loop-trail l = l.trail.depth

@@ -1,0 +1,184 @@
+// The path to a node, and its region by the tightest changes alone. A leaf is judged by the region, which has at most one
+// change for each side of each column, however long the path is.
+ghost use Rattle.std.specs.Prelude.{◌≡◌, ◌<◌, ◌≤◌, ◌+◌, ◌++◌, ◌∷◌, [], length, take, set, max, IfOk, if◌then◌else◌, true};
+ghost use Rattle.cert_check.specs.Tight.{is_same_side, are_rivals, tighter_number, tighter, place_of, tightened, undone, AreApart, IsTrail, path_of, region_of, room};
+
+use lp_model::{BoundChange, ColId, Side};
+use std::alloc::{AllocError, Global};
+
+/// What a change replaced in a region, for the way back.
+#[derive(Clone, Copy, Debug, Drop)]
+pub(crate) struct Replaced {
+    pub(crate) place: usize,
+    pub(crate) was: BoundChange,
+    /// How many changes the region had.
+    pub(crate) count: usize,
+}
+
+/// The first `depth` changes of `path` are the path, and the first `count` of `region` its tightest changes.
+#[derive(Drop)]
+pub(crate) struct Trail {
+    pub(crate) path: Vec<BoundChange>,
+    pub(crate) replaced: Vec<Replaced>,
+    pub(crate) depth: usize,
+    pub(crate) region: Vec<BoundChange>,
+    pub(crate) count: usize,
+}
+
+/// Whether two sides are the same.
+fn is_same_side(first: Side, second: Side) -> bool
+    ensures { result ≡ is_same_side first second }
+{
+    match (first, second) {
+        (Side::Lo, Side::Lo) => true,
+        (Side::Hi, Side::Hi) => true,
+        _ => false,
+    }
+}
+
+/// Whether two changes are for the same side of the same column.
+fn are_rivals(first: &BoundChange, second: &BoundChange) -> bool
+    ensures { result ≡ are_rivals first.now second.now }
+{
+    first.col.0 == second.col.0 && is_same_side(first.side, second.side)
+}
+
+/// The tighter of two numbers for this side.
+fn tighter_number(side: Side, first: i128, second: i128) -> i128
+    ensures { result ≡ tighter_number side first second }
+{
+    let rises = first <= second;
+    match side {
+        Side::Lo => if rises { second } else { first },
+        Side::Hi => if rises { first } else { second },
+    }
+}
+
+/// The tighter of two changes for the same side of the same column.
+fn tighter(first: &BoundChange, second: &BoundChange) -> BoundChange
+    ensures { result ≡ tighter first.now second.now }
+{
+    BoundChange {
+        col: first.col,
+        side: first.side,
+        v: tighter_number(first.side, first.v, second.v),
+    }
+}
+
+/// The place of the change for the same side of the same column, or how many changes there are.
+fn place_of(region: &[BoundChange], change: &BoundChange) -> usize
+    ensures place { result ≡ place_of region.now change.now }
+    ensures within { result ≤ length region.now }
+{
+    for place in 0..region.len() {
+        if are_rivals(&region[place], change) {
+            return place;
+        }
+    }
+    region.len()
+}
+
+/// The region in the first `count` places, with one more change.
+fn tighten(places: &mut [BoundChange], count: usize, change: &BoundChange) -> Replaced
+    requires { count < length places.old }
+    ensures region { take (max count (result.place + 1)) places.new ≡ tightened (take count places.old) change.now }
+    ensures back { undone places.new result ≡ places.old }
+    ensures count { result.count ≡ count }
+    ensures within { result.place ≤ count }
+{
+    let place = place_of(&places[..count], change);
+    let was = places[place];
+    if place < count {
+        places[place] = tighter(&was, change);
+    } else {
+        places[place] = *change;
+    }
+    Replaced { place, was, count }
+}
+
+impl Trail {
+    /// At the root, with room for paths so long.
+    pub(crate) fn new(alloc: Global, length: usize) -> Result<Trail, AllocError>
+        ensures trail { IfOk result IsTrail }
+        ensures room { IfOk result (λ t. length ≤ room t) }
+    {
+        let change = BoundChange {
+            col: ColId(0),
+            side: Side::Lo,
+            v: 0,
+        };
+        let none = Replaced {
+            place: 0,
+            was: change,
+            count: 0,
+        };
+        let mut path = Vec::new(alloc);
+        let mut replaced = Vec::new(alloc);
+        let mut region = Vec::new(alloc);
+        while path.len() < length {
+            path.push(change)?;
+            replaced.push(none)?;
+            region.push(change)?;
+        }
+        Ok(Trail {
+            path,
+            replaced,
+            depth: 0,
+            region,
+            count: 0,
+        })
+    }
+
+    /// The tightest changes of the path.
+    pub(crate) fn region(&self) -> &[BoundChange]
+        requires { IsTrail self.now }
+        ensures region { result.now ≡ region_of self.now }
+        ensures apart { AreApart result.now }
+    {
+        &self.region[..self.count]
+    }
+
+    /// Back to the root.
+    pub(crate) fn restart(&mut self)
+        requires { IsTrail self.old }
+        ensures trail { IsTrail self.new }
+        ensures path { path_of self.new ≡ [] }
+        ensures depth { self.new.depth ≡ 0 }
+        ensures room { room self.new ≡ room self.old }
+    {
+        self.depth = 0;
+        self.count = 0;
+    }
+
+    /// One change further.
+    pub(crate) fn push(&mut self, change: BoundChange)
+        requires trail { IsTrail self.old }
+        requires room { self.old.depth < room self.old }
+        ensures trail { IsTrail self.new }
+        ensures path { path_of self.new ≡ path_of self.old ++ change ∷ [] }
+        ensures depth { self.new.depth ≡ self.old.depth + 1 }
+        ensures room { room self.new ≡ room self.old }
+    {
+        let replaced = tighten(&mut self.region, self.count, &change);
+        self.count = self.count.max(replaced.place + 1);
+        self.replaced[self.depth] = replaced;
+        self.path[self.depth] = change;
+        self.depth += 1;
+    }
+
+    /// Back by the last change.
+    pub(crate) fn pop(&mut self) -> BoundChange
+        requires trail { IsTrail self.old }
+        requires some { 0 < self.old.depth }
+        ensures trail { IsTrail self.new }
+        ensures path { path_of self.old ≡ path_of self.new ++ result ∷ [] }
+        ensures depth { self.old.depth ≡ self.new.depth + 1 }
+        ensures room { room self.new ≡ room self.old }
+    {
+        self.depth -= 1;
+        let last = self.replaced[self.depth];
+        self.region[last.place] = last.was;
+        self.count = last.count;
+        self.path[self.depth]
+    }
+}
