@@ -1,9 +1,10 @@
 -- A move leads from a lawful state to a lawful one.
-use Rattle.std.specs.Prelude.{◌≡◌, ℕ, zero, suc, ◌+◌, ◌<◌, ◌==◌, if◌then◌else◌, List, get_or, set, length, None}
+use Rattle.std.specs.Prelude.{◌≡◌, ◌≢◌, pos, ℕ, zero, suc, ◌+◌, ◌<◌, ◌==◌, if◌then◌else◌, List, get_or, set, length, None}
 use Rattle.std.proofs.Common.{refl, sym, ap, ap₂, subst, ◌∙◌, ⊎_elim}
 use Rattle.std.proofs.lemmas.Bool.{cases_eq}
 use Rattle.std.proofs.lemmas.List.{get_or-set_same, get_or-set_other, length-set}
-use Rattle.rational.specs.Rational.{ℚ, ◌+ℚ◌, ◌-ℚ◌, ◌*ℚ◌}
+use Rattle.lp_model.specs.Program.{coefficient}
+use Rattle.rational.specs.Rational.{ℚ, int, ◌+ℚ◌, ◌-ℚ◌, ◌*ℚ◌}
 use Rattle.checked_sum.proofs.SumLaws.{sum_below-same}
 use Rattle.bases.specs.declared.stand.Stand.{Stand}
 use Rattle.bases.specs.declared.stand.Stand.TheVariants.{Low, High, Free}
@@ -11,11 +12,12 @@ use Rattle.bases.specs.Relaxation.{Relaxation, Table, Agree, updated, reduced_co
 use Rattle.bases.specs.States.{IsLess, key, State, Standing, LawfulAt, Separates, IsGood, IsOutside, IsStep, stepped}
 use Rattle.bases.specs.Directions.{side_number}
 use Rattle.bases.proofs.SumBelowLaws.{if_same, if_other}
-use Rattle.bases.proofs.OneTable.{IsTable-agree, IsArranged-agree, agree_turned}
+use Rattle.bases.specs.Bases.{IsTableOf}
+use Rattle.bases.proofs.OneTable.{IsTable-agree, IsArranged-agree, IsTableOf-after, agree_turned}
 use Rattle.bases.proofs.Walk.{good_step, key_greater}
 use Rattle.bases.proofs.Parts.{positive_same}
 use Rattle.bases.proofs.Step.{counted}
-use Rattle.dual_simplex.specs.Held.{Held, IsKept, relaxation, parts, state, table, variables}
+use Rattle.dual_simplex.specs.Held.{Held, IsShaped, IsSided, IsKept, relaxation, parts, state, table, variables}
 use Rattle.dual_simplex.specs.Answers.{IsFirstOut}
 use Rattle.dual_simplex.specs.Moves.{IsEntered, IsMove}
 
@@ -50,6 +52,59 @@ stand_set xs place k side within = ⊎_elim
     (λ other. if_other k place side (get_or xs k Free) other ∙ sym (get_or-set_other xs place k side Free other))
     (cases_eq k place)
 
+-- the same relaxation and costs with the tableau that stands after it
+module _ (s after : Held) (shape : IsShaped s) (row : ℕ) (side : Stand) (place : ℕ) (move : IsMove s after row side place) where
+  abbrev pub made : Held
+  made = record { model = s.model; low = s.low; high = s.high; cost = s.cost; tilt = s.tilt; order = s.order; tableau = after.tableau; stands = set s.stands place side }
+
+  pub made_is : made ≡ after
+  made_is = λ i. record {
+    model = sym move.model i;
+    low = sym move.low i;
+    high = sym move.high i;
+    cost = sym move.cost i;
+    tilt = sym move.tilt i;
+    order = sym move.order i;
+    tableau = after.tableau;
+    stands = sym move.stands i;
+  }
+
+  pub made_relaxation : relaxation s ≡ relaxation made
+  made_relaxation = λ i. record {
+    columns = sym move.columns i;
+    activities = sym move.activities i;
+    coefficient = coefficient s.model;
+    low = λ v. get_or s.low v None;
+    high = λ v. get_or s.high v None;
+    cost = λ v. get_or s.cost v (int (pos 0));
+  }
+
+  made_variables : variables s ≡ variables made
+  made_variables = λ i. sym move.columns i + sym move.activities i
+
+  pub made_shape : IsShaped made
+  made_shape = record {
+    low_length = shape.low_length ∙ made_variables;
+    high_length = shape.high_length ∙ made_variables;
+    cost_length = shape.cost_length ∙ made_variables;
+    tilt_length = shape.tilt_length ∙ made_variables;
+    order_there = λ q w. subst (λ n. get_or s.order q 0 < n) made_variables (shape.order_there q w);
+    stands_length = length-set s.stands place side ∙ shape.stands_length ∙ sym move.columns;
+  }
+
+-- the table after an exchange is one of a basis
+pub sided_after : (s after : Held) → IsSided s → (row : ℕ) (side : Stand) (place : ℕ) → row < s.tableau.activities → place < s.tableau.columns → (table s).entry row place ≢ int (pos 0) → IsMove s after row side place → IsSided after
+sided_after s after sided row side place row_within place_within some move =
+    subst IsSided (made_is s after sided.shape row side place move)
+    (record {
+      shape = made_shape s after sided.shape row side place move;
+      separates = subst (λ r. Separates r (parts s)) (made_relaxation s after sided.shape row side place move) sided.separates;
+      table = subst (λ r. IsTableOf r (table after)) (made_relaxation s after sided.shape row side place move) (IsTableOf-after (relaxation s) (table s) (table after) row place row_within place_within some move.exchanged sided.table);
+    })
+
+pub sided_of : (s : Held) → IsKept s → IsSided s
+sided_of s kept = record { shape = kept.shape; separates = kept.separates; table = record { table = kept.good.table; arranged = kept.good.arranged } }
+
 module _ (s after : Held) (kept : IsKept s) (row : ℕ) (side : Stand) (place : ℕ) (out : IsFirstOut s row side) (enters : IsEntered s row side place) (move : IsMove s after row side place) where
   abbrev p : Relaxation
   p = relaxation s
@@ -66,21 +121,11 @@ module _ (s after : Held) (kept : IsKept s) (row : ℕ) (side : Stand) (place : 
   good_next : IsGood p (parts s) next
   good_next = good_step p (parts s) kept.separates (state s) next kept.good step
 
-  -- the same with the tableau that stands now
   abbrev moved : Held
-  moved = record { model = s.model; low = s.low; high = s.high; cost = s.cost; tilt = s.tilt; order = s.order; tableau = after.tableau; stands = set s.stands place side }
+  moved = made s after kept.shape row side place move
 
   moved_is : moved ≡ after
-  moved_is = λ i. record {
-    model = sym move.model i;
-    low = sym move.low i;
-    high = sym move.high i;
-    cost = sym move.cost i;
-    tilt = sym move.tilt i;
-    order = sym move.order i;
-    tableau = after.tableau;
-    stands = sym move.stands i;
-  }
+  moved_is = made_is s after kept.shape row side place move
 
   place_there : place < length s.stands
   place_there = let e = kept.shape.stands_length in subst (λ n. place < n) (sym e) enters.within
@@ -106,28 +151,11 @@ module _ (s after : Held) (kept : IsKept s) (row : ℕ) (side : Stand) (place : 
   good_moved = good_agree p (parts s) next (state moved) move.exchanged same_stand same_at good_next
 
   same_relaxation : p ≡ relaxation moved
-  same_relaxation = λ i. record {
-    columns = sym move.columns i;
-    activities = sym move.activities i;
-    coefficient = p.coefficient;
-    low = p.low;
-    high = p.high;
-    cost = p.cost;
-  }
-
-  same_variables : variables s ≡ variables moved
-  same_variables = λ i. sym move.columns i + sym move.activities i
+  same_relaxation = made_relaxation s after kept.shape row side place move
 
   kept_moved : IsKept moved
   kept_moved = record {
-    shape = record {
-      low_length = kept.shape.low_length ∙ same_variables;
-      high_length = kept.shape.high_length ∙ same_variables;
-      cost_length = kept.shape.cost_length ∙ same_variables;
-      tilt_length = kept.shape.tilt_length ∙ same_variables;
-      order_there = λ q w. subst (λ n. get_or s.order q 0 < n) same_variables (kept.shape.order_there q w);
-      stands_length = length-set s.stands place side ∙ kept.shape.stands_length ∙ sym move.columns;
-    };
+    shape = made_shape s after kept.shape row side place move;
     separates = subst (λ r. Separates r (parts s)) same_relaxation kept.separates;
     good = subst (λ r. IsGood r (parts s) (state moved)) same_relaxation good_moved;
   }

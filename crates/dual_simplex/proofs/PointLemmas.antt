@@ -11,12 +11,12 @@ use Rattle.bases.specs.States.{basic_value}
 use Rattle.bases.specs.Steps.{nothing, at_nonbasic, at_basic, PointFits, CostFits}
 use Rattle.bases.proofs.SumBelowLaws.{sum_below-zero, if_same, if_other}
 use Rattle.bases.proofs.Arranged.{assigned-basic, assigned-nonbasic}
-use Rattle.dual_simplex.specs.Held.{Held, IsKept, relaxation, state, table, variables}
+use Rattle.dual_simplex.specs.Held.{Held, IsSided, relaxation, state, table, variables}
 use Rattle.dual_simplex.specs.Answers.{IsWidePoint, IsWideCost}
 
-module _ (s : Held) (kept : IsKept s) where
+module _ (s : Held) (sided : IsSided s) where
   abbrev arranged : IsArranged (relaxation s) (table s)
-  arranged = kept.good.arranged
+  arranged = sided.table.arranged
 
   pub none_at_row : (c : ℕ → ℚ) (v row : ℕ) → row < s.tableau.activities → (table s).basic row ≡ v → at_nonbasic (relaxation s) (table s) c v ≡ int (pos 0)
   none_at_row c v row within e = ap (at_nonbasic (relaxation s) (table s) c) (sym e) ∙ assigned-basic (relaxation s) (table s) arranged nothing c row within

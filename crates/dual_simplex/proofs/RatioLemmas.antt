@@ -14,17 +14,17 @@ use Rattle.bases.specs.States.{sign, IsLess, IsSame}
 use Rattle.bases.proofs.SumBelowLaws.{if_same, if_other}
 use Rattle.bases.proofs.ReducedCosts.{reduced_alone-basic, reduced_alone-nonbasic}
 use Rattle.bases.proofs.Least.{first_differs, ratio_ends}
-use Rattle.dual_simplex.specs.Held.{Held, IsKept, relaxation, parts, state, table, variables, own_cost}
+use Rattle.dual_simplex.specs.Held.{Held, IsSided, relaxation, parts, state, table, variables, own_cost}
 use Rattle.dual_simplex.specs.Answers.{IsWide, IsPartOf, ratios}
 use Rattle.dual_simplex.specs.declared.state.LpStep.{LpStep}
 use Rattle.dual_simplex.specs.declared.state.LpStep.TheVariants.{Pivot, Point, Cost, RatioCost, Ratio}
 
-pub tilt_read : (s : Held) → IsKept s → (v : ℕ) → v < variables s → (x : Stand) → x ≡ get_or s.tilt v x → x ≡ get_or s.tilt v Free
-tilt_read s kept v within x is = is ∙ get_or_default s.tilt v x Free (let e = kept.shape.tilt_length in subst (λ n. v < n) (sym e) within)
+pub tilt_read : (s : Held) → IsSided s → (v : ℕ) → v < variables s → (x : Stand) → x ≡ get_or s.tilt v x → x ≡ get_or s.tilt v Free
+tilt_read s sided v within x is = is ∙ get_or_default s.tilt v x Free (let e = sided.shape.tilt_length in subst (λ n. v < n) (sym e) within)
 
 -- ---- a cost of one variable alone
 
-module _ (s : Held) (kept : IsKept s) (place v : ℕ) (place_within : place < s.tableau.columns) where
+module _ (s : Held) (sided : IsSided s) (place v : ℕ) (place_within : place < s.tableau.columns) where
   abbrev tilt_sign : ℚ
   tilt_sign = sign (get_or s.tilt v Free)
 
@@ -36,20 +36,20 @@ module _ (s : Held) (kept : IsKept s) (place v : ℕ) (place_within : place < s.
 
   pub own_basic : (row : ℕ) → row < s.tableau.activities → (table s).basic row ≡ v → tilt_sign *ℚ (table s).entry row place ≡ reduced_cost (relaxation s) (table s) (own_cost s v) place
   own_basic row within e =
-      sym (reduced_alone-basic (relaxation s) (table s) kept.good.arranged (own_cost s v) row place within place_within (λ u other. none_else u (λ w. other (w ∙ sym e)))
+      sym (reduced_alone-basic (relaxation s) (table s) sided.table.arranged (own_cost s v) row place within place_within (λ u other. none_else u (λ w. other (w ∙ sym e)))
       ∙ ap (λ t. t *ℚ (table s).entry row place) (ap (own_cost s v) e ∙ own_is))
 
   pub own_here : (k : ℕ) → k ≡ place → (table s).nonbasic k ≡ v → tilt_sign *ℚ int (pos 1) ≡ reduced_cost (relaxation s) (table s) (own_cost s v) place
   own_here k same e =
       let here : (table s).nonbasic place ≡ v = ap (table s).nonbasic (sym same) ∙ e in
       ring (tilt_sign ∷ []) (search reads_ℚ) tt
-      ∙ sym (reduced_alone-nonbasic (relaxation s) (table s) kept.good.arranged (own_cost s v) place place place_within place_within (λ u other. none_else u (λ w. other (w ∙ sym here)))
+      ∙ sym (reduced_alone-nonbasic (relaxation s) (table s) sided.table.arranged (own_cost s v) place place place_within place_within (λ u other. none_else u (λ w. other (w ∙ sym here)))
       ∙ ap (own_cost s v) here ∙ own_is)
 
   pub own_elsewhere : (k : ℕ) → ¬ (k ≡ place) → k < s.tableau.columns → (table s).nonbasic k ≡ v → int (pos 0) ≡ reduced_cost (relaxation s) (table s) (own_cost s v) place
   own_elsewhere k other within e =
-      sym (reduced_alone-nonbasic (relaxation s) (table s) kept.good.arranged (own_cost s v) k place within place_within (λ u apart. none_else u (λ w. apart (w ∙ sym e)))
-      ∙ none_else ((table s).nonbasic place) (λ w. other (kept.good.arranged.nonbasic_once k place within place_within (e ∙ sym w))))
+      sym (reduced_alone-nonbasic (relaxation s) (table s) sided.table.arranged (own_cost s v) k place within place_within (λ u apart. none_else u (λ w. apart (w ∙ sym e)))
+      ∙ none_else ((table s).nonbasic place) (λ w. other (sided.table.arranged.nonbasic_once k place within place_within (e ∙ sym w))))
 
 -- ---- parts
 
@@ -65,6 +65,9 @@ module _ (s : Held) where
       let less : q < length s.order = omega (arith, within) in
       let back : suc q - 1 ≡ q = omega arith in
       ap (λ c. reduced_cost (relaxation s) (table s) c place) (λ i v. (ap (λ u. own_cost s u v) (is ∙ ap (λ k. get_or s.order k 0) back) ∙ part_is q less v) i)
+
+  pub turn_part : (turn own place : ℕ) → turn < length s.order → own ≡ get_or s.order turn 0 → reduced_cost (relaxation s) (table s) (own_cost s own) place ≡ reduced_cost (relaxation s) (table s) (parts s (suc turn)) place
+  turn_part turn own place within is = ap (λ c. reduced_cost (relaxation s) (table s) c place) (λ i v. (ap (λ u. own_cost s u v) is ∙ part_is turn within v) i)
 
   pub parts_end : (q v : ℕ) → length s.order + 1 ≤ q → parts s q v ≡ int (pos 0)
   parts_end zero v past = absurd (omega (arith, past))

@@ -10,7 +10,7 @@ use Rattle.bases.specs.declared.stand.Stand.TheVariants.{Low, High, Free}
 use Rattle.bases.specs.States.{sign, IsOutside, basic_value}
 use Rattle.bases.specs.Directions.{side_number}
 use Rattle.bases.proofs.BringIn.{basic_within}
-use Rattle.dual_simplex.specs.Held.{Held, IsKept, relaxation, state, table, variables}
+use Rattle.dual_simplex.specs.Held.{Held, IsSided, relaxation, state, table, variables}
 use Rattle.dual_simplex.specs.Breach.{IsUnder, IsOver, IsBreach}
 use Rattle.dual_simplex.specs.Answers.{IsInside, IsRowBreach, IsVisited, IsFirstOut}
 use Rattle.dual_simplex.specs.declared.leaving.Leaving.{Leaving}
@@ -48,12 +48,12 @@ module _ (s : Held) (row : ℕ) where
       inside Free b out = out
 
 -- the sides that were read are those of the row's variable
-pub breach_at : (s : Held) → IsKept s → (row v : ℕ) → row < s.tableau.activities → v ≡ (table s).basic row → (low high : Option ℚ) → low ≡ get_or s.low v low → high ≡ get_or s.high v high
+pub breach_at : (s : Held) → IsSided s → (row v : ℕ) → row < s.tableau.activities → v ≡ (table s).basic row → (low high : Option ℚ) → low ≡ get_or s.low v low → high ≡ get_or s.high v high
     → (x : ℚ) (r : Option Stand) → IsBreach low high x r → IsBreach ((relaxation s).low ((table s).basic row)) ((relaxation s).high ((table s).basic row)) x r
-breach_at s kept row v within is low high low_is high_is x r h =
-    let there : v < variables s = subst (λ u. u < variables s) (sym is) (basic_within (relaxation s) (table s) kept.good.arranged row within) in
-    let low_read : low ≡ get_or s.low ((table s).basic row) None = low_is ∙ get_or_default s.low v low None (let e = kept.shape.low_length in subst (λ n. v < n) (sym e) there) ∙ ap (λ u. get_or s.low u None) is in
-    let high_read : high ≡ get_or s.high ((table s).basic row) None = high_is ∙ get_or_default s.high v high None (let e = kept.shape.high_length in subst (λ n. v < n) (sym e) there) ∙ ap (λ u. get_or s.high u None) is in
+breach_at s sided row v within is low high low_is high_is x r h =
+    let there : v < variables s = subst (λ u. u < variables s) (sym is) (basic_within (relaxation s) (table s) sided.table.arranged row within) in
+    let low_read : low ≡ get_or s.low ((table s).basic row) None = low_is ∙ get_or_default s.low v low None (let e = sided.shape.low_length in subst (λ n. v < n) (sym e) there) ∙ ap (λ u. get_or s.low u None) is in
+    let high_read : high ≡ get_or s.high ((table s).basic row) None = high_is ∙ get_or_default s.high v high None (let e = sided.shape.high_length in subst (λ n. v < n) (sym e) there) ∙ ap (λ u. get_or s.high u None) is in
     subst (λ l. IsBreach l (get_or s.high ((table s).basic row) None) x r) low_read (subst (λ m. IsBreach low m x r) high_read h)
 
 -- ---- the first that is outside
@@ -71,5 +71,5 @@ first_out s v leaving before h = record {
 pub inside_more : (s : Held) (v : ℕ) → AreInside s v → IsVisited s v (Ok None) → AreInside s (v + 1)
 inside_more s v before here = below_more (λ u. (row : ℕ) → row < s.tableau.activities → (table s).basic row ≡ u → IsInside s row) v before here
 
-pub all_inside : (s : Held) → IsKept s → (n : ℕ) → variables s ≤ n → AreInside s n → (i : ℕ) → i < s.tableau.activities → IsInside s i
-all_inside s kept n past before i q = let w = basic_within (relaxation s) (table s) kept.good.arranged i q in before ((table s).basic i) (omega (arith, w, past)) i q refl
+pub all_inside : (s : Held) → IsSided s → (n : ℕ) → variables s ≤ n → AreInside s n → (i : ℕ) → i < s.tableau.activities → IsInside s i
+all_inside s sided n past before i q = let w = basic_within (relaxation s) (table s) sided.table.arranged i q in before ((table s).basic i) (omega (arith, w, past)) i q refl

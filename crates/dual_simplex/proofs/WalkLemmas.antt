@@ -26,7 +26,7 @@ moves_more n s mid after moves move = let e : suc n ≡ n + 1 = omega arith in s
 
 -- ---- keys rise
 
-rises_once : (s after : Held) → IsKept s → IsMoved s after → Rises s after
+pub rises_once : (s after : Held) → IsKept s → IsMoved s after → Rises s after
 rises_once s after kept moved = record {
   kept = kept_after s after kept moved.row moved.side moved.place moved.out moved.enters moved.move;
   same_relaxation = relaxation_after s after kept moved.row moved.side moved.place moved.out moved.enters moved.move;
@@ -34,7 +34,7 @@ rises_once s after kept moved = record {
   key = key_after s after kept moved.row moved.side moved.place moved.out moved.enters moved.move;
 }
 
-rises_both : (s mid after : Held) → Rises s mid → Rises mid after → Rises s after
+pub rises_both : (s mid after : Held) → Rises s mid → Rises mid after → Rises s after
 rises_both s mid after first second = record {
   kept = second.kept;
   same_relaxation = first.same_relaxation ∙ second.same_relaxation;

@@ -43,6 +43,14 @@ IsWide s (Cost k b) = (place : ℕ) × IsWideCost s place (number s.tableau k) (
 IsWide s (RatioCost r k) = (row : ℕ) × ((place : ℕ) × IsWideRatio s row place 0 (number s.tableau r) (number s.tableau k))
 IsWide s (Ratio r k v) = (row : ℕ) × ((place : ℕ) × ((q : ℕ) × (IsWideRatio s row place (q + 1) (number s.tableau r) (number s.tableau k) × (number s.tableau v ≡ get_or s.order q 0))))
 
+-- the step is one of a reduced cost, and has no room
+abbrev pub IsWideCostStep : Held → LpStep → Type 0
+IsWideCostStep s (Pivot wide) = ⊥
+IsWideCostStep s (Point b k) = ⊥
+IsWideCostStep s (Cost k b) = (place : ℕ) × IsWideCost s place (number s.tableau k) (number s.tableau b)
+IsWideCostStep s (RatioCost r k) = ⊥
+IsWideCostStep s (Ratio r k v) = ⊥
+
 -- the number, or a step without room
 abbrev pub IsNumber : Held → ℚ → Result ℚ LpStep → Type 0
 IsNumber s x (Ok v) = v ≡ x

@@ -7,6 +7,7 @@ use Rattle.bases.specs.declared.stand.Stand.{Stand}
 use Rattle.bases.specs.declared.stand.Stand.TheVariants.{Free}
 use Rattle.bases.specs.States.{State, sign, Separates, IsGood}
 use Rattle.bases.specs.Directions.{side_number}
+use Rattle.bases.specs.Bases.{IsTableOf}
 use Rattle.row_tableau.specs.Dense.{Dense, table_of}
 
 -- sides, costs and tilts by variable, and the variables that have a tilt in the order of the parts
@@ -63,6 +64,12 @@ pub record IsShaped (s : Held) : Type 0 where
   pub tilt_length : length s.tilt ≡ variables s
   pub order_there : (q : ℕ) → q < length s.order → get_or s.order q 0 < variables s
   pub stands_length : length s.stands ≡ s.tableau.columns
+
+-- the table of a basis of the relaxation, whose variables the costs separate
+pub record IsSided (s : Held) : Type 0 where
+  pub shape : IsShaped s
+  pub separates : Separates (relaxation s) (parts s)
+  pub table : IsTableOf (relaxation s) (table s)
 
 -- a lawful state of a relaxation whose variables the costs separate
 pub record IsKept (s : Held) : Type 0 where

@@ -4,4 +4,10 @@ pub mod Answers
 pub mod Moves
 pub mod Walks
 pub mod Laws
+pub mod Tilts
 pub mod Slack
+pub mod Lists
+pub mod Solves
+pub mod ListLaws
+pub mod Starts
+pub mod SlackBases

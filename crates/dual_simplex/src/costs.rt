@@ -1,11 +1,12 @@
 // Reduced costs.
-ghost use Rattle.std.specs.Prelude.{◌≡◌, ◌<◌};
+ghost use Rattle.std.specs.Prelude.{◌≡◌, ◌<◌, IfErr};
 ghost use Rattle.bases.specs.Relaxation.{reduced_cost};
 ghost use Rattle.bases.specs.Steps.{at_basic};
 ghost use Rattle.dual_simplex.specs.Held.{relaxation, table, variables};
-ghost use Rattle.dual_simplex.specs.Answers.{IsNumber};
+ghost use Rattle.dual_simplex.specs.Answers.{IsNumber, IsWideCostStep};
 
-use crate::state::{LpState, LpStep};
+use crate::sided::SidedBasis;
+use crate::state::LpStep;
 use checked_sum::{Terms, checked_sum};
 use frac128::Frac;
 use row_tableau::Position;
@@ -13,7 +14,7 @@ use row_tableau::Position;
 /// The terms of the reduced cost of a place, by variable: cost times entry of the basic ones.
 #[derive(Drop)]
 struct CostTerms<'a, 'b> {
-    state: &'b LpState<'a>,
+    state: &'b SidedBasis<'a>,
     place: usize,
     ghost within: { place < state.now.tableau.columns },
 }
@@ -38,7 +39,7 @@ impl Terms for CostTerms<'_, '_> {
     }
 }
 
-impl LpState<'_> {
+impl SidedBasis<'_> {
     /// The cost of a variable.
     pub(crate) fn cost_of(&self, variable: usize) -> Frac
         requires { variable < variables self.now }
@@ -62,7 +63,8 @@ impl LpState<'_> {
     /// The reduced cost of a place, or the first of its terms, in the order of the variables, that has no room.
     pub(crate) fn reduced_cost(&self, place: usize) -> Result<Frac, LpStep>
         requires { place < self.now.tableau.columns }
-        ensures { IsNumber self.now (reduced_cost (relaxation self.now) (table self.now) (relaxation self.now).cost place) result }
+        ensures value { IsNumber self.now (reduced_cost (relaxation self.now) (table self.now) (relaxation self.now).cost place) result }
+        ensures step { IfErr result (IsWideCostStep self.now) }
     {
         let variable = self.tableau.nonbasic(place);
         let terms = CostTerms { state: self, place };

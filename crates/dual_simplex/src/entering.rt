@@ -1,12 +1,13 @@
 // Which variable enters.
 ghost use Rattle.std.specs.Prelude.{◌≡◌, ◌↔◌, ◌<◌, ◌+◌, IsTrue};
 
+use crate::sided::SidedBasis;
 use crate::sides::moves_back;
 use crate::state::{LpState, LpStep};
 use bases::Stand;
 use std::cmp::Ordering;
 
-impl LpState<'_> {
+impl SidedBasis<'_> {
     ghost use Rattle.dual_simplex.specs.Answers.{May, IsLeastBelow, IsEntering};
 
     /// Whether the variable of a place moves the basic variable of a row back that is outside that side.
@@ -58,5 +59,17 @@ impl LpState<'_> {
             }
         }
         Ok(found)
+    }
+}
+
+impl LpState<'_> {
+    ghost use Rattle.dual_simplex.specs.Answers.{IsEntering};
+
+    /// The first place that may enter with the least ratio.
+    pub(crate) fn entering(&self, row: usize, side: Stand) -> Result<Option<usize>, LpStep>
+        requires { row < self.now.tableau.activities }
+        ensures { IsEntering self.now row side self.now.tableau.columns result }
+    {
+        self.basis.entering(row, side)
     }
 }

@@ -2,6 +2,7 @@
 ghost use Rattle.std.specs.Prelude.{◌≡◌, ◌<◌};
 ghost use Rattle.dual_simplex.specs.Held.{variables};
 
+use crate::sided::SidedBasis;
 use crate::sides::breach;
 use crate::state::{LpState, LpStep};
 use bases::Stand;
@@ -14,7 +15,7 @@ pub struct Leaving {
     pub side: Stand,
 }
 
-impl LpState<'_> {
+impl SidedBasis<'_> {
     ghost use Rattle.dual_simplex.specs.Answers.{IsRowBreach, IsVisited, IsLeaving};
 
     /// The side that the basic variable of a row is outside of, if any.
@@ -58,5 +59,16 @@ impl LpState<'_> {
             }
         }
         Ok(None)
+    }
+}
+
+impl LpState<'_> {
+    ghost use Rattle.dual_simplex.specs.Answers.{IsLeaving};
+
+    /// The first basic variable that is outside a side.
+    pub(crate) fn leaving(&self) -> Result<Option<Leaving>, LpStep>
+        ensures { IsLeaving self.now result }
+    {
+        self.basis.leaving()
     }
 }

@@ -17,26 +17,44 @@
 //!
 //! Public contract: `step` answers Optimal exactly where no basic variable is outside a side, Infeasible exactly where
 //! one is and none may enter, and else makes the step that `bases` defines, or names a step of arithmetic without room
-//! and changes nothing. `walk` makes steps up to a limit; `slack` is a lawful state to begin at, where there is one.
+//! and changes nothing. `walk` makes steps up to a limit. `start` stands at a given list where it is lawful, and else
+//! at a first one that is; `slack` and `slack_basis` give one where the slack state is lawful, as it always is in the
+//! directions.
 //! Below stand `row_tableau` and `bases`; above, the search.
 #![tactic(auto)]
 
+mod asked;
 mod costs;
 mod entering;
 mod laws;
 mod leaving;
+mod list_laws;
+mod lists;
 mod numbers;
 mod point;
 mod ratio;
+mod sided;
 mod sides;
 mod sides_of;
 mod slack;
+mod slack_bases;
+mod solve;
+mod start;
 mod state;
 mod step;
+mod tilts;
 mod walk;
 
-pub use laws::{blocked_law, move_law, optimal_law, walk_law};
+pub use laws::{
+    blocked_law, continues_law, end_law, few_moves_law, good_law, keeps_free_law, lawful_list_law,
+    move_law, optimal_law, parts_law, walk_law,
+};
 pub use leaving::Leaving;
+pub use list_laws::{listed_law, walk_states_law};
+pub use slack_bases::slack_basis;
+pub use solve::Lp;
+pub use start::StartFault;
 pub use state::{LpState, LpStep};
 pub use step::Step;
+pub use tilts::is_sided;
 pub use walk::Walk;

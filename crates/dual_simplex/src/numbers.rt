@@ -6,14 +6,15 @@ ghost use Rattle.dual_simplex.specs.Held.{relaxation, state, table, variables};
 ghost use Rattle.dual_simplex.specs.Answers.{IsNumber};
 
 use crate::leaving::Leaving;
+use crate::sided::SidedBasis;
 use crate::sides::signed;
 use crate::state::{LpState, LpStep};
 use frac128::Frac;
 use row_tableau::Position;
 
-impl LpState<'_> {
+impl SidedBasis<'_> {
     /// The number of a variable at the state's point, or the first step that has no room.
-    pub fn number_of(&self, variable: usize) -> Result<Frac, LpStep>
+    pub(crate) fn number_of(&self, variable: usize) -> Result<Frac, LpStep>
         requires { variable < variables self.now }
         ensures { IsNumber self.now (point (relaxation self.now) (table self.now) (state self.now).at variable) result }
     {
@@ -24,7 +25,7 @@ impl LpState<'_> {
     }
 
     /// The multiplier of a variable: its reduced cost, 0 for a basic one; or the first step that has no room.
-    pub fn multiplier_of(&self, variable: usize) -> Result<Frac, LpStep>
+    pub(crate) fn multiplier_of(&self, variable: usize) -> Result<Frac, LpStep>
         requires { variable < variables self.now }
         ensures { IsNumber self.now (multipliers (relaxation self.now) (table self.now) (relaxation self.now).cost variable) result }
     {
@@ -36,7 +37,7 @@ impl LpState<'_> {
 
     /// The Farkas multiplier of a variable where a basic variable is outside a side and none may enter for it: of the
     /// leaving one 1, of each nonbasic one the negative of its entry in the row, all negated above the high side.
-    pub fn farkas_of(&self, leaving: &Leaving, variable: usize) -> Frac
+    pub(crate) fn farkas_of(&self, leaving: &Leaving, variable: usize) -> Frac
         requires row { leaving.now.row < self.now.tableau.activities }
         requires variable { variable < variables self.now }
         ensures { result ≡ farkas_weights (relaxation self.now) (state self.now) leaving.now.row leaving.now.side variable }
@@ -48,5 +49,40 @@ impl LpState<'_> {
                 signed(leaving.side, &self.tableau.entry(leaving.row, place).neg())
             }
         }
+    }
+}
+
+impl LpState<'_> {
+    /// How many variables there are.
+    pub fn variables(&self) -> usize
+        ensures { result ≡ variables self.now }
+    {
+        self.basis.variables()
+    }
+
+    /// The number of a variable at the state's point, or the first step that has no room.
+    pub fn number_of(&self, variable: usize) -> Result<Frac, LpStep>
+        requires { variable < variables self.now }
+        ensures { IsNumber self.now (point (relaxation self.now) (table self.now) (state self.now).at variable) result }
+    {
+        self.basis.number_of(variable)
+    }
+
+    /// The multiplier of a variable: its reduced cost, 0 for a basic one; or the first step that has no room.
+    pub fn multiplier_of(&self, variable: usize) -> Result<Frac, LpStep>
+        requires { variable < variables self.now }
+        ensures { IsNumber self.now (multipliers (relaxation self.now) (table self.now) (relaxation self.now).cost variable) result }
+    {
+        self.basis.multiplier_of(variable)
+    }
+
+    /// The Farkas multiplier of a variable where a basic variable is outside a side and none may enter for it: of the
+    /// leaving one 1, of each nonbasic one the negative of its entry in the row, all negated above the high side.
+    pub fn farkas_of(&self, leaving: &Leaving, variable: usize) -> Frac
+        requires row { leaving.now.row < self.now.tableau.activities }
+        requires variable { variable < variables self.now }
+        ensures { result ≡ farkas_weights (relaxation self.now) (state self.now) leaving.now.row leaving.now.side variable }
+    {
+        self.basis.farkas_of(leaving, variable)
     }
 }

@@ -5,7 +5,8 @@ ghost use Rattle.bases.specs.States.{basic_value};
 ghost use Rattle.bases.specs.Directions.{side_number};
 ghost use Rattle.dual_simplex.specs.Held.{relaxation, state, table, variables};
 
-use crate::state::{LpState, LpStep};
+use crate::sided::SidedBasis;
+use crate::state::LpStep;
 use bases::Stand;
 use checked_sum::{Terms, checked_sum};
 use frac128::Frac;
@@ -26,7 +27,7 @@ fn side_number(stand: Stand, low: &Bound, high: &Bound) -> Frac
 /// The terms of the value of a basic variable, by variable: entry times number of the nonbasic ones.
 #[derive(Drop)]
 struct PointTerms<'a, 'b> {
-    state: &'b LpState<'a>,
+    state: &'b SidedBasis<'a>,
     row: usize,
     ghost within: { row < state.now.tableau.activities },
 }
@@ -51,11 +52,11 @@ impl Terms for PointTerms<'_, '_> {
     }
 }
 
-impl LpState<'_> {
+impl SidedBasis<'_> {
     ghost use Rattle.dual_simplex.specs.Answers.{IsNumber};
 
     /// How many variables there are.
-    pub fn variables(&self) -> usize
+    pub(crate) fn variables(&self) -> usize
         ensures { result ≡ variables self.now }
     {
         self.tableau.columns() + self.tableau.activities()

@@ -4,18 +4,19 @@ ghost use Rattle.rational.specs.Rational.{int};
 ghost use Rattle.bases.specs.Relaxation.{reduced_cost};
 ghost use Rattle.dual_simplex.specs.Held.{relaxation, parts, table, variables, own_cost};
 
+use crate::sided::SidedBasis;
 use crate::sides::{is_below, signed};
-use crate::state::{LpState, LpStep};
+use crate::state::LpStep;
 use bases::Stand;
 use frac128::Frac;
 use row_tableau::Position;
 use std::cmp::Ordering;
 
-impl LpState<'_> {
+impl SidedBasis<'_> {
     ghost use Rattle.dual_simplex.specs.Answers.{IsNumber, IsPartOf, IsOrder, ratios};
 
     /// The reduced cost of a place where one variable alone has a cost, the sign of its tilt.
-    fn own_reduced(&self, place: usize, variable: usize) -> Frac
+    pub(crate) fn own_reduced(&self, place: usize, variable: usize) -> Frac
         requires place { place < self.now.tableau.columns }
         requires variable { variable < variables self.now }
         ensures { result ≡ reduced_cost (relaxation self.now) (table self.now) (own_cost self.now variable) place }

@@ -1,14 +1,11 @@
-// Sides, costs and tilts of the variables of a relaxation.
+// Sides and costs of the variables of a relaxation.
 ghost use Rattle.std.specs.Prelude.{◌≡◌, ◌<◌, ◌+◌, ℕ, length, get_or, pos, IfOk, None};
 ghost use Rattle.rational.specs.Rational.{int};
 ghost use Rattle.lp_model.specs.Regions.{AreNarrow};
 ghost use Rattle.row_tableau.specs.Relaxations.{plain, relaxation_of};
 ghost use Rattle.lp_model.specs.Program.{in_least_form};
-ghost use Rattle.bases.specs.declared.stand.Stand.TheVariants.{Free};
-ghost use Rattle.dual_simplex.specs.Slack.{stand_by_sides, free_tilt, tilt_of};
 ghost use Rattle.bases.specs.Directions.{direction_side};
 
-use bases::Stand;
 use frac128::Frac;
 use lp_model::{Bound, Sense};
 use row_tableau::{Relax, RelaxKind};
@@ -150,73 +147,6 @@ pub fn costs(alloc: Global, relax: &Relax<'_>) -> Result<Vec<Frac>, AllocError>
     let mut list = Vec::new(alloc);
     for variable in 0..variables {
         list.push(cost_of(relax, variable))?;
-    }
-    Ok(list)
-}
-
-/// The low side where there is one, else the high one, else what is given.
-fn stand_by_sides(none: Stand, low: &Bound, high: &Bound) -> Stand
-    ensures { result ≡ stand_by_sides none low.now high.now }
-{
-    match (low, high) {
-        (Some(_), _) => Stand::Low,
-        (None, Some(_)) => Stand::High,
-        (None, None) => none,
-    }
-}
-
-/// How a variable without sides is tilted.
-fn free_tilt(relax: &Relax<'_>, variable: usize) -> Stand
-    ensures { result ≡ free_tilt relax.now.kind (length relax.now.model.now.cols) variable }
-{
-    match relax.kind {
-        RelaxKind::Plain => Stand::Free,
-        RelaxKind::CostsZero => Stand::Free,
-        RelaxKind::Directions => {
-            if variable < relax.model.cols().len() {
-                Stand::Low
-            } else {
-                Stand::Free
-            }
-        }
-    }
-}
-
-/// The tilt of a variable.
-pub fn tilt_of(relax: &Relax<'_>, variable: usize) -> Stand
-    requires within { variable < length relax.now.model.now.cols + length relax.now.model.now.rows }
-    requires narrow { AreNarrow relax.now.region.now }
-    ensures { result ≡ tilt_of relax.now variable }
-{
-    stand_by_sides(
-        free_tilt(relax, variable),
-        &plain_low(relax, variable),
-        &plain_high(relax, variable),
-    )
-}
-
-/// The tilts of all variables.
-pub fn tilts(alloc: Global, relax: &Relax<'_>) -> Result<Vec<Stand>, AllocError>
-    requires { AreNarrow relax.now.region.now }
-    ensures length { IfOk result (λ v. length v.items ≡ length relax.now.model.now.cols + length relax.now.model.now.rows) }
-    ensures items { IfOk result (λ v. (u : ℕ) → u < length relax.now.model.now.cols + length relax.now.model.now.rows → get_or v.items u Free ≡ tilt_of relax.now u) }
-{
-    let variables = relax.model.cols().len() + relax.model.rows().len();
-    let mut list = Vec::new(alloc);
-    for variable in 0..variables {
-        list.push(tilt_of(relax, variable))?;
-    }
-    Ok(list)
-}
-
-/// The numbers of all variables, in order.
-pub fn numbers(alloc: Global, count: usize) -> Result<Vec<usize>, AllocError>
-    ensures length { IfOk result (λ v. length v.items ≡ count) }
-    ensures items { IfOk result (λ v. (q : ℕ) → q < count → get_or v.items q 0 ≡ q) }
-{
-    let mut list = Vec::new(alloc);
-    for number in 0..count {
-        list.push(number)?;
     }
     Ok(list)
 }

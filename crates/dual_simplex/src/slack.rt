@@ -1,107 +1,47 @@
 // The slack state.
-ghost use Rattle.std.specs.Prelude.{◌≡◌, ◌↔◌, ◌<◌, length, [], IsTrue, IfOk, None};
-ghost use Rattle.std.specs.Option.{option_map};
+ghost use Rattle.std.specs.Prelude.{◌≡◌, ◌<◌, ℕ, length, get_or, false, IsTrue, IfOk, IsSome};
 ghost use Rattle.lp_model.specs.Regions.{AreNarrow};
-ghost use Rattle.row_tableau.specs.Relaxations.{relaxation_of};
-ghost use Rattle.dual_simplex.specs.Slack.{entries, IsAsked, HasPlace, IsStandOf, AreStands, IsSlackAnswer};
+ghost use Rattle.bases.specs.declared.stand.Stand.TheVariants.{Free};
+ghost use Rattle.bases.specs.Relaxation.{reduced_cost};
+ghost use Rattle.row_tableau.specs.declared.relax.RelaxKind.TheVariants.{Directions};
+ghost use Rattle.dual_simplex.specs.Held.{relaxation, table};
+ghost use Rattle.dual_simplex.specs.Tilts.{KeepsFree};
+ghost use Rattle.dual_simplex.specs.Slack.{IsSlackState, IsSlackAnswer, IsPlaced, IsMisplaced, IsStandAnswer, IsRestood};
 
-use crate::sides_of::{cost_of, costs, high_of, highs, low_of, lows, numbers, tilt_of, tilts};
+use crate::sided::SidedBasis;
+use crate::sides_of::{costs, highs, lows};
 use crate::state::LpState;
+use crate::tilts::{order, tilts};
 use bases::Stand;
-use frac128::Frac;
 use row_tableau::{Relax, Tableau};
 use std::alloc::{AllocError, Global};
 
-/// The side that the sign of a cost asks for, or of its tilt where the cost is 0.
-fn asked(cost: &Frac, tilt: Stand) -> Stand
-    ensures { IsAsked cost.now tilt result }
-{
-    if cost.is_positive() {
-        Stand::Low
-    } else if cost.is_negative() {
-        Stand::High
-    } else {
-        tilt
-    }
-}
-
-/// Whether a column has no side.
-fn is_free(relax: &Relax<'_>, column: usize) -> bool
-    requires within { column < length relax.now.model.now.cols }
-    requires narrow { AreNarrow relax.now.region.now }
-    ensures { IsTrue result ↔ ((relaxation_of relax.now).low column ≡ None) × ((relaxation_of relax.now).high column ≡ None) }
-{
-    low_of(relax, column).is_none() && high_of(relax, column).is_none()
-}
-
-/// Whether a column has no entries.
-fn has_no_entries(relax: &Relax<'_>, column: usize) -> bool
-    requires { column < length relax.now.model.now.cols }
-    ensures { IsTrue result ↔ entries relax.now.model.now column ≡ [] }
-{
-    relax.model.cols()[column].rows.as_slice().is_empty()
-}
-
-/// Whether a column can stand so: it has that side, or has neither side nor entries.
-fn has_place(relax: &Relax<'_>, column: usize, stand: Stand) -> bool
-    requires within { column < length relax.now.model.now.cols }
-    requires narrow { AreNarrow relax.now.region.now }
-    ensures { IsTrue result ↔ HasPlace relax.now column stand }
-{
-    match stand {
-        Stand::Low => low_of(relax, column).is_some(),
-        Stand::High => high_of(relax, column).is_some(),
-        Stand::Free => is_free(relax, column) && has_no_entries(relax, column),
-    }
-}
-
-/// Where a column stands in the slack state, if it can.
-fn stand_of(relax: &Relax<'_>, column: usize) -> Option<Stand>
-    requires within { column < length relax.now.model.now.cols }
-    requires narrow { AreNarrow relax.now.region.now }
-    ensures { IsStandOf relax.now column result }
-{
-    let stand = asked(&cost_of(relax, column), tilt_of(relax, column));
-    if has_place(relax, column, stand) {
-        Some(stand)
-    } else {
-        None
-    }
-}
-
-/// Where all columns stand in the slack state, if they can.
-fn stands(alloc: Global, relax: &Relax<'_>) -> Result<Option<Vec<Stand>>, AllocError>
-    requires { AreNarrow relax.now.region.now }
-    ensures { IfOk result (λ o. AreStands relax.now (option_map (λ v. v.items) o)) }
+/// As many places without a side.
+fn all_free(alloc: Global, count: usize) -> Result<Vec<Stand>, AllocError>
+    ensures { IfOk result (λ v. length v.items ≡ count) }
 {
     let mut list = Vec::new(alloc);
-    for column in 0..relax.model.cols().len() {
-        match stand_of(relax, column) {
-            Some(stand) => list.push(stand)?,
-            None => return Ok(None),
-        }
+    for _place in 0..count {
+        list.push(Stand::Free)?;
     }
-    Ok(Some(list))
+    Ok(list)
 }
 
-impl<'a> LpState<'a> {
-    /// The slack state of a relaxation: the activities are basic, and each column stands where the sign of its cost asks
-    /// it to, or that of its tilt where the cost is 0. None where some column has no such side.
-    pub fn slack(alloc: Global, relax: &Relax<'a>) -> Result<Option<LpState<'a>>, AllocError>
-        requires { AreNarrow relax.now.region.now }
-        ensures { IfOk result (IsSlackAnswer relax.now) }
+impl<'a> SidedBasis<'a> {
+    /// The slack basis of a relaxation, with no variable at a side.
+    pub(crate) fn slack(alloc: Global, relax: &Relax<'a>) -> Result<SidedBasis<'a>, AllocError>
+        requires narrow { AreNarrow relax.now.region.now }
+        requires sides { KeepsFree relax.now.model.now relax.now.region.now }
+        ensures { IfOk result (IsSlackState relax.now) }
     {
-        let stands = match stands(alloc, relax)? {
-            Some(stands) => stands,
-            None => return Ok(None),
-        };
         let tableau = Tableau::slack_start(alloc, relax)?;
         let low = lows(alloc, relax)?;
         let high = highs(alloc, relax)?;
         let cost = costs(alloc, relax)?;
         let tilt = tilts(alloc, relax)?;
-        let order = numbers(alloc, relax.model.cols().len() + relax.model.rows().len())?;
-        Ok(Some(LpState {
+        let order = order(alloc, relax)?;
+        let stands = all_free(alloc, relax.model.cols().len())?;
+        Ok(SidedBasis {
             model: relax.model,
             low,
             high,
@@ -110,6 +50,57 @@ impl<'a> LpState<'a> {
             order,
             tableau,
             stands,
-        }))
+        })
+    }
+
+    /// Where the variable of a place stands by its cost, which is its reduced cost, if it can.
+    fn stand_by_cost(&self, place: usize) -> Option<Stand>
+        requires place { place < self.now.tableau.columns }
+        requires cost { (relaxation self.now).cost ((table self.now).nonbasic place) ≡ reduced_cost (relaxation self.now) (table self.now) (relaxation self.now).cost place }
+        ensures { IsStandAnswer self.now place result }
+    {
+        let cost = self.cost_of(self.tableau.nonbasic(place));
+        let stand = self.asked(place, &cost);
+        if self.can_stand(place, stand) {
+            Some(stand)
+        } else {
+            None
+        }
+    }
+
+    /// Lets each variable stand where its cost, which is its reduced cost, asks it to. False: one cannot.
+    fn stand_by_costs(&mut self) -> bool
+        requires { (k : ℕ) → k < self.old.tableau.columns → (relaxation self.old).cost ((table self.old).nonbasic k) ≡ reduced_cost (relaxation self.old) (table self.old) (relaxation self.old).cost k }
+        ensures same { IsRestood self.old self.new }
+        ensures placed { IsTrue result → (k : ℕ) → k < self.new.tableau.columns → IsPlaced self.new k (get_or self.new.stands k Free) }
+        ensures misplaced { result ≡ false → (k : ℕ) × ((k < self.old.tableau.columns) × IsMisplaced self.old k) }
+    {
+        for place in 0..self.tableau.columns() {
+            match self.stand_by_cost(place) {
+                Some(stand) => self.set_stand(place, stand),
+                None => return false,
+            }
+        }
+        true
+    }
+}
+
+impl<'a> LpState<'a> {
+    /// The slack state of a relaxation: the activities are basic, and each column stands where the first part of its
+    /// perturbed cost that is not 0 asks it to. None where some column has no such side, which is never so in the
+    /// directions.
+    pub fn slack(alloc: Global, relax: &Relax<'a>) -> Result<Option<LpState<'a>>, AllocError>
+        requires narrow { AreNarrow relax.now.region.now }
+        requires sides { KeepsFree relax.now.model.now relax.now.region.now }
+        ensures answer { IfOk result (IsSlackAnswer relax.now) }
+        ensures directions { IfOk result (λ state. relax.now.kind ≡ Directions → IsSome state) }
+    {
+        let mut basis = SidedBasis::slack(alloc, relax)?;
+        let _sided = &basis.tableau;
+        if !basis.stand_by_costs() {
+            return Ok(None);
+        }
+        let _kept = &basis.tableau;
+        Ok(Some(LpState { basis }))
     }
 }

@@ -1,8 +1,7 @@
 // A lawful state.
-use bases::Stand;
-use frac128::Frac;
-use lp_model::{Bound, Model, Var};
-use row_tableau::{Tableau, WidePivot};
+use crate::sided::SidedBasis;
+use lp_model::Var;
+use row_tableau::WidePivot;
 
 /// A step of arithmetic that has no room, at the table that stands then.
 #[derive(Clone, Copy, Debug, Drop)]
@@ -19,18 +18,10 @@ pub enum LpStep {
     Ratio { r: Var, k: Var, v: Var },
 }
 
-/// A lawful state of a relaxation: a tableau whose nonbasic variables stand at sides. Sides, costs and tilts are by
-/// variable; `order` has the variables whose tilts are costs in a part of their own, in the order of the parts.
+/// A lawful state of a relaxation: a basis whose nonbasic variables stand where their reduced costs ask them to.
 #[derive(Drop)]
 pub struct LpState<'a> {
-    pub(crate) model: &'a Model,
-    pub(crate) low: Vec<Bound>,
-    pub(crate) high: Vec<Bound>,
-    pub(crate) cost: Vec<Frac>,
-    pub(crate) tilt: Vec<Stand>,
-    pub(crate) order: Vec<usize>,
-    pub(crate) tableau: Tableau,
-    pub(crate) stands: Vec<Stand>,
+    pub(crate) basis: SidedBasis<'a>,
 }
 
 impl<'a> std::marker::Model for LpState<'a> {
@@ -38,7 +29,7 @@ impl<'a> std::marker::Model for LpState<'a> {
 
     ghost Value = { Held };
 
-    ghost view = { λ s. record { model = s.model.now; low = s.low.items; high = s.high.items; cost = s.cost.items; tilt = s.tilt.items; order = s.order.items; tableau = s.tableau; stands = s.stands.items } };
+    ghost view = { λ s. s.basis };
 
-    ghost invariant = { λ s. IsKept (record { model = s.model.now; low = s.low.items; high = s.high.items; cost = s.cost.items; tilt = s.tilt.items; order = s.order.items; tableau = s.tableau; stands = s.stands.items }) };
+    ghost invariant = { λ s. IsKept s.basis };
 }

@@ -1,28 +1,20 @@
-use Rattle.std.proofs.Common.{◌≡◌, ◌<◌, ◌+◌, ◌∙◌, ℕ, refl, subst, length, get_or}
-use Rattle.std.specs.Option.{option_map}
-use Rattle.dual_simplex.specs.Held.{Held}
-use Rattle.dual_simplex.specs.Slack.{AreStands}
-use Rattle.dual_simplex.proofs.SlackLemmas.{slack_kept}
-use Rattle.dual_simplex.proofs.SlackStartLemmas.{is_slack}
+use Rattle.std.proofs.Common.{subst}
+use Rattle.dual_simplex.specs.Held.{IsSided}
+use Rattle.dual_simplex.proofs.SlackLemmas.{cost_at_slack, none_kept, never_misplaced, restood_slack}
 use Rattle.dual_simplex.proofs.state.LpState.slack.Goals as goal
 
-pub invariant_of-result : goal.invariant_of-result
-invariant_of-result c =
-    let relax = c.args.relax.now in
-    let M = relax.model.now in
-    let s : Held = record {
-      model = M;
-      low = c.in_ok-low.low.items;
-      high = c.in_ok-high.high.items;
-      cost = c.in_ok-cost.cost.items;
-      tilt = c.in_ok-tilt.tilt.items;
-      order = c.in_ok-order.order.items;
-      tableau = c.in_ok-tableau.tableau;
-      stands = c.in-Some.stands.items;
-    } in
-    let placed = subst (λ o. AreStands relax (option_map (λ v. v.items) o)) c.in-Some.is c.in_ok-stands.ensures in
-    let count : length c.cols.result.now + length c.rows.result.now ≡ length M.cols + length M.rows = λ i. length (c.cols.ensures.items i) + length (c.rows.ensures.items i) in
-    slack_kept s (is_slack relax s refl c.in_ok-tableau.ensures.columns c.in_ok-tableau.ensures.activities c.in_ok-tableau.ensures.table c.in_ok-tableau.ensures.slack
-    c.in_ok-low.ensures.length c.in_ok-low.ensures.items c.in_ok-high.ensures.length c.in_ok-high.ensures.items c.in_ok-cost.ensures.length c.in_ok-cost.ensures.items
-    c.in_ok-tilt.ensures.length c.in_ok-tilt.ensures.items (c.in_ok-order.ensures.length ∙ count) (subst (λ n. (q : ℕ) → q < n → get_or s.order q 0 ≡ q) count c.in_ok-order.ensures.items)
-    placed.0 placed.1)
+pub stand_by_costs-requires : goal.stand_by_costs-requires
+stand_by_costs-requires c = cost_at_slack c.args.relax.now c.in_ok-basis.basis c.in_ok-basis.ensures
+
+pub returns-then-not-stand_by_costs-clause-answer : goal.returns-then-not-stand_by_costs-clause-answer
+returns-then-not-stand_by_costs-clause-answer c = λ t t_at kept.
+    let wrong = c.stand_by_costs.ensures.misplaced c.if-not-stand_by_costs.true in
+    none_kept c.args.relax.now c.in_ok-basis.basis t c.in_ok-basis.ensures t_at wrong.0 wrong.1.0 wrong.1.1 kept
+
+pub returns-then-not-stand_by_costs-clause-directions : goal.returns-then-not-stand_by_costs-clause-directions
+returns-then-not-stand_by_costs-clause-directions c = λ kind.
+    let wrong = c.stand_by_costs.ensures.misplaced c.if-not-stand_by_costs.true in
+    absurd (never_misplaced c.args.relax.now kind c.in_ok-basis.basis c.in_ok-basis.ensures (subst IsSided c.basis.view_is c.basis.invariant) wrong.0 wrong.1.0 wrong.1.1)
+
+pub returns-clause-answer : goal.returns-clause-answer
+returns-clause-answer c = restood_slack c.args.relax.now c.in_ok-basis.basis c.stand_by_costs.new.self c.stand_by_costs.ensures.same c.in_ok-basis.ensures

@@ -1,0 +1,156 @@
+-- The perturbed costs of a relaxation, and those of its directions, which go on where they end.
+use Rattle.std.specs.Prelude.{◌≡◌, ◌≢◌, ℕ, zero, suc, ◌+◌, ◌<◌, ◌≤◌, ◌==◌, nat_eq, if◌then◌else◌, Bool, true, false, pos, [], ◌∷◌, ◌++◌, length, get_or, Option, Some, None}
+use Rattle.std.specs.Option.{option_map}
+use Rattle.std.specs.List.{range_with_len}
+use Rattle.std.proofs.Common.{refl, sym, ap, subst, ◌∙◌, arith, ⊎_elim}
+use Rattle.std.proofs.lemmas.Bool.{cases_eq, cases_lt, lt-ltb, le-ltb}
+use Rattle.std.proofs.lemmas.List.{length-append, get_or_append_left}
+use Rattle.rational.specs.Rational.{ℚ, int, ceil, floor, max_ℚ, min_ℚ, ◌<ℚ◌}
+use Rattle.rational.proofs.RationalRing.{reads_ℚ}
+use Rattle.rational.proofs.RationalOrder.{zero-<ℚ-one, <ℚ_trans, <ℚ_irrefl, linear_strict}
+use Rattle.lp_model.specs.Program.{Program, lower, upper, low_side, high_side, is_integer}
+use Rattle.lp_model.specs.Regions.{Path, low_after, high_after, low_along, high_along, region_low, region_high}
+use Rattle.lp_model.specs.declared.types.Side.{Side}
+use Rattle.lp_model.specs.declared.types.Side.TheVariants.{Lo, Hi}
+use Rattle.bases.specs.declared.stand.Stand.{Stand}
+use Rattle.bases.specs.declared.stand.Stand.TheVariants.{High, Free}
+use Rattle.bases.specs.States.{sign}
+use Rattle.bases.specs.Directions.{Continues}
+use Rattle.bases.proofs.SumBelowLaws.{if_same, if_other}
+use Rattle.row_tableau.specs.declared.relax.RelaxKind.TheVariants.{Plain, Directions}
+use Rattle.row_tableau.specs.Relaxations.{plain}
+use Rattle.dual_simplex.specs.Tilts.{model_low, model_high, stand_by_sides, free_tilt, tilt_of, has_side, is_sided, sided, unsided, tilted_cost, parts_of}
+use Rattle.dual_simplex.proofs.OrderLemmas.{filter_from}
+use Rattle.dual_simplex.proofs.TiltLemmas.{by_column, by_activity}
+
+-- ---- a side of the model stays in every region
+
+abbrev pub There : Option ℚ → Type 0
+There o = (x : ℚ) × (o ≡ Some x)
+
+gone : (o : Option ℚ) → There o → o ≢ None
+gone o (x, e) none = cc
+
+low_kept : (side : Side) (o : Option ℚ) (v : ℚ) → There o → There (low_after side o v)
+low_kept Lo None v (x, e) = absurd cc
+low_kept Lo (Some l) v h = (max_ℚ l v, refl)
+low_kept Hi o v h = h
+
+high_kept : (side : Side) (o : Option ℚ) (v : ℚ) → There o → There (high_after side o v)
+high_kept Lo o v h = h
+high_kept Hi None v (x, e) = absurd cc
+high_kept Hi (Some l) v h = (min_ℚ l v, refl)
+
+either : (b : Bool) (o p : Option ℚ) → There o → There p → There (if b then o else p)
+either true o p h g = h
+either false o p h g = g
+
+low_stays : (path : Path) (j : ℕ) (o : Option ℚ) → There o → There (low_along path j o)
+low_stays [] j o h = h
+low_stays (c ∷ path) j o h = low_stays path j (if nat_eq c.col.0 j then low_after c.side o (int c.v) else o) (either (nat_eq c.col.0 j) (low_after c.side o (int c.v)) o (low_kept c.side o (int c.v) h) h)
+
+high_stays : (path : Path) (j : ℕ) (o : Option ℚ) → There o → There (high_along path j o)
+high_stays [] j o h = h
+high_stays (c ∷ path) j o h = high_stays path j (if nat_eq c.col.0 j then high_after c.side o (int c.v) else o) (either (nat_eq c.col.0 j) (high_after c.side o (int c.v)) o (high_kept c.side o (int c.v) h) h)
+
+mapped : (f : ℚ → ℚ) (o : Option ℚ) → There o → There (option_map f o)
+mapped f (Some x) h = (f x, refl)
+mapped f None (x, e) = absurd cc
+
+module _ (M : Program) (path : Path) where
+  pub low_there : (v : ℕ) → There (model_low M v) → There ((plain M path).low v)
+  low_there v h = ⊎_elim
+      (λ w. subst There (sym (by_column (length M.cols) (region_low M path) (low_side M) v w)) (let g = subst There (by_column (length M.cols) (lower M) (low_side M) v w) h in
+      low_stays path v (if is_integer M v then option_map (λ l. int (ceil l)) (lower M v) else lower M v) (either (is_integer M v) (option_map (λ l. int (ceil l)) (lower M v)) (lower M v) (mapped (λ l. int (ceil l)) (lower M v) g) g)))
+      (λ w. subst There (sym (by_activity (length M.cols) (region_low M path) (low_side M) v w)) (subst There (by_activity (length M.cols) (lower M) (low_side M) v w) h))
+      (cases_lt v (length M.cols))
+
+  pub high_there : (v : ℕ) → There (model_high M v) → There ((plain M path).high v)
+  high_there v h = ⊎_elim
+      (λ w. subst There (sym (by_column (length M.cols) (region_high M path) (high_side M) v w)) (let g = subst There (by_column (length M.cols) (upper M) (high_side M) v w) h in
+      high_stays path v (if is_integer M v then option_map (λ l. int (floor l)) (upper M v) else upper M v) (either (is_integer M v) (option_map (λ l. int (floor l)) (upper M v)) (upper M v) (mapped (λ l. int (floor l)) (upper M v) g) g)))
+      (λ w. subst There (sym (by_activity (length M.cols) (region_high M path) (high_side M) v w)) (subst There (by_activity (length M.cols) (upper M) (high_side M) v w) h))
+      (cases_lt v (length M.cols))
+
+-- ---- signs of tilts
+
+minus_below : sign High <ℚ int (pos 0)
+minus_below = linear_strict [] zero-<ℚ-one (search reads_ℚ depth 9) tt
+
+positive_low : (lo hi : Option ℚ) → int (pos 0) <ℚ sign (stand_by_sides Free lo hi) → There lo
+positive_low (Some x) hi h = (x, refl)
+positive_low None (Some x) h = absurd (<ℚ_irrefl (<ℚ_trans h minus_below))
+positive_low None None h = absurd (<ℚ_irrefl h)
+
+negative_high : (lo hi : Option ℚ) → sign (stand_by_sides Free lo hi) <ℚ int (pos 0) → There hi
+negative_high (Some x) hi h = absurd (<ℚ_irrefl (<ℚ_trans h zero-<ℚ-one))
+negative_high None (Some x) h = (x, refl)
+negative_high None None h = absurd (<ℚ_irrefl h)
+
+-- that of a variable with a side is the same in each relaxation
+sided_tilt : (a b : Stand) (lo hi : Option ℚ) → has_side lo hi ≡ true → stand_by_sides a lo hi ≡ stand_by_sides b lo hi
+sided_tilt a b (Some x) hi t = refl
+sided_tilt a b None (Some x) t = refl
+sided_tilt a b None None t = absurd cc
+
+-- ---- the directions' parts go on
+
+module _ (M : Program) (path : Path) where
+  abbrev short : ℕ → ℕ → ℚ
+  short = parts_of Plain M path
+
+  abbrev long : ℕ → ℕ → ℚ
+  long = parts_of Directions M path
+
+  short_is : (q v : ℕ) → q < length (sided M) → short (suc q) v ≡ tilted_cost (tilt_of Plain M) (get_or (sided M) q 0) v
+  short_is q v w = ap (λ b. if b then tilted_cost (tilt_of Plain M) (get_or (sided M) q 0) v else int (pos 0)) (lt-ltb q (length (sided M)) w)
+
+  short_over : (q v : ℕ) → suc (length (sided M)) ≤ q → short q v ≡ int (pos 0)
+  short_over zero v w = absurd (omega (arith, w))
+  short_over (suc q) v w = ap (λ b. if b then tilted_cost (tilt_of Plain M) (get_or (sided M) q 0) v else int (pos 0)) (le-ltb q (length (sided M)) (omega (arith, w)))
+
+  long_is : (q v : ℕ) → q < length (sided M) → long (suc q) v ≡ tilted_cost (tilt_of Directions M) (get_or (sided M) q 0) v
+  long_is q v w =
+      ap (λ b. if b then tilted_cost (tilt_of Directions M) (get_or (sided M ++ unsided M) q 0) v else int (pos 0))
+      (lt-ltb q (length (sided M ++ unsided M)) (let e = length-append (sided M) (unsided M) in omega (arith, e, w)))
+      ∙ ap (λ u. tilted_cost (tilt_of Directions M) u v) (get_or_append_left (sided M) (unsided M) 0 q w)
+
+  tilt_here : (q : ℕ) → q < length (sided M) → tilt_of Directions M (get_or (sided M) q 0) ≡ tilt_of Plain M (get_or (sided M) q 0)
+  tilt_here q w =
+      let u = get_or (sided M) q 0 in
+      sided_tilt (free_tilt Directions (length M.cols) u) Free (model_low M u) (model_high M u) (filter_from (is_sided M) (range_with_len 0 (length M.cols + length M.rows)) u (q, w, refl)).1
+
+  same_part : (q v : ℕ) → q < suc (length (sided M)) → long q v ≡ short q v
+  same_part zero v w = refl
+  same_part (suc q) v w =
+      let less : q < length (sided M) = omega (arith, w) in
+      long_is q v less ∙ ap (λ t. if v == get_or (sided M) q 0 then sign t else int (pos 0)) (tilt_here q less) ∙ sym (short_is q v less)
+
+  -- a part that is not 0 is the sign of the variable's own tilt
+  part_sign : (q v : ℕ) → (P : ℚ → Type 0) → ¬ P (int (pos 0)) → P (short (suc q) v) → P (sign (tilt_of Plain M v))
+  part_sign q v P none h = ⊎_elim
+      (λ w. ⊎_elim
+      (λ e. subst (λ u. P (sign (tilt_of Plain M u))) (sym e) (subst P (if_same (get_or (sided M) q 0) (sign (tilt_of Plain M (get_or (sided M) q 0))) (int (pos 0)))
+      (subst (λ u. P (tilted_cost (tilt_of Plain M) (get_or (sided M) q 0) u)) e (subst P (short_is q v w) h))))
+      (λ other. absurd (none (subst P (if_other v (get_or (sided M) q 0) (sign (tilt_of Plain M (get_or (sided M) q 0))) (int (pos 0)) other) (subst P (short_is q v w) h))))
+      (cases_eq v (get_or (sided M) q 0)))
+      (λ past. absurd (none (subst P (short_over (suc q) v (omega (arith, past))) h)))
+      (cases_lt q (length (sided M)))
+
+  lower_part : (q v : ℕ) → 0 < q → int (pos 0) <ℚ short q v → (plain M path).low v ≢ None
+  lower_part zero v w h = absurd (omega (arith, w))
+  lower_part (suc q) v w h = gone ((plain M path).low v) (low_there M path v (positive_low (model_low M v) (model_high M v) (part_sign q v (λ x. int (pos 0) <ℚ x) (λ g. <ℚ_irrefl g) h)))
+
+  upper_part : (q v : ℕ) → 0 < q → short q v <ℚ int (pos 0) → (plain M path).high v ≢ None
+  upper_part zero v w h = absurd (omega (arith, w))
+  upper_part (suc q) v w h = gone ((plain M path).high v) (high_there M path v (negative_high (model_low M v) (model_high M v) (part_sign q v (λ x. x <ℚ int (pos 0)) (λ g. <ℚ_irrefl g) h)))
+
+  pub continues : Continues (plain M path) short long
+  continues = record {
+    ends = suc (length (sided M));
+    some = omega arith;
+    same = same_part;
+    over = short_over;
+    lower = lower_part;
+    upper = upper_part;
+  }

@@ -1,0 +1,5 @@
+use Rattle.dual_simplex.proofs.OneStateLemmas.{separates_of}
+use Rattle.dual_simplex.proofs.laws.parts_law.Goals as goal
+
+pub returns : goal.returns
+returns c = λ kind M path keeps. separates_of M path kind keeps
