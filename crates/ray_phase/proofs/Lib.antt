@@ -1,0 +1,3 @@
+pub mod ContinueLemmas
+pub mod DirectionLemmas
+pub mod FirstLemmas
