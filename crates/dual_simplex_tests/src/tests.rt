@@ -1,0 +1,5 @@
+mod enumeration;
+mod lists;
+mod models;
+mod random;
+mod worked;
