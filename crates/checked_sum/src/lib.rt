@@ -21,6 +21,3 @@
 mod sum;
 
 pub use sum::{Terms, checked_sum};
-
-#[cfg(test)]
-mod tests;

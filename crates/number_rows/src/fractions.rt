@@ -1,0 +1,164 @@
+// What the calls of fractions answer.
+use crate::sums::sum_of;
+use crate::words::{number_of, told, words_of};
+use anyhow::{Result, bail};
+use frac128::{Frac, NumFault, Numeral, Side};
+use std::alloc::{AllocError, Global};
+use std::cmp::Ordering;
+
+/// The answer to a question of this first word and the words behind it.
+pub fn answer_to(alloc: Global, call: &str, text: &str) -> Result<String> {
+    match call {
+        "parse" => Ok(parsed(alloc, text)?),
+        "numeral" => Ok(numeral(alloc, text)?),
+        _ => answer_to_words(alloc, call, &words_of(alloc, text)?),
+    }
+}
+
+fn answer_to_words(alloc: Global, first: &str, words: &[&str]) -> Result<String> {
+    match (first, words) {
+        ("sum", [start, products @ ..]) => sum_of(alloc, start, products),
+        ("new", [top, bottom]) => new_fraction(alloc, top, bottom),
+        ("whole", [word]) => whole(alloc, word),
+        ("of_whole", [word]) => of_whole(alloc, word),
+        (call, [word]) => of_one(alloc, call, &number_of(word)?),
+        (left, [sign, right]) => of_two(alloc, &number_of(left)?, sign, &number_of(right)?),
+        (total, ["+", factor, "*", number]) => {
+            sum_with_product(alloc, &number_of(total)?, factor, number)
+        }
+        _ => bail!("no question: {first}"),
+    }
+}
+
+fn fault_text(fault: NumFault) -> &'static str {
+    match fault {
+        NumFault::Wide => "wide",
+        NumFault::NotNumber => "no number",
+    }
+}
+
+/// What `Frac::parse` answers.
+fn parsed(alloc: Global, text: &str) -> Result<String, AllocError> {
+    match Frac::parse(text.as_bytes()) {
+        Ok(number) => format!(in alloc; "{number}"),
+        Err(fault) => String::from_str(alloc, fault_text(fault)),
+    }
+}
+
+fn side_text(side: Side) -> &'static str {
+    match side {
+        Side::Above => "above",
+        Side::Between => "between",
+        Side::Below => "below",
+    }
+}
+
+/// What `Numeral::of` answers.
+fn numeral(alloc: Global, text: &str) -> Result<String, AllocError> {
+    match &Numeral::of(text.as_bytes()) {
+        Numeral::Number(number) => format!(in alloc; "{number}"),
+        Numeral::Wide(side) => String::from_str(alloc, side_text(*side)),
+        Numeral::NotNumber => String::from_str(alloc, "no number"),
+    }
+}
+
+fn new_fraction(alloc: Global, top: &str, bottom: &str) -> Result<String> {
+    let top = top.parse::<i128>()?;
+    let bottom = bottom.parse::<i128>()?;
+    if bottom == 0 {
+        bail!("the denominator is 0");
+    }
+    Ok(told(alloc, &Frac::new(top, bottom))?)
+}
+
+fn whole(alloc: Global, word: &str) -> Result<String> {
+    let number = Frac::whole(word.parse::<i64>()?);
+    Ok(format!(in alloc; "{number}")?)
+}
+
+fn of_whole(alloc: Global, word: &str) -> Result<String> {
+    let whole = word.parse::<i128>()?;
+    if whole == i128::MIN {
+        bail!("{word} is too wide");
+    }
+    let number = Frac::of_whole(whole);
+    Ok(format!(in alloc; "{number}")?)
+}
+
+fn sign_of(number: &Frac) -> &'static str {
+    match (number.is_negative(), number.is_zero(), number.is_positive()) {
+        (true, false, false) => "negative",
+        (false, true, false) => "zero",
+        (false, false, true) => "positive",
+        _ => "no sign",
+    }
+}
+
+fn truth(holds: bool) -> &'static str {
+    if holds { "true" } else { "false" }
+}
+
+/// What `write_to` puts behind a text.
+fn written(alloc: Global, number: &Frac) -> Result<String> {
+    let mut text = Vec::from_slice(alloc, b"x = ")?;
+    number.write_to(&mut text)?;
+    Ok(String::from_str(alloc, str::from_utf8(&text)?)?)
+}
+
+fn number_told(alloc: Global, number: &Frac) -> Result<String> {
+    number.has_room();
+    Ok(format!(in alloc; "{number}")?)
+}
+
+fn whole_told(alloc: Global, number: i128) -> Result<String> {
+    Ok(format!(in alloc; "{number}")?)
+}
+
+fn parts_told(alloc: Global, number: &Frac) -> Result<String> {
+    let top = number.numerator();
+    let bottom = number.denominator();
+    Ok(format!(in alloc; "{top} {bottom}")?)
+}
+
+/// What a call of one number answers.
+fn of_one(alloc: Global, call: &str, number: &Frac) -> Result<String> {
+    match call {
+        "neg" => number_told(alloc, &number.neg()),
+        "reciprocal" if !number.is_zero() => number_told(alloc, &number.reciprocal()),
+        "floor" => whole_told(alloc, number.floor()),
+        "ceil" => whole_told(alloc, number.ceil()),
+        "parts" => parts_told(alloc, number),
+        "sign" => Ok(String::from_str(alloc, sign_of(number))?),
+        "is_whole" => Ok(String::from_str(alloc, truth(number.is_whole()))?),
+        "write" => written(alloc, number),
+        _ => bail!("no call of one number: {call}"),
+    }
+}
+
+fn order_of(left: &Frac, right: &Frac) -> &'static str {
+    match left.cmp(right) {
+        Ordering::Less => "less",
+        Ordering::Equal => "equal",
+        Ordering::Greater => "greater",
+    }
+}
+
+/// What a call of two numbers answers.
+fn of_two(alloc: Global, left: &Frac, sign: &str, right: &Frac) -> Result<String> {
+    match sign {
+        "+" => Ok(told(alloc, &left.add(right))?),
+        "-" => Ok(told(alloc, &left.sub(right))?),
+        "*" => Ok(told(alloc, &left.mul(right))?),
+        "/" if !right.is_zero() => Ok(told(alloc, &left.div(right))?),
+        "against" => Ok(String::from_str(alloc, order_of(left, right))?),
+        "<" => Ok(String::from_str(alloc, truth(*left < *right))?),
+        "==" => Ok(String::from_str(alloc, truth(*left == *right))?),
+        _ => bail!("no call of two numbers: {sign}"),
+    }
+}
+
+/// What `add_product` answers.
+fn sum_with_product(alloc: Global, total: &Frac, factor: &str, number: &str) -> Result<String> {
+    let found = total.add_product(&number_of(factor)?, &number_of(number)?);
+    Ok(told(alloc, &found)?)
+}

@@ -1,0 +1,29 @@
+// The words of a row, and the numbers that they spell.
+use anyhow::{Result, bail};
+use frac128::Frac;
+use std::alloc::{AllocError, Global};
+
+/// The words between blanks.
+pub fn words_of(alloc: Global, text: &str) -> Result<Vec<&str>, AllocError> {
+    let mut words = Vec::new(alloc);
+    for word in text.split_whitespace() {
+        words.push(word)?;
+    }
+    Ok(words)
+}
+
+/// The number that a word spells.
+pub fn number_of(word: &str) -> Result<Frac> {
+    match Frac::parse(word.as_bytes()) {
+        Ok(number) => Ok(number),
+        Err(_) => bail!("no number: {word}"),
+    }
+}
+
+/// A fraction's text, or `wide` for one that has no room.
+pub fn told(alloc: Global, found: &Result<Frac, frac128::Wide>) -> Result<String, AllocError> {
+    match found {
+        Ok(number) => format!(in alloc; "{number}"),
+        Err(_) => String::from_str(alloc, "wide"),
+    }
+}
