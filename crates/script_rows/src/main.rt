@@ -1,0 +1,19 @@
+//! Worked rows of scripts: plain files that say what the program is given and what it is to write, over which files and at
+//! which faults.
+//!
+//! `row_texts` reads the files that standard input names and compares texts; `stage` runs a row by `sym_shell::run`, over a
+//! source, a sink and a store in memory. `docs/ROWS.md` tells what a row may say.
+//!
+//! The proof of this crate says that it is safe and ends whatever the files are, and nothing of what they want: that comes
+//! from outside, and never from the shell's own answers.
+#![tactic(auto)]
+
+mod stage;
+
+use crate::stage::ScriptStage;
+use row_texts::run_rows;
+use std::process::ExitCode;
+
+fn main(rt: HostRuntime) -> ExitCode {
+    run_rows::<ScriptStage>(&rt)
+}
