@@ -95,10 +95,7 @@ impl CutStage {
         let mut got = String::new(self.alloc);
         self.answer(&mut got, word, question)?;
         if got.as_str() != wanted {
-            writeln!(
-                self.report,
-                "  {word} {question}: wanted {wanted} and got {got}"
-            )?;
+            writeln!(self.report, "  {word} {rest}: got {got}")?;
         }
         Ok(())
     }

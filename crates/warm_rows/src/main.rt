@@ -5,7 +5,15 @@
 //! is written both times, or the place and the code of the first fault. A row that is answered as it wants prints `ok` and
 //! its name, another `differs` and the two texts.
 //!
-//! `docs/ROWS.md` tells the form of rows. The proof of this crate says that it is safe and ends whatever the files are, and
+//! ```text
+//! text                          and a text: the bytes of a warm file
+//! change OLD => NEW             puts NEW in place of the first OLD among the bytes, both as they stand in the line
+//! place /model/rows/0 code 11   reading is refused there, with that code
+//! again                         it is read, and written as it was
+//! written                       and a text: it is read, and written so
+//! ```
+//!
+//! A row's lines are done from above. `docs/ROWS.md` tells the form of rows. The proof of this crate says that it is safe and ends whatever the files are, and
 //! nothing of what they want: that comes from outside, and never from what the reader and the writer answer.
 #![tactic(auto)]
 
