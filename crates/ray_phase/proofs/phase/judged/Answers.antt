@@ -1,4 +1,4 @@
-use Rattle.std.proofs.Common.{◌≡◌, ◌∙◌, sym, ap, subst, refl, inl, inr, pos, length, ℕ}
+use Rattle.std.proofs.Common.{◌≡◌, ◌∙◌, sym, ap, subst, refl, inl, inr, pos, length}
 use Rattle.std.proofs.lemmas.Bool.{false≢true}
 use Rattle.rational.specs.Rational.{ℚ, int, ◌<ℚ◌, ◌*ℚ◌}
 use Rattle.rational.proofs.RationalOrder.{≤ℚ_from_not}
