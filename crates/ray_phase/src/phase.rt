@@ -1,12 +1,12 @@
 // The ray phase.
-ghost use Rattle.std.specs.Prelude.{◌≡◌, ◌<◌, ℕ, length, IfOk};
+ghost use Rattle.std.specs.Prelude.{◌≡◌, ◌<◌, ℕ, length, IfOk, OnOk, IfErr};
 ghost use Rattle.dual_simplex.specs.Lists.{IsBasisOf};
-ghost use Rattle.ray_phase.specs.Answers.{IsStart, IsDirectionsState, IsBest, IsRayEnd, IsRayAnswer};
+ghost use Rattle.ray_phase.specs.Answers.{IsStart, IsDirectionsState, IsBest, RowsFit, IsWideRow, IsRayEnd, IsRayAnswer};
 
 use crate::cost::{cost_of, in_least_form};
 use crate::lawful::high_variables;
 use dual_simplex::{Lp, LpState, LpStep};
-use lp_model::{Basis, ColId, Model, Point};
+use lp_model::{Basis, ColId, Model, Point, WideStep};
 use row_tableau::{Relax, RelaxKind};
 use std::alloc::{AllocError, Global};
 
@@ -15,21 +15,37 @@ use std::alloc::{AllocError, Global};
 pub enum RayStep {
     /// One at a state of the directions.
     Lp(LpStep),
-    /// The term of a column in the cost of the optimal direction.
-    Value(ColId),
+    /// One of the cost of the optimal direction, or, where that is below 0, of a row's sum at it.
+    Judged(WideStep),
 }
 
 /// What the ray phase finds.
 #[derive(Drop)]
 pub enum RayAnswer {
-    /// A ray of the model, one number for each column.
+    /// A ray of the model, one number for each column. Its cost and the sums of the rows at it were computed: none of their
+    /// steps is without room.
     Ray(Point),
-    /// The basis of a lawful state of the model's relaxation.
+    /// The basis of a lawful state of the model's relaxation: that of the last state of the run.
     DualBasis(Basis),
     /// As many moves as the limit allows were made, and a basic variable is outside a side of the directions.
     Pivots { basis: Basis },
     /// A step of arithmetic has no room.
     Wide { step: RayStep, basis: Basis },
+}
+
+/// Adds up each row at a direction, or finds the first step that has no room.
+fn add_rows_up(model: &Model, direction: &Point) -> Result<(), WideStep>
+    ensures fit { OnOk result (RowsFit model.now direction.now (length model.now.rows)) }
+    ensures wide { IfErr result (IsWideRow model.now direction.now) }
+{
+    let _lawful = model.cols();
+    for row in 0..model.rows().len() {
+        match model.activity(row as u32, direction) {
+            Ok(_) => {}
+            Err(step) => return Err(step),
+        }
+    }
+    Ok(())
 }
 
 /// The answer at an optimum of the directions: a ray where its cost is below 0, else the basis, which is lawful for the
@@ -49,12 +65,20 @@ fn judged(
     let _lawful = model.cols();
     match cost_of(model, &direction) {
         Err(column) => Ok(RayAnswer::Wide {
-            step: RayStep::Value(ColId(column as u32)),
+            step: RayStep::Judged(WideStep::Value {
+                col: Some(ColId(column as u32)),
+            }),
             basis,
         }),
         Ok(cost) => {
             if in_least_form(model.sense(), &cost).is_negative() {
-                Ok(RayAnswer::Ray(direction))
+                match add_rows_up(model, &direction) {
+                    Ok(()) => Ok(RayAnswer::Ray(direction)),
+                    Err(step) => Ok(RayAnswer::Wide {
+                        step: RayStep::Judged(step),
+                        basis,
+                    }),
+                }
             } else {
                 let high = high_variables(alloc, model, state)?;
                 Ok(RayAnswer::DualBasis(Basis {
