@@ -1,5 +1,0 @@
-mod enumeration;
-mod lists;
-mod models;
-mod random;
-mod worked;

@@ -1,0 +1,12 @@
+-- First bases of a model.
+use Rattle.std.specs.Prelude.{◌≡◌}
+use Rattle.lp_model.specs.Program.{Program}
+use Rattle.lp_model.specs.declared.types.Basis.{Basis}
+use Rattle.row_tableau.specs.declared.relax.Relax.{Relax}
+use Rattle.row_tableau.specs.declared.relax.RelaxKind.TheVariants.{Plain}
+use Rattle.dual_simplex.specs.Tilts.{KeepsFree}
+use Rattle.dual_simplex.specs.Starts.{IsLawfulBasis}
+
+-- each start of the model's relaxation in a region that leaves columns free can fall back to the basis
+abbrev pub IsFirst : Program → Basis → Type 0
+IsFirst M basis = (relax : Relax) → relax.model.now ≡ M → relax.kind ≡ Plain → KeepsFree M relax.region.now → IsLawfulBasis relax basis

@@ -1,0 +1,44 @@
+// Regions that a relaxation may be taken in.
+ghost use Rattle.std.specs.Prelude.{◌<◌, length, IsTrue};
+ghost use Rattle.lp_model.specs.Program.{is_integer};
+ghost use Rattle.lp_model.specs.Regions.{AreNarrow};
+ghost use Rattle.dual_simplex.specs.Tilts.{KeepsFree};
+ghost use Rattle.node_solve.specs.Runs.{NamesIntegers};
+
+use lp_model::{BoundChange, Model};
+use model_texts::is_narrow_region;
+
+/// Whether each change is of an integer column that is there.
+fn names_integers(model: &Model, region: &[BoundChange]) -> bool
+    ensures { IsTrue result → NamesIntegers model.now region.now }
+{
+    match region.split_first() {
+        None => true,
+        Some((change, rest)) => {
+            is_integer(model, change.col.0 as usize) && names_integers(model, rest)
+        }
+    }
+}
+
+/// Whether there is such a column and it is integer.
+fn is_integer(model: &Model, col: usize) -> bool
+    ensures there { IsTrue result → col < length model.now.cols }
+    ensures kind { IsTrue result → IsTrue (is_integer model.now col) }
+{
+    if col < model.cols().len() {
+        model.cols()[col].int
+    } else {
+        false
+    }
+}
+
+/// Whether a fraction has room for each number of the region, and each change is of an integer column. Then each column
+/// without bounds is free in the region too.
+pub fn is_lawful_region(model: &Model, region: &[BoundChange]) -> bool
+    ensures narrow { IsTrue result → AreNarrow region.now }
+    ensures integers { IsTrue result → NamesIntegers model.now region.now }
+    ensures free { IsTrue result → KeepsFree model.now region.now }
+{
+    let _lawful = model.cols();
+    is_narrow_region(region) && names_integers(model, region)
+}
