@@ -1,0 +1,78 @@
+// The model that lines say.
+use crate::edits::{edit_of, keyed};
+use crate::words::{Words, name_of};
+use crate::writing::push_edit_fault;
+use anyhow::{Context, Result, bail, ensure};
+use frac128::Frac;
+use lp_model::{Model, Sense};
+use std::alloc::Global;
+
+/// A model without rows and columns, whose objectives are named `cost` and `cost2`.
+pub fn empty_model(alloc: Global, sense: Sense, constant: Frac, constant2: Frac) -> Result<Model> {
+    let first = name_of(alloc, "cost")?;
+    let second = name_of(alloc, "cost2")?;
+    ensure!(
+        first.as_slice() != second.as_slice(),
+        "both objectives have one name"
+    );
+    Ok(Model::empty(alloc, sense, first, second, [constant, constant2]))
+}
+
+/// The sense that the next word says, if it says one.
+fn sense_of(words: &mut Words) -> Option<Sense> {
+    if words.takes("min") {
+        return Some(Sense::Min);
+    }
+    if words.takes("max") {
+        return Some(Sense::Max);
+    }
+    None
+}
+
+/// The empty model of a head line `min` or `max`, behind it `constant C` and `constant2 C` where they are not 0. None: the
+/// line is no head.
+pub fn head_of(alloc: Global, line: &str) -> Result<Option<Model>> {
+    let mut words = Words::new(alloc, line)?;
+    let Some(sense) = sense_of(&mut words) else {
+        return Ok(None);
+    };
+    let constant = keyed(&mut words, "constant")?;
+    let constant2 = keyed(&mut words, "constant2")?;
+    words.end()?;
+    let model = empty_model(alloc, sense, constant, constant2)?;
+    Ok(Some(model))
+}
+
+/// Makes the edit that a line says. A model that refuses it is told as a fault.
+pub fn apply_line(alloc: Global, model: &mut Model, line: &str) -> Result<()> {
+    let mut words = Words::new(alloc, line)?;
+    let edit = edit_of(alloc, &mut words)?;
+    match model.apply(alloc, edit) {
+        Ok(()) => Ok(()),
+        Err(fault) => {
+            let mut text = String::new(alloc);
+            push_edit_fault(&mut text, &fault)?;
+            bail!("the model refuses it: {text}")
+        }
+    }
+}
+
+/// The model that a text says, line by line. Blank lines say nothing.
+pub fn model_of(alloc: Global, text: &str) -> Result<Model> {
+    let mut model = empty_model(alloc, Sense::Min, Frac::whole(0), Frac::whole(0))?;
+    for (at, line) in text.lines().enumerate() {
+        let number = at.saturating_add(1);
+        if at == 0 {
+            if let Some(head) = head_of(alloc, line).context("line 1 of the model")? {
+                model = head;
+                continue;
+            }
+        }
+        if !line.is_empty() {
+            apply_line(alloc, &mut model, line).context(format_args!(
+                "line {number} of the model"
+            ))?;
+        }
+    }
+    Ok(model)
+}

@@ -1,0 +1,173 @@
+// The way from standard input, which names the files, to the line that each row prints.
+use crate::lines::{Line, expanded};
+use crate::texts::lines_of;
+use anyhow::{Context, Result, ensure};
+use std::alloc::Global;
+use std::fs;
+use std::process::ExitCode;
+
+/// What does what a row says. A row is a list of headings, each a word and what stands behind it, and some with a text.
+pub trait Stage: Drop + Sized {
+    /// A row that has said nothing yet.
+    fn new(alloc: Global) -> Result<Self>;
+
+    /// Whether a heading of this word has a text: the lines `| ..` and `/ ..` below it, or the bytes of the file of the
+    /// data folder that it names behind `< `.
+    fn has_text(word: &str) -> bool;
+
+    /// Does what a heading says. `rest` is what stands behind the word, without `< PATH`, and `text` has no line where the
+    /// heading has no text. An error says that the row is no row, and ends the program.
+    fn take(&mut self, word: &str, rest: &str, text: &[String]) -> Result<()>;
+
+    /// How what was got differs from what the row wants: empty where nothing does. It is asked for at the row's end, and is
+    /// an error where the row wanted too little.
+    fn end(&self) -> Result<&str>;
+}
+
+/// Whether a line is one of a text.
+fn is_text(line: &Line) -> bool {
+    line.text.starts_with('|') || line.text.starts_with('/')
+}
+
+/// The lines of text at the front.
+fn text_below(alloc: Global, below: &[Line]) -> Result<Vec<String>> {
+    let mut text: Vec<String> = Vec::new(alloc);
+    for line in below {
+        if !is_text(line) {
+            break;
+        }
+        let text_of_line = line.text.as_str();
+        ensure!(
+            text_of_line == "|" || text_of_line.starts_with("| ") || text_of_line.starts_with("/ "),
+            "line {}: no blank behind the mark",
+            line.number
+        );
+        ensure!(
+            !text.is_empty() || text_of_line.starts_with('|'),
+            "line {}: no line above this other form",
+            line.number
+        );
+        text.push(line.text.clone()?)?;
+    }
+    Ok(text)
+}
+
+/// The text of a file of the data folder.
+fn text_in_file(rt: &HostRuntime, path: &str) -> Result<Vec<String>> {
+    let bytes = fs::read(rt, path).context(format_args!("{path}"))?;
+    Ok(lines_of(rt.alloc(), &bytes)?)
+}
+
+/// Does what a heading says, and answers whether the lines of text below it are its own.
+fn take_heading<S: Stage>(
+    rt: &HostRuntime,
+    stage: &mut S,
+    line: &str,
+    below: &[Line],
+) -> Result<bool> {
+    let (word, rest) = line.split_once(' ').unwrap_or((line, ""));
+    if !S::has_text(word) {
+        stage.take(word, rest, &[])?;
+        return Ok(false);
+    }
+    if let Some((rest, path)) = rest.split_once("< ") {
+        let text = text_in_file(rt, path)?;
+        stage.take(word, rest.trim(), &text)?;
+        return Ok(false);
+    }
+    let text = text_below(rt.alloc(), below)?;
+    stage.take(word, rest, &text)?;
+    Ok(true)
+}
+
+/// Does what the lines say, up to the first `row NAME`.
+fn take_lines<S: Stage>(rt: &HostRuntime, stage: &mut S, lines: &[Line]) -> Result<()> {
+    let mut takes_text = false;
+    for (at, line) in lines.iter().enumerate() {
+        if line.text.starts_with("row ") {
+            break;
+        }
+        if is_text(line) {
+            ensure!(
+                takes_text,
+                "line {}: text below no heading of one",
+                line.number
+            );
+            continue;
+        }
+        let below = lines.get(at.saturating_add(1)..).unwrap_or(&[]);
+        takes_text = take_heading(rt, stage, &line.text, below).context(format_args!(
+            "line {}",
+            line.number
+        ))?;
+    }
+    Ok(())
+}
+
+/// Runs a row, which is read behind the lines that its file's rows share, and prints how it went: how many rows differ.
+fn run_row<S: Stage>(rt: &HostRuntime, name: &str, shared: &[Line], own: &[Line]) -> Result<u64> {
+    let mut stage = S::new(rt.alloc())?;
+    take_lines(rt, &mut stage, shared)?;
+    take_lines(rt, &mut stage, own)?;
+    let report = stage.end().context(format_args!("{name}"))?;
+    if report.is_empty() {
+        println!(rt; "ok {name}")?;
+        return Ok(0);
+    }
+    println!(rt; "differs {name}\n{report}")?;
+    Ok(1)
+}
+
+fn lines_in_file(rt: &HostRuntime, file: &str) -> Result<Vec<Line>> {
+    let text = fs::read_to_string(rt, file)?;
+    expanded(rt.alloc(), &text)
+}
+
+/// Runs the rows of a file: how many differ. What stands above the first line `row NAME` is read at the head of each row,
+/// and a file with no such line is one row.
+fn run_file<S: Stage>(rt: &HostRuntime, file: &str) -> Result<u64> {
+    let lines = lines_in_file(rt, file)?;
+    let mut differing = 0u64;
+    let mut count = 0u64;
+    for (at, line) in lines.iter().enumerate() {
+        let Some(row) = line.text.strip_prefix("row ") else {
+            continue;
+        };
+        count = count.saturating_add(1);
+        let name = format!(in rt.alloc(); "{file}: {row}")?;
+        let own = lines.get(at.saturating_add(1)..).unwrap_or(&[]);
+        differing = differing.saturating_add(run_row::<S>(rt, &name, &lines, own)?);
+    }
+    if count == 0 {
+        return run_row::<S>(rt, file, &lines, &[]);
+    }
+    Ok(differing)
+}
+
+/// Runs the rows of each file that standard input names: how many differ.
+fn run_files<S: Stage>(rt: &HostRuntime) -> Result<u64> {
+    let mut differing = 0u64;
+    for line in rt.lines(rt.alloc()) {
+        let line = line?;
+        let file = line.trim();
+        if !file.is_empty() && !file.starts_with('#') {
+            let more = run_file::<S>(rt, file).context(format_args!("{file}"))?;
+            differing = differing.saturating_add(more);
+        }
+    }
+    Ok(differing)
+}
+
+/// Runs the rows of the files that standard input names, one a line, each on a stage of its own. A row that is answered as
+/// it wants prints `ok` and its name, another `differs`, its name and its report. The status is 0 where no row differs, 1
+/// where one does, and 2 where a file says no rows, with its fault in the last line.
+pub fn run_rows<S: Stage>(rt: &HostRuntime) -> ExitCode {
+    match run_files::<S>(rt) {
+        Ok(0) => ExitCode::SUCCESS,
+        Ok(_) => ExitCode::from(1),
+        Err(error) => {
+            let _ = println!(rt; "no rows: {error:#}");
+            ExitCode::from(2)
+        }
+    }
+}

@@ -1,0 +1,143 @@
+// The lines of a file of rows: comments go, and what stands between `each` and `done` is repeated.
+use crate::numbers::{number_of, split_range};
+use anyhow::{Result, bail, ensure};
+use std::alloc::{AllocError, Global};
+
+/// The most lines that a file says, so that a wrong range is told soon.
+const MOST_LINES: u32 = 1_000_000;
+
+/// A line, and its number in the file, from 1.
+#[derive(Drop)]
+pub struct Line {
+    pub number: usize,
+    pub text: String,
+}
+
+/// A counter of the lines from `start` to `done`, with its value now and the last one.
+#[derive(Drop)]
+struct Counter<'a> {
+    name: &'a str,
+    value: u64,
+    last: u64,
+    start: usize,
+}
+
+fn value_of(counters: &[Counter<'_>], name: &str) -> Option<u64> {
+    for counter in counters {
+        if counter.name == name {
+            return Some(counter.value);
+        }
+    }
+    None
+}
+
+/// The count and the text of `COUNT*TEXT`.
+fn repetition_of(text: &str) -> Option<(u64, &str)> {
+    let (count, repeated) = text.split_once('*')?;
+    Some((number_of(count)?, repeated))
+}
+
+/// Writes what stands for the text between two braces: a counter's value, a text that is repeated, or itself.
+fn push_braced(
+    line: &mut String,
+    inside: &str,
+    counters: &[Counter<'_>],
+) -> Result<(), AllocError> {
+    if let Some(value) = value_of(counters, inside) {
+        return write!(line, "{value}");
+    }
+    let Some((count, text)) = repetition_of(inside) else {
+        return write!(line, "{{{inside}}}");
+    };
+    for _ in 0..count {
+        line.push_str(text)?;
+    }
+    Ok(())
+}
+
+/// Whether what stands behind this text stands behind a backslash that is no backslash's second.
+fn ends_escaped(text: &str) -> bool {
+    let mut escaped = false;
+    for byte in text.as_bytes() {
+        escaped = *byte == b'\\' && !escaped;
+    }
+    escaped
+}
+
+/// The line with what stands for each text in braces. A brace behind a backslash stays.
+fn filled(alloc: Global, line: &str, counters: &[Counter<'_>]) -> Result<String, AllocError> {
+    let mut filled = String::new(alloc);
+    let mut rest = line;
+    for _ in 0..line.len() {
+        let Some((before, behind)) = rest.split_once('{') else {
+            break;
+        };
+        filled.push_str(before)?;
+        if ends_escaped(before) {
+            filled.push('{')?;
+            rest = behind;
+            continue;
+        }
+        let Some((inside, after)) = behind.split_once('}') else {
+            filled.push('{')?;
+            rest = behind;
+            continue;
+        };
+        push_braced(&mut filled, inside, counters)?;
+        rest = after;
+    }
+    filled.push_str(rest)?;
+    Ok(filled)
+}
+
+/// The counter of `NAME LOW..HIGH`.
+fn counter_of(text: &str, start: usize) -> Option<Counter<'_>> {
+    let (name, range) = text.split_once(' ')?;
+    match split_range(range.as_bytes()) {
+        Some((value, last, [])) => Some(Counter {
+            name,
+            value,
+            last,
+            start,
+        }),
+        _ => None,
+    }
+}
+
+/// The lines that the text of a file says. An error where `each` and `done` don't fit, and past a million lines.
+pub fn expanded(alloc: Global, text: &str) -> Result<Vec<Line>> {
+    let mut lines = Vec::new(alloc);
+    for line in text.lines() {
+        lines.push(line)?;
+    }
+    let mut counters: Vec<Counter<'_>> = Vec::new(alloc);
+    let mut expanded = Vec::new(alloc);
+    let mut at = 0usize;
+    for _ in 0..MOST_LINES {
+        let Some(line) = lines.get(at) else {
+            ensure!(counters.is_empty(), "an `each` has no `done`");
+            return Ok(expanded);
+        };
+        at = at.saturating_add(1);
+        if let Some(range) = line.strip_prefix("each ") {
+            let Some(counter) = counter_of(range, at) else {
+                bail!("line {at}: no `each NAME LOW..HIGH`");
+            };
+            counters.push(counter)?;
+        } else if *line == "done" {
+            let Some(counter) = counters.last_mut() else {
+                bail!("line {at}: no `each` for this `done`");
+            };
+            if counter.value < counter.last {
+                counter.value += 1;
+                at = counter.start;
+            } else {
+                let _ = counters.pop();
+            }
+        } else if !line.is_empty() && !line.starts_with('#') {
+            let text = filled(alloc, line, &counters)?;
+            expanded.push(Line { number: at, text })?;
+        }
+    }
+    bail!("more than {MOST_LINES} lines")
+}
