@@ -2,7 +2,7 @@
 //! made them, and what stands afterwards.
 //!
 //! A row's lines are calls, each with its answer behind ` -> `, and `ok` where none is written. They are made from above, on
-//! the model, the tree or the search that the row has begun. `docs/ROWS.md` tells each call; `row_texts` reads the files, and
+//! the model, the tree or the search that the row has begun. `docs/TREE_ROWS.md` tells each call; `row_texts` reads the files, and
 //! `model_texts` the models and the lists.
 //!
 //! The proof says that the program is safe and ends, whatever the files are. What the calls are to answer comes from outside.
