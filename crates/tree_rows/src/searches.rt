@@ -92,6 +92,10 @@ fn point_in(alloc: Global, model: &Model, line: &str) -> Result<Option<Point>> {
 }
 
 fn kept(alloc: Global, model: &Model, line: &str) -> Result<NodeResult> {
+    ensure!(
+        !has_section(line, "multipliers") && !has_section(line, "farkas"),
+        "multipliers with `keep`"
+    );
     let point = point_in(alloc, model, line)?;
     let basis = basis_of(alloc, model, &mut section(alloc, line, "basis")?)?;
     Ok(NodeResult::Keep { point, basis })
@@ -114,6 +118,11 @@ fn closed(alloc: Global, model: &Model, line: &str) -> Result<NodeResult> {
 }
 
 fn split(alloc: Global, model: &Model, words: &mut Words, line: &str) -> Result<NodeResult> {
+    ensure!(
+        !has_section(line, "point") && !has_section(line, "numbers"),
+        "a point with `split`"
+    );
+    ensure!(!has_section(line, "farkas"), "`farkas` with `split`");
     let (col, v) = trees::take_split(model, words)?;
     let mult = multipliers_of(alloc, model, &mut section(alloc, line, "multipliers")?)?;
     let basis = basis_of(alloc, model, &mut section(alloc, line, "basis")?)?;
