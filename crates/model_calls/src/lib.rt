@@ -1,0 +1,13 @@
+//! Calls of a model in words, for programs that run worked rows: what a model answers to them, and the parts of a call.
+//!
+//! `edit`, `point`, `value` and others are told in `docs/TREE_ROWS.md`. The words of a call begin with those that each call of
+//! its kind has, and behind them stand sections, each with a key at its head: `multipliers A 1`, `basis A high x`.
+//!
+//! It serves test programs alone. Its proof says that it is safe and ends.
+#![tactic(auto)]
+
+mod models;
+mod sections;
+
+pub use models::{call, push_answer, push_step};
+pub use sections::{has_section, numbers_of, section, take_number};

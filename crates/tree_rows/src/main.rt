@@ -1,0 +1,21 @@
+//! Worked rows of models, branching trees and searches: edits and their faults, points, results placed in a search whoever
+//! made them, and what stands afterwards.
+//!
+//! A row's lines are calls, each with its answer behind ` -> `, and `ok` where none is written. They are made from above, on
+//! the model, the tree or the search that the row has begun. `docs/TREE_ROWS.md` tells each call; `row_texts` reads the files, and
+//! `model_texts` the models and the lists.
+//!
+//! The proof says that the program is safe and ends, whatever the files are. What the calls are to answer comes from outside.
+#![tactic(auto)]
+
+mod searches;
+mod stage;
+mod told;
+mod trees;
+
+use crate::stage::Calls;
+use std::process::ExitCode;
+
+fn main(rt: HostRuntime) -> ExitCode {
+    row_texts::run_rows::<Calls>(&rt)
+}

@@ -1,0 +1,253 @@
+// What a search answers.
+use crate::{told, trees};
+use anyhow::{Result, bail, ensure};
+use branch_tree::NodeResult;
+use frac128::Frac;
+use leaf_dual::LagValue;
+use lp_model::{Model, Point};
+use model_calls::{has_section, numbers_of, push_answer, push_step, section, take_number};
+use model_texts::{Words, basis_of, edit_of, multipliers_of, point_of, push_point};
+use std::alloc::Global;
+use tree_edit::{LeafNumber, Search, Taken};
+use tree_search::{Outcome, StopWhy, cap, is_integral, solve};
+
+/// Makes a call of a search, and writes its answer.
+pub fn call(
+    alloc: Global,
+    search: &mut Search,
+    word: &str,
+    line: &str,
+    got: &mut String,
+) -> Result<()> {
+    if word == "place" {
+        return place(alloc, search, line, got);
+    }
+    let mut words = Words::new(alloc, line)?;
+    match word {
+        "edit" => edit(alloc, search, &mut words, got)?,
+        "solve" => run(alloc, search, take_number(&mut words)?, got)?,
+        "limit" => search.set_limit(take_number(&mut words)?),
+        "restart" => search.restart()?,
+        _ => read(search, word, &mut words, got)?,
+    }
+    words.end()
+}
+
+/// Makes a call that changes nothing.
+fn read(search: &Search, word: &str, words: &mut Words, got: &mut String) -> Result<()> {
+    match word {
+        "stands" => stands(search, got),
+        "points" => points(search, got),
+        "incumbent" => incumbent(search, got),
+        "number" => number(search, take_number(words)?, got),
+        "cap" => most_results(search.model(), got),
+        _ => told::read(search.tree(), search.model(), word, words, got),
+    }
+}
+
+/// `ID keep`, `ID close` or `ID split COLUMN at V`, and sections.
+fn place(alloc: Global, search: &mut Search, line: &str, got: &mut String) -> Result<()> {
+    let mut words = section(alloc, line, "")?;
+    let id = take_number(&mut words)?;
+    let done = result_of(alloc, search.model(), &mut words, line)?;
+    words.end()?;
+    let taken = search.place(id, done)?;
+    got.push_str(taken_word(taken))?;
+    Ok(())
+}
+
+fn taken_word(taken: Taken) -> &'static str {
+    match taken {
+        Taken::Stale => "stale",
+        Taken::Refused => "refused",
+        Taken::Reopened => "reopened",
+        Taken::Full => "full",
+        Taken::Closed => "closed",
+        Taken::Split => "split",
+        Taken::Kept => "kept",
+    }
+}
+
+fn result_of(alloc: Global, model: &Model, words: &mut Words, line: &str) -> Result<NodeResult> {
+    let kind = words.next("result")?;
+    match kind.as_str() {
+        "keep" => kept(alloc, model, line),
+        "close" => closed(alloc, model, line),
+        "split" => split(alloc, model, words, line),
+        _ => bail!("no result: `{kind}`"),
+    }
+}
+
+/// The point of the section `point`, by names, or `numbers`, as they are.
+fn point_in(alloc: Global, model: &Model, line: &str) -> Result<Option<Point>> {
+    if has_section(line, "numbers") {
+        let mut words = section(alloc, line, "numbers")?;
+        return Ok(Some(numbers_of(alloc, &mut words)?));
+    }
+    if has_section(line, "point") {
+        let mut words = section(alloc, line, "point")?;
+        return Ok(Some(point_of(alloc, model, &mut words)?));
+    }
+    Ok(None)
+}
+
+fn kept(alloc: Global, model: &Model, line: &str) -> Result<NodeResult> {
+    ensure!(
+        !has_section(line, "multipliers") && !has_section(line, "farkas"),
+        "multipliers with `keep`"
+    );
+    let point = point_in(alloc, model, line)?;
+    let basis = basis_of(alloc, model, &mut section(alloc, line, "basis")?)?;
+    Ok(NodeResult::Keep { point, basis })
+}
+
+/// By multipliers alone, or with a point.
+fn closed(alloc: Global, model: &Model, line: &str) -> Result<NodeResult> {
+    let mult = multipliers_of(alloc, model, &mut section(alloc, line, "multipliers")?)?;
+    let basis = basis_of(alloc, model, &mut section(alloc, line, "basis")?)?;
+    if let Some(point) = point_in(alloc, model, line)? {
+        ensure!(!has_section(line, "farkas"), "`farkas` beside a point");
+        return Ok(NodeResult::PointAndClose { point, mult, basis });
+    }
+    let farkas = multipliers_of(alloc, model, &mut section(alloc, line, "farkas")?)?;
+    Ok(NodeResult::Close {
+        mult,
+        farkas,
+        basis,
+    })
+}
+
+fn split(alloc: Global, model: &Model, words: &mut Words, line: &str) -> Result<NodeResult> {
+    ensure!(
+        !has_section(line, "point") && !has_section(line, "numbers"),
+        "a point with `split`"
+    );
+    ensure!(!has_section(line, "farkas"), "`farkas` with `split`");
+    let (col, v) = trees::take_split(model, words)?;
+    let mult = multipliers_of(alloc, model, &mut section(alloc, line, "multipliers")?)?;
+    let basis = basis_of(alloc, model, &mut section(alloc, line, "basis")?)?;
+    Ok(NodeResult::Split {
+        col,
+        v,
+        mult,
+        basis,
+    })
+}
+
+fn edit(alloc: Global, search: &mut Search, words: &mut Words, got: &mut String) -> Result<()> {
+    let edit = edit_of(alloc, words)?;
+    let answer = search.edit(edit);
+    push_answer(got, &answer)
+}
+
+/// Writes a number, and `none` where there is none.
+fn push_some(got: &mut String, number: &Option<Frac>) -> Result<()> {
+    match number {
+        Some(number) => write!(got, " {number}")?,
+        None => got.push_str(" none")?,
+    }
+    Ok(())
+}
+
+/// Writes how many nodes, open leaves and points there are, the next leaf, and the value against which leaves close.
+fn stands(search: &Search, got: &mut String) -> Result<()> {
+    let nodes = search.tree().nodes();
+    let open = search.open_leaves();
+    let points = search.points().len();
+    write!(got, "nodes {nodes} open {open} points {points}")?;
+    if let Some(next) = search.next_leaf()? {
+        write!(got, " next {next}")?;
+    }
+    if let Some(target) = search.target() {
+        write!(got, " target {target}")?;
+    }
+    Ok(())
+}
+
+/// Writes the kept points, the oldest first, with a comma between two.
+fn points(search: &Search, got: &mut String) -> Result<()> {
+    for (at, point) in search.points().iter().enumerate() {
+        if at > 0 {
+            got.push(',')?;
+        }
+        push_point(got, search.model(), point)?;
+    }
+    if got.is_empty() {
+        got.push_str("none")?;
+    }
+    Ok(())
+}
+
+/// Writes the oldest kept point of the best value.
+fn incumbent(search: &Search, got: &mut String) -> Result<()> {
+    match search.incumbent() {
+        Some(point) => push_point(got, search.model(), point)?,
+        None => got.push_str("none")?,
+    }
+    Ok(())
+}
+
+/// Writes the number of a leaf.
+fn number(search: &Search, id: u64, got: &mut String) -> Result<()> {
+    match &search.number(id)? {
+        None => got.push_str("none")?,
+        Some(LeafNumber::Empty) => got.push_str("empty")?,
+        Some(LeafNumber::Lag(LagValue::Minus)) => got.push_str("minus")?,
+        Some(LeafNumber::Lag(LagValue::Num(number))) => write!(got, "{number}")?,
+        Some(LeafNumber::Wide(step)) => push_step(got, search.model(), *step)?,
+    }
+    Ok(())
+}
+
+/// Searches on, with as many results as are allowed.
+fn run(alloc: Global, search: &mut Search, limit: u64, got: &mut String) -> Result<()> {
+    ensure!(
+        is_integral(search.model()),
+        "a column that isn't integer with two bounds"
+    );
+    let outcome = solve(alloc, search, limit)?;
+    push_outcome(got, search.model(), &outcome)
+}
+
+fn push_outcome(got: &mut String, model: &Model, outcome: &Outcome) -> Result<()> {
+    match outcome {
+        Outcome::Optimal {
+            value,
+            point,
+            placed,
+        } => {
+            write!(got, "optimal {value} nodes {placed} at")?;
+            push_point(got, model, point)?;
+        }
+        Outcome::Infeasible { placed } => write!(got, "infeasible nodes {placed}")?,
+        Outcome::Stopped {
+            why,
+            placed,
+            bound,
+            best,
+        } => {
+            write!(got, "stopped {} {placed} bound", cause(why))?;
+            push_some(got, bound)?;
+            got.push_str(" best")?;
+            push_some(got, best)?;
+        }
+    }
+    Ok(())
+}
+
+fn cause(why: &StopWhy) -> &'static str {
+    match why {
+        StopWhy::Nodes => "nodes",
+        StopWhy::Tree => "tree",
+        StopWhy::Wide { .. } => "wide",
+    }
+}
+
+/// Writes how many results a search of the model can place.
+fn most_results(model: &Model, got: &mut String) -> Result<()> {
+    match cap(model) {
+        Some(most) => write!(got, "{most}")?,
+        None => got.push_str("none")?,
+    }
+    Ok(())
+}

@@ -1,0 +1,77 @@
+// What a tree by itself answers.
+use crate::told;
+use anyhow::{Result, ensure};
+use branch_tree::{Tree, TreeFault};
+use lp_model::{ColId, Model};
+use model_calls::{section, take_number};
+use model_texts::{Words, basis_of, column_of, multipliers_of};
+use std::alloc::Global;
+
+/// Makes a call of a tree, and writes its answer. The model gives columns and rows their names.
+pub fn call(
+    alloc: Global,
+    tree: &mut Tree,
+    model: &Model,
+    word: &str,
+    line: &str,
+    got: &mut String,
+) -> Result<()> {
+    let mut words = section(alloc, line, "")?;
+    match word {
+        "limit" => tree.set_limit(take_number(&mut words)?),
+        "trim" => tree.trim_depth(take_number(&mut words)?),
+        "collapse" => collapse(tree, take_number(&mut words)?, got)?,
+        "split" => return split(alloc, tree, model, line, got),
+        _ => told::read(tree, model, word, &mut words, got)?,
+    }
+    words.end()
+}
+
+/// Takes `COLUMN at V`, to the end.
+pub fn take_split(model: &Model, words: &mut Words) -> Result<(ColId, i128)> {
+    let col = column_of(model, &words.next("column")?)?;
+    ensure!(words.takes("at"), "no `at`");
+    let v = words.next("number")?.parse::<i128>()?;
+    words.end()?;
+    Ok((col, v))
+}
+
+/// `split ID COLUMN at V`, and the sections `multipliers` and `basis`.
+fn split(
+    alloc: Global,
+    tree: &mut Tree,
+    model: &Model,
+    line: &str,
+    got: &mut String,
+) -> Result<()> {
+    let mut words = section(alloc, line, "")?;
+    let id = take_number(&mut words)?;
+    let (col, v) = take_split(model, &mut words)?;
+    ensure!(v < i128::MAX, "no room above {v}");
+    let mult = multipliers_of(alloc, model, &mut section(alloc, line, "multipliers")?)?;
+    let basis = basis_of(alloc, model, &mut section(alloc, line, "basis")?)?;
+    let answer = tree.replace_leaf(id, col, v, mult, basis);
+    push_ids(got, &answer)
+}
+
+/// Writes the ids of the two leaves, or why there are none.
+fn push_ids(got: &mut String, answer: &Result<(u64, u64), TreeFault>) -> Result<()> {
+    match answer {
+        Ok((left, right)) => write!(got, "{left} {right}")?,
+        Err(TreeFault::Full) => got.push_str("full")?,
+        Err(TreeFault::NoLeaf) => got.push_str("no leaf")?,
+        Err(TreeFault::Memory) => got.push_str("no memory")?,
+    }
+    Ok(())
+}
+
+/// Writes the id of the leaf that the split becomes.
+fn collapse(tree: &mut Tree, id: u64, got: &mut String) -> Result<()> {
+    if !tree.has_split(id) {
+        got.push_str("no split")?;
+        return Ok(());
+    }
+    let new = tree.collapse(id);
+    write!(got, "{new}")?;
+    Ok(())
+}
