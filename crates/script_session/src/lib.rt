@@ -29,6 +29,3 @@ pub use machine::Machine;
 pub use output::write_all;
 pub use reading::{LINE_LIMIT, PIECE_LENGTH, SCRIPT_LIMIT};
 pub use run::run_script;
-
-#[cfg(test)]
-mod tests;
