@@ -99,6 +99,19 @@ pub fn push_value(text: &mut String, model: &Model, point: &Point) -> Result<Opt
     }
 }
 
+/// Writes a line where a number of multipliers is not the one that is wanted.
+fn judge_lag(text: &mut String, number: &LagValue, wanted: &Frac) -> Result<()> {
+    match number {
+        LagValue::Minus => text.push_str("the multipliers have no number\n")?,
+        LagValue::Num(number) => {
+            if *number != *wanted {
+                writeln!(text, "the multipliers have the number {number}")?;
+            }
+        }
+    }
+    Ok(())
+}
+
 /// Writes a line where the number of multipliers is another one.
 pub fn judge_multipliers(
     text: &mut String,
@@ -108,16 +121,11 @@ pub fn judge_multipliers(
 ) -> Result<()> {
     ensure!(is_narrow_region(relax.region), "a region that is too wide");
     let wanted = least_form(relax.model.sense(), value);
-    match path_lag(relax.model, &[], relax.region, mult.as_slice()) {
-        Err(step) => push_wide(text, relax.model, "the multipliers", step)?,
-        Ok(LagValue::Minus) => text.push_str("the multipliers have no number\n")?,
-        Ok(LagValue::Num(number)) => {
-            if number != wanted {
-                writeln!(text, "the multipliers have the number {number}")?;
-            }
-        }
+    let answer = path_lag(relax.model, &[], relax.region, mult.as_slice());
+    match &answer {
+        Err(step) => push_wide(text, relax.model, "the multipliers", *step),
+        Ok(number) => judge_lag(text, number, &wanted),
     }
-    Ok(())
 }
 
 /// Writes a line where the number of Farkas multipliers is not above 0.

@@ -12,18 +12,29 @@ use node_solve::{Worked, first_in_law, work};
 use row_tableau::{Relax, RelaxKind};
 use std::alloc::Global;
 
+/// Writes a number of multipliers, and the end of the line.
+fn push_lag(text: &mut String, number: &LagValue) -> Result<()> {
+    match number {
+        LagValue::Num(number) => writeln!(text, " bound {number}")?,
+        LagValue::Minus => text.push_str(" no bound\n")?,
+    }
+    Ok(())
+}
+
 /// Writes the number of multipliers in the leaf's region, and the end of the line.
 fn push_bound(text: &mut String, model: &Model, job: &Job, mult: &Mult) -> Result<()> {
     ensure!(
         is_narrow_region(job.region.as_slice()),
         "a region that is too wide"
     );
-    match lag(model, &[], &job.region, mult) {
-        Ok(LagValue::Num(number)) => writeln!(text, " bound {number}")?,
-        Ok(LagValue::Minus) => text.push_str(" no bound\n")?,
-        Err(_) => text.push_str(" wide bound\n")?,
+    let answer = lag(model, &[], &job.region, mult);
+    match &answer {
+        Ok(number) => push_lag(text, number),
+        Err(_) => {
+            text.push_str(" wide bound\n")?;
+            Ok(())
+        }
     }
-    Ok(())
 }
 
 /// The relaxation of the leaf.

@@ -1,5 +1,5 @@
 // Regions that a relaxation may be taken in.
-ghost use Rattle.std.specs.Prelude.{◌<◌, length, IsTrue};
+ghost use Rattle.std.specs.Prelude.{◌≡◌, ◌<◌, length, IsTrue};
 ghost use Rattle.lp_model.specs.Program.{is_integer};
 ghost use Rattle.lp_model.specs.Regions.{AreNarrow};
 ghost use Rattle.dual_simplex.specs.Tilts.{KeepsFree};
@@ -15,21 +15,36 @@ fn names_integers(model: &Model, region: &[BoundChange]) -> bool
     match region.split_first() {
         None => true,
         Some((change, rest)) => {
-            is_integer(model, change.col.0 as usize) && names_integers(model, rest)
+            is_integer_there(model, change.col.0 as usize) && names_integers(model, rest)
         }
     }
 }
 
-/// Whether there is such a column and it is integer.
+/// Whether a column is integer.
 fn is_integer(model: &Model, col: usize) -> bool
+    requires { col < length model.now.cols }
+    ensures { result ≡ is_integer model.now col }
+{
+    model.cols()[col].int
+}
+
+/// Whether there is such a column and it is integer.
+fn is_integer_there(model: &Model, col: usize) -> bool
     ensures there { IsTrue result → col < length model.now.cols }
     ensures kind { IsTrue result → IsTrue (is_integer model.now col) }
 {
     if col < model.cols().len() {
-        model.cols()[col].int
-    } else {
-        false
+        return is_integer(model, col);
     }
+    false
+}
+
+/// Nothing happens: a region whose changes are of integer columns, which have bounds, leaves columns without bounds free.
+fn leaves_free(model: &Model, region: &[BoundChange])
+    requires { NamesIntegers model.now region.now }
+    ensures { KeepsFree model.now region.now }
+{
+    let _lawful = model.cols();
 }
 
 /// Whether a fraction has room for each number of the region, and each change is of an integer column. Then each column
@@ -39,6 +54,12 @@ pub fn is_lawful_region(model: &Model, region: &[BoundChange]) -> bool
     ensures integers { IsTrue result → NamesIntegers model.now region.now }
     ensures free { IsTrue result → KeepsFree model.now region.now }
 {
-    let _lawful = model.cols();
-    is_narrow_region(region) && names_integers(model, region)
+    if !is_narrow_region(region) {
+        return false;
+    }
+    if !names_integers(model, region) {
+        return false;
+    }
+    leaves_free(model, region);
+    true
 }
