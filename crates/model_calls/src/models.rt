@@ -1,4 +1,6 @@
 // What a model answers.
+ghost use Rattle.std.specs.Prelude.{◌≡◌, ◌⊎◌, IfOk};
+
 use anyhow::{Result, bail, ensure};
 use frac128::Frac;
 use lp_model::{EditFault, Model, NotWhole, Sense, Var, WideStep};
@@ -96,15 +98,19 @@ fn push_number(got: &mut String, model: &Model, number: &Result<Frac, WideStep>)
     Ok(())
 }
 
-/// Whether the next word is objective 2, and not 1.
-fn is_second(words: &mut Words) -> Result<bool> {
-    let is_second = words.takes("2");
-    ensure!(is_second || words.takes("1"), "no objective 1 or 2");
-    Ok(is_second)
+/// Takes 1 or 2, which names an objective.
+fn take_objective(words: &mut Words) -> Result<u8>
+    ensures { IfOk result (λ which. (which ≡ 1) ⊎ (which ≡ 2)) }
+{
+    if words.takes("1") {
+        return Ok(1);
+    }
+    ensure!(words.takes("2"), "no objective 1 or 2");
+    Ok(2)
 }
 
 fn value(alloc: Global, model: &Model, words: &mut Words, got: &mut String) -> Result<()> {
-    let which = if is_second(words)? { 2 } else { 1 };
+    let which = take_objective(words)?;
     let point = point_of(alloc, model, words)?;
     let value = model.value(which, &point);
     push_number(got, model, &value)
@@ -177,7 +183,7 @@ fn place(model: &Model, words: &mut Words, got: &mut String) -> Result<()> {
 
 /// Writes that an objective is whole, or the column by which it isn't.
 fn whole(model: &Model, words: &mut Words, got: &mut String) -> Result<()> {
-    let which = if is_second(words)? { 2 } else { 1 };
+    let which = take_objective(words)?;
     match model.whole_objective(which) {
         Ok(()) => got.push_str("whole")?,
         Err(NotWhole { col: Some(col) }) => write!(got, "not by column#{}", col.0)?,

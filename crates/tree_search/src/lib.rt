@@ -26,8 +26,6 @@ mod refuting;
 mod regions;
 mod searching;
 mod stepping;
-#[cfg(test)]
-mod tests;
 mod working;
 
 pub use counting::cap;
