@@ -28,7 +28,7 @@ mod leaf;
 mod names;
 mod printing;
 // (certificates of whole searches are tried where they are written and checked,
-// in `shell_tests`)
+// in `script_rows`)
 mod walk;
 mod writing;
 
