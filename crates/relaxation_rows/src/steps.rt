@@ -1,6 +1,6 @@
 // Steps of arithmetic without room, as text.
 use dual_simplex::LpStep;
-use lp_model::{Model, Var};
+use lp_model::{Model, Var, WideStep};
 use model_texts::{push_variables, push_wide_step};
 use node_solve::NodeStep;
 use ray_phase::RayStep;
@@ -34,20 +34,23 @@ pub fn push_lp_step(text: &mut String, model: &Model, step: &LpStep) -> Result<(
     }
 }
 
+/// A step of the sums at a point, or of the number of multipliers.
+fn push_judged(text: &mut String, model: &Model, step: WideStep) -> Result<(), AllocError> {
+    text.push_str("wide ")?;
+    push_wide_step(text, model, step)?;
+    text.push('\n')
+}
+
 pub fn push_node_step(text: &mut String, model: &Model, step: &NodeStep) -> Result<(), AllocError> {
     match step {
         NodeStep::Relaxed(step) => push_lp_step(text, model, step),
-        NodeStep::Judged(step) => {
-            text.push_str("wide ")?;
-            push_wide_step(text, model, *step)?;
-            text.push('\n')
-        }
+        NodeStep::Judged(step) => push_judged(text, model, *step),
     }
 }
 
 pub fn push_ray_step(text: &mut String, model: &Model, step: &RayStep) -> Result<(), AllocError> {
     match step {
         RayStep::Lp(step) => push_lp_step(text, model, step),
-        RayStep::Value(col) => push_line(text, model, "value", &[Var::Col(*col)]),
+        RayStep::Judged(step) => push_judged(text, model, *step),
     }
 }
