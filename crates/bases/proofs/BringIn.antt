@@ -8,7 +8,7 @@ use Rattle.rational.proofs.RationalOrder.{zero-<ℚ-one, <ℚ_irrefl, ≤ℚ_or_
 use Rattle.checked_sum.specs.Sums.{sum_below}
 use Rattle.checked_sum.proofs.SumLaws.{sum_below-same, sum_below-≤ℚ, sum_below_exchange}
 use Rattle.bases.specs.Relaxation.{Relaxation, Table, Rows, IsArranged, point}
-use Rattle.bases.specs.Bases.{Found, IsTableOf, listed, Lists, IsNamedBy, IsNext, IsStuck}
+use Rattle.bases.specs.Bases.{Found, IsTableOf, listed, Lists, IsNamedBy, IsNextOfList, IsStuck}
 use Rattle.bases.proofs.SumBelowLaws.{if_same, if_other, sum_below-zero, sum_below-changed}
 use Rattle.bases.proofs.Pivot.{unit, sum_unit}
 use Rattle.bases.proofs.Arranged.{sum_picked, sum_missed, assigned-basic, assigned-nonbasic, Rows-point}
@@ -58,7 +58,7 @@ module _ (p : Relaxation) (list : List ℕ) (d : Table) (d_is : IsTableOf p d) (
   abbrev s : ℕ
   s = stuck.place
 
-  abbrev next : IsNext p.columns p.activities list d stuck.turn s
+  abbrev next : IsNextOfList p.columns p.activities list d stuck.turn s
   next = stuck.next
 
   -- the entering variable is 1 and the other nonbasic ones are 0

@@ -8,7 +8,7 @@ use Rattle.rational.proofs.RationalOrder.{≤ℚ_or_>ℚ, ≤ℚ_antisymm, <ℚ_
 use Rattle.checked_sum.specs.Sums.{sum_below}
 use Rattle.bases.specs.Relaxation.{Relaxation, Table, IsArranged, point, reduced_cost, value, IsWithin, Solves}
 use Rattle.bases.specs.declared.stand.Stand.{Stand}
-use Rattle.bases.specs.States.{perturbed, IsPositive, IsFree, Separates, State, Standing, LawfulAt, reduced_parts, IsLawful}
+use Rattle.bases.specs.States.{perturbed, IsPositive, IsFree, Separates, State, Standing, LawfulAt, reduced_parts, IsDualFeasible}
 use Rattle.bases.specs.declared.stand.Stand.TheVariants.{Low, High, Free}
 use Rattle.bases.specs.Directions.{direction_side, directions, Continues, side_number, model_stand, model_state, IsRay}
 use Rattle.checked_sum.proofs.SumLaws.{sum_below-same, sum_below-scale}
@@ -163,7 +163,7 @@ factor_none : (a x b : ℚ) → b ≢ int (pos 0) → x ≡ b → a *ℚ x ≡ i
 factor_none a x b some e h = not_zero_product b a some (ring (a ∷ b ∷ []) {y = a *ℚ b} (search reads_ℚ) tt ∙ ap (λ t. a *ℚ t) (sym e) ∙ h)
 
 module _ (p : Relaxation) (parts longer : ℕ → ℕ → ℚ) (separates : Separates p parts) (continues : Continues p parts longer)
-    (st : State) (arranged : IsArranged p st.table) (lawful : IsLawful (directions p) longer st)
+    (st : State) (arranged : IsArranged p st.table) (lawful : IsDualFeasible (directions p) longer st)
     (within : IsWithin (directions p) (point p st.table st.at)) (not_below : int (pos 0) ≤ℚ value p (longer 0) (point p st.table st.at)) where
   abbrev d : Table
   d = st.table
@@ -268,7 +268,7 @@ module _ (p : Relaxation) (parts longer : ℕ → ℕ → ℚ) (separates : Sepa
   kept k q None (Some b) e f Free h l = absurd (none_not_some (sym h.1 ∙ ap (λ o. direction_side (ltb (d.nonbasic k) p.columns) (int (pos 1)) o) f))
 
   -- the basis of an optimum of the directions that is not below 0 is lawful for the model
-  pub lawful_for_model : IsLawful p parts (model_state p st)
+  pub lawful_for_model : IsDualFeasible p parts (model_state p st)
   lawful_for_model = record {
     stands = λ k q. (kept k q (p.low (d.nonbasic k)) (p.high (d.nonbasic k)) refl refl (st.stand k) (standing k q) (lawful.lawful k q)).0;
     lawful = λ k q. (kept k q (p.low (d.nonbasic k)) (p.high (d.nonbasic k)) refl refl (st.stand k) (standing k q) (lawful.lawful k q)).1;

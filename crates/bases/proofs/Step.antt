@@ -11,7 +11,7 @@ use Rattle.rational.proofs.Rounding.{*ℚ-inverse}
 use Rattle.checked_sum.specs.Sums.{sum_below}
 use Rattle.bases.specs.Relaxation.{Relaxation, Table, IsArranged, pivoted, reduced_cost}
 use Rattle.bases.specs.declared.stand.Stand.{Stand}
-use Rattle.bases.specs.States.{IsPositive, IsLess, IsSame, IsFree, Separates, sign, State, Standing, LawfulAt, reduced_parts, IsLawful, basic_value, key, IsOutside, MayEnter, ratio, Enters, stepped}
+use Rattle.bases.specs.States.{IsPositive, IsLess, IsSame, IsFree, Separates, sign, State, Standing, LawfulAt, reduced_parts, IsDualFeasible, basic_value, key, IsOutside, MayEnter, ratio, Enters, stepped}
 use Rattle.bases.specs.declared.stand.Stand.TheVariants.{Low, High, Free}
 use Rattle.checked_sum.proofs.SumLaws.{sum_below-same}
 use Rattle.bases.proofs.SumBelowLaws.{if_same, if_other, sum_below-changed}
@@ -93,7 +93,7 @@ not_zero_product a b some e =
 
 -- ---- the step
 
-module _ (p : Relaxation) (parts : ℕ → ℕ → ℚ) (separates : Separates p parts) (st : State) (arranged : IsArranged p st.table) (lawful : IsLawful p parts st)
+module _ (p : Relaxation) (parts : ℕ → ℕ → ℚ) (separates : Separates p parts) (st : State) (arranged : IsArranged p st.table) (lawful : IsDualFeasible p parts st)
     (r : ℕ) (r_within : r < p.activities) (side : Stand) (b : ℚ) (outside : IsOutside p st r side b) where
   abbrev d : Table
   d = st.table
@@ -259,7 +259,7 @@ module _ (p : Relaxation) (parts : ℕ → ℕ → ℚ) (separates : Separates p
         there : ¬ (k ≡ s) → LawfulAt (after.stand k) (reduced_parts p parts next k)
         there other = subst (λ v. LawfulAt v (reduced_parts p parts next k)) (sym (if_other k s side (st.stand k) other)) (lawful_elsewhere k within other)
 
-    pub lawful_step : IsLawful p parts after
+    pub lawful_step : IsDualFeasible p parts after
     lawful_step = record { stands = standing_after; lawful = lawful_after }
 
     -- ---- the key

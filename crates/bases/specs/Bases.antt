@@ -26,13 +26,13 @@ pub record IsNamedBy (activities : ℕ) (list : List ℕ) (d : Table) : Type 0 w
   pub names : (t : ℕ) → t < length list → Found activities d.basic (listed list t)
 
 -- there is a table of the relaxation with these basic variables
-abbrev pub IsBasis : Relaxation → List ℕ → Type 0
-IsBasis p list = (d : Table) × IsTableOf p d × IsNamedBy p.activities list d
+abbrev pub IsNonsingular : Relaxation → List ℕ → Type 0
+IsNonsingular p list = (d : Table) × IsTableOf p d × IsNamedBy p.activities list d
 
 -- ---- bringing a list in
 
 -- the first variable of the list that is not basic has this turn, and stands at this place
-pub record IsNext (columns activities : ℕ) (list : List ℕ) (d : Table) (turn place : ℕ) : Type 0 where
+pub record IsNextOfList (columns activities : ℕ) (list : List ℕ) (d : Table) (turn place : ℕ) : Type 0 where
   pub turn_within : turn < length list
   pub before : (t : ℕ) → t < turn → Found activities d.basic (listed list t)
   pub not_basic : ¬ (Found activities d.basic (listed list turn))
@@ -47,7 +47,7 @@ pub record MayLeave (list : List ℕ) (d : Table) (place row : ℕ) : Type 0 whe
 -- the exchange that comes next: the first variable of the list that is not basic enters, at the place, for the first basic variable that may leave, in the row
 pub record BringsIn (columns activities : ℕ) (list : List ℕ) (d : Table) (row place : ℕ) : Type 0 where
   pub turn : ℕ
-  pub next : IsNext columns activities list d turn place
+  pub next : IsNextOfList columns activities list d turn place
   pub row_within : row < activities
   pub leaves : MayLeave list d place row
   pub first : (i : ℕ) → i < activities → MayLeave list d place i → d.basic row ≤ d.basic i
@@ -56,7 +56,7 @@ pub record BringsIn (columns activities : ℕ) (list : List ℕ) (d : Table) (ro
 pub record IsStuck (columns activities : ℕ) (list : List ℕ) (d : Table) : Type 0 where
   pub turn : ℕ
   pub place : ℕ
-  pub next : IsNext columns activities list d turn place
+  pub next : IsNextOfList columns activities list d turn place
   pub none : (i : ℕ) → i < activities → ¬ (MayLeave list d place i)
 
 -- n exchanges that bring the list in lead from the table d to e

@@ -21,22 +21,22 @@ pub record DifferenceFits (pivot in_row in_place entry : ℚ) : Type 0 where
   pub difference : SumFits entry (neg_ℚ (in_place *ℚ (in_row /ℚ pivot)))
 
 -- the inverse of a number that has room has room
-abbrev pub StepFits : Bool → Bool → ℚ → ℚ → ℚ → ℚ → Type 0
-StepFits true true pivot in_row in_place entry = Unit {0}
-StepFits true false pivot in_row in_place entry = Fits (in_row /ℚ pivot)
-StepFits false true pivot in_row in_place entry = Fits (in_place /ℚ pivot)
-StepFits false false pivot in_row in_place entry = DifferenceFits pivot in_row in_place entry
+abbrev pub PivotStepFits : Bool → Bool → ℚ → ℚ → ℚ → ℚ → Type 0
+PivotStepFits true true pivot in_row in_place entry = Unit {0}
+PivotStepFits true false pivot in_row in_place entry = Fits (in_row /ℚ pivot)
+PivotStepFits false true pivot in_row in_place entry = Fits (in_place /ℚ pivot)
+PivotStepFits false false pivot in_row in_place entry = DifferenceFits pivot in_row in_place entry
 
 -- the step of the entry of row i and place k in the exchange of row r and place s
 abbrev pub EntryFits : (ℕ → ℕ → ℚ) → ℕ → ℕ → ℕ → ℕ → Type 0
-EntryFits t r s i k = StepFits (i == r) (k == s) (t r s) (t r k) (t i s) (t i k)
+EntryFits t r s i k = PivotStepFits (i == r) (k == s) (t r s) (t r k) (t i s) (t i k)
 
 -- each step of the exchange of row r and place s
 abbrev pub ExchangeFits : ℕ → ℕ → Table → ℕ → ℕ → Type 0
 ExchangeFits columns activities d r s = (i k : ℕ) → i < activities → k < columns → EntryFits d.entry r s i k
 
 -- the step of row i and place k is the first of the exchange that has no room, row by row
-pub record IsFirstWideEntry (columns activities : ℕ) (d : Table) (r s i k : ℕ) : Type 0 where
+pub record IsFirstWidePivotEntry (columns activities : ℕ) (d : Table) (r s i k : ℕ) : Type 0 where
   pub row_within : i < activities
   pub place_within : k < columns
   pub wide : ¬ (EntryFits d.entry r s i k)

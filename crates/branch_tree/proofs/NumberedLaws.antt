@@ -8,7 +8,7 @@ use Rattle.lp_model.specs.declared.types.Basis.{Basis}
 use Rattle.branch_tree.specs.declared.node.LeafData.{LeafData}
 use Rattle.branch_tree.specs.Tree.{Leaf, node_count, split_count}
 use Rattle.branch_tree.specs.Plain.{Plain, new_split, one_if_same, leaves_with, splits_with, nodes_with, replaced, collapsed, trimmed, splits_at}
-use Rattle.branch_tree.specs.Numbered.{NumberedTree, IsNumbered, IsKept}
+use Rattle.branch_tree.specs.Numbered.{NumberedTree, IsNumbered, IsCounted}
 use Rattle.branch_tree.specs.Changes.{HasLeaf, HasSplit, HasRoom, first_tree, after_split, after_collapse, after_trim, with_limit, with_leaf}
 use Rattle.branch_tree.proofs.CountLemmas.{nodes-splits, same_cases, same_other, same_at_most_one, splits_with-le}
 use Rattle.branch_tree.proofs.IdLemmas.{splits-replaced_leaf, splits-replaced_split, with-replaced, with-replaced_new, each_split-replaced, splits-collapsed, with-collapsed, with-collapsed_new, each_split-collapsed, splits-trimmed, with-trimmed, with-trimmed_none, with-trimmed_new, each_split-trimmed}
@@ -31,11 +31,11 @@ pub one_leaf : (T : NumberedTree) (id : ℕ) → IsNumbered T → leaves_with id
 one_leaf T id n = omega (arith, n.distinct id)
 
 -- two more nodes can be counted
-pub two_more_fit : (T : NumberedTree) (count : ℕ) → IsKept T count → count + 2 < 2 ^ 64
+pub two_more_fit : (T : NumberedTree) (count : ℕ) → IsCounted T count → count + 2 < 2 ^ 64
 two_more_fit T count k = omega (arith, k.counted, nodes-splits T.root, k.numbered.few, k.numbered.left)
 
 -- whether there is room, from the counter
-pub has_room-counted : (T : NumberedTree) (count : ℕ) → IsKept T count → count + 2 ≤ T.limit
+pub has_room-counted : (T : NumberedTree) (count : ℕ) → IsCounted T count → count + 2 ≤ T.limit
     → (IsTrue (leb (count / 2 + 3) (18446744073709551615 - T.last)) → HasRoom T) × (HasRoom T → IsTrue (leb (count / 2 + 3) (18446744073709551615 - T.last)))
 has_room-counted T count k within =
     let half : count / 2 ≡ split_count T.root = omega (arith, k.counted, nodes-splits T.root) in (

@@ -10,7 +10,7 @@ use Rattle.lp_model.specs.Regions.{Path, AreNarrow, NamesColumns}
 use Rattle.lp_model.specs.declared.types.BoundChange.{BoundChange}
 use Rattle.lp_model.specs.declared.types.Var.{Var}
 use Rattle.lp_model.specs.declared.types.Basis.{Basis}
-use Rattle.branch_tree.specs.Tree.{Tree, Leaf, Split, at_most, at_least, left_path, right_path, EachSplit, IsLawful, HasNarrowSplits, EachLeaf}
+use Rattle.branch_tree.specs.Tree.{Tree, Leaf, Split, at_most, at_least, left_path, right_path, EachSplit, SplitsLawfully, HasNarrowSplits, EachLeaf}
 use Rattle.branch_tree.specs.Plain.{LeafKept, Plain, new_split, leaf_below, path_of}
 use Rattle.branch_tree.specs.Numbered.{NumberedTree}
 use Rattle.branch_tree.specs.Changes.{after_split, after_collapse, after_trim, with_leaf}
@@ -35,7 +35,7 @@ narrow_paths path (Split kept j v left right) h n = (
 )
 
 -- the paths of a lawful tree name columns that are there
-pub lawful_paths : {S L : Type 0} (M : Program) (path : Path) (t : Tree S L) → IsLawful M t → NamesColumns M path → EachLeaf (λ p kept. NamesColumns M p) path t
+pub lawful_paths : {S L : Type 0} (M : Program) (path : Path) (t : Tree S L) → SplitsLawfully M t → NamesColumns M path → EachLeaf (λ p kept. NamesColumns M p) path t
 lawful_paths M path (Leaf kept) h n = n
 lawful_paths M path (Split kept j v left right) h n = (
   lawful_paths M (left_path path j v) left h.1.0 (names-more M path (at_most j v) n h.0.0),
@@ -89,6 +89,6 @@ each_split-after_trim P T depth each = each_split-trimmed P depth T.last T.root 
 
 -- a split on an integer column keeps the tree lawful
 pub lawful-after_split : (M : Program) (T : NumberedTree) (id j : ℕ) (v : ℤ) (mult : List (Var × ℚ)) (basis : Basis)
-    → IsLawful M T.root → j < length M.cols → IsTrue (is_integer M j) → IsLawful M (after_split T id j v mult basis).root
+    → SplitsLawfully M T.root → j < length M.cols → IsTrue (is_integer M j) → SplitsLawfully M (after_split T id j v mult basis).root
 lawful-after_split M T id j v mult basis h below integer =
     each_split-after_split (λ i u. (i < length M.cols) × IsTrue (is_integer M i)) T h id j v mult basis (below, integer)

@@ -10,7 +10,7 @@ use Rattle.rational.proofs.Integers.{int-≤ℚ-int}
 use Rattle.lp_model.specs.Program.{Program, Point, coordinate, IsFeasible}
 use Rattle.lp_model.specs.Regions.{Path, InRegion}
 use Rattle.lp_model.proofs.RegionLemmas.{in_region-more, in_region-fewer}
-use Rattle.branch_tree.specs.Tree.{Tree, Leaf, Split, at_most, at_least, left_path, right_path, IsLawful, leaves, EachLeaf, NoLeaf, ExactlyOneLeaf, IsInOneLeaf}
+use Rattle.branch_tree.specs.Tree.{Tree, Leaf, Split, at_most, at_least, left_path, right_path, SplitsLawfully, leaves, EachLeaf, NoLeaf, ExactlyOneLeaf, IsInOneLeaf}
 
 -- a whole number is on one side of a split
 pub whole_branches : (y : ℚ) (v : ℤ) → IsWhole y → (y ≤ℚ int v) ⊎ (int (v +ℤ pos 1) ≤ℚ y)
@@ -31,7 +31,7 @@ module _ {S L : Type 0} (x : Point) where
     none_outside (right_path path j v) right (λ m. h (in_region-fewer x path (at_least j (v +ℤ pos 1)) m).0),
   )
 
-  one_within : (M : Program) (path : Path) (t : Tree S L) → IsLawful M t → IsFeasible M x → InRegion path x → ExactlyOneLeaf (λ p kept. InRegion p x) path t
+  one_within : (M : Program) (path : Path) (t : Tree S L) → SplitsLawfully M t → IsFeasible M x → InRegion path x → ExactlyOneLeaf (λ p kept. InRegion p x) path t
   one_within M path (Leaf kept) lawful feasible inside = inside
   one_within M path (Split kept j v left right) lawful feasible inside =
       elim (whole_branches (coordinate x j) v ((feasible.columns j lawful.0.0).whole lawful.0.1)) [
@@ -46,7 +46,7 @@ module _ {S L : Type 0} (x : Point) where
       ]
 
 -- a feasible point lies in exactly one leaf's region
-pub point_in_one_leaf : {S L : Type 0} (M : Program) (t : Tree S L) (x : Point) → IsLawful M t → IsFeasible M x → IsInOneLeaf t x
+pub point_in_one_leaf : {S L : Type 0} (M : Program) (t : Tree S L) (x : Point) → SplitsLawfully M t → IsFeasible M x → IsInOneLeaf t x
 point_in_one_leaf M t x lawful feasible = one_within x M [] t lawful feasible tt
 
 -- what holds of each leaf meets what holds of one

@@ -30,8 +30,8 @@ EachSplit P (Leaf kept) = Unit {0}
 EachSplit P (Split kept j v left right) = P j v × (EachSplit P left × EachSplit P right)
 
 -- each split is on an integer column
-abbrev pub IsLawful : {S L : Type 0} → Program → Tree S L → Type 0
-IsLawful M t = EachSplit (λ j v. (j < length M.cols) × IsTrue (is_integer M j)) t
+abbrev pub SplitsLawfully : {S L : Type 0} → Program → Tree S L → Type 0
+SplitsLawfully M t = EachSplit (λ j v. (j < length M.cols) × IsTrue (is_integer M j)) t
 
 -- a fraction has room for both bounds of each split
 abbrev pub HasNarrowSplits : {S L : Type 0} → Tree S L → Type 0

@@ -42,7 +42,7 @@ pub enum Node {
 
 /// A copy of a leaf, beside the bound changes on the way to it.
 #[derive(Drop)]
-pub struct PlacedLeaf {
+pub struct RegionLeaf {
     pub id: u64,
     pub region: Region,
     pub kept: LeafData,

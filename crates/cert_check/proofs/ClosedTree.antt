@@ -8,14 +8,14 @@ use Rattle.lp_model.specs.Edits.{Named}
 use Rattle.lp_model.specs.Regions.{Path, InRegion}
 use Rattle.lp_model.proofs.RegionLemmas.{empty_region}
 use Rattle.leaf_dual.proofs.WeakDuality.{farkas-none, reached-bound}
-use Rattle.branch_tree.specs.Tree.{IsLawful, EachLeaf}
+use Rattle.branch_tree.specs.Tree.{SplitsLawfully, EachLeaf}
 use Rattle.branch_tree.proofs.TreeLemmas.{point_in_one_leaf, leaf_with_both}
 use Rattle.cert_check.specs.declared.cert.Claim.{Claim}
 use Rattle.cert_check.specs.declared.cert.Claim.TheVariants.{Optimal, Infeasible}
 use Rattle.cert_check.specs.declared.cert.CertLeaf.{CertLeaf}
 use Rattle.cert_check.specs.declared.cert.CertLeaf.TheVariants.{Bound, Farkas, Empty}
 use Rattle.cert_check.specs.declared.cert.Cert.{Cert}
-use Rattle.cert_check.specs.Tree.{CertTree, placed}
+use Rattle.cert_check.specs.Tree.{CertTree, with_places}
 use Rattle.cert_check.specs.Accepted.{ReachesValue, Closes, HasPoint, Accepts, multipliers, point_of}
 use Rattle.cert_check.specs.Laws.{IsTrueClaim}
 
@@ -39,18 +39,18 @@ module _ (M : Program) (y : Point) (feasible : IsFeasible M y) (path : Path) (in
   closes-none (Farkas named) closes = farkas-none M path (multipliers M named) y feasible closes.1 inside
   closes-none Empty closes = empty_region M y path closes feasible inside
 
-module _ (M : Program) (tree : CertTree) (lawful : IsLawful M (placed M tree)) where
-  tree-bound : (v : ℚ) → EachLeaf (Closes M (Optimal v)) [] (placed M tree) → (y : Point) → IsFeasible M y → in_least_form M.sense v ≤ℚ least_value M 1 y
+module _ (M : Program) (tree : CertTree) (lawful : SplitsLawfully M (with_places M tree)) where
+  tree-bound : (v : ℚ) → EachLeaf (Closes M (Optimal v)) [] (with_places M tree) → (y : Point) → IsFeasible M y → in_least_form M.sense v ≤ℚ least_value M 1 y
   tree-bound v closed y feasible =
-      let found = leaf_with_both (λ path leaf. InRegion path y) (Closes M (Optimal v)) [] (placed M tree) closed (point_in_one_leaf M (placed M tree) y lawful feasible) in
+      let found = leaf_with_both (λ path leaf. InRegion path y) (Closes M (Optimal v)) [] (with_places M tree) closed (point_in_one_leaf M (with_places M tree) y lawful feasible) in
       closes-bound M y feasible found.0 found.1.1.0 v found.1.0 found.1.1.1
 
-  tree-empty : EachLeaf (Closes M Infeasible) [] (placed M tree) → IsEmpty M
+  tree-empty : EachLeaf (Closes M Infeasible) [] (with_places M tree) → IsEmpty M
   tree-empty closed y feasible =
-      let found = leaf_with_both (λ path leaf. InRegion path y) (Closes M Infeasible) [] (placed M tree) closed (point_in_one_leaf M (placed M tree) y lawful feasible) in
+      let found = leaf_with_both (λ path leaf. InRegion path y) (Closes M Infeasible) [] (with_places M tree) closed (point_in_one_leaf M (with_places M tree) y lawful feasible) in
       closes-none M y feasible found.0 found.1.1.0 found.1.0 found.1.1.1
 
-  tree-claim : (claim : Claim) (named : Named) → HasPoint M claim named → EachLeaf (Closes M claim) [] (placed M tree) → IsTrueClaim M claim
+  tree-claim : (claim : Claim) (named : Named) → HasPoint M claim named → EachLeaf (Closes M claim) [] (with_places M tree) → IsTrueClaim M claim
   tree-claim (Optimal v) named point closed = (
     point_of M named,
     (

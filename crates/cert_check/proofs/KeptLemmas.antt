@@ -8,10 +8,10 @@ use Rattle.cert_check.specs.declared.cert.Claim.TheVariants.{Optimal, Infeasible
 use Rattle.cert_check.specs.declared.cert.CertNode.{CertNode}
 use Rattle.cert_check.specs.declared.line.Statement.TheVariants.{Node}
 use Rattle.cert_check.specs.declared.reading.Reading.{Reading}
-use Rattle.cert_check.specs.Text.{Stated, due_after, is_whole_tree, lacks_part, place_code, code_in, end_code, or_no_end, first_claim, first_point, cert_of}
+use Rattle.cert_check.specs.Text.{StatedCertificate, due_after, is_whole_tree, lacks_part, place_code, code_in, end_code, or_no_end, first_claim, first_point, cert_of}
 use Rattle.cert_check.specs.declared.line.Statement.TheVariants as says
 use Rattle.cert_check.specs.Whole.{TakesAll, IsPointed, IsNarrowNode, HasNoPoint, IsCertificate}
-use Rattle.cert_check.specs.Reading.{held, IsKept}
+use Rattle.cert_check.specs.Reading.{held, IsReadable}
 use Rattle.cert_check.proofs.DueLemmas.{takes-more, whole_tree}
 
 some_due : (n : ℕ) → (n == 0) ≡ false → 0 < n
@@ -25,7 +25,7 @@ abbrev end_test : Bool → Bool → ℕ → Option ℕ
 end_test a b x = if a then Some 1 else if b then None else Some x
 
 -- a node without code stands before the end, where a tree is due
-node_clean : (s : Stated) (n : CertNode) → code_in s (Ok (Node n)) ≡ None → (s.ended ≡ false) × (0 < due_after 1 s.nodes)
+node_clean : (s : StatedCertificate) (n : CertNode) → code_in s (Ok (Node n)) ≡ None → (s.ended ≡ false) × (0 < due_after 1 s.nodes)
 node_clean s n e = let r = by (s.count == 0) s.ended (lacks_part s) (is_whole_tree s.nodes) e in (r.0, some_due (due_after 1 s.nodes) r.1)
   where
     by : (a b c d : Bool) → node_test a b c d ≡ None → (b ≡ false) × (d ≡ false)
@@ -39,8 +39,8 @@ one_node : (n : CertNode) → IsNarrowNode n → All IsNarrowNode (n ∷ [])
 one_node n here zero d below = here
 one_node n here (suc k) d below = absurd (omega arith)
 
-pub node_kept : (old new : Reading) (n : CertNode) → code_in (held old) (Ok (Node n)) ≡ None → IsNarrowNode n → IsKept old →
-    new.nodes ≡ old.nodes ++ n ∷ [] → new.claim ≡ old.claim → new.point ≡ old.point → new.ended ≡ old.ended → IsKept new
+pub node_kept : (old new : Reading) (n : CertNode) → code_in (held old) (Ok (Node n)) ≡ None → IsNarrowNode n → IsReadable old →
+    new.nodes ≡ old.nodes ++ n ∷ [] → new.claim ≡ old.claim → new.point ≡ old.point → new.ended ≡ old.ended → IsReadable new
 node_kept old new n clean narrow kept nodes claim point ended =
     let c = node_clean (held old) n clean in
     record {
@@ -50,7 +50,7 @@ node_kept old new n clean narrow kept nodes claim point ended =
       pointed = subst (λ T. T) (λ i. IsPointed (sym claim i) (sym point i)) kept.pointed;
     }
 
-end_clean : (s : Stated) → end_code s ≡ None → s.ended ≡ true
+end_clean : (s : StatedCertificate) → end_code s ≡ None → s.ended ≡ true
 end_clean s e = by (s.count == 0) s.ended (or_no_end (place_code s says.End)) e
   where
     by : (a b : Bool) (x : ℕ) → end_test a b x ≡ None → b ≡ true
@@ -63,7 +63,7 @@ no_point (Some (Optimal v)) point pointed = tt
 no_point (Some Infeasible) point pointed = ap (λ p. first_point (option_to_list p)) pointed
 no_point None point pointed = ap (λ p. first_point (option_to_list p)) pointed
 
-pub certificate : (r : Reading) → end_code (held r) ≡ None → IsKept r → IsCertificate (cert_of (held r))
+pub certificate : (r : Reading) → end_code (held r) ≡ None → IsReadable r → IsCertificate (cert_of (held r))
 certificate r ended kept =
     let done = sym r.counted ∙ kept.whole (end_clean (held r) ended) in
     let t = whole_tree r.nodes kept.takes done in

@@ -6,17 +6,17 @@ use Rattle.std.specs.Option.{ForSome}
 use Rattle.std.proofs.lemmas.Grind.{common_steps}
 use Rattle.lp_model.specs.Edits.{Named}
 use Rattle.cert_check.specs.Lines.{number_of, beside, named_in, rows_in}
-use Rattle.cert_check.specs.Reading.{joined}
+use Rattle.cert_check.specs.Reading.{joined_named}
 
 abbrev nows : List (Bor (List ℕ)) → List (List ℕ)
 nows words = map (λ word. word.now) words
 
-pub joined-nothing : (rest : Result Named ℕ) → rest ≡ joined None [] rest
+pub joined-nothing : (rest : Result Named ℕ) → rest ≡ joined_named None [] rest
 joined-nothing (Ok named) = refl
 joined-nothing (Err code) = refl
 
 -- a fault of the form is the least
-pub joined-form : (least : Option ℕ) (named : Named) → ForSome least (λ code. 3 ≤ code) → joined least named (Err 3) ≡ Err 3
+pub joined-form : (least : Option ℕ) (named : Named) → ForSome least (λ code. 3 ≤ code) → joined_named least named (Err 3) ≡ Err 3
 joined-form None named high = refl
 joined-form (Some code) named high = ap Err (min-eq_right (high code refl))
 

@@ -8,9 +8,9 @@ use Rattle.lp_model.specs.Lawful.{column_names}
 use Rattle.lp_model.specs.Edits.{Named}
 use Rattle.lp_model.specs.Regions.{Path}
 use Rattle.lp_model.proofs.AnswerLemmas.{feasible_answer}
-use Rattle.leaf_dual.specs.Dual.{Reaches, IsPositive, multiplier, least_constant, least_cost, lag}
+use Rattle.leaf_dual.specs.Dual.{Reaches, IsPositiveNumber, multiplier, least_constant, least_cost, lag}
 use Rattle.leaf_dual.proofs.AnswerLemmas.{dual_answer-is}
-use Rattle.branch_tree.specs.Tree.{IsLawful, EachLeaf, left_path, right_path}
+use Rattle.branch_tree.specs.Tree.{SplitsLawfully, EachLeaf, left_path, right_path}
 use Rattle.cert_check.specs.declared.cert.Claim.{Claim}
 use Rattle.cert_check.specs.declared.cert.Claim.TheVariants.{Optimal, Infeasible}
 use Rattle.cert_check.specs.declared.cert.CertLeaf.{CertLeaf}
@@ -20,9 +20,9 @@ use Rattle.cert_check.specs.declared.cert.CertNode.TheVariants as node
 use Rattle.cert_check.specs.declared.cert.Cert.{Cert}
 use Rattle.cert_check.specs.declared.verdict.Judgement.TheVariants.{Breaks}
 use Rattle.cert_check.specs.declared.verdict.Verdict.TheVariants.{Rejected}
-use Rattle.cert_check.specs.Tree.{CertTree, Leaf, Split, place_among, placed}
+use Rattle.cert_check.specs.Tree.{CertTree, Leaf, Split, place_among, with_places}
 use Rattle.cert_check.specs.Accepted.{multipliers, point_of, ReachesValue, Closes, HasPoint, Accepts}
-use Rattle.cert_check.specs.Verdict.{IsNumberJudged, IsLeafJudged, IsNodeJudged, IsClaimJudged, visits, IsFirst, IsVerdict}
+use Rattle.cert_check.specs.Verdict.{IsNumberJudged, IsLeafJudged, IsNodeJudged, IsClaimJudged, visits, IsFirstFailing, IsVerdict}
 use Rattle.cert_check.proofs.PlaceLemmas.{column_known}
 use Rattle.cert_check.proofs.OneVerdict.{tree_one}
 
@@ -48,7 +48,7 @@ module _ (M : Program) (claim : Claim) (path : Path) where
   leaf-true : (leaf : CertLeaf) (why : ℕ) → Closes M claim path leaf → IsLeafJudged M claim path leaf (Breaks why) → ⊥
   leaf-true (Bound named) why closes judged = bound-true claim named why closes judged
   leaf-true (Farkas named) why closes (inl (names, (q, (answer, (none, seven))))) =
-      none (subst IsPositive (sym (dual_answer-is M path (multiplier (multipliers M named)) (λ j. int (pos 0)) (int (pos 0)) q answer)) closes.1)
+      none (subst IsPositiveNumber (sym (dual_answer-is M path (multiplier (multipliers M named)) (λ j. int (pos 0)) (int (pos 0)) q answer)) closes.1)
   leaf-true (Farkas named) why closes (inr judged) = judged.0 closes.0
   leaf-true Empty why closes judged = judged.0 closes
 
@@ -65,7 +65,7 @@ module _ (M : Program) (claim : Claim) where
   node-true path (node.Split col v) why here (inr judged) = judged.0 (column_known M col (place_among (column_names M) col) (here.0, refl))
   node-true path (node.Leaf leaf) why here judged = leaf-true M claim path leaf why here judged
 
-  tree-true : (path : Path) (tree : CertTree) → IsLawful M (placed M tree) → EachLeaf (Closes M claim) path (placed M tree) → All IsTrueNode (visits M path tree)
+  tree-true : (path : Path) (tree : CertTree) → SplitsLawfully M (with_places M tree) → EachLeaf (Closes M claim) path (with_places M tree) → All IsTrueNode (visits M path tree)
   tree-true path (Leaf leaf) lawful closes = All-cons IsTrueNode (path, node.Leaf leaf) [] closes (All-nil IsTrueNode)
   tree-true path (Split col v left right) lawful closes =
       let j = place_among (column_names M) col in
@@ -86,7 +86,7 @@ among : {A : Type 0} (P : A → Type 0) (before : List A) (x : A) (behind : List
 among P [] x behind all = All-head P x behind all
 among P (y ∷ before) x behind all = among P before x behind (All-tail P y (before ++ x ∷ behind) all)
 
-first-true : (M : Program) (cert : Cert) (accepts : Accepts M cert) (n why : ℕ) → IsFirst M cert accepts.tree n (Breaks why) → ⊥
+first-true : (M : Program) (cert : Cert) (accepts : Accepts M cert) (n why : ℕ) → IsFirstFailing M cert accepts.tree n (Breaks why) → ⊥
 first-true M cert accepts n why (inl claim) = point-true M cert.claim cert.point why accepts.point claim.1
 first-true M cert accepts n why (inr node) =
     let at = node.1 in
@@ -96,4 +96,4 @@ first-true M cert accepts n why (inr node) =
 pub not_accepted : (M : Program) (cert : Cert) (n why : ℕ) → IsVerdict M cert (Rejected n why) → Accepts M cert → ⊥
 not_accepted M cert n why verdict accepts =
     let same = tree_one verdict.tree accepts.tree [] [] (ap (λ ns. ns ++ []) (verdict.nodes ∙ sym accepts.nodes)) in
-    first-true M cert accepts n why (subst (λ t. IsFirst M cert t n (Breaks why)) same.0 verdict.is)
+    first-true M cert accepts n why (subst (λ t. IsFirstFailing M cert t n (Breaks why)) same.0 verdict.is)

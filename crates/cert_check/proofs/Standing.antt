@@ -15,8 +15,8 @@ use Rattle.cert_check.specs.declared.cert.CertLeaf.{CertLeaf}
 use Rattle.cert_check.specs.declared.cert.CertLeaf.TheVariants.{Bound, Farkas, Empty}
 use Rattle.cert_check.specs.declared.cert.CertNode.{CertNode}
 use Rattle.cert_check.specs.declared.cert.CertNode.TheVariants as node
-use Rattle.cert_check.specs.declared.judging.PlacedNode.{PlacedNode}
-use Rattle.cert_check.specs.declared.judging.PlacedNode.TheVariants as placed
+use Rattle.cert_check.specs.declared.judging.NodeWithPlaces.{NodeWithPlaces}
+use Rattle.cert_check.specs.declared.judging.NodeWithPlaces.TheVariants as node_place
 use Rattle.cert_check.specs.Tree.{CertTree, Leaf, Split, preorder, place_among}
 use Rattle.cert_check.specs.Verdict.{visits}
 use Rattle.cert_check.specs.Whole.{IsNarrowNode}
@@ -151,7 +151,7 @@ here_drop (y ∷ all) (suc k) x d rest e = here_drop all k x d rest e
 pub record Visits (M : Program) (all : List (Path × CertNode)) (k : ℕ) (path : Path) : Type 0 where
   pub node : CertNode
   pub is : (d : Path × CertNode) → get_or all k d ≡ (path, node)
-  pub behind : (p : PlacedNode) → IsNarrowNode node → IsPlace M node p → (p ≡ placed.Misnamed → ⊥) → Stands M all (k + 1) (after_node p path)
+  pub behind : (p : NodeWithPlaces) → IsNarrowNode node → IsPlace M node p → (p ≡ node_place.Misnamed → ⊥) → Stands M all (k + 1) (after_node p path)
 
 behind_leaf : (M : Program) (all : List (Path × CertNode)) (k : ℕ) (frames : List Frame) → HasRoom frames → drop (k + 1) all ≡ due M frames → (path : Path) → path ≡ path_of frames → Stands M all (k + 1) (after_leaf path)
 behind_leaf M all k frames room left path at = record {
@@ -177,28 +177,28 @@ behind_split M all k frames col v left right room narrow e path at =
       left = e ∙ append_assoc (visits M (left_path (path_of frames) j v) left) (visits M (right_path (path_of frames) j v) right) (due M frames);
     }
 
-no_split : (M : Program) (leaf : CertLeaf) (col : ColId) (v : ℤ) → IsPlace M (node.Leaf leaf) (placed.Split col v) → ⊥
+no_split : (M : Program) (leaf : CertLeaf) (col : ColId) (v : ℤ) → IsPlace M (node.Leaf leaf) (node_place.Split col v) → ⊥
 no_split M (Bound named) col v place = place
 no_split M (Farkas named) col v place = place
 no_split M Empty col v place = place
 
 module _ (M : Program) (all : List (Path × CertNode)) (k : ℕ) (path : Path) (frames : List Frame) (room : HasRoom frames) (at : path ≡ path_of frames) where
-  leaf_behind : (leaf : CertLeaf) → drop (k + 1) all ≡ due M frames → (p : PlacedNode) → IsPlace M (node.Leaf leaf) p → (p ≡ placed.Misnamed → ⊥) → Stands M all (k + 1) (after_node p path)
-  leaf_behind leaf next placed.Misnamed place named = absurd (named refl)
-  leaf_behind leaf next (placed.Split col v) place named = absurd (no_split M leaf col v place)
-  leaf_behind leaf next (placed.Bound mult) place named = behind_leaf M all k frames room next path at
-  leaf_behind leaf next (placed.Farkas mult) place named = behind_leaf M all k frames room next path at
-  leaf_behind leaf next placed.Empty place named = behind_leaf M all k frames room next path at
+  leaf_behind : (leaf : CertLeaf) → drop (k + 1) all ≡ due M frames → (p : NodeWithPlaces) → IsPlace M (node.Leaf leaf) p → (p ≡ node_place.Misnamed → ⊥) → Stands M all (k + 1) (after_node p path)
+  leaf_behind leaf next node_place.Misnamed place named = absurd (named refl)
+  leaf_behind leaf next (node_place.Split col v) place named = absurd (no_split M leaf col v place)
+  leaf_behind leaf next (node_place.Bound mult) place named = behind_leaf M all k frames room next path at
+  leaf_behind leaf next (node_place.Farkas mult) place named = behind_leaf M all k frames room next path at
+  leaf_behind leaf next node_place.Empty place named = behind_leaf M all k frames room next path at
 
   split_behind : (col : List ℕ) (v : ℤ) (left right : CertTree) →
       drop (k + 1) all ≡ (visits M (left_path (path_of frames) (place_among (column_names M) col) v) left ++ visits M (right_path (path_of frames) (place_among (column_names M) col) v) right) ++ due M frames →
-      (p : PlacedNode) → IsNarrow v × IsNarrow (v +ℤ pos 1) → IsPlace M (node.Split col v) p → (p ≡ placed.Misnamed → ⊥) → Stands M all (k + 1) (after_node p path)
-  split_behind col v left right next placed.Misnamed narrow place named = absurd (named refl)
-  split_behind col v left right next (placed.Split j w) narrow place named =
+      (p : NodeWithPlaces) → IsNarrow v × IsNarrow (v +ℤ pos 1) → IsPlace M (node.Split col v) p → (p ≡ node_place.Misnamed → ⊥) → Stands M all (k + 1) (after_node p path)
+  split_behind col v left right next node_place.Misnamed narrow place named = absurd (named refl)
+  split_behind col v left right next (node_place.Split j w) narrow place named =
       subst (λ T. T) (λ i. Stands M all (k + 1) (path ++ at_most (sym place.1 i) (sym place.2 i) ∷ [])) (behind_split M all k frames col v left right room narrow next path at)
-  split_behind col v left right next (placed.Bound mult) narrow place named = absurd place
-  split_behind col v left right next (placed.Farkas mult) narrow place named = absurd place
-  split_behind col v left right next placed.Empty narrow place named = absurd place
+  split_behind col v left right next (node_place.Bound mult) narrow place named = absurd place
+  split_behind col v left right next (node_place.Farkas mult) narrow place named = absurd place
+  split_behind col v left right next node_place.Empty narrow place named = absurd place
 
   visits_tree : (tree : CertTree) → drop k all ≡ visits M (path_of frames) tree ++ due M frames → Visits M all k path
   visits_tree (Leaf leaf) e = record {

@@ -3,8 +3,8 @@ use Rattle.std.proofs.Common.{◌≡◌, ◌⊎◌, ℕ, zero, suc, ◌+◌, ◌
 use Rattle.std.specs.Prelude.{Option, None, Some}
 use Rattle.cert_check.specs.declared.cert.Cert.{Cert}
 use Rattle.cert_check.specs.Lines.{lines_of}
-use Rattle.cert_check.specs.Text.{stated, end_code, code_at, AreClean, cert_of, Meant, Faulty, OnLine, AtEnd}
-use Rattle.cert_check.specs.Laws.{MeansOne}
+use Rattle.cert_check.specs.Text.{stated, end_code, code_at, AreClean, cert_of, MeantCertificate, FaultyCertificate, OnLine, AtEnd}
+use Rattle.cert_check.specs.Laws.{CertificateMeansOne}
 
 none_some : (o : Option ℕ) (c : ℕ) → o ≡ None → o ≡ Some c → ⊥
 none_some o c e f = let g : None ≡ Some c = sym e ∙ f in cc
@@ -42,7 +42,7 @@ first lines (suc n) =
 
 module _ (text : List ℕ) where
   abbrev Some_reading : Type 0
-  Some_reading = ((cert : Cert) × Meant text cert) ⊎ ((line : ℕ) × ((code : ℕ) × Faulty text line code))
+  Some_reading = ((cert : Cert) × MeantCertificate text cert) ⊎ ((line : ℕ) × ((code : ℕ) × FaultyCertificate text line code))
 
   at_end : AreClean (lines_of text) (length (lines_of text)) → (o : Option ℕ) → end_code (stated (lines_of text)) ≡ o → Some_reading
   at_end clean None e = inl (cert_of (stated (lines_of text)), record { clean = clean; ended = e; is = refl })
@@ -52,7 +52,7 @@ module _ (text : List ℕ) where
   some_reading (inl clean) = at_end clean (end_code (stated (lines_of text))) refl
   some_reading (inr found) = inr (suc found.0, (found.1.1.1.0, OnLine found.0 found.1.0 found.1.1.0 found.1.1.1.1 refl))
 
-  one_fault : (l c m d : ℕ) → Faulty text l c → Faulty text m d → (l ≡ m) × (c ≡ d)
+  one_fault : (l c m d : ℕ) → FaultyCertificate text l c → FaultyCertificate text m d → (l ≡ m) × (c ≡ d)
   one_fault l c m d (OnLine k below clean has is) (OnLine j below_j clean_j has_j is_j) =
       elim (order k j) [
         | inl h ↦ absurd (none_some (code_at (lines_of text) k) c (clean_j k h) has)
@@ -65,11 +65,11 @@ module _ (text : List ℕ) where
   one_fault l c m d (AtEnd all has is) (OnLine j below_j clean_j has_j is_j) = absurd (none_some (code_at (lines_of text) j) d (all j below_j) has_j)
   one_fault l c m d (AtEnd all has is) (AtEnd all_j has_j is_j) = (omega (arith, is, is_j), same_code (end_code (stated (lines_of text))) c d has has_j)
 
-  not_both : (cert : Cert) (l c : ℕ) → Meant text cert → Faulty text l c → ⊥
+  not_both : (cert : Cert) (l c : ℕ) → MeantCertificate text cert → FaultyCertificate text l c → ⊥
   not_both cert l c meant (OnLine k below clean has is) = none_some (code_at (lines_of text) k) c (meant.clean k below) has
   not_both cert l c meant (AtEnd all has is) = none_some (end_code (stated (lines_of text))) c meant.ended has
 
-pub means_one : (text : List ℕ) → MeansOne text
+pub means_one : (text : List ℕ) → CertificateMeansOne text
 means_one text = record {
   some = some_reading text (first (lines_of text) (length (lines_of text)));
   one_meaning = λ a b m n. m.is ∙ sym n.is;

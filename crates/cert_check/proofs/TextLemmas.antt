@@ -8,7 +8,7 @@ use Rattle.std.proofs.lemmas.List.Elements.{filter_map-append}
 use Rattle.std.proofs.lemmas.List.Folds.{list_any-append}
 use Rattle.cert_check.specs.declared.line.Statement.{Statement}
 use Rattle.cert_check.specs.Lines.{line_says}
-use Rattle.cert_check.specs.Text.{claim_in, point_in, node_in, is_end, Stated, stated, code_in, code_at, AreClean}
+use Rattle.cert_check.specs.Text.{claim_in, point_in, node_in, is_end, StatedCertificate, stated, code_in, code_at, AreClean}
 use Rattle.cert_check.specs.Reading.{after}
 
 one_more : {A : Type 0} (x : Option A) → cons_option x [] ≡ option_to_list x
@@ -41,12 +41,12 @@ module _ (lines : List (List ℕ)) (k : ℕ) (below : k < length lines) where
       ap (λ n. stated (take n lines)) next ∙ ap stated (take-suc lines k [] below) ∙ stated_more (take k lines) (get_or lines k [])
 
   -- the code of a line by what is held
-  module _ (s : Stated) (line : List ℕ) (code : Option ℕ) (holds : s ≡ stated (take k lines)) (is : line ≡ get_or lines k []) (has : code_in s (line_says line) ≡ code) where
+  module _ (s : StatedCertificate) (line : List ℕ) (code : Option ℕ) (holds : s ≡ stated (take k lines)) (is : line ≡ get_or lines k []) (has : code_in s (line_says line) ≡ code) where
     pub code_here : code_at lines k ≡ code
     unfolding code_at
     code_here = (λ i. code_in (sym holds i) (line_says (sym is i))) ∙ has
 
-    pub holds_more : (t : Stated) → t ≡ after s (line_says line) → t ≡ stated (take (k + 1) lines)
+    pub holds_more : (t : StatedCertificate) → t ≡ after s (line_says line) → t ≡ stated (take (k + 1) lines)
     holds_more t e = e ∙ (λ i. after (holds i) (line_says (is i))) ∙ sym taken_more
 
 pub clean_more : (lines : List (List ℕ)) (k : ℕ) → AreClean lines k → code_at lines k ≡ None → AreClean lines (k + 1)

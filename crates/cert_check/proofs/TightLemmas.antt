@@ -17,7 +17,7 @@ use Rattle.lp_model.specs.Regions.{Path, AreNarrow, tighter_low, tighter_high, l
 use Rattle.lp_model.specs.declared.types.Side.{Side}
 use Rattle.lp_model.specs.declared.types.Side.TheVariants.{Lo, Hi}
 use Rattle.lp_model.specs.declared.types.BoundChange.{BoundChange}
-use Rattle.cert_check.specs.Tight.{is_same_side, are_rivals, AreApart, tighter_number, tighter, place_of, tightened}
+use Rattle.cert_check.specs.Tight.{is_same_side, are_rivals, AreChangesApart, tighter_number, tighter, place_of, tightened}
 
 -- ---- bounds by turns
 
@@ -244,17 +244,17 @@ module _ (d c : BoundChange) (apart : are_rivals d c ≡ false) where
       by true here rest after = All-cons (λ o. are_rivals d o ≡ false) (tighter e c) R here rest
       by false here rest after = All-cons (λ o. are_rivals d o ≡ false) e (tightened R c) here after
 
-pub apart-none : AreApart []
+pub apart-none : AreChangesApart []
 apart-none i j d before below = absurd (omega (arith, before, below))
 
-pub apart-tightened : (R : Path) (c : BoundChange) → AreApart R → AreApart (tightened R c)
+pub apart-tightened : (R : Path) (c : BoundChange) → AreChangesApart R → AreChangesApart (tightened R c)
 apart-tightened [] c apart = λ i j d before below. absurd (omega (arith, before, below))
 apart-tightened (d ∷ R) c apart =
     let first : All (λ e. are_rivals d e ≡ false) R = λ k o below. apart 0 (suc k) o (omega arith) (omega (arith, below)) in
-    let rest : AreApart R = λ i j o before below. apart (suc i) (suc j) o (omega (arith, before)) (omega (arith, below)) in
+    let rest : AreChangesApart R = λ i j o before below. apart (suc i) (suc j) o (omega (arith, before)) (omega (arith, below)) in
     by (are_rivals d c) refl first rest (apart-tightened R c rest)
   where
-    by : (t : Bool) → are_rivals d c ≡ t → All (λ e. are_rivals d e ≡ false) R → AreApart R → AreApart (tightened R c) → AreApart (if t then tighter d c ∷ R else d ∷ tightened R c)
+    by : (t : Bool) → are_rivals d c ≡ t → All (λ e. are_rivals d e ≡ false) R → AreChangesApart R → AreChangesApart (tightened R c) → AreChangesApart (if t then tighter d c ∷ R else d ∷ tightened R c)
     by true e first rest after = AllPairs-cons (λ a b. are_rivals a b ≡ false) (tighter d c) R first rest
     by false e first rest after = AllPairs-cons (λ a b. are_rivals a b ≡ false) d (tightened R c) (apart_from d c e R first) after
 

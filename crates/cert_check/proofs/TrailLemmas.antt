@@ -9,7 +9,7 @@ use Rattle.lp_model.specs.declared.types.BoundChange.{BoundChange}
 use Rattle.cert_check.specs.declared.trail.Replaced.{Replaced}
 use Rattle.cert_check.specs.declared.trail.Trail.{Trail}
 use Rattle.cert_check.specs.Walk.{CanTurn}
-use Rattle.cert_check.specs.Tight.{AreApart, tightened, no_change, no_replaced, undone, IsTightened, IsLed, IsTrail, path_of, region_of}
+use Rattle.cert_check.specs.Tight.{AreChangesApart, tightened, no_change, no_replaced, undone, IsTightened, IsLed, IsTrail, path_of_trail, region_of}
 use Rattle.cert_check.proofs.TightLemmas.{low_step, high_step, low-more, high-more, low-tightened, high-tightened, narrow-tightened, narrow-fewer, apart-none, apart-tightened}
 use Rattle.cert_check.proofs.SameRegion.{SameBounds}
 
@@ -39,11 +39,11 @@ module _ (path : Path) (replaced : List Replaced) where
       subst AreNarrow (sym led.0.is)
       (narrow-tightened (take r.count (undone places r)) (get_or path n no_change) (led-narrow n (undone places r) r.count (omega (arith, within)) led.1 parts.0) parts.1)
 
-  led-apart : (n : ℕ) (places : Path) (count : ℕ) → IsLed path replaced n places count → AreApart (take count places)
-  led-apart zero places count led = subst (λ k. AreApart (take k places)) (sym led) apart-none
+  led-apart : (n : ℕ) (places : Path) (count : ℕ) → IsLed path replaced n places count → AreChangesApart (take count places)
+  led-apart zero places count led = subst (λ k. AreChangesApart (take k places)) (sym led) apart-none
   led-apart (suc n) places count led =
       let r = get_or replaced n no_replaced in
-      subst AreApart (sym led.0.is) (apart-tightened (take r.count (undone places r)) (get_or path n no_change) (led-apart n (undone places r) r.count led.1))
+      subst AreChangesApart (sym led.0.is) (apart-tightened (take r.count (undone places r)) (get_or path n no_change) (led-apart n (undone places r) r.count led.1))
 
   pub led-few : (n : ℕ) (places : Path) (count : ℕ) → IsLed path replaced n places count → count ≤ n
   led-few zero places count led = omega (arith, led)
@@ -73,13 +73,13 @@ module _ (path : Path) (replaced : List Replaced) where
       (λ i. IsTightened places count (here i) (there i) × IsLed (set path n c) (set replaced n r) n (undone places (there i)) (there i).count)
       (tight, led-set n c r n (undone places r) r.count (omega arith) (subst (λ T. T) (λ i. IsLed path replaced n (sym back i) (sym counted i)) led))
 
-pub trail-bounds : (t : Trail) → IsTrail t → SameBounds (region_of t) (path_of t)
+pub trail-bounds : (t : Trail) → IsTrail t → SameBounds (region_of t) (path_of_trail t)
 trail-bounds t is = led-bounds t.path.items t.replaced.items t.depth t.region.items t.count is.within is.led
 
-pub trail-narrow : (t : Trail) → IsTrail t → AreNarrow (path_of t) → AreNarrow (region_of t)
+pub trail-narrow : (t : Trail) → IsTrail t → AreNarrow (path_of_trail t) → AreNarrow (region_of t)
 trail-narrow t is narrow = led-narrow t.path.items t.replaced.items t.depth t.region.items t.count is.within is.led narrow
 
-pub trail-apart : (t : Trail) → IsTrail t → AreApart (region_of t)
+pub trail-apart : (t : Trail) → IsTrail t → AreChangesApart (region_of t)
 trail-apart t is = led-apart t.path.items t.replaced.items t.depth t.region.items t.count is.led
 
 pub trail-few : (t : Trail) → IsTrail t → t.count ≤ t.depth

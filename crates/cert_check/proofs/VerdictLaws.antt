@@ -7,9 +7,9 @@ use Rattle.lp_model.specs.Program.{Program, in_least_form}
 use Rattle.lp_model.specs.Lawful.{column_names}
 use Rattle.lp_model.specs.Edits.{Named}
 use Rattle.lp_model.specs.Regions.{Path}
-use Rattle.leaf_dual.specs.Dual.{multiplier, least_constant, least_cost, IsPositive}
+use Rattle.leaf_dual.specs.Dual.{multiplier, least_constant, least_cost, IsPositiveNumber}
 use Rattle.leaf_dual.proofs.AnswerLemmas.{dual_answer-is}
-use Rattle.branch_tree.specs.Tree.{IsLawful, EachLeaf, left_path, right_path}
+use Rattle.branch_tree.specs.Tree.{SplitsLawfully, EachLeaf, left_path, right_path}
 use Rattle.cert_check.specs.declared.cert.Claim.{Claim}
 use Rattle.cert_check.specs.declared.cert.Claim.TheVariants.{Optimal, Infeasible}
 use Rattle.cert_check.specs.declared.cert.Cert.{Cert}
@@ -19,7 +19,7 @@ use Rattle.cert_check.specs.declared.cert.CertNode.{CertNode}
 use Rattle.cert_check.specs.declared.cert.CertNode.TheVariants as node
 use Rattle.cert_check.specs.declared.verdict.Judgement.TheVariants.{Passes, Breaks}
 use Rattle.cert_check.specs.declared.verdict.Verdict.TheVariants.{Accepted}
-use Rattle.cert_check.specs.Tree.{CertTree, Leaf, Split, place_among, placed}
+use Rattle.cert_check.specs.Tree.{CertTree, Leaf, Split, place_among, with_places}
 use Rattle.cert_check.specs.Accepted.{multipliers, Closes, HasPoint, ReachesClaim, Accepts}
 use Rattle.cert_check.specs.Verdict.{NumberReaches, IsNumberJudged, IsLeafJudged, IsClaimJudged, visits, IsVisitJudged, IsVerdict}
 use Rattle.cert_check.specs.Whole.{IsCertificate, HasNoPoint}
@@ -46,7 +46,7 @@ leaf_closes M claim path (Farkas named) judged =
     elim judged [
       | inl good ↦ (
         good.0,
-        subst IsPositive (dual_answer-is M path (multiplier (multipliers M named)) (λ j. int (Rattle.std.specs.Prelude.pos 0)) (int (Rattle.std.specs.Prelude.pos 0)) good.1.0 good.1.1.0) good.1.1.1,
+        subst IsPositiveNumber (dual_answer-is M path (multiplier (multipliers M named)) (λ j. int (Rattle.std.specs.Prelude.pos 0)) (int (Rattle.std.specs.Prelude.pos 0)) good.1.0 good.1.1.0) good.1.1.1,
       )
       | inr bad ↦ absurd (no_pass bad.1)
     ]
@@ -71,7 +71,7 @@ module _ (M : Program) (claim : Claim) where
   abbrev P : (Path × CertNode) → Type 0
   P p = IsVisitJudged M claim p Passes
 
-  tree_lawful : (path : Path) (tree : CertTree) → All P (visits M path tree) → IsLawful M (placed M tree)
+  tree_lawful : (path : Path) (tree : CertTree) → All P (visits M path tree) → SplitsLawfully M (with_places M tree)
   tree_lawful path (Leaf leaf) all = tt
   tree_lawful path (Split col v left right) all =
       let j = place_among (column_names M) col in
@@ -87,7 +87,7 @@ module _ (M : Program) (claim : Claim) where
         ),
       )
 
-  tree_closes : (path : Path) (tree : CertTree) → All P (visits M path tree) → EachLeaf (Closes M claim) path (placed M tree)
+  tree_closes : (path : Path) (tree : CertTree) → All P (visits M path tree) → EachLeaf (Closes M claim) path (with_places M tree)
   tree_closes path (Leaf leaf) all = leaf_closes M claim path leaf (all_first P (path, node.Leaf leaf) [] all)
   tree_closes path (Split col v left right) all =
       let j = place_among (column_names M) col in

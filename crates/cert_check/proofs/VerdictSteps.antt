@@ -13,8 +13,8 @@ use Rattle.cert_check.specs.declared.cert.Claim.TheVariants.{Optimal}
 use Rattle.cert_check.specs.declared.cert.CertLeaf.TheVariants as leaf
 use Rattle.cert_check.specs.declared.cert.CertNode.{CertNode}
 use Rattle.cert_check.specs.declared.cert.CertNode.TheVariants as node
-use Rattle.cert_check.specs.declared.judging.PlacedNode.{PlacedNode}
-use Rattle.cert_check.specs.declared.judging.PlacedNode.TheVariants as placed
+use Rattle.cert_check.specs.declared.judging.NodeWithPlaces.{NodeWithPlaces}
+use Rattle.cert_check.specs.declared.judging.NodeWithPlaces.TheVariants as node_place
 use Rattle.cert_check.specs.declared.verdict.Judgement.{Judgement}
 use Rattle.cert_check.specs.declared.verdict.Judgement.TheVariants.{Passes, Breaks}
 use Rattle.cert_check.specs.Tree.{CertTree, preorder}
@@ -25,28 +25,28 @@ use Rattle.cert_check.proofs.PlaceLemmas.{column_known}
 use Rattle.cert_check.proofs.Standing.{Stands, Visits, visits_next, stands_first, nodes_of, path_narrow, path_turns}
 
 -- what is judged of a node with places holds of the node
-pub judged_node : (M : Program) (claim : Claim) (path : Path) (n : CertNode) (p : PlacedNode) (j : Judgement) → IsPlace M n p → IsPlacedJudged M claim path p j → IsNodeJudged M claim path n j
-judged_node M claim path (node.Split col v) placed.Misnamed j place judged = inr (place, judged)
-judged_node M claim path (node.Split col v) (placed.Split k w) j place judged =
+pub judged_node : (M : Program) (claim : Claim) (path : Path) (n : CertNode) (p : NodeWithPlaces) (j : Judgement) → IsPlace M n p → IsPlacedJudged M claim path p j → IsNodeJudged M claim path n j
+judged_node M claim path (node.Split col v) node_place.Misnamed j place judged = inr (place, judged)
+judged_node M claim path (node.Split col v) (node_place.Split k w) j place judged =
     inl (column_known M col k.0 (place.0, place.1), subst (λ c. IsKindJudged M c j) place.1 judged)
-judged_node M claim path (node.Split col v) (placed.Bound mult) j place judged = absurd place
-judged_node M claim path (node.Split col v) (placed.Farkas mult) j place judged = absurd place
-judged_node M claim path (node.Split col v) placed.Empty j place judged = absurd place
-judged_node M claim path (node.Leaf (leaf.Bound named)) placed.Misnamed j place judged = inr (place, judged)
-judged_node M claim path (node.Leaf (leaf.Bound named)) (placed.Bound mult) j place judged = inl (place.0, subst (λ m. IsNumberJudged M claim path m j) place.1 judged)
-judged_node M claim path (node.Leaf (leaf.Bound named)) (placed.Split k w) j place judged = absurd place
-judged_node M claim path (node.Leaf (leaf.Bound named)) (placed.Farkas mult) j place judged = absurd place
-judged_node M claim path (node.Leaf (leaf.Bound named)) placed.Empty j place judged = absurd place
-judged_node M claim path (node.Leaf (leaf.Farkas named)) placed.Misnamed j place judged = inr (place, judged)
-judged_node M claim path (node.Leaf (leaf.Farkas named)) (placed.Farkas mult) j place judged = inl (place.0, subst (λ m. IsFarkasJudged M path m j) place.1 judged)
-judged_node M claim path (node.Leaf (leaf.Farkas named)) (placed.Split k w) j place judged = absurd place
-judged_node M claim path (node.Leaf (leaf.Farkas named)) (placed.Bound mult) j place judged = absurd place
-judged_node M claim path (node.Leaf (leaf.Farkas named)) placed.Empty j place judged = absurd place
-judged_node M claim path (node.Leaf leaf.Empty) placed.Misnamed j place judged = absurd place
-judged_node M claim path (node.Leaf leaf.Empty) placed.Empty j place judged = judged
-judged_node M claim path (node.Leaf leaf.Empty) (placed.Split k w) j place judged = absurd place
-judged_node M claim path (node.Leaf leaf.Empty) (placed.Bound mult) j place judged = absurd place
-judged_node M claim path (node.Leaf leaf.Empty) (placed.Farkas mult) j place judged = absurd place
+judged_node M claim path (node.Split col v) (node_place.Bound mult) j place judged = absurd place
+judged_node M claim path (node.Split col v) (node_place.Farkas mult) j place judged = absurd place
+judged_node M claim path (node.Split col v) node_place.Empty j place judged = absurd place
+judged_node M claim path (node.Leaf (leaf.Bound named)) node_place.Misnamed j place judged = inr (place, judged)
+judged_node M claim path (node.Leaf (leaf.Bound named)) (node_place.Bound mult) j place judged = inl (place.0, subst (λ m. IsNumberJudged M claim path m j) place.1 judged)
+judged_node M claim path (node.Leaf (leaf.Bound named)) (node_place.Split k w) j place judged = absurd place
+judged_node M claim path (node.Leaf (leaf.Bound named)) (node_place.Farkas mult) j place judged = absurd place
+judged_node M claim path (node.Leaf (leaf.Bound named)) node_place.Empty j place judged = absurd place
+judged_node M claim path (node.Leaf (leaf.Farkas named)) node_place.Misnamed j place judged = inr (place, judged)
+judged_node M claim path (node.Leaf (leaf.Farkas named)) (node_place.Farkas mult) j place judged = inl (place.0, subst (λ m. IsFarkasJudged M path m j) place.1 judged)
+judged_node M claim path (node.Leaf (leaf.Farkas named)) (node_place.Split k w) j place judged = absurd place
+judged_node M claim path (node.Leaf (leaf.Farkas named)) (node_place.Bound mult) j place judged = absurd place
+judged_node M claim path (node.Leaf (leaf.Farkas named)) node_place.Empty j place judged = absurd place
+judged_node M claim path (node.Leaf leaf.Empty) node_place.Misnamed j place judged = absurd place
+judged_node M claim path (node.Leaf leaf.Empty) node_place.Empty j place judged = judged
+judged_node M claim path (node.Leaf leaf.Empty) (node_place.Split k w) j place judged = absurd place
+judged_node M claim path (node.Leaf leaf.Empty) (node_place.Bound mult) j place judged = absurd place
+judged_node M claim path (node.Leaf leaf.Empty) (node_place.Farkas mult) j place judged = absurd place
 
 -- k nodes pass, and the path to the next one is this
 pub record Goes (M : Program) (claim : Claim) (tree : CertTree) (k : ℕ) (path : Path) : Type 0 where
@@ -62,13 +62,13 @@ goes_narrow M claim tree k path g = subst AreNarrow (sym g.stands.at) (path_narr
 pub goes_turns : (M : Program) (claim : Claim) (tree : CertTree) (k : ℕ) (path : Path) → Goes M claim tree k path → All CanTurn path
 goes_turns M claim tree k path g = subst (All CanTurn) (sym g.stands.at) (path_turns g.stands.frames g.stands.room)
 
-pub place_here : (M : Program) (tree : CertTree) (nodes : List PlacedNode) → IsWalked M tree nodes → (k : ℕ) → k < length nodes → (p : PlacedNode) → p ≡ get_or nodes k p → (n : CertNode) × IsPlace M n p
+pub place_here : (M : Program) (tree : CertTree) (nodes : List NodeWithPlaces) → IsWalked M tree nodes → (k : ℕ) → k < length nodes → (p : NodeWithPlaces) → p ≡ get_or nodes k p → (n : CertNode) × IsPlace M n p
 place_here M tree nodes walked k below p is =
     let same = walked.places.0 in
     let none = node.Leaf leaf.Empty in
     (get_or (preorder tree) k none, subst (IsPlace M (get_or (preorder tree) k none)) (sym is) (walked.places.1 k none p (omega (arith, same, below))))
 
-module _ (M : Program) (claim : Claim) (tree : CertTree) (nodes : List PlacedNode) (walked : IsWalked M tree nodes) (k : ℕ) (path : Path) (below : k < length nodes) (goes : Goes M claim tree k path) where
+module _ (M : Program) (claim : Claim) (tree : CertTree) (nodes : List NodeWithPlaces) (walked : IsWalked M tree nodes) (k : ℕ) (path : Path) (below : k < length nodes) (goes : Goes M claim tree k path) where
   few : k < length (preorder tree)
   few = let e = walked.places.0 in omega (arith, e, below)
 
@@ -83,13 +83,13 @@ module _ (M : Program) (claim : Claim) (tree : CertTree) (nodes : List PlacedNod
       ap (λ ns. get_or ns k d) (sym (nodes_of M [] tree))
       ∙ get_or-map (λ p. p.1) (visits M [] tree) k (path, here.node) d inside (sym (here.is (path, here.node)))
 
-  place_of : (p : PlacedNode) → p ≡ get_or nodes k p → IsPlace M here.node p
+  place_of : (p : NodeWithPlaces) → p ≡ get_or nodes k p → IsPlace M here.node p
   place_of p is = subst (λ T. T) (λ i. IsPlace M (node_is here.node i) (sym is i)) (walked.places.1 k here.node p few)
 
-  judged_here : (p : PlacedNode) (j : Judgement) → p ≡ get_or nodes k p → IsPlacedJudged M claim path p j → IsVisitJudged M claim (path, here.node) j
+  judged_here : (p : NodeWithPlaces) (j : Judgement) → p ≡ get_or nodes k p → IsPlacedJudged M claim path p j → IsVisitJudged M claim (path, here.node) j
   judged_here p j is judged = judged_node M claim path here.node p j (place_of p is) judged
 
-  pub goes_next : (p : PlacedNode) → p ≡ get_or nodes k p → IsPlacedJudged M claim path p Passes → Goes M claim tree (k + 1) (after_node p path)
+  pub goes_next : (p : NodeWithPlaces) → p ≡ get_or nodes k p → IsPlacedJudged M claim path p Passes → Goes M claim tree (k + 1) (after_node p path)
   goes_next p is judged = record {
     pass = All-more (λ v. IsVisitJudged M claim v Passes) (visits M [] tree) k (path, here.node) inside goes.pass (subst (λ v. IsVisitJudged M claim v Passes) (sym (here.is (path, here.node))) (judged_here p Passes is judged));
     stands = here.behind p (subst IsNarrowNode (node_is here.node) (walked.narrow k here.node few)) (place_of p is) (λ e. no_pass (subst (λ q. IsPlacedJudged M claim path q Passes) e judged));
@@ -98,7 +98,7 @@ module _ (M : Program) (claim : Claim) (tree : CertTree) (nodes : List PlacedNod
       no_pass : Passes ≡ Breaks 1 → ⊥
       no_pass e = absurd cc
 
-  pub goes_wrong : (p : PlacedNode) (j : Judgement) → p ≡ get_or nodes k p → IsPlacedJudged M claim path p j → IsJudgedAt M claim tree (k + 1) j
+  pub goes_wrong : (p : NodeWithPlaces) (j : Judgement) → p ≡ get_or nodes k p → IsPlacedJudged M claim path p j → IsJudgedAt M claim tree (k + 1) j
   goes_wrong p j is judged = record {
     before = take k (visits M [] tree);
     visit = (path, here.node);
@@ -112,7 +112,7 @@ module _ (M : Program) (claim : Claim) (tree : CertTree) (nodes : List PlacedNod
     counted = let t = length-take-le k (visits M [] tree) (omega (arith, inside)) in omega (arith, t);
   }
 
-pub goes_all : (M : Program) (claim : Claim) (tree : CertTree) (nodes : List PlacedNode) (k : ℕ) (path : Path) → IsWalked M tree nodes → length nodes ≤ k → Goes M claim tree k path →
+pub goes_all : (M : Program) (claim : Claim) (tree : CertTree) (nodes : List NodeWithPlaces) (k : ℕ) (path : Path) → IsWalked M tree nodes → length nodes ≤ k → Goes M claim tree k path →
     All (λ p. IsVisitJudged M claim p Passes) (visits M [] tree)
 goes_all M claim tree nodes k path walked past goes =
     let e = sym (length-map (visits M [] tree) (λ p. p.1)) ∙ ap length (nodes_of M [] tree) in

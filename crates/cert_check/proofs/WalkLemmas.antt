@@ -9,13 +9,13 @@ use Rattle.lp_model.specs.declared.types.Side.TheVariants.{Lo, Hi}
 use Rattle.lp_model.specs.declared.types.BoundChange.{BoundChange}
 use Rattle.branch_tree.specs.Tree.{at_least}
 use Rattle.cert_check.specs.declared.cert.CertNode.{CertNode}
-use Rattle.cert_check.specs.declared.judging.PlacedNode.{PlacedNode}
-use Rattle.cert_check.specs.Walk.{IsPlace, ArePlaced, turned, in_front, after_leaf}
+use Rattle.cert_check.specs.declared.judging.NodeWithPlaces.{NodeWithPlaces}
+use Rattle.cert_check.specs.Walk.{IsPlace, ArePlaced, turned_change, in_front, after_leaf}
 
-module _ (M : Program) (node : CertNode) (one : PlacedNode) (here : IsPlace M node one) where
-  placed_last : (ns : List CertNode) (ps : List PlacedNode) → ArePlaced M ns ps → ArePlaced M (ns ++ node ∷ []) (ps ++ one ∷ [])
+module _ (M : Program) (node : CertNode) (one : NodeWithPlaces) (here : IsPlace M node one) where
+  placed_last : (ns : List CertNode) (ps : List NodeWithPlaces) → ArePlaced M ns ps → ArePlaced M (ns ++ node ∷ []) (ps ++ one ∷ [])
   placed_last ns ps (same, each) =
-      let P : ℕ → Type 0 = λ k. (n : CertNode) (p : PlacedNode) → IsPlace M (get_or (ns ++ node ∷ []) k n) (get_or (ps ++ one ∷ []) k p) in
+      let P : ℕ → Type 0 = λ k. (n : CertNode) (p : NodeWithPlaces) → IsPlace M (get_or (ns ++ node ∷ []) k n) (get_or (ps ++ one ∷ []) k p) in
       let all : (k : ℕ) → k < length ns + 1 → P k =
       below_more P (length ns)
       (λ k below n p.
@@ -26,7 +26,7 @@ module _ (M : Program) (node : CertNode) (one : PlacedNode) (here : IsPlace M no
       let long_ps = length-append ps (one ∷ []) in
       (omega (arith, same, long, long_ps), λ k n p below. all k (omega (arith, below, long)) n p)
 
-  pub placed_more : (nodes : List CertNode) (k : ℕ) (old new : List PlacedNode) → k < length nodes → node ≡ get_or nodes k node → ArePlaced M (take k nodes) old → new ≡ old ++ one ∷ [] → ArePlaced M (take (k + 1) nodes) new
+  pub placed_more : (nodes : List CertNode) (k : ℕ) (old new : List NodeWithPlaces) → k < length nodes → node ≡ get_or nodes k node → ArePlaced M (take k nodes) old → new ≡ old ++ one ∷ [] → ArePlaced M (take (k + 1) nodes) new
   placed_more nodes k old new below is before after =
       let more : take (k + 1) nodes ≡ take k nodes ++ node ∷ [] = take_more nodes k node below ∙ ap (λ n. take k nodes ++ n ∷ []) (sym is) in
       subst (λ T. T) (λ i. ArePlaced M (sym more i) (sym after i)) (placed_last (take k nodes) old before)
@@ -34,7 +34,7 @@ module _ (M : Program) (node : CertNode) (one : PlacedNode) (here : IsPlace M no
 -- ---- paths
 
 pub after_leaf-low : (path : Path) (c : BoundChange) → c.side ≡ Lo → after_leaf (path ++ c ∷ []) ≡ after_leaf path
-after_leaf-low [] c low = ap (λ s. turned s c) low
+after_leaf-low [] c low = ap (λ s. turned_change s c) low
 after_leaf-low (d ∷ path) c low = ap (in_front d) (after_leaf-low path c low)
 
 in_front-some : (d : BoundChange) (path : Path) (c : BoundChange) → in_front d (path ++ c ∷ []) ≡ d ∷ (path ++ c ∷ [])
@@ -42,5 +42,5 @@ in_front-some d [] c = refl
 in_front-some d (e ∷ path) c = refl
 
 pub after_leaf-high : (path : Path) (c : BoundChange) → c.side ≡ Hi → after_leaf (path ++ c ∷ []) ≡ path ++ at_least c.col.0 (c.v +ℤ pos 1) ∷ []
-after_leaf-high [] c high = ap (λ s. turned s c) high
+after_leaf-high [] c high = ap (λ s. turned_change s c) high
 after_leaf-high (d ∷ path) c high = ap (in_front d) (after_leaf-high path c high) ∙ in_front-some d path (at_least c.col.0 (c.v +ℤ pos 1))

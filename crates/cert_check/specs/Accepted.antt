@@ -1,6 +1,6 @@
 -- When a certificate is accepted for a model. Names not in this file:
 --     lag, farkas        the numbers of a leaf's multipliers in a region, with the costs and without (leaf_dual)
---     IsLawful, EachLeaf each split is on an integer column; what holds of each leaf and its path (branch_tree)
+--     SplitsLawfully, EachLeaf each split is on an integer column; what holds of each leaf and its path (branch_tree)
 use Rattle.std.specs.Prelude.{◌≡◌, ◌≢◌, ◌⊎◌, ℕ, true, false, List, [], map, All, AllPairs, Contains}
 use Rattle.rational.specs.Rational.{ℚ}
 use Rattle.lp_model.specs.Program.{Program, Point, value, in_least_form, IsFeasible, HasWholeObjective}
@@ -8,14 +8,14 @@ use Rattle.lp_model.specs.Lawful.{column_names}
 use Rattle.lp_model.specs.Edits.{Named, number_beside}
 use Rattle.lp_model.specs.Regions.{Path, IsEmptyRegion}
 use Rattle.lp_model.specs.declared.types.Var.TheVariants.{Row}
-use Rattle.leaf_dual.specs.Dual.{Multipliers, lag, farkas, IsPositive, Reaches}
-use Rattle.branch_tree.specs.Tree.{IsLawful, EachLeaf}
+use Rattle.leaf_dual.specs.Dual.{Multipliers, lag, farkas, IsPositiveNumber, Reaches}
+use Rattle.branch_tree.specs.Tree.{SplitsLawfully, EachLeaf}
 use Rattle.cert_check.specs.declared.cert.Claim.{Claim}
 use Rattle.cert_check.specs.declared.cert.Claim.TheVariants.{Optimal, Infeasible}
 use Rattle.cert_check.specs.declared.cert.CertLeaf.{CertLeaf}
 use Rattle.cert_check.specs.declared.cert.CertLeaf.TheVariants.{Bound, Farkas, Empty}
 use Rattle.cert_check.specs.declared.cert.Cert.{Cert}
-use Rattle.cert_check.specs.Tree.{CertTree, preorder, place_among, placed}
+use Rattle.cert_check.specs.Tree.{CertTree, preorder, place_among, with_places}
 
 -- ---- names
 
@@ -49,7 +49,7 @@ ReachesClaim M Infeasible path named = ⊥
 -- the leaf of a region closes as it says
 abbrev pub Closes : Program → Claim → Path → CertLeaf → Type 0
 Closes M claim path (Bound named) = AreNames (names_of_rows M) named × ReachesClaim M claim path named
-Closes M claim path (Farkas named) = AreNames (names_of_rows M) named × IsPositive (farkas M path (multipliers M named))
+Closes M claim path (Farkas named) = AreNames (names_of_rows M) named × IsPositiveNumber (farkas M path (multipliers M named))
 Closes M claim path Empty = IsEmptyRegion M path
 
 -- ---- certificates
@@ -69,5 +69,5 @@ pub record Accepts (M : Program) (cert : Cert) : Type 0 where
   pub point : HasPoint M cert.claim cert.point
   pub tree : CertTree
   pub nodes : preorder tree ≡ cert.nodes
-  pub splits : IsLawful M (placed M tree)
-  pub leaves : EachLeaf (Closes M cert.claim) [] (placed M tree)
+  pub splits : SplitsLawfully M (with_places M tree)
+  pub leaves : EachLeaf (Closes M cert.claim) [] (with_places M tree)

@@ -7,7 +7,7 @@ use Rattle.cert_check.specs.declared.cert.Cert.{Cert}
 use Rattle.cert_check.specs.declared.verdict.Verdict.{Verdict}
 use Rattle.cert_check.specs.declared.verdict.Verdict.TheVariants.{Accepted, Rejected}
 use Rattle.cert_check.specs.Accepted.{Accepts}
-use Rattle.cert_check.specs.Text.{Meant, Faulty}
+use Rattle.cert_check.specs.Text.{MeantCertificate, FaultyCertificate}
 use Rattle.cert_check.specs.Verdict.{IsVerdict}
 use Rattle.cert_check.specs.Whole.{IsCertificate}
 
@@ -32,11 +32,11 @@ abbrev pub OneVerdictLaw : Type 0
 OneVerdictLaw = (M : Program) (cert : Cert) (a b : Verdict) → IsVerdict M cert a → IsVerdict M cert b → a ≡ b
 
 -- A text states one certificate, or has one first faulty line with one least code, and never both.
-pub record MeansOne (text : List ℕ) : Type 0 where
-  pub some : ((cert : Cert) × Meant text cert) ⊎ ((line : ℕ) × ((code : ℕ) × Faulty text line code))
-  pub one_meaning : (a b : Cert) → Meant text a → Meant text b → a ≡ b
-  pub one_fault : (line code other_line other_code : ℕ) → Faulty text line code → Faulty text other_line other_code → (line ≡ other_line) × (code ≡ other_code)
-  pub not_both : (cert : Cert) (line code : ℕ) → Meant text cert → Faulty text line code → ⊥
+pub record CertificateMeansOne (text : List ℕ) : Type 0 where
+  pub some : ((cert : Cert) × MeantCertificate text cert) ⊎ ((line : ℕ) × ((code : ℕ) × FaultyCertificate text line code))
+  pub one_meaning : (a b : Cert) → MeantCertificate text a → MeantCertificate text b → a ≡ b
+  pub one_fault : (line code other_line other_code : ℕ) → FaultyCertificate text line code → FaultyCertificate text other_line other_code → (line ≡ other_line) × (code ≡ other_code)
+  pub not_both : (cert : Cert) (line code : ℕ) → MeantCertificate text cert → FaultyCertificate text line code → ⊥
 
-abbrev pub TextLaw : Type 0
-TextLaw = (text : List ℕ) → MeansOne text
+abbrev pub CertificateTextLaw : Type 0
+CertificateTextLaw = (text : List ℕ) → CertificateMeansOne text

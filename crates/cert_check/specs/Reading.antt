@@ -4,7 +4,7 @@ use Rattle.lp_model.specs.Edits.{Named}
 use Rattle.cert_check.specs.declared.cert.Cert.{Cert}
 use Rattle.cert_check.specs.Lines.{line_says}
 use Rattle.cert_check.specs.Whole.{TakesAll, IsPointed, IsNarrowNode}
-use Rattle.cert_check.specs.Text.{claim_in, point_in, node_in, is_end, Stated, stated, code_in, code_at, AreClean, Meant, Faulty}
+use Rattle.cert_check.specs.Text.{claim_in, point_in, node_in, is_end, StatedCertificate, stated, code_in, code_at, AreClean, MeantCertificate, FaultyCertificate}
 use Rattle.cert_check.specs.declared.line.Statement.{Statement}
 use Rattle.cert_check.specs.declared.reader.CertFault.{CertFault}
 use Rattle.cert_check.specs.declared.reader.CertFault.TheVariants.{Bad, Memory as NoMemory}
@@ -24,17 +24,17 @@ min_or None code = code
 min_or (Some least) code = min least code
 
 -- numbers beside names, the least code of what is none among them, and what follows
-abbrev pub joined : Option ℕ → Named → Result Named ℕ → Result Named ℕ
-joined None named (Ok more) = Ok (named ++ more)
-joined (Some least) named (Ok more) = Err least
-joined least named (Err code) = Err (min_or least code)
+abbrev pub joined_named : Option ℕ → Named → Result Named ℕ → Result Named ℕ
+joined_named None named (Ok more) = Ok (named ++ more)
+joined_named (Some least) named (Ok more) = Err least
+joined_named least named (Err code) = Err (min_or least code)
 
 -- what the reader holds
-abbrev pub held : Reading → Stated
+abbrev pub held : Reading → StatedCertificate
 held r = record { count = r.count; claims = option_to_list r.claim; points = option_to_list r.point; nodes = r.nodes; ended = r.ended }
 
 -- what is stated with one more line that says this
-abbrev pub after : Stated → Result Statement ℕ → Stated
+abbrev pub after : StatedCertificate → Result Statement ℕ → StatedCertificate
 after s said = record {
   count = s.count + 1;
   claims = s.claims ++ option_to_list (claim_in said);
@@ -44,7 +44,7 @@ after s said = record {
 }
 
 -- a line without code is noted, another one is told with its number
-abbrev pub IsNoted : Stated → List ℕ → ℕ → Stated → Result (Unit {0}) CertFault → Type 0
+abbrev pub IsNoted : StatedCertificate → List ℕ → ℕ → StatedCertificate → Result (Unit {0}) CertFault → Type 0
 IsNoted old line number new (Ok _) = (code_in old (line_says line) ≡ None) × (new ≡ after old (line_says line))
 IsNoted old line number new (Err (Bad at code)) = (code_in old (line_says line) ≡ Some code) × (at ≡ number)
 IsNoted old line number new (Err NoMemory) = Unit {0}
@@ -59,13 +59,13 @@ IsReading lines (Err (Bad number code)) = IsFaultyLine lines number code
 IsReading lines (Err NoMemory) = Unit {0}
 
 -- the certificate that the text states, its first faulty line with the least code, or want of memory
-abbrev pub IsAnswer : List ℕ → Result Cert CertFault → Type 0
-IsAnswer text (Ok cert) = Meant text cert
-IsAnswer text (Err (Bad line code)) = Faulty text line code
-IsAnswer text (Err NoMemory) = Unit {0}
+abbrev pub IsCertificateAnswer : List ℕ → Result Cert CertFault → Type 0
+IsCertificateAnswer text (Ok cert) = MeantCertificate text cert
+IsCertificateAnswer text (Err (Bad line code)) = FaultyCertificate text line code
+IsCertificateAnswer text (Err NoMemory) = Unit {0}
 
 -- what the reader keeps: nodes stand only where a tree is due, none is due at the end, and splits have room
-pub record IsKept (r : Reading) : Type 0 where
+pub record IsReadable (r : Reading) : Type 0 where
   pub takes : TakesAll 1 r.nodes
   pub whole : r.ended ≡ true → r.due ≡ 0
   pub narrow : All IsNarrowNode r.nodes

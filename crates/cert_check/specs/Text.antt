@@ -39,7 +39,7 @@ abbrev pub is_header : Result Statement ℕ → Bool
 is_header (Ok Header) = true
 is_header said = false
 
-pub record Stated : Type 0 where
+pub record StatedCertificate : Type 0 where
   -- how many lines there are
   pub count : ℕ
   pub claims : List Claim
@@ -47,7 +47,7 @@ pub record Stated : Type 0 where
   pub nodes : List CertNode
   pub ended : Bool
 
-unfoldable pub stated : List (List ℕ) → Stated
+unfoldable pub stated : List (List ℕ) → StatedCertificate
 stated lines = record {
   count = length lines;
   claims = filter_map (λ line. claim_in (line_says line)) lines;
@@ -76,18 +76,18 @@ abbrev pub takes_point : List Claim → Bool
 takes_point (Optimal v ∷ claims) = true
 takes_point claims = false
 
-abbrev pub lacks_point : Stated → Bool
+abbrev pub lacks_point : StatedCertificate → Bool
 lacks_point s = takes_point s.claims && are_none s.points
 
 -- the claim or the point is still due
-abbrev pub lacks_part : Stated → Bool
+abbrev pub lacks_part : StatedCertificate → Bool
 lacks_part s = are_none s.claims || lacks_point s
 
-abbrev pub node_code : Stated → Option ℕ
+abbrev pub node_code : StatedCertificate → Option ℕ
 node_code s = if lacks_part s then Some 6 else if is_whole_tree s.nodes then Some 7 else None
 
 -- the code of a statement by what stands before it
-abbrev pub place_code : Stated → Statement → Option ℕ
+abbrev pub place_code : StatedCertificate → Statement → Option ℕ
 place_code s (Claims claim) = if are_none s.claims then None else Some 6
 place_code s (Point named) = if not (are_none s.claims) && lacks_point s then None else Some 6
 place_code s (Node node) = node_code s
@@ -95,12 +95,12 @@ place_code s End = if lacks_part s || are_none s.nodes then Some 6 else if is_wh
 place_code s Header = Some 6
 place_code s Foreign = Some 6
 
-abbrev pub said_code : Stated → Result Statement ℕ → Option ℕ
+abbrev pub said_code : StatedCertificate → Result Statement ℕ → Option ℕ
 said_code s (Ok statement) = place_code s statement
 said_code s (Err code) = Some code
 
 -- the code of a line behind what is stated, if it has one
-abbrev pub code_in : Stated → Result Statement ℕ → Option ℕ
+abbrev pub code_in : StatedCertificate → Result Statement ℕ → Option ℕ
 code_in s said =
     if s.count == 0 then (if is_header said then None else Some 1)
     else if s.ended then Some 8
@@ -111,7 +111,7 @@ or_no_end (Some code) = code
 or_no_end None = 8
 
 -- the code of what is missing where the text ends behind what is stated
-abbrev pub end_code : Stated → Option ℕ
+abbrev pub end_code : StatedCertificate → Option ℕ
 end_code s =
     if s.count == 0 then Some 1
     else if s.ended then None
@@ -135,16 +135,16 @@ abbrev pub first_point : List Named → Named
 first_point [] = []
 first_point (named ∷ points) = named
 
-abbrev pub cert_of : Stated → Cert
+abbrev pub cert_of : StatedCertificate → Cert
 cert_of s = record { claim = first_claim s.claims; point = first_point s.points; nodes = s.nodes }
 
 -- the certificate that the text states
-pub record Meant (text : List ℕ) (cert : Cert) : Type 0 where
+pub record MeantCertificate (text : List ℕ) (cert : Cert) : Type 0 where
   pub clean : AreClean (lines_of text) (length (lines_of text))
   pub ended : end_code (stated (lines_of text)) ≡ None
   pub is : cert ≡ cert_of (stated (lines_of text))
 
 -- the first faulty line, from 1, and its least code
-pub data Faulty (text : List ℕ) (line code : ℕ) : Type 0 where
-  OnLine : (k : ℕ) → k < length (lines_of text) → AreClean (lines_of text) k → code_at (lines_of text) k ≡ Some code → line ≡ suc k → Faulty text line code
-  AtEnd : AreClean (lines_of text) (length (lines_of text)) → end_code (stated (lines_of text)) ≡ Some code → line ≡ suc (length (lines_of text)) → Faulty text line code
+pub data FaultyCertificate (text : List ℕ) (line code : ℕ) : Type 0 where
+  OnLine : (k : ℕ) → k < length (lines_of text) → AreClean (lines_of text) k → code_at (lines_of text) k ≡ Some code → line ≡ suc k → FaultyCertificate text line code
+  AtEnd : AreClean (lines_of text) (length (lines_of text)) → end_code (stated (lines_of text)) ≡ Some code → line ≡ suc (length (lines_of text)) → FaultyCertificate text line code

@@ -27,8 +27,8 @@ tighter_number Lo v w = if int_le v w then w else v
 tighter_number Hi v w = if int_le v w then v else w
 
 -- at most one change for each side of each column
-abbrev pub AreApart : Path → Type 0
-AreApart R = AllPairs (λ c d. are_rivals c d ≡ false) R
+abbrev pub AreChangesApart : Path → Type 0
+AreChangesApart R = AllPairs (λ c d. are_rivals c d ≡ false) R
 
 -- a change, with the number of a further one for the same side of the same column where that is tighter
 abbrev pub tighter : BoundChange → BoundChange → BoundChange
@@ -76,8 +76,8 @@ pub record IsTrail (t : Trail) : Type 0 where
   pub led : IsLed t.path.items t.replaced.items t.depth t.region.items t.count
 
 -- the path, and its region
-abbrev pub path_of : Trail → Path
-path_of t = take t.depth t.path.items
+abbrev pub path_of_trail : Trail → Path
+path_of_trail t = take t.depth t.path.items
 
 abbrev pub region_of : Trail → Path
 region_of t = take t.count t.region.items

@@ -23,6 +23,6 @@ place_among [] name = zero
 place_among (first ∷ names) name = if bytes_eq first name then zero else suc (place_among names name)
 
 -- the tree with the columns by their places in the model
-abbrev pub placed : Program → CertTree → Tree (List ℕ) CertLeaf
-placed M (Leaf leaf) = PlainLeaf leaf
-placed M (Split col v left right) = PlainSplit col (place_among (column_names M) col) v (placed M left) (placed M right)
+abbrev pub with_places : Program → CertTree → Tree (List ℕ) CertLeaf
+with_places M (Leaf leaf) = PlainLeaf leaf
+with_places M (Split col v left right) = PlainSplit col (place_among (column_names M) col) v (with_places M left) (with_places M right)

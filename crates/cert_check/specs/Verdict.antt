@@ -13,7 +13,7 @@ use Rattle.lp_model.specs.Lawful.{column_names}
 use Rattle.lp_model.specs.Answers.{IsValueAnswer, IsFeasibilityAnswer}
 use Rattle.lp_model.specs.Edits.{Named}
 use Rattle.lp_model.specs.Regions.{Path, IsEmptyRegion}
-use Rattle.leaf_dual.specs.Dual.{Multipliers, IsPositive, Reaches}
+use Rattle.leaf_dual.specs.Dual.{Multipliers, IsPositiveNumber, Reaches}
 use Rattle.leaf_dual.specs.Answers.{IsLagAnswer, IsFarkasAnswer}
 use Rattle.leaf_dual.specs.declared.dual.LagValue.{LagValue}
 use Rattle.branch_tree.specs.Tree.{left_path, right_path}
@@ -52,8 +52,8 @@ IsNumberJudged M (Optimal v) path mult j = IsBoundJudged M (in_least_form M.sens
 IsNumberJudged M Infeasible path mult j = j ≡ Breaks 7
 
 abbrev pub IsFarkasJudged : Program → Path → Multipliers → Judgement → Type 0
-IsFarkasJudged M path mult Passes = (q : LagValue) × (IsFarkasAnswer M path mult (Ok q) × IsPositive q)
-IsFarkasJudged M path mult (Breaks why) = (q : LagValue) × (IsFarkasAnswer M path mult (Ok q) × ((¬ IsPositive q) × (why ≡ 7)))
+IsFarkasJudged M path mult Passes = (q : LagValue) × (IsFarkasAnswer M path mult (Ok q) × IsPositiveNumber q)
+IsFarkasJudged M path mult (Breaks why) = (q : LagValue) × (IsFarkasAnswer M path mult (Ok q) × ((¬ IsPositiveNumber q) × (why ≡ 7)))
 IsFarkasJudged M path mult (NoRoom step) = IsFarkasAnswer M path mult (Err step)
 
 abbrev pub IsEmptyJudged : Program → Path → Judgement → Type 0
@@ -118,15 +118,15 @@ pub record IsJudgedAt (M : Program) (claim : Claim) (tree : CertTree) (number : 
   pub counted : number ≡ suc (length before)
 
 -- The judgement j of node `number`, 0 being the point, is the first that is no pass.
-abbrev pub IsFirst : Program → Cert → CertTree → ℕ → Judgement → Type 0
-IsFirst M cert tree number j =
+abbrev pub IsFirstFailing : Program → Cert → CertTree → ℕ → Judgement → Type 0
+IsFirstFailing M cert tree number j =
     ((number ≡ 0) × IsClaimJudged M cert.claim cert.point j)
     ⊎ (IsClaimJudged M cert.claim cert.point Passes × IsJudgedAt M cert.claim tree number j)
 
 abbrev pub IsVerdictOn : Program → Cert → CertTree → Verdict → Type 0
 IsVerdictOn M cert tree Accepted = IsClaimJudged M cert.claim cert.point Passes × All (λ p. IsVisitJudged M cert.claim p Passes) (visits M [] tree)
-IsVerdictOn M cert tree (Rejected number why) = IsFirst M cert tree number (Breaks why)
-IsVerdictOn M cert tree (Wide number step) = IsFirst M cert tree number (NoRoom step)
+IsVerdictOn M cert tree (Rejected number why) = IsFirstFailing M cert tree number (Breaks why)
+IsVerdictOn M cert tree (Wide number step) = IsFirstFailing M cert tree number (NoRoom step)
 
 pub record IsVerdict (M : Program) (cert : Cert) (verdict : Verdict) : Type 0 where
   pub tree : CertTree

@@ -18,8 +18,8 @@ use Rattle.cert_check.specs.declared.verdict.Judgement.{Judgement}
 use Rattle.cert_check.specs.declared.verdict.Judgement.TheVariants.{Passes, Breaks, NoRoom}
 use Rattle.cert_check.specs.declared.verdict.Verdict.{Verdict}
 use Rattle.cert_check.specs.declared.verdict.Verdict.TheVariants.{Accepted, Rejected, Wide}
-use Rattle.cert_check.specs.declared.judging.PlacedNode.{PlacedNode}
-use Rattle.cert_check.specs.declared.judging.PlacedNode.TheVariants.{Misnamed, Split, Bound, Farkas, Empty}
+use Rattle.cert_check.specs.declared.judging.NodeWithPlaces.{NodeWithPlaces}
+use Rattle.cert_check.specs.declared.judging.NodeWithPlaces.TheVariants.{Misnamed, Split, Bound, Farkas, Empty}
 use Rattle.cert_check.specs.declared.checking.RegionBuf.{RegionBuf}
 use Rattle.cert_check.specs.Tree.{CertTree, preorder, place_among}
 use Rattle.cert_check.specs.Accepted.{AreNames, names_of_rows, point_of, multipliers}
@@ -30,7 +30,7 @@ use Rattle.cert_check.specs.Tight.{IsTrail, room}
 -- ---- nodes with places
 
 -- the node with its names as places; Misnamed where one is unknown or stands twice
-abbrev pub IsPlace : Program → CertNode → PlacedNode → Type 0
+abbrev pub IsPlace : Program → CertNode → NodeWithPlaces → Type 0
 IsPlace M (node.Split col v) Misnamed = ¬ Contains (column_names M) col
 IsPlace M (node.Split col v) (Split place w) = (place.0 < length M.cols) × (place.0 ≡ place_among (column_names M) col) × (w ≡ v)
 IsPlace M (node.Leaf (leaf.Bound named)) Misnamed = ¬ AreNames (names_of_rows M) named
@@ -40,7 +40,7 @@ IsPlace M (node.Leaf (leaf.Farkas named)) (Farkas mult) = AreNames (names_of_row
 IsPlace M (node.Leaf leaf.Empty) Empty = Unit {0}
 IsPlace M n placed = ⊥
 
-abbrev pub IsPlacedJudged : Program → Claim → Path → PlacedNode → Judgement → Type 0
+abbrev pub IsPlacedJudged : Program → Claim → Path → NodeWithPlaces → Judgement → Type 0
 IsPlacedJudged M claim path Misnamed j = j ≡ Breaks 1
 IsPlacedJudged M claim path (Split col v) j = IsKindJudged M col.0 j
 IsPlacedJudged M claim path (Bound mult) j = IsNumberJudged M claim path mult j
@@ -53,12 +53,12 @@ IsPlacedJudged M claim path Empty j = IsEmptyJudged M path j
 abbrev pub CanTurn : BoundChange → Type 0
 CanTurn c = c.side ≡ Hi → IsNarrow (c.v +ℤ pos 1)
 
-abbrev pub turned : Side → BoundChange → Path
-turned Hi c = at_least c.col.0 (c.v +ℤ pos 1) ∷ []
-turned Lo c = []
+abbrev pub turned_change : Side → BoundChange → Path
+turned_change Hi c = at_least c.col.0 (c.v +ℤ pos 1) ∷ []
+turned_change Lo c = []
 
 abbrev pub in_front : BoundChange → Path → Path
-in_front c [] = turned c.side c
+in_front c [] = turned_change c.side c
 in_front c (d ∷ path) = c ∷ d ∷ path
 
 -- the path to the node behind a leaf: the last change to a left child becomes that to the right one
@@ -67,7 +67,7 @@ after_leaf [] = []
 after_leaf (c ∷ path) = in_front c (after_leaf path)
 
 -- the path to the node behind a node
-abbrev pub after_node : PlacedNode → Path → Path
+abbrev pub after_node : NodeWithPlaces → Path → Path
 after_node (Split col v) path = path ++ at_most col.0 v ∷ []
 after_node Misnamed path = after_leaf path
 after_node (Bound mult) path = after_leaf path
@@ -76,11 +76,11 @@ after_node Empty path = after_leaf path
 
 -- ---- the buffer
 
-abbrev pub ArePlaced : Program → List CertNode → List PlacedNode → Type 0
-ArePlaced M nodes placed = (length placed ≡ length nodes) × ((k : ℕ) (n : CertNode) (p : PlacedNode) → k < length nodes → IsPlace M (get_or nodes k n) (get_or placed k p))
+abbrev pub ArePlaced : Program → List CertNode → List NodeWithPlaces → Type 0
+ArePlaced M nodes placed = (length placed ≡ length nodes) × ((k : ℕ) (n : CertNode) (p : NodeWithPlaces) → k < length nodes → IsPlace M (get_or nodes k n) (get_or placed k p))
 
 -- the places are those of a tree's nodes, and fractions have room for its splits
-pub record IsWalked (M : Program) (tree : CertTree) (placed : List PlacedNode) : Type 0 where
+pub record IsWalked (M : Program) (tree : CertTree) (placed : List NodeWithPlaces) : Type 0 where
   pub places : ArePlaced M (preorder tree) placed
   pub narrow : All IsNarrowNode (preorder tree)
 

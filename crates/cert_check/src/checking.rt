@@ -5,7 +5,7 @@ ghost use Rattle.branch_tree.specs.Tree.{at_least};
 ghost use Rattle.lp_model.specs.Program.{HasWholeObjective};
 ghost use Rattle.lp_model.specs.Regions.{AreNarrow};
 ghost use Rattle.cert_check.specs.Walk.{IsPlace, ArePlaced, IsBufferOf, IsPlacedJudged, CanTurn, after_leaf, after_node, IsWalked, IsNodesVerdict, IsPointOf};
-ghost use Rattle.cert_check.specs.Tight.{IsTrail, path_of, room};
+ghost use Rattle.cert_check.specs.Tight.{IsTrail, path_of_trail, room};
 ghost use Rattle.cert_check.specs.Verdict.{IsClaimJudged, IsVerdict};
 ghost use Rattle.cert_check.specs.Whole.{IsCertificate, HasNoPoint};
 ghost use Rattle.lp_model.specs.Edits.{Named};
@@ -14,7 +14,7 @@ ghost use Rattle.cert_check.specs.declared.cert.CertNode.{CertNode};
 
 use crate::cert::{Cert, CertLeaf, CertNode, Claim};
 use crate::judging::{
-    PlacedNode, is_whole, judge_empty, judge_farkas, judge_number, judge_point, judge_split,
+    NodeWithPlaces, is_whole, judge_empty, judge_farkas, judge_number, judge_point, judge_split,
 };
 use crate::names::{column_place, multipliers, point};
 use crate::trail::Trail;
@@ -26,33 +26,33 @@ use std::alloc::{AllocError, Global};
 /// to a node and the region's changes.
 #[derive(Drop)]
 pub struct RegionBuf {
-    pub(crate) nodes: Vec<PlacedNode>,
+    pub(crate) nodes: Vec<NodeWithPlaces>,
     pub(crate) trail: Trail,
     pub(crate) point: Option<Point>,
 }
 
 /// A node with its names as places.
-fn placed(alloc: Global, model: &Model, node: &CertNode) -> Result<PlacedNode, AllocError>
+fn node_with_places(alloc: Global, model: &Model, node: &CertNode) -> Result<NodeWithPlaces, AllocError>
     ensures { IfOk result (λ placed. IsPlace model.now node.now placed) }
 {
     Ok(match node {
         CertNode::Split { col, v } => match column_place(model, col) {
-            Some(col) => PlacedNode::Split { col, v: *v },
-            None => PlacedNode::Misnamed,
+            Some(col) => NodeWithPlaces::Split { col, v: *v },
+            None => NodeWithPlaces::Misnamed,
         },
         CertNode::Leaf(CertLeaf::Bound(named)) => {
             match multipliers(alloc, model, named.as_slice())? {
-                Some(mult) => PlacedNode::Bound(mult),
-                None => PlacedNode::Misnamed,
+                Some(mult) => NodeWithPlaces::Bound(mult),
+                None => NodeWithPlaces::Misnamed,
             }
         }
         CertNode::Leaf(CertLeaf::Farkas(named)) => {
             match multipliers(alloc, model, named.as_slice())? {
-                Some(mult) => PlacedNode::Farkas(mult),
-                None => PlacedNode::Misnamed,
+                Some(mult) => NodeWithPlaces::Farkas(mult),
+                None => NodeWithPlaces::Misnamed,
             }
         }
-        CertNode::Leaf(CertLeaf::Empty) => PlacedNode::Empty,
+        CertNode::Leaf(CertLeaf::Empty) => NodeWithPlaces::Empty,
     })
 }
 
@@ -61,12 +61,12 @@ fn placed_nodes(
     alloc: Global,
     model: &Model,
     nodes: &[CertNode],
-) -> Result<Vec<PlacedNode>, AllocError>
+) -> Result<Vec<NodeWithPlaces>, AllocError>
     ensures { IfOk result (λ all. ArePlaced model.now nodes.now all.items) }
 {
     let mut all = Vec::new(alloc);
     for node in nodes {
-        let one = placed(alloc, model, node)?;
+        let one = node_with_places(alloc, model, node)?;
         all.push(one)?;
     }
     Ok(all)
@@ -94,7 +94,7 @@ fn judge(
     claim: &Claim,
     whole: bool,
     path: &[BoundChange],
-    node: &PlacedNode,
+    node: &NodeWithPlaces,
 ) -> Judgement
     requires narrow { AreNarrow path.now }
     requires whole { IsTrue whole ↔ HasWholeObjective model.now 1 }
@@ -102,11 +102,11 @@ fn judge(
     ensures { IsPlacedJudged model.now claim.now path.now node.now result }
 {
     match node {
-        PlacedNode::Misnamed => Judgement::Breaks(1),
-        PlacedNode::Split { col, .. } => judge_split(model, *col),
-        PlacedNode::Bound(mult) => judge_number(model, claim, whole, path, mult.as_slice()),
-        PlacedNode::Farkas(mult) => judge_farkas(model, path, mult.as_slice()),
-        PlacedNode::Empty => judge_empty(model, path),
+        NodeWithPlaces::Misnamed => Judgement::Breaks(1),
+        NodeWithPlaces::Split { col, .. } => judge_split(model, *col),
+        NodeWithPlaces::Bound(mult) => judge_number(model, claim, whole, path, mult.as_slice()),
+        NodeWithPlaces::Farkas(mult) => judge_farkas(model, path, mult.as_slice()),
+        NodeWithPlaces::Empty => judge_empty(model, path),
     }
 }
 
@@ -125,9 +125,9 @@ fn second_child(first: &BoundChange) -> BoundChange
 /// From a leaf's path to that of the node behind it.
 fn turn(trail: &mut Trail)
     requires trail { IsTrail trail.old }
-    requires turns { All CanTurn (path_of trail.old) }
+    requires turns { All CanTurn (path_of_trail trail.old) }
     ensures trail { IsTrail trail.new }
-    ensures path { path_of trail.new ≡ after_leaf (path_of trail.old) }
+    ensures path { path_of_trail trail.new ≡ after_leaf (path_of_trail trail.old) }
     ensures within { trail.new.depth ≤ trail.old.depth }
     ensures room { room trail.new ≡ room trail.old }
 {
@@ -144,17 +144,17 @@ fn turn(trail: &mut Trail)
 }
 
 /// From a node's path to that of the node behind it.
-fn step_on(trail: &mut Trail, node: &PlacedNode)
+fn step_on(trail: &mut Trail, node: &NodeWithPlaces)
     requires trail { IsTrail trail.old }
     requires room { trail.old.depth < room trail.old }
-    requires turns { All CanTurn (path_of trail.old) }
+    requires turns { All CanTurn (path_of_trail trail.old) }
     ensures trail { IsTrail trail.new }
-    ensures path { path_of trail.new ≡ after_node node.now (path_of trail.old) }
+    ensures path { path_of_trail trail.new ≡ after_node node.now (path_of_trail trail.old) }
     ensures within { trail.new.depth ≤ trail.old.depth + 1 }
     ensures room { room trail.new ≡ room trail.old }
 {
     match node {
-        PlacedNode::Split { col, v } => trail.push(BoundChange {
+        NodeWithPlaces::Split { col, v } => trail.push(BoundChange {
             col: *col,
             side: Side::Hi,
             v: *v,
@@ -164,7 +164,7 @@ fn step_on(trail: &mut Trail, node: &PlacedNode)
 }
 
 /// The nodes in order, each judged by the region of its path.
-fn check_nodes(model: &Model, claim: &Claim, nodes: &[PlacedNode], trail: &mut Trail) -> Verdict
+fn check_nodes(model: &Model, claim: &Claim, nodes: &[NodeWithPlaces], trail: &mut Trail) -> Verdict
     requires trail { IsTrail trail.old }
     requires room { length nodes.now ≤ room trail.old }
     requires tree { (tree : CertTree) × IsWalked model.now tree nodes.now }

@@ -3,7 +3,7 @@ ghost use Rattle.std.specs.Prelude.{◌≡◌, ◌≤◌, map, [], codes, IfOk, 
 ghost use Rattle.std.specs.Option.{ForSome};
 ghost use Rattle.lp_model.specs.Edits.{Named};
 ghost use Rattle.cert_check.specs.Lines.{number_of, number_code, beside, named_in, rows_in};
-ghost use Rattle.cert_check.specs.Reading.{Says, min_or, joined};
+ghost use Rattle.cert_check.specs.Reading.{Says, min_or, joined_named};
 
 use crate::line::LineFault;
 use frac128::{Frac, NumFault};
@@ -42,7 +42,7 @@ fn lesser(least: Option<u8>, code: u8) -> u8
 impl Gathered {
     /// One more number beside a name.
     fn add(&mut self, alloc: Global, name: &[u8], number: &[u8]) -> Result<(), AllocError>
-        ensures { IfOk result (λ _. (rest : Result Named ℕ) → joined self.old.least self.old.named (beside name.now (number_of number.now) rest) ≡ joined self.new.least self.new.named rest) }
+        ensures { IfOk result (λ _. (rest : Result Named ℕ) → joined_named self.old.least self.old.named (beside name.now (number_of number.now) rest) ≡ joined_named self.new.least self.new.named rest) }
     {
         match Frac::parse(number) {
             Ok(value) => {
@@ -56,7 +56,7 @@ impl Gathered {
 
     /// What was gathered, or its code.
     fn into_named(self) -> Result<List<(Name, Frac)>, LineFault>
-        ensures { Says (joined self.least self.named (Ok [])) result }
+        ensures { Says (joined_named self.least self.named (Ok [])) result }
     {
         match self.least {
             Some(code) => Err(LineFault::Code(code)),

@@ -3,7 +3,7 @@ ghost use Rattle.std.specs.Prelude.{◌≡◌, ◌+◌, ◌<◌, ◌^◌, map, I
 ghost use Rattle.std.specs.List.{slice_split};
 ghost use Rattle.cert_check.specs.Lines.{is_newline, lines_of};
 ghost use Rattle.cert_check.specs.Whole.{IsCertificate};
-ghost use Rattle.cert_check.specs.Reading.{held, IsKept, IsNoted, IsReading, IsAnswer};
+ghost use Rattle.cert_check.specs.Reading.{held, IsReadable, IsNoted, IsReading, IsCertificateAnswer};
 
 use crate::cert::Cert;
 use crate::line::{LineFault, line_says};
@@ -50,9 +50,9 @@ fn read_line(
     number: u64,
 ) -> Result<(), CertFault>
     requires room { reading.old.count + 1 < 2 ^ 64 }
-    requires kept { IsKept reading.old }
+    requires kept { IsReadable reading.old }
     ensures noted { IsNoted (held reading.old) line.now number (held reading.new) result }
-    ensures kept { IfOk result (λ _. IsKept reading.new) }
+    ensures kept { IfOk result (λ _. IsReadable reading.new) }
 {
     let statement = match line_says(alloc, line) {
         Ok(statement) => statement,
@@ -74,7 +74,7 @@ fn read_line(
 /// What the lines state, or the first faulty one.
 fn read_lines(alloc: Global, lines: &[&[u8]]) -> Result<Reading, CertFault>
     ensures reading { IsReading (map (λ line. line.now) lines.now) result }
-    ensures kept { IfOk result IsKept }
+    ensures kept { IfOk result IsReadable }
 {
     let mut reading = Reading::new(alloc);
     for (index, line) in lines.iter().enumerate() {
@@ -88,7 +88,7 @@ fn read_lines(alloc: Global, lines: &[&[u8]]) -> Result<Reading, CertFault>
 /// The certificate that the text states, or its first faulty line with the least code of its faults. The nodes of a
 /// certificate that is read are one whole tree.
 pub fn read_cert(alloc: Global, text: &[u8]) -> Result<Cert, CertFault>
-    ensures answer { IsAnswer text.now result }
+    ensures answer { IsCertificateAnswer text.now result }
     ensures certificate { IfOk result IsCertificate }
 {
     let Ok(lines) = lines_of(alloc, text) else {

@@ -24,13 +24,13 @@ pub(crate) struct Reading {
 }
 
 impl Reading {
-    ghost use Rattle.cert_check.specs.Reading.{held, after, IsKept};
+    ghost use Rattle.cert_check.specs.Reading.{held, after, IsReadable};
     ghost use Rattle.cert_check.specs.declared.line.Statement.TheVariants.{End};
 
     /// Nothing yet.
     pub(crate) fn new(alloc: Global) -> Reading
         ensures stated { held result ≡ stated [] }
-        ensures kept { IsKept result }
+        ensures kept { IsReadable result }
     {
         Reading {
             count: 0,
@@ -163,9 +163,9 @@ impl Reading {
         requires clean { code_in (held self.old) (Ok statement) ≡ None }
         requires room { self.old.count + 1 < 2 ^ 64 }
         requires narrow { IsNarrowStatement statement }
-        requires kept { IsKept self.old }
+        requires kept { IsReadable self.old }
         ensures stated { IfOk result (λ _. held self.new ≡ after (held self.old) (Ok statement)) }
-        ensures kept { IfOk result (λ _. IsKept self.new) }
+        ensures kept { IfOk result (λ _. IsReadable self.new) }
     {
         self.count += 1;
         match statement {
@@ -181,7 +181,7 @@ impl Reading {
     /// The certificate that the lines state, where they have no code and the text ends here.
     pub(crate) fn into_cert(self, alloc: Global) -> Cert
         requires ended { end_code (held self) ≡ None }
-        requires kept { IsKept self }
+        requires kept { IsReadable self }
         ensures cert { result ≡ cert_of (held self) }
         ensures certificate { IsCertificate result }
     {

@@ -1,7 +1,7 @@
 // The path to a node, and its region by the tightest changes alone. A leaf is judged by the region, which has at most one
 // change for each side of each column, however long the path is.
 ghost use Rattle.std.specs.Prelude.{◌≡◌, ◌<◌, ◌≤◌, ◌+◌, ◌++◌, ◌∷◌, [], length, take, set, max, IfOk, if◌then◌else◌, true};
-ghost use Rattle.cert_check.specs.Tight.{is_same_side, are_rivals, tighter_number, tighter, place_of, tightened, undone, AreApart, IsTrail, path_of, region_of, room};
+ghost use Rattle.cert_check.specs.Tight.{is_same_side, are_rivals, tighter_number, tighter, place_of, tightened, undone, AreChangesApart, IsTrail, path_of_trail, region_of, room};
 
 use lp_model::{BoundChange, ColId, Side};
 use std::alloc::{AllocError, Global};
@@ -133,7 +133,7 @@ impl Trail {
     pub(crate) fn region(&self) -> &[BoundChange]
         requires { IsTrail self.now }
         ensures region { result.now ≡ region_of self.now }
-        ensures apart { AreApart result.now }
+        ensures apart { AreChangesApart result.now }
     {
         &self.region[..self.count]
     }
@@ -142,7 +142,7 @@ impl Trail {
     pub(crate) fn restart(&mut self)
         requires { IsTrail self.old }
         ensures trail { IsTrail self.new }
-        ensures path { path_of self.new ≡ [] }
+        ensures path { path_of_trail self.new ≡ [] }
         ensures depth { self.new.depth ≡ 0 }
         ensures room { room self.new ≡ room self.old }
     {
@@ -155,7 +155,7 @@ impl Trail {
         requires trail { IsTrail self.old }
         requires room { self.old.depth < room self.old }
         ensures trail { IsTrail self.new }
-        ensures path { path_of self.new ≡ path_of self.old ++ change ∷ [] }
+        ensures path { path_of_trail self.new ≡ path_of_trail self.old ++ change ∷ [] }
         ensures depth { self.new.depth ≡ self.old.depth + 1 }
         ensures room { room self.new ≡ room self.old }
     {
@@ -171,7 +171,7 @@ impl Trail {
         requires trail { IsTrail self.old }
         requires some { 0 < self.old.depth }
         ensures trail { IsTrail self.new }
-        ensures path { path_of self.old ≡ path_of self.new ++ result ∷ [] }
+        ensures path { path_of_trail self.old ≡ path_of_trail self.new ++ result ∷ [] }
         ensures depth { self.old.depth ≡ self.new.depth + 1 }
         ensures room { room self.new ≡ room self.old }
     {

@@ -19,7 +19,7 @@ use Rattle.row_tableau.specs.declared.relax.Relax.{Relax}
 use Rattle.row_tableau.specs.declared.relax.RelaxKind.TheVariants.{Plain}
 use Rattle.row_tableau.specs.Relaxations.{plain, of_kind, relaxation_of}
 use Rattle.row_tableau.specs.Variables.{numbers}
-use Rattle.dual_simplex.specs.Held.{Held, IsKept, relaxation, state, table}
+use Rattle.dual_simplex.specs.Held.{Held, IsLawfulHeld, relaxation, state, table}
 use Rattle.row_tableau.specs.Dense.{IsTableauOf}
 use Rattle.dual_simplex.specs.Tilts.{model_low, model_high, has_side, is_sided, tilt_of, order_of, parts_of, KeepsFree}
 use Rattle.dual_simplex.specs.Slack.{IsOf, IsSlackState, CanStand}
@@ -176,7 +176,7 @@ numbers_alike a b s t s_is t_is same list = numbers_same s.tableau t.tableau
     (activities_is a s s_is ∙ ap (λ M. length M.rows) same ∙ sym (activities_is b t t_is))
     list
 
-module _ (M : Program) (start : Relax) (s : Held) (is : IsOf start s) (model : start.model.now ≡ M) (kind : start.kind ≡ Plain) (region : start.region.now ≡ []) (kept : IsKept s) (basis : Basis) (lists : IsBasisOf s basis) where
+module _ (M : Program) (start : Relax) (s : Held) (is : IsOf start s) (model : start.model.now ≡ M) (kind : start.kind ≡ Plain) (region : start.region.now ≡ []) (kept : IsLawfulHeld s) (basis : Basis) (lists : IsBasisOf s basis) where
   good_root : IsGood (plain M []) (parts_of Plain M []) (state s)
   good_root = subst (λ X. X) (λ i. IsGood (of_kind (kind i) (plain (model i) (region i))) (parts_of (kind i) (model i) (region i)) (state s)) (good_of start s is kept)
 
@@ -217,7 +217,7 @@ module _ (M : Program) (start : Relax) (s : Held) (is : IsOf start s) (model : s
     pub slack_lawful : IsLawfulBasis relax basis
     slack_lawful = lawful_list relax basis there_state good_there stands_there
 
-pub lawful_slack : (M : Program) (root : Relax) (s : Held) (basis : Basis) → IsSlackState root s → IsRootOf M root → IsKept s → IsBasisOf s basis → IsLawfulSlackBasis M basis
+pub lawful_slack : (M : Program) (root : Relax) (s : Held) (basis : Basis) → IsSlackState root s → IsRootOf M root → IsLawfulHeld s → IsBasisOf s basis → IsLawfulSlackBasis M basis
 lawful_slack M root s basis slack root_is kept lists = record {
   root = root;
   root_is = root_is;

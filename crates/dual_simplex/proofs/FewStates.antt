@@ -14,9 +14,9 @@ use Rattle.bases.proofs.BringIn.{basic_within, nonbasic_within}
 use Rattle.bases.proofs.OneTable.{covered}
 use Rattle.bases.proofs.SameState.{key_same}
 use Rattle.bases.proofs.Parts.{positive_same, not_less_self}
-use Rattle.dual_simplex.specs.Held.{Held, IsKept, relaxation, parts, state, table, variables}
+use Rattle.dual_simplex.specs.Held.{Held, IsLawfulHeld, relaxation, parts, state, table, variables}
 use Rattle.dual_simplex.specs.Moves.{IsMoved}
-use Rattle.dual_simplex.specs.Walks.{Moves, IsEnd, IsWalked}
+use Rattle.dual_simplex.specs.Walks.{Moves, IsWalkEnd, IsWalkAnswer}
 use Rattle.dual_simplex.specs.declared.state.LpStep.{LpStep}
 use Rattle.dual_simplex.specs.declared.walk.Walk.{Walk}
 use Rattle.dual_simplex.specs.declared.walk.Walk.TheVariants.{Pivots}
@@ -201,7 +201,7 @@ module _ (p : Relaxation) (costs : ℕ → ℕ → ℚ) (st other : State) (good
 abbrev held_code : Held → ℕ
 held_code s = code_of (relaxation s) (state s)
 
-rises_to_other : (s after : Held) → IsKept s → Rises s after → held_code s ≢ held_code after
+rises_to_other : (s after : Held) → IsLawfulHeld s → Rises s after → held_code s ≢ held_code after
 rises_to_other s after kept rise e = not_less (relaxation s) (parts s) (state s) (state after) kept.good
     (subst (λ X. X) (λ i. IsGood (sym rise.same_relaxation i) (sym rise.same_parts i) (state after)) rise.kept.good)
     (e ∙ sym (ap (λ p. code_of p (state after)) rise.same_relaxation))
@@ -222,17 +222,17 @@ way_earlier n s mid after moves moved t q = if_other t (suc n) after (on_way n s
 same_variables : (s after : Held) → Rises s after → variables s ≡ variables after
 same_variables s after rise = ap (λ p. p.columns + p.activities) rise.same_relaxation
 
-module _ (s : Held) (kept : IsKept s) where
-  kept_on_way : (n : ℕ) (after : Held) (moves : Moves n s after) (t : ℕ) → t ≤ n → IsKept (on_way n s after moves t)
+module _ (s : Held) (kept : IsLawfulHeld s) where
+  kept_on_way : (n : ℕ) (after : Held) (moves : Moves n s after) (t : ℕ) → t ≤ n → IsLawfulHeld (on_way n s after moves t)
   kept_on_way zero after moves t q = kept
   kept_on_way (suc n) after (mid, (moves, moved)) t q = ⊎_elim
-      (λ e. subst (λ w. IsKept (on_way (suc n) s after (mid, (moves, moved)) w)) (sym e)
-      (subst IsKept (sym (way_ends (suc n) s after (mid, (moves, moved)))) (rises_once mid after (subst IsKept (way_ends n s mid moves) (kept_on_way n mid moves n (omega arith))) moved).kept))
-      (λ other. subst IsKept (sym (way_earlier n s mid after moves moved t (omega (arith, q, other)))) (kept_on_way n mid moves t (omega (arith, q, other))))
+      (λ e. subst (λ w. IsLawfulHeld (on_way (suc n) s after (mid, (moves, moved)) w)) (sym e)
+      (subst IsLawfulHeld (sym (way_ends (suc n) s after (mid, (moves, moved)))) (rises_once mid after (subst IsLawfulHeld (way_ends n s mid moves) (kept_on_way n mid moves n (omega arith))) moved).kept))
+      (λ other. subst IsLawfulHeld (sym (way_earlier n s mid after moves moved t (omega (arith, q, other)))) (kept_on_way n mid moves t (omega (arith, q, other))))
       (cases_eq t (suc n))
 
   rises_last : (n : ℕ) (mid after : Held) (moves : Moves n s mid) (moved : IsMoved mid after) → Rises mid after
-  rises_last n mid after moves moved = rises_once mid after (subst IsKept (way_ends n s mid moves) (kept_on_way n mid moves n (omega arith))) moved
+  rises_last n mid after moves moved = rises_once mid after (subst IsLawfulHeld (way_ends n s mid moves) (kept_on_way n mid moves n (omega arith))) moved
 
   rises_to_end : (n : ℕ) (mid after : Held) (moves : Moves n s mid) (moved : IsMoved mid after) (t : ℕ) → t ≤ n → (t < n → Rises (on_way n s mid moves t) mid) → Rises (on_way n s mid moves t) after
   rises_to_end n mid after moves moved t q earlier = ⊎_elim
@@ -283,9 +283,9 @@ module _ (s : Held) (kept : IsKept s) where
     few_moves = let q = pigeonhole (suc n) (3 ^ variables s) (λ t. held_code (step t)) few one_each in omega (arith, q)
 
 -- where that many moves are allowed, a walk does not end for want of moves
-pub ends : (s : Held) (limit : ℕ) (r : Result Walk LpStep) (after : Held) → IsKept s → 3 ^ variables s ≤ limit → IsWalked s limit r after → r ≢ Ok Pivots
+pub ends : (s : Held) (limit : ℕ) (r : Result Walk LpStep) (after : Held) → IsLawfulHeld s → 3 ^ variables s ≤ limit → IsWalkAnswer s limit r after → r ≢ Ok Pivots
 ends s limit r after kept enough walked e =
-    let end = subst (λ w. IsEnd walked.0 limit w after) e walked.1.1.1 in
+    let end = subst (λ w. IsWalkEnd walked.0 limit w after) e walked.1.1.1 in
     let few = few_moves s kept walked.0 after walked.1.1.0 in
     let same = end.0 in
     omega (arith, enough, few, same)

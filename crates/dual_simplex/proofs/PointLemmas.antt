@@ -12,7 +12,7 @@ use Rattle.bases.specs.Steps.{nothing, at_nonbasic, at_basic, PointFits, CostFit
 use Rattle.bases.proofs.SumBelowLaws.{sum_below-zero, if_same, if_other}
 use Rattle.bases.proofs.Arranged.{assigned-basic, assigned-nonbasic}
 use Rattle.dual_simplex.specs.Held.{Held, IsSided, relaxation, state, table, variables}
-use Rattle.dual_simplex.specs.Answers.{IsWidePoint, IsWideCost}
+use Rattle.dual_simplex.specs.Answers.{IsWidePoint, IsWideCostTerm}
 
 module _ (s : Held) (sided : IsSided s) where
   abbrev arranged : IsArranged (relaxation s) (table s)
@@ -86,7 +86,7 @@ module _ (s : Held) (sided : IsSided s) where
   cost_answer place start x own h = h.1 ∙ ap₂ ◌+ℚ◌ own (sum_of_rows (relaxation s).cost (λ i. (table s).entry i place))
 
   pub cost_refusal : (place k b e : ℕ) (start : ℚ) → start ≡ (relaxation s).cost ((table s).nonbasic place) → place < s.tableau.columns → k ≡ (table s).nonbasic place → b ≡ e
-      → IsCheckedSum {P = ℕ} start (relaxation s).cost (at_basic (relaxation s) (table s) (λ i. (table s).entry i place)) (variables s) (λ k. k) (Err e) → IsWideCost s place k b
+      → IsCheckedSum {P = ℕ} start (relaxation s).cost (at_basic (relaxation s) (table s) (λ i. (table s).entry i place)) (variables s) (λ k. k) (Err e) → IsWideCostTerm s place k b
   cost_refusal place k b e start own within k_is b_is h = record {
     within = within;
     nonbasic = k_is;

@@ -11,17 +11,17 @@ use Rattle.bases.specs.States.{sign, IsOutside, basic_value}
 use Rattle.bases.specs.Directions.{side_number}
 use Rattle.bases.proofs.BringIn.{basic_within}
 use Rattle.dual_simplex.specs.Held.{Held, IsSided, relaxation, state, table, variables}
-use Rattle.dual_simplex.specs.Breach.{IsUnder, IsOver, IsBreach}
+use Rattle.dual_simplex.specs.Breach.{IsBelowSide, IsAboveSide, IsBreach}
 use Rattle.dual_simplex.specs.Answers.{IsInside, IsRowBreach, IsVisited, IsFirstOut}
 use Rattle.dual_simplex.specs.declared.leaving.Leaving.{Leaving}
 
 same_some : (o : Option ℚ) (b d : ℚ) → o ≡ Some b → o ≡ Some d → b ≡ d
 same_some o b d e f = ap (λ x. side_number Low x None) (sym e ∙ f)
 
-pub under_decided : (low : Option ℚ) (b x : ℚ) (r : Bool) → low ≡ Some b → IsTrue r ↔ (x <ℚ b) → IsTrue r ↔ IsUnder low x
+pub under_decided : (low : Option ℚ) (b x : ℚ) (r : Bool) → low ≡ Some b → IsTrue r ↔ (x <ℚ b) → IsTrue r ↔ IsBelowSide low x
 under_decided low b x r is h = ((λ t. (b, (is, h.0 t))), (λ u. h.1 (subst (λ d. x <ℚ d) (same_some low u.0 b u.1.0 is) u.1.1)))
 
-pub over_decided : (high : Option ℚ) (b x : ℚ) (r : Bool) → high ≡ Some b → IsTrue r ↔ (b <ℚ x) → IsTrue r ↔ IsOver high x
+pub over_decided : (high : Option ℚ) (b x : ℚ) (r : Bool) → high ≡ Some b → IsTrue r ↔ (b <ℚ x) → IsTrue r ↔ IsAboveSide high x
 over_decided high b x r is h = ((λ t. (b, (is, h.0 t))), (λ u. h.1 (subst (λ d. d <ℚ x) (same_some high u.0 b u.1.0 is) u.1.1)))
 
 pub sign_low : (stand : Stand) (x : ℚ) → stand ≡ Low → x ≡ sign stand *ℚ x

@@ -6,13 +6,13 @@ use Rattle.bases.specs.Relaxation.{Relaxation, left_of}
 use Rattle.bases.specs.States.{SameState}
 use Rattle.row_tableau.specs.Dense.{Dense}
 use Rattle.row_tableau.specs.Variables.{number}
-use Rattle.dual_simplex.specs.Held.{Held, IsKept, relaxation, state, variables}
+use Rattle.dual_simplex.specs.Held.{Held, IsLawfulHeld, relaxation, state, variables}
 use Rattle.dual_simplex.specs.Walks.{Moves}
-use Rattle.dual_simplex.specs.Lists.{AreMultipliers}
+use Rattle.dual_simplex.specs.Lists.{AreListedMultipliers}
 
 -- moves never lead back to a state: so after n moves n + 1 different ones were met
 abbrev pub WalkStatesLaw : Type 0
-WalkStatesLaw = (n : ℕ) (s after : Held) → IsKept s → Moves (suc n) s after → ¬ (SameState (relaxation s) (state s) (state after))
+WalkStatesLaw = (n : ℕ) (s after : Held) → IsLawfulHeld s → Moves (suc n) s after → ¬ (SameState (relaxation s) (state s) (state after))
 
 -- the number that the list gives the variable, and 0 where it does not name it
 abbrev pub named_by : Dense → List (Var × ℚ) → ℕ → ℚ
@@ -26,5 +26,5 @@ completed p c y v = if ltb v p.columns then left_of p c y v else y v
 -- the listed multipliers of the activities give those of the columns too
 abbrev pub ListedLaw : Type 0
 ListedLaw =
-    (s : Held) (c y : ℕ → ℚ) (list : List (Var × ℚ)) → AreMultipliers s y list → ((j : ℕ) → j < s.tableau.columns → left_of (relaxation s) c y j ≡ y j)
+    (s : Held) (c y : ℕ → ℚ) (list : List (Var × ℚ)) → AreListedMultipliers s y list → ((j : ℕ) → j < s.tableau.columns → left_of (relaxation s) c y j ≡ y j)
     → (v : ℕ) → v < variables s → completed (relaxation s) c (named_by s.tableau list) v ≡ y v

@@ -39,7 +39,7 @@ pub record IsBasisOf (s : Held) (basis : Basis) : Type 0 where
 -- ---- numbers
 
 -- the point's number of each column
-pub record IsPointOf (s : Held) (x : List ℚ) : Type 0 where
+pub record IsPointOfHeld (s : Held) (x : List ℚ) : Type 0 where
   pub size : length x ≡ s.tableau.columns
   pub numbers : (j : ℕ) → j < s.tableau.columns → coordinate x j ≡ point (relaxation s) (table s) (state s).at j
 
@@ -51,15 +51,15 @@ abbrev pub HasMultiplier : Held → (ℕ → ℚ) → ℕ → Type 0
 HasMultiplier s y v = (s.tableau.columns ≤ v) × (y v ≢ int (pos 0))
 
 -- the activities whose multipliers are not 0, with these
-pub record AreMultipliers (s : Held) (y : ℕ → ℚ) (list : List (Var × ℚ)) : Type 0 where
+pub record AreListedMultipliers (s : Held) (y : ℕ → ℚ) (list : List (Var × ℚ)) : Type 0 where
   pub named : AreRising (HasMultiplier s y) (variables s) (numbers s.tableau (names list))
   pub values : All (λ m. m.1 ≡ y (number s.tableau m.0)) list
 
 -- the list, or a step without room
 abbrev pub IsPointAnswer : Held → Result (List ℚ) LpStep → Type 0
-IsPointAnswer s (Ok x) = IsPointOf s x
+IsPointAnswer s (Ok x) = IsPointOfHeld s x
 IsPointAnswer s (Err e) = IsWide s e
 
 abbrev pub AreMultipliersAnswer : Held → (ℕ → ℚ) → Result (List (Var × ℚ)) LpStep → Type 0
-AreMultipliersAnswer s y (Ok list) = AreMultipliers s y list
+AreMultipliersAnswer s y (Ok list) = AreListedMultipliers s y list
 AreMultipliersAnswer s y (Err e) = IsWide s e

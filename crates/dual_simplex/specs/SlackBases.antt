@@ -4,7 +4,7 @@ use Rattle.lp_model.specs.Program.{Program}
 use Rattle.lp_model.specs.declared.types.Basis.{Basis}
 use Rattle.row_tableau.specs.declared.relax.Relax.{Relax}
 use Rattle.row_tableau.specs.declared.relax.RelaxKind.TheVariants.{Plain}
-use Rattle.dual_simplex.specs.Held.{Held, IsKept}
+use Rattle.dual_simplex.specs.Held.{Held, IsLawfulHeld}
 use Rattle.dual_simplex.specs.Tilts.{KeepsFree}
 use Rattle.dual_simplex.specs.Slack.{IsSlackState}
 use Rattle.dual_simplex.specs.Lists.{IsBasisOf}
@@ -22,11 +22,11 @@ pub record IsLawfulSlackBasis (M : Program) (basis : Basis) : Type 0 where
   pub root_is : IsRootOf M root
   pub state : Held
   pub slack : IsSlackState root state
-  pub kept : IsKept state
+  pub kept : IsLawfulHeld state
   pub lists : IsBasisOf state basis
   pub lawful : (relax : Relax) → relax.model.now ≡ M → relax.kind ≡ Plain → KeepsFree M relax.region.now → IsLawfulBasis relax basis
 
 -- None: no slack state of the model's relaxation is lawful
 abbrev pub IsSlackBasisAnswer : Program → Option Basis → Type 0
 IsSlackBasisAnswer M (Some basis) = IsLawfulSlackBasis M basis
-IsSlackBasisAnswer M None = (root : Relax) (s : Held) → IsRootOf M root → IsSlackState root s → ¬ IsKept s
+IsSlackBasisAnswer M None = (root : Relax) (s : Held) → IsRootOf M root → IsSlackState root s → ¬ IsLawfulHeld s

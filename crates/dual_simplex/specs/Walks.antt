@@ -14,11 +14,11 @@ Moves zero s after = after ≡ s
 Moves (suc n) s after = (mid : Held) × (Moves n s mid × IsMoved mid after)
 
 -- what holds where n moves of at most so many end
-abbrev pub IsEnd : ℕ → ℕ → Result Walk LpStep → Held → Type 0
-IsEnd n limit (Ok Optimal) after = (i : ℕ) → i < after.tableau.activities → IsInside after i
-IsEnd n limit (Ok Infeasible) after = IsBlocked after
-IsEnd n limit (Ok Pivots) after = (n ≡ limit) × ((row : ℕ) × ((side : Stand) × IsFirstOut after row side))
-IsEnd n limit (Err e) after = IsWide after e
+abbrev pub IsWalkEnd : ℕ → ℕ → Result Walk LpStep → Held → Type 0
+IsWalkEnd n limit (Ok Optimal) after = (i : ℕ) → i < after.tableau.activities → IsInside after i
+IsWalkEnd n limit (Ok Infeasible) after = IsBlocked after
+IsWalkEnd n limit (Ok Pivots) after = (n ≡ limit) × ((row : ℕ) × ((side : Stand) × IsFirstOut after row side))
+IsWalkEnd n limit (Err e) after = IsWide after e
 
-abbrev pub IsWalked : Held → ℕ → Result Walk LpStep → Held → Type 0
-IsWalked s limit r after = (n : ℕ) × ((n ≤ limit) × (Moves n s after × IsEnd n limit r after))
+abbrev pub IsWalkAnswer : Held → ℕ → Result Walk LpStep → Held → Type 0
+IsWalkAnswer s limit r after = (n : ℕ) × ((n ≤ limit) × (Moves n s after × IsWalkEnd n limit r after))

@@ -4,7 +4,7 @@ ghost use Rattle.bases.specs.Relaxation.{multipliers};
 ghost use Rattle.bases.specs.States.{farkas_weights};
 ghost use Rattle.row_tableau.specs.Answers.{IsBasic};
 ghost use Rattle.dual_simplex.specs.Held.{relaxation, state, table, variables};
-ghost use Rattle.dual_simplex.specs.Lists.{StandsHigh, AreBasic, AreHigh, IsBasisOf, IsPointAnswer, AreMultipliers, AreMultipliersAnswer};
+ghost use Rattle.dual_simplex.specs.Lists.{StandsHigh, AreBasic, AreHigh, IsBasisOf, IsPointAnswer, AreListedMultipliers, AreMultipliersAnswer};
 
 use crate::leaving::Leaving;
 use crate::sided::SidedBasis;
@@ -112,7 +112,7 @@ impl SidedBasis<'_> {
     /// may enter for it.
     pub(crate) fn farkas_list(&self, alloc: Global, leaving: &Leaving) -> Result<Mult, AllocError>
         requires { leaving.now.row < self.now.tableau.activities }
-        ensures { IfOk result (AreMultipliers self.now (farkas_weights (relaxation self.now) (state self.now) leaving.now.row leaving.now.side)) }
+        ensures { IfOk result (AreListedMultipliers self.now (farkas_weights (relaxation self.now) (state self.now) leaving.now.row leaving.now.side)) }
     {
         let columns = self.tableau.columns();
         let mut list = List::new(alloc);

@@ -3,7 +3,7 @@ ghost use Rattle.std.specs.Prelude.{◌≡◌, ◌<◌};
 ghost use Rattle.bases.specs.Relaxation.{point, multipliers};
 ghost use Rattle.bases.specs.States.{farkas_weights};
 ghost use Rattle.dual_simplex.specs.Held.{relaxation, state, table, variables};
-ghost use Rattle.dual_simplex.specs.Answers.{IsNumber};
+ghost use Rattle.dual_simplex.specs.Answers.{IsNumberOrWide};
 
 use crate::leaving::Leaving;
 use crate::sided::SidedBasis;
@@ -16,7 +16,7 @@ impl SidedBasis<'_> {
     /// The number of a variable at the state's point, or the first step that has no room.
     pub(crate) fn number_of(&self, variable: usize) -> Result<Frac, LpStep>
         requires { variable < variables self.now }
-        ensures { IsNumber self.now (point (relaxation self.now) (table self.now) (state self.now).at variable) result }
+        ensures { IsNumberOrWide self.now (point (relaxation self.now) (table self.now) (state self.now).at variable) result }
     {
         match self.tableau.find(variable) {
             Position::Row(row) => self.basic_value(row),
@@ -27,7 +27,7 @@ impl SidedBasis<'_> {
     /// The multiplier of a variable: its reduced cost, 0 for a basic one; or the first step that has no room.
     pub(crate) fn multiplier_of(&self, variable: usize) -> Result<Frac, LpStep>
         requires { variable < variables self.now }
-        ensures { IsNumber self.now (multipliers (relaxation self.now) (table self.now) (relaxation self.now).cost variable) result }
+        ensures { IsNumberOrWide self.now (multipliers (relaxation self.now) (table self.now) (relaxation self.now).cost variable) result }
     {
         match self.tableau.find(variable) {
             Position::Row(_) => Ok(Frac::whole(0)),
@@ -63,7 +63,7 @@ impl LpState<'_> {
     /// The number of a variable at the state's point, or the first step that has no room.
     pub fn number_of(&self, variable: usize) -> Result<Frac, LpStep>
         requires { variable < variables self.now }
-        ensures { IsNumber self.now (point (relaxation self.now) (table self.now) (state self.now).at variable) result }
+        ensures { IsNumberOrWide self.now (point (relaxation self.now) (table self.now) (state self.now).at variable) result }
     {
         self.basis.number_of(variable)
     }
@@ -71,7 +71,7 @@ impl LpState<'_> {
     /// The multiplier of a variable: its reduced cost, 0 for a basic one; or the first step that has no room.
     pub fn multiplier_of(&self, variable: usize) -> Result<Frac, LpStep>
         requires { variable < variables self.now }
-        ensures { IsNumber self.now (multipliers (relaxation self.now) (table self.now) (relaxation self.now).cost variable) result }
+        ensures { IsNumberOrWide self.now (multipliers (relaxation self.now) (table self.now) (relaxation self.now).cost variable) result }
     {
         self.basis.multiplier_of(variable)
     }

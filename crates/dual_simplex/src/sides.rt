@@ -2,7 +2,7 @@
 ghost use Rattle.std.specs.Prelude.{◌≡◌, ◌↔◌, IsTrue};
 ghost use Rattle.rational.specs.Rational.{◌*ℚ◌, ◌<ℚ◌};
 ghost use Rattle.bases.specs.States.{sign, MayEnter};
-ghost use Rattle.dual_simplex.specs.Breach.{IsUnder, IsOver, IsBreach};
+ghost use Rattle.dual_simplex.specs.Breach.{IsBelowSide, IsAboveSide, IsBreach};
 
 use bases::Stand;
 use frac128::Frac;
@@ -18,7 +18,7 @@ pub fn is_below(first: &Frac, second: &Frac) -> bool
 
 /// Whether there is a low side and the number is below it.
 fn is_under(low: &Bound, value: &Frac) -> bool
-    ensures { IsTrue result ↔ IsUnder low.now value.now }
+    ensures { IsTrue result ↔ IsBelowSide low.now value.now }
 {
     match low {
         Some(bound) => is_below(value, bound),
@@ -28,7 +28,7 @@ fn is_under(low: &Bound, value: &Frac) -> bool
 
 /// Whether there is a high side and the number is above it.
 fn is_over(high: &Bound, value: &Frac) -> bool
-    ensures { IsTrue result ↔ IsOver high.now value.now }
+    ensures { IsTrue result ↔ IsAboveSide high.now value.now }
 {
     match high {
         Some(bound) => is_below(bound, value),

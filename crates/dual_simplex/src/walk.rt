@@ -14,12 +14,12 @@ pub enum Walk {
 }
 
 impl LpState<'_> {
-    ghost use Rattle.dual_simplex.specs.Walks.{IsWalked};
+    ghost use Rattle.dual_simplex.specs.Walks.{IsWalkAnswer};
 
     /// Makes steps until the state is optimal or shows that there is no solution within the sides, as many moves as the
     /// limit allows, or up to a step of arithmetic without room.
     pub fn walk(&mut self, pivot_limit: u64) -> Result<Walk, LpStep>
-        ensures { IsWalked self.old pivot_limit result self.new }
+        ensures { IsWalkAnswer self.old pivot_limit result self.new }
     {
         for _move in 0..pivot_limit {
             match self.step() {

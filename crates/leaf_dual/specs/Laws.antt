@@ -4,7 +4,7 @@ use Rattle.rational.specs.Rational.{ℚ, ◌≤ℚ◌}
 use Rattle.lp_model.specs.Program.{Program, Point, least_value, IsFeasible, HasWholeObjective}
 use Rattle.lp_model.specs.Regions.{Path, InRegion}
 use Rattle.leaf_dual.specs.declared.dual.LagValue.{LagValue}
-use Rattle.leaf_dual.specs.Dual.{Multipliers, IsLowerBound, IsPositive, Reaches}
+use Rattle.leaf_dual.specs.Dual.{Multipliers, IsLowerBound, IsPositiveNumber, Reaches}
 use Rattle.leaf_dual.specs.Answers.{IsLagAnswer, IsFarkasAnswer}
 
 -- an answer of `lag` is no higher than the least form's value of any feasible point in the region
@@ -14,7 +14,7 @@ WeakDuality =
 
 -- an answer of `farkas` above 0 means that no feasible point is in the region
 abbrev pub FarkasLaw : Type 0
-FarkasLaw = (M : Program) (path : Path) (mult : Multipliers) (v : LagValue) (x : Point) → IsFarkasAnswer M path mult (Ok v) → IsPositive v → IsFeasible M x → ¬ InRegion path x
+FarkasLaw = (M : Program) (path : Path) (mult : Multipliers) (v : LagValue) (x : Point) → IsFarkasAnswer M path mult (Ok v) → IsPositiveNumber v → IsFeasible M x → ¬ InRegion path x
 
 -- no feasible point of a leaf that closes against t has a value below t, where the flag is set for a whole objective alone
 abbrev pub ClosesLaw : Type 0

@@ -13,7 +13,7 @@ use Rattle.lp_model.specs.declared.types.RowId.{RowId}
 use Rattle.lp_model.specs.declared.types.Row.{Row}
 use Rattle.lp_model.specs.declared.types.Col.{Col}
 use Rattle.mps_model.specs.Numbers.{is_zero}
-use Rattle.mps_model.specs.Statements.{Stated, is_row}
+use Rattle.mps_model.specs.Statements.{StatedModel, is_row}
 use Rattle.mps_model.specs.Meaning.{number_beside, entries_from, names_of_rows, row_of, column_of, model_of, objective_name, second_name, beside_objective}
 use Rattle.mps_model.specs.BuiltOf.{named_of, row_edit, column_edit}
 use Rattle.mps_model.specs.Built.{empty_of, with_rows, with_columns}
@@ -28,11 +28,11 @@ map_append f (x ∷ xs) ys = ap (λ more. f x ∷ more) (map_append f xs ys)
 
 -- ---- rows
 
-pub no_rows : (s : Stated) → empty_of s ≡ with_rows s []
+pub no_rows : (s : StatedModel) → empty_of s ≡ with_rows s []
 unfolding empty_of
 no_rows s = refl
 
-pub row_added : (s : Stated) (before : List RowLine) (r : RowLine) → edits.edited (with_rows s before) (row_edit (row_of s.sides r)) ≡ with_rows s (before ++ r ∷ [])
+pub row_added : (s : StatedModel) (before : List RowLine) (r : RowLine) → edits.edited (with_rows s before) (row_edit (row_of s.sides r)) ≡ with_rows s (before ++ r ∷ [])
 unfolding empty_of
 row_added s before r = ap (λ (rows : List Row). record (empty_of s) { rows = rows }) (sym (map_append (row_of s.sides) before (r ∷ [])))
 
@@ -91,11 +91,11 @@ pub names_kept : (sides : List RowNumber) (found : List RowLine) → map (λ r. 
 names_kept sides [] = refl
 names_kept sides (r ∷ more) = ap (λ names. r.name ∷ names) (names_kept sides more)
 
-pub no_columns : (s : Stated) (intupper : Option ℕ) → with_rows s s.rows ≡ with_columns s intupper []
+pub no_columns : (s : StatedModel) (intupper : Option ℕ) → with_rows s s.rows ≡ with_columns s intupper []
 unfolding empty_of
 no_columns s intupper = refl
 
-with_entries : Stated → Option ℕ → ColumnLines → List (RowId × ℚ) → Col
+with_entries : StatedModel → Option ℕ → ColumnLines → List (RowId × ℚ) → Col
 with_entries s intupper c entries = record {
   name = c.name;
   int = (column_of s intupper c).int;
@@ -106,7 +106,7 @@ with_entries s intupper c entries = record {
   rows = entries;
 }
 
-pub column_added : (s : Stated) (intupper : Option ℕ) (before : List ColumnLines) (c : ColumnLines) → edits.edited (with_columns s intupper before) (column_edit (column_of s intupper c) (named_of s.rows c.numbers)) ≡ with_columns s intupper (before ++ c ∷ [])
+pub column_added : (s : StatedModel) (intupper : Option ℕ) (before : List ColumnLines) (c : ColumnLines) → edits.edited (with_columns s intupper before) (column_edit (column_of s intupper c) (named_of s.rows c.numbers)) ≡ with_columns s intupper (before ++ c ∷ [])
 unfolding empty_of with_entries
 column_added s intupper before c =
     let columns = map (column_of s intupper) before in
@@ -116,12 +116,12 @@ column_added s intupper before c =
     ap (λ entries. record (with_columns s intupper before) { cols = columns ++ with_entries s intupper c entries ∷ [] }) same
     ∙ ap (λ (cols : List Col). record (with_columns s intupper before) { cols = cols }) (sym (map_append (column_of s intupper) before (c ∷ [])))
 
-pub all_columns : (s : Stated) (intupper : Option ℕ) → with_columns s intupper s.columns ≡ model_of s intupper
+pub all_columns : (s : StatedModel) (intupper : Option ℕ) → with_columns s intupper s.columns ≡ model_of s intupper
 unfolding empty_of model_of
 all_columns s intupper = refl
 
 -- ---- the model without rows and columns
 
-pub empty_is : (s : Stated) (obj obj2 : List ℕ) (constant zero : ℚ) → obj ≡ objective_name s → obj2 ≡ second_name s → constant ≡ neg_ℚ (beside_objective s.objectives s.sides) → zero ≡ int (pos 0) → record { sense = Min; obj = obj; obj2 = obj2; consts = constant ∷ zero ∷ []; rows = []; cols = []; wide = false } ≡ empty_of s
+pub empty_is : (s : StatedModel) (obj obj2 : List ℕ) (constant zero : ℚ) → obj ≡ objective_name s → obj2 ≡ second_name s → constant ≡ neg_ℚ (beside_objective s.objectives s.sides) → zero ≡ int (pos 0) → record { sense = Min; obj = obj; obj2 = obj2; consts = constant ∷ zero ∷ []; rows = []; cols = []; wide = false } ≡ empty_of s
 unfolding empty_of
 empty_is s obj obj2 constant zero a b c d = cc

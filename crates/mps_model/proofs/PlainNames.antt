@@ -10,7 +10,7 @@ use Rattle.mps_model.specs.Statements.{gathered_behind, FirstLine, first_on, fir
 use Rattle.mps_model.specs.declared.words.LineKind.{LineKind}
 use Rattle.mps_model.specs.declared.words.LineKind.TheVariants.{Header, Row, Marker, Column, RightSide, Bound, Stray}
 use Rattle.mps_model.specs.Meaning.{column_of, model_of}
-use Rattle.mps_model.specs.Faults.{IsWhole, Meant}
+use Rattle.mps_model.specs.Faults.{IsWholeText, MeantModel}
 use Rattle.mps_model.specs.PlainNames.{IsPlainName, HasPlainNames}
 
 -- ---- pieces of a list
@@ -153,7 +153,7 @@ plain_before (e ∷ before) last after h =
     All-cons IsPlainEntry e (before ++ last ∷ []) (All-head IsPlainItem (Ok e) (map Ok before ++ Ok last ∷ after) h)
     (plain_before before last after (All-tail IsPlainItem (Ok e) (map Ok before ++ Ok last ∷ after) h))
 
-pub plain_entries : (text : List ℕ) (entries : List Entry) → IsWhole [] (records_of text) entries → All IsPlainEntry entries
+pub plain_entries : (text : List ℕ) (entries : List Entry) → IsWholeText [] (records_of text) entries → All IsPlainEntry entries
 plain_entries text entries w =
     All-same IsPlainEntry entries (w.before ++ w.last ∷ []) w.all
     (plain_before w.before w.last w.after (All-same IsPlainItem (map Ok w.before ++ Ok w.last ∷ w.after) (records_of text) (sym w.parts) (plain_records text)))
@@ -191,5 +191,5 @@ unfolding model_of stated
 plain_model entries intupper h = All-map (λ c. IsPlainName c.name) (column_of (stated entries) intupper) (columns entries) h
 
 -- The columns of a model that a text means have plain names.
-pub meant-plain_names : (text : List ℕ) (intupper : Option ℕ) (M : Program) → Meant text intupper M → HasPlainNames M
+pub meant-plain_names : (text : List ℕ) (intupper : Option ℕ) (M : Program) → MeantModel text intupper M → HasPlainNames M
 meant-plain_names text intupper M m = subst HasPlainNames (sym m.is) (plain_model m.entries intupper (plain_columns m.entries (plain_entries text m.entries m.whole)))

@@ -6,9 +6,9 @@ use Rattle.std.proofs.lemmas.List.Elements.{All-nil, All-cons, All-append, All-h
 use Rattle.mps_text.specs.Text.{Entry, records_of}
 use Rattle.lp_model.specs.Program.{Program}
 use Rattle.mps_model.specs.Words.{word, row_kind, kind_in}
-use Rattle.mps_model.specs.Statements.{Stated, stated, gathered_behind, as_row}
+use Rattle.mps_model.specs.Statements.{StatedModel, stated, gathered_behind, as_row}
 use Rattle.mps_model.specs.Meaning.{row_of, model_of}
-use Rattle.mps_model.specs.Faults.{least, tests_of, row_tests, has_count, code_at, Clean, IsWhole, Meant}
+use Rattle.mps_model.specs.Faults.{least, tests_of, row_tests, has_count, code_at, Clean, IsWholeText, MeantModel}
 use Rattle.mps_model.specs.Shown.{after_kind, after}
 use Rattle.mps_model.specs.PlainNames.{IsPlainName, HasPlainRows}
 use Rattle.mps_model.specs.declared.words.LineKind.{LineKind}
@@ -44,7 +44,7 @@ second e p h = All-get_or IsPlainName e.words 1 [] (two (length e.words) h) p.al
     two (suc zero) e = absurd (cc)
     two (suc (suc n)) e = omega arith
 
-kept_by_kind : (kind : LineKind) (s : Stated) (e : Entry) → IsPlainEntry e → least (tests_of kind s e) ≡ None → ArePlain s.rows → ArePlain (after_kind kind s e).rows
+kept_by_kind : (kind : LineKind) (s : StatedModel) (e : Entry) → IsPlainEntry e → least (tests_of kind s e) ≡ None → ArePlain s.rows → ArePlain (after_kind kind s e).rows
 kept_by_kind Header s e p none h = h
 kept_by_kind Row s e p none h = with_row (row_kind (word 0 e)) (word 1 e) s.rows (second e p (none_holds (row_tests s e) none).0) h
 kept_by_kind Marker s e p none h = h
@@ -57,7 +57,7 @@ kept_behind : (seen : List Entry) (e : Entry) → IsPlainEntry e → code_at see
 unfolding code_at after
 kept_behind seen e p none h =
     let s = stated seen in
-    subst (λ (t : Stated). ArePlain t.rows) (sym (stated_more seen e none)) (kept_by_kind (kind_in s.section e) s e p (code_of_kind s e (kind_in s.section e) refl none) h)
+    subst (λ (t : StatedModel). ArePlain t.rows) (sym (stated_more seen e none)) (kept_by_kind (kind_in s.section e) s e p (code_of_kind s e (kind_in s.section e) refl none) h)
 
 kept_at_start : ArePlain (stated []).rows
 unfolding stated gathered_behind
@@ -75,7 +75,7 @@ split_all (e ∷ before) last h =
     let rest = split_all before last (All-tail IsPlainEntry e (before ++ last ∷ []) h) in
     (All-cons IsPlainEntry e before (All-head IsPlainEntry e (before ++ last ∷ []) h) rest.0, rest.1)
 
-whole_rows : (text : List ℕ) (entries : List Entry) → IsWhole [] (records_of text) entries → ArePlain (stated entries).rows
+whole_rows : (text : List ℕ) (entries : List Entry) → IsWholeText [] (records_of text) entries → ArePlain (stated entries).rows
 whole_rows text entries w =
     let plain = split_all w.before w.last (subst (All IsPlainEntry) w.all (plain_entries text entries w)) in
     subst (λ (es : List Entry). ArePlain (stated es).rows) (sym w.all) (kept_behind w.before w.last plain.1 w.clean_last (kept_clean [] w.before plain.0 w.clean kept_at_start))
@@ -85,5 +85,5 @@ unfolding model_of
 plain_model entries intupper h = All-map (λ r. IsPlainName r.name) (row_of (stated entries).sides) (stated entries).rows h
 
 -- The rows of a model that a text means have plain names.
-pub meant-plain_rows : (text : List ℕ) (intupper : Option ℕ) (M : Program) → Meant text intupper M → HasPlainRows M
+pub meant-plain_rows : (text : List ℕ) (intupper : Option ℕ) (M : Program) → MeantModel text intupper M → HasPlainRows M
 meant-plain_rows text intupper M m = subst HasPlainRows (sym m.is) (plain_model m.entries intupper (whole_rows text m.entries m.whole))

@@ -10,9 +10,9 @@ use Rattle.std.proofs.lemmas.Slice.Eq.{bytes_eq-Decides}
 use Rattle.mps_text.specs.Text.{Entry, Item}
 use Rattle.lp_model.proofs.NameLemmas.{contains_cases}
 use Rattle.mps_model.specs.Words.{among, word, row_kind, kind_in}
-use Rattle.mps_model.specs.Statements.{Stated, stated, gathered_behind, is_row, is_column, as_row, as_objective, read_pair, column_pairs}
+use Rattle.mps_model.specs.Statements.{StatedModel, stated, gathered_behind, is_row, is_column, as_row, as_objective, read_pair, column_pairs}
 use Rattle.mps_model.specs.Meaning.{names_of_rows}
-use Rattle.mps_model.specs.Faults.{least, tests_of, row_tests, column_tests, has_sides, is_last, code_at, Clean, IsWhole}
+use Rattle.mps_model.specs.Faults.{least, tests_of, row_tests, column_tests, has_sides, is_last, code_at, Clean, IsWholeText}
 use Rattle.mps_model.specs.Shown.{with_more, after_kind, after}
 use Rattle.mps_model.specs.declared.words.LineKind.{LineKind}
 use Rattle.mps_model.specs.declared.words.LineKind.TheVariants.{Header, Row, Marker, Column, RightSide, Bound, Stray}
@@ -21,7 +21,7 @@ use Rattle.mps_model.specs.declared.words.RowKind.TheVariants.{Free, AtMost, AtL
 use Rattle.mps_model.specs.declared.statements.RowLine.{RowLine}
 use Rattle.mps_model.specs.declared.statements.RowNumber.{RowNumber}
 use Rattle.mps_model.specs.declared.statements.ColumnLines.{ColumnLines}
-use Rattle.mps_model.specs.Limits.{AreApart, names_of_columns, IsNoRow, KeepsLimits}
+use Rattle.mps_model.specs.Limits.{AreNamesApart, names_of_columns, IsNoRow, StatesWithinLimits}
 use Rattle.mps_model.proofs.TestFacts.{none_holds, room_of_column, code_of_kind}
 use Rattle.mps_model.proofs.StatedSteps.{nothing_more, stated_more}
 
@@ -36,7 +36,7 @@ not_among (first ∷ names) name e h =
       | inr later ↦ not_among names name parts.1 later
     ]
 
-apart_push : (names : List (List ℕ)) (name : List ℕ) → AreApart names → among names name ≡ false → AreApart (names ++ name ∷ [])
+apart_push : (names : List (List ℕ)) (name : List ℕ) → AreNamesApart names → among names name ≡ false → AreNamesApart (names ++ name ∷ [])
 apart_push names name all free = all_pairs_push (λ a b. a ≢ b) names name all (λ k d below e. not_among names name free (k, below, get_or_default names k name d below ∙ e))
 
 pub row_among : (sided : List RowLine) (name : List ℕ) → among (names_of_rows sided) name ≡ is_row sided name
@@ -61,13 +61,13 @@ column_names-more (d ∷ found) c = ap (λ names. d.name ∷ names) (column_name
 
 record KeepsRows (objectives : List (List ℕ)) (sided : List RowLine) : Type 0 where
   few : length sided ≤ 500
-  apart : AreApart (names_of_rows sided)
+  apart : AreNamesApart (names_of_rows sided)
   objectives_apart : IsNoRow objectives sided
 
 with_row : (objectives : List (List ℕ)) (sided : List RowLine) (r : RowLine) → among objectives r.name ≡ false → is_row sided r.name ≡ false → length sided < 500 → KeepsRows objectives sided → KeepsRows (objectives ++ []) (sided ++ r ∷ [])
 with_row objectives sided r free new room keeps = record {
   few = omega (arith, length-append sided (r ∷ []));
-  apart = subst AreApart (sym (row_names-more sided r)) (apart_push (names_of_rows sided) r.name keeps.apart (row_among sided r.name ∙ new));
+  apart = subst AreNamesApart (sym (row_names-more sided r)) (apart_push (names_of_rows sided) r.name keeps.apart (row_among sided r.name ∙ new));
   objectives_apart = λ name h.
       let own : among objectives name ≡ true = ap (λ (names : List (List ℕ)). among names name) (sym (nothing_more objectives)) ∙ h in
       let other : bytes_eq r.name name ≡ false = false_from_ne_true (bytes_eq r.name name) (λ e. true≢false (sym own ∙ ap (among objectives) (sym ((bytes_eq-Decides r.name name).0 e)) ∙ free)) in
@@ -105,7 +105,7 @@ row_kept (Some Equal) name objectives sided new room keeps =
     let parts = or_parts (is_row sided name) (among objectives name) new in
     with_row objectives sided (record { name = name; kind = Equal }) parts.1 parts.0 (leb-false 500 (length sided) room) keeps
 
-row_step : (s : Stated) (e : Entry) → KeepsLimits s → least (row_tests s e) ≡ None → KeepsLimits (after_kind Row s e)
+row_step : (s : StatedModel) (e : Entry) → StatesWithinLimits s → least (row_tests s e) ≡ None → StatesWithinLimits (after_kind Row s e)
 row_step s e keeps h =
     let tests = none_holds (row_tests s e) h in
     let rows = row_kept (row_kind (word 0 e)) (word 1 e) s.objectives s.rows tests.1.1.1.0 tests.1.1.1.1.0 (record { few = keeps.few_rows; apart = keeps.rows_apart; objectives_apart = keeps.objectives_apart }) in
@@ -125,21 +125,21 @@ with_more-length (c ∷ next ∷ others) more = ap suc (with_more-length (next �
 
 record KeepsColumns (found : List ColumnLines) : Type 0 where
   few : length found ≤ 1000
-  apart : AreApart (names_of_columns found)
+  apart : AreNamesApart (names_of_columns found)
 
 column_kept : (found : List ColumnLines) (c : ColumnLines) (more : List RowNumber) (last known : Bool)
     → is_column found c.name ≡ known → (known && not last) ≡ false → (not known && nat_le 1000 (length found)) ≡ false → KeepsColumns found → KeepsColumns (if last then with_more found more else found ++ c ∷ [])
 column_kept found c more true known is returns room keeps = record {
   few = subst (λ n. n ≤ 1000) (sym (with_more-length found more)) keeps.few;
-  apart = subst AreApart (sym (with_more-names found more)) keeps.apart;
+  apart = subst AreNamesApart (sym (with_more-names found more)) keeps.apart;
 }
 column_kept found c more false true is returns room keeps = absurd (true≢false returns)
 column_kept found c more false false is returns room keeps = let below = leb-false 1000 (length found) room in record {
   few = omega (arith, length-append found (c ∷ []));
-  apart = subst AreApart (sym (column_names-more found c)) (apart_push (names_of_columns found) c.name keeps.apart (column_among found c.name ∙ is));
+  apart = subst AreNamesApart (sym (column_names-more found c)) (apart_push (names_of_columns found) c.name keeps.apart (column_among found c.name ∙ is));
 }
 
-column_step : (s : Stated) (e : Entry) → KeepsLimits s → least (column_tests s e) ≡ None → KeepsLimits (after_kind Column s e)
+column_step : (s : StatedModel) (e : Entry) → StatesWithinLimits s → least (column_tests s e) ≡ None → StatesWithinLimits (after_kind Column s e)
 column_step s e keeps h =
     let tests = none_holds (column_tests s e) h in
     let place = tests.1.1.1.1.1 in
@@ -149,17 +149,17 @@ column_step s e keeps h =
 
 -- ---- each line
 
-pub as_before : (s t : Stated) → t.rows ≡ s.rows → t.columns ≡ s.columns → t.count ≤ s.count → t.objectives ≡ s.objectives → KeepsLimits s → KeepsLimits t
+pub as_before : (s t : StatedModel) → t.rows ≡ s.rows → t.columns ≡ s.columns → t.count ≤ s.count → t.objectives ≡ s.objectives → StatesWithinLimits s → StatesWithinLimits t
 as_before s t r c n o keeps = record {
   few_rows = subst (λ (rows : List RowLine). length rows ≤ 500) (sym r) keeps.few_rows;
   few_columns = subst (λ (columns : List ColumnLines). length columns ≤ 1000) (sym c) keeps.few_columns;
   few_numbers = let few = keeps.few_numbers in omega arith;
-  rows_apart = subst (λ (rows : List RowLine). AreApart (names_of_rows rows)) (sym r) keeps.rows_apart;
-  columns_apart = subst (λ (columns : List ColumnLines). AreApart (names_of_columns columns)) (sym c) keeps.columns_apart;
+  rows_apart = subst (λ (rows : List RowLine). AreNamesApart (names_of_rows rows)) (sym r) keeps.rows_apart;
+  columns_apart = subst (λ (columns : List ColumnLines). AreNamesApart (names_of_columns columns)) (sym c) keeps.columns_apart;
   objectives_apart = subst (λ (rows : List RowLine). IsNoRow t.objectives rows) (sym r) (subst (λ (names : List (List ℕ)). IsNoRow names s.rows) (sym o) keeps.objectives_apart);
 }
 
-kept_by_kind : (kind : LineKind) (s : Stated) (e : Entry) → KeepsLimits s → least (tests_of kind s e) ≡ None → KeepsLimits (after_kind kind s e)
+kept_by_kind : (kind : LineKind) (s : StatedModel) (e : Entry) → StatesWithinLimits s → least (tests_of kind s e) ≡ None → StatesWithinLimits (after_kind kind s e)
 kept_by_kind Header s e keeps h = as_before s (after_kind Header s e) refl refl (omega arith) refl keeps
 kept_by_kind Row s e keeps h = row_step s e keeps h
 kept_by_kind Marker s e keeps h = as_before s (after_kind Marker s e) refl refl (omega arith) refl keeps
@@ -168,23 +168,23 @@ kept_by_kind RightSide s e keeps h = as_before s (after_kind RightSide s e) refl
 kept_by_kind Bound s e keeps h = as_before s (after_kind Bound s e) refl refl (omega arith) refl keeps
 kept_by_kind Stray s e keeps h = keeps
 
-kept_behind : (seen : List Entry) (e : Entry) → code_at seen e ≡ None → KeepsLimits (stated seen) → KeepsLimits (stated (seen ++ e ∷ []))
+kept_behind : (seen : List Entry) (e : Entry) → code_at seen e ≡ None → StatesWithinLimits (stated seen) → StatesWithinLimits (stated (seen ++ e ∷ []))
 unfolding code_at after
 kept_behind seen e h keeps =
     let s = stated seen in
-    subst KeepsLimits (sym (stated_more seen e h)) (kept_by_kind (kind_in s.section e) s e keeps (code_of_kind s e (kind_in s.section e) refl h))
+    subst StatesWithinLimits (sym (stated_more seen e h)) (kept_by_kind (kind_in s.section e) s e keeps (code_of_kind s e (kind_in s.section e) refl h))
 
-kept_at_start : KeepsLimits (stated [])
+kept_at_start : StatesWithinLimits (stated [])
 unfolding stated gathered_behind
 kept_at_start = record { few_rows = omega arith; few_columns = omega arith; few_numbers = omega arith; rows_apart = λ i j d below later within. absurd (omega arith); columns_apart = λ i j d below later within. absurd (omega arith); objectives_apart = λ name h. refl }
 
-kept_clean : (seen more : List Entry) → Clean seen more → KeepsLimits (stated seen) → KeepsLimits (stated (seen ++ more))
-kept_clean seen [] clean keeps = subst (λ (es : List Entry). KeepsLimits (stated es)) (sym (nothing_more seen)) keeps
+kept_clean : (seen more : List Entry) → Clean seen more → StatesWithinLimits (stated seen) → StatesWithinLimits (stated (seen ++ more))
+kept_clean seen [] clean keeps = subst (λ (es : List Entry). StatesWithinLimits (stated es)) (sym (nothing_more seen)) keeps
 kept_clean seen (e ∷ more) clean keeps =
-    subst (λ (es : List Entry). KeepsLimits (stated es)) (append_assoc seen (e ∷ []) more) (kept_clean (seen ++ e ∷ []) more clean.2 (kept_behind seen e clean.0 keeps))
+    subst (λ (es : List Entry). StatesWithinLimits (stated es)) (append_assoc seen (e ∷ []) more) (kept_clean (seen ++ e ∷ []) more clean.2 (kept_behind seen e clean.0 keeps))
 
 -- what a whole text states passes no limit, and no name stands twice
-pub whole-keeps_limits : (items : List Item) (entries : List Entry) → IsWhole [] items entries → KeepsLimits (stated entries)
+pub whole-keeps_limits : (items : List Item) (entries : List Entry) → IsWholeText [] items entries → StatesWithinLimits (stated entries)
 whole-keeps_limits items entries whole =
     let before = kept_clean [] whole.before whole.clean kept_at_start in
-    subst (λ (es : List Entry). KeepsLimits (stated es)) (sym whole.all) (kept_behind whole.before whole.last whole.clean_last before)
+    subst (λ (es : List Entry). StatesWithinLimits (stated es)) (sym whole.all) (kept_behind whole.before whole.last whole.clean_last before)

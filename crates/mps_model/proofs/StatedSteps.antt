@@ -10,7 +10,7 @@ use Rattle.std.proofs.lemmas.Slice.Eq.{bytes_eq-Decides}
 use Rattle.std.proofs.lemmas.List.Folds.{list_any-append}
 use Rattle.mps_text.specs.Text.{Entry}
 use Rattle.mps_model.specs.Words.{is_key, among, word, section_of, kind_in, data_kind, is_marker}
-use Rattle.mps_model.specs.Statements.{gathered_behind, gathered, section_behind, kind_of, header_on, objective_on, row_on, marker_on, is_marked, column_name_on, column_names, FirstLine, first_on, first_lines, column_pairs_on, read_pair, numbers_of_column, column_at, columns, rows, coefficients, coefficients_in, rhs_pairs_on, bound_on, Stated, stated, Pair, column_pairs, is_column}
+use Rattle.mps_model.specs.Statements.{gathered_behind, gathered, section_behind, kind_of, header_on, objective_on, row_on, marker_on, is_marked, column_name_on, column_names, FirstLine, first_on, first_lines, column_pairs_on, read_pair, numbers_of_column, column_at, columns, rows, coefficients, coefficients_in, rhs_pairs_on, bound_on, StatedModel, stated, Pair, column_pairs, is_column}
 use Rattle.mps_model.specs.Shown.{with_more, with_line, after_kind, after}
 use Rattle.mps_model.specs.Faults.{is_last, code_at, column_tests}
 use Rattle.mps_model.specs.declared.words.Section.{Section}
@@ -101,7 +101,7 @@ marked_more before e =
     ∙ fold-append (λ (marked : Bool) (w : List ℕ). is_key (codes "'INTORG'") w) false (gathered (λ earlier x. marker_on (kind_of earlier x) x) before) (marker_on (kind_of before e) e)
 
 -- what one more line makes of what is stated, each list with the line's part
-joined : LineKind → Stated → Entry → List ColumnLines → Stated
+joined : LineKind → StatedModel → Entry → List ColumnLines → StatedModel
 joined kind s e found = record {
   section = section_after kind s.section e;
   headers = s.headers ++ header_on kind e;
@@ -128,12 +128,12 @@ stated_joined seen e =
     cc
 
 -- the columns behind a line of a kind
-columns_after : LineKind → Stated → Entry → List ColumnLines
+columns_after : LineKind → StatedModel → Entry → List ColumnLines
 columns_after Column s e = with_line s.columns (word 0 e) e.line s.marked (map read_pair (column_pairs e))
 columns_after kind s e = s.columns
 
 -- where a line adds nothing to a list, the list stays
-joined_after : (kind : LineKind) (s : Stated) (e : Entry) → joined kind s e (columns_after kind s e) ≡ after_kind kind s e
+joined_after : (kind : LineKind) (s : StatedModel) (e : Entry) → joined kind s e (columns_after kind s e) ≡ after_kind kind s e
 unfolding joined section_after columns_after
 joined_after Header s e =
     let o = nothing_more s.objectives in let r = nothing_more s.rows in let d = nothing_more s.sides in let b = nothing_more s.bounds in

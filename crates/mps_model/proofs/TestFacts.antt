@@ -4,7 +4,7 @@ use Rattle.std.specs.Prelude.{None}
 use Rattle.std.proofs.lemmas.Bool.{ltb-false}
 use Rattle.mps_text.specs.Text.{Entry}
 use Rattle.mps_model.specs.Words.{kind_in}
-use Rattle.mps_model.specs.Statements.{Stated, read_pair, column_pairs, coefficients_in}
+use Rattle.mps_model.specs.Statements.{StatedModel, read_pair, column_pairs, coefficients_in}
 use Rattle.mps_model.specs.Faults.{Test, least, tests_of, column_tests, code_in}
 use Rattle.mps_model.specs.declared.words.LineKind.{LineKind}
 
@@ -17,9 +17,9 @@ none_holds [] h = tt
 none_holds ((code, true) ∷ more) h = absurd (cc)
 none_holds ((code, false) ∷ more) h = (refl, none_holds more h)
 
-pub room_of_column : (s : Stated) (e : Entry) → least (column_tests s e) ≡ None → s.count + length (coefficients_in s.rows (map read_pair (column_pairs e))) ≤ 50000
+pub room_of_column : (s : StatedModel) (e : Entry) → least (column_tests s e) ≡ None → s.count + length (coefficients_in s.rows (map read_pair (column_pairs e))) ≤ 50000
 room_of_column s e h = ltb-false 50000 (s.count + length (coefficients_in s.rows (map read_pair (column_pairs e)))) (none_holds (column_tests s e) h).1.1.1.1.1.1.1.1.0
 
-pub code_of_kind : (s : Stated) (e : Entry) (kind : LineKind) → kind ≡ kind_in s.section e → code_in s e ≡ None → least (tests_of kind s e) ≡ None
+pub code_of_kind : (s : StatedModel) (e : Entry) (kind : LineKind) → kind ≡ kind_in s.section e → code_in s e ≡ None → least (tests_of kind s e) ≡ None
 unfolding code_in
 code_of_kind s e kind k h = ap (λ (l : LineKind). least (tests_of l s e)) k ∙ h

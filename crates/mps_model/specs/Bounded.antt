@@ -8,5 +8,5 @@ use Rattle.lp_model.specs.declared.types.Col.{Col}
 abbrev pub is_bounded_column : Col → Bool
 is_bounded_column c = c.int && is_some c.lo && is_some c.up
 
-abbrev pub is_bounded : Program → Bool
-is_bounded M = list_all is_bounded_column M.cols
+abbrev pub has_integer_bounds : Program → Bool
+has_integer_bounds M = list_all is_bounded_column M.cols

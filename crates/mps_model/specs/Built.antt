@@ -3,14 +3,14 @@ use Rattle.std.specs.Prelude.{ℕ, false, List, [], ◌∷◌, map, Option, None
 use Rattle.rational.specs.Rational.{int, neg_ℚ}
 use Rattle.lp_model.specs.Program.{Program}
 use Rattle.lp_model.specs.declared.types.Sense.TheVariants.{Min}
-use Rattle.mps_model.specs.Statements.{Stated}
+use Rattle.mps_model.specs.Statements.{StatedModel}
 use Rattle.mps_model.specs.Meaning.{objective_name, second_name, beside_objective, row_of, column_of}
 use Rattle.mps_model.specs.declared.building.Parts.{Parts}
 use Rattle.mps_model.specs.declared.statements.RowLine.{RowLine}
 use Rattle.mps_model.specs.declared.statements.ColumnLines.{ColumnLines}
 
 -- what the parts state; a model depends on nothing else
-abbrev pub parts_shown : Parts → Stated
+abbrev pub parts_shown : Parts → StatedModel
 parts_shown p = record {
   section = None;
   headers = [];
@@ -23,7 +23,7 @@ parts_shown p = record {
   bounds = p.bounds.now;
 }
 
-unfoldable pub empty_of : Stated → Program
+unfoldable pub empty_of : StatedModel → Program
 empty_of s = record {
   sense = Min;
   obj = objective_name s;
@@ -34,8 +34,8 @@ empty_of s = record {
   wide = false;
 }
 
-abbrev pub with_rows : Stated → List RowLine → Program
+abbrev pub with_rows : StatedModel → List RowLine → Program
 with_rows s found = record (empty_of s) { rows = map (row_of s.sides) found }
 
-abbrev pub with_columns : Stated → Option ℕ → List ColumnLines → Program
+abbrev pub with_columns : StatedModel → Option ℕ → List ColumnLines → Program
 with_columns s intupper found = record (empty_of s) { rows = map (row_of s.sides) s.rows; cols = map (column_of s intupper) found }

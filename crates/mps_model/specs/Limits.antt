@@ -2,14 +2,14 @@
 -- row.
 use Rattle.std.specs.Prelude.{◌≡◌, ◌≢◌, ℕ, ◌≤◌, true, false, List, length, map, AllPairs}
 use Rattle.mps_model.specs.Words.{among}
-use Rattle.mps_model.specs.Statements.{Stated, is_row}
+use Rattle.mps_model.specs.Statements.{StatedModel, is_row}
 use Rattle.mps_model.specs.Meaning.{names_of_rows}
 use Rattle.mps_model.specs.declared.statements.RowLine.{RowLine}
 use Rattle.mps_model.specs.declared.statements.ColumnLines.{ColumnLines}
 
 -- no two of the names are one
-abbrev pub AreApart : List (List ℕ) → Type 0
-AreApart names = AllPairs (λ a b. a ≢ b) names
+abbrev pub AreNamesApart : List (List ℕ) → Type 0
+AreNamesApart names = AllPairs (λ a b. a ≢ b) names
 
 abbrev pub names_of_columns : List ColumnLines → List (List ℕ)
 names_of_columns found = map (λ c. c.name) found
@@ -18,10 +18,10 @@ names_of_columns found = map (λ c. c.name) found
 abbrev pub IsNoRow : List (List ℕ) → List RowLine → Type 0
 IsNoRow objectives sided = (name : List ℕ) → among objectives name ≡ true → is_row sided name ≡ false
 
-pub record KeepsLimits (s : Stated) : Type 0 where
+pub record StatesWithinLimits (s : StatedModel) : Type 0 where
   pub few_rows : length s.rows ≤ 500
   pub few_columns : length s.columns ≤ 1000
   pub few_numbers : s.count ≤ 50000
-  pub rows_apart : AreApart (names_of_rows s.rows)
-  pub columns_apart : AreApart (names_of_columns s.columns)
+  pub rows_apart : AreNamesApart (names_of_rows s.rows)
+  pub columns_apart : AreNamesApart (names_of_columns s.columns)
   pub objectives_apart : IsNoRow s.objectives s.rows

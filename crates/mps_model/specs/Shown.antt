@@ -2,7 +2,7 @@
 use Rattle.std.specs.Prelude.{ℕ, ◌+◌, Bool, if◌then◌else◌, List, [], ◌∷◌, ◌++◌, length, map, codes, option_to_list, Option, None, Some}
 use Rattle.mps_text.specs.Text.{Entry, Flaw}
 use Rattle.mps_model.specs.Words.{is_key, word, section_of, kind_in}
-use Rattle.mps_model.specs.Statements.{Pair, read_pair, Stated, column_pairs, rhs_pairs, objective_on, row_on, coefficients_in, bound_on}
+use Rattle.mps_model.specs.Statements.{Pair, read_pair, StatedModel, column_pairs, rhs_pairs, objective_on, row_on, coefficients_in, bound_on}
 use Rattle.mps_model.specs.declared.statements.RowNumber.{RowNumber}
 use Rattle.mps_model.specs.declared.statements.ColumnLines.{ColumnLines}
 use Rattle.mps_model.specs.Faults.{is_last}
@@ -37,7 +37,7 @@ columns_in c = c.done ++ map open_shown (option_to_list c.last)
 
 -- ---- all that the tables hold
 
-unfoldable pub held : Tables → Stated
+unfoldable pub held : Tables → StatedModel
 held t = record {
   section = t.section;
   headers = t.headers;
@@ -63,7 +63,7 @@ with_line found name line marked more =
     if is_last found name then with_more found more
     else found ++ record { name = name; line = line; marked = marked; numbers = more } ∷ []
 
-abbrev pub after_kind : LineKind → Stated → Entry → Stated
+abbrev pub after_kind : LineKind → StatedModel → Entry → StatedModel
 after_kind Header s e = record s { section = section_of (word 0 e); headers = s.headers ++ option_to_list (section_of (word 0 e)) }
 after_kind Row s e = record s { objectives = s.objectives ++ objective_on Row e; rows = s.rows ++ row_on Row e }
 after_kind Marker s e = record s { marked = is_key (codes "'INTORG'") (word 2 e) }
@@ -75,5 +75,5 @@ after_kind RightSide s e = record s { sides = s.sides ++ map read_pair (rhs_pair
 after_kind Bound s e = record s { bounds = s.bounds ++ bound_on Bound e }
 after_kind Stray s e = s
 
-unfoldable pub after : Stated → Entry → Stated
+unfoldable pub after : StatedModel → Entry → StatedModel
 after s e = after_kind (kind_in s.section e) s e

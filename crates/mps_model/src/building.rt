@@ -4,7 +4,7 @@ ghost use Rattle.mps_model.specs.Meaning.{low_side, high_side, beside_objective,
 ghost use Rattle.frac128.specs.Range.{Fits};
 ghost use Rattle.lp_model.specs.Edits.{edited, EditFits};
 ghost use Rattle.mps_model.specs.BuiltOf.{named_of, row_edit, column_edit};
-ghost use Rattle.mps_model.specs.Limits.{KeepsLimits};
+ghost use Rattle.mps_model.specs.Limits.{StatesWithinLimits};
 
 use crate::free_names::{free_name, names_of_rows};
 use crate::names::{copied, is_row, number_beside};
@@ -134,7 +134,7 @@ impl Parts<'_> {
 
     /// The model with its rows.
     fn with_rows(&self, alloc: Global) -> Result<Model, AllocError>
-        requires { KeepsLimits (parts_shown self.now) }
+        requires { StatesWithinLimits (parts_shown self.now) }
         ensures { IfOk result (λ m. m ≡ with_rows (parts_shown self.now) self.now.rows.now) }
     {
         let mut model = self.empty_model(alloc)?;
@@ -147,7 +147,7 @@ impl Parts<'_> {
 
     /// The model.
     pub(crate) fn model(&self, alloc: Global) -> Result<Model, AllocError>
-        requires { KeepsLimits (parts_shown self.now) }
+        requires { StatesWithinLimits (parts_shown self.now) }
         ensures { IfOk result (λ m. m ≡ model_of (parts_shown self.now) self.now.intupper) }
     {
         let mut model = self.with_rows(alloc)?;

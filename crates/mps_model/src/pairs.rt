@@ -1,7 +1,7 @@
 // The pairs of a row's name and a number on a line.
 ghost use Rattle.std.specs.Prelude.{◌≡◌, ◌≤◌, ◌||◌, not, length, map};
 ghost use Rattle.std.specs.List.{list_any};
-ghost use Rattle.mps_text.specs.Reading.{entry_of};
+ghost use Rattle.mps_text.specs.Reading.{entry_of_record};
 ghost use Rattle.mps_model.specs.Words.{among};
 ghost use Rattle.mps_model.specs.Statements.{column_pairs, rhs_pairs, is_row};
 ghost use Rattle.mps_model.specs.Faults.{has_twice, has_long, has_not_number, has_too_wide, is_long, has_count};
@@ -29,7 +29,7 @@ pub(crate) enum Pairs<'a> {
 /// Whether a line has at least and at most so many fields.
 pub(crate) fn has_count(entry: &Record, fewest: usize, most: usize) -> bool
     requires { most ≤ 5 }
-    ensures { result ≡ has_count (entry_of entry.now) fewest most }
+    ensures { result ≡ has_count (entry_of_record entry.now) fewest most }
 {
     let count: usize = match entry.fields {
         Fields::One(_) => 1,
@@ -44,7 +44,7 @@ pub(crate) fn has_count(entry: &Record, fewest: usize, most: usize) -> bool
 
 /// The pairs behind a column's name.
 pub(crate) fn column_pairs<'a>(entry: &Record<'a>) -> Pairs<'a>
-    ensures { pairs_shown result ≡ column_pairs (entry_of entry.now) }
+    ensures { pairs_shown result ≡ column_pairs (entry_of_record entry.now) }
 {
     match entry.fields {
         Fields::Three(_, row, number) => Pairs::One(Pair { row, number }),
@@ -61,7 +61,7 @@ pub(crate) fn column_pairs<'a>(entry: &Record<'a>) -> Pairs<'a>
 
 /// The pairs of a line of RHS, behind the set's name where the number of fields is odd.
 pub(crate) fn rhs_pairs<'a>(entry: &Record<'a>) -> Pairs<'a>
-    ensures { pairs_shown result ≡ rhs_pairs (entry_of entry.now) }
+    ensures { pairs_shown result ≡ rhs_pairs (entry_of_record entry.now) }
 {
     match entry.fields {
         Fields::Two(row, number) => Pairs::One(Pair { row, number }),

@@ -1,5 +1,5 @@
 // The model that a text means, or its first fault.
-ghost use Rattle.mps_model.specs.Answers.{IsAnswer};
+ghost use Rattle.mps_model.specs.Answers.{IsModelAnswer};
 
 use crate::building::Parts;
 use crate::reading::{Stop, tables_of};
@@ -19,7 +19,7 @@ pub enum MpsFault {
 /// The model that a text means, or its first fault. An integer column without an upper bound has `intupper`, if that is
 /// handed in.
 pub fn read(alloc: Global, text: &[u8], intupper: Option<u64>) -> Result<Model, MpsFault>
-    ensures { IsAnswer text.now intupper result }
+    ensures { IsModelAnswer text.now intupper result }
 {
     let tables = match tables_of(alloc, text) {
         Ok(tables) => tables,

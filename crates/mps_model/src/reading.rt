@@ -1,9 +1,9 @@
 // The lines of a text, one after another, up to ENDATA or to the first fault.
 ghost use Rattle.std.specs.Prelude.{◌≡◌, MatchResult};
-ghost use Rattle.mps_text.specs.Reading.{code_of, entry_of};
+ghost use Rattle.mps_text.specs.Reading.{code_of, entry_of_record};
 ghost use Rattle.mps_model.specs.Faults.{code_in};
 ghost use Rattle.mps_model.specs.Shown.{held};
-ghost use Rattle.mps_model.specs.ReadingOf.{IsStopAt, IsNoted, IsReading};
+ghost use Rattle.mps_model.specs.ReadingOf.{IsStopAt, IsEntryNoted, IsTablesReading};
 
 use crate::spans::LineCode;
 use crate::tables::Tables;
@@ -29,7 +29,7 @@ fn code_of(flaw: LineFlaw) -> u8
 
 /// One more line: its fault, or what the tables hold behind it.
 fn read_line(alloc: Global, tables: &mut Tables, entry: &Record) -> Result<(), Stop>
-    ensures { MatchResult result (λ _. IsNoted tables.old (entry_of entry.now) tables.new) (λ stop. IsStopAt (code_in (held tables.old) (entry_of entry.now)) entry.now.line stop) }
+    ensures { MatchResult result (λ _. IsEntryNoted tables.old (entry_of_record entry.now) tables.new) (λ stop. IsStopAt (code_in (held tables.old) (entry_of_record entry.now)) entry.now.line stop) }
 {
     if let Some(code) = tables.fault_of(entry) {
         let line = entry.line;
@@ -43,7 +43,7 @@ fn read_line(alloc: Global, tables: &mut Tables, entry: &Record) -> Result<(), S
 
 /// What the lines of a text state, to ENDATA.
 pub(crate) fn tables_of(alloc: Global, text: &[u8]) -> Result<Tables, Stop>
-    ensures { IsReading text.now result }
+    ensures { IsTablesReading text.now result }
 {
     let mut lines = Lines::new(text);
     let mut tables = Tables::new(alloc);

@@ -1,10 +1,10 @@
 // What a text has stated so far, and the fault of a line that comes next.
 ghost use Rattle.std.specs.Prelude.{◌≡◌, ◌+◌, ◌≤◌, [], ◌∷◌, true, OnOk, length, map, nat_lt, not, ◌&&◌, ◌||◌};
 ghost use Rattle.std.specs.List.{list_any};
-ghost use Rattle.mps_text.specs.Reading.{entry_of};
+ghost use Rattle.mps_text.specs.Reading.{entry_of_record};
 ghost use Rattle.mps_model.specs.Words.{word, is_marker, bars, rank, is_rows, is_columns};
 ghost use Rattle.mps_model.specs.Words.{kind_in as kind_of_line};
-ghost use Rattle.mps_model.specs.Statements.{Stated, stated, coefficients_in, read_pair, column_pairs as pairs_in_column, bound_column as column_of_bound, bound_number};
+ghost use Rattle.mps_model.specs.Statements.{StatedModel, stated, coefficients_in, read_pair, column_pairs as pairs_in_column, bound_column as column_of_bound, bound_field};
 ghost use Rattle.mps_model.specs.Faults.{least, tests_of, section_tests, row_tests, marker_tests, column_tests, rhs_tests, bound_tests, place_tests, pair_tests, has_unknown, has_not_number, has_too_wide, is_late, lacks_section, code_in, has_count as has_fields};
 
 use crate::columns::Columns;
@@ -37,7 +37,7 @@ pub(crate) struct Tables {
 
 /// The third field of a line of three.
 fn third_word<'a>(entry: &Record<'a>) -> &'a [u8]
-    ensures { is_marker (entry_of entry.now) ≡ true → result.now ≡ word 2 (entry_of entry.now) }
+    ensures { is_marker (entry_of_record entry.now) ≡ true → result.now ≡ word 2 (entry_of_record entry.now) }
 {
     match entry.fields {
         Fields::Three(_, _, third) => third,
@@ -47,7 +47,7 @@ fn third_word<'a>(entry: &Record<'a>) -> &'a [u8]
 
 /// The field of a bound line that names the column.
 fn bound_column<'a>(kind: BoundKind, entry: &Record<'a>) -> &'a [u8]
-    ensures { has_fields (entry_of entry.now) 2 4 ≡ true → result.now ≡ column_of_bound kind (entry_of entry.now) }
+    ensures { has_fields (entry_of_record entry.now) 2 4 ≡ true → result.now ≡ column_of_bound kind (entry_of_record entry.now) }
 {
     match entry.fields {
         Fields::Two(_, second) => { if kind.takes_number() { b"" } else { second } }
@@ -59,7 +59,7 @@ fn bound_column<'a>(kind: BoundKind, entry: &Record<'a>) -> &'a [u8]
 
 /// The last field of a bound line.
 fn last_word<'a>(entry: &Record<'a>) -> &'a [u8]
-    ensures { has_fields (entry_of entry.now) 2 4 ≡ true → result.now ≡ bound_number (entry_of entry.now) }
+    ensures { has_fields (entry_of_record entry.now) 2 4 ≡ true → result.now ≡ bound_field (entry_of_record entry.now) }
 {
     match entry.fields {
         Fields::Two(_, last) => last,
@@ -117,7 +117,7 @@ impl Tables {
     }
 
     fn fault_of_header(&self, entry: &Record) -> Option<u8>
-        ensures { result ≡ least (tests_of LineKind.Header (held self.now) (entry_of entry.now)) }
+        ensures { result ≡ least (tests_of LineKind.Header (held self.now) (entry_of_record entry.now)) }
     {
         let Some(section) = Section::of(first_word(entry)) else {
             return Some(3);
@@ -133,7 +133,7 @@ impl Tables {
     }
 
     fn fault_of_row(&self, entry: &Record) -> Option<u8>
-        ensures { result ≡ least (row_tests (held self.now) (entry_of entry.now)) }
+        ensures { result ≡ least (row_tests (held self.now) (entry_of_record entry.now)) }
     {
         let Fields::Two(kind, name) = entry.fields else {
             return Some(6);
@@ -154,7 +154,7 @@ impl Tables {
     }
 
     fn fault_of_marker(&self, entry: &Record) -> Option<u8>
-        ensures { is_marker (entry_of entry.now) ≡ true → result ≡ least (marker_tests (held self.now) (entry_of entry.now)) }
+        ensures { is_marker (entry_of_record entry.now) ≡ true → result ≡ least (marker_tests (held self.now) (entry_of_record entry.now)) }
     {
         let word = third_word(entry);
         let lawful = if self.marked {
@@ -202,7 +202,7 @@ impl Tables {
     }
 
     fn fault_of_column(&self, entry: &Record) -> Option<u8>
-        ensures { result ≡ least (column_tests (held self.now) (entry_of entry.now)) }
+        ensures { result ≡ least (column_tests (held self.now) (entry_of_record entry.now)) }
     {
         if !(has_count(entry, 3, 3) || has_count(entry, 5, 5)) {
             return Some(6);
@@ -220,7 +220,7 @@ impl Tables {
     }
 
     fn fault_of_rhs(&self, entry: &Record) -> Option<u8>
-        ensures { result ≡ least (rhs_tests (held self.now) (entry_of entry.now)) }
+        ensures { result ≡ least (rhs_tests (held self.now) (entry_of_record entry.now)) }
     {
         if !has_count(entry, 2, 5) {
             return Some(6);
@@ -241,7 +241,7 @@ impl Tables {
 
     /// The least fault of a bound line of two to four fields, by its type.
     fn fault_of_bound_kind(&self, kind: BoundKind, entry: &Record) -> Option<u8>
-        ensures { has_fields (entry_of entry.now) 2 4 ≡ true → result ≡ least (bound_tests (Some kind) (held self.now) (entry_of entry.now)) }
+        ensures { has_fields (entry_of_record entry.now) 2 4 ≡ true → result ≡ least (bound_tests (Some kind) (held self.now) (entry_of_record entry.now)) }
     {
         if kind.takes_number() && !has_count(entry, 3, 4) {
             return Some(6);
@@ -264,7 +264,7 @@ impl Tables {
     }
 
     fn fault_of_bound(&self, entry: &Record) -> Option<u8>
-        ensures { result ≡ least (tests_of LineKind.Bound (held self.now) (entry_of entry.now)) }
+        ensures { result ≡ least (tests_of LineKind.Bound (held self.now) (entry_of_record entry.now)) }
     {
         if !has_count(entry, 2, 4) {
             return Some(6);
@@ -278,7 +278,7 @@ impl Tables {
     /// The least fault of the next line, if it has one.
     #[tactic(auto, unfolding(crate::specs::Shown::held, crate::specs::Faults::code_in))]
     pub(crate) fn fault_of(&self, entry: &Record) -> Option<u8>
-        ensures { result ≡ code_in (held self.now) (entry_of entry.now) }
+        ensures { result ≡ code_in (held self.now) (entry_of_record entry.now) }
     {
         match kind_in(self.section, entry) {
             LineKind::Header => self.fault_of_header(entry),
@@ -292,7 +292,7 @@ impl Tables {
     }
 
     fn note_header(&mut self, entry: &Record) -> Result<(), AllocError>
-        ensures { OnOk result (held self.new ≡ after_kind LineKind.Header (held self.old) (entry_of entry.now)) }
+        ensures { OnOk result (held self.new ≡ after_kind LineKind.Header (held self.old) (entry_of_record entry.now)) }
     {
         let section = Section::of(first_word(entry));
         if let Some(stands) = section {
@@ -303,8 +303,8 @@ impl Tables {
     }
 
     fn note_row(&mut self, alloc: Global, entry: &Record) -> Result<(), AllocError>
-        requires { has_fields (entry_of entry.now) 2 2 ≡ true }
-        ensures { OnOk result (held self.new ≡ after_kind LineKind.Row (held self.old) (entry_of entry.now)) }
+        requires { has_fields (entry_of_record entry.now) 2 2 ≡ true }
+        ensures { OnOk result (held self.new ≡ after_kind LineKind.Row (held self.old) (entry_of_record entry.now)) }
     {
         let Fields::Two(kind, name) = entry.fields else {
             return Ok(());
@@ -318,15 +318,15 @@ impl Tables {
     }
 
     fn note_marker(&mut self, entry: &Record)
-        requires { is_marker (entry_of entry.now) ≡ true }
-        ensures { held self.new ≡ after_kind LineKind.Marker (held self.old) (entry_of entry.now) }
+        requires { is_marker (entry_of_record entry.now) ≡ true }
+        ensures { held self.new ≡ after_kind LineKind.Marker (held self.old) (entry_of_record entry.now) }
     {
         self.marked = is_key(b"'INTORG'", third_word(entry));
     }
 
     fn note_column(&mut self, alloc: Global, entry: &Record) -> Result<(), AllocError>
-        requires { self.old.count + length (coefficients_in self.old.rows.sided (map read_pair (pairs_in_column (entry_of entry.now)))) ≤ 50000 }
-        ensures { OnOk result (held self.new ≡ after_kind LineKind.Column (held self.old) (entry_of entry.now)) }
+        requires { self.old.count + length (coefficients_in self.old.rows.sided (map read_pair (pairs_in_column (entry_of_record entry.now)))) ≤ 50000 }
+        ensures { OnOk result (held self.new ≡ after_kind LineKind.Column (held self.old) (entry_of_record entry.now)) }
     {
         let name = first_word(entry);
         let pairs = column_pairs(entry);
@@ -338,7 +338,7 @@ impl Tables {
     }
 
     fn note_rhs(&mut self, alloc: Global, entry: &Record) -> Result<(), AllocError>
-        ensures { OnOk result (held self.new ≡ after_kind LineKind.RightSide (held self.old) (entry_of entry.now)) }
+        ensures { OnOk result (held self.new ≡ after_kind LineKind.RightSide (held self.old) (entry_of_record entry.now)) }
     {
         let pairs = rhs_pairs(entry);
         let sides = mem::replace(&mut self.sides, Numbered::new(alloc));
@@ -347,8 +347,8 @@ impl Tables {
     }
 
     fn note_bound(&mut self, alloc: Global, entry: &Record) -> Result<(), AllocError>
-        requires { has_fields (entry_of entry.now) 2 4 ≡ true }
-        ensures { OnOk result (held self.new ≡ after_kind LineKind.Bound (held self.old) (entry_of entry.now)) }
+        requires { has_fields (entry_of_record entry.now) 2 4 ≡ true }
+        ensures { OnOk result (held self.new ≡ after_kind LineKind.Bound (held self.old) (entry_of_record entry.now)) }
     {
         let Some(kind) = BoundKind::of(first_word(entry)) else {
             return Ok(());
@@ -366,8 +366,8 @@ impl Tables {
     /// What one more line states, which has no fault.
     #[tactic(auto, unfolding(crate::specs::Shown::held, crate::specs::Shown::after, crate::specs::Faults::code_in))]
     pub(crate) fn note(&mut self, alloc: Global, entry: &Record) -> Result<(), AllocError>
-        requires { code_in (held self.old) (entry_of entry.now) ≡ None }
-        ensures { OnOk result (held self.new ≡ after (held self.old) (entry_of entry.now)) }
+        requires { code_in (held self.old) (entry_of_record entry.now) ≡ None }
+        ensures { OnOk result (held self.new ≡ after (held self.old) (entry_of_record entry.now)) }
     {
         match kind_in(self.section, entry) {
             LineKind::Header => self.note_header(entry),

@@ -1,6 +1,6 @@
 // Key words, which are read in either case of letters, and the kinds of lines.
 ghost use Rattle.std.specs.Prelude.{◌≡◌, true, false};
-ghost use Rattle.mps_text.specs.Reading.{entry_of};
+ghost use Rattle.mps_text.specs.Reading.{entry_of_record};
 ghost use Rattle.mps_model.specs.Words.{is_key, upper, section_of, row_kind, bound_kind, kind_in, is_marker, data_kind, word, rank, bars, is_rows, is_columns, is_name, takes_number};
 ghost use Rattle.mps_model.specs.Faults.{is_end};
 
@@ -193,7 +193,7 @@ impl BoundKind {
 
 /// The first field of a line.
 pub(crate) fn first_word<'a>(entry: &Record<'a>) -> &'a [u8]
-    ensures { result.now ≡ word 0 (entry_of entry.now) }
+    ensures { result.now ≡ word 0 (entry_of_record entry.now) }
 {
     match entry.fields {
         Fields::One(first) => first,
@@ -206,7 +206,7 @@ pub(crate) fn first_word<'a>(entry: &Record<'a>) -> &'a [u8]
 }
 
 fn is_marker_line(entry: &Record) -> bool
-    ensures { result ≡ is_marker (entry_of entry.now) }
+    ensures { result ≡ is_marker (entry_of_record entry.now) }
 {
     match entry.fields {
         Fields::Three(_, second, _) => is_key(b"'MARKER'", second),
@@ -216,7 +216,7 @@ fn is_marker_line(entry: &Record) -> bool
 
 /// What a data line of a section is.
 fn data_kind(section: Option<Section>, entry: &Record) -> LineKind
-    ensures { result ≡ data_kind section (entry_of entry.now) }
+    ensures { result ≡ data_kind section (entry_of_record entry.now) }
 {
     match section {
         Some(Section::Rows) => LineKind::Row,
@@ -235,7 +235,7 @@ fn data_kind(section: Option<Section>, entry: &Record) -> LineKind
 
 /// What a line that follows the section's header is.
 pub(crate) fn kind_in(section: Option<Section>, entry: &Record) -> LineKind
-    ensures { result ≡ kind_in section (entry_of entry.now) }
+    ensures { result ≡ kind_in section (entry_of_record entry.now) }
 {
     if entry.header {
         LineKind::Header
@@ -247,7 +247,7 @@ pub(crate) fn kind_in(section: Option<Section>, entry: &Record) -> LineKind
 /// Whether the line is the header ENDATA.
 #[tactic(auto, unfolding(crate::specs::Faults::is_end))]
 pub(crate) fn is_end(entry: &Record) -> bool
-    ensures { result ≡ is_end (entry_of entry.now) }
+    ensures { result ≡ is_end (entry_of_record entry.now) }
 {
     entry.header && matches!(Section::of(first_word(entry)), Some(Section::Ended))
 }

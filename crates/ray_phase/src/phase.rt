@@ -1,7 +1,7 @@
 // The ray phase.
 ghost use Rattle.std.specs.Prelude.{◌≡◌, ◌<◌, ℕ, length, IfOk, OnOk, IfErr};
 ghost use Rattle.dual_simplex.specs.Lists.{IsBasisOf};
-ghost use Rattle.ray_phase.specs.Answers.{IsStart, IsDirectionsState, IsBest, RowsFit, IsWideRow, IsRayEnd, IsRayAnswer};
+ghost use Rattle.ray_phase.specs.Answers.{IsStart, IsDirectionsState, IsBest, PointRowsFit, IsFirstWideActivity, IsRayEnd, IsRayAnswer};
 
 use crate::cost::{cost_of, in_least_form};
 use crate::lawful::high_variables;
@@ -35,8 +35,8 @@ pub enum RayAnswer {
 
 /// Adds up each row at a direction, or finds the first step that has no room.
 fn add_rows_up(model: &Model, direction: &Point) -> Result<(), WideStep>
-    ensures fit { OnOk result (RowsFit model.now direction.now (length model.now.rows)) }
-    ensures wide { IfErr result (IsWideRow model.now direction.now) }
+    ensures fit { OnOk result (PointRowsFit model.now direction.now (length model.now.rows)) }
+    ensures wide { IfErr result (IsFirstWideActivity model.now direction.now) }
 {
     let _lawful = model.cols();
     for row in 0..model.rows().len() {

@@ -8,5 +8,5 @@ use Rattle.dual_simplex.specs.Tilts.{KeepsFree}
 use Rattle.dual_simplex.specs.Starts.{IsLawfulBasis}
 
 -- each start of the model's relaxation in a region that leaves columns free can fall back to the basis
-abbrev pub IsFirst : Program → Basis → Type 0
-IsFirst M basis = (relax : Relax) → relax.model.now ≡ M → relax.kind ≡ Plain → KeepsFree M relax.region.now → IsLawfulBasis relax basis
+abbrev pub CanFallBack : Program → Basis → Type 0
+CanFallBack M basis = (relax : Relax) → relax.model.now ≡ M → relax.kind ≡ Plain → KeepsFree M relax.region.now → IsLawfulBasis relax basis

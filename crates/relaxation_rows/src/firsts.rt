@@ -1,6 +1,6 @@
 // A basis that starts can fall back to.
 ghost use Rattle.std.specs.Prelude.{IfOk, IfSome};
-ghost use Rattle.relaxation_rows.specs.Firsts.{IsFirst};
+ghost use Rattle.relaxation_rows.specs.Firsts.{CanFallBack};
 
 use anyhow::Result;
 use dual_simplex::slack_basis;
@@ -13,7 +13,7 @@ const MOST_MOVES: u64 = 1000;
 
 /// The basis that the ray phase answers, if it does.
 fn ray_basis(alloc: Global, model: &Model) -> Result<Option<Basis>, AllocError>
-    ensures { IfOk result (λ found. IfSome found (IsFirst model.now)) }
+    ensures { IfOk result (λ found. IfSome found (CanFallBack model.now)) }
 {
     first_law();
     match ray(alloc, model, MOST_MOVES) {
@@ -25,7 +25,7 @@ fn ray_basis(alloc: Global, model: &Model) -> Result<Option<Basis>, AllocError>
 
 /// The slack basis of a model where it is lawful, else the basis that the ray phase answers, if it does.
 pub fn first_basis(alloc: Global, model: &Model) -> Result<Option<Basis>, AllocError>
-    ensures { IfOk result (λ found. IfSome found (IsFirst model.now)) }
+    ensures { IfOk result (λ found. IfSome found (CanFallBack model.now)) }
 {
     match slack_basis(alloc, model) {
         Err(error) => Err(error),

@@ -12,7 +12,7 @@ use Rattle.sym_shell.specs.Searched.{node_limit}
 use Rattle.sym_shell.specs.State.{State}
 use Rattle.sym_shell.specs.Texts.{ok_text, memory_text, column_lines, known_text, path_line, step_line}
 use Rattle.sym_shell.specs.Load.{LoadStep, ReadsFile, refusal_text}
-use Rattle.sym_shell.specs.Solve.{ShowsOptimum, ShowsEmptiness, Shows, Optimum, Emptiness, NodeStop, TreeStop, WideStop, Wanting, Solves, SolveStep}
+use Rattle.sym_shell.specs.Solve.{ShowsOptimum, ShowsEmptiness, AnswersSolve, Optimum, Emptiness, NodeStop, TreeStop, WideStop, Wanting, SolvesHeld, SolveStep}
 use Rattle.sym_shell.specs.Shown.{point_shown}
 use Rattle.sym_shell.specs.Certify.{Writes, Written, TooLong, Failed, Certifies, CertStep}
 use Rattle.sym_shell.specs.Certify as certify
@@ -54,7 +54,7 @@ module _ (old : State) (words : List (List ℕ)) (reply : List ℕ) (new : State
       }
       by refusal.Memory told cause = wants told
 
-  shows_cause : (limit : ℕ) (M : Program) → asks_of words ≡ Solve limit → old.model ≡ Some M → Shows M limit reply new.held → HasCause old words reply new
+  shows_cause : (limit : ℕ) (M : Program) → asks_of words ≡ Solve limit → old.model ≡ Some M → AnswersSolve M limit reply new.held → HasCause old words reply new
   shows_cause limit M asked present (Optimum s) = record {
     kind = Optimal;
     is = (value_tail (value M 1 (point_shown M reply)) s.placed ++ column_lines M.cols (point_shown M reply) ++ codes "end\n", s.shown);
@@ -85,7 +85,7 @@ module _ (old : State) (words : List (List ℕ)) (reply : List ℕ) (new : State
   solve_cause : (limit : ℕ) → asks_of words ≡ Solve limit → SolveStep old limit reply new → HasCause old words reply new
   solve_cause limit asked h = by old.model refl h.answer
     where
-      by : (m : Option Program) → old.model ≡ m → Solves m limit reply old.held new.held → HasCause old words reply new
+      by : (m : Option Program) → old.model ≡ m → SolvesHeld m limit reply old.held new.held → HasCause old words reply new
       by (Some M) present s = shows_cause limit M asked present s
       by None none s = elim s.0 [
         | inl e ↦ record { kind = NoModel; is = (codes "no model\n", e); cause = (subst NeedsModel (sym asked) tt, e, none) }
@@ -142,7 +142,7 @@ module _ (old : State) (words : List (List ℕ)) (reply : List ℕ) (new : State
     | inr e ↦ wants e
   ]
 
-  finishes : (M : Program) (limit : ℕ) → cap_of M ≤ limit → cap_of M ≤ node_limit → IsJudgeable M → Shows M limit reply new.held → ShowsOptimum M limit reply new.held ⊎ ShowsEmptiness M limit reply new.held ⊎ (reply ≡ memory_text)
+  finishes : (M : Program) (limit : ℕ) → cap_of M ≤ limit → cap_of M ≤ node_limit → IsJudgeable M → AnswersSolve M limit reply new.held → ShowsOptimum M limit reply new.held ⊎ ShowsEmptiness M limit reply new.held ⊎ (reply ≡ memory_text)
   finishes M limit enough roomy judgeable (Optimum s) = inl s
   finishes M limit enough roomy judgeable (Emptiness s) = inr (inl s)
   finishes M limit enough roomy judgeable (NodeStop s none) = let few = s.below_cap in absurd (omega arith)
@@ -154,7 +154,7 @@ module _ (old : State) (words : List (List ℕ)) (reply : List ℕ) (new : State
       → ShowsOptimum M limit reply new.held ⊎ ShowsEmptiness M limit reply new.held ⊎ (reply ≡ memory_text)
   completes M limit h asked present enough roomy judgeable =
       let step : SolveStep old limit reply new = subst (λ a. AnswersTo a old reply new) asked h in
-      finishes M limit enough roomy judgeable (subst (λ m. Solves m limit reply old.held new.held) present step.answer)
+      finishes M limit enough roomy judgeable (subst (λ m. SolvesHeld m limit reply old.held new.held) present step.answer)
 
   keeps : (a : Asks) → AnswersTo a old reply new → reply ≢ ok_text → new.model ≡ old.model
   keeps (Load file intupper) h other = elim h.answer [ inl loads ↦ absurd (other loads.ok) | inr refused ↦ refused.kept ]
@@ -169,7 +169,7 @@ module _ (old : State) (words : List (List ℕ)) (reply : List ℕ) (new : State
   not_error : {P : Type 0} (k l : Kind) → IsError k → Is k reply → Is l reply → ¬ IsError l → P
   not_error k l error a b other = absurd (other (subst IsError (one_kind k l reply a b) error))
 
-  solve_holds : (limit : ℕ) (k : Kind) → IsError k → Is k reply → (m : Option Program) → Solves m limit reply old.held new.held → new.held ≡ old.held
+  solve_holds : (limit : ℕ) (k : Kind) → IsError k → Is k reply → (m : Option Program) → SolvesHeld m limit reply old.held new.held → new.held ≡ old.held
   solve_holds limit k error is None h = h.1
   solve_holds limit k error is (Some M) (Optimum s) = not_error k Optimal error is (value_tail (value M 1 (point_shown M reply)) s.placed ++ column_lines M.cols (point_shown M reply) ++ codes "end\n", s.shown) (λ e. e)
   solve_holds limit k error is (Some M) (Emptiness s) = not_error k Infeasible error is (codes "nodes " ++ decimal s.placed ++ codes "\n", s.shown) (λ e. e)

@@ -9,7 +9,7 @@ use Rattle.lp_model.specs.declared.types.Row.{Row}
 use Rattle.mps_model.specs.PlainNames.{IsPlainName, HasPlainNames, HasPlainRows}
 use Rattle.tree_edit.specs.Sound.{PlainSearch, IsSound}
 use Rattle.cert_check.specs.Laws.{AcceptedLaw, VerdictLaw}
-use Rattle.cert_check.specs.Text.{Meant}
+use Rattle.cert_check.specs.Text.{MeantCertificate}
 use Rattle.cert_check.specs.Verdict.{IsVerdict}
 use Rattle.cert_check.specs.Whole.{IsCertificate}
 use Rattle.cert_check.specs.declared.cert.Cert.{Cert}
@@ -44,7 +44,7 @@ word-names M columns rows = record { columns = column-words M.cols columns; rows
 -- what was printed of a search's certificate
 pub certificate-text : {V E : Type 0} (items : V → List ℕ) (S : PlainSearch) (cert : Cert) (r : Result V E) → NamesLaw → VerdictLaw → AcceptedLaw → IsSound S → HasPlainNames S.model → HasPlainRows S.model
     → IsCertificateOf S cert → IsCertificate cert → IsVerdict S.model cert Accepted
-    → IfOk r (λ text. items text ≡ cert_text cert) → IfOk r (λ text. IsCertificate cert → HasCertWords cert → Meant (items text) cert) → IfOk r (λ text. IsCertificateText S (items text))
+    → IfOk r (λ text. items text ≡ cert_text cert) → IfOk r (λ text. IsCertificate cert → HasCertWords cert → MeantCertificate (items text) cert) → IfOk r (λ text. IsCertificateText S (items text))
 certificate-text items S cert (Ok text) names verdict accepted sound plain rows exact whole is told states = record {
   cert = cert;
   exact = exact;

@@ -28,7 +28,7 @@ use Rattle.sym_shell.specs.Shown.{point_shown, value_shown}
 use Rattle.sym_shell.specs.Texts.{optimal_text, infeasible_text, stopped_nodes_text, stopped_tree_text, stopped_wide_text}
 use Rattle.sym_shell.specs.Reports.{Reports, FitsFinding}
 use Rattle.sym_shell.specs.Searched.{node_limit, Searches, has_ended, IsBound, Stops}
-use Rattle.sym_shell.specs.Solve.{Shows, Optimum, Emptiness, NodeStop, TreeStop, WideStop}
+use Rattle.sym_shell.specs.Solve.{AnswersSolve, Optimum, Emptiness, NodeStop, TreeStop, WideStop}
 use Rattle.sym_shell.proofs.ShownBack.{point-shown, value-shown}
 
 pub finds-fits : (fresh S : PlainSearch) (limit : ℕ) (outcome : Outcome) → Finds fresh S limit outcome → FitsFinding S.model outcome
@@ -65,7 +65,7 @@ module _ (fresh S : PlainSearch) (limit : ℕ) (lawful : IsLawful S.model) (plai
     holds = stop-bound S bound f.shows.1.bound_is;
   }
 
-  shown : (outcome : Outcome) (old new : List ℕ) → old ≡ [] → Finds fresh S limit outcome → Reports S.model outcome old new → Shows S.model limit new (if has_ended outcome then Some S else None)
+  shown : (outcome : Outcome) (old new : List ℕ) → old ≡ [] → Finds fresh S limit outcome → Reports S.model outcome old new → AnswersSolve S.model limit new (if has_ended outcome then Some S else None)
   shown (Optimal v x n) old new empty f r =
       let M : Program = S.model in
       let e : new ≡ optimal_text M x n = r.told ∙ ap (λ t. t ++ optimal_text M x n) empty in
@@ -131,11 +131,11 @@ module _ (fresh S : PlainSearch) (limit : ℕ) (lawful : IsLawful S.model) (plai
 -- the reply to a search of M that has left S, of which an answer is held where it went to its end
 pub search_shown : {E : Type 0} (M : Program) (S : PlainSearch) (limit : ℕ) (outcome : Outcome) (held : Bool) (old new : List ℕ) (r : Result (Unit {0}) E)
     → IsLawful S.model → HasPlainNames S.model → IsIntegral S.model → Searches M limit S outcome → held ≡ has_ended outcome → old ≡ [] → IfOk r (λ _. Reports S.model outcome old new)
-    → OnOk r (Shows M limit new (if held then Some S else None))
+    → OnOk r (AnswersSolve M limit new (if held then Some S else None))
 search_shown M S limit outcome held old new (Ok done) lawful plain integral s ended empty h =
     let same : S.model ≡ M = s.finds.goes.model ∙ s.begins.model in
-    subst (λ N. Shows N limit new (if held then Some S else None)) same
-    (subst (λ b. Shows S.model limit new (if b then Some S else None)) (sym ended)
+    subst (λ N. AnswersSolve N limit new (if held then Some S else None)) same
+    (subst (λ b. AnswersSolve S.model limit new (if b then Some S else None)) (sym ended)
     (shown s.fresh S limit lawful plain (subst (λ N. IsFresh N node_limit s.fresh) (sym same) s.begins) s.sound integral outcome old new empty s.finds h))
 search_shown M S limit outcome held old new (Err e) lawful plain integral s ended empty h = tt
 

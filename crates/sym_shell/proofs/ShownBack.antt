@@ -19,7 +19,7 @@ use Rattle.mps_model.specs.PlainNames.{IsPlainName, HasPlainNames}
 use Rattle.script_session.specs.Request.{Command}
 use Rattle.script_session.specs.Script.{words_of}
 use Rattle.sym_shell.specs.Texts.{column_line, column_lines, value_line, optimal_text}
-use Rattle.sym_shell.specs.Shown.{lines_shown, is_line_of, number_in, number_at, or_zero, number_among, point_shown, value_shown}
+use Rattle.sym_shell.specs.Shown.{lines_shown, is_line_of, number_in, number_in_word, or_zero, number_among, point_shown, value_shown}
 use Rattle.sym_shell.proofs.ShownWords.{decimal-plain, printed-plain, tested-plain, words_of-name, words_of-more, joined-one_line, lines_shown-more}
 
 -- ---- the words of the lines that are written
@@ -111,7 +111,7 @@ optimum_shown M x n small p f g =
 
 found : (name : List ℕ) (v : ℚ) (lines : List Command) → Fits v → number_among name (words_of_column name v ∷ lines) ≡ v
 found name v lines f =
-    ap (λ b. or_zero (number_at 2 (if b then words_of_column name v ∷ filter (is_line_of name) lines else filter (is_line_of name) lines))) ((bytes_eq-Decides name name).1 refl)
+    ap (λ b. or_zero (number_in_word 2 (if b then words_of_column name v ∷ filter (is_line_of name) lines else filter (is_line_of name) lines))) ((bytes_eq-Decides name name).1 refl)
     ∙ ap (λ r. or_zero (number_in r)) (reading_of-printed v f)
 
 apart : (a b : List ℕ) → a ≢ b → bytes_eq a b ≡ false
@@ -126,7 +126,7 @@ passed name other v lines h = by (nat_eq (unsigned_abs v.num) 0)
   where
     by : (b : Bool) → number_among name ((if b then [] else words_of_column other v ∷ []) ++ lines) ≡ number_among name lines
     by true = refl
-    by false = ap (λ b. or_zero (number_at 2 (if b then words_of_column other v ∷ filter (is_line_of name) lines else filter (is_line_of name) lines))) (apart other name h)
+    by false = ap (λ b. or_zero (number_in_word 2 (if b then words_of_column other v ∷ filter (is_line_of name) lines else filter (is_line_of name) lines))) (apart other name h)
 
 found_line : (name : List ℕ) (v : ℚ) (lines : List Command) → Fits v → number_among name lines ≡ int (pos 0) → number_among name (told_line name v ++ lines) ≡ v
 found_line name v lines f none = by (nat_eq (unsigned_abs v.num) 0) refl
@@ -192,4 +192,4 @@ point-shown M x n small shape p distinct f g =
 pub value-shown : (M : Program) (x : Point) (n : ℕ) → n < 2 ^ 64 → length x ≡ length M.cols → HasPlainNames M → AllPairs (λ a b. a ≢ b) (column_names M) → All Fits x → Fits (value M 1 x)
     → value_shown (optimal_text M x n) ≡ Some (value M 1 x)
 unfolding value_shown
-value-shown M x n small shape p distinct f g = ap (number_at 1) (optimum_shown M x n small p f g) ∙ ap number_in (reading_of-printed (value M 1 x) g)
+value-shown M x n small shape p distinct f g = ap (number_in_word 1) (optimum_shown M x n small p f g) ∙ ap number_in (reading_of-printed (value M 1 x) g)

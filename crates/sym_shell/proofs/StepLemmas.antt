@@ -5,7 +5,7 @@ use Rattle.command_words.specs.Asks.{Asks, asks_of}
 use Rattle.sym_io.specs.Files.{Files}
 use Rattle.lp_model.specs.Program.{Program}
 use Rattle.sym_shell.specs.State.{Present, State, state}
-use Rattle.sym_shell.specs.Solve.{Solves, SolveStep}
+use Rattle.sym_shell.specs.Solve.{SolvesHeld, SolveStep}
 use Rattle.sym_shell.specs.Step.{AnswersTo, Step}
 
 pub on_ok : {E P Q : Type 0} (r : Result (Unit {0}) E) → (P → Q) → OnOk r P → OnOk r Q
@@ -31,7 +31,7 @@ on_err (Ok done) f h = tt
 on_err (Err e) f h = f h
 
 -- a search leaves the model and the files
-pub solve-step : (old new : Present) (files : Option Files) (faults limit : ℕ) (reply : List ℕ) → new.model ≡ old.model → Solves old.model limit reply old.held new.held → SolveStep (state old files faults) limit reply (state new files faults)
+pub solve-step : (old new : Present) (files : Option Files) (faults limit : ℕ) (reply : List ℕ) → new.model ≡ old.model → SolvesHeld old.model limit reply old.held new.held → SolveStep (state old files faults) limit reply (state new files faults)
 solve-step old new files faults limit reply same solves = record {
   unchanged = ap (λ (m : Option Program). record { model = m; held = new.held; files = files; faults = faults }) same;
   answer = solves;

@@ -5,7 +5,7 @@ use Rattle.sym_io.specs.Files.{Files, KeepsOthers, Sets}
 use Rattle.sym_io.specs.declared.traits.TheConstants.{MAX_FILE_LENGTH}
 use Rattle.lp_model.specs.Program.{Program}
 use Rattle.tree_edit.specs.Sound.{PlainSearch}
-use Rattle.cert_check.specs.Text.{Meant as States}
+use Rattle.cert_check.specs.Text.{MeantCertificate as States}
 use Rattle.cert_check.specs.Verdict.{IsVerdict}
 use Rattle.cert_check.specs.Laws.{IsTrueClaim}
 use Rattle.cert_check.specs.declared.cert.Cert.{Cert}

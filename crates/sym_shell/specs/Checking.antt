@@ -9,8 +9,8 @@ use Rattle.script_session.specs.Reply.{wants_memory}
 use Rattle.command_words.specs.Names.{is_file_name}
 use Rattle.lp_model.specs.Program.{Program}
 use Rattle.lp_model.specs.declared.types.WideStep.{WideStep}
-use Rattle.mps_model.specs.Faults.{Meant}
-use Rattle.cert_check.specs.Text.{Meant as States, Faulty}
+use Rattle.mps_model.specs.Faults.{MeantModel}
+use Rattle.cert_check.specs.Text.{MeantCertificate as States, FaultyCertificate}
 use Rattle.cert_check.specs.Verdict.{IsVerdict}
 use Rattle.cert_check.specs.Laws.{IsTrueClaim}
 use Rattle.cert_check.specs.declared.cert.Claim.{Claim}
@@ -30,7 +30,7 @@ abbrev pub ReadsCert : Option Files → List ℕ → ℕ → ℕ → Result Cert
 ReadsCert files name before after (Ok cert) = HasText files name (λ text. States text cert)
 ReadsCert files name before after (Err refusal.Store) = Rose before after ⊎ IsMissing files name
 ReadsCert files name before after (Err refusal.FileTooLong) = IsTooLong files name
-ReadsCert files name before after (Err (refusal.Faulty line code)) = HasText files name (λ text. Faulty text line code)
+ReadsCert files name before after (Err (refusal.Faulty line code)) = HasText files name (λ text. FaultyCertificate text line code)
 ReadsCert files name before after (Err refusal.Memory) = Unit {0}
 
 abbrev pub cert_fault_text : ℕ → ℕ → List ℕ
@@ -74,7 +74,7 @@ WritesVerdict M cert old new =
 pub record Judges (files : Option Files) (model cert reply : List ℕ) : Type 0 where
   pub program : Program
   pub certificate : Cert
-  pub read : HasText files model (λ text. Meant text None program)
+  pub read : HasText files model (λ text. MeantModel text None program)
   pub stated : HasText files cert (λ text. States text certificate)
   pub verdict : Verdict
   pub is : IsVerdict program certificate verdict
@@ -90,7 +90,7 @@ pub record RefusesModel (files : Option Files) (model : List ℕ) (before after 
 -- the model's file is read, and the certificate's is refused
 pub record RefusesCert (files : Option Files) (model cert : List ℕ) (before after : ℕ) (reply : List ℕ) : Type 0 where
   pub program : Program
-  pub read : HasText files model (λ text. Meant text None program)
+  pub read : HasText files model (λ text. MeantModel text None program)
   pub refusal : Refusal
   pub cause : ReadsCert files cert before after (Err refusal)
   pub told : reply ≡ cert_refusal_text refusal

@@ -4,7 +4,7 @@ use Rattle.sym_io.specs.Faults.{Rose}
 use Rattle.sym_io.specs.Files.{Files, file}
 use Rattle.sym_io.specs.declared.traits.TheConstants.{MAX_FILE_LENGTH}
 use Rattle.lp_model.specs.Program.{Program}
-use Rattle.mps_model.specs.Faults.{Meant, Faulty}
+use Rattle.mps_model.specs.Faults.{MeantModel, FaultyModel}
 use Rattle.sym_shell.specs.State.{State}
 use Rattle.sym_shell.specs.Texts.{ok_text, store_text, file_too_long_text, mps_text, memory_text}
 use Rattle.sym_shell.specs.declared.reading.Refusal.{Refusal}
@@ -29,11 +29,11 @@ pub record HasText (files : Option Files) (name : List ℕ) (P : List ℕ → Ty
 
 -- the text's first faulty line is this one, with this code as its least
 abbrev pub IsFaulty : Option ℕ → ℕ → ℕ → List ℕ → Type 0
-IsFaulty intupper line code text = Faulty text intupper (record { line = line; code = code })
+IsFaulty intupper line code text = FaultyModel text intupper (record { line = line; code = code })
 
 -- the causes of each answer to reading a file's model, where the count of faults goes from before to after
 abbrev pub ReadsFile : Option Files → List ℕ → Option ℕ → ℕ → ℕ → Result Program Refusal → Type 0
-ReadsFile files name intupper before after (Ok M) = HasText files name (λ text. Meant text intupper M)
+ReadsFile files name intupper before after (Ok M) = HasText files name (λ text. MeantModel text intupper M)
 ReadsFile files name intupper before after (Err refusal.Store) = Rose before after ⊎ IsMissing files name
 ReadsFile files name intupper before after (Err refusal.FileTooLong) = IsTooLong files name
 ReadsFile files name intupper before after (Err (refusal.Faulty line code)) = HasText files name (IsFaulty intupper line code)
@@ -49,7 +49,7 @@ refusal_text refusal.Memory = memory_text
 pub record Loads (old : State) (name : List ℕ) (intupper : Option ℕ) (reply : List ℕ) (new : State) : Type 0 where
   pub ok : reply ≡ ok_text
   pub model : Program
-  pub read : HasText old.files name (λ text. Meant text intupper model)
+  pub read : HasText old.files name (λ text. MeantModel text intupper model)
   pub present : new.model ≡ Some model
   pub none_held : new.held ≡ None
 

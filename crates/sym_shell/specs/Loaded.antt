@@ -4,7 +4,7 @@ use Rattle.std.specs.Coded.{Coded, code_by, coded×, coded_bool}
 use Rattle.tree_edit.specs.Laws.{HasNoOpenLeaf}
 use Rattle.tree_edit.specs.Sound.{PlainSearch}
 use Rattle.tree_edit.specs.SearchCode.{search_code}
-use Rattle.mps_model.specs.Bounded.{is_bounded}
+use Rattle.mps_model.specs.Bounded.{has_integer_bounds}
 use Rattle.mps_model.specs.PlainNames.{HasPlainNames, HasPlainRows}
 
 pub record PlainLoaded : Type 0 where
@@ -17,7 +17,7 @@ loaded_code = code_by (PlainSearch × Bool) (coded× search_code coded_bool) (λ
 -- Each column is integer with two bounds, the names are words of a reply, and an answer is held only of a search without an
 -- open leaf.
 pub record IsLoaded (l : PlainLoaded) : Type 0 where
-  pub bounded : is_bounded l.search.model ≡ true
+  pub bounded : has_integer_bounds l.search.model ≡ true
   pub plain : HasPlainNames l.search.model
   pub plain_rows : HasPlainRows l.search.model
   pub finished : IsTrue l.held → HasNoOpenLeaf l.search

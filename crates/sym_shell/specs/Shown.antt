@@ -18,9 +18,9 @@ number_in (Number x) = Some x
 number_in other = None
 
 -- the number that word k, from 0, of the first of some lines spells, if it spells one
-abbrev pub number_at : ℕ → List Command → Option ℚ
-number_at k [] = None
-number_at k (words ∷ more) = number_in (reading_of (get_or words k []))
+abbrev pub number_in_word : ℕ → List Command → Option ℚ
+number_in_word k [] = None
+number_in_word k (words ∷ more) = number_in (reading_of (get_or words k []))
 
 abbrev pub or_zero : Option ℚ → ℚ
 or_zero None = int (pos 0)
@@ -33,7 +33,7 @@ is_line_of name words = false
 
 -- the number that the first line of the name spells, 0 where the name has no line
 abbrev pub number_among : List ℕ → List Command → ℚ
-number_among name lines = or_zero (number_at 2 (filter (is_line_of name) lines))
+number_among name lines = or_zero (number_in_word 2 (filter (is_line_of name) lines))
 
 -- the number that a reply shows for a column
 abbrev pub shown_number : List ℕ → List ℕ → ℚ
@@ -45,4 +45,4 @@ point_shown M reply = map (λ c. shown_number c.name reply) M.cols
 
 -- the value that a reply shows: the number behind the first word of its first line
 unfoldable pub value_shown : List ℕ → Option ℚ
-value_shown reply = number_at 1 (lines_shown reply)
+value_shown reply = number_in_word 1 (lines_shown reply)

@@ -6,7 +6,7 @@ use Rattle.lp_model.specs.Regions.{Path}
 use Rattle.lp_model.specs.declared.types.WideStep.{WideStep}
 use Rattle.tree_edit.specs.Sound.{PlainSearch}
 use Rattle.tree_search.specs.Work.{cap_of}
-use Rattle.tree_search.specs.Working.{IsWidePoint}
+use Rattle.tree_search.specs.Working.{PointIsWide}
 use Rattle.tree_search.specs.declared.stepping.StopWhy.TheVariants.{Nodes, Tree, Wide}
 use Rattle.sym_shell.specs.Searched.{node_limit, Finished, Stops}
 use Rattle.sym_shell.specs.Shown.{point_shown, value_shown}
@@ -66,25 +66,25 @@ pub record ShowsWideStop (M : Program) (limit : ℕ) (reply : List ℕ) : Type 0
   pub path : Path
   pub step : WideStep
   pub known : Stops M limit placed (Wide path step) bound best
-  pub wide : IsWidePoint M path step
+  pub wide : PointIsWide M path step
   pub within_limit : placed < limit
   pub below_cap : placed < cap_of M
   pub shown : reply ≡ stopped_wide_text M placed bound best path step
 
 -- what a search that may place `limit` results may be answered, and the finished search that is held from then on
-pub data Shows (M : Program) (limit : ℕ) (reply : List ℕ) (held : Option PlainSearch) : Type 0 where
-  Optimum : ShowsOptimum M limit reply held → Shows M limit reply held
-  Emptiness : ShowsEmptiness M limit reply held → Shows M limit reply held
-  NodeStop : ShowsNodeStop M limit reply → held ≡ None → Shows M limit reply held
-  TreeStop : ShowsTreeStop M limit reply → held ≡ None → Shows M limit reply held
-  WideStop : ShowsWideStop M limit reply → held ≡ None → Shows M limit reply held
-  Wanting : reply ≡ memory_text → held ≡ None → Shows M limit reply held
+pub data AnswersSolve (M : Program) (limit : ℕ) (reply : List ℕ) (held : Option PlainSearch) : Type 0 where
+  Optimum : ShowsOptimum M limit reply held → AnswersSolve M limit reply held
+  Emptiness : ShowsEmptiness M limit reply held → AnswersSolve M limit reply held
+  NodeStop : ShowsNodeStop M limit reply → held ≡ None → AnswersSolve M limit reply held
+  TreeStop : ShowsTreeStop M limit reply → held ≡ None → AnswersSolve M limit reply held
+  WideStop : ShowsWideStop M limit reply → held ≡ None → AnswersSolve M limit reply held
+  Wanting : reply ≡ memory_text → held ≡ None → AnswersSolve M limit reply held
 
-abbrev pub Solves : Option Program → ℕ → List ℕ → Option PlainSearch → Option PlainSearch → Type 0
-Solves None limit reply before held = ((reply ≡ no_model_text) ⊎ (reply ≡ memory_text)) × (held ≡ before)
-Solves (Some M) limit reply before held = Shows M limit reply held
+abbrev pub SolvesHeld : Option Program → ℕ → List ℕ → Option PlainSearch → Option PlainSearch → Type 0
+SolvesHeld None limit reply before held = ((reply ≡ no_model_text) ⊎ (reply ≡ memory_text)) × (held ≡ before)
+SolvesHeld (Some M) limit reply before held = AnswersSolve M limit reply held
 
 -- the model and the files stay
 pub record SolveStep (old : State) (limit : ℕ) (reply : List ℕ) (new : State) : Type 0 where
   pub unchanged : new ≡ record { model = old.model; held = new.held; files = old.files; faults = old.faults }
-  pub answer : Solves old.model limit reply old.held new.held
+  pub answer : SolvesHeld old.model limit reply old.held new.held

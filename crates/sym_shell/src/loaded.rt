@@ -3,7 +3,7 @@ ghost use Rattle.std.specs.Prelude.{◌≡◌, true, false, IfOk, OnErr, IfSome,
 ghost use Rattle.std.specs.Option.{option_copied};
 ghost use Rattle.tree_edit.specs.Laws.{HasNoOpenLeaf};
 ghost use Rattle.sym_shell.specs.Held.{present_of};
-ghost use Rattle.mps_model.specs.Bounded.{is_bounded};
+ghost use Rattle.mps_model.specs.Bounded.{has_integer_bounds};
 ghost use Rattle.mps_model.specs.PlainNames.{HasPlainNames, HasPlainRows};
 ghost use Rattle.sym_shell.specs.Searched.{Searches, has_ended};
 
@@ -48,7 +48,7 @@ fn has_ended(outcome: &Outcome) -> bool
 impl Loaded {
     /// The model with a fresh search, of which no answer is held.
     pub(crate) fn new(alloc: Global, model: Model) -> Result<Loaded, AllocError>
-        requires bounded { is_bounded model ≡ true }
+        requires bounded { has_integer_bounds model ≡ true }
         requires plain { HasPlainNames model }
         requires plain_rows { HasPlainRows model }
         ensures model { IfOk result (λ loaded. loaded.search.model ≡ model) }
@@ -63,7 +63,7 @@ impl Loaded {
     /// The model.
     pub(crate) fn model(&self) -> &Model
         ensures model { result.now ≡ self.now.search.model }
-        ensures bounded { is_bounded self.now.search.model ≡ true }
+        ensures bounded { has_integer_bounds self.now.search.model ≡ true }
         ensures plain { HasPlainNames self.now.search.model }
     {
         self.search.model()

@@ -1,6 +1,6 @@
 // The machine behind the script: the model that is present, and what a command does to it.
 ghost use Rattle.std.specs.Prelude.{◌≡◌, true, false, [], ◌++◌, OnOk, OnErr, ℕ, List, map, Some, None};
-ghost use Rattle.mps_model.specs.Bounded.{is_bounded};
+ghost use Rattle.mps_model.specs.Bounded.{has_integer_bounds};
 ghost use Rattle.mps_model.specs.PlainNames.{HasPlainNames, HasPlainRows};
 ghost use Rattle.command_words.specs.Names.{is_file_name};
 ghost use Rattle.command_words.specs.Asks.{asks_shown, NamesFile};
@@ -8,7 +8,7 @@ ghost use Rattle.sym_shell.specs.Texts.{ok_text, memory_text};
 ghost use Rattle.sym_shell.specs.State.{state};
 ghost use Rattle.sym_shell.specs.Held.{present_of};
 ghost use Rattle.sym_shell.specs.Load.{LoadStep};
-ghost use Rattle.sym_shell.specs.Solve.{Solves, Shows};
+ghost use Rattle.sym_shell.specs.Solve.{SolvesHeld, AnswersSolve};
 ghost use Rattle.sym_shell.specs.Certify.{CertStep};
 ghost use Rattle.sym_shell.specs.Step.{AnswersTo};
 ghost use Rattle.sym_shell.specs.Shell.{is_quit};
@@ -43,7 +43,7 @@ impl Shell {
 
     /// Replaces the model, of whose search no answer is held yet.
     fn keep(&mut self, alloc: Global, model: Model, reply: &mut Vec<u8>) -> Result<(), AllocError>
-        requires bounded { is_bounded model ≡ true }
+        requires bounded { has_integer_bounds model ≡ true }
         requires plain { HasPlainNames model }
         requires plain_rows { HasPlainRows model }
         ensures present { OnOk result (present self.new ≡ record { model = Some model; held = None }) }
@@ -82,8 +82,8 @@ impl Shell {
     fn solve(&mut self, alloc: Global, limit: u64, reply: &mut Vec<u8>) -> Result<(), AllocError>
         requires { reply.old.items ≡ [] }
         ensures model { (present self.new).model ≡ (present self.old).model }
-        ensures answered { OnOk result (Solves (present self.old).model limit reply.new.items (present self.old).held (present self.new).held) }
-        ensures unfinished { OnErr result (Solves (present self.old).model limit memory_text (present self.old).held (present self.new).held) }
+        ensures answered { OnOk result (SolvesHeld (present self.old).model limit reply.new.items (present self.old).held (present self.new).held) }
+        ensures unfinished { OnErr result (SolvesHeld (present self.old).model limit memory_text (present self.old).held (present self.new).held) }
     {
         match &mut self.loaded {
             Some(loaded) => answer_search(alloc, loaded, limit, reply),
@@ -180,7 +180,7 @@ fn answer_search(
 ) -> Result<(), AllocError>
     requires { reply.old.items ≡ [] }
     ensures model { loaded.new.search.model ≡ loaded.old.search.model }
-    ensures answered { OnOk result (Shows loaded.old.search.model limit reply.new.items (present_of (Some loaded.new)).held) }
+    ensures answered { OnOk result (AnswersSolve loaded.old.search.model limit reply.new.items (present_of (Some loaded.new)).held) }
     ensures unfinished { OnErr result (loaded.new.held ≡ false) }
 {
     match loaded.solve(alloc, limit) {

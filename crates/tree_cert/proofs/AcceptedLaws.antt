@@ -6,13 +6,13 @@ use Rattle.std.proofs.lemmas.List.Elements.{All-append}
 use Rattle.std.proofs.lemmas.List.Elements.{All-get_or}
 use Rattle.rational.specs.Rational.{ℚ, neg_ℚ}
 use Rattle.lp_model.specs.Program.{Program, Point, value, least_value, in_least_form, is_integer}
-use Rattle.lp_model.specs.Lawful.{IsLawful as IsLawfulModel, column_names}
+use Rattle.lp_model.specs.Lawful.{SplitsLawfully as IsLawfulModel, column_names}
 use Rattle.rational.proofs.RationalRing.{ring, reads_ℚ}
 use Rattle.lp_model.specs.declared.types.Sense.{Sense}
 use Rattle.lp_model.specs.declared.types.Sense.TheVariants.{Min, Max}
 use Rattle.lp_model.specs.Regions.{Path, IsEmptyRegion}
 use Rattle.leaf_dual.specs.Dual.{Multipliers}
-use Rattle.branch_tree.specs.Tree.{Leaf, Split, left_path, right_path, IsLawful, HasNarrowSplits, EachLeaf}
+use Rattle.branch_tree.specs.Tree.{Leaf, Split, left_path, right_path, SplitsLawfully, HasNarrowSplits, EachLeaf}
 use Rattle.branch_tree.specs.Plain.{Plain}
 use Rattle.branch_tree.specs.declared.node.LeafState.TheVariants.{IsClosed}
 use Rattle.branch_tree.specs.declared.node.LeafData.{LeafData}
@@ -113,7 +113,7 @@ module _ (M : Program) (lawful_model : IsLawfulModel M) where
     abbrev P : (Path × CertNode) → Type 0
     P p = IsVisitJudged M claim p Passes
 
-    pub tree-passes : (path : Path) (s : Plain) (tree : CertTree) → IsLawful M s → HasNodeLists M s → EachLeaf (λ p l. IsJudgedLeaf M t p l.kept) path s → EachLeaf (λ p l. l.kept.state ≡ IsClosed) path s → IsTreeOf M path s tree → All P (visits M path tree)
+    pub tree-passes : (path : Path) (s : Plain) (tree : CertTree) → SplitsLawfully M s → HasNodeLists M s → EachLeaf (λ p l. IsJudgedLeaf M t p l.kept) path s → EachLeaf (λ p l. l.kept.state ≡ IsClosed) path s → IsTreeOf M path s tree → All P (visits M path tree)
     tree-passes path (Leaf l) (CertLeafTree leaf) lawful lists judged closed like = all_cons P (path, node.Leaf leaf) [] (leaf-passes t claim for path l.kept leaf lists judged closed like) (all_none P)
     tree-passes path (Leaf l) (CertSplitTree col w first second) lawful lists judged closed like = absurd like
     tree-passes path (Split kept j v left right) (CertLeafTree leaf) lawful lists judged closed like = absurd like

@@ -13,12 +13,12 @@ use Rattle.cert_check.specs.declared.line.Statement.{Statement}
 use Rattle.cert_check.specs.declared.line.Statement.TheVariants as says
 use Rattle.cert_check.specs.Lines.{lines_of, line_says}
 use Rattle.cert_check.specs.Reading.{after}
-use Rattle.cert_check.specs.Text.{Stated, stated, due_after, is_whole_tree, are_none, takes_point, lacks_part, place_code, code_in, code_at, AreClean, or_no_end, end_code, first_claim, first_point, cert_of, Meant}
+use Rattle.cert_check.specs.Text.{StatedCertificate, stated, due_after, is_whole_tree, are_none, takes_point, lacks_part, place_code, code_in, code_at, AreClean, or_no_end, end_code, first_claim, first_point, cert_of, MeantCertificate}
 use Rattle.cert_check.specs.Whole.{TakesAll, IsNarrowNode, HasNoPoint, IsCertificate}
 use Rattle.cert_check.proofs.DueLemmas.{takes-more, whole_tree}
 use Rattle.cert_check.proofs.TextLemmas.{taken_more}
 use Rattle.tree_cert.specs.CertText.{IsWord, HasNodeWords, HasCertWords, cert_text}
-use Rattle.tree_cert.specs.Printed.{HasRoom, HasClaimRoom, HasPointRoom, HasNodeRoom, HasCertRoom}
+use Rattle.tree_cert.specs.Printed.{HasFractions, HasClaimRoom, HasPointRoom, HasNodeRoom, HasCertRoom}
 use Rattle.tree_cert.proofs.WordLaws.{OneLine}
 use Rattle.tree_cert.proofs.SaidLaws.{GoodNamed, GoodNode, Good, line-good, text-lines}
 use Rattle.tree_cert.proofs.PrintedLaws.{printed_states}
@@ -41,7 +41,7 @@ record Keeps (claims : List Claim) (points : List Named) (nodes : List CertNode)
   behind : IsBehind claims points
   whole : ended ≡ true → due_after 1 nodes ≡ 0
 
-abbrev KeepsIn : Stated → Type 0
+abbrev KeepsIn : StatedCertificate → Type 0
 KeepsIn s = Keeps s.claims s.points s.nodes s.ended
 
 one : {A : Type 0} (P : A → Type 0) (x : A) → P x → All P (x ∷ [])
@@ -89,7 +89,7 @@ end_clean false true e = refl
 end_clean false false e = absurd cc
 
 -- a point without a code stands behind a claimed value
-point_clean : (s : Stated) (named : Named) → place_code s (says.Point named) ≡ None → IsBehind s.claims (s.points ++ named ∷ [])
+point_clean : (s : StatedCertificate) (named : Named) → place_code s (says.Point named) ≡ None → IsBehind s.claims (s.points ++ named ∷ [])
 point_clean s named = by s.claims (are_none s.points)
   where
     by : (claims : List Claim) (b : Bool) → point_test (not (are_none claims) && (takes_point claims && b)) ≡ None → IsBehind claims (s.points ++ named ∷ [])
@@ -103,7 +103,7 @@ same_ended : (b : Bool) → (b || false) ≡ b
 same_ended true = refl
 same_ended false = refl
 
-unchanged : (s : Stated) → KeepsIn s → Keeps (s.claims ++ []) (s.points ++ []) (s.nodes ++ []) (s.ended || false)
+unchanged : (s : StatedCertificate) → KeepsIn s → Keeps (s.claims ++ []) (s.points ++ []) (s.nodes ++ []) (s.ended || false)
 unchanged s k = subst (λ T. T) (λ i. Keeps (sym (nil_right s.claims) i) (sym (nil_right s.points) i) (sym (nil_right s.nodes) i) (sym (same_ended s.ended) i)) k
 
 behind-more : (claims : List Claim) (points : List Named) (claim : Claim) → IsBehind claims points → IsBehind (claims ++ claim ∷ []) points
@@ -112,7 +112,7 @@ behind-more [] points Infeasible h = h
 behind-more (Optimal v ∷ claims) points claim h = h
 behind-more (Infeasible ∷ claims) points claim h = h
 
-keeps_more : (s : Stated) (said : Result Statement ℕ) → KeepsIn s → Good said → code_in s said ≡ None → KeepsIn (after s said)
+keeps_more : (s : StatedCertificate) (said : Result Statement ℕ) → KeepsIn s → Good said → code_in s said ≡ None → KeepsIn (after s said)
 keeps_more s (Err code) k good clean = absurd (err_code (s.count == 0) s.ended code clean)
 keeps_more s (Ok says.Header) k good clean = unchanged s k
 keeps_more s (Ok says.Foreign) k good clean = unchanged s k
@@ -184,7 +184,7 @@ module _ (lines : List (List ℕ)) (one_line : All OneLine lines) where
 
 -- ---- the certificate
 
-ended_is : (s : Stated) → end_code s ≡ None → s.ended ≡ true
+ended_is : (s : StatedCertificate) → end_code s ≡ None → s.ended ≡ true
 ended_is s e = by (s.count == 0) s.ended (or_no_end (place_code s says.End)) e
   where
     by : (a b : Bool) (x : ℕ) → ended_test a b x ≡ None → b ≡ true
@@ -205,7 +205,7 @@ point_good : (points : List Named) → All GoodNamed points → GoodNamed (first
 point_good [] all = record { words = All-nil (λ (e : List ℕ × Rattle.rational.specs.Rational.ℚ). IsWord e.0); room = All-nil (λ (e : List ℕ × Rattle.rational.specs.Rational.ℚ). Rattle.frac128.specs.Range.Fits e.1) }
 point_good (named ∷ points) all = All-head GoodNamed named points all
 
-point_room : (claim : Claim) (named : Named) → HasRoom named → HasPointRoom claim named
+point_room : (claim : Claim) (named : Named) → HasFractions named → HasPointRoom claim named
 point_room (Optimal v) named room = room
 point_room Infeasible named room = tt
 
@@ -217,7 +217,7 @@ record Whole (cert : Cert) : Type 0 where
   words : HasCertWords cert
   room : HasCertRoom cert
 
-whole_by : (s : Stated) → KeepsIn s → end_code s ≡ None → Whole (cert_of s)
+whole_by : (s : StatedCertificate) → KeepsIn s → end_code s ≡ None → Whole (cert_of s)
 whole_by s k ended =
     let t = whole_tree s.nodes k.takes (k.whole (ended_is s ended)) in
     let point = point_good s.points k.points_good in
@@ -227,7 +227,7 @@ whole_by s k ended =
       room = record { claim = claim_room s.claims k.claims_room; point = point_room (first_claim s.claims) (first_point s.points) point.room; nodes = all_weaker GoodNode HasNodeRoom (λ n g. g.room) s.nodes k.nodes_good };
     }
 
-pub print_again : (text : List ℕ) (cert : Cert) → Meant text cert → Meant (cert_text cert) cert
+pub print_again : (text : List ℕ) (cert : Cert) → MeantCertificate text cert → MeantCertificate (cert_text cert) cert
 print_again text cert m =
     let w = subst Whole (sym m.is) (whole_by (stated (lines_of text)) (keeps_all (lines_of text) (text-lines text) m.clean) m.ended) in
     printed_states cert w.certificate w.words w.room

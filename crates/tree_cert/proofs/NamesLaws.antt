@@ -11,7 +11,7 @@ use Rattle.lp_model.specs.declared.types.Col.{Col}
 use Rattle.lp_model.specs.declared.types.Var.{Var}
 use Rattle.lp_model.specs.declared.types.Var.TheVariants.{Row, Col as ColVar, Cut}
 use Rattle.leaf_dual.specs.Dual.{Multipliers}
-use Rattle.branch_tree.specs.Tree.{Leaf, Split, left_path, right_path, IsLawful}
+use Rattle.branch_tree.specs.Tree.{Leaf, Split, left_path, right_path, SplitsLawfully}
 use Rattle.branch_tree.specs.Plain.{Plain}
 use Rattle.branch_tree.specs.declared.node.LeafData.{LeafData}
 use Rattle.tree_edit.specs.Lists.{IsRowThere, HasLists, HasNodeLists}
@@ -49,7 +49,7 @@ module _ (M : Program) (plain : HasWordNames M) where
   leaf-words path kept (Farkas named) lists reason = subst HasWords (sym reason.1.1) (rows-words kept.farkas lists.farkas.each)
   leaf-words path kept (Bound named) lists reason = subst HasWords (sym reason.1.1) (rows-words kept.mult lists.mult.each)
 
-  tree-words : (path : Path) (s : Plain) (tree : CertTree) → IsLawful M s → HasNodeLists M s → IsTreeOf M path s tree → All HasNodeWords (preorder tree)
+  tree-words : (path : Path) (s : Plain) (tree : CertTree) → SplitsLawfully M s → HasNodeLists M s → IsTreeOf M path s tree → All HasNodeWords (preorder tree)
   tree-words path (Leaf l) (CertLeafTree leaf) lawful lists like = All-cons HasNodeWords (node.Leaf leaf) [] (leaf-words path l.kept leaf lists like) (All-nil HasNodeWords)
   tree-words path (Leaf l) (CertSplitTree col w first second) lawful lists like = absurd like
   tree-words path (Split kept j v left right) (CertLeafTree leaf) lawful lists like = absurd like

@@ -25,10 +25,10 @@ use Rattle.cert_check.specs.declared.cert.Cert.{Cert}
 use Rattle.cert_check.specs.declared.line.Statement.{Statement}
 use Rattle.cert_check.specs.declared.line.Statement.TheVariants as says
 use Rattle.cert_check.specs.Lines.{number_of, beside, named_in, rows_in, claimed, split_at, as_leaf, as_point, words_say, line_says}
-use Rattle.cert_check.specs.Text.{Meant}
+use Rattle.cert_check.specs.Text.{MeantCertificate}
 use Rattle.cert_check.specs.Whole.{IsNarrowNode, IsCertificate}
 use Rattle.tree_cert.specs.CertText.{Words, named_words, row_words, claim_words, leaf_words, node_words, point_lines, cert_lines, line_text, lines_text, cert_text, IsWord, HasWords, HasNodeWords, HasCertWords}
-use Rattle.tree_cert.specs.Printed.{HasRoom, HasClaimRoom, HasPointRoom, HasLeafRoom, HasNodeRoom, HasCertRoom}
+use Rattle.tree_cert.specs.Printed.{HasFractions, HasClaimRoom, HasPointRoom, HasLeafRoom, HasNodeRoom, HasCertRoom}
 use Rattle.tree_cert.proofs.WordLaws.{plain_word, signed_word, number_word, line-says, lines-cut}
 use Rattle.tree_cert.proofs.StatedLaws.{SayAll, all_statements, point_statements, cert_statements, states}
 
@@ -43,26 +43,26 @@ whole_read v narrow = ap number_of (sym (printed-int v)) ∙ number_read (int v)
 -- ---- words
 
 abbrev All₂ : Named → Type 0
-All₂ named = HasWords named × HasRoom named
+All₂ named = HasWords named × HasFractions named
 
-named_read : (named : Named) → HasRoom named → named_in (named_words named) ≡ Ok named
+named_read : (named : Named) → HasFractions named → named_in (named_words named) ≡ Ok named
 named_read [] room = refl
 named_read (e ∷ named) room =
     (λ i. beside e.0 (number_read e.1 (All-head (λ (d : List ℕ × ℚ). Fits d.1) e named room) i) (named_read named (All-tail (λ (d : List ℕ × ℚ). Fits d.1) e named room) i))
 
-rows_read : (named : Named) → HasRoom named → rows_in (row_words named) ≡ Ok named
+rows_read : (named : Named) → HasFractions named → rows_in (row_words named) ≡ Ok named
 rows_read [] room = refl
 rows_read (e ∷ named) room =
     (λ i. beside e.0 (number_read e.1 (All-head (λ (d : List ℕ × ℚ). Fits d.1) e named room) i) (rows_read named (All-tail (λ (d : List ℕ × ℚ). Fits d.1) e named room) i))
 
-named_are : (named : Named) → HasWords named → HasRoom named → All IsWord (named_words named)
+named_are : (named : Named) → HasWords named → HasFractions named → All IsWord (named_words named)
 named_are [] words room = All-nil IsWord
 named_are (e ∷ named) words room =
     All-cons IsWord e.0 (printed e.1 ∷ named_words named) (All-head (λ (d : List ℕ × ℚ). IsWord d.0) e named words)
     (All-cons IsWord (printed e.1) (named_words named) (number_word e.1 (All-head (λ (d : List ℕ × ℚ). Fits d.1) e named room))
     (named_are named (All-tail (λ (d : List ℕ × ℚ). IsWord d.0) e named words) (All-tail (λ (d : List ℕ × ℚ). Fits d.1) e named room)))
 
-rows_are : (named : Named) → HasWords named → HasRoom named → All IsWord (row_words named)
+rows_are : (named : Named) → HasWords named → HasFractions named → All IsWord (row_words named)
 rows_are [] words room = All-nil IsWord
 rows_are (e ∷ named) words room =
     All-cons IsWord (codes "row") (e.0 ∷ printed e.1 ∷ row_words named) (plain_word (codes "row") refl)
@@ -95,7 +95,7 @@ claim_line (Optimal v) room =
 claim_line Infeasible room =
     line_by (codes "claim") (codes "infeasible" ∷ []) (says.Claims Infeasible) (plain_word (codes "claim") refl) (All-cons IsWord (codes "infeasible") [] (plain_word (codes "infeasible") refl) (All-nil IsWord)) refl
 
-point_line : (named : Named) → HasWords named → HasRoom named → Line (codes "point" ∷ named_words named) (says.Point named)
+point_line : (named : Named) → HasWords named → HasFractions named → Line (codes "point" ∷ named_words named) (says.Point named)
 point_line named words room = line_by (codes "point") (named_words named) (says.Point named) (plain_word (codes "point") refl) (named_are named words room) (ap as_point (named_read named room))
 
 below_largest : (v : ℤ) → IsNarrow (v +ℤ pos 1) → int_eq v (pos (2 ^ 127 - 1)) ≡ false
@@ -143,7 +143,7 @@ point_behind (Optimal v) point lines xs words room rest = lines_cons (codes "poi
 point_behind Infeasible point lines xs words room rest = rest
 
 -- the printed text of a certificate whose names are words states it
-pub printed_states : (cert : Cert) → IsCertificate cert → HasCertWords cert → HasCertRoom cert → Meant (cert_text cert) cert
+pub printed_states : (cert : Cert) → IsCertificate cert → HasCertWords cert → HasCertRoom cert → MeantCertificate (cert_text cert) cert
 unfolding cert_text
 printed_states cert whole words room =
     let nodes = nodes_lines cert.nodes whole.narrow words.nodes room.nodes in

@@ -21,13 +21,13 @@ use Rattle.cert_check.specs.declared.line.Statement.TheVariants as says
 use Rattle.cert_check.specs.Lines.{is_newline, is_blank, is_nothing, is_piece, without_last, lines_of, words_of, begins_blank, ends_blank, number_of, with_named, beside, named_in, rows_in, cert_says, claimed, claim_says, as_point, is_whole, split_at, split_says, as_leaf, empty_says, leaf_says, end_says, word_of, word_says, known_says, words_say, line_says}
 use Rattle.cert_check.specs.Whole.{IsNarrowNode}
 use Rattle.tree_cert.specs.CertText.{IsWord, HasWords, HasNodeWords}
-use Rattle.tree_cert.specs.Printed.{HasRoom, HasClaimRoom, HasNodeRoom}
+use Rattle.tree_cert.specs.Printed.{HasFractions, HasClaimRoom, HasNodeRoom}
 use Rattle.tree_cert.proofs.WordLaws.{OneLine, OneWord}
 use Rattle.tree_cert.proofs.FitLaws.{FitsOk, number-fits}
 
 pub record GoodNamed (named : Named) : Type 0 where
   pub words : HasWords named
-  pub room : HasRoom named
+  pub room : HasFractions named
 
 pub record GoodNode (n : CertNode) : Type 0 where
   pub narrow : IsNarrowNode n

@@ -15,7 +15,7 @@ use Rattle.cert_check.specs.declared.line.Statement.{Statement}
 use Rattle.cert_check.specs.declared.line.Statement.TheVariants as says
 use Rattle.cert_check.specs.Lines.{lines_of, line_says}
 use Rattle.cert_check.specs.Reading.{after}
-use Rattle.cert_check.specs.Text.{Stated, stated, due_after, is_whole_tree, are_none, lacks_part, code_in, code_at, AreClean, end_code, first_point, cert_of, Meant}
+use Rattle.cert_check.specs.Text.{StatedCertificate, stated, due_after, is_whole_tree, are_none, lacks_part, code_in, code_at, AreClean, end_code, first_point, cert_of, MeantCertificate}
 use Rattle.cert_check.specs.Tree.{CertTree, Leaf, Split, preorder}
 use Rattle.cert_check.specs.Whole.{TakesAll, HasNoPoint}
 use Rattle.cert_check.proofs.DueLemmas.{due_after-split, due_after-leaf}
@@ -28,7 +28,7 @@ nil_right (x ∷ l) = ap (λ m. x ∷ m) (nil_right l)
 -- ---- lines taken one after the other
 
 -- none of the statements has a code where it stands, and behind them this is stated
-abbrev pub Takes : Stated → List Statement → Stated → Type 0
+abbrev pub Takes : StatedCertificate → List Statement → StatedCertificate → Type 0
 Takes s [] t = s ≡ t
 Takes s (x ∷ xs) t = (code_in s (Ok x) ≡ None) × Takes (after s (Ok x)) xs t
 
@@ -39,11 +39,11 @@ SayAll [] (x ∷ xs) = ⊥
 SayAll (line ∷ lines) [] = ⊥
 SayAll (line ∷ lines) (x ∷ xs) = (line_says line ≡ Ok x) × SayAll lines xs
 
-record IsTaken (lines : List (List ℕ)) (t : Stated) : Type 0 where
+record IsTaken (lines : List (List ℕ)) (t : StatedCertificate) : Type 0 where
   clean : AreClean lines (length lines)
   is : stated lines ≡ t
 
-taken : (done lines : List (List ℕ)) (xs : List Statement) (t : Stated) → AreClean (done ++ lines) (length done) → SayAll lines xs → Takes (stated done) xs t → IsTaken (done ++ lines) t
+taken : (done lines : List (List ℕ)) (xs : List Statement) (t : StatedCertificate) → AreClean (done ++ lines) (length done) → SayAll lines xs → Takes (stated done) xs t → IsTaken (done ++ lines) t
 taken done [] [] t clean say takes = record {
   clean = subst (AreClean (done ++ [])) (sym (ap length (nil_right done))) clean;
   is = ap stated (nil_right done) ∙ takes;
@@ -69,7 +69,7 @@ abbrev pub all_statements : List CertNode → List Statement
 all_statements nodes = map (λ n. says.Node n) nodes
 
 -- what is stated behind the claim and the point
-abbrev pub with_nodes : ℕ → Claim → List Named → List CertNode → Stated
+abbrev pub with_nodes : ℕ → Claim → List Named → List CertNode → StatedCertificate
 with_nodes count claim points nodes = record { count = suc count; claims = claim ∷ []; points = points; nodes = nodes; ended = false }
 
 -- a point stands where a value is claimed
@@ -110,7 +110,7 @@ next_state count claim points nodes n =
     let up : suc count + 1 ≡ suc (suc count) = omega arith in
     (λ i. record { count = up i; claims = claim ∷ []; points = nil_right points i; nodes = nodes ++ n ∷ []; ended = false })
 
-module _ (claim : Claim) (points : List Named) (part : HasPart claim points) (xs : List Statement) (t : Stated) where
+module _ (claim : Claim) (points : List Named) (part : HasPart claim points) (xs : List Statement) (t : StatedCertificate) where
   moved : (n : CertNode) (more : List CertNode) (count : ℕ) (nodes : List CertNode) → Takes (with_nodes (length (n ∷ more) + count) claim points (nodes ++ n ∷ more)) xs t → Takes (with_nodes (length more + suc count) claim points ((nodes ++ n ∷ []) ++ more)) xs t
   moved n more count nodes rest =
       let joined : nodes ++ n ∷ more ≡ (nodes ++ n ∷ []) ++ more = sym (append_assoc nodes (n ∷ []) more) in
@@ -177,7 +177,7 @@ abbrev pub cert_statements : Cert → List Statement
 cert_statements c = says.Header ∷ says.Claims c.claim ∷ (point_statements c.claim c.point ++ (all_statements c.nodes ++ says.End ∷ []))
 
 -- what is stated in the end
-abbrev pub final : ℕ → Claim → List Named → List CertNode → Stated
+abbrev pub final : ℕ → Claim → List Named → List CertNode → StatedCertificate
 final count claim points nodes = after (with_nodes count claim points nodes) (Ok says.End)
 
 module _ (text : List ℕ) (nodes : List CertNode) (tree : CertTree) (whole : preorder tree ≡ nodes) where
@@ -185,7 +185,7 @@ module _ (text : List ℕ) (nodes : List CertNode) (tree : CertTree) (whole : pr
   behind claim points part count =
       nodes_taken claim points part (says.End ∷ []) (final (length nodes + count) claim points nodes) nodes count 1 [] refl (takes_whole nodes tree whole) (end_taken nodes tree whole (length nodes + count) claim points part, refl)
 
-  meant_by : (claim : Claim) (point : Named) (points : List Named) (count : ℕ) → first_point (points ++ []) ≡ point → IsTaken (lines_of text) (final count claim points nodes) → Meant text (record { claim = claim; point = point; nodes = nodes })
+  meant_by : (claim : Claim) (point : Named) (points : List Named) (count : ℕ) → first_point (points ++ []) ≡ point → IsTaken (lines_of text) (final count claim points nodes) → MeantCertificate text (record { claim = claim; point = point; nodes = nodes })
   meant_by claim point points count same taken = record {
     clean = taken.clean;
     ended =
@@ -197,7 +197,7 @@ module _ (text : List ℕ) (nodes : List CertNode) (tree : CertTree) (whole : pr
   no_line : AreClean (lines_of text) 0
   no_line k below = absurd (omega arith)
 
-  pub states : (claim : Claim) (point : Named) → HasNoPoint claim point → SayAll (lines_of text) (cert_statements (record { claim = claim; point = point; nodes = nodes })) → Meant text (record { claim = claim; point = point; nodes = nodes })
+  pub states : (claim : Claim) (point : Named) → HasNoPoint claim point → SayAll (lines_of text) (cert_statements (record { claim = claim; point = point; nodes = nodes })) → MeantCertificate text (record { claim = claim; point = point; nodes = nodes })
   unfolding stated
   states (Optimal v) point none say =
       meant_by (Optimal v) point (point ∷ []) (length nodes + 2) refl

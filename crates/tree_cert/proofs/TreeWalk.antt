@@ -8,7 +8,7 @@ use Rattle.lp_model.specs.Regions.{Path, AreNarrow}
 use Rattle.lp_model.specs.declared.types.Side.{Side}
 use Rattle.lp_model.specs.declared.types.Side.TheVariants.{Lo, Hi}
 use Rattle.lp_model.specs.declared.types.BoundChange.{BoundChange}
-use Rattle.branch_tree.specs.Tree.{Leaf, Split, at_most, at_least, left_path, right_path, IsLawful, HasNarrowSplits}
+use Rattle.branch_tree.specs.Tree.{Leaf, Split, at_most, at_least, left_path, right_path, SplitsLawfully, HasNarrowSplits}
 use Rattle.branch_tree.specs.Plain.{Plain, preorder}
 use Rattle.branch_tree.specs.declared.node.Node.{Node}
 use Rattle.branch_tree.specs.declared.node.Node.TheVariants.{Leaf as LeafNode, Split as SplitNode}
@@ -18,7 +18,7 @@ use Rattle.cert_check.specs.declared.cert.CertNode.{CertNode}
 use Rattle.cert_check.specs.declared.cert.CertNode.TheVariants as cert
 use Rattle.cert_check.specs.Tree.{CertTree, preorder as cert_preorder}
 use Rattle.cert_check.specs.Tree.{Leaf as CertLeafTree, Split as CertSplitTree}
-use Rattle.cert_check.specs.Walk.{turned, in_front, after_leaf}
+use Rattle.cert_check.specs.Walk.{turned_change, in_front, after_leaf}
 use Rattle.cert_check.proofs.WalkLemmas.{after_leaf-low, after_leaf-high}
 use Rattle.tree_cert.specs.Certificates.{IsTreeOf}
 use Rattle.tree_cert.specs.Walked.{path_after, IsNodeOf, AreNodesOf, IsFit, AreFit, HasTurns, AreOfTree}
@@ -33,7 +33,7 @@ turns-append : (path : Path) (c : BoundChange) → HasTurns path → IsNarrow c.
 turns-append [] c h here next = (here, (next, tt))
 turns-append (d ∷ path) c h here next = (h.0, (h.1.0, turns-append path c h.1.1 here next))
 
-turns-turned : (c : BoundChange) (side : Side) → c.side ≡ side → (c.side ≡ Hi → IsNarrow (c.v +ℤ pos 1)) → HasTurns (turned side c)
+turns-turned : (c : BoundChange) (side : Side) → c.side ≡ side → (c.side ≡ Hi → IsNarrow (c.v +ℤ pos 1)) → HasTurns (turned_change side c)
 turns-turned c Hi e next = (next e, ((λ f. let g : Lo ≡ Hi = f in cc), tt))
 turns-turned c Lo e next = tt
 
@@ -55,7 +55,7 @@ fit-append : (M : Program) (a b : List Node) → AreFit M a → AreFit M b → A
 fit-append M [] b h k = k
 fit-append M (n ∷ a) b h k = (h.0, fit-append M a b h.1 k)
 
-pub tree-fit : (M : Program) (t : Plain) → IsLawful M t → HasNarrowSplits t → HasNodeLists M t → AreFit M (preorder t)
+pub tree-fit : (M : Program) (t : Plain) → SplitsLawfully M t → HasNarrowSplits t → HasNodeLists M t → AreFit M (preorder t)
 tree-fit M (Leaf l) lawful narrow lists = (lists, tt)
 tree-fit M (Split kept j v left right) lawful narrow lists = (
   (lawful.0.0, narrow.0),

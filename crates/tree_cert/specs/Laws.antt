@@ -2,13 +2,13 @@
 use Rattle.std.specs.Prelude.{List, ℕ}
 use Rattle.tree_edit.specs.Sound.{PlainSearch, IsSound}
 use Rattle.cert_check.specs.declared.cert.Cert.{Cert}
-use Rattle.cert_check.specs.Text.{Meant}
+use Rattle.cert_check.specs.Text.{MeantCertificate}
 use Rattle.tree_cert.specs.Certificates.{IsCertificateOf}
 use Rattle.tree_cert.specs.CertText.{cert_text, HasCertWords, HasWordNames}
 
 -- what some text states is stated by its printed text
 abbrev pub PrintLaw : Type 0
-PrintLaw = (text : List ℕ) (cert : Cert) → Meant text cert → Meant (cert_text cert) cert
+PrintLaw = (text : List ℕ) (cert : Cert) → MeantCertificate text cert → MeantCertificate (cert_text cert) cert
 
 -- the names in the certificate of a search are words where the model's are
 abbrev pub NamesLaw : Type 0

@@ -10,8 +10,8 @@ use Rattle.cert_check.specs.declared.cert.CertNode.{CertNode}
 use Rattle.cert_check.specs.declared.cert.CertNode.TheVariants.{Split, Leaf}
 use Rattle.cert_check.specs.declared.cert.Cert.{Cert}
 
-abbrev pub HasRoom : Named → Type 0
-HasRoom named = All (λ e. Fits e.1) named
+abbrev pub HasFractions : Named → Type 0
+HasFractions named = All (λ e. Fits e.1) named
 
 abbrev pub HasClaimRoom : Claim → Type 0
 HasClaimRoom (Optimal v) = Fits v
@@ -19,12 +19,12 @@ HasClaimRoom Infeasible = Unit {0}
 
 -- the numbers of a point that is printed
 abbrev pub HasPointRoom : Claim → Named → Type 0
-HasPointRoom (Optimal v) named = HasRoom named
+HasPointRoom (Optimal v) named = HasFractions named
 HasPointRoom Infeasible named = Unit {0}
 
 abbrev pub HasLeafRoom : CertLeaf → Type 0
-HasLeafRoom (Bound named) = HasRoom named
-HasLeafRoom (Farkas named) = HasRoom named
+HasLeafRoom (Bound named) = HasFractions named
+HasLeafRoom (Farkas named) = HasFractions named
 HasLeafRoom Empty = Unit {0}
 
 abbrev pub HasNodeRoom : CertNode → Type 0

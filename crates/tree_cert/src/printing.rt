@@ -3,10 +3,10 @@ ghost use Rattle.std.specs.Prelude.{◌≡◌, ◌++◌, ◌∷◌, [], map, cod
 ghost use Rattle.std.specs.Fmt.{signed_decimal};
 ghost use Rattle.frac128.specs.Range.{Fits};
 ghost use Rattle.frac128.specs.Printing.{printed};
-ghost use Rattle.cert_check.specs.Text.{Meant};
+ghost use Rattle.cert_check.specs.Text.{MeantCertificate};
 ghost use Rattle.cert_check.specs.Whole.{IsCertificate};
 ghost use Rattle.tree_cert.specs.CertText.{named_words, row_words, claim_words, leaf_words, node_words, point_lines, spaced, line_text, lines_text, cert_text, HasCertWords};
-ghost use Rattle.tree_cert.specs.Printed.{HasRoom, HasLeafRoom, HasNodeRoom, HasClaimRoom, HasPointRoom};
+ghost use Rattle.tree_cert.specs.Printed.{HasFractions, HasLeafRoom, HasNodeRoom, HasClaimRoom, HasPointRoom};
 
 use cert_check::{Cert, CertLeaf, CertNode, Claim};
 use frac128::Frac;
@@ -46,7 +46,7 @@ fn put_pair(text: &mut Vec<u8>, name: &Name, number: &Frac) -> Result<(), AllocE
 /// `NAME V` for each.
 fn put_named(text: &mut Vec<u8>, named: &[(Name, Frac)]) -> Result<(), AllocError>
     ensures text { IfOk result (λ _. text.new.items ≡ text.old.items ++ spaced (named_words named.now)) }
-    ensures room { IfOk result (λ _. HasRoom named.now) }
+    ensures room { IfOk result (λ _. HasFractions named.now) }
 {
     for (name, number) in named {
         put_pair(text, name, number)?;
@@ -57,7 +57,7 @@ fn put_named(text: &mut Vec<u8>, named: &[(Name, Frac)]) -> Result<(), AllocErro
 /// `row NAME V` for each.
 fn put_rows(text: &mut Vec<u8>, named: &[(Name, Frac)]) -> Result<(), AllocError>
     ensures text { IfOk result (λ _. text.new.items ≡ text.old.items ++ spaced (row_words named.now)) }
-    ensures room { IfOk result (λ _. HasRoom named.now) }
+    ensures room { IfOk result (λ _. HasFractions named.now) }
 {
     for (name, number) in named {
         put_word(text, b"row")?;
@@ -151,7 +151,7 @@ fn put_point(text: &mut Vec<u8>, cert: &Cert) -> Result<(), AllocError>
 /// that `read_cert` reads it back.
 pub fn print_cert(alloc: Global, cert: &Cert) -> Result<Vec<u8>, AllocError>
     ensures text { IfOk result (λ text. text.items ≡ cert_text cert.now) }
-    ensures states { IfOk result (λ text. IsCertificate cert.now → HasCertWords cert.now → Meant text.items cert.now) }
+    ensures states { IfOk result (λ text. IsCertificate cert.now → HasCertWords cert.now → MeantCertificate text.items cert.now) }
 {
     let mut text = Vec::new(alloc);
     text.extend_from_slice(b"cert 1\n")?;

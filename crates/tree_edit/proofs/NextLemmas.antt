@@ -6,9 +6,9 @@ use Rattle.lp_model.specs.Program.{Program}
 use Rattle.lp_model.specs.Regions.{Path}
 use Rattle.branch_tree.specs.Tree.{Leaf, Split, leaves, left_path, right_path, EachLeaf}
 use Rattle.branch_tree.specs.Plain.{SplitKept, Plain}
-use Rattle.branch_tree.specs.Leaves.{placed, placed_leaves}
+use Rattle.branch_tree.specs.Leaves.{region_leaf, region_leaves}
 use Rattle.branch_tree.specs.declared.node.LeafState.TheVariants.{IsClosed}
-use Rattle.branch_tree.specs.declared.node.PlacedLeaf.{PlacedLeaf}
+use Rattle.branch_tree.specs.declared.node.RegionLeaf.{RegionLeaf}
 use Rattle.tree_edit.specs.declared.choosing.Candidate.{Candidate}
 use Rattle.tree_edit.specs.declared.queue.LeafQueue.{LeafQueue}
 use Rattle.tree_edit.specs.Choosing.{GoesFirst, IsCandidate, IsOneOf, GoesBeforeAll, AreClosed, IsNext}
@@ -16,52 +16,52 @@ use Rattle.tree_edit.specs.Sound.{PlainSearch}
 use Rattle.tree_edit.specs.Queued.{HasNone, IsFrontOf, SomeLeaf, IsQueued, IsQueueOf}
 use Rattle.tree_edit.proofs.SoundLemmas.{each-weaker}
 
-two-parts : (path : Path) (kept : SplitKept) (j : ℕ) (v : ℤ) (left right : Plain) → placed_leaves path (Split kept j v left right) ≡ placed_leaves (left_path path j v) left ++ placed_leaves (right_path path j v) right
-two-parts path kept j v left right = map-append placed (leaves (left_path path j v) left) (leaves (right_path path j v) right)
+two-parts : (path : Path) (kept : SplitKept) (j : ℕ) (v : ℤ) (left right : Plain) → region_leaves path (Split kept j v left right) ≡ region_leaves (left_path path j v) left ++ region_leaves (right_path path j v) right
+two-parts path kept j v left right = map-append region_leaf (leaves (left_path path j v) left) (leaves (right_path path j v) right)
 
 -- ---- all closed
 
-closed-append : (ls ms : List PlacedLeaf) → AreClosed ls → AreClosed ms → AreClosed (ls ++ ms)
+closed-append : (ls ms : List RegionLeaf) → AreClosed ls → AreClosed ms → AreClosed (ls ++ ms)
 closed-append [] ms h k = k
 closed-append (l ∷ ls) ms h k = (h.0, closed-append ls ms h.1 k)
 
-closed-leaves : (path : Path) (t : Plain) → EachLeaf (λ p l. l.kept.state ≡ IsClosed) path t → AreClosed (placed_leaves path t)
+closed-leaves : (path : Path) (t : Plain) → EachLeaf (λ p l. l.kept.state ≡ IsClosed) path t → AreClosed (region_leaves path t)
 closed-leaves path (Leaf l) h = (h, tt)
 closed-leaves path (Split kept j v left right) h =
     subst AreClosed (sym (two-parts path kept j v left right))
-    (closed-append (placed_leaves (left_path path j v) left) (placed_leaves (right_path path j v) right) (closed-leaves (left_path path j v) left h.0) (closed-leaves (right_path path j v) right h.1))
+    (closed-append (region_leaves (left_path path j v) left) (region_leaves (right_path path j v) right) (closed-leaves (left_path path j v) left h.0) (closed-leaves (right_path path j v) right h.1))
 
 -- ---- one that goes first
 
 module _ (M : Program) (c : Candidate) where
-  abbrev IsLater : PlacedLeaf → Type 0
+  abbrev IsLater : RegionLeaf → Type 0
   IsLater l = (l.kept.state ≡ IsClosed) ⊎ ((d : Candidate) × (IsCandidate M l d × GoesFirst c.rank c.id d.rank d.id))
 
-  one-left : (ls ms : List PlacedLeaf) → IsOneOf M ls c → IsOneOf M (ls ++ ms) c
+  one-left : (ls ms : List RegionLeaf) → IsOneOf M ls c → IsOneOf M (ls ++ ms) c
   one-left [] ms h = absurd h
   one-left (l ∷ ls) ms (inl h) = inl h
   one-left (l ∷ ls) ms (inr h) = inr (one-left ls ms h)
 
-  one-right : (ls ms : List PlacedLeaf) → IsOneOf M ms c → IsOneOf M (ls ++ ms) c
+  one-right : (ls ms : List RegionLeaf) → IsOneOf M ms c → IsOneOf M (ls ++ ms) c
   one-right [] ms h = h
   one-right (l ∷ ls) ms h = inr (one-right ls ms h)
 
-  one-leaf : (path : Path) (t : Plain) → SomeLeaf (λ p l. IsCandidate M (placed (p, l)) c) path t → IsOneOf M (placed_leaves path t) c
+  one-leaf : (path : Path) (t : Plain) → SomeLeaf (λ p l. IsCandidate M (region_leaf (p, l)) c) path t → IsOneOf M (region_leaves path t) c
   one-leaf path (Leaf l) h = inl h
   one-leaf path (Split kept j v left right) (inl h) =
-      subst (λ ls. IsOneOf M ls c) (sym (two-parts path kept j v left right)) (one-left (placed_leaves (left_path path j v) left) (placed_leaves (right_path path j v) right) (one-leaf (left_path path j v) left h))
+      subst (λ ls. IsOneOf M ls c) (sym (two-parts path kept j v left right)) (one-left (region_leaves (left_path path j v) left) (region_leaves (right_path path j v) right) (one-leaf (left_path path j v) left h))
   one-leaf path (Split kept j v left right) (inr h) =
-      subst (λ ls. IsOneOf M ls c) (sym (two-parts path kept j v left right)) (one-right (placed_leaves (left_path path j v) left) (placed_leaves (right_path path j v) right) (one-leaf (right_path path j v) right h))
+      subst (λ ls. IsOneOf M ls c) (sym (two-parts path kept j v left right)) (one-right (region_leaves (left_path path j v) left) (region_leaves (right_path path j v) right) (one-leaf (right_path path j v) right h))
 
-  before-append : (ls ms : List PlacedLeaf) → GoesBeforeAll M c ls → GoesBeforeAll M c ms → GoesBeforeAll M c (ls ++ ms)
+  before-append : (ls ms : List RegionLeaf) → GoesBeforeAll M c ls → GoesBeforeAll M c ms → GoesBeforeAll M c (ls ++ ms)
   before-append [] ms h k = k
   before-append (l ∷ ls) ms h k = (h.0, before-append ls ms h.1 k)
 
-  before-leaves : (path : Path) (t : Plain) → EachLeaf (λ p l. IsLater (placed (p, l))) path t → GoesBeforeAll M c (placed_leaves path t)
+  before-leaves : (path : Path) (t : Plain) → EachLeaf (λ p l. IsLater (region_leaf (p, l))) path t → GoesBeforeAll M c (region_leaves path t)
   before-leaves path (Leaf l) h = (h, tt)
   before-leaves path (Split kept j v left right) h =
       subst (GoesBeforeAll M c) (sym (two-parts path kept j v left right))
-      (before-append (placed_leaves (left_path path j v) left) (placed_leaves (right_path path j v) right) (before-leaves (left_path path j v) left h.0) (before-leaves (right_path path j v) right h.1))
+      (before-append (region_leaves (left_path path j v) left) (region_leaves (right_path path j v) right) (before-leaves (left_path path j v) left h.0) (before-leaves (right_path path j v) right h.1))
 
 -- ---- the next leaf
 
@@ -77,7 +77,7 @@ next-some S queue c is front = (
     (
       one-leaf S.model c [] S.tree.root (is.only c front.0),
       before-leaves S.model c [] S.tree.root
-          (each-weaker (IsQueued S.model queue) (λ p l. IsLater S.model c (placed (p, l))) (λ p l h. elim h [ inl e ↦ inl e | inr k ↦ inr (k.0, (k.1.0, front.1 k.0 k.1.1)) ]) [] S.tree.root is.each),
+          (each-weaker (IsQueued S.model queue) (λ p l. IsLater S.model c (region_leaf (p, l))) (λ p l h. elim h [ inl e ↦ inl e | inr k ↦ inr (k.0, (k.1.0, front.1 k.0 k.1.1)) ]) [] S.tree.root is.each),
     ),
     refl,
   ),

@@ -8,7 +8,7 @@ use Rattle.lp_model.specs.declared.types.Basis.{Basis}
 use Rattle.leaf_dual.specs.Dual.{Multipliers}
 use Rattle.branch_tree.specs.Tree.{Leaf, left_path, right_path, EachLeaf}
 use Rattle.branch_tree.specs.Plain.{LeafKept, Plain, leaves_with, replaced}
-use Rattle.branch_tree.specs.Leaves.{placed}
+use Rattle.branch_tree.specs.Leaves.{region_leaf}
 use Rattle.branch_tree.specs.Numbered.{NumberedTree, IsNumbered}
 use Rattle.branch_tree.specs.Changes.{HasLeaf}
 use Rattle.branch_tree.specs.declared.node.LeafState.{LeafState}
@@ -33,7 +33,7 @@ apart-by_id c d ne e = ne (ap (λ (k : Candidate). k.id) e)
 module _ (M : Program) (t : Plain) where
   -- a candidate of the queue has the id of a leaf
   pub queued-id : (queue : LeafQueue) → IsQueueOf M t queue → (c : Candidate) → Has queue c → 0 < leaves_with c.id t
-  queued-id queue is c has = some-id c.id (λ p l. IsCandidate M (placed (p, l)) c) (λ p l k. sym k.id) [] t (is.only c has)
+  queued-id queue is c has = some-id c.id (λ p l. IsCandidate M (region_leaf (p, l)) c) (λ p l k. sym k.id) [] t (is.only c has)
 
   pub queue-same : (old new : LeafQueue) → IsQueueOf M t old → IsSameQueue old new → IsQueueOf M t new
   queue-same old new is same = record {
@@ -55,7 +55,7 @@ module _ (M : Program) (t : Plain) where
         (each_both (λ p l. l.id ≡ id → p ≡ path) (λ p l. l.id ≡ id → Ranked p l) [] t at ranked)
 
     -- the leaf's only candidate is this one
-    is-this : (p : Path) (l : LeafKept) (c : Candidate) → l.id ≡ id → Ranked p l → IsCandidate M (placed (p, l)) c → c ≡ this
+    is-this : (p : Path) (l : LeafKept) (c : Candidate) → l.id ≡ id → Ranked p l → IsCandidate M (region_leaf (p, l)) c → c ≡ this
     is-this p l c e h k =
         let same : c.rank ≡ r = k.rank_is ∙ rank_same M p l.kept.mult l.kept.farkas k.number h.0 k.number_is h.1.0 ∙ sym h.1.1 in
         let ids : c.id ≡ id = k.id ∙ e in
@@ -71,7 +71,7 @@ module _ (M : Program) (t : Plain) where
       each = each-changed id path (Leaf (record { id = id; kept = kept })) Ranked (IsQueued M old) (IsQueued M new) (others-stay old new (λ c has ne. (removed c).1 (has, ne))) (λ l e d h. inl closed) [] t known is.each;
       only = λ c has.
           let left = (removed c).0 has in
-          some-changed id path (Leaf (record { id = id; kept = kept })) Ranked (λ p l. IsCandidate M (placed (p, l)) c) (λ p l. IsCandidate M (placed (p, l)) c) (λ p l ne k. k)
+          some-changed id path (Leaf (record { id = id; kept = kept })) Ranked (λ p l. IsCandidate M (region_leaf (p, l)) c) (λ p l. IsCandidate M (region_leaf (p, l)) c) (λ p l ne k. k)
           (λ l e d k. absurd (left.1 (is-this path l c e d k))) [] t known (is.only c left.0);
     }
 
@@ -88,9 +88,9 @@ module _ (M : Program) (t : Plain) where
       child-queued p l None ne h has = inl h
       child-queued p l (Some c) ne h has = inr (c, (h, has c refl (apart-by_id c this (λ e. ne (sym h.id ∙ e)))))
 
-      child-is : (p : Path) (l : LeafKept) (d : Option Candidate) (c : Candidate) → IsChildCandidate M p l d → IsThat d c → IsCandidate M (placed (p, l)) c
+      child-is : (p : Path) (l : LeafKept) (d : Option Candidate) (c : Candidate) → IsChildCandidate M p l d → IsThat d c → IsCandidate M (region_leaf (p, l)) c
       child-is p l None c h that = absurd that
-      child-is p l (Some d) c h that = subst (IsCandidate M (placed (p, l))) (sym that) h
+      child-is p l (Some d) c h that = subst (IsCandidate M (region_leaf (p, l))) (sym that) h
 
       pub queue-split : IsQueueOf M t old → AddsBoth old one two added → Removes added (Some this) new → leaves_with id t ≡ 1 → last + 1 ≢ id → last + 2 ≢ id
           → IsChildCandidate M (left_path path j v) (record { id = last + 1; kept = left }) one → IsChildCandidate M (right_path path j v) (record { id = last + 2; kept = right }) two
@@ -103,10 +103,10 @@ module _ (M : Program) (t : Plain) where
             )) [] t known is.each;
         only = λ c has.
             let from = (removed c).0 has in
-            let put : SomeLeaf (λ p l. IsCandidate M (placed (p, l)) c) path node → SomeLeaf (λ p l. IsCandidate M (placed (p, l)) c) [] (replaced id node t) =
-            λ h. some-put id path node (λ p l. IsCandidate M (placed (p, l)) c) h [] t at (omega (arith, has_one)) in
+            let put : SomeLeaf (λ p l. IsCandidate M (region_leaf (p, l)) c) path node → SomeLeaf (λ p l. IsCandidate M (region_leaf (p, l)) c) [] (replaced id node t) =
+            λ h. some-put id path node (λ p l. IsCandidate M (region_leaf (p, l)) c) h [] t at (omega (arith, has_one)) in
             elim ((adds c).0 from.0) [
-              | inl there ↦ some-changed id path node Ranked (λ p l. IsCandidate M (placed (p, l)) c) (λ p l. IsCandidate M (placed (p, l)) c) (λ p l ne k. k)
+              | inl there ↦ some-changed id path node Ranked (λ p l. IsCandidate M (region_leaf (p, l)) c) (λ p l. IsCandidate M (region_leaf (p, l)) c) (λ p l ne k. k)
                   (λ l e d k. absurd (from.1 (is-this path l c e d k))) [] t known (is.only c there)
               | inr made ↦ elim made [
                 | inl that ↦ put (inl (child-is (left_path path j v) (record { id = last + 1; kept = left }) one c first_is that))
@@ -130,7 +130,7 @@ module _ (M : Program) (t : Plain) where
         (each_both (λ p l. l.id ≡ id → p ≡ path) (λ p l. (l.id ≡ id → (l.kept.mult ≡ kept.mult) × (l.kept.farkas ≡ kept.farkas)) × IsJudgedLeaf M target p l.kept) [] t at
         (each_both (λ p l. l.id ≡ id → (l.kept.mult ≡ kept.mult) × (l.kept.farkas ≡ kept.farkas)) (λ p l. IsJudgedLeaf M target p l.kept) [] t own judged))
 
-    moved : (l : LeafKept) (c : Candidate) → l.id ≡ id → Own path l → IsCandidate M (placed (path, l)) c → IsCandidate M (placed (path, here)) c
+    moved : (l : LeafKept) (c : Candidate) → l.id ≡ id → Own path l → IsCandidate M (region_leaf (path, l)) c → IsCandidate M (region_leaf (path, here)) c
     moved l c e o k = record {
       state = is_open;
       number = k.number;
@@ -149,7 +149,7 @@ module _ (M : Program) (t : Plain) where
       each = each-changed id path (Leaf here) Own (IsQueued M queue) (IsQueued M queue) (λ p l ne h. h)
           (λ l e o h. elim h [ inl closed ↦ absurd (was-open l o closed) | inr k ↦ inr (k.0, (moved l k.0 e o k.1.0, k.1.1)) ]) [] t owned is.each;
       only = λ c has.
-          some-changed id path (Leaf here) Own (λ p l. IsCandidate M (placed (p, l)) c) (λ p l. IsCandidate M (placed (p, l)) c) (λ p l ne k. k) (λ l e o k. moved l c e o k) [] t owned (is.only c has);
+          some-changed id path (Leaf here) Own (λ p l. IsCandidate M (region_leaf (p, l)) c) (λ p l. IsCandidate M (region_leaf (p, l)) c) (λ p l ne k. k) (λ l e o k. moved l c e o k) [] t owned (is.only c has);
     }
 
 -- ---- candidates of children

@@ -7,9 +7,9 @@ use Rattle.lp_model.specs.Program.{Program}
 use Rattle.lp_model.specs.Regions.{Path}
 use Rattle.branch_tree.specs.Tree.{Leaf, Split, left_path, right_path}
 use Rattle.branch_tree.specs.Plain.{LeafKept, Plain}
-use Rattle.branch_tree.specs.Leaves.{placed, placed_leaves, leaf_count, with_states}
+use Rattle.branch_tree.specs.Leaves.{region_leaf, region_leaves, leaf_count, with_states}
 use Rattle.branch_tree.specs.declared.node.LeafState.{LeafState}
-use Rattle.branch_tree.specs.declared.node.PlacedLeaf.{PlacedLeaf}
+use Rattle.branch_tree.specs.declared.node.RegionLeaf.{RegionLeaf}
 use Rattle.tree_edit.specs.declared.choosing.Candidate.{Candidate}
 use Rattle.tree_edit.specs.declared.queue.LeafQueue.{LeafQueue}
 use Rattle.tree_edit.specs.Choosing.{IsCandidate}
@@ -42,15 +42,15 @@ module _ (M : Program) where
   pub queued-none : (queue : LeafQueue) → HasNone queue → AreQueued M [] [] queue
   queued-none queue none = record { each = tt; only = λ c has. absurd (none c has) }
 
-  queued-push : (old new : LeafQueue) (leaves : List PlacedLeaf) (states : List LeafState) (l : PlacedLeaf) (s : LeafState) (d : Option Candidate) → AreQueued M leaves states old → Adds old d new → IsChildCandidate M l.region (leaf_in s l) d
+  queued-push : (old new : LeafQueue) (leaves : List RegionLeaf) (states : List LeafState) (l : RegionLeaf) (s : LeafState) (d : Option Candidate) → AreQueued M leaves states old → Adds old d new → IsChildCandidate M l.region (leaf_in s l) d
       → AreQueued M (leaves ++ l ∷ []) (states ++ s ∷ []) new
   queued-push old new leaves states l s d is adds this = record {
     each = zipped-push (λ k r. IsQueued M new k.region (leaf_in r k)) leaves states l s
         (zip-weaker (λ k r. IsQueued M old k.region (leaf_in r k)) (λ k r. IsQueued M new k.region (leaf_in r k)) (λ k r h. elim h [ inl e ↦ inl e | inr c ↦ inr (c.0, (c.1.0, (adds c.0).1 (inl c.1.1))) ]) leaves states is.each)
         (last d this (λ c that. (adds c).1 (inr that)));
     only = λ c has. elim ((adds c).0 has) [
-      | inl there ↦ some-push (λ k r. IsCandidate M (placed (k.region, leaf_in r k)) c) leaves states l s (is.only c there)
-      | inr that ↦ some-last (λ k r. IsQueued M old k.region (leaf_in r k)) (λ k r. IsCandidate M (placed (k.region, leaf_in r k)) c) leaves states l s is.each (here d c this that)
+      | inl there ↦ some-push (λ k r. IsCandidate M (region_leaf (k.region, leaf_in r k)) c) leaves states l s (is.only c there)
+      | inr that ↦ some-last (λ k r. IsQueued M old k.region (leaf_in r k)) (λ k r. IsCandidate M (region_leaf (k.region, leaf_in r k)) c) leaves states l s is.each (here d c this that)
     ];
   }
     where
@@ -58,11 +58,11 @@ module _ (M : Program) where
       last None h has = inl h
       last (Some c) h has = inr (c, (h, has c refl))
 
-      here : (e : Option Candidate) (c : Candidate) → IsChildCandidate M l.region (leaf_in s l) e → IsThat e c → IsCandidate M (placed (l.region, leaf_in s l)) c
+      here : (e : Option Candidate) (c : Candidate) → IsChildCandidate M l.region (leaf_in s l) e → IsThat e c → IsCandidate M (region_leaf (l.region, leaf_in s l)) c
       here None c h that = absurd that
-      here (Some e) c h that = subst (IsCandidate M (placed (l.region, leaf_in s l))) (sym that) h
+      here (Some e) c h that = subst (IsCandidate M (region_leaf (l.region, leaf_in s l))) (sym that) h
 
-  pub queued-more : (old new : LeafQueue) (leaves : List PlacedLeaf) (states : List LeafState) (i : ℕ) (l : PlacedLeaf) (s : LeafState) (d : Option Candidate) → i < length leaves → l ≡ get_or leaves i l → AreQueued M (take i leaves) states old → Adds old d new
+  pub queued-more : (old new : LeafQueue) (leaves : List RegionLeaf) (states : List LeafState) (i : ℕ) (l : RegionLeaf) (s : LeafState) (d : Option Candidate) → i < length leaves → l ≡ get_or leaves i l → AreQueued M (take i leaves) states old → Adds old d new
       → IsChildCandidate M l.region (leaf_in s l) d → AreQueued M (take (i + 1) leaves) (states ++ s ∷ []) new
   queued-more old new leaves states i l s d below is h adds this =
       subst (λ ls. AreQueued M ls (states ++ s ∷ []) new) (sym (take_more leaves i l below ∙ ap (λ z. take i leaves ++ z ∷ []) (sym is))) (queued-push old new (take i leaves) states l s d h adds this)
@@ -70,18 +70,18 @@ module _ (M : Program) where
   -- ---- the tree
 
   module _ (c : Candidate) where
-    abbrev Pairs : PlacedLeaf → LeafState → Type 0
-    Pairs l s = IsCandidate M (placed (l.region, leaf_in s l)) c
+    abbrev Pairs : RegionLeaf → LeafState → Type 0
+    Pairs l s = IsCandidate M (region_leaf (l.region, leaf_in s l)) c
 
     abbrev Leaves : Path → LeafKept → Type 0
-    Leaves p l = IsCandidate M (placed (p, l)) c
+    Leaves p l = IsCandidate M (region_leaf (p, l)) c
 
-    some-more : (path : Path) (u : Plain) (more : List PlacedLeaf) (states : List LeafState) → SomeZip Pairs (placed_leaves path u ++ more) states → SomeLeaf Leaves path (with_states states u) ⊎ SomeZip Pairs more (drop (leaf_count u) states)
+    some-more : (path : Path) (u : Plain) (more : List RegionLeaf) (states : List LeafState) → SomeZip Pairs (region_leaves path u ++ more) states → SomeLeaf Leaves path (with_states states u) ⊎ SomeZip Pairs more (drop (leaf_count u) states)
     some-more path (Leaf l) more [] h = absurd h
     some-more path (Leaf l) more (s ∷ states) (inl h) = inl h
     some-more path (Leaf l) more (s ∷ states) (inr h) = inr h
     some-more path (Split kept j v left right) more states h =
-        elim (some-more (left_path path j v) left (placed_leaves (right_path path j v) right ++ more) states (subst (λ ls. SomeZip Pairs ls states) (placed-split path kept j v left right more) h)) [
+        elim (some-more (left_path path j v) left (region_leaves (right_path path j v) right ++ more) states (subst (λ ls. SomeZip Pairs ls states) (placed-split path kept j v left right more) h)) [
           | inl first ↦ inl (inl first)
           | inr rest ↦ elim (some-more (right_path path j v) right more (drop (leaf_count left) states) rest) [
             | inl second ↦ inl (inr second)
@@ -92,11 +92,11 @@ module _ (M : Program) where
     none-left : (states : List LeafState) → ¬ SomeZip Pairs [] states
     none-left states h = h
 
-    some-tree : (u : Plain) (states : List LeafState) → SomeZip Pairs (placed_leaves [] u) states → SomeLeaf Leaves [] (with_states states u)
+    some-tree : (u : Plain) (states : List LeafState) → SomeZip Pairs (region_leaves [] u) states → SomeLeaf Leaves [] (with_states states u)
     some-tree u states h =
-        elim (some-more [] u [] states (subst (λ ls. SomeZip Pairs ls states) (sym (append-nil (placed_leaves [] u))) h)) [ inl k ↦ k | inr k ↦ absurd (none-left (drop (leaf_count u) states) k) ]
+        elim (some-more [] u [] states (subst (λ ls. SomeZip Pairs ls states) (sym (append-nil (region_leaves [] u))) h)) [ inl k ↦ k | inr k ↦ absurd (none-left (drop (leaf_count u) states) k) ]
 
-  pub queue-tree : (u : Plain) (states : List LeafState) (queue : LeafQueue) → AreQueued M (placed_leaves [] u) states queue → IsQueueOf M (with_states states u) queue
+  pub queue-tree : (u : Plain) (states : List LeafState) (queue : LeafQueue) → AreQueued M (region_leaves [] u) states queue → IsQueueOf M (with_states states u) queue
   queue-tree u states queue h = record {
     each = each-tree (λ l s. IsQueued M queue l.region (leaf_in s l)) (IsQueued M queue) (λ p l s k. k) u states h.each;
     only = λ c has. some-tree c u states (h.only c has);

@@ -20,7 +20,7 @@ use Rattle.tree_edit.specs.Points.{target}
 use Rattle.tree_edit.specs.Lists.{HasLists, AreMultipliers, IsBasis}
 use Rattle.tree_edit.specs.Sound.{PlainSearch}
 use Rattle.tree_edit.specs.declared.queue.LeafQueue.{LeafQueue}
-use Rattle.tree_edit.specs.Queued.{IsQueueOf, IsKept}
+use Rattle.tree_edit.specs.Queued.{IsQueueOf, IsIndexed}
 use Rattle.tree_edit.specs.Placing.{IsAt, IsChild, IsSplitSound, split_node, tree_with_split, search_with_split}
 use Rattle.tree_edit.proofs.SoundLemmas.{tree-replaced, judged-replaced}
 
@@ -107,9 +107,9 @@ child-lists S path mult basis leaf m b child = record {
 pub narrow-at : (v : ℤ) → neg_ℤ (pos largest) ≤ℤ v → v <ℤ pos largest → IsNarrow v × IsNarrow (v +ℤ pos 1)
 narrow-at v low high = (omega (arith, ints), omega (arith, ints))
 
-pub kept-split : (S : PlainSearch) (values : List ℚ) (queue new : LeafQueue) (id : ℕ) (path : Path) (j : ℕ) (v : ℤ) (mult : Multipliers) (basis : Basis) (left right : LeafData) → IsKept S values queue → IsAt id path S.tree.root
+pub kept-split : (S : PlainSearch) (values : List ℚ) (queue new : LeafQueue) (id : ℕ) (path : Path) (j : ℕ) (v : ℤ) (mult : Multipliers) (basis : Basis) (left right : LeafData) → IsIndexed S values queue → IsAt id path S.tree.root
     → IsSplitSound S.model path j v mult basis → neg_ℤ (pos largest) ≤ℤ v → v <ℤ pos largest → IsChild S (left_path path j v) mult basis left → IsChild S (right_path path j v) mult basis right
-    → IsQueueOf S.model (replaced id (split_node S.tree.last id j v mult basis left right) S.tree.root) new → IsKept (search_with_split S id j v mult basis left right) values new
+    → IsQueueOf S.model (replaced id (split_node S.tree.last id j v mult basis left right) S.tree.root) new → IsIndexed (search_with_split S id j v mult basis left right) values new
 kept-split S values queue new id path j v mult basis left right kept at split low high is_left is_right q =
     let node = split_node S.tree.last id j v mult basis left right in
     let lists_left = child-lists S (left_path path j v) mult basis left split.mult_is split.basis_is is_left in

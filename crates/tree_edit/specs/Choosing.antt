@@ -3,9 +3,9 @@ use Rattle.std.specs.Prelude.{◌≡◌, ◌⊎◌, ℕ, ◌≤◌, List, [], �
 use Rattle.rational.specs.Rational.{ℚ, ◌<ℚ◌}
 use Rattle.lp_model.specs.Program.{Program}
 use Rattle.leaf_dual.specs.declared.dual.LagValue.TheVariants.{Minus, Num}
-use Rattle.branch_tree.specs.Leaves.{placed_leaves}
+use Rattle.branch_tree.specs.Leaves.{region_leaves}
 use Rattle.branch_tree.specs.declared.node.LeafState.TheVariants.{IsOpen, IsClosed}
-use Rattle.branch_tree.specs.declared.node.PlacedLeaf.{PlacedLeaf}
+use Rattle.branch_tree.specs.declared.node.RegionLeaf.{RegionLeaf}
 use Rattle.tree_edit.specs.declared.judging.LeafNumber.{LeafNumber}
 use Rattle.tree_edit.specs.declared.judging.LeafNumber.TheVariants.{Empty, Lag, Wide}
 use Rattle.tree_edit.specs.declared.choosing.Candidate.{Candidate}
@@ -27,7 +27,7 @@ GoesFirst (Some p) i None j = ⊥
 GoesFirst (Some p) i (Some q) j = (p <ℚ q) ⊎ ((p ≡ q) × (i ≤ j))
 
 -- the open leaf has this id and rank
-pub record IsCandidate (M : Program) (leaf : PlacedLeaf) (c : Candidate) : Type 0 where
+pub record IsCandidate (M : Program) (leaf : RegionLeaf) (c : Candidate) : Type 0 where
   pub state : leaf.kept.state ≡ IsOpen
   pub number : LeafNumber
   pub number_is : IsNumber M leaf.region leaf.kept.mult leaf.kept.farkas number
@@ -35,26 +35,26 @@ pub record IsCandidate (M : Program) (leaf : PlacedLeaf) (c : Candidate) : Type 
   pub rank_is : c.rank ≡ rank number
 
 -- the candidate is one of the open leaves
-abbrev pub IsOneOf : Program → List PlacedLeaf → Candidate → Type 0
+abbrev pub IsOneOf : Program → List RegionLeaf → Candidate → Type 0
 IsOneOf M [] c = ⊥
 IsOneOf M (l ∷ leaves) c = IsCandidate M l c ⊎ IsOneOf M leaves c
 
 -- each leaf is closed, or goes no earlier than the candidate
-abbrev pub GoesBeforeAll : Program → Candidate → List PlacedLeaf → Type 0
+abbrev pub GoesBeforeAll : Program → Candidate → List RegionLeaf → Type 0
 GoesBeforeAll M c [] = Unit {0}
 GoesBeforeAll M c (l ∷ leaves) =
     ((l.kept.state ≡ IsClosed) ⊎ ((d : Candidate) × (IsCandidate M l d × GoesFirst c.rank c.id d.rank d.id))) × GoesBeforeAll M c leaves
 
-abbrev pub AreClosed : List PlacedLeaf → Type 0
+abbrev pub AreClosed : List RegionLeaf → Type 0
 AreClosed [] = Unit {0}
 AreClosed (l ∷ leaves) = (l.kept.state ≡ IsClosed) × AreClosed leaves
 
 -- None where no leaf is open
-abbrev pub IsFirst : Program → List PlacedLeaf → Option Candidate → Type 0
-IsFirst M leaves None = AreClosed leaves
-IsFirst M leaves (Some c) = IsOneOf M leaves c × GoesBeforeAll M c leaves
+abbrev pub IsFirstCandidate : Program → List RegionLeaf → Option Candidate → Type 0
+IsFirstCandidate M leaves None = AreClosed leaves
+IsFirstCandidate M leaves (Some c) = IsOneOf M leaves c × GoesBeforeAll M c leaves
 
 -- the id of the leaf that goes first
 abbrev pub IsNext : PlainSearch → Option ℕ → Type 0
-IsNext S None = AreClosed (placed_leaves [] S.tree.root)
-IsNext S (Some id) = (c : Candidate) × (IsFirst S.model (placed_leaves [] S.tree.root) (Some c) × (id ≡ c.id))
+IsNext S None = AreClosed (region_leaves [] S.tree.root)
+IsNext S (Some id) = (c : Candidate) × (IsFirstCandidate S.model (region_leaves [] S.tree.root) (Some c) × (id ≡ c.id))

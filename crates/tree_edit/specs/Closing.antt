@@ -6,7 +6,7 @@ use Rattle.std.specs.Prelude.{◌⊎◌, true, false, [], ◌∷◌, Option, Som
 use Rattle.rational.specs.Rational.{ℚ}
 use Rattle.lp_model.specs.Program.{Program, HasWholeObjective}
 use Rattle.lp_model.specs.Regions.{Path, IsEmptyRegion}
-use Rattle.leaf_dual.specs.Dual.{Multipliers, IsPositive, Reaches}
+use Rattle.leaf_dual.specs.Dual.{Multipliers, IsPositiveNumber, Reaches}
 use Rattle.leaf_dual.specs.Answers.{IsLagAnswer, IsFarkasAnswer}
 use Rattle.leaf_dual.specs.declared.dual.LagValue.{LagValue}
 use Rattle.branch_tree.specs.declared.node.LeafState.{LeafState}
@@ -18,7 +18,7 @@ use Rattle.tree_edit.specs.declared.judging.LeafNumber.TheVariants.{Empty, Lag, 
 -- there are Farkas multipliers, and their number is above 0; a step without room counts as not
 abbrev pub IsRefuted : Program → Path → Multipliers → Type 0
 IsRefuted M path [] = ⊥
-IsRefuted M path (m ∷ ms) = (v : LagValue) × (IsFarkasAnswer M path (m ∷ ms) (Ok v) × IsPositive v)
+IsRefuted M path (m ∷ ms) = (v : LagValue) × (IsFarkasAnswer M path (m ∷ ms) (Ok v) × IsPositiveNumber v)
 
 -- the region is seen to have no feasible point, by its bounds or by the Farkas multipliers
 abbrev pub IsSetAside : Program → Path → Multipliers → Type 0

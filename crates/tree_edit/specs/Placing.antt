@@ -42,9 +42,9 @@ abbrev pub IsWorst : List ℚ → Option ℕ → Type 0
 IsWorst values None = length values ≤ 100
 IsWorst values (Some k) = (100 < length values) × IsOldestGreatestOf values (length values) k
 
-abbrev pub IsWithin : ℕ → Option ℕ → Type 0
-IsWithin n None = Unit {0}
-IsWithin n (Some k) = k < n
+abbrev pub IsPlaceWithin : ℕ → Option ℕ → Type 0
+IsPlaceWithin n None = Unit {0}
+IsPlaceWithin n (Some k) = k < n
 
 abbrev pub without : {A : Type 0} → List A → Option ℕ → List A
 without xs None = xs

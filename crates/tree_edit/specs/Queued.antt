@@ -9,11 +9,11 @@ use Rattle.lp_model.specs.Program.{Program, least_value}
 use Rattle.lp_model.specs.Regions.{Path}
 use Rattle.branch_tree.specs.Tree.{Tree, Leaf, Split, left_path, right_path, EachLeaf}
 use Rattle.branch_tree.specs.Plain.{LeafKept, Plain}
-use Rattle.branch_tree.specs.Leaves.{placed, with_state}
+use Rattle.branch_tree.specs.Leaves.{region_leaf, with_state}
 use Rattle.branch_tree.specs.declared.node.LeafState.TheVariants.{IsOpen, IsClosed}
 use Rattle.branch_tree.specs.declared.node.LeafState.{LeafState}
 use Rattle.branch_tree.specs.declared.node.LeafData.{LeafData}
-use Rattle.branch_tree.specs.declared.node.PlacedLeaf.{PlacedLeaf}
+use Rattle.branch_tree.specs.declared.node.RegionLeaf.{RegionLeaf}
 use Rattle.tree_edit.specs.declared.choosing.Candidate.{Candidate}
 use Rattle.tree_edit.specs.declared.queue.LeafQueue.{LeafQueue}
 use Rattle.tree_edit.specs.declared.judging.LeafNumber.{LeafNumber}
@@ -71,12 +71,12 @@ SomeLeaf P path (Leaf kept) = P path kept
 SomeLeaf P path (Split kept j v left right) = SomeLeaf P (left_path path j v) left ⊎ SomeLeaf P (right_path path j v) right
 
 abbrev pub IsQueued : Program → LeafQueue → Path → LeafKept → Type 0
-IsQueued M queue p l = (l.kept.state ≡ IsClosed) ⊎ ((c : Candidate) × (IsCandidate M (placed (p, l)) c × Has queue c))
+IsQueued M queue p l = (l.kept.state ≡ IsClosed) ⊎ ((c : Candidate) × (IsCandidate M (region_leaf (p, l)) c × Has queue c))
 
 -- the queue has the open leaves, and nothing else
 pub record IsQueueOf (M : Program) (t : Plain) (queue : LeafQueue) : Type 0 where
   pub each : EachLeaf (IsQueued M queue) [] t
-  pub only : (c : Candidate) → Has queue c → SomeLeaf (λ p l. IsCandidate M (placed (p, l)) c) [] t
+  pub only : (c : Candidate) → Has queue c → SomeLeaf (λ p l. IsCandidate M (region_leaf (p, l)) c) [] t
 
 -- ---- one leaf
 
@@ -95,7 +95,7 @@ HasMultipliers id kept t = EachLeaf (λ p l. l.id ≡ id → (l.kept.mult ≡ ke
 -- the leaf with this id, path and data, if it is open
 abbrev pub IsChildCandidate : Program → Path → LeafKept → Option Candidate → Type 0
 IsChildCandidate M path l None = l.kept.state ≡ IsClosed
-IsChildCandidate M path l (Some c) = IsCandidate M (placed (path, l)) c
+IsChildCandidate M path l (Some c) = IsCandidate M (region_leaf (path, l)) c
 
 abbrev pub candidate_of : LeafState → Option ℚ → ℕ → Option Candidate
 candidate_of IsOpen r id = Some (record { rank = r; id = id })
@@ -104,7 +104,7 @@ candidate_of IsClosed r id = None
 -- ---- lists of leaves
 
 -- the leaf with this state
-abbrev pub leaf_in : LeafState → PlacedLeaf → LeafKept
+abbrev pub leaf_in : LeafState → RegionLeaf → LeafKept
 leaf_in s l = record { id = l.id; kept = with_state s l.kept }
 
 -- R of some of the pairs
@@ -114,14 +114,14 @@ SomeZip R (x ∷ xs) [] = ⊥
 SomeZip R (x ∷ xs) (y ∷ ys) = R x y ⊎ SomeZip R xs ys
 
 -- the queue has the leaves that are open with these states, and nothing else
-pub record AreQueued (M : Program) (leaves : List PlacedLeaf) (states : List LeafState) (queue : LeafQueue) : Type 0 where
+pub record AreQueued (M : Program) (leaves : List RegionLeaf) (states : List LeafState) (queue : LeafQueue) : Type 0 where
   pub each : AllZip (λ l s. IsQueued M queue l.region (leaf_in s l)) leaves states
-  pub only : (c : Candidate) → Has queue c → SomeZip (λ l s. IsCandidate M (placed (l.region, leaf_in s l)) c) leaves states
+  pub only : (c : Candidate) → Has queue c → SomeZip (λ l s. IsCandidate M (region_leaf (l.region, leaf_in s l)) c) leaves states
 
 -- ---- searches
 
 -- the values of the points stand beside them, and the open leaves in the queue
-pub record IsKept (S : PlainSearch) (values : List ℚ) (queue : LeafQueue) : Type 0 where
+pub record IsIndexed (S : PlainSearch) (values : List ℚ) (queue : LeafQueue) : Type 0 where
   pub sound : IsSound S
   pub values_are : values ≡ map (least_value S.model 1) S.points
   pub queue_is : IsQueueOf S.model S.tree.root queue

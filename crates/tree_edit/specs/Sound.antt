@@ -1,7 +1,7 @@
 -- A search as a plain record, and what each search keeps.
 use Rattle.std.specs.Prelude.{◌≤◌, List, length, All}
 use Rattle.lp_model.specs.Program.{Program, Point}
-use Rattle.branch_tree.specs.Tree.{IsLawful, HasNarrowSplits}
+use Rattle.branch_tree.specs.Tree.{SplitsLawfully, HasNarrowSplits}
 use Rattle.branch_tree.specs.Plain.{Plain}
 use Rattle.branch_tree.specs.Numbered.{NumberedTree}
 use Rattle.tree_edit.specs.Judged.{AreJudged}
@@ -16,7 +16,7 @@ pub record PlainSearch : Type 0 where
 
 -- Each split is on an integer column and has narrow bounds, and each list names what is there, once.
 pub record IsSoundTree (M : Program) (t : Plain) : Type 0 where
-  pub lawful : IsLawful M t
+  pub lawful : SplitsLawfully M t
   pub narrow : HasNarrowSplits t
   pub lists : HasNodeLists M t
 

@@ -32,7 +32,7 @@ pub struct Search {
 
 impl std::marker::Model for Search {
     ghost use Rattle.tree_edit.specs.Sound.{PlainSearch};
-    ghost use Rattle.tree_edit.specs.Queued.{IsKept};
+    ghost use Rattle.tree_edit.specs.Queued.{IsIndexed};
     ghost use Rattle.tree_edit.specs.SearchCode.{search_code};
 
     ghost Value = { PlainSearch };
@@ -41,7 +41,7 @@ impl std::marker::Model for Search {
 
     ghost view = { λ s. record { model = s.model; tree = s.tree; points = s.points.items } };
 
-    ghost invariant = { λ s. IsKept (record { model = s.model; tree = s.tree; points = s.points.items }) s.values.items s.queue };
+    ghost invariant = { λ s. IsIndexed (record { model = s.model; tree = s.tree; points = s.points.items }) s.values.items s.queue };
 }
 
 impl Search {

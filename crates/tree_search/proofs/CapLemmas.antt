@@ -12,7 +12,7 @@ use Rattle.lp_model.specs.Elements.{of_element}
 use Rattle.lp_model.specs.Program.{Program}
 use Rattle.lp_model.specs.Regions.{Path, tighter_low, tighter_high, region_low, region_high}
 use Rattle.lp_model.specs.declared.types.Col.{Col}
-use Rattle.branch_tree.specs.Tree.{Leaf, Split, left_path, right_path, IsLawful}
+use Rattle.branch_tree.specs.Tree.{Leaf, Split, left_path, right_path, SplitsLawfully}
 use Rattle.branch_tree.specs.Plain.{Plain}
 use Rattle.branch_tree.specs.declared.node.LeafState.{LeafState}
 use Rattle.branch_tree.specs.declared.node.LeafState.TheVariants.{IsOpen, IsClosed}
@@ -92,7 +92,7 @@ module _ (M : Program) (integral : IsIntegral M) where
     if_open-le IsOpen n = omega arith
     if_open-le IsClosed n = omega arith
 
-    sum-le : (path : Path) (t : Plain) → IsLawful M t → sum_open f M path t ≤ f (points M path)
+    sum-le : (path : Path) (t : Plain) → SplitsLawfully M t → sum_open f M path t ≤ f (points M path)
     sum-le path (Leaf l) h = if_open-le l.kept.state (points M path)
     sum-le path (Split kept j v left right) h =
         let a : sum_open f M (left_path path j v) left ≤ f (points M (left_path path j v)) = sum-le (left_path path j v) left h.1.0 in
@@ -128,7 +128,7 @@ root-points [] h = refl
 root-points (c ∷ cs) h =
     product-front (length cs) (column_numbers (c ∷ cs)) ∙ (λ t. first_numbers c.int c.lo c.up h.0.0 h.0.1 h.0.2 t * root-points cs h.1 t)
 
-module _ (M : Program) (t : Plain) (integral : IsIntegral M) (lawful : IsLawful M t) where
+module _ (M : Program) (t : Plain) (integral : IsIntegral M) (lawful : SplitsLawfully M t) where
   root-sum : (f : ℕ → ℕ) (more : (p q : ℕ) → f p + f q ≤ f (p + q)) → sum_open f M [] t ≤ f (whole_points M)
   unfolding column_numbers
   root-sum f more = subst (λ n. sum_open f M [] t ≤ f n) (root-points M.cols integral) (sum-le M integral f more [] t lawful)

@@ -15,7 +15,7 @@ use Rattle.tree_edit.specs.Sound.{PlainSearch, IsSound}
 use Rattle.tree_search.specs.Integral.{IsIntegral}
 use Rattle.tree_search.specs.Points.{points, middle_within}
 use Rattle.tree_search.specs.Work.{whole_points, cap_of, if_open, HasRoomFor}
-use Rattle.tree_search.specs.Working.{IsWidePoint}
+use Rattle.tree_search.specs.Working.{PointIsWide}
 use Rattle.tree_search.specs.Steps.{IsOpenLeaf, IsTooFull, work_of, splits_of, IsRoomy, PlacesMany, Goes}
 use Rattle.tree_search.specs.Causes.{IsCause, HasCause, IsFinished, IsJudgeable, IsEnough}
 use Rattle.tree_search.specs.Search.{StopsFor, ShowsFor, Finds, GivesUp}
@@ -56,7 +56,7 @@ stop-cause old S limit n Nodes integral goes h =
     let most : n + work_of S ≤ work_of old = goes.work in
     omega (arith, all, some, most)
 stop-cause old S limit n Tree integral goes h = λ roomy. full-unroomy S goes.sound integral h.1.1.0.id h.1.0 h.1.1.0.leaf.leaf h.1.1.1 (goes.room roomy)
-stop-cause old S limit n (Wide path step) integral goes h = subst (λ M. IsWidePoint M path step) goes.model h.2
+stop-cause old S limit n (Wide path step) integral goes h = subst (λ M. PointIsWide M path step) goes.model h.2
 
 has-cause : (old S : PlainSearch) (limit n : ℕ) (outcome : Outcome) → IsIntegral S.model → Goes n old S → ShowsFor S limit n outcome → HasCause old limit outcome
 has-cause old S limit n (Optimal v x m) integral goes h = tt

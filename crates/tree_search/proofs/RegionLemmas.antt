@@ -15,7 +15,7 @@ use Rattle.lp_model.specs.declared.types.Side.TheVariants.{Lo, Hi}
 use Rattle.lp_model.specs.declared.types.Col.{Col}
 use Rattle.tree_edit.specs.Checks.{IsFrom, IsUnder, IsSplitAllowed}
 use Rattle.tree_search.specs.Integral.{AreIntegral, IsIntegral}
-use Rattle.tree_search.specs.Points.{IsLess, IsOpenColumn, middle_from, middle_within}
+use Rattle.tree_search.specs.Points.{IsLessValue, IsOpenColumn, middle_from, middle_within}
 use Rattle.tree_search.specs.Single.{IsCornerOf, IsOnlyPoint}
 
 -- ---- whole numbers
@@ -109,7 +109,7 @@ module _ (l h : ℚ) (low_whole : IsWhole l) (high_whole : IsWhole h) (less : l 
       again : floor h ≤ℤ middle_from (ceil l) (floor h) → ⊥
       again over = let far : ceil l <ℤ floor h = apart in absurd (omega (arith, ints))
 
-middle_bounds : (lo hi : Option ℚ) → IsWholeBound lo → IsWholeBound hi → IsLess lo hi → IsFrom lo (middle_within lo hi) × IsUnder hi (middle_within lo hi)
+middle_bounds : (lo hi : Option ℚ) → IsWholeBound lo → IsWholeBound hi → IsLessValue lo hi → IsFrom lo (middle_within lo hi) × IsUnder hi (middle_within lo hi)
 middle_bounds None hi p q less = absurd less
 middle_bounds (Some l) None p q less = absurd less
 middle_bounds (Some l) (Some h) p q less = (middle-from l h p q less, middle-under l h p q less)
@@ -121,7 +121,7 @@ middle-allowed M path j integral within is_open =
 
 -- ---- the corner of a region where no column has more than one number
 
-closed_bounds : (lo hi : Option ℚ) → IsWholeBound lo → IsWholeBound hi → (¬ IsCrossed lo hi) → (¬ IsLess lo hi) → (lo ≡ Some (unwrap_or lo (int (pos 0)))) × (hi ≡ Some (unwrap_or lo (int (pos 0))))
+closed_bounds : (lo hi : Option ℚ) → IsWholeBound lo → IsWholeBound hi → (¬ IsCrossed lo hi) → (¬ IsLessValue lo hi) → (lo ≡ Some (unwrap_or lo (int (pos 0)))) × (hi ≡ Some (unwrap_or lo (int (pos 0))))
 closed_bounds None hi p q crossed less = absurd p
 closed_bounds (Some l) None p q crossed less = absurd q
 closed_bounds (Some l) (Some h) p q crossed less = (refl, ap Some (≤ℚ_antisymm (≤ℚ_from_not h l less) (≤ℚ_from_not l h crossed)))

@@ -8,8 +8,8 @@ use Rattle.lp_model.specs.Regions.{Path, AreNarrow}
 use Rattle.branch_tree.specs.Tree.{Leaf, Split, left_path, right_path, EachLeaf, leaves}
 use Rattle.branch_tree.specs.Plain.{Plain, LeafKept, leaves_with, leaf_below}
 use Rattle.branch_tree.specs.Numbered.{NumberedTree, IsNumbered}
-use Rattle.branch_tree.specs.Leaves.{placed, placed_leaves}
-use Rattle.branch_tree.specs.declared.node.PlacedLeaf.{PlacedLeaf}
+use Rattle.branch_tree.specs.Leaves.{region_leaf, region_leaves}
+use Rattle.branch_tree.specs.declared.node.RegionLeaf.{RegionLeaf}
 use Rattle.branch_tree.specs.declared.node.LeafState.{LeafState}
 use Rattle.branch_tree.specs.declared.node.LeafState.TheVariants.{IsOpen, IsClosed}
 use Rattle.branch_tree.proofs.TreeLemmas.{each_leaf-leaves}
@@ -36,9 +36,9 @@ pub once : (T : NumberedTree) → IsNumbered T → (id : ℕ) → leaves_with id
 once T n id = let h = n.distinct id in omega (arith, h)
 
 -- each of the leaves is the one with its id
-pub placed-at : (t : Plain) → ((id : ℕ) → leaves_with id t ≤ 1) → All (λ l. IsLeafAt t l.id l.region l.kept) (placed_leaves [] t)
+pub placed-at : (t : Plain) → ((id : ℕ) → leaves_with id t ≤ 1) → All (λ l. IsLeafAt t l.id l.region l.kept) (region_leaves [] t)
 placed-at t one =
-    All-map (λ (l : PlacedLeaf). IsLeafAt t l.id l.region l.kept) placed (leaves [] t)
+    All-map (λ (l : RegionLeaf). IsLeafAt t l.id l.region l.kept) region_leaf (leaves [] t)
     (λ k d below.
     let found = each_leaf-leaves (λ p l. leaf_below l.id [] t ≡ Some (p, l)) [] t (found_each [] t one) k d below in
     record { path_is = ap (option_map (λ (l : Path × LeafKept). l.0)) found; data_is = ap (option_map (λ (l : Path × LeafKept). l.1.kept)) found })
@@ -54,12 +54,12 @@ leaves-each P path (Split kept j v left right) h =
     (leaves-each P (left_path path j v) left parts.0, leaves-each P (right_path path j v) right parts.1)
 
 -- where each of the leaves is closed, no leaf of the tree is open
-pub none-open : (t : Plain) → All (λ l. l.kept.state ≡ IsClosed) (placed_leaves [] t) → EachLeaf (λ p l. l.kept.state ≡ IsClosed) [] t
+pub none-open : (t : Plain) → All (λ l. l.kept.state ≡ IsClosed) (region_leaves [] t) → EachLeaf (λ p l. l.kept.state ≡ IsClosed) [] t
 none-open t h =
     leaves-each (λ p l. l.kept.state ≡ IsClosed) [] t
     (λ k d below.
-    subst (λ (l : PlacedLeaf). l.kept.state ≡ IsClosed) (get_or-map placed (leaves [] t) k d (placed d) below)
-    (h k (placed d) (let same : length (map placed (leaves [] t)) ≡ length (leaves [] t) = length-map (leaves [] t) placed in omega (arith, same))))
+    subst (λ (l : RegionLeaf). l.kept.state ≡ IsClosed) (get_or-map region_leaf (leaves [] t) k d (region_leaf d) below)
+    (h k (region_leaf d) (let same : length (map region_leaf (leaves [] t)) ≡ length (leaves [] t) = length-map (leaves [] t) region_leaf in omega (arith, same))))
 
 pub not-open : (s : LeafState) → (s ≡ IsOpen → ⊥) → s ≡ IsClosed
 not-open IsOpen h = absurd (h refl)
@@ -82,18 +82,18 @@ places-more n old mid new h p = let e : suc n ≡ n + 1 = omega arith in subst (
 
 -- ---- the next leaf
 
-pub closed-all : (ls : List PlacedLeaf) → AreClosed ls → All (λ (l : PlacedLeaf). l.kept.state ≡ IsClosed) ls
+pub closed-all : (ls : List RegionLeaf) → AreClosed ls → All (λ (l : RegionLeaf). l.kept.state ≡ IsClosed) ls
 closed-all [] h = λ k d below. absurd (omega arith)
-closed-all (l ∷ ls) h = All-cons (λ (l : PlacedLeaf). l.kept.state ≡ IsClosed) l ls h.0 (closed-all ls h.1)
+closed-all (l ∷ ls) h = All-cons (λ (l : RegionLeaf). l.kept.state ≡ IsClosed) l ls h.0 (closed-all ls h.1)
 
-pub one-of : (M : Program) (P : PlacedLeaf → Type 0) (ls : List PlacedLeaf) (c : _) → All P ls → IsOneOf M ls c → (l : PlacedLeaf) × (IsCandidate M l c × P l)
+pub one-of : (M : Program) (P : RegionLeaf → Type 0) (ls : List RegionLeaf) (c : _) → All P ls → IsOneOf M ls c → (l : RegionLeaf) × (IsCandidate M l c × P l)
 one-of M P [] c all h = absurd h
 one-of M P (l ∷ ls) c all (inl h) = (l, (h, All-head P l ls all))
 one-of M P (l ∷ ls) c all (inr h) = one-of M P ls c (All-tail P l ls all) h
 
-pub next-found : (S : PlainSearch) (id : ℕ) → IsNumbered S.tree → IsNext S (Some id) → (l : PlacedLeaf) × ((l.kept.state ≡ IsOpen) × IsLeafAt S.tree.root id l.region l.kept)
+pub next-found : (S : PlainSearch) (id : ℕ) → IsNumbered S.tree → IsNext S (Some id) → (l : RegionLeaf) × ((l.kept.state ≡ IsOpen) × IsLeafAt S.tree.root id l.region l.kept)
 next-found S id numbered next =
-    let (l, (candidate, at)) = one-of S.model (λ l. IsLeafAt S.tree.root l.id l.region l.kept) (placed_leaves [] S.tree.root) next.0 (placed-at S.tree.root (once S.tree numbered)) next.1.0.0 in
+    let (l, (candidate, at)) = one-of S.model (λ l. IsLeafAt S.tree.root l.id l.region l.kept) (region_leaves [] S.tree.root) next.0 (placed-at S.tree.root (once S.tree numbered)) next.1.0.0 in
     (l, (candidate.state, subst (λ n. IsLeafAt S.tree.root n l.region l.kept) (sym (next.1.1 ∙ candidate.id)) at))
 
 pub next-leaf : (S : PlainSearch) (id : ℕ) (path : Path) → IsNumbered S.tree → IsNext S (Some id) → Some path ≡ path_of id S.tree.root → IsNextLeaf S id path
@@ -111,6 +111,6 @@ next-there S id numbered next is =
 pub next-none : (S : PlainSearch) (id : ℕ) (path : Path) → IsNext S None → IsOpenLeaf S id path → ⊥
 next-none S id path next leaf =
     let l = leaf_at S.tree.root id path leaf.kept leaf.leaf in
-    let closed : l.0.kept.state ≡ IsClosed = (each-found (λ p k. k.kept.state ≡ IsClosed) id [] S.tree.root (path, l.0) (none-open S.tree.root (closed-all (placed_leaves [] S.tree.root) next)) l.1.0).0 in
+    let closed : l.0.kept.state ≡ IsClosed = (each-found (λ p k. k.kept.state ≡ IsClosed) id [] S.tree.root (path, l.0) (none-open S.tree.root (closed-all (region_leaves [] S.tree.root) next)) l.1.0).0 in
     let state : l.0.kept.state ≡ IsOpen = ap (λ (k : LeafData). k.state) l.1.1 ∙ leaf.state in
     let e : IsOpen ≡ IsClosed = sym state ∙ closed in cc

@@ -5,7 +5,7 @@ use Rattle.lp_model.specs.Regions.{Path}
 use Rattle.lp_model.specs.declared.types.WideStep.{WideStep}
 use Rattle.tree_edit.specs.Sound.{PlainSearch}
 use Rattle.tree_search.specs.Work.{whole_points, cap_of, HasRoomFor}
-use Rattle.tree_search.specs.Working.{IsWidePoint}
+use Rattle.tree_search.specs.Working.{PointIsWide}
 use Rattle.tree_search.specs.Steps.{work_of, IsRoomy}
 use Rattle.tree_search.specs.declared.stepping.StopWhy.{StopWhy}
 use Rattle.tree_search.specs.declared.stepping.StopWhy.TheVariants.{Nodes, Tree, Wide}
@@ -16,7 +16,7 @@ use Rattle.tree_search.specs.declared.searching.Outcome.TheVariants.{Optimal, In
 abbrev pub IsCause : PlainSearch → ℕ → StopWhy → Type 0
 IsCause S limit Nodes = limit < work_of S
 IsCause S limit Tree = ¬ IsRoomy S
-IsCause S limit (Wide path step) = IsWidePoint S.model path step
+IsCause S limit (Wide path step) = PointIsWide S.model path step
 
 -- a search that begins with S and this limit has a cause to stop, if it stops
 abbrev pub HasCause : PlainSearch → ℕ → Outcome → Type 0
@@ -33,7 +33,7 @@ IsFinished (Stopped why n bound best) = ⊥
 
 -- no step without room keeps the one point of a region from being judged
 abbrev pub IsJudgeable : Program → Type 0
-IsJudgeable M = (path : Path) (step : WideStep) → ¬ IsWidePoint M path step
+IsJudgeable M = (path : Path) (step : WideStep) → ¬ PointIsWide M path step
 
 -- as many results as any search of the model can place, and room for one split fewer than it has points
 pub record IsEnough (S : PlainSearch) (limit : ℕ) : Type 0 where

@@ -3,7 +3,7 @@ use Rattle.std.specs.Prelude.{◌≡◌, ℕ, ◌+◌, ◌-◌, ◌^◌, ◌<◌
 use Rattle.rational.specs.Rational.{ℚ, ◌≤ℚ◌}
 use Rattle.lp_model.specs.Program.{Program, Point, RowHolds, IsFeasible, least_value, in_least_form}
 use Rattle.lp_model.specs.Regions.{Path, IsEmptyRegion}
-use Rattle.branch_tree.specs.Tree.{left_path, right_path, IsLawful}
+use Rattle.branch_tree.specs.Tree.{left_path, right_path, SplitsLawfully}
 use Rattle.branch_tree.specs.Plain.{Plain}
 use Rattle.tree_search.specs.Work.{whole_points, cap_of, work, splits}
 use Rattle.tree_edit.specs.Checks.{IsSplitAllowed}
@@ -31,8 +31,8 @@ CornerLaw =
     IsCornerOf M path x → IsOnlyPoint M path x
 
 -- a split's two children have together the points of their parent
-abbrev pub SplitLaw : Type 0
-SplitLaw = (M : Program) (path : Path) (j : ℕ) (v : ℤ) → IsSplitAllowed M path j v → points M (left_path path j v) + points M (right_path path j v) ≡ points M path
+abbrev pub ChildrenLaw : Type 0
+ChildrenLaw = (M : Program) (path : Path) (j : ℕ) (v : ℤ) → IsSplitAllowed M path j v → points M (left_path path j v) + points M (right_path path j v) ≡ points M path
 
 -- a region that is not seen to be empty has a point
 abbrev pub SomePointLaw : Type 0
@@ -40,11 +40,11 @@ SomePointLaw = (M : Program) (path : Path) → IsIntegral M → (¬ IsEmptyRegio
 
 -- the work of a tree is at most the cap of its model
 abbrev pub CapLaw : Type 0
-CapLaw = (M : Program) (t : Plain) → IsIntegral M → IsLawful M t → work M [] t ≤ cap_of M
+CapLaw = (M : Program) (t : Plain) → IsIntegral M → SplitsLawfully M t → work M [] t ≤ cap_of M
 
 -- a search's splits are fewer than the model's points, if it has any
 abbrev pub SplitCapLaw : Type 0
-SplitCapLaw = (M : Program) (t : Plain) → IsIntegral M → IsLawful M t → splits M [] t ≤ whole_points M - 1
+SplitCapLaw = (M : Program) (t : Plain) → IsIntegral M → SplitsLawfully M t → splits M [] t ≤ whole_points M - 1
 
 -- a new search whose tree may have as many nodes as the cap says has enough with as many results
 abbrev pub EnoughLaw : Type 0

@@ -26,13 +26,13 @@ points M path = product_below (length M.cols) (λ j. numbers_within (region_low 
 
 -- ---- columns with more than one number
 
-abbrev pub IsLess : Option ℚ → Option ℚ → Type 0
-IsLess None hi = ⊥
-IsLess (Some l) None = ⊥
-IsLess (Some l) (Some h) = l <ℚ h
+abbrev pub IsLessValue : Option ℚ → Option ℚ → Type 0
+IsLessValue None hi = ⊥
+IsLessValue (Some l) None = ⊥
+IsLessValue (Some l) (Some h) = l <ℚ h
 
 abbrev pub IsOpenColumn : Program → Path → ℕ → Type 0
-IsOpenColumn M path j = IsLess (region_low M path j) (region_high M path j)
+IsOpenColumn M path j = IsLessValue (region_low M path j) (region_high M path j)
 
 pub record IsFirstOpen (M : Program) (path : Path) (j : ℕ) : Type 0 where
   pub within : j < length M.cols

@@ -8,7 +8,7 @@ use Rattle.lp_model.specs.Program.{Program}
 use Rattle.lp_model.specs.Regions.{Path}
 use Rattle.lp_model.specs.declared.types.Var.TheVariants.{Row}
 use Rattle.lp_model.specs.declared.types.WideStep.{WideStep}
-use Rattle.leaf_dual.specs.Dual.{Multipliers, IsPositive}
+use Rattle.leaf_dual.specs.Dual.{Multipliers, IsPositiveNumber}
 use Rattle.leaf_dual.specs.Answers.{IsFarkasAnswer}
 use Rattle.leaf_dual.specs.declared.dual.LagValue.{LagValue}
 use Rattle.tree_search.specs.declared.refuting.Refuting.{Refuting}
@@ -27,25 +27,25 @@ IsTrial M i y = (i < length M.rows) × IsSign y
 pub record RowRefutes (M : Program) (path : Path) (i : ℕ) (y : ℚ) : Type 0 where
   pub number : LagValue
   pub answer : IsFarkasAnswer M path (one_row i y) (Ok number)
-  pub positive : IsPositive number
+  pub positive : IsPositiveNumber number
 
 -- there is a number, and it is not above 0
 pub record RowAllows (M : Program) (path : Path) (i : ℕ) (y : ℚ) : Type 0 where
   pub number : LagValue
   pub answer : IsFarkasAnswer M path (one_row i y) (Ok number)
-  pub not_positive : ¬ IsPositive number
+  pub not_positive : ¬ IsPositiveNumber number
 
 -- the step is the first of the number that has no room
-abbrev pub IsWideRow : Program → Path → ℕ → ℚ → WideStep → Type 0
-IsWideRow M path i y step = IsFarkasAnswer M path (one_row i y) (Err step)
+abbrev pub IsWideRefutation : Program → Path → ℕ → ℚ → WideStep → Type 0
+IsWideRefutation M path i y step = IsFarkasAnswer M path (one_row i y) (Err step)
 
 abbrev pub RowDoesNotRefute : Program → Path → ℕ → ℚ → Type 0
-RowDoesNotRefute M path i y = RowAllows M path i y ⊎ ((step : WideStep) × IsWideRow M path i y step)
+RowDoesNotRefute M path i y = RowAllows M path i y ⊎ ((step : WideStep) × IsWideRefutation M path i y step)
 
 -- a step without room, where there is one
 abbrev pub IsWideOf : Program → Path → (ℕ → ℚ → Type 0) → Option WideStep → Type 0
 IsWideOf M path T None = (i : ℕ) (y : ℚ) → T i y → RowAllows M path i y
-IsWideOf M path T (Some step) = (i : ℕ) × ((y : ℚ) × (T i y × IsWideRow M path i y step))
+IsWideOf M path T (Some step) = (i : ℕ) × ((y : ℚ) × (T i y × IsWideRefutation M path i y step))
 
 -- the multipliers are those of a trial that refutes; or none refutes, and this is a step without room, where a trial has one
 abbrev pub IsRefutingOf : Program → Path → (ℕ → ℚ → Type 0) → Refuting → Type 0

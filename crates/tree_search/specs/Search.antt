@@ -10,7 +10,7 @@ use Rattle.tree_edit.specs.Laws.{HasNoOpenLeaf, IsNoBetter}
 use Rattle.tree_edit.specs.Sound.{PlainSearch}
 use Rattle.tree_search.specs.Bounds.{IsBoundOf}
 use Rattle.tree_search.specs.Work.{cap_of}
-use Rattle.tree_search.specs.Working.{IsWidePoint}
+use Rattle.tree_search.specs.Working.{PointIsWide}
 use Rattle.tree_search.specs.Steps.{IsOpenLeaf, IsNextLeaf, IsTooFull, Goes}
 use Rattle.tree_search.specs.Causes.{HasCause}
 use Rattle.tree_search.specs.declared.stepping.StopWhy.{StopWhy}
@@ -60,7 +60,7 @@ StopsAtFull S limit n = (n < limit) × ((path : Path) × (StopsAtLeaf S n path �
 
 -- the one point of an open leaf could not be judged
 abbrev pub StopsAtPoint : PlainSearch → ℕ → ℕ → Path → WideStep → Type 0
-StopsAtPoint S limit n path step = (n < limit) × StopsAtLeaf S n path × IsWidePoint S.model path step
+StopsAtPoint S limit n path step = (n < limit) × StopsAtLeaf S n path × PointIsWide S.model path step
 
 abbrev pub StopsFor : PlainSearch → ℕ → ℕ → StopWhy → Type 0
 StopsFor S limit n Nodes = StopsAtLimit S limit n

@@ -13,7 +13,7 @@ use Rattle.tree_edit.specs.Calls.{IsLeafAt}
 use Rattle.tree_edit.specs.Choosing.{IsNext}
 use Rattle.tree_search.specs.Points.{IsFirstOpen}
 use Rattle.tree_search.specs.Work.{work, splits, HasRoomFor}
-use Rattle.tree_search.specs.Working.{IsWidePoint, IsResultFor}
+use Rattle.tree_search.specs.Working.{PointIsWide, IsResultFor}
 use Rattle.tree_search.specs.declared.stepping.StopWhy.{StopWhy}
 use Rattle.tree_search.specs.declared.stepping.StopWhy.TheVariants.{Nodes, Tree, Wide}
 
@@ -90,4 +90,4 @@ abbrev pub Steps : PlainSearch → Path → PlainSearch → Option StopWhy → T
 Steps old path new None = Lowers old new × Places old new
 Steps old path new (Some Nodes) = ⊥
 Steps old path new (Some Tree) = IsTooFull old path × (new ≡ old)
-Steps old path new (Some (Wide p step)) = (p ≡ path) × IsWidePoint old.model path step × (new ≡ old)
+Steps old path new (Some (Wide p step)) = (p ≡ path) × PointIsWide old.model path step × (new ≡ old)

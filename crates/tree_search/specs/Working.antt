@@ -1,6 +1,6 @@
 -- What the work on an open leaf comes to.
 --     IsResultFor M path done     the result closes the region by one row, splits it at a middle, or closes it with its one point
---     IsWidePoint M path step     the region has one whole point, and a step without room keeps it from being judged
+--     PointIsWide M path step     the region has one whole point, and a step without room keeps it from being judged
 use Rattle.std.specs.Prelude.{◌≡◌, ◌⊎◌, ℕ, [], Ok, Err, false}
 use Rattle.rational.specs.Rational.{ℚ}
 use Rattle.lp_model.specs.Program.{Program, Point, IsFeasible}
@@ -11,7 +11,7 @@ use Rattle.lp_model.specs.declared.types.WideStep.{WideStep}
 use Rattle.branch_tree.specs.declared.node.NodeResult.{NodeResult}
 use Rattle.branch_tree.specs.declared.node.NodeResult.TheVariants.{Close, Split, PointAndClose, Keep}
 use Rattle.tree_edit.specs.Points.{IsKeepable}
-use Rattle.tree_search.specs.Refuting.{one_row, IsTrial, RowRefutes, IsWideRow}
+use Rattle.tree_search.specs.Refuting.{one_row, IsTrial, RowRefutes, IsWideRefutation}
 use Rattle.tree_search.specs.Points.{IsFirstOpen, middle_within}
 use Rattle.tree_search.specs.Single.{IsOnlyPoint}
 use Rattle.tree_search.specs.declared.working.Verdict.{Verdict}
@@ -25,19 +25,19 @@ no_basis = record { basic = []; high = [] }
 -- ---- points
 
 -- the test of the point, or where it is feasible its value, has this step as its first one without room
-abbrev pub IsWideAt : Program → Point → WideStep → Type 0
-IsWideAt M x step = IsFeasibilityAnswer M x (Err step) ⊎ (IsFeasible M x × IsValueAnswer M 1 x (Err step))
+abbrev pub StepIsWideAt : Program → Point → WideStep → Type 0
+StepIsWideAt M x step = IsFeasibilityAnswer M x (Err step) ⊎ (IsFeasible M x × IsValueAnswer M 1 x (Err step))
 
-abbrev pub IsVerdict : Program → Point → Verdict → Type 0
-IsVerdict M x Feasible = IsKeepable M x
-IsVerdict M x Broken = IsFeasibilityAnswer M x (Ok false)
-IsVerdict M x (Unjudged step) = IsWideAt M x step
+abbrev pub IsPointVerdict : Program → Point → Verdict → Type 0
+IsPointVerdict M x Feasible = IsKeepable M x
+IsPointVerdict M x Broken = IsFeasibilityAnswer M x (Ok false)
+IsPointVerdict M x (Unjudged step) = StepIsWideAt M x step
 
 -- the step is the point's, or the first without room of the number of a row with the multiplier 1 or -1
 abbrev pub IsWideHere : Program → Path → Point → WideStep → Type 0
-IsWideHere M path x step = IsWideAt M x step ⊎ ((i : ℕ) × ((y : ℚ) × (IsTrial M i y × IsWideRow M path i y step)))
+IsWideHere M path x step = StepIsWideAt M x step ⊎ ((i : ℕ) × ((y : ℚ) × (IsTrial M i y × IsWideRefutation M path i y step)))
 
-pub record IsWidePoint (M : Program) (path : Path) (step : WideStep) : Type 0 where
+pub record PointIsWide (M : Program) (path : Path) (step : WideStep) : Type 0 where
   pub point : Point
   pub only : IsOnlyPoint M path point
   pub wide : IsWideHere M path point step
@@ -45,11 +45,11 @@ pub record IsWidePoint (M : Program) (path : Path) (step : WideStep) : Type 0 wh
 -- ---- results
 
 -- a row with the multiplier 1 or -1 refutes the region
-abbrev pub IsClosing : Program → Path → NodeResult → Type 0
-IsClosing M path (Close mult farkas basis) = (mult ≡ []) × (basis ≡ no_basis) × ((i : ℕ) × ((y : ℚ) × (IsTrial M i y × (farkas ≡ one_row i y) × RowRefutes M path i y)))
-IsClosing M path (Split col v mult basis) = ⊥
-IsClosing M path (PointAndClose x mult basis) = ⊥
-IsClosing M path (Keep x basis) = ⊥
+abbrev pub IsRefuting : Program → Path → NodeResult → Type 0
+IsRefuting M path (Close mult farkas basis) = (mult ≡ []) × (basis ≡ no_basis) × ((i : ℕ) × ((y : ℚ) × (IsTrial M i y × (farkas ≡ one_row i y) × RowRefutes M path i y)))
+IsRefuting M path (Split col v mult basis) = ⊥
+IsRefuting M path (PointAndClose x mult basis) = ⊥
+IsRefuting M path (Keep x basis) = ⊥
 
 -- the first column with more than one number, at the middle of these
 abbrev pub IsSplitting : Program → Path → NodeResult → Type 0
@@ -66,8 +66,8 @@ IsKeeping M path (PointAndClose x mult basis) = (mult ≡ []) × (basis ≡ no_b
 IsKeeping M path (Keep x basis) = ⊥
 
 abbrev pub IsResultFor : Program → Path → NodeResult → Type 0
-IsResultFor M path done = IsClosing M path done ⊎ (IsSplitting M path done ⊎ IsKeeping M path done)
+IsResultFor M path done = IsRefuting M path done ⊎ (IsSplitting M path done ⊎ IsKeeping M path done)
 
 abbrev pub IsWorkOf : Program → Path → Work → Type 0
 IsWorkOf M path (Place done) = IsResultFor M path done
-IsWorkOf M path (Blocked step) = IsWidePoint M path step
+IsWorkOf M path (Blocked step) = PointIsWide M path step

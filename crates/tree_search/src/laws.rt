@@ -1,5 +1,5 @@
 // Laws of regions, of what a search can still do, and of its bound, as clauses of calls that do nothing.
-ghost use Rattle.tree_search.specs.Laws.{SingleLaw, CornerLaw, SplitLaw, SomePointLaw, CapLaw, SplitCapLaw, EnoughLaw, TooFewNodesLaw, StopBoundLaw};
+ghost use Rattle.tree_search.specs.Laws.{SingleLaw, CornerLaw, ChildrenLaw, SomePointLaw, CapLaw, SplitCapLaw, EnoughLaw, TooFewNodesLaw, StopBoundLaw};
 
 /// Where no trial of a row refutes a region with one whole point, and no trial has a step without room, that point breaks
 /// no row.
@@ -14,7 +14,7 @@ pub fn corner_law()
 
 /// A split's two children have together the points of their parent.
 pub fn split_law()
-    ensures { SplitLaw }
+    ensures { ChildrenLaw }
 {}
 
 /// A region that is not seen to be empty has a point.

@@ -6,7 +6,7 @@ ghost use Rattle.lp_model.specs.Program.{coordinate};
 ghost use Rattle.lp_model.specs.Regions.{AreNarrow, region_low, region_high};
 ghost use Rattle.tree_edit.specs.Checks.{IsSplitAllowed};
 ghost use Rattle.tree_search.specs.Integral.{IsIntegral};
-ghost use Rattle.tree_search.specs.Points.{IsLess, IsOpenColumn, IsFirstOpen, middle_from, middle_within};
+ghost use Rattle.tree_search.specs.Points.{IsLessValue, IsOpenColumn, IsFirstOpen, middle_from, middle_within};
 ghost use Rattle.tree_search.specs.Single.{IsCornerOf};
 
 use frac128::Frac;
@@ -16,7 +16,7 @@ use std::alloc::{AllocError, Global};
 /// Whether there are two bounds, the low one below the high one.
 #[tactic(auto, using(rational::proofs::Comparison::comparisons))]
 fn is_less(low: &Bound, high: &Bound) -> bool
-    ensures { IsTrue result ↔ IsLess low.now high.now }
+    ensures { IsTrue result ↔ IsLessValue low.now high.now }
 {
     match (low, high) {
         (Some(low), Some(high)) => *low < *high,

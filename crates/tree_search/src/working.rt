@@ -6,7 +6,7 @@ ghost use Rattle.tree_search.specs.Integral.{IsIntegral};
 ghost use Rattle.tree_search.specs.Points.{IsOpenColumn, IsFirstOpen};
 ghost use Rattle.tree_search.specs.Refuting.{IsTrial, IsRefutingOf};
 ghost use Rattle.tree_search.specs.declared.refuting.Refuting.TheVariants.{Refuted, NotRefuted};
-ghost use Rattle.tree_search.specs.Working.{no_basis, IsVerdict, IsClosing, IsSplitting, IsWorkOf};
+ghost use Rattle.tree_search.specs.Working.{no_basis, IsPointVerdict, IsRefuting, IsSplitting, IsWorkOf};
 
 use crate::refuting::{Refuting, try_rows};
 use crate::regions::{corner_of, first_open_column, middle};
@@ -45,7 +45,7 @@ fn no_basis(alloc: Global) -> Basis
 /// What a point is. Its test comes first, then its value.
 fn verdict_on(model: &Model, point: &Point) -> Verdict
     requires { length point.now ≡ length model.now.cols }
-    ensures { IsVerdict model.now point.now result }
+    ensures { IsPointVerdict model.now point.now result }
 {
     match model.is_feasible(point) {
         Err(step) => return Verdict::Unjudged(step),

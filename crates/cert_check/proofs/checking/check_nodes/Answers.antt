@@ -2,7 +2,7 @@ use Rattle.std.proofs.Common.{◌∙◌, ◌+◌, sym, subst, arith}
 use Rattle.cert_check.specs.declared.verdict.Judgement.TheVariants.{Passes, Breaks, NoRoom}
 use Rattle.lp_model.specs.Regions.{AreNarrow}
 use Rattle.cert_check.specs.Walk.{IsPlacedJudged}
-use Rattle.cert_check.specs.Tight.{path_of}
+use Rattle.cert_check.specs.Tight.{path_of_trail}
 use Rattle.cert_check.proofs.SameRegion.{judged-same}
 use Rattle.cert_check.proofs.TrailLemmas.{trail-bounds, trail-narrow}
 use Rattle.cert_check.proofs.VerdictSteps.{Goes, goes_first, goes_narrow, goes_turns, goes_next, goes_wrong, goes_all, place_here}
@@ -21,7 +21,7 @@ judge-requires-clause-narrow c =
     let t = c.requires.tree in
     let trail = c.loop-index.trail in
     subst AreNarrow (sym c.region.ensures.region)
-    (trail-narrow trail c.loop-index.invariant.trail (goes_narrow c.args.model.now c.args.claim.now t.0 c.loop-index.index (path_of trail) (c.loop-index.invariant.goes t.0 t.1)))
+    (trail-narrow trail c.loop-index.invariant.trail (goes_narrow c.args.model.now c.args.claim.now t.0 c.loop-index.index (path_of_trail trail) (c.loop-index.invariant.goes t.0 t.1)))
 
 pub judge-requires-clause-placed : goal.judge-requires-clause-placed
 judge-requires-clause-placed c =
@@ -31,7 +31,7 @@ judge-requires-clause-placed c =
 pub step_on-requires-clause-turns : goal.step_on-requires-clause-turns
 step_on-requires-clause-turns c =
     let t = c.requires.tree in
-    goes_turns c.args.model.now c.args.claim.now t.0 c.loop-index.index (path_of c.loop-index.trail) (c.loop-index.invariant.goes t.0 t.1)
+    goes_turns c.args.model.now c.args.claim.now t.0 c.loop-index.index (path_of_trail c.loop-index.trail) (c.loop-index.invariant.goes t.0 t.1)
 
 pub returns-in-Breaks-clause-verdict : goal.returns-in-Breaks-clause-verdict
 returns-in-Breaks-clause-verdict c = λ tree walked.
@@ -41,8 +41,8 @@ returns-in-Breaks-clause-verdict c = λ tree walked.
     let node = c.index-nodes-index.result in
     let j = Breaks c.in-Breaks.why in
     let same = trail-bounds trail c.loop-index.invariant.trail in
-    let judged = judged-same M _ (path_of trail) same claim node j (subst (λ R. IsPlacedJudged M claim R node j) c.region.ensures.region c.in-Breaks.ensures) in
-    goes_wrong M claim tree c.args.nodes.now walked c.loop-index.index (path_of trail) c.loop-index-test.true (c.loop-index.invariant.goes tree walked) node j c.index-nodes-index.is judged
+    let judged = judged-same M _ (path_of_trail trail) same claim node j (subst (λ R. IsPlacedJudged M claim R node j) c.region.ensures.region c.in-Breaks.ensures) in
+    goes_wrong M claim tree c.args.nodes.now walked c.loop-index.index (path_of_trail trail) c.loop-index-test.true (c.loop-index.invariant.goes tree walked) node j c.index-nodes-index.is judged
 
 pub returns-in-NoRoom-clause-verdict : goal.returns-in-NoRoom-clause-verdict
 returns-in-NoRoom-clause-verdict c = λ tree walked.
@@ -52,8 +52,8 @@ returns-in-NoRoom-clause-verdict c = λ tree walked.
     let node = c.index-nodes-index.result in
     let j = NoRoom c.in-NoRoom.step in
     let same = trail-bounds trail c.loop-index.invariant.trail in
-    let judged = judged-same M _ (path_of trail) same claim node j (subst (λ R. IsPlacedJudged M claim R node j) c.region.ensures.region c.in-NoRoom.ensures) in
-    goes_wrong M claim tree c.args.nodes.now walked c.loop-index.index (path_of trail) c.loop-index-test.true (c.loop-index.invariant.goes tree walked) node j c.index-nodes-index.is judged
+    let judged = judged-same M _ (path_of_trail trail) same claim node j (subst (λ R. IsPlacedJudged M claim R node j) c.region.ensures.region c.in-NoRoom.ensures) in
+    goes_wrong M claim tree c.args.nodes.now walked c.loop-index.index (path_of_trail trail) c.loop-index-test.true (c.loop-index.invariant.goes tree walked) node j c.index-nodes-index.is judged
 
 pub loop-index-preserved : goal.loop-index-preserved
 loop-index-preserved c = record {
@@ -66,11 +66,11 @@ loop-index-preserved c = record {
       let trail = c.loop-index.trail in
       let node = c.index-nodes-index.result in
       let same = trail-bounds trail c.loop-index.invariant.trail in
-      let judged = judged-same M _ (path_of trail) same claim node Passes (subst (λ R. IsPlacedJudged M claim R node Passes) c.region.ensures.region c.in-Passes.ensures) in
+      let judged = judged-same M _ (path_of_trail trail) same claim node Passes (subst (λ R. IsPlacedJudged M claim R node Passes) c.region.ensures.region c.in-Passes.ensures) in
       subst (Goes M claim tree (c.loop-index.index + 1)) (sym c.step_on.ensures.path)
-      (goes_next M claim tree c.args.nodes.now walked c.loop-index.index (path_of trail) c.loop-index-test.true (c.loop-index.invariant.goes tree walked) node c.index-nodes-index.is judged);
+      (goes_next M claim tree c.args.nodes.now walked c.loop-index.index (path_of_trail trail) c.loop-index-test.true (c.loop-index.invariant.goes tree walked) node c.index-nodes-index.is judged);
 }
 
 pub returns-clause-verdict : goal.returns-clause-verdict
 returns-clause-verdict c = λ tree walked.
-    goes_all c.args.model.now c.args.claim.now tree c.args.nodes.now c.loop-index.index (path_of c.loop-index.trail) walked (omega (arith, c.loop-index-test.false)) (c.loop-index.invariant.goes tree walked)
+    goes_all c.args.model.now c.args.claim.now tree c.args.nodes.now c.loop-index.index (path_of_trail c.loop-index.trail) walked (omega (arith, c.loop-index-test.false)) (c.loop-index.invariant.goes tree walked)

@@ -1,7 +1,7 @@
 use Rattle.std.proofs.Common.{◌≤◌, ◌≡◌}
 use Rattle.cert_check.specs.Tree.{CertTree}
 use Rattle.cert_check.specs.Walk.{IsWalked}
-use Rattle.cert_check.specs.Tight.{IsTrail, path_of, room}
+use Rattle.cert_check.specs.Tight.{IsTrail, path_of_trail, room}
 use Rattle.cert_check.proofs.VerdictSteps.{Goes}
 use Rattle.cert_check.proofs.checking.check_nodes.Given as goal
 
@@ -10,5 +10,5 @@ invariant-loop-index l = record {
   trail : IsTrail l.trail;
   deep : l.trail.depth ≤ l.index;
   room : room l.trail ≡ room l.fn.trail;
-  goes : (tree : CertTree) → IsWalked l.model tree l.nodes → Goes l.model l.claim tree l.index (path_of l.trail);
+  goes : (tree : CertTree) → IsWalked l.model tree l.nodes → Goes l.model l.claim tree l.index (path_of_trail l.trail);
 }

@@ -1,6 +1,6 @@
 use Rattle.std.proofs.Common.{◌∙◌, sym, subst, arith}
 use Rattle.mps_text.specs.Text.{records_of}
-use Rattle.mps_model.specs.Limits.{KeepsLimits}
+use Rattle.mps_model.specs.Limits.{StatesWithinLimits}
 use Rattle.mps_model.proofs.StatedLimits.{as_before, whole-keeps_limits}
 use Rattle.mps_model.specs.Shown.{held}
 use Rattle.mps_model.specs.Built.{parts_shown}
@@ -27,5 +27,5 @@ model-requires c =
     let t = c.in-Ok.tables in
     let w = c.in-Ok.ensures in
     let parts : Parts = record { objectives = c.as_slice-3.result; rows = c.as_slice-4.result; columns = c.as_slice-5.result; sides = c.as_slice-6.result; bounds = c.as_slice-7.result; intupper = c.args.intupper } in
-    let kept : KeepsLimits (held t) = subst KeepsLimits (sym w.holds) (whole-keeps_limits (records_of c.args.text.now) w.entries w.whole) in
+    let kept : StatesWithinLimits (held t) = subst StatesWithinLimits (sym w.holds) (whole-keeps_limits (records_of c.args.text.now) w.entries w.whole) in
     as_before (held t) (parts_shown parts) c.as_slice-4.ensures (c.as_slice-5.ensures ∙ c.in-Ok-into_list.ensures) (omega arith) c.as_slice-3.ensures kept

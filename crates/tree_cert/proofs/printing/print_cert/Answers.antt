@@ -1,6 +1,6 @@
 use Rattle.std.proofs.Common.{◌≡◌, sym, subst, ap, ◌∙◌, map, ◌++◌}
 use Rattle.std.specs.Prelude.{All, codes}
-use Rattle.cert_check.specs.Text.{Meant}
+use Rattle.cert_check.specs.Text.{MeantCertificate}
 use Rattle.tree_cert.specs.CertText.{node_words, lines_text}
 use Rattle.tree_cert.specs.Printed.{HasNodeRoom}
 use Rattle.tree_cert.proofs.PutLaws.{text_parts}
@@ -16,5 +16,5 @@ returns-clause-text c =
 
 pub returns-clause-states : goal.returns-clause-states
 returns-clause-states c = λ whole words.
-    subst (λ text. Meant text c.args.cert.now) (sym (returns-clause-text c))
+    subst (λ text. MeantCertificate text c.args.cert.now) (sym (returns-clause-text c))
     (printed_states c.args.cert.now whole words (record { claim = c.in_ok-put_claim.ensures.room; point = c.in_ok-put_point.ensures.room; nodes = subst (All HasNodeRoom) c.as_slice.ensures c.in_ok-put_nodes.ensures.room }))

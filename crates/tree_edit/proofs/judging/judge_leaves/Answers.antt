@@ -2,7 +2,7 @@ use Rattle.std.proofs.Common.{rules, ◌≡◌, [], subst, sym, take, ◌+◌, L
 use Rattle.std.specs.List.{AllZip}
 use Rattle.lp_model.specs.Regions.{AreNarrow}
 use Rattle.branch_tree.specs.declared.node.LeafState.{LeafState}
-use Rattle.branch_tree.specs.declared.node.PlacedLeaf.{PlacedLeaf}
+use Rattle.branch_tree.specs.declared.node.RegionLeaf.{RegionLeaf}
 use Rattle.tree_edit.specs.Queued.{AreQueued}
 use Rattle.tree_edit.proofs.JudgeLemmas.{JudgedAs, zipped-more}
 use Rattle.tree_edit.proofs.QueueLists.{queued-none, queued-more}
@@ -10,7 +10,7 @@ use Rattle.tree_edit.proofs.judging.judge_leaves.Goals as goal
 
 pub judge_leaf-judged-requires : goal.judge_leaf-judged-requires
 judge_leaf-judged-requires c =
-    subst (λ (l : PlacedLeaf). AreNarrow l.region) (sym c.leaf-item.is) (c.requires c.loop-leaf.leaf-index c.leaf-item.result c.loop-leaf-test.true)
+    subst (λ (l : RegionLeaf). AreNarrow l.region) (sym c.leaf-item.is) (c.requires c.loop-leaf.leaf-index c.leaf-item.result c.loop-leaf-test.true)
 
 pub loop-leaf-init : goal.loop-leaf-init
 loop-leaf-init c =

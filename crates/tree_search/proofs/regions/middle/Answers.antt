@@ -5,7 +5,7 @@ use Rattle.std.proofs.lemmas.Int.{to_z-of_z}
 use Rattle.rational.specs.Rational.{IsWhole, ◌<ℚ◌, ceil}
 use Rattle.lp_model.specs.Regions.{region_low, region_high}
 use Rattle.tree_edit.specs.Checks.{IsSplitAllowed}
-use Rattle.tree_search.specs.Points.{IsLess, middle_from, middle_within}
+use Rattle.tree_search.specs.Points.{IsLessValue, middle_from, middle_within}
 use Rattle.tree_search.proofs.RegionLemmas.{IsWholeBound, middle-allowed, bounds-ordered, region_low-whole, region_high-whole}
 use Rattle.tree_search.proofs.regions.middle.Goals as goal
 
@@ -19,7 +19,7 @@ middle_from-requires-clause-ordered c =
     let high_is : Some high ≡ region_high c.args.model.now c.args.region.now c.args.col = c.in-Some-Some.ensures' in
     let low_whole : IsWhole low = subst IsWholeBound (sym low_is) (region_low-whole c.args.model.now c.requires.integral c.args.region.now c.args.col c.requires.within) in
     let high_whole : IsWhole high = subst IsWholeBound (sym high_is) (region_high-whole c.args.model.now c.requires.integral c.args.region.now c.args.col c.requires.within) in
-    let less : low <ℚ high = subst (λ b. IsLess (Some low) b) (sym high_is) (subst (λ b. IsLess b (region_high c.args.model.now c.args.region.now c.args.col)) (sym low_is) c.requires.more) in
+    let less : low <ℚ high = subst (λ b. IsLessValue (Some low) b) (sym high_is) (subst (λ b. IsLessValue b (region_high c.args.model.now c.args.region.now c.args.col)) (sym low_is) c.requires.more) in
     let ordered : c.ceil.result ≤ℤ c.floor.result = subst (λ z. z ≤ℤ c.floor.result) (sym c.ceil.ensures.value) (subst (λ z. ceil low ≤ℤ z) (sym c.floor.ensures.value) (bounds-ordered low high low_whole high_whole less)) in
     simp to_z-of_z ordered
 

@@ -2,7 +2,7 @@ use Rattle.std.specs.Prelude.{[], Some, None}
 use Rattle.std.proofs.Common.{subst, sym, ap, ◌∙◌}
 use Rattle.branch_tree.specs.Plain.{path_of}
 use Rattle.branch_tree.specs.Numbered.{NumberedTree, IsNumbered}
-use Rattle.branch_tree.specs.Leaves.{placed_leaves}
+use Rattle.branch_tree.specs.Leaves.{region_leaves}
 use Rattle.tree_edit.specs.Choosing.{IsNext}
 use Rattle.tree_search.proofs.StepLemmas.{closed-all, none-open, next-leaf, next-there}
 use Rattle.tree_search.proofs.stepping.next_open.Goals as goal
@@ -11,7 +11,7 @@ pub returns-in_default-clause-found : goal.returns-in_default-clause-found
 returns-in_default-clause-found c =
     let S = c.args.search.now in
     let next : IsNext S None = subst (IsNext S) c.in_default.is c.in_ok-id.ensures in
-    none-open S.tree.root (closed-all (placed_leaves [] S.tree.root) next)
+    none-open S.tree.root (closed-all (region_leaves [] S.tree.root) next)
 
 pub unreachable-requires : goal.unreachable-requires
 unreachable-requires c =

@@ -3,7 +3,7 @@ use Rattle.std.proofs.lemmas.Bool.{MatchBool-at_true, MatchBool-at_false}
 use Rattle.lp_model.specs.Regions.{Path}
 use Rattle.branch_tree.specs.Tree.{at_most, at_least, left_path, right_path}
 use Rattle.branch_tree.specs.Plain.{SplitKept, path_below}
-use Rattle.branch_tree.specs.Branches.{plain}
+use Rattle.branch_tree.specs.Branches.{plain_branch}
 use Rattle.branch_tree.proofs.LeafLemmas.{path_below-left, path_below-right, take_front}
 use Rattle.branch_tree.proofs.branch.Branch.+search_path.Goals as goal
 
@@ -13,9 +13,9 @@ returns-then-branch t c =
     let path : Path = c.args.path.now.items in
     let kept : SplitKept = record { id = s.split.id; mult = s.split.mult; basis = s.split.basis } in
     let on : c.push.new.self.items ≡ left_path path s.split.col.0 s.split.v = c.in_ok-push-in-Split.ensures.items ∙ ap (λ b. path ++ b ∷ []) c.at_most.ensures in
-    let found : path_below c.args.id c.push.new.self.items (plain c.deref.result.now) ≡ Some c.search_path.new.path.items = MatchBool-at_true _ _ c.if-branch.true c.in_ok-search_path-in-Split.ensures in
-    let there : path_below c.args.id (left_path path s.split.col.0 s.split.v) (plain s.left.value) ≡ Some c.search_path.new.path.items = rw (← on, ← c.deref.ensures) found in
-    rw s.is (path_below-left c.args.id kept s.split.col.0 s.split.v (plain s.left.value) (plain s.right.value) path _ there)
+    let found : path_below c.args.id c.push.new.self.items (plain_branch c.deref.result.now) ≡ Some c.search_path.new.path.items = MatchBool-at_true _ _ c.if-branch.true c.in_ok-search_path-in-Split.ensures in
+    let there : path_below c.args.id (left_path path s.split.col.0 s.split.v) (plain_branch s.left.value) ≡ Some c.search_path.new.path.items = rw (← on, ← c.deref.ensures) found in
+    rw s.is (path_below-left c.args.id kept s.split.col.0 s.split.v (plain_branch s.left.value) (plain_branch s.right.value) path _ there)
 
 pub returns-then-branch-2 : goal.returns-then-branch-2
 returns-then-branch-2 t c =
@@ -24,12 +24,12 @@ returns-then-branch-2 t c =
     let kept : SplitKept = record { id = s.split.id; mult = s.split.mult; basis = s.split.basis } in
     let on : c.push.new.self.items ≡ left_path path s.split.col.0 s.split.v = c.in_ok-push-in-Split.ensures.items ∙ ap (λ b. path ++ b ∷ []) c.at_most.ensures in
     let missed = MatchBool-at_false _ _ c.if-branch.false c.in_ok-search_path-in-Split.ensures in
-    let none : path_below c.args.id (left_path path s.split.col.0 s.split.v) (plain s.left.value) ≡ None = rw (← on, ← c.deref.ensures) missed.0 in
+    let none : path_below c.args.id (left_path path s.split.col.0 s.split.v) (plain_branch s.left.value) ≡ None = rw (← on, ← c.deref.ensures) missed.0 in
     let back : c.truncate.new.self.items ≡ path = c.truncate.ensures.items ∙ ap (take c.len-depth.result) (missed.1 ∙ on) ∙ take_front path (at_most s.split.col.0 s.split.v ∷ []) c.len-depth.result (c.len-depth.ensures ∙ c.args.path.now.ok.0) in
     let on_right : c.push-in-Split.new.self.items ≡ right_path path s.split.col.0 s.split.v = c.in_ok-push-in-Split-2.ensures.items ∙ ap (λ b. c.truncate.new.self.items ++ b ∷ []) c.at_least.ensures ∙ ap (λ p. p ++ at_least s.split.col.0 (s.split.v +ℤ pos 1) ∷ []) back in
-    let found : path_below c.args.id c.push-in-Split.new.self.items (plain c.deref-in-Split.result.now) ≡ Some c.search_path-in-Split.new.path.items = MatchBool-at_true _ _ c.if-branch-2.true c.in_ok-search_path-in-Split-2.ensures in
-    let there : path_below c.args.id (right_path path s.split.col.0 s.split.v) (plain s.right.value) ≡ Some c.search_path-in-Split.new.path.items = rw (← on_right, ← c.deref-in-Split.ensures) found in
-    rw s.is (path_below-right c.args.id kept s.split.col.0 s.split.v (plain s.left.value) (plain s.right.value) path _ none there)
+    let found : path_below c.args.id c.push-in-Split.new.self.items (plain_branch c.deref-in-Split.result.now) ≡ Some c.search_path-in-Split.new.path.items = MatchBool-at_true _ _ c.if-branch-2.true c.in_ok-search_path-in-Split-2.ensures in
+    let there : path_below c.args.id (right_path path s.split.col.0 s.split.v) (plain_branch s.right.value) ≡ Some c.search_path-in-Split.new.path.items = rw (← on_right, ← c.deref-in-Split.ensures) found in
+    rw s.is (path_below-right c.args.id kept s.split.col.0 s.split.v (plain_branch s.left.value) (plain_branch s.right.value) path _ none there)
 
 pub returns-else-branch-2 : goal.returns-else-branch-2
 returns-else-branch-2 t c =
@@ -38,11 +38,11 @@ returns-else-branch-2 t c =
     let kept : SplitKept = record { id = s.split.id; mult = s.split.mult; basis = s.split.basis } in
     let on : c.push.new.self.items ≡ left_path path s.split.col.0 s.split.v = c.in_ok-push-in-Split.ensures.items ∙ ap (λ b. path ++ b ∷ []) c.at_most.ensures in
     let missed = MatchBool-at_false _ _ c.if-branch.false c.in_ok-search_path-in-Split.ensures in
-    let none : path_below c.args.id (left_path path s.split.col.0 s.split.v) (plain s.left.value) ≡ None = rw (← on, ← c.deref.ensures) missed.0 in
+    let none : path_below c.args.id (left_path path s.split.col.0 s.split.v) (plain_branch s.left.value) ≡ None = rw (← on, ← c.deref.ensures) missed.0 in
     let back : c.truncate.new.self.items ≡ path = c.truncate.ensures.items ∙ ap (take c.len-depth.result) (missed.1 ∙ on) ∙ take_front path (at_most s.split.col.0 s.split.v ∷ []) c.len-depth.result (c.len-depth.ensures ∙ c.args.path.now.ok.0) in
     let on_right : c.push-in-Split.new.self.items ≡ right_path path s.split.col.0 s.split.v = c.in_ok-push-in-Split-2.ensures.items ∙ ap (λ b. c.truncate.new.self.items ++ b ∷ []) c.at_least.ensures ∙ ap (λ p. p ++ at_least s.split.col.0 (s.split.v +ℤ pos 1) ∷ []) back in
     let missed_right = MatchBool-at_false _ _ c.if-branch-2.false c.in_ok-search_path-in-Split-2.ensures in
-    let none_right : path_below c.args.id (right_path path s.split.col.0 s.split.v) (plain s.right.value) ≡ None = rw (← on_right, ← c.deref-in-Split.ensures) missed_right.0 in (
-      rw s.is (path_below-right c.args.id kept s.split.col.0 s.split.v (plain s.left.value) (plain s.right.value) path _ none none_right),
+    let none_right : path_below c.args.id (right_path path s.split.col.0 s.split.v) (plain_branch s.right.value) ≡ None = rw (← on_right, ← c.deref-in-Split.ensures) missed_right.0 in (
+      rw s.is (path_below-right c.args.id kept s.split.col.0 s.split.v (plain_branch s.left.value) (plain_branch s.right.value) path _ none none_right),
       c.truncate-in-Split.ensures.items ∙ ap (take c.len-depth.result) (missed_right.1 ∙ on_right) ∙ take_front path (at_least s.split.col.0 (s.split.v +ℤ pos 1) ∷ []) c.len-depth.result (c.len-depth.ensures ∙ c.args.path.now.ok.0),
     )

@@ -1,6 +1,6 @@
 use Rattle.std.proofs.Common.{◌+◌, sym, subst, ap, arith}
 use Rattle.branch_tree.specs.Tree.{node_count}
-use Rattle.branch_tree.specs.Branches.{plain}
+use Rattle.branch_tree.specs.Branches.{plain_branch}
 use Rattle.branch_tree.specs.Numbered.{NumberedTree, IsNumbered}
 use Rattle.branch_tree.specs.Changes.{HasSplit}
 use Rattle.branch_tree.proofs.NumberedLaws.{id-after_collapse, numbered-after_collapse}
@@ -8,12 +8,12 @@ use Rattle.branch_tree.proofs.tree.Tree.collapse.Goals as goal
 
 pub overflow_add-new : goal.overflow_add-new
 overflow_add-new c =
-    let T : NumberedTree = record { root = plain c.self.inside.root; last = c.self.inside.last; limit = c.self.inside.limit } in
+    let T : NumberedTree = record { root = plain_branch c.self.inside.root; last = c.self.inside.last; limit = c.self.inside.limit } in
     omega (arith, id-after_collapse T c.args.id c.self.invariant.numbered (subst (λ t. HasSplit t c.args.id) (sym c.self.view_is) c.requires))
 
 pub count-self-inside-requires : goal.count-self-inside-requires
 count-self-inside-requires c =
-    let T : NumberedTree = record { root = plain c.self.inside.root; last = c.self.inside.last; limit = c.self.inside.limit } in
+    let T : NumberedTree = record { root = plain_branch c.self.inside.root; last = c.self.inside.last; limit = c.self.inside.limit } in
     let has : HasSplit T c.args.id = subst (λ t. HasSplit t c.args.id) (sym c.self.view_is) c.requires in
     let n = numbered-after_collapse T c.args.id c.self.invariant.numbered has in
     omega (arith, n.few, id-after_collapse T c.args.id c.self.invariant.numbered has, ap node_count c.collapse.ensures)
@@ -21,7 +21,7 @@ count-self-inside-requires c =
 pub invariant_of-self : goal.invariant_of-self
 invariant_of-self c =
     let i = c.self.inside in
-    let T : NumberedTree = record { root = plain i.root; last = i.last; limit = i.limit } in
+    let T : NumberedTree = record { root = plain_branch i.root; last = i.last; limit = i.limit } in
     let has : HasSplit T c.args.id = subst (λ t. HasSplit t c.args.id) (sym c.self.view_is) c.requires in
     record {
       numbered = subst (λ r. IsNumbered (record { root = r; last = i.last + 1; limit = i.limit })) (sym c.collapse.ensures) (numbered-after_collapse T c.args.id c.self.invariant.numbered has);

@@ -1,10 +1,10 @@
 use Rattle.std.proofs.Common.{ap}
 use Rattle.std.specs.Prelude.{[], false, List}
-use Rattle.cert_check.specs.Text.{Stated, stated}
+use Rattle.cert_check.specs.Text.{StatedCertificate, stated}
 use Rattle.cert_check.specs.declared.cert.CertNode.{CertNode}
 use Rattle.cert_check.proofs.reading.Reading.new.Goals as goal
 
-first : List CertNode → Stated
+first : List CertNode → StatedCertificate
 first nodes = record { count = 0; claims = []; points = []; nodes = nodes; ended = false }
 
 pub returns-clause-stated : goal.returns-clause-stated

@@ -1,7 +1,7 @@
 use Rattle.std.proofs.Common.{◌≡◌, ◌∙◌, sym, subst, pos}
 use Rattle.rational.specs.Rational.{int}
 use Rattle.bases.specs.Steps.{at_nonbasic}
-use Rattle.row_tableau.specs.Dense.{entry_at}
+use Rattle.row_tableau.specs.Dense.{dense_entry}
 use Rattle.dual_simplex.specs.Held.{relaxation, table}
 use Rattle.dual_simplex.proofs.PointLemmas.{no_entry, own_entry}
 use Rattle.dual_simplex.proofs.sided.SidedBasis.entry_of.Goals as goal
@@ -15,5 +15,5 @@ returns-in-Row c =
 pub returns-in-Place : goal.returns-in-Place
 returns-in-Place c =
     c.entry.ensures
-    ∙ sym (subst (λ s. at_nonbasic (relaxation s) (table s) ((table s).entry c.args.row) c.args.variable ≡ entry_at c.self.inside.tableau.columns c.self.inside.tableau.entries c.args.row c.in-Place.place) c.self.view_is
+    ∙ sym (subst (λ s. at_nonbasic (relaxation s) (table s) ((table s).entry c.args.row) c.args.variable ≡ dense_entry c.self.inside.tableau.columns c.self.inside.tableau.entries c.args.row c.in-Place.place) c.self.view_is
     (own_entry _ c.self.invariant c.args.row c.args.variable c.in-Place.place c.in-Place.ensures.0 c.in-Place.ensures.1))

@@ -1,6 +1,6 @@
 use Rattle.std.proofs.Common.{◌≡◌, ◌<◌, ◌∙◌, subst}
 use Rattle.dual_simplex.specs.Held.{IsSided, table}
-use Rattle.dual_simplex.specs.Answers.{IsNumber}
+use Rattle.dual_simplex.specs.Answers.{IsNumberOrWide}
 use Rattle.dual_simplex.proofs.PointLemmas.{multiplier_basic, multiplier_nonbasic}
 use Rattle.dual_simplex.proofs.sided.SidedBasis.multiplier_of.Goals as goal
 
@@ -16,4 +16,4 @@ returns-in-Place c =
     let now = c.args.self.now in
     let place = c.in-Place.place in
     let at = subst (λ s. (place < s.tableau.columns) × ((table s).nonbasic place ≡ c.args.variable)) c.self.view_is (c.in-Place.ensures.0, c.in-Place.ensures.1) in
-    subst (λ x. IsNumber now x c.reduced_cost.result) (multiplier_nonbasic now (subst IsSided c.self.view_is c.self.invariant) c.args.variable place at.0 at.1) c.reduced_cost.ensures.value
+    subst (λ x. IsNumberOrWide now x c.reduced_cost.result) (multiplier_nonbasic now (subst IsSided c.self.view_is c.self.invariant) c.args.variable place at.0 at.1) c.reduced_cost.ensures.value

@@ -1,6 +1,6 @@
 use Rattle.std.proofs.Common.{◌≡◌, ◌<◌, ◌∙◌, subst}
 use Rattle.dual_simplex.specs.Held.{IsSided, table}
-use Rattle.dual_simplex.specs.Answers.{IsNumber}
+use Rattle.dual_simplex.specs.Answers.{IsNumberOrWide}
 use Rattle.dual_simplex.proofs.PointLemmas.{point_basic, point_nonbasic}
 use Rattle.dual_simplex.proofs.sided.SidedBasis.number_of.Goals as goal
 
@@ -9,7 +9,7 @@ returns-in-Row c =
     let now = c.args.self.now in
     let row = c.in-Row.row in
     let at = subst (λ s. (row < s.tableau.activities) × ((table s).basic row ≡ c.args.variable)) c.self.view_is c.in-Row.ensures in
-    subst (λ x. IsNumber now x c.basic_value.result) (point_basic now (subst IsSided c.self.view_is c.self.invariant) c.args.variable row at.0 at.1) c.basic_value.ensures
+    subst (λ x. IsNumberOrWide now x c.basic_value.result) (point_basic now (subst IsSided c.self.view_is c.self.invariant) c.args.variable row at.0 at.1) c.basic_value.ensures
 
 pub returns-in-Place : goal.returns-in-Place
 returns-in-Place c =

@@ -1,7 +1,7 @@
 use Rattle.std.proofs.Common.{refl, sym, subst, arith, ◌≡◌, Ok}
 use Rattle.dual_simplex.specs.Answers.{IsWide, IsLeaving}
 use Rattle.dual_simplex.specs.Moves.{IsStepAnswer, IsBlocked}
-use Rattle.dual_simplex.specs.Walks.{Moves, IsEnd}
+use Rattle.dual_simplex.specs.Walks.{Moves, IsWalkEnd}
 use Rattle.dual_simplex.specs.declared.walk.Walk.TheVariants.{Optimal}
 use Rattle.dual_simplex.proofs.WalkLemmas.{moves_more}
 use Rattle.dual_simplex.proofs.state.LpState.walk.Goals as goal
@@ -26,7 +26,7 @@ returns-in-Ok-Optimal c =
         c.loop-move.auto._move-end,
         (
           subst (Moves c.loop-move._move c.args.self.now) (sym answer.1) c.loop-move.invariant,
-          subst (IsEnd c.loop-move._move c.args.pivot_limit (Ok Optimal)) (sym answer.1) answer.0,
+          subst (IsWalkEnd c.loop-move._move c.args.pivot_limit (Ok Optimal)) (sym answer.1) answer.0,
         ),
       ),
     )

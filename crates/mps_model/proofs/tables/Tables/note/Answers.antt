@@ -1,4 +1,4 @@
-use Rattle.mps_text.specs.Reading.{entry_of}
+use Rattle.mps_text.specs.Reading.{entry_of_record}
 use Rattle.mps_model.specs.Shown.{held}
 use Rattle.mps_model.specs.declared.words.LineKind.TheVariants.{Column}
 use Rattle.mps_model.proofs.TestFacts.{room_of_column, code_of_kind}
@@ -8,5 +8,5 @@ pub note_column-requires : goal.note_column-requires
 unfolding held
 note_column-requires c =
     let s = held c.args.self.now in
-    let e = entry_of c.args.entry.now in
+    let e = entry_of_record c.args.entry.now in
     room_of_column s e (code_of_kind s e Column c.in-Column.ensures c.requires)

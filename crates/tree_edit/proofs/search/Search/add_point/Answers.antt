@@ -1,7 +1,7 @@
 use Rattle.std.proofs.Common.{◌≡◌, ◌∙◌, ◌++◌, ◌∷◌, [], List, sym, subst, ap}
 use Rattle.lp_model.specs.Program.{Point}
 use Rattle.tree_edit.specs.Sound.{PlainSearch}
-use Rattle.tree_edit.specs.Queued.{IsKept}
+use Rattle.tree_edit.specs.Queued.{IsIndexed}
 use Rattle.tree_edit.specs.Points.{IsKeepable, target}
 use Rattle.tree_edit.specs.Placing.{JoinsPoint, TakesPoint, without}
 use Rattle.tree_edit.proofs.WorstLemmas.{kept-added, taken-added}
@@ -17,7 +17,7 @@ invariant_of-self-2 c =
     let keepable : IsKeepable S.model x = subst (λ (T : PlainSearch). IsKeepable T.model x) (sym c.self.view_is) c.requires.keepable in
     let same : j.target ≡ target S.model S.points = subst (λ (T : PlainSearch). j.target ≡ target T.model T.points) (sym c.self.view_is) c.requires.same in
     let points : c.take_out.new.items.items ≡ without (S.points ++ x ∷ []) j.worst = c.take_out.ensures ∙ ap (λ (ps : List Point). without ps j.worst) c.in_ok-push.ensures.items in
-    subst (λ (ps : List Point). IsKept (record { model = i.model; tree = i.tree; points = ps }) j.values.items i.queue) (sym points)
+    subst (λ (ps : List Point). IsIndexed (record { model = i.model; tree = i.tree; points = ps }) j.values.items i.queue) (sym points)
     (kept-added S i.values.items i.queue x j c.self.invariant keepable joins same)
 
 pub returns-clause-taken : goal.returns-clause-taken

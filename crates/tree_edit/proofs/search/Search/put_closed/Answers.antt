@@ -1,7 +1,7 @@
 use Rattle.std.proofs.Common.{sym, subst}
 use Rattle.branch_tree.specs.Numbered.{NumberedTree}
 use Rattle.tree_edit.specs.Sound.{PlainSearch}
-use Rattle.tree_edit.specs.Queued.{IsKept, HasRank}
+use Rattle.tree_edit.specs.Queued.{IsIndexed, HasRank}
 use Rattle.tree_edit.specs.Placing.{IsAt}
 use Rattle.tree_edit.specs.Closing.{IsJudgedLeaf}
 use Rattle.tree_edit.specs.Points.{target}
@@ -22,7 +22,7 @@ invariant_of-self c =
     let judged : IsJudgedLeaf S.model (target S.model S.points) path kept = subst (λ (T : PlainSearch). IsJudgedLeaf T.model (target T.model T.points) path kept) (sym c.self.view_is) c.requires.judged in
     let r = c.rank_of-rank.result in
     let ranked : HasRank S.model S.tree.root (record { rank = r; id = id }) = subst (λ (T : PlainSearch). HasRank T.model T.tree.root (record { rank = r; id = id })) (sym c.self.view_is) c.rank_of-rank.ensures in
-    subst (λ (T : NumberedTree). IsKept (record { model = i.model; tree = T; points = i.points.items }) i.values.items c.remove.new.self) (sym c.set_leaf.ensures)
+    subst (λ (T : NumberedTree). IsIndexed (record { model = i.model; tree = T; points = i.points.items }) i.values.items c.remove.new.self) (sym c.set_leaf.ensures)
     (record {
       sound = sound-with_leaf S id path kept c.self.invariant.sound at lists judged;
       values_are = c.self.invariant.values_are;

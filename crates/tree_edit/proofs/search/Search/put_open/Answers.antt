@@ -1,7 +1,7 @@
 use Rattle.std.proofs.Common.{sym, subst}
 use Rattle.branch_tree.specs.Numbered.{NumberedTree}
 use Rattle.tree_edit.specs.Sound.{PlainSearch}
-use Rattle.tree_edit.specs.Queued.{IsKept, HasMultipliers}
+use Rattle.tree_edit.specs.Queued.{IsIndexed, HasMultipliers}
 use Rattle.tree_edit.specs.Placing.{IsAt}
 use Rattle.tree_edit.specs.Closing.{IsJudgedLeaf}
 use Rattle.tree_edit.specs.Points.{target}
@@ -21,7 +21,7 @@ invariant_of-self c =
     let own : HasMultipliers id kept S.tree.root = subst (λ (T : PlainSearch). HasMultipliers id kept T.tree.root) (sym c.self.view_is) c.requires.own in
     let lists : HasLists S.model kept = subst (λ (T : PlainSearch). HasLists T.model kept) (sym c.self.view_is) c.requires.lists in
     let judged : IsJudgedLeaf S.model (target S.model S.points) path kept = subst (λ (T : PlainSearch). IsJudgedLeaf T.model (target T.model T.points) path kept) (sym c.self.view_is) c.requires.judged in
-    subst (λ (T : NumberedTree). IsKept (record { model = i.model; tree = T; points = i.points.items }) i.values.items i.queue) (sym c.set_leaf.ensures)
+    subst (λ (T : NumberedTree). IsIndexed (record { model = i.model; tree = T; points = i.points.items }) i.values.items i.queue) (sym c.set_leaf.ensures)
     (record {
       sound = sound-with_leaf S id path kept c.self.invariant.sound at lists judged;
       values_are = c.self.invariant.values_are;

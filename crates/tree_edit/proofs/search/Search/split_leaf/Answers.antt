@@ -5,7 +5,7 @@ use Rattle.branch_tree.specs.Plain.{replaced}
 use Rattle.branch_tree.specs.Numbered.{NumberedTree, IsNumbered}
 use Rattle.branch_tree.specs.Changes.{HasLeaf, HasRoom}
 use Rattle.tree_edit.specs.Sound.{PlainSearch}
-use Rattle.tree_edit.specs.Queued.{IsKept, IsQueueOf, IsRank, HasRank, candidate_of}
+use Rattle.tree_edit.specs.Queued.{IsIndexed, IsQueueOf, IsRank, HasRank, candidate_of}
 use Rattle.tree_edit.specs.Placing.{IsAt, IsChild, IsSplitSound, tree_with_split, search_with_split, split_node}
 use Rattle.tree_edit.proofs.SplitLemmas.{kept-split}
 use Rattle.tree_edit.proofs.QueueChanges.{queue-same, new-candidate, split-queue, split-undone}
@@ -41,7 +41,7 @@ invariant_of-self-in-Err c =
     let kept = c.self.invariant in
     let queue : IsQueueOf S.model T.root c.take_back.new.self =
     split-undone S.model T n i.queue c.add_both.new.self c.take_back.new.self left right c.args.left.rank c.args.right.rank c.as_candidate-first.result c.as_candidate-second.result kept.queue_is one two c.in_ok-add_both.ensures.added c.take_back.ensures in
-    subst (λ (U : NumberedTree). IsKept (record { model = i.model; tree = U; points = i.points.items }) i.values.items c.take_back.new.self) (sym c.in-Err.ensures.kept)
+    subst (λ (U : NumberedTree). IsIndexed (record { model = i.model; tree = U; points = i.points.items }) i.values.items c.take_back.new.self) (sym c.in-Err.ensures.kept)
     (record { sound = kept.sound; values_are = kept.values_are; queue_is = queue })
 
 pub invariant_of-self-in-Ok : goal.invariant_of-self-in-Ok
@@ -74,7 +74,7 @@ invariant_of-self-in-Ok c =
     let queue : IsQueueOf S.model (replaced c.args.id (split_node T.last c.args.id j v mult basis left right) T.root) c.remove.new.self =
     split-queue S.model T n i.queue c.add_both.new.self c.remove.new.self left right c.args.left.rank c.args.right.rank c.as_candidate-first.result c.as_candidate-second.result c.self.invariant.queue_is one two c.in_ok-add_both.ensures.added
     r c.args.id path j v mult basis has at ranked c.remove.ensures rank_left rank_right in
-    subst (λ (U : NumberedTree). IsKept (record { model = i.model; tree = U; points = i.points.items }) i.values.items c.remove.new.self) (sym split)
+    subst (λ (U : NumberedTree). IsIndexed (record { model = i.model; tree = U; points = i.points.items }) i.values.items c.remove.new.self) (sym split)
     (kept-split S i.values.items i.queue c.remove.new.self c.args.id path j v mult basis left right c.self.invariant at fit low high is_left is_right queue)
 
 pub returns-in-Ok-clause-taken : goal.returns-in-Ok-clause-taken
