@@ -6,6 +6,7 @@ ghost use Rattle.branch_tree.specs.declared.node.TreeFault.TheVariants.{Memory};
 use frac128::Frac;
 use lp_model::{Basis, ColId, List, Mult, Point, Region};
 use std::alloc::{AllocError, AllocFailed, Global};
+use thiserror::Error;
 
 /// Whether a leaf is still to be worked.
 #[derive(Clone, Copy, Debug, Drop)]
@@ -88,13 +89,16 @@ pub enum NodeResult {
 }
 
 /// Why a leaf was not split.
-#[derive(Clone, Copy, Debug, Drop)]
+#[derive(Clone, Copy, Debug, Drop, Error)]
 pub enum TreeFault {
     /// Two more nodes would pass the limit, or there are too few ids.
+    #[error("the tree is full")]
     Full,
     /// No leaf has the id.
+    #[error("no leaf has the id")]
     NoLeaf,
     /// There is no memory.
+    #[error("there is no memory")]
     Memory,
 }
 

@@ -9,14 +9,17 @@ use crate::cert::Cert;
 use crate::line::{LineFault, line_says};
 use crate::reading::Reading;
 use std::alloc::{AllocError, Global};
+use thiserror::Error;
 
 /// Why a text gives no certificate.
-#[derive(Clone, Copy, Debug, Drop)]
+#[derive(Clone, Copy, Debug, Drop, Error)]
 pub enum CertFault {
     /// The first faulty line, from 1, with the least code of its faults. What is missing stands at the line where it was
     /// due, behind the last one too.
+    #[error("a line is faulty")]
     Bad { line: u64, code: u8 },
     /// There is no memory.
+    #[error("there is no memory")]
     Memory,
 }
 

@@ -6,13 +6,16 @@ use crate::reading::{Stop, tables_of};
 use crate::spans::column_flaw;
 use lp_model::Model;
 use std::alloc::Global;
+use thiserror::Error;
 
 /// Why a text gives no model.
-#[derive(Clone, Copy, Debug, Drop)]
+#[derive(Clone, Copy, Debug, Drop, Error)]
 pub enum MpsFault {
     /// The first faulty line, from 1, with the least code of its faults.
+    #[error("a line is faulty")]
     Bad { line: u64, code: u8 },
     /// There is no memory.
+    #[error("there is no memory")]
     Memory,
 }
 

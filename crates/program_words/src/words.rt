@@ -9,6 +9,7 @@ ghost use Rattle.program_words.specs.declared.words.WordsFault.TheVariants.{Memo
 use clap::error::ErrorKind;
 use clap::{Arg, ArgMatches, Command};
 use std::alloc::{AllocError, Global};
+use thiserror::Error;
 
 /// What the words ask the program to do.
 #[derive(Clone, Copy, Debug, PartialEq, Eq)]
@@ -20,11 +21,13 @@ pub enum Form<'a> {
 }
 
 /// Why the words have no form.
-#[derive(Clone, Copy, Debug, PartialEq, Eq)]
+#[derive(Clone, Copy, Debug, PartialEq, Eq, Error)]
 pub enum WordsFault {
     /// They are none of the program's forms.
+    #[error("the words have no form")]
     Refused,
     /// Memory was wanting to read them.
+    #[error("there is no memory")]
     Memory,
 }
 
