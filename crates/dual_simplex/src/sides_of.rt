@@ -110,7 +110,10 @@ fn plain_cost(relax: &Relax<'_>, variable: usize) -> Frac
     ensures { result ≡ (plain relax.now.model.now relax.now.region.now).cost variable }
 {
     if variable < relax.model.cols().len() {
-        relax.model.sense().least_form(relax.model.cost(1, variable))
+        relax
+            .model
+            .sense()
+            .least_form(relax.model.cost(1, variable))
     } else {
         Frac::whole(0)
     }
