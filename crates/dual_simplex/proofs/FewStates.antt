@@ -17,7 +17,7 @@ use Rattle.bases.proofs.Parts.{positive_same, not_less_self}
 use Rattle.dual_simplex.specs.Held.{Held, IsLawfulHeld, relaxation, parts, state, table, variables}
 use Rattle.dual_simplex.specs.Moves.{IsMoved}
 use Rattle.dual_simplex.specs.Walks.{Moves, IsWalkEnd, IsWalkAnswer}
-use Rattle.dual_simplex.specs.declared.state.LpStep.{LpStep}
+use Rattle.lp_model.specs.declared.types.WideStep.{WideStep}
 use Rattle.dual_simplex.specs.declared.walk.Walk.{Walk}
 use Rattle.dual_simplex.specs.declared.walk.Walk.TheVariants.{Pivots}
 use Rattle.dual_simplex.specs.Laws.{Rises}
@@ -283,7 +283,7 @@ module _ (s : Held) (kept : IsLawfulHeld s) where
     few_moves = let q = pigeonhole (suc n) (3 ^ variables s) (λ t. held_code (step t)) few one_each in omega (arith, q)
 
 -- where that many moves are allowed, a walk does not end for want of moves
-pub ends : (s : Held) (limit : ℕ) (r : Result Walk LpStep) (after : Held) → IsLawfulHeld s → 3 ^ variables s ≤ limit → IsWalkAnswer s limit r after → r ≢ Ok Pivots
+pub ends : (s : Held) (limit : ℕ) (r : Result Walk WideStep) (after : Held) → IsLawfulHeld s → 3 ^ variables s ≤ limit → IsWalkAnswer s limit r after → r ≢ Ok Pivots
 ends s limit r after kept enough walked e =
     let end = subst (λ w. IsWalkEnd walked.0 limit w after) e walked.1.1.1 in
     let few = few_moves s kept walked.0 after walked.1.1.0 in

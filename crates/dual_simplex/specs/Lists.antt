@@ -11,7 +11,7 @@ use Rattle.row_tableau.specs.Variables.{numbers, number}
 use Rattle.row_tableau.specs.Answers.{IsBasic}
 use Rattle.dual_simplex.specs.Held.{Held, relaxation, state, table, variables}
 use Rattle.dual_simplex.specs.Answers.{IsWide}
-use Rattle.dual_simplex.specs.declared.state.LpStep.{LpStep}
+use Rattle.lp_model.specs.declared.types.WideStep.{WideStep}
 
 -- the numbers below n of which P holds, each once and rising
 pub record AreRising (P : ℕ → Type 0) (n : ℕ) (list : List ℕ) : Type 0 where
@@ -56,10 +56,10 @@ pub record AreListedMultipliers (s : Held) (y : ℕ → ℚ) (list : List (Var �
   pub values : All (λ m. m.1 ≡ y (number s.tableau m.0)) list
 
 -- the list, or a step without room
-abbrev pub IsPointAnswer : Held → Result (List ℚ) LpStep → Type 0
+abbrev pub IsPointAnswer : Held → Result (List ℚ) WideStep → Type 0
 IsPointAnswer s (Ok x) = IsPointOfHeld s x
 IsPointAnswer s (Err e) = IsWide s e
 
-abbrev pub AreMultipliersAnswer : Held → (ℕ → ℚ) → Result (List (Var × ℚ)) LpStep → Type 0
+abbrev pub AreMultipliersAnswer : Held → (ℕ → ℚ) → Result (List (Var × ℚ)) WideStep → Type 0
 AreMultipliersAnswer s y (Ok list) = AreListedMultipliers s y list
 AreMultipliersAnswer s y (Err e) = IsWide s e

@@ -5,7 +5,7 @@ use Rattle.bases.specs.Relaxation.{Agree, pivoted}
 use Rattle.bases.specs.States.{Enters}
 use Rattle.dual_simplex.specs.Held.{Held, relaxation, parts, state, table}
 use Rattle.dual_simplex.specs.Answers.{IsWide, IsInside, IsFirstOut, May}
-use Rattle.dual_simplex.specs.declared.state.LpStep.{LpStep}
+use Rattle.lp_model.specs.declared.types.WideStep.{WideStep}
 use Rattle.dual_simplex.specs.declared.step.Step.{Step}
 use Rattle.dual_simplex.specs.declared.step.Step.TheVariants.{Moved, Optimal, Infeasible}
 
@@ -42,7 +42,7 @@ pub record IsBlocked (s : Held) : Type 0 where
   pub out : IsFirstOut s row side
   pub none : (k : ℕ) → k < s.tableau.columns → ¬ (May s row side k)
 
-abbrev pub IsStepAnswer : Held → Result Step LpStep → Held → Type 0
+abbrev pub IsStepAnswer : Held → Result Step WideStep → Held → Type 0
 IsStepAnswer s (Ok Moved) after = IsMoved s after
 IsStepAnswer s (Ok Optimal) after = ((i : ℕ) → i < s.tableau.activities → IsInside s i) × (after ≡ s)
 IsStepAnswer s (Ok Infeasible) after = IsBlocked s × (after ≡ s)

@@ -4,7 +4,7 @@ use Rattle.bases.specs.declared.stand.Stand.{Stand}
 use Rattle.dual_simplex.specs.Held.{Held}
 use Rattle.dual_simplex.specs.Answers.{IsWide, IsInside, IsFirstOut}
 use Rattle.dual_simplex.specs.Moves.{IsMoved, IsBlocked}
-use Rattle.dual_simplex.specs.declared.state.LpStep.{LpStep}
+use Rattle.lp_model.specs.declared.types.WideStep.{WideStep}
 use Rattle.dual_simplex.specs.declared.walk.Walk.{Walk}
 use Rattle.dual_simplex.specs.declared.walk.Walk.TheVariants.{Optimal, Infeasible, Pivots}
 
@@ -14,11 +14,11 @@ Moves zero s after = after ≡ s
 Moves (suc n) s after = (mid : Held) × (Moves n s mid × IsMoved mid after)
 
 -- what holds where n moves of at most so many end
-abbrev pub IsWalkEnd : ℕ → ℕ → Result Walk LpStep → Held → Type 0
+abbrev pub IsWalkEnd : ℕ → ℕ → Result Walk WideStep → Held → Type 0
 IsWalkEnd n limit (Ok Optimal) after = (i : ℕ) → i < after.tableau.activities → IsInside after i
 IsWalkEnd n limit (Ok Infeasible) after = IsBlocked after
 IsWalkEnd n limit (Ok Pivots) after = (n ≡ limit) × ((row : ℕ) × ((side : Stand) × IsFirstOut after row side))
 IsWalkEnd n limit (Err e) after = IsWide after e
 
-abbrev pub IsWalkAnswer : Held → ℕ → Result Walk LpStep → Held → Type 0
+abbrev pub IsWalkAnswer : Held → ℕ → Result Walk WideStep → Held → Type 0
 IsWalkAnswer s limit r after = (n : ℕ) × ((n ≤ limit) × (Moves n s after × IsWalkEnd n limit r after))

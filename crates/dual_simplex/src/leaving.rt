@@ -4,8 +4,9 @@ ghost use Rattle.dual_simplex.specs.Held.{variables};
 
 use crate::sided::SidedBasis;
 use crate::sides::breach;
-use crate::state::{LpState, LpStep};
+use crate::state::LpState;
 use bases::Stand;
+use lp_model::WideStep;
 use row_tableau::Position;
 
 /// The row of a basic variable that is outside a side, and that side.
@@ -19,7 +20,7 @@ impl SidedBasis<'_> {
     ghost use Rattle.dual_simplex.specs.Answers.{IsRowBreach, IsVisited, IsLeaving};
 
     /// The side that the basic variable of a row is outside of, if any.
-    fn row_breach(&self, row: usize) -> Result<Option<Stand>, LpStep>
+    fn row_breach(&self, row: usize) -> Result<Option<Stand>, WideStep>
         requires { row < self.now.tableau.activities }
         ensures { IsRowBreach self.now row result }
     {
@@ -31,7 +32,7 @@ impl SidedBasis<'_> {
     }
 
     /// The row of a variable and the side that it is outside of, where it is basic and outside one.
-    fn visit(&self, variable: usize) -> Result<Option<Leaving>, LpStep>
+    fn visit(&self, variable: usize) -> Result<Option<Leaving>, WideStep>
         requires { variable < variables self.now }
         ensures { IsVisited self.now variable result }
     {
@@ -47,7 +48,7 @@ impl SidedBasis<'_> {
     }
 
     /// The first basic variable that is outside a side.
-    pub(crate) fn leaving(&self) -> Result<Option<Leaving>, LpStep>
+    pub(crate) fn leaving(&self) -> Result<Option<Leaving>, WideStep>
         ensures { IsLeaving self.now result }
     {
         let _kept = &self.tableau;
@@ -66,7 +67,7 @@ impl LpState<'_> {
     ghost use Rattle.dual_simplex.specs.Answers.{IsLeaving};
 
     /// The first basic variable that is outside a side.
-    pub(crate) fn leaving(&self) -> Result<Option<Leaving>, LpStep>
+    pub(crate) fn leaving(&self) -> Result<Option<Leaving>, WideStep>
         ensures { IsLeaving self.now result }
     {
         self.basis.leaving()

@@ -8,9 +8,9 @@ ghost use Rattle.dual_simplex.specs.Lists.{StandsHigh, AreBasic, AreHigh, IsBasi
 
 use crate::leaving::Leaving;
 use crate::sided::SidedBasis;
-use crate::state::{LpState, LpStep};
+use crate::state::LpState;
 use bases::Stand;
-use lp_model::{Basis, List, Mult, Point, Var};
+use lp_model::{Basis, List, Mult, Point, Var, WideStep};
 use row_tableau::Position;
 use std::alloc::{AllocError, Global};
 
@@ -77,7 +77,7 @@ impl SidedBasis<'_> {
     }
 
     /// The numbers of the columns at the state's point, or the first step that has no room.
-    pub(crate) fn point_list(&self, alloc: Global) -> Result<Result<Point, LpStep>, AllocError>
+    pub(crate) fn point_list(&self, alloc: Global) -> Result<Result<Point, WideStep>, AllocError>
         ensures { IfOk result (IsPointAnswer self.now) }
     {
         let mut list = List::new(alloc);
@@ -91,7 +91,7 @@ impl SidedBasis<'_> {
     }
 
     /// The multipliers of the activities that are not 0, rising, or the first step that has no room.
-    pub(crate) fn multiplier_list(&self, alloc: Global) -> Result<Result<Mult, LpStep>, AllocError>
+    pub(crate) fn multiplier_list(&self, alloc: Global) -> Result<Result<Mult, WideStep>, AllocError>
         ensures { IfOk result (AreMultipliersAnswer self.now (multipliers (relaxation self.now) (table self.now) (relaxation self.now).cost)) }
     {
         let columns = self.tableau.columns();

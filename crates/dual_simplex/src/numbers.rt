@@ -8,13 +8,14 @@ ghost use Rattle.dual_simplex.specs.Answers.{IsNumberOrWide};
 use crate::leaving::Leaving;
 use crate::sided::SidedBasis;
 use crate::sides::signed;
-use crate::state::{LpState, LpStep};
+use crate::state::LpState;
 use frac128::Frac;
+use lp_model::WideStep;
 use row_tableau::Position;
 
 impl SidedBasis<'_> {
     /// The number of a variable at the state's point, or the first step that has no room.
-    pub(crate) fn number_of(&self, variable: usize) -> Result<Frac, LpStep>
+    pub(crate) fn number_of(&self, variable: usize) -> Result<Frac, WideStep>
         requires { variable < variables self.now }
         ensures { IsNumberOrWide self.now (point (relaxation self.now) (table self.now) (state self.now).at variable) result }
     {
@@ -25,7 +26,7 @@ impl SidedBasis<'_> {
     }
 
     /// The multiplier of a variable: its reduced cost, 0 for a basic one; or the first step that has no room.
-    pub(crate) fn multiplier_of(&self, variable: usize) -> Result<Frac, LpStep>
+    pub(crate) fn multiplier_of(&self, variable: usize) -> Result<Frac, WideStep>
         requires { variable < variables self.now }
         ensures { IsNumberOrWide self.now (multipliers (relaxation self.now) (table self.now) (relaxation self.now).cost variable) result }
     {
@@ -61,7 +62,7 @@ impl LpState<'_> {
     }
 
     /// The number of a variable at the state's point, or the first step that has no room.
-    pub fn number_of(&self, variable: usize) -> Result<Frac, LpStep>
+    pub fn number_of(&self, variable: usize) -> Result<Frac, WideStep>
         requires { variable < variables self.now }
         ensures { IsNumberOrWide self.now (point (relaxation self.now) (table self.now) (state self.now).at variable) result }
     {
@@ -69,7 +70,7 @@ impl LpState<'_> {
     }
 
     /// The multiplier of a variable: its reduced cost, 0 for a basic one; or the first step that has no room.
-    pub fn multiplier_of(&self, variable: usize) -> Result<Frac, LpStep>
+    pub fn multiplier_of(&self, variable: usize) -> Result<Frac, WideStep>
         requires { variable < variables self.now }
         ensures { IsNumberOrWide self.now (multipliers (relaxation self.now) (table self.now) (relaxation self.now).cost variable) result }
     {

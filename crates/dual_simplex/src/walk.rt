@@ -1,6 +1,7 @@
 // Steps one after the other.
-use crate::state::{LpState, LpStep};
+use crate::state::LpState;
 use crate::step::Step;
+use lp_model::WideStep;
 
 /// Where the steps ended.
 #[derive(Clone, Copy, Debug, PartialEq, Eq)]
@@ -18,7 +19,7 @@ impl LpState<'_> {
 
     /// Makes steps until the state is optimal or shows that there is no solution within the sides, as many moves as the
     /// limit allows, or up to a step of arithmetic without room.
-    pub fn walk(&mut self, pivot_limit: u64) -> Result<Walk, LpStep>
+    pub fn walk(&mut self, pivot_limit: u64) -> Result<Walk, WideStep>
         ensures { IsWalkAnswer self.old pivot_limit result self.new }
     {
         for _move in 0..pivot_limit {

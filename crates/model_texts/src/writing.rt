@@ -114,9 +114,25 @@ fn push_pair(
     push_variable(text, model, second)
 }
 
+/// Writes a word and variables.
+fn push_named(
+    text: &mut String,
+    model: &Model,
+    word: &str,
+    variables: &[Var],
+) -> Result<(), AllocError> {
+    text.push_str(word)?;
+    push_variables(text, model, variables)
+}
+
 /// Writes the place of a step of arithmetic without room.
 pub fn push_wide_step(text: &mut String, model: &Model, step: WideStep) -> Result<(), AllocError> {
     match step {
+        WideStep::Pivot { r, s, i, k } => push_named(text, model, "exchange", &[r, s, i, k]),
+        WideStep::Point { b, k } => push_named(text, model, "point", &[b, k]),
+        WideStep::Cost { k, b } => push_named(text, model, "cost", &[k, b]),
+        WideStep::RatioCost { r, k } => push_named(text, model, "ratio", &[r, k]),
+        WideStep::Ratio { r, k, v } => push_named(text, model, "ratio", &[r, k, v]),
         WideStep::Act { row, col } => {
             push_pair(text, model, "activity", Var::Row(row), Var::Col(col))
         }

@@ -5,19 +5,10 @@ ghost use Rattle.ray_phase.specs.Answers.{IsStart, IsDirectionsState, IsBest, Po
 
 use crate::cost::cost_of;
 use crate::lawful::high_variables;
-use dual_simplex::{Lp, LpState, LpStep};
+use dual_simplex::{Lp, LpState};
 use lp_model::{Basis, ColId, Model, Point, WideStep};
 use row_tableau::{Relax, RelaxKind};
 use std::alloc::{AllocError, Global};
-
-/// A step of arithmetic that has no room.
-#[derive(Clone, Copy, Debug, Drop)]
-pub enum RayStep {
-    /// One at a state of the directions.
-    Lp(LpStep),
-    /// One of the cost of the optimal direction, or, where that is below 0, of a row's sum at it.
-    Judged(WideStep),
-}
 
 /// What the ray phase finds.
 #[derive(Drop)]
@@ -29,8 +20,9 @@ pub enum RayAnswer {
     DualBasis(Basis),
     /// As many moves as the limit allows were made, and a basic variable is outside a side of the directions.
     Pivots { basis: Basis },
-    /// A step of arithmetic has no room.
-    Wide { step: RayStep, basis: Basis },
+    /// A step of arithmetic has no room: one at a state of the directions, or one of the cost of the optimal direction, or,
+    /// where that is below 0, of a row's sum at it.
+    Wide { step: WideStep, basis: Basis },
 }
 
 /// Adds up each row at a direction, or finds the first step that has no room.
@@ -65,19 +57,16 @@ fn judged(
     let _lawful = model.cols();
     match cost_of(model, &direction) {
         Err(column) => Ok(RayAnswer::Wide {
-            step: RayStep::Judged(WideStep::Value {
+            step: WideStep::Value {
                 col: Some(ColId(column as u32)),
-            }),
+            },
             basis,
         }),
         Ok(cost) => {
             if model.sense().least_form(&cost).is_negative() {
                 match add_rows_up(model, &direction) {
                     Ok(()) => Ok(RayAnswer::Ray(direction)),
-                    Err(step) => Ok(RayAnswer::Wide {
-                        step: RayStep::Judged(step),
-                        basis,
-                    }),
+                    Err(step) => Ok(RayAnswer::Wide { step, basis }),
                 }
             } else {
                 let high = high_variables(alloc, model, state)?;
@@ -123,9 +112,6 @@ pub fn ray(alloc: Global, model: &Model, pivot_limit: u64) -> Result<RayAnswer, 
             basis: _,
         } => unreachable!(),
         Lp::Pivots { basis } => Ok(RayAnswer::Pivots { basis }),
-        Lp::Wide { step, basis } => Ok(RayAnswer::Wide {
-            step: RayStep::Lp(step),
-            basis,
-        }),
+        Lp::Wide { step, basis } => Ok(RayAnswer::Wide { step, basis }),
     }
 }

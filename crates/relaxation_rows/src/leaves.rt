@@ -2,7 +2,7 @@
 use crate::firsts::first_basis;
 use crate::judging::{judge_farkas, judge_point, push_value};
 use crate::regions::is_lawful_region;
-use crate::steps::push_node_step;
+use crate::steps::push_step;
 use anyhow::{Result, bail, ensure};
 use branch_tree::{Job, NodeResult};
 use leaf_dual::{LagValue, lag};
@@ -104,7 +104,7 @@ fn push_worked(text: &mut String, model: &Model, job: &Job, worked: &Worked) -> 
     match worked {
         Worked::Done(placed) => push_result(text, model, job, placed)?,
         Worked::Pivots { .. } => text.push_str("pivots\n")?,
-        Worked::Wide { step, .. } => push_node_step(text, model, step)?,
+        Worked::Wide { step, .. } => push_step(text, model, *step)?,
         Worked::Memory => bail!("no memory"),
     }
     Ok(())

@@ -1,6 +1,6 @@
 // The ray phase.
 use crate::judging::least_form;
-use crate::steps::push_ray_step;
+use crate::steps::push_step;
 use anyhow::Result;
 use frac128::Frac;
 use lp_model::{Bound, Model, Point};
@@ -73,7 +73,7 @@ pub fn ray_of(alloc: Global, model: &Model, limit: u64, text: &mut String) -> Re
             text.push('\n')?;
         }
         RayAnswer::Pivots { .. } => text.push_str("pivots\n")?,
-        RayAnswer::Wide { step, .. } => push_ray_step(text, model, step)?,
+        RayAnswer::Wide { step, .. } => push_step(text, model, *step)?,
     }
     Ok(())
 }

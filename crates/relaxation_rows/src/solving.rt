@@ -1,10 +1,10 @@
 // Walks, steps and solutions of a relaxation.
 use crate::judging::{judge_farkas, judge_multipliers, judge_point, push_value};
 use crate::starting::begin;
-use crate::steps::push_lp_step;
+use crate::steps::push_step;
 use anyhow::Result;
-use dual_simplex::{Lp, LpState, LpStep, Step, Walk};
-use lp_model::{Basis, Model, Mult, Point};
+use dual_simplex::{Lp, LpState, Step, Walk};
+use lp_model::{Basis, Model, Mult, Point, WideStep};
 use model_texts::push_variable;
 use row_tableau::{Relax, RelaxKind};
 use std::alloc::Global;
@@ -22,7 +22,7 @@ fn end_word(walk: Walk) -> &'static str {
 fn push_walk(text: &mut String, model: &Model, state: &mut LpState<'_>, limit: u64) -> Result<()> {
     match state.walk(limit) {
         Ok(walk) => writeln!(text, "{}", end_word(walk))?,
-        Err(step) => push_lp_step(text, model, &step)?,
+        Err(step) => push_step(text, model, step)?,
     }
     Ok(())
 }
@@ -42,7 +42,7 @@ pub fn walk(
 }
 
 /// Makes steps up to one that does not move, at most so many: how many moved, and what the last one was.
-fn steps_of(state: &mut LpState<'_>, limit: u64) -> (u64, Result<Step, LpStep>) {
+fn steps_of(state: &mut LpState<'_>, limit: u64) -> (u64, Result<Step, WideStep>) {
     for moves in 0..limit {
         match state.step() {
             Ok(Step::Moved) => {}
@@ -59,7 +59,7 @@ fn push_steps(text: &mut String, model: &Model, state: &mut LpState<'_>, limit: 
         Ok(Step::Moved) => writeln!(text, "moved {moves}")?,
         Ok(Step::Optimal) => writeln!(text, "optimal after {moves}")?,
         Ok(Step::Infeasible) => writeln!(text, "infeasible after {moves}")?,
-        Err(step) => push_lp_step(text, model, &step)?,
+        Err(step) => push_step(text, model, step)?,
     }
     Ok(())
 }
@@ -125,7 +125,7 @@ fn push_lp(text: &mut String, relax: &Relax<'_>, lp: &Lp) -> Result<()> {
             judge_farkas(text, relax, farkas)?;
         }
         Lp::Pivots { .. } => text.push_str("pivots\n")?,
-        Lp::Wide { step, .. } => push_lp_step(text, relax.model, step)?,
+        Lp::Wide { step, .. } => push_step(text, relax.model, *step)?,
     }
     Ok(())
 }

@@ -8,7 +8,7 @@ ghost use Rattle.dual_simplex.specs.Tilts.{KeepsFree};
 
 use crate::firsts::first_basis;
 use crate::regions::is_lawful_region;
-use crate::steps::push_lp_step;
+use crate::steps::push_step;
 use anyhow::{Result, bail, ensure};
 use dual_simplex::{LpState, StartFault};
 use lp_model::Basis;
@@ -50,7 +50,7 @@ fn at_list<'a>(
     match LpState::start(alloc, relax, list, &first) {
         Ok(state) => Ok(Some(state)),
         Err(StartFault::Wide { step, .. }) => {
-            push_lp_step(text, relax.model, &step)?;
+            push_step(text, relax.model, step)?;
             Ok(None)
         }
         Err(StartFault::Memory) => bail!("no memory"),

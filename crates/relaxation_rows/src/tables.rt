@@ -1,9 +1,9 @@
 // Exchanges in the table of a basis.
-use crate::steps::push_pivot;
+use crate::steps::push_step;
 use anyhow::Result;
 use frac128::Frac;
-use lp_model::{Basis, Model, Var};
-use row_tableau::{Position, Tableau, WidePivot};
+use lp_model::{Basis, Model, Var, WideStep};
+use row_tableau::{Position, Tableau};
 
 /// The row or place of a variable, if it is there.
 fn find(tableau: &Tableau, variable: Var) -> Option<Position> {
@@ -46,7 +46,7 @@ pub fn push_entry(text: &mut String, tableau: &Tableau, basic: Var, other: Var) 
 }
 
 /// Exchanges the variables of a row and a place by their names. False: their entry is 0, or they aren't there.
-fn exchange_at(tableau: &mut Tableau, row: usize, place: usize) -> Result<bool, WidePivot> {
+fn exchange_at(tableau: &mut Tableau, row: usize, place: usize) -> Result<bool, WideStep> {
     if row < tableau.activities()
         && place < tableau.columns()
         && !tableau.entry(row, place).is_zero()
@@ -66,13 +66,13 @@ fn exchange_at(tableau: &mut Tableau, row: usize, place: usize) -> Result<bool, 
 fn push_brought(
     text: &mut String,
     model: &Model,
-    answer: &Result<bool, WidePivot>,
+    answer: &Result<bool, WideStep>,
     words: [&str; 2],
 ) -> Result<()> {
     match answer {
         Ok(true) => writeln!(text, "{}", words[0])?,
         Ok(false) => writeln!(text, "{}", words[1])?,
-        Err(wide) => push_pivot(text, model, wide)?,
+        Err(step) => push_step(text, model, *step)?,
     }
     Ok(())
 }

@@ -19,7 +19,7 @@ returns-in-Err c = λ n limit.
     let M = c.args.model.now in
     let best = c.requires.best in
     let first = subst (IsFirstWide (int (pos 0)) (cost M 1) (coordinate c.args.direction) (length M.cols)) (sym c.in-Err.ensures.1.1) c.in-Err.ensures.1.0 in
-    ((best.1.inside, (c.args.direction, (best.1.point, inl (c.in-Err.column, (first, refl))))), c.requires.basis)
+    (inr (best.1.inside, (c.args.direction, (best.1.point, inl (c.in-Err.column, (first, refl))))), c.requires.basis)
 
 -- the cost that is tested is what the direction gains
 below_is : (M : Program) (d : Point) (sense : Sense) (number least : ℚ) → sense ≡ M.sense → number ≡ partial (int (pos 0)) (cost M 1) (coordinate d) (length M.cols)
@@ -42,7 +42,7 @@ returns-in-Err-add_rows_up c = λ n limit.
     let best = c.requires.best in
     let is = below_is M d c.sense.result c.in-Ok.cost c.least_form.result c.sense.ensures c.in-Ok.ensures.1 c.least_form.ensures in
     let below = subst (λ t. t <ℚ int (pos 0)) is (c.is_negative.ensures.0 c.if-is_negative.true) in
-    ((best.1.inside, (d, (best.1.point, inr ((c.in-Ok.ensures.0, below), c.in-Err-add_rows_up.ensures.wide)))), c.requires.basis)
+    (inr (best.1.inside, (d, (best.1.point, inr ((c.in-Ok.ensures.0, below), c.in-Err-add_rows_up.ensures.wide)))), c.requires.basis)
 
 pub returns-in_ok-high-in-Ok : goal.returns-in_ok-high-in-Ok
 returns-in_ok-high-in-Ok c = λ n limit.

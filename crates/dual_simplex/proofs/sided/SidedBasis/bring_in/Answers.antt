@@ -44,5 +44,5 @@ returns-clause-answer c =
     let list = c.args.list.now in
     elim c.match-bring_in.branch [
       | in-Ok w ↦ subst (λ r. IsBroughtTo c.args.self.now list r t) (sym w.result-is) (subst (λ u. IsBroughtTo u list (Ok w.in-Ok.brought) t) c.self.view_is (brought s t keeps list w.in-Ok.brought w.in-Ok.ensures.answer))
-      | in-Err w ↦ subst (λ r. IsBroughtTo c.args.self.now list r t) (sym w.result-is) (brought_wide s t keeps list w.in-Err.wide w.in-Err.ensures.answer)
+      | in-Err w ↦ subst (λ r. IsBroughtTo c.args.self.now list r t) (sym w.result-is) (brought_wide s t keeps list w.in-Err.step w.in-Err.ensures.answer)
     ]
