@@ -6,7 +6,7 @@ use Rattle.std.proofs.lemmas.List.Elements.{All-append}
 use Rattle.std.proofs.lemmas.List.Elements.{All-get_or}
 use Rattle.rational.specs.Rational.{ℚ, neg_ℚ}
 use Rattle.lp_model.specs.Program.{Program, Point, value, least_value, in_least_form, is_integer}
-use Rattle.lp_model.specs.Lawful.{SplitsLawfully as IsLawfulModel, column_names}
+use Rattle.lp_model.specs.Lawful.{IsLawful as IsLawfulModel, column_names}
 use Rattle.rational.proofs.RationalRing.{ring, reads_ℚ}
 use Rattle.lp_model.specs.declared.types.Sense.{Sense}
 use Rattle.lp_model.specs.declared.types.Sense.TheVariants.{Min, Max}
