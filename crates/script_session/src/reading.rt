@@ -35,6 +35,7 @@ impl Session {
         ensures no_further { ReadsNoFurther M.ends (R.left script.old) (R.left script.new) }
         ensures source_later { R.faults script.old ≤ R.faults script.new }
         ensures sink_later { W.faults out.old ≤ W.faults out.new }
+        ensures store_later { S.faults store.old ≤ S.faults store.new }
     {
         let mut pending = Vec::new(self.alloc());
         let mut piece = [0u8; PIECE_LENGTH];

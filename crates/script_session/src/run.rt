@@ -62,6 +62,7 @@ pub fn run_script<M: Machine, R: Source, W: Sink, S: Store>(
     ensures no_further { ReadsNoFurther M.ends (R.left script.old) (R.left script.new) }
     ensures source_later { R.faults script.old ≤ R.faults script.new }
     ensures sink_later { W.faults out.old ≤ W.faults out.new }
+    ensures store_later { S.faults store.old ≤ S.faults store.new }
 {
     let mut session = Session::new(alloc);
     match session.read_script(machine, script, out, store) {

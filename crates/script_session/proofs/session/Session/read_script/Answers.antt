@@ -17,6 +17,7 @@ loop-count-init g c = record {
   limit = omega arith;
   source_later = omega arith;
   sink_later = omega arith;
+  store_later = omega arith;
 }
 
 pub returns-in_default-clause-served : goal.returns-in_default-clause-served
@@ -123,6 +124,7 @@ loop-count-preserved g c =
       limit = omega arith;
       source_later = omega arith;
       sink_later = omega arith;
+      store_later = omega arith;
     }
 
 pub returns-in_default-clause-no_further : goal.returns-in_default-clause-no_further
