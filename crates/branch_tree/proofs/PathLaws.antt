@@ -6,11 +6,11 @@ use Rattle.std.proofs.lemmas.Bool.{eqb-true}
 use Rattle.rational.specs.Rational.{ℚ}
 use Rattle.frac128.specs.Range.{IsNarrow}
 use Rattle.lp_model.specs.Program.{Program, is_integer}
-use Rattle.lp_model.specs.Regions.{Path, AreNarrow, NamesColumns}
+use Rattle.lp_model.specs.Regions.{Path, AreNarrow, NamesColumns, at_most, at_least}
 use Rattle.lp_model.specs.declared.types.BoundChange.{BoundChange}
 use Rattle.lp_model.specs.declared.types.Var.{Var}
 use Rattle.lp_model.specs.declared.types.Basis.{Basis}
-use Rattle.branch_tree.specs.Tree.{Tree, Leaf, Split, at_most, at_least, left_path, right_path, EachSplit, SplitsLawfully, HasNarrowSplits, EachLeaf}
+use Rattle.branch_tree.specs.Tree.{Tree, Leaf, Split, left_path, right_path, EachSplit, SplitsLawfully, HasNarrowSplits, EachLeaf}
 use Rattle.branch_tree.specs.Plain.{LeafKept, Plain, new_split, leaf_below, path_of}
 use Rattle.branch_tree.specs.Numbered.{NumberedTree}
 use Rattle.branch_tree.specs.Changes.{after_split, after_collapse, after_trim, with_leaf}

@@ -8,9 +8,9 @@ use Rattle.rational.proofs.RationalOrder.{≤ℚ_trans}
 use Rattle.rational.proofs.Rounding.{int-floor}
 use Rattle.rational.proofs.Integers.{int-≤ℚ-int}
 use Rattle.lp_model.specs.Program.{Program, Point, coordinate, IsFeasible}
-use Rattle.lp_model.specs.Regions.{Path, InRegion}
+use Rattle.lp_model.specs.Regions.{Path, InRegion, at_most, at_least}
 use Rattle.lp_model.proofs.RegionLemmas.{in_region-more, in_region-fewer}
-use Rattle.branch_tree.specs.Tree.{Tree, Leaf, Split, at_most, at_least, left_path, right_path, SplitsLawfully, leaves, EachLeaf, NoLeaf, ExactlyOneLeaf, IsInOneLeaf}
+use Rattle.branch_tree.specs.Tree.{Tree, Leaf, Split, left_path, right_path, SplitsLawfully, leaves, EachLeaf, NoLeaf, ExactlyOneLeaf, IsInOneLeaf}
 
 -- a whole number is on one side of a split
 pub whole_branches : (y : ℚ) (v : ℤ) → IsWhole y → (y ≤ℚ int v) ⊎ (int (v +ℤ pos 1) ≤ℚ y)

@@ -1,5 +1,5 @@
 // The nodes of a branching tree, and what goes to and comes from the work on a leaf.
-ghost use Rattle.std.specs.Prelude.{◌≡◌, [], IfOk};
+ghost use Rattle.std.specs.Prelude.{◌≡◌, IfOk};
 ghost use Rattle.branch_tree.specs.Plain.{open_data};
 ghost use Rattle.branch_tree.specs.declared.node.TreeFault.TheVariants.{Memory};
 
@@ -118,16 +118,6 @@ impl<T: Drop> From<AllocFailed<T>> for TreeFault {
     }
 }
 
-/// A basis without variables.
-pub(crate) fn empty_basis(alloc: Global) -> Basis
-    ensures { result ≡ record { basic = []; high = [] } }
-{
-    Basis {
-        basic: List::new(alloc),
-        high: List::new(alloc),
-    }
-}
-
 /// The data of an open leaf without Farkas multipliers.
 pub(crate) fn open_data(alloc: Global, mult: Mult, basis: Basis) -> LeafData
     ensures { result ≡ open_data mult basis }
@@ -140,31 +130,14 @@ pub(crate) fn open_data(alloc: Global, mult: Mult, basis: Basis) -> LeafData
     }
 }
 
-/// Equal multipliers.
-pub(crate) fn copy_mult(alloc: Global, mult: &Mult) -> Result<Mult, AllocError>
-    ensures { IfOk result (λ copy. copy ≡ mult.now) }
-{
-    List::from_slice(alloc, mult.as_slice())
-}
-
-/// An equal basis.
-pub(crate) fn copy_basis(alloc: Global, basis: &Basis) -> Result<Basis, AllocError>
-    ensures { IfOk result (λ copy. copy ≡ basis.now) }
-{
-    Ok(Basis {
-        basic: List::from_slice(alloc, basis.basic.as_slice())?,
-        high: List::from_slice(alloc, basis.high.as_slice())?,
-    })
-}
-
 /// Equal data.
 pub(crate) fn copy_data(alloc: Global, kept: &LeafData) -> Result<LeafData, AllocError>
     ensures { IfOk result (λ copy. copy ≡ kept.now) }
 {
     Ok(LeafData {
         state: kept.state,
-        mult: copy_mult(alloc, &kept.mult)?,
-        farkas: copy_mult(alloc, &kept.farkas)?,
-        basis: copy_basis(alloc, &kept.basis)?,
+        mult: kept.mult.copy(alloc)?,
+        farkas: kept.farkas.copy(alloc)?,
+        basis: kept.basis.copy(alloc)?,
     })
 }

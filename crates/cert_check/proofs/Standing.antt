@@ -6,10 +6,10 @@ use Rattle.std.proofs.lemmas.List.Elements.{All-append}
 use Rattle.frac128.specs.Range.{IsNarrow}
 use Rattle.lp_model.specs.Program.{Program}
 use Rattle.lp_model.specs.Lawful.{column_names}
-use Rattle.lp_model.specs.Regions.{Path, AreNarrow}
+use Rattle.lp_model.specs.Regions.{Path, AreNarrow, at_most, at_least}
 use Rattle.lp_model.specs.declared.types.Side.TheVariants.{Lo, Hi}
 use Rattle.lp_model.specs.declared.types.BoundChange.{BoundChange}
-use Rattle.branch_tree.specs.Tree.{at_most, at_least, left_path, right_path}
+use Rattle.branch_tree.specs.Tree.{left_path, right_path}
 use Rattle.lp_model.specs.declared.types.ColId.{ColId}
 use Rattle.cert_check.specs.declared.cert.CertLeaf.{CertLeaf}
 use Rattle.cert_check.specs.declared.cert.CertLeaf.TheVariants.{Bound, Farkas, Empty}

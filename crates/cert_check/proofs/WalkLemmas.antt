@@ -4,10 +4,9 @@ use Rattle.std.specs.Prelude.{pos, ◌+ℤ◌}
 use Rattle.std.proofs.lemmas.List.{take_more, length-append, get_or_append_left}
 use Rattle.std.proofs.Math.Seq.{get_or-append_seam}
 use Rattle.lp_model.specs.Program.{Program}
-use Rattle.lp_model.specs.Regions.{Path}
+use Rattle.lp_model.specs.Regions.{Path, at_least}
 use Rattle.lp_model.specs.declared.types.Side.TheVariants.{Lo, Hi}
 use Rattle.lp_model.specs.declared.types.BoundChange.{BoundChange}
-use Rattle.branch_tree.specs.Tree.{at_least}
 use Rattle.cert_check.specs.declared.cert.CertNode.{CertNode}
 use Rattle.cert_check.specs.declared.judging.NodeWithPlaces.{NodeWithPlaces}
 use Rattle.cert_check.specs.Walk.{IsPlace, ArePlaced, turned_change, in_front, after_leaf}

@@ -2,11 +2,10 @@
 --     tightened R c      the region R with one more change: the tighter of two for the same side of the same column stands there
 --     IsTrail            after each change of the path the region is tightened by it, and what it replaced leads back
 use Rattle.std.specs.Prelude.{◌≡◌, ℕ, zero, suc, ◌+◌, ◌<◌, ◌≤◌, ℤ, pos, int_le, Bool, true, false, ◌&&◌, if◌then◌else◌, nat_eq, List, [], ◌∷◌, length, take, get_or, set, AllPairs}
-use Rattle.lp_model.specs.Regions.{Path}
+use Rattle.lp_model.specs.Regions.{Path, at_least}
 use Rattle.lp_model.specs.declared.types.Side.{Side}
 use Rattle.lp_model.specs.declared.types.Side.TheVariants.{Lo, Hi}
 use Rattle.lp_model.specs.declared.types.BoundChange.{BoundChange}
-use Rattle.branch_tree.specs.Tree.{at_least}
 use Rattle.cert_check.specs.declared.trail.Replaced.{Replaced}
 use Rattle.cert_check.specs.declared.trail.Trail.{Trail}
 

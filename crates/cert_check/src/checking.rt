@@ -1,9 +1,8 @@
 // The walk through a certificate's nodes.
 ghost use Rattle.std.specs.Prelude.{◌≡◌, ◌↔◌, ◌<◌, ◌≤◌, ◌+◌, ◌+ℤ◌, pos, length, All, IsTrue, IfOk, MatchOption};
 ghost use Rattle.frac128.specs.Range.{IsNarrow};
-ghost use Rattle.branch_tree.specs.Tree.{at_least};
 ghost use Rattle.lp_model.specs.Program.{HasWholeObjective};
-ghost use Rattle.lp_model.specs.Regions.{AreNarrow};
+ghost use Rattle.lp_model.specs.Regions.{AreNarrow, at_least};
 ghost use Rattle.cert_check.specs.Walk.{IsPlace, ArePlaced, IsBufferOf, IsPlacedJudged, CanTurn, after_leaf, after_node, IsWalked, IsNodesVerdict, IsPointOf};
 ghost use Rattle.cert_check.specs.Tight.{IsTrail, path_of_trail, room};
 ghost use Rattle.cert_check.specs.Verdict.{IsClaimJudged, IsVerdict};

@@ -8,20 +8,12 @@ use bases::Stand;
 use frac128::Frac;
 use lp_model::Bound;
 
-/// Whether the first is below the second.
-#[tactic(auto, using(rational::proofs::Comparison::comparisons))]
-pub fn is_below(first: &Frac, second: &Frac) -> bool
-    ensures { IsTrue result ↔ (first.now <ℚ second.now) }
-{
-    *first < *second
-}
-
 /// Whether there is a low side and the number is below it.
 fn is_under(low: &Bound, value: &Frac) -> bool
     ensures { IsTrue result ↔ IsBelowSide low.now value.now }
 {
     match low {
-        Some(bound) => is_below(value, bound),
+        Some(bound) => value.is_below(bound),
         None => false,
     }
 }
@@ -31,7 +23,7 @@ fn is_over(high: &Bound, value: &Frac) -> bool
     ensures { IsTrue result ↔ IsAboveSide high.now value.now }
 {
     match high {
-        Some(bound) => is_below(bound, value),
+        Some(bound) => bound.is_below(value),
         None => false,
     }
 }

@@ -3,11 +3,10 @@ ghost use Rattle.std.specs.Prelude.{◌≡◌, ◌<◌, ◌+◌, ℕ, length, ge
 ghost use Rattle.rational.specs.Rational.{int};
 ghost use Rattle.lp_model.specs.Regions.{AreNarrow};
 ghost use Rattle.row_tableau.specs.Relaxations.{plain, relaxation_of};
-ghost use Rattle.lp_model.specs.Program.{in_least_form};
 ghost use Rattle.bases.specs.Directions.{direction_side};
 
 use frac128::Frac;
-use lp_model::{Bound, Sense};
+use lp_model::Bound;
 use row_tableau::{Relax, RelaxKind};
 use std::alloc::{AllocError, Global};
 
@@ -106,22 +105,15 @@ pub fn highs(alloc: Global, relax: &Relax<'_>) -> Result<Vec<Bound>, AllocError>
     Ok(list)
 }
 
-/// A number of an objective in least form.
-fn in_least_form(sense: Sense, number: &Frac) -> Frac
-    ensures { result ≡ in_least_form sense number.now }
-{
-    match sense {
-        Sense::Min => *number,
-        Sense::Max => number.neg(),
-    }
-}
-
 /// The cost that a variable has in the model's relaxation.
 fn plain_cost(relax: &Relax<'_>, variable: usize) -> Frac
     ensures { result ≡ (plain relax.now.model.now relax.now.region.now).cost variable }
 {
     if variable < relax.model.cols().len() {
-        in_least_form(relax.model.sense(), relax.model.cost(1, variable))
+        relax
+            .model
+            .sense()
+            .least_form(relax.model.cost(1, variable))
     } else {
         Frac::whole(0)
     }

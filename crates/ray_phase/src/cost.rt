@@ -2,11 +2,11 @@
 ghost use Rattle.std.specs.Prelude.{◌≡◌, ◌<◌, length, pos};
 ghost use Rattle.rational.specs.Rational.{int};
 ghost use Rattle.checked_sum.specs.Steps.{IsCheckedSum};
-ghost use Rattle.lp_model.specs.Program.{coordinate, cost, in_least_form};
+ghost use Rattle.lp_model.specs.Program.{coordinate, cost};
 
 use checked_sum::{Terms, checked_sum};
 use frac128::Frac;
-use lp_model::{Model, Point, Sense};
+use lp_model::{Model, Point};
 
 /// The terms of the cost of a direction, by column: cost in objective 1 times number.
 #[derive(Drop)]
@@ -47,14 +47,4 @@ pub fn cost_of(model: &Model, direction: &Point) -> Result<Frac, usize>
         numbers: direction.as_slice(),
     };
     checked_sum(&Frac::whole(0), &terms)
-}
-
-/// A number of an objective in least form.
-pub fn in_least_form(sense: Sense, number: &Frac) -> Frac
-    ensures { result ≡ in_least_form sense number.now }
-{
-    match sense {
-        Sense::Min => *number,
-        Sense::Max => number.neg(),
-    }
 }

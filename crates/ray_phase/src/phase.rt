@@ -3,7 +3,7 @@ ghost use Rattle.std.specs.Prelude.{◌≡◌, ◌<◌, ℕ, length, IfOk, OnOk,
 ghost use Rattle.dual_simplex.specs.Lists.{IsBasisOf};
 ghost use Rattle.ray_phase.specs.Answers.{IsStart, IsDirectionsState, IsBest, PointRowsFit, IsFirstWideActivity, IsRayEnd, IsRayAnswer};
 
-use crate::cost::{cost_of, in_least_form};
+use crate::cost::cost_of;
 use crate::lawful::high_variables;
 use dual_simplex::{Lp, LpState, LpStep};
 use lp_model::{Basis, ColId, Model, Point, WideStep};
@@ -71,7 +71,7 @@ fn judged(
             basis,
         }),
         Ok(cost) => {
-            if in_least_form(model.sense(), &cost).is_negative() {
+            if model.sense().least_form(&cost).is_negative() {
                 match add_rows_up(model, &direction) {
                     Ok(()) => Ok(RayAnswer::Ray(direction)),
                     Err(step) => Ok(RayAnswer::Wide {

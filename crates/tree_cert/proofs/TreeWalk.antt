@@ -4,11 +4,11 @@ use Rattle.std.proofs.lemmas.List.{drop_more, drop_all}
 use Rattle.std.specs.Prelude.{pos, ◌+ℤ◌}
 use Rattle.frac128.specs.Range.{IsNarrow}
 use Rattle.lp_model.specs.Program.{Program}
-use Rattle.lp_model.specs.Regions.{Path, AreNarrow}
+use Rattle.lp_model.specs.Regions.{Path, AreNarrow, at_most, at_least}
 use Rattle.lp_model.specs.declared.types.Side.{Side}
 use Rattle.lp_model.specs.declared.types.Side.TheVariants.{Lo, Hi}
 use Rattle.lp_model.specs.declared.types.BoundChange.{BoundChange}
-use Rattle.branch_tree.specs.Tree.{Leaf, Split, at_most, at_least, left_path, right_path, SplitsLawfully, HasNarrowSplits}
+use Rattle.branch_tree.specs.Tree.{Leaf, Split, left_path, right_path, SplitsLawfully, HasNarrowSplits}
 use Rattle.branch_tree.specs.Plain.{Plain, preorder}
 use Rattle.branch_tree.specs.declared.node.Node.{Node}
 use Rattle.branch_tree.specs.declared.node.Node.TheVariants.{Leaf as LeafNode, Split as SplitNode}

@@ -2,9 +2,8 @@
 use Rattle.std.specs.Prelude.{◌≡◌, ◌<◌, List, [], ◌∷◌, ◌++◌, length, pos, ◌+ℤ◌}
 use Rattle.frac128.specs.Range.{IsNarrow}
 use Rattle.lp_model.specs.Program.{Program}
-use Rattle.lp_model.specs.Regions.{Path}
+use Rattle.lp_model.specs.Regions.{Path, at_most}
 use Rattle.lp_model.specs.declared.types.Side.TheVariants.{Hi}
-use Rattle.branch_tree.specs.Tree.{at_most}
 use Rattle.branch_tree.specs.declared.node.Node.{Node}
 use Rattle.branch_tree.specs.declared.node.Node.TheVariants.{Leaf as LeafNode, Split as SplitNode}
 use Rattle.tree_edit.specs.Lists.{HasLists}

@@ -1,7 +1,7 @@
 // The walk through the nodes of a tree.
 ghost use Rattle.std.specs.Prelude.{◌≡◌, ◌<◌, ◌+ℤ◌, ◌++◌, ◌∷◌, [], pos, length, IfOk};
 ghost use Rattle.frac128.specs.Range.{IsNarrow};
-ghost use Rattle.branch_tree.specs.Tree.{at_most, at_least};
+ghost use Rattle.lp_model.specs.Regions.{at_most, at_least};
 ghost use Rattle.cert_check.specs.Walk.{after_leaf};
 ghost use Rattle.tree_cert.specs.Walked.{path_after, IsNodeOf, AreNodesOf, IsFit, AreFit, HasTurns};
 

@@ -5,11 +5,11 @@ use Rattle.std.proofs.lemmas.Int.{ints}
 use Rattle.rational.specs.Rational.{ℚ}
 use Rattle.frac128.specs.Range.{IsNarrow, largest}
 use Rattle.lp_model.specs.Program.{Program}
-use Rattle.lp_model.specs.Regions.{Path, AreNarrow}
+use Rattle.lp_model.specs.Regions.{Path, AreNarrow, at_most, at_least}
 use Rattle.lp_model.specs.declared.types.BoundChange.{BoundChange}
 use Rattle.lp_model.specs.declared.types.Basis.{Basis}
 use Rattle.leaf_dual.specs.Dual.{Multipliers}
-use Rattle.branch_tree.specs.Tree.{Leaf, Split, at_most, at_least, left_path, right_path}
+use Rattle.branch_tree.specs.Tree.{Leaf, Split, left_path, right_path}
 use Rattle.branch_tree.specs.Plain.{SplitKept, LeafKept, Plain, one_if_same, leaves_with, replaced, open_data, open_leaf, new_split}
 use Rattle.branch_tree.specs.Numbered.{NumberedTree, IsNumbered}
 use Rattle.branch_tree.specs.Changes.{HasLeaf, with_leaf, after_split}

@@ -1,24 +1,13 @@
 // Whether the parts of a result fit the model and the leaf.
 ghost use Rattle.std.specs.Prelude.{◌≡◌, ◌↔◌, ◌<◌, ◌≤ℤ◌, ◌<ℤ◌, ◌+ℤ◌, ◌-◌, ◌^◌, pos, neg_ℤ, IsTrue, MatchOption, length};
-ghost use Rattle.frac128.specs.Range.{IsNarrow, largest};
-ghost use Rattle.lp_model.specs.Program.{least_value, in_least_form, is_integer};
+ghost use Rattle.frac128.specs.Range.{largest};
+ghost use Rattle.lp_model.specs.Program.{least_value, is_integer};
 ghost use Rattle.lp_model.specs.Regions.{AreNarrow};
-ghost use Rattle.branch_tree.specs.Tree.{at_most, at_least};
 ghost use Rattle.tree_edit.specs.Points.{IsKeepable};
 ghost use Rattle.tree_edit.specs.Checks.{IsFrom, IsUnder, IsSplitAllowed};
 
 use frac128::Frac;
-use lp_model::{Bound, BoundChange, ColId, Model, Point, Region, Sense, Side};
-
-/// A value in least form.
-fn in_least_form(sense: Sense, value: &Frac) -> Frac
-    ensures { result ≡ in_least_form sense value.now }
-{
-    match sense {
-        Sense::Min => *value,
-        Sense::Max => value.neg(),
-    }
-}
+use lp_model::{Bound, ColId, Model, Point, Region};
 
 /// The value of a point in least form, where it is feasible and no step of its test or value lacks room.
 pub(crate) fn keepable_value(model: &Model, point: &Point) -> Option<Frac>
@@ -33,7 +22,7 @@ pub(crate) fn keepable_value(model: &Model, point: &Point) -> Option<Frac>
         Err(_) => return None,
     }
     match model.value(1, point) {
-        Ok(value) => Some(in_least_form(model.sense(), &value)),
+        Ok(value) => Some(model.sense().least_form(&value)),
         Err(_) => None,
     }
 }
@@ -98,27 +87,4 @@ pub(crate) fn is_split_allowed(model: &Model, region: &Region, col: ColId, v: i1
     let low = model.region_low(region.as_slice(), place);
     let high = model.region_high(region.as_slice(), place);
     is_from(&low, v) && is_under(&high, v)
-}
-
-/// The bound of a split's left child.
-pub(crate) fn at_most(col: ColId, v: i128) -> BoundChange
-    ensures { result ≡ at_most col.0 v }
-{
-    BoundChange {
-        col,
-        side: Side::Hi,
-        v,
-    }
-}
-
-/// The bound of a split's right child.
-pub(crate) fn at_least(col: ColId, v: i128) -> BoundChange
-    requires { v <ℤ pos largest }
-    ensures { result ≡ at_least col.0 (v +ℤ pos 1) }
-{
-    BoundChange {
-        col,
-        side: Side::Lo,
-        v: v + 1,
-    }
 }

@@ -11,9 +11,9 @@ use Rattle.rational.proofs.Rounding.{int-≤ℚ, ≤ℚ-int, int-floor}
 use Rattle.rational.proofs.Integers.{int-≤ℚ-int}
 use Rattle.rational.proofs.Division.{min-≤ℚ, ≤ℚ-min, ≤ℚ-max, max-≤ℚ}
 use Rattle.lp_model.specs.Program.{Program, lower, upper, is_integer}
-use Rattle.lp_model.specs.Regions.{Path, tighter_low, tighter_high, low_after, high_after, low_along, high_along, region_low, region_high, IsCrossed, IsEmptyRegion}
+use Rattle.lp_model.specs.Regions.{Path, tighter_low, tighter_high, low_after, high_after, low_along, high_along, region_low, region_high, IsCrossed, IsEmptyRegion, at_most, at_least}
 use Rattle.lp_model.specs.declared.types.BoundChange.{BoundChange}
-use Rattle.branch_tree.specs.Tree.{at_most, at_least, left_path, right_path}
+use Rattle.branch_tree.specs.Tree.{left_path, right_path}
 use Rattle.tree_edit.specs.Checks.{IsFrom, IsUnder, IsSplitAllowed}
 use Rattle.tree_search.specs.Integral.{IsIntegral}
 use Rattle.tree_search.specs.Points.{numbers_from, numbers_within, product_below, points}

@@ -1,6 +1,5 @@
 // The search: open leaves are worked until none is left, or it stops.
 ghost use Rattle.std.specs.Prelude.{◌≡◌, ◌≤◌, ℕ, IfOk, OnErr};
-ghost use Rattle.lp_model.specs.Program.{in_least_form};
 ghost use Rattle.tree_edit.specs.Laws.{HasNoOpenLeaf};
 ghost use Rattle.tree_search.specs.Integral.{IsIntegral};
 ghost use Rattle.lp_model.specs.Regions.{Path};
@@ -13,7 +12,7 @@ ghost use Rattle.tree_search.specs.Search.{StopsFor, ShowsFor, Finds, GivesUp, b
 use crate::bounds::least_number;
 use crate::stepping::{StopWhy, next_open, step};
 use frac128::Frac;
-use lp_model::{Point, Sense};
+use lp_model::Point;
 use std::alloc::{AllocError, Global};
 use tree_edit::Search;
 
@@ -39,23 +38,13 @@ pub enum Outcome {
     },
 }
 
-/// A value in least form, or one in least form in the model's own sense.
-fn in_least_form(sense: Sense, value: &Frac) -> Frac
-    ensures { result ≡ in_least_form sense value.now }
-{
-    match sense {
-        Sense::Min => *value,
-        Sense::Max => value.neg(),
-    }
-}
-
 /// The best value of the kept points, if there are any.
 fn best_value(search: &Search) -> Option<Frac>
     ensures { result ≡ best_value search.now }
 {
     match search.target() {
         None => None,
-        Some(least) => Some(in_least_form(search.model().sense(), &least)),
+        Some(least) => Some(search.model().sense().least_form(&least)),
     }
 }
 
@@ -89,7 +78,7 @@ fn bound_of(search: &Search) -> Result<Option<Frac>, AllocError>
     let _numbered = search.tree().nodes();
     match least_number(search)? {
         None => Ok(None),
-        Some(least) => Ok(Some(in_least_form(search.model().sense(), &least))),
+        Some(least) => Ok(Some(search.model().sense().least_form(&least))),
     }
 }
 

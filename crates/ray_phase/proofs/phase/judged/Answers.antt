@@ -31,7 +31,7 @@ returns-in-Ok-add_rows_up c = λ n limit.
     let M = c.args.model.now in
     let d = c.args.direction in
     let best = c.requires.best in
-    let is = below_is M d c.sense.result c.in-Ok.cost c.in_least_form.result c.sense.ensures c.in-Ok.ensures.1 c.in_least_form.ensures in
+    let is = below_is M d c.sense.result c.in-Ok.cost c.least_form.result c.sense.ensures c.in-Ok.ensures.1 c.least_form.ensures in
     let below = subst (λ t. t <ℚ int (pos 0)) is (c.is_negative.ensures.0 c.if-is_negative.true) in
     (best.1.inside, (best.1.point, (model_ray M c.args.state.now c.requires.directions d best c.cols-lawful.ensures.lawful below, record { cost = c.in-Ok.ensures.0; rows = c.in-Ok-add_rows_up.ensures.fit })))
 
@@ -40,7 +40,7 @@ returns-in-Err-add_rows_up c = λ n limit.
     let M = c.args.model.now in
     let d = c.args.direction in
     let best = c.requires.best in
-    let is = below_is M d c.sense.result c.in-Ok.cost c.in_least_form.result c.sense.ensures c.in-Ok.ensures.1 c.in_least_form.ensures in
+    let is = below_is M d c.sense.result c.in-Ok.cost c.least_form.result c.sense.ensures c.in-Ok.ensures.1 c.least_form.ensures in
     let below = subst (λ t. t <ℚ int (pos 0)) is (c.is_negative.ensures.0 c.if-is_negative.true) in
     ((best.1.inside, (d, (best.1.point, inr ((c.in-Ok.ensures.0, below), c.in-Err-add_rows_up.ensures.wide)))), c.requires.basis)
 
@@ -51,6 +51,6 @@ returns-in_ok-high-in-Ok c = λ n limit.
     let d = c.args.direction in
     let best = c.requires.best in
     let high = c.in_ok-high-in-Ok.high in
-    let is = below_is M d c.sense.result c.in-Ok.cost c.in_least_form.result c.sense.ensures c.in-Ok.ensures.1 c.in_least_form.ensures in
+    let is = below_is M d c.sense.result c.in-Ok.cost c.least_form.result c.sense.ensures c.in-Ok.ensures.1 c.least_form.ensures in
     let not_below = ≤ℚ_from_not (int (pos 0)) (direction_cost M d) (λ h. false≢true (sym c.if-is_negative.false ∙ c.is_negative.ensures.1 (subst (λ t. t <ℚ int (pos 0)) (sym is) h))) in
     (best.1.inside, (record { basic = c.requires.basis.basic; high = c.in_ok-high-in-Ok.ensures }, lawful_basis M s c.requires.directions d best not_below c.args.basis.basic high c.requires.basis.basic c.in_ok-high-in-Ok.ensures))

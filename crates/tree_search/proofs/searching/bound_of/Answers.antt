@@ -17,5 +17,5 @@ returns-in-Some c =
       least = Some c.in-Some.least;
       least_is = least;
       unbeaten = least-unbeaten S (Some c.in-Some.least) c.points-sound.ensures.sound numbered least;
-      bound_is = ap Some (c.in_least_form.ensures ∙ ap (λ (s : Sense). in_least_form s c.in-Some.least) sense);
+      bound_is = ap Some (c.least_form.ensures ∙ ap (λ (s : Sense). in_least_form s c.in-Some.least) sense);
     }

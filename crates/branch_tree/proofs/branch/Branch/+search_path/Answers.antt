@@ -1,7 +1,7 @@
 use Rattle.std.proofs.Common.{◌≡◌, [], ◌∷◌, ◌++◌, take, Some, None, pos, ◌+ℤ◌, ap, ◌∙◌}
 use Rattle.std.proofs.lemmas.Bool.{MatchBool-at_true, MatchBool-at_false}
-use Rattle.lp_model.specs.Regions.{Path}
-use Rattle.branch_tree.specs.Tree.{at_most, at_least, left_path, right_path}
+use Rattle.lp_model.specs.Regions.{Path, at_most, at_least}
+use Rattle.branch_tree.specs.Tree.{left_path, right_path}
 use Rattle.branch_tree.specs.Plain.{SplitKept, path_below}
 use Rattle.branch_tree.specs.Branches.{plain_branch}
 use Rattle.branch_tree.proofs.LeafLemmas.{path_below-left, path_below-right, take_front}
