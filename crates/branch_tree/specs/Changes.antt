@@ -48,6 +48,6 @@ pub record HasRoom (T : NumberedTree) : Type 0 where
 
 -- why a leaf is not split, nothing before it in the order being wrong
 abbrev pub IsTreeFault : NumberedTree → ℕ → TreeFault → Type 0
-IsTreeFault T id NoLeaf = leaves_with id T.root ≡ 0
-IsTreeFault T id Full = HasLeaf T id × ¬ HasRoom T
-IsTreeFault T id Memory = HasLeaf T id × HasRoom T
+IsTreeFault T id Full = ¬ HasRoom T
+IsTreeFault T id NoLeaf = HasRoom T × (leaves_with id T.root ≡ 0)
+IsTreeFault T id Memory = HasRoom T × HasLeaf T id

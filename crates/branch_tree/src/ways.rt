@@ -1,5 +1,10 @@
 // Where leaves are, as hints: a way that is missing or old costs a search and changes no answer, so nothing here has a
 // contract.
+ghost use Rattle.std.specs.Prelude.{◌≤◌};
+ghost use Rattle.branch_tree.specs.Plain.{leaves_with};
+ghost use Rattle.branch_tree.specs.Branches.{plain_branch};
+
+use crate::branch::Branch;
 use std::alloc::{AllocError, Global};
 use std::collections::BTreeMap;
 
@@ -25,16 +30,21 @@ impl Ways {
         }
     }
 
-    /// The ways to the two children of the node that this way leads to.
+    /// The way down to the leaf with the id, which is to be split. Those to its two children are known from then on.
     pub(crate) fn split(
         &mut self,
         alloc: Global,
-        way: &[bool],
+        root: &Branch,
+        id: u64,
         left: u64,
         right: u64,
-    ) -> Result<(), AllocError> {
-        self.add(alloc, way, false, left)?;
-        self.add(alloc, way, true, right)
+    ) -> Result<Vec<bool>, AllocError>
+        requires { leaves_with id (plain_branch root.now) ≤ 1 }
+    {
+        let way = root.way_to(alloc, id, self.to(id))?;
+        self.add(alloc, &way, false, left)?;
+        self.add(alloc, &way, true, right)?;
+        Ok(way)
     }
 
     fn add(

@@ -7,5 +7,5 @@ use Rattle.branch_tree.proofs.tree.Tree.set_leaf.Goals as goal
 pub invariant_of-self : goal.invariant_of-self
 invariant_of-self c =
     let i = c.self.inside in
-    subst (λ r. IsCounted (record { root = r; last = i.last; limit = i.limit }) i.count) (sym c.replace.ensures.tree)
+    subst (λ r. IsCounted (record { root = r; last = i.last; limit = i.limit }) i.count) (sym c.replace.ensures)
     (kept-with_leaf (record { root = plain_branch i.root; last = i.last; limit = i.limit }) i.count c.args.id c.args.kept c.self.invariant)
