@@ -167,6 +167,7 @@ fn check_files<S: Store>(
     requires empty { reply.old.items ≡ [] }
     ensures answer { IfOk result (λ _. ChecksFiles (S.files store.old) model.now cert.now (S.faults store.old) (S.faults store.new) reply.new.items) }
     ensures kept { S.files store.new ≡ S.files store.old }
+    ensures later { S.faults store.old ≤ S.faults store.new }
 {
     let program = match read_model(alloc, store, model.as_bytes(), None) {
         Ok(program) => program,
@@ -189,6 +190,7 @@ pub fn check_text<S: Store>(
 ) -> Result<Vec<u8>, AllocError>
     ensures answer { IfOk result (λ reply. Checks (S.files store.old) model.now cert.now (S.faults store.old) (S.faults store.new) reply.items) }
     ensures kept { S.files store.new ≡ S.files store.old }
+    ensures later { S.faults store.old ≤ S.faults store.new }
 {
     let mut reply = Vec::new(alloc);
     if is_file_name_word(model.as_bytes()) && is_file_name_word(cert.as_bytes()) {
