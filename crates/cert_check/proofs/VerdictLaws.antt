@@ -106,11 +106,14 @@ point_passes M (Optimal v) named judged none =
     ]
 point_passes M Infeasible named judged none = none
 
-pub accepted_verdict : (M : Program) (cert : Cert) → IsCertificate cert → IsVerdict M cert Accepted → Accepts M cert
-accepted_verdict M cert certificate verdict = record {
-  point = point_passes M cert.claim cert.point verdict.is.0 certificate.point;
-  tree = verdict.tree;
-  nodes = verdict.nodes;
-  splits = tree_lawful M cert.claim [] verdict.tree verdict.is.1;
-  leaves = tree_closes M cert.claim [] verdict.tree verdict.is.1;
-}
+pub accepted_verdict : (M : Program) (cert : Cert) (claim : Claim) → IsCertificate cert → IsVerdict M cert (Accepted claim) → (claim ≡ cert.claim) × Accepts M cert
+accepted_verdict M cert claim certificate verdict = (
+  verdict.is.0,
+  record {
+    point = point_passes M cert.claim cert.point verdict.is.1 certificate.point;
+    tree = verdict.tree;
+    nodes = verdict.nodes;
+    splits = tree_lawful M cert.claim [] verdict.tree verdict.is.2;
+    leaves = tree_closes M cert.claim [] verdict.tree verdict.is.2;
+  },
+)

@@ -19,9 +19,9 @@ IsTrueClaim M Infeasible = IsEmpty M
 abbrev pub AcceptedLaw : Type 0
 AcceptedLaw = (M : Program) (cert : Cert) → Accepts M cert → IsTrueClaim M cert.claim
 
--- a certificate that is judged and found accepted is accepted by the definition
+-- a certificate that is judged and found accepted is accepted by the definition, and what was told is its claim
 abbrev pub VerdictLaw : Type 0
-VerdictLaw = (M : Program) (cert : Cert) → IsCertificate cert → IsVerdict M cert Accepted → Accepts M cert
+VerdictLaw = (M : Program) (cert : Cert) (claim : Claim) → IsCertificate cert → IsVerdict M cert (Accepted claim) → (claim ≡ cert.claim) × Accepts M cert
 
 -- a certificate that is rejected is not accepted by the definition
 abbrev pub RejectedLaw : Type 0

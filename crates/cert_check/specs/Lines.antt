@@ -113,6 +113,11 @@ abbrev pub as_point : Result Named ℕ → Result Statement ℕ
 as_point (Ok named) = Ok (says.Point named)
 as_point (Err code) = Err code
 
+-- `ray [NAME V]..`
+abbrev pub as_ray : Result Named ℕ → Result Statement ℕ
+as_ray (Ok named) = Ok (says.Ray named)
+as_ray (Err code) = Err code
+
 abbrev pub is_whole : ℚ → Bool
 is_whole x = den x == 1
 
@@ -157,7 +162,8 @@ word_of first =
     else if bytes_eq first (codes "split") then Some word.Split
     else if bytes_eq first (codes "leaf") then Some word.Leaf
     else if bytes_eq first (codes "end") then Some word.End
-    else if bytes_eq first (codes "ray") || bytes_eq first (codes "front") || bytes_eq first (codes "outcome") || bytes_eq first (codes "tree") then Some word.Foreign
+    else if bytes_eq first (codes "ray") then Some word.Ray
+    else if bytes_eq first (codes "front") || bytes_eq first (codes "outcome") || bytes_eq first (codes "tree") then Some word.Foreign
     else None
 
 abbrev pub word_says : LineWord → List (List ℕ) → Result Statement ℕ
@@ -167,6 +173,7 @@ word_says word.Point words = as_point (named_in words)
 word_says word.Split words = split_says words
 word_says word.Leaf words = leaf_says words
 word_says word.End words = end_says words
+word_says word.Ray words = as_ray (named_in words)
 word_says word.Foreign words = Ok says.Foreign
 
 abbrev pub known_says : Option LineWord → Bool → List (List ℕ) → Result Statement ℕ

@@ -14,7 +14,7 @@ use Rattle.cert_check.specs.declared.cert.CertNode.{CertNode}
 use Rattle.cert_check.specs.declared.cert.CertNode.TheVariants.{Split, Leaf}
 use Rattle.cert_check.specs.declared.cert.Cert.{Cert}
 use Rattle.cert_check.specs.declared.line.Statement.{Statement}
-use Rattle.cert_check.specs.declared.line.Statement.TheVariants.{Header, Claims, Point, Node, End, Foreign}
+use Rattle.cert_check.specs.declared.line.Statement.TheVariants.{Header, Claims, Point, Node, End, Ray, Foreign}
 use Rattle.cert_check.specs.Lines.{lines_of, line_says}
 
 -- ---- what some lines state, each its part
@@ -93,6 +93,7 @@ place_code s (Point named) = if not (are_none s.claims) && lacks_point s then No
 place_code s (Node node) = node_code s
 place_code s End = if lacks_part s || are_none s.nodes then Some 6 else if is_whole_tree s.nodes then None else Some 7
 place_code s Header = Some 6
+place_code s (Ray named) = Some 6
 place_code s Foreign = Some 6
 
 abbrev pub said_code : StatedCertificate → Result Statement ℕ → Option ℕ

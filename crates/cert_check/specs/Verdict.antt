@@ -124,7 +124,7 @@ IsFirstFailing M cert tree number j =
     ⊎ (IsClaimJudged M cert.claim cert.point Passes × IsJudgedAt M cert.claim tree number j)
 
 abbrev pub IsVerdictOn : Program → Cert → CertTree → Verdict → Type 0
-IsVerdictOn M cert tree Accepted = IsClaimJudged M cert.claim cert.point Passes × All (λ p. IsVisitJudged M cert.claim p Passes) (visits M [] tree)
+IsVerdictOn M cert tree (Accepted claim) = (claim ≡ cert.claim) × IsClaimJudged M cert.claim cert.point Passes × All (λ p. IsVisitJudged M cert.claim p Passes) (visits M [] tree)
 IsVerdictOn M cert tree (Rejected number why) = IsFirstFailing M cert tree number (Breaks why)
 IsVerdictOn M cert tree (Wide number step) = IsFirstFailing M cert tree number (NoRoom step)
 

@@ -85,7 +85,7 @@ pub record IsWalked (M : Program) (tree : CertTree) (placed : List NodeWithPlace
 
 -- the verdict on the nodes alone
 abbrev pub IsNodesVerdict : Program → Claim → CertTree → Verdict → Type 0
-IsNodesVerdict M claim tree Accepted = All (λ p. IsVisitJudged M claim p Passes) (visits M [] tree)
+IsNodesVerdict M claim tree (Accepted told) = (told ≡ claim) × All (λ p. IsVisitJudged M claim p Passes) (visits M [] tree)
 IsNodesVerdict M claim tree (Rejected number why) = IsJudgedAt M claim tree number (Breaks why)
 IsNodesVerdict M claim tree (Wide number step) = IsJudgedAt M claim tree number (NoRoom step)
 

@@ -35,6 +35,7 @@ IsNarrowStatement says.Header = Unit {0}
 IsNarrowStatement (says.Claims claim) = Unit {0}
 IsNarrowStatement (says.Point named) = Unit {0}
 IsNarrowStatement says.End = Unit {0}
+IsNarrowStatement (says.Ray named) = Unit {0}
 IsNarrowStatement says.Foreign = Unit {0}
 
 -- each node stands where one of some trees is still due

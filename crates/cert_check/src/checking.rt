@@ -31,7 +31,11 @@ pub struct RegionBuf {
 }
 
 /// A node with its names as places.
-fn node_with_places(alloc: Global, model: &Model, node: &CertNode) -> Result<NodeWithPlaces, AllocError>
+fn node_with_places(
+    alloc: Global,
+    model: &Model,
+    node: &CertNode,
+) -> Result<NodeWithPlaces, AllocError>
     ensures { IfOk result (λ placed. IsPlace model.now node.now placed) }
 {
     Ok(match node {
@@ -191,7 +195,7 @@ fn check_nodes(model: &Model, claim: &Claim, nodes: &[NodeWithPlaces], trail: &m
             }
         }
     }
-    Verdict::Accepted
+    Verdict::Accepted(*claim)
 }
 
 /// The point of the claim, if the claim has one.

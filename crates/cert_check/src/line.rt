@@ -1,6 +1,6 @@
 // What one line of a certificate's text says.
 ghost use Rattle.std.specs.Prelude.{◌≡◌, map, IfOk, Ok};
-ghost use Rattle.cert_check.specs.Lines.{is_blank, words_of, begins_blank, ends_blank, is_whole, word_of, named_in, as_point, cert_says, claim_says, split_at, split_says, leaf_says, end_says, word_says, words_say, line_says};
+ghost use Rattle.cert_check.specs.Lines.{is_blank, words_of, begins_blank, ends_blank, is_whole, word_of, named_in, as_point, as_ray, cert_says, claim_says, split_at, split_says, leaf_says, end_says, word_says, words_say, line_says};
 ghost use Rattle.cert_check.specs.Reading.{Says};
 ghost use Rattle.cert_check.specs.Whole.{IsNarrowStatement};
 
@@ -19,6 +19,8 @@ pub enum LineWord {
     Split,
     Leaf,
     End,
+    /// A ray's numbers, which no certificate of this kind has.
+    Ray,
     /// A word of certificates of other kinds.
     Foreign,
 }
@@ -31,7 +33,9 @@ pub enum Statement {
     Point(List<(Name, Frac)>),
     Node(CertNode),
     End,
-    /// Something that has no place in a certificate of this kind.
+    /// The numbers of a ray beside names of columns: it has no place in a certificate of this kind.
+    Ray(List<(Name, Frac)>),
+    /// Something else that has no place in a certificate of this kind.
     Foreign,
 }
 
@@ -104,8 +108,9 @@ fn line_word(word: &[u8]) -> Option<LineWord>
         Some(LineWord::Leaf)
     } else if word == b"end".as_slice() {
         Some(LineWord::End)
-    } else if word == b"ray".as_slice()
-        || word == b"front".as_slice()
+    } else if word == b"ray".as_slice() {
+        Some(LineWord::Ray)
+    } else if word == b"front".as_slice()
         || word == b"outcome".as_slice()
         || word == b"tree".as_slice()
     {
@@ -220,6 +225,15 @@ fn point_says(alloc: Global, words: &[&[u8]]) -> Result<Statement, LineFault>
     Ok(Statement::Point(named))
 }
 
+/// What `ray` with these further words says.
+fn ray_says(alloc: Global, words: &[&[u8]]) -> Result<Statement, LineFault>
+    ensures says { Says (as_ray (named_in (map (λ word. word.now) words.now))) result }
+    ensures narrow { IfOk result IsNarrowStatement }
+{
+    let named = named_in(alloc, words)?;
+    Ok(Statement::Ray(named))
+}
+
 /// What a known first word with these further words says.
 fn word_says(alloc: Global, word: LineWord, words: &[&[u8]]) -> Result<Statement, LineFault>
     ensures says { Says (word_says word (map (λ word. word.now) words.now)) result }
@@ -232,6 +246,7 @@ fn word_says(alloc: Global, word: LineWord, words: &[&[u8]]) -> Result<Statement
         LineWord::Split => split_says(alloc, words),
         LineWord::Leaf => leaf_says(alloc, words),
         LineWord::End => end_says(words),
+        LineWord::Ray => ray_says(alloc, words),
         LineWord::Foreign => Ok(Statement::Foreign),
     }
 }

@@ -173,6 +173,7 @@ impl Reading {
             Statement::Point(point) => self.point = Some(point),
             Statement::Node(node) => self.add_node(node)?,
             Statement::End => self.ended = true,
+            Statement::Ray(_named) => {}
             Statement::Header | Statement::Foreign => {}
         }
         Ok(())

@@ -1,5 +1,6 @@
 // What the judging of a certificate answers.
 
+use crate::cert::Claim;
 use lp_model::WideStep;
 
 /// What the judging of a point or of one node answers.
@@ -16,8 +17,8 @@ pub enum Judgement {
 /// point.
 #[derive(Clone, Copy, Debug, Drop)]
 pub enum Verdict {
-    /// The claim is true.
-    Accepted,
+    /// This claim, the certificate's, is true.
+    Accepted(Claim),
     /// The first node that does not hold, and why: 1 a name is unknown or stands twice on a line, 2 the point is not
     /// feasible, 3 its value is not the claimed one, 6 a split on a column that is not integer, 7 a leaf does not close as
     /// it says.

@@ -25,7 +25,7 @@ no_code true (Some l) None e = absurd (cc)
 no_code true None u e = absurd (cc)
 no_code false l u e = absurd (cc)
 
-flawless : (s : StatedModel) (intupper : Option ℕ) (columns : List ColumnLines) → column_flaw intupper s.bounds columns ≡ None → list_all is_bounded_column (map (column_of s intupper) columns) ≡ true
+pub flawless : (s : StatedModel) (intupper : Option ℕ) (columns : List ColumnLines) → column_flaw intupper s.bounds columns ≡ None → list_all is_bounded_column (map (column_of s intupper) columns) ≡ true
 flawless s intupper [] e = refl
 flawless s intupper (c ∷ more) e = by (column_code intupper (span_of s.bounds c)) refl e (λ rest. flawless s intupper more rest)
   where

@@ -15,14 +15,14 @@ use Rattle.lp_model.specs.declared.types.Col.{Col}
 use Rattle.mps_model.specs.Numbers.{is_zero}
 use Rattle.mps_model.specs.Statements.{StatedModel, is_row}
 use Rattle.mps_model.specs.Meaning.{number_beside, entries_from, names_of_rows, row_of, column_of, model_of, objective_name, second_name, beside_objective}
-use Rattle.mps_model.specs.BuiltOf.{named_of, row_edit, column_edit}
+use Rattle.mps_model.specs.BuiltOf.{named_of}
 use Rattle.mps_model.specs.Built.{empty_of, with_rows, with_columns}
 use Rattle.mps_model.specs.declared.statements.RowLine.{RowLine}
 use Rattle.mps_model.specs.declared.statements.RowNumber.{RowNumber}
 use Rattle.mps_model.specs.declared.statements.ColumnLines.{ColumnLines}
 use Rattle.mps_model.proofs.NumberFacts.{is_zero-decides}
 
-map_append : {A B : Type 0} (f : A → B) (xs ys : List A) → map f (xs ++ ys) ≡ map f xs ++ map f ys
+pub map_append : {A B : Type 0} (f : A → B) (xs ys : List A) → map f (xs ++ ys) ≡ map f xs ++ map f ys
 map_append f [] ys = refl
 map_append f (x ∷ xs) ys = ap (λ more. f x ∷ more) (map_append f xs ys)
 
@@ -32,7 +32,7 @@ pub no_rows : (s : StatedModel) → empty_of s ≡ with_rows s []
 unfolding empty_of
 no_rows s = refl
 
-pub row_added : (s : StatedModel) (before : List RowLine) (r : RowLine) → edits.edited (with_rows s before) (row_edit (row_of s.sides r)) ≡ with_rows s (before ++ r ∷ [])
+pub row_added : (s : StatedModel) (before : List RowLine) (r : RowLine) → edits.edited (with_rows s before) (edits.adds_row (row_of s.sides r) []) ≡ with_rows s (before ++ r ∷ [])
 unfolding empty_of
 row_added s before r = ap (λ (rows : List Row). record (empty_of s) { rows = rows }) (sym (map_append (row_of s.sides) before (r ∷ [])))
 
@@ -106,7 +106,7 @@ with_entries s intupper c entries = record {
   rows = entries;
 }
 
-pub column_added : (s : StatedModel) (intupper : Option ℕ) (before : List ColumnLines) (c : ColumnLines) → edits.edited (with_columns s intupper before) (column_edit (column_of s intupper c) (named_of s.rows c.numbers)) ≡ with_columns s intupper (before ++ c ∷ [])
+pub column_added : (s : StatedModel) (intupper : Option ℕ) (before : List ColumnLines) (c : ColumnLines) → edits.edited (with_columns s intupper before) (edits.adds_col (column_of s intupper c) (named_of s.rows c.numbers)) ≡ with_columns s intupper (before ++ c ∷ [])
 unfolding empty_of with_entries
 column_added s intupper before c =
     let columns = map (column_of s intupper) before in

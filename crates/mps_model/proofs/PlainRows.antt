@@ -1,6 +1,6 @@
 -- The rows of a model that a text means have plain names: each is the second word of a line of two.
-use Rattle.std.proofs.Common.{◌≡◌, ℕ, zero, suc, refl, ◌<◌, ◌≤◌, true, false, not, ◌&&◌, List, [], ◌∷◌, ◌++◌, length, sym, subst, arith, append_assoc}
-use Rattle.std.specs.Prelude.{Bool, nat_le, Option, None, Some}
+use Rattle.std.proofs.Common.{◌≡◌, ℕ, zero, suc, refl, ◌<◌, false, not, ◌&&◌, List, [], ◌∷◌, ◌++◌, length, sym, subst, arith, append_assoc}
+use Rattle.std.specs.Prelude.{nat_le, Option, None, Some}
 use Rattle.std.specs.List.{All}
 use Rattle.std.proofs.lemmas.List.Elements.{All-nil, All-cons, All-append, All-head, All-tail, All-map, All-get_or}
 use Rattle.mps_text.specs.Text.{Entry, records_of}

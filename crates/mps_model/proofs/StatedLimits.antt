@@ -1,5 +1,5 @@
--- What lines without fault keep: few rows, columns and numbers, names of rows and of columns that differ, and no objective
--- with a row's name. A model that is built from them passes no limit and takes no name twice.
+-- What lines without fault keep: few rows, columns and numbers, names of rows and of columns that differ, no objective with
+-- a row's name, and numbers that are counted. A model that is built from them passes no limit and takes no name twice.
 use Rattle.std.proofs.Common.{◌≡◌, ◌≢◌, ℕ, suc, ◌<◌, ◌≤◌, Bool, true, false, not, ◌&&◌, ◌||◌, List, [], ◌∷◌, ◌++◌, map, length, refl, sym, ◌∙◌, ap, subst, arith, append_assoc, inl, inr, ◌⊎◌, length-append, Contains}
 use Rattle.std.specs.Prelude.{Option, None, Some, if◌then◌else◌, nat_le, bytes_eq}
 use Rattle.std.proofs.lemmas.Bool.{leb-false, or_parts, or_cases, or_from, true≢false, false_from_ne_true}
@@ -21,9 +21,10 @@ use Rattle.mps_model.specs.declared.words.RowKind.TheVariants.{Free, AtMost, AtL
 use Rattle.mps_model.specs.declared.statements.RowLine.{RowLine}
 use Rattle.mps_model.specs.declared.statements.RowNumber.{RowNumber}
 use Rattle.mps_model.specs.declared.statements.ColumnLines.{ColumnLines}
-use Rattle.mps_model.specs.Limits.{AreNamesApart, names_of_columns, IsNoRow, StatesWithinLimits}
+use Rattle.mps_model.specs.Limits.{AreNamesApart, names_of_columns, IsNoRow, coefficient_count, StatesWithinLimits}
 use Rattle.mps_model.proofs.TestFacts.{none_holds, room_of_column, code_of_kind}
 use Rattle.mps_model.proofs.StatedSteps.{nothing_more, stated_more}
+use Rattle.mps_model.proofs.CountedNumbers.{AreCounted, unknown_read, counted_row, counted_column}
 
 -- ---- names
 
@@ -56,6 +57,15 @@ column_names-more [] c = refl
 column_names-more (d ∷ found) c = ap (λ names. d.name ∷ names) (column_names-more found c)
 
 -- ---- what lines without fault keep
+
+record KeepsTests (s : StatedModel) : Type 0 where
+  few_rows : length s.rows ≤ 500
+  few_columns : length s.columns ≤ 1000
+  few_numbers : s.count ≤ 50000
+  rows_apart : AreNamesApart (names_of_rows s.rows)
+  columns_apart : AreNamesApart (names_of_columns s.columns)
+  objectives_apart : IsNoRow s.objectives s.rows
+  numbers : AreCounted s.rows s.objectives s.columns s.count
 
 -- ---- a line of ROWS
 
@@ -105,11 +115,11 @@ row_kept (Some Equal) name objectives sided new room keeps =
     let parts = or_parts (is_row sided name) (among objectives name) new in
     with_row objectives sided (record { name = name; kind = Equal }) parts.1 parts.0 (leb-false 500 (length sided) room) keeps
 
-row_step : (s : StatedModel) (e : Entry) → StatesWithinLimits s → least (row_tests s e) ≡ None → StatesWithinLimits (after_kind Row s e)
+row_step : (s : StatedModel) (e : Entry) → KeepsTests s → least (row_tests s e) ≡ None → KeepsTests (after_kind Row s e)
 row_step s e keeps h =
     let tests = none_holds (row_tests s e) h in
     let rows = row_kept (row_kind (word 0 e)) (word 1 e) s.objectives s.rows tests.1.1.1.0 tests.1.1.1.1.0 (record { few = keeps.few_rows; apart = keeps.rows_apart; objectives_apart = keeps.objectives_apart }) in
-    record { few_rows = rows.few; few_columns = keeps.few_columns; few_numbers = keeps.few_numbers; rows_apart = rows.apart; columns_apart = keeps.columns_apart; objectives_apart = rows.objectives_apart }
+    record { few_rows = rows.few; few_columns = keeps.few_columns; few_numbers = keeps.few_numbers; rows_apart = rows.apart; columns_apart = keeps.columns_apart; objectives_apart = rows.objectives_apart; numbers = counted_row s.rows s.objectives (row_kind (word 0 e)) (word 1 e) tests.1.1.1.0 s.columns s.count keeps.numbers }
 
 -- ---- a line of COLUMNS
 
@@ -139,17 +149,17 @@ column_kept found c more false false is returns room keeps = let below = leb-fal
   apart = subst AreNamesApart (sym (column_names-more found c)) (apart_push (names_of_columns found) c.name keeps.apart (column_among found c.name ∙ is));
 }
 
-column_step : (s : StatedModel) (e : Entry) → StatesWithinLimits s → least (column_tests s e) ≡ None → StatesWithinLimits (after_kind Column s e)
+column_step : (s : StatedModel) (e : Entry) → KeepsTests s → least (column_tests s e) ≡ None → KeepsTests (after_kind Column s e)
 column_step s e keeps h =
     let tests = none_holds (column_tests s e) h in
     let place = tests.1.1.1.1.1 in
     let new : ColumnLines = record { name = word 0 e; line = e.line; marked = s.marked; numbers = map read_pair (column_pairs e) } in
     let columns = column_kept s.columns new (map read_pair (column_pairs e)) (is_last s.columns (word 0 e)) (is_column s.columns (word 0 e)) refl place.0 place.1.1.0 (record { few = keeps.few_columns; apart = keeps.columns_apart }) in
-    record { few_rows = keeps.few_rows; few_columns = columns.few; few_numbers = room_of_column s e h; rows_apart = keeps.rows_apart; columns_apart = columns.apart; objectives_apart = keeps.objectives_apart }
+    record { few_rows = keeps.few_rows; few_columns = columns.few; few_numbers = room_of_column s e h; rows_apart = keeps.rows_apart; columns_apart = columns.apart; objectives_apart = keeps.objectives_apart; numbers = counted_column s.rows s.objectives s.columns s.count new (is_last s.columns (word 0 e)) refl (unknown_read s.rows s.objectives (column_pairs e) ∙ tests.1.1.0) keeps.numbers }
 
 -- ---- each line
 
-pub as_before : (s t : StatedModel) → t.rows ≡ s.rows → t.columns ≡ s.columns → t.count ≤ s.count → t.objectives ≡ s.objectives → StatesWithinLimits s → StatesWithinLimits t
+as_before : (s t : StatedModel) → t.rows ≡ s.rows → t.columns ≡ s.columns → t.count ≡ s.count → t.objectives ≡ s.objectives → KeepsTests s → KeepsTests t
 as_before s t r c n o keeps = record {
   few_rows = subst (λ (rows : List RowLine). length rows ≤ 500) (sym r) keeps.few_rows;
   few_columns = subst (λ (columns : List ColumnLines). length columns ≤ 1000) (sym c) keeps.few_columns;
@@ -157,34 +167,59 @@ as_before s t r c n o keeps = record {
   rows_apart = subst (λ (rows : List RowLine). AreNamesApart (names_of_rows rows)) (sym r) keeps.rows_apart;
   columns_apart = subst (λ (columns : List ColumnLines). AreNamesApart (names_of_columns columns)) (sym c) keeps.columns_apart;
   objectives_apart = subst (λ (rows : List RowLine). IsNoRow t.objectives rows) (sym r) (subst (λ (names : List (List ℕ)). IsNoRow names s.rows) (sym o) keeps.objectives_apart);
+  numbers =
+      subst (λ (rows : List RowLine). AreCounted rows t.objectives t.columns t.count) (sym r)
+      (subst (λ (names : List (List ℕ)). AreCounted s.rows names t.columns t.count) (sym o)
+      (subst (λ (columns : List ColumnLines). AreCounted s.rows s.objectives columns t.count) (sym c) (subst (λ n. AreCounted s.rows s.objectives s.columns n) (sym n) keeps.numbers)));
 }
 
-kept_by_kind : (kind : LineKind) (s : StatedModel) (e : Entry) → StatesWithinLimits s → least (tests_of kind s e) ≡ None → StatesWithinLimits (after_kind kind s e)
-kept_by_kind Header s e keeps h = as_before s (after_kind Header s e) refl refl (omega arith) refl keeps
+kept_by_kind : (kind : LineKind) (s : StatedModel) (e : Entry) → KeepsTests s → least (tests_of kind s e) ≡ None → KeepsTests (after_kind kind s e)
+kept_by_kind Header s e keeps h = as_before s (after_kind Header s e) refl refl refl refl keeps
 kept_by_kind Row s e keeps h = row_step s e keeps h
-kept_by_kind Marker s e keeps h = as_before s (after_kind Marker s e) refl refl (omega arith) refl keeps
+kept_by_kind Marker s e keeps h = as_before s (after_kind Marker s e) refl refl refl refl keeps
 kept_by_kind Column s e keeps h = column_step s e keeps h
-kept_by_kind RightSide s e keeps h = as_before s (after_kind RightSide s e) refl refl (omega arith) refl keeps
-kept_by_kind Bound s e keeps h = as_before s (after_kind Bound s e) refl refl (omega arith) refl keeps
+kept_by_kind RightSide s e keeps h = as_before s (after_kind RightSide s e) refl refl refl refl keeps
+kept_by_kind Bound s e keeps h = as_before s (after_kind Bound s e) refl refl refl refl keeps
 kept_by_kind Stray s e keeps h = keeps
 
-kept_behind : (seen : List Entry) (e : Entry) → code_at seen e ≡ None → StatesWithinLimits (stated seen) → StatesWithinLimits (stated (seen ++ e ∷ []))
+kept_behind : (seen : List Entry) (e : Entry) → code_at seen e ≡ None → KeepsTests (stated seen) → KeepsTests (stated (seen ++ e ∷ []))
 unfolding code_at after
 kept_behind seen e h keeps =
     let s = stated seen in
-    subst StatesWithinLimits (sym (stated_more seen e h)) (kept_by_kind (kind_in s.section e) s e keeps (code_of_kind s e (kind_in s.section e) refl h))
+    subst KeepsTests (sym (stated_more seen e h)) (kept_by_kind (kind_in s.section e) s e keeps (code_of_kind s e (kind_in s.section e) refl h))
 
-kept_at_start : StatesWithinLimits (stated [])
+kept_at_start : KeepsTests (stated [])
 unfolding stated gathered_behind
-kept_at_start = record { few_rows = omega arith; few_columns = omega arith; few_numbers = omega arith; rows_apart = λ i j d below later within. absurd (omega arith); columns_apart = λ i j d below later within. absurd (omega arith); objectives_apart = λ name h. refl }
+kept_at_start = record { few_rows = omega arith; few_columns = omega arith; few_numbers = omega arith; rows_apart = λ i j d below later within. absurd (omega arith); columns_apart = λ i j d below later within. absurd (omega arith); objectives_apart = λ name h. refl; numbers = record { known = tt; counted = refl } }
 
-kept_clean : (seen more : List Entry) → Clean seen more → StatesWithinLimits (stated seen) → StatesWithinLimits (stated (seen ++ more))
-kept_clean seen [] clean keeps = subst (λ (es : List Entry). StatesWithinLimits (stated es)) (sym (nothing_more seen)) keeps
+kept_clean : (seen more : List Entry) → Clean seen more → KeepsTests (stated seen) → KeepsTests (stated (seen ++ more))
+kept_clean seen [] clean keeps = subst (λ (es : List Entry). KeepsTests (stated es)) (sym (nothing_more seen)) keeps
 kept_clean seen (e ∷ more) clean keeps =
-    subst (λ (es : List Entry). StatesWithinLimits (stated es)) (append_assoc seen (e ∷ []) more) (kept_clean (seen ++ e ∷ []) more clean.2 (kept_behind seen e clean.0 keeps))
+    subst (λ (es : List Entry). KeepsTests (stated es)) (append_assoc seen (e ∷ []) more) (kept_clean (seen ++ e ∷ []) more clean.2 (kept_behind seen e clean.0 keeps))
+
+within_limits : (s : StatedModel) → KeepsTests s → StatesWithinLimits s
+within_limits s keeps = record {
+  few_rows = keeps.few_rows;
+  few_columns = keeps.few_columns;
+  few_coefficients = let few = keeps.few_numbers in omega (arith, keeps.numbers.counted);
+  rows_apart = keeps.rows_apart;
+  columns_apart = keeps.columns_apart;
+  objectives_apart = keeps.objectives_apart;
+}
 
 -- what a whole text states passes no limit, and no name stands twice
 pub whole-keeps_limits : (items : List Item) (entries : List Entry) → IsWholeText [] items entries → StatesWithinLimits (stated entries)
 whole-keeps_limits items entries whole =
     let before = kept_clean [] whole.before whole.clean kept_at_start in
-    subst (λ (es : List Entry). StatesWithinLimits (stated es)) (sym whole.all) (kept_behind whole.before whole.last whole.clean_last before)
+    within_limits (stated entries) (subst (λ (es : List Entry). KeepsTests (stated es)) (sym whole.all) (kept_behind whole.before whole.last whole.clean_last before))
+
+-- the limits depend on the objectives, the rows and the columns alone
+pub limits_by_lists : (s t : StatedModel) → t.objectives ≡ s.objectives → t.rows ≡ s.rows → t.columns ≡ s.columns → StatesWithinLimits s → StatesWithinLimits t
+limits_by_lists s t o r c keeps = record {
+  few_rows = subst (λ (rows : List RowLine). length rows ≤ 500) (sym r) keeps.few_rows;
+  few_columns = subst (λ (columns : List ColumnLines). length columns ≤ 1000) (sym c) keeps.few_columns;
+  few_coefficients = subst (λ (rows : List RowLine). coefficient_count rows t.columns ≤ 50000) (sym r) (subst (λ (columns : List ColumnLines). coefficient_count s.rows columns ≤ 50000) (sym c) keeps.few_coefficients);
+  rows_apart = subst (λ (rows : List RowLine). AreNamesApart (names_of_rows rows)) (sym r) keeps.rows_apart;
+  columns_apart = subst (λ (columns : List ColumnLines). AreNamesApart (names_of_columns columns)) (sym c) keeps.columns_apart;
+  objectives_apart = subst (λ (rows : List RowLine). IsNoRow t.objectives rows) (sym r) (subst (λ (names : List (List ℕ)). IsNoRow names s.rows) (sym o) keeps.objectives_apart);
+}

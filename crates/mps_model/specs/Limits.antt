@@ -1,8 +1,8 @@
--- What the lines of a text without fault keep: few rows, columns and numbers, names that differ, and no objective that is a
--- row.
-use Rattle.std.specs.Prelude.{◌≡◌, ◌≢◌, ℕ, ◌≤◌, true, false, List, length, map, AllPairs}
+-- What the lines of a text without fault keep: few rows, columns and coefficients, names that differ, and no objective that
+-- is a row.
+use Rattle.std.specs.Prelude.{◌≡◌, ◌≢◌, ℕ, ◌≤◌, true, false, List, length, map, sum_by, AllPairs}
 use Rattle.mps_model.specs.Words.{among}
-use Rattle.mps_model.specs.Statements.{StatedModel, is_row}
+use Rattle.mps_model.specs.Statements.{StatedModel, is_row, coefficients_in}
 use Rattle.mps_model.specs.Meaning.{names_of_rows}
 use Rattle.mps_model.specs.declared.statements.RowLine.{RowLine}
 use Rattle.mps_model.specs.declared.statements.ColumnLines.{ColumnLines}
@@ -18,10 +18,14 @@ names_of_columns found = map (λ c. c.name) found
 abbrev pub IsNoRow : List (List ℕ) → List RowLine → Type 0
 IsNoRow objectives sided = (name : List ℕ) → among objectives name ≡ true → is_row sided name ≡ false
 
+-- how many non-zero numbers of the columns stand beside rows with sides
+abbrev pub coefficient_count : List RowLine → List ColumnLines → ℕ
+coefficient_count sided found = sum_by (λ c. length (coefficients_in sided c.numbers)) found
+
 pub record StatesWithinLimits (s : StatedModel) : Type 0 where
   pub few_rows : length s.rows ≤ 500
   pub few_columns : length s.columns ≤ 1000
-  pub few_numbers : s.count ≤ 50000
+  pub few_coefficients : coefficient_count s.rows s.columns ≤ 50000
   pub rows_apart : AreNamesApart (names_of_rows s.rows)
   pub columns_apart : AreNamesApart (names_of_columns s.columns)
   pub objectives_apart : IsNoRow s.objectives s.rows

@@ -1,16 +1,13 @@
 -- What reading a text line by line comes to.
 use Rattle.std.specs.Prelude.{◌≡◌, ℕ, suc, List, [], length, Option, None, Some, Result, Ok, Err}
 use Rattle.mps_text.specs.Text.{Entry, Flaw, lines_of, records_of}
+use Rattle.mps_text.specs.Reading.{flaw_of}
 use Rattle.mps_model.specs.Statements.{StatedModel, stated}
 use Rattle.mps_model.specs.Faults.{code_in, HasFault, IsWholeText, IsCut}
 use Rattle.mps_model.specs.Shown.{held, after}
-use Rattle.mps_model.specs.declared.spans.LineCode.{LineCode}
 use Rattle.mps_model.specs.declared.reading.Stop.{Stop}
 use Rattle.mps_model.specs.declared.reading.Stop.TheVariants.{Fault, Memory}
 use Rattle.mps_model.specs.declared.tables.Tables.{Tables}
-
-abbrev pub flaw_at : LineCode → Flaw
-flaw_at f = record { line = f.line; code = f.code }
 
 -- a line whose code this is stops the reading, or there is no memory
 abbrev pub IsStopAt : Option ℕ → ℕ → Stop → Type 0
@@ -34,5 +31,5 @@ pub data IsLineFault (text : List ℕ) (flaw : Flaw) : Type 0 where
 
 abbrev pub IsTablesReading : List ℕ → Result Tables Stop → Type 0
 IsTablesReading text (Ok t) = IsWholeStated text (held t)
-IsTablesReading text (Err (Fault f)) = IsLineFault text (flaw_at f)
+IsTablesReading text (Err (Fault f)) = IsLineFault text (flaw_of f)
 IsTablesReading text (Err Memory) = Unit {0}

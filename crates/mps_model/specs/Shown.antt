@@ -1,6 +1,8 @@
 -- What the reader's values stand for, and what one more clean line adds to what is stated.
 use Rattle.std.specs.Prelude.{ℕ, ◌+◌, Bool, if◌then◌else◌, List, [], ◌∷◌, ◌++◌, length, map, codes, option_to_list, Option, None, Some}
 use Rattle.mps_text.specs.Text.{Entry, Flaw}
+use Rattle.mps_text.specs.Reading.{flaw_of}
+use Rattle.mps_text.specs.declared.lines.LineFault.{LineFault}
 use Rattle.mps_model.specs.Words.{is_key, word, section_of, kind_in}
 use Rattle.mps_model.specs.Statements.{Pair, read_pair, StatedModel, column_pairs, rhs_pairs, objective_on, row_on, coefficients_in, bound_on}
 use Rattle.mps_model.specs.declared.statements.RowNumber.{RowNumber}
@@ -11,7 +13,6 @@ use Rattle.mps_model.specs.declared.words.LineKind.TheVariants.{Header, Row, Mar
 use Rattle.mps_model.specs.declared.pairs.Pair.{Pair as PairOfFields}
 use Rattle.mps_model.specs.declared.pairs.Pairs.{Pairs}
 use Rattle.mps_model.specs.declared.pairs.Pairs.TheVariants.{Nothing, One, Two}
-use Rattle.mps_model.specs.declared.spans.LineCode.{LineCode}
 use Rattle.mps_model.specs.declared.columns.OpenColumn.{OpenColumn}
 use Rattle.mps_model.specs.declared.columns.Columns.{Columns}
 use Rattle.mps_model.specs.declared.tables.Tables.{Tables}
@@ -24,9 +25,9 @@ pairs_shown Nothing = []
 pairs_shown (One p) = pair_shown p ∷ []
 pairs_shown (Two p q) = pair_shown p ∷ pair_shown q ∷ []
 
-abbrev pub flaw_shown : Option LineCode → Option Flaw
+abbrev pub flaw_shown : Option LineFault → Option Flaw
 flaw_shown None = None
-flaw_shown (Some f) = Some (record { line = f.line; code = f.code })
+flaw_shown (Some f) = Some (flaw_of f)
 
 -- a column that may still get lines
 abbrev pub open_shown : OpenColumn → ColumnLines

@@ -1,9 +1,10 @@
 // The model that the tables of a whole text mean.
-ghost use Rattle.std.specs.Prelude.{◌≡◌, codes, IfOk, OnOk};
+ghost use Rattle.std.specs.Prelude.{◌≡◌, [], None, codes, IfOk, OnOk};
 ghost use Rattle.mps_model.specs.Meaning.{low_side, high_side, beside_objective, objective_or, free_name, row_of, column_of, model_of, number_beside};
 ghost use Rattle.frac128.specs.Range.{Fits};
-ghost use Rattle.lp_model.specs.Edits.{edited, EditFits};
-ghost use Rattle.mps_model.specs.BuiltOf.{named_of, row_edit, column_edit};
+ghost use Rattle.lp_model.specs.Edits.{edited, adds_row, adds_col, EditFits};
+ghost use Rattle.mps_model.specs.BuiltOf.{named_of};
+ghost use Rattle.mps_model.specs.Faults.{column_flaw};
 ghost use Rattle.mps_model.specs.Limits.{StatesWithinLimits};
 
 use crate::free_names::{free_name, names_of_rows};
@@ -100,7 +101,7 @@ impl Parts<'_> {
     }
 
     fn row_edit(&self, alloc: Global, row: &RowLine) -> Result<Edit, AllocError>
-        ensures is { IfOk result (λ e. e ≡ row_edit (row_of self.now.sides.now row.now)) }
+        ensures is { IfOk result (λ e. e ≡ adds_row (row_of self.now.sides.now row.now) []) }
         ensures room { IfOk result (λ _. Fits (number_beside row.now.name self.now.sides.now)) }
     {
         let name = copied(alloc, row.name.as_slice())?;
@@ -115,7 +116,7 @@ impl Parts<'_> {
     }
 
     fn column_edit(&self, alloc: Global, column: &ColumnLines) -> Result<Edit, AllocError>
-        ensures { IfOk result (λ e. e ≡ column_edit (column_of (parts_shown self.now) self.now.intupper column.now) (named_of self.now.rows.now column.now.numbers)) }
+        ensures { IfOk result (λ e. e ≡ adds_col (column_of (parts_shown self.now) self.now.intupper column.now) (named_of self.now.rows.now column.now.numbers)) }
     {
         let name = copied(alloc, column.name.as_slice())?;
         let span = Span::of(self.bounds, column);
@@ -147,13 +148,14 @@ impl Parts<'_> {
 
     /// The model.
     pub(crate) fn model(&self, alloc: Global) -> Result<Model, AllocError>
-        requires { StatesWithinLimits (parts_shown self.now) }
+        requires limits { StatesWithinLimits (parts_shown self.now) }
+        requires bounded { column_flaw self.now.intupper self.now.bounds.now self.now.columns.now ≡ None }
         ensures { IfOk result (λ m. m ≡ model_of (parts_shown self.now) self.now.intupper) }
     {
         let mut model = self.with_rows(alloc)?;
         for column in self.columns {
             let edit = self.column_edit(alloc, column)?;
-            apply(&mut model, alloc, edit)?;
+            apply_fitting(&mut model, alloc, edit)?;
         }
         Ok(model)
     }
@@ -170,15 +172,5 @@ fn apply_fitting(model: &mut Model, alloc: Global, edit: Edit) -> Result<(), All
     match fault {
         EditFault::Memory => Err(AllocError),
         _ => unreachable!(),
-    }
-}
-
-/// The model after a column's edit. A refusal is answered as want of memory.
-fn apply(model: &mut Model, alloc: Global, edit: Edit) -> Result<(), AllocError>
-    ensures { OnOk result (model.new ≡ edited model.old edit) }
-{
-    match model.apply(alloc, edit) {
-        Ok(()) => Ok(()),
-        Err(_) => Err(AllocError),
     }
 }

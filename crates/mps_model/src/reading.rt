@@ -1,30 +1,20 @@
 // The lines of a text, one after another, up to ENDATA or to the first fault.
 ghost use Rattle.std.specs.Prelude.{◌≡◌, MatchResult};
-ghost use Rattle.mps_text.specs.Reading.{code_of, entry_of_record};
+ghost use Rattle.mps_text.specs.Reading.{entry_of_record};
 ghost use Rattle.mps_model.specs.Faults.{code_in};
 ghost use Rattle.mps_model.specs.Shown.{held};
 ghost use Rattle.mps_model.specs.ReadingOf.{IsStopAt, IsEntryNoted, IsTablesReading};
 
-use crate::spans::LineCode;
 use crate::tables::Tables;
 use crate::words::is_end;
-use mps_text::{LineFlaw, Lines, Record};
+use mps_text::{LineFault, Lines, Record};
 use std::alloc::Global;
 
 /// Why lines are read no further.
 #[derive(Clone, Copy, Debug, Drop)]
 pub(crate) enum Stop {
-    Fault(LineCode),
+    Fault(LineFault),
     Memory,
-}
-
-fn code_of(flaw: LineFlaw) -> u8
-    ensures { result ≡ code_of flaw }
-{
-    match flaw {
-        LineFlaw::StrangeByte => 1,
-        LineFlaw::TooLong => 2,
-    }
 }
 
 /// One more line: its fault, or what the tables hold behind it.
@@ -33,7 +23,7 @@ fn read_line(alloc: Global, tables: &mut Tables, entry: &Record) -> Result<(), S
 {
     if let Some(code) = tables.fault_of(entry) {
         let line = entry.line;
-        return Err(Stop::Fault(LineCode { line, code }));
+        return Err(Stop::Fault(LineFault { line, code }));
     }
     match tables.note(alloc, entry) {
         Ok(()) => Ok(()),
@@ -49,11 +39,7 @@ pub(crate) fn tables_of(alloc: Global, text: &[u8]) -> Result<Tables, Stop>
     let mut tables = Tables::new(alloc);
     while let Some(item) = lines.next() {
         match item {
-            Err(fault) => {
-                let line = fault.line;
-                let code = code_of(fault.flaw);
-                return Err(Stop::Fault(LineCode { line, code }));
-            }
+            Err(fault) => return Err(Stop::Fault(fault)),
             Ok(entry) => {
                 read_line(alloc, &mut tables, &entry)?;
                 if is_end(&entry) {
@@ -63,5 +49,5 @@ pub(crate) fn tables_of(alloc: Global, text: &[u8]) -> Result<Tables, Stop>
         }
     }
     let line = lines.next_number();
-    Err(Stop::Fault(LineCode { line, code: 4 }))
+    Err(Stop::Fault(LineFault { line, code: 4 }))
 }

@@ -9,13 +9,7 @@ use crate::numbers::{Limit, Span, is_at_most};
 use crate::statements::{BoundLine, ColumnLines};
 use crate::words::BoundKind;
 use frac128::Frac;
-
-/// A line and the code of its fault.
-#[derive(Clone, Copy, Debug, Drop)]
-pub(crate) struct LineCode {
-    pub line: u64,
-    pub code: u8,
-}
+use mps_text::LineFault;
 
 fn finite(limit: &Limit) -> Option<Frac>
     ensures { result ≡ finite limit.now }
@@ -154,13 +148,13 @@ pub(crate) fn column_flaw(
     intupper: Option<u64>,
     bounds: &[BoundLine],
     columns: &[ColumnLines],
-) -> Option<LineCode>
+) -> Option<LineFault>
     ensures { flaw_shown result ≡ column_flaw intupper bounds.now columns.now }
 {
     for column in columns {
         let line = column.line;
         if let Some(code) = Span::of(bounds, column).code(intupper) {
-            return Some(LineCode { line, code });
+            return Some(LineFault { line, code });
         }
     }
     None

@@ -1,5 +1,5 @@
 -- What the faults of the command line's words say.
-use Rattle.std.proofs.Common.{◌≡◌, List, [], ◌∷◌, map, inl, inr, refl, sym, ◌∙◌, ap, true, codes, Option}
+use Rattle.std.proofs.Common.{◌≡◌, List, [], ◌∷◌, map, inl, inr, refl, sym, ◌∙◌, ap, subst, true, codes, Option}
 use Rattle.std.specs.Prelude.{String}
 use Rattle.std.specs.String.{string_bytes}
 use Rattle.std.specs.declared.alloc.Global.{Global}
@@ -9,7 +9,8 @@ use Rattle.clap.specs.declared.error.ErrorKind.{ErrorKind}
 use Rattle.clap.specs.declared.error.ErrorKind.TheVariants.{OutOfMemory}
 use Rattle.clap.proofs.OnLiterals.{clap_on_literals}
 use Rattle.program_words.specs.Forms.{AskedForm, Script, symphony, TakesWords, asked_by, asked_form}
-use Rattle.program_words.specs.Laws.{AsksScript, RunLaw}
+use Rattle.program_words.specs.Laws.{AsksCheck, AsksScript, CheckLaw, IsPlainWord, RunLaw}
+use Rattle.program_words.proofs.PlainLemmas.{check_alone, check_asks, no_flag}
 
 is_simple_app : is_simple symphony ≡ true
 unfolding clap_on_literals
@@ -59,6 +60,29 @@ run_law [] form = absurd form
 run_law (name ∷ []) form = absurd form
 run_law (name ∷ word ∷ []) form = run_form name word form
 run_law (name ∷ word ∷ other ∷ words) form = absurd form
+
+check_form : (name word model cert : String Global) → string_bytes word ≡ codes "check" → IsPlainWord (string_bytes model) → IsPlainWord (string_bytes cert)
+    → AsksCheck (name ∷ word ∷ model ∷ cert ∷ []) (string_bytes model) (string_bytes cert)
+unfolding TakesWords asked_form
+check_form name word model cert form is_model is_cert = record {
+  taken =
+      ap (λ (bytes : Text). fault_of symphony (string_bytes name ∷ bytes ∷ string_bytes model ∷ string_bytes cert ∷ [])) form
+      ∙ check_alone (string_bytes name) (string_bytes model) (string_bytes cert) (no_flag (string_bytes model) is_model) (no_flag (string_bytes cert) is_cert);
+  check =
+      ap (λ (bytes : Text). asked_by (subcommand_of symphony (string_bytes name ∷ bytes ∷ string_bytes model ∷ string_bytes cert ∷ []))) form
+      ∙ check_asks (string_bytes name) (string_bytes model) (string_bytes cert) (no_flag (string_bytes model) is_model) (no_flag (string_bytes cert) is_cert);
+}
+
+pub check_law : CheckLaw
+check_law [] model cert form = absurd form
+check_law (name ∷ []) model cert form = absurd form
+check_law (name ∷ word ∷ []) model cert form = absurd form
+check_law (name ∷ word ∷ first ∷ []) model cert form = absurd form
+check_law (name ∷ word ∷ first ∷ second ∷ []) model cert form =
+    subst (λ m. AsksCheck (name ∷ word ∷ first ∷ second ∷ []) m cert) form.1
+    (subst (λ c. AsksCheck (name ∷ word ∷ first ∷ second ∷ []) (string_bytes first) c) form.2
+    (check_form name word first second form.0 (subst IsPlainWord (sym form.1) form.3) (subst IsPlainWord (sym form.2) form.4)))
+check_law (name ∷ word ∷ first ∷ second ∷ other ∷ words) model cert form = absurd form
 
 -- ---- what is asked for
 

@@ -1,7 +1,12 @@
 // Words that are taken for sure, as clauses of calls that do nothing.
-ghost use Rattle.program_words.specs.Laws.{RunLaw};
+ghost use Rattle.program_words.specs.Laws.{CheckLaw, RunLaw};
 
 /// The word `run` behind the program's name asks for the script.
 pub fn run_law()
     ensures { RunLaw }
+{}
+
+/// The word `check` and two plain words behind the program's name ask for that check.
+pub fn check_law()
+    ensures { CheckLaw }
 {}

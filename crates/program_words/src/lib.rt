@@ -10,7 +10,8 @@
 //! as `clap` reads them: a command without help and version, which needs one of its two subcommands.
 //!
 //! Contract in one sentence: `form_of` answers what the words ask for (`asked_form`, a function of what `clap` finds in
-//! them), and refuses them exactly where `clap` finds a fault (`TakesWords`).
+//! them), and refuses them exactly where `clap` finds a fault (`TakesWords`). The laws say without `clap` which words ask
+//! for which form for sure.
 //!
 //! Below stands `clap`; above stands `sym_shell`, which does what is asked.
 #![tactic(auto)]
@@ -18,5 +19,5 @@
 mod laws;
 mod words;
 
-pub use laws::run_law;
+pub use laws::{check_law, run_law};
 pub use words::{Form, WordsFault, form_of};

@@ -4,4 +4,5 @@ pub mod SessionLemmas
 pub mod PieceLemmas
 pub mod ReadLemmas
 pub mod RunLemmas
+pub mod ToldLemmas
 pub mod Restating

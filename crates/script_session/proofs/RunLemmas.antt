@@ -1,35 +1,64 @@
--- From what a session has done to what a run says.
-use Rattle.std.proofs.Common.{◌≡◌, ℕ, Bool, List, [], sym, ◌∙◌, subst, arith, Option, Some, None, append-nil}
-use Rattle.std.specs.Prelude.{IfSome}
-use Rattle.script_session.specs.Run.{View, Answers, IsCutShort}
+-- From what a session has done to what a run is.
+use Rattle.std.proofs.Common.{◌≡◌, ℕ, ◌≤◌, Bool, false, ◌||◌, List, ◌∙◌, ap, Option}
+use Rattle.std.specs.Prelude.{Ok, Err}
+use Rattle.std.specs.List.{list_any}
+use Rattle.script_session.specs.Output.{SinkCause, SourceCause}
+use Rattle.script_session.specs.Reply.{is_error, wants_memory, final_status, status_of}
 use Rattle.script_session.specs.Request.{Command, Request}
-use Rattle.script_session.specs.Script.{script_requests, allowed_requests}
-use Rattle.script_session.specs.Session.{Moment, Serves}
-use Rattle.script_session.specs.Stand.{Stand, Transcript}
-use Rattle.script_session.proofs.ScriptLemmas.{nil_right}
+use Rattle.script_session.specs.Run.{outside, EndsAs, Finished, SourceFailed, SinkFailed, MemoryWanted, TooLong, IsRun}
+use Rattle.script_session.specs.Session.{Moment, Serves, ServesTaken, ServesScript}
+use Rattle.script_session.specs.Stand.{Stand}
+use Rattle.script_session.specs.declared.session.Stop.{Stop}
+use Rattle.script_session.specs.declared.session.Stop.TheVariants as stop
 
--- what is seen of a moment from outside
-abbrev pub seen : {M : Type 0} → Moment M → View (Stand M)
-seen moment = record { state = moment.state; written = moment.written }
+-- the status of a script that was stopped
+abbrev pub stop_status : Stop → ℕ
+stop_status stop.Source = 3
+stop_status stop.Sink = 4
+stop_status stop.Memory = 5
+stop_status stop.TooLong = 6
 
 module _ {M : Type 0} (ends : Command → Bool) (step : Stand M → Request → List ℕ → Stand M → Type 0) where
-  -- a script that came to its end, though memory was wanting in it
-  pub cut_short : (left : Option (List ℕ)) (old new : Moment M) (P : List ℕ → Type 0) → IfSome left (λ input. Serves step old (script_requests ends input) new × (allowed_requests ends input ≡ script_requests ends input) × P input)
-      → IfSome left (λ input. IsCutShort step (allowed_requests ends input) (seen old) (seen new))
-  cut_short None old new P h = tt
-  cut_short (Some input) old new P h = record {
-    first = script_requests ends input;
-    rest = [];
-    parts = h.1 ∙ sym (nil_right (script_requests ends input));
-    replies = h.0.replies;
-    missing = [];
-    one = omega arith;
-    transcript = subst (λ replies. Transcript step old.state (script_requests ends input) replies new.state) (sym (append-nil h.0.replies)) h.0.run;
-    output = h.0.output;
-  }
+  -- what a session has kept in mind is what the replies say
+  status_is : (old new : Moment M) (requests : List Request) (h : Serves step old requests new) (status : ℕ) → old.wanted ≡ false → old.refused ≡ false → status ≡ final_status new.wanted new.refused → status ≡ status_of h.replies
+  status_is old new requests h status unwanted unrefused is =
+      is
+      ∙ ap (λ wanted. final_status wanted new.refused) (h.wanted ∙ ap (λ b. b || list_any wants_memory h.replies) unwanted)
+      ∙ ap (λ refused. final_status (list_any wants_memory h.replies) refused) (h.refused ∙ ap (λ b. b || list_any is_error h.replies) unrefused)
 
-  -- requests that were all answered
-  pub answered : (left : Option (List ℕ)) (requests : List ℕ → List Request) (old new : Moment M) (P : List ℕ → Type 0) → IfSome left (λ input. Serves step old (requests input) new × P input)
-      → IfSome left (λ input. (replies : List (List ℕ)) × Answers step (requests input) (seen old) (seen new) replies)
-  answered None requests old new P h = tt
-  answered (Some input) requests old new P h = (h.0.replies, record { transcript = h.0.run; output = h.0.output })
+  -- the script came to its end
+  pub run_ended : (left left' : Option (List ℕ)) (sources sources' sinks sinks' : ℕ) (old new : Moment M) (status : ℕ) → ServesScript ends step (Ok tt) left left' old new → old.wanted ≡ false → old.refused ≡ false → status ≡ final_status new.wanted new.refused → sources ≤ sources' → sinks ≤ sinks'
+      → IsRun step ends old.state (outside left sources old.written sinks) new.state (outside left' sources' new.written sinks') status
+  run_ended left left' sources sources' sinks sinks' old new status h unwanted unrefused is source_later sink_later =
+      let served = h.served.0 in
+      record {
+        taken = h.taken;
+        consumed = h.consumed;
+        last = h.last;
+        ended = Finished served.replies (record { transcript = served.run; output = served.output }) h.served.1 h.served.2 (status_is old new _ served status unwanted unrefused is);
+        source_later = source_later;
+        sink_later = sink_later;
+      }
+
+  -- it was stopped
+  stopped_as : (fault : Stop) (left left' : Option (List ℕ)) (sources sources' sinks sinks' : ℕ) (taken : List ℕ) (old new : Moment M) (status : ℕ) → ServesTaken ends step (Err fault) left left' taken old new → SourceCause {T = Unit {0}} (Err fault) sources sources' → SinkCause {T = Unit {0}} (Err fault) sinks sinks' → status ≡ stop_status fault
+      → EndsAs step ends taken old.state (outside left sources old.written sinks) new.state (outside left' sources' new.written sinks') status
+  stopped_as stop.Source left left' sources sources' sinks sinks' taken old new status h source sink is =
+      SourceFailed h.0.replies (record { transcript = h.0.run; output = h.0.output }) h.1 h.2 source is
+  stopped_as stop.Sink left left' sources sources' sinks sinks' taken old new status h source sink is =
+      SinkFailed h.0 h.3 (record { first = h.1; rest = h.2; parts = h.4; replies = h.5.replies; transcript = h.5.run; bytes = h.5.bytes; unwritten = h.5.unwritten; front = h.5.front; output = h.5.output }) sink is
+  stopped_as stop.Memory left left' sources sources' sinks sinks' taken old new status h source sink is =
+      MemoryWanted h.0 h.3 (record { first = h.1; rest = h.2; parts = h.4; replies = h.5.replies; missing = h.5.missing; one = h.5.one; transcript = h.5.run; output = h.5.output }) is
+  stopped_as stop.TooLong left left' sources sources' sinks sinks' taken old new status h source sink is =
+      TooLong h.0.replies (record { transcript = h.0.run; output = h.0.output }) h.1 is
+
+  pub run_stopped : (fault : Stop) (left left' : Option (List ℕ)) (sources sources' sinks sinks' : ℕ) (old new : Moment M) (status : ℕ) → ServesScript ends step (Err fault) left left' old new → SourceCause {T = Unit {0}} (Err fault) sources sources' → SinkCause {T = Unit {0}} (Err fault) sinks sinks' → status ≡ stop_status fault → sources ≤ sources' → sinks ≤ sinks'
+      → IsRun step ends old.state (outside left sources old.written sinks) new.state (outside left' sources' new.written sinks') status
+  run_stopped fault left left' sources sources' sinks sinks' old new status h source sink is source_later sink_later = record {
+    taken = h.taken;
+    consumed = h.consumed;
+    last = h.last;
+    ended = stopped_as fault left left' sources sources' sinks sinks' h.taken old new status h.served source sink is;
+    source_later = source_later;
+    sink_later = sink_later;
+  }

@@ -4,5 +4,6 @@ pub mod Script
 pub mod Stand
 pub mod Reply
 pub mod Run
+pub mod Told
 pub mod Output
 pub mod Session

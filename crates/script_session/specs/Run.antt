@@ -1,62 +1,102 @@
--- What a run of a script leaves and writes, by its status.
-use Rattle.std.specs.Prelude.{◌≡◌, ℕ, ◌≤◌, Bool, false, List, ◌++◌, length, Option}
+-- What a run of a script is: one definition for every status, over the bytes that were taken from the source, whether the
+-- source tells them or not.
+use Rattle.std.specs.Prelude.{◌≡◌, ℕ, ◌≤◌, ◌⊎◌, Bool, true, false, List, ◌++◌, length, take, Option, IfSome}
 use Rattle.std.specs.List.{concat}
-use Rattle.std.specs.Io.KnownBytes.{Appends, Consumes}
-use Rattle.sym_io.specs.Files.{Files}
+use Rattle.std.specs.Io.KnownBytes.{Appends, Consumes, IsAtEnd}
+use Rattle.sym_io.specs.Faults.{Rose}
 use Rattle.script_session.specs.declared.reading.TheConstants.{SCRIPT_LIMIT, PIECE_LENGTH}
+use Rattle.script_session.specs.Reply.{status_of}
 use Rattle.script_session.specs.Request.{Command, Request}
-use Rattle.script_session.specs.Script.{has_ending}
-use Rattle.script_session.specs.Stand.{Stand, stand, Transcript}
+use Rattle.script_session.specs.Script.{script_requests, whole_requests, has_ending, IsWithinLimit, IsOverlong}
+use Rattle.script_session.specs.Stand.{Transcript}
 
--- a state, and the bytes that the sink holds, where it tells them
-pub record View (S : Type 0) : Type 0 where
-  pub state : S
+-- The two ends of a run at a moment: the bytes that are left, where the source tells them, the bytes that are written, where
+-- the sink tells them, and how often each has failed.
+pub record Outside : Type 0 where
+  pub left : Option (List ℕ)
+  pub source_faults : ℕ
   pub written : Option (List ℕ)
+  pub sink_faults : ℕ
 
--- that of a machine beside its store
-abbrev pub view : {M : Type 0} → M → Option Files → ℕ → Option (List ℕ) → View (Stand M)
-view machine files faults written = record { state = stand machine files faults; written = written }
+abbrev pub outside : Option (List ℕ) → ℕ → Option (List ℕ) → ℕ → Outside
+outside left source_faults written sink_faults = record { left = left; source_faults = source_faults; written = written; sink_faults = sink_faults }
+
+-- ---- what is answered and written
 
 -- the requests have these replies, each a step from where the last one led, and the replies were written, and nothing else
-pub record Answers {S : Type 0} (step : S → Request → List ℕ → S → Type 0) (requests : List Request) (old new : View S) (replies : List (List ℕ)) : Type 0 where
-  pub transcript : Transcript step old.state requests replies new.state
-  pub output : Appends old.written new.written (concat replies)
+pub record Answers {S : Type 0} (step : S → Request → List ℕ → S → Type 0) (requests : List Request) (old : S) (before : Outside) (new : S) (after : Outside) (replies : List (List ℕ)) : Type 0 where
+  pub transcript : Transcript step old requests replies new
+  pub output : Appends before.written after.written (concat replies)
 
 -- first requests were answered, and a front of their replies' bytes was written
-pub record IsCutOff {S : Type 0} (step : S → Request → List ℕ → S → Type 0) (requests : List Request) (old new : View S) : Type 0 where
+pub record IsCutOff {S : Type 0} (step : S → Request → List ℕ → S → Type 0) (requests : List Request) (old : S) (before : Outside) (new : S) (after : Outside) : Type 0 where
   pub first : List Request
   pub rest : List Request
   pub parts : requests ≡ first ++ rest
   pub replies : List (List ℕ)
-  pub transcript : Transcript step old.state first replies new.state
+  pub transcript : Transcript step old first replies new
   pub bytes : List ℕ
   pub unwritten : List ℕ
   pub front : bytes ++ unwritten ≡ concat replies
-  pub output : Appends old.written new.written bytes
+  pub output : Appends before.written after.written bytes
 
 -- first requests were answered, and their replies were written whole, but for the last one maybe
-pub record IsCutShort {S : Type 0} (step : S → Request → List ℕ → S → Type 0) (requests : List Request) (old new : View S) : Type 0 where
+pub record IsCutShort {S : Type 0} (step : S → Request → List ℕ → S → Type 0) (requests : List Request) (old : S) (before : Outside) (new : S) (after : Outside) : Type 0 where
   pub first : List Request
   pub rest : List Request
   pub parts : requests ≡ first ++ rest
   pub replies : List (List ℕ)
   pub missing : List (List ℕ)
   pub one : length missing ≤ 1
-  pub transcript : Transcript step old.state first (replies ++ missing) new.state
-  pub output : Appends old.written new.written (concat replies)
+  pub transcript : Transcript step old first (replies ++ missing) new
+  pub output : Appends before.written after.written (concat replies)
 
--- what a source gave before it failed: no more than may be, and no line that ends the script
-pub record IsTaken (ends : Command → Bool) (left left' : Option (List ℕ)) (taken : List ℕ) : Type 0 where
-  pub consumed : Consumes left left' taken
-  pub within : length taken ≤ SCRIPT_LIMIT
-  pub unended : has_ending ends taken ≡ false
+-- ---- what was taken
 
 -- The bytes before the last read are no more than may be and have no line that ends the script: nothing is read after the
 -- read that brought a byte too many, or such a line.
-pub record ReadsNoFurther (ends : Command → Bool) (left left' : Option (List ℕ)) : Type 0 where
-  pub before : List ℕ
-  pub last : List ℕ
-  pub taken : Consumes left left' (before ++ last)
-  pub within : length before ≤ SCRIPT_LIMIT
-  pub unended : has_ending ends before ≡ false
-  pub one_read : length last ≤ PIECE_LENGTH
+pub record IsLastRead (ends : Command → Bool) (taken : List ℕ) : Type 0 where
+  pub front : List ℕ
+  pub piece : List ℕ
+  pub parts : taken ≡ front ++ piece
+  pub one_read : length piece ≤ PIECE_LENGTH
+  pub within : length front ≤ SCRIPT_LIMIT
+  pub unended : has_ending ends front ≡ false
+
+-- the source is at its end or a line has ended the script, so what was taken asks all that the source's bytes ask, where it
+-- tells them
+abbrev pub IsAll : (Command → Bool) → Option (List ℕ) → Option (List ℕ) → List ℕ → Type 0
+IsAll ends left left' taken = (IsAtEnd left' ⊎ (has_ending ends taken ≡ true)) × IfSome left (λ input. script_requests ends input ≡ script_requests ends taken)
+
+-- What may be answered of the bytes that were taken: what the whole lines among those that may be ask. At the source's end the
+-- last line counts too; before it, a line whose end hasn't come is none.
+abbrev pub IsAnswerable : (Command → Bool) → Option (List ℕ) → List ℕ → List Request → Type 0
+IsAnswerable ends left' taken asked =
+    (asked ≡ whole_requests ends (take SCRIPT_LIMIT taken))
+    ⊎ (IsAtEnd left' × (length taken ≤ SCRIPT_LIMIT) × (asked ≡ script_requests ends taken))
+
+-- ---- how a run ends
+
+-- From old a run has answered the bytes that were taken, left new, and ends with this status: the script came to its end,
+-- though memory may have been wanting for a reply; the source or the sink failed; the run itself had no memory; or a byte
+-- too many came.
+pub data EndsAs {S : Type 0} (step : S → Request → List ℕ → S → Type 0) (ends : Command → Bool) (taken : List ℕ) (old : S) (before : Outside) (new : S) (after : Outside) (status : ℕ) : Type 0 where
+  Finished : (replies : List (List ℕ)) → Answers step (script_requests ends taken) old before new after replies → IsAll ends before.left after.left taken → IsWithinLimit ends taken
+      → status ≡ status_of replies → EndsAs step ends taken old before new after status
+  SourceFailed : (replies : List (List ℕ)) → Answers step (whole_requests ends taken) old before new after replies → length taken ≤ SCRIPT_LIMIT → has_ending ends taken ≡ false
+      → Rose before.source_faults after.source_faults → status ≡ 3 → EndsAs step ends taken old before new after status
+  SinkFailed : (asked : List Request) → IsAnswerable ends after.left taken asked → IsCutOff step asked old before new after
+      → Rose before.sink_faults after.sink_faults → status ≡ 4 → EndsAs step ends taken old before new after status
+  MemoryWanted : (asked : List Request) → IsAnswerable ends after.left taken asked → IsCutShort step asked old before new after
+      → status ≡ 5 → EndsAs step ends taken old before new after status
+  TooLong : (replies : List (List ℕ)) → Answers step (whole_requests ends (take SCRIPT_LIMIT taken)) old before new after replies → IsOverlong ends taken
+      → status ≡ 6 → EndsAs step ends taken old before new after status
+
+-- a run from old, which left new: these bytes were taken, and no count of faults fell
+pub record IsRun {S : Type 0} (step : S → Request → List ℕ → S → Type 0) (ends : Command → Bool) (old : S) (before : Outside) (new : S) (after : Outside) (status : ℕ) : Type 0 where
+  pub taken : List ℕ
+  pub consumed : Consumes before.left after.left taken
+  pub last : IsLastRead ends taken
+  pub ended : EndsAs step ends taken old before new after status
+  pub source_later : before.source_faults ≤ after.source_faults
+  pub sink_later : before.sink_faults ≤ after.sink_faults

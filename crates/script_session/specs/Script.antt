@@ -1,6 +1,6 @@
 -- The lines of a script, the words of a line, and what the lines ask. What ends a script is the machine's to say: ends
 -- tells it of a command's words.
-use Rattle.std.specs.Prelude.{◌≡◌, ℕ, Bool, false, ◌||◌, not, List, [], ◌∷◌, ◌++◌, length, take, ◌<◌, ◌≤◌, ◌⊎◌, true, if◌then◌else◌, ◌==◌, ◌&&◌, nat_lt, nat_le}
+use Rattle.std.specs.Prelude.{◌≡◌, ℕ, Bool, false, ◌||◌, not, List, [], ◌∷◌, ◌++◌, length, take, ◌<◌, ◌≤◌, ◌⊎◌, true, if◌then◌else◌, ◌==◌, ◌&&◌, nat_lt}
 use Rattle.std.specs.List.{slice_split, filter, list_any, All}
 use Rattle.std.specs.Str.Lines.{strip_carriage_return}
 use Rattle.script_session.specs.declared.reading.TheConstants.{LINE_LIMIT, SCRIPT_LIMIT}
@@ -99,10 +99,6 @@ whole_requests ends script = requests ends (whole_lines script)
 -- one of the whole lines ends the script
 unfoldable pub has_ending : (Command → Bool) → List ℕ → Bool
 has_ending ends script = list_any (is_end ends) (whole_lines script)
-
--- What a run may answer: of a script that is too long, what the whole lines of the bytes that may be ask.
-abbrev pub allowed_requests : (Command → Bool) → List ℕ → List Request
-allowed_requests ends input = if nat_le (length input) SCRIPT_LIMIT then script_requests ends input else whole_requests ends (take SCRIPT_LIMIT input)
 
 -- a script that fits, or that ended before it didn't
 abbrev pub IsWithinLimit : (Command → Bool) → List ℕ → Type 0

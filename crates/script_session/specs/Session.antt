@@ -1,7 +1,7 @@
 -- What a session has done between two moments: the parts of which the clauses of a run are made.
-use Rattle.std.specs.Prelude.{◌≡◌, ℕ, ◌≤◌, Bool, true, ◌||◌, List, [], ◌∷◌, ◌++◌, length, take, if◌then◌else◌, Option, Result, Ok, Err, IfSome}
+use Rattle.std.specs.Prelude.{◌≡◌, ℕ, ◌≤◌, Bool, true, false, ◌||◌, List, [], ◌∷◌, ◌++◌, length, take, if◌then◌else◌, Option, Result, Ok, Err}
 use Rattle.std.specs.List.{list_any, concat}
-use Rattle.std.specs.Io.KnownBytes.{Appends}
+use Rattle.std.specs.Io.KnownBytes.{Appends, Consumes}
 use Rattle.sym_io.specs.Files.{Files}
 use Rattle.script_session.specs.declared.reading.TheConstants.{SCRIPT_LIMIT}
 use Rattle.script_session.specs.declared.session.Session.{Session}
@@ -10,9 +10,9 @@ use Rattle.script_session.specs.declared.session.Flow.TheVariants.{Open, Ended}
 use Rattle.script_session.specs.declared.session.Stop.{Stop}
 use Rattle.script_session.specs.declared.session.Stop.TheVariants as stop
 use Rattle.script_session.specs.Request.{Command, Request}
-use Rattle.script_session.specs.Script.{Line, HasNoNewline, is_end, line_requests, script_requests, whole_requests, has_ending, allowed_requests, IsWithinLimit, IsOverlong}
+use Rattle.script_session.specs.Script.{Line, HasNoNewline, is_end, line_requests, script_requests, whole_requests, has_ending, IsWithinLimit, IsOverlong}
 use Rattle.script_session.specs.Reply.{wants_memory, is_error}
-use Rattle.script_session.specs.Run.{IsTaken}
+use Rattle.script_session.specs.Run.{IsLastRead, IsAll, IsAnswerable}
 use Rattle.script_session.specs.Stand.{Stand, stand, Transcript}
 
 -- a machine beside its store, what the sink holds, and whether want of memory and a refusal were answered
@@ -105,10 +105,17 @@ ServesRest ends step (Err stop.Memory) old pending new = (first rest : List Requ
 ServesRest ends step (Err stop.Source) old pending new = ⊥
 ServesRest ends step (Err stop.TooLong) old pending new = ⊥
 
--- what the answer to a script says, where left and left' are what the source tells before and after
-abbrev pub ServesScript : {M : Type 0} → (Command → Bool) → (Stand M → Request → List ℕ → Stand M → Type 0) → Result (Unit {0}) Stop → Option (List ℕ) → Option (List ℕ) → Moment M → Moment M → Type 0
-ServesScript ends step (Ok done) left left' old new = IfSome left (λ input. Serves step old (script_requests ends input) new × (allowed_requests ends input ≡ script_requests ends input) × IsWithinLimit ends input)
-ServesScript ends step (Err stop.Source) left left' old new = (taken : List ℕ) × IsTaken ends left left' taken × Serves step old (whole_requests ends taken) new
-ServesScript ends step (Err stop.TooLong) left left' old new = IfSome left (λ input. Serves step old (whole_requests ends (take SCRIPT_LIMIT input)) new × IsOverlong ends input)
-ServesScript ends step (Err stop.Sink) left left' old new = IfSome left (λ input. (first rest : List Request) × (allowed_requests ends input ≡ first ++ rest) × Breaks step old first new)
-ServesScript ends step (Err stop.Memory) left left' old new = IfSome left (λ input. (first rest : List Request) × (allowed_requests ends input ≡ first ++ rest) × Halts step old first new)
+-- what the answer to a script says of the bytes that were taken, where left and left' are what the source tells before and after
+abbrev pub ServesTaken : {M : Type 0} → (Command → Bool) → (Stand M → Request → List ℕ → Stand M → Type 0) → Result (Unit {0}) Stop → Option (List ℕ) → Option (List ℕ) → List ℕ → Moment M → Moment M → Type 0
+ServesTaken ends step (Ok done) left left' taken old new = Serves step old (script_requests ends taken) new × IsAll ends left left' taken × IsWithinLimit ends taken
+ServesTaken ends step (Err stop.Source) left left' taken old new = Serves step old (whole_requests ends taken) new × (length taken ≤ SCRIPT_LIMIT) × (has_ending ends taken ≡ false)
+ServesTaken ends step (Err stop.TooLong) left left' taken old new = Serves step old (whole_requests ends (take SCRIPT_LIMIT taken)) new × IsOverlong ends taken
+ServesTaken ends step (Err stop.Sink) left left' taken old new = (asked first rest : List Request) × IsAnswerable ends left' taken asked × (asked ≡ first ++ rest) × Breaks step old first new
+ServesTaken ends step (Err stop.Memory) left left' taken old new = (asked first rest : List Request) × IsAnswerable ends left' taken asked × (asked ≡ first ++ rest) × Halts step old first new
+
+-- what it says of a script: these bytes were taken
+pub record ServesScript {M : Type 0} (ends : Command → Bool) (step : Stand M → Request → List ℕ → Stand M → Type 0) (result : Result (Unit {0}) Stop) (left left' : Option (List ℕ)) (old new : Moment M) : Type 0 where
+  pub taken : List ℕ
+  pub consumed : Consumes left left' taken
+  pub last : IsLastRead ends taken
+  pub served : ServesTaken ends step result left left' taken old new

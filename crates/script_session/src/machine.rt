@@ -1,5 +1,5 @@
 // What answers commands.
-ghost use Rattle.std.specs.Prelude.{◌≡◌, ◌<◌, ℕ, Bool, List, [], length, map, OnOk, OnErr};
+ghost use Rattle.std.specs.Prelude.{◌≡◌, ◌<◌, ◌≤◌, ℕ, Bool, List, [], length, map, OnOk, OnErr};
 ghost use Rattle.sym_io.specs.Files.{Files};
 ghost use Rattle.script_session.specs.Stand.{Stand, stand};
 
@@ -38,5 +38,6 @@ pub trait Machine {
             (stand self.new (S.files store.new) (S.faults store.new))) }
         ensures unfinished { OnErr result ((bytes : List ℕ) × step (stand self.old (S.files store.old) (S.faults store.old))
             (map (λ word. word.now) words.now) bytes
-            (stand self.new (S.files store.new) (S.faults store.new))) };
+            (stand self.new (S.files store.new) (S.faults store.new))) }
+        ensures store_later { S.faults store.old ≤ S.faults store.new };
 }

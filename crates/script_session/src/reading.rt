@@ -2,7 +2,6 @@
 ghost use Rattle.std.specs.Prelude.{◌≤◌};
 ghost use Rattle.script_session.specs.Output.{SinkCause, SourceCause};
 ghost use Rattle.script_session.specs.Request.{RequestStep};
-ghost use Rattle.script_session.specs.Run.{ReadsNoFurther};
 ghost use Rattle.script_session.specs.Session.{moment_of, ServesScript};
 
 use crate::machine::Machine;
@@ -32,9 +31,9 @@ impl Session {
             (moment_of self.new machine.new (W.written out.new) (S.files store.new) (S.faults store.new)) }
         ensures source_cause { SourceCause result (R.faults script.old) (R.faults script.new) }
         ensures sink_cause { SinkCause result (W.faults out.old) (W.faults out.new) }
-        ensures no_further { ReadsNoFurther M.ends (R.left script.old) (R.left script.new) }
         ensures source_later { R.faults script.old ≤ R.faults script.new }
         ensures sink_later { W.faults out.old ≤ W.faults out.new }
+        ensures store_later { S.faults store.old ≤ S.faults store.new }
     {
         let mut pending = Vec::new(self.alloc());
         let mut piece = [0u8; PIECE_LENGTH];

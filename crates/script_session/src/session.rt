@@ -111,6 +111,7 @@ impl Session {
             (Words (map (λ word. word.now) words.now)) (moment_of self.new machine.new (W.written out.new) (S.files store.new) (S.faults store.new)) }
         ensures cause { SinkCause result (W.faults out.old) (W.faults out.new) }
         ensures later { W.faults out.old ≤ W.faults out.new }
+        ensures store_later { S.faults store.old ≤ S.faults store.new }
     {
         self.reply.clear();
         machine.answer(self.alloc, store, words, &mut self.reply)?;
@@ -131,6 +132,7 @@ impl Session {
             (text_requests text.now) (is_end_text M.ends text.now) (moment_of self.new machine.new (W.written out.new) (S.files store.new) (S.faults store.new)) }
         ensures cause { SinkCause result (W.faults out.old) (W.faults out.new) }
         ensures later { W.faults out.old ≤ W.faults out.new }
+        ensures store_later { S.faults store.old ≤ S.faults store.new }
     {
         if is_comment_line(text) {
             return Ok(Flow::Open);
@@ -161,6 +163,7 @@ impl Session {
             (record { raw = raw.now; text = text.now }) (moment_of self.new machine.new (W.written out.new) (S.files store.new) (S.faults store.new)) }
         ensures cause { SinkCause result (W.faults out.old) (W.faults out.new) }
         ensures later { W.faults out.old ≤ W.faults out.new }
+        ensures store_later { S.faults store.old ≤ S.faults store.new }
     {
         let is_long = raw.len() > LINE_LIMIT;
         if is_long {
@@ -185,6 +188,7 @@ impl Session {
             (pending.old.items ++ piece.now) (moment_of self.new machine.new (W.written out.new) (S.files store.new) (S.faults store.new)) pending.new.items }
         ensures cause { SinkCause result (W.faults out.old) (W.faults out.new) }
         ensures later { W.faults out.old ≤ W.faults out.new }
+        ensures store_later { S.faults store.old ≤ S.faults store.new }
     {
         let mut rest = piece;
         while let Some((line, more)) = cut_line(rest) {
@@ -213,6 +217,7 @@ impl Session {
             pending.now (moment_of self.new machine.new (W.written out.new) (S.files store.new) (S.faults store.new)) }
         ensures cause { SinkCause result (W.faults out.old) (W.faults out.new) }
         ensures later { W.faults out.old ≤ W.faults out.new }
+        ensures store_later { S.faults store.old ≤ S.faults store.new }
     {
         if pending.is_empty() {
             return Ok(());

@@ -8,11 +8,13 @@ use Rattle.lp_model.specs.declared.types.Col.{Col}
 use Rattle.lp_model.specs.declared.types.Row.{Row}
 use Rattle.mps_model.specs.PlainNames.{IsPlainName, HasPlainNames, HasPlainRows}
 use Rattle.tree_edit.specs.Sound.{PlainSearch, IsSound}
-use Rattle.cert_check.specs.Laws.{AcceptedLaw, VerdictLaw}
+use Rattle.cert_check.specs.Laws.{AcceptedLaw, VerdictLaw, IsTrueClaim}
 use Rattle.cert_check.specs.Text.{MeantCertificate}
 use Rattle.cert_check.specs.Verdict.{IsVerdict}
 use Rattle.cert_check.specs.Whole.{IsCertificate}
+use Rattle.cert_check.specs.declared.cert.Claim.{Claim}
 use Rattle.cert_check.specs.declared.cert.Cert.{Cert}
+use Rattle.cert_check.specs.declared.verdict.Verdict.{Verdict}
 use Rattle.cert_check.specs.declared.verdict.Verdict.TheVariants.{Accepted}
 use Rattle.tree_cert.specs.Certificates.{IsCertificateOf}
 use Rattle.tree_cert.specs.CertText.{IsWord, HasWordNames, HasCertWords, cert_text}
@@ -43,7 +45,7 @@ word-names M columns rows = record { columns = column-words M.cols columns; rows
 
 -- what was printed of a search's certificate
 pub certificate-text : {V E : Type 0} (items : V → List ℕ) (S : PlainSearch) (cert : Cert) (r : Result V E) → NamesLaw → VerdictLaw → AcceptedLaw → IsSound S → HasPlainNames S.model → HasPlainRows S.model
-    → IsCertificateOf S cert → IsCertificate cert → IsVerdict S.model cert Accepted
+    → IsCertificateOf S cert → IsCertificate cert → IsVerdict S.model cert (Accepted cert.claim)
     → IfOk r (λ text. items text ≡ cert_text cert) → IfOk r (λ text. IsCertificate cert → HasCertWords cert → MeantCertificate (items text) cert) → IfOk r (λ text. IsCertificateText S (items text))
 certificate-text items S cert (Ok text) names verdict accepted sound plain rows exact whole is told states = record {
   cert = cert;
@@ -51,9 +53,15 @@ certificate-text items S cert (Ok text) names verdict accepted sound plain rows 
   is = told;
   stated = states whole (names S cert sound exact (word-names S.model plain rows));
   accepted = is;
-  true_claim = accepted S.model cert (verdict S.model cert whole is);
+  true_claim = accepted S.model cert (verdict S.model cert cert.claim whole is).1;
 }
 certificate-text items S cert (Err e) names verdict accepted sound plain rows exact whole is told states = tt
+
+-- an accepted claim is true
+pub true_claim : (M : Program) (cert : Cert) (verdict : Verdict) → VerdictLaw → AcceptedLaw → IsCertificate cert → IsVerdict M cert verdict → (claim : Claim) → verdict ≡ Accepted claim → IsTrueClaim M claim
+true_claim M cert verdict judged accepted whole is claim e =
+    let known = judged M cert claim whole (subst (IsVerdict M cert) e is) in
+    subst (IsTrueClaim M) (sym known.0) (accepted M cert known.1)
 
 -- ---- the file
 

@@ -4,7 +4,6 @@ pub mod StepLemmas
 pub mod SearchableLemmas
 pub mod KindLemmas
 pub mod CauseLemmas
-pub mod FormLemmas
 pub mod CertLemmas
 pub mod RunLemmas
 pub mod ShownWords

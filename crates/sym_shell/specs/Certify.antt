@@ -22,7 +22,7 @@ pub record IsCertificateText (S : PlainSearch) (text : List ℕ) : Type 0 where
   pub exact : IsCertificateOf S cert
   pub is : text ≡ cert_text cert
   pub stated : States text cert
-  pub accepted : IsVerdict S.model cert Accepted
+  pub accepted : IsVerdict S.model cert (Accepted cert.claim)
   pub true_claim : IsTrueClaim S.model cert.claim
 
 -- the text of a search's certificate stands in the file, or why it does not, and the reply tells it

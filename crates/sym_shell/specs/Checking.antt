@@ -57,15 +57,15 @@ rejected_text node why = codes "rejected " ++ decimal node ++ codes " " ++ decim
 abbrev pub wide_text : Program → ℕ → WideStep → List ℕ
 wide_text M node step = codes "wide " ++ decimal node ++ codes " " ++ step_text M step ++ codes "\n"
 
-abbrev pub verdict_text : Program → Claim → Verdict → List ℕ
-verdict_text M claim Accepted = claim_text claim
-verdict_text M claim (Rejected node why) = rejected_text node why
-verdict_text M claim (Wide node step) = wide_text M node step
+abbrev pub verdict_text : Program → Verdict → List ℕ
+verdict_text M (Accepted claim) = claim_text claim
+verdict_text M (Rejected node why) = rejected_text node why
+verdict_text M (Wide node step) = wide_text M node step
 
--- the verdict on the certificate is told, or that memory was wanting for it
+-- the verdict on the certificate is told, a true claim where it is accepted, or that memory was wanting for it
 abbrev pub WritesVerdict : Program → Cert → List ℕ → List ℕ → Type 0
 WritesVerdict M cert old new =
-    ((verdict : Verdict) × (IsVerdict M cert verdict × (verdict ≡ Accepted → IsTrueClaim M cert.claim) × (new ≡ old ++ verdict_text M cert.claim verdict)))
+    ((verdict : Verdict) × (IsVerdict M cert verdict × ((claim : Claim) → verdict ≡ Accepted claim → IsTrueClaim M claim) × (new ≡ old ++ verdict_text M verdict)))
     ⊎ (new ≡ old ++ memory_text)
 
 -- ---- all that is printed
@@ -78,8 +78,8 @@ pub record Judges (files : Option Files) (model cert reply : List ℕ) : Type 0 
   pub stated : HasText files cert (λ text. States text certificate)
   pub verdict : Verdict
   pub is : IsVerdict program certificate verdict
-  pub told : reply ≡ verdict_text program certificate.claim verdict
-  pub true_claim : verdict ≡ Accepted → IsTrueClaim program certificate.claim
+  pub told : reply ≡ verdict_text program verdict
+  pub true_claim : (claim : Claim) → verdict ≡ Accepted claim → IsTrueClaim program claim
 
 -- the model's file is refused
 pub record RefusesModel (files : Option Files) (model : List ℕ) (before after : ℕ) (reply : List ℕ) : Type 0 where

@@ -1,33 +1,77 @@
--- The usage line, what the words ask for, and the states in which a run begins and ends.
-use Rattle.std.specs.Prelude.{ℕ, List, codes, Option}
+-- What a run of the program is, by what its words ask for.
+use Rattle.std.specs.Prelude.{◌≡◌, ℕ, List, codes, Option, Some}
+use Rattle.std.specs.Io.KnownBytes.{Appends}
+use Rattle.sym_io.specs.Faults.{Rose}
 use Rattle.sym_io.specs.Files.{Files}
-use Rattle.script_session.specs.Run.{View}
+use Rattle.script_session.specs.Output.{WritesFront}
+use Rattle.script_session.specs.Request.{RequestStep}
+use Rattle.script_session.specs.Run.{Outside, IsRun}
+use Rattle.script_session.specs.Told.{IsRunOf}
 use Rattle.program_words.specs.Forms.{AskedForm, Script, Check}
-use Rattle.sym_shell.specs.Checking.{Checks}
+use Rattle.sym_shell.specs.Causes.{IsAnswered}
+use Rattle.sym_shell.specs.Checking.{Checks, check_status}
+use Rattle.sym_shell.specs.Shell.{quits}
 use Rattle.sym_shell.specs.State.{Present, nothing_present, State, state}
 
 -- the line for words that are refused
 abbrev pub usage : List ℕ
 usage = codes "usage: symphony run | check MODEL CERT | bench SEED ROWS COLS NODES\n"
 
+-- All that a run finds and leaves outside: what its two ends tell before and after it, and so the files, where the store tells
+-- them, and how often the store has failed.
+pub record Around : Type 0 where
+  pub before : Outside
+  pub after : Outside
+  pub files : Option Files
+  pub files' : Option Files
+  pub faults : ℕ
+  pub faults' : ℕ
+
+abbrev pub around : Outside → Outside → Option Files → Option Files → ℕ → ℕ → Around
+around before after files files' faults faults' = record { before = before; after = after; files = files; files' = files'; faults = faults; faults' = faults' }
+
+-- ---- a script
+
 -- at the start no model is present
-abbrev pub start : Option Files → ℕ → Option (List ℕ) → View State
-start files faults written = record { state = state nothing_present files faults; written = written }
+abbrev pub start : Around → State
+start around = state nothing_present around.files around.faults
 
--- what a run leaves: what the shell holds, beside what the store and the sink tell
-abbrev pub end_with : Present → Option Files → ℕ → Option (List ℕ) → View State
-end_with present files faults written = record { state = state present files faults; written = written }
+-- what a run leaves: what the shell holds, beside what the store tells
+abbrev pub end_with : Present → Around → State
+end_with present around = state present around.files' around.faults'
 
--- P, where a script's commands are to be answered
-abbrev pub WhereScript : AskedForm → Type 0 → Type 0
-WhereScript Script P = P
-WhereScript (Check model cert) P = Unit {0}
+-- ---- a form that prints one text
 
--- P of the two files, where a certificate is to be checked
-abbrev pub WhereCheck : AskedForm → (List ℕ → List ℕ → Type 0) → Type 0
-WhereCheck Script P = Unit {0}
-WhereCheck (Check model cert) P = P model cert
+-- A text with P was printed whole, and gives the status; or a front of it, where the sink failed; or nothing, where there was no
+-- memory for it. The sink's count of faults goes from before to after.
+pub data Prints (P : List ℕ → Type 0) (status_of : List ℕ → ℕ) (written written' : Option (List ℕ)) (before after : ℕ) (status : ℕ) : Type 0 where
+  Whole : (text : List ℕ) → P text → Appends written written' text → status ≡ status_of text → Prints P status_of written written' before after status
+  CutOff : (text : List ℕ) → P text → WritesFront written written' text → Rose before after → status ≡ 4 → Prints P status_of written written' before after status
+  MemoryWanted : written' ≡ written → status ≡ 5 → Prints P status_of written written' before after status
 
--- P of what a check of the two files prints, the count of the store's faults going from before to after
-abbrev pub Prints : Option Files → List ℕ → List ℕ → ℕ → ℕ → (List ℕ → Type 0) → Type 0
-Prints files model cert before after P = (reply : List ℕ) × (Checks files model cert before after reply × P reply)
+-- a text with P was printed; nothing was read from the source, and the files stay
+pub record IsPrinted (P : List ℕ → Type 0) (status_of : List ℕ → ℕ) (around : Around) (status : ℕ) : Type 0 where
+  pub printed : Prints P status_of around.before.written around.after.written around.before.sink_faults around.after.sink_faults status
+  pub left : around.after.left ≡ around.before.left
+  pub source_faults : around.after.source_faults ≡ around.before.source_faults
+  pub files : around.files' ≡ around.files
+
+-- ---- by what is asked for
+
+-- the script is run from the start, each of its commands answered with its causes; or the verdict on a certificate is printed
+abbrev pub RunsAs : AskedForm → Around → ℕ → Type 0
+RunsAs Script around status = (present : Present) × IsRun (RequestStep IsAnswered) quits (start around) around.before (end_with present around) around.after status
+RunsAs (Check model cert) around status = IsPrinted (Checks around.files model cert around.faults around.faults') check_status around status
+
+-- nothing was read, written or kept
+pub record Untouched (around : Around) : Type 0 where
+  pub ends : around.after ≡ around.before
+  pub files : around.files' ≡ around.files
+  pub faults : around.faults' ≡ around.faults
+
+-- ---- where the source tells its bytes
+
+-- a run of a source that tells its bytes is a run of those
+abbrev pub ToldLaw : Type 0
+ToldLaw = (input : List ℕ) (old : State) (before : Outside) (new : State) (after : Outside) (status : ℕ)
+    → before.left ≡ Some input → IsRun (RequestStep IsAnswered) quits old before new after status → IsRunOf (RequestStep IsAnswered) quits input old before new after status

@@ -125,22 +125,18 @@ fn write_wide(
     Ok(())
 }
 
-fn write_verdict(
-    reply: &mut Vec<u8>,
-    model: &Model,
-    claim: &Claim,
-    verdict: &Verdict,
-) -> Result<(), AllocError>
-    ensures { IfOk result (λ _. reply.new.items ≡ reply.old.items ++ verdict_text model.now claim.now verdict.now) }
+fn write_verdict(reply: &mut Vec<u8>, model: &Model, verdict: &Verdict) -> Result<(), AllocError>
+    ensures { IfOk result (λ _. reply.new.items ≡ reply.old.items ++ verdict_text model.now verdict.now) }
 {
     match verdict {
-        Verdict::Accepted => write_accepted(reply, claim),
+        Verdict::Accepted(claim) => write_accepted(reply, claim),
         Verdict::Rejected { node, why } => write_rejected(reply, *node, *why),
         Verdict::Wide { node, step } => write_wide(reply, model, *node, step),
     }
 }
 
 /// The verdict on a certificate, or `error 90` for want of memory.
+#[tactic(auto, using(crate::proofs::CertLemmas::true_claim))]
 fn write_judged(
     alloc: Global,
     reply: &mut Vec<u8>,
@@ -153,7 +149,7 @@ fn write_judged(
     verdict_law();
     accepted_law();
     match judged(alloc, model, cert) {
-        Ok(verdict) => write_verdict(reply, model, &cert.claim, &verdict),
+        Ok(verdict) => write_verdict(reply, model, &verdict),
         Err(AllocError) => reply.extend_from_slice(b"error 90 memory\n"),
     }
 }
@@ -171,6 +167,7 @@ fn check_files<S: Store>(
     requires empty { reply.old.items ≡ [] }
     ensures answer { IfOk result (λ _. ChecksFiles (S.files store.old) model.now cert.now (S.faults store.old) (S.faults store.new) reply.new.items) }
     ensures kept { S.files store.new ≡ S.files store.old }
+    ensures later { S.faults store.old ≤ S.faults store.new }
 {
     let program = match read_model(alloc, store, model.as_bytes(), None) {
         Ok(program) => program,
@@ -193,6 +190,7 @@ pub fn check_text<S: Store>(
 ) -> Result<Vec<u8>, AllocError>
     ensures answer { IfOk result (λ reply. Checks (S.files store.old) model.now cert.now (S.faults store.old) (S.faults store.new) reply.items) }
     ensures kept { S.files store.new ≡ S.files store.old }
+    ensures later { S.faults store.old ≤ S.faults store.new }
 {
     let mut reply = Vec::new(alloc);
     if is_file_name_word(model.as_bytes()) && is_file_name_word(cert.as_bytes()) {

@@ -17,6 +17,7 @@
 
 mod certifying;
 mod checking;
+mod laws;
 mod loaded;
 mod program;
 mod reading;
@@ -26,6 +27,7 @@ mod stops;
 mod texts;
 
 pub use checking::check_text;
+pub use laws::told_law;
 pub use program::run;
 pub use reading::Refusal;
 pub use shell::Shell;

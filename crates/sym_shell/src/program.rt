@@ -1,25 +1,19 @@
 // The top call.
-ghost use Rattle.std.specs.Prelude.{◌≡◌, ◌≢◌, ◌<◌, ◌≤◌, ◌⊎◌, List, ℕ, take, IfSome};
-ghost use Rattle.std.specs.Io.KnownBytes.{Appends, Consumes};
+ghost use Rattle.std.specs.Prelude.{◌≡◌, ◌≢◌, ◌<◌, ◌≤◌, ◌⊎◌, List, ℕ};
+ghost use Rattle.std.specs.Io.KnownBytes.{Appends};
 ghost use Rattle.sym_io.specs.Faults.{Rose};
 ghost use Rattle.script_session.specs.Output.{WritesFront};
-ghost use Rattle.script_session.specs.Reply.{status_of, wants_memory};
-ghost use Rattle.script_session.specs.Request.{RequestStep};
-ghost use Rattle.script_session.specs.Script.{script_requests, whole_requests, allowed_requests, IsWithinLimit, IsOverlong};
-ghost use Rattle.script_session.specs.Run.{Answers, IsCutOff, IsCutShort, IsTaken, ReadsNoFurther};
-ghost use Rattle.sym_shell.specs.State.{Present};
-ghost use Rattle.sym_shell.specs.Shell.{quits};
-ghost use Rattle.sym_shell.specs.Causes.{IsAnswered};
-ghost use Rattle.program_words.specs.Forms.{TakesWords, asked_form};
-ghost use Rattle.program_words.specs.Laws.{IsRunForm};
-ghost use Rattle.sym_shell.specs.Checking.{is_accepted, check_status};
-ghost use Rattle.sym_shell.specs.Texts.{memory_text};
-ghost use Rattle.sym_shell.specs.Run.{WhereScript, WhereCheck, Prints, usage, start, end_with};
+ghost use Rattle.script_session.specs.Reply.{wants_memory};
+ghost use Rattle.script_session.specs.Run.{outside};
+ghost use Rattle.program_words.specs.Forms.{Script, TakesWords, asked_form};
+ghost use Rattle.program_words.specs.Laws.{IsRunForm, AsksScript, IsCheckForm, AsksCheck};
+ghost use Rattle.sym_shell.specs.Checking.{Checks, is_accepted, check_status};
+ghost use Rattle.sym_shell.specs.Run.{around, RunsAs, Prints, Untouched, usage};
 
 use crate::checking::check_text;
 use crate::shell::Shell;
 use program_words::{Form, WordsFault, form_of};
-use script_session::{SCRIPT_LIMIT, run_script, write_all};
+use script_session::{run_script, write_all};
 use std::alloc::Global;
 use sym_io::{Sink, Source, Store};
 
@@ -38,25 +32,14 @@ fn run_commands<R: Source, W: Sink, S: Store>(
     out: &mut W,
     store: &mut S,
 ) -> u8
-    ensures known { (result < 2) ⊎ ((2 < result) × (result < 7)) }
-    ensures transcript { result < 2 → IfSome (R.left script.old) (λ input. (present : Present) × (replies : List (List ℕ))
-        × Answers (RequestStep IsAnswered) (script_requests quits input) (start (S.files store.old) (S.faults store.old) (W.written out.old)) (end_with present (S.files store.new) (S.faults store.new) (W.written out.new)) replies
-        × (result ≡ status_of replies)) }
-    ensures within { result < 2 → IfSome (R.left script.old) (IsWithinLimit quits) }
-    ensures source_failed { result ≡ 3 → Rose (R.faults script.old) (R.faults script.new) }
-    ensures until_source_failed { result ≡ 3 → (present : Present) × (taken : List ℕ) × IsTaken quits (R.left script.old) (R.left script.new) taken × (replies : List (List ℕ))
-        × Answers (RequestStep IsAnswered) (whole_requests quits taken) (start (S.files store.old) (S.faults store.old) (W.written out.old)) (end_with present (S.files store.new) (S.faults store.new) (W.written out.new)) replies }
-    ensures sink_failed { result ≡ 4 → Rose (W.faults out.old) (W.faults out.new) }
-    ensures until_sink_failed { result ≡ 4 → IfSome (R.left script.old) (λ input. (present : Present)
-        × IsCutOff (RequestStep IsAnswered) (allowed_requests quits input) (start (S.files store.old) (S.faults store.old) (W.written out.old)) (end_with present (S.files store.new) (S.faults store.new) (W.written out.new))) }
-    ensures until_memory_wanted { result ≡ 5 → IfSome (R.left script.old) (λ input. (present : Present)
-        × IsCutShort (RequestStep IsAnswered) (allowed_requests quits input) (start (S.files store.old) (S.faults store.old) (W.written out.old)) (end_with present (S.files store.new) (S.faults store.new) (W.written out.new))) }
-    ensures too_long { result ≡ 6 → IfSome (R.left script.old) (IsOverlong quits) }
-    ensures until_too_long { result ≡ 6 → IfSome (R.left script.old) (λ input. (present : Present) × (replies : List (List ℕ))
-        × Answers (RequestStep IsAnswered) (whole_requests quits (take SCRIPT_LIMIT input)) (start (S.files store.old) (S.faults store.old) (W.written out.old)) (end_with present (S.files store.new) (S.faults store.new) (W.written out.new)) replies) }
-    ensures no_further { ReadsNoFurther quits (R.left script.old) (R.left script.new) }
+    ensures known { (result ≢ 2) × (result < 7) }
+    ensures ran { RunsAs Script (around
+        (outside (R.left script.old) (R.faults script.old) (W.written out.old) (W.faults out.old))
+        (outside (R.left script.new) (R.faults script.new) (W.written out.new) (W.faults out.new))
+        (S.files store.old) (S.files store.new) (S.faults store.old) (S.faults store.new)) result }
     ensures source_later { R.faults script.old ≤ R.faults script.new }
     ensures sink_later { W.faults out.old ≤ W.faults out.new }
+    ensures store_later { S.faults store.old ≤ S.faults store.new }
 {
     let mut shell = Shell::new();
     run_script(alloc, &mut shell, script, out, store)
@@ -97,12 +80,11 @@ fn run_check<W: Sink, S: Store>(
     store: &mut S,
 ) -> u8
     ensures known { (result < 2) ⊎ ((result ≡ 4) ⊎ (result ≡ 5)) }
-    ensures printed { result < 2 → Prints (S.files store.old) model.now cert.now (S.faults store.old) (S.faults store.new) (λ reply. Appends (W.written out.old) (W.written out.new) reply × (result ≡ check_status reply)) }
-    ensures sink_failed { result ≡ 4 → Rose (W.faults out.old) (W.faults out.new) }
-    ensures cut_off { result ≡ 4 → Prints (S.files store.old) model.now cert.now (S.faults store.old) (S.faults store.new) (WritesFront (W.written out.old) (W.written out.new)) }
-    ensures wanting { result ≡ 5 → (W.written out.new ≡ W.written out.old) ⊎ Appends (W.written out.old) (W.written out.new) memory_text }
+    ensures printed { Prints (Checks (S.files store.old) model.now cert.now (S.faults store.old) (S.faults store.new)) check_status
+        (W.written out.old) (W.written out.new) (W.faults out.old) (W.faults out.new) result }
     ensures files { S.files store.new ≡ S.files store.old }
     ensures sink_later { W.faults out.old ≤ W.faults out.new }
+    ensures store_later { S.faults store.old ≤ S.faults store.new }
 {
     let Ok(reply) = check_text(alloc, model, cert, store) else {
         return STATUS_MEMORY;
@@ -110,6 +92,19 @@ fn run_check<W: Sink, S: Store>(
     match write_all(out, &reply) {
         Ok(()) => status_of_check(&reply),
         Err(_) => STATUS_SINK,
+    }
+}
+
+/// Writes the usage line, as far as the sink takes it, and answers the status. A sink that fails does not change it: what
+/// was asked is wrong in any case.
+fn write_usage<W: Sink>(out: &mut W) -> u8
+    ensures status { result ≡ 2 }
+    ensures line { Appends (W.written out.old) (W.written out.new) usage ⊎ (Rose (W.faults out.old) (W.faults out.new) × WritesFront (W.written out.old) (W.written out.new) usage) }
+    ensures sink_later { W.faults out.old ≤ W.faults out.new }
+{
+    match write_all(out, USAGE) {
+        Ok(()) => STATUS_USAGE,
+        Err(_) => STATUS_USAGE,
     }
 }
 
@@ -127,60 +122,37 @@ pub fn run<R: Source, W: Sink, S: Store>(
 ) -> u8
     ensures known { result < 7 }
 
-    // Words that are refused: the usage line, as far as the sink takes it, or nothing at all for want of memory.
+    // Words that are refused: the whole usage line, or as much of it as a sink takes that fails; or nothing at all for want of
+    // memory.
     ensures usage { result ≡ 2 → ¬ (TakesWords words.now) }
     ensures usage_only { ¬ (TakesWords words.now) → (result ≡ 2) ⊎ (result ≡ 5) }
-    ensures usage_line { result ≡ 2 → WritesFront (W.written out.old) (W.written out.new) usage }
+    ensures usage_line { result ≡ 2 → Appends (W.written out.old) (W.written out.new) usage ⊎ (Rose (W.faults out.old) (W.faults out.new) × WritesFront (W.written out.old) (W.written out.new) usage) }
     ensures unwritten { ¬ (TakesWords words.now) → result ≡ 5 → W.written out.new ≡ W.written out.old }
     ensures untouched { ¬ (TakesWords words.now) → (R.left script.new ≡ R.left script.old) × (S.files store.new ≡ S.files store.old) }
 
-    // The program's name and `run` are never refused.
-    ensures run_form { IsRunForm words.now → result ≢ 2 }
+    // Which words ask for which form for sure: `run` alone, and `check` with two words that begin with another byte than `-`.
+    ensures run_form { IsRunForm words.now → AsksScript words.now × (result ≢ 2) }
+    ensures check_form { (model cert : List ℕ) → IsCheckForm words.now model cert → AsksCheck words.now model cert × (result ≢ 2) }
 
-    // The word `check`: two files are read, and the verdict on them is printed.
-    ensures checked { WhereCheck (asked_form words.now) (λ model cert. result < 2 → Prints (S.files store.old) model cert (S.faults store.old) (S.faults store.new) (λ reply. Appends (W.written out.old) (W.written out.new) reply × (result ≡ check_status reply))) }
-    ensures until_check_sink_failed { WhereCheck (asked_form words.now) (λ model cert. result ≡ 4 → Prints (S.files store.old) model cert (S.faults store.old) (S.faults store.new) (WritesFront (W.written out.old) (W.written out.new))) }
-    ensures until_check_memory_wanted { WhereCheck (asked_form words.now) (λ model cert. result ≡ 5 → (W.written out.new ≡ W.written out.old) ⊎ Appends (W.written out.old) (W.written out.new) memory_text) }
-    ensures check_known { WhereCheck (asked_form words.now) (λ model cert. (result < 2) ⊎ ((result ≡ 2) ⊎ ((result ≡ 4) ⊎ (result ≡ 5)))) }
-    ensures check_reads_files { WhereCheck (asked_form words.now) (λ model cert. (R.left script.new ≡ R.left script.old) × (S.files store.new ≡ S.files store.old)) }
+    // Words that are taken: what they ask for is done, or nothing at all for want of memory to read them.
+    ensures ran { TakesWords words.now → RunsAs (asked_form words.now) (around
+        (outside (R.left script.old) (R.faults script.old) (W.written out.old) (W.faults out.old))
+        (outside (R.left script.new) (R.faults script.new) (W.written out.new) (W.faults out.new))
+        (S.files store.old) (S.files store.new) (S.faults store.old) (S.faults store.new)) result
+        ⊎ ((result ≡ 5) × Untouched (around
+            (outside (R.left script.old) (R.faults script.old) (W.written out.old) (W.faults out.old))
+            (outside (R.left script.new) (R.faults script.new) (W.written out.new) (W.faults out.new))
+            (S.files store.old) (S.files store.new) (S.faults store.old) (S.faults store.new))) }
 
-    // The script came to its end: the replies are those to all that its lines ask.
-    ensures transcript { WhereScript (asked_form words.now) (result < 2 → IfSome (R.left script.old) (λ input. (present : Present) × (replies : List (List ℕ))
-        × Answers (RequestStep IsAnswered) (script_requests quits input) (start (S.files store.old) (S.faults store.old) (W.written out.old)) (end_with present (S.files store.new) (S.faults store.new) (W.written out.new)) replies
-        × (result ≡ status_of replies))) }
-    ensures within { WhereScript (asked_form words.now) (result < 2 → IfSome (R.left script.old) (IsWithinLimit quits)) }
-
-    // The source failed: the replies are those to the whole lines of what was taken.
-    ensures source_failed { WhereScript (asked_form words.now) (result ≡ 3 → Rose (R.faults script.old) (R.faults script.new)) }
-    ensures until_source_failed { WhereScript (asked_form words.now) (result ≡ 3 → (present : Present) × (taken : List ℕ) × IsTaken quits (R.left script.old) (R.left script.new) taken × (replies : List (List ℕ))
-        × Answers (RequestStep IsAnswered) (whole_requests quits taken) (start (S.files store.old) (S.faults store.old) (W.written out.old)) (end_with present (S.files store.new) (S.faults store.new) (W.written out.new)) replies) }
-
-    // The sink failed: what is written is a front of the replies to first requests.
-    ensures sink_failed { result ≡ 4 → Rose (W.faults out.old) (W.faults out.new) }
-    ensures until_sink_failed { WhereScript (asked_form words.now) (result ≡ 4 → IfSome (R.left script.old) (λ input. (present : Present)
-        × IsCutOff (RequestStep IsAnswered) (allowed_requests quits input) (start (S.files store.old) (S.faults store.old) (W.written out.old)) (end_with present (S.files store.new) (S.faults store.new) (W.written out.new)))) }
-
-    // Memory was wanting: first requests were answered, and all but at most the last of their replies are written.
-    ensures until_memory_wanted { WhereScript (asked_form words.now) (result ≡ 5 → IfSome (R.left script.old) (λ input. (present : Present)
-        × IsCutShort (RequestStep IsAnswered) (allowed_requests quits input) (start (S.files store.old) (S.faults store.old) (W.written out.old)) (end_with present (S.files store.new) (S.faults store.new) (W.written out.new)))) }
-
-    // A byte too many came: the replies are those to the whole lines among the bytes that are allowed.
-    ensures too_long { WhereScript (asked_form words.now) (result ≡ 6 → IfSome (R.left script.old) (IsOverlong quits)) }
-    ensures until_too_long { WhereScript (asked_form words.now) (result ≡ 6 → IfSome (R.left script.old) (λ input. (present : Present) × (replies : List (List ℕ))
-        × Answers (RequestStep IsAnswered) (whole_requests quits (take SCRIPT_LIMIT input)) (start (S.files store.old) (S.faults store.old) (W.written out.old)) (end_with present (S.files store.new) (S.faults store.new) (W.written out.new)) replies)) }
-
-    // Nothing is read after the read that brought a byte too many, and no count of faults falls.
-    ensures no_further { ReadsNoFurther quits (R.left script.old) (R.left script.new) }
+    // No count of faults falls.
     ensures source_later { R.faults script.old ≤ R.faults script.new }
     ensures sink_later { W.faults out.old ≤ W.faults out.new }
+    ensures store_later { S.faults store.old ≤ S.faults store.new }
 {
     match form_of(alloc, words) {
         Ok(Form::Run) => run_commands(alloc, script, out, store),
         Ok(Form::Check { model, cert }) => run_check(alloc, model, cert, out, store),
-        Err(WordsFault::Refused) => {
-            let _ = write_all(out, USAGE);
-            STATUS_USAGE
-        }
+        Err(WordsFault::Refused) => write_usage(out),
         Err(WordsFault::Memory) => STATUS_MEMORY,
     }
 }

@@ -71,6 +71,7 @@ impl Shell {
             (state (present self.new) (S.files store.new) (S.faults store.new))) }
         ensures unfinished { OnErr result (LoadStep (state (present self.old) (S.files store.old) (S.faults store.old)) name.now intupper memory_text
             (state (present self.new) (S.files store.new) (S.faults store.new))) }
+        ensures store_later { S.faults store.old ≤ S.faults store.new }
     {
         match read_model(alloc, store, name, intupper) {
             Ok(model) => self.keep(alloc, model, reply),
@@ -105,6 +106,7 @@ impl Shell {
             (state (present self.now) (S.files store.new) (S.faults store.new))) }
         ensures unfinished { OnErr result (CertStep (state (present self.now) (S.files store.old) (S.faults store.old)) name.now memory_text
             (state (present self.now) (S.files store.new) (S.faults store.new))) }
+        ensures store_later { S.faults store.old ≤ S.faults store.new }
     {
         let Some(loaded) = &self.loaded else {
             return reply.extend_from_slice(b"error 04 no model\n");
@@ -129,6 +131,7 @@ impl Shell {
             (state (present self.new) (S.files store.new) (S.faults store.new))) }
         ensures unfinished { OnErr result ((bytes : List ℕ) × AnswersTo (asks_shown asked.entry) (state (present self.old) (S.files store.old) (S.faults store.old)) bytes
             (state (present self.new) (S.files store.new) (S.faults store.new))) }
+        ensures store_later { S.faults store.old ≤ S.faults store.new }
     {
         match asked {
             Asked::Load { file, intupper } => self.load(alloc, store, file, intupper, reply),

@@ -6,7 +6,7 @@ use Rattle.std.proofs.lemmas.List.Elements.{All-append}
 use Rattle.std.proofs.lemmas.List.Elements.{All-get_or}
 use Rattle.rational.specs.Rational.{ℚ, neg_ℚ}
 use Rattle.lp_model.specs.Program.{Program, Point, value, least_value, in_least_form, is_integer}
-use Rattle.lp_model.specs.Lawful.{SplitsLawfully as IsLawfulModel, column_names}
+use Rattle.lp_model.specs.Lawful.{IsLawful as IsLawfulModel, column_names}
 use Rattle.rational.proofs.RationalRing.{ring, reads_ℚ}
 use Rattle.lp_model.specs.declared.types.Sense.{Sense}
 use Rattle.lp_model.specs.declared.types.Sense.TheVariants.{Min, Max}
@@ -174,11 +174,12 @@ module _ (S : PlainSearch) (cert : Cert) (sound : IsSound S) (of : IsCertificate
     point = subst (λ T. T) (λ i. HasNoPoint (sym of.claim i) (sym of.point i)) (none-claimed S.model of.incumbent);
   }
 
-  pub is_accepted : IsLawfulModel S.model → HasNoOpenLeaf S → IsVerdict S.model cert Accepted
+  pub is_accepted : IsLawfulModel S.model → HasNoOpenLeaf S → IsVerdict S.model cert (Accepted cert.claim)
   is_accepted lawful closed = record {
     tree = of.tree;
     nodes = of.nodes;
     is = (
+      refl,
       subst (λ T. T) (λ i. IsClaimJudged S.model (sym of.claim i) (sym of.point i) Passes) (claim-passes S of.incumbent sound lawful of.best),
       tree-passes S.model lawful (target S.model S.points) cert.claim (subst (IsClaimFor S.model (target S.model S.points)) (sym of.claim) (claim_for S of.incumbent of.best)) [] S.tree.root of.tree sound.tree.lawful sound.tree.lists sound.judged closed of.like,
     );

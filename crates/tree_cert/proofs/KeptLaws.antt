@@ -115,6 +115,7 @@ behind-more (Infeasible ∷ claims) points claim h = h
 keeps_more : (s : StatedCertificate) (said : Result Statement ℕ) → KeepsIn s → Good said → code_in s said ≡ None → KeepsIn (after s said)
 keeps_more s (Err code) k good clean = absurd (err_code (s.count == 0) s.ended code clean)
 keeps_more s (Ok says.Header) k good clean = unchanged s k
+keeps_more s (Ok (says.Ray named)) k good clean = unchanged s k
 keeps_more s (Ok says.Foreign) k good clean = unchanged s k
 keeps_more s (Ok (says.Claims claim)) k good clean =
     subst (λ T. T) (λ i. Keeps (s.claims ++ claim ∷ []) (sym (nil_right s.points) i) (sym (nil_right s.nodes) i) (sym (same_ended s.ended) i)) (record {

@@ -18,7 +18,7 @@ use Rattle.cert_check.specs.declared.line.LineWord.{LineWord}
 use Rattle.cert_check.specs.declared.line.LineWord.TheVariants as word
 use Rattle.cert_check.specs.declared.line.Statement.{Statement}
 use Rattle.cert_check.specs.declared.line.Statement.TheVariants as says
-use Rattle.cert_check.specs.Lines.{is_newline, is_blank, is_nothing, is_piece, without_last, lines_of, words_of, begins_blank, ends_blank, number_of, with_named, beside, named_in, rows_in, cert_says, claimed, claim_says, as_point, is_whole, split_at, split_says, as_leaf, empty_says, leaf_says, end_says, word_of, word_says, known_says, words_say, line_says}
+use Rattle.cert_check.specs.Lines.{is_newline, is_blank, is_nothing, is_piece, without_last, lines_of, words_of, begins_blank, ends_blank, number_of, with_named, beside, named_in, rows_in, cert_says, claimed, claim_says, as_point, as_ray, is_whole, split_at, split_says, as_leaf, empty_says, leaf_says, end_says, word_of, word_says, known_says, words_say, line_says}
 use Rattle.cert_check.specs.Whole.{IsNarrowNode}
 use Rattle.tree_cert.specs.CertText.{IsWord, HasWords, HasNodeWords}
 use Rattle.tree_cert.specs.Printed.{HasFractions, HasClaimRoom, HasNodeRoom}
@@ -40,6 +40,7 @@ GoodStatement (says.Claims claim) = HasClaimRoom claim
 GoodStatement (says.Point named) = GoodNamed named
 GoodStatement (says.Node n) = GoodNode n
 GoodStatement says.End = Unit {0}
+GoodStatement (says.Ray named) = Unit {0}
 GoodStatement says.Foreign = Unit {0}
 
 abbrev pub Good : Result Statement ℕ → Type 0
@@ -168,6 +169,10 @@ end-good : (words : List (List ℕ)) → Good (end_says words)
 end-good [] = tt
 end-good (a ∷ more) = tt
 
+ray-good : (r : Result Named ℕ) → Good (as_ray r)
+ray-good (Ok named) = tt
+ray-good (Err code) = tt
+
 word-good : (known : LineWord) (words : List (List ℕ)) → All IsWord words → Good (word_says known words)
 word-good word.Cert words all = cert-good words
 word-good word.Claim words all = claim-good words
@@ -175,6 +180,7 @@ word-good word.Point words all = point-good (named_in words) (named-good words a
 word-good word.Split words all = split_says-good words all
 word-good word.Leaf words all = leaf-good words all
 word-good word.End words all = end-good words
+word-good word.Ray words all = ray-good (named_in words)
 word-good word.Foreign words all = tt
 
 known-good : (known : Option LineWord) (blank : Bool) (words : List (List ℕ)) → All IsWord words → Good (known_says known blank words)

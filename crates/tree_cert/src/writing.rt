@@ -63,7 +63,7 @@ pub fn certificate(alloc: Global, search: &Search) -> Result<Cert, AllocError>
     requires finished { HasNoOpenLeaf search.now }
     ensures exact { IfOk result (λ cert. IsCertificateOf search.now cert) }
     ensures certificate { IfOk result IsCertificate }
-    ensures accepted { IfOk result (λ cert. IsVerdict search.now.model cert Accepted) }
+    ensures accepted { IfOk result (λ cert. IsVerdict search.now.model cert (Accepted cert.claim)) }
 {
     let _sound = search.points();
     let _lawful = search.model().rows();

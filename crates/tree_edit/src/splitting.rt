@@ -7,7 +7,7 @@ ghost use Rattle.branch_tree.specs.Changes.{HasLeaf, HasRoom};
 ghost use Rattle.tree_edit.specs.Queued.{IsRank};
 ghost use Rattle.tree_edit.specs.Placing.{IsAt, IsChild, IsSplitSound, TakesSplit, tree_with_split};
 
-use crate::checks::is_split_allowed;
+use crate::checks::{at_least, is_split_allowed};
 use crate::choosing::{Candidate, as_candidate, rank};
 use crate::judging::{number_of, state_by};
 use crate::lists::{are_multipliers, is_basis};
@@ -163,7 +163,7 @@ impl Search {
             return Ok(Taken::Refused);
         }
         let up_to = BoundChange::at_most(split.col, split.v);
-        let above = BoundChange::at_least(split.col, split.v + 1);
+        let above = at_least(split.col, split.v);
         let left = self.child(region, up_to, &split.mult, &split.basis)?;
         let right = self.child(region, above, &split.mult, &split.basis)?;
         self.split_leaf(id, region, split, left, right)

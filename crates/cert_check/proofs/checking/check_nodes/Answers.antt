@@ -1,4 +1,4 @@
-use Rattle.std.proofs.Common.{◌∙◌, ◌+◌, sym, subst, arith}
+use Rattle.std.proofs.Common.{◌∙◌, ◌+◌, refl, sym, subst, arith}
 use Rattle.cert_check.specs.declared.verdict.Judgement.TheVariants.{Passes, Breaks, NoRoom}
 use Rattle.lp_model.specs.Regions.{AreNarrow}
 use Rattle.cert_check.specs.Walk.{IsPlacedJudged}
@@ -72,5 +72,7 @@ loop-index-preserved c = record {
 }
 
 pub returns-clause-verdict : goal.returns-clause-verdict
-returns-clause-verdict c = λ tree walked.
-    goes_all c.args.model.now c.args.claim.now tree c.args.nodes.now c.loop-index.index (path_of_trail c.loop-index.trail) walked (omega (arith, c.loop-index-test.false)) (c.loop-index.invariant.goes tree walked)
+returns-clause-verdict c = λ tree walked. (
+  refl,
+  goes_all c.args.model.now c.args.claim.now tree c.args.nodes.now c.loop-index.index (path_of_trail c.loop-index.trail) walked (omega (arith, c.loop-index-test.false)) (c.loop-index.invariant.goes tree walked),
+)

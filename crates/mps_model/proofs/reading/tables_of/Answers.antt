@@ -15,7 +15,7 @@ pub returns-in-Err : goal.returns-in-Err
 returns-in-Err c =
     let more = items_left c.next.new.self in
     let shown : items_left c.loop-item.lines ≡ Err (flaw_of c.in-Err.fault) ∷ more = c.in-Some.ensures.shown ∙ ap (λ i. item_of i ∷ more) c.in-Err.is in
-    rw c.code_of-code.ensures (OnLine (bad_line c.args.text.now (items_left c.loop-item.lines) more (held c.loop-item.tables) (flaw_of c.in-Err.fault) c.loop-item.invariant.behind shown))
+    OnLine (bad_line c.args.text.now (items_left c.loop-item.lines) more (held c.loop-item.tables) (flaw_of c.in-Err.fault) c.loop-item.invariant.behind shown)
 
 pub returns-in_err-read_line-in-Ok : goal.returns-in_err-read_line-in-Ok
 returns-in_err-read_line-in-Ok c =
@@ -44,5 +44,5 @@ loop-item-preserved c =
 pub returns : goal.returns
 returns c =
     let none = c.in_default.ensures.shown in
-    let line : c.next_number-line.result ≡ suc (length (lines_of c.args.text.now)) = omega (arith, c.next_number-line.ensures c.in_default.ensures.over, c.in_default.ensures.behind, c.loop-item.invariant.last) in
+    let line : c.next_number-line.result ≡ suc (length (lines_of c.args.text.now)) = omega (arith, c.next_number-line.ensures, ap length c.in_default.ensures.over, c.in_default.ensures.behind, c.loop-item.invariant.last) in
     NoEnd (no_line c.args.text.now (items_left c.loop-item.lines) (held c.loop-item.tables) c.loop-item.invariant.behind none.0) (ap (λ n. the_flaw n) line)

@@ -1,26 +1,50 @@
-use Rattle.std.proofs.Common.{ap}
+use Rattle.std.proofs.Common.{refl, sym, ◌∙◌, ap, subst, inl, arith}
 use Rattle.std.specs.Prelude.{Err}
-use Rattle.script_session.specs.Script.{allowed_requests}
-use Rattle.script_session.proofs.ReadLemmas.{ReadsNoFurther-none}
-use Rattle.sym_shell.specs.Shell.{quits}
-use Rattle.program_words.proofs.FormLemmas.{run_law}
-use Rattle.program_words.specs.Forms.{asked_form}
-use Rattle.sym_shell.proofs.FormLemmas.{where_script}
-use Rattle.sym_shell.proofs.RunLemmas.{nothing_answered}
+use Rattle.script_session.specs.Run.{outside}
+use Rattle.program_words.specs.Forms.{AskedForm, form_shown}
+use Rattle.sym_shell.specs.Run.{around, RunsAs}
+use Rattle.sym_shell.proofs.RunLemmas.{run_form, check_form, not_usage}
 use Rattle.sym_shell.proofs.program.run.Goals as goal
 
+pub returns-in-Ok-Run-clause-run_form : goal.returns-in-Ok-Run-clause-run_form
+returns-in-Ok-Run-clause-run_form g c = run_form c.args.words.now c.run_commands.result (λ _. c.run_commands.ensures.known.0)
+
+pub returns-in-Ok-Run-clause-check_form : goal.returns-in-Ok-Run-clause-check_form
+returns-in-Ok-Run-clause-check_form g c = check_form c.args.words.now c.run_commands.result (λ _. c.run_commands.ensures.known.0)
+
+pub returns-in-Ok-Run-clause-ran : goal.returns-in-Ok-Run-clause-ran
+returns-in-Ok-Run-clause-ran g c = λ _.
+    let left = g.R.Source.left in
+    let written = g.W.Sink.written in
+    let before = outside (left c.args.script.now) (g.R.Source.faults c.args.script.now) (written c.args.out.now) (g.W.Sink.faults c.args.out.now) in
+    let after = outside (left c.run_commands.new.script) (g.R.Source.faults c.run_commands.new.script) (written c.run_commands.new.out) (g.W.Sink.faults c.run_commands.new.out) in
+    let all = around before after (g.S.Store.files c.args.store.now) (g.S.Store.files c.run_commands.new.store) (g.S.Store.faults c.args.store.now) (g.S.Store.faults c.run_commands.new.store) in
+    inl (subst (λ (form : AskedForm). RunsAs form all c.run_commands.result) (sym (ap form_shown c.in-Ok-Run.field-0-is) ∙ c.in-Ok-Run.ensures.asked) c.run_commands.ensures.ran)
+
+pub returns-in-Ok-Check-clause-run_form : goal.returns-in-Ok-Check-clause-run_form
+returns-in-Ok-Check-clause-run_form g c = run_form c.args.words.now c.run_check.result (λ _. not_usage c.run_check.result c.run_check.ensures.known)
+
+pub returns-in-Ok-Check-clause-check_form : goal.returns-in-Ok-Check-clause-check_form
+returns-in-Ok-Check-clause-check_form g c = check_form c.args.words.now c.run_check.result (λ _. not_usage c.run_check.result c.run_check.ensures.known)
+
+pub returns-in-Ok-Check-clause-ran : goal.returns-in-Ok-Check-clause-ran
+returns-in-Ok-Check-clause-ran g c = λ _.
+    let left = g.R.Source.left c.args.script.now in
+    let written = g.W.Sink.written in
+    let before = outside left (g.R.Source.faults c.args.script.now) (written c.args.out.now) (g.W.Sink.faults c.args.out.now) in
+    let after = outside left (g.R.Source.faults c.args.script.now) (written c.run_check.new.out) (g.W.Sink.faults c.run_check.new.out) in
+    let all = around before after (g.S.Store.files c.args.store.now) (g.S.Store.files c.run_check.new.store) (g.S.Store.faults c.args.store.now) (g.S.Store.faults c.run_check.new.store) in
+    inl (subst (λ (form : AskedForm). RunsAs form all c.run_check.result) (sym (ap form_shown c.in-Ok-Check.field-0-is) ∙ c.in-Ok-Check.ensures.asked)
+    (record { printed = c.run_check.ensures.printed; left = refl; source_faults = refl; files = c.run_check.ensures.files }))
+
 pub returns-in-Err-Refused-clause-run_form : goal.returns-in-Err-Refused-clause-run_form
-returns-in-Err-Refused-clause-run_form g c form = λ _. c.in-Err-Refused.ensures.refused (ap Err c.in-Err-Refused.field-0-is) (run_law c.args.words.now form).taken
+returns-in-Err-Refused-clause-run_form g c = run_form c.args.words.now c.write_usage.result (λ takes. absurd (c.in-Err-Refused.ensures.refused (ap Err c.in-Err-Refused.field-0-is) takes))
 
-pub returns-in-Err-Refused-clause-no_further : goal.returns-in-Err-Refused-clause-no_further
-returns-in-Err-Refused-clause-no_further g c = ReadsNoFurther-none quits (g.R.Source.left c.args.script.now)
+pub returns-in-Err-Refused-clause-check_form : goal.returns-in-Err-Refused-clause-check_form
+returns-in-Err-Refused-clause-check_form g c = check_form c.args.words.now c.write_usage.result (λ takes. absurd (c.in-Err-Refused.ensures.refused (ap Err c.in-Err-Refused.field-0-is) takes))
 
-pub returns-in-Err-Memory-clause-until_memory_wanted : goal.returns-in-Err-Memory-clause-until_memory_wanted
-returns-in-Err-Memory-clause-until_memory_wanted g c = where_script _ (asked_form c.args.words.now) (λ _.
-    nothing_answered (g.R.Source.left c.args.script.now) (allowed_requests quits) (g.S.Store.files c.args.store.now) (g.S.Store.faults c.args.store.now) (g.W.Sink.written c.args.out.now))
+pub returns-in-Err-Memory-clause-run_form : goal.returns-in-Err-Memory-clause-run_form
+returns-in-Err-Memory-clause-run_form g c = run_form c.args.words.now 5 (λ _ two. absurd (omega arith))
 
-pub returns-in-Err-Memory-clause-no_further : goal.returns-in-Err-Memory-clause-no_further
-returns-in-Err-Memory-clause-no_further g c = ReadsNoFurther-none quits (g.R.Source.left c.args.script.now)
-
-pub returns-in-Ok-Check-clause-no_further : goal.returns-in-Ok-Check-clause-no_further
-returns-in-Ok-Check-clause-no_further g c = ReadsNoFurther-none quits (g.R.Source.left c.args.script.now)
+pub returns-in-Err-Memory-clause-check_form : goal.returns-in-Err-Memory-clause-check_form
+returns-in-Err-Memory-clause-check_form g c = check_form c.args.words.now 5 (λ _ two. absurd (omega arith))

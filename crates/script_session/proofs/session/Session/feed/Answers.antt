@@ -16,7 +16,7 @@ loop-line-init g c =
     let files = g.S.Store.files in
     let faults = g.S.Store.faults in
     let old = moment_of c.args.self.now c.args.machine.now (written c.args.out.now) (files c.args.store.now) (faults c.args.store.now) in
-    record { stands = Stands-start g.M.Machine.ends (RequestStep g.M.Machine.step) old (c.args.pending.now.items ++ c.args.piece.now); clean = c.requires; later = omega arith }
+    record { stands = Stands-start g.M.Machine.ends (RequestStep g.M.Machine.step) old (c.args.pending.now.items ++ c.args.piece.now); clean = c.requires; later = omega arith; store_later = omega arith }
 
 pub returns-in_err-extend_from_slice-clause-served : goal.returns-in_err-extend_from_slice-clause-served
 returns-in_err-extend_from_slice-clause-served g c =
@@ -109,4 +109,5 @@ loop-line-preserved g c =
       stands = subst (λ (kept : List ℕ). Stands g.M.Machine.ends (RequestStep g.M.Machine.step) old bytes new (kept ++ more)) (sym c.clear.ensures.items) after;
       clean = subst HasNoNewline (sym c.clear.ensures.items) (All-nil (λ byte. is_newline byte ≡ false));
       later = omega arith;
+      store_later = omega arith;
     }

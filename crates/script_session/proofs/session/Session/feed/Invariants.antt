@@ -15,6 +15,7 @@ invariant-loop-line g l =
           (moment_of l.self l.machine (written l.out) (files l.store) (faults l.store)) (l.pending.items ++ l.rest);
       clean : HasNoNewline l.pending.items;
       later : g.W.Sink.faults l.fn.out ≤ g.W.Sink.faults l.out;
+      store_later : faults l.fn.store ≤ faults l.store;
     }
 
 abbrev pub decreases-loop-line : goal.decreases-loop-line

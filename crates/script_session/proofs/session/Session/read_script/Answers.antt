@@ -7,7 +7,7 @@ use Rattle.script_session.specs.Request.{RequestStep}
 use Rattle.script_session.specs.Session.{moment_of, ServesPiece, ServesRest}
 use Rattle.script_session.specs.declared.session.Flow.{Flow}
 use Rattle.script_session.specs.declared.reading.TheConstants.{PIECE_LENGTH}
-use Rattle.script_session.proofs.ReadLemmas.{read_no_further, Consumes-kept, ReadsOn-start, ReadsOn-more, read_failed, read_at_end, read_ended, read_overlong, read_stopped, front_parts}
+use Rattle.script_session.proofs.ReadLemmas.{ReadsOn-start, ReadsOn-more, read_failed, read_at_end, read_ended, read_overlong, read_stopped, front_parts}
 use Rattle.script_session.proofs.session.Session.read_script.Goals as goal
 
 pub loop-count-init : goal.loop-count-init
@@ -17,6 +17,7 @@ loop-count-init g c = record {
   limit = omega arith;
   source_later = omega arith;
   sink_later = omega arith;
+  store_later = omega arith;
 }
 
 pub returns-in_default-clause-served : goal.returns-in_default-clause-served
@@ -57,8 +58,9 @@ returns-in_err-feed-clause-served g c =
     let others = drop c.min.result bytes in
     let parts = front_parts c.min.result count c.read.new.buf (omega arith) in
     let bound = c.in-Ok.ensures.bound in
+    let short : length bytes ≤ PIECE_LENGTH = omega arith in
     let long : length piece ≡ c.min.result = length-take-le c.min.result c.read.new.buf (omega arith) in
-    rw (p.1, p.2) (read_stopped g.M.Machine.ends (RequestStep g.M.Machine.step) c.in_err-feed.field-0.0 left left' left'' old now new c.loop-count.taken kept bytes piece others c.feed.new.pending.items c.loop-count.invariant.reads c.in-Ok.ensures.bytes.0 parts (omega arith) c.in_err-feed.ensures.served)
+    rw (p.1, p.2) (read_stopped g.M.Machine.ends (RequestStep g.M.Machine.step) c.in_err-feed.field-0.0 left left' left'' old now new c.loop-count.taken kept bytes piece others c.feed.new.pending.items c.loop-count.invariant.reads c.loop-count.invariant.limit short c.in-Ok.ensures.bytes.0 parts (omega arith) c.in_err-feed.ensures.served)
 
 pub returns-in-Ended-clause-served : goal.returns-in-Ended-clause-served
 returns-in-Ended-clause-served g c =
@@ -75,9 +77,10 @@ returns-in-Ended-clause-served g c =
     let others = drop c.min.result bytes in
     let parts = front_parts c.min.result count c.read.new.buf (omega arith) in
     let bound = c.in-Ok.ensures.bound in
+    let short : length bytes ≤ PIECE_LENGTH = omega arith in
     let long : length piece ≡ c.min.result = length-take-le c.min.result c.read.new.buf (omega arith) in
     let served = subst (λ (flow : Flow). ServesPiece g.M.Machine.ends (RequestStep g.M.Machine.step) (Ok flow) now (kept ++ piece) new c.feed.new.pending.items) c.in-Ended.is c.in_ok-feed.ensures.served in
-    read_ended g.M.Machine.ends (RequestStep g.M.Machine.step) left left' left'' old now new c.loop-count.taken kept bytes piece others c.feed.new.pending.items c.loop-count.invariant.reads c.in-Ok.ensures.bytes.0 parts (omega arith) served
+    read_ended g.M.Machine.ends (RequestStep g.M.Machine.step) left left' left'' old now new c.loop-count.taken kept bytes piece others c.feed.new.pending.items c.loop-count.invariant.reads c.loop-count.invariant.limit short c.in-Ok.ensures.bytes.0 parts (omega arith) served
 
 pub returns-then-count-room-clause-served : goal.returns-then-count-room-clause-served
 returns-then-count-room-clause-served g c =
@@ -94,10 +97,11 @@ returns-then-count-room-clause-served g c =
     let others = drop c.min.result bytes in
     let parts = front_parts c.min.result count c.read.new.buf (omega arith) in
     let bound = c.in-Ok.ensures.bound in
+    let short : length bytes ≤ PIECE_LENGTH = omega arith in
     let long : length piece ≡ c.min.result = length-take-le c.min.result c.read.new.buf (omega arith) in
     let served = subst (λ (flow : Flow). ServesPiece g.M.Machine.ends (RequestStep g.M.Machine.step) (Ok flow) now (kept ++ piece) new c.feed.new.pending.items) c.in-Open.is c.in_ok-feed.ensures.served in
     let some : 0 < length others = omega (arith, length-drop c.min.result bytes) in
-    read_overlong g.M.Machine.ends (RequestStep g.M.Machine.step) left left' left'' old now new c.loop-count.taken kept bytes piece others c.feed.new.pending.items c.loop-count.invariant.reads c.in-Ok.ensures.bytes.0 parts (omega arith) some served
+    read_overlong g.M.Machine.ends (RequestStep g.M.Machine.step) left left' left'' old now new c.loop-count.taken kept bytes piece others c.feed.new.pending.items c.loop-count.invariant.reads c.loop-count.invariant.limit short c.in-Ok.ensures.bytes.0 parts (omega arith) some served
 
 pub loop-count-preserved : goal.loop-count-preserved
 loop-count-preserved g c =
@@ -114,6 +118,7 @@ loop-count-preserved g c =
     let others = drop c.min.result bytes in
     let parts = front_parts c.min.result count c.read.new.buf (omega arith) in
     let bound = c.in-Ok.ensures.bound in
+    let short : length bytes ≤ PIECE_LENGTH = omega arith in
     let long : length piece ≡ c.min.result = length-take-le c.min.result c.read.new.buf (omega arith) in
     let served = subst (λ (flow : Flow). ServesPiece g.M.Machine.ends (RequestStep g.M.Machine.step) (Ok flow) now (kept ++ piece) new c.feed.new.pending.items) c.in-Open.is c.in_ok-feed.ensures.served in
     let same : c.min.result ≡ count = omega arith in
@@ -123,61 +128,5 @@ loop-count-preserved g c =
       limit = omega arith;
       source_later = omega arith;
       sink_later = omega arith;
+      store_later = omega arith;
     }
-
-pub returns-in_default-clause-no_further : goal.returns-in_default-clause-no_further
-returns-in_default-clause-no_further g c =
-    let left = g.R.Source.left c.args.script.now in
-    let left' = g.R.Source.left c.loop-count.script in
-    let left'' = g.R.Source.left c.read.new.self in
-    let old = moment_of c.args.self.now c.args.machine.now (g.W.Sink.written c.args.out.now) (g.S.Store.files c.args.store.now) (g.S.Store.faults c.args.store.now) in
-    let now = moment_of c.loop-count.self c.loop-count.machine (g.W.Sink.written c.loop-count.out) (g.S.Store.files c.loop-count.store) (g.S.Store.faults c.loop-count.store) in
-    read_no_further g.M.Machine.ends (RequestStep g.M.Machine.step) left left' left'' old now c.loop-count.taken c.loop-count.pending.items [] c.loop-count.invariant.reads c.loop-count.invariant.limit (Consumes-kept left' left'' c.in_default.ensures.bytes) (omega arith)
-
-pub returns-then-count-eq0-clause-no_further : goal.returns-then-count-eq0-clause-no_further
-returns-then-count-eq0-clause-no_further g c =
-    let left = g.R.Source.left c.args.script.now in
-    let left' = g.R.Source.left c.loop-count.script in
-    let left'' = g.R.Source.left c.read.new.self in
-    let old = moment_of c.args.self.now c.args.machine.now (g.W.Sink.written c.args.out.now) (g.S.Store.files c.args.store.now) (g.S.Store.faults c.args.store.now) in
-    let now = moment_of c.loop-count.self c.loop-count.machine (g.W.Sink.written c.loop-count.out) (g.S.Store.files c.loop-count.store) (g.S.Store.faults c.loop-count.store) in
-    let bytes = take c.in-Ok.count c.read.new.buf in
-    let bound = c.in-Ok.ensures.bound in
-    let short : length bytes ≤ PIECE_LENGTH = omega arith in
-    read_no_further g.M.Machine.ends (RequestStep g.M.Machine.step) left left' left'' old now c.loop-count.taken c.loop-count.pending.items bytes c.loop-count.invariant.reads c.loop-count.invariant.limit c.in-Ok.ensures.bytes.0 short
-
-pub returns-in_err-feed-clause-no_further : goal.returns-in_err-feed-clause-no_further
-returns-in_err-feed-clause-no_further g c =
-    let left = g.R.Source.left c.args.script.now in
-    let left' = g.R.Source.left c.loop-count.script in
-    let left'' = g.R.Source.left c.read.new.self in
-    let old = moment_of c.args.self.now c.args.machine.now (g.W.Sink.written c.args.out.now) (g.S.Store.files c.args.store.now) (g.S.Store.faults c.args.store.now) in
-    let now = moment_of c.loop-count.self c.loop-count.machine (g.W.Sink.written c.loop-count.out) (g.S.Store.files c.loop-count.store) (g.S.Store.faults c.loop-count.store) in
-    let bytes = take c.in-Ok.count c.read.new.buf in
-    let bound = c.in-Ok.ensures.bound in
-    let short : length bytes ≤ PIECE_LENGTH = omega arith in
-    read_no_further g.M.Machine.ends (RequestStep g.M.Machine.step) left left' left'' old now c.loop-count.taken c.loop-count.pending.items bytes c.loop-count.invariant.reads c.loop-count.invariant.limit c.in-Ok.ensures.bytes.0 short
-
-pub returns-in-Ended-clause-no_further : goal.returns-in-Ended-clause-no_further
-returns-in-Ended-clause-no_further g c =
-    let left = g.R.Source.left c.args.script.now in
-    let left' = g.R.Source.left c.loop-count.script in
-    let left'' = g.R.Source.left c.read.new.self in
-    let old = moment_of c.args.self.now c.args.machine.now (g.W.Sink.written c.args.out.now) (g.S.Store.files c.args.store.now) (g.S.Store.faults c.args.store.now) in
-    let now = moment_of c.loop-count.self c.loop-count.machine (g.W.Sink.written c.loop-count.out) (g.S.Store.files c.loop-count.store) (g.S.Store.faults c.loop-count.store) in
-    let bytes = take c.in-Ok.count c.read.new.buf in
-    let bound = c.in-Ok.ensures.bound in
-    let short : length bytes ≤ PIECE_LENGTH = omega arith in
-    read_no_further g.M.Machine.ends (RequestStep g.M.Machine.step) left left' left'' old now c.loop-count.taken c.loop-count.pending.items bytes c.loop-count.invariant.reads c.loop-count.invariant.limit c.in-Ok.ensures.bytes.0 short
-
-pub returns-then-count-room-clause-no_further : goal.returns-then-count-room-clause-no_further
-returns-then-count-room-clause-no_further g c =
-    let left = g.R.Source.left c.args.script.now in
-    let left' = g.R.Source.left c.loop-count.script in
-    let left'' = g.R.Source.left c.read.new.self in
-    let old = moment_of c.args.self.now c.args.machine.now (g.W.Sink.written c.args.out.now) (g.S.Store.files c.args.store.now) (g.S.Store.faults c.args.store.now) in
-    let now = moment_of c.loop-count.self c.loop-count.machine (g.W.Sink.written c.loop-count.out) (g.S.Store.files c.loop-count.store) (g.S.Store.faults c.loop-count.store) in
-    let bytes = take c.in-Ok.count c.read.new.buf in
-    let bound = c.in-Ok.ensures.bound in
-    let short : length bytes ≤ PIECE_LENGTH = omega arith in
-    read_no_further g.M.Machine.ends (RequestStep g.M.Machine.step) left left' left'' old now c.loop-count.taken c.loop-count.pending.items bytes c.loop-count.invariant.reads c.loop-count.invariant.limit c.in-Ok.ensures.bytes.0 short

@@ -17,6 +17,7 @@ invariant-loop-count g l =
       limit : l.taken ≤ SCRIPT_LIMIT;
       source_later : g.R.Source.faults l.fn.script ≤ g.R.Source.faults l.script;
       sink_later : g.W.Sink.faults l.fn.out ≤ g.W.Sink.faults l.out;
+      store_later : faults l.fn.store ≤ faults l.store;
     }
 
 abbrev pub decreases-loop-count : goal.decreases-loop-count
