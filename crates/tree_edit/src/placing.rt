@@ -1,14 +1,16 @@
-// Results placed in a search. What takes memory comes before the first change.
+// Results placed in a search. What takes memory comes before the first change. A large value that isn't used is let go by
+// a call of `drop`, since its parts, let go one by one on each way out, make a long proof.
 ghost use Rattle.std.specs.Prelude.{◌≡◌, IfOk, OnOk, OnErr, MatchOption, MatchBool};
 ghost use Rattle.lp_model.specs.Regions.{AreNarrow};
 ghost use Rattle.branch_tree.specs.Changes.{HasLeaf};
 ghost use Rattle.branch_tree.specs.declared.node.LeafState.TheVariants.{IsOpen, IsClosed};
+ghost use Rattle.branch_tree.specs.declared.node.NodeResult.TheVariants.{Keep};
 ghost use Rattle.tree_edit.specs.Closing.{IsJudgedLeaf};
 ghost use Rattle.tree_edit.specs.Points.{IsKeepable, target};
 ghost use Rattle.tree_edit.specs.Lists.{AreMultipliers, HasLists};
 ghost use Rattle.branch_tree.specs.Leaves.{with_state};
 ghost use Rattle.tree_edit.specs.Queued.{HasRank, HasMultipliers};
-ghost use Rattle.tree_edit.specs.Placing.{JoinsPoint, TakesPoint, IsAt, search_with_leaf, TakesClose, TakesPointClose, PutsJudged, TakesKeep, TakesPointKeep, TakesBasis, IsChild, IsSplitSound, TakesSplit, Takes, closed_data, with_basis};
+ghost use Rattle.tree_edit.specs.Placing.{JoinsPoint, TakesPoint, IsAt, search_with_leaf, TakesClose, TakesPointClose, PutsJudged, TakesKeep, TakesPointKeep, TakesBasis, IsChild, IsSplitSound, TakesSplit, IsStale, IsOpenLeaf, Takes, closed_data, with_basis};
 
 use crate::checks::keepable_value;
 use crate::choosing::{Candidate, rank};
@@ -277,27 +279,60 @@ impl Search {
         }
     }
 
-    /// Places the result of the work on the leaf with the id. After `Stale`, `Refused`, `Reopened` and `Full`, and where
-    /// there is no memory, nothing has changed.
-    pub fn place(&mut self, id: u64, done: NodeResult) -> Result<Taken, AllocError>
-        ensures taken { IfOk result (λ taken. Takes self.old id done self.new taken) }
+    /// The region of the open leaf with the id, if there is one.
+    fn open_region(&self, id: u64) -> Result<Option<Region>, AllocError>
+        ensures { IfOk result (λ found. MatchOption found (IsStale self.now id) (λ region. IsOpenLeaf self.now id region)) }
+    {
+        let Some(leaf) = self.tree.leaf(id) else {
+            return Ok(None);
+        };
+        if is_closed(&leaf.state) {
+            return Ok(None);
+        }
+        self.tree.region_of(id)
+    }
+
+    /// Keeps the open leaf with the id with another basis, and the point, if there is one.
+    fn place_kept(
+        &mut self,
+        id: u64,
+        region: &Region,
+        point: Option<Point>,
+        basis: Basis,
+    ) -> Result<Taken, AllocError>
+        requires open { IsOpenLeaf self.old id region.now }
+        ensures taken { IfOk result (λ taken. Takes self.old id (Keep point basis) self.new taken) }
         ensures kept { OnErr result (self.new ≡ self.old) }
     {
         let Some(leaf) = self.tree.leaf(id) else {
-            return Ok(Taken::Stale);
+            unreachable!()
         };
-        if is_closed(&leaf.state) {
-            return Ok(Taken::Stale);
+        match with_basis(self.alloc, leaf, basis) {
+            Ok(kept) => self.place_basis(id, region, point, kept),
+            Err(error) => {
+                drop(point);
+                Err(error)
+            }
         }
-        let Some(region) = self.tree.region_of(id)? else {
-            return Ok(Taken::Stale);
-        };
+    }
+
+    /// Places the result of the work on the open leaf with the id.
+    fn place_open(
+        &mut self,
+        id: u64,
+        region: &Region,
+        done: NodeResult,
+    ) -> Result<Taken, AllocError>
+        requires open { IsOpenLeaf self.old id region.now }
+        ensures taken { IfOk result (λ taken. Takes self.old id done self.new taken) }
+        ensures kept { OnErr result (self.new ≡ self.old) }
+    {
         match done {
             NodeResult::Close {
                 mult,
                 farkas,
                 basis,
-            } => self.place_close(id, &region, closed_data(mult, farkas, basis)),
+            } => self.place_close(id, region, closed_data(mult, farkas, basis)),
             NodeResult::Split {
                 col,
                 v,
@@ -310,15 +345,31 @@ impl Search {
                     mult,
                     basis,
                 };
-                self.place_split(id, &region, split)
+                self.place_split(id, region, split)
             }
             NodeResult::PointAndClose { point, mult, basis } => {
                 let kept = closed_data(mult, List::new(self.alloc), basis);
-                self.place_point_close(id, &region, point, kept)
+                self.place_point_close(id, region, point, kept)
             }
-            NodeResult::Keep { point, basis } => {
-                let kept = with_basis(self.alloc, leaf, basis)?;
-                self.place_basis(id, &region, point, kept)
+            NodeResult::Keep { point, basis } => self.place_kept(id, region, point, basis),
+        }
+    }
+
+    /// Places the result of the work on the leaf with the id. After `Stale`, `Refused`, `Reopened` and `Full`, and where
+    /// there is no memory, nothing has changed.
+    pub fn place(&mut self, id: u64, done: NodeResult) -> Result<Taken, AllocError>
+        ensures taken { IfOk result (λ taken. Takes self.old id done self.new taken) }
+        ensures kept { OnErr result (self.new ≡ self.old) }
+    {
+        match self.open_region(id) {
+            Ok(Some(region)) => self.place_open(id, &region, done),
+            Ok(None) => {
+                drop(done);
+                Ok(Taken::Stale)
+            }
+            Err(error) => {
+                drop(done);
+                Err(error)
             }
         }
     }

@@ -1,5 +1,6 @@
-// Leaves that are split. What takes memory comes before the first change.
-ghost use Rattle.std.specs.Prelude.{◌≡◌, ◌++◌, ◌∷◌, [], ◌≤ℤ◌, ◌<ℤ◌, pos, neg_ℤ, IfOk, OnOk, OnErr};
+// Leaves that are split. What takes memory comes before the first change. A large value that isn't used is let go by a call
+// of `drop` (see `placing`).
+ghost use Rattle.std.specs.Prelude.{◌≡◌, ◌↔◌, IsTrue, ◌++◌, ◌∷◌, [], ◌≤ℤ◌, ◌<ℤ◌, pos, neg_ℤ, IfOk, OnOk, OnErr};
 ghost use Rattle.frac128.specs.Range.{largest};
 ghost use Rattle.branch_tree.specs.Tree.{left_path, right_path};
 ghost use Rattle.lp_model.specs.Regions.{AreNarrow};
@@ -121,13 +122,21 @@ impl Search {
         ensures kept { OnErr result (self.new ≡ self.old) }
     {
         let Some((first, second)) = self.tree.next_ids() else {
+            drop(split);
+            drop(left);
+            drop(right);
             return Ok(Taken::Full);
         };
         let _numbered = self.tree.nodes();
         let rank = self.rank_of(id, region);
         let first = as_candidate(&left.kept.state, left.rank, first);
         let second = as_candidate(&right.kept.state, right.rank, second);
-        self.queue.add_both(&first, &second)?;
+        if let Err(error) = self.queue.add_both(&first, &second) {
+            drop(split);
+            drop(left);
+            drop(right);
+            return Err(error);
+        }
         match split_tree(&mut self.tree, id, split, left.kept, right.kept) {
             Ok(()) => {
                 self.queue.remove(&Some(Candidate { rank, id }));
@@ -135,6 +144,56 @@ impl Search {
             }
             Err(error) => {
                 self.queue.take_back(&first, &second);
+                Err(error)
+            }
+        }
+    }
+
+    /// Whether a split fits the model and the leaf.
+    fn split_fits(&self, region: &Region, split: &Split) -> Result<bool, AllocError>
+        requires { AreNarrow region.now }
+        ensures sound { IfOk result (λ fits. IsTrue fits ↔ IsSplitSound self.now.model region.now split.now.col.0 split.now.v split.now.mult split.now.basis) }
+        ensures room { IfOk result (λ fits. IsTrue fits → (neg_ℤ (pos largest) ≤ℤ split.now.v) × (split.now.v <ℤ pos largest)) }
+    {
+        if !is_split_allowed(&self.model, region, split.col, split.v) {
+            return Ok(false);
+        }
+        if !are_multipliers(self.alloc, &self.model, &split.mult)? {
+            return Ok(false);
+        }
+        Ok(is_basis(&self.model, &split.basis))
+    }
+
+    /// The children of a split that fits, each judged.
+    fn children(&self, region: &Region, split: &Split) -> Result<(Child, Child), AllocError>
+        requires narrow { AreNarrow region.now }
+        requires room { (neg_ℤ (pos largest) ≤ℤ split.now.v) × (split.now.v <ℤ pos largest) }
+        ensures left { IfOk result (λ both. IsChild self.now (left_path region.now split.now.col.0 split.now.v) split.now.mult split.now.basis both.0.kept) }
+        ensures right { IfOk result (λ both. IsChild self.now (right_path region.now split.now.col.0 split.now.v) split.now.mult split.now.basis both.1.kept) }
+        ensures left_rank { IfOk result (λ both. IsRank self.now.model (left_path region.now split.now.col.0 split.now.v) both.0.kept both.0.rank) }
+        ensures right_rank { IfOk result (λ both. IsRank self.now.model (right_path region.now split.now.col.0 split.now.v) both.1.kept both.1.rank) }
+    {
+        let up_to = at_most(split.col, split.v);
+        let above = at_least(split.col, split.v);
+        let left = self.child(region, up_to, &split.mult, &split.basis)?;
+        let right = self.child(region, above, &split.mult, &split.basis)?;
+        Ok((left, right))
+    }
+
+    /// Splits the leaf with the id by a split that fits.
+    fn place_fitting(&mut self, id: u64, region: &Region, split: Split) -> Result<Taken, AllocError>
+        requires has { HasLeaf self.old.tree id }
+        requires at { IsAt id region.now self.old.tree.root }
+        requires narrow { AreNarrow region.now }
+        requires sound { IsSplitSound self.old.model region.now split.col.0 split.v split.mult split.basis }
+        requires room { (neg_ℤ (pos largest) ≤ℤ split.v) × (split.v <ℤ pos largest) }
+        ensures taken { IfOk result (λ taken. TakesSplit self.old id region.now split.col.0 split.v split.mult split.basis self.new taken) }
+        ensures kept { OnErr result (self.new ≡ self.old) }
+    {
+        match self.children(region, &split) {
+            Ok((left, right)) => self.split_leaf(id, region, split, left, right),
+            Err(error) => {
+                drop(split);
                 Err(error)
             }
         }
@@ -153,19 +212,16 @@ impl Search {
         ensures taken { IfOk result (λ taken. TakesSplit self.old id region.now split.col.0 split.v split.mult split.basis self.new taken) }
         ensures kept { OnErr result (self.new ≡ self.old) }
     {
-        if !is_split_allowed(&self.model, region, split.col, split.v) {
-            return Ok(Taken::Refused);
+        match self.split_fits(region, &split) {
+            Ok(true) => self.place_fitting(id, region, split),
+            Ok(false) => {
+                drop(split);
+                Ok(Taken::Refused)
+            }
+            Err(error) => {
+                drop(split);
+                Err(error)
+            }
         }
-        if !are_multipliers(self.alloc, &self.model, &split.mult)? {
-            return Ok(Taken::Refused);
-        }
-        if !is_basis(&self.model, &split.basis) {
-            return Ok(Taken::Refused);
-        }
-        let up_to = BoundChange::at_most(split.col, split.v);
-        let above = BoundChange::at_least(split.col, split.v + 1);
-        let left = self.child(region, up_to, &split.mult, &split.basis)?;
-        let right = self.child(region, above, &split.mult, &split.basis)?;
-        self.split_leaf(id, region, split, left, right)
     }
 }
