@@ -5,7 +5,7 @@ ghost use Rattle.lp_model.specs.Regions.{AreNarrow};
 ghost use Rattle.branch_tree.specs.Changes.{HasLeaf};
 ghost use Rattle.branch_tree.specs.declared.node.LeafState.TheVariants.{IsOpen, IsClosed};
 ghost use Rattle.branch_tree.specs.declared.node.NodeResult.TheVariants.{Keep};
-ghost use Rattle.tree_edit.specs.Closing.{IsJudgedLeaf};
+ghost use Rattle.tree_edit.specs.Closing.{IsJudgedLeaf, ClosesBy};
 ghost use Rattle.tree_edit.specs.Points.{IsKeepable, target};
 ghost use Rattle.tree_edit.specs.Lists.{AreMultipliers, HasLists};
 ghost use Rattle.branch_tree.specs.Leaves.{with_state};
@@ -152,14 +152,121 @@ impl Search {
         ensures taken { IfOk result (λ taken. TakesClose self.old id region.now kept self.new taken) }
         ensures kept { OnErr result (self.new ≡ self.old) }
     {
-        if !has_lists(self.alloc, &self.model, &kept)? {
-            return Ok(Taken::Refused);
+        match has_lists(self.alloc, &self.model, &kept) {
+            Ok(true) => {
+                if closes_by(&self.model, &self.target(), region, &kept) {
+                    self.put_closed(id, region, kept);
+                    Ok(Taken::Closed)
+                } else {
+                    drop(kept);
+                    Ok(Taken::Reopened)
+                }
+            }
+            Ok(false) => {
+                drop(kept);
+                Ok(Taken::Refused)
+            }
+            Err(error) => {
+                drop(kept);
+                Err(error)
+            }
         }
-        if !closes_by(&self.model, &self.target(), region, &kept) {
-            return Ok(Taken::Reopened);
+    }
+
+    /// Keeps a point, and closes the leaf with the id, which closes by these data with it.
+    fn put_joined_close(
+        &mut self,
+        id: u64,
+        region: &Region,
+        point: Point,
+        joined: Joined,
+        kept: LeafData,
+    ) -> Result<Taken, AllocError>
+        requires has { HasLeaf self.old.tree id }
+        requires at { IsAt id region.now self.old.tree.root }
+        requires narrow { AreNarrow region.now }
+        requires closed { kept.state ≡ IsClosed }
+        requires keepable { IsKeepable self.old.model point }
+        requires joined { JoinsPoint self.old point joined }
+        requires lists { HasLists self.old.model kept }
+        requires closes { ClosesBy self.old.model joined.target region.now kept }
+        ensures taken { IfOk result (λ taken. TakesPointClose self.old id region.now point kept self.new taken) }
+        ensures kept { OnErr result (self.new ≡ self.old) }
+    {
+        match self.take_point(point, joined) {
+            Ok(()) => {
+                self.put_closed(id, region, kept);
+                Ok(Taken::Closed)
+            }
+            Err(error) => {
+                drop(kept);
+                Err(error)
+            }
         }
-        self.put_closed(id, region, kept);
-        Ok(Taken::Closed)
+    }
+
+    /// Closes the leaf with the id, if it closes by these data, whose lists fit, with a point that may be kept.
+    fn place_listed_close(
+        &mut self,
+        id: u64,
+        region: &Region,
+        point: Point,
+        joined: Joined,
+        kept: LeafData,
+    ) -> Result<Taken, AllocError>
+        requires has { HasLeaf self.old.tree id }
+        requires at { IsAt id region.now self.old.tree.root }
+        requires narrow { AreNarrow region.now }
+        requires closed { kept.state ≡ IsClosed }
+        requires keepable { IsKeepable self.old.model point }
+        requires joined { JoinsPoint self.old point joined }
+        requires lists { HasLists self.old.model kept }
+        ensures taken { IfOk result (λ taken. TakesPointClose self.old id region.now point kept self.new taken) }
+        ensures kept { OnErr result (self.new ≡ self.old) }
+    {
+        if closes_by(&self.model, &joined.target, region, &kept) {
+            self.put_joined_close(id, region, point, joined, kept)
+        } else {
+            drop(point);
+            drop(joined);
+            drop(kept);
+            Ok(Taken::Reopened)
+        }
+    }
+
+    /// Closes the leaf with the id, if it closes by these data with a point that may be kept.
+    fn place_joined_close(
+        &mut self,
+        id: u64,
+        region: &Region,
+        point: Point,
+        joined: Joined,
+        kept: LeafData,
+    ) -> Result<Taken, AllocError>
+        requires has { HasLeaf self.old.tree id }
+        requires at { IsAt id region.now self.old.tree.root }
+        requires narrow { AreNarrow region.now }
+        requires closed { kept.state ≡ IsClosed }
+        requires keepable { IsKeepable self.old.model point }
+        requires joined { JoinsPoint self.old point joined }
+        ensures taken { IfOk result (λ taken. TakesPointClose self.old id region.now point kept self.new taken) }
+        ensures kept { OnErr result (self.new ≡ self.old) }
+    {
+        match has_lists(self.alloc, &self.model, &kept) {
+            Ok(true) => self.place_listed_close(id, region, point, joined, kept),
+            Ok(false) => {
+                drop(point);
+                drop(joined);
+                drop(kept);
+                Ok(Taken::Refused)
+            }
+            Err(error) => {
+                drop(point);
+                drop(joined);
+                drop(kept);
+                Err(error)
+            }
+        }
     }
 
     /// Closes the leaf with the id, if it closes by these data with the point, and keeps the point.
@@ -177,18 +284,19 @@ impl Search {
         ensures taken { IfOk result (λ taken. TakesPointClose self.old id region.now point kept self.new taken) }
         ensures kept { OnErr result (self.new ≡ self.old) }
     {
-        let Some(joined) = self.join(&point)? else {
-            return Ok(Taken::Refused);
-        };
-        if !has_lists(self.alloc, &self.model, &kept)? {
-            return Ok(Taken::Refused);
+        match self.join(&point) {
+            Ok(Some(joined)) => self.place_joined_close(id, region, point, joined, kept),
+            Ok(None) => {
+                drop(point);
+                drop(kept);
+                Ok(Taken::Refused)
+            }
+            Err(error) => {
+                drop(point);
+                drop(kept);
+                Err(error)
+            }
         }
-        if !closes_by(&self.model, &joined.target, region, &kept) {
-            return Ok(Taken::Reopened);
-        }
-        self.take_point(point, joined)?;
-        self.put_closed(id, region, kept);
-        Ok(Taken::Closed)
     }
 
     /// Gives the leaf with the id these data with its own multipliers, and judges it.
@@ -228,6 +336,44 @@ impl Search {
         Ok(Taken::Kept)
     }
 
+    /// Keeps a point that may be kept, and gives the leaf with the id these data, which are its own but for the basis.
+    fn place_joined_keep(
+        &mut self,
+        id: u64,
+        region: &Region,
+        point: Point,
+        joined: Joined,
+        kept: LeafData,
+    ) -> Result<Taken, AllocError>
+        requires has { HasLeaf self.old.tree id }
+        requires at { IsAt id region.now self.old.tree.root }
+        requires own { HasMultipliers id kept self.old.tree.root }
+        requires narrow { AreNarrow region.now }
+        requires mult { AreMultipliers self.old.model kept.mult }
+        requires farkas { AreMultipliers self.old.model kept.farkas }
+        requires keepable { IsKeepable self.old.model point }
+        requires joined { JoinsPoint self.old point joined }
+        ensures taken { IfOk result (λ taken. TakesPointKeep self.old id region.now point kept self.new taken) }
+        ensures kept { OnErr result (self.new ≡ self.old) }
+    {
+        if !is_basis(&self.model, &kept.basis) {
+            drop(point);
+            drop(joined);
+            drop(kept);
+            return Ok(Taken::Refused);
+        }
+        match self.take_point(point, joined) {
+            Ok(()) => {
+                self.put_judged(id, region, kept);
+                Ok(Taken::Kept)
+            }
+            Err(error) => {
+                drop(kept);
+                Err(error)
+            }
+        }
+    }
+
     /// Keeps a point, and gives the leaf with the id these data, which are its own but for the basis.
     fn place_point_keep(
         &mut self,
@@ -245,15 +391,19 @@ impl Search {
         ensures taken { IfOk result (λ taken. TakesPointKeep self.old id region.now point kept self.new taken) }
         ensures kept { OnErr result (self.new ≡ self.old) }
     {
-        let Some(joined) = self.join(&point)? else {
-            return Ok(Taken::Refused);
-        };
-        if !is_basis(&self.model, &kept.basis) {
-            return Ok(Taken::Refused);
+        match self.join(&point) {
+            Ok(Some(joined)) => self.place_joined_keep(id, region, point, joined, kept),
+            Ok(None) => {
+                drop(point);
+                drop(kept);
+                Ok(Taken::Refused)
+            }
+            Err(error) => {
+                drop(point);
+                drop(kept);
+                Err(error)
+            }
         }
-        self.take_point(point, joined)?;
-        self.put_judged(id, region, kept);
-        Ok(Taken::Kept)
     }
 
     /// Gives the leaf with the id these data, which are its own but for the basis, and keeps the point, if there is one.

@@ -1,9 +1,9 @@
 // Leaves that are split. What takes memory comes before the first change. A large value that isn't used is let go by a call
 // of `drop` (see `placing`).
-ghost use Rattle.std.specs.Prelude.{◌≡◌, ◌↔◌, IsTrue, ◌++◌, ◌∷◌, [], ◌≤ℤ◌, ◌<ℤ◌, pos, neg_ℤ, IfOk, OnOk, OnErr};
+ghost use Rattle.std.specs.Prelude.{◌≡◌, ◌↔◌, IsTrue, ◌++◌, ◌∷◌, [], ◌≤ℤ◌, ◌<ℤ◌, ◌+ℤ◌, pos, neg_ℤ, IfOk, OnOk, OnErr};
 ghost use Rattle.frac128.specs.Range.{largest};
 ghost use Rattle.branch_tree.specs.Tree.{left_path, right_path};
-ghost use Rattle.lp_model.specs.Regions.{AreNarrow};
+ghost use Rattle.lp_model.specs.Regions.{AreNarrow, at_most, at_least};
 ghost use Rattle.branch_tree.specs.Changes.{HasLeaf, HasRoom};
 ghost use Rattle.tree_edit.specs.Queued.{IsRank};
 ghost use Rattle.tree_edit.specs.Placing.{IsAt, IsChild, IsSplitSound, TakesSplit, tree_with_split};
@@ -26,6 +26,23 @@ pub(crate) struct Split {
     pub(crate) v: i128,
     pub(crate) mult: Mult,
     pub(crate) basis: Basis,
+}
+
+impl Split {
+    /// The bound of the left child.
+    fn up_to(&self) -> BoundChange
+        ensures { result ≡ at_most self.now.col.0 self.now.v }
+    {
+        BoundChange::at_most(self.col, self.v)
+    }
+
+    /// The bound of the right child.
+    fn above(&self) -> BoundChange
+        requires { self.now.v <ℤ pos largest }
+        ensures { result ≡ at_least self.now.col.0 (self.now.v +ℤ pos 1) }
+    {
+        BoundChange::at_least(self.col, self.v + 1)
+    }
 }
 
 /// A split's child, with its number, if it has one.
@@ -62,7 +79,11 @@ fn split_tree(
             tree.set_leaf(second, right);
             Ok(())
         }
-        Err(_) => Err(AllocError),
+        Err(_) => {
+            drop(left);
+            drop(right);
+            Err(AllocError)
+        }
     }
 }
 
@@ -79,13 +100,10 @@ impl Search {
         ensures child { IfOk result (λ child. IsChild self.now (region.now ++ change ∷ []) mult.now basis.now child.kept) }
         ensures rank { IfOk result (λ child. IsRank self.now.model (region.now ++ change ∷ []) child.kept child.rank) }
     {
-        let mut path = List::from_slice(self.alloc, region.as_slice())?;
+        let mut path = region.copy(self.alloc)?;
         path.push(change)?;
-        let mult = List::from_slice(self.alloc, mult.as_slice())?;
-        let basis = Basis {
-            basic: List::from_slice(self.alloc, basis.basic.as_slice())?,
-            high: List::from_slice(self.alloc, basis.high.as_slice())?,
-        };
+        let mult = mult.copy(self.alloc)?;
+        let basis = basis.copy(self.alloc)?;
         let farkas = List::new(self.alloc);
         let number = number_of(&self.model, &path, &mult, &farkas);
         let state = state_by(&self.model, &self.target(), &number);
@@ -131,19 +149,21 @@ impl Search {
         let rank = self.rank_of(id, region);
         let first = as_candidate(&left.kept.state, left.rank, first);
         let second = as_candidate(&right.kept.state, right.rank, second);
-        if let Err(error) = self.queue.add_both(&first, &second) {
-            drop(split);
-            drop(left);
-            drop(right);
-            return Err(error);
-        }
-        match split_tree(&mut self.tree, id, split, left.kept, right.kept) {
-            Ok(()) => {
-                self.queue.remove(&Some(Candidate { rank, id }));
-                Ok(Taken::Split)
-            }
+        match self.queue.add_both(&first, &second) {
+            Ok(()) => match split_tree(&mut self.tree, id, split, left.kept, right.kept) {
+                Ok(()) => {
+                    self.queue.remove(&Some(Candidate { rank, id }));
+                    Ok(Taken::Split)
+                }
+                Err(error) => {
+                    self.queue.take_back(&first, &second);
+                    Err(error)
+                }
+            },
             Err(error) => {
-                self.queue.take_back(&first, &second);
+                drop(split);
+                drop(left);
+                drop(right);
                 Err(error)
             }
         }
@@ -173,10 +193,8 @@ impl Search {
         ensures left_rank { IfOk result (λ both. IsRank self.now.model (left_path region.now split.now.col.0 split.now.v) both.0.kept both.0.rank) }
         ensures right_rank { IfOk result (λ both. IsRank self.now.model (right_path region.now split.now.col.0 split.now.v) both.1.kept both.1.rank) }
     {
-        let up_to = at_most(split.col, split.v);
-        let above = at_least(split.col, split.v);
-        let left = self.child(region, up_to, &split.mult, &split.basis)?;
-        let right = self.child(region, above, &split.mult, &split.basis)?;
+        let left = self.child(region, split.up_to(), &split.mult, &split.basis)?;
+        let right = self.child(region, split.above(), &split.mult, &split.basis)?;
         Ok((left, right))
     }
 

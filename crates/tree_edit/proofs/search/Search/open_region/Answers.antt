@@ -1,4 +1,4 @@
-use Rattle.std.proofs.Common.{◌≡◌, IfOk, sym, subst}
+use Rattle.std.proofs.Common.{◌≡◌, Some, IfOk, sym, subst}
 use Rattle.std.specs.Option.{MatchOption}
 use Rattle.std.proofs.lemmas.Bool.{MatchBool-at_false}
 use Rattle.lp_model.specs.Regions.{Path}
@@ -10,8 +10,8 @@ use Rattle.tree_edit.specs.Placing.{IsStale, IsOpenLeaf}
 use Rattle.tree_edit.proofs.PlaceLemmas.{open-found}
 use Rattle.tree_edit.proofs.search.Search.open_region.Goals as goal
 
-pub returns-else-is_closed : goal.returns-else-is_closed
-returns-else-is_closed c =
+pub returns : goal.returns
+returns c =
     let i = c.self.inside in
     let S : PlainSearch = record { model = i.model; tree = i.tree; points = i.points.items } in
     let kept : LeafData = c.in-Some.leaf.now in
