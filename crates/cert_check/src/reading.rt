@@ -173,7 +173,8 @@ impl Reading {
             Statement::Point(point) => self.point = Some(point),
             Statement::Node(node) => self.add_node(node)?,
             Statement::End => self.ended = true,
-            Statement::Header | Statement::Ray(_) | Statement::Foreign => {}
+            Statement::Ray(_named) => {}
+            Statement::Header | Statement::Foreign => {}
         }
         Ok(())
     }
