@@ -1,11 +1,12 @@
 -- The open leaf of a result, and what its answer means for the whole search.
-use Rattle.std.specs.Prelude.{◌≡◌, ℕ, [], Option, Some, None, IfOk, Result, Ok, Err}
+use Rattle.std.specs.Prelude.{◌≡◌, ℕ, [], Option, Some, None, IfOk, Result, Ok, Err, MatchOption}
 use Rattle.std.specs.Option.{option_map}
-use Rattle.std.proofs.Common.{refl, subst}
+use Rattle.std.proofs.Common.{refl, subst, sym, arith}
 use Rattle.lp_model.specs.Program.{Program}
 use Rattle.lp_model.specs.Regions.{Path, AreNarrow}
 use Rattle.branch_tree.specs.Tree.{Leaf, Split, left_path, right_path, EachLeaf}
-use Rattle.branch_tree.specs.Plain.{LeafKept, Plain, leaf_below, data_of, path_of}
+use Rattle.branch_tree.specs.Plain.{LeafKept, Plain, leaf_below, leaves_with, data_of, path_of}
+use Rattle.branch_tree.specs.Changes.{HasLeaf}
 use Rattle.branch_tree.specs.declared.node.LeafData.{LeafData}
 use Rattle.branch_tree.specs.declared.node.LeafState.TheVariants.{IsOpen}
 use Rattle.branch_tree.specs.declared.node.NodeResult.{NodeResult}
@@ -16,7 +17,8 @@ use Rattle.tree_edit.specs.declared.placing.Taken.TheVariants.{Stale, Refused, R
 use Rattle.tree_edit.specs.Lists.{HasLists, HasNodeLists}
 use Rattle.tree_edit.specs.Sound.{PlainSearch, IsSound}
 use Rattle.tree_edit.specs.Calls.{IsLeafAt}
-use Rattle.tree_edit.specs.Placing.{TakesResult, Takes}
+use Rattle.tree_edit.specs.Placing.{TakesResult, IsStale, IsOpenLeaf, Takes}
+use Rattle.tree_edit.proofs.SoundLemmas.{is_at}
 
 -- ---- the leaf
 
@@ -24,7 +26,7 @@ each-lists : (M : Program) (path : Path) (t : Plain) → HasNodeLists M t → Ea
 each-lists M path (Leaf l) h = h
 each-lists M path (Split kept j v left right) h = (each-lists M (left_path path j v) left h.1.0, each-lists M (right_path path j v) right h.1.1)
 
-some_same : {A : Type 0} (a b : A) → Some a ≡ Some b → a ≡ b
+pub some_same : {A : Type 0} (a b : A) → Some a ≡ Some b → a ≡ b
 some_same a b h = cc
 
 leaf_of_data : (o : Option (Path × LeafKept)) (kept : LeafData) → option_map (λ (l : Path × LeafKept). l.1.kept) o ≡ Some kept → (l : Path × LeafKept) × ((o ≡ Some l) × (l.1.kept ≡ kept))
@@ -38,6 +40,21 @@ lists-found S id kept sound found =
 
 pub narrow-found : (S : PlainSearch) (id : ℕ) (path : Path) → IsSound S → path_of id S.tree.root ≡ Some path → AreNarrow path
 narrow-found S id path sound at = path-found AreNarrow id S.tree.root path (narrow_paths [] S.tree.root sound.tree.narrow tt) at
+
+-- its region, where the leaf with these data is open
+module _ (S : PlainSearch) (id : ℕ) (kept : LeafData) (sound : IsSound S) (has : HasLeaf S.tree id) (data_is : data_of id S.tree.root ≡ Some kept) (is_open : kept.state ≡ IsOpen) where
+  pub open-found : {E : Type 0} (r : Result (Option Path) E) → IfOk r (λ p. p ≡ path_of id S.tree.root) → IfOk r (λ p. MatchOption p (leaves_with id S.tree.root ≡ 0) (λ _. HasLeaf S.tree id))
+      → IfOk r (λ p. MatchOption p (IsStale S id) (λ path. IsOpenLeaf S id path))
+  open-found (Err e) at found = at
+  open-found (Ok None) at found = absurd (omega (arith, has, found))
+  open-found (Ok (Some path)) at found = record {
+    kept = kept;
+    leaf = record { path_is = sym at; data_is = data_is };
+    state = is_open;
+    has = has;
+    at = is_at id path S.tree.root has (sym at);
+    narrow = narrow-found S id path sound (sym at);
+  }
 
 -- ---- the answer
 

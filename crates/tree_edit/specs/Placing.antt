@@ -5,14 +5,14 @@ use Rattle.std.specs.Prelude.{◌≡◌, ℕ, ◌+◌, ◌<◌, ◌≤◌, List,
 use Rattle.std.specs.List.{remove}
 use Rattle.rational.specs.Rational.{ℚ, ◌≤ℚ◌, ◌<ℚ◌}
 use Rattle.lp_model.specs.Program.{Program, Point, least_value}
-use Rattle.lp_model.specs.Regions.{Path}
+use Rattle.lp_model.specs.Regions.{Path, AreNarrow}
 use Rattle.lp_model.specs.declared.types.Basis.{Basis}
 use Rattle.leaf_dual.specs.Dual.{Multipliers}
 use Rattle.branch_tree.specs.Tree.{Leaf, Split as Split', left_path, right_path, EachLeaf}
 use Rattle.branch_tree.specs.Plain.{Plain, data_of, replaced}
 use Rattle.branch_tree.specs.Leaves.{with_state}
 use Rattle.branch_tree.specs.Numbered.{NumberedTree}
-use Rattle.branch_tree.specs.Changes.{with_leaf, HasRoom}
+use Rattle.branch_tree.specs.Changes.{with_leaf, HasLeaf, HasRoom}
 use Rattle.branch_tree.specs.declared.node.LeafState.{LeafState}
 use Rattle.branch_tree.specs.declared.node.LeafState.TheVariants.{IsOpen, IsClosed}
 use Rattle.branch_tree.specs.declared.node.LeafData.{LeafData}
@@ -187,6 +187,15 @@ TakesSplit S id path j v mult basis S' Kept = ⊥
 -- no open leaf has the id
 abbrev pub IsStale : PlainSearch → ℕ → Type 0
 IsStale S id = (kept : LeafData) → data_of id S.tree.root ≡ Some kept → kept.state ≡ IsClosed
+
+-- an open leaf has the id and this path (for the calls that place a result by its kind)
+pub record IsOpenLeaf (S : PlainSearch) (id : ℕ) (path : Path) : Type 0 where
+  pub kept : LeafData
+  pub leaf : IsLeafAt S.tree.root id path kept
+  pub state : kept.state ≡ IsOpen
+  pub has : HasLeaf S.tree id
+  pub at : IsAt id path S.tree.root
+  pub narrow : AreNarrow path
 
 abbrev pub closed_data : Multipliers → Multipliers → Basis → LeafData
 closed_data mult farkas basis = record { state = IsClosed; mult = mult; farkas = farkas; basis = basis }

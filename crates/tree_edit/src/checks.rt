@@ -2,12 +2,12 @@
 ghost use Rattle.std.specs.Prelude.{◌≡◌, ◌↔◌, ◌<◌, ◌≤ℤ◌, ◌<ℤ◌, ◌+ℤ◌, ◌-◌, ◌^◌, pos, neg_ℤ, IsTrue, MatchOption, length};
 ghost use Rattle.frac128.specs.Range.{largest};
 ghost use Rattle.lp_model.specs.Program.{least_value, is_integer};
-ghost use Rattle.lp_model.specs.Regions.{AreNarrow, at_least};
+ghost use Rattle.lp_model.specs.Regions.{AreNarrow};
 ghost use Rattle.tree_edit.specs.Points.{IsKeepable};
 ghost use Rattle.tree_edit.specs.Checks.{IsFrom, IsUnder, IsSplitAllowed};
 
 use frac128::Frac;
-use lp_model::{Bound, BoundChange, ColId, Model, Point, Region};
+use lp_model::{Bound, ColId, Model, Point, Region};
 
 /// The value of a point in least form, where it is feasible and no step of its test or value lacks room.
 pub(crate) fn keepable_value(model: &Model, point: &Point) -> Option<Frac>
@@ -87,12 +87,4 @@ pub(crate) fn is_split_allowed(model: &Model, region: &Region, col: ColId, v: i1
     let low = model.region_low(region.as_slice(), place);
     let high = model.region_high(region.as_slice(), place);
     is_from(&low, v) && is_under(&high, v)
-}
-
-/// The bound of a split's right child.
-pub(crate) fn at_least(col: ColId, v: i128) -> BoundChange
-    requires { v <ℤ pos largest }
-    ensures { result ≡ at_least col.0 (v +ℤ pos 1) }
-{
-    BoundChange::at_least(col, v + 1)
 }

@@ -1,14 +1,16 @@
-// Results placed in a search. What takes memory comes before the first change.
+// Results placed in a search. What takes memory comes before the first change. A large value that isn't used is let go by
+// a call of `drop`, since its parts, let go one by one on each way out, make a long proof.
 ghost use Rattle.std.specs.Prelude.{◌≡◌, IfOk, OnOk, OnErr, MatchOption, MatchBool};
 ghost use Rattle.lp_model.specs.Regions.{AreNarrow};
 ghost use Rattle.branch_tree.specs.Changes.{HasLeaf};
 ghost use Rattle.branch_tree.specs.declared.node.LeafState.TheVariants.{IsOpen, IsClosed};
-ghost use Rattle.tree_edit.specs.Closing.{IsJudgedLeaf};
+ghost use Rattle.branch_tree.specs.declared.node.NodeResult.TheVariants.{Keep};
+ghost use Rattle.tree_edit.specs.Closing.{IsJudgedLeaf, ClosesBy};
 ghost use Rattle.tree_edit.specs.Points.{IsKeepable, target};
 ghost use Rattle.tree_edit.specs.Lists.{AreMultipliers, HasLists};
 ghost use Rattle.branch_tree.specs.Leaves.{with_state};
 ghost use Rattle.tree_edit.specs.Queued.{HasRank, HasMultipliers};
-ghost use Rattle.tree_edit.specs.Placing.{JoinsPoint, TakesPoint, IsAt, search_with_leaf, TakesClose, TakesPointClose, PutsJudged, TakesKeep, TakesPointKeep, TakesBasis, IsChild, IsSplitSound, TakesSplit, Takes, closed_data, with_basis};
+ghost use Rattle.tree_edit.specs.Placing.{JoinsPoint, TakesPoint, IsAt, search_with_leaf, TakesClose, TakesPointClose, PutsJudged, TakesKeep, TakesPointKeep, TakesBasis, IsChild, IsSplitSound, TakesSplit, IsStale, IsOpenLeaf, Takes, closed_data, with_basis};
 
 use crate::checks::keepable_value;
 use crate::choosing::{Candidate, rank};
@@ -150,14 +152,121 @@ impl Search {
         ensures taken { IfOk result (λ taken. TakesClose self.old id region.now kept self.new taken) }
         ensures kept { OnErr result (self.new ≡ self.old) }
     {
-        if !has_lists(self.alloc, &self.model, &kept)? {
-            return Ok(Taken::Refused);
+        match has_lists(self.alloc, &self.model, &kept) {
+            Ok(true) => {
+                if closes_by(&self.model, &self.target(), region, &kept) {
+                    self.put_closed(id, region, kept);
+                    Ok(Taken::Closed)
+                } else {
+                    drop(kept);
+                    Ok(Taken::Reopened)
+                }
+            }
+            Ok(false) => {
+                drop(kept);
+                Ok(Taken::Refused)
+            }
+            Err(error) => {
+                drop(kept);
+                Err(error)
+            }
         }
-        if !closes_by(&self.model, &self.target(), region, &kept) {
-            return Ok(Taken::Reopened);
+    }
+
+    /// Keeps a point, and closes the leaf with the id, which closes by these data with it.
+    fn put_joined_close(
+        &mut self,
+        id: u64,
+        region: &Region,
+        point: Point,
+        joined: Joined,
+        kept: LeafData,
+    ) -> Result<Taken, AllocError>
+        requires has { HasLeaf self.old.tree id }
+        requires at { IsAt id region.now self.old.tree.root }
+        requires narrow { AreNarrow region.now }
+        requires closed { kept.state ≡ IsClosed }
+        requires keepable { IsKeepable self.old.model point }
+        requires joined { JoinsPoint self.old point joined }
+        requires lists { HasLists self.old.model kept }
+        requires closes { ClosesBy self.old.model joined.target region.now kept }
+        ensures taken { IfOk result (λ taken. TakesPointClose self.old id region.now point kept self.new taken) }
+        ensures kept { OnErr result (self.new ≡ self.old) }
+    {
+        match self.take_point(point, joined) {
+            Ok(()) => {
+                self.put_closed(id, region, kept);
+                Ok(Taken::Closed)
+            }
+            Err(error) => {
+                drop(kept);
+                Err(error)
+            }
         }
-        self.put_closed(id, region, kept);
-        Ok(Taken::Closed)
+    }
+
+    /// Closes the leaf with the id, if it closes by these data, whose lists fit, with a point that may be kept.
+    fn place_listed_close(
+        &mut self,
+        id: u64,
+        region: &Region,
+        point: Point,
+        joined: Joined,
+        kept: LeafData,
+    ) -> Result<Taken, AllocError>
+        requires has { HasLeaf self.old.tree id }
+        requires at { IsAt id region.now self.old.tree.root }
+        requires narrow { AreNarrow region.now }
+        requires closed { kept.state ≡ IsClosed }
+        requires keepable { IsKeepable self.old.model point }
+        requires joined { JoinsPoint self.old point joined }
+        requires lists { HasLists self.old.model kept }
+        ensures taken { IfOk result (λ taken. TakesPointClose self.old id region.now point kept self.new taken) }
+        ensures kept { OnErr result (self.new ≡ self.old) }
+    {
+        if closes_by(&self.model, &joined.target, region, &kept) {
+            self.put_joined_close(id, region, point, joined, kept)
+        } else {
+            drop(point);
+            drop(joined);
+            drop(kept);
+            Ok(Taken::Reopened)
+        }
+    }
+
+    /// Closes the leaf with the id, if it closes by these data with a point that may be kept.
+    fn place_joined_close(
+        &mut self,
+        id: u64,
+        region: &Region,
+        point: Point,
+        joined: Joined,
+        kept: LeafData,
+    ) -> Result<Taken, AllocError>
+        requires has { HasLeaf self.old.tree id }
+        requires at { IsAt id region.now self.old.tree.root }
+        requires narrow { AreNarrow region.now }
+        requires closed { kept.state ≡ IsClosed }
+        requires keepable { IsKeepable self.old.model point }
+        requires joined { JoinsPoint self.old point joined }
+        ensures taken { IfOk result (λ taken. TakesPointClose self.old id region.now point kept self.new taken) }
+        ensures kept { OnErr result (self.new ≡ self.old) }
+    {
+        match has_lists(self.alloc, &self.model, &kept) {
+            Ok(true) => self.place_listed_close(id, region, point, joined, kept),
+            Ok(false) => {
+                drop(point);
+                drop(joined);
+                drop(kept);
+                Ok(Taken::Refused)
+            }
+            Err(error) => {
+                drop(point);
+                drop(joined);
+                drop(kept);
+                Err(error)
+            }
+        }
     }
 
     /// Closes the leaf with the id, if it closes by these data with the point, and keeps the point.
@@ -175,18 +284,19 @@ impl Search {
         ensures taken { IfOk result (λ taken. TakesPointClose self.old id region.now point kept self.new taken) }
         ensures kept { OnErr result (self.new ≡ self.old) }
     {
-        let Some(joined) = self.join(&point)? else {
-            return Ok(Taken::Refused);
-        };
-        if !has_lists(self.alloc, &self.model, &kept)? {
-            return Ok(Taken::Refused);
+        match self.join(&point) {
+            Ok(Some(joined)) => self.place_joined_close(id, region, point, joined, kept),
+            Ok(None) => {
+                drop(point);
+                drop(kept);
+                Ok(Taken::Refused)
+            }
+            Err(error) => {
+                drop(point);
+                drop(kept);
+                Err(error)
+            }
         }
-        if !closes_by(&self.model, &joined.target, region, &kept) {
-            return Ok(Taken::Reopened);
-        }
-        self.take_point(point, joined)?;
-        self.put_closed(id, region, kept);
-        Ok(Taken::Closed)
     }
 
     /// Gives the leaf with the id these data with its own multipliers, and judges it.
@@ -226,6 +336,44 @@ impl Search {
         Ok(Taken::Kept)
     }
 
+    /// Keeps a point that may be kept, and gives the leaf with the id these data, which are its own but for the basis.
+    fn place_joined_keep(
+        &mut self,
+        id: u64,
+        region: &Region,
+        point: Point,
+        joined: Joined,
+        kept: LeafData,
+    ) -> Result<Taken, AllocError>
+        requires has { HasLeaf self.old.tree id }
+        requires at { IsAt id region.now self.old.tree.root }
+        requires own { HasMultipliers id kept self.old.tree.root }
+        requires narrow { AreNarrow region.now }
+        requires mult { AreMultipliers self.old.model kept.mult }
+        requires farkas { AreMultipliers self.old.model kept.farkas }
+        requires keepable { IsKeepable self.old.model point }
+        requires joined { JoinsPoint self.old point joined }
+        ensures taken { IfOk result (λ taken. TakesPointKeep self.old id region.now point kept self.new taken) }
+        ensures kept { OnErr result (self.new ≡ self.old) }
+    {
+        if !is_basis(&self.model, &kept.basis) {
+            drop(point);
+            drop(joined);
+            drop(kept);
+            return Ok(Taken::Refused);
+        }
+        match self.take_point(point, joined) {
+            Ok(()) => {
+                self.put_judged(id, region, kept);
+                Ok(Taken::Kept)
+            }
+            Err(error) => {
+                drop(kept);
+                Err(error)
+            }
+        }
+    }
+
     /// Keeps a point, and gives the leaf with the id these data, which are its own but for the basis.
     fn place_point_keep(
         &mut self,
@@ -243,15 +391,19 @@ impl Search {
         ensures taken { IfOk result (λ taken. TakesPointKeep self.old id region.now point kept self.new taken) }
         ensures kept { OnErr result (self.new ≡ self.old) }
     {
-        let Some(joined) = self.join(&point)? else {
-            return Ok(Taken::Refused);
-        };
-        if !is_basis(&self.model, &kept.basis) {
-            return Ok(Taken::Refused);
+        match self.join(&point) {
+            Ok(Some(joined)) => self.place_joined_keep(id, region, point, joined, kept),
+            Ok(None) => {
+                drop(point);
+                drop(kept);
+                Ok(Taken::Refused)
+            }
+            Err(error) => {
+                drop(point);
+                drop(kept);
+                Err(error)
+            }
         }
-        self.take_point(point, joined)?;
-        self.put_judged(id, region, kept);
-        Ok(Taken::Kept)
     }
 
     /// Gives the leaf with the id these data, which are its own but for the basis, and keeps the point, if there is one.
@@ -277,27 +429,60 @@ impl Search {
         }
     }
 
-    /// Places the result of the work on the leaf with the id. After `Stale`, `Refused`, `Reopened` and `Full`, and where
-    /// there is no memory, nothing has changed.
-    pub fn place(&mut self, id: u64, done: NodeResult) -> Result<Taken, AllocError>
-        ensures taken { IfOk result (λ taken. Takes self.old id done self.new taken) }
+    /// The region of the open leaf with the id, if there is one.
+    fn open_region(&self, id: u64) -> Result<Option<Region>, AllocError>
+        ensures { IfOk result (λ found. MatchOption found (IsStale self.now id) (λ region. IsOpenLeaf self.now id region)) }
+    {
+        let Some(leaf) = self.tree.leaf(id) else {
+            return Ok(None);
+        };
+        if is_closed(&leaf.state) {
+            return Ok(None);
+        }
+        self.tree.region_of(id)
+    }
+
+    /// Keeps the open leaf with the id with another basis, and the point, if there is one.
+    fn place_kept(
+        &mut self,
+        id: u64,
+        region: &Region,
+        point: Option<Point>,
+        basis: Basis,
+    ) -> Result<Taken, AllocError>
+        requires open { IsOpenLeaf self.old id region.now }
+        ensures taken { IfOk result (λ taken. Takes self.old id (Keep point basis) self.new taken) }
         ensures kept { OnErr result (self.new ≡ self.old) }
     {
         let Some(leaf) = self.tree.leaf(id) else {
-            return Ok(Taken::Stale);
+            unreachable!()
         };
-        if is_closed(&leaf.state) {
-            return Ok(Taken::Stale);
+        match with_basis(self.alloc, leaf, basis) {
+            Ok(kept) => self.place_basis(id, region, point, kept),
+            Err(error) => {
+                drop(point);
+                Err(error)
+            }
         }
-        let Some(region) = self.tree.region_of(id)? else {
-            return Ok(Taken::Stale);
-        };
+    }
+
+    /// Places the result of the work on the open leaf with the id.
+    fn place_open(
+        &mut self,
+        id: u64,
+        region: &Region,
+        done: NodeResult,
+    ) -> Result<Taken, AllocError>
+        requires open { IsOpenLeaf self.old id region.now }
+        ensures taken { IfOk result (λ taken. Takes self.old id done self.new taken) }
+        ensures kept { OnErr result (self.new ≡ self.old) }
+    {
         match done {
             NodeResult::Close {
                 mult,
                 farkas,
                 basis,
-            } => self.place_close(id, &region, closed_data(mult, farkas, basis)),
+            } => self.place_close(id, region, closed_data(mult, farkas, basis)),
             NodeResult::Split {
                 col,
                 v,
@@ -310,15 +495,31 @@ impl Search {
                     mult,
                     basis,
                 };
-                self.place_split(id, &region, split)
+                self.place_split(id, region, split)
             }
             NodeResult::PointAndClose { point, mult, basis } => {
                 let kept = closed_data(mult, List::new(self.alloc), basis);
-                self.place_point_close(id, &region, point, kept)
+                self.place_point_close(id, region, point, kept)
             }
-            NodeResult::Keep { point, basis } => {
-                let kept = with_basis(self.alloc, leaf, basis)?;
-                self.place_basis(id, &region, point, kept)
+            NodeResult::Keep { point, basis } => self.place_kept(id, region, point, basis),
+        }
+    }
+
+    /// Places the result of the work on the leaf with the id. After `Stale`, `Refused`, `Reopened` and `Full`, and where
+    /// there is no memory, nothing has changed.
+    pub fn place(&mut self, id: u64, done: NodeResult) -> Result<Taken, AllocError>
+        ensures taken { IfOk result (λ taken. Takes self.old id done self.new taken) }
+        ensures kept { OnErr result (self.new ≡ self.old) }
+    {
+        match self.open_region(id) {
+            Ok(Some(region)) => self.place_open(id, &region, done),
+            Ok(None) => {
+                drop(done);
+                Ok(Taken::Stale)
+            }
+            Err(error) => {
+                drop(done);
+                Err(error)
             }
         }
     }

@@ -1,9 +1,12 @@
 // A search: a model, a tree and the kept points.
-ghost use Rattle.std.specs.Prelude.{◌≡◌, IfOk, OnErr, length};
+ghost use Rattle.std.specs.Prelude.{◌≡◌, None, IfOk, OnErr, length};
 ghost use Rattle.std.specs.Option.{option_copied};
 ghost use Rattle.branch_tree.specs.Leaves.{open_count};
+ghost use Rattle.branch_tree.specs.Changes.{first_tree};
 ghost use Rattle.tree_edit.specs.Points.{target, IsIncumbent};
 ghost use Rattle.tree_edit.specs.Sound.{IsSound};
+ghost use Rattle.tree_edit.specs.Judged.{JudgesAll};
+ghost use Rattle.tree_edit.specs.Queued.{IsQueueOf};
 ghost use Rattle.tree_edit.specs.Choosing.{IsNext};
 ghost use Rattle.tree_edit.specs.Calls.{IsFresh, search_with_limit, IsNumberAnswer};
 
@@ -44,21 +47,40 @@ impl std::marker::Model for Search {
     ghost invariant = { λ s. IsIndexed (record { model = s.model; tree = s.tree; points = s.points.items }) s.values.items s.queue };
 }
 
+/// A tree of one leaf, which is judged where there is no point, and the queue of its open leaves.
+fn judged_tree(alloc: Global, model: &Model, limit: u64) -> Result<(Tree, LeafQueue), AllocError>
+    ensures judged { IfOk result (λ both. JudgesAll model.now None (first_tree limit) both.0) }
+    ensures queue { IfOk result (λ both. IsQueueOf model.now both.0.root both.1) }
+{
+    let mut tree = Tree::new(alloc, limit)?;
+    match judge_all(alloc, model, &None, &mut tree) {
+        Ok(queue) => Ok((tree, queue)),
+        Err(error) => {
+            drop(tree);
+            Err(error)
+        }
+    }
+}
+
 impl Search {
     /// A search with one leaf, which is judged, and no point. There will be at most 1,000,000 nodes.
     pub fn new(alloc: Global, model: Model) -> Result<Search, AllocError>
         ensures { IfOk result (λ s. IsFresh model 1000000 s) }
     {
-        let mut tree = Tree::new(alloc, NODE_LIMIT)?;
-        let queue = judge_all(alloc, &model, &None, &mut tree)?;
-        Ok(Search {
-            model,
-            tree,
-            points: Vec::new(alloc),
-            values: Vec::new(alloc),
-            queue,
-            alloc,
-        })
+        match judged_tree(alloc, &model, NODE_LIMIT) {
+            Ok((tree, queue)) => Ok(Search {
+                model,
+                tree,
+                points: Vec::new(alloc),
+                values: Vec::new(alloc),
+                queue,
+                alloc,
+            }),
+            Err(error) => {
+                drop(model);
+                Err(error)
+            }
+        }
     }
 
     /// Begins again with the same model and limit. Where there is no memory nothing has changed.
@@ -66,8 +88,7 @@ impl Search {
         ensures fresh { IfOk result (λ _. IsFresh self.old.model self.old.tree.limit self.new) }
         ensures kept { OnErr result (self.new ≡ self.old) }
     {
-        let mut tree = Tree::new(self.alloc, self.tree.limit())?;
-        let queue = judge_all(self.alloc, &self.model, &None, &mut tree)?;
+        let (tree, queue) = judged_tree(self.alloc, &self.model, self.tree.limit())?;
         self.tree = tree;
         self.points = Vec::new(self.alloc);
         self.values = Vec::new(self.alloc);

@@ -1,13 +1,14 @@
-// Leaves that are split. What takes memory comes before the first change.
-ghost use Rattle.std.specs.Prelude.{◌≡◌, ◌++◌, ◌∷◌, [], ◌≤ℤ◌, ◌<ℤ◌, pos, neg_ℤ, IfOk, OnOk, OnErr};
+// Leaves that are split. What takes memory comes before the first change. A large value that isn't used is let go by a call
+// of `drop` (see `placing`).
+ghost use Rattle.std.specs.Prelude.{◌≡◌, ◌↔◌, IsTrue, ◌++◌, ◌∷◌, [], ◌≤ℤ◌, ◌<ℤ◌, ◌+ℤ◌, pos, neg_ℤ, IfOk, OnOk, OnErr};
 ghost use Rattle.frac128.specs.Range.{largest};
 ghost use Rattle.branch_tree.specs.Tree.{left_path, right_path};
-ghost use Rattle.lp_model.specs.Regions.{AreNarrow};
+ghost use Rattle.lp_model.specs.Regions.{AreNarrow, at_most, at_least};
 ghost use Rattle.branch_tree.specs.Changes.{HasLeaf, HasRoom};
 ghost use Rattle.tree_edit.specs.Queued.{IsRank};
 ghost use Rattle.tree_edit.specs.Placing.{IsAt, IsChild, IsSplitSound, TakesSplit, tree_with_split};
 
-use crate::checks::{at_least, is_split_allowed};
+use crate::checks::is_split_allowed;
 use crate::choosing::{Candidate, as_candidate, rank};
 use crate::judging::{number_of, state_by};
 use crate::lists::{are_multipliers, is_basis};
@@ -25,6 +26,23 @@ pub(crate) struct Split {
     pub(crate) v: i128,
     pub(crate) mult: Mult,
     pub(crate) basis: Basis,
+}
+
+impl Split {
+    /// The bound of the left child.
+    fn up_to(&self) -> BoundChange
+        ensures { result ≡ at_most self.now.col.0 self.now.v }
+    {
+        BoundChange::at_most(self.col, self.v)
+    }
+
+    /// The bound of the right child.
+    fn above(&self) -> BoundChange
+        requires { self.now.v <ℤ pos largest }
+        ensures { result ≡ at_least self.now.col.0 (self.now.v +ℤ pos 1) }
+    {
+        BoundChange::at_least(self.col, self.v + 1)
+    }
 }
 
 /// A split's child, with its number, if it has one.
@@ -61,7 +79,11 @@ fn split_tree(
             tree.set_leaf(second, right);
             Ok(())
         }
-        Err(_) => Err(AllocError),
+        Err(_) => {
+            drop(left);
+            drop(right);
+            Err(AllocError)
+        }
     }
 }
 
@@ -78,13 +100,10 @@ impl Search {
         ensures child { IfOk result (λ child. IsChild self.now (region.now ++ change ∷ []) mult.now basis.now child.kept) }
         ensures rank { IfOk result (λ child. IsRank self.now.model (region.now ++ change ∷ []) child.kept child.rank) }
     {
-        let mut path = List::from_slice(self.alloc, region.as_slice())?;
+        let mut path = region.copy(self.alloc)?;
         path.push(change)?;
-        let mult = List::from_slice(self.alloc, mult.as_slice())?;
-        let basis = Basis {
-            basic: List::from_slice(self.alloc, basis.basic.as_slice())?,
-            high: List::from_slice(self.alloc, basis.high.as_slice())?,
-        };
+        let mult = mult.copy(self.alloc)?;
+        let basis = basis.copy(self.alloc)?;
         let farkas = List::new(self.alloc);
         let number = number_of(&self.model, &path, &mult, &farkas);
         let state = state_by(&self.model, &self.target(), &number);
@@ -121,20 +140,78 @@ impl Search {
         ensures kept { OnErr result (self.new ≡ self.old) }
     {
         let Some((first, second)) = self.tree.next_ids() else {
+            drop(split);
+            drop(left);
+            drop(right);
             return Ok(Taken::Full);
         };
         let _numbered = self.tree.nodes();
         let rank = self.rank_of(id, region);
         let first = as_candidate(&left.kept.state, left.rank, first);
         let second = as_candidate(&right.kept.state, right.rank, second);
-        self.queue.add_both(&first, &second)?;
-        match split_tree(&mut self.tree, id, split, left.kept, right.kept) {
-            Ok(()) => {
-                self.queue.remove(&Some(Candidate { rank, id }));
-                Ok(Taken::Split)
-            }
+        match self.queue.add_both(&first, &second) {
+            Ok(()) => match split_tree(&mut self.tree, id, split, left.kept, right.kept) {
+                Ok(()) => {
+                    self.queue.remove(&Some(Candidate { rank, id }));
+                    Ok(Taken::Split)
+                }
+                Err(error) => {
+                    self.queue.take_back(&first, &second);
+                    Err(error)
+                }
+            },
             Err(error) => {
-                self.queue.take_back(&first, &second);
+                drop(split);
+                drop(left);
+                drop(right);
+                Err(error)
+            }
+        }
+    }
+
+    /// Whether a split fits the model and the leaf.
+    fn split_fits(&self, region: &Region, split: &Split) -> Result<bool, AllocError>
+        requires { AreNarrow region.now }
+        ensures sound { IfOk result (λ fits. IsTrue fits ↔ IsSplitSound self.now.model region.now split.now.col.0 split.now.v split.now.mult split.now.basis) }
+        ensures room { IfOk result (λ fits. IsTrue fits → (neg_ℤ (pos largest) ≤ℤ split.now.v) × (split.now.v <ℤ pos largest)) }
+    {
+        if !is_split_allowed(&self.model, region, split.col, split.v) {
+            return Ok(false);
+        }
+        if !are_multipliers(self.alloc, &self.model, &split.mult)? {
+            return Ok(false);
+        }
+        Ok(is_basis(&self.model, &split.basis))
+    }
+
+    /// The children of a split that fits, each judged.
+    fn children(&self, region: &Region, split: &Split) -> Result<(Child, Child), AllocError>
+        requires narrow { AreNarrow region.now }
+        requires room { (neg_ℤ (pos largest) ≤ℤ split.now.v) × (split.now.v <ℤ pos largest) }
+        ensures left { IfOk result (λ both. IsChild self.now (left_path region.now split.now.col.0 split.now.v) split.now.mult split.now.basis both.0.kept) }
+        ensures right { IfOk result (λ both. IsChild self.now (right_path region.now split.now.col.0 split.now.v) split.now.mult split.now.basis both.1.kept) }
+        ensures left_rank { IfOk result (λ both. IsRank self.now.model (left_path region.now split.now.col.0 split.now.v) both.0.kept both.0.rank) }
+        ensures right_rank { IfOk result (λ both. IsRank self.now.model (right_path region.now split.now.col.0 split.now.v) both.1.kept both.1.rank) }
+    {
+        let left = self.child(region, split.up_to(), &split.mult, &split.basis)?;
+        let right = self.child(region, split.above(), &split.mult, &split.basis)?;
+        Ok((left, right))
+    }
+
+    /// Splits the leaf with the id by a split that fits.
+    fn place_fitting(&mut self, id: u64, region: &Region, split: Split) -> Result<Taken, AllocError>
+        requires has { HasLeaf self.old.tree id }
+        requires at { IsAt id region.now self.old.tree.root }
+        requires narrow { AreNarrow region.now }
+        requires sound { IsSplitSound self.old.model region.now split.col.0 split.v split.mult split.basis }
+        requires room { (neg_ℤ (pos largest) ≤ℤ split.v) × (split.v <ℤ pos largest) }
+        ensures taken { IfOk result (λ taken. TakesSplit self.old id region.now split.col.0 split.v split.mult split.basis self.new taken) }
+        ensures kept { OnErr result (self.new ≡ self.old) }
+    {
+        match self.children(region, &split) {
+            Ok((left, right)) => self.split_leaf(id, region, split, left, right),
+            Err(error) => {
+                drop(split);
                 Err(error)
             }
         }
@@ -153,19 +230,16 @@ impl Search {
         ensures taken { IfOk result (λ taken. TakesSplit self.old id region.now split.col.0 split.v split.mult split.basis self.new taken) }
         ensures kept { OnErr result (self.new ≡ self.old) }
     {
-        if !is_split_allowed(&self.model, region, split.col, split.v) {
-            return Ok(Taken::Refused);
+        match self.split_fits(region, &split) {
+            Ok(true) => self.place_fitting(id, region, split),
+            Ok(false) => {
+                drop(split);
+                Ok(Taken::Refused)
+            }
+            Err(error) => {
+                drop(split);
+                Err(error)
+            }
         }
-        if !are_multipliers(self.alloc, &self.model, &split.mult)? {
-            return Ok(Taken::Refused);
-        }
-        if !is_basis(&self.model, &split.basis) {
-            return Ok(Taken::Refused);
-        }
-        let up_to = BoundChange::at_most(split.col, split.v);
-        let above = at_least(split.col, split.v);
-        let left = self.child(region, up_to, &split.mult, &split.basis)?;
-        let right = self.child(region, above, &split.mult, &split.basis)?;
-        self.split_leaf(id, region, split, left, right)
     }
 }

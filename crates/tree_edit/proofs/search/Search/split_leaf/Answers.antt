@@ -22,14 +22,14 @@ add_both-requires c =
     let one : c.as_candidate-first.result ≡ candidate_of left.state c.args.left.rank (T.last + 1) = c.as_candidate-first.ensures ∙ ap (λ (p : ℕ × ℕ). candidate_of left.state c.args.left.rank p.0) c.in-Some.ensures.1 in
     new-candidate i.model T n i.queue c.self.invariant.queue_is (T.last + 1) (omega arith) left.state c.args.left.rank c.as_candidate-first.result one
 
-pub invariant_of-self : goal.invariant_of-self
-invariant_of-self c =
-    let i = c.self.inside in
-    let kept = c.self.invariant in
-    record { sound = kept.sound; values_are = kept.values_are; queue_is = queue-same i.model i.tree.root i.queue c.add_both.new.self kept.queue_is c.in_err-add_both.ensures.kept }
-
 pub invariant_of-self-in-Err : goal.invariant_of-self-in-Err
 invariant_of-self-in-Err c =
+    let i = c.self.inside in
+    let kept = c.self.invariant in
+    record { sound = kept.sound; values_are = kept.values_are; queue_is = queue-same i.model i.tree.root i.queue c.add_both.new.self kept.queue_is c.in-Err.ensures.kept }
+
+pub invariant_of-self-in-Err-split_tree : goal.invariant_of-self-in-Err-split_tree
+invariant_of-self-in-Err-split_tree c =
     let i = c.self.inside in
     let S : PlainSearch = record { model = i.model; tree = i.tree; points = i.points.items } in
     let T : NumberedTree = i.tree in
@@ -40,12 +40,12 @@ invariant_of-self-in-Err c =
     let two : c.as_candidate-second.result ≡ candidate_of right.state c.args.right.rank (T.last + 2) = c.as_candidate-second.ensures ∙ ap (λ (p : ℕ × ℕ). candidate_of right.state c.args.right.rank p.1) c.in-Some.ensures.1 in
     let kept = c.self.invariant in
     let queue : IsQueueOf S.model T.root c.take_back.new.self =
-    split-undone S.model T n i.queue c.add_both.new.self c.take_back.new.self left right c.args.left.rank c.args.right.rank c.as_candidate-first.result c.as_candidate-second.result kept.queue_is one two c.in_ok-add_both.ensures.added c.take_back.ensures in
-    subst (λ (U : NumberedTree). IsIndexed (record { model = i.model; tree = U; points = i.points.items }) i.values.items c.take_back.new.self) (sym c.in-Err.ensures.kept)
+    split-undone S.model T n i.queue c.add_both.new.self c.take_back.new.self left right c.args.left.rank c.args.right.rank c.as_candidate-first.result c.as_candidate-second.result kept.queue_is one two c.in-Ok.ensures.added c.take_back.ensures in
+    subst (λ (U : NumberedTree). IsIndexed (record { model = i.model; tree = U; points = i.points.items }) i.values.items c.take_back.new.self) (sym c.in-Err-split_tree.ensures.kept)
     (record { sound = kept.sound; values_are = kept.values_are; queue_is = queue })
 
-pub invariant_of-self-in-Ok : goal.invariant_of-self-in-Ok
-invariant_of-self-in-Ok c =
+pub invariant_of-self : goal.invariant_of-self
+invariant_of-self c =
     let i = c.self.inside in
     let S : PlainSearch = record { model = i.model; tree = i.tree; points = i.points.items } in
     let T : NumberedTree = i.tree in
@@ -58,7 +58,7 @@ invariant_of-self-in-Ok c =
     let basis = c.args.split.basis in
     let low : neg_ℤ (pos largest) ≤ℤ v = c.requires.room.0 in
     let high : v <ℤ pos largest = c.requires.room.1 in
-    let split : c.split_tree.new.tree ≡ tree_with_split T c.args.id j v mult basis left right = c.in-Ok.ensures.split in
+    let split : c.split_tree.new.tree ≡ tree_with_split T c.args.id j v mult basis left right = c.in-Ok-split_tree.ensures.split in
     let one : c.as_candidate-first.result ≡ candidate_of left.state c.args.left.rank (T.last + 1) = c.as_candidate-first.ensures ∙ ap (λ (p : ℕ × ℕ). candidate_of left.state c.args.left.rank p.0) c.in-Some.ensures.1 in
     let two : c.as_candidate-second.result ≡ candidate_of right.state c.args.right.rank (T.last + 2) = c.as_candidate-second.ensures ∙ ap (λ (p : ℕ × ℕ). candidate_of right.state c.args.right.rank p.1) c.in-Some.ensures.1 in
     let path = c.args.region.now in
@@ -72,13 +72,13 @@ invariant_of-self-in-Ok c =
     let r = c.rank_of-rank.result in
     let ranked : HasRank S.model T.root (record { rank = r; id = c.args.id }) = subst (λ (R : PlainSearch). HasRank R.model R.tree.root (record { rank = r; id = c.args.id })) (sym c.self.view_is) c.rank_of-rank.ensures in
     let queue : IsQueueOf S.model (replaced c.args.id (split_node T.last c.args.id j v mult basis left right) T.root) c.remove.new.self =
-    split-queue S.model T n i.queue c.add_both.new.self c.remove.new.self left right c.args.left.rank c.args.right.rank c.as_candidate-first.result c.as_candidate-second.result c.self.invariant.queue_is one two c.in_ok-add_both.ensures.added
+    split-queue S.model T n i.queue c.add_both.new.self c.remove.new.self left right c.args.left.rank c.args.right.rank c.as_candidate-first.result c.as_candidate-second.result c.self.invariant.queue_is one two c.in-Ok.ensures.added
     r c.args.id path j v mult basis has at ranked c.remove.ensures rank_left rank_right in
     subst (λ (U : NumberedTree). IsIndexed (record { model = i.model; tree = U; points = i.points.items }) i.values.items c.remove.new.self) (sym split)
     (kept-split S i.values.items i.queue c.remove.new.self c.args.id path j v mult basis left right c.self.invariant at fit low high is_left is_right queue)
 
-pub returns-in-Ok-clause-taken : goal.returns-in-Ok-clause-taken
-returns-in-Ok-clause-taken c =
+pub returns-in-Ok-split_tree-clause-taken : goal.returns-in-Ok-split_tree-clause-taken
+returns-in-Ok-split_tree-clause-taken c =
     let i = c.self.inside in
     let S : PlainSearch = record { model = i.model; tree = i.tree; points = i.points.items } in
     let T : NumberedTree = i.tree in
@@ -91,8 +91,8 @@ returns-in-Ok-clause-taken c =
     let basis = c.args.split.basis in
     let low : neg_ℤ (pos largest) ≤ℤ v = c.requires.room.0 in
     let high : v <ℤ pos largest = c.requires.room.1 in
-    let split : c.split_tree.new.tree ≡ tree_with_split T c.args.id j v mult basis left right = c.in-Ok.ensures.split in
-    let room : HasRoom c.args.self.now.tree = subst (λ (R : PlainSearch). HasRoom R.tree) c.self.view_is c.in-Ok.ensures.room in (
+    let split : c.split_tree.new.tree ≡ tree_with_split T c.args.id j v mult basis left right = c.in-Ok-split_tree.ensures.split in
+    let room : HasRoom c.args.self.now.tree = subst (λ (R : PlainSearch). HasRoom R.tree) c.self.view_is c.in-Ok-split_tree.ensures.room in (
       c.requires.sound,
       room,
       (

@@ -1,0 +1,54 @@
+use Rattle.std.proofs.Common.{◌≡◌, ◌∙◌, ◌≤◌, length, map, sym, subst, ap, arith}
+use Rattle.std.specs.Prelude.{Result, Ok, Err, OnOk}
+use Rattle.std.proofs.lemmas.List.{length-map}
+use Rattle.lp_model.specs.Program.{Program}
+use Rattle.lp_model.specs.Edits.{edited, EditFits}
+use Rattle.tree_edit.specs.Judged.{JudgesAll}
+use Rattle.tree_edit.specs.Points.{target}
+use Rattle.tree_edit.specs.Sound.{PlainSearch, IsSoundTree}
+use Rattle.tree_edit.specs.Edited.{point_after, AreKeepable, HasParts, Follows}
+use Rattle.tree_edit.proofs.EditedPoints.{keepable-all, keepable-few}
+use Rattle.tree_edit.proofs.FollowSound.{follow-sound}
+use Rattle.tree_edit.proofs.search.Search.take_edited.Goals as goal
+
+pub take_parts-requires-clause-tree : goal.take_parts-requires-clause-tree
+take_parts-requires-clause-tree c =
+    let i = c.self.inside in
+    let e = c.args.edit.now in
+    let fits : EditFits i.model e = subst (λ (R : PlainSearch). EditFits R.model e) (sym c.self.view_is) c.requires.fits in
+    let new : c.args.model ≡ edited i.model e = c.requires.edited ∙ ap (λ (R : PlainSearch). edited R.model e) (sym c.self.view_is) in
+    let follows = follow-sound i.model e i.tree fits c.self.invariant.sound.tree in
+    subst (λ P. P) (λ j. IsSoundTree (sym new j) (sym c.in-Ok.ensures j).root) follows
+
+pub take_parts-requires-clause-points : goal.take_parts-requires-clause-points
+take_parts-requires-clause-points c =
+    keepable-all c.args.model (map (point_after c.self.inside.model c.args.edit.now) c.deref.result.now) c.in-Ok-kept_points.kept.points.items c.in-Ok-kept_points.ensures.keepable
+
+pub take_parts-requires-clause-few : goal.take_parts-requires-clause-few
+take_parts-requires-clause-few c =
+    let f = point_after c.self.inside.model c.args.edit.now in
+    let few = keepable-few c.args.model (map f c.deref.result.now) c.in-Ok-kept_points.kept.points.items c.in-Ok-kept_points.ensures.keepable in
+    let long = length-map c.deref.result.now f in
+    let same = ap length c.deref.ensures.value in
+    let old : length c.self.inside.points.items ≤ 100 = c.self.invariant.sound.few in
+    omega arith
+
+on_ok : {A E P Q : Type 0} (r : Result A E) → (P → Q) → OnOk r P → OnOk r Q
+on_ok (Ok a) f h = f h
+on_ok (Err e) f h = h
+
+pub returns-in-Ok-kept_points-clause-follows : goal.returns-in-Ok-kept_points-clause-follows
+returns-in-Ok-kept_points-clause-follows c =
+    let i = c.self.inside in
+    let e = c.args.edit.now in
+    let S : PlainSearch = record { model = i.model; tree = i.tree; points = i.points.items } in
+    let new : PlainSearch = c.take_parts.new.self in
+    let kept = c.in-Ok-kept_points in
+    let model : c.args.model ≡ edited i.model e = c.requires.edited ∙ ap (λ (R : PlainSearch). edited R.model e) (sym c.self.view_is) in
+    let follows : HasParts c.args.model c.in-Ok.tree kept.kept.points.items new → Follows c.args.self.now e new = λ parts.
+    subst (λ (R : PlainSearch). Follows R e new) c.self.view_is (record {
+      model = parts.model ∙ model;
+      points = subst (λ P. P) (λ j. AreKeepable (sym parts.model j) (map (point_after i.model e) (c.deref.ensures.value j)) (sym parts.points_are j)) kept.ensures.keepable;
+      tree = subst (λ P. P) (λ j. JudgesAll (sym parts.model j) (target (sym parts.model j) (sym parts.points_are j)) (c.in-Ok.ensures j) new.tree) parts.tree;
+    }) in
+    on_ok c.take_parts.result follows c.take_parts.ensures.parts
