@@ -1,6 +1,6 @@
 -- A script as it is read, piece by piece.
 use Rattle.std.proofs.Common.{◌≡◌, ℕ, ◌≤◌, ◌<◌, ◌+◌, ◌-◌, List, [], ◌∷◌, ◌++◌, length, take, drop, refl, sym, ◌∙◌, ap, append_assoc, append-nil, subst, arith, Option, Some, None, true, false, Bool, length-append, inl, inr}
-use Rattle.std.specs.Prelude.{Result, Ok, Err, IfSome, if◌then◌else◌, ◌==◌}
+use Rattle.std.specs.Prelude.{Result, Ok, Err, if◌then◌else◌, ◌==◌}
 use Rattle.std.specs.Io.KnownBytes.{Consumes, Keeps, IsAtEnd}
 use Rattle.std.specs.List.{list_any}
 use Rattle.std.proofs.lemmas.Bool.Decides.{nat_tests}
@@ -94,18 +94,6 @@ module _ (ends : Command → Bool) where
   all_taken : (bytes : List ℕ) (done : List Request) (pending : List ℕ) → Reads ends bytes done pending → script_requests ends bytes ≡ done ++ script_requests ends pending
   all_taken bytes done pending r = ap (script_requests ends) (sym (append-nil bytes)) ∙ r.all [] ∙ ap (λ xs. done ++ script_requests ends xs) (append-nil pending)
 
-  -- what was taken at the source's end asks all that its bytes ask
-  at_end : (left left' : Option (List ℕ)) (taken : List ℕ) → Consumes left left' taken → IsAtEnd left' → IfSome left (λ input. script_requests ends input ≡ script_requests ends taken)
-  at_end None left' taken h e = tt
-  at_end (Some input) None taken h e = absurd h
-  at_end (Some input) (Some rest) taken h e = ap (script_requests ends) (h ∙ ap (λ xs. taken ++ xs) e ∙ append-nil taken)
-
-  -- and where nothing that follows it is asked
-  at_ending : (left left' : Option (List ℕ)) (taken : List ℕ) → Consumes left left' taken → ((more : List ℕ) → script_requests ends (taken ++ more) ≡ script_requests ends taken) → IfSome left (λ input. script_requests ends input ≡ script_requests ends taken)
-  at_ending None left' taken h same = tt
-  at_ending (Some input) None taken h same = absurd h
-  at_ending (Some input) (Some rest) taken h same = ap (script_requests ends) h ∙ same rest
-
   -- where nothing was read
   pub IsLastRead-none : IsLastRead ends []
   IsLastRead-none = record {
@@ -152,43 +140,39 @@ module _ {M : Type 0} (ends : Command → Bool) (step : Stand M → Request → 
   }
 
   -- nothing was read after what was taken so far
-  read_nothing : (result : Result (Unit {0}) Stop) (left left' left'' : Option (List ℕ)) (old now new : Moment M) (count : ℕ) (pending : List ℕ) (r : ReadsOn ends step left left' old now count pending) → count ≤ SCRIPT_LIMIT → Consumes left' left'' [] → (Consumes left left'' r.taken → ServesTaken ends step result left left'' r.taken old new) → ServesScript ends step result left left'' old new
-  read_nothing result left left' left'' old now new count pending r le consumed h =
-      let all = subst (λ (taken : List ℕ). Consumes left left'' taken) (append-nil r.taken) (Consumes-append left left' left'' r.taken [] r.consumed consumed) in
-      record {
-        taken = r.taken;
-        consumed = all;
-        last = subst (λ (taken : List ℕ). IsLastRead ends taken) (append-nil r.taken) (last_read left left' old now count pending [] r le (omega arith));
-        served = h all;
-      }
+  read_nothing : (result : Result (Unit {0}) Stop) (left left' left'' : Option (List ℕ)) (old now new : Moment M) (count : ℕ) (pending : List ℕ) (r : ReadsOn ends step left left' old now count pending) → count ≤ SCRIPT_LIMIT → Consumes left' left'' [] → ServesTaken ends step result left'' r.taken old new → ServesScript ends step result left left'' old new
+  read_nothing result left left' left'' old now new count pending r le consumed h = record {
+    taken = r.taken;
+    consumed = subst (λ (taken : List ℕ). Consumes left left'' taken) (append-nil r.taken) (Consumes-append left left' left'' r.taken [] r.consumed consumed);
+    last = subst (λ (taken : List ℕ). IsLastRead ends taken) (append-nil r.taken) (last_read left left' old now count pending [] r le (omega arith));
+    served = h;
+  }
 
   -- these bytes were read after what was taken so far
-  read_bytes : (result : Result (Unit {0}) Stop) (left left' left'' : Option (List ℕ)) (old now new : Moment M) (count : ℕ) (pending bytes : List ℕ) (r : ReadsOn ends step left left' old now count pending) → count ≤ SCRIPT_LIMIT → length bytes ≤ PIECE_LENGTH → Consumes left' left'' bytes → (Consumes left left'' (r.taken ++ bytes) → ServesTaken ends step result left left'' (r.taken ++ bytes) old new) → ServesScript ends step result left left'' old new
-  read_bytes result left left' left'' old now new count pending bytes r le short consumed h =
-      let all = Consumes-append left left' left'' r.taken bytes r.consumed consumed in
-      record {
-        taken = r.taken ++ bytes;
-        consumed = all;
-        last = last_read left left' old now count pending bytes r le short;
-        served = h all;
-      }
+  read_bytes : (result : Result (Unit {0}) Stop) (left left' left'' : Option (List ℕ)) (old now new : Moment M) (count : ℕ) (pending bytes : List ℕ) (r : ReadsOn ends step left left' old now count pending) → count ≤ SCRIPT_LIMIT → length bytes ≤ PIECE_LENGTH → Consumes left' left'' bytes → ServesTaken ends step result left'' (r.taken ++ bytes) old new → ServesScript ends step result left left'' old new
+  read_bytes result left left' left'' old now new count pending bytes r le short consumed h = record {
+    taken = r.taken ++ bytes;
+    consumed = Consumes-append left left' left'' r.taken bytes r.consumed consumed;
+    last = last_read left left' old now count pending bytes r le short;
+    served = h;
+  }
 
   -- the source has failed
   pub read_failed : (left left' left'' : Option (List ℕ)) (old now : Moment M) (count : ℕ) (pending : List ℕ) → ReadsOn ends step left left' old now count pending → count ≤ SCRIPT_LIMIT → Keeps left' left'' → ServesScript ends step (Err stop.Source) left left'' old now
   read_failed left left' left'' old now count pending r le keeps =
-      read_nothing (Err stop.Source) left left' left'' old now now count pending r le (Consumes-kept left' left'' keeps) (λ _. (
+      read_nothing (Err stop.Source) left left' left'' old now now count pending r le (Consumes-kept left' left'' keeps) (
         subst (λ requests. Serves step old requests now) (sym (whole_taken ends r.taken r.stands.done pending r.stands.reads r.clean)) r.stands.serves,
         (let counted = r.length_is in omega arith),
         ending_taken ends r.taken r.stands.done pending r.stands.reads r.clean,
-      ))
+      )
 
-  rest_served : (result : Result (Unit {0}) Stop) (left left' : Option (List ℕ)) (taken pending : List ℕ) (old now new : Moment M) → Stands ends step old taken now pending → length taken ≤ SCRIPT_LIMIT → IsAtEnd left' → ServesRest ends step result now pending new → Consumes left left' taken → ServesTaken ends step result left left' taken old new
-  rest_served (Ok done) left left' taken pending old now new s fits end h consumed = (
+  rest_served : (result : Result (Unit {0}) Stop) (left' : Option (List ℕ)) (taken pending : List ℕ) (old now new : Moment M) → Stands ends step old taken now pending → length taken ≤ SCRIPT_LIMIT → IsAtEnd left' → ServesRest ends step result now pending new → ServesTaken ends step result left' taken old new
+  rest_served (Ok done) left' taken pending old now new s fits end h = (
     subst (λ requests. Serves step old requests new) (sym (all_taken ends taken s.done pending s.reads)) (Serves-append step old now new s.done (script_requests ends pending) s.serves h),
-    (inl end, at_end ends left left' taken consumed end),
+    inl end,
     inl fits,
   )
-  rest_served (Err stop.Sink) left left' taken pending old now new s fits end h consumed = (
+  rest_served (Err stop.Sink) left' taken pending old now new s fits end h = (
     script_requests ends taken,
     s.done ++ script_requests ends pending,
     [],
@@ -196,7 +180,7 @@ module _ {M : Type 0} (ends : Command → Bool) (step : Stand M → Request → 
     all_taken ends taken s.done pending s.reads ∙ sym (nil_right _),
     Serves-Breaks step old now new s.done (script_requests ends pending) s.serves h,
   )
-  rest_served (Err stop.Memory) left left' taken pending old now new s fits end h consumed = (
+  rest_served (Err stop.Memory) left' taken pending old now new s fits end h = (
     script_requests ends taken,
     s.done ++ h.0,
     h.1,
@@ -204,14 +188,14 @@ module _ {M : Type 0} (ends : Command → Bool) (step : Stand M → Request → 
     all_taken ends taken s.done pending s.reads ∙ ap (λ requests. s.done ++ requests) h.2 ∙ sym (append_assoc s.done h.0 h.1),
     Serves-Halts step old now new s.done h.0 s.serves h.3,
   )
-  rest_served (Err stop.Source) left left' taken pending old now new s fits end h consumed = absurd h
-  rest_served (Err stop.TooLong) left left' taken pending old now new s fits end h consumed = absurd h
+  rest_served (Err stop.Source) left' taken pending old now new s fits end h = absurd h
+  rest_served (Err stop.TooLong) left' taken pending old now new s fits end h = absurd h
 
   -- the script is at its end
   pub read_at_end : (result : Result (Unit {0}) Stop) (left left' left'' : Option (List ℕ)) (old now new : Moment M) (count : ℕ) (pending : List ℕ) → ReadsOn ends step left left' old now count pending → count ≤ SCRIPT_LIMIT → Consumes left' left'' [] → IsAtEnd left'' → ServesRest ends step result now pending new → ServesScript ends step result left left'' old new
   read_at_end result left left' left'' old now new count pending r le consumed end h =
       read_nothing result left left' left'' old now new count pending r le consumed
-      (rest_served result left left'' r.taken pending old now new r.stands (let counted = r.length_is in omega arith) end h)
+      (rest_served result left'' r.taken pending old now new r.stands (let counted = r.length_is in omega arith) end h)
 
   -- the script goes on
   pub ReadsOn-more : (left left' left'' : Option (List ℕ)) (old now new : Moment M) (count n : ℕ) (pending piece pending' : List ℕ) → ReadsOn ends step left left' old now count pending → Consumes left' left'' piece → length piece ≡ n → ServesPiece ends step (Ok Open) now (pending ++ piece) new pending' → ReadsOn ends step left left'' old new (count + n) pending'
@@ -231,16 +215,12 @@ module _ {M : Type 0} (ends : Command → Bool) (step : Stand M → Request → 
   cut : (front bytes piece others : List ℕ) → bytes ≡ piece ++ others → front ++ bytes ≡ (front ++ piece) ++ others
   cut front bytes piece others parts = ap (λ xs. front ++ xs) parts ∙ sym (append_assoc front piece others)
 
-  ended_served : (left left' : Option (List ℕ)) (front pending bytes piece others pending' : List ℕ) (old now new : Moment M) → Stands ends step old front now pending → bytes ≡ piece ++ others → length (front ++ piece) ≤ SCRIPT_LIMIT → ServesPiece ends step (Ok Ended) now (pending ++ piece) new pending' → Consumes left left' (front ++ bytes) → ServesTaken ends step (Ok tt) left left' (front ++ bytes) old new
-  ended_served left left' front pending bytes piece others pending' old now new s parts fits h consumed =
+  ended_served : (left' : Option (List ℕ)) (front pending bytes piece others pending' : List ℕ) (old now new : Moment M) → Stands ends step old front now pending → bytes ≡ piece ++ others → length (front ++ piece) ≤ SCRIPT_LIMIT → ServesPiece ends step (Ok Ended) now (pending ++ piece) new pending' → ServesTaken ends step (Ok tt) left' (front ++ bytes) old new
+  ended_served left' front pending bytes piece others pending' old now new s parts fits h =
       let e = cut front bytes piece others parts in
-      let q = Reads-Finishes ends (front ++ piece) (pending ++ piece) s.done h.0 (Reads-more ends front s.done pending piece s.reads) h.2 in
-      let asked = ap (script_requests ends) e ∙ q.all others in (
-        subst (λ requests. Serves step old requests new) (sym asked) (Serves-append step old now new s.done h.0 s.serves h.1),
-        (
-          inr (ap (has_ending ends) e ∙ q.ending others),
-          at_ending ends left left' (front ++ bytes) consumed (λ more. ap (λ xs. script_requests ends (xs ++ more)) e ∙ ap (script_requests ends) (append_assoc (front ++ piece) others more) ∙ q.all (others ++ more) ∙ sym asked),
-        ),
+      let q = Reads-Finishes ends (front ++ piece) (pending ++ piece) s.done h.0 (Reads-more ends front s.done pending piece s.reads) h.2 in (
+        subst (λ requests. Serves step old requests new) (sym (ap (script_requests ends) e ∙ q.all others)) (Serves-append step old now new s.done h.0 s.serves h.1),
+        inr (ap (has_ending ends) e ∙ q.ending others),
         inr (ap (λ xs. has_ending ends (take SCRIPT_LIMIT xs)) e ∙ ap (has_ending ends) (front_then SCRIPT_LIMIT (front ++ piece) others fits) ∙ q.ending _),
       )
 
@@ -248,10 +228,10 @@ module _ {M : Type 0} (ends : Command → Bool) (step : Stand M → Request → 
   pub read_ended : (left left' left'' : Option (List ℕ)) (old now new : Moment M) (count : ℕ) (pending bytes piece others pending' : List ℕ) → ReadsOn ends step left left' old now count pending → count ≤ SCRIPT_LIMIT → length bytes ≤ PIECE_LENGTH → Consumes left' left'' bytes → bytes ≡ piece ++ others → count + length piece ≤ SCRIPT_LIMIT → ServesPiece ends step (Ok Ended) now (pending ++ piece) new pending' → ServesScript ends step (Ok tt) left left'' old new
   read_ended left left' left'' old now new count pending bytes piece others pending' r le short consumed parts room h =
       read_bytes (Ok tt) left left' left'' old now new count pending bytes r le short consumed
-      (ended_served left left'' r.taken pending bytes piece others pending' old now new r.stands parts (let counted = r.length_is in omega (arith, length-append r.taken piece)) h)
+      (ended_served left'' r.taken pending bytes piece others pending' old now new r.stands parts (let counted = r.length_is in omega (arith, length-append r.taken piece)) h)
 
-  overlong_served : (left left' : Option (List ℕ)) (front pending bytes piece others pending' : List ℕ) (old now new : Moment M) → Stands ends step old front now pending → bytes ≡ piece ++ others → length (front ++ piece) ≡ SCRIPT_LIMIT → 0 < length others → ServesPiece ends step (Ok Open) now (pending ++ piece) new pending' → ServesTaken ends step (Err stop.TooLong) left left' (front ++ bytes) old new
-  overlong_served left left' front pending bytes piece others pending' old now new s parts full some h =
+  overlong_served : (left' : Option (List ℕ)) (front pending bytes piece others pending' : List ℕ) (old now new : Moment M) → Stands ends step old front now pending → bytes ≡ piece ++ others → length (front ++ piece) ≡ SCRIPT_LIMIT → 0 < length others → ServesPiece ends step (Ok Open) now (pending ++ piece) new pending' → ServesTaken ends step (Err stop.TooLong) left' (front ++ bytes) old new
+  overlong_served left' front pending bytes piece others pending' old now new s parts full some h =
       let e = cut front bytes piece others parts in
       let next = Reads-append ends (front ++ piece) (pending ++ piece) pending' s.done h.0 (Reads-more ends front s.done pending piece s.reads) h.2 in
       let kept = ap (take SCRIPT_LIMIT) e ∙ front_is SCRIPT_LIMIT (front ++ piece) others full in
@@ -267,7 +247,7 @@ module _ {M : Type 0} (ends : Command → Bool) (step : Stand M → Request → 
   pub read_overlong : (left left' left'' : Option (List ℕ)) (old now new : Moment M) (count : ℕ) (pending bytes piece others pending' : List ℕ) → ReadsOn ends step left left' old now count pending → count ≤ SCRIPT_LIMIT → length bytes ≤ PIECE_LENGTH → Consumes left' left'' bytes → bytes ≡ piece ++ others → count + length piece ≡ SCRIPT_LIMIT → 0 < length others → ServesPiece ends step (Ok Open) now (pending ++ piece) new pending' → ServesScript ends step (Err stop.TooLong) left left'' old new
   read_overlong left left' left'' old now new count pending bytes piece others pending' r le short consumed parts full some h =
       read_bytes (Err stop.TooLong) left left' left'' old now new count pending bytes r le short consumed
-      (λ _. overlong_served left left'' r.taken pending bytes piece others pending' old now new r.stands parts (let counted = r.length_is in omega (arith, length-append r.taken piece)) some h)
+      (overlong_served left'' r.taken pending bytes piece others pending' old now new r.stands parts (let counted = r.length_is in omega (arith, length-append r.taken piece)) some h)
 
   -- what the whole lines among the bytes that may be ask begins with what was answered
   first_asked : (front pending bytes piece others : List ℕ) (done next : List Request) → Reads ends front done pending → Begins ends (pending ++ piece) next → bytes ≡ piece ++ others → length (front ++ piece) ≤ SCRIPT_LIMIT → (rest : List Request) × (whole_requests ends (take SCRIPT_LIMIT (front ++ bytes)) ≡ (done ++ next) ++ rest)
@@ -276,18 +256,18 @@ module _ {M : Type 0} (ends : Command → Bool) (step : Stand M → Request → 
       let found = all.whole (take (SCRIPT_LIMIT - length (front ++ piece)) others) in
       (found.0, ap (λ xs. whole_requests ends (take SCRIPT_LIMIT xs)) (cut front bytes piece others parts) ∙ ap (whole_requests ends) (front_then SCRIPT_LIMIT (front ++ piece) others fits) ∙ found.1)
 
-  stopped_served : (fault : Stop) (left left' : Option (List ℕ)) (front pending bytes piece others pending' : List ℕ) (old now new : Moment M) → Stands ends step old front now pending → bytes ≡ piece ++ others → length (front ++ piece) ≤ SCRIPT_LIMIT → ServesPiece ends step (Err fault) now (pending ++ piece) new pending' → ServesTaken ends step (Err fault) left left' (front ++ bytes) old new
-  stopped_served stop.Sink left left' front pending bytes piece others pending' old now new s parts fits h =
+  stopped_served : (fault : Stop) (left' : Option (List ℕ)) (front pending bytes piece others pending' : List ℕ) (old now new : Moment M) → Stands ends step old front now pending → bytes ≡ piece ++ others → length (front ++ piece) ≤ SCRIPT_LIMIT → ServesPiece ends step (Err fault) now (pending ++ piece) new pending' → ServesTaken ends step (Err fault) left' (front ++ bytes) old new
+  stopped_served stop.Sink left' front pending bytes piece others pending' old now new s parts fits h =
       let found = first_asked front pending bytes piece others s.done h.0 s.reads h.2 parts fits in
       (whole_requests ends (take SCRIPT_LIMIT (front ++ bytes)), s.done ++ h.0, found.0, inl refl, found.1, Serves-Breaks step old now new s.done h.0 s.serves h.1)
-  stopped_served stop.Memory left left' front pending bytes piece others pending' old now new s parts fits h =
+  stopped_served stop.Memory left' front pending bytes piece others pending' old now new s parts fits h =
       let found = first_asked front pending bytes piece others s.done h.0 s.reads h.2 parts fits in
       (whole_requests ends (take SCRIPT_LIMIT (front ++ bytes)), s.done ++ h.0, found.0, inl refl, found.1, Serves-Halts step old now new s.done h.0 s.serves h.1)
-  stopped_served stop.Source left left' front pending bytes piece others pending' old now new s parts fits h = absurd h
-  stopped_served stop.TooLong left left' front pending bytes piece others pending' old now new s parts fits h = absurd h
+  stopped_served stop.Source left' front pending bytes piece others pending' old now new s parts fits h = absurd h
+  stopped_served stop.TooLong left' front pending bytes piece others pending' old now new s parts fits h = absurd h
 
   -- a line was cut short
   pub read_stopped : (fault : Stop) (left left' left'' : Option (List ℕ)) (old now new : Moment M) (count : ℕ) (pending bytes piece others pending' : List ℕ) → ReadsOn ends step left left' old now count pending → count ≤ SCRIPT_LIMIT → length bytes ≤ PIECE_LENGTH → Consumes left' left'' bytes → bytes ≡ piece ++ others → count + length piece ≤ SCRIPT_LIMIT → ServesPiece ends step (Err fault) now (pending ++ piece) new pending' → ServesScript ends step (Err fault) left left'' old new
   read_stopped fault left left' left'' old now new count pending bytes piece others pending' r le short consumed parts room h =
       read_bytes (Err fault) left left' left'' old now new count pending bytes r le short consumed
-      (λ _. stopped_served fault left left'' r.taken pending bytes piece others pending' old now new r.stands parts (let counted = r.length_is in omega (arith, length-append r.taken piece)) h)
+      (stopped_served fault left'' r.taken pending bytes piece others pending' old now new r.stands parts (let counted = r.length_is in omega (arith, length-append r.taken piece)) h)

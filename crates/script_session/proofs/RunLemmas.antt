@@ -41,7 +41,7 @@ module _ {M : Type 0} (ends : Command → Bool) (step : Stand M → Request → 
       }
 
   -- it was stopped
-  stopped_as : (fault : Stop) (left left' : Option (List ℕ)) (sources sources' sinks sinks' : ℕ) (taken : List ℕ) (old new : Moment M) (status : ℕ) → ServesTaken ends step (Err fault) left left' taken old new → SourceCause {T = Unit {0}} (Err fault) sources sources' → SinkCause {T = Unit {0}} (Err fault) sinks sinks' → status ≡ stop_status fault
+  stopped_as : (fault : Stop) (left left' : Option (List ℕ)) (sources sources' sinks sinks' : ℕ) (taken : List ℕ) (old new : Moment M) (status : ℕ) → ServesTaken ends step (Err fault) left' taken old new → SourceCause {T = Unit {0}} (Err fault) sources sources' → SinkCause {T = Unit {0}} (Err fault) sinks sinks' → status ≡ stop_status fault
       → EndsAs step ends taken old.state (outside left sources old.written sinks) new.state (outside left' sources' new.written sinks') status
   stopped_as stop.Source left left' sources sources' sinks sinks' taken old new status h source sink is =
       SourceFailed h.0.replies (record { transcript = h.0.run; output = h.0.output }) h.1 h.2 source is

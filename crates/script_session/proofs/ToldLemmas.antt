@@ -1,6 +1,6 @@
 -- From the bytes that were taken to all that the source has, where it tells them.
 use Rattle.std.proofs.Common.{◌≡◌, ℕ, ◌≤◌, ◌<◌, ◌+◌, ◌-◌, List, [], ◌∷◌, ◌++◌, length, take, drop, refl, sym, ◌∙◌, ap, append_assoc, append-nil, subst, arith, Option, Some, None, true, false, Bool, inl, inr, length-append}
-use Rattle.std.specs.Prelude.{if◌then◌else◌, ◌==◌, nat_le, ◌⊎◌, IfSome}
+use Rattle.std.specs.Prelude.{if◌then◌else◌, ◌==◌, nat_le, ◌⊎◌}
 use Rattle.std.specs.List.{list_any}
 use Rattle.std.specs.Io.KnownBytes.{Consumes, IsAtEnd}
 use Rattle.std.proofs.lemmas.Bool.Decides.{nat_tests}
@@ -11,7 +11,7 @@ use Rattle.script_session.specs.Request.{Command, Request}
 use Rattle.script_session.specs.Reply.{final_status, status_of, wants_memory, is_error}
 use Rattle.script_session.specs.Script.{HasNoNewline, is_newline, ended_line, line_requests, is_end, script_requests, whole_requests, has_ending, IsWithinLimit, IsOverlong}
 use Rattle.script_session.specs.Session.{Reads, Finishes}
-use Rattle.script_session.specs.Run.{Outside, Answers, IsCutOff, IsCutShort, IsAnswerable, EndsAs, Finished, SourceFailed, SinkFailed, MemoryWanted, TooLong}
+use Rattle.script_session.specs.Run.{Outside, Answers, IsCutOff, IsCutShort, IsAll, IsAnswerable, EndsAs, Finished, SourceFailed, SinkFailed, MemoryWanted, TooLong}
 use Rattle.script_session.specs.Stand.{Transcript}
 use Rattle.script_session.specs.Told.{allowed_requests, IsRunOf, ToldLaw}
 use Rattle.script_session.specs.declared.reading.TheConstants.{SCRIPT_LIMIT}
@@ -98,6 +98,12 @@ module _ (ends : Command → Bool) where
       by (Open done left reads last) = let unended = ending_taken ends bytes done left reads last in absurd (cc)
       by (Over done finishes) = over_whole bytes done finishes ∙ sym (finishes.all more)
 
+  -- so what was taken asks all that is asked
+  taken_all : (input taken rest : List ℕ) (left' : Option (List ℕ)) → input ≡ taken ++ rest → (IsAtEnd left' → rest ≡ []) → IsAll ends left' taken → script_requests ends input ≡ script_requests ends taken
+  taken_all input taken rest left' e end (inl over) = ap (script_requests ends) (e ∙ ap (λ xs. taken ++ xs) (end over) ∙ append-nil taken)
+  taken_all input taken rest left' e end (inr ended) =
+      ap (script_requests ends) e ∙ sym (ending_same taken rest ended) ∙ ending_same taken [] ended ∙ ap (script_requests ends) (append-nil taken)
+
   allowed_short : (input : List ℕ) → length input ≤ SCRIPT_LIMIT → allowed_requests ends input ≡ script_requests ends input
   allowed_short input le = ap (λ (b : Bool). if b then script_requests ends input else whole_requests ends (take SCRIPT_LIMIT input)) (fits_test (length input) SCRIPT_LIMIT le)
 
@@ -132,7 +138,7 @@ module _ (ends : Command → Bool) where
       let long = ap length same in
       (others, allowed_short input (omega arith) ∙ ap (script_requests ends) same ∙ sym all ∙ parts)
 
-  within_all : (input taken rest : List ℕ) (left' : Option (List ℕ)) → input ≡ taken ++ rest → (IsAtEnd left' → rest ≡ []) → IsAtEnd left' ⊎ (has_ending ends taken ≡ true) → IsWithinLimit ends taken → IsWithinLimit ends input
+  within_all : (input taken rest : List ℕ) (left' : Option (List ℕ)) → input ≡ taken ++ rest → (IsAtEnd left' → rest ≡ []) → IsAll ends left' taken → IsWithinLimit ends taken → IsWithinLimit ends input
   within_all input taken rest left' e end all (inr ended) =
       let front = front_of SCRIPT_LIMIT taken rest in
       inr (ap (λ xs. has_ending ends (take SCRIPT_LIMIT xs)) e ∙ ap (has_ending ends) front.1 ∙ ending_more (take SCRIPT_LIMIT taken) front.0 ended)
@@ -158,9 +164,10 @@ whole_status false true = inl (omega arith)
 whole_status false false = inl (omega arith)
 
 module _ {S : Type 0} (step : S → Request → List ℕ → S → Type 0) (ends : Command → Bool) (input taken rest : List ℕ) (left' : Option (List ℕ)) (old : S) (before : Outside) (new : S) (after : Outside) (status : ℕ) (e : input ≡ taken ++ rest) (end : IsAtEnd left' → rest ≡ []) where
-  finished : (replies : List (List ℕ)) → Answers step (script_requests ends taken) old before new after replies → IsAtEnd left' ⊎ (has_ending ends taken ≡ true) → script_requests ends input ≡ script_requests ends taken → IsWithinLimit ends taken → status ≡ status_of replies
+  finished : (replies : List (List ℕ)) → Answers step (script_requests ends taken) old before new after replies → IsAll ends left' taken → IsWithinLimit ends taken → status ≡ status_of replies
       → IsRunOf step ends input old before new after status
-  finished replies answers all same within is =
+  finished replies answers all within is =
+      let same = taken_all ends input taken rest left' e end all in
       let known = whole_status (list_any wants_memory replies) (list_any is_error replies) in
       let inside = within_all ends input taken rest left' e end all within in
       let answered = subst (λ (asked : List Request). Answers step asked old before new after replies) (sym same) answers in
@@ -237,9 +244,7 @@ told_law S step ends input old before new after status from run =
     by t.0 t.1 t.2 run.ended
   where
     by : (rest : List ℕ) → input ≡ run.taken ++ rest → (IsAtEnd after.left → rest ≡ []) → EndsAs step ends run.taken old before new after status → IsRunOf step ends input old before new after status
-    by rest e end (Finished replies answers all within is) =
-        let same = subst (λ (left : Option (List ℕ)). IfSome left (λ input. script_requests ends input ≡ script_requests ends run.taken)) from all.1 in
-        finished step ends input run.taken rest after.left old before new after status e end replies answers all.0 same within is
+    by rest e end (Finished replies answers all within is) = finished step ends input run.taken rest after.left old before new after status e end replies answers all within is
     by rest e end (SourceFailed replies answers within unended rose is) = source_failed step ends input run.taken rest after.left old before new after status e end is
     by rest e end (SinkFailed asked answerable cut rose is) = sink_failed step ends input run.taken rest after.left old before new after status e end asked answerable cut is
     by rest e end (MemoryWanted asked answerable cut is) = memory_wanted step ends input run.taken rest after.left old before new after status e end asked answerable cut is

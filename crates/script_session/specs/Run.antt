@@ -1,6 +1,6 @@
 -- What a run of a script is: one definition for every status, over the bytes that were taken from the source, whether the
 -- source tells them or not.
-use Rattle.std.specs.Prelude.{◌≡◌, ℕ, ◌≤◌, ◌⊎◌, Bool, true, false, List, ◌++◌, length, take, Option, IfSome}
+use Rattle.std.specs.Prelude.{◌≡◌, ℕ, ◌≤◌, ◌⊎◌, Bool, true, false, List, ◌++◌, length, take, Option}
 use Rattle.std.specs.List.{concat}
 use Rattle.std.specs.Io.KnownBytes.{Appends, Consumes, IsAtEnd}
 use Rattle.sym_io.specs.Faults.{Rose}
@@ -63,10 +63,9 @@ pub record IsLastRead (ends : Command → Bool) (taken : List ℕ) : Type 0 wher
   pub within : length front ≤ SCRIPT_LIMIT
   pub unended : has_ending ends front ≡ false
 
--- the source is at its end or a line has ended the script, so what was taken asks all that the source's bytes ask, where it
--- tells them
-abbrev pub IsAll : (Command → Bool) → Option (List ℕ) → Option (List ℕ) → List ℕ → Type 0
-IsAll ends left left' taken = (IsAtEnd left' ⊎ (has_ending ends taken ≡ true)) × IfSome left (λ input. script_requests ends input ≡ script_requests ends taken)
+-- nothing is left to be asked: the source is at its end, or a line has ended the script
+abbrev pub IsAll : (Command → Bool) → Option (List ℕ) → List ℕ → Type 0
+IsAll ends left' taken = IsAtEnd left' ⊎ (has_ending ends taken ≡ true)
 
 -- What may be answered of the bytes that were taken: what the whole lines among those that may be ask. At the source's end the
 -- last line counts too; before it, a line whose end hasn't come is none.
@@ -81,7 +80,7 @@ IsAnswerable ends left' taken asked =
 -- though memory may have been wanting for a reply; the source or the sink failed; the run itself had no memory; or a byte
 -- too many came.
 pub data EndsAs {S : Type 0} (step : S → Request → List ℕ → S → Type 0) (ends : Command → Bool) (taken : List ℕ) (old : S) (before : Outside) (new : S) (after : Outside) (status : ℕ) : Type 0 where
-  Finished : (replies : List (List ℕ)) → Answers step (script_requests ends taken) old before new after replies → IsAll ends before.left after.left taken → IsWithinLimit ends taken
+  Finished : (replies : List (List ℕ)) → Answers step (script_requests ends taken) old before new after replies → IsAll ends after.left taken → IsWithinLimit ends taken
       → status ≡ status_of replies → EndsAs step ends taken old before new after status
   SourceFailed : (replies : List (List ℕ)) → Answers step (whole_requests ends taken) old before new after replies → length taken ≤ SCRIPT_LIMIT → has_ending ends taken ≡ false
       → Rose before.source_faults after.source_faults → status ≡ 3 → EndsAs step ends taken old before new after status

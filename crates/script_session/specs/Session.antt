@@ -105,17 +105,17 @@ ServesRest ends step (Err stop.Memory) old pending new = (first rest : List Requ
 ServesRest ends step (Err stop.Source) old pending new = ⊥
 ServesRest ends step (Err stop.TooLong) old pending new = ⊥
 
--- what the answer to a script says of the bytes that were taken, where left and left' are what the source tells before and after
-abbrev pub ServesTaken : {M : Type 0} → (Command → Bool) → (Stand M → Request → List ℕ → Stand M → Type 0) → Result (Unit {0}) Stop → Option (List ℕ) → Option (List ℕ) → List ℕ → Moment M → Moment M → Type 0
-ServesTaken ends step (Ok done) left left' taken old new = Serves step old (script_requests ends taken) new × IsAll ends left left' taken × IsWithinLimit ends taken
-ServesTaken ends step (Err stop.Source) left left' taken old new = Serves step old (whole_requests ends taken) new × (length taken ≤ SCRIPT_LIMIT) × (has_ending ends taken ≡ false)
-ServesTaken ends step (Err stop.TooLong) left left' taken old new = Serves step old (whole_requests ends (take SCRIPT_LIMIT taken)) new × IsOverlong ends taken
-ServesTaken ends step (Err stop.Sink) left left' taken old new = (asked first rest : List Request) × IsAnswerable ends left' taken asked × (asked ≡ first ++ rest) × Breaks step old first new
-ServesTaken ends step (Err stop.Memory) left left' taken old new = (asked first rest : List Request) × IsAnswerable ends left' taken asked × (asked ≡ first ++ rest) × Halts step old first new
+-- what the answer to a script says of the bytes that were taken, where left is what the source tells then
+abbrev pub ServesTaken : {M : Type 0} → (Command → Bool) → (Stand M → Request → List ℕ → Stand M → Type 0) → Result (Unit {0}) Stop → Option (List ℕ) → List ℕ → Moment M → Moment M → Type 0
+ServesTaken ends step (Ok done) left taken old new = Serves step old (script_requests ends taken) new × IsAll ends left taken × IsWithinLimit ends taken
+ServesTaken ends step (Err stop.Source) left taken old new = Serves step old (whole_requests ends taken) new × (length taken ≤ SCRIPT_LIMIT) × (has_ending ends taken ≡ false)
+ServesTaken ends step (Err stop.TooLong) left taken old new = Serves step old (whole_requests ends (take SCRIPT_LIMIT taken)) new × IsOverlong ends taken
+ServesTaken ends step (Err stop.Sink) left taken old new = (asked first rest : List Request) × IsAnswerable ends left taken asked × (asked ≡ first ++ rest) × Breaks step old first new
+ServesTaken ends step (Err stop.Memory) left taken old new = (asked first rest : List Request) × IsAnswerable ends left taken asked × (asked ≡ first ++ rest) × Halts step old first new
 
 -- what it says of a script: these bytes were taken
 pub record ServesScript {M : Type 0} (ends : Command → Bool) (step : Stand M → Request → List ℕ → Stand M → Type 0) (result : Result (Unit {0}) Stop) (left left' : Option (List ℕ)) (old new : Moment M) : Type 0 where
   pub taken : List ℕ
   pub consumed : Consumes left left' taken
   pub last : IsLastRead ends taken
-  pub served : ServesTaken ends step result left left' taken old new
+  pub served : ServesTaken ends step result left' taken old new

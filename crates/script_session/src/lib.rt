@@ -10,6 +10,9 @@
 //! `Transcript (RequestStep step) s0 [q1, .., qn] [r1, .., rn] sn` has one reply to each request, each a step from where
 //! the last one led, and what is written is `r1 ++ .. ++ rn`.
 //!
+//! `IsRun` in specs/Run.antt is the one definition of a run, for every status. It is over the bytes that were taken from the
+//! source, so it says the same of a source that does not tell what it holds.
+//!
 //! Contract in one sentence: `run_script` writes the transcript of the script's requests, up to the first that ends it,
 //! and its status tells why it stopped earlier, if it did, and whether all is well.
 //!

@@ -1,5 +1,5 @@
 // The machine behind the script: the model that is present, and what a command does to it.
-ghost use Rattle.std.specs.Prelude.{◌≡◌, true, false, [], ◌++◌, OnOk, OnErr, ℕ, List, map, Some, None};
+ghost use Rattle.std.specs.Prelude.{◌≡◌, ◌≤◌, true, false, [], ◌++◌, OnOk, OnErr, ℕ, List, map, Some, None};
 ghost use Rattle.mps_model.specs.Bounded.{has_integer_bounds};
 ghost use Rattle.mps_model.specs.PlainNames.{HasPlainNames, HasPlainRows};
 ghost use Rattle.command_words.specs.Names.{is_file_name};
