@@ -51,9 +51,16 @@ impl Shell {
         ensures kept { OnErr result (self.new ≡ self.old) }
     {
         let loaded = Loaded::new(alloc, model)?;
-        reply.extend_from_slice(b"ok\n")?;
-        self.loaded = Some(loaded);
-        Ok(())
+        match reply.extend_from_slice(b"ok\n") {
+            Ok(()) => {
+                drop(self.loaded.replace(loaded));
+                Ok(())
+            }
+            Err(error) => {
+                drop(loaded);
+                Err(error)
+            }
+        }
     }
 
     /// Replaces the model by the file's.
