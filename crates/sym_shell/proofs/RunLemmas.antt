@@ -28,7 +28,7 @@ pub script_run : (shell shell' : Shell) (before after : Outside) (files files' :
 script_run shell shell' before after files files' faults faults' status none run = (
   present shell',
   subst (λ (held : Present). IsRun (RequestStep IsAnswered) quits (state held files faults) before (state (present shell') files' faults') after status) none
-  (IsRun-through state_of ShellStep IsAnswered answered quits (stand shell files faults) before (stand shell' files' faults') after status run),
+      (IsRun-through state_of ShellStep IsAnswered answered quits (stand shell files faults) before (stand shell' files' faults') after status run),
 )
 
 -- the statuses of a check

@@ -140,9 +140,9 @@ pub fn run<R: Source, W: Sink, S: Store>(
         (outside (R.left script.new) (R.faults script.new) (W.written out.new) (W.faults out.new))
         (S.files store.old) (S.files store.new) (S.faults store.old) (S.faults store.new)) result
         ⊎ ((result ≡ 5) × Untouched (around
-            (outside (R.left script.old) (R.faults script.old) (W.written out.old) (W.faults out.old))
-            (outside (R.left script.new) (R.faults script.new) (W.written out.new) (W.faults out.new))
-            (S.files store.old) (S.files store.new) (S.faults store.old) (S.faults store.new))) }
+        (outside (R.left script.old) (R.faults script.old) (W.written out.old) (W.faults out.old))
+        (outside (R.left script.new) (R.faults script.new) (W.written out.new) (W.faults out.new))
+        (S.files store.old) (S.files store.new) (S.faults store.old) (S.faults store.new))) }
 
     // No count of faults falls.
     ensures source_later { R.faults script.old ≤ R.faults script.new }
