@@ -8,6 +8,7 @@ use Rattle.rational.specs.Rational.{ℚ, ◌≤ℚ◌}
 use Rattle.lp_model.specs.Program.{Program, IsOptimum, value, least_value, in_least_form}
 use Rattle.lp_model.specs.Lawful.{IsLawful}
 use Rattle.tree_edit.specs.Calls.{IsFresh}
+use Rattle.tree_edit.specs.Points.{IsIncumbent}
 use Rattle.tree_edit.specs.Sound.{PlainSearch, IsSound}
 use Rattle.tree_search.specs.Bounds.{IsUnbeaten, IsBoundOf}
 use Rattle.tree_search.specs.Work.{whole_points, cap_of}
@@ -78,6 +79,7 @@ module _ (fresh S : PlainSearch) (limit : ℕ) (lawful : IsLawful S.model) (plai
         placed = n;
         search = S;
         finished = record { searched = record { fresh = fresh; begins = begins; placed = f.goes.placed; model = refl }; none_open = f.shows.finished };
+        oldest = subst (λ y. IsIncumbent M S.points (Some y)) (sym back) f.shows.incumbent;
         held_is = refl;
         shown = e ∙ ap (λ y. optimal_text M y n) (sym back);
         within_limit = f.shows.within_limit;

@@ -4,6 +4,7 @@ use Rattle.rational.specs.Rational.{ℚ}
 use Rattle.lp_model.specs.Program.{Program, IsOptimum, IsEmpty, value}
 use Rattle.lp_model.specs.Regions.{Path}
 use Rattle.lp_model.specs.declared.types.WideStep.{WideStep}
+use Rattle.tree_edit.specs.Points.{IsIncumbent}
 use Rattle.tree_edit.specs.Sound.{PlainSearch}
 use Rattle.tree_search.specs.Work.{cap_of}
 use Rattle.tree_search.specs.Working.{PointIsWide}
@@ -15,13 +16,14 @@ use Rattle.sym_shell.specs.Texts.{no_model_text, optimal_text, infeasible_text, 
 
 -- The point that the reply shows is an optimum of the model, and the value that it shows is the point's. Both are read
 -- from the reply's bytes alone, and the reply is nothing but them and the number of results, which passes neither limit.
--- The finished search is held.
+-- Of the points that the finished search keeps it is the oldest with the best value. The search is held.
 pub record ShowsOptimum (M : Program) (limit : ℕ) (reply : List ℕ) (held : Option PlainSearch) : Type 0 where
   pub optimum : IsOptimum M (point_shown M reply)
   pub worth : value_shown reply ≡ Some (value M 1 (point_shown M reply))
   pub placed : ℕ
   pub search : PlainSearch
   pub finished : Finished M placed search
+  pub oldest : IsIncumbent M search.points (Some (point_shown M reply))
   pub held_is : held ≡ Some search
   pub shown : reply ≡ optimal_text M (point_shown M reply) placed
   pub within_limit : placed ≤ limit
