@@ -91,7 +91,10 @@ impl SidedBasis<'_> {
     }
 
     /// The multipliers of the activities that are not 0, rising, or the first step that has no room.
-    pub(crate) fn multiplier_list(&self, alloc: Global) -> Result<Result<Mult, WideStep>, AllocError>
+    pub(crate) fn multiplier_list(
+        &self,
+        alloc: Global,
+    ) -> Result<Result<Mult, WideStep>, AllocError>
         ensures { IfOk result (AreMultipliersAnswer self.now (multipliers (relaxation self.now) (table self.now) (relaxation self.now).cost)) }
     {
         let columns = self.tableau.columns();
