@@ -8,7 +8,7 @@ use sym_io::{MemSink, MemSource, MemStore, Store};
 /// Says each command again, its words joined by one blank. But `refuse` is refused, to `starve` memory is wanting, and `lose` has no
 /// memory for its reply. A command of three words ends the script.
 #[derive(Drop)]
-struct Echo;
+pub(crate) struct Echo;
 
 impl Machine for Echo {
     ghost use Rattle.std.specs.Prelude.{◌==◌, length};

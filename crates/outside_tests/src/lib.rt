@@ -9,3 +9,5 @@
 mod echo;
 #[cfg(test)]
 mod ends;
+#[cfg(test)]
+mod pieces;
