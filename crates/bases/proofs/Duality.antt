@@ -6,7 +6,7 @@ use Rattle.rational.specs.Rational.{ℚ, int, ◌+ℚ◌, ◌*ℚ◌, neg_ℚ}
 use Rattle.rational.proofs.RationalRing.{ring, reads_ℚ, zero-+ℚ}
 use Rattle.rational.proofs.Division.{ring_from}
 use Rattle.checked_sum.specs.Sums.{sum_below}
-use Rattle.bases.specs.Relaxation.{Relaxation, Table, Solves, Rows, row_value, IsTable, IsArranged, reduced_cost, value, multipliers, row_weights, left_of}
+use Rattle.bases.specs.Relaxation.{Relaxation, Table, Solves, Rows, row_value, IsTable, IsArranged, reduced_cost, total_cost, multipliers, row_weights, left_of}
 use Rattle.checked_sum.proofs.SumLaws.{sum_below-same, sum_below-add, sum_below-scale, sum_below_exchange}
 use Rattle.bases.proofs.SumBelowLaws.{sum_below-zero}
 use Rattle.bases.proofs.Pivot.{unit, sum_unit}
@@ -14,7 +14,7 @@ use Rattle.bases.proofs.Arranged.{assigned-basic, assigned-nonbasic, sum_assigne
 
 module _ (p : Relaxation) (d : Table) (arranged : IsArranged p d) (x : ℕ → ℚ) (rows : Rows p d x) where
   -- cost times number over all variables is reduced cost times number over the nonbasic ones
-  pub value-reduced : (c : ℕ → ℚ) → value p c x ≡ sum_below p.columns (λ k. reduced_cost p d c k *ℚ x (d.nonbasic k))
+  pub value-reduced : (c : ℕ → ℚ) → total_cost p c x ≡ sum_below p.columns (λ k. reduced_cost p d c k *ℚ x (d.nonbasic k))
   value-reduced c =
       let saved : ℕ → ℚ = λ k. sum_below p.activities (λ i. c (d.basic i) *ℚ d.entry i k) in
       let basics : sum_below p.activities (λ i. c (d.basic i) *ℚ x (d.basic i)) ≡ sum_below p.columns (λ k. saved k *ℚ x (d.nonbasic k)) =
@@ -31,7 +31,7 @@ module _ (p : Relaxation) (d : Table) (arranged : IsArranged p d) (x : ℕ → �
       ∙ sum_below-same p.columns _ _ (λ k q. ring (saved k ∷ x (d.nonbasic k) ∷ c (d.nonbasic k) ∷ []) (search reads_ℚ) tt)
 
   -- the multipliers give the same as the costs
-  pub value-multipliers : (c : ℕ → ℚ) → value p c x ≡ value p (multipliers p d c) x
+  pub value-multipliers : (c : ℕ → ℚ) → total_cost p c x ≡ total_cost p (multipliers p d c) x
   value-multipliers c =
       value-reduced c
       ∙ sym (sum_assigned p d arranged (λ i. int (pos 0)) (reduced_cost p d c) x
@@ -39,7 +39,7 @@ module _ (p : Relaxation) (d : Table) (arranged : IsArranged p d) (x : ℕ → �
       ∙ zero-+ℚ _)
 
   -- a row's weights give 0
-  pub value-row_weights : (r : ℕ) → r < p.activities → value p (row_weights p d r) x ≡ int (pos 0)
+  pub value-row_weights : (r : ℕ) → r < p.activities → total_cost p (row_weights p d r) x ≡ int (pos 0)
   value-row_weights r within =
       sum_assigned p d arranged (unit r) (λ k. neg_ℚ (d.entry r k)) x
       ∙ ap₂ ◌+ℚ◌ (sum_unit p.activities r (λ i. x (d.basic i)) within ∙ rows r within)
@@ -69,13 +69,13 @@ module _ (p : Relaxation) (j : ℕ) (j_within : j < p.columns) where
   pub Solves-unit_solution : Solves p (unit_solution p j)
   Solves-unit_solution i within = unit_solution-activity i ∙ sym (unit_sum (p.coefficient i))
 
-  pub value-unit_solution : (c : ℕ → ℚ) → value p c (unit_solution p j) ≡ c j +ℚ sum_below p.activities (λ i. c (p.columns + i) *ℚ p.coefficient i j)
+  pub value-unit_solution : (c : ℕ → ℚ) → total_cost p c (unit_solution p j) ≡ c j +ℚ sum_below p.activities (λ i. c (p.columns + i) *ℚ p.coefficient i j)
   value-unit_solution c =
       sum_below-split p.columns p.activities (λ v. c v *ℚ unit_solution p j v)
       ∙ ap₂ ◌+ℚ◌ (unit_sum c) (sum_below-same p.activities _ _ (λ i q. ap (λ t. c (p.columns + i) *ℚ t) (unit_solution-activity i)))
 
   -- weights that give the same as the costs at every solution leave at column j what they have there
-  pub left_of_same : (c w : ℕ → ℚ) → ((i : ℕ) → i < p.activities → c (p.columns + i) ≡ int (pos 0)) → ((x : ℕ → ℚ) → Solves p x → value p c x ≡ value p w x) → left_of p c w j ≡ w j
+  pub left_of_same : (c w : ℕ → ℚ) → ((i : ℕ) → i < p.activities → c (p.columns + i) ≡ int (pos 0)) → ((x : ℕ → ℚ) → Solves p x → total_cost p c x ≡ total_cost p w x) → left_of p c w j ≡ w j
   left_of_same c w free same =
       let saved = sum_below p.activities (λ i. w (p.columns + i) *ℚ p.coefficient i j) in
       let none : sum_below p.activities (λ i. c (p.columns + i) *ℚ p.coefficient i j) ≡ int (pos 0) =

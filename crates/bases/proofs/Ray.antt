@@ -6,11 +6,11 @@ use Rattle.rational.specs.Rational.{ℚ, int, ◌+ℚ◌, ◌*ℚ◌, neg_ℚ, �
 use Rattle.rational.proofs.RationalRing.{ring, reads_ℚ, zero-+ℚ}
 use Rattle.rational.proofs.RationalOrder.{≤ℚ_or_>ℚ, ≤ℚ_antisymm, <ℚ_irrefl, ≤ℚ_refl, ≤ℚ_of_<ℚ, ≤ℚ_of_≡, add-≤ℚ, linear, zero-≤ℚ-+ℚ, zero-≤ℚ-*ℚ, mul-≤ℚ_nonpositive, zero-<ℚ-one}
 use Rattle.checked_sum.specs.Sums.{sum_below}
-use Rattle.bases.specs.Relaxation.{Relaxation, Table, IsArranged, point, reduced_cost, value, IsWithin, Solves}
+use Rattle.bases.specs.Relaxation.{Relaxation, Table, IsArranged, point, reduced_cost, total_cost, IsWithin, Solves}
 use Rattle.bases.specs.declared.stand.Stand.{Stand}
 use Rattle.bases.specs.States.{perturbed, IsPositive, IsFree, Separates, State, Standing, LawfulAt, reduced_parts, IsDualFeasible}
 use Rattle.bases.specs.declared.stand.Stand.TheVariants.{Low, High, Free}
-use Rattle.bases.specs.Directions.{direction_side, directions, Continues, side_number, model_stand, model_state, IsRay}
+use Rattle.bases.specs.Directions.{direction_side, directions, Continues, stand_number, model_stand, model_state, IsRelaxationRay}
 use Rattle.checked_sum.proofs.SumLaws.{sum_below-same, sum_below-scale}
 use Rattle.bases.proofs.SumBelowLaws.{if_same, if_other, sum_below-zero}
 use Rattle.bases.proofs.Arranged.{assigned-nonbasic, Rows-point}
@@ -96,7 +96,7 @@ module _ (p : Relaxation) (x : ℕ → ℚ) (within : IsWithin (directions p) x)
         none : parts q v ≤ℚ int (pos 0) → int (pos 0) ≤ℚ parts q v → int (pos 0) ≤ℚ parts q v *ℚ x v
         none h k = ≤ℚ_of_≡ (sym (ap (λ c. c *ℚ x v) (≤ℚ_antisymm h k) ∙ ring (x v ∷ []) (search reads_ℚ) tt))
 
-    value_nonnegative : (q : ℕ) → 0 < q → q < continues.ends → int (pos 0) ≤ℚ value p (longer q) x
+    value_nonnegative : (q : ℕ) → 0 < q → q < continues.ends → int (pos 0) ≤ℚ total_cost p (longer q) x
     value_nonnegative q later less = sum_nonnegative (p.columns + p.activities) _ (part_nonnegative q later less)
 
 -- ---- places
@@ -164,7 +164,7 @@ factor_none a x b some e h = not_zero_product b a some (ring (a ∷ b ∷ []) {y
 
 module _ (p : Relaxation) (parts longer : ℕ → ℕ → ℚ) (separates : Separates p parts) (continues : Continues p parts longer)
     (st : State) (arranged : IsArranged p st.table) (lawful : IsDualFeasible (directions p) longer st)
-    (within : IsWithin (directions p) (point p st.table st.at)) (not_below : int (pos 0) ≤ℚ value p (longer 0) (point p st.table st.at)) where
+    (within : IsWithin (directions p) (point p st.table st.at)) (not_below : int (pos 0) ≤ℚ total_cost p (longer 0) (point p st.table st.at)) where
   abbrev d : Table
   d = st.table
 
@@ -177,12 +177,12 @@ module _ (p : Relaxation) (parts longer : ℕ → ℕ → ℚ) (separates : Sepa
   standing : (k : ℕ) → k < p.columns → Standing (directions p) (d.nonbasic k) (st.stand k) (st.at k)
   standing k q = lawful.stands k q
 
-  value_is : (q : ℕ) → value p (longer q) x ≡ sum_below p.columns (λ k. reduced k q *ℚ st.at k)
+  value_is : (q : ℕ) → total_cost p (longer q) x ≡ sum_below p.columns (λ k. reduced k q *ℚ st.at k)
   value_is q =
       value-reduced p d arranged x (Rows-point p d arranged st.at) (longer q)
       ∙ sum_below-same p.columns _ _ (λ k w. ap (λ t. reduced k q *ℚ t) (assigned-nonbasic p d arranged _ st.at k w))
 
-  value_sign : (q : ℕ) → q < continues.ends → int (pos 0) ≤ℚ value p (longer q) x
+  value_sign : (q : ℕ) → q < continues.ends → int (pos 0) ≤ℚ total_cost p (longer q) x
   value_sign zero less = not_below
   value_sign (suc q) less = value_nonnegative p x within parts longer continues (suc q) (omega arith) less
 
@@ -246,7 +246,7 @@ module _ (p : Relaxation) (parts longer : ℕ → ℕ → ℚ) (separates : Sepa
       by Free h l = l q
 
   abbrev Kept : ℕ → Stand → Option ℚ → Option ℚ → Type 0
-  Kept k s a b = Standing p (d.nonbasic k) (model_stand s a b) (side_number (model_stand s a b) a b) × LawfulAt (model_stand s a b) (reduced_parts p parts d k)
+  Kept k s a b = Standing p (d.nonbasic k) (model_stand s a b) (stand_number (model_stand s a b) a b) × LawfulAt (model_stand s a b) (reduced_parts p parts d k)
 
   sided_lawful : (k : ℕ) → k < p.columns → ¬ (IsFree p (d.nonbasic k)) → (s : Stand) → LawfulAt s (reduced k) → LawfulAt s (reduced_parts p parts d k)
   sided_lawful k q sided s l = lawful_shorter s continues.ends (separates.own (d.nonbasic k)) (reduced k) _ (same_reduced k) (own_within (d.nonbasic k) sided) (own_reduced k q sided) l
@@ -275,7 +275,7 @@ module _ (p : Relaxation) (parts longer : ℕ → ℕ → ℚ) (separates : Sepa
   }
 
 -- a solution within the directions' sides of a cost below 0 is a ray
-pub ray_below : (p : Relaxation) (x : ℕ → ℚ) → Solves p x → IsWithin (directions p) x → value p p.cost x <ℚ int (pos 0) → IsRay p x
+pub ray_below : (p : Relaxation) (x : ℕ → ℚ) → Solves p x → IsWithin (directions p) x → total_cost p p.cost x <ℚ int (pos 0) → IsRelaxationRay p x
 ray_below p x solves within below = record { solves = solves; low = λ v q some. at_least p x within v q some; high = λ v q some. at_most p x within v q some; improves = below }
 
 -- the directions' perturbed costs go on after the model's, where the tilts are the same up to rank n and the model has none from there on

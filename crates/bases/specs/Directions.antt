@@ -1,7 +1,7 @@
 -- The relaxation of directions: what may be added to a solution without end.
 use Rattle.std.specs.Prelude.{◌≡◌, ◌≢◌, ℕ, ◌+◌, ◌<◌, ◌≤◌, pos, negsuc, Option, Some, None, Bool, ltb, if◌then◌else◌}
 use Rattle.rational.specs.Rational.{ℚ, int, ◌≤ℚ◌, ◌<ℚ◌}
-use Rattle.bases.specs.Relaxation.{Relaxation, Solves, value}
+use Rattle.bases.specs.Relaxation.{Relaxation, Solves, total_cost}
 use Rattle.bases.specs.declared.stand.Stand.{Stand}
 use Rattle.bases.specs.States.{State}
 use Rattle.bases.specs.declared.stand.Stand.TheVariants.{Low, High, Free}
@@ -31,12 +31,12 @@ pub record Continues (p : Relaxation) (parts longer : ℕ → ℕ → ℚ) : Typ
   pub lower : (q v : ℕ) → 0 < q → int (pos 0) <ℚ parts q v → p.low v ≢ None
   pub upper : (q v : ℕ) → 0 < q → parts q v <ℚ int (pos 0) → p.high v ≢ None
 
-abbrev pub side_number : Stand → Option ℚ → Option ℚ → ℚ
-side_number Low (Some x) high = x
-side_number Low None high = int (pos 0)
-side_number High low (Some x) = x
-side_number High low None = int (pos 0)
-side_number Free low high = int (pos 0)
+abbrev pub stand_number : Stand → Option ℚ → Option ℚ → ℚ
+stand_number Low (Some x) high = x
+stand_number Low None high = int (pos 0)
+stand_number High low (Some x) = x
+stand_number High low None = int (pos 0)
+stand_number Free low high = int (pos 0)
 
 abbrev pub model_stand : Stand → Option ℚ → Option ℚ → Stand
 model_stand stand None None = Free
@@ -48,12 +48,12 @@ abbrev pub model_state : Relaxation → State → State
 model_state p st = record {
   table = st.table;
   stand = λ k. model_stand (st.stand k) (p.low (st.table.nonbasic k)) (p.high (st.table.nonbasic k));
-  at = λ k. side_number (model_stand (st.stand k) (p.low (st.table.nonbasic k)) (p.high (st.table.nonbasic k))) (p.low (st.table.nonbasic k)) (p.high (st.table.nonbasic k));
+  at = λ k. stand_number (model_stand (st.stand k) (p.low (st.table.nonbasic k)) (p.high (st.table.nonbasic k))) (p.low (st.table.nonbasic k)) (p.high (st.table.nonbasic k));
 }
 
 -- a solution along which the model's sides are kept without end, of a cost below 0
-pub record IsRay (p : Relaxation) (x : ℕ → ℚ) : Type 0 where
+pub record IsRelaxationRay (p : Relaxation) (x : ℕ → ℚ) : Type 0 where
   pub solves : Solves p x
   pub low : (v : ℕ) → v < p.columns + p.activities → p.low v ≢ None → int (pos 0) ≤ℚ x v
   pub high : (v : ℕ) → v < p.columns + p.activities → p.high v ≢ None → x v ≤ℚ int (pos 0)
-  pub improves : value p p.cost x <ℚ int (pos 0)
+  pub improves : total_cost p p.cost x <ℚ int (pos 0)

@@ -41,7 +41,7 @@ pub enum Node {
     },
 }
 
-/// A copy of a leaf, beside the bound changes on the way to it.
+/// A leaf beside the bound changes on the way to it: what contracts see of one that is visited.
 #[derive(Drop)]
 pub struct RegionLeaf {
     pub id: u64,

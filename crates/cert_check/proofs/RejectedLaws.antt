@@ -1,56 +1,29 @@
 -- A certificate that is rejected is not accepted by the definition: what was found wrong of it is so.
-use Rattle.std.specs.Prelude.{◌≡◌, ℕ, ◌<◌, true, false, IsTrue, List, [], ◌∷◌, ◌++◌, length, pos, All}
+use Rattle.std.specs.Prelude.{◌≡◌, ℕ, ◌<◌, true, false, IsTrue, List, [], ◌∷◌, ◌++◌, length, All}
 use Rattle.std.proofs.Common.{refl, sym, ap, subst, ◌∙◌, inl, inr}
 use Rattle.std.proofs.lemmas.List.Elements.{All-nil, All-cons, All-head, All-tail, All-append}
-use Rattle.rational.specs.Rational.{ℚ, int}
-use Rattle.lp_model.specs.Program.{Program, in_least_form, is_integer}
+use Rattle.lp_model.specs.Program.{Program, is_integer}
 use Rattle.lp_model.specs.Lawful.{column_names}
 use Rattle.lp_model.specs.Edits.{Named}
 use Rattle.lp_model.specs.Regions.{Path}
+use Rattle.lp_model.specs.Formulations.{without_cuts}
 use Rattle.lp_model.proofs.AnswerLemmas.{feasible_answer}
-use Rattle.leaf_dual.specs.Dual.{Reaches, IsPositiveNumber, multiplier, least_constant, least_cost, lag}
-use Rattle.leaf_dual.proofs.AnswerLemmas.{dual_answer-is}
 use Rattle.branch_tree.specs.Tree.{SplitsLawfully, EachLeaf, left_path, right_path}
-use Rattle.cert_check.specs.declared.cert.Claim.{Claim}
-use Rattle.cert_check.specs.declared.cert.Claim.TheVariants.{Optimal, Infeasible}
-use Rattle.cert_check.specs.declared.cert.CertLeaf.{CertLeaf}
-use Rattle.cert_check.specs.declared.cert.CertLeaf.TheVariants.{Bound, Farkas, Empty}
-use Rattle.cert_check.specs.declared.cert.CertNode.{CertNode}
-use Rattle.cert_check.specs.declared.cert.CertNode.TheVariants as node
-use Rattle.cert_check.specs.declared.cert.Cert.{Cert}
+use Rattle.cert_text.specs.declared.cert.Claim.{Claim}
+use Rattle.cert_text.specs.declared.cert.Claim.TheVariants.{Optimal, Infeasible}
+use Rattle.cert_text.specs.declared.cert.CertNode.{CertNode}
+use Rattle.cert_text.specs.declared.cert.CertNode.TheVariants as node
+use Rattle.cert_text.specs.declared.cert.Cert.{Cert}
 use Rattle.cert_check.specs.declared.verdict.Judgement.TheVariants.{Breaks}
 use Rattle.cert_check.specs.declared.verdict.Verdict.TheVariants.{Rejected}
-use Rattle.cert_check.specs.Tree.{CertTree, Leaf, Split, place_among, with_places}
-use Rattle.cert_check.specs.Accepted.{multipliers, point_of, ReachesValue, Closes, HasPoint, Accepts}
-use Rattle.cert_check.specs.Verdict.{IsNumberJudged, IsLeafJudged, IsNodeJudged, IsClaimJudged, visits, IsFirstFailing, IsVerdict}
+use Rattle.cert_text.specs.Tree.{CertTree, Bound, Farkas, Empty, Split}
+use Rattle.cert_check.specs.Places.{place_among, with_places}
+use Rattle.cert_check.specs.Mults.{mults_of}
+use Rattle.cert_check.specs.Accepted.{point_of, Closes, HasPoint, Accepts}
+use Rattle.cert_check.specs.Verdict.{IsNodeJudged, IsClaimJudged, visits, IsFirstFailing, IsVerdict}
 use Rattle.cert_check.proofs.PlaceLemmas.{column_known}
+use Rattle.cert_check.proofs.LeafLemmas.{bound-breaks, farkas-breaks}
 use Rattle.cert_check.proofs.OneVerdict.{tree_one}
-
--- ---- leaves
-
-module _ (M : Program) (claim : Claim) (path : Path) where
-  number-true : (v : ℚ) (named : Named) (why : ℕ) → ReachesValue M path named (in_least_form M.sense v) → IsNumberJudged M (Optimal v) path (multipliers M named) (Breaks why) → ⊥
-  number-true v named why reaches (q, (answer, (none, seven))) =
-      let t = in_least_form M.sense v in
-      let same : lag M path (multipliers M named) ≡ q = sym (dual_answer-is M path (multiplier (multipliers M named)) (least_cost M) (least_constant M) q answer) in
-      none (
-      elim reaches [
-        | inl plain ↦ inl (subst (λ n. Reaches n t false) same plain)
-        | inr rounded ↦ inr (rounded.0, subst (λ n. Reaches n t true) same rounded.1)
-      ]
-      )
-
-  bound-true : (c : Claim) (named : Named) (why : ℕ) → Closes M c path (Bound named) → IsLeafJudged M c path (Bound named) (Breaks why) → ⊥
-  bound-true (Optimal v) named why closes (inl judged) = number-true v named why closes.1 judged.1
-  bound-true Infeasible named why closes judged = closes.1
-  bound-true (Optimal v) named why closes (inr judged) = judged.0 closes.0
-
-  leaf-true : (leaf : CertLeaf) (why : ℕ) → Closes M claim path leaf → IsLeafJudged M claim path leaf (Breaks why) → ⊥
-  leaf-true (Bound named) why closes judged = bound-true claim named why closes judged
-  leaf-true (Farkas named) why closes (inl (names, (q, (answer, (none, seven))))) =
-      none (subst IsPositiveNumber (sym (dual_answer-is M path (multiplier (multipliers M named)) (λ j. int (pos 0)) (int (pos 0)) q answer)) closes.1)
-  leaf-true (Farkas named) why closes (inr judged) = judged.0 closes.0
-  leaf-true Empty why closes judged = judged.0 closes
 
 -- ---- nodes
 
@@ -58,15 +31,23 @@ module _ (M : Program) (claim : Claim) where
   -- the split is on an integer column, the leaf closes
   abbrev IsTrueNode : Path × CertNode → Type 0
   IsTrueNode (path, node.Split col v) = (place_among (column_names M) col < length M.cols) × IsTrue (is_integer M (place_among (column_names M) col))
-  IsTrueNode (path, node.Leaf leaf) = Closes M claim path leaf
+  IsTrueNode (path, node.Bound mults) = Closes (without_cuts M) claim path (node.Bound mults)
+  IsTrueNode (path, node.Farkas mults) = Closes (without_cuts M) claim path (node.Farkas mults)
+  IsTrueNode (path, node.Empty) = Closes (without_cuts M) claim path node.Empty
 
-  node-true : (path : Path) (n : CertNode) (why : ℕ) → IsTrueNode (path, n) → IsNodeJudged M claim path n (Breaks why) → ⊥
+  node-true : (path : Path) (n : CertNode) (why : ℕ) → IsTrueNode (path, n) → IsNodeJudged (without_cuts M) claim path n (Breaks why) → ⊥
   node-true path (node.Split col v) why here (inl judged) = judged.1.0 here.1
   node-true path (node.Split col v) why here (inr judged) = judged.0 (column_known M col (place_among (column_names M) col) (here.0, refl))
-  node-true path (node.Leaf leaf) why here judged = leaf-true M claim path leaf why here judged
+  node-true path (node.Bound mults) why closes (inl judged) = bound-breaks (without_cuts M) path (mults_of M mults) claim why judged.1 closes.1
+  node-true path (node.Bound mults) why closes (inr judged) = judged.0 closes.0
+  node-true path (node.Farkas mults) why closes (inl judged) = farkas-breaks (without_cuts M) path (mults_of M mults) why judged.1 closes.1
+  node-true path (node.Farkas mults) why closes (inr judged) = judged.0 closes.0
+  node-true path node.Empty why closes judged = judged.0 closes
 
-  tree-true : (path : Path) (tree : CertTree) → SplitsLawfully M (with_places M tree) → EachLeaf (Closes M claim) path (with_places M tree) → All IsTrueNode (visits M path tree)
-  tree-true path (Leaf leaf) lawful closes = All-cons IsTrueNode (path, node.Leaf leaf) [] closes (All-nil IsTrueNode)
+  tree-true : (path : Path) (tree : CertTree) → SplitsLawfully M (with_places M tree) → EachLeaf (Closes (without_cuts M) claim) path (with_places M tree) → All IsTrueNode (visits M path tree)
+  tree-true path (Bound mults) lawful closes = All-cons IsTrueNode (path, node.Bound mults) [] closes (All-nil IsTrueNode)
+  tree-true path (Farkas mults) lawful closes = All-cons IsTrueNode (path, node.Farkas mults) [] closes (All-nil IsTrueNode)
+  tree-true path Empty lawful closes = All-cons IsTrueNode (path, node.Empty) [] closes (All-nil IsTrueNode)
   tree-true path (Split col v left right) lawful closes =
       let j = place_among (column_names M) col in
       All-cons IsTrueNode (path, node.Split col v) (visits M (left_path path j v) left ++ visits M (right_path path j v) right) lawful.0

@@ -11,15 +11,14 @@ use Rattle.lp_model.specs.declared.types.Side.TheVariants.{Lo, Hi}
 use Rattle.lp_model.specs.declared.types.BoundChange.{BoundChange}
 use Rattle.branch_tree.specs.Tree.{left_path, right_path}
 use Rattle.lp_model.specs.declared.types.ColId.{ColId}
-use Rattle.cert_check.specs.declared.cert.CertLeaf.{CertLeaf}
-use Rattle.cert_check.specs.declared.cert.CertLeaf.TheVariants.{Bound, Farkas, Empty}
-use Rattle.cert_check.specs.declared.cert.CertNode.{CertNode}
-use Rattle.cert_check.specs.declared.cert.CertNode.TheVariants as node
+use Rattle.cert_text.specs.declared.cert.CertNode.{CertNode}
+use Rattle.cert_text.specs.declared.cert.CertNode.TheVariants as node
 use Rattle.cert_check.specs.declared.judging.NodeWithPlaces.{NodeWithPlaces}
 use Rattle.cert_check.specs.declared.judging.NodeWithPlaces.TheVariants as node_place
-use Rattle.cert_check.specs.Tree.{CertTree, Leaf, Split, preorder, place_among}
+use Rattle.cert_text.specs.Tree.{Bound, Farkas, Empty, CertTree, Split, certificate_nodes}
+use Rattle.cert_check.specs.Places.{place_among}
 use Rattle.cert_check.specs.Verdict.{visits}
-use Rattle.cert_check.specs.Whole.{IsNarrowNode}
+use Rattle.cert_text.specs.Whole.{IsNarrowNode}
 use Rattle.cert_check.specs.Walk.{CanTurn, after_leaf, after_node, IsPlace}
 use Rattle.cert_check.proofs.WalkLemmas.{after_leaf-low, after_leaf-high}
 
@@ -122,8 +121,10 @@ stands_first M tree = record { frames = []; tree = Some tree; room = tt; at = re
     nil_right [] = refl
     nil_right (x ∷ l) = ap (λ m. x ∷ m) (nil_right l)
 
-pub nodes_of : (M : Program) (path : Path) (tree : CertTree) → map (λ p. p.1) (visits M path tree) ≡ preorder tree
-nodes_of M path (Leaf leaf) = refl
+pub nodes_of : (M : Program) (path : Path) (tree : CertTree) → map (λ p. p.1) (visits M path tree) ≡ certificate_nodes tree
+nodes_of M path (Bound mults) = refl
+nodes_of M path (Farkas mults) = refl
+nodes_of M path Empty = refl
 nodes_of M path (Split col v left right) =
     ap (λ ns. node.Split col v ∷ ns)
     (map-append (λ p. p.1) (visits M (left_path path (place_among (column_names M) col) v) left) (visits M (right_path path (place_among (column_names M) col) v) right)
@@ -177,18 +178,17 @@ behind_split M all k frames col v left right room narrow e path at =
       left = e ∙ append_assoc (visits M (left_path (path_of frames) j v) left) (visits M (right_path (path_of frames) j v) right) (due M frames);
     }
 
-no_split : (M : Program) (leaf : CertLeaf) (col : ColId) (v : ℤ) → IsPlace M (node.Leaf leaf) (node_place.Split col v) → ⊥
-no_split M (Bound named) col v place = place
-no_split M (Farkas named) col v place = place
-no_split M Empty col v place = place
+-- a node that no place of a split is of
+abbrev IsLeafNode : Program → CertNode → Type 0
+IsLeafNode M n = (col : ColId) (v : ℤ) → IsPlace M n (node_place.Split col v) → ⊥
 
 module _ (M : Program) (all : List (Path × CertNode)) (k : ℕ) (path : Path) (frames : List Frame) (room : HasRoom frames) (at : path ≡ path_of frames) where
-  leaf_behind : (leaf : CertLeaf) → drop (k + 1) all ≡ due M frames → (p : NodeWithPlaces) → IsPlace M (node.Leaf leaf) p → (p ≡ node_place.Misnamed → ⊥) → Stands M all (k + 1) (after_node p path)
-  leaf_behind leaf next node_place.Misnamed place named = absurd (named refl)
-  leaf_behind leaf next (node_place.Split col v) place named = absurd (no_split M leaf col v place)
-  leaf_behind leaf next (node_place.Bound mult) place named = behind_leaf M all k frames room next path at
-  leaf_behind leaf next (node_place.Farkas mult) place named = behind_leaf M all k frames room next path at
-  leaf_behind leaf next node_place.Empty place named = behind_leaf M all k frames room next path at
+  leaf_behind : (n : CertNode) → IsLeafNode M n → drop (k + 1) all ≡ due M frames → (p : NodeWithPlaces) → IsPlace M n p → (p ≡ node_place.Misnamed → ⊥) → Stands M all (k + 1) (after_node p path)
+  leaf_behind n leaf next node_place.Misnamed place named = absurd (named refl)
+  leaf_behind n leaf next (node_place.Split col v) place named = absurd (leaf col v place)
+  leaf_behind n leaf next (node_place.Bound mult) place named = behind_leaf M all k frames room next path at
+  leaf_behind n leaf next (node_place.Farkas mult) place named = behind_leaf M all k frames room next path at
+  leaf_behind n leaf next node_place.Empty place named = behind_leaf M all k frames room next path at
 
   split_behind : (col : List ℕ) (v : ℤ) (left right : CertTree) →
       drop (k + 1) all ≡ (visits M (left_path (path_of frames) (place_among (column_names M) col) v) left ++ visits M (right_path (path_of frames) (place_among (column_names M) col) v) right) ++ due M frames →
@@ -200,12 +200,17 @@ module _ (M : Program) (all : List (Path × CertNode)) (k : ℕ) (path : Path) (
   split_behind col v left right next (node_place.Farkas mult) narrow place named = absurd place
   split_behind col v left right next node_place.Empty narrow place named = absurd place
 
-  visits_tree : (tree : CertTree) → drop k all ≡ visits M (path_of frames) tree ++ due M frames → Visits M all k path
-  visits_tree (Leaf leaf) e = record {
-    node = node.Leaf leaf;
-    is = λ d. here_drop all k (path_of frames, node.Leaf leaf) d (due M frames) e ∙ ap (λ p. (p, node.Leaf leaf)) (sym at);
-    behind = λ p narrow place named. leaf_behind leaf (next_drop all k (path_of frames, node.Leaf leaf) (due M frames) e) p place named;
+  visits_leaf : (n : CertNode) → IsLeafNode M n → drop k all ≡ (path_of frames, n) ∷ due M frames → Visits M all k path
+  visits_leaf n leaf e = record {
+    node = n;
+    is = λ d. here_drop all k (path_of frames, n) d (due M frames) e ∙ ap (λ p. (p, n)) (sym at);
+    behind = λ p narrow place named. leaf_behind n leaf (next_drop all k (path_of frames, n) (due M frames) e) p place named;
   }
+
+  visits_tree : (tree : CertTree) → drop k all ≡ visits M (path_of frames) tree ++ due M frames → Visits M all k path
+  visits_tree (Bound mults) e = visits_leaf (node.Bound mults) (λ col v place. place) e
+  visits_tree (Farkas mults) e = visits_leaf (node.Farkas mults) (λ col v place. place) e
+  visits_tree Empty e = visits_leaf node.Empty (λ col v place. place) e
   visits_tree (Split col v left right) e = record {
     node = node.Split col v;
     is = λ d. here_drop all k (path_of frames, node.Split col v) d _ e ∙ ap (λ p. (p, node.Split col v)) (sym at);

@@ -17,7 +17,7 @@ use Rattle.lp_model.specs.Regions.{Path, AreNarrow, tighter_low, tighter_high, l
 use Rattle.lp_model.specs.declared.types.Side.{Side}
 use Rattle.lp_model.specs.declared.types.Side.TheVariants.{Lo, Hi}
 use Rattle.lp_model.specs.declared.types.BoundChange.{BoundChange}
-use Rattle.cert_check.specs.Tight.{is_same_side, are_rivals, AreChangesApart, tighter_number, tighter, place_of, tightened}
+use Rattle.cert_check.specs.Tight.{is_same_side, are_rivals, AreChangesApart, tighter_number, tighter, rival_place, tightened}
 
 -- ---- bounds by turns
 
@@ -260,38 +260,38 @@ apart-tightened (d ∷ R) c apart =
 
 -- ---- the place of a change
 
-pub place_there : (R : Path) (c d : BoundChange) → place_of R c < length R → set R (place_of R c) (tighter (get_or R (place_of R c) d) c) ≡ tightened R c
+pub place_there : (R : Path) (c d : BoundChange) → rival_place R c < length R → set R (rival_place R c) (tighter (get_or R (rival_place R c) d) c) ≡ tightened R c
 place_there [] c d h = absurd (omega (arith, h))
 place_there (e ∷ R) c d h = by (are_rivals e c) (place_there R c d) h
   where
-    by : (t : Bool) → (place_of R c < length R → set R (place_of R c) (tighter (get_or R (place_of R c) d) c) ≡ tightened R c) → (if t then 0 else suc (place_of R c)) < suc (length R) →
-        set (e ∷ R) (if t then 0 else suc (place_of R c)) (tighter (get_or (e ∷ R) (if t then 0 else suc (place_of R c)) d) c) ≡ (if t then tighter e c ∷ R else e ∷ tightened R c)
+    by : (t : Bool) → (rival_place R c < length R → set R (rival_place R c) (tighter (get_or R (rival_place R c) d) c) ≡ tightened R c) → (if t then 0 else suc (rival_place R c)) < suc (length R) →
+        set (e ∷ R) (if t then 0 else suc (rival_place R c)) (tighter (get_or (e ∷ R) (if t then 0 else suc (rival_place R c)) d) c) ≡ (if t then tighter e c ∷ R else e ∷ tightened R c)
     by true rest k = refl
     by false rest k = ap (λ l. e ∷ l) (rest (omega (arith, k)))
 
-pub place_none : (R : Path) (c : BoundChange) → length R ≤ place_of R c → R ++ c ∷ [] ≡ tightened R c
+pub place_none : (R : Path) (c : BoundChange) → length R ≤ rival_place R c → R ++ c ∷ [] ≡ tightened R c
 place_none [] c h = refl
 place_none (e ∷ R) c h = by (are_rivals e c) (place_none R c) h
   where
-    by : (t : Bool) → (length R ≤ place_of R c → R ++ c ∷ [] ≡ tightened R c) → suc (length R) ≤ (if t then 0 else suc (place_of R c)) → e ∷ (R ++ c ∷ []) ≡ (if t then tighter e c ∷ R else e ∷ tightened R c)
+    by : (t : Bool) → (length R ≤ rival_place R c → R ++ c ∷ [] ≡ tightened R c) → suc (length R) ≤ (if t then 0 else suc (rival_place R c)) → e ∷ (R ++ c ∷ []) ≡ (if t then tighter e c ∷ R else e ∷ tightened R c)
     by true rest k = absurd (omega (arith, k))
     by false rest k = ap (λ l. e ∷ l) (rest (omega (arith, k)))
 
-pub place_on : (R : Path) (c : BoundChange) (k : ℕ) (d : BoundChange) → k < length R → place_of (drop k R) c ≡ (if are_rivals (get_or R k d) c then 0 else suc (place_of (drop (suc k) R) c))
+pub place_on : (R : Path) (c : BoundChange) (k : ℕ) (d : BoundChange) → k < length R → rival_place (drop k R) c ≡ (if are_rivals (get_or R k d) c then 0 else suc (rival_place (drop (suc k) R) c))
 place_on [] c k d h = absurd (omega (arith, h))
 place_on (e ∷ R) c zero d h = refl
 place_on (e ∷ R) c (suc k) d h = place_on R c k d (omega (arith, h))
 
-pub place_within : (R : Path) (c : BoundChange) → place_of R c ≤ length R
+pub place_within : (R : Path) (c : BoundChange) → rival_place R c ≤ length R
 place_within [] c = omega arith
 place_within (e ∷ R) c = by (are_rivals e c) (place_within R c)
   where
-    by : (t : Bool) → place_of R c ≤ length R → (if t then 0 else suc (place_of R c)) ≤ suc (length R)
+    by : (t : Bool) → rival_place R c ≤ length R → (if t then 0 else suc (rival_place R c)) ≤ suc (length R)
     by true h = omega arith
     by false h = omega (arith, h)
 
 -- the region's first n places, where the change at one of them is written over or one is put behind them
-module _ (places : Path) (n : ℕ) (c d : BoundChange) (p : ℕ) (below_end : n < length places) (is : p ≡ place_of (take n places) c) where
+module _ (places : Path) (n : ℕ) (c d : BoundChange) (p : ℕ) (below_end : n < length places) (is : p ≡ rival_place (take n places) c) where
   long : length (take n places) ≡ n
   long = length-take-le n places (omega (arith, below_end))
 
@@ -301,7 +301,7 @@ module _ (places : Path) (n : ℕ) (c d : BoundChange) (p : ℕ) (below_end : n 
       ap (λ m. take m (set places p t)) most
       ∙ take-set-lt n places p t there
       ∙ (λ i. set (take n places) (is i) (tight i))
-      ∙ ap (λ e. set (take n places) (place_of (take n places) c) (tighter e c)) (sym (get_or-take n places p d there) ∙ ap (λ k. get_or (take n places) k d) is)
+      ∙ ap (λ e. set (take n places) (rival_place (take n places) c) (tighter e c)) (sym (get_or-take n places p d there) ∙ ap (λ k. get_or (take n places) k d) is)
       ∙ place_there (take n places) c d (omega (arith, is, there, long))
 
   pub tighten_none : n ≤ p → take (max n (p + 1)) (set places p c) ≡ tightened (take n places) c

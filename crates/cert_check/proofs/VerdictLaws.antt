@@ -1,56 +1,47 @@
 -- A certificate whose point and nodes pass is accepted.
 use Rattle.std.proofs.Common.{◌≡◌, suc, ◌+◌, List, [], ◌∷◌, ◌++◌, length, sym, subst, arith, inl, inr, length-append}
-use Rattle.std.specs.Prelude.{ℤ, All, Contains, Ok}
+use Rattle.std.specs.Prelude.{All}
 use Rattle.std.proofs.lemmas.List.{get_or_append_left, get_or-append-add, length-map}
-use Rattle.rational.specs.Rational.{int}
-use Rattle.lp_model.specs.Program.{Program, in_least_form}
+use Rattle.lp_model.specs.Program.{Program}
 use Rattle.lp_model.specs.Lawful.{column_names}
 use Rattle.lp_model.specs.Edits.{Named}
 use Rattle.lp_model.specs.Regions.{Path}
-use Rattle.leaf_dual.specs.Dual.{multiplier, least_constant, least_cost, IsPositiveNumber}
-use Rattle.leaf_dual.proofs.AnswerLemmas.{dual_answer-is}
+use Rattle.lp_model.specs.Formulations.{without_cuts}
 use Rattle.branch_tree.specs.Tree.{SplitsLawfully, EachLeaf, left_path, right_path}
-use Rattle.cert_check.specs.declared.cert.Claim.{Claim}
-use Rattle.cert_check.specs.declared.cert.Claim.TheVariants.{Optimal, Infeasible}
-use Rattle.cert_check.specs.declared.cert.Cert.{Cert}
-use Rattle.cert_check.specs.declared.cert.CertLeaf.{CertLeaf}
-use Rattle.cert_check.specs.declared.cert.CertLeaf.TheVariants.{Bound, Farkas, Empty}
-use Rattle.cert_check.specs.declared.cert.CertNode.{CertNode}
-use Rattle.cert_check.specs.declared.cert.CertNode.TheVariants as node
+use Rattle.cert_text.specs.declared.cert.Claim.{Claim}
+use Rattle.cert_text.specs.declared.cert.Claim.TheVariants.{Optimal, Infeasible}
+use Rattle.cert_text.specs.declared.cert.Cert.{Cert}
+use Rattle.cert_text.specs.declared.cert.CertMult.{CertMult}
+use Rattle.cert_text.specs.declared.cert.CertNode.{CertNode}
+use Rattle.cert_text.specs.declared.cert.CertNode.TheVariants as node
 use Rattle.cert_check.specs.declared.verdict.Judgement.TheVariants.{Passes, Breaks}
 use Rattle.cert_check.specs.declared.verdict.Verdict.TheVariants.{Accepted}
-use Rattle.cert_check.specs.Tree.{CertTree, Leaf, Split, place_among, with_places}
-use Rattle.cert_check.specs.Accepted.{multipliers, Closes, HasPoint, ReachesClaim, Accepts}
-use Rattle.cert_check.specs.Verdict.{NumberReaches, IsNumberJudged, IsLeafJudged, IsClaimJudged, visits, IsVisitJudged, IsVerdict}
-use Rattle.cert_check.specs.Whole.{IsCertificate, HasNoPoint}
+use Rattle.cert_text.specs.Tree.{CertTree, Bound, Farkas, Empty, Split}
+use Rattle.cert_check.specs.Places.{place_among, with_places}
+use Rattle.cert_check.specs.Mults.{AreMults, mults_of}
+use Rattle.cert_check.specs.Accepted.{Closes, HasPoint, Accepts}
+use Rattle.cert_check.specs.Verdict.{WhereThere, IsNumberJudged, IsFarkasJudged, IsClaimJudged, visits, IsVisitJudged, IsVerdict}
+use Rattle.cert_text.specs.Whole.{IsCertificate, HasNoPoint}
 use Rattle.cert_check.proofs.PairLemmas.{place_within}
+use Rattle.cert_check.proofs.LeafLemmas.{bound-passes, farkas-passes}
 
 no_pass : Passes ≡ Breaks 1 → ⊥
 no_pass e = absurd cc
 
-no_seven : Passes ≡ Breaks 7 → ⊥
-no_seven e = absurd cc
+module _ (M : Program) (claim : Claim) (path : Path) (mults : List CertMult) where
+  bound_closes : WhereThere (AreMults M 0 mults) (IsNumberJudged (without_cuts M) claim path (mults_of M mults)) Passes → Closes (without_cuts M) claim path (node.Bound mults)
+  bound_closes judged =
+      elim judged [
+        | inl good ↦ (good.0, bound-passes (without_cuts M) path (mults_of M mults) claim good.1)
+        | inr bad ↦ absurd (no_pass bad.1)
+      ]
 
-number_reaches : (M : Program) (claim : Claim) (path : Path) (named : Named) → IsNumberJudged M claim path (multipliers M named) Passes → ReachesClaim M claim path named
-number_reaches M (Optimal v) path named (q, (answer, reaches)) =
-    subst (λ w. NumberReaches M w (in_least_form M.sense v)) (dual_answer-is M path (multiplier (multipliers M named)) (least_cost M) (least_constant M) q answer) reaches
-number_reaches M Infeasible path named e = no_seven e
-
-leaf_closes : (M : Program) (claim : Claim) (path : Path) (leaf : CertLeaf) → IsLeafJudged M claim path leaf Passes → Closes M claim path leaf
-leaf_closes M claim path (Bound named) judged =
-    elim judged [
-      | inl good ↦ (good.0, number_reaches M claim path named good.1)
-      | inr bad ↦ absurd (no_pass bad.1)
-    ]
-leaf_closes M claim path (Farkas named) judged =
-    elim judged [
-      | inl good ↦ (
-        good.0,
-        subst IsPositiveNumber (dual_answer-is M path (multiplier (multipliers M named)) (λ j. int (Rattle.std.specs.Prelude.pos 0)) (int (Rattle.std.specs.Prelude.pos 0)) good.1.0 good.1.1.0) good.1.1.1,
-      )
-      | inr bad ↦ absurd (no_pass bad.1)
-    ]
-leaf_closes M claim path Empty judged = judged
+  farkas_closes : WhereThere (AreMults M 0 mults) (IsFarkasJudged (without_cuts M) path (mults_of M mults)) Passes → Closes (without_cuts M) claim path (node.Farkas mults)
+  farkas_closes judged =
+      elim judged [
+        | inl good ↦ (good.0, farkas-passes (without_cuts M) path (mults_of M mults) good.1)
+        | inr bad ↦ absurd (no_pass bad.1)
+      ]
 
 -- ---- trees
 
@@ -72,7 +63,9 @@ module _ (M : Program) (claim : Claim) where
   P p = IsVisitJudged M claim p Passes
 
   tree_lawful : (path : Path) (tree : CertTree) → All P (visits M path tree) → SplitsLawfully M (with_places M tree)
-  tree_lawful path (Leaf leaf) all = tt
+  tree_lawful path (Bound mults) all = tt
+  tree_lawful path (Farkas mults) all = tt
+  tree_lawful path Empty all = tt
   tree_lawful path (Split col v left right) all =
       let j = place_among (column_names M) col in
       let first = all_first P (path, node.Split col v) _ all in
@@ -87,8 +80,10 @@ module _ (M : Program) (claim : Claim) where
         ),
       )
 
-  tree_closes : (path : Path) (tree : CertTree) → All P (visits M path tree) → EachLeaf (Closes M claim) path (with_places M tree)
-  tree_closes path (Leaf leaf) all = leaf_closes M claim path leaf (all_first P (path, node.Leaf leaf) [] all)
+  tree_closes : (path : Path) (tree : CertTree) → All P (visits M path tree) → EachLeaf (Closes (without_cuts M) claim) path (with_places M tree)
+  tree_closes path (Bound mults) all = bound_closes M claim path mults (all_first P (path, node.Bound mults) [] all)
+  tree_closes path (Farkas mults) all = farkas_closes M claim path mults (all_first P (path, node.Farkas mults) [] all)
+  tree_closes path Empty all = all_first P (path, node.Empty) [] all
   tree_closes path (Split col v left right) all =
       let j = place_among (column_names M) col in
       let rest = all_rest P (path, node.Split col v) _ all in (

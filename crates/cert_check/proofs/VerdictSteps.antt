@@ -7,46 +7,46 @@ use Rattle.std.proofs.lemmas.List.{length-map, length-take-le, take_more, take_a
 use Rattle.std.proofs.lemmas.List.Elements.{All-more}
 use Rattle.lp_model.specs.Program.{Program, Point}
 use Rattle.lp_model.specs.Regions.{Path, AreNarrow}
+use Rattle.lp_model.specs.Formulations.{without_cuts}
 use Rattle.lp_model.proofs.NameLemmas.{get_or-map}
-use Rattle.cert_check.specs.declared.cert.Claim.{Claim}
-use Rattle.cert_check.specs.declared.cert.Claim.TheVariants.{Optimal}
-use Rattle.cert_check.specs.declared.cert.CertLeaf.TheVariants as leaf
-use Rattle.cert_check.specs.declared.cert.CertNode.{CertNode}
-use Rattle.cert_check.specs.declared.cert.CertNode.TheVariants as node
+use Rattle.cert_text.specs.declared.cert.Claim.{Claim}
+use Rattle.cert_text.specs.declared.cert.Claim.TheVariants.{Optimal}
+use Rattle.cert_text.specs.declared.cert.CertNode.{CertNode}
+use Rattle.cert_text.specs.declared.cert.CertNode.TheVariants as node
 use Rattle.cert_check.specs.declared.judging.NodeWithPlaces.{NodeWithPlaces}
 use Rattle.cert_check.specs.declared.judging.NodeWithPlaces.TheVariants as node_place
 use Rattle.cert_check.specs.declared.verdict.Judgement.{Judgement}
 use Rattle.cert_check.specs.declared.verdict.Judgement.TheVariants.{Passes, Breaks}
-use Rattle.cert_check.specs.Tree.{CertTree, preorder}
+use Rattle.cert_text.specs.Tree.{CertTree, certificate_nodes}
 use Rattle.cert_check.specs.Verdict.{IsKindJudged, IsNumberJudged, IsFarkasJudged, IsNodeJudged, IsPointJudged, IsClaimJudged, visits, IsVisitJudged, IsJudgedAt}
-use Rattle.cert_check.specs.Whole.{IsNarrowNode}
+use Rattle.cert_text.specs.Whole.{IsNarrowNode}
 use Rattle.cert_check.specs.Walk.{IsPlace, IsPlacedJudged, IsWalked, IsPointOf, CanTurn, after_node}
 use Rattle.cert_check.proofs.PlaceLemmas.{column_known}
 use Rattle.cert_check.proofs.Standing.{Stands, Visits, visits_next, stands_first, nodes_of, path_narrow, path_turns}
 
 -- what is judged of a node with places holds of the node
-pub judged_node : (M : Program) (claim : Claim) (path : Path) (n : CertNode) (p : NodeWithPlaces) (j : Judgement) → IsPlace M n p → IsPlacedJudged M claim path p j → IsNodeJudged M claim path n j
+pub judged_node : (M : Program) (claim : Claim) (path : Path) (n : CertNode) (p : NodeWithPlaces) (j : Judgement) → IsPlace M n p → IsPlacedJudged M claim path p j → IsNodeJudged (without_cuts M) claim path n j
 judged_node M claim path (node.Split col v) node_place.Misnamed j place judged = inr (place, judged)
 judged_node M claim path (node.Split col v) (node_place.Split k w) j place judged =
     inl (column_known M col k.0 (place.0, place.1), subst (λ c. IsKindJudged M c j) place.1 judged)
 judged_node M claim path (node.Split col v) (node_place.Bound mult) j place judged = absurd place
 judged_node M claim path (node.Split col v) (node_place.Farkas mult) j place judged = absurd place
 judged_node M claim path (node.Split col v) node_place.Empty j place judged = absurd place
-judged_node M claim path (node.Leaf (leaf.Bound named)) node_place.Misnamed j place judged = inr (place, judged)
-judged_node M claim path (node.Leaf (leaf.Bound named)) (node_place.Bound mult) j place judged = inl (place.0, subst (λ m. IsNumberJudged M claim path m j) place.1 judged)
-judged_node M claim path (node.Leaf (leaf.Bound named)) (node_place.Split k w) j place judged = absurd place
-judged_node M claim path (node.Leaf (leaf.Bound named)) (node_place.Farkas mult) j place judged = absurd place
-judged_node M claim path (node.Leaf (leaf.Bound named)) node_place.Empty j place judged = absurd place
-judged_node M claim path (node.Leaf (leaf.Farkas named)) node_place.Misnamed j place judged = inr (place, judged)
-judged_node M claim path (node.Leaf (leaf.Farkas named)) (node_place.Farkas mult) j place judged = inl (place.0, subst (λ m. IsFarkasJudged M path m j) place.1 judged)
-judged_node M claim path (node.Leaf (leaf.Farkas named)) (node_place.Split k w) j place judged = absurd place
-judged_node M claim path (node.Leaf (leaf.Farkas named)) (node_place.Bound mult) j place judged = absurd place
-judged_node M claim path (node.Leaf (leaf.Farkas named)) node_place.Empty j place judged = absurd place
-judged_node M claim path (node.Leaf leaf.Empty) node_place.Misnamed j place judged = absurd place
-judged_node M claim path (node.Leaf leaf.Empty) node_place.Empty j place judged = judged
-judged_node M claim path (node.Leaf leaf.Empty) (node_place.Split k w) j place judged = absurd place
-judged_node M claim path (node.Leaf leaf.Empty) (node_place.Bound mult) j place judged = absurd place
-judged_node M claim path (node.Leaf leaf.Empty) (node_place.Farkas mult) j place judged = absurd place
+judged_node M claim path (node.Bound mults) node_place.Misnamed j place judged = inr (place, judged)
+judged_node M claim path (node.Bound mults) (node_place.Bound mult) j place judged = inl (place.0, subst (λ m. IsNumberJudged (without_cuts M) claim path m j) place.1 judged)
+judged_node M claim path (node.Bound mults) (node_place.Split k w) j place judged = absurd place
+judged_node M claim path (node.Bound mults) (node_place.Farkas mult) j place judged = absurd place
+judged_node M claim path (node.Bound mults) node_place.Empty j place judged = absurd place
+judged_node M claim path (node.Farkas mults) node_place.Misnamed j place judged = inr (place, judged)
+judged_node M claim path (node.Farkas mults) (node_place.Farkas mult) j place judged = inl (place.0, subst (λ m. IsFarkasJudged (without_cuts M) path m j) place.1 judged)
+judged_node M claim path (node.Farkas mults) (node_place.Split k w) j place judged = absurd place
+judged_node M claim path (node.Farkas mults) (node_place.Bound mult) j place judged = absurd place
+judged_node M claim path (node.Farkas mults) node_place.Empty j place judged = absurd place
+judged_node M claim path node.Empty node_place.Misnamed j place judged = absurd place
+judged_node M claim path node.Empty node_place.Empty j place judged = judged
+judged_node M claim path node.Empty (node_place.Split k w) j place judged = absurd place
+judged_node M claim path node.Empty (node_place.Bound mult) j place judged = absurd place
+judged_node M claim path node.Empty (node_place.Farkas mult) j place judged = absurd place
 
 -- k nodes pass, and the path to the next one is this
 pub record Goes (M : Program) (claim : Claim) (tree : CertTree) (k : ℕ) (path : Path) : Type 0 where
@@ -65,11 +65,11 @@ goes_turns M claim tree k path g = subst (All CanTurn) (sym g.stands.at) (path_t
 pub place_here : (M : Program) (tree : CertTree) (nodes : List NodeWithPlaces) → IsWalked M tree nodes → (k : ℕ) → k < length nodes → (p : NodeWithPlaces) → p ≡ get_or nodes k p → (n : CertNode) × IsPlace M n p
 place_here M tree nodes walked k below p is =
     let same = walked.places.0 in
-    let none = node.Leaf leaf.Empty in
-    (get_or (preorder tree) k none, subst (IsPlace M (get_or (preorder tree) k none)) (sym is) (walked.places.1 k none p (omega (arith, same, below))))
+    let none = node.Empty in
+    (get_or (certificate_nodes tree) k none, subst (IsPlace M (get_or (certificate_nodes tree) k none)) (sym is) (walked.places.1 k none p (omega (arith, same, below))))
 
 module _ (M : Program) (claim : Claim) (tree : CertTree) (nodes : List NodeWithPlaces) (walked : IsWalked M tree nodes) (k : ℕ) (path : Path) (below : k < length nodes) (goes : Goes M claim tree k path) where
-  few : k < length (preorder tree)
+  few : k < length (certificate_nodes tree)
   few = let e = walked.places.0 in omega (arith, e, below)
 
   inside : k < length (visits M [] tree)
@@ -78,7 +78,7 @@ module _ (M : Program) (claim : Claim) (tree : CertTree) (nodes : List NodeWithP
   here : Visits M (visits M [] tree) k path
   here = visits_next M (visits M [] tree) k path inside goes.stands
 
-  node_is : (d : CertNode) → get_or (preorder tree) k d ≡ here.node
+  node_is : (d : CertNode) → get_or (certificate_nodes tree) k d ≡ here.node
   node_is d =
       ap (λ ns. get_or ns k d) (sym (nodes_of M [] tree))
       ∙ get_or-map (λ p. p.1) (visits M [] tree) k (path, here.node) d inside (sym (here.is (path, here.node)))

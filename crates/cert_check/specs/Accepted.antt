@@ -1,21 +1,23 @@
 -- When a certificate is accepted for a model. Names not in this file:
 --     lag, farkas        the numbers of a leaf's multipliers in a region, with the costs and without (leaf_dual)
 --     SplitsLawfully, EachLeaf each split is on an integer column; what holds of each leaf and its path (branch_tree)
-use Rattle.std.specs.Prelude.{◌≡◌, ◌≢◌, ◌⊎◌, ℕ, true, false, List, [], map, All, AllPairs, Contains}
+use Rattle.std.specs.Prelude.{◌≡◌, ◌≢◌, ◌⊎◌, ℕ, true, false, List, [], map, length, All, AllPairs, Contains}
 use Rattle.rational.specs.Rational.{ℚ}
 use Rattle.lp_model.specs.Program.{Program, Point, value, in_least_form, IsFeasible, HasWholeObjective}
 use Rattle.lp_model.specs.Lawful.{column_names}
 use Rattle.lp_model.specs.Edits.{Named, number_beside}
 use Rattle.lp_model.specs.Regions.{Path, IsEmptyRegion}
-use Rattle.lp_model.specs.declared.types.Var.TheVariants.{Row}
+use Rattle.lp_model.specs.Formulations.{Formulation, without_cuts}
 use Rattle.leaf_dual.specs.Dual.{Multipliers, lag, farkas, IsPositiveNumber, Reaches}
 use Rattle.branch_tree.specs.Tree.{SplitsLawfully, EachLeaf}
-use Rattle.cert_check.specs.declared.cert.Claim.{Claim}
-use Rattle.cert_check.specs.declared.cert.Claim.TheVariants.{Optimal, Infeasible}
-use Rattle.cert_check.specs.declared.cert.CertLeaf.{CertLeaf}
-use Rattle.cert_check.specs.declared.cert.CertLeaf.TheVariants.{Bound, Farkas, Empty}
-use Rattle.cert_check.specs.declared.cert.Cert.{Cert}
-use Rattle.cert_check.specs.Tree.{CertTree, preorder, place_among, with_places}
+use Rattle.cert_text.specs.declared.cert.Claim.{Claim}
+use Rattle.cert_text.specs.declared.cert.Claim.TheVariants.{Optimal, Infeasible}
+use Rattle.cert_text.specs.declared.cert.CertNode.{CertNode}
+use Rattle.cert_text.specs.declared.cert.CertNode.TheVariants.{Split, Bound, Farkas, Empty}
+use Rattle.cert_text.specs.declared.cert.Cert.{Cert}
+use Rattle.cert_text.specs.Tree.{CertTree, certificate_nodes}
+use Rattle.cert_check.specs.Places.{with_places}
+use Rattle.cert_check.specs.Mults.{AreMults, mults_of}
 
 -- ---- names
 
@@ -24,33 +26,27 @@ pub record AreNames (known : List (List ℕ)) (named : Named) : Type 0 where
   pub there : All (Contains known) (map (λ e. e.0) named)
   pub once : AllPairs (λ a b. a ≢ b) (map (λ e. e.0) named)
 
-abbrev pub names_of_rows : Program → List (List ℕ)
-names_of_rows M = map (λ r. r.name) M.rows
-
 -- the numbers beside names as the point with a number for each column, 0 for one that is not named
 abbrev pub point_of : Program → Named → Point
 point_of M named = map (λ c. number_beside c.name named) M.cols
 
--- the numbers beside names of rows as multipliers
-abbrev pub multipliers : Program → Named → Multipliers
-multipliers M named = map (λ e. (Row (record { 0 = place_among (names_of_rows M) e.0 }), e.1)) named
-
 -- ---- leaves
 
 -- the multipliers' number in the region is at least t, or, in a whole objective, t is whole and the number's ceiling is
-abbrev pub ReachesValue : Program → Path → Named → ℚ → Type 0
-ReachesValue M path named t = Reaches (lag M path (multipliers M named)) t false ⊎ (HasWholeObjective M 1 × Reaches (lag M path (multipliers M named)) t true)
+abbrev pub ReachesValue : Formulation → Path → Multipliers → ℚ → Type 0
+ReachesValue F path mult t = Reaches (lag F path mult) t false ⊎ (HasWholeObjective F.model 1 × Reaches (lag F path mult) t true)
 
 -- the claimed value is reached, where one is claimed
-abbrev pub ReachesClaim : Program → Claim → Path → Named → Type 0
-ReachesClaim M (Optimal v) path named = ReachesValue M path named (in_least_form M.sense v)
-ReachesClaim M Infeasible path named = ⊥
+abbrev pub ReachesClaim : Formulation → Claim → Path → Multipliers → Type 0
+ReachesClaim F (Optimal v) path mult = ReachesValue F path mult (in_least_form F.model.sense v)
+ReachesClaim F Infeasible path mult = ⊥
 
--- the leaf of a region closes as it says
-abbrev pub Closes : Program → Claim → Path → CertLeaf → Type 0
-Closes M claim path (Bound named) = AreNames (names_of_rows M) named × ReachesClaim M claim path named
-Closes M claim path (Farkas named) = AreNames (names_of_rows M) named × IsPositiveNumber (farkas M path (multipliers M named))
-Closes M claim path Empty = IsEmptyRegion M path
+-- the leaf of a region closes as it says; a split closes nothing
+abbrev pub Closes : Formulation → Claim → Path → CertNode → Type 0
+Closes F claim path (Bound mults) = AreMults F.model (length F.cuts) mults × ReachesClaim F claim path (mults_of F.model mults)
+Closes F claim path (Farkas mults) = AreMults F.model (length F.cuts) mults × IsPositiveNumber (farkas F path (mults_of F.model mults))
+Closes F claim path Empty = IsEmptyRegion F.model path
+Closes F claim path (Split col v) = ⊥
 
 -- ---- certificates
 
@@ -68,6 +64,6 @@ HasPoint M Infeasible named = named ≡ []
 pub record Accepts (M : Program) (cert : Cert) : Type 0 where
   pub point : HasPoint M cert.claim cert.point
   pub tree : CertTree
-  pub nodes : preorder tree ≡ cert.nodes
+  pub nodes : certificate_nodes tree ≡ cert.nodes
   pub splits : SplitsLawfully M (with_places M tree)
-  pub leaves : EachLeaf (Closes M cert.claim) [] (with_places M tree)
+  pub leaves : EachLeaf (Closes (without_cuts M) cert.claim) [] (with_places M tree)

@@ -34,9 +34,9 @@ abbrev pub tighter : BoundChange → BoundChange → BoundChange
 tighter c d = record { col = c.col; side = c.side; v = tighter_number c.side c.v d.v }
 
 -- the place of the change that is for the same side of the same column, or how many changes there are
-abbrev pub place_of : Path → BoundChange → ℕ
-place_of [] c = 0
-place_of (d ∷ R) c = if are_rivals d c then 0 else suc (place_of R c)
+abbrev pub rival_place : Path → BoundChange → ℕ
+rival_place [] c = 0
+rival_place (d ∷ R) c = if are_rivals d c then 0 else suc (rival_place R c)
 
 abbrev pub tightened : Path → BoundChange → Path
 tightened [] c = c ∷ []

@@ -13,58 +13,54 @@ use Rattle.lp_model.specs.Lawful.{column_names}
 use Rattle.lp_model.specs.Answers.{IsValueAnswer, IsFeasibilityAnswer}
 use Rattle.lp_model.specs.Edits.{Named}
 use Rattle.lp_model.specs.Regions.{Path, IsEmptyRegion}
+use Rattle.lp_model.specs.Formulations.{Formulation, without_cuts}
 use Rattle.leaf_dual.specs.Dual.{Multipliers, IsPositiveNumber, Reaches}
 use Rattle.leaf_dual.specs.Answers.{IsLagAnswer, IsFarkasAnswer}
 use Rattle.leaf_dual.specs.declared.dual.LagValue.{LagValue}
 use Rattle.branch_tree.specs.Tree.{left_path, right_path}
-use Rattle.cert_check.specs.declared.cert.Claim.{Claim}
-use Rattle.cert_check.specs.declared.cert.Claim.TheVariants.{Optimal, Infeasible}
-use Rattle.cert_check.specs.declared.cert.CertLeaf.{CertLeaf}
-use Rattle.cert_check.specs.declared.cert.CertLeaf.TheVariants.{Bound, Farkas, Empty}
-use Rattle.cert_check.specs.declared.cert.CertNode.{CertNode}
-use Rattle.cert_check.specs.declared.cert.CertNode.TheVariants as node
-use Rattle.cert_check.specs.declared.cert.Cert.{Cert}
+use Rattle.cert_text.specs.declared.cert.Claim.{Claim}
+use Rattle.cert_text.specs.declared.cert.Claim.TheVariants.{Optimal, Infeasible}
+use Rattle.cert_text.specs.declared.cert.CertNode.{CertNode}
+use Rattle.cert_text.specs.declared.cert.CertNode.TheVariants as node
+use Rattle.cert_text.specs.declared.cert.Cert.{Cert}
 use Rattle.cert_check.specs.declared.verdict.Judgement.{Judgement}
 use Rattle.cert_check.specs.declared.verdict.Judgement.TheVariants.{Passes, Breaks, NoRoom}
 use Rattle.cert_check.specs.declared.verdict.Verdict.{Verdict}
 use Rattle.cert_check.specs.declared.verdict.Verdict.TheVariants.{Accepted, Rejected, Wide}
-use Rattle.cert_check.specs.Tree.{CertTree, Leaf, Split, preorder, place_among}
-use Rattle.cert_check.specs.Accepted.{AreNames, names_of_rows, point_of, multipliers}
+use Rattle.cert_text.specs.Tree.{CertTree, Bound, Farkas, Empty, Split, certificate_nodes}
+use Rattle.cert_check.specs.Places.{place_among}
+use Rattle.cert_check.specs.Mults.{AreMults, mults_of}
+use Rattle.cert_check.specs.Accepted.{AreNames, point_of}
 
--- where each name is a known one and none stands twice what holds of the judgement; else it breaks for that
-abbrev pub WhereNamed : List (List ℕ) → Named → (Judgement → Type 0) → Judgement → Type 0
-WhereNamed known named P j = (AreNames known named × P j) ⊎ ((¬ AreNames known named) × (j ≡ Breaks 1))
+-- where what the line names is there, and stands once, what holds of the judgement; else it breaks for that
+abbrev pub WhereThere : Type 0 → (Judgement → Type 0) → Judgement → Type 0
+WhereThere there P j = (there × P j) ⊎ ((¬ there) × (j ≡ Breaks 1))
 
--- ---- a leaf
+-- ---- a leaf's number
 
 -- a number that was answered is at least t, or rounded up in a whole objective is
 abbrev pub NumberReaches : Program → LagValue → ℚ → Type 0
 NumberReaches M q t = Reaches q t false ⊎ (HasWholeObjective M 1 × Reaches q t true)
 
-abbrev pub IsBoundJudged : Program → ℚ → Path → Multipliers → Judgement → Type 0
-IsBoundJudged M t path mult Passes = (q : LagValue) × (IsLagAnswer M path mult (Ok q) × NumberReaches M q t)
-IsBoundJudged M t path mult (Breaks why) = (q : LagValue) × (IsLagAnswer M path mult (Ok q) × ((¬ NumberReaches M q t) × (why ≡ 7)))
-IsBoundJudged M t path mult (NoRoom step) = IsLagAnswer M path mult (Err step)
+abbrev pub IsBoundJudged : Formulation → ℚ → Path → Multipliers → Judgement → Type 0
+IsBoundJudged F t path mult Passes = (q : LagValue) × (IsLagAnswer F path mult (Ok q) × NumberReaches F.model q t)
+IsBoundJudged F t path mult (Breaks why) = (q : LagValue) × (IsLagAnswer F path mult (Ok q) × ((¬ NumberReaches F.model q t) × (why ≡ 7)))
+IsBoundJudged F t path mult (NoRoom step) = IsLagAnswer F path mult (Err step)
 
 -- where no value is claimed a number reaches nothing
-abbrev pub IsNumberJudged : Program → Claim → Path → Multipliers → Judgement → Type 0
-IsNumberJudged M (Optimal v) path mult j = IsBoundJudged M (in_least_form M.sense v) path mult j
-IsNumberJudged M Infeasible path mult j = j ≡ Breaks 7
+abbrev pub IsNumberJudged : Formulation → Claim → Path → Multipliers → Judgement → Type 0
+IsNumberJudged F (Optimal v) path mult j = IsBoundJudged F (in_least_form F.model.sense v) path mult j
+IsNumberJudged F Infeasible path mult j = j ≡ Breaks 7
 
-abbrev pub IsFarkasJudged : Program → Path → Multipliers → Judgement → Type 0
-IsFarkasJudged M path mult Passes = (q : LagValue) × (IsFarkasAnswer M path mult (Ok q) × IsPositiveNumber q)
-IsFarkasJudged M path mult (Breaks why) = (q : LagValue) × (IsFarkasAnswer M path mult (Ok q) × ((¬ IsPositiveNumber q) × (why ≡ 7)))
-IsFarkasJudged M path mult (NoRoom step) = IsFarkasAnswer M path mult (Err step)
+abbrev pub IsFarkasJudged : Formulation → Path → Multipliers → Judgement → Type 0
+IsFarkasJudged F path mult Passes = (q : LagValue) × (IsFarkasAnswer F path mult (Ok q) × IsPositiveNumber q)
+IsFarkasJudged F path mult (Breaks why) = (q : LagValue) × (IsFarkasAnswer F path mult (Ok q) × ((¬ IsPositiveNumber q) × (why ≡ 7)))
+IsFarkasJudged F path mult (NoRoom step) = IsFarkasAnswer F path mult (Err step)
 
 abbrev pub IsEmptyJudged : Program → Path → Judgement → Type 0
 IsEmptyJudged M path Passes = IsEmptyRegion M path
 IsEmptyJudged M path (Breaks why) = (¬ IsEmptyRegion M path) × (why ≡ 7)
 IsEmptyJudged M path (NoRoom step) = ⊥
-
-abbrev pub IsLeafJudged : Program → Claim → Path → CertLeaf → Judgement → Type 0
-IsLeafJudged M claim path (Bound named) j = WhereNamed (names_of_rows M) named (IsNumberJudged M claim path (multipliers M named)) j
-IsLeafJudged M claim path (Farkas named) j = WhereNamed (names_of_rows M) named (IsFarkasJudged M path (multipliers M named)) j
-IsLeafJudged M claim path Empty j = IsEmptyJudged M path j
 
 -- ---- a node
 
@@ -77,9 +73,11 @@ abbrev pub IsSplitJudged : Program → List ℕ → Judgement → Type 0
 IsSplitJudged M col j =
     (Contains (column_names M) col × IsKindJudged M (place_among (column_names M) col) j) ⊎ ((¬ Contains (column_names M) col) × (j ≡ Breaks 1))
 
-abbrev pub IsNodeJudged : Program → Claim → Path → CertNode → Judgement → Type 0
-IsNodeJudged M claim path (node.Split col v) j = IsSplitJudged M col j
-IsNodeJudged M claim path (node.Leaf leaf) j = IsLeafJudged M claim path leaf j
+abbrev pub IsNodeJudged : Formulation → Claim → Path → CertNode → Judgement → Type 0
+IsNodeJudged F claim path (node.Split col v) j = IsSplitJudged F.model col j
+IsNodeJudged F claim path (node.Bound mults) j = WhereThere (AreMults F.model (length F.cuts) mults) (IsNumberJudged F claim path (mults_of F.model mults)) j
+IsNodeJudged F claim path (node.Farkas mults) j = WhereThere (AreMults F.model (length F.cuts) mults) (IsFarkasJudged F path (mults_of F.model mults)) j
+IsNodeJudged F claim path node.Empty j = IsEmptyJudged F.model path j
 
 -- ---- the point
 
@@ -91,21 +89,23 @@ IsPointJudged M v x (Breaks why) =
 IsPointJudged M v x (NoRoom step) = IsFeasibilityAnswer M x (Err step) ⊎ (IsFeasibilityAnswer M x (Ok true) × IsValueAnswer M 1 x (Err step))
 
 abbrev pub IsClaimJudged : Program → Claim → Named → Judgement → Type 0
-IsClaimJudged M (Optimal v) named j = WhereNamed (column_names M) named (IsPointJudged M v (point_of M named)) j
+IsClaimJudged M (Optimal v) named j = WhereThere (AreNames (column_names M) named) (IsPointJudged M v (point_of M named)) j
 IsClaimJudged M Infeasible named j = j ≡ Passes
 
 -- ---- the certificate
 
 -- the nodes in preorder, each with its path
 abbrev pub visits : Program → Path → CertTree → List (Path × CertNode)
-visits M path (Leaf leaf) = (path, node.Leaf leaf) ∷ []
+visits M path (Bound mults) = (path, node.Bound mults) ∷ []
+visits M path (Farkas mults) = (path, node.Farkas mults) ∷ []
+visits M path Empty = (path, node.Empty) ∷ []
 visits M path (Split col v left right) =
     (path, node.Split col v)
     ∷ (visits M (left_path path (place_among (column_names M) col) v) left
     ++ visits M (right_path path (place_among (column_names M) col) v) right)
 
 abbrev pub IsVisitJudged : Program → Claim → (Path × CertNode) → Judgement → Type 0
-IsVisitJudged M claim visit j = IsNodeJudged M claim visit.0 visit.1 j
+IsVisitJudged M claim visit j = IsNodeJudged (without_cuts M) claim visit.0 visit.1 j
 
 -- some nodes of the tree pass, and then there is one that is judged so; it has this number
 pub record IsJudgedAt (M : Program) (claim : Claim) (tree : CertTree) (number : ℕ) (j : Judgement) : Type 0 where
@@ -130,5 +130,5 @@ IsVerdictOn M cert tree (Wide number step) = IsFirstFailing M cert tree number (
 
 pub record IsVerdict (M : Program) (cert : Cert) (verdict : Verdict) : Type 0 where
   pub tree : CertTree
-  pub nodes : preorder tree ≡ cert.nodes
+  pub nodes : certificate_nodes tree ≡ cert.nodes
   pub is : IsVerdictOn M cert tree verdict

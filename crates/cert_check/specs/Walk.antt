@@ -5,14 +5,14 @@ use Rattle.frac128.specs.Range.{IsNarrow}
 use Rattle.lp_model.specs.Program.{Program, Point}
 use Rattle.lp_model.specs.Lawful.{column_names}
 use Rattle.lp_model.specs.Regions.{Path, at_most, at_least}
+use Rattle.lp_model.specs.Formulations.{without_cuts}
 use Rattle.lp_model.specs.declared.types.Side.{Side}
 use Rattle.lp_model.specs.declared.types.Side.TheVariants.{Lo, Hi}
 use Rattle.lp_model.specs.declared.types.BoundChange.{BoundChange}
-use Rattle.cert_check.specs.declared.cert.Claim.{Claim}
-use Rattle.cert_check.specs.declared.cert.CertLeaf.TheVariants as leaf
-use Rattle.cert_check.specs.declared.cert.CertNode.{CertNode}
-use Rattle.cert_check.specs.declared.cert.CertNode.TheVariants as node
-use Rattle.cert_check.specs.declared.cert.Cert.{Cert}
+use Rattle.cert_text.specs.declared.cert.Claim.{Claim}
+use Rattle.cert_text.specs.declared.cert.CertNode.{CertNode}
+use Rattle.cert_text.specs.declared.cert.CertNode.TheVariants as node
+use Rattle.cert_text.specs.declared.cert.Cert.{Cert}
 use Rattle.cert_check.specs.declared.verdict.Judgement.{Judgement}
 use Rattle.cert_check.specs.declared.verdict.Judgement.TheVariants.{Passes, Breaks, NoRoom}
 use Rattle.cert_check.specs.declared.verdict.Verdict.{Verdict}
@@ -20,10 +20,12 @@ use Rattle.cert_check.specs.declared.verdict.Verdict.TheVariants.{Accepted, Reje
 use Rattle.cert_check.specs.declared.judging.NodeWithPlaces.{NodeWithPlaces}
 use Rattle.cert_check.specs.declared.judging.NodeWithPlaces.TheVariants.{Misnamed, Split, Bound, Farkas, Empty}
 use Rattle.cert_check.specs.declared.checking.RegionBuf.{RegionBuf}
-use Rattle.cert_check.specs.Tree.{CertTree, preorder, place_among}
-use Rattle.cert_check.specs.Accepted.{AreNames, names_of_rows, point_of, multipliers}
+use Rattle.cert_text.specs.Tree.{CertTree, certificate_nodes}
+use Rattle.cert_check.specs.Places.{place_among}
+use Rattle.cert_check.specs.Mults.{AreMults, mults_of}
+use Rattle.cert_check.specs.Accepted.{AreNames, point_of}
 use Rattle.cert_check.specs.Verdict.{IsNumberJudged, IsFarkasJudged, IsEmptyJudged, IsKindJudged, visits, IsVisitJudged, IsJudgedAt}
-use Rattle.cert_check.specs.Whole.{IsNarrowNode}
+use Rattle.cert_text.specs.Whole.{IsNarrowNode}
 use Rattle.cert_check.specs.Tight.{IsTrail, room}
 
 -- ---- nodes with places
@@ -32,18 +34,18 @@ use Rattle.cert_check.specs.Tight.{IsTrail, room}
 abbrev pub IsPlace : Program → CertNode → NodeWithPlaces → Type 0
 IsPlace M (node.Split col v) Misnamed = ¬ Contains (column_names M) col
 IsPlace M (node.Split col v) (Split place w) = (place.0 < length M.cols) × (place.0 ≡ place_among (column_names M) col) × (w ≡ v)
-IsPlace M (node.Leaf (leaf.Bound named)) Misnamed = ¬ AreNames (names_of_rows M) named
-IsPlace M (node.Leaf (leaf.Bound named)) (Bound mult) = AreNames (names_of_rows M) named × (mult ≡ multipliers M named)
-IsPlace M (node.Leaf (leaf.Farkas named)) Misnamed = ¬ AreNames (names_of_rows M) named
-IsPlace M (node.Leaf (leaf.Farkas named)) (Farkas mult) = AreNames (names_of_rows M) named × (mult ≡ multipliers M named)
-IsPlace M (node.Leaf leaf.Empty) Empty = Unit {0}
+IsPlace M (node.Bound mults) Misnamed = ¬ AreMults M 0 mults
+IsPlace M (node.Bound mults) (Bound mult) = AreMults M 0 mults × (mult ≡ mults_of M mults)
+IsPlace M (node.Farkas mults) Misnamed = ¬ AreMults M 0 mults
+IsPlace M (node.Farkas mults) (Farkas mult) = AreMults M 0 mults × (mult ≡ mults_of M mults)
+IsPlace M node.Empty Empty = Unit {0}
 IsPlace M n placed = ⊥
 
 abbrev pub IsPlacedJudged : Program → Claim → Path → NodeWithPlaces → Judgement → Type 0
 IsPlacedJudged M claim path Misnamed j = j ≡ Breaks 1
 IsPlacedJudged M claim path (Split col v) j = IsKindJudged M col.0 j
-IsPlacedJudged M claim path (Bound mult) j = IsNumberJudged M claim path mult j
-IsPlacedJudged M claim path (Farkas mult) j = IsFarkasJudged M path mult j
+IsPlacedJudged M claim path (Bound mult) j = IsNumberJudged (without_cuts M) claim path mult j
+IsPlacedJudged M claim path (Farkas mult) j = IsFarkasJudged (without_cuts M) path mult j
 IsPlacedJudged M claim path Empty j = IsEmptyJudged M path j
 
 -- ---- paths
@@ -80,8 +82,8 @@ ArePlaced M nodes placed = (length placed ≡ length nodes) × ((k : ℕ) (n : C
 
 -- the places are those of a tree's nodes, and fractions have room for its splits
 pub record IsWalked (M : Program) (tree : CertTree) (placed : List NodeWithPlaces) : Type 0 where
-  pub places : ArePlaced M (preorder tree) placed
-  pub narrow : All IsNarrowNode (preorder tree)
+  pub places : ArePlaced M (certificate_nodes tree) placed
+  pub narrow : All IsNarrowNode (certificate_nodes tree)
 
 -- the verdict on the nodes alone
 abbrev pub IsNodesVerdict : Program → Claim → CertTree → Verdict → Type 0

@@ -6,18 +6,19 @@ ghost use Rattle.lp_model.specs.Regions.{AreNarrow, at_least};
 ghost use Rattle.cert_check.specs.Walk.{IsPlace, ArePlaced, IsBufferOf, IsPlacedJudged, CanTurn, after_leaf, after_node, IsWalked, IsNodesVerdict, IsPointOf};
 ghost use Rattle.cert_check.specs.Tight.{IsTrail, path_of_trail, room};
 ghost use Rattle.cert_check.specs.Verdict.{IsClaimJudged, IsVerdict};
-ghost use Rattle.cert_check.specs.Whole.{IsCertificate, HasNoPoint};
+ghost use Rattle.cert_text.specs.Whole.{IsCertificate, HasNoPoint};
 ghost use Rattle.lp_model.specs.Edits.{Named};
-ghost use Rattle.cert_check.specs.Tree.{CertTree};
-ghost use Rattle.cert_check.specs.declared.cert.CertNode.{CertNode};
+ghost use Rattle.cert_text.specs.Tree.{CertTree};
+ghost use Rattle.cert_text.specs.declared.cert.CertNode.{CertNode};
 
-use crate::cert::{Cert, CertLeaf, CertNode, Claim};
 use crate::judging::{
     NodeWithPlaces, is_whole, judge_empty, judge_farkas, judge_number, judge_point, judge_split,
 };
-use crate::names::{column_place, multipliers, point};
+use crate::mults::multipliers;
+use crate::names::{column_place, point};
 use crate::trail::Trail;
 use crate::verdict::{Judgement, Verdict};
+use cert_text::{Cert, CertNode, Claim};
 use lp_model::{BoundChange, Model, Point, Side};
 use std::alloc::{AllocError, Global};
 
@@ -43,19 +44,15 @@ fn node_with_places(
             Some(col) => NodeWithPlaces::Split { col, v: *v },
             None => NodeWithPlaces::Misnamed,
         },
-        CertNode::Leaf(CertLeaf::Bound(named)) => {
-            match multipliers(alloc, model, named.as_slice())? {
-                Some(mult) => NodeWithPlaces::Bound(mult),
-                None => NodeWithPlaces::Misnamed,
-            }
-        }
-        CertNode::Leaf(CertLeaf::Farkas(named)) => {
-            match multipliers(alloc, model, named.as_slice())? {
-                Some(mult) => NodeWithPlaces::Farkas(mult),
-                None => NodeWithPlaces::Misnamed,
-            }
-        }
-        CertNode::Leaf(CertLeaf::Empty) => NodeWithPlaces::Empty,
+        CertNode::Bound(mults) => match multipliers(alloc, model, 0, mults.as_slice())? {
+            Some(mult) => NodeWithPlaces::Bound(mult),
+            None => NodeWithPlaces::Misnamed,
+        },
+        CertNode::Farkas(mults) => match multipliers(alloc, model, 0, mults.as_slice())? {
+            Some(mult) => NodeWithPlaces::Farkas(mult),
+            None => NodeWithPlaces::Misnamed,
+        },
+        CertNode::Empty => NodeWithPlaces::Empty,
     })
 }
 
@@ -107,8 +104,10 @@ fn judge(
     match node {
         NodeWithPlaces::Misnamed => Judgement::Breaks(1),
         NodeWithPlaces::Split { col, .. } => judge_split(model, *col),
-        NodeWithPlaces::Bound(mult) => judge_number(model, claim, whole, path, mult.as_slice()),
-        NodeWithPlaces::Farkas(mult) => judge_farkas(model, path, mult.as_slice()),
+        NodeWithPlaces::Bound(mult) => {
+            judge_number(model, &[], claim, whole, path, mult.as_slice())
+        }
+        NodeWithPlaces::Farkas(mult) => judge_farkas(model, &[], path, mult.as_slice()),
         NodeWithPlaces::Empty => judge_empty(model, path),
     }
 }

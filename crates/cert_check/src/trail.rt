@@ -1,7 +1,7 @@
 // The path to a node, and its region by the tightest changes alone. A leaf is judged by the region, which has at most one
 // change for each side of each column, however long the path is.
 ghost use Rattle.std.specs.Prelude.{◌≡◌, ◌<◌, ◌≤◌, ◌+◌, ◌++◌, ◌∷◌, [], length, take, set, max, IfOk, if◌then◌else◌, true};
-ghost use Rattle.cert_check.specs.Tight.{is_same_side, are_rivals, tighter_number, tighter, place_of, tightened, undone, AreChangesApart, IsTrail, path_of_trail, region_of, room};
+ghost use Rattle.cert_check.specs.Tight.{is_same_side, are_rivals, tighter_number, tighter, rival_place, tightened, undone, AreChangesApart, IsTrail, path_of_trail, region_of, room};
 
 use lp_model::{BoundChange, ColId, Side};
 use std::alloc::{AllocError, Global};
@@ -67,7 +67,7 @@ fn tighter(first: &BoundChange, second: &BoundChange) -> BoundChange
 
 /// The place of the change for the same side of the same column, or how many changes there are.
 fn place_of(region: &[BoundChange], change: &BoundChange) -> usize
-    ensures place { result ≡ place_of region.now change.now }
+    ensures place { result ≡ rival_place region.now change.now }
     ensures within { result ≤ length region.now }
 {
     for place in 0..region.len() {

@@ -1,6 +1,6 @@
 // What the judging of a certificate answers.
 
-use crate::cert::Claim;
+use cert_text::Claim;
 use lp_model::WideStep;
 
 /// What the judging of a point or of one node answers.

@@ -3,7 +3,7 @@ use Rattle.std.proofs.Common.{◌≡◌, ℕ, ◌-◌, ◌≤◌, ◌<◌, List,
 use Rattle.std.specs.Prelude.{map, codes}
 use Rattle.std.specs.Str.{bytes_eq}
 use Rattle.std.proofs.lemmas.Grind.{common_steps}
-use Rattle.command_words.specs.Names.{command_of, is_file_name, number_of}
+use Rattle.command_words.specs.Names.{command_of, is_file_name, whole_number_of}
 use Rattle.command_words.specs.declared.words.CommandName.{CommandName}
 use Rattle.command_words.specs.declared.words.CommandName.TheVariants as name
 use Rattle.command_words.specs.Asks.{Asks, Load, Solve, Cert, Misused, with_number, load_asks, solve_asks, cert_asks, quit_asks, command_asks, asks_of, NamesFile}
@@ -48,8 +48,8 @@ load_asks-named (file ∷ []) = by (is_file_name file) refl
 load_asks-named (file ∷ key ∷ []) = tt
 load_asks-named (file ∷ key ∷ number ∷ []) = by (is_file_name file) (bytes_eq key (codes "intupper")) refl
   where
-    by : (a b : Bool) → is_file_name file ≡ a → NamesFile (if a && b then with_number number (number_of number) (λ n. Load file (Some n)) else Misused)
-    by true true e = with_number-named number (number_of number) (λ n. Load file (Some n)) (λ k. e)
+    by : (a b : Bool) → is_file_name file ≡ a → NamesFile (if a && b then with_number number (whole_number_of number) (λ n. Load file (Some n)) else Misused)
+    by true true e = with_number-named number (whole_number_of number) (λ n. Load file (Some n)) (λ k. e)
     by true false e = tt
     by false b e = tt
 load_asks-named (file ∷ key ∷ number ∷ other ∷ more) = tt
@@ -59,8 +59,8 @@ solve_asks-named [] = tt
 solve_asks-named (key ∷ []) = tt
 solve_asks-named (key ∷ number ∷ []) = by (bytes_eq key (codes "nodes"))
   where
-    by : (b : Bool) → NamesFile (if b then with_number number (number_of number) Solve else Misused)
-    by true = with_number-named number (number_of number) Solve (λ k. tt)
+    by : (b : Bool) → NamesFile (if b then with_number number (whole_number_of number) Solve else Misused)
+    by true = with_number-named number (whole_number_of number) Solve (λ k. tt)
     by false = tt
 solve_asks-named (key ∷ number ∷ other ∷ more) = tt
 

@@ -1,7 +1,7 @@
 -- What the words of a line ask for: a command with what it is given, or which fault they have.
 use Rattle.std.specs.Prelude.{◌≡◌, true, ℕ, ◌-◌, ◌^◌, ◌&&◌, List, [], ◌∷◌, codes, if◌then◌else◌, Option, Some, None}
 use Rattle.std.specs.Str.{bytes_eq}
-use Rattle.command_words.specs.Names.{command_of, is_file_name, number_of}
+use Rattle.command_words.specs.Names.{command_of, is_file_name, whole_number_of}
 use Rattle.command_words.specs.declared.words.CommandName.{CommandName}
 use Rattle.command_words.specs.declared.words.CommandName.TheVariants as name
 use Rattle.command_words.specs.declared.words.Asked.{Asked}
@@ -35,13 +35,13 @@ with_number word (Some n) asks = asks n
 abbrev pub load_asks : List (List ℕ) → Asks
 load_asks (file ∷ []) = if is_file_name file then Load file None else Misused
 load_asks (file ∷ key ∷ number ∷ []) =
-    if is_file_name file && bytes_eq key (codes "intupper") then with_number number (number_of number) (λ n. Load file (Some n)) else Misused
+    if is_file_name file && bytes_eq key (codes "intupper") then with_number number (whole_number_of number) (λ n. Load file (Some n)) else Misused
 load_asks arguments = Misused
 
 -- `solve` and `solve nodes N`
 abbrev pub solve_asks : List (List ℕ) → Asks
 solve_asks [] = Solve no_limit
-solve_asks (key ∷ number ∷ []) = if bytes_eq key (codes "nodes") then with_number number (number_of number) Solve else Misused
+solve_asks (key ∷ number ∷ []) = if bytes_eq key (codes "nodes") then with_number number (whole_number_of number) Solve else Misused
 solve_asks arguments = Misused
 
 -- `cert F`

@@ -30,5 +30,5 @@ is_file_name word = begins_name word && nat_le (length word) 255 && list_all is_
 
 -- The whole number of 64 bits that a word is, in decimal digits without a sign or a leading zero, if it is one: the word
 -- is spelled as the number is.
-abbrev pub number_of : List ℕ → Option ℕ
-number_of word = if bytes_eq word (decimal (digits_value 10 word)) && nat_lt (digits_value 10 word) (2 ^ 64) then Some (digits_value 10 word) else None
+abbrev pub whole_number_of : List ℕ → Option ℕ
+whole_number_of word = if bytes_eq word (decimal (digits_value 10 word)) && nat_lt (digits_value 10 word) (2 ^ 64) then Some (digits_value 10 word) else None

@@ -1,7 +1,7 @@
 // What the words of a line ask for.
 ghost use Rattle.std.specs.Prelude.{◌≡◌, true, map, [], ◌∷◌};
 ghost use Rattle.std.specs.List.{list_all};
-ghost use Rattle.command_words.specs.Names.{command_of, begins_name, is_file_name, is_name_byte, number_of};
+ghost use Rattle.command_words.specs.Names.{command_of, begins_name, is_file_name, is_name_byte, whole_number_of};
 ghost use Rattle.command_words.specs.Asks.{asks_of, asks_shown, load_asks, solve_asks, cert_asks, quit_asks, NamesFile};
 
 /// The commands that there are.
@@ -101,7 +101,7 @@ pub fn file_name(word: &[u8]) -> &str
 
 /// The whole number of 64 bits that a word is in decimal digits, without a sign or a leading zero.
 fn whole_number(word: &[u8]) -> Option<u64>
-    ensures { result ≡ number_of word.now }
+    ensures { result ≡ whole_number_of word.now }
 {
     let Ok(text) = str::from_utf8(word) else {
         return None;

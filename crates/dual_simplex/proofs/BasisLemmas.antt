@@ -13,24 +13,24 @@ use Rattle.bases.specs.declared.stand.Stand.TheVariants.{Low, High, Free}
 use Rattle.bases.specs.Relaxation.{Relaxation, Table, IsArranged}
 use Rattle.bases.specs.Bases.{Found, listed, Lists, IsNamedBy}
 use Rattle.bases.specs.States.{State, IsGood, IsFree}
-use Rattle.bases.specs.Directions.{side_number}
+use Rattle.bases.specs.Directions.{stand_number}
 use Rattle.bases.proofs.BringIn.{basic_within, nonbasic_within, all_found}
 use Rattle.row_tableau.specs.declared.relax.Relax.{Relax}
 use Rattle.row_tableau.specs.declared.relax.RelaxKind.TheVariants.{Plain}
 use Rattle.row_tableau.specs.Relaxations.{plain, of_kind, relaxation_of}
 use Rattle.row_tableau.specs.Variables.{numbers}
-use Rattle.dual_simplex.specs.Held.{Held, IsLawfulHeld, relaxation, state, table}
+use Rattle.basic_solution.specs.Held.{Held, IsLawfulHeld, relaxation, state, table}
 use Rattle.row_tableau.specs.Dense.{IsTableauOf}
-use Rattle.dual_simplex.specs.Tilts.{model_low, model_high, has_side, is_sided, tilt_of, order_of, parts_of, KeepsFree}
-use Rattle.dual_simplex.specs.Slack.{IsOf, IsSlackState, CanStand}
-use Rattle.dual_simplex.specs.Lists.{AreRising, IsBasisOf}
-use Rattle.dual_simplex.specs.Starts.{IsStandBy, IsLawfulBasis}
+use Rattle.basic_solution.specs.Tilts.{model_low, model_high, has_side, is_sided, tilt_of, order_of, parts_of, KeepsFree}
+use Rattle.basic_solution.specs.Slack.{IsOf, IsSlackState, CanStand}
+use Rattle.basic_solution.specs.Lists.{AreRising, IsBasisOf}
+use Rattle.basic_solution.specs.ListedStates.{IsStandBy, IsLawfulBasis}
 use Rattle.dual_simplex.specs.SlackBases.{IsRootOf, IsLawfulSlackBasis}
 use Rattle.dual_simplex.specs.Laws.{StandsAt}
-use Rattle.dual_simplex.proofs.SignLemmas.{stands_of, can_of}
-use Rattle.dual_simplex.proofs.TiltLemmas.{by_column, by_activity, free_in_region}
-use Rattle.dual_simplex.proofs.SlackLemmas.{columns_is, activities_is}
-use Rattle.dual_simplex.proofs.StartLemmas.{numbers_same}
+use Rattle.basic_solution.proofs.SignLemmas.{stands_of, can_of}
+use Rattle.basic_solution.proofs.TiltLemmas.{by_column, by_activity, free_in_region}
+use Rattle.basic_solution.proofs.SlackLemmas.{columns_is, activities_is}
+use Rattle.basic_solution.proofs.ListedLemmas.{numbers_same}
 use Rattle.dual_simplex.proofs.ContinueLemmas.{There, low_there, high_there}
 use Rattle.dual_simplex.proofs.OneStateLemmas.{good_of, lawful_list}
 
@@ -150,7 +150,7 @@ module _ (M : Program) where
     can_region v Free h = free_in_region M path keeps v (unsided_root v h)
 
     abbrev restood_in : State → State
-    restood_in st = record { table = st.table; stand = st.stand; at = λ k. side_number (st.stand k) ((plain M path).low (st.table.nonbasic k)) ((plain M path).high (st.table.nonbasic k)) }
+    restood_in st = record { table = st.table; stand = st.stand; at = λ k. stand_number (st.stand k) ((plain M path).low (st.table.nonbasic k)) ((plain M path).high (st.table.nonbasic k)) }
 
     pub can_there : (st : State) → IsGood root (parts_of Plain M []) st → (k : ℕ) → k < length M.cols → CanStand (st.stand k) ((plain M path).low (st.table.nonbasic k)) ((plain M path).high (st.table.nonbasic k))
     can_there st good k w = can_region (st.table.nonbasic k) (st.stand k) (can_of root (st.table.nonbasic k) (st.stand k) (st.at k) (good.lawful.stands k w))

@@ -19,9 +19,9 @@ use Rattle.bases.specs.Directions.{Continues}
 use Rattle.bases.proofs.SumBelowLaws.{if_same, if_other}
 use Rattle.row_tableau.specs.declared.relax.RelaxKind.TheVariants.{Plain, Directions}
 use Rattle.row_tableau.specs.Relaxations.{plain}
-use Rattle.dual_simplex.specs.Tilts.{model_low, model_high, stand_by_sides, free_tilt, tilt_of, has_side, is_sided, sided, unsided, tilted_cost, parts_of}
-use Rattle.dual_simplex.proofs.OrderLemmas.{filter_from}
-use Rattle.dual_simplex.proofs.TiltLemmas.{by_column, by_activity}
+use Rattle.basic_solution.specs.Tilts.{model_low, model_high, stand_by_sides, free_tilt, tilt_of, has_side, is_sided, sided, unsided, tilted_cost, parts_of}
+use Rattle.basic_solution.proofs.OrderLemmas.{filter_from}
+use Rattle.basic_solution.proofs.TiltLemmas.{by_column, by_activity}
 
 -- ---- a side of the model stays in every region
 

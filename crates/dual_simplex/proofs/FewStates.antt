@@ -7,14 +7,14 @@ use Rattle.bases.specs.declared.stand.Stand.{Stand}
 use Rattle.bases.specs.declared.stand.Stand.TheVariants.{Low, High, Free}
 use Rattle.bases.specs.Relaxation.{Relaxation, IsArranged}
 use Rattle.bases.specs.States.{IsLess, State, Standing, IsGood, key, SameState}
-use Rattle.bases.specs.Directions.{side_number}
+use Rattle.bases.specs.Directions.{stand_number}
 use Rattle.bases.specs.Bases.{Found}
 use Rattle.bases.proofs.SumBelowLaws.{if_same, if_other}
 use Rattle.bases.proofs.BringIn.{basic_within, nonbasic_within}
 use Rattle.bases.proofs.OneTable.{covered}
 use Rattle.bases.proofs.SameState.{key_same}
 use Rattle.bases.proofs.Parts.{positive_same, not_less_self}
-use Rattle.dual_simplex.specs.Held.{Held, IsLawfulHeld, relaxation, parts, state, table, variables}
+use Rattle.basic_solution.specs.Held.{Held, IsLawfulHeld, relaxation, parts, state, table, variables}
 use Rattle.dual_simplex.specs.Moves.{IsMoved}
 use Rattle.dual_simplex.specs.Walks.{Moves, IsWalkEnd, IsWalkAnswer}
 use Rattle.lp_model.specs.declared.types.WideStep.{WideStep}
@@ -145,7 +145,7 @@ code_of p st = code (digits p st) (p.columns + p.activities)
 -- ---- states with the same digits are the same
 
 value_at : (o : Option ℚ) (a b : ℚ) → o ≡ Some a → o ≡ Some b → a ≡ b
-value_at o a b e f = ap (λ x. side_number Low x None) (sym e ∙ f)
+value_at o a b e f = ap (λ x. stand_number Low x None) (sym e ∙ f)
 
 missing : (o : Option ℚ) (b : ℚ) → o ≡ None → ¬ (o ≡ Some b)
 missing o b none some = false≢true (ap (λ x. is_none x) (sym some ∙ none))

@@ -1,12 +1,8 @@
-pub mod Held
-pub mod Breach
+pub mod LpStates
 pub mod Answers
 pub mod Moves
 pub mod Walks
 pub mod Laws
-pub mod Tilts
-pub mod Slack
-pub mod Lists
 pub mod Solves
 pub mod ListLaws
 pub mod Starts

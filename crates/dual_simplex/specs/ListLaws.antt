@@ -5,10 +5,10 @@ use Rattle.lp_model.specs.declared.types.Var.{Var}
 use Rattle.bases.specs.Relaxation.{Relaxation, left_of}
 use Rattle.bases.specs.States.{SameState}
 use Rattle.row_tableau.specs.Dense.{Dense}
-use Rattle.row_tableau.specs.Variables.{number}
-use Rattle.dual_simplex.specs.Held.{Held, IsLawfulHeld, relaxation, state, variables}
+use Rattle.row_tableau.specs.Variables.{variable_number}
+use Rattle.basic_solution.specs.Held.{Held, IsLawfulHeld, relaxation, state, variables}
 use Rattle.dual_simplex.specs.Walks.{Moves}
-use Rattle.dual_simplex.specs.Lists.{AreListedMultipliers}
+use Rattle.basic_solution.specs.Lists.{AreListedMultipliers}
 
 -- moves never lead back to a state: so after n moves n + 1 different ones were met
 abbrev pub WalkStatesLaw : Type 0
@@ -17,7 +17,7 @@ WalkStatesLaw = (n : ℕ) (s after : Held) → IsLawfulHeld s → Moves (suc n) 
 -- the number that the list gives the variable, and 0 where it does not name it
 abbrev pub named_by : Dense → List (Var × ℚ) → ℕ → ℚ
 named_by t [] v = int (pos 0)
-named_by t (m ∷ ms) v = if number t m.0 == v then m.1 else named_by t ms v
+named_by t (m ∷ ms) v = if variable_number t m.0 == v then m.1 else named_by t ms v
 
 -- multipliers of the activities, and of each column what they leave of its cost
 abbrev pub completed : Relaxation → (ℕ → ℚ) → (ℕ → ℚ) → ℕ → ℚ

@@ -1,30 +1,17 @@
 -- What a step makes of a state.
-use Rattle.std.specs.Prelude.{◌≡◌, ℕ, ◌<◌, set, Result, Ok, Err}
+use Rattle.std.specs.Prelude.{◌≡◌, ℕ, ◌<◌, Result, Ok, Err}
 use Rattle.bases.specs.declared.stand.Stand.{Stand}
-use Rattle.bases.specs.Relaxation.{Agree, pivoted}
 use Rattle.bases.specs.States.{Enters}
-use Rattle.dual_simplex.specs.Held.{Held, relaxation, parts, state, table}
-use Rattle.dual_simplex.specs.Answers.{IsWide, IsInside, IsFirstOut, May}
+use Rattle.basic_solution.specs.Held.{Held, relaxation, parts, state}
+use Rattle.dual_simplex.specs.Answers.{IsWide, IsFirstOut, May}
+use Rattle.basic_solution.specs.Numbers.{IsInside}
 use Rattle.lp_model.specs.declared.types.WideStep.{WideStep}
 use Rattle.dual_simplex.specs.declared.step.Step.{Step}
 use Rattle.dual_simplex.specs.declared.step.Step.TheVariants.{Moved, Optimal, Infeasible}
+use Rattle.basic_solution.specs.Exchanges.{IsMove}
 
 abbrev pub IsEntered : Held → ℕ → Stand → ℕ → Type 0
 IsEntered s row side place = Enters (relaxation s) (parts s) (state s) row side place
-
--- the variable of the row leaves for the side and that of the place enters: all else stays
-pub record IsMove (s after : Held) (row : ℕ) (side : Stand) (place : ℕ) : Type 0 where
-  pub model : after.model ≡ s.model
-  pub low : after.low ≡ s.low
-  pub high : after.high ≡ s.high
-  pub cost : after.cost ≡ s.cost
-  pub tilt : after.tilt ≡ s.tilt
-  pub order : after.order ≡ s.order
-  pub columns : after.tableau.columns ≡ s.tableau.columns
-  pub rows : after.tableau.rows ≡ s.tableau.rows
-  pub activities : after.tableau.activities ≡ s.tableau.activities
-  pub exchanged : Agree s.tableau.columns s.tableau.activities (table after) (pivoted (table s) row place)
-  pub stands : after.stands ≡ set s.stands place side
 
 -- the first basic variable outside a side leaves for it, and the one that enters by the rule takes its place
 pub record IsMoved (s after : Held) : Type 0 where

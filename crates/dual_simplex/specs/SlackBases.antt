@@ -4,11 +4,11 @@ use Rattle.lp_model.specs.Program.{Program}
 use Rattle.lp_model.specs.declared.types.Basis.{Basis}
 use Rattle.row_tableau.specs.declared.relax.Relax.{Relax}
 use Rattle.row_tableau.specs.declared.relax.RelaxKind.TheVariants.{Plain}
-use Rattle.dual_simplex.specs.Held.{Held, IsLawfulHeld}
-use Rattle.dual_simplex.specs.Tilts.{KeepsFree}
-use Rattle.dual_simplex.specs.Slack.{IsSlackState}
-use Rattle.dual_simplex.specs.Lists.{IsBasisOf}
-use Rattle.dual_simplex.specs.Starts.{IsLawfulBasis}
+use Rattle.basic_solution.specs.Held.{Held, IsLawfulHeld}
+use Rattle.basic_solution.specs.Tilts.{KeepsFree}
+use Rattle.basic_solution.specs.Slack.{IsSlackState}
+use Rattle.basic_solution.specs.Lists.{IsBasisOf}
+use Rattle.basic_solution.specs.ListedStates.{IsLawfulBasis}
 
 -- the model's relaxation in the whole region
 pub record IsRootOf (M : Program) (relax : Relax) : Type 0 where

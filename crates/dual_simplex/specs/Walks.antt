@@ -1,8 +1,9 @@
 -- Steps one after the other.
 use Rattle.std.specs.Prelude.{◌≡◌, ℕ, zero, suc, ◌<◌, ◌≤◌, Result, Ok, Err}
 use Rattle.bases.specs.declared.stand.Stand.{Stand}
-use Rattle.dual_simplex.specs.Held.{Held}
-use Rattle.dual_simplex.specs.Answers.{IsWide, IsInside, IsFirstOut}
+use Rattle.basic_solution.specs.Held.{Held}
+use Rattle.dual_simplex.specs.Answers.{IsWide, IsFirstOut}
+use Rattle.basic_solution.specs.Numbers.{IsInside}
 use Rattle.dual_simplex.specs.Moves.{IsMoved, IsBlocked}
 use Rattle.lp_model.specs.declared.types.WideStep.{WideStep}
 use Rattle.dual_simplex.specs.declared.walk.Walk.{Walk}
@@ -13,10 +14,10 @@ abbrev pub Moves : ℕ → Held → Held → Type 0
 Moves zero s after = after ≡ s
 Moves (suc n) s after = (mid : Held) × (Moves n s mid × IsMoved mid after)
 
--- what holds where n moves of at most so many end
+-- what holds where n moves of at most so many end; that none may enter is seen where a further move is allowed
 abbrev pub IsWalkEnd : ℕ → ℕ → Result Walk WideStep → Held → Type 0
 IsWalkEnd n limit (Ok Optimal) after = (i : ℕ) → i < after.tableau.activities → IsInside after i
-IsWalkEnd n limit (Ok Infeasible) after = IsBlocked after
+IsWalkEnd n limit (Ok Infeasible) after = (n < limit) × IsBlocked after
 IsWalkEnd n limit (Ok Pivots) after = (n ≡ limit) × ((row : ℕ) × ((side : Stand) × IsFirstOut after row side))
 IsWalkEnd n limit (Err e) after = IsWide after e
 

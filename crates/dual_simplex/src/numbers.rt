@@ -2,56 +2,13 @@
 ghost use Rattle.std.specs.Prelude.{◌≡◌, ◌<◌};
 ghost use Rattle.bases.specs.Relaxation.{point, multipliers};
 ghost use Rattle.bases.specs.States.{farkas_weights};
-ghost use Rattle.dual_simplex.specs.Held.{relaxation, state, table, variables};
+ghost use Rattle.basic_solution.specs.Held.{relaxation, state, table, variables};
 ghost use Rattle.dual_simplex.specs.Answers.{IsNumberOrWide};
 
 use crate::leaving::Leaving;
-use crate::sided::SidedBasis;
-use crate::sides::signed;
 use crate::state::LpState;
 use frac128::Frac;
 use lp_model::WideStep;
-use row_tableau::Position;
-
-impl SidedBasis<'_> {
-    /// The number of a variable at the state's point, or the first step that has no room.
-    pub(crate) fn number_of(&self, variable: usize) -> Result<Frac, WideStep>
-        requires { variable < variables self.now }
-        ensures { IsNumberOrWide self.now (point (relaxation self.now) (table self.now) (state self.now).at variable) result }
-    {
-        match self.tableau.find(variable) {
-            Position::Row(row) => self.basic_value(row),
-            Position::Place(place) => Ok(self.place_number(place)),
-        }
-    }
-
-    /// The multiplier of a variable: its reduced cost, 0 for a basic one; or the first step that has no room.
-    pub(crate) fn multiplier_of(&self, variable: usize) -> Result<Frac, WideStep>
-        requires { variable < variables self.now }
-        ensures { IsNumberOrWide self.now (multipliers (relaxation self.now) (table self.now) (relaxation self.now).cost variable) result }
-    {
-        match self.tableau.find(variable) {
-            Position::Row(_) => Ok(Frac::whole(0)),
-            Position::Place(place) => self.reduced_cost(place),
-        }
-    }
-
-    /// The Farkas multiplier of a variable where a basic variable is outside a side and none may enter for it: of the
-    /// leaving one 1, of each nonbasic one the negative of its entry in the row, all negated above the high side.
-    pub(crate) fn farkas_of(&self, leaving: &Leaving, variable: usize) -> Frac
-        requires row { leaving.now.row < self.now.tableau.activities }
-        requires variable { variable < variables self.now }
-        ensures { result ≡ farkas_weights (relaxation self.now) (state self.now) leaving.now.row leaving.now.side variable }
-    {
-        match self.tableau.find(variable) {
-            Position::Row(row) if row == leaving.row => signed(leaving.side, &Frac::whole(1)),
-            Position::Row(_) => signed(leaving.side, &Frac::whole(0)),
-            Position::Place(place) => {
-                signed(leaving.side, &self.tableau.entry(leaving.row, place).neg())
-            }
-        }
-    }
-}
 
 impl LpState<'_> {
     /// How many variables there are.
@@ -84,6 +41,6 @@ impl LpState<'_> {
         requires variable { variable < variables self.now }
         ensures { result ≡ farkas_weights (relaxation self.now) (state self.now) leaving.now.row leaving.now.side variable }
     {
-        self.basis.farkas_of(leaving, variable)
+        self.basis.farkas_of(leaving.row, leaving.side, variable)
     }
 }

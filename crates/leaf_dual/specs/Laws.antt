@@ -1,23 +1,36 @@
--- What the answers prove of the points of a region.
-use Rattle.std.specs.Prelude.{Bool, IsTrue, Ok}
+-- What the numbers prove of the points of a region, where no feasible point breaks a cut that counts; and that an answer is
+-- the number, and the only one.
+use Rattle.std.specs.Prelude.{◌≡◌, Bool, IsTrue, Result, Ok}
 use Rattle.rational.specs.Rational.{ℚ, ◌≤ℚ◌}
-use Rattle.lp_model.specs.Program.{Program, Point, least_value, IsFeasible, HasWholeObjective}
+use Rattle.lp_model.specs.Program.{Point, least_value, IsFeasible, HasWholeObjective}
 use Rattle.lp_model.specs.Regions.{Path, InRegion}
+use Rattle.lp_model.specs.Formulations.{Formulation, IsValid}
+use Rattle.lp_model.specs.declared.types.WideStep.{WideStep}
 use Rattle.leaf_dual.specs.declared.dual.LagValue.{LagValue}
-use Rattle.leaf_dual.specs.Dual.{Multipliers, IsLowerBound, IsPositiveNumber, Reaches}
+use Rattle.leaf_dual.specs.Dual.{Multipliers, lag, farkas, IsLowerBound, IsPositiveNumber, Reaches}
 use Rattle.leaf_dual.specs.Answers.{IsLagAnswer, IsFarkasAnswer}
 
--- an answer of `lag` is no higher than the least form's value of any feasible point in the region
+-- `lag` is no higher than the least form's value of any feasible point in the region
 abbrev pub WeakDuality : Type 0
-WeakDuality =
-    (M : Program) (path : Path) (mult : Multipliers) (v : LagValue) (x : Point) → IsLagAnswer M path mult (Ok v) → IsFeasible M x → InRegion path x → IsLowerBound v (least_value M 1 x)
+WeakDuality = (F : Formulation) (path : Path) (mult : Multipliers) (x : Point) → IsValid F → IsFeasible F.model x → InRegion path x → IsLowerBound (lag F path mult) (least_value F.model 1 x)
 
--- an answer of `farkas` above 0 means that no feasible point is in the region
+-- `farkas` above 0 means that no feasible point is in the region
 abbrev pub FarkasLaw : Type 0
-FarkasLaw = (M : Program) (path : Path) (mult : Multipliers) (v : LagValue) (x : Point) → IsFarkasAnswer M path mult (Ok v) → IsPositiveNumber v → IsFeasible M x → ¬ InRegion path x
+FarkasLaw = (F : Formulation) (path : Path) (mult : Multipliers) (x : Point) → IsValid F → IsPositiveNumber (farkas F path mult) → IsFeasible F.model x → ¬ InRegion path x
 
 -- no feasible point of a leaf that closes against t has a value below t, where the flag is set for a whole objective alone
 abbrev pub ClosesLaw : Type 0
 ClosesLaw =
-    (M : Program) (path : Path) (mult : Multipliers) (v : LagValue) (t : ℚ) (whole : Bool) (x : Point) → IsLagAnswer M path mult (Ok v) → (IsTrue whole → HasWholeObjective M 1) → Reaches v t whole → IsFeasible M x →
-    InRegion path x → t ≤ℚ least_value M 1 x
+    (F : Formulation) (path : Path) (mult : Multipliers) (t : ℚ) (whole : Bool) (x : Point) → IsValid F → (IsTrue whole → HasWholeObjective F.model 1) → Reaches (lag F path mult) t whole → IsFeasible F.model x →
+    InRegion path x → t ≤ℚ least_value F.model 1 x
+
+-- an answer that names no step is the number
+abbrev pub AnswerLaw : Type 0
+AnswerLaw =
+    (F : Formulation) (path : Path) (mult : Multipliers) (v : LagValue) → (IsLagAnswer F path mult (Ok v) → v ≡ lag F path mult) × (IsFarkasAnswer F path mult (Ok v) → v ≡ farkas F path mult)
+
+-- two answers of one question are one
+abbrev pub OneAnswerLaw : Type 0
+OneAnswerLaw =
+    (F : Formulation) (path : Path) (mult : Multipliers) (r s : Result LagValue WideStep) →
+    (IsLagAnswer F path mult r → IsLagAnswer F path mult s → r ≡ s) × (IsFarkasAnswer F path mult r → IsFarkasAnswer F path mult s → r ≡ s)

@@ -3,6 +3,7 @@ use Rattle.std.specs.Prelude.{◌≡◌, ◌≢◌, ℕ, suc, ◌<◌, ◌≤◌
 use Rattle.rational.specs.Rational.{ℚ, int, ◌-ℚ◌, neg_ℚ, ◌≤ℚ◌}
 use Rattle.frac128.specs.Range.{SumFits}
 use Rattle.lp_model.specs.Program.{Program}
+use Rattle.lp_model.specs.Elements.{of_element}
 use Rattle.lp_model.specs.declared.types.RowId.{RowId}
 use Rattle.lp_model.specs.declared.types.Col.{Col}
 
@@ -44,6 +45,13 @@ row_names M = M.obj ∷ M.obj2 ∷ map (λ r. r.name) M.rows
 
 abbrev pub column_names : Program → List (List ℕ)
 column_names M = map (λ c. c.name) M.cols
+
+-- the name of row i, and of column j
+abbrev pub row_name : Program → ℕ → List ℕ
+row_name M i = of_element [] (λ r. r.name) M.rows i
+
+abbrev pub column_name : Program → ℕ → List ℕ
+column_name M j = of_element [] (λ c. c.name) M.cols j
 
 abbrev pub entry_count : Program → ℕ
 entry_count M = sum_by (λ c. length c.rows) M.cols

@@ -3,7 +3,8 @@ ghost use Rattle.std.specs.Prelude.{◌≡◌, ◌⊎◌, IfOk};
 
 use anyhow::{Result, bail, ensure};
 use frac128::Frac;
-use lp_model::{EditFault, Model, NotWhole, Sense, Var, WideStep};
+use lp_model::{Model, NotWhole, Sense, Var, WideStep};
+use model_edits::{EditFault, apply};
 use model_texts::{
     Words, column_of, edit_of, name_text, point_of, push_edit_fault, push_wide_step, variable_of,
 };
@@ -56,7 +57,7 @@ fn read(model: &Model, word: &str, words: &mut Words, got: &mut String) -> Resul
 
 fn edit(alloc: Global, model: &mut Model, words: &mut Words, got: &mut String) -> Result<()> {
     let edit = edit_of(alloc, words)?;
-    let answer = model.apply(alloc, edit);
+    let answer = apply(model, alloc, edit);
     push_answer(got, &answer)
 }
 
@@ -77,10 +78,6 @@ pub fn push_step(got: &mut String, model: &Model, step: WideStep) -> Result<()> 
 
 fn feasibility(alloc: Global, model: &Model, words: &mut Words, got: &mut String) -> Result<()> {
     let point = point_of(alloc, model, words)?;
-    ensure!(
-        point.as_slice().len() == model.cols().len(),
-        "a number for each column"
-    );
     match model.is_feasible(&point) {
         Ok(true) => got.push_str("feasible")?,
         Ok(false) => got.push_str("infeasible")?,

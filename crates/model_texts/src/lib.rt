@@ -10,7 +10,7 @@
 //! row C 2..2 x 1 y 1/2                            a row with its numbers in the columns above it
 //! ```
 //!
-//! A range is `LOW..HIGH`, and a side that isn't there is left out. Numbers are those of `Frac::parse`. Points, multipliers,
+//! A range is `LOW..HIGH`, and a side that isn't there is left out. Numbers are those of `frac_text::parse`. Points, multipliers,
 //! regions and bases are lists of words by the names of a model's columns and rows (`lists`), and are written back so
 //! (`writing`). A column or row that is not in the model is `column#7` or `row#7`, and a cut is `cut#7`, by its place from 0.
 //!

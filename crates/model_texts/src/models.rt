@@ -5,6 +5,7 @@ use crate::writing::push_edit_fault;
 use anyhow::{Context, Result, bail, ensure};
 use frac128::Frac;
 use lp_model::{Model, Sense};
+use model_edits::apply;
 use std::alloc::Global;
 
 /// A model without rows and columns, whose objectives are named `cost` and `cost2`.
@@ -47,7 +48,7 @@ pub fn head_of(alloc: Global, line: &str) -> Result<Option<Model>> {
 pub fn apply_line(alloc: Global, model: &mut Model, line: &str) -> Result<()> {
     let mut words = Words::new(alloc, line)?;
     let edit = edit_of(alloc, &mut words)?;
-    match model.apply(alloc, edit) {
+    match apply(model, alloc, edit) {
         Ok(()) => Ok(()),
         Err(fault) => {
             let mut text = String::new(alloc);

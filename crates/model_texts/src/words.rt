@@ -3,7 +3,8 @@ ghost use Rattle.std.specs.Prelude.{IfOk};
 ghost use Rattle.frac128.specs.Range.{IsNarrow};
 
 use anyhow::{Result, bail};
-use frac128::{Frac, NumFault};
+use frac_text::NumFault;
+use frac128::Frac;
 use lp_model::{Bound, List, Name};
 use std::alloc::{AllocError, Global};
 
@@ -92,7 +93,7 @@ pub fn name_of(alloc: Global, word: &str) -> Result<Name, AllocError> {
 
 /// The number that a word spells.
 pub fn number_of(word: &str) -> Result<Frac> {
-    match Frac::parse(word.as_bytes()) {
+    match frac_text::parse(word.as_bytes()) {
         Ok(number) => Ok(number),
         Err(NumFault::Wide) => bail!("a number that is too wide: `{word}`"),
         Err(NumFault::NotNumber) => bail!("no number: `{word}`"),

@@ -1,6 +1,7 @@
 // Lists and faults as text, by the names of a model.
 use frac128::Frac;
-use lp_model::{Basis, Bound, ColId, EditFault, Model, Mult, Name, Point, RowId, Var, WideStep};
+use lp_model::{Basis, Bound, ColId, Model, Mult, Name, Point, RowId, Var, WideStep};
+use model_edits::EditFault;
 use std::alloc::AllocError;
 
 /// A name as text: `?` where it is none.

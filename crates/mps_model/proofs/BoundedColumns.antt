@@ -5,8 +5,9 @@ use Rattle.std.specs.List.{list_all}
 use Rattle.rational.specs.Rational.{ℚ}
 use Rattle.lp_model.specs.Program.{Program}
 use Rattle.mps_text.specs.Text.{Entry}
-use Rattle.mps_model.specs.declared.statements.ColumnLines.{ColumnLines}
-use Rattle.mps_model.specs.Statements.{StatedModel, stated}
+use Rattle.mps_sections.specs.declared.statements.Sections.{Sections}
+use Rattle.mps_sections.specs.declared.statements.ColumnLines.{ColumnLines}
+use Rattle.mps_sections.specs.Statements.{stated, stated_sections}
 use Rattle.mps_model.specs.Meaning.{span_of, upper_or, column_of, model_of}
 use Rattle.mps_model.specs.Faults.{is_none_of, column_code, code_on, column_flaw, flaw_of_columns, MeantModel}
 use Rattle.mps_model.specs.Bounded.{is_bounded_column, has_integer_bounds}
@@ -25,7 +26,7 @@ no_code true (Some l) None e = absurd (cc)
 no_code true None u e = absurd (cc)
 no_code false l u e = absurd (cc)
 
-pub flawless : (s : StatedModel) (intupper : Option ℕ) (columns : List ColumnLines) → column_flaw intupper s.bounds columns ≡ None → list_all is_bounded_column (map (column_of s intupper) columns) ≡ true
+pub flawless : (s : Sections) (intupper : Option ℕ) (columns : List ColumnLines) → column_flaw intupper s.bounds columns ≡ None → list_all is_bounded_column (map (column_of s intupper) columns) ≡ true
 flawless s intupper [] e = refl
 flawless s intupper (c ∷ more) e = by (column_code intupper (span_of s.bounds c)) refl e (λ rest. flawless s intupper more rest)
   where
@@ -37,9 +38,9 @@ flawless s intupper (c ∷ more) e = by (column_code intupper (span_of s.bounds 
         (no_code (span_of s.bounds c).integer (span_of s.bounds c).lower (upper_or intupper (span_of s.bounds c).integer (span_of s.bounds c).upper) is)
         (later h)
 
-bounded_model : (entries : List Entry) (intupper : Option ℕ) → flaw_of_columns entries intupper ≡ None → has_integer_bounds (model_of (stated entries) intupper) ≡ true
+bounded_model : (entries : List Entry) (intupper : Option ℕ) → flaw_of_columns entries intupper ≡ None → has_integer_bounds (model_of (stated_sections entries) intupper) ≡ true
 unfolding model_of flaw_of_columns
-bounded_model entries intupper e = flawless (stated entries) intupper (stated entries).columns e
+bounded_model entries intupper e = flawless (stated_sections entries) intupper (stated entries).columns e
 
 pub meant-bounded : (text : List ℕ) (intupper : Option ℕ) (M : Program) → MeantModel text intupper M → has_integer_bounds M ≡ true
 meant-bounded text intupper M m = subst (λ N. has_integer_bounds N ≡ true) (sym m.is) (bounded_model m.entries intupper m.columns)

@@ -1,20 +1,18 @@
 -- The first free name: it is none of the taken ones, since there is one candidate more than there are taken names.
-use Rattle.std.proofs.Common.{◌≡◌, ℕ, zero, suc, ◌+◌, ◌-◌, ◌<◌, ◌≤◌, ◌^◌, Bool, true, false, ◌||◌, List, [], ◌∷◌, ◌++◌, length, refl, sym, ◌∙◌, ap, arith}
+use Rattle.std.proofs.Common.{◌≡◌, ℕ, zero, suc, ◌+◌, ◌-◌, ◌<◌, ◌≤◌, ◌^◌, Bool, true, false, ◌||◌, List, [], ◌∷◌, ◌++◌, length, refl, sym, ◌∙◌, ap, arith, inl, inr, length-append}
 use Rattle.std.specs.Prelude.{if◌then◌else◌, bytes_eq, codes, ◌⊎◌}
 use Rattle.std.specs.List.{IsDistinct, AllByRecursion}
 use Rattle.std.specs.Set.{is_member}
 use Rattle.std.specs.Fmt.{decimal}
 use Rattle.std.specs.Str.Parse.{digits_value}
 use Rattle.std.specs.Cmp.Lexicographic.{nat_list_eq_equiv}
-use Rattle.std.proofs.Common.{inl, inr, length-append}
 use Rattle.std.proofs.lemmas.List.{append_cancel_left}
-use Rattle.std.proofs.lemmas.Bool.{or_cases, or_left, or_right, false_from_ne_true, false≢true, true≢false}
-use Rattle.std.proofs.lemmas.List.Folds.{list_any-append}
+use Rattle.std.proofs.lemmas.Bool.{or_cases, false_from_ne_true, false≢true}
 use Rattle.std.proofs.lemmas.Slice.Eq.{bytes_eq-Decides}
 use Rattle.std.proofs.lemmas.Fmt.{decimal_is_IsNumeral}
 use Rattle.std.proofs.lemmas.Map.Made.{length-le_from_is_member}
-use Rattle.mps_model.proofs.ListFacts.{bytes_eq-flips}
-use Rattle.mps_model.specs.Words.{among}
+use Rattle.mps_sections.proofs.ListFacts.{bytes_eq-flips}
+use Rattle.mps_sections.specs.Words.{among}
 use Rattle.mps_model.specs.Meaning.{candidate, free_from, free_name}
 
 step_of : (taken : List (List ℕ)) (base : List ℕ) (k n m : ℕ) → n ≡ suc m → among taken (candidate base k) ≡ true → free_from taken base k n ≡ free_from taken base (suc k) m
@@ -93,8 +91,3 @@ never_taken taken base small =
     false_from_ne_true (among taken (free_from taken base 0 (length taken))) (λ h.
     let few = length-le_from_is_member nat_list_eq_equiv (tries base 0 (suc (length taken))) taken (tries_differ base 0 (suc (length taken)) (omega arith)) (λ q m. sym (among-member taken q) ∙ all_taken taken base 0 (length taken) h q m) in
     omega (arith, few, length-tries base 0 (suc (length taken))))
-
--- a name that is none of some is not the last of them
-pub differs_from_last : (names : List (List ℕ)) (last name : List ℕ) → among (names ++ last ∷ []) name ≡ false → last ≡ name → ⊥
-differs_from_last names last name free e =
-    true≢false (sym (or_right (among names name) (bytes_eq last name || false) (or_left (bytes_eq last name) false ((bytes_eq-Decides last name).1 e))) ∙ sym (list_any-append (λ (other : List ℕ). bytes_eq other name) names (last ∷ [])) ∙ free)

@@ -1,57 +1,38 @@
--- From the tables of a whole text to its model or its fault.
-use Rattle.std.proofs.Common.{◌≡◌, ℕ, false, List, [], refl, sym, ◌∙◌, ap}
-use Rattle.std.specs.Prelude.{Option, None, Some}
+-- From the lists of a whole text to its model or its fault.
+use Rattle.std.proofs.Common.{◌≡◌, ℕ, List, map, sym, ◌∙◌, ap}
+use Rattle.std.specs.Prelude.{Option, None, Some, Result, Ok, Err}
 use Rattle.lp_model.specs.Program.{Program}
 use Rattle.mps_text.specs.Text.{Flaw}
-use Rattle.mps_model.specs.Statements.{StatedModel}
-use Rattle.mps_model.specs.Meaning.{model_of}
-use Rattle.mps_model.specs.Faults.{column_flaw, flaw_of_columns, FaultyModel, OnLine as FaultyOnLine, NoEnd as FaultyNoEnd, OnColumn, MeantModel}
-use Rattle.mps_model.specs.ReadingOf.{IsWholeStated, IsLineFault, OnLine, NoEnd}
-use Rattle.mps_model.specs.declared.statements.RowLine.{RowLine}
-use Rattle.mps_model.specs.declared.statements.RowNumber.{RowNumber}
-use Rattle.mps_model.specs.declared.statements.ColumnLines.{ColumnLines}
-use Rattle.mps_model.specs.declared.statements.BoundLine.{BoundLine}
+use Rattle.mps_text.specs.declared.lines.LineFault.{LineFault}
+use Rattle.mps_sections.specs.Shown.{flaw_shown}
+use Rattle.mps_sections.specs.declared.statements.BoundLine.{BoundLine}
+use Rattle.mps_sections.specs.declared.statements.ColumnLines.{ColumnLines}
+use Rattle.mps_sections.specs.ReadingOf.{AreSectionsOf, IsLineFault, OnLine, NoEnd}
+use Rattle.mps_sections.specs.declared.statements.Sections.{Sections}
+use Rattle.mps_model.specs.Meaning.{span_of, model_of}
+use Rattle.mps_model.specs.declared.spans.Span.{Span}
+use Rattle.mps_model.specs.Faults.{column_flaw, flaw_of_columns, FaultyModel, OnLine as FaultyOnLine, NoEnd as FaultyNoEnd, OnColumn}
+use Rattle.mps_model.specs.Answers.{IsModelAnswer, IsSectionsAnswer}
+use Rattle.mps_model.specs.declared.reader.MpsFault.{MpsFault}
+use Rattle.mps_model.specs.declared.reader.MpsFault.TheVariants.{Bad, Memory}
 
 pub of_line : (text : List ℕ) (intupper : Option ℕ) (flaw : Flaw) → IsLineFault text flaw → FaultyModel text intupper flaw
 of_line text intupper flaw (OnLine h) = FaultyOnLine h
 of_line text intupper flaw (NoEnd h is) = FaultyNoEnd h is
 
-pub flaw_held : (text : List ℕ) (intupper : Option ℕ) (s : StatedModel) (columns : List ColumnLines) (bounds : List BoundLine) (found : Option Flaw) (w : IsWholeStated text s) → columns ≡ s.columns → bounds ≡ s.bounds → found ≡ column_flaw intupper bounds columns → flaw_of_columns w.entries intupper ≡ found
+flaw_stated : (text : List ℕ) (intupper : Option ℕ) (s : Sections) (found : Option Flaw) (w : AreSectionsOf text s) → column_flaw intupper s.bounds s.columns ≡ found → flaw_of_columns w.entries intupper ≡ found
 unfolding flaw_of_columns
-flaw_held text intupper s columns bounds found w c b f =
-    sym (f ∙ ap (λ (bs : List BoundLine). column_flaw intupper bs columns) b ∙ ap (column_flaw intupper s.bounds) c ∙ ap (λ (t : StatedModel). column_flaw intupper t.bounds t.columns) w.holds)
+flaw_stated text intupper s found w f = ap (λ (t : Sections). column_flaw intupper t.bounds t.columns) (sym w.is) ∙ f
 
-pub of_column : (text : List ℕ) (intupper : Option ℕ) (s : StatedModel) (columns : List ColumnLines) (bounds : List BoundLine) (flaw : Flaw) → IsWholeStated text s → columns ≡ s.columns → bounds ≡ s.bounds → Some flaw ≡ column_flaw intupper bounds columns → FaultyModel text intupper flaw
-of_column text intupper s columns bounds flaw w c b f = OnColumn w.entries w.whole (flaw_held text intupper s columns bounds (Some flaw) w c b f)
+-- what the lists of a whole text answer, the text answers
+pub of_sections : (text : List ℕ) (intupper : Option ℕ) (s : Sections) (answer : Result Program MpsFault) → AreSectionsOf text s → IsSectionsAnswer s intupper answer → IsModelAnswer text intupper answer
+of_sections text intupper s (Ok m) w h = record { entries = w.entries; whole = w.whole; columns = flaw_stated text intupper s None w h.0; is = h.1 ∙ ap (λ (t : Sections). model_of t intupper) w.is }
+of_sections text intupper s (Err (Bad line code)) w h = OnColumn w.entries w.whole (flaw_stated text intupper s (Some (record { line = line; code = code })) w h)
+of_sections text intupper s (Err Memory) w h = tt
 
--- a model depends on these lists alone
-model_from : List (List ℕ) → List RowLine → List ColumnLines → List RowNumber → List BoundLine → Option ℕ → Program
-model_from objectives rows columns sides bounds intupper = model_of (record {
-  section = None;
-  headers = [];
-  objectives = objectives;
-  rows = rows;
-  columns = columns;
-  marked = false;
-  count = 0;
-  sides = sides;
-  bounds = bounds;
-}) intupper
-
-from_lists : (s : StatedModel) (intupper : Option ℕ) → model_of s intupper ≡ model_from s.objectives s.rows s.columns s.sides s.bounds intupper
-unfolding model_of model_from
-from_lists s intupper = refl
-
-same_model : (s t : StatedModel) (intupper : Option ℕ) → s.objectives ≡ t.objectives → s.rows ≡ t.rows → s.columns ≡ t.columns → s.sides ≡ t.sides → s.bounds ≡ t.bounds → model_of s intupper ≡ model_of t intupper
-same_model s t intupper o r c d b =
-    let e : model_from s.objectives s.rows s.columns s.sides s.bounds intupper ≡ model_from t.objectives t.rows t.columns t.sides t.bounds intupper = cc in
-    from_lists s intupper ∙ e ∙ sym (from_lists t intupper)
-
--- what a model is built from, and the columns and bounds that were looked at
-pub meant_by : (text : List ℕ) (intupper : Option ℕ) (s t : StatedModel) (columns : List ColumnLines) (bounds : List BoundLine) (m : Program) → IsWholeStated text s → columns ≡ s.columns → bounds ≡ s.bounds → None ≡ column_flaw intupper bounds columns → m ≡ model_of t intupper → t.objectives ≡ s.objectives → t.rows ≡ s.rows → t.columns ≡ s.columns → t.sides ≡ s.sides → t.bounds ≡ s.bounds → MeantModel text intupper m
-meant_by text intupper s t columns bounds m w looked_columns looked_bounds f e o r c d b = record {
-  entries = w.entries;
-  whole = w.whole;
-  columns = flaw_held text intupper s columns bounds None w looked_columns looked_bounds f;
-  is = e ∙ same_model t s intupper o r c d b ∙ ap (λ (u : StatedModel). model_of u intupper) w.holds;
-}
+-- the first column's fault, as it was looked for
+pub flaw_read : (intupper : Option ℕ) (s : Sections) (spans : List Span) (columns : List ColumnLines) (result found : Option LineFault) → columns ≡ s.columns → spans ≡ map (span_of s.bounds) s.columns
+    → ((bounds : List BoundLine) → spans ≡ map (span_of bounds) columns → flaw_shown result ≡ column_flaw intupper bounds columns) → result ≡ found → column_flaw intupper s.bounds s.columns ≡ flaw_shown found
+flaw_read intupper s spans columns result found c e h is =
+    let same : spans ≡ map (span_of s.bounds) columns = e ∙ ap (map (span_of s.bounds)) (sym c) in
+    ap (column_flaw intupper s.bounds) (sym c) ∙ sym (h s.bounds same) ∙ ap flaw_shown is

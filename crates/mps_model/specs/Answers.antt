@@ -1,7 +1,9 @@
 -- What the calls on a text answer.
-use Rattle.std.specs.Prelude.{ℕ, List, Option, Result, Ok, Err}
+use Rattle.std.specs.Prelude.{◌≡◌, ℕ, List, Option, None, Some, Result, Ok, Err}
 use Rattle.lp_model.specs.Program.{Program}
-use Rattle.mps_model.specs.Faults.{FaultyModel, MeantModel}
+use Rattle.mps_sections.specs.declared.statements.Sections.{Sections}
+use Rattle.mps_model.specs.Meaning.{model_of}
+use Rattle.mps_model.specs.Faults.{FaultyModel, MeantModel, column_flaw}
 use Rattle.mps_model.specs.declared.reader.MpsFault.{MpsFault}
 use Rattle.mps_model.specs.declared.reader.MpsFault.TheVariants.{Bad, Memory}
 
@@ -10,3 +12,9 @@ abbrev pub IsModelAnswer : List ℕ → Option ℕ → Result Program MpsFault �
 IsModelAnswer text intupper (Ok m) = MeantModel text intupper m
 IsModelAnswer text intupper (Err (Bad line code)) = FaultyModel text intupper (record { line = line; code = code })
 IsModelAnswer text intupper (Err Memory) = Unit {0}
+
+-- the model that some lists mean, the fault of a column, or want of memory
+abbrev pub IsSectionsAnswer : Sections → Option ℕ → Result Program MpsFault → Type 0
+IsSectionsAnswer s intupper (Ok m) = (column_flaw intupper s.bounds s.columns ≡ None) × (m ≡ model_of s intupper)
+IsSectionsAnswer s intupper (Err (Bad line code)) = column_flaw intupper s.bounds s.columns ≡ Some (record { line = line; code = code })
+IsSectionsAnswer s intupper (Err Memory) = Unit {0}

@@ -1,34 +1,23 @@
-// The model that the tables of a whole text mean.
-ghost use Rattle.std.specs.Prelude.{◌≡◌, [], None, codes, IfOk, OnOk};
-ghost use Rattle.mps_model.specs.Meaning.{low_side, high_side, beside_objective, objective_or, free_name, row_of, column_of, model_of, number_beside};
-ghost use Rattle.frac128.specs.Range.{Fits};
-ghost use Rattle.lp_model.specs.Edits.{edited, adds_row, adds_col, EditFits};
-ghost use Rattle.mps_model.specs.BuiltOf.{named_of};
+// The model that the lists of a whole text mean.
+ghost use Rattle.std.specs.Prelude.{◌≡◌, None, All, List as Items, length, map, IfOk};
+ghost use Rattle.rational.specs.Rational.{neg_ℚ};
+ghost use Rattle.lp_model.specs.Lawful.{IsRange};
+ghost use Rattle.mps_sections.specs.Statements.{stated_row_names};
+ghost use Rattle.mps_sections.specs.Limits.{StatesWithinLimits};
+ghost use Rattle.mps_model.specs.Meaning.{low_side_by_kind, high_side_by_kind, row_with, row_of, row_numbers_beside, column_of, model_of, span_of, beside_objective};
 ghost use Rattle.mps_model.specs.Faults.{column_flaw};
-ghost use Rattle.mps_model.specs.Limits.{StatesWithinLimits};
 
-use crate::free_names::{free_name, names_of_rows};
-use crate::names::{copied, is_row, number_beside};
-use crate::numbers::Span;
-use crate::statements::{BoundLine, ColumnLines, RowLine, RowNumber};
-use crate::words::RowKind;
+use crate::beside::{beside_objective, entries_of, numbers_beside};
+use crate::free_names::objective_names;
+use crate::names::{Names, names_of_rows};
+use crate::spans::Span;
 use frac128::Frac;
-use lp_model::{Edit, EditFault, List, Model, Name, Sense};
+use lp_model::{Col, List, Model, Row, Sense};
+use mps_sections::{ColumnLines, RowKind, RowLine, RowNumber, Sections, copied};
 use std::alloc::{AllocError, Global};
 
-/// What a model is built from.
-#[derive(Clone, Copy)]
-pub(crate) struct Parts<'a> {
-    pub objectives: &'a [Name],
-    pub rows: &'a [RowLine],
-    pub columns: &'a [ColumnLines],
-    pub sides: &'a [RowNumber],
-    pub bounds: &'a [BoundLine],
-    pub intupper: Option<u64>,
-}
-
 fn low_side(kind: RowKind, number: Frac) -> Option<Frac>
-    ensures { result ≡ low_side kind number }
+    ensures { result ≡ low_side_by_kind kind number }
 {
     match kind {
         RowKind::AtMost => None,
@@ -37,7 +26,7 @@ fn low_side(kind: RowKind, number: Frac) -> Option<Frac>
 }
 
 fn high_side(kind: RowKind, number: Frac) -> Option<Frac>
-    ensures { result ≡ high_side kind number }
+    ensures { result ≡ high_side_by_kind kind number }
 {
     match kind {
         RowKind::AtLeast => None,
@@ -45,132 +34,155 @@ fn high_side(kind: RowKind, number: Frac) -> Option<Frac>
     }
 }
 
-/// The first objective's number, 0 where there is no objective.
-fn beside_objective(objectives: &[Name], numbers: &[RowNumber]) -> Frac
-    ensures { result ≡ beside_objective objectives.now numbers.now }
+/// A row with a number of RHS. Two sides that are one number are a range.
+fn row_with(alloc: Global, row: &RowLine, number: Frac) -> Result<Row, AllocError>
+    ensures is { IfOk result (λ r. r ≡ row_with number row.now) }
+    ensures range { IfOk result (λ r. IsRange r.lo r.hi) }
 {
-    match objectives {
-        [name, ..] => number_beside(numbers, name.as_slice()),
-        [] => Frac::whole(0),
-    }
+    let name = copied(alloc, row.name.as_slice())?;
+    number.has_room();
+    Ok(Row {
+        name,
+        lo: low_side(row.kind, number),
+        hi: high_side(row.kind, number),
+    })
 }
 
-/// The numbers beside rows with sides, with copies of the names.
-fn named_of(
+/// The rows with their numbers of RHS.
+fn rows_with(alloc: Global, lines: &[RowLine], numbers: &[Frac]) -> Result<List<Row>, AllocError>
+    requires { length numbers.now ≡ length lines.now }
+    ensures is { IfOk result (λ rows. (sides : Items RowNumber) → numbers.now ≡ row_numbers_beside (stated_row_names lines.now) sides → rows ≡ map (row_of sides) lines.now) }
+    ensures ranges { IfOk result (λ rows. All (λ r. IsRange r.lo r.hi) rows) }
+{
+    let mut rows = List::new(alloc);
+    for place in 0..lines.len() {
+        let row = row_with(alloc, &lines[place], numbers[place])?;
+        rows.push(row)?;
+    }
+    Ok(rows)
+}
+
+/// The rows.
+fn rows_of(alloc: Global, sections: &Sections, names: &Names) -> Result<List<Row>, AllocError>
+    requires { names.now.names ≡ stated_row_names sections.now.rows }
+    ensures is { IfOk result (λ rows. rows ≡ map (row_of sections.now.sides) sections.now.rows) }
+    ensures ranges { IfOk result (λ rows. All (λ r. IsRange r.lo r.hi) rows) }
+{
+    let numbers = numbers_beside(alloc, names, sections.sides.as_slice())?;
+    rows_with(alloc, sections.rows.as_slice(), numbers.as_slice())
+}
+
+/// A column with the kind and bounds that its bound lines state.
+fn column_with(
     alloc: Global,
-    rows: &[RowLine],
-    numbers: &[RowNumber],
-) -> Result<List<(Name, Frac)>, AllocError>
-    ensures { IfOk result (λ named. named ≡ named_of rows.now numbers.now) }
+    sections: &Sections,
+    names: &Names,
+    column: &ColumnLines,
+    span: &Span,
+    intupper: Option<u64>,
+) -> Result<Col, AllocError>
+    requires limits { StatesWithinLimits sections.now }
+    requires names { names.now.names ≡ stated_row_names sections.now.rows }
+    requires span { span.now ≡ span_of sections.now.bounds column.now }
+    ensures { IfOk result (λ c. c ≡ column_of sections.now intupper column.now) }
 {
-    let mut named = List::new(alloc);
-    for item in numbers {
-        if is_row(rows, item.row.as_slice()) {
-            let name = copied(alloc, item.row.as_slice())?;
-            named.push((name, item.number))?;
-        }
-    }
-    Ok(named)
+    let numbers = column.numbers.as_slice();
+    let beside = numbers_beside(alloc, names, numbers)?;
+    let rows = entries_of(alloc, beside.as_slice())?;
+    drop(beside);
+    let name = copied(alloc, column.name.as_slice())?;
+    Ok(Col {
+        name,
+        int: span.integer,
+        lo: span.lower,
+        up: span.upper_or(intupper),
+        cost: beside_objective(sections.objectives.as_slice(), numbers),
+        cost2: Frac::whole(0),
+        rows,
+    })
 }
 
-/// The objective's name.
-fn objective_name(alloc: Global, objectives: &[Name], names: &[Name]) -> Result<Name, AllocError>
-    ensures { IfOk result (λ name. name ≡ objective_or objectives.now (free_name names.now (codes "OBJ"))) }
+/// The columns of some lines.
+fn columns_of(
+    alloc: Global,
+    sections: &Sections,
+    names: &Names,
+    lines: &[ColumnLines],
+    spans: &[Span],
+    intupper: Option<u64>,
+) -> Result<List<Col>, AllocError>
+    requires limits { StatesWithinLimits sections.now }
+    requires names { names.now.names ≡ stated_row_names sections.now.rows }
+    requires spans { spans.now ≡ map (span_of sections.now.bounds) lines.now }
+    ensures { IfOk result (λ columns. columns ≡ map (column_of sections.now intupper) lines.now) }
 {
-    match objectives {
-        [name, ..] => copied(alloc, name.as_slice()),
-        [] => free_name(alloc, names, b"OBJ"),
+    let mut columns = List::new(alloc);
+    for place in 0..lines.len() {
+        let line = &lines[place];
+        let column = column_with(alloc, sections, names, line, &spans[place], intupper)?;
+        columns.push(column)?;
     }
+    Ok(columns)
 }
 
-impl Parts<'_> {
-    ghost use Rattle.mps_model.specs.Built.{parts_shown, empty_of, with_rows};
-
-    /// The model without rows and columns.
-    fn empty_model(&self, alloc: Global) -> Result<Model, AllocError>
-        ensures { IfOk result (λ m. m ≡ empty_of (parts_shown self.now)) }
-    {
-        let mut names = names_of_rows(alloc, self.rows)?;
-        let objective = objective_name(alloc, self.objectives, names.as_slice())?;
-        let copy = copied(alloc, objective.as_slice())?;
-        names.push(copy)?;
-        let second = free_name(alloc, names.as_slice(), b"OBJ2")?;
-        let constant = beside_objective(self.objectives, self.sides).neg();
-        let constants = [constant, Frac::whole(0)];
-        Ok(Model::empty(alloc, Sense::Min, objective, second, constants))
-    }
-
-    fn row_edit(&self, alloc: Global, row: &RowLine) -> Result<Edit, AllocError>
-        ensures is { IfOk result (λ e. e ≡ adds_row (row_of self.now.sides.now row.now) []) }
-        ensures room { IfOk result (λ _. Fits (number_beside row.now.name self.now.sides.now)) }
-    {
-        let name = copied(alloc, row.name.as_slice())?;
-        let number = number_beside(self.sides, row.name.as_slice());
-        number.has_room();
-        Ok(Edit::AddRow {
-            name,
-            lo: low_side(row.kind, number),
-            hi: high_side(row.kind, number),
-            entries: List::new(alloc),
-        })
-    }
-
-    fn column_edit(&self, alloc: Global, column: &ColumnLines) -> Result<Edit, AllocError>
-        ensures { IfOk result (λ e. e ≡ adds_col (column_of (parts_shown self.now) self.now.intupper column.now) (named_of self.now.rows.now column.now.numbers)) }
-    {
-        let name = copied(alloc, column.name.as_slice())?;
-        let span = Span::of(self.bounds, column);
-        let numbers = column.numbers.as_slice();
-        let entries = named_of(alloc, self.rows, numbers)?;
-        Ok(Edit::AddCol {
-            name,
-            int: span.integer,
-            lo: span.lower,
-            up: span.upper_or(self.intupper),
-            cost: beside_objective(self.objectives, numbers),
-            cost2: Frac::whole(0),
-            entries,
-        })
-    }
-
-    /// The model with its rows.
-    fn with_rows(&self, alloc: Global) -> Result<Model, AllocError>
-        requires { StatesWithinLimits (parts_shown self.now) }
-        ensures { IfOk result (λ m. m ≡ with_rows (parts_shown self.now) self.now.rows.now) }
-    {
-        let mut model = self.empty_model(alloc)?;
-        for row in self.rows {
-            let edit = self.row_edit(alloc, row)?;
-            apply_fitting(&mut model, alloc, edit)?;
+/// The rows and the columns.
+fn parts_of(
+    alloc: Global,
+    sections: &Sections,
+    spans: &[Span],
+    intupper: Option<u64>,
+) -> Result<(List<Row>, List<Col>), AllocError>
+    requires limits { StatesWithinLimits sections.now }
+    requires spans { spans.now ≡ map (span_of sections.now.bounds) sections.now.columns }
+    ensures rows { IfOk result (λ parts. parts.0 ≡ map (row_of sections.now.sides) sections.now.rows) }
+    ensures ranges { IfOk result (λ parts. All (λ r. IsRange r.lo r.hi) parts.0) }
+    ensures columns { IfOk result (λ parts. parts.1 ≡ map (column_of sections.now intupper) sections.now.columns) }
+{
+    let list = names_of_rows(alloc, sections.rows.as_slice())?;
+    let names = Names::of(alloc, list)?;
+    let rows = rows_of(alloc, sections, &names)?;
+    let lines = sections.columns.as_slice();
+    match columns_of(alloc, sections, &names, lines, spans, intupper) {
+        Ok(columns) => {
+            drop(names);
+            Ok((rows, columns))
         }
-        Ok(model)
-    }
-
-    /// The model.
-    pub(crate) fn model(&self, alloc: Global) -> Result<Model, AllocError>
-        requires limits { StatesWithinLimits (parts_shown self.now) }
-        requires bounded { column_flaw self.now.intupper self.now.bounds.now self.now.columns.now ≡ None }
-        ensures { IfOk result (λ m. m ≡ model_of (parts_shown self.now) self.now.intupper) }
-    {
-        let mut model = self.with_rows(alloc)?;
-        for column in self.columns {
-            let edit = self.column_edit(alloc, column)?;
-            apply_fitting(&mut model, alloc, edit)?;
+        Err(error) => {
+            drop(rows);
+            drop(names);
+            Err(error)
         }
-        Ok(model)
     }
 }
 
-/// The model after an edit that fits.
-fn apply_fitting(model: &mut Model, alloc: Global, edit: Edit) -> Result<(), AllocError>
-    requires { EditFits model.old edit }
-    ensures { OnOk result (model.new ≡ edited model.old edit) }
+/// The objective's constant.
+fn constant_of(sections: &Sections) -> Frac
+    ensures { result ≡ neg_ℚ (beside_objective sections.now.objectives sections.now.sides) }
 {
-    let Err(fault) = model.apply(alloc, edit) else {
-        return Ok(());
-    };
-    match fault {
-        EditFault::Memory => Err(AllocError),
-        _ => unreachable!(),
+    beside_objective(sections.objectives.as_slice(), sections.sides.as_slice()).neg()
+}
+
+/// The model of the lists, with the kind and bounds of each column.
+pub(crate) fn model_of(
+    alloc: Global,
+    sections: &Sections,
+    spans: &[Span],
+    intupper: Option<u64>,
+) -> Result<Model, AllocError>
+    requires limits { StatesWithinLimits sections.now }
+    requires spans { spans.now ≡ map (span_of sections.now.bounds) sections.now.columns }
+    requires bounded { column_flaw intupper sections.now.bounds sections.now.columns ≡ None }
+    ensures { IfOk result (λ m. m ≡ model_of sections.now intupper) }
+{
+    let parts = parts_of(alloc, sections, spans, intupper)?;
+    match objective_names(alloc, sections) {
+        Ok(names) => {
+            let constants = [constant_of(sections), Frac::whole(0)];
+            Ok(Model::of_parts(Sense::Min, names.0, names.1, constants, parts.0, parts.1))
+        }
+        Err(error) => {
+            drop(parts);
+            Err(error)
+        }
     }
 }

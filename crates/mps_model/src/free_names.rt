@@ -1,23 +1,18 @@
 // Names of objectives that a text lacks: a word, or the word with _1, _2, .. behind, whichever is free first.
-ghost use Rattle.std.specs.Prelude.{◌≡◌, false, IfOk};
-ghost use Rattle.mps_model.specs.Words.{among};
-ghost use Rattle.mps_model.specs.Meaning.{candidate, free_name, names_of_rows};
+ghost use Rattle.std.specs.Prelude.{◌≡◌, codes, IfOk};
+ghost use Rattle.mps_sections.specs.Words.{among};
+ghost use Rattle.mps_model.specs.Meaning.{candidate, free_name, objective_or, objective_name, second_name};
 
-use crate::names::{contains, copied};
-use crate::statements::RowLine;
+use crate::names::names_of_rows;
 use lp_model::{List, Name};
+use mps_sections::{Sections, copied};
 use std::alloc::{AllocError, Global};
 
-/// The names of the rows.
-pub(crate) fn names_of_rows(alloc: Global, rows: &[RowLine]) -> Result<List<Name>, AllocError>
-    ensures { IfOk result (λ names. names ≡ names_of_rows rows.now) }
+/// Whether a name is one of some.
+fn contains(names: &[Name], name: &[u8]) -> bool
+    ensures { result ≡ among names.now name.now }
 {
-    let mut names = List::new(alloc);
-    for row in rows {
-        let name = copied(alloc, row.name.as_slice())?;
-        names.push(name)?;
-    }
-    Ok(names)
+    names.iter().any(|other| other.as_slice() == name)
 }
 
 /// The word with a number behind it, if that isn't 0.
@@ -33,7 +28,8 @@ fn candidate(alloc: Global, base: &[u8], number: u64) -> Result<Name, AllocError
     Ok(List::from_vec(bytes))
 }
 
-fn first_free(alloc: Global, taken: &[Name], base: &[u8]) -> Result<Name, AllocError>
+/// The first candidate that isn't taken: one of them isn't, since there is one more than there are taken names.
+fn free_name(alloc: Global, taken: &[Name], base: &[u8]) -> Result<Name, AllocError>
     ensures { IfOk result (λ name. name ≡ free_name taken.now base.now) }
 {
     for number in 0..taken.len() {
@@ -45,12 +41,28 @@ fn first_free(alloc: Global, taken: &[Name], base: &[u8]) -> Result<Name, AllocE
     candidate(alloc, base, taken.len() as u64)
 }
 
-/// The first candidate that isn't taken: one of them isn't, since there is one more than there are taken names.
-pub(crate) fn free_name(alloc: Global, taken: &[Name], base: &[u8]) -> Result<Name, AllocError>
-    ensures is { IfOk result (λ name. name ≡ free_name taken.now base.now) }
-    ensures free { IfOk result (λ name. among taken.now name ≡ false) }
+/// The objective's name: that of the first row of type N, or a free one.
+fn objective_name(alloc: Global, objectives: &[Name], rows: &[Name]) -> Result<Name, AllocError>
+    ensures { IfOk result (λ name. name ≡ objective_or objectives.now (free_name rows.now (codes "OBJ"))) }
 {
-    let _names = taken.iter();
-    let name = first_free(alloc, taken, base)?;
-    Ok(name)
+    match objectives {
+        [name, ..] => copied(alloc, name.as_slice()),
+        [] => free_name(alloc, rows, b"OBJ"),
+    }
+}
+
+/// The names of both objectives.
+pub(crate) fn objective_names(
+    alloc: Global,
+    sections: &Sections,
+) -> Result<(Name, Name), AllocError>
+    ensures first { IfOk result (λ names. names.0 ≡ objective_name sections.now) }
+    ensures second { IfOk result (λ names. names.1 ≡ second_name sections.now) }
+{
+    let mut taken = names_of_rows(alloc, sections.rows.as_slice())?;
+    let first = objective_name(alloc, sections.objectives.as_slice(), taken.as_slice())?;
+    let copy = copied(alloc, first.as_slice())?;
+    taken.push(copy)?;
+    let second = free_name(alloc, taken.as_slice(), b"OBJ2")?;
+    Ok((first, second))
 }

@@ -1,64 +1,82 @@
-// Names, and the numbers beside them.
-ghost use Rattle.std.specs.Prelude.{◌≡◌, IfOk, map, length};
-ghost use Rattle.mps_model.specs.Words.{among};
-ghost use Rattle.mps_model.specs.Statements.{read_pair, is_row, is_coefficient, coefficients_in};
-ghost use Rattle.mps_model.specs.Meaning.{number_beside};
-ghost use Rattle.mps_model.specs.Shown.{pair_shown, pairs_shown};
+// Names of rows and columns, each with the place that it has among them.
+ghost use Rattle.std.specs.Prelude.{◌≡◌, ◌++◌, ◌∷◌, ℕ, List as Items, length, map, IfOk};
+ghost use Rattle.mps_sections.specs.Statements.{stated_row_names};
+ghost use Rattle.mps_sections.specs.Limits.{AreNamesApart, names_of_columns};
+ghost use Rattle.mps_model.specs.Places.{IsFoundAt, IsIndexOf, find};
 
-use crate::numbers::{is_zero, number_or_zero};
-use crate::pairs::{Pair, Pairs};
-use crate::statements::{RowLine, RowNumber};
-use frac128::Frac;
+use crate::name_index::NameIndex;
 use lp_model::{List, Name};
+use mps_sections::{ColumnLines, RowLine, copied};
 use std::alloc::{AllocError, Global};
 
-/// A copy of a name.
-pub(crate) fn copied(alloc: Global, name: &[u8]) -> Result<Name, AllocError>
-    ensures { IfOk result (λ copy. copy ≡ name.now) }
-{
-    let bytes = Vec::from_slice(alloc, name)?;
-    Ok(List::from_vec(bytes))
+/// Names that differ, and where each stands.
+#[derive(Drop)]
+pub(crate) struct Names {
+    pub names: List<Name>,
+    places: NameIndex,
+    ghost apart: { AreNamesApart names },
+    ghost index: { IsIndexOf names places },
 }
 
-/// Whether a name is one of some.
-pub(crate) fn contains(names: &[Name], name: &[u8]) -> bool
-    ensures { result ≡ among names.now name.now }
+/// The names of the rows.
+pub(crate) fn names_of_rows(alloc: Global, rows: &[RowLine]) -> Result<List<Name>, AllocError>
+    ensures { IfOk result (λ names. names ≡ stated_row_names rows.now) }
 {
-    names.iter().any(|other| other.as_slice() == name)
-}
-
-/// Whether a row has the name.
-pub(crate) fn is_row(rows: &[RowLine], name: &[u8]) -> bool
-    ensures { result ≡ is_row rows.now name.now }
-{
-    rows.iter().any(|row| row.name.as_slice() == name)
-}
-
-/// The first number beside the row, 0 where there is none.
-pub(crate) fn number_beside(numbers: &[RowNumber], row: &[u8]) -> Frac
-    ensures { result ≡ number_beside row.now numbers.now }
-{
-    for item in numbers {
-        if item.row.as_slice() == row {
-            return item.number;
-        }
+    let mut names = List::new(alloc);
+    for row in rows {
+        let name = copied(alloc, row.name.as_slice())?;
+        names.push(name)?;
     }
-    Frac::whole(0)
+    Ok(names)
 }
 
-fn is_coefficient(rows: &[RowLine], pair: &Pair) -> bool
-    ensures { result ≡ is_coefficient rows.now (read_pair (pair_shown pair.now)) }
+/// The names of the columns.
+pub(crate) fn names_of_columns(
+    alloc: Global,
+    columns: &[ColumnLines],
+) -> Result<List<Name>, AllocError>
+    ensures { IfOk result (λ names. names ≡ names_of_columns columns.now) }
 {
-    is_row(rows, pair.row) && !is_zero(&number_or_zero(pair.number))
+    let mut names = List::new(alloc);
+    for column in columns {
+        let name = copied(alloc, column.name.as_slice())?;
+        names.push(name)?;
+    }
+    Ok(names)
 }
 
-/// How many of the pairs have a non-zero number beside a row with sides.
-pub(crate) fn count_coefficients(rows: &[RowLine], pairs: &Pairs) -> u64
-    ensures { result ≡ length (coefficients_in rows.now (map read_pair (pairs_shown pairs.now))) }
+fn index_of(alloc: Global, names: &[Name]) -> Result<NameIndex, AllocError>
+    ensures { IfOk result (λ index. IsIndexOf names.now index) }
 {
-    match pairs {
-        Pairs::Nothing => 0,
-        Pairs::One(p) => u64::from(is_coefficient(rows, p)),
-        Pairs::Two(p, q) => u64::from(is_coefficient(rows, p)) + u64::from(is_coefficient(rows, q)),
+    let mut index = NameIndex::new(alloc);
+    for place in 0..names.len() {
+        index.insert(alloc, names[place].as_slice(), place)?;
+    }
+    Ok(index)
+}
+
+impl Names {
+    /// Names that differ, with their places.
+    pub(crate) fn of(alloc: Global, names: List<Name>) -> Result<Names, AllocError>
+        requires { AreNamesApart names }
+        ensures { IfOk result (λ all. all.names ≡ names) }
+    {
+        let places = index_of(alloc, names.as_slice())?;
+        Ok(Names { names, places })
+    }
+
+    /// The place of a name.
+    pub(crate) fn find(&self, name: &[u8]) -> Option<usize>
+        ensures found { IsFoundAt self.now.names name.now result }
+        ensures apart { AreNamesApart self.now.names }
+    {
+        self.places.find(name)
+    }
+
+    /// How many names there are.
+    pub(crate) fn len(&self) -> usize
+        ensures { result ≡ length self.now.names }
+    {
+        self.names.as_slice().len()
     }
 }

@@ -1,10 +1,13 @@
 // The model that a text means, or its first fault.
-ghost use Rattle.mps_model.specs.Answers.{IsModelAnswer};
+ghost use Rattle.std.specs.Prelude.{◌≡◌, map};
+ghost use Rattle.mps_sections.specs.Limits.{StatesWithinLimits};
+ghost use Rattle.mps_model.specs.Meaning.{span_of};
+ghost use Rattle.mps_model.specs.Answers.{IsModelAnswer, IsSectionsAnswer};
 
-use crate::building::Parts;
-use crate::reading::{Stop, tables_of};
-use crate::spans::column_flaw;
+use crate::building::model_of;
+use crate::spans::{Span, column_flaw, spans_of};
 use lp_model::Model;
+use mps_sections::{ColumnLines, Sections, Stop, read_sections};
 use std::alloc::Global;
 use thiserror::Error;
 
@@ -24,8 +27,8 @@ pub enum MpsFault {
 pub fn read(alloc: Global, text: &[u8], intupper: Option<u64>) -> Result<Model, MpsFault>
     ensures { IsModelAnswer text.now intupper result }
 {
-    let tables = match tables_of(alloc, text) {
-        Ok(tables) => tables,
+    let sections = match read_sections(alloc, text) {
+        Ok(sections) => sections,
         Err(Stop::Fault(fault)) => {
             return Err(MpsFault::Bad {
                 line: fault.line,
@@ -34,24 +37,41 @@ pub fn read(alloc: Global, text: &[u8], intupper: Option<u64>) -> Result<Model, 
         }
         Err(Stop::Memory) => return Err(MpsFault::Memory),
     };
-    let Ok(columns) = tables.columns.into_list() else {
+    model_read(alloc, &sections, intupper)
+}
+
+/// The model of the lists of a whole text, or the first column's fault.
+fn model_read(alloc: Global, sections: &Sections, intupper: Option<u64>) -> Result<Model, MpsFault>
+    requires { StatesWithinLimits sections.now }
+    ensures { IsSectionsAnswer sections.now intupper result }
+{
+    let Ok(spans) = spans_of(alloc, sections) else {
         return Err(MpsFault::Memory);
     };
-    if let Some(fault) = column_flaw(intupper, tables.bounds.as_slice(), columns.as_slice()) {
+    let columns = sections.columns.as_slice();
+    model_with(alloc, sections, columns, spans.as_slice(), intupper)
+}
+
+/// The same, with the kind and bounds of each column.
+fn model_with(
+    alloc: Global,
+    sections: &Sections,
+    columns: &[ColumnLines],
+    spans: &[Span],
+    intupper: Option<u64>,
+) -> Result<Model, MpsFault>
+    requires limits { StatesWithinLimits sections.now }
+    requires columns { columns.now ≡ sections.now.columns }
+    requires spans { spans.now ≡ map (span_of sections.now.bounds) sections.now.columns }
+    ensures { IsSectionsAnswer sections.now intupper result }
+{
+    if let Some(fault) = column_flaw(intupper, spans, columns) {
         return Err(MpsFault::Bad {
             line: fault.line,
             code: fault.code,
         });
     }
-    let parts = Parts {
-        objectives: tables.rows.objectives.as_slice(),
-        rows: tables.rows.sided.as_slice(),
-        columns: columns.as_slice(),
-        sides: tables.sides.numbers.as_slice(),
-        bounds: tables.bounds.as_slice(),
-        intupper,
-    };
-    match parts.model(alloc) {
+    match model_of(alloc, sections, spans, intupper) {
         Ok(model) => Ok(model),
         Err(_) => Err(MpsFault::Memory),
     }

@@ -1,54 +1,34 @@
 // A column's kind and bounds, which its bound lines state one after another.
-ghost use Rattle.std.specs.Prelude.{◌≡◌};
-ghost use Rattle.mps_model.specs.Numbers.{finite, is_below_zero, with_lower, with_upper, as_integer, bounded};
-ghost use Rattle.mps_model.specs.Meaning.{start_span, span_of, upper_or};
+ghost use Rattle.std.specs.Prelude.{◌≡◌, ◌++◌, ◌∷◌, [], List, length, map, IfOk};
+ghost use Rattle.mps_model.specs.Spans.{with_lower, with_upper, as_integer, bounded};
+ghost use Rattle.mps_model.specs.Meaning.{span_of, upper_or};
 ghost use Rattle.mps_model.specs.Faults.{column_code, column_flaw};
-ghost use Rattle.mps_model.specs.Shown.{flaw_shown};
+ghost use Rattle.mps_sections.specs.Shown.{flaw_shown};
+ghost use Rattle.mps_sections.specs.Limits.{AreNamesApart, names_of_columns};
 
-use crate::numbers::{Limit, Span, is_at_most};
-use crate::statements::{BoundLine, ColumnLines};
-use crate::words::BoundKind;
+use crate::names::{Names, names_of_columns};
 use frac128::Frac;
+use mps_sections::{BoundKind, BoundLine, ColumnLines, Limit, Sections};
 use mps_text::LineFault;
+use std::alloc::{AllocError, Global};
 
-fn finite(limit: &Limit) -> Option<Frac>
-    ensures { result ≡ finite limit.now }
-{
-    match limit {
-        Limit::Finite(number) => Some(*number),
-        Limit::Plus => None,
-        Limit::Minus => None,
-    }
-}
-
-fn is_below_zero(limit: &Limit) -> bool
-    ensures { result ≡ is_below_zero limit.now }
-{
-    match limit {
-        Limit::Finite(number) => !is_at_most(&Frac::whole(0), number),
-        Limit::Plus => false,
-        Limit::Minus => true,
-    }
+/// A column's kind and bounds on the way through its bound lines.
+#[derive(Clone, Copy, Debug, Drop)]
+pub(crate) struct Span {
+    pub integer: bool,
+    pub lower: Option<Frac>,
+    pub upper: Option<Frac>,
+    /// Whether a line has named the lower bound.
+    pub named: bool,
 }
 
 impl Span {
-    fn start(marked: bool) -> Span
-        ensures { result ≡ start_span marked }
-    {
-        Span {
-            integer: marked,
-            lower: Some(Frac::whole(0)),
-            upper: None,
-            named: false,
-        }
-    }
-
     fn with_lower(&self, limit: &Limit) -> Span
         ensures { result ≡ with_lower limit.now self.now }
     {
         Span {
             integer: self.integer,
-            lower: finite(limit),
+            lower: limit.finite(),
             upper: self.upper,
             named: true,
         }
@@ -58,7 +38,7 @@ impl Span {
     fn with_upper(&self, limit: &Limit) -> Span
         ensures { result ≡ with_upper limit.now self.now }
     {
-        let lower = if is_below_zero(limit) && !self.named {
+        let lower = if limit.is_below_zero() && !self.named {
             None
         } else {
             self.lower
@@ -66,7 +46,7 @@ impl Span {
         Span {
             integer: self.integer,
             lower,
-            upper: finite(limit),
+            upper: limit.finite(),
             named: self.named,
         }
     }
@@ -91,8 +71,8 @@ impl Span {
             BoundKind::Upper => self.with_upper(limit),
             BoundKind::Fixed => Span {
                 integer: self.integer,
-                lower: finite(limit),
-                upper: finite(limit),
+                lower: limit.finite(),
+                upper: limit.finite(),
                 named: true,
             },
             BoundKind::Binary => Span {
@@ -104,19 +84,6 @@ impl Span {
             BoundKind::IntegerLower => self.with_lower(limit).as_integer(),
             BoundKind::IntegerUpper => self.with_upper(limit).as_integer(),
         }
-    }
-
-    /// The kind and bounds of a column after all bound lines.
-    pub(crate) fn of(bounds: &[BoundLine], column: &ColumnLines) -> Span
-        ensures { result ≡ span_of bounds.now column.now }
-    {
-        let mut span = Span::start(column.marked);
-        for bound in bounds {
-            if bound.column.as_slice() == column.name.as_slice() {
-                span = span.bounded(bound.kind, &bound.limit);
-            }
-        }
-        span
     }
 
     /// The upper bound, which is a number handed in where an integer column has none.
@@ -143,17 +110,73 @@ impl Span {
     }
 }
 
+/// The kinds and bounds that columns start with.
+fn starts(alloc: Global, columns: &[ColumnLines]) -> Result<Vec<Span>, AllocError>
+    ensures { IfOk result (λ spans. spans.items ≡ map (span_of []) columns.now) }
+{
+    let mut spans = Vec::new(alloc);
+    for column in columns {
+        let lower: Option<Frac> = Some(Frac::whole(0));
+        let upper: Option<Frac> = None;
+        spans.push(Span {
+            integer: column.marked,
+            lower,
+            upper,
+            named: false,
+        })?;
+    }
+    Ok(spans)
+}
+
+/// The kinds and bounds after one more bound line, which changes that of the column that it names.
+fn set_bound(spans: &mut [Span], names: &Names, bound: &BoundLine)
+    requires { length spans.old ≡ length names.now.names }
+    ensures length { length spans.new ≡ length spans.old }
+    ensures steps { (before : List BoundLine) → (columns : List ColumnLines) → names.now.names ≡ names_of_columns columns → spans.old ≡ map (span_of before) columns → spans.new ≡ map (span_of (before ++ bound.now ∷ [])) columns }
+{
+    match names.find(bound.column.as_slice()) {
+        Some(place) => {
+            let span = spans[place];
+            spans[place] = span.bounded(bound.kind, &bound.limit);
+        }
+        None => {}
+    }
+}
+
+/// The kinds and bounds after all bound lines.
+fn set_bounds(spans: &mut [Span], names: &Names, bounds: &[BoundLine])
+    requires { length spans.old ≡ length names.now.names }
+    ensures { (columns : List ColumnLines) → names.now.names ≡ names_of_columns columns → spans.old ≡ map (span_of []) columns → spans.new ≡ map (span_of bounds.now) columns }
+{
+    for bound in bounds {
+        set_bound(spans, names, bound);
+    }
+}
+
+/// The kind and bounds of each column after all bound lines.
+pub(crate) fn spans_of(alloc: Global, sections: &Sections) -> Result<Vec<Span>, AllocError>
+    requires { AreNamesApart (names_of_columns sections.now.columns) }
+    ensures { IfOk result (λ spans. spans.items ≡ map (span_of sections.now.bounds) sections.now.columns) }
+{
+    let list = names_of_columns(alloc, sections.columns.as_slice())?;
+    let names = Names::of(alloc, list)?;
+    let mut spans = starts(alloc, sections.columns.as_slice())?;
+    set_bounds(spans.as_mut_slice(), &names, sections.bounds.as_slice());
+    Ok(spans)
+}
+
 /// The first column's line that lacks bounds or is continuous.
 pub(crate) fn column_flaw(
     intupper: Option<u64>,
-    bounds: &[BoundLine],
+    spans: &[Span],
     columns: &[ColumnLines],
 ) -> Option<LineFault>
-    ensures { flaw_shown result ≡ column_flaw intupper bounds.now columns.now }
+    requires { length spans.now ≡ length columns.now }
+    ensures { (bounds : List BoundLine) → spans.now ≡ map (span_of bounds) columns.now → flaw_shown result ≡ column_flaw intupper bounds columns.now }
 {
-    for column in columns {
-        let line = column.line;
-        if let Some(code) = Span::of(bounds, column).code(intupper) {
+    for place in 0..columns.len() {
+        let line = columns[place].line;
+        if let Some(code) = spans[place].code(intupper) {
             return Some(LineFault { line, code });
         }
     }

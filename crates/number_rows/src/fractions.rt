@@ -2,7 +2,8 @@
 use crate::sums::sum_of;
 use crate::words::{number_of, told, words_of};
 use anyhow::{Result, bail};
-use frac128::{Frac, NumFault, Numeral, Side};
+use frac_text::{NumFault, Numeral, Side};
+use frac128::Frac;
 use std::alloc::{AllocError, Global};
 use std::cmp::Ordering;
 
@@ -37,9 +38,9 @@ fn fault_text(fault: NumFault) -> &'static str {
     }
 }
 
-/// What `Frac::parse` answers.
+/// What `frac_text::parse` answers.
 fn parsed(alloc: Global, text: &str) -> Result<String, AllocError> {
-    match Frac::parse(text.as_bytes()) {
+    match frac_text::parse(text.as_bytes()) {
         Ok(number) => format!(in alloc; "{number}"),
         Err(fault) => String::from_str(alloc, fault_text(fault)),
     }

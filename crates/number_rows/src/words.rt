@@ -14,7 +14,7 @@ pub fn words_of(alloc: Global, text: &str) -> Result<Vec<&str>, AllocError> {
 
 /// The number that a word spells.
 pub fn number_of(word: &str) -> Result<Frac> {
-    match Frac::parse(word.as_bytes()) {
+    match frac_text::parse(word.as_bytes()) {
         Ok(number) => Ok(number),
         Err(_) => bail!("no number: {word}"),
     }

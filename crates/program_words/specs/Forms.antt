@@ -46,13 +46,13 @@ pub data AskedForm : Type 0 where
   Check : (model cert : List ℕ) → AskedForm
 
 -- the text of an argument, none where it has no value
-abbrev pub text_in : Text → List Row → List ℕ
-text_in name rows = unwrap_or (first_of name rows) []
+abbrev pub argument_text : Text → List Row → List ℕ
+argument_text name rows = unwrap_or (first_of name rows) []
 
 -- by the subcommand that was used, with what was found for its arguments
 abbrev pub asked_by : Option (Text × List Row) → AskedForm
 asked_by None = Script
-asked_by (Some (name, rows)) = if bytes_eq name (codes "check") then Check (text_in (codes "MODEL") rows) (text_in (codes "CERT") rows) else Script
+asked_by (Some (name, rows)) = if bytes_eq name (codes "check") then Check (argument_text (codes "MODEL") rows) (argument_text (codes "CERT") rows) else Script
 
 unfoldable pub asked_form : List (String Global) → AskedForm
 asked_form words = asked_by (subcommand_of symphony (map string_bytes words))

@@ -3,7 +3,7 @@ ghost use Rattle.std.specs.Prelude.{◌≡◌, false, IfOk, IsErrOf};
 ghost use Rattle.clap.specs.Words.{app_of, found_of, subcommand_rows_of};
 ghost use Rattle.clap.specs.Walk.{rows_of};
 ghost use Rattle.clap.specs.declared.builder.command.Command.TheViews.{out-Command};
-ghost use Rattle.program_words.specs.Forms.{run_app, check_app, symphony, TakesWords, asked_by, asked_form, form_shown, text_in};
+ghost use Rattle.program_words.specs.Forms.{run_app, check_app, symphony, TakesWords, asked_by, asked_form, form_shown, argument_text};
 ghost use Rattle.program_words.specs.declared.words.WordsFault.TheVariants.{Memory};
 
 use clap::error::ErrorKind;
@@ -74,7 +74,7 @@ fn command_line<'a>(alloc: Global) -> Result<Command<'a>, AllocError>
 
 /// The value of an argument, or no text where it has none.
 fn value_of<'a>(matches: &ArgMatches<'a>, name: &str) -> &'a str
-    ensures { result.now ≡ text_in name.now (rows_of (found_of matches.now)) }
+    ensures { result.now ≡ argument_text name.now (rows_of (found_of matches.now)) }
 {
     match matches.get_str(name) {
         Some(value) => value,

@@ -11,19 +11,19 @@ use Rattle.bases.specs.declared.stand.Stand.TheVariants.{Low, High, Free}
 use Rattle.bases.specs.Bases.{Lists, IsNamedBy}
 use Rattle.bases.specs.States.{State, IsGood}
 use Rattle.bases.specs.Relaxation.{Relaxation}
-use Rattle.bases.specs.Directions.{side_number}
+use Rattle.bases.specs.Directions.{stand_number}
 use Rattle.bases.proofs.BringIn.{basic_within, nonbasic_within}
 use Rattle.row_tableau.specs.declared.relax.Relax.{Relax}
 use Rattle.row_tableau.specs.declared.relax.RelaxKind.TheVariants.{Plain}
 use Rattle.row_tableau.specs.Relaxations.{plain, of_kind, relaxation_of}
 use Rattle.row_tableau.specs.Variables.{numbers}
-use Rattle.dual_simplex.specs.Held.{Held}
-use Rattle.dual_simplex.specs.Tilts.{parts_of, KeepsFree}
-use Rattle.dual_simplex.specs.Slack.{IsOf, CanStand}
-use Rattle.dual_simplex.specs.Starts.{IsStandBy, IsLawfulBasis}
+use Rattle.basic_solution.specs.Held.{Held}
+use Rattle.basic_solution.specs.Tilts.{parts_of, KeepsFree}
+use Rattle.basic_solution.specs.Slack.{IsOf, CanStand}
+use Rattle.basic_solution.specs.ListedStates.{IsStandBy, IsLawfulBasis}
 use Rattle.dual_simplex.specs.Laws.{StandsAt}
-use Rattle.dual_simplex.proofs.SlackLemmas.{columns_is, activities_is}
-use Rattle.dual_simplex.proofs.StartLemmas.{numbers_same}
+use Rattle.basic_solution.proofs.SlackLemmas.{columns_is, activities_is}
+use Rattle.basic_solution.proofs.ListedLemmas.{numbers_same}
 use Rattle.dual_simplex.proofs.BasisLemmas.{named_by_all, rising_once, can_there, good_in}
 use Rattle.dual_simplex.proofs.OneStateLemmas.{lawful_list}
 use Rattle.ray_phase.specs.Answers.{no_entries, IsDualBasis}
@@ -59,7 +59,7 @@ module _ (M : Program) (basis : Basis) (dual : IsDualBasis M basis) where
     path = relax.region.now
 
     abbrev there : State
-    there = record { table = st.table; stand = st.stand; at = λ k. side_number (st.stand k) ((plain M path).low (st.table.nonbasic k)) ((plain M path).high (st.table.nonbasic k)) }
+    there = record { table = st.table; stand = st.stand; at = λ k. stand_number (st.stand k) ((plain M path).low (st.table.nonbasic k)) ((plain M path).high (st.table.nonbasic k)) }
 
     relaxation_is : plain M path ≡ relaxation_of relax
     relaxation_is = λ i. of_kind (sym plain_kind i) (plain (sym same i) path)

@@ -1,3 +1,2 @@
-pub mod Rays
 pub mod Answers
 pub mod Laws

@@ -1,11 +1,12 @@
 // The basis of an optimum of the directions, for the model.
 ghost use Rattle.std.specs.Prelude.{◌≡◌, ◌↔◌, ◌<◌, ◌+◌, length, IfOk, IsTrue};
-ghost use Rattle.dual_simplex.specs.Held.{variables};
-ghost use Rattle.dual_simplex.specs.Lists.{AreRising};
+ghost use Rattle.basic_solution.specs.Held.{variables};
+ghost use Rattle.basic_solution.specs.Lists.{AreRising};
 ghost use Rattle.ray_phase.specs.Answers.{IsModelHigh};
 ghost use Rattle.row_tableau.specs.Variables.{numbers};
 
-use dual_simplex::{LpState, is_sided};
+use basic_solution::is_sided;
+use dual_simplex::LpState;
 use lp_model::{List, Model, Var};
 use std::alloc::{AllocError, Global};
 

@@ -1,20 +1,19 @@
 // The ray phase.
-ghost use Rattle.std.specs.Prelude.{◌≡◌, ◌<◌, ℕ, length, IfOk, OnOk, IfErr};
-ghost use Rattle.dual_simplex.specs.Lists.{IsBasisOf};
-ghost use Rattle.ray_phase.specs.Answers.{IsStart, IsDirectionsState, IsBest, PointRowsFit, IsFirstWideActivity, IsRayEnd, IsRayAnswer};
+ghost use Rattle.std.specs.Prelude.{◌≡◌, ℕ, [], None, length, IfOk};
+ghost use Rattle.basic_solution.specs.Lists.{IsBasisOf};
+ghost use Rattle.ray_phase.specs.Answers.{IsStart, IsDirectionsState, IsBest, IsRayEnd, IsRayAnswer};
 
-use crate::cost::cost_of;
 use crate::lawful::high_variables;
 use dual_simplex::{Lp, LpState};
-use lp_model::{Basis, ColId, Model, Point, WideStep};
+use lp_model::{Basis, List, Model, Point, WideAt, WideStep};
 use row_tableau::{Relax, RelaxKind};
 use std::alloc::{AllocError, Global};
 
 /// What the ray phase finds.
 #[derive(Drop)]
 pub enum RayAnswer {
-    /// A ray of the model, one number for each column. Its cost and the sums of the rows at it were computed: none of their
-    /// steps is without room.
+    /// A ray of the model, one number for each column, which `Model::is_ray` finds to be one: no step of its cost and of the
+    /// rows' sums lacks room.
     Ray(Point),
     /// The basis of a lawful state of the model's relaxation: that of the last state of the run.
     DualBasis(Basis),
@@ -22,22 +21,21 @@ pub enum RayAnswer {
     Pivots { basis: Basis },
     /// A step of arithmetic has no room: one at a state of the directions, or one of the cost of the optimal direction, or,
     /// where that is below 0, of a row's sum at it.
-    Wide { step: WideStep, basis: Basis },
+    Wide(WideAt),
+    /// There is no memory.
+    Memory,
 }
 
-/// Adds up each row at a direction, or finds the first step that has no room.
-fn add_rows_up(model: &Model, direction: &Point) -> Result<(), WideStep>
-    ensures fit { OnOk result (PointRowsFit model.now direction.now (length model.now.rows)) }
-    ensures wide { IfErr result (IsFirstWideActivity model.now direction.now) }
+/// A step without room at a basis of the directions.
+fn wide_at(alloc: Global, step: WideStep, basis: Basis) -> WideAt
+    ensures { result ≡ record { path = None; cuts = []; basis = basis; step = step } }
 {
-    let _lawful = model.cols();
-    for row in 0..model.rows().len() {
-        match model.activity(row as u32, direction) {
-            Ok(_) => {}
-            Err(step) => return Err(step),
-        }
+    WideAt {
+        path: None,
+        cuts: List::new(alloc),
+        basis,
+        step,
     }
-    Ok(())
 }
 
 /// The answer at an optimum of the directions: a ray where its cost is below 0, else the basis, which is lawful for the
@@ -48,34 +46,30 @@ fn judged(
     state: &LpState<'_>,
     direction: Point,
     basis: Basis,
-) -> Result<RayAnswer, AllocError>
+) -> RayAnswer
     requires directions { IsDirectionsState model.now state.now }
     requires best { IsBest state.now direction }
     requires basis { IsBasisOf state.now basis }
-    ensures { IfOk result (λ answer. (n : ℕ) (limit : ℕ) → IsRayEnd model.now n limit state.now answer) }
+    ensures { (n : ℕ) (limit : ℕ) → IsRayEnd model.now n limit state.now result }
 {
     let _lawful = model.cols();
-    match cost_of(model, &direction) {
-        Err(column) => Ok(RayAnswer::Wide {
-            step: WideStep::Value {
-                col: Some(ColId(column as u32)),
-            },
-            basis,
+    let cost = match model.direction_cost(&direction) {
+        Ok(cost) => cost,
+        Err(step) => return RayAnswer::Wide(wide_at(alloc, step, basis)),
+    };
+    if cost.is_negative() {
+        return match model.is_ray(&direction) {
+            Ok(true) => RayAnswer::Ray(direction),
+            Ok(false) => unreachable!(),
+            Err(step) => RayAnswer::Wide(wide_at(alloc, step, basis)),
+        };
+    }
+    match high_variables(alloc, model, state) {
+        Ok(high) => RayAnswer::DualBasis(Basis {
+            basic: basis.basic,
+            high,
         }),
-        Ok(cost) => {
-            if model.sense().least_form(&cost).is_negative() {
-                match add_rows_up(model, &direction) {
-                    Ok(()) => Ok(RayAnswer::Ray(direction)),
-                    Err(step) => Ok(RayAnswer::Wide { step, basis }),
-                }
-            } else {
-                let high = high_variables(alloc, model, state)?;
-                Ok(RayAnswer::DualBasis(Basis {
-                    basic: basis.basic,
-                    high,
-                }))
-            }
-        }
+        Err(_) => RayAnswer::Memory,
     }
 }
 
@@ -96,22 +90,30 @@ fn directions<'a>(alloc: Global, model: &'a Model) -> Result<LpState<'a>, AllocE
 
 /// Looks for a ray of the model, by at most so many moves of the dual simplex method over its directions. Where there is
 /// none the basis that was reached is lawful for the model's relaxation.
-pub fn ray(alloc: Global, model: &Model, pivot_limit: u64) -> Result<RayAnswer, AllocError>
+pub fn ray(alloc: Global, model: &Model, pivot_limit: u64) -> RayAnswer
     ensures { IsRayAnswer model.now pivot_limit result }
 {
-    let mut state = directions(alloc, model)?;
-    match state.solve(alloc, pivot_limit)? {
-        Lp::Optimal {
-            point,
-            mult: _,
-            basis,
-        } => judged(alloc, model, &state, point, basis),
-        Lp::Infeasible {
-            farkas: _,
-            mult: _,
-            basis: _,
-        } => unreachable!(),
-        Lp::Pivots { basis } => Ok(RayAnswer::Pivots { basis }),
-        Lp::Wide { step, basis } => Ok(RayAnswer::Wide { step, basis }),
+    let mut state = match directions(alloc, model) {
+        Ok(state) => state,
+        Err(_) => return RayAnswer::Memory,
+    };
+    match state.solve(alloc, pivot_limit) {
+        Err(_) => RayAnswer::Memory,
+        Ok(
+            Lp::Optimal {
+                point,
+                mult: _,
+                basis,
+            },
+        ) => judged(alloc, model, &state, point, basis),
+        Ok(
+            Lp::Infeasible {
+                farkas: _,
+                mult: _,
+                basis: _,
+            },
+        ) => unreachable!(),
+        Ok(Lp::Pivots { basis }) => RayAnswer::Pivots { basis },
+        Ok(Lp::Wide { step, basis }) => RayAnswer::Wide(wide_at(alloc, step, basis)),
     }
 }

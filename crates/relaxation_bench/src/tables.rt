@@ -2,7 +2,8 @@
 ghost use Rattle.std.specs.Prelude.{◌<◌};
 
 use frac128::Frac;
-use lp_model::{Edit, EditFault, List, Model, Name, Sense};
+use lp_model::{Edit, List, Model, Name, Sense};
+use model_edits::{EditFault, apply};
 use rand_core::utils::NextWord;
 use rand_pcg::Pcg32;
 use std::alloc::{AllocError, Global};
@@ -88,11 +89,11 @@ pub fn model(
             hi: None,
             entries: List::new(alloc),
         };
-        model.apply(alloc, edit)?;
+        apply(&mut model, alloc, edit)?;
     }
     for place in 0..size.columns {
         let edit = column(alloc, random, is_interval, size.rows, place)?;
-        model.apply(alloc, edit)?;
+        apply(&mut model, alloc, edit)?;
     }
     Ok(model)
 }

@@ -4,8 +4,8 @@ use Rattle.lp_model.specs.Program.{Program}
 use Rattle.lp_model.specs.declared.types.Basis.{Basis}
 use Rattle.row_tableau.specs.declared.relax.Relax.{Relax}
 use Rattle.row_tableau.specs.declared.relax.RelaxKind.TheVariants.{Plain}
-use Rattle.dual_simplex.specs.Tilts.{KeepsFree}
-use Rattle.dual_simplex.specs.Starts.{IsLawfulBasis}
+use Rattle.basic_solution.specs.Tilts.{KeepsFree}
+use Rattle.basic_solution.specs.ListedStates.{IsLawfulBasis}
 
 -- each start of the model's relaxation in a region that leaves columns free can fall back to the basis
 abbrev pub CanFallBack : Program → Basis → Type 0

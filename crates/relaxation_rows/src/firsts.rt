@@ -17,9 +17,9 @@ fn ray_basis(alloc: Global, model: &Model) -> Result<Option<Basis>, AllocError>
 {
     first_law();
     match ray(alloc, model, MOST_MOVES) {
-        Err(error) => Err(error),
-        Ok(RayAnswer::DualBasis(basis)) => Ok(Some(basis)),
-        Ok(_) => Ok(None),
+        RayAnswer::DualBasis(basis) => Ok(Some(basis)),
+        RayAnswer::Memory => Err(AllocError),
+        _ => Ok(None),
     }
 }
 

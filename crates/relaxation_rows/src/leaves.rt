@@ -104,7 +104,7 @@ fn push_worked(text: &mut String, model: &Model, job: &Job, worked: &Worked) -> 
     match worked {
         Worked::Done(placed) => push_result(text, model, job, placed)?,
         Worked::Pivots { .. } => text.push_str("pivots\n")?,
-        Worked::Wide { step, .. } => push_step(text, model, *step)?,
+        Worked::Wide(at) => push_step(text, model, at.step)?,
         Worked::Memory => bail!("no memory"),
     }
     Ok(())

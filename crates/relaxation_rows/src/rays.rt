@@ -1,7 +1,7 @@
 // The ray phase.
 use crate::judging::least_form;
 use crate::steps::push_step;
-use anyhow::Result;
+use anyhow::{Result, bail};
 use frac128::Frac;
 use lp_model::{Bound, Model, Point};
 use model_texts::{push_basis, push_point};
@@ -64,8 +64,7 @@ fn push_ray(text: &mut String, model: &Model, direction: &Point) -> Result<()> {
 
 /// Looks for a ray, and writes what was found.
 pub fn ray_of(alloc: Global, model: &Model, limit: u64, text: &mut String) -> Result<()> {
-    let answer = ray(alloc, model, limit)?;
-    match &answer {
+    match &ray(alloc, model, limit) {
         RayAnswer::Ray(direction) => push_ray(text, model, direction)?,
         RayAnswer::DualBasis(basis) => {
             text.push_str("basis")?;
@@ -73,7 +72,8 @@ pub fn ray_of(alloc: Global, model: &Model, limit: u64, text: &mut String) -> Re
             text.push('\n')?;
         }
         RayAnswer::Pivots { .. } => text.push_str("pivots\n")?,
-        RayAnswer::Wide { step, .. } => push_step(text, model, *step)?,
+        RayAnswer::Wide(at) => push_step(text, model, at.step)?,
+        RayAnswer::Memory => bail!("no memory"),
     }
     Ok(())
 }

@@ -6,7 +6,7 @@ use Rattle.std.specs.List.{slice_split, list_any}
 use Rattle.std.specs.Str.Lines.{lines, lines_of_parts, strip_carriage_return}
 use Rattle.std.proofs.lemmas.List.Splits.{slice_split_at, length-slice_split}
 use Rattle.script_session.specs.Request.{Command, Request, Overlong, Words}
-use Rattle.script_session.specs.Script.{Line, ended_line, last_line, HasNoNewline, is_newline, is_comment, is_silent, words_of, is_long, text_requests, is_end_text, all_lines, ended_lines, whole_lines, script_lines, requests, line_requests, is_end, script_requests, whole_requests, has_ending}
+use Rattle.script_session.specs.Script.{ScriptLine, ended_line, last_line, HasNoNewline, is_newline, is_comment, is_silent, words_of, is_long_line, text_requests, is_end_text, all_lines, ended_lines, whole_lines, script_lines, requests, line_requests, is_end, script_requests, whole_requests, has_ending}
 use Rattle.script_session.specs.Session.{Reads, Finishes, Begins}
 
 all-more : (part : List ℕ) (parts : List (List ℕ)) → 0 < length parts → all_lines (part ∷ parts) ≡ ended_line part ∷ all_lines parts
@@ -18,12 +18,12 @@ ended-more part [] h = absurd (omega arith)
 ended-more part (next ∷ more) h = refl
 
 -- the texts of the lines are the lines of the script as a text
-texts_of_parts : (parts : List (List ℕ)) → map (λ (line : Line). line.text) (all_lines parts) ≡ lines_of_parts parts
+texts_of_parts : (parts : List (List ℕ)) → map (λ (line : ScriptLine). line.text) (all_lines parts) ≡ lines_of_parts parts
 texts_of_parts [] = refl
-texts_of_parts (part ∷ []) = elim (length part == 0) as (λ b. map (λ (line : Line). line.text) (if b then [] else last_line part ∷ []) ≡ (if b then [] else part ∷ [])) [ true ↦ refl | false ↦ refl ]
+texts_of_parts (part ∷ []) = elim (length part == 0) as (λ b. map (λ (line : ScriptLine). line.text) (if b then [] else last_line part ∷ []) ≡ (if b then [] else part ∷ [])) [ true ↦ refl | false ↦ refl ]
 texts_of_parts (part ∷ next ∷ more) = ap (λ texts. strip_carriage_return part ∷ texts) (texts_of_parts (next ∷ more))
 
-pub text-script_lines : (script : List ℕ) → map (λ (line : Line). line.text) (script_lines script) ≡ lines script
+pub text-script_lines : (script : List ℕ) → map (λ (line : ScriptLine). line.text) (script_lines script) ≡ lines script
 unfolding script_lines
 text-script_lines script = texts_of_parts (slice_split is_newline script)
 
@@ -83,10 +83,10 @@ pub spoken-requests : (line : List ℕ) (words : List (List ℕ)) → is_silent 
 spoken-requests line words speaks same = ap (λ (b : Bool). if b then [] else Words (words_of line) ∷ []) speaks ∙ ap (λ (ws : List (List ℕ)). Words ws ∷ []) (sym same)
 
 -- a line within its limit asks what its text does
-pub short-requests : (line : Line) → is_long line ≡ false → line_requests line ≡ text_requests line.text
+pub short-requests : (line : ScriptLine) → is_long_line line ≡ false → line_requests line ≡ text_requests line.text
 short-requests line h = ap (λ (b : Bool). if b then Overlong ∷ [] else text_requests line.text) h
 
-pub long-requests : (line : Line) → is_long line ≡ true → line_requests line ≡ Overlong ∷ []
+pub long-requests : (line : ScriptLine) → is_long_line line ≡ true → line_requests line ≡ Overlong ∷ []
 long-requests line h = ap (λ (b : Bool). if b then Overlong ∷ [] else text_requests line.text) h
 
 module _ (ends : Command → Bool) where
@@ -161,8 +161,8 @@ module _ (ends : Command → Bool) where
   pub spoken-end : (text : List ℕ) (words : List (List ℕ)) → is_silent text ≡ false → words ≡ words_of text → is_end_text ends text ≡ ends words
   spoken-end text words speaks same = ap (λ b. not b && ends (words_of text)) speaks ∙ ap ends (sym same)
 
-  pub short-end : (line : Line) → is_long line ≡ false → is_end ends line ≡ is_end_text ends line.text
+  pub short-end : (line : ScriptLine) → is_long_line line ≡ false → is_end ends line ≡ is_end_text ends line.text
   short-end line h = ap (λ b. not b && is_end_text ends line.text) h
 
-  pub long-end : (line : Line) → is_long line ≡ true → is_end ends line ≡ false
+  pub long-end : (line : ScriptLine) → is_long_line line ≡ true → is_end ends line ≡ false
   long-end line h = ap (λ b. not b && is_end_text ends line.text) h

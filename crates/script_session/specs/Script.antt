@@ -41,51 +41,51 @@ abbrev pub is_end_text : (Command → Bool) → List ℕ → Bool
 is_end_text ends text = not (is_silent text) && ends (words_of text)
 
 -- A line: all of its bytes before its newline, and its text, which has no carriage return before the newline.
-pub record Line : Type 0 where
+pub record ScriptLine : Type 0 where
   pub raw : List ℕ
   pub text : List ℕ
 
 -- a line whose newline is there
-abbrev pub ended_line : List ℕ → Line
+abbrev pub ended_line : List ℕ → ScriptLine
 ended_line bytes = record { raw = bytes; text = strip_carriage_return bytes }
 
 -- a last line, which has no newline
-abbrev pub last_line : List ℕ → Line
+abbrev pub last_line : List ℕ → ScriptLine
 last_line bytes = record { raw = bytes; text = bytes }
 
 -- the line has more bytes than it may
-abbrev pub is_long : Line → Bool
-is_long line = nat_lt LINE_LIMIT (length line.raw)
+abbrev pub is_long_line : ScriptLine → Bool
+is_long_line line = nat_lt LINE_LIMIT (length line.raw)
 
 -- what a line asks, if it asks for a reply: one that is too long does, even if it is a comment or blank
-abbrev pub line_requests : Line → List Request
-line_requests line = if is_long line then Overlong ∷ [] else text_requests line.text
+abbrev pub line_requests : ScriptLine → List Request
+line_requests line = if is_long_line line then Overlong ∷ [] else text_requests line.text
 
 -- the line ends the script, which one that is too long never does
-abbrev pub is_end : (Command → Bool) → Line → Bool
-is_end ends line = not (is_long line) && is_end_text ends line.text
+abbrev pub is_end : (Command → Bool) → ScriptLine → Bool
+is_end ends line = not (is_long_line line) && is_end_text ends line.text
 
 -- what lines ask, up to the first that ends the script
-unfoldable pub requests : (Command → Bool) → List Line → List Request
+unfoldable pub requests : (Command → Bool) → List ScriptLine → List Request
 requests ends [] = []
 requests ends (line ∷ more) = line_requests line ++ (if is_end ends line then [] else requests ends more)
 
 -- the lines whose newline is there
-abbrev pub ended_lines : List (List ℕ) → List Line
+abbrev pub ended_lines : List (List ℕ) → List ScriptLine
 ended_lines [] = []
 ended_lines (part ∷ []) = []
 ended_lines (part ∷ next ∷ more) = ended_line part ∷ ended_lines (next ∷ more)
 
-unfoldable pub whole_lines : List ℕ → List Line
+unfoldable pub whole_lines : List ℕ → List ScriptLine
 whole_lines script = ended_lines (slice_split is_newline script)
 
 -- those, and a last line without its newline where it isn't empty
-abbrev pub all_lines : List (List ℕ) → List Line
+abbrev pub all_lines : List (List ℕ) → List ScriptLine
 all_lines [] = []
 all_lines (part ∷ []) = if length part == 0 then [] else last_line part ∷ []
 all_lines (part ∷ next ∷ more) = ended_line part ∷ all_lines (next ∷ more)
 
-unfoldable pub script_lines : List ℕ → List Line
+unfoldable pub script_lines : List ℕ → List ScriptLine
 script_lines script = all_lines (slice_split is_newline script)
 
 -- what the lines of a script ask

@@ -10,7 +10,7 @@ use Rattle.script_session.specs.declared.session.Flow.TheVariants.{Open, Ended}
 use Rattle.script_session.specs.declared.session.Stop.{Stop}
 use Rattle.script_session.specs.declared.session.Stop.TheVariants as stop
 use Rattle.script_session.specs.Request.{Command, Request}
-use Rattle.script_session.specs.Script.{Line, HasNoNewline, is_end, line_requests, script_requests, whole_requests, has_ending, IsWithinLimit, IsOverlong}
+use Rattle.script_session.specs.Script.{ScriptLine, HasNoNewline, is_end, line_requests, script_requests, whole_requests, has_ending, IsWithinLimit, IsOverlong}
 use Rattle.script_session.specs.Reply.{wants_memory, is_error}
 use Rattle.script_session.specs.Run.{IsLastRead, IsAll, IsAnswerable}
 use Rattle.script_session.specs.Stand.{Stand, stand, Transcript}
@@ -85,7 +85,7 @@ ServesAll step (Err stop.Source) old requests last new = ⊥
 ServesAll step (Err stop.TooLong) old requests last new = ⊥
 
 -- what the answer to one line says
-abbrev pub ServesLine : {M : Type 0} → (Command → Bool) → (Stand M → Request → List ℕ → Stand M → Type 0) → Result Flow Stop → Moment M → Line → Moment M → Type 0
+abbrev pub ServesLine : {M : Type 0} → (Command → Bool) → (Stand M → Request → List ℕ → Stand M → Type 0) → Result Flow Stop → Moment M → ScriptLine → Moment M → Type 0
 ServesLine ends step result old line new = ServesAll step result old (line_requests line) (is_end ends line) new
 
 -- what the answer to a piece of a script says, where pending is what is kept of its last line

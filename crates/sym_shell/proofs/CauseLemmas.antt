@@ -8,8 +8,8 @@ use Rattle.tree_edit.specs.Sound.{PlainSearch}
 use Rattle.tree_search.specs.Causes.{IsJudgeable}
 use Rattle.tree_search.specs.Work.{cap_of}
 use Rattle.command_words.specs.Asks.{Asks, Load, Solve, Cert, Quit, Unknown, Misused, NoNumber, asks_of}
-use Rattle.sym_shell.specs.Searched.{node_limit}
-use Rattle.sym_shell.specs.State.{State}
+use Rattle.branch_tree.specs.Limits.{node_limit}
+use Rattle.sym_shell.specs.State.{ShellState}
 use Rattle.sym_shell.specs.Texts.{ok_text, memory_text, column_lines, known_text, path_line, step_line}
 use Rattle.sym_shell.specs.Load.{LoadStep, ReadsFile, refusal_text}
 use Rattle.sym_shell.specs.Solve.{ShowsOptimum, ShowsEmptiness, AnswersSolve, Optimum, Emptiness, NodeStop, TreeStop, WideStop, Wanting, SolvesHeld, SolveStep}
@@ -28,12 +28,12 @@ abbrev value_tail : ℚ → ℕ → List ℕ
 value_tail v n = printed v ++ codes " nodes " ++ decimal n ++ codes "\n"
 
 -- the reply is of a kind whose cause holds
-record HasCause (old : State) (words : List (List ℕ)) (reply : List ℕ) (new : State) : Type 0 where
+record HasCause (old : ShellState) (words : List (List ℕ)) (reply : List ℕ) (new : ShellState) : Type 0 where
   kind : Kind
   is : Is kind reply
   cause : CauseOf kind old words reply new
 
-module _ (old : State) (words : List (List ℕ)) (reply : List ℕ) (new : State) where
+module _ (old : ShellState) (words : List (List ℕ)) (reply : List ℕ) (new : ShellState) where
   wants : reply ≡ memory_text → HasCause old words reply new
   wants e = record { kind = WantsMemory; is = (codes "memory\n", e); cause = e }
 
@@ -158,12 +158,12 @@ module _ (old : State) (words : List (List ℕ)) (reply : List ℕ) (new : State
 
   keeps : (a : Asks) → AnswersTo a old reply new → reply ≢ ok_text → new.model ≡ old.model
   keeps (Load file intupper) h other = elim h.answer [ inl loads ↦ absurd (other loads.ok) | inr refused ↦ refused.kept ]
-  keeps (Solve limit) h other = ap (λ (s : State). s.model) h.unchanged
+  keeps (Solve limit) h other = ap (λ (s : ShellState). s.model) h.unchanged
   keeps (Cert file) h other = h.model
-  keeps Quit h other = ap (λ (s : State). s.model) h.unchanged
-  keeps (Unknown word) h other = ap (λ (s : State). s.model) h.unchanged
-  keeps Misused h other = ap (λ (s : State). s.model) h.unchanged
-  keeps (NoNumber word) h other = ap (λ (s : State). s.model) h.unchanged
+  keeps Quit h other = ap (λ (s : ShellState). s.model) h.unchanged
+  keeps (Unknown word) h other = ap (λ (s : ShellState). s.model) h.unchanged
+  keeps Misused h other = ap (λ (s : ShellState). s.model) h.unchanged
+  keeps (NoNumber word) h other = ap (λ (s : ShellState). s.model) h.unchanged
 
   -- a reply of another kind than an error's
   not_error : {P : Type 0} (k l : Kind) → IsError k → Is k reply → Is l reply → ¬ IsError l → P
@@ -182,12 +182,12 @@ module _ (old : State) (words : List (List ℕ)) (reply : List ℕ) (new : State
   holds (Load file intupper) h k error is = elim h.answer [ inl loads ↦ not_error k Done error is ([], loads.ok) (λ e. e) | inr refused ↦ refused.held ]
   holds (Solve limit) h k error is = solve_holds limit k error is old.model h.answer
   holds (Cert file) h k error is = h.held
-  holds Quit h k error is = ap (λ (s : State). s.held) h.unchanged
-  holds (Unknown word) h k error is = ap (λ (s : State). s.held) h.unchanged
-  holds Misused h k error is = ap (λ (s : State). s.held) h.unchanged
-  holds (NoNumber word) h k error is = ap (λ (s : State). s.held) h.unchanged
+  holds Quit h k error is = ap (λ (s : ShellState). s.held) h.unchanged
+  holds (Unknown word) h k error is = ap (λ (s : ShellState). s.held) h.unchanged
+  holds Misused h k error is = ap (λ (s : ShellState). s.held) h.unchanged
+  holds (NoNumber word) h k error is = ap (λ (s : ShellState). s.held) h.unchanged
 
-pub step-causes : (old : State) (words : List (List ℕ)) (reply : List ℕ) (new : State) → Step old words reply new → HasCauses old words reply new
+pub step-causes : (old : ShellState) (words : List (List ℕ)) (reply : List ℕ) (new : ShellState) → Step old words reply new → HasCauses old words reply new
 unfolding Step
 step-causes old words reply new h =
     let found = asked_cause old words reply new (asks_of words) refl h in

@@ -9,11 +9,11 @@ use Rattle.lp_model.specs.declared.types.Row.{Row}
 use Rattle.mps_model.specs.PlainNames.{IsPlainName, HasPlainNames, HasPlainRows}
 use Rattle.tree_edit.specs.Sound.{PlainSearch, IsSound}
 use Rattle.cert_check.specs.Laws.{AcceptedLaw, VerdictLaw, IsTrueClaim}
-use Rattle.cert_check.specs.Text.{MeantCertificate}
+use Rattle.cert_text.specs.Text.{MeantCertificate}
 use Rattle.cert_check.specs.Verdict.{IsVerdict}
-use Rattle.cert_check.specs.Whole.{IsCertificate}
-use Rattle.cert_check.specs.declared.cert.Claim.{Claim}
-use Rattle.cert_check.specs.declared.cert.Cert.{Cert}
+use Rattle.cert_text.specs.Whole.{IsCertificate}
+use Rattle.cert_text.specs.declared.cert.Claim.{Claim}
+use Rattle.cert_text.specs.declared.cert.Cert.{Cert}
 use Rattle.cert_check.specs.declared.verdict.Verdict.{Verdict}
 use Rattle.cert_check.specs.declared.verdict.Verdict.TheVariants.{Accepted}
 use Rattle.tree_cert.specs.Certificates.{IsCertificateOf}
@@ -24,7 +24,7 @@ use Rattle.sym_io.specs.Files.{Files, KeepsOthers, Sets, Puts}
 use Rattle.sym_io.specs.declared.traits.Failed.{Failed}
 use Rattle.sym_shell.specs.Loaded.{PlainLoaded}
 use Rattle.sym_shell.specs.Held.{present_of}
-use Rattle.sym_shell.specs.State.{state}
+use Rattle.sym_shell.specs.State.{shell_state}
 use Rattle.sym_shell.specs.Certify.{IsCertificateText, Writes, Certifies, CertStep}
 
 plain-word : (name : List ℕ) → IsPlainName name → IsWord name
@@ -79,11 +79,11 @@ put-written (Err failed) files files' name bytes is p = absurd (cc)
 
 -- what was written of the answer that is held
 pub cert-step : (loaded : Option PlainLoaded) (l : PlainLoaded) (S : PlainSearch) (files files' : Option Files) (faults faults' : ℕ) (name reply : List ℕ) → loaded ≡ Some l → Some S ≡ (present_of (Some l)).held → S.model ≡ l.search.model
-    → faults ≤ faults' → Writes S name files faults reply files' faults' → CertStep (state (present_of loaded) files faults) name reply (state (present_of loaded) files' faults')
+    → faults ≤ faults' → Writes S name files faults reply files' faults' → CertStep (shell_state (present_of loaded) files faults) name reply (shell_state (present_of loaded) files' faults')
 cert-step loaded l S files files' faults faults' name reply is held same later writes =
-    subst (λ o. CertStep (state (present_of o) files faults) name reply (state (present_of o) files' faults')) (sym is) (record {
+    subst (λ o. CertStep (shell_state (present_of o) files faults) name reply (shell_state (present_of o) files' faults')) (sym is) (record {
       model = refl;
       held = refl;
       later = later;
-      answer = subst (λ h. Certifies (Some l.search.model) h (state (present_of (Some l)) files faults) name reply (state (present_of (Some l)) files' faults')) held (same, writes);
+      answer = subst (λ h. Certifies (Some l.search.model) h (shell_state (present_of (Some l)) files faults) name reply (shell_state (present_of (Some l)) files' faults')) held (same, writes);
     })

@@ -28,7 +28,8 @@ use Rattle.mps_model.specs.PlainNames.{HasPlainNames}
 use Rattle.sym_shell.specs.Shown.{point_shown, value_shown}
 use Rattle.sym_shell.specs.Texts.{optimal_text, infeasible_text, stopped_nodes_text, stopped_tree_text, stopped_wide_text}
 use Rattle.sym_shell.specs.Reports.{Reports, FitsFinding}
-use Rattle.sym_shell.specs.Searched.{node_limit, Searches, has_ended, IsBound, Stops}
+use Rattle.sym_shell.specs.Searched.{Searches, has_ended, IsBound, Stops}
+use Rattle.branch_tree.specs.Limits.{node_limit}
 use Rattle.sym_shell.specs.Solve.{AnswersSolve, Optimum, Emptiness, NodeStop, TreeStop, WideStop}
 use Rattle.sym_shell.proofs.ShownBack.{point-shown, value-shown}
 

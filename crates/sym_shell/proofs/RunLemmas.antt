@@ -13,9 +13,9 @@ use Rattle.program_words.specs.Laws.{IsRunForm, AsksScript, IsCheckForm, AsksChe
 use Rattle.program_words.proofs.FormLemmas.{run_law, check_law}
 use Rattle.sym_shell.specs.Causes.{IsAnswered}
 use Rattle.sym_shell.specs.Present.{present}
-use Rattle.sym_shell.specs.Run.{around, RunsAs, ToldLaw}
+use Rattle.sym_shell.specs.Run.{around, RunsAs, ShellToldLaw}
 use Rattle.sym_shell.specs.Shell.{state_of, quits, ShellStep}
-use Rattle.sym_shell.specs.State.{Present, nothing_present, State, state}
+use Rattle.sym_shell.specs.State.{Present, nothing_present, ShellState, shell_state}
 use Rattle.sym_shell.specs.declared.shell.Shell.{Shell}
 use Rattle.sym_shell.proofs.CauseLemmas.{step-causes}
 
@@ -27,7 +27,7 @@ pub script_run : (shell shell' : Shell) (before after : Outside) (files files' :
     → IsRun (RequestStep ShellStep) quits (stand shell files faults) before (stand shell' files' faults') after status → RunsAs Script (around before after files files' faults faults') status
 script_run shell shell' before after files files' faults faults' status none run = (
   present shell',
-  subst (λ (held : Present). IsRun (RequestStep IsAnswered) quits (state held files faults) before (state (present shell') files' faults') after status) none
+  subst (λ (held : Present). IsRun (RequestStep IsAnswered) quits (shell_state held files faults) before (shell_state (present shell') files' faults') after status) none
       (IsRun-through state_of ShellStep IsAnswered answered quits (stand shell files faults) before (stand shell' files' faults') after status run),
 )
 
@@ -44,5 +44,5 @@ run_form words status other form = let asks = run_law words form in (asks, other
 pub check_form : (words : List (String Global)) (status : ℕ) → (TakesWords words → status ≢ 2) → (model cert : List ℕ) → IsCheckForm words model cert → AsksCheck words model cert × (status ≢ 2)
 check_form words status other model cert form = let asks = check_law words model cert form in (asks, other asks.taken)
 
-pub told_law : ToldLaw
-told_law input old before new after status from run = told.told_law State (RequestStep IsAnswered) quits input old before new after status from run
+pub told_law : ShellToldLaw
+told_law input old before new after status from run = told.told_law ShellState (RequestStep IsAnswered) quits input old before new after status from run

@@ -11,7 +11,7 @@ use Rattle.rational.specs.Rational.{ℚ, int}
 use Rattle.rational.proofs.Rounding.{num_zero}
 use Rattle.frac128.specs.Range.{Fits}
 use Rattle.frac128.specs.Printing.{printed}
-use Rattle.frac128.proofs.PrintedReads.{reading_of-printed}
+use Rattle.frac_text.proofs.PrintedReads.{reading_of-printed}
 use Rattle.lp_model.specs.Program.{Program, Point, value}
 use Rattle.lp_model.specs.Lawful.{column_names}
 use Rattle.lp_model.specs.declared.types.Col.{Col}

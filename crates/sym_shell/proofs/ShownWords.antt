@@ -10,7 +10,7 @@ use Rattle.std.proofs.lemmas.List.Splits.{slice_split_none, slice_split_at}
 use Rattle.rational.specs.Rational.{ℚ, den}
 use Rattle.frac128.specs.Range.{Fits, largest}
 use Rattle.frac128.specs.Printing.{printed}
-use Rattle.frac128.proofs.Cuts.{both}
+use Rattle.frac_text.proofs.Cuts.{both}
 use Rattle.mps_model.specs.PlainNames.{IsPlainName}
 use Rattle.script_session.specs.Script.{is_newline, is_blank, is_piece, words_of}
 use Rattle.sym_shell.specs.Shown.{lines_shown}

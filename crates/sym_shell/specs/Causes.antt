@@ -9,8 +9,8 @@ use Rattle.tree_edit.specs.Sound.{PlainSearch}
 use Rattle.tree_search.specs.Causes.{IsJudgeable}
 use Rattle.tree_search.specs.Work.{cap_of}
 use Rattle.command_words.specs.Asks.{Asks, Load, Solve, Cert, Quit, Unknown, Misused, NoNumber, asks_of}
-use Rattle.sym_shell.specs.Searched.{node_limit}
-use Rattle.sym_shell.specs.State.{State}
+use Rattle.branch_tree.specs.Limits.{node_limit}
+use Rattle.sym_shell.specs.State.{ShellState}
 use Rattle.sym_shell.specs.Texts.{ok_text, unknown_text, arguments_text, no_model_text, no_answer_text, number_text, store_text, file_too_long_text, mps_text, memory_text}
 use Rattle.sym_shell.specs.Load.{HasText, IsMissing, IsTooLong, IsFaulty, Loads}
 use Rattle.sym_shell.specs.Solve.{ShowsOptimum, ShowsEmptiness, ShowsNodeStop, ShowsTreeStop, ShowsWideStop}
@@ -19,7 +19,7 @@ use Rattle.sym_shell.specs.Step.{Step}
 use Rattle.sym_shell.specs.Kinds.{Kind, Optimal, Infeasible, StoppedNodes, StoppedTree, StoppedWide, Done, UnknownCommand, WrongArguments, NoModel, WrongNumber, NoAnswer, StoreFailed, FileTooLong, FaultyText, WantsMemory, Is, IsError}
 
 -- `solve` of the model that is present, which may place `limit` results, and P of both
-pub record Solved (old : State) (words : List (List ℕ)) (P : Program → ℕ → Type 0) : Type 0 where
+pub record Solved (old : ShellState) (words : List (List ℕ)) (P : Program → ℕ → Type 0) : Type 0 where
   pub limit : ℕ
   pub model : Program
   pub asked : asks_of words ≡ Solve limit
@@ -34,7 +34,7 @@ pub record Loaded (words : List (List ℕ)) (P : List ℕ → Option ℕ → Typ
   pub is : P file intupper
 
 -- `cert` as a file, where there is a model and the answer of its finished search is held, and P of the file and the search
-pub record Certified (old : State) (words : List (List ℕ)) (P : List ℕ → PlainSearch → Type 0) : Type 0 where
+pub record Certified (old : ShellState) (words : List (List ℕ)) (P : List ℕ → PlainSearch → Type 0) : Type 0 where
   pub file : List ℕ
   pub search : PlainSearch
   pub asked : asks_of words ≡ Cert file
@@ -58,7 +58,7 @@ pub record Refused (words : List (List ℕ)) (reply : List ℕ) (asked : Asks) (
   pub told : reply ≡ text
 
 -- what a reply of each kind says for sure
-abbrev pub CauseOf : Kind → State → List (List ℕ) → List ℕ → State → Type 0
+abbrev pub CauseOf : Kind → ShellState → List (List ℕ) → List ℕ → ShellState → Type 0
 -- the headline: what is shown is an optimum of the model that is present, or it has no feasible point
 CauseOf Optimal old words reply new = Solved old words (λ M limit. ShowsOptimum M limit reply new.held)
 CauseOf Infeasible old words reply new = Solved old words (λ M limit. ShowsEmptiness M limit reply new.held)
@@ -87,7 +87,7 @@ CauseOf FaultyText old words reply new =
     Loaded words (λ file intupper. (line : ℕ) × ((code : ℕ) × ((reply ≡ mps_text line code) × HasText old.files file (IsFaulty intupper line code))))
 CauseOf WantsMemory old words reply new = reply ≡ memory_text
 
-pub record HasCauses (old : State) (words : List (List ℕ)) (reply : List ℕ) (new : State) : Type 0 where
+pub record HasCauses (old : ShellState) (words : List (List ℕ)) (reply : List ℕ) (new : ShellState) : Type 0 where
   -- each reply is of one of the kinds
   pub kind : Kind
   pub is : Is kind reply
@@ -103,6 +103,6 @@ pub record HasCauses (old : State) (words : List (List ℕ)) (reply : List ℕ) 
   pub held : (k : Kind) → IsError k → Is k reply → new.held ≡ old.held
 
 -- a step, which says what each command may be answered, and what the reply says for sure
-pub record IsAnswered (old : State) (words : List (List ℕ)) (reply : List ℕ) (new : State) : Type 0 where
+pub record IsAnswered (old : ShellState) (words : List (List ℕ)) (reply : List ℕ) (new : ShellState) : Type 0 where
   pub step : Step old words reply new
   pub causes : HasCauses old words reply new

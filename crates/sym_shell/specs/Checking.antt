@@ -10,12 +10,12 @@ use Rattle.command_words.specs.Names.{is_file_name}
 use Rattle.lp_model.specs.Program.{Program}
 use Rattle.lp_model.specs.declared.types.WideStep.{WideStep}
 use Rattle.mps_model.specs.Faults.{MeantModel}
-use Rattle.cert_check.specs.Text.{MeantCertificate as States, FaultyCertificate}
+use Rattle.cert_text.specs.Text.{MeantCertificate as States, FaultyCertificate}
 use Rattle.cert_check.specs.Verdict.{IsVerdict}
 use Rattle.cert_check.specs.Laws.{IsTrueClaim}
-use Rattle.cert_check.specs.declared.cert.Claim.{Claim}
-use Rattle.cert_check.specs.declared.cert.Claim.TheVariants.{Optimal, Infeasible}
-use Rattle.cert_check.specs.declared.cert.Cert.{Cert}
+use Rattle.cert_text.specs.declared.cert.Claim.{Claim}
+use Rattle.cert_text.specs.declared.cert.Claim.TheVariants.{Optimal, Infeasible}
+use Rattle.cert_text.specs.declared.cert.Cert.{Cert}
 use Rattle.cert_check.specs.declared.verdict.Verdict.{Verdict}
 use Rattle.cert_check.specs.declared.verdict.Verdict.TheVariants.{Accepted, Rejected, Wide}
 use Rattle.sym_shell.specs.Load.{HasText, IsMissing, IsTooLong, ReadsFile, refusal_text}

@@ -5,7 +5,7 @@ use Rattle.sym_io.specs.Files.{Files, file}
 use Rattle.sym_io.specs.declared.traits.TheConstants.{MAX_FILE_LENGTH}
 use Rattle.lp_model.specs.Program.{Program}
 use Rattle.mps_model.specs.Faults.{MeantModel, FaultyModel}
-use Rattle.sym_shell.specs.State.{State}
+use Rattle.sym_shell.specs.State.{ShellState}
 use Rattle.sym_shell.specs.Texts.{ok_text, store_text, file_too_long_text, mps_text, memory_text}
 use Rattle.sym_shell.specs.declared.reading.Refusal.{Refusal}
 use Rattle.sym_shell.specs.declared.reading.Refusal.TheVariants as refusal
@@ -46,7 +46,7 @@ refusal_text (refusal.Faulty line code) = mps_text line code
 refusal_text refusal.Memory = memory_text
 
 -- the model that the file's text means is present from now on, and no answer is held
-pub record Loads (old : State) (name : List ℕ) (intupper : Option ℕ) (reply : List ℕ) (new : State) : Type 0 where
+pub record Loads (old : ShellState) (name : List ℕ) (intupper : Option ℕ) (reply : List ℕ) (new : ShellState) : Type 0 where
   pub ok : reply ≡ ok_text
   pub model : Program
   pub read : HasText old.files name (λ text. MeantModel text intupper model)
@@ -54,7 +54,7 @@ pub record Loads (old : State) (name : List ℕ) (intupper : Option ℕ) (reply 
   pub none_held : new.held ≡ None
 
 -- the reply tells why the file's model is refused, and the model that was present stays, with the answer that is held
-pub record LoadRefused (old : State) (name : List ℕ) (intupper : Option ℕ) (reply : List ℕ) (new : State) : Type 0 where
+pub record LoadRefused (old : ShellState) (name : List ℕ) (intupper : Option ℕ) (reply : List ℕ) (new : ShellState) : Type 0 where
   pub refusal : Refusal
   pub told : reply ≡ refusal_text refusal
   pub cause : ReadsFile old.files name intupper old.faults new.faults (Err refusal)
@@ -62,7 +62,7 @@ pub record LoadRefused (old : State) (name : List ℕ) (intupper : Option ℕ) (
   pub held : new.held ≡ old.held
 
 -- The files stay. An accepted `load` replaces the model, a refused one leaves it.
-pub record LoadStep (old : State) (name : List ℕ) (intupper : Option ℕ) (reply : List ℕ) (new : State) : Type 0 where
+pub record LoadStep (old : ShellState) (name : List ℕ) (intupper : Option ℕ) (reply : List ℕ) (new : ShellState) : Type 0 where
   pub files : new.files ≡ old.files
   pub later : old.faults ≤ new.faults
   pub answer : Loads old name intupper reply new ⊎ LoadRefused old name intupper reply new

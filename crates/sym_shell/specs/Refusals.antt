@@ -3,8 +3,8 @@ use Rattle.sym_io.specs.declared.traits.StoreFault.{StoreFault}
 use Rattle.sym_io.specs.declared.traits.StoreFault.TheVariants as store
 use Rattle.mps_model.specs.declared.reader.MpsFault.{MpsFault}
 use Rattle.mps_model.specs.declared.reader.MpsFault.TheVariants as mps
-use Rattle.cert_check.specs.declared.reader.CertFault.{CertFault}
-use Rattle.cert_check.specs.declared.reader.CertFault.TheVariants as cert
+use Rattle.cert_text.specs.declared.reader.CertFault.{CertFault}
+use Rattle.cert_text.specs.declared.reader.CertFault.TheVariants as cert
 use Rattle.sym_shell.specs.declared.reading.Refusal.{Refusal}
 use Rattle.sym_shell.specs.declared.reading.Refusal.TheVariants as refusal
 

@@ -11,7 +11,7 @@ use Rattle.program_words.specs.Forms.{AskedForm, Script, Check}
 use Rattle.sym_shell.specs.Causes.{IsAnswered}
 use Rattle.sym_shell.specs.Checking.{Checks, check_status}
 use Rattle.sym_shell.specs.Shell.{quits}
-use Rattle.sym_shell.specs.State.{Present, nothing_present, State, state}
+use Rattle.sym_shell.specs.State.{Present, nothing_present, ShellState, shell_state}
 
 -- the line for words that are refused
 abbrev pub usage : List ℕ
@@ -33,12 +33,12 @@ around before after files files' faults faults' = record { before = before; afte
 -- ---- a script
 
 -- at the start no model is present
-abbrev pub start : Around → State
-start around = state nothing_present around.files around.faults
+abbrev pub start : Around → ShellState
+start around = shell_state nothing_present around.files around.faults
 
 -- what a run leaves: what the shell holds, beside what the store tells
-abbrev pub end_with : Present → Around → State
-end_with present around = state present around.files' around.faults'
+abbrev pub end_with : Present → Around → ShellState
+end_with present around = shell_state present around.files' around.faults'
 
 -- ---- a form that prints one text
 
@@ -72,6 +72,6 @@ pub record Untouched (around : Around) : Type 0 where
 -- ---- where the source tells its bytes
 
 -- a run of a source that tells its bytes is a run of those
-abbrev pub ToldLaw : Type 0
-ToldLaw = (input : List ℕ) (old : State) (before : Outside) (new : State) (after : Outside) (status : ℕ)
+abbrev pub ShellToldLaw : Type 0
+ShellToldLaw = (input : List ℕ) (old : ShellState) (before : Outside) (new : ShellState) (after : Outside) (status : ℕ)
     → before.left ≡ Some input → IsRun (RequestStep IsAnswered) quits old before new after status → IsRunOf (RequestStep IsAnswered) quits input old before new after status

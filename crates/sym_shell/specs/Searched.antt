@@ -10,10 +10,7 @@ use Rattle.tree_search.specs.Steps.{PlacesMany}
 use Rattle.tree_search.specs.declared.searching.Outcome.{Outcome}
 use Rattle.tree_search.specs.declared.searching.Outcome.TheVariants.{Optimal, Infeasible, Stopped}
 use Rattle.tree_search.specs.declared.stepping.StopWhy.{StopWhy}
-
--- how many nodes the tree of a search may have
-abbrev pub node_limit : ℕ
-node_limit = 1000000
+use Rattle.branch_tree.specs.Limits.{node_limit}
 
 -- what a search has found that began with one leaf and no point
 pub record Searches (M : Program) (limit : ℕ) (S : PlainSearch) (outcome : Outcome) : Type 0 where

@@ -4,7 +4,7 @@ use Rattle.std.specs.Prelude.{ℕ, Bool, false, ◌&&◌, List, [], ◌∷◌, m
 use Rattle.std.specs.Str.{bytes_eq}
 use Rattle.std.specs.List.{slice_split, filter}
 use Rattle.rational.specs.Rational.{ℚ, int}
-use Rattle.frac128.specs.Spelling.{Reading, Number, reading_of}
+use Rattle.frac_text.specs.Spelling.{Reading, Number, reading_of}
 use Rattle.script_session.specs.Request.{Command}
 use Rattle.script_session.specs.Script.{is_newline, words_of}
 use Rattle.lp_model.specs.Program.{Program, Point}

@@ -9,9 +9,10 @@ use Rattle.tree_edit.specs.Sound.{PlainSearch}
 use Rattle.tree_search.specs.Work.{cap_of}
 use Rattle.tree_search.specs.Working.{PointIsWide}
 use Rattle.tree_search.specs.declared.stepping.StopWhy.TheVariants.{Nodes, Tree, Wide}
-use Rattle.sym_shell.specs.Searched.{node_limit, Finished, Stops}
+use Rattle.sym_shell.specs.Searched.{Finished, Stops}
+use Rattle.branch_tree.specs.Limits.{node_limit}
 use Rattle.sym_shell.specs.Shown.{point_shown, value_shown}
-use Rattle.sym_shell.specs.State.{State}
+use Rattle.sym_shell.specs.State.{ShellState}
 use Rattle.sym_shell.specs.Texts.{no_model_text, optimal_text, infeasible_text, stopped_nodes_text, stopped_tree_text, stopped_wide_text, memory_text}
 
 -- The point that the reply shows is an optimum of the model, and the value that it shows is the point's. Both are read
@@ -87,6 +88,6 @@ SolvesHeld None limit reply before held = ((reply ≡ no_model_text) ⊎ (reply 
 SolvesHeld (Some M) limit reply before held = AnswersSolve M limit reply held
 
 -- the model and the files stay
-pub record SolveStep (old : State) (limit : ℕ) (reply : List ℕ) (new : State) : Type 0 where
+pub record SolveStep (old : ShellState) (limit : ℕ) (reply : List ℕ) (new : ShellState) : Type 0 where
   pub unchanged : new ≡ record { model = old.model; held = new.held; files = old.files; faults = old.faults }
   pub answer : SolvesHeld old.model limit reply old.held new.held

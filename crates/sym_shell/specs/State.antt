@@ -12,11 +12,11 @@ pub record Present : Type 0 where
 abbrev pub nothing_present : Present
 nothing_present = record { model = None; held = None }
 
-pub record State : Type 0 where
+pub record ShellState : Type 0 where
   pub model : Option Program
   pub held : Option PlainSearch
   pub files : Option Files
   pub faults : ℕ
 
-abbrev pub state : Present → Option Files → ℕ → State
-state present files faults = record { model = present.model; held = present.held; files = files; faults = faults }
+abbrev pub shell_state : Present → Option Files → ℕ → ShellState
+shell_state present files faults = record { model = present.model; held = present.held; files = files; faults = faults }

@@ -1,24 +1,24 @@
 -- What a command may be answered, and what it does to the state.
 use Rattle.std.specs.Prelude.{◌≡◌, ◌⊎◌, ℕ, List}
 use Rattle.command_words.specs.Asks.{Asks, Load, Solve, Cert, Quit, Unknown, Misused, NoNumber, asks_of}
-use Rattle.sym_shell.specs.State.{State}
+use Rattle.sym_shell.specs.State.{ShellState}
 use Rattle.sym_shell.specs.Texts.{ok_text, unknown_text, arguments_text, number_text, memory_text}
 use Rattle.sym_shell.specs.Load.{LoadStep}
 use Rattle.sym_shell.specs.Solve.{SolveStep}
 use Rattle.sym_shell.specs.Certify.{CertStep}
 
 -- the command is refused with this reply, or for want of memory, and nothing changes
-pub record IsRefused (old : State) (text reply : List ℕ) (new : State) : Type 0 where
+pub record IsRefused (old : ShellState) (text reply : List ℕ) (new : ShellState) : Type 0 where
   pub unchanged : new ≡ old
   pub answer : (reply ≡ text) ⊎ (reply ≡ memory_text)
 
 -- `ok`, and nothing changes
-pub record IsQuit (old : State) (reply : List ℕ) (new : State) : Type 0 where
+pub record IsQuit (old : ShellState) (reply : List ℕ) (new : ShellState) : Type 0 where
   pub unchanged : new ≡ old
   pub answer : reply ≡ ok_text
 
 -- what is asked is answered so
-abbrev pub AnswersTo : Asks → State → List ℕ → State → Type 0
+abbrev pub AnswersTo : Asks → ShellState → List ℕ → ShellState → Type 0
 AnswersTo (Load file intupper) old reply new = LoadStep old file intupper reply new
 AnswersTo (Solve limit) old reply new = SolveStep old limit reply new
 AnswersTo (Cert file) old reply new = CertStep old file reply new
@@ -28,5 +28,5 @@ AnswersTo Misused old reply new = IsRefused old arguments_text reply new
 AnswersTo (NoNumber word) old reply new = IsRefused old (number_text word) reply new
 
 -- From old, the command of these words may be answered with this reply, and leave new.
-unfoldable pub Step : State → List (List ℕ) → List ℕ → State → Type 0
+unfoldable pub Step : ShellState → List (List ℕ) → List ℕ → ShellState → Type 0
 Step old words reply new = AnswersTo (asks_of words) old reply new

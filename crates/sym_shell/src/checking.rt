@@ -1,16 +1,15 @@
 // The checking of a certificate's file against a model's.
 ghost use Rattle.std.specs.Prelude.{◌≡◌, ◌≤◌, ◌++◌, true, [], IfOk};
 ghost use Rattle.command_words.specs.Names.{is_file_name};
-ghost use Rattle.cert_check.specs.Whole.{IsCertificate};
+ghost use Rattle.cert_text.specs.Whole.{IsCertificate};
 ghost use Rattle.cert_check.specs.Verdict.{IsVerdict};
 ghost use Rattle.sym_shell.specs.Checking.{ReadsCert, cert_fault_text, cert_refusal_text, accepted_value_text, claim_text, rejected_text, wide_text, verdict_text, WritesVerdict, ChecksFiles, Checks};
 
 use crate::reading::{Refusal, read_model};
 use crate::refusals::write_refusal;
 use crate::stops::write_place;
-use cert_check::{
-    Cert, CertFault, Claim, RegionBuf, Verdict, accepted_law, check, read_cert, verdict_law,
-};
+use cert_check::{RegionBuf, Verdict, accepted_law, check, verdict_law};
+use cert_text::{Cert, CertFault, Claim, read_cert};
 use command_words::is_file_name_word;
 use frac128::Frac;
 use lp_model::{Model, WideStep};

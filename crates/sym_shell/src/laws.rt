@@ -1,7 +1,7 @@
 // What the clauses of `run` come to, as clauses of calls that do nothing.
-ghost use Rattle.sym_shell.specs.Run.{ToldLaw};
+ghost use Rattle.sym_shell.specs.Run.{ShellToldLaw};
 
 /// A run of a source that tells its bytes has answered those, what it had not yet taken among them.
 pub fn told_law()
-    ensures { ToldLaw }
+    ensures { ShellToldLaw }
 {}

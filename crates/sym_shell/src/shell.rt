@@ -5,7 +5,7 @@ ghost use Rattle.mps_model.specs.PlainNames.{HasPlainNames, HasPlainRows};
 ghost use Rattle.command_words.specs.Names.{is_file_name};
 ghost use Rattle.command_words.specs.Asks.{asks_shown, NamesFile};
 ghost use Rattle.sym_shell.specs.Texts.{ok_text, memory_text};
-ghost use Rattle.sym_shell.specs.State.{state};
+ghost use Rattle.sym_shell.specs.State.{shell_state};
 ghost use Rattle.sym_shell.specs.Held.{present_of};
 ghost use Rattle.sym_shell.specs.Load.{LoadStep};
 ghost use Rattle.sym_shell.specs.Solve.{SolvesHeld, AnswersSolve};
@@ -74,9 +74,9 @@ impl Shell {
     ) -> Result<(), AllocError>
         requires name { is_file_name name.now ≡ true }
         requires empty { reply.old.items ≡ [] }
-        ensures answered { OnOk result (LoadStep (state (present self.old) (S.files store.old) (S.faults store.old)) name.now intupper reply.new.items
+        ensures answered { OnOk result (LoadStep (shell_state (present self.old) (S.files store.old) (S.faults store.old)) name.now intupper reply.new.items
             (state (present self.new) (S.files store.new) (S.faults store.new))) }
-        ensures unfinished { OnErr result (LoadStep (state (present self.old) (S.files store.old) (S.faults store.old)) name.now intupper memory_text
+        ensures unfinished { OnErr result (LoadStep (shell_state (present self.old) (S.files store.old) (S.faults store.old)) name.now intupper memory_text
             (state (present self.new) (S.files store.new) (S.faults store.new))) }
         ensures store_later { S.faults store.old ≤ S.faults store.new }
     {
@@ -109,9 +109,9 @@ impl Shell {
     ) -> Result<(), AllocError>
         requires name { is_file_name name.now ≡ true }
         requires empty { reply.old.items ≡ [] }
-        ensures answered { OnOk result (CertStep (state (present self.now) (S.files store.old) (S.faults store.old)) name.now reply.new.items
+        ensures answered { OnOk result (CertStep (shell_state (present self.now) (S.files store.old) (S.faults store.old)) name.now reply.new.items
             (state (present self.now) (S.files store.new) (S.faults store.new))) }
-        ensures unfinished { OnErr result (CertStep (state (present self.now) (S.files store.old) (S.faults store.old)) name.now memory_text
+        ensures unfinished { OnErr result (CertStep (shell_state (present self.now) (S.files store.old) (S.faults store.old)) name.now memory_text
             (state (present self.now) (S.files store.new) (S.faults store.new))) }
         ensures store_later { S.faults store.old ≤ S.faults store.new }
     {
@@ -134,9 +134,9 @@ impl Shell {
     ) -> Result<(), AllocError>
         requires named { NamesFile (asks_shown asked) }
         requires empty { reply.old.items ≡ [] }
-        ensures answered { OnOk result (AnswersTo (asks_shown asked.entry) (state (present self.old) (S.files store.old) (S.faults store.old)) reply.new.items
+        ensures answered { OnOk result (AnswersTo (asks_shown asked.entry) (shell_state (present self.old) (S.files store.old) (S.faults store.old)) reply.new.items
             (state (present self.new) (S.files store.new) (S.faults store.new))) }
-        ensures unfinished { OnErr result ((bytes : List ℕ) × AnswersTo (asks_shown asked.entry) (state (present self.old) (S.files store.old) (S.faults store.old)) bytes
+        ensures unfinished { OnErr result ((bytes : List ℕ) × AnswersTo (asks_shown asked.entry) (shell_state (present self.old) (S.files store.old) (S.faults store.old)) bytes
             (state (present self.new) (S.files store.new) (S.faults store.new))) }
         ensures store_later { S.faults store.old ≤ S.faults store.new }
     {

@@ -11,35 +11,36 @@ use Rattle.rational.proofs.RationalRing.{ring, reads_ℚ}
 use Rattle.lp_model.specs.declared.types.Sense.{Sense}
 use Rattle.lp_model.specs.declared.types.Sense.TheVariants.{Min, Max}
 use Rattle.lp_model.specs.Regions.{Path, IsEmptyRegion}
+use Rattle.lp_model.specs.Formulations.{without_cuts}
 use Rattle.leaf_dual.specs.Dual.{Multipliers}
 use Rattle.branch_tree.specs.Tree.{Leaf, Split, left_path, right_path, SplitsLawfully, HasNarrowSplits, EachLeaf}
 use Rattle.branch_tree.specs.Plain.{Plain}
 use Rattle.branch_tree.specs.declared.node.LeafState.TheVariants.{IsClosed}
 use Rattle.branch_tree.specs.declared.node.LeafData.{LeafData}
-use Rattle.tree_edit.specs.declared.judging.LeafNumber.{LeafNumber}
-use Rattle.tree_edit.specs.declared.judging.LeafNumber.TheVariants as number
-use Rattle.tree_edit.specs.Closing.{IsRefuted, IsNumber, NumberCloses, StateSays, IsJudgedLeaf}
+use Rattle.leaf_judging.specs.declared.closing.LeafNumber.{LeafNumber}
+use Rattle.leaf_judging.specs.declared.closing.LeafNumber.TheVariants as number
+use Rattle.leaf_judging.specs.Closing.{IsRefuted, IsNumber, NumberCloses, StateSays, IsJudgedLeaf}
 use Rattle.tree_edit.specs.Laws.{HasNoOpenLeaf}
 use Rattle.tree_edit.specs.Lists.{HasLists, HasNodeLists}
 use Rattle.tree_edit.specs.Points.{IsKeepable, target, IsIncumbent, IsIncumbentAt}
 use Rattle.tree_edit.specs.Sound.{PlainSearch, IsSound}
 use Rattle.tree_edit.proofs.PointLemmas.{target-at}
-use Rattle.cert_check.specs.declared.cert.Claim.{Claim}
-use Rattle.cert_check.specs.declared.cert.Claim.TheVariants.{Optimal, Infeasible}
-use Rattle.cert_check.specs.declared.cert.CertLeaf.{CertLeaf}
-use Rattle.cert_check.specs.declared.cert.CertLeaf.TheVariants.{Bound, Farkas, Empty}
-use Rattle.cert_check.specs.declared.cert.CertNode.{CertNode}
-use Rattle.cert_check.specs.declared.cert.CertNode.TheVariants as node
-use Rattle.cert_check.specs.declared.cert.Cert.{Cert}
+use Rattle.cert_text.specs.declared.cert.Claim.{Claim}
+use Rattle.cert_text.specs.declared.cert.Claim.TheVariants.{Optimal, Infeasible}
+use Rattle.cert_text.specs.declared.cert.CertNode.{CertNode}
+use Rattle.cert_text.specs.declared.cert.CertNode.TheVariants as node
+use Rattle.cert_text.specs.declared.cert.Cert.{Cert}
 use Rattle.cert_check.specs.declared.verdict.Judgement.TheVariants.{Passes}
 use Rattle.cert_check.specs.declared.verdict.Verdict.TheVariants.{Accepted}
-use Rattle.cert_check.specs.Accepted.{names_of_rows}
-use Rattle.cert_check.specs.Tree.{CertTree, preorder, place_among}
-use Rattle.cert_check.specs.Tree.{Leaf as CertLeafTree, Split as CertSplitTree}
-use Rattle.cert_check.specs.Verdict.{IsNumberJudged, IsFarkasJudged, IsLeafJudged, IsPointJudged, IsClaimJudged, visits, IsVisitJudged, IsVerdict}
-use Rattle.cert_check.specs.Whole.{IsNarrowNode, HasNoPoint, IsCertificate}
+use Rattle.cert_text.specs.Tree.{CertTree, certificate_nodes}
+use Rattle.cert_text.specs.Tree.{Bound as CertBound, Farkas as CertFarkas, Empty as CertEmpty, Split as CertSplit}
+use Rattle.cert_check.specs.Places.{place_among}
+use Rattle.lp_model.specs.Edits.{only_row_names}
+use Rattle.cert_check.specs.Verdict.{IsNumberJudged, IsFarkasJudged, IsNodeJudged, IsPointJudged, IsClaimJudged, visits, IsVisitJudged, IsVerdict}
+use Rattle.cert_text.specs.Whole.{IsNarrowNode, HasNoPoint, IsCertificate}
 use Rattle.cert_check.proofs.PlaceLemmas.{rows_differ}
-use Rattle.tree_cert.specs.Certificates.{column_name, claim_of, point_numbers, IsReason, IsTreeOf, IsCertificateOf}
+use Rattle.tree_cert.specs.Certificates.{claim_of, point_numbers, IsReason, IsTreeOf, IsCertificateOf}
+use Rattle.lp_model.specs.Lawful.{column_name}
 use Rattle.tree_cert.proofs.NameLaws.{all_cons, all_none, column_place, column_there, rows_read, rows_named, numbers_named, numbers_read}
 
 -- ---- values
@@ -74,15 +75,15 @@ claim_none M points (Some x) e (k, at) = absurd (let f : None ≡ Some (least_va
 -- ---- leaves
 
 module _ (M : Program) (lawful_model : IsLawfulModel M) where
-  rows_once : AllPairs (λ a b. a ≢ b) (names_of_rows M)
+  rows_once : AllPairs (λ a b. a ≢ b) (only_row_names M)
   rows_once = rows_differ M lawful_model.rows_distinct
 
-  refuted-passes : (path : Path) (mult : Multipliers) → IsRefuted M path mult → IsFarkasJudged M path mult Passes
+  refuted-passes : (path : Path) (mult : Multipliers) → IsRefuted (without_cuts M) path mult → IsFarkasJudged (without_cuts M) path mult Passes
   refuted-passes path [] h = absurd h
   refuted-passes path (m ∷ mult) h = h
 
-  number-passes : (t : Option ℚ) (claim : Claim) → IsClaimFor M t claim → (path : Path) (kept : LeafData) (n : LeafNumber) → IsNumber M path kept.mult kept.farkas n → NumberCloses M t n →
-      (¬ IsEmptyRegion M path) → (¬ IsRefuted M path kept.farkas) → IsNumberJudged M claim path kept.mult Passes
+  number-passes : (t : Option ℚ) (claim : Claim) → IsClaimFor M t claim → (path : Path) (kept : LeafData) (n : LeafNumber) → IsNumber (without_cuts M) path kept.mult kept.farkas n → NumberCloses M t n →
+      (¬ IsEmptyRegion M path) → (¬ IsRefuted (without_cuts M) path kept.farkas) → IsNumberJudged (without_cuts M) claim path kept.mult Passes
   number-passes t claim for path kept number.Empty is closes some stands =
       absurd (
       elim is [
@@ -94,17 +95,18 @@ module _ (M : Program) (lawful_model : IsLawfulModel M) where
   number-passes t Infeasible for path kept (number.Lag q) is closes some stands = absurd (subst (λ u. NumberCloses M u (number.Lag q)) for closes)
   number-passes t claim for path kept (number.Wide step) is closes some stands = absurd closes
 
-  leaf-passes : (t : Option ℚ) (claim : Claim) → IsClaimFor M t claim → (path : Path) (kept : LeafData) (leaf : CertLeaf) → HasLists M kept → IsJudgedLeaf M t path kept → kept.state ≡ IsClosed → IsReason M path kept leaf → IsLeafJudged M claim path leaf Passes
-  leaf-passes t claim for path kept Empty lists judged closed reason = reason
-  leaf-passes t claim for path kept (Farkas named) lists judged closed reason =
-      subst (λ ns. IsLeafJudged M claim path (Farkas ns) Passes) (sym reason.1.1)
-      (inl (rows_named M rows_once kept.farkas lists.farkas, subst (λ mult. IsFarkasJudged M path mult Passes) (sym (rows_read M rows_once kept.farkas lists.farkas.each)) (refuted-passes path kept.farkas reason.1.0)))
-  leaf-passes t claim for path kept (Bound named) lists judged closed reason =
+  leaf-passes : (t : Option ℚ) (claim : Claim) → IsClaimFor M t claim → (path : Path) (kept : LeafData) (n : CertNode) → HasLists (without_cuts M) kept → IsJudgedLeaf (without_cuts M) t path kept → kept.state ≡ IsClosed → IsReason M path kept n → IsNodeJudged (without_cuts M) claim path n Passes
+  leaf-passes t claim for path kept (node.Split col w) lists judged closed reason = absurd reason
+  leaf-passes t claim for path kept node.Empty lists judged closed reason = reason
+  leaf-passes t claim for path kept (node.Farkas mults) lists judged closed reason =
+      subst (λ ms. IsNodeJudged (without_cuts M) claim path (node.Farkas ms) Passes) (sym reason.1.1)
+      (inl (rows_named M rows_once kept.farkas lists.farkas, subst (λ mult. IsFarkasJudged (without_cuts M) path mult Passes) (sym (rows_read M rows_once kept.farkas lists.farkas.each)) (refuted-passes path kept.farkas reason.1.0)))
+  leaf-passes t claim for path kept (node.Bound mults) lists judged closed reason =
       let closes = subst (λ s. StateSays s (NumberCloses M t judged.number)) closed judged.says in
-      subst (λ ns. IsLeafJudged M claim path (Bound ns) Passes) (sym reason.1.1)
+      subst (λ ms. IsNodeJudged (without_cuts M) claim path (node.Bound ms) Passes) (sym reason.1.1)
       (inl (
         rows_named M rows_once kept.mult lists.mult,
-        subst (λ mult. IsNumberJudged M claim path mult Passes) (sym (rows_read M rows_once kept.mult lists.mult.each)) (number-passes t claim for path kept judged.number judged.number_is closes reason.0 reason.1.0),
+        subst (λ mult. IsNumberJudged (without_cuts M) claim path mult Passes) (sym (rows_read M rows_once kept.mult lists.mult.each)) (number-passes t claim for path kept judged.number judged.number_is closes reason.0 reason.1.0),
       ))
 
   -- ---- the tree
@@ -113,13 +115,20 @@ module _ (M : Program) (lawful_model : IsLawfulModel M) where
     abbrev P : (Path × CertNode) → Type 0
     P p = IsVisitJudged M claim p Passes
 
-    pub tree-passes : (path : Path) (s : Plain) (tree : CertTree) → SplitsLawfully M s → HasNodeLists M s → EachLeaf (λ p l. IsJudgedLeaf M t p l.kept) path s → EachLeaf (λ p l. l.kept.state ≡ IsClosed) path s → IsTreeOf M path s tree → All P (visits M path tree)
-    tree-passes path (Leaf l) (CertLeafTree leaf) lawful lists judged closed like = all_cons P (path, node.Leaf leaf) [] (leaf-passes t claim for path l.kept leaf lists judged closed like) (all_none P)
-    tree-passes path (Leaf l) (CertSplitTree col w first second) lawful lists judged closed like = absurd like
-    tree-passes path (Split kept j v left right) (CertLeafTree leaf) lawful lists judged closed like = absurd like
-    tree-passes path (Split kept j v left right) (CertSplitTree col w first second) lawful lists judged closed like =
-        subst (λ name. All P (visits M path (CertSplitTree name w first second))) (sym like.0)
-        (subst (λ u. All P (visits M path (CertSplitTree (column_name M j) u first second))) (sym like.1.0)
+    leaf-node : (path : Path) (kept : LeafData) (n : CertNode) → HasLists (without_cuts M) kept → IsJudgedLeaf (without_cuts M) t path kept → kept.state ≡ IsClosed → IsReason M path kept n → All P ((path, n) ∷ [])
+    leaf-node path kept n lists judged closed reason = all_cons P (path, n) [] (leaf-passes t claim for path kept n lists judged closed reason) (all_none P)
+
+    pub tree-passes : (path : Path) (s : Plain) (tree : CertTree) → SplitsLawfully M s → HasNodeLists (without_cuts M) s → EachLeaf (λ p l. IsJudgedLeaf (without_cuts M) t p l.kept) path s → EachLeaf (λ p l. l.kept.state ≡ IsClosed) path s → IsTreeOf M path s tree → All P (visits M path tree)
+    tree-passes path (Leaf l) (CertBound mults) lawful lists judged closed like = leaf-node path l.kept (node.Bound mults) lists judged closed like
+    tree-passes path (Leaf l) (CertFarkas mults) lawful lists judged closed like = leaf-node path l.kept (node.Farkas mults) lists judged closed like
+    tree-passes path (Leaf l) CertEmpty lawful lists judged closed like = leaf-node path l.kept node.Empty lists judged closed like
+    tree-passes path (Leaf l) (CertSplit col w first second) lawful lists judged closed like = absurd like
+    tree-passes path (Split kept j v left right) (CertBound mults) lawful lists judged closed like = absurd like
+    tree-passes path (Split kept j v left right) (CertFarkas mults) lawful lists judged closed like = absurd like
+    tree-passes path (Split kept j v left right) CertEmpty lawful lists judged closed like = absurd like
+    tree-passes path (Split kept j v left right) (CertSplit col w first second) lawful lists judged closed like =
+        subst (λ name. All P (visits M path (CertSplit name w first second))) (sym like.0)
+        (subst (λ u. All P (visits M path (CertSplit (column_name M j) u first second))) (sym like.1.0)
         (all_cons P (path, node.Split (column_name M j) v) (below (place_among (column_names M) (column_name M j)))
         (inl (column_there M columns_once j lawful.0.0, subst (λ k. IsTrue (is_integer M k)) (sym place) lawful.0.1))
         (subst (λ k. All P (below k)) (sym place)
@@ -135,13 +144,17 @@ module _ (M : Program) (lawful_model : IsLawfulModel M) where
         place : place_among (column_names M) (column_name M j) ≡ j
         place = column_place M columns_once j lawful.0.0
 
-narrow-tree : (M : Program) (path : Path) (s : Plain) (tree : CertTree) → HasNarrowSplits s → IsTreeOf M path s tree → All IsNarrowNode (preorder tree)
-narrow-tree M path (Leaf l) (CertLeafTree leaf) narrow like = all_cons IsNarrowNode (node.Leaf leaf) [] tt (all_none IsNarrowNode)
-narrow-tree M path (Leaf l) (CertSplitTree col w first second) narrow like = absurd like
-narrow-tree M path (Split kept j v left right) (CertLeafTree leaf) narrow like = absurd like
-narrow-tree M path (Split kept j v left right) (CertSplitTree col w first second) narrow like =
-    all_cons IsNarrowNode (node.Split col w) (preorder first ++ preorder second) (subst (λ u. IsNarrowNode (node.Split col u)) (sym like.1.0) narrow.0)
-    (All-append IsNarrowNode (preorder first) (preorder second) (narrow-tree M (left_path path j v) left first narrow.1.0 like.1.1.0) (narrow-tree M (right_path path j v) right second narrow.1.1 like.1.1.1))
+narrow-tree : (M : Program) (path : Path) (s : Plain) (tree : CertTree) → HasNarrowSplits s → IsTreeOf M path s tree → All IsNarrowNode (certificate_nodes tree)
+narrow-tree M path (Leaf l) (CertBound mults) narrow like = all_cons IsNarrowNode (node.Bound mults) [] tt (all_none IsNarrowNode)
+narrow-tree M path (Leaf l) (CertFarkas mults) narrow like = all_cons IsNarrowNode (node.Farkas mults) [] tt (all_none IsNarrowNode)
+narrow-tree M path (Leaf l) CertEmpty narrow like = all_cons IsNarrowNode node.Empty [] tt (all_none IsNarrowNode)
+narrow-tree M path (Leaf l) (CertSplit col w first second) narrow like = absurd like
+narrow-tree M path (Split kept j v left right) (CertBound mults) narrow like = absurd like
+narrow-tree M path (Split kept j v left right) (CertFarkas mults) narrow like = absurd like
+narrow-tree M path (Split kept j v left right) CertEmpty narrow like = absurd like
+narrow-tree M path (Split kept j v left right) (CertSplit col w first second) narrow like =
+    all_cons IsNarrowNode (node.Split col w) (certificate_nodes first ++ certificate_nodes second) (subst (λ u. IsNarrowNode (node.Split col u)) (sym like.1.0) narrow.0)
+    (All-append IsNarrowNode (certificate_nodes first) (certificate_nodes second) (narrow-tree M (left_path path j v) left first narrow.1.0 like.1.1.0) (narrow-tree M (right_path path j v) right second narrow.1.1 like.1.1.1))
 
 -- ---- points and certificates
 

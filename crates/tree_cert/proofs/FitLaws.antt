@@ -5,12 +5,12 @@ use Rattle.std.specs.List.{list_any, before_first, after_first}
 use Rattle.std.proofs.lemmas.Bool.Decides.{nat_tests}
 use Rattle.rational.specs.Rational.{ℚ, int, ◌/ℚ◌}
 use Rattle.frac128.specs.Range.{Fits, largest}
-use Rattle.frac128.specs.Spelling.{Reading, Number, Wide, NoNumber, are_digits, is_slash, is_minus, without_sign, value_of, coefficient_of, power_of, mantissa, exponent, exponent_text, point_digits, is_decimal, is_quotient, scaled, signed, scaled_reading, decimal_reading, quotient_reading, slash_reading, plain_reading, unsigned_reading, reading_of}
-use Rattle.frac128.specs.Parsing.{parsed}
-use Rattle.frac128.specs.declared.parse.NumFault.{NumFault}
-use Rattle.frac128.proofs.ParseTerms.{fits_quotient, ten_to}
+use Rattle.frac_text.specs.Spelling.{Reading, Number, Wide, NoNumber, are_digits, is_slash, is_minus, without_sign, value_of, coefficient_of, power_of, mantissa, exponent, exponent_text, point_digits, is_decimal, is_quotient, scaled, signed, scaled_reading, decimal_reading, quotient_reading, slash_reading, plain_reading, unsigned_reading, reading_of}
+use Rattle.frac_text.specs.Parsing.{parsed}
+use Rattle.frac_text.specs.declared.parsing.NumFault.{NumFault}
+use Rattle.frac_text.proofs.ParseTerms.{fits_quotient, ten_to}
 use Rattle.frac128.proofs.Whole.{Fits-int, Fits-neg}
-use Rattle.cert_check.specs.Lines.{number_of}
+use Rattle.frac_text.specs.Parsing.{spelled_number}
 
 abbrev pub ReadingFits : Reading → Type 0
 ReadingFits (Number x) = Fits x
@@ -102,7 +102,7 @@ reading-fits : (bytes : List ℕ) → ReadingFits (reading_of bytes)
 unfolding reading_of
 reading-fits bytes = unsigned-fits (is_minus bytes) (without_sign bytes)
 
-pub number-fits : (field : List ℕ) → FitsOk (number_of field)
+pub number-fits : (field : List ℕ) → FitsOk (spelled_number field)
 number-fits field = by (reading_of field) (reading-fits field)
   where
     by : (r : Reading) → ReadingFits r → FitsOk (parsed r)

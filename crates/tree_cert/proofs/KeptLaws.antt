@@ -5,18 +5,18 @@ use Rattle.std.proofs.lemmas.Bool.Decides.{Decides-eqb}
 use Rattle.std.proofs.lemmas.List.{take_all}
 use Rattle.std.proofs.lemmas.List.Elements.{All-nil, All-cons, All-head, All-append}
 use Rattle.lp_model.specs.Edits.{Named}
-use Rattle.cert_check.specs.declared.cert.Claim.{Claim}
-use Rattle.cert_check.specs.declared.cert.Claim.TheVariants.{Optimal, Infeasible}
-use Rattle.cert_check.specs.declared.cert.CertNode.{CertNode}
-use Rattle.cert_check.specs.declared.cert.Cert.{Cert}
-use Rattle.cert_check.specs.declared.line.Statement.{Statement}
-use Rattle.cert_check.specs.declared.line.Statement.TheVariants as says
-use Rattle.cert_check.specs.Lines.{lines_of, line_says}
-use Rattle.cert_check.specs.Reading.{after}
-use Rattle.cert_check.specs.Text.{StatedCertificate, stated, due_after, is_whole_tree, are_none, takes_point, lacks_part, place_code, code_in, code_at, AreClean, or_no_end, end_code, first_claim, first_point, cert_of, MeantCertificate}
-use Rattle.cert_check.specs.Whole.{TakesAll, IsNarrowNode, HasNoPoint, IsCertificate}
-use Rattle.cert_check.proofs.DueLemmas.{takes-more, whole_tree}
-use Rattle.cert_check.proofs.TextLemmas.{taken_more}
+use Rattle.cert_text.specs.declared.cert.Claim.{Claim}
+use Rattle.cert_text.specs.declared.cert.Claim.TheVariants.{Optimal, Infeasible}
+use Rattle.cert_text.specs.declared.cert.CertNode.{CertNode}
+use Rattle.cert_text.specs.declared.cert.Cert.{Cert}
+use Rattle.cert_text.specs.declared.line.Statement.{Statement}
+use Rattle.cert_text.specs.declared.line.Statement.TheVariants as says
+use Rattle.cert_text.specs.Lines.{lines_of, line_says}
+use Rattle.cert_text.specs.Reading.{after}
+use Rattle.cert_text.specs.Text.{StatedCertificate, stated, due_after, is_whole_tree, are_none, takes_point, lacks_part, place_code, code_in, code_at, AreClean, or_no_end, end_code, first_claim, first_point, cert_of, MeantCertificate}
+use Rattle.cert_text.specs.Whole.{TakesAll, IsNarrowNode, HasNoPoint, IsCertificate}
+use Rattle.cert_text.proofs.DueLemmas.{takes-more, whole_tree}
+use Rattle.cert_text.proofs.TextLemmas.{taken_more}
 use Rattle.tree_cert.specs.CertText.{IsWord, HasNodeWords, HasCertWords, cert_text}
 use Rattle.tree_cert.specs.Printed.{HasFractions, HasClaimRoom, HasPointRoom, HasNodeRoom, HasCertRoom}
 use Rattle.tree_cert.proofs.WordLaws.{OneLine}

@@ -7,6 +7,7 @@ use Rattle.rational.specs.Rational.{ℚ}
 use Rattle.lp_model.specs.Program.{Program, Point}
 use Rattle.lp_model.specs.Edits.{is_zero}
 use Rattle.lp_model.specs.Regions.{Path}
+use Rattle.lp_model.specs.Formulations.{without_cuts}
 use Rattle.lp_model.specs.declared.types.Col.{Col}
 use Rattle.lp_model.specs.declared.types.Var.{Var}
 use Rattle.lp_model.specs.declared.types.Var.TheVariants.{Row, Col as ColVar, Cut}
@@ -14,16 +15,16 @@ use Rattle.leaf_dual.specs.Dual.{Multipliers}
 use Rattle.branch_tree.specs.Tree.{Leaf, Split, left_path, right_path, SplitsLawfully}
 use Rattle.branch_tree.specs.Plain.{Plain}
 use Rattle.branch_tree.specs.declared.node.LeafData.{LeafData}
-use Rattle.tree_edit.specs.Lists.{IsRowThere, HasLists, HasNodeLists}
+use Rattle.tree_edit.specs.Lists.{IsActivityThere, HasLists, HasNodeLists}
 use Rattle.tree_edit.specs.Sound.{PlainSearch, IsSound}
-use Rattle.cert_check.specs.declared.cert.CertLeaf.{CertLeaf}
-use Rattle.cert_check.specs.declared.cert.CertLeaf.TheVariants.{Bound, Farkas, Empty}
-use Rattle.cert_check.specs.declared.cert.CertNode.TheVariants as node
-use Rattle.cert_check.specs.declared.cert.Cert.{Cert}
-use Rattle.cert_check.specs.Tree.{CertTree, preorder}
-use Rattle.cert_check.specs.Tree.{Leaf as CertLeafTree, Split as CertSplitTree}
-use Rattle.tree_cert.specs.Certificates.{column_name, row_name, named_rows, nonzero_numbers, point_numbers, IsReason, IsTreeOf, IsCertificateOf}
-use Rattle.tree_cert.specs.CertText.{IsWord, HasWords, HasLeafWords, HasNodeWords, HasCertWords, HasWordNames}
+use Rattle.cert_text.specs.declared.cert.CertNode.{CertNode}
+use Rattle.cert_text.specs.declared.cert.CertNode.TheVariants as node
+use Rattle.cert_text.specs.declared.cert.Cert.{Cert}
+use Rattle.cert_text.specs.Tree.{CertTree, certificate_nodes}
+use Rattle.cert_text.specs.Tree.{Bound as CertBound, Farkas as CertFarkas, Empty as CertEmpty, Split as CertSplit}
+use Rattle.tree_cert.specs.Certificates.{activity_name, named_mult, row_mults, nonzero_numbers, point_numbers, IsReason, IsTreeOf, IsCertificateOf}
+use Rattle.lp_model.specs.Lawful.{column_name}
+use Rattle.tree_cert.specs.CertText.{IsWord, HasWords, IsMultWord, HasNodeWords, HasCertWords, HasWordNames}
 use Rattle.tree_cert.proofs.NameLaws.{element-get}
 
 abbrev Worded : List ℕ × ℚ → Type 0
@@ -33,29 +34,37 @@ module _ (M : Program) (plain : HasWordNames M) where
   column-word : (j : ℕ) → j < length M.cols → IsWord (column_name M j)
   column-word j there = subst IsWord (element-get [] (λ c. c.name) M.cols j) (plain.columns j [] (let l = length-map M.cols (λ c. c.name) in omega (arith, l, there)))
 
-  row-word : (m : Var) → IsRowThere M m → IsWord (row_name M m)
+  row-word : (m : Var) → IsActivityThere (without_cuts M) m → IsWord (activity_name M m)
   row-word (Row row) there = subst IsWord (element-get [] (λ r. r.name) M.rows row.0) (plain.rows row.0 [] (let l = length-map M.rows (λ r. r.name) in omega (arith, l, there)))
   row-word (ColVar col) there = absurd there
-  row-word (Cut cut) there = absurd there
+  row-word (Cut cut) there = let h : cut.0 < 0 = there in absurd (omega arith)
 
-  rows-words : (mult : Multipliers) → All (IsRowThere M) (map (λ (m : Var × ℚ). m.0) mult) → HasWords (named_rows M mult)
-  rows-words [] there = All-nil Worded
+  rows-words : (mult : Multipliers) → All (IsActivityThere (without_cuts M)) (map (λ (m : Var × ℚ). m.0) mult) → All IsMultWord (row_mults M mult)
+  rows-words [] there = All-nil IsMultWord
   rows-words (m ∷ mult) there =
-      All-cons Worded (row_name M m.0, m.1) (named_rows M mult) (row-word m.0 (All-head (IsRowThere M) m.0 (map (λ (m : Var × ℚ). m.0) mult) there))
-      (rows-words mult (All-tail (IsRowThere M) m.0 (map (λ (m : Var × ℚ). m.0) mult) there))
+      All-cons IsMultWord (named_mult M m) (row_mults M mult) (row-word m.0 (All-head (IsActivityThere (without_cuts M)) m.0 (map (λ (m : Var × ℚ). m.0) mult) there))
+      (rows-words mult (All-tail (IsActivityThere (without_cuts M)) m.0 (map (λ (m : Var × ℚ). m.0) mult) there))
 
-  leaf-words : (path : Path) (kept : LeafData) (leaf : CertLeaf) → HasLists M kept → IsReason M path kept leaf → HasLeafWords leaf
-  leaf-words path kept Empty lists reason = tt
-  leaf-words path kept (Farkas named) lists reason = subst HasWords (sym reason.1.1) (rows-words kept.farkas lists.farkas.each)
-  leaf-words path kept (Bound named) lists reason = subst HasWords (sym reason.1.1) (rows-words kept.mult lists.mult.each)
+  leaf-words : (path : Path) (kept : LeafData) (n : CertNode) → HasLists (without_cuts M) kept → IsReason M path kept n → HasNodeWords n
+  leaf-words path kept node.Empty lists reason = tt
+  leaf-words path kept (node.Farkas mults) lists reason = subst (All IsMultWord) (sym reason.1.1) (rows-words kept.farkas lists.farkas.each)
+  leaf-words path kept (node.Bound mults) lists reason = subst (All IsMultWord) (sym reason.1.1) (rows-words kept.mult lists.mult.each)
+  leaf-words path kept (node.Split col v) lists reason = absurd reason
 
-  tree-words : (path : Path) (s : Plain) (tree : CertTree) → SplitsLawfully M s → HasNodeLists M s → IsTreeOf M path s tree → All HasNodeWords (preorder tree)
-  tree-words path (Leaf l) (CertLeafTree leaf) lawful lists like = All-cons HasNodeWords (node.Leaf leaf) [] (leaf-words path l.kept leaf lists like) (All-nil HasNodeWords)
-  tree-words path (Leaf l) (CertSplitTree col w first second) lawful lists like = absurd like
-  tree-words path (Split kept j v left right) (CertLeafTree leaf) lawful lists like = absurd like
-  tree-words path (Split kept j v left right) (CertSplitTree col w first second) lawful lists like =
-      All-cons HasNodeWords (node.Split col w) (preorder first ++ preorder second) (subst IsWord (sym like.0) (column-word j lawful.0.0))
-      (All-append HasNodeWords (preorder first) (preorder second) (tree-words (left_path path j v) left first lawful.1.0 lists.1.0 like.1.1.0) (tree-words (right_path path j v) right second lawful.1.1 lists.1.1 like.1.1.1))
+  leaf-nodes : (path : Path) (kept : LeafData) (n : CertNode) → HasLists (without_cuts M) kept → IsReason M path kept n → All HasNodeWords (n ∷ [])
+  leaf-nodes path kept n lists reason = All-cons HasNodeWords n [] (leaf-words path kept n lists reason) (All-nil HasNodeWords)
+
+  tree-words : (path : Path) (s : Plain) (tree : CertTree) → SplitsLawfully M s → HasNodeLists (without_cuts M) s → IsTreeOf M path s tree → All HasNodeWords (certificate_nodes tree)
+  tree-words path (Leaf l) (CertBound mults) lawful lists like = leaf-nodes path l.kept (node.Bound mults) lists like
+  tree-words path (Leaf l) (CertFarkas mults) lawful lists like = leaf-nodes path l.kept (node.Farkas mults) lists like
+  tree-words path (Leaf l) CertEmpty lawful lists like = leaf-nodes path l.kept node.Empty lists like
+  tree-words path (Leaf l) (CertSplit col w first second) lawful lists like = absurd like
+  tree-words path (Split kept j v left right) (CertBound mults) lawful lists like = absurd like
+  tree-words path (Split kept j v left right) (CertFarkas mults) lawful lists like = absurd like
+  tree-words path (Split kept j v left right) CertEmpty lawful lists like = absurd like
+  tree-words path (Split kept j v left right) (CertSplit col w first second) lawful lists like =
+      All-cons HasNodeWords (node.Split col w) (certificate_nodes first ++ certificate_nodes second) (subst IsWord (sym like.0) (column-word j lawful.0.0))
+      (All-append HasNodeWords (certificate_nodes first) (certificate_nodes second) (tree-words (left_path path j v) left first lawful.1.0 lists.1.0 like.1.1.0) (tree-words (right_path path j v) right second lawful.1.1 lists.1.1 like.1.1.1))
 
 numbers-words : (cols : List Col) (x : Point) → All IsWord (map (λ c. c.name) cols) → HasWords (nonzero_numbers cols x)
 numbers-words [] x plain = All-nil Worded

@@ -9,36 +9,37 @@ use Rattle.std.proofs.lemmas.Int.{ints}
 use Rattle.std.proofs.lemmas.List.Elements.{All-nil, All-cons, All-head, All-tail}
 use Rattle.rational.specs.Rational.{ℚ, int}
 use Rattle.frac128.specs.Range.{Fits, IsNarrow}
-use Rattle.frac128.specs.Parsing.{parsed}
+use Rattle.frac_text.specs.Parsing.{parsed}
 use Rattle.frac128.specs.Printing.{printed}
 use Rattle.frac128.proofs.Printed.{printed-int}
-use Rattle.frac128.proofs.PrintedReads.{reading_of-printed}
+use Rattle.frac_text.proofs.PrintedReads.{reading_of-printed}
 use Rattle.frac128.proofs.Whole.{Fits-int}
 use Rattle.lp_model.specs.Edits.{Named}
-use Rattle.cert_check.specs.declared.cert.Claim.{Claim}
-use Rattle.cert_check.specs.declared.cert.Claim.TheVariants.{Optimal, Infeasible}
-use Rattle.cert_check.specs.declared.cert.CertLeaf.{CertLeaf}
-use Rattle.cert_check.specs.declared.cert.CertLeaf.TheVariants.{Bound, Farkas, Empty}
-use Rattle.cert_check.specs.declared.cert.CertNode.{CertNode}
-use Rattle.cert_check.specs.declared.cert.CertNode.TheVariants as node
-use Rattle.cert_check.specs.declared.cert.Cert.{Cert}
-use Rattle.cert_check.specs.declared.line.Statement.{Statement}
-use Rattle.cert_check.specs.declared.line.Statement.TheVariants as says
-use Rattle.cert_check.specs.Lines.{number_of, beside, named_in, rows_in, claimed, split_at, as_leaf, as_point, words_say, line_says}
-use Rattle.cert_check.specs.Text.{MeantCertificate}
-use Rattle.cert_check.specs.Whole.{IsNarrowNode, IsCertificate}
-use Rattle.tree_cert.specs.CertText.{Words, named_words, row_words, claim_words, leaf_words, node_words, point_lines, cert_lines, line_text, lines_text, cert_text, IsWord, HasWords, HasNodeWords, HasCertWords}
-use Rattle.tree_cert.specs.Printed.{HasFractions, HasClaimRoom, HasPointRoom, HasLeafRoom, HasNodeRoom, HasCertRoom}
+use Rattle.cert_text.specs.declared.cert.Claim.{Claim}
+use Rattle.cert_text.specs.declared.cert.Claim.TheVariants.{Optimal, Infeasible}
+use Rattle.cert_text.specs.declared.cert.CertMult.{CertMult}
+use Rattle.cert_text.specs.declared.cert.CertMult.TheVariants.{Row, Cut}
+use Rattle.cert_text.specs.declared.cert.CertNode.{CertNode}
+use Rattle.cert_text.specs.declared.cert.CertNode.TheVariants as node
+use Rattle.cert_text.specs.declared.cert.Cert.{Cert}
+use Rattle.cert_text.specs.declared.line.Statement.{Statement}
+use Rattle.cert_text.specs.declared.line.Statement.TheVariants as says
+use Rattle.cert_text.specs.Lines.{beside, named_in, row_mult, with_mult, rows_in, claimed, split_at, as_leaf, as_point, words_say, line_says}
+use Rattle.frac_text.specs.Parsing.{spelled_number}
+use Rattle.cert_text.specs.Text.{MeantCertificate}
+use Rattle.cert_text.specs.Whole.{IsNarrowNode, IsCertificate}
+use Rattle.tree_cert.specs.CertText.{Words, named_words, all_mult_words, claim_words, node_words, point_lines, cert_lines, line_text, lines_text, cert_text, IsWord, HasWords, IsMultWord, HasNodeWords, HasCertWords}
+use Rattle.tree_cert.specs.Printed.{HasFractions, MultFits, HasClaimRoom, HasPointRoom, HasNodeRoom, HasCertRoom}
 use Rattle.tree_cert.proofs.WordLaws.{plain_word, signed_word, number_word, line-says, lines-cut}
 use Rattle.tree_cert.proofs.StatedLaws.{SayAll, all_statements, point_statements, cert_statements, states}
 
 -- ---- numbers
 
-pub number_read : (x : ℚ) → Fits x → number_of (printed x) ≡ Ok x
+pub number_read : (x : ℚ) → Fits x → spelled_number (printed x) ≡ Ok x
 number_read x fits = ap parsed (reading_of-printed x fits)
 
-whole_read : (v : ℤ) → IsNarrow v → number_of (signed_decimal v) ≡ Ok (int v)
-whole_read v narrow = ap number_of (sym (printed-int v)) ∙ number_read (int v) (Fits-int v narrow)
+whole_read : (v : ℤ) → IsNarrow v → spelled_number (signed_decimal v) ≡ Ok (int v)
+whole_read v narrow = ap spelled_number (sym (printed-int v)) ∙ number_read (int v) (Fits-int v narrow)
 
 -- ---- words
 
@@ -50,10 +51,11 @@ named_read [] room = refl
 named_read (e ∷ named) room =
     (λ i. beside e.0 (number_read e.1 (All-head (λ (d : List ℕ × ℚ). Fits d.1) e named room) i) (named_read named (All-tail (λ (d : List ℕ × ℚ). Fits d.1) e named room) i))
 
-rows_read : (named : Named) → HasFractions named → rows_in (row_words named) ≡ Ok named
-rows_read [] room = refl
-rows_read (e ∷ named) room =
-    (λ i. beside e.0 (number_read e.1 (All-head (λ (d : List ℕ × ℚ). Fits d.1) e named room) i) (rows_read named (All-tail (λ (d : List ℕ × ℚ). Fits d.1) e named room) i))
+rows_read : (mults : List CertMult) → All IsMultWord mults → All MultFits mults → rows_in (all_mult_words mults) ≡ Ok mults
+rows_read [] words room = refl
+rows_read (Row name v ∷ mults) words room =
+    (λ i. with_mult (row_mult name (number_read v (All-head MultFits (Row name v) mults room) i)) (rows_read mults (All-tail IsMultWord (Row name v) mults words) (All-tail MultFits (Row name v) mults room) i))
+rows_read (Cut k v ∷ mults) words room = absurd (All-head IsMultWord (Cut k v) mults words)
 
 named_are : (named : Named) → HasWords named → HasFractions named → All IsWord (named_words named)
 named_are [] words room = All-nil IsWord
@@ -62,13 +64,14 @@ named_are (e ∷ named) words room =
     (All-cons IsWord (printed e.1) (named_words named) (number_word e.1 (All-head (λ (d : List ℕ × ℚ). Fits d.1) e named room))
     (named_are named (All-tail (λ (d : List ℕ × ℚ). IsWord d.0) e named words) (All-tail (λ (d : List ℕ × ℚ). Fits d.1) e named room)))
 
-rows_are : (named : Named) → HasWords named → HasFractions named → All IsWord (row_words named)
+rows_are : (mults : List CertMult) → All IsMultWord mults → All MultFits mults → All IsWord (all_mult_words mults)
 rows_are [] words room = All-nil IsWord
-rows_are (e ∷ named) words room =
-    All-cons IsWord (codes "row") (e.0 ∷ printed e.1 ∷ row_words named) (plain_word (codes "row") refl)
-    (All-cons IsWord e.0 (printed e.1 ∷ row_words named) (All-head (λ (d : List ℕ × ℚ). IsWord d.0) e named words)
-    (All-cons IsWord (printed e.1) (row_words named) (number_word e.1 (All-head (λ (d : List ℕ × ℚ). Fits d.1) e named room))
-    (rows_are named (All-tail (λ (d : List ℕ × ℚ). IsWord d.0) e named words) (All-tail (λ (d : List ℕ × ℚ). Fits d.1) e named room))))
+rows_are (Row name v ∷ mults) words room =
+    All-cons IsWord (codes "row") (name ∷ printed v ∷ all_mult_words mults) (plain_word (codes "row") refl)
+    (All-cons IsWord name (printed v ∷ all_mult_words mults) (All-head IsMultWord (Row name v) mults words)
+    (All-cons IsWord (printed v) (all_mult_words mults) (number_word v (All-head MultFits (Row name v) mults room))
+    (rows_are mults (All-tail IsMultWord (Row name v) mults words) (All-tail MultFits (Row name v) mults room))))
+rows_are (Cut k v ∷ mults) words room = absurd (All-head IsMultWord (Cut k v) mults words)
 
 -- ---- lines
 
@@ -105,19 +108,18 @@ split_reads : (col : List ℕ) (v : ℤ) → IsNarrow (v +ℤ pos 1) → split_a
 unfolding int
 split_reads col v narrow = ap (λ (b : Bool). if b then Err 5 else Ok (says.Node (node.Split col v))) (below_largest v narrow)
 
-leaf_line : (leaf : CertLeaf) → HasNodeWords (node.Leaf leaf) → HasLeafRoom leaf → Line (leaf_words leaf) (says.Node (node.Leaf leaf))
-leaf_line (Bound named) words room =
-    line_by (codes "leaf") (codes "bound" ∷ row_words named) (says.Node (node.Leaf (Bound named))) (plain_word (codes "leaf") refl) (All-cons IsWord (codes "bound") (row_words named) (plain_word (codes "bound") refl) (rows_are named words room)) (ap (as_leaf Bound) (rows_read named room))
-leaf_line (Farkas named) words room =
-    line_by (codes "leaf") (codes "farkas" ∷ row_words named) (says.Node (node.Leaf (Farkas named))) (plain_word (codes "leaf") refl) (All-cons IsWord (codes "farkas") (row_words named) (plain_word (codes "farkas") refl) (rows_are named words room)) (ap (as_leaf Farkas) (rows_read named room))
-leaf_line Empty words room =
-    line_by (codes "leaf") (codes "empty" ∷ []) (says.Node (node.Leaf Empty)) (plain_word (codes "leaf") refl) (All-cons IsWord (codes "empty") [] (plain_word (codes "empty") refl) (All-nil IsWord)) refl
-
 node_line : (n : CertNode) → IsNarrowNode n → HasNodeWords n → HasNodeRoom n → Line (node_words n) (says.Node n)
 node_line (node.Split col v) narrow words room =
     line_by (codes "split") (col ∷ signed_decimal v ∷ []) (says.Node (node.Split col v)) (plain_word (codes "split") refl) (two col (signed_decimal v) words (signed_word v narrow.0))
     (ap (split_at col) (whole_read v narrow.0) ∙ split_reads col v narrow.1)
-node_line (node.Leaf leaf) narrow words room = leaf_line leaf words room
+node_line (node.Bound mults) narrow words room =
+    line_by (codes "leaf") (codes "bound" ∷ all_mult_words mults) (says.Node (node.Bound mults)) (plain_word (codes "leaf") refl) (All-cons IsWord (codes "bound") (all_mult_words mults) (plain_word (codes "bound") refl) (rows_are mults words room))
+    (ap (as_leaf node.Bound) (rows_read mults words room))
+node_line (node.Farkas mults) narrow words room =
+    line_by (codes "leaf") (codes "farkas" ∷ all_mult_words mults) (says.Node (node.Farkas mults)) (plain_word (codes "leaf") refl) (All-cons IsWord (codes "farkas") (all_mult_words mults) (plain_word (codes "farkas") refl) (rows_are mults words room))
+    (ap (as_leaf node.Farkas) (rows_read mults words room))
+node_line node.Empty narrow words room =
+    line_by (codes "leaf") (codes "empty" ∷ []) (says.Node node.Empty) (plain_word (codes "leaf") refl) (All-cons IsWord (codes "empty") [] (plain_word (codes "empty") refl) (All-nil IsWord)) refl
 
 -- ---- all lines
 

@@ -4,9 +4,10 @@ use Rattle.std.specs.Prelude.{All, codes}
 use Rattle.rational.specs.Rational.{ℚ}
 use Rattle.frac128.specs.Printing.{printed}
 use Rattle.lp_model.specs.Edits.{Named}
-use Rattle.cert_check.specs.declared.cert.CertNode.{CertNode}
-use Rattle.cert_check.specs.declared.cert.Cert.{Cert}
-use Rattle.tree_cert.specs.CertText.{Words, named_words, row_words, claim_words, node_words, point_lines, spaced, line_text, lines_text, cert_text}
+use Rattle.cert_text.specs.declared.cert.CertMult.{CertMult}
+use Rattle.cert_text.specs.declared.cert.CertNode.{CertNode}
+use Rattle.cert_text.specs.declared.cert.Cert.{Cert}
+use Rattle.tree_cert.specs.CertText.{Words, named_words, mult_words, all_mult_words, claim_words, node_words, point_lines, spaced, line_text, lines_text, cert_text}
 use Rattle.std.proofs.lemmas.List.{drop_more, drop_all, take_all}
 use Rattle.std.proofs.lemmas.List.Elements.{All-more}
 
@@ -44,13 +45,12 @@ lines_append (line ∷ a) b = ap (λ l. line_text line ++ 10 ∷ l) (lines_appen
 pub named_step : (e : List ℕ × ℚ) (named : Named) → spaced (named_words (e ∷ named)) ≡ spaced (e.0 ∷ printed e.1 ∷ []) ++ spaced (named_words named)
 named_step e named = spaced_append (e.0 ∷ printed e.1 ∷ []) (named_words named)
 
-pub row_step : (e : List ℕ × ℚ) (named : Named) → spaced (row_words (e ∷ named)) ≡ spaced (codes "row" ∷ e.0 ∷ printed e.1 ∷ []) ++ spaced (row_words named)
-row_step e named = spaced_append (codes "row" ∷ e.0 ∷ printed e.1 ∷ []) (row_words named)
+pub mult_step : (m : CertMult) (mults : List CertMult) → spaced (all_mult_words (m ∷ mults)) ≡ spaced (mult_words m) ++ spaced (all_mult_words mults)
+mult_step m mults = spaced_append (mult_words m) (all_mult_words mults)
 
-pub row_put : (name : List ℕ) (x : ℚ) (old one new : List ℕ) → one ≡ old ++ spaced (codes "row" ∷ []) → new ≡ one ++ spaced (name ∷ printed x ∷ []) → new ≡ old ++ spaced (codes "row" ∷ name ∷ printed x ∷ [])
-row_put name x old one new first second =
-    second ∙ ap (λ l. l ++ spaced (name ∷ printed x ∷ [])) first ∙ append_assoc old (spaced (codes "row" ∷ [])) (spaced (name ∷ printed x ∷ []))
-    ∙ ap (λ l. old ++ l) (sym (spaced_append (codes "row" ∷ []) (name ∷ printed x ∷ [])))
+-- words behind words
+pub words_put : (a b : Words) (old one new : List ℕ) → one ≡ old ++ spaced a → new ≡ one ++ spaced b → new ≡ old ++ spaced (a ++ b)
+words_put a b old one new first second = second ∙ ap (λ l. l ++ spaced b) first ∙ append_assoc old (spaced a) (spaced b) ∙ ap (λ l. old ++ l) (sym (spaced_append a b))
 
 pub line_step : (n : CertNode) (nodes : List CertNode) → lines_text (map node_words (n ∷ nodes)) ≡ (line_text (node_words n) ++ 10 ∷ []) ++ lines_text (map node_words nodes)
 line_step n nodes = sym (append_assoc (line_text (node_words n)) (10 ∷ []) (lines_text (map node_words nodes)))

@@ -8,20 +8,22 @@ use Rattle.std.proofs.lemmas.Int.{ints}
 use Rattle.std.proofs.lemmas.List.Elements.{All-nil, All-cons, All-head, All-tail}
 use Rattle.rational.specs.Rational.{ℚ}
 use Rattle.frac128.specs.Range.{Fits, IsNarrow}
-use Rattle.frac128.specs.declared.parse.NumFault.{NumFault}
+use Rattle.frac_text.specs.declared.parsing.NumFault.{NumFault}
 use Rattle.lp_model.specs.Edits.{Named}
-use Rattle.cert_check.specs.declared.cert.Claim.TheVariants.{Infeasible}
-use Rattle.cert_check.specs.declared.cert.CertLeaf.TheVariants.{Bound, Farkas}
-use Rattle.cert_check.specs.declared.cert.CertNode.{CertNode}
-use Rattle.cert_check.specs.declared.cert.CertNode.TheVariants as node
-use Rattle.cert_check.specs.declared.line.LineWord.{LineWord}
-use Rattle.cert_check.specs.declared.line.LineWord.TheVariants as word
-use Rattle.cert_check.specs.declared.line.Statement.{Statement}
-use Rattle.cert_check.specs.declared.line.Statement.TheVariants as says
-use Rattle.cert_check.specs.Lines.{is_newline, is_blank, is_nothing, is_piece, without_last, lines_of, words_of, begins_blank, ends_blank, number_of, with_named, beside, named_in, rows_in, cert_says, claimed, claim_says, as_point, as_ray, is_whole, split_at, split_says, as_leaf, empty_says, leaf_says, end_says, word_of, word_says, known_says, words_say, line_says}
-use Rattle.cert_check.specs.Whole.{IsNarrowNode}
-use Rattle.tree_cert.specs.CertText.{IsWord, HasWords, HasNodeWords}
-use Rattle.tree_cert.specs.Printed.{HasFractions, HasClaimRoom, HasNodeRoom}
+use Rattle.cert_text.specs.declared.cert.Claim.TheVariants.{Infeasible}
+use Rattle.cert_text.specs.declared.cert.CertMult.{CertMult}
+use Rattle.cert_text.specs.declared.cert.CertMult.TheVariants.{Row}
+use Rattle.cert_text.specs.declared.cert.CertNode.{CertNode}
+use Rattle.cert_text.specs.declared.cert.CertNode.TheVariants as node
+use Rattle.cert_text.specs.declared.line.LineWord.{LineWord}
+use Rattle.cert_text.specs.declared.line.LineWord.TheVariants as word
+use Rattle.cert_text.specs.declared.line.Statement.{Statement}
+use Rattle.cert_text.specs.declared.line.Statement.TheVariants as says
+use Rattle.cert_text.specs.Lines.{is_newline, is_blank, is_nothing, is_piece, without_last, lines_of, words_of, begins_blank, ends_blank, with_named, beside, named_in, row_mult, with_mult, rows_in, cert_says, claimed, claim_says, as_point, as_ray, is_whole, split_at, split_says, as_leaf, empty_says, leaf_says, end_says, word_of, word_says, known_says, words_say, line_says}
+use Rattle.frac_text.specs.Parsing.{spelled_number}
+use Rattle.cert_text.specs.Whole.{IsNarrowNode}
+use Rattle.tree_cert.specs.CertText.{IsWord, HasWords, IsMultWord, HasNodeWords}
+use Rattle.tree_cert.specs.Printed.{HasFractions, MultFits, HasClaimRoom, HasNodeRoom}
 use Rattle.tree_cert.proofs.WordLaws.{OneLine, OneWord}
 use Rattle.tree_cert.proofs.FitLaws.{FitsOk, number-fits}
 
@@ -72,18 +74,34 @@ named-good [] all = good_none
 named-good (name ∷ []) all = tt
 named-good (name ∷ number ∷ more) all =
     let rest = All-tail IsWord name (number ∷ more) all in
-    beside-good name (number_of number) (named_in more) (All-head IsWord name (number ∷ more) all) (number-fits number) (named-good more (All-tail IsWord number more rest))
+    beside-good name (spelled_number number) (named_in more) (All-head IsWord name (number ∷ more) all) (number-fits number) (named-good more (All-tail IsWord number more rest))
 
-rows-good : (words : List (List ℕ)) → All IsWord words → GoodOk (rows_in words)
-rows-good [] all = good_none
+-- ---- multipliers
+
+record GoodMults (mults : List CertMult) : Type 0 where
+  words : All IsMultWord mults
+  room : All MultFits mults
+
+abbrev GoodRows : Result (List CertMult) ℕ → Type 0
+GoodRows (Ok mults) = GoodMults mults
+GoodRows (Err code) = Unit {0}
+
+with_mult-good : (name : List ℕ) (r : Result ℚ NumFault) (rest : Result (List CertMult) ℕ) → IsWord name → FitsOk r → GoodRows rest → GoodRows (with_mult (row_mult name r) rest)
+with_mult-good name (Ok x) (Ok mults) w fits good = record { words = All-cons IsMultWord (Row name x) mults w good.words; room = All-cons MultFits (Row name x) mults fits good.room }
+with_mult-good name (Ok x) (Err code) w fits good = tt
+with_mult-good name (Err fault) (Ok mults) w fits good = tt
+with_mult-good name (Err fault) (Err code) w fits good = tt
+
+rows-good : (words : List (List ℕ)) → All IsWord words → GoodRows (rows_in words)
+rows-good [] all = record { words = All-nil IsMultWord; room = All-nil MultFits }
 rows-good (a ∷ []) all = tt
 rows-good (a ∷ b ∷ []) all = tt
 rows-good (key ∷ name ∷ number ∷ more) all =
     let rest = All-tail IsWord key (name ∷ number ∷ more) all in
     let last = All-tail IsWord number more (All-tail IsWord name (number ∷ more) rest) in
-    by (bytes_eq key (codes "row")) (beside-good name (number_of number) (rows_in more) (All-head IsWord name (number ∷ more) rest) (number-fits number) (rows-good more last))
+    by (bytes_eq key (codes "row")) (with_mult-good name (spelled_number number) (rows_in more) (All-head IsWord name (number ∷ more) rest) (number-fits number) (rows-good more last))
   where
-    by : (b : Bool) → GoodOk (beside name (number_of number) (rows_in more)) → GoodOk (if b then beside name (number_of number) (rows_in more) else Err 3)
+    by : (b : Bool) → GoodRows (with_mult (row_mult name (spelled_number number)) (rows_in more)) → GoodRows (if b then with_mult (row_mult name (spelled_number number)) (rows_in more) else Err 3)
     by true good = good
     by false good = tt
 
@@ -109,9 +127,9 @@ claim-good (kind ∷ []) = by (bytes_eq kind (codes "infeasible"))
     by : (b : Bool) → Good (if b then Ok (says.Claims Infeasible) else Err 3)
     by true = tt
     by false = tt
-claim-good (kind ∷ number ∷ []) = by (bytes_eq kind (codes "optimal")) (claimed-good (number_of number) (number-fits number))
+claim-good (kind ∷ number ∷ []) = by (bytes_eq kind (codes "optimal")) (claimed-good (spelled_number number) (number-fits number))
   where
-    by : (b : Bool) → Good (claimed (number_of number)) → Good (if b then claimed (number_of number) else Err 3)
+    by : (b : Bool) → Good (claimed (spelled_number number)) → Good (if b then claimed (spelled_number number) else Err 3)
     by true good = good
     by false good = tt
 claim-good (a ∷ b ∷ c ∷ more) = tt
@@ -137,15 +155,15 @@ split-good name (Ok x) w fits = by (is_whole x) (int_eq x.num (pos (2 ^ 127 - 1)
 split_says-good : (words : List (List ℕ)) → All IsWord words → Good (split_says words)
 split_says-good [] all = tt
 split_says-good (name ∷ []) all = tt
-split_says-good (name ∷ number ∷ []) all = split-good name (number_of number) (All-head IsWord name (number ∷ []) all) (number-fits number)
+split_says-good (name ∷ number ∷ []) all = split-good name (spelled_number number) (All-head IsWord name (number ∷ []) all) (number-fits number)
 split_says-good (a ∷ b ∷ c ∷ more) all = tt
 
-bound-good : (r : Result Named ℕ) → GoodOk r → Good (as_leaf Bound r)
-bound-good (Ok named) good = record { narrow = tt; words = good.words; room = good.room }
+bound-good : (r : Result (List CertMult) ℕ) → GoodRows r → Good (as_leaf node.Bound r)
+bound-good (Ok mults) good = record { narrow = tt; words = good.words; room = good.room }
 bound-good (Err code) good = tt
 
-farkas-good : (r : Result Named ℕ) → GoodOk r → Good (as_leaf Farkas r)
-farkas-good (Ok named) good = record { narrow = tt; words = good.words; room = good.room }
+farkas-good : (r : Result (List CertMult) ℕ) → GoodRows r → Good (as_leaf node.Farkas r)
+farkas-good (Ok mults) good = record { narrow = tt; words = good.words; room = good.room }
 farkas-good (Err code) good = tt
 
 empty-good : (words : List (List ℕ)) → Good (empty_says words)
@@ -158,8 +176,8 @@ leaf-good (kind ∷ words) all =
     let rows = rows-good words (All-tail IsWord kind words all) in
     by (bytes_eq kind (codes "bound")) (bytes_eq kind (codes "farkas")) (bytes_eq kind (codes "empty")) (bound-good (rows_in words) rows) (farkas-good (rows_in words) rows) (empty-good words)
   where
-    by : (a b c : Bool) → Good (as_leaf Bound (rows_in words)) → Good (as_leaf Farkas (rows_in words)) → Good (empty_says words) →
-        Good (if a then as_leaf Bound (rows_in words) else if b then as_leaf Farkas (rows_in words) else if c then empty_says words else Err 3)
+    by : (a b c : Bool) → Good (as_leaf node.Bound (rows_in words)) → Good (as_leaf node.Farkas (rows_in words)) → Good (empty_says words) →
+        Good (if a then as_leaf node.Bound (rows_in words) else if b then as_leaf node.Farkas (rows_in words) else if c then empty_says words else Err 3)
     by true b c first second third = first
     by false true c first second third = second
     by false false true first second third = third

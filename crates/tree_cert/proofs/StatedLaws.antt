@@ -6,20 +6,20 @@ use Rattle.std.proofs.Math.Seq.{get_or-append_seam}
 use Rattle.std.proofs.lemmas.Bool.{false_from_ne_true}
 use Rattle.std.proofs.lemmas.Bool.Decides.{Decides-eqb}
 use Rattle.lp_model.specs.Edits.{Named}
-use Rattle.cert_check.specs.declared.cert.Claim.{Claim}
-use Rattle.cert_check.specs.declared.cert.Claim.TheVariants.{Optimal, Infeasible}
-use Rattle.cert_check.specs.declared.cert.CertNode.{CertNode}
-use Rattle.cert_check.specs.declared.cert.CertNode.TheVariants as node
-use Rattle.cert_check.specs.declared.cert.Cert.{Cert}
-use Rattle.cert_check.specs.declared.line.Statement.{Statement}
-use Rattle.cert_check.specs.declared.line.Statement.TheVariants as says
-use Rattle.cert_check.specs.Lines.{lines_of, line_says}
-use Rattle.cert_check.specs.Reading.{after}
-use Rattle.cert_check.specs.Text.{StatedCertificate, stated, due_after, is_whole_tree, are_none, lacks_part, code_in, code_at, AreClean, end_code, first_point, cert_of, MeantCertificate}
-use Rattle.cert_check.specs.Tree.{CertTree, Leaf, Split, preorder}
-use Rattle.cert_check.specs.Whole.{TakesAll, HasNoPoint}
-use Rattle.cert_check.proofs.DueLemmas.{due_after-split, due_after-leaf}
-use Rattle.cert_check.proofs.TextLemmas.{stated_more, code_here, clean_more}
+use Rattle.cert_text.specs.declared.cert.Claim.{Claim}
+use Rattle.cert_text.specs.declared.cert.Claim.TheVariants.{Optimal, Infeasible}
+use Rattle.cert_text.specs.declared.cert.CertNode.{CertNode}
+use Rattle.cert_text.specs.declared.cert.CertNode.TheVariants as node
+use Rattle.cert_text.specs.declared.cert.Cert.{Cert}
+use Rattle.cert_text.specs.declared.line.Statement.{Statement}
+use Rattle.cert_text.specs.declared.line.Statement.TheVariants as says
+use Rattle.cert_text.specs.Lines.{lines_of, line_says}
+use Rattle.cert_text.specs.Reading.{after}
+use Rattle.cert_text.specs.Text.{StatedCertificate, stated, due_after, is_whole_tree, are_none, lacks_part, code_in, code_at, AreClean, end_code, first_point, cert_of, MeantCertificate}
+use Rattle.cert_text.specs.Tree.{CertTree, Bound, Farkas, Empty, Split, certificate_nodes}
+use Rattle.cert_text.specs.Whole.{TakesAll, HasNoPoint}
+use Rattle.cert_text.proofs.DueLemmas.{due_after-more}
+use Rattle.cert_text.proofs.TextLemmas.{stated_more, code_here, clean_more}
 
 nil_right : {A : Type 0} (l : List A) → l ++ [] ≡ l
 nil_right [] = refl
@@ -133,33 +133,45 @@ module _ (claim : Claim) (points : List Named) (part : HasPart claim points) (xs
   nodes_taken (n ∷ more) count zero nodes is takes rest = absurd takes
   nodes_taken (node.Split col v ∷ more) count (suc due) nodes is takes rest =
       one_taken (node.Split col v) more count nodes (omega (arith, is))
-      (nodes_taken more (suc count) (suc (suc due)) (nodes ++ node.Split col v ∷ []) (let e = due_after-split 1 nodes col v in omega (arith, e, is)) takes (moved (node.Split col v) more count nodes rest))
-  nodes_taken (node.Leaf leaf ∷ more) count (suc due) nodes is takes rest =
-      one_taken (node.Leaf leaf) more count nodes (omega (arith, is))
-      (nodes_taken more (suc count) due (nodes ++ node.Leaf leaf ∷ []) (let e = due_after-leaf 1 nodes leaf in omega (arith, e, is)) takes (moved (node.Leaf leaf) more count nodes rest))
+      (nodes_taken more (suc count) (suc (suc due)) (nodes ++ node.Split col v ∷ []) (let e = due_after-more 1 nodes (node.Split col v) in omega (arith, e, is)) takes (moved (node.Split col v) more count nodes rest))
+  nodes_taken (node.Bound mults ∷ more) count (suc due) nodes is takes rest =
+      one_taken (node.Bound mults) more count nodes (omega (arith, is))
+      (nodes_taken more (suc count) due (nodes ++ node.Bound mults ∷ []) (let e = due_after-more 1 nodes (node.Bound mults) in omega (arith, e, is)) takes (moved (node.Bound mults) more count nodes rest))
+  nodes_taken (node.Farkas mults ∷ more) count (suc due) nodes is takes rest =
+      one_taken (node.Farkas mults) more count nodes (omega (arith, is))
+      (nodes_taken more (suc count) due (nodes ++ node.Farkas mults ∷ []) (let e = due_after-more 1 nodes (node.Farkas mults) in omega (arith, e, is)) takes (moved (node.Farkas mults) more count nodes rest))
+  nodes_taken (node.Empty ∷ more) count (suc due) nodes is takes rest =
+      one_taken node.Empty more count nodes (omega (arith, is))
+      (nodes_taken more (suc count) due (nodes ++ node.Empty ∷ []) (let e = due_after-more 1 nodes node.Empty in omega (arith, e, is)) takes (moved node.Empty more count nodes rest))
 
 -- ---- whole trees
 
-takes_tree : (tree : CertTree) (due : ℕ) (rest : List CertNode) → TakesAll due rest → TakesAll (suc due) (preorder tree ++ rest)
-takes_tree (Leaf leaf) due rest h = h
+takes_tree : (tree : CertTree) (due : ℕ) (rest : List CertNode) → TakesAll due rest → TakesAll (suc due) (certificate_nodes tree ++ rest)
+takes_tree (Bound mults) due rest h = h
+takes_tree (Farkas mults) due rest h = h
+takes_tree Empty due rest h = h
 takes_tree (Split col v left right) due rest h =
-    subst (TakesAll (suc (suc due))) (sym (append_assoc (preorder left) (preorder right) rest)) (takes_tree left (suc due) (preorder right ++ rest) (takes_tree right due rest h))
+    subst (TakesAll (suc (suc due))) (sym (append_assoc (certificate_nodes left) (certificate_nodes right) rest)) (takes_tree left (suc due) (certificate_nodes right ++ rest) (takes_tree right due rest h))
 
-due_tree : (tree : CertTree) (due : ℕ) (rest : List CertNode) → due_after (suc due) (preorder tree ++ rest) ≡ due_after due rest
-due_tree (Leaf leaf) due rest = let less : suc due - 1 ≡ due = omega arith in ap (λ d. due_after d rest) less
+due_tree : (tree : CertTree) (due : ℕ) (rest : List CertNode) → due_after (suc due) (certificate_nodes tree ++ rest) ≡ due_after due rest
+due_tree (Bound mults) due rest = let less : suc due - 1 ≡ due = omega arith in ap (λ d. due_after d rest) less
+due_tree (Farkas mults) due rest = let less : suc due - 1 ≡ due = omega arith in ap (λ d. due_after d rest) less
+due_tree Empty due rest = let less : suc due - 1 ≡ due = omega arith in ap (λ d. due_after d rest) less
 due_tree (Split col v left right) due rest =
-    ap (due_after (suc (suc due))) (append_assoc (preorder left) (preorder right) rest) ∙ due_tree left (suc due) (preorder right ++ rest) ∙ due_tree right due rest
+    ap (due_after (suc (suc due))) (append_assoc (certificate_nodes left) (certificate_nodes right) rest) ∙ due_tree left (suc due) (certificate_nodes right ++ rest) ∙ due_tree right due rest
 
-some_nodes : (tree : CertTree) → are_none (preorder tree) ≡ false
-some_nodes (Leaf leaf) = refl
+some_nodes : (tree : CertTree) → are_none (certificate_nodes tree) ≡ false
+some_nodes (Bound mults) = refl
+some_nodes (Farkas mults) = refl
+some_nodes Empty = refl
 some_nodes (Split col v left right) = refl
 
-module _ (nodes : List CertNode) (tree : CertTree) (whole : preorder tree ≡ nodes) where
+module _ (nodes : List CertNode) (tree : CertTree) (whole : certificate_nodes tree ≡ nodes) where
   pub takes_whole : TakesAll 1 nodes
-  takes_whole = subst (TakesAll 1) (nil_right (preorder tree) ∙ whole) (takes_tree tree 0 [] tt)
+  takes_whole = subst (TakesAll 1) (nil_right (certificate_nodes tree) ∙ whole) (takes_tree tree 0 [] tt)
 
   pub due_whole : due_after 1 nodes ≡ 0
-  due_whole = ap (due_after 1) (sym whole ∙ sym (nil_right (preorder tree))) ∙ due_tree tree 0 []
+  due_whole = ap (due_after 1) (sym whole ∙ sym (nil_right (certificate_nodes tree))) ∙ due_tree tree 0 []
 
   end_taken : (count : ℕ) (claim : Claim) (points : List Named) → HasPart claim points → code_in (with_nodes count claim points nodes) (Ok says.End) ≡ None
   end_taken count claim points part =
@@ -180,7 +192,7 @@ cert_statements c = says.Header ∷ says.Claims c.claim ∷ (point_statements c.
 abbrev pub final : ℕ → Claim → List Named → List CertNode → StatedCertificate
 final count claim points nodes = after (with_nodes count claim points nodes) (Ok says.End)
 
-module _ (text : List ℕ) (nodes : List CertNode) (tree : CertTree) (whole : preorder tree ≡ nodes) where
+module _ (text : List ℕ) (nodes : List CertNode) (tree : CertTree) (whole : certificate_nodes tree ≡ nodes) where
   behind : (claim : Claim) (points : List Named) → HasPart claim points → (count : ℕ) → Takes (with_nodes count claim points []) (all_statements nodes ++ says.End ∷ []) (final (length nodes + count) claim points nodes)
   behind claim points part count =
       nodes_taken claim points part (says.End ∷ []) (final (length nodes + count) claim points nodes) nodes count 1 [] refl (takes_whole nodes tree whole) (end_taken nodes tree whole (length nodes + count) claim points part, refl)

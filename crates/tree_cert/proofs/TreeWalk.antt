@@ -5,6 +5,7 @@ use Rattle.std.specs.Prelude.{pos, ◌+ℤ◌}
 use Rattle.frac128.specs.Range.{IsNarrow}
 use Rattle.lp_model.specs.Program.{Program}
 use Rattle.lp_model.specs.Regions.{Path, AreNarrow, at_most, at_least}
+use Rattle.lp_model.specs.Formulations.{without_cuts}
 use Rattle.lp_model.specs.declared.types.Side.{Side}
 use Rattle.lp_model.specs.declared.types.Side.TheVariants.{Lo, Hi}
 use Rattle.lp_model.specs.declared.types.BoundChange.{BoundChange}
@@ -14,10 +15,10 @@ use Rattle.branch_tree.specs.declared.node.Node.{Node}
 use Rattle.branch_tree.specs.declared.node.Node.TheVariants.{Leaf as LeafNode, Split as SplitNode}
 use Rattle.tree_edit.specs.Lists.{HasNodeLists}
 use Rattle.tree_edit.specs.Sound.{IsSoundTree}
-use Rattle.cert_check.specs.declared.cert.CertNode.{CertNode}
-use Rattle.cert_check.specs.declared.cert.CertNode.TheVariants as cert
-use Rattle.cert_check.specs.Tree.{CertTree, preorder as cert_preorder}
-use Rattle.cert_check.specs.Tree.{Leaf as CertLeafTree, Split as CertSplitTree}
+use Rattle.cert_text.specs.declared.cert.CertNode.{CertNode}
+use Rattle.cert_text.specs.declared.cert.CertNode.TheVariants as cert
+use Rattle.cert_text.specs.Tree.{CertTree, certificate_nodes as cert_preorder}
+use Rattle.cert_text.specs.Tree.{Bound as CertBound, Farkas as CertFarkas, Empty as CertEmpty, Split as CertSplit}
 use Rattle.cert_check.specs.Walk.{turned_change, in_front, after_leaf}
 use Rattle.cert_check.proofs.WalkLemmas.{after_leaf-low, after_leaf-high}
 use Rattle.tree_cert.specs.Certificates.{IsTreeOf}
@@ -55,14 +56,14 @@ fit-append : (M : Program) (a b : List Node) → AreFit M a → AreFit M b → A
 fit-append M [] b h k = k
 fit-append M (n ∷ a) b h k = (h.0, fit-append M a b h.1 k)
 
-pub tree-fit : (M : Program) (t : Plain) → SplitsLawfully M t → HasNarrowSplits t → HasNodeLists M t → AreFit M (preorder t)
+pub tree-fit : (M : Program) (t : Plain) → SplitsLawfully M t → HasNarrowSplits t → HasNodeLists (without_cuts M) t → AreFit M (preorder t)
 tree-fit M (Leaf l) lawful narrow lists = (lists, tt)
 tree-fit M (Split kept j v left right) lawful narrow lists = (
   (lawful.0.0, narrow.0),
   fit-append M (preorder left) (preorder right) (tree-fit M left lawful.1.0 narrow.1.0 lists.1.0) (tree-fit M right lawful.1.1 narrow.1.1 lists.1.1),
 )
 
-pub sound-fit : (M : Program) (t : Plain) → IsSoundTree M t → AreFit M (preorder t)
+pub sound-fit : (M : Program) (t : Plain) → IsSoundTree (without_cuts M) t → AreFit M (preorder t)
 sound-fit M t h = tree-fit M t h.lawful h.narrow h.lists
 
 -- ---- the tree that the nodes make
@@ -77,15 +78,19 @@ record Begins (M : Program) (path : Path) (t : Plain) (rest : List Node) (certs 
 
 begins : (M : Program) (path : Path) (t : Plain) (rest : List Node) (certs : List CertNode) → AreNodesOf M path (preorder t ++ rest) certs → Begins M path t rest certs
 begins M path (Leaf l) rest [] h = absurd h
-begins M path (Leaf l) rest (cert.Leaf leaf ∷ certs) h = record { tree = CertLeafTree leaf; behind = certs; parts = refl; like = h.0; others = h.1 }
+begins M path (Leaf l) rest (cert.Bound mults ∷ certs) h = record { tree = CertBound mults; behind = certs; parts = refl; like = h.0; others = h.1 }
+begins M path (Leaf l) rest (cert.Farkas mults ∷ certs) h = record { tree = CertFarkas mults; behind = certs; parts = refl; like = h.0; others = h.1 }
+begins M path (Leaf l) rest (cert.Empty ∷ certs) h = record { tree = CertEmpty; behind = certs; parts = refl; like = h.0; others = h.1 }
 begins M path (Leaf l) rest (cert.Split col w ∷ certs) h = absurd h.0
 begins M path (Split kept j v left right) rest [] h = absurd h
-begins M path (Split kept j v left right) rest (cert.Leaf leaf ∷ certs) h = absurd h.0
+begins M path (Split kept j v left right) rest (cert.Bound mults ∷ certs) h = absurd h.0
+begins M path (Split kept j v left right) rest (cert.Farkas mults ∷ certs) h = absurd h.0
+begins M path (Split kept j v left right) rest (cert.Empty ∷ certs) h = absurd h.0
 begins M path (Split kept j v left right) rest (cert.Split col w ∷ certs) h =
     let first = begins M (left_path path j v) left (preorder right ++ rest) certs (subst (λ ns. AreNodesOf M (left_path path j v) ns certs) (append_assoc (preorder left) (preorder right) rest) h.1) in
     let second = begins M (right_path path j v) right rest first.behind (subst (λ p. AreNodesOf M p (preorder right ++ rest) first.behind) (after_leaf-high path (at_most j v) refl) first.others) in
     record {
-      tree = CertSplitTree col w first.tree second.tree;
+      tree = CertSplit col w first.tree second.tree;
       behind = second.behind;
       parts = ap (λ ns. cert.Split col w ∷ ns) (first.parts ∙ ap (λ ns. cert_preorder first.tree ++ ns) second.parts ∙ sym (append_assoc (cert_preorder first.tree) (cert_preorder second.tree) second.behind));
       like = (h.0.0, (h.0.1, (first.like, second.like)));

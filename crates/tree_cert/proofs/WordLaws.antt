@@ -12,7 +12,7 @@ use Rattle.rational.specs.Rational.{ℚ, den, IsWhole}
 use Rattle.frac128.specs.Range.{Fits, IsNarrow}
 use Rattle.frac128.specs.Printing.{printed}
 use Rattle.frac128.proofs.Printed.{printed-whole, printed-fraction}
-use Rattle.cert_check.specs.Lines.{is_newline, is_blank, is_piece, without_last, lines_of, words_of, ends_blank, words_say, line_says}
+use Rattle.cert_text.specs.Lines.{is_newline, is_blank, is_piece, without_last, lines_of, words_of, ends_blank, words_say, line_says}
 use Rattle.tree_cert.specs.CertText.{Words, spaced, line_text, lines_text, IsWord}
 
 abbrev pub OneLine : List ℕ → Type 0

@@ -1,19 +1,19 @@
 -- The text of a certificate: its lines, each of words with one blank between them and a newline behind it.
 use Rattle.std.specs.Prelude.{◌≡◌, ℕ, ◌<◌, List, [], ◌∷◌, ◌++◌, length, map, codes, false, All}
-use Rattle.std.specs.Fmt.{signed_decimal}
+use Rattle.std.specs.Fmt.{decimal, signed_decimal}
 use Rattle.frac128.specs.Printing.{printed}
 use Rattle.lp_model.specs.Program.{Program}
 use Rattle.lp_model.specs.Edits.{Named}
 use Rattle.lp_model.specs.Lawful.{column_names}
-use Rattle.cert_check.specs.declared.cert.Claim.{Claim}
-use Rattle.cert_check.specs.declared.cert.Claim.TheVariants.{Optimal, Infeasible}
-use Rattle.cert_check.specs.declared.cert.CertLeaf.{CertLeaf}
-use Rattle.cert_check.specs.declared.cert.CertLeaf.TheVariants.{Bound, Farkas, Empty}
-use Rattle.cert_check.specs.declared.cert.CertNode.{CertNode}
-use Rattle.cert_check.specs.declared.cert.CertNode.TheVariants.{Split, Leaf}
-use Rattle.cert_check.specs.declared.cert.Cert.{Cert}
-use Rattle.cert_check.specs.Accepted.{names_of_rows}
-use Rattle.cert_check.specs.Lines.{is_newline, is_blank}
+use Rattle.cert_text.specs.declared.cert.Claim.{Claim}
+use Rattle.cert_text.specs.declared.cert.Claim.TheVariants.{Optimal, Infeasible}
+use Rattle.cert_text.specs.declared.cert.CertMult.{CertMult}
+use Rattle.cert_text.specs.declared.cert.CertMult.TheVariants.{Row, Cut}
+use Rattle.cert_text.specs.declared.cert.CertNode.{CertNode}
+use Rattle.cert_text.specs.declared.cert.CertNode.TheVariants.{Split, Bound, Farkas, Empty}
+use Rattle.cert_text.specs.declared.cert.Cert.{Cert}
+use Rattle.lp_model.specs.Edits.{only_row_names}
+use Rattle.cert_text.specs.Lines.{is_newline, is_blank}
 
 -- ---- words
 
@@ -25,23 +25,24 @@ abbrev pub named_words : Named → Words
 named_words [] = []
 named_words (e ∷ named) = e.0 ∷ printed e.1 ∷ named_words named
 
--- `row NAME V` for each
-abbrev pub row_words : Named → Words
-row_words [] = []
-row_words (e ∷ named) = codes "row" ∷ e.0 ∷ printed e.1 ∷ row_words named
+-- `row NAME V` and `cut K V` for each
+abbrev pub mult_words : CertMult → Words
+mult_words (Row name v) = codes "row" ∷ name ∷ printed v ∷ []
+mult_words (Cut k v) = codes "cut" ∷ decimal k ∷ printed v ∷ []
+
+abbrev pub all_mult_words : List CertMult → Words
+all_mult_words [] = []
+all_mult_words (m ∷ mults) = mult_words m ++ all_mult_words mults
 
 abbrev pub claim_words : Claim → Words
 claim_words (Optimal v) = codes "claim" ∷ codes "optimal" ∷ printed v ∷ []
 claim_words Infeasible = codes "claim" ∷ codes "infeasible" ∷ []
 
-abbrev pub leaf_words : CertLeaf → Words
-leaf_words (Bound named) = codes "leaf" ∷ codes "bound" ∷ row_words named
-leaf_words (Farkas named) = codes "leaf" ∷ codes "farkas" ∷ row_words named
-leaf_words Empty = codes "leaf" ∷ codes "empty" ∷ []
-
 abbrev pub node_words : CertNode → Words
 node_words (Split col v) = codes "split" ∷ col ∷ signed_decimal v ∷ []
-node_words (Leaf leaf) = leaf_words leaf
+node_words (Bound mults) = codes "leaf" ∷ codes "bound" ∷ all_mult_words mults
+node_words (Farkas mults) = codes "leaf" ∷ codes "farkas" ∷ all_mult_words mults
+node_words Empty = codes "leaf" ∷ codes "empty" ∷ []
 
 -- a point has a line where a value is claimed
 abbrev pub point_lines : Claim → Named → List Words
@@ -81,16 +82,18 @@ pub record IsWord (word : List ℕ) : Type 0 where
 abbrev pub HasWords : Named → Type 0
 HasWords named = All (λ e. IsWord e.0) named
 
-abbrev pub HasLeafWords : CertLeaf → Type 0
-HasLeafWords (Bound named) = HasWords named
-HasLeafWords (Farkas named) = HasWords named
-HasLeafWords Empty = Unit {0}
+-- a multiplier is of a row whose name is a word: the line of a leaf says none of a cut
+abbrev pub IsMultWord : CertMult → Type 0
+IsMultWord (Row name v) = IsWord name
+IsMultWord (Cut k v) = ⊥
 
 abbrev pub HasNodeWords : CertNode → Type 0
 HasNodeWords (Split col v) = IsWord col
-HasNodeWords (Leaf leaf) = HasLeafWords leaf
+HasNodeWords (Bound mults) = All IsMultWord mults
+HasNodeWords (Farkas mults) = All IsMultWord mults
+HasNodeWords Empty = Unit {0}
 
--- each name in the certificate is a word
+-- each name in the certificate is a word, and its multipliers are of rows
 pub record HasCertWords (cert : Cert) : Type 0 where
   pub point : HasWords cert.point
   pub nodes : All HasNodeWords cert.nodes
@@ -98,4 +101,4 @@ pub record HasCertWords (cert : Cert) : Type 0 where
 -- each name of a column or a row of the model is a word
 pub record HasWordNames (M : Program) : Type 0 where
   pub columns : All IsWord (column_names M)
-  pub rows : All IsWord (names_of_rows M)
+  pub rows : All IsWord (only_row_names M)

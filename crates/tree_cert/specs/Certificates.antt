@@ -7,6 +7,7 @@ use Rattle.lp_model.specs.Program.{Program, Point, value}
 use Rattle.lp_model.specs.Elements.{of_element}
 use Rattle.lp_model.specs.Edits.{Named, is_zero}
 use Rattle.lp_model.specs.Regions.{Path, IsEmptyRegion}
+use Rattle.lp_model.specs.Formulations.{without_cuts}
 use Rattle.lp_model.specs.declared.types.Col.{Col}
 use Rattle.lp_model.specs.declared.types.Var.{Var}
 use Rattle.lp_model.specs.declared.types.Var.TheVariants.{Row, Col as ColVar, Cut}
@@ -14,31 +15,34 @@ use Rattle.leaf_dual.specs.Dual.{Multipliers}
 use Rattle.branch_tree.specs.Tree.{Leaf, Split, left_path, right_path}
 use Rattle.branch_tree.specs.Plain.{Plain}
 use Rattle.branch_tree.specs.declared.node.LeafData.{LeafData}
-use Rattle.tree_edit.specs.Closing.{IsRefuted}
+use Rattle.leaf_judging.specs.Closing.{IsRefuted}
 use Rattle.tree_edit.specs.Points.{IsIncumbent}
 use Rattle.tree_edit.specs.Sound.{PlainSearch}
-use Rattle.cert_check.specs.declared.cert.Claim.{Claim}
-use Rattle.cert_check.specs.declared.cert.Claim.TheVariants.{Optimal, Infeasible}
-use Rattle.cert_check.specs.declared.cert.CertLeaf.{CertLeaf}
-use Rattle.cert_check.specs.declared.cert.CertLeaf.TheVariants.{Bound, Farkas, Empty}
-use Rattle.cert_check.specs.declared.cert.Cert.{Cert}
-use Rattle.cert_check.specs.Tree.{CertTree, preorder}
-use Rattle.cert_check.specs.Tree.{Leaf as CertLeafTree, Split as CertSplitTree}
+use Rattle.cert_text.specs.declared.cert.Claim.{Claim}
+use Rattle.cert_text.specs.declared.cert.Claim.TheVariants.{Optimal, Infeasible}
+use Rattle.cert_text.specs.declared.cert.CertMult.{CertMult}
+use Rattle.cert_text.specs.declared.cert.CertMult.TheVariants as mult
+use Rattle.cert_text.specs.declared.cert.CertNode.{CertNode}
+use Rattle.cert_text.specs.declared.cert.CertNode.TheVariants as node
+use Rattle.cert_text.specs.declared.cert.Cert.{Cert}
+use Rattle.cert_text.specs.Tree.{CertTree, certificate_nodes}
+use Rattle.cert_text.specs.Tree.{Bound as CertBound, Farkas as CertFarkas, Empty as CertEmpty, Split as CertSplit}
+use Rattle.lp_model.specs.Lawful.{column_name}
 
 -- ---- names
 
-abbrev pub column_name : Program → ℕ → List ℕ
-column_name M j = of_element [] (λ c. c.name) M.cols j
-
 -- multipliers are those of rows
-abbrev pub row_name : Program → Var → List ℕ
-row_name M (Row row) = of_element [] (λ r. r.name) M.rows row.0
-row_name M (ColVar col) = []
-row_name M (Cut cut) = []
+abbrev pub activity_name : Program → Var → List ℕ
+activity_name M (Row row) = of_element [] (λ r. r.name) M.rows row.0
+activity_name M (ColVar col) = []
+activity_name M (Cut cut) = []
 
--- multipliers beside the names of their rows
-abbrev pub named_rows : Program → Multipliers → Named
-named_rows M mult = map (λ (m : Var × ℚ). (row_name M m.0, m.1)) mult
+-- multipliers by the names of their rows
+abbrev pub named_mult : Program → Var × ℚ → CertMult
+named_mult M m = mult.Row (activity_name M m.0) m.1
+
+abbrev pub row_mults : Program → Multipliers → List CertMult
+row_mults M mult = map (named_mult M) mult
 
 -- ---- the claim and the point
 
@@ -64,17 +68,22 @@ point_numbers M (Some x) = nonzero_numbers M.cols x
 
 -- Why the leaf of a region is closed: the region is empty, or else the leaf's Farkas multipliers refute it, or else its
 -- multipliers bound it.
-abbrev pub IsReason : Program → Path → LeafData → CertLeaf → Type 0
-IsReason M path kept Empty = IsEmptyRegion M path
-IsReason M path kept (Farkas named) = (¬ IsEmptyRegion M path) × (IsRefuted M path kept.farkas × (named ≡ named_rows M kept.farkas))
-IsReason M path kept (Bound named) = (¬ IsEmptyRegion M path) × ((¬ IsRefuted M path kept.farkas) × (named ≡ named_rows M kept.mult))
+abbrev pub IsReason : Program → Path → LeafData → CertNode → Type 0
+IsReason M path kept node.Empty = IsEmptyRegion M path
+IsReason M path kept (node.Farkas mults) = (¬ IsEmptyRegion M path) × (IsRefuted (without_cuts M) path kept.farkas × (mults ≡ row_mults M kept.farkas))
+IsReason M path kept (node.Bound mults) = (¬ IsEmptyRegion M path) × ((¬ IsRefuted (without_cuts M) path kept.farkas) × (mults ≡ row_mults M kept.mult))
+IsReason M path kept (node.Split name w) = ⊥
 
 -- the same splits, by the names of their columns, and each leaf's reason, where the root has this path
 abbrev pub IsTreeOf : Program → Path → Plain → CertTree → Type 0
-IsTreeOf M path (Leaf l) (CertLeafTree leaf) = IsReason M path l.kept leaf
-IsTreeOf M path (Leaf l) (CertSplitTree col w first second) = ⊥
-IsTreeOf M path (Split kept j v left right) (CertLeafTree leaf) = ⊥
-IsTreeOf M path (Split kept j v left right) (CertSplitTree col w first second) =
+IsTreeOf M path (Leaf l) (CertBound mults) = IsReason M path l.kept (node.Bound mults)
+IsTreeOf M path (Leaf l) (CertFarkas mults) = IsReason M path l.kept (node.Farkas mults)
+IsTreeOf M path (Leaf l) CertEmpty = IsReason M path l.kept node.Empty
+IsTreeOf M path (Leaf l) (CertSplit col w first second) = ⊥
+IsTreeOf M path (Split kept j v left right) (CertBound mults) = ⊥
+IsTreeOf M path (Split kept j v left right) (CertFarkas mults) = ⊥
+IsTreeOf M path (Split kept j v left right) CertEmpty = ⊥
+IsTreeOf M path (Split kept j v left right) (CertSplit col w first second) =
     (col ≡ column_name M j) × ((w ≡ v) × (IsTreeOf M (left_path path j v) left first × IsTreeOf M (right_path path j v) right second))
 
 -- ---- the certificate
@@ -85,5 +94,5 @@ pub record IsCertificateOf (S : PlainSearch) (cert : Cert) : Type 0 where
   pub claim : cert.claim ≡ claim_of S.model incumbent
   pub point : cert.point ≡ point_numbers S.model incumbent
   pub tree : CertTree
-  pub nodes : preorder tree ≡ cert.nodes
+  pub nodes : certificate_nodes tree ≡ cert.nodes
   pub like : IsTreeOf S.model [] S.tree.root tree

@@ -1,8 +1,8 @@
 -- What a certificate's printed text says.
 use Rattle.std.specs.Prelude.{List, ℕ}
 use Rattle.tree_edit.specs.Sound.{PlainSearch, IsSound}
-use Rattle.cert_check.specs.declared.cert.Cert.{Cert}
-use Rattle.cert_check.specs.Text.{MeantCertificate}
+use Rattle.cert_text.specs.declared.cert.Cert.{Cert}
+use Rattle.cert_text.specs.Text.{MeantCertificate}
 use Rattle.tree_cert.specs.Certificates.{IsCertificateOf}
 use Rattle.tree_cert.specs.CertText.{cert_text, HasCertWords, HasWordNames}
 

@@ -2,13 +2,13 @@
 use Rattle.std.specs.Prelude.{All}
 use Rattle.frac128.specs.Range.{Fits}
 use Rattle.lp_model.specs.Edits.{Named}
-use Rattle.cert_check.specs.declared.cert.Claim.{Claim}
-use Rattle.cert_check.specs.declared.cert.Claim.TheVariants.{Optimal, Infeasible}
-use Rattle.cert_check.specs.declared.cert.CertLeaf.{CertLeaf}
-use Rattle.cert_check.specs.declared.cert.CertLeaf.TheVariants.{Bound, Farkas, Empty}
-use Rattle.cert_check.specs.declared.cert.CertNode.{CertNode}
-use Rattle.cert_check.specs.declared.cert.CertNode.TheVariants.{Split, Leaf}
-use Rattle.cert_check.specs.declared.cert.Cert.{Cert}
+use Rattle.cert_text.specs.declared.cert.Claim.{Claim}
+use Rattle.cert_text.specs.declared.cert.Claim.TheVariants.{Optimal, Infeasible}
+use Rattle.cert_text.specs.declared.cert.CertMult.{CertMult}
+use Rattle.cert_text.specs.declared.cert.CertMult.TheVariants.{Row, Cut}
+use Rattle.cert_text.specs.declared.cert.CertNode.{CertNode}
+use Rattle.cert_text.specs.declared.cert.CertNode.TheVariants.{Split, Bound, Farkas, Empty}
+use Rattle.cert_text.specs.declared.cert.Cert.{Cert}
 
 abbrev pub HasFractions : Named → Type 0
 HasFractions named = All (λ e. Fits e.1) named
@@ -22,14 +22,15 @@ abbrev pub HasPointRoom : Claim → Named → Type 0
 HasPointRoom (Optimal v) named = HasFractions named
 HasPointRoom Infeasible named = Unit {0}
 
-abbrev pub HasLeafRoom : CertLeaf → Type 0
-HasLeafRoom (Bound named) = HasFractions named
-HasLeafRoom (Farkas named) = HasFractions named
-HasLeafRoom Empty = Unit {0}
+abbrev pub MultFits : CertMult → Type 0
+MultFits (Row name v) = Fits v
+MultFits (Cut k v) = Fits v
 
 abbrev pub HasNodeRoom : CertNode → Type 0
 HasNodeRoom (Split col v) = Unit {0}
-HasNodeRoom (Leaf leaf) = HasLeafRoom leaf
+HasNodeRoom (Bound mults) = All MultFits mults
+HasNodeRoom (Farkas mults) = All MultFits mults
+HasNodeRoom Empty = Unit {0}
 
 pub record HasCertRoom (cert : Cert) : Type 0 where
   pub claim : HasClaimRoom cert.claim

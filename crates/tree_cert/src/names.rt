@@ -1,9 +1,12 @@
 // Numbers beside the names of rows and columns.
 ghost use Rattle.std.specs.Prelude.{◌≡◌, ◌<◌, ◌++◌, [], length, IfOk};
-ghost use Rattle.tree_edit.specs.Lists.{IsRowThere, AreMultipliers};
-ghost use Rattle.tree_cert.specs.Certificates.{column_name, row_name, named_rows, unless_zero, nonzero_numbers};
+ghost use Rattle.lp_model.specs.Formulations.{without_cuts};
+ghost use Rattle.tree_edit.specs.Lists.{IsActivityThere, AreMultipliers};
+ghost use Rattle.tree_cert.specs.Certificates.{activity_name, row_mults, unless_zero, nonzero_numbers};
+ghost use Rattle.lp_model.specs.Lawful.{column_name};
 ghost use Rattle.lp_model.specs.declared.types.Var.TheVariants.{Row};
 
+use cert_text::CertMult;
 use frac128::Frac;
 use lp_model::{Col, ColId, List, Model, Name, Point, RowId, Var};
 use std::alloc::{AllocError, Global};
@@ -20,7 +23,7 @@ pub(crate) fn column_name(alloc: Global, model: &Model, col: ColId) -> Result<Na
 /// The name of a row.
 fn name_of_row(alloc: Global, model: &Model, row: RowId) -> Result<Name, AllocError>
     requires { row.0 < length model.now.rows }
-    ensures { IfOk result (λ name. name ≡ row_name model.now (Row row)) }
+    ensures { IfOk result (λ name. name ≡ activity_name model.now (Row row)) }
 {
     let found = &model.rows()[row.0 as usize];
     Name::from_slice(alloc, found.name.as_slice())
@@ -28,8 +31,8 @@ fn name_of_row(alloc: Global, model: &Model, row: RowId) -> Result<Name, AllocEr
 
 /// The name of the row that a multiplier is for. Multipliers are those of rows.
 fn row_name(alloc: Global, model: &Model, var: Var) -> Result<Name, AllocError>
-    requires { IsRowThere model.now var }
-    ensures { IfOk result (λ name. name ≡ row_name model.now var) }
+    requires { IsActivityThere (without_cuts model.now) var }
+    ensures { IfOk result (λ name. name ≡ activity_name model.now var) }
 {
     match var {
         Var::Row(row) => name_of_row(alloc, model, row),
@@ -37,21 +40,21 @@ fn row_name(alloc: Global, model: &Model, var: Var) -> Result<Name, AllocError>
     }
 }
 
-/// Multipliers beside the names of their rows.
-pub(crate) fn named_rows(
+/// Multipliers by the names of their rows.
+pub(crate) fn row_mults(
     alloc: Global,
     model: &Model,
     mult: &[(Var, Frac)],
-) -> Result<List<(Name, Frac)>, AllocError>
-    requires { AreMultipliers model.now mult.now }
-    ensures { IfOk result (λ named. named ≡ named_rows model.now mult.now) }
+) -> Result<List<CertMult>, AllocError>
+    requires { AreMultipliers (without_cuts model.now) mult.now }
+    ensures { IfOk result (λ mults. mults ≡ row_mults model.now mult.now) }
 {
-    let mut named = List::new(alloc);
+    let mut mults = List::new(alloc);
     for (var, number) in mult {
         let name = row_name(alloc, model, *var)?;
-        named.push((name, *number))?;
+        mults.push(CertMult::Row(name, *number))?;
     }
-    Ok(named)
+    Ok(mults)
 }
 
 /// A number beside the name of its column, where it is not 0.

@@ -1,14 +1,14 @@
 // The text of a certificate.
 ghost use Rattle.std.specs.Prelude.{◌≡◌, ◌++◌, ◌∷◌, [], map, codes, IfOk, OnOk, All};
-ghost use Rattle.std.specs.Fmt.{signed_decimal};
+ghost use Rattle.std.specs.Fmt.{decimal, signed_decimal};
 ghost use Rattle.frac128.specs.Range.{Fits};
 ghost use Rattle.frac128.specs.Printing.{printed};
-ghost use Rattle.cert_check.specs.Text.{MeantCertificate};
-ghost use Rattle.cert_check.specs.Whole.{IsCertificate};
-ghost use Rattle.tree_cert.specs.CertText.{named_words, row_words, claim_words, leaf_words, node_words, point_lines, spaced, line_text, lines_text, cert_text, HasCertWords};
-ghost use Rattle.tree_cert.specs.Printed.{HasFractions, HasLeafRoom, HasNodeRoom, HasClaimRoom, HasPointRoom};
+ghost use Rattle.cert_text.specs.Text.{MeantCertificate};
+ghost use Rattle.cert_text.specs.Whole.{IsCertificate};
+ghost use Rattle.tree_cert.specs.CertText.{named_words, mult_words, all_mult_words, claim_words, node_words, point_lines, spaced, line_text, lines_text, cert_text, HasCertWords};
+ghost use Rattle.tree_cert.specs.Printed.{HasFractions, MultFits, HasNodeRoom, HasClaimRoom, HasPointRoom};
 
-use cert_check::{Cert, CertLeaf, CertNode, Claim};
+use cert_text::{Cert, CertMult, CertNode, Claim};
 use frac128::Frac;
 use itoa::Buffer;
 use lp_model::Name;
@@ -54,14 +54,46 @@ fn put_named(text: &mut Vec<u8>, named: &[(Name, Frac)]) -> Result<(), AllocErro
     Ok(())
 }
 
-/// `row NAME V` for each.
-fn put_rows(text: &mut Vec<u8>, named: &[(Name, Frac)]) -> Result<(), AllocError>
-    ensures text { IfOk result (λ _. text.new.items ≡ text.old.items ++ spaced (row_words named.now)) }
-    ensures room { IfOk result (λ _. HasFractions named.now) }
+/// `row NAME V`.
+fn put_row(text: &mut Vec<u8>, name: &Name, number: &Frac) -> Result<(), AllocError>
+    ensures text { IfOk result (λ _. text.new.items ≡ text.old.items ++ spaced (codes "row" ∷ name.now ∷ printed number.now ∷ [])) }
+    ensures room { IfOk result (λ _. Fits number.now) }
 {
-    for (name, number) in named {
-        put_word(text, b"row")?;
-        put_pair(text, name, number)?;
+    put_word(text, b"row")?;
+    put_pair(text, name, number)?;
+    Ok(())
+}
+
+/// `cut K V`.
+fn put_cut(text: &mut Vec<u8>, cut: u64, number: &Frac) -> Result<(), AllocError>
+    ensures text { IfOk result (λ _. text.new.items ≡ text.old.items ++ spaced (codes "cut" ∷ decimal cut ∷ printed number.now ∷ [])) }
+    ensures room { IfOk result (λ _. Fits number.now) }
+{
+    let mut buffer = Buffer::new();
+    put_word(text, b"cut")?;
+    put_word(text, buffer.format(cut).as_bytes())?;
+    put_number(text, number)?;
+    Ok(())
+}
+
+/// A multiplier.
+fn put_mult(text: &mut Vec<u8>, mult: &CertMult) -> Result<(), AllocError>
+    ensures text { IfOk result (λ _. text.new.items ≡ text.old.items ++ spaced (mult_words mult.now)) }
+    ensures room { IfOk result (λ _. MultFits mult.now) }
+{
+    match mult {
+        CertMult::Row(name, number) => put_row(text, name, number),
+        CertMult::Cut(cut, number) => put_cut(text, *cut, number),
+    }
+}
+
+/// `row NAME V` and `cut K V` for each.
+fn put_mults(text: &mut Vec<u8>, mults: &[CertMult]) -> Result<(), AllocError>
+    ensures text { IfOk result (λ _. text.new.items ≡ text.old.items ++ spaced (all_mult_words mults.now)) }
+    ensures room { IfOk result (λ _. All MultFits mults.now) }
+{
+    for mult in mults {
+        put_mult(text, mult)?;
     }
     Ok(())
 }
@@ -77,24 +109,6 @@ fn put_claim(text: &mut Vec<u8>, claim: &Claim) -> Result<(), AllocError>
             put_number(text, value)
         }
         Claim::Infeasible => text.extend_from_slice(b"claim infeasible"),
-    }
-}
-
-/// A leaf's line.
-fn put_leaf(text: &mut Vec<u8>, leaf: &CertLeaf) -> Result<(), AllocError>
-    ensures text { IfOk result (λ _. text.new.items ≡ text.old.items ++ line_text (leaf_words leaf.now)) }
-    ensures room { IfOk result (λ _. HasLeafRoom leaf.now) }
-{
-    match leaf {
-        CertLeaf::Bound(named) => {
-            text.extend_from_slice(b"leaf bound")?;
-            put_rows(text, named.as_slice())
-        }
-        CertLeaf::Farkas(named) => {
-            text.extend_from_slice(b"leaf farkas")?;
-            put_rows(text, named.as_slice())
-        }
-        CertLeaf::Empty => text.extend_from_slice(b"leaf empty"),
     }
 }
 
@@ -115,7 +129,15 @@ fn put_node(text: &mut Vec<u8>, node: &CertNode) -> Result<(), AllocError>
 {
     match node {
         CertNode::Split { col, v } => put_split(text, col, *v),
-        CertNode::Leaf(leaf) => put_leaf(text, leaf),
+        CertNode::Bound(mults) => {
+            text.extend_from_slice(b"leaf bound")?;
+            put_mults(text, mults.as_slice())
+        }
+        CertNode::Farkas(mults) => {
+            text.extend_from_slice(b"leaf farkas")?;
+            put_mults(text, mults.as_slice())
+        }
+        CertNode::Empty => text.extend_from_slice(b"leaf empty"),
     }
 }
 

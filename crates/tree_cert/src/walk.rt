@@ -5,10 +5,10 @@ ghost use Rattle.lp_model.specs.Regions.{at_most, at_least};
 ghost use Rattle.cert_check.specs.Walk.{after_leaf};
 ghost use Rattle.tree_cert.specs.Walked.{path_after, IsNodeOf, AreNodesOf, IsFit, AreFit, HasTurns};
 
-use crate::leaf::reason;
+use crate::leaf::leaf_node;
 use crate::names::column_name;
 use branch_tree::Node;
-use cert_check::CertNode;
+use cert_text::CertNode;
 use lp_model::{BoundChange, ColId, List, Model, Side};
 use std::alloc::{AllocError, Global};
 
@@ -82,7 +82,7 @@ fn cert_node(
             col: column_name(alloc, model, *col)?,
             v: *v,
         }),
-        Node::Leaf { kept, .. } => Ok(CertNode::Leaf(reason(alloc, model, path, kept)?)),
+        Node::Leaf { kept, .. } => leaf_node(alloc, model, path, kept),
     }
 }
 

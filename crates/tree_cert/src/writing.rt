@@ -5,14 +5,14 @@ ghost use Rattle.tree_edit.specs.Laws.{HasNoOpenLeaf};
 ghost use Rattle.tree_edit.specs.Sound.{IsSound};
 ghost use Rattle.tree_edit.specs.Points.{IsIncumbent};
 ghost use Rattle.cert_check.specs.Verdict.{IsVerdict};
-ghost use Rattle.cert_check.specs.Whole.{IsCertificate};
+ghost use Rattle.cert_text.specs.Whole.{IsCertificate};
 ghost use Rattle.cert_check.specs.declared.verdict.Verdict.TheVariants.{Accepted};
 ghost use Rattle.tree_cert.specs.Walked.{AreOfTree};
 ghost use Rattle.tree_cert.specs.Certificates.{claim_of, point_numbers, IsCertificateOf};
 
 use crate::names::nonzero_numbers;
 use crate::walk::cert_nodes;
-use cert_check::{Cert, CertNode, Claim};
+use cert_text::{Cert, CertNode, Claim};
 use frac128::Frac;
 use lp_model::{List, Name, Sense};
 use std::alloc::{AllocError, Global};

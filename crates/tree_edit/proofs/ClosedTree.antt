@@ -8,7 +8,9 @@ use Rattle.rational.proofs.RationalOrder.{≤ℚ_trans, not_both_ℚ}
 use Rattle.rational.proofs.Division.{≤ℚ-min}
 use Rattle.lp_model.specs.Program.{Program, Point, least_value, IsFeasible, IsOptimum, IsEmpty}
 use Rattle.lp_model.specs.Regions.{Path, InRegion}
+use Rattle.lp_model.specs.Formulations.{Formulation, IsValid}
 use Rattle.lp_model.proofs.RegionLemmas.{empty_region}
+use Rattle.lp_model.proofs.FormulationLemmas.{valid-without_cuts}
 use Rattle.leaf_dual.specs.Dual.{Multipliers}
 use Rattle.leaf_dual.specs.declared.dual.LagValue.TheVariants.{Num}
 use Rattle.leaf_dual.proofs.WeakDuality.{lag_answer-bound, farkas_answer-none, closes-bound}
@@ -18,43 +20,43 @@ use Rattle.branch_tree.specs.declared.node.LeafState.{LeafState}
 use Rattle.branch_tree.specs.declared.node.LeafState.TheVariants.{IsOpen, IsClosed}
 use Rattle.branch_tree.specs.declared.node.LeafData.{LeafData}
 use Rattle.branch_tree.proofs.TreeLemmas.{point_in_one_leaf, leaf_with_both}
-use Rattle.tree_edit.specs.declared.judging.LeafNumber.{LeafNumber}
-use Rattle.tree_edit.specs.declared.judging.LeafNumber.TheVariants.{Empty, Lag, Wide}
-use Rattle.tree_edit.specs.Closing.{IsRefuted, IsSetAside, IsNumber, NumberCloses, StateSays, IsJudgedLeaf}
+use Rattle.leaf_judging.specs.declared.closing.LeafNumber.{LeafNumber}
+use Rattle.leaf_judging.specs.declared.closing.LeafNumber.TheVariants.{Empty, Lag, Wide}
+use Rattle.leaf_judging.specs.Closing.{IsRefuted, IsSetAside, IsNumber, NumberCloses, StateSays, IsJudgedLeaf}
 use Rattle.tree_edit.specs.Points.{IsKeepable, lesser, target, IsIncumbent, IsIncumbentAt}
-use Rattle.tree_edit.specs.Sound.{PlainSearch, IsSound}
+use Rattle.tree_edit.specs.Sound.{PlainSearch, formulation_of, IsSound}
 use Rattle.tree_edit.specs.Laws.{HasNoOpenLeaf, IsNoBetter, IsBelowLeaf, IsBelowOpen}
 
 -- ---- one leaf
 
-module _ (M : Program) (y : Point) (feasible : IsFeasible M y) (path : Path) (inside : InRegion path y) where
-  refuted-none : (mult : Multipliers) → ¬ IsRefuted M path mult
+module _ (F : Formulation) (valid : IsValid F) (y : Point) (feasible : IsFeasible F.model y) (path : Path) (inside : InRegion path y) where
+  refuted-none : (mult : Multipliers) → ¬ IsRefuted F path mult
   refuted-none [] h = h
-  refuted-none (m ∷ ms) h = farkas_answer-none M path (m ∷ ms) y feasible h.0 h.1.0 h.1.1 inside
+  refuted-none (m ∷ ms) h = farkas_answer-none F path (m ∷ ms) y valid feasible inside h.0 h.1.0 h.1.1
 
-  pub set_aside-none : (farkas : Multipliers) → ¬ IsSetAside M path farkas
+  pub set_aside-none : (farkas : Multipliers) → ¬ IsSetAside F path farkas
   set_aside-none farkas aside =
       elim aside [
-        | inl empty ↦ empty_region M y path empty feasible inside
+        | inl empty ↦ empty_region F.model y path empty feasible inside
         | inr refuted ↦ refuted-none farkas refuted
       ]
 
   -- a point of a leaf that closes is no better than the value against which it closes
-  pub number-bound : (t : Option ℚ) (mult farkas : Multipliers) (n : LeafNumber) → IsNumber M path mult farkas n → NumberCloses M t n → IsNoBetter M t y
+  pub number-bound : (t : Option ℚ) (mult farkas : Multipliers) (n : LeafNumber) → IsNumber F path mult farkas n → NumberCloses F.model t n → IsNoBetter F.model t y
   number-bound t mult farkas Empty is closes = absurd (set_aside-none farkas is)
   number-bound None mult farkas (Lag v) is closes = closes
   number-bound (Some t) mult farkas (Lag v) is closes =
       elim closes [
-        | inl plain ↦ closes-bound M path mult v t false is.1 (λ e. let f : false ≡ true = e in cc) plain y feasible inside
-        | inr rounded ↦ closes-bound M path mult v t true is.1 (λ e. rounded.0) rounded.1 y feasible inside
+        | inl plain ↦ closes-bound F path mult y valid feasible inside v t false is.1 (λ e. let f : false ≡ true = e in cc) plain
+        | inr rounded ↦ closes-bound F path mult y valid feasible inside v t true is.1 (λ e. rounded.0) rounded.1
       ]
   number-bound t mult farkas (Wide step) is closes = absurd closes
 
-  pub judged-bound : (t : Option ℚ) (kept : LeafData) → IsJudgedLeaf M t path kept → kept.state ≡ IsClosed → IsNoBetter M t y
-  judged-bound t kept judged closed = number-bound t kept.mult kept.farkas judged.number judged.number_is (subst (λ s. StateSays s (NumberCloses M t judged.number)) closed judged.says)
+  pub judged-bound : (t : Option ℚ) (kept : LeafData) → IsJudgedLeaf F t path kept → kept.state ≡ IsClosed → IsNoBetter F.model t y
+  judged-bound t kept judged closed = number-bound t kept.mult kept.farkas judged.number judged.number_is (subst (λ s. StateSays s (NumberCloses F.model t judged.number)) closed judged.says)
 
-  below-bound : (b : ℚ) (l : LeafKept) → IsBelowLeaf M b path l → b ≤ℚ least_value M 1 y
-  below-bound b l below = ≤ℚ_trans below.1.1 (lag_answer-bound M path l.kept.mult y feasible (Num below.0) below.1.0.1 inside)
+  below-bound : (b : ℚ) (l : LeafKept) → IsBelowLeaf F b path l → b ≤ℚ least_value F.model 1 y
+  below-bound b l below = ≤ℚ_trans below.1.1 (lag_answer-bound F path l.kept.mult y valid feasible inside (Num below.0) below.1.0.1)
 
 -- ---- the least value of the points
 
@@ -86,9 +88,9 @@ module _ (S : PlainSearch) (sound : IsSound S) where
   pub closed-bound : HasNoOpenLeaf S → (y : Point) → IsFeasible S.model y → IsNoBetter S.model (target S.model S.points) y
   closed-bound closed y feasible =
       let one = point_in_one_leaf S.model S.tree.root y sound.tree.lawful feasible in
-      let both = leaf_with_both (λ path l. InRegion path y) (λ path l. IsJudgedLeaf S.model (target S.model S.points) path l.kept × (l.kept.state ≡ IsClosed)) [] S.tree.root
-      (each_both (λ path l. IsJudgedLeaf S.model (target S.model S.points) path l.kept) (λ path l. l.kept.state ≡ IsClosed) [] S.tree.root sound.judged closed) one in
-      judged-bound S.model y feasible both.0 both.1.1.0 (target S.model S.points) both.1.0.kept both.1.1.1.0 both.1.1.1.1
+      let both = leaf_with_both (λ path l. InRegion path y) (λ path l. IsJudgedLeaf (formulation_of S) (target S.model S.points) path l.kept × (l.kept.state ≡ IsClosed)) [] S.tree.root
+      (each_both (λ path l. IsJudgedLeaf (formulation_of S) (target S.model S.points) path l.kept) (λ path l. l.kept.state ≡ IsClosed) [] S.tree.root sound.judged closed) one in
+      judged-bound (formulation_of S) (valid-without_cuts S.model) y feasible both.0 both.1.1.0 (target S.model S.points) both.1.0.kept both.1.1.1.0 both.1.1.1.1
 
 pub sound-empty : (S : PlainSearch) → IsSound S → HasNoOpenLeaf S → S.points ≡ [] → IsEmpty S.model
 sound-empty S sound closed none y feasible =
@@ -110,11 +112,11 @@ pub sound-bound : (S : PlainSearch) (b : ℚ) → IsSound S → IsBelowOpen S b 
     (b ≤ℚ least_value S.model 1 y) ⊎ IsNoBetter S.model (target S.model S.points) y
 sound-bound S b sound below y feasible =
     let one = point_in_one_leaf S.model S.tree.root y sound.tree.lawful feasible in
-    let both = leaf_with_both (λ path l. InRegion path y) (λ path l. IsJudgedLeaf S.model (target S.model S.points) path l.kept × (l.kept.state ≡ IsOpen → IsBelowLeaf S.model b path l)) [] S.tree.root
-    (each_both (λ path l. IsJudgedLeaf S.model (target S.model S.points) path l.kept) (λ path l. l.kept.state ≡ IsOpen → IsBelowLeaf S.model b path l) [] S.tree.root sound.judged below) one in
+    let both = leaf_with_both (λ path l. InRegion path y) (λ path l. IsJudgedLeaf (formulation_of S) (target S.model S.points) path l.kept × (l.kept.state ≡ IsOpen → IsBelowLeaf (formulation_of S) b path l)) [] S.tree.root
+    (each_both (λ path l. IsJudgedLeaf (formulation_of S) (target S.model S.points) path l.kept) (λ path l. l.kept.state ≡ IsOpen → IsBelowLeaf (formulation_of S) b path l) [] S.tree.root sound.judged below) one in
     by both.0 both.1.0 both.1.0.kept.state refl both.1.1.0 both.1.1.1.0 both.1.1.1.1
   where
-    by : (path : Path) (l : LeafKept) (s : LeafState) → l.kept.state ≡ s → InRegion path y → IsJudgedLeaf S.model (target S.model S.points) path l.kept → (l.kept.state ≡ IsOpen → IsBelowLeaf S.model b path l) →
+    by : (path : Path) (l : LeafKept) (s : LeafState) → l.kept.state ≡ s → InRegion path y → IsJudgedLeaf (formulation_of S) (target S.model S.points) path l.kept → (l.kept.state ≡ IsOpen → IsBelowLeaf (formulation_of S) b path l) →
         (b ≤ℚ least_value S.model 1 y) ⊎ IsNoBetter S.model (target S.model S.points) y
-    by path l IsOpen e inside judged h = inl (below-bound S.model y feasible path inside b l (h e))
-    by path l IsClosed e inside judged h = inr (judged-bound S.model y feasible path inside (target S.model S.points) l.kept judged e)
+    by path l IsOpen e inside judged h = inl (below-bound (formulation_of S) (valid-without_cuts S.model) y feasible path inside b l (h e))
+    by path l IsClosed e inside judged h = inr (judged-bound (formulation_of S) (valid-without_cuts S.model) y feasible path inside (target S.model S.points) l.kept judged e)

@@ -2,18 +2,19 @@
 use Rattle.std.specs.Prelude.{◌≡◌, ◌⊎◌, ℕ, List, [], ◌∷◌, ◌++◌, Some, None, ℤ}
 use Rattle.std.proofs.Common.{refl, sym, subst, inl, inr}
 use Rattle.std.proofs.lemmas.List.{map-append}
-use Rattle.lp_model.specs.Program.{Program}
 use Rattle.lp_model.specs.Regions.{Path}
+use Rattle.lp_model.specs.Formulations.{Formulation}
 use Rattle.branch_tree.specs.Tree.{Leaf, Split, leaves, left_path, right_path, EachLeaf}
 use Rattle.branch_tree.specs.Plain.{SplitKept, Plain}
 use Rattle.branch_tree.specs.Leaves.{region_leaf, region_leaves}
 use Rattle.branch_tree.specs.declared.node.LeafState.TheVariants.{IsClosed}
 use Rattle.branch_tree.specs.declared.node.RegionLeaf.{RegionLeaf}
-use Rattle.tree_edit.specs.declared.choosing.Candidate.{Candidate}
-use Rattle.tree_edit.specs.declared.queue.LeafQueue.{LeafQueue}
-use Rattle.tree_edit.specs.Choosing.{GoesFirst, IsCandidate, IsOneOf, GoesBeforeAll, AreClosed, IsNext}
-use Rattle.tree_edit.specs.Sound.{PlainSearch}
-use Rattle.tree_edit.specs.Queued.{HasNone, IsFrontOf, SomeLeaf, IsQueued, IsQueueOf}
+use Rattle.leaf_judging.specs.declared.choosing.Candidate.{Candidate}
+use Rattle.leaf_judging.specs.declared.queue.LeafQueue.{LeafQueue}
+use Rattle.leaf_judging.specs.Choosing.{GoesFirst, IsCandidate, IsOneOf, GoesBeforeAll, AreClosed}
+use Rattle.tree_edit.specs.Calls.{IsNext}
+use Rattle.tree_edit.specs.Sound.{PlainSearch, formulation_of}
+use Rattle.leaf_judging.specs.Queued.{HasNone, IsFrontOf, SomeLeaf, IsQueued, IsQueueOf}
 use Rattle.tree_edit.proofs.SoundLemmas.{each-weaker}
 
 two-parts : (path : Path) (kept : SplitKept) (j : ℕ) (v : ℤ) (left right : Plain) → region_leaves path (Split kept j v left right) ≡ region_leaves (left_path path j v) left ++ region_leaves (right_path path j v) right
@@ -33,51 +34,51 @@ closed-leaves path (Split kept j v left right) h =
 
 -- ---- one that goes first
 
-module _ (M : Program) (c : Candidate) where
+module _ (F : Formulation) (c : Candidate) where
   abbrev IsLater : RegionLeaf → Type 0
-  IsLater l = (l.kept.state ≡ IsClosed) ⊎ ((d : Candidate) × (IsCandidate M l d × GoesFirst c.rank c.id d.rank d.id))
+  IsLater l = (l.kept.state ≡ IsClosed) ⊎ ((d : Candidate) × (IsCandidate F l d × GoesFirst c.rank c.id d.rank d.id))
 
-  one-left : (ls ms : List RegionLeaf) → IsOneOf M ls c → IsOneOf M (ls ++ ms) c
+  one-left : (ls ms : List RegionLeaf) → IsOneOf F ls c → IsOneOf F (ls ++ ms) c
   one-left [] ms h = absurd h
   one-left (l ∷ ls) ms (inl h) = inl h
   one-left (l ∷ ls) ms (inr h) = inr (one-left ls ms h)
 
-  one-right : (ls ms : List RegionLeaf) → IsOneOf M ms c → IsOneOf M (ls ++ ms) c
+  one-right : (ls ms : List RegionLeaf) → IsOneOf F ms c → IsOneOf F (ls ++ ms) c
   one-right [] ms h = h
   one-right (l ∷ ls) ms h = inr (one-right ls ms h)
 
-  one-leaf : (path : Path) (t : Plain) → SomeLeaf (λ p l. IsCandidate M (region_leaf (p, l)) c) path t → IsOneOf M (region_leaves path t) c
+  one-leaf : (path : Path) (t : Plain) → SomeLeaf (λ p l. IsCandidate F (region_leaf (p, l)) c) path t → IsOneOf F (region_leaves path t) c
   one-leaf path (Leaf l) h = inl h
   one-leaf path (Split kept j v left right) (inl h) =
-      subst (λ ls. IsOneOf M ls c) (sym (two-parts path kept j v left right)) (one-left (region_leaves (left_path path j v) left) (region_leaves (right_path path j v) right) (one-leaf (left_path path j v) left h))
+      subst (λ ls. IsOneOf F ls c) (sym (two-parts path kept j v left right)) (one-left (region_leaves (left_path path j v) left) (region_leaves (right_path path j v) right) (one-leaf (left_path path j v) left h))
   one-leaf path (Split kept j v left right) (inr h) =
-      subst (λ ls. IsOneOf M ls c) (sym (two-parts path kept j v left right)) (one-right (region_leaves (left_path path j v) left) (region_leaves (right_path path j v) right) (one-leaf (right_path path j v) right h))
+      subst (λ ls. IsOneOf F ls c) (sym (two-parts path kept j v left right)) (one-right (region_leaves (left_path path j v) left) (region_leaves (right_path path j v) right) (one-leaf (right_path path j v) right h))
 
-  before-append : (ls ms : List RegionLeaf) → GoesBeforeAll M c ls → GoesBeforeAll M c ms → GoesBeforeAll M c (ls ++ ms)
+  before-append : (ls ms : List RegionLeaf) → GoesBeforeAll F c ls → GoesBeforeAll F c ms → GoesBeforeAll F c (ls ++ ms)
   before-append [] ms h k = k
   before-append (l ∷ ls) ms h k = (h.0, before-append ls ms h.1 k)
 
-  before-leaves : (path : Path) (t : Plain) → EachLeaf (λ p l. IsLater (region_leaf (p, l))) path t → GoesBeforeAll M c (region_leaves path t)
+  before-leaves : (path : Path) (t : Plain) → EachLeaf (λ p l. IsLater (region_leaf (p, l))) path t → GoesBeforeAll F c (region_leaves path t)
   before-leaves path (Leaf l) h = (h, tt)
   before-leaves path (Split kept j v left right) h =
-      subst (GoesBeforeAll M c) (sym (two-parts path kept j v left right))
+      subst (GoesBeforeAll F c) (sym (two-parts path kept j v left right))
       (before-append (region_leaves (left_path path j v) left) (region_leaves (right_path path j v) right) (before-leaves (left_path path j v) left h.0) (before-leaves (right_path path j v) right h.1))
 
 -- ---- the next leaf
 
-pub next-none : (S : PlainSearch) (queue : LeafQueue) → IsQueueOf S.model S.tree.root queue → HasNone queue → IsNext S None
+pub next-none : (S : PlainSearch) (queue : LeafQueue) → IsQueueOf (formulation_of S) S.tree.root queue → HasNone queue → IsNext S None
 next-none S queue is none =
     closed-leaves [] S.tree.root
-    (each-weaker (IsQueued S.model queue) (λ p l. l.kept.state ≡ IsClosed) (λ p l h. elim h [ inl e ↦ e | inr k ↦ absurd (none k.0 k.1.1) ]) [] S.tree.root is.each)
+    (each-weaker (IsQueued (formulation_of S) queue) (λ p l. l.kept.state ≡ IsClosed) (λ p l h. elim h [ inl e ↦ e | inr k ↦ absurd (none k.0 k.1.1) ]) [] S.tree.root is.each)
 
-pub next-some : (S : PlainSearch) (queue : LeafQueue) (c : Candidate) → IsQueueOf S.model S.tree.root queue → IsFrontOf queue c → IsNext S (Some c.id)
+pub next-some : (S : PlainSearch) (queue : LeafQueue) (c : Candidate) → IsQueueOf (formulation_of S) S.tree.root queue → IsFrontOf queue c → IsNext S (Some c.id)
 next-some S queue c is front = (
   c,
   (
     (
-      one-leaf S.model c [] S.tree.root (is.only c front.0),
-      before-leaves S.model c [] S.tree.root
-          (each-weaker (IsQueued S.model queue) (λ p l. IsLater S.model c (region_leaf (p, l))) (λ p l h. elim h [ inl e ↦ inl e | inr k ↦ inr (k.0, (k.1.0, front.1 k.0 k.1.1)) ]) [] S.tree.root is.each),
+      one-leaf (formulation_of S) c [] S.tree.root (is.only c front.0),
+      before-leaves (formulation_of S) c [] S.tree.root
+          (each-weaker (IsQueued (formulation_of S) queue) (λ p l. IsLater (formulation_of S) c (region_leaf (p, l))) (λ p l h. elim h [ inl e ↦ inl e | inr k ↦ inr (k.0, (k.1.0, front.1 k.0 k.1.1)) ]) [] S.tree.root is.each),
     ),
     refl,
   ),

@@ -1,11 +1,11 @@
 -- The open leaf of a result, and what its answer means for the whole search.
 use Rattle.std.specs.Prelude.{◌≡◌, ℕ, [], Option, Some, None, IfOk, Result, Ok, Err, MatchOption}
-use Rattle.std.specs.Option.{option_map}
-use Rattle.std.proofs.Common.{refl, subst, sym, arith}
+use Rattle.std.proofs.Common.{subst, sym, arith}
 use Rattle.lp_model.specs.Program.{Program}
 use Rattle.lp_model.specs.Regions.{Path, AreNarrow}
+use Rattle.lp_model.specs.Formulations.{without_cuts}
 use Rattle.branch_tree.specs.Tree.{Leaf, Split, left_path, right_path, EachLeaf}
-use Rattle.branch_tree.specs.Plain.{LeafKept, Plain, leaf_below, leaves_with, data_of, path_of}
+use Rattle.branch_tree.specs.Plain.{Plain, leaf_below, leaves_with, data_of, path_of}
 use Rattle.branch_tree.specs.Changes.{HasLeaf}
 use Rattle.branch_tree.specs.declared.node.LeafData.{LeafData}
 use Rattle.branch_tree.specs.declared.node.LeafState.TheVariants.{IsOpen}
@@ -15,28 +15,25 @@ use Rattle.branch_tree.proofs.PathLaws.{narrow_paths, path-found, each-found}
 use Rattle.tree_edit.specs.declared.placing.Taken.{Taken}
 use Rattle.tree_edit.specs.declared.placing.Taken.TheVariants.{Stale, Refused, Reopened, Full, Closed, Split as SplitTaken, Kept}
 use Rattle.tree_edit.specs.Lists.{HasLists, HasNodeLists}
-use Rattle.tree_edit.specs.Sound.{PlainSearch, IsSound}
+use Rattle.tree_edit.specs.Sound.{PlainSearch, formulation_of, IsSound}
 use Rattle.tree_edit.specs.Calls.{IsLeafAt}
-use Rattle.tree_edit.specs.Placing.{TakesResult, IsStale, IsOpenLeaf, Takes}
+use Rattle.tree_edit.specs.Placing.{TakesResult, IsStale, IsOpenPlace, Takes}
 use Rattle.tree_edit.proofs.SoundLemmas.{is_at}
+use Rattle.tree_edit.proofs.QueuedLemmas.{leaf_of_data}
 
 -- ---- the leaf
 
-each-lists : (M : Program) (path : Path) (t : Plain) → HasNodeLists M t → EachLeaf (λ p l. HasLists M l.kept) path t
+each-lists : (M : Program) (path : Path) (t : Plain) → HasNodeLists (without_cuts M) t → EachLeaf (λ p l. HasLists (without_cuts M) l.kept) path t
 each-lists M path (Leaf l) h = h
 each-lists M path (Split kept j v left right) h = (each-lists M (left_path path j v) left h.1.0, each-lists M (right_path path j v) right h.1.1)
 
 pub some_same : {A : Type 0} (a b : A) → Some a ≡ Some b → a ≡ b
 some_same a b h = cc
 
-leaf_of_data : (o : Option (Path × LeafKept)) (kept : LeafData) → option_map (λ (l : Path × LeafKept). l.1.kept) o ≡ Some kept → (l : Path × LeafKept) × ((o ≡ Some l) × (l.1.kept ≡ kept))
-leaf_of_data None kept h = absurd (cc)
-leaf_of_data (Some l) kept h = (l, (refl, some_same l.1.kept kept h))
-
-pub lists-found : (S : PlainSearch) (id : ℕ) (kept : LeafData) → IsSound S → data_of id S.tree.root ≡ Some kept → HasLists S.model kept
+pub lists-found : (S : PlainSearch) (id : ℕ) (kept : LeafData) → IsSound S → data_of id S.tree.root ≡ Some kept → HasLists (formulation_of S) kept
 lists-found S id kept sound found =
     let l = leaf_of_data (leaf_below id [] S.tree.root) kept found in
-    subst (HasLists S.model) l.1.1 (each-found (λ p k. HasLists S.model k.kept) id [] S.tree.root l.0 (each-lists S.model [] S.tree.root sound.tree.lists) l.1.0).0
+    subst (HasLists (formulation_of S)) l.1.1 (each-found (λ p k. HasLists (formulation_of S) k.kept) id [] S.tree.root l.0 (each-lists S.model [] S.tree.root sound.tree.lists) l.1.0).0
 
 pub narrow-found : (S : PlainSearch) (id : ℕ) (path : Path) → IsSound S → path_of id S.tree.root ≡ Some path → AreNarrow path
 narrow-found S id path sound at = path-found AreNarrow id S.tree.root path (narrow_paths [] S.tree.root sound.tree.narrow tt) at
@@ -44,15 +41,12 @@ narrow-found S id path sound at = path-found AreNarrow id S.tree.root path (narr
 -- its region, where the leaf with these data is open
 module _ (S : PlainSearch) (id : ℕ) (kept : LeafData) (sound : IsSound S) (has : HasLeaf S.tree id) (data_is : data_of id S.tree.root ≡ Some kept) (is_open : kept.state ≡ IsOpen) where
   pub open-found : {E : Type 0} (r : Result (Option Path) E) → IfOk r (λ p. p ≡ path_of id S.tree.root) → IfOk r (λ p. MatchOption p (leaves_with id S.tree.root ≡ 0) (λ _. HasLeaf S.tree id))
-      → IfOk r (λ p. MatchOption p (IsStale S id) (λ path. IsOpenLeaf S id path))
+      → IfOk r (λ p. MatchOption p (IsStale S id) (λ path. IsOpenPlace S id path))
   open-found (Err e) at found = at
   open-found (Ok None) at found = absurd (omega (arith, has, found))
   open-found (Ok (Some path)) at found = record {
-    kept = kept;
-    leaf = record { path_is = sym at; data_is = data_is };
-    state = is_open;
-    has = has;
-    at = is_at id path S.tree.root has (sym at);
+    is_open = record { kept = kept; leaf = record { path_is = sym at; data_is = data_is }; state = is_open };
+    leaf = record { has = has; at = is_at id path S.tree.root has (sym at) };
     narrow = narrow-found S id path sound (sym at);
   }
 

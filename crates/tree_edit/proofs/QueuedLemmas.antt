@@ -3,17 +3,13 @@ use Rattle.std.specs.Prelude.{◌≡◌, ◌≢◌, ℕ, ◌<◌, Bool, true, fa
 use Rattle.std.specs.Option.{MatchOption, option_map, option_or}
 use Rattle.std.proofs.Common.{refl, sym, subst, ap, ◌∙◌, arith, inl, inr}
 use Rattle.std.proofs.lemmas.Bool.{cases_lt}
-use Rattle.rational.specs.Rational.{ℚ}
-use Rattle.lp_model.specs.Program.{Program}
 use Rattle.lp_model.specs.Regions.{Path}
 use Rattle.branch_tree.specs.Tree.{Tree, Leaf, Split, left_path, right_path, EachLeaf}
 use Rattle.branch_tree.specs.Plain.{LeafKept, Plain, leaves_with, leaf_below, data_of, replaced}
 use Rattle.branch_tree.specs.declared.node.LeafData.{LeafData}
 use Rattle.branch_tree.proofs.CountLemmas.{leaf_case, same_cases}
 use Rattle.branch_tree.proofs.LeafLemmas.{leaf_below-found, leaf_below-split}
-use Rattle.tree_edit.specs.Queued.{SomeLeaf, IsRank, HasRank, HasMultipliers}
-use Rattle.tree_edit.specs.Placing.{IsAt}
-use Rattle.tree_edit.proofs.ClosedTree.{each_both}
+use Rattle.leaf_judging.specs.Queued.{SomeLeaf, HasMultipliers, HasState}
 use Rattle.tree_edit.proofs.SoundLemmas.{each-weaker}
 
 -- ---- some leaf
@@ -97,7 +93,7 @@ module _ (id : ℕ) (found : Path × LeafKept) where
             found-none (right_path path j v) right (omega arith),
           )
 
-leaf_of_data : (o : Option (Path × LeafKept)) (kept : LeafData) → option_map (λ (l : Path × LeafKept). l.1.kept) o ≡ Some kept → (l : Path × LeafKept) × ((o ≡ Some l) × (l.1.kept ≡ kept))
+pub leaf_of_data : (o : Option (Path × LeafKept)) (kept : LeafData) → option_map (λ (l : Path × LeafKept). l.1.kept) o ≡ Some kept → (l : Path × LeafKept) × ((o ≡ Some l) × (l.1.kept ≡ kept))
 leaf_of_data None kept h = absurd (cc)
 leaf_of_data (Some l) kept h = (l, (refl, some_same l.1.kept kept h))
 
@@ -107,15 +103,12 @@ has-data id t kept one found =
     let l = leaf_of_data (leaf_below id [] t) kept found in
     each-weaker (λ p k. k.id ≡ id → k ≡ l.0.1) (λ p k. k.id ≡ id → k.kept ≡ kept) (λ p k h e. ap (λ (m : LeafKept). m.kept) (h e) ∙ l.1.1) [] t (found-one id l.0 [] t one l.1.0)
 
--- the rank of the leaf with the id
-pub has-rank : (M : Program) (t : Plain) (id : ℕ) (path : Path) (kept : LeafData) (r : Option ℚ) → leaves_with id t ≡ 1 → IsAt id path t → data_of id t ≡ Some kept → IsRank M path kept r → HasRank M t (record { rank = r; id = id })
-has-rank M t id path kept r one at found is =
-    each-weaker (λ p l. (l.id ≡ id → p ≡ path) × (l.id ≡ id → l.kept ≡ kept)) (λ p l. l.id ≡ id → IsRank M p l.kept r)
-    (λ p l h e. subst (λ q. IsRank M q l.kept r) (sym (h.0 e)) (subst (λ k. IsRank M path k r) (sym (h.1 e)) is)) [] t
-    (each_both (λ p l. l.id ≡ id → p ≡ path) (λ p l. l.id ≡ id → l.kept ≡ kept) [] t at (has-data id t kept one found))
-
--- and its multipliers
+-- its multipliers
 pub own-multipliers : (id : ℕ) (t : Plain) (kept : LeafData) → leaves_with id t ≡ 1 → data_of id t ≡ Some kept → HasMultipliers id kept t
 own-multipliers id t kept one found =
     each-weaker (λ p l. l.id ≡ id → l.kept ≡ kept) (λ p l. l.id ≡ id → (l.kept.mult ≡ kept.mult) × (l.kept.farkas ≡ kept.farkas))
     (λ p l h e. (ap (λ (k : LeafData). k.mult) (h e), ap (λ (k : LeafData). k.farkas) (h e))) [] t (has-data id t kept one found)
+
+-- and its state
+pub own-state : (id : ℕ) (t : Plain) (kept : LeafData) → leaves_with id t ≡ 1 → data_of id t ≡ Some kept → HasState id kept.state t
+own-state id t kept one found = each-weaker (λ p l. l.id ≡ id → l.kept ≡ kept) (λ p l. l.id ≡ id → l.kept.state ≡ kept.state) (λ p l h e. ap (λ (k : LeafData). k.state) (h e)) [] t (has-data id t kept one found)

@@ -5,6 +5,7 @@ use Rattle.std.proofs.Common.{refl, sym, subst, ◌∙◌, arith, inl, inr}
 use Rattle.rational.specs.Rational.{ℚ}
 use Rattle.lp_model.specs.Program.{Program}
 use Rattle.lp_model.specs.Regions.{Path}
+use Rattle.lp_model.specs.Formulations.{Formulation, without_cuts}
 use Rattle.branch_tree.specs.Tree.{Tree, Leaf, Split, left_path, right_path, EachLeaf}
 use Rattle.branch_tree.specs.Plain.{LeafKept, Plain, one_if_same, leaves_with, path_below, replaced}
 use Rattle.branch_tree.specs.Leaves.{leaf_count, with_state, with_states}
@@ -14,12 +15,12 @@ use Rattle.branch_tree.proofs.CountLemmas.{same_cases, leaf_case}
 use Rattle.branch_tree.proofs.LeafLemmas.{path_below-found, path_below-left, path_below-right}
 use Rattle.branch_tree.proofs.IdLemmas.{each_split-replaced}
 use Rattle.branch_tree.proofs.StateLemmas.{each_split-states}
-use Rattle.tree_edit.specs.Closing.{IsJudgedLeaf}
+use Rattle.leaf_judging.specs.Closing.{IsJudgedLeaf}
 use Rattle.tree_edit.specs.Points.{target}
 use Rattle.tree_edit.specs.Lists.{HasLists, HasNodeLists}
-use Rattle.tree_edit.specs.Judged.{AreJudged}
-use Rattle.tree_edit.specs.Sound.{PlainSearch, IsSoundTree, IsSound}
-use Rattle.tree_edit.specs.Queued.{HasMultipliers}
+use Rattle.leaf_judging.specs.Judged.{AreJudged}
+use Rattle.tree_edit.specs.Sound.{PlainSearch, IsSoundTree, IsSound, formulation_of}
+use Rattle.leaf_judging.specs.Queued.{HasMultipliers}
 use Rattle.tree_edit.specs.Placing.{IsAt, search_with_leaf}
 use Rattle.tree_edit.proofs.ClosedTree.{each_both}
 
@@ -41,7 +42,7 @@ one-same a b e none =
       | inr h ↦ h.1 e
     ]
 
-none_with : (id : ℕ) (path : Path) (t : Plain) → leaves_with id t ≡ 0 → EachLeaf (λ p l. l.id ≢ id) path t
+pub none_with : (id : ℕ) (path : Path) (t : Plain) → leaves_with id t ≡ 0 → EachLeaf (λ p l. l.id ≢ id) path t
 none_with id path (Leaf l) none = λ e. one-same l.id id e none
 none_with id path (Split kept j v left right) none = (none_with id (left_path path j v) left (omega arith), none_with id (right_path path j v) right (omega arith))
 
@@ -105,39 +106,39 @@ replaced-with P id at new path (Leaf l) h n = leaf_case (λ r k. EachLeaf P path
 replaced-with P id at new path (Split kept j v left right) h n = (replaced-with P id at new (left_path path j v) left h.0 n, replaced-with P id at new (right_path path j v) right h.1 n)
 
 module _ (M : Program) where
-  lists-states : (states : List LeafState) (t : Plain) → HasNodeLists M t → HasNodeLists M (with_states states t)
+  lists-states : (states : List LeafState) (t : Plain) → HasNodeLists (without_cuts M) t → HasNodeLists (without_cuts M) (with_states states t)
   lists-states [] (Leaf l) h = h
   lists-states (s ∷ states) (Leaf l) h = record { mult = h.mult; farkas = h.farkas; basis = h.basis }
   lists-states [] (Split kept j v left right) h = (h.0, (lists-states [] left h.1.0, lists-states (drop (leaf_count left) []) right h.1.1))
   lists-states (s ∷ states) (Split kept j v left right) h = (h.0, (lists-states (s ∷ states) left h.1.0, lists-states (drop (leaf_count left) (s ∷ states)) right h.1.1))
 
-  pub tree-states : (states : List LeafState) (t : Plain) → IsSoundTree M t → IsSoundTree M (with_states states t)
+  pub tree-states : (states : List LeafState) (t : Plain) → IsSoundTree (without_cuts M) t → IsSoundTree (without_cuts M) (with_states states t)
   tree-states states t h = record { lawful = each_split-states _ states t h.lawful; narrow = each_split-states _ states t h.narrow; lists = lists-states states t h.lists }
 
   -- ---- another tree in a leaf's place
 
-  lists-replaced : (id : ℕ) (new : Plain) → HasNodeLists M new → (t : Plain) → HasNodeLists M t → HasNodeLists M (replaced id new t)
-  lists-replaced id new n (Leaf l) h = leaf_case (λ r k. HasNodeLists M r) id new l (λ e. n) (λ e. h)
+  lists-replaced : (id : ℕ) (new : Plain) → HasNodeLists (without_cuts M) new → (t : Plain) → HasNodeLists (without_cuts M) t → HasNodeLists (without_cuts M) (replaced id new t)
+  lists-replaced id new n (Leaf l) h = leaf_case (λ r k. HasNodeLists (without_cuts M) r) id new l (λ e. n) (λ e. h)
   lists-replaced id new n (Split kept j v left right) h = (h.0, (lists-replaced id new n left h.1.0, lists-replaced id new n right h.1.1))
 
-  pub tree-replaced : (id : ℕ) (new t : Plain) → IsSoundTree M new → IsSoundTree M t → IsSoundTree M (replaced id new t)
+  pub tree-replaced : (id : ℕ) (new t : Plain) → IsSoundTree (without_cuts M) new → IsSoundTree (without_cuts M) t → IsSoundTree (without_cuts M) (replaced id new t)
   tree-replaced id new t n h = record {
     lawful = each_split-replaced id new _ n.lawful t h.lawful;
     narrow = each_split-replaced id new _ n.narrow t h.narrow;
     lists = lists-replaced id new n.lists t h.lists;
   }
 
-  -- the leaves of the new tree are judged below the leaf's path
-  pub judged-replaced : (t : Option ℚ) (id : ℕ) (path : Path) (new u : Plain) → IsAt id path u → EachLeaf (λ p l. IsJudgedLeaf M t p l.kept) path new → AreJudged M t u → AreJudged M t (replaced id new u)
-  judged-replaced t id path new u at judged h =
-      replaced-with (λ p l. IsJudgedLeaf M t p l.kept) id path new [] u (each_both (λ p l. IsJudgedLeaf M t p l.kept) (λ p l. l.id ≡ id → p ≡ path) [] u h at) judged
+-- the leaves of the new tree are judged below the leaf's path
+pub judged-replaced : (F : Formulation) (t : Option ℚ) (id : ℕ) (path : Path) (new u : Plain) → IsAt id path u → EachLeaf (λ p l. IsJudgedLeaf F t p l.kept) path new → AreJudged F t u → AreJudged F t (replaced id new u)
+judged-replaced F t id path new u at judged h =
+    replaced-with (λ p l. IsJudgedLeaf F t p l.kept) id path new [] u (each_both (λ p l. IsJudgedLeaf F t p l.kept) (λ p l. l.id ≡ id → p ≡ path) [] u h at) judged
 
-pub sound-with_leaf : (S : PlainSearch) (id : ℕ) (path : Path) (kept : LeafData) → IsSound S → IsAt id path S.tree.root → HasLists S.model kept → IsJudgedLeaf S.model (target S.model S.points) path kept → IsSound (search_with_leaf S id kept)
+pub sound-with_leaf : (S : PlainSearch) (id : ℕ) (path : Path) (kept : LeafData) → IsSound S → IsAt id path S.tree.root → HasLists (formulation_of S) kept → IsJudgedLeaf (formulation_of S) (target S.model S.points) path kept → IsSound (search_with_leaf S id kept)
 sound-with_leaf S id path kept sound at lists judged =
     let new : Plain = Leaf (record { id = id; kept = kept }) in
     record {
       tree = tree-replaced S.model id new S.tree.root (record { lawful = tt; narrow = tt; lists = lists }) sound.tree;
-      judged = judged-replaced S.model (target S.model S.points) id path new S.tree.root at judged sound.judged;
+      judged = judged-replaced (formulation_of S) (target S.model S.points) id path new S.tree.root at judged sound.judged;
       points = sound.points;
       few = sound.few;
     }

@@ -6,6 +6,7 @@ use Rattle.rational.specs.Rational.{ℚ}
 use Rattle.frac128.specs.Range.{IsNarrow, largest}
 use Rattle.lp_model.specs.Program.{Program}
 use Rattle.lp_model.specs.Regions.{Path, AreNarrow, at_most, at_least}
+use Rattle.lp_model.specs.Formulations.{without_cuts}
 use Rattle.lp_model.specs.declared.types.BoundChange.{BoundChange}
 use Rattle.lp_model.specs.declared.types.Basis.{Basis}
 use Rattle.leaf_dual.specs.Dual.{Multipliers}
@@ -18,9 +19,12 @@ use Rattle.branch_tree.proofs.CountLemmas.{leaf_case, same_cases, same_other}
 use Rattle.branch_tree.proofs.IdLemmas.{replaced-none}
 use Rattle.tree_edit.specs.Points.{target}
 use Rattle.tree_edit.specs.Lists.{HasLists, AreMultipliers, IsBasis}
-use Rattle.tree_edit.specs.Sound.{PlainSearch}
-use Rattle.tree_edit.specs.declared.queue.LeafQueue.{LeafQueue}
-use Rattle.tree_edit.specs.Queued.{IsQueueOf, IsIndexed}
+use Rattle.tree_edit.specs.Sound.{PlainSearch, formulation_of}
+use Rattle.leaf_judging.specs.declared.numbers.LeafNumbers.{LeafNumbers}
+use Rattle.leaf_judging.specs.declared.queue.LeafQueue.{LeafQueue}
+use Rattle.leaf_judging.specs.Queued.{IsQueueOf}
+use Rattle.leaf_judging.specs.Numbers.{AreNumbersOf}
+use Rattle.tree_edit.specs.Indexed.{IsIndexed}
 use Rattle.tree_edit.specs.Placing.{IsAt, IsChild, IsSplitSound, split_node, tree_with_split, search_with_split}
 use Rattle.tree_edit.proofs.SoundLemmas.{tree-replaced, judged-replaced}
 
@@ -94,23 +98,24 @@ module _ (T : NumberedTree) (n : IsNumbered T) (id j : ℕ) (v : ℤ) (mult : Mu
 
 -- ---- soundness
 
-no_multipliers : (M : Program) → AreMultipliers M []
+no_multipliers : (M : Program) → AreMultipliers (without_cuts M) []
 no_multipliers M = record { each = λ k d below. absurd (omega arith); once = λ i j d before below. absurd (omega arith) }
 
-child-lists : (S : PlainSearch) (path : Path) (mult : Multipliers) (basis : Basis) (leaf : LeafData) → AreMultipliers S.model mult → IsBasis S.model basis → IsChild S path mult basis leaf → HasLists S.model leaf
+child-lists : (S : PlainSearch) (path : Path) (mult : Multipliers) (basis : Basis) (leaf : LeafData) → AreMultipliers (formulation_of S) mult → IsBasis (formulation_of S) basis → IsChild S path mult basis leaf → HasLists (formulation_of S) leaf
 child-lists S path mult basis leaf m b child = record {
-  mult = subst (AreMultipliers S.model) (sym child.mult_is) m;
-  farkas = subst (AreMultipliers S.model) (sym child.farkas_is) (no_multipliers S.model);
-  basis = subst (IsBasis S.model) (sym child.basis_is) b;
+  mult = subst (AreMultipliers (formulation_of S)) (sym child.mult_is) m;
+  farkas = subst (AreMultipliers (formulation_of S)) (sym child.farkas_is) (no_multipliers S.model);
+  basis = subst (IsBasis (formulation_of S)) (sym child.basis_is) b;
 }
 
 pub narrow-at : (v : ℤ) → neg_ℤ (pos largest) ≤ℤ v → v <ℤ pos largest → IsNarrow v × IsNarrow (v +ℤ pos 1)
 narrow-at v low high = (omega (arith, ints), omega (arith, ints))
 
-pub kept-split : (S : PlainSearch) (values : List ℚ) (queue new : LeafQueue) (id : ℕ) (path : Path) (j : ℕ) (v : ℤ) (mult : Multipliers) (basis : Basis) (left right : LeafData) → IsIndexed S values queue → IsAt id path S.tree.root
-    → IsSplitSound S.model path j v mult basis → neg_ℤ (pos largest) ≤ℤ v → v <ℤ pos largest → IsChild S (left_path path j v) mult basis left → IsChild S (right_path path j v) mult basis right
-    → IsQueueOf S.model (replaced id (split_node S.tree.last id j v mult basis left right) S.tree.root) new → IsIndexed (search_with_split S id j v mult basis left right) values new
-kept-split S values queue new id path j v mult basis left right kept at split low high is_left is_right q =
+pub kept-split : (S : PlainSearch) (values : List ℚ) (numbers more : LeafNumbers) (queue new : LeafQueue) (id : ℕ) (path : Path) (j : ℕ) (v : ℤ) (mult : Multipliers) (basis : Basis) (left right : LeafData) → IsIndexed S values numbers queue → IsAt id path S.tree.root
+    → IsSplitSound (formulation_of S) path j v mult basis → neg_ℤ (pos largest) ≤ℤ v → v <ℤ pos largest → IsChild S (left_path path j v) mult basis left → IsChild S (right_path path j v) mult basis right
+    → AreNumbersOf (formulation_of S) (replaced id (split_node S.tree.last id j v mult basis left right) S.tree.root) more → IsQueueOf (formulation_of S) (replaced id (split_node S.tree.last id j v mult basis left right) S.tree.root) new
+    → IsIndexed (search_with_split S id j v mult basis left right) values more new
+kept-split S values numbers more queue new id path j v mult basis left right kept at split low high is_left is_right numbered q =
     let node = split_node S.tree.last id j v mult basis left right in
     let lists_left = child-lists S (left_path path j v) mult basis left split.mult_is split.basis_is is_left in
     let lists_right = child-lists S (right_path path j v) mult basis right split.mult_is split.basis_is is_right in
@@ -123,11 +128,12 @@ kept-split S values queue new id path j v mult basis left right kept at split lo
               lists = (record { mult = split.mult_is; basis = split.basis_is }, (lists_left, lists_right));
             })
             kept.sound.tree;
-        judged = judged-replaced S.model (target S.model S.points) id path node S.tree.root at (is_left.judged, is_right.judged) kept.sound.judged;
+        judged = judged-replaced (formulation_of S) (target S.model S.points) id path node S.tree.root at (is_left.judged, is_right.judged) kept.sound.judged;
         points = kept.sound.points;
         few = kept.sound.few;
       };
       values_are = kept.values_are;
+      numbers_are = numbered;
       queue_is = q;
     }
 

@@ -3,14 +3,15 @@ use Rattle.std.specs.Prelude.{◌≡◌, ◌⊎◌, [], Option, Some, None}
 use Rattle.rational.specs.Rational.{ℚ, ◌≤ℚ◌}
 use Rattle.lp_model.specs.Program.{Program, Point, least_value, IsFeasible, IsOptimum, IsEmpty}
 use Rattle.lp_model.specs.Regions.{Path}
+use Rattle.lp_model.specs.Formulations.{Formulation}
 use Rattle.leaf_dual.specs.declared.dual.LagValue.TheVariants.{Num}
 use Rattle.branch_tree.specs.Tree.{EachLeaf}
 use Rattle.branch_tree.specs.Plain.{LeafKept}
 use Rattle.branch_tree.specs.declared.node.LeafState.TheVariants.{IsOpen, IsClosed}
-use Rattle.tree_edit.specs.declared.judging.LeafNumber.TheVariants.{Lag}
-use Rattle.tree_edit.specs.Closing.{IsNumber}
+use Rattle.leaf_judging.specs.declared.closing.LeafNumber.TheVariants.{Lag}
+use Rattle.leaf_judging.specs.Closing.{IsNumber}
 use Rattle.tree_edit.specs.Points.{target, IsIncumbent}
-use Rattle.tree_edit.specs.Sound.{PlainSearch, IsSound}
+use Rattle.tree_edit.specs.Sound.{PlainSearch, formulation_of, IsSound}
 
 abbrev pub HasNoOpenLeaf : PlainSearch → Type 0
 HasNoOpenLeaf S = EachLeaf (λ path l. l.kept.state ≡ IsClosed) [] S.tree.root
@@ -21,12 +22,12 @@ IsNoBetter M None y = ⊥
 IsNoBetter M (Some t) y = t ≤ℚ least_value M 1 y
 
 -- the leaf has a number, and b is no more than it
-abbrev pub IsBelowLeaf : Program → ℚ → Path → LeafKept → Type 0
-IsBelowLeaf M b path l = (q : ℚ) × (IsNumber M path l.kept.mult l.kept.farkas (Lag (Num q)) × (b ≤ℚ q))
+abbrev pub IsBelowLeaf : Formulation → ℚ → Path → LeafKept → Type 0
+IsBelowLeaf F b path l = (q : ℚ) × (IsNumber F path l.kept.mult l.kept.farkas (Lag (Num q)) × (b ≤ℚ q))
 
 -- b is no more than the number of each open leaf
 abbrev pub IsBelowOpen : PlainSearch → ℚ → Type 0
-IsBelowOpen S b = EachLeaf (λ path l. l.kept.state ≡ IsOpen → IsBelowLeaf S.model b path l) [] S.tree.root
+IsBelowOpen S b = EachLeaf (λ path l. l.kept.state ≡ IsOpen → IsBelowLeaf (formulation_of S) b path l) [] S.tree.root
 
 -- no leaf is open: the point of least value is an optimum
 abbrev pub OptimumLaw : Type 0

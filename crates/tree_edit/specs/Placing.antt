@@ -6,6 +6,7 @@ use Rattle.std.specs.List.{remove}
 use Rattle.rational.specs.Rational.{ℚ, ◌≤ℚ◌, ◌<ℚ◌}
 use Rattle.lp_model.specs.Program.{Program, Point, least_value}
 use Rattle.lp_model.specs.Regions.{Path, AreNarrow}
+use Rattle.lp_model.specs.Formulations.{Formulation}
 use Rattle.lp_model.specs.declared.types.Basis.{Basis}
 use Rattle.leaf_dual.specs.Dual.{Multipliers}
 use Rattle.branch_tree.specs.Tree.{Leaf, Split as Split', left_path, right_path, EachLeaf}
@@ -21,13 +22,14 @@ use Rattle.branch_tree.specs.declared.node.NodeResult.TheVariants.{Close, Split 
 use Rattle.tree_edit.specs.declared.placing.Taken.{Taken}
 use Rattle.tree_edit.specs.declared.placing.Taken.TheVariants.{Stale, Refused, Reopened, Full, Closed, Split, Kept}
 use Rattle.tree_edit.specs.declared.points.Joined.{Joined}
-use Rattle.tree_edit.specs.Closing.{IsJudged, IsJudgedLeaf, ClosesBy}
+use Rattle.tree_edit.specs.declared.splitting.Child.{Child}
+use Rattle.leaf_judging.specs.Closing.{IsNumber, IsJudged, IsJudgedLeaf, ClosesBy}
 use Rattle.tree_edit.specs.Points.{IsKeepable, target, value_at, IsOldestLeast}
 use Rattle.tree_edit.specs.Lists.{AreMultipliers, IsBasis, HasLists}
 use Rattle.tree_edit.specs.Checks.{IsSplitAllowed}
-use Rattle.tree_edit.specs.Judged.{JudgesAll}
-use Rattle.tree_edit.specs.Sound.{PlainSearch}
-use Rattle.tree_edit.specs.Calls.{IsLeafAt}
+use Rattle.leaf_judging.specs.Judged.{JudgesAll}
+use Rattle.tree_edit.specs.Sound.{PlainSearch, formulation_of}
+use Rattle.tree_edit.specs.Calls.{IsLeafAt, IsOpenLeaf}
 
 -- ---- points
 
@@ -46,13 +48,13 @@ abbrev pub IsPlaceWithin : ℕ → Option ℕ → Type 0
 IsPlaceWithin n None = Unit {0}
 IsPlaceWithin n (Some k) = k < n
 
-abbrev pub without : {A : Type 0} → List A → Option ℕ → List A
-without xs None = xs
-without xs (Some k) = remove xs k
+abbrev pub list_without : {A : Type 0} → List A → Option ℕ → List A
+list_without xs None = xs
+list_without xs (Some k) = remove xs k
 
 -- the points with x last, and beyond 100 without the worst
 abbrev pub AddsPoint : Program → List Point → Point → List Point → Type 0
-AddsPoint M points x new = (worst : Option ℕ) × (IsWorst (map (least_value M 1) (points ++ x ∷ [])) worst × (new ≡ without (points ++ x ∷ []) worst))
+AddsPoint M points x new = (worst : Option ℕ) × (IsWorst (map (least_value M 1) (points ++ x ∷ [])) worst × (new ≡ list_without (points ++ x ∷ []) worst))
 
 -- the least of the values, if there are any
 abbrev pub IsLeastValue : List ℚ → Option ℚ → Type 0
@@ -62,30 +64,36 @@ IsLeastValue values (Some v) = (k : ℕ) × (IsOldestLeast values k × (v ≡ va
 -- the values with v last, and beyond 100 without the worst
 pub record Joins (values : List ℚ) (v : ℚ) (joined : Joined) : Type 0 where
   pub worst : IsWorst (values ++ v ∷ []) joined.worst
-  pub values_are : joined.values.items ≡ without (values ++ v ∷ []) joined.worst
+  pub values_are : joined.values.items ≡ list_without (values ++ v ∷ []) joined.worst
   pub target : IsLeastValue joined.values.items joined.target
 
--- what the points' values come to with x
+-- x may be kept, and this is what the points' values come to with it
 pub record JoinsPoint (S : PlainSearch) (x : Point) (joined : Joined) : Type 0 where
+  pub keepable : IsKeepable S.model x
   pub worst : IsWorst (map (least_value S.model 1) (S.points ++ x ∷ [])) joined.worst
-  pub values_are : joined.values.items ≡ map (least_value S.model 1) (without (S.points ++ x ∷ []) joined.worst)
-  pub target_is : joined.target ≡ target S.model (without (S.points ++ x ∷ []) joined.worst)
+  pub values_are : joined.values.items ≡ map (least_value S.model 1) (list_without (S.points ++ x ∷ []) joined.worst)
+  pub target_is : joined.target ≡ target S.model (list_without (S.points ++ x ∷ []) joined.worst)
 
 -- x is kept, and all leaves are judged against the least value
 pub record TakesPoint (old : PlainSearch) (x : Point) (new : PlainSearch) : Type 0 where
   pub model : new.model ≡ old.model
   pub points : AddsPoint old.model old.points x new.points
-  pub tree : JudgesAll old.model (target old.model new.points) old.tree new.tree
+  pub tree : JudgesAll (formulation_of old) (target old.model new.points) old.tree new.tree
 
 -- the leaf closes against the least value that there is with x
 abbrev pub ClosesWith : PlainSearch → Point → Path → LeafData → Type 0
-ClosesWith S x path kept = (points : List Point) × (AddsPoint S.model S.points x points × ClosesBy S.model (target S.model points) path kept)
+ClosesWith S x path kept = (points : List Point) × (AddsPoint S.model S.points x points × ClosesBy (formulation_of S) (target S.model points) path kept)
 
 -- ---- leaves
 
 -- each leaf with the id has this path
 abbrev pub IsAt : ℕ → Path → Plain → Type 0
 IsAt id path t = EachLeaf (λ p l. l.id ≡ id → p ≡ path) [] t
+
+-- a leaf has the id, and this path
+pub record HasLeafAt (T : NumberedTree) (id : ℕ) (path : Path) : Type 0 where
+  pub has : HasLeaf T id
+  pub at : IsAt id path T.root
 
 abbrev pub search_with_leaf : PlainSearch → ℕ → LeafData → PlainSearch
 search_with_leaf S id kept = record { model = S.model; tree = with_leaf S.tree id kept; points = S.points }
@@ -95,46 +103,46 @@ search_with_leaf S id kept = record { model = S.model; tree = with_leaf S.tree i
 -- the leaf is to be closed with these data, without a point
 abbrev pub TakesClose : PlainSearch → ℕ → Path → LeafData → PlainSearch → Taken → Type 0
 TakesClose S id path kept S' Stale = ⊥
-TakesClose S id path kept S' Refused = (¬ HasLists S.model kept) × (S' ≡ S)
-TakesClose S id path kept S' Reopened = HasLists S.model kept × (¬ ClosesBy S.model (target S.model S.points) path kept) × (S' ≡ S)
+TakesClose S id path kept S' Refused = (¬ HasLists (formulation_of S) kept) × (S' ≡ S)
+TakesClose S id path kept S' Reopened = HasLists (formulation_of S) kept × (¬ ClosesBy (formulation_of S) (target S.model S.points) path kept) × (S' ≡ S)
 TakesClose S id path kept S' Full = ⊥
-TakesClose S id path kept S' Closed = HasLists S.model kept × ClosesBy S.model (target S.model S.points) path kept × (S' ≡ search_with_leaf S id kept)
+TakesClose S id path kept S' Closed = HasLists (formulation_of S) kept × ClosesBy (formulation_of S) (target S.model S.points) path kept × (S' ≡ search_with_leaf S id kept)
 TakesClose S id path kept S' Split = ⊥
 TakesClose S id path kept S' Kept = ⊥
 
 -- it is to be closed, and a point comes with it
 abbrev pub TakesPointClose : PlainSearch → ℕ → Path → Point → LeafData → PlainSearch → Taken → Type 0
 TakesPointClose S id path x kept S' Stale = ⊥
-TakesPointClose S id path x kept S' Refused = (¬ (IsKeepable S.model x × HasLists S.model kept)) × (S' ≡ S)
-TakesPointClose S id path x kept S' Reopened = IsKeepable S.model x × HasLists S.model kept × (¬ ClosesWith S x path kept) × (S' ≡ S)
+TakesPointClose S id path x kept S' Refused = (¬ (IsKeepable S.model x × HasLists (formulation_of S) kept)) × (S' ≡ S)
+TakesPointClose S id path x kept S' Reopened = IsKeepable S.model x × HasLists (formulation_of S) kept × (¬ ClosesWith S x path kept) × (S' ≡ S)
 TakesPointClose S id path x kept S' Full = ⊥
-TakesPointClose S id path x kept S' Closed = IsKeepable S.model x × HasLists S.model kept × ClosesWith S x path kept × ((mid : PlainSearch) × (TakesPoint S x mid × (S' ≡ search_with_leaf mid id kept)))
+TakesPointClose S id path x kept S' Closed = IsKeepable S.model x × HasLists (formulation_of S) kept × ClosesWith S x path kept × ((mid : PlainSearch) × (TakesPoint S x mid × (S' ≡ search_with_leaf mid id kept)))
 TakesPointClose S id path x kept S' Split = ⊥
 TakesPointClose S id path x kept S' Kept = ⊥
 
 -- the leaf has these data, but for its state, which is judged
 abbrev pub PutsJudged : PlainSearch → ℕ → Path → LeafData → PlainSearch → Type 0
-PutsJudged S id path kept S' = (state : LeafState) × (IsJudged S.model (target S.model S.points) path kept.mult kept.farkas state × (S' ≡ search_with_leaf S id (with_state state kept)))
+PutsJudged S id path kept S' = (state : LeafState) × (IsJudged (formulation_of S) (target S.model S.points) path kept.mult kept.farkas state × (S' ≡ search_with_leaf S id (with_state state kept)))
 
 -- it is to have these data, with another basis
 abbrev pub TakesKeep : PlainSearch → ℕ → Path → LeafData → PlainSearch → Taken → Type 0
 TakesKeep S id path kept S' Stale = ⊥
-TakesKeep S id path kept S' Refused = (¬ IsBasis S.model kept.basis) × (S' ≡ S)
+TakesKeep S id path kept S' Refused = (¬ IsBasis (formulation_of S) kept.basis) × (S' ≡ S)
 TakesKeep S id path kept S' Reopened = ⊥
 TakesKeep S id path kept S' Full = ⊥
 TakesKeep S id path kept S' Closed = ⊥
 TakesKeep S id path kept S' Split = ⊥
-TakesKeep S id path kept S' Kept = IsBasis S.model kept.basis × PutsJudged S id path kept S'
+TakesKeep S id path kept S' Kept = IsBasis (formulation_of S) kept.basis × PutsJudged S id path kept S'
 
 -- and a point comes with it
 abbrev pub TakesPointKeep : PlainSearch → ℕ → Path → Point → LeafData → PlainSearch → Taken → Type 0
 TakesPointKeep S id path x kept S' Stale = ⊥
-TakesPointKeep S id path x kept S' Refused = (¬ (IsKeepable S.model x × IsBasis S.model kept.basis)) × (S' ≡ S)
+TakesPointKeep S id path x kept S' Refused = (¬ (IsKeepable S.model x × IsBasis (formulation_of S) kept.basis)) × (S' ≡ S)
 TakesPointKeep S id path x kept S' Reopened = ⊥
 TakesPointKeep S id path x kept S' Full = ⊥
 TakesPointKeep S id path x kept S' Closed = ⊥
 TakesPointKeep S id path x kept S' Split = ⊥
-TakesPointKeep S id path x kept S' Kept = IsKeepable S.model x × IsBasis S.model kept.basis × ((mid : PlainSearch) × (TakesPoint S x mid × PutsJudged mid id path kept S'))
+TakesPointKeep S id path x kept S' Kept = IsKeepable S.model x × IsBasis (formulation_of S) kept.basis × ((mid : PlainSearch) × (TakesPoint S x mid × PutsJudged mid id path kept S'))
 
 -- with a point or without
 abbrev pub TakesBasis : PlainSearch → ℕ → Path → Option Point → LeafData → PlainSearch → Taken → Type 0
@@ -148,7 +156,12 @@ pub record IsChild (S : PlainSearch) (path : Path) (mult : Multipliers) (basis :
   pub mult_is : kept.mult ≡ mult
   pub farkas_is : kept.farkas ≡ []
   pub basis_is : kept.basis ≡ basis
-  pub judged : IsJudgedLeaf S.model (target S.model S.points) path kept
+  pub judged : IsJudgedLeaf (formulation_of S) (target S.model S.points) path kept
+
+-- the child is that of this region, and its number is its own
+pub record IsNumberedChild (S : PlainSearch) (path : Path) (mult : Multipliers) (basis : Basis) (child : Child) : Type 0 where
+  pub kept : IsChild S path mult basis child.kept
+  pub number : IsNumber (formulation_of S) path child.kept.mult child.kept.farkas child.number
 
 -- the split with its two leaves, the ids of which follow the last one
 abbrev pub split_node : ℕ → ℕ → ℕ → ℤ → Multipliers → Basis → LeafData → LeafData → Plain
@@ -162,10 +175,10 @@ abbrev pub search_with_split : PlainSearch → ℕ → ℕ → ℤ → Multiplie
 search_with_split S id j v mult basis left right = record { model = S.model; tree = tree_with_split S.tree id j v mult basis left right; points = S.points }
 
 -- the parts of a split fit
-pub record IsSplitSound (M : Program) (path : Path) (j : ℕ) (v : ℤ) (mult : Multipliers) (basis : Basis) : Type 0 where
-  pub allowed : IsSplitAllowed M path j v
-  pub mult_is : AreMultipliers M mult
-  pub basis_is : IsBasis M basis
+pub record IsSplitSound (F : Formulation) (path : Path) (j : ℕ) (v : ℤ) (mult : Multipliers) (basis : Basis) : Type 0 where
+  pub allowed : IsSplitAllowed F.model path j v
+  pub mult_is : AreMultipliers F mult
+  pub basis_is : IsBasis F basis
 
 -- the leaf is split, and its children are judged
 abbrev pub Splits : PlainSearch → ℕ → Path → ℕ → ℤ → Multipliers → Basis → PlainSearch → Type 0
@@ -175,11 +188,11 @@ Splits S id path j v mult basis S' =
 
 abbrev pub TakesSplit : PlainSearch → ℕ → Path → ℕ → ℤ → Multipliers → Basis → PlainSearch → Taken → Type 0
 TakesSplit S id path j v mult basis S' Stale = ⊥
-TakesSplit S id path j v mult basis S' Refused = (¬ IsSplitSound S.model path j v mult basis) × (S' ≡ S)
+TakesSplit S id path j v mult basis S' Refused = (¬ IsSplitSound (formulation_of S) path j v mult basis) × (S' ≡ S)
 TakesSplit S id path j v mult basis S' Reopened = ⊥
-TakesSplit S id path j v mult basis S' Full = IsSplitSound S.model path j v mult basis × (¬ HasRoom S.tree) × (S' ≡ S)
+TakesSplit S id path j v mult basis S' Full = IsSplitSound (formulation_of S) path j v mult basis × (¬ HasRoom S.tree) × (S' ≡ S)
 TakesSplit S id path j v mult basis S' Closed = ⊥
-TakesSplit S id path j v mult basis S' Split = IsSplitSound S.model path j v mult basis × HasRoom S.tree × Splits S id path j v mult basis S'
+TakesSplit S id path j v mult basis S' Split = IsSplitSound (formulation_of S) path j v mult basis × HasRoom S.tree × Splits S id path j v mult basis S'
 TakesSplit S id path j v mult basis S' Kept = ⊥
 
 -- ---- results
@@ -188,13 +201,10 @@ TakesSplit S id path j v mult basis S' Kept = ⊥
 abbrev pub IsStale : PlainSearch → ℕ → Type 0
 IsStale S id = (kept : LeafData) → data_of id S.tree.root ≡ Some kept → kept.state ≡ IsClosed
 
--- an open leaf has the id and this path (for the calls that place a result by its kind)
-pub record IsOpenLeaf (S : PlainSearch) (id : ℕ) (path : Path) : Type 0 where
-  pub kept : LeafData
-  pub leaf : IsLeafAt S.tree.root id path kept
-  pub state : kept.state ≡ IsOpen
-  pub has : HasLeaf S.tree id
-  pub at : IsAt id path S.tree.root
+-- a result can be placed on the leaf with the id, which has this path (for the calls that place one by its kind)
+pub record IsOpenPlace (S : PlainSearch) (id : ℕ) (path : Path) : Type 0 where
+  pub is_open : IsOpenLeaf S id path
+  pub leaf : HasLeafAt S.tree id path
   pub narrow : AreNarrow path
 
 abbrev pub closed_data : Multipliers → Multipliers → Basis → LeafData

@@ -13,9 +13,6 @@ use lp_model::{Bound, ColId, Model, Point, Region};
 pub(crate) fn keepable_value(model: &Model, point: &Point) -> Option<Frac>
     ensures { MatchOption result (¬ IsKeepable model.now point.now) (λ v. IsKeepable model.now point.now × (v ≡ least_value model.now 1 point.now)) }
 {
-    if point.as_slice().len() != model.cols().len() {
-        return None;
-    }
     match model.is_feasible(point) {
         Ok(true) => {}
         Ok(false) => return None,

@@ -1,6 +1,7 @@
 // Lists of variables that are there, each once.
 ghost use Rattle.std.specs.Prelude.{◌≡◌, ◌≢◌, ◌↔◌, IsTrue, All, AllPairs, Contains, IfOk, map};
-ghost use Rattle.tree_edit.specs.Lists.{IsThere, IsRowThere, NamesOnce, AreMultipliers, IsBasis, HasLists};
+ghost use Rattle.lp_model.specs.Formulations.{without_cuts};
+ghost use Rattle.tree_edit.specs.Lists.{IsThere, IsActivityThere, NamesOnce, AreMultipliers, IsBasis, HasLists};
 
 use branch_tree::LeafData;
 use frac128::Frac;
@@ -45,7 +46,7 @@ fn is_once(vars: &[Var]) -> bool
 
 /// Whether the row is there.
 fn is_row_there(model: &Model, var: &Var) -> bool
-    ensures { IsTrue result ↔ IsRowThere model.now var.now }
+    ensures { IsTrue result ↔ IsActivityThere (without_cuts model.now) var.now }
 {
     match var {
         Var::Col(_) => false,
@@ -56,7 +57,7 @@ fn is_row_there(model: &Model, var: &Var) -> bool
 
 /// Whether the variable is there.
 fn is_there(model: &Model, var: &Var) -> bool
-    ensures { IsTrue result ↔ IsThere model.now var.now }
+    ensures { IsTrue result ↔ IsThere (without_cuts model.now) var.now }
 {
     match var {
         Var::Col(col) => (col.0 as usize) < model.cols().len(),
@@ -67,7 +68,7 @@ fn is_there(model: &Model, var: &Var) -> bool
 
 /// Whether all of them are rows that are there.
 fn are_rows(model: &Model, vars: &[Var]) -> bool
-    ensures { IsTrue result ↔ All (IsRowThere model.now) vars.now }
+    ensures { IsTrue result ↔ All (IsActivityThere (without_cuts model.now)) vars.now }
 {
     for var in vars {
         if !is_row_there(model, var) {
@@ -79,7 +80,7 @@ fn are_rows(model: &Model, vars: &[Var]) -> bool
 
 /// Whether all of them are there.
 fn are_there(model: &Model, vars: &[Var]) -> bool
-    ensures { IsTrue result ↔ All (IsThere model.now) vars.now }
+    ensures { IsTrue result ↔ All (IsThere (without_cuts model.now)) vars.now }
 {
     for var in vars {
         if !is_there(model, var) {
@@ -102,14 +103,14 @@ fn vars_of(alloc: Global, mult: &[(Var, Frac)]) -> Result<Vec<Var>, AllocError>
 
 /// Whether all of them are rows that are there, each once.
 fn are_rows_once(model: &Model, vars: &[Var]) -> bool
-    ensures { IsTrue result ↔ NamesOnce (IsRowThere model.now) vars.now }
+    ensures { IsTrue result ↔ NamesOnce (IsActivityThere (without_cuts model.now)) vars.now }
 {
     are_rows(model, vars) && is_once(vars)
 }
 
 /// Whether the multipliers are of rows that are there, each once.
 pub(crate) fn are_multipliers(alloc: Global, model: &Model, mult: &Mult) -> Result<bool, AllocError>
-    ensures { IfOk result (λ are. IsTrue are ↔ AreMultipliers model.now mult.now) }
+    ensures { IfOk result (λ are. IsTrue are ↔ AreMultipliers (without_cuts model.now) mult.now) }
 {
     let vars = vars_of(alloc, mult.as_slice())?;
     Ok(are_rows_once(model, &vars))
@@ -117,21 +118,21 @@ pub(crate) fn are_multipliers(alloc: Global, model: &Model, mult: &Mult) -> Resu
 
 /// Whether the variables are there, each once.
 fn names_once(model: &Model, vars: &[Var]) -> bool
-    ensures { IsTrue result ↔ NamesOnce (IsThere model.now) vars.now }
+    ensures { IsTrue result ↔ NamesOnce (IsThere (without_cuts model.now)) vars.now }
 {
     are_there(model, vars) && is_once(vars)
 }
 
 /// Whether both lists of the basis name what is there, each once.
 pub(crate) fn is_basis(model: &Model, basis: &Basis) -> bool
-    ensures { IsTrue result ↔ IsBasis model.now basis.now }
+    ensures { IsTrue result ↔ IsBasis (without_cuts model.now) basis.now }
 {
     names_once(model, basis.basic.as_slice()) && names_once(model, basis.high.as_slice())
 }
 
 /// Whether each list of a leaf's data names what is there, each once.
 pub(crate) fn has_lists(alloc: Global, model: &Model, kept: &LeafData) -> Result<bool, AllocError>
-    ensures { IfOk result (λ has. IsTrue has ↔ HasLists model.now kept.now) }
+    ensures { IfOk result (λ has. IsTrue has ↔ HasLists (without_cuts model.now) kept.now) }
 {
     if !are_multipliers(alloc, model, &kept.mult)? {
         return Ok(false);

@@ -1,27 +1,27 @@
 // Results placed in a search. What takes memory comes before the first change. A large value that isn't used is let go by
 // a call of `drop`, since its parts, let go one by one on each way out, make a long proof.
-ghost use Rattle.std.specs.Prelude.{◌≡◌, IfOk, OnOk, OnErr, MatchOption, MatchBool};
+ghost use Rattle.std.specs.Prelude.{◌≡◌, ◌↔◌, IsTrue, IfOk, OnOk, OnErr, MatchOption, MatchBool};
 ghost use Rattle.lp_model.specs.Regions.{AreNarrow};
-ghost use Rattle.branch_tree.specs.Changes.{HasLeaf};
+ghost use Rattle.lp_model.specs.Formulations.{without_cuts};
 ghost use Rattle.branch_tree.specs.declared.node.LeafState.TheVariants.{IsOpen, IsClosed};
 ghost use Rattle.branch_tree.specs.declared.node.NodeResult.TheVariants.{Keep};
-ghost use Rattle.tree_edit.specs.Closing.{IsJudgedLeaf, ClosesBy};
+ghost use Rattle.leaf_judging.specs.Closing.{IsNumber, IsJudgedLeaf, ClosesBy};
 ghost use Rattle.tree_edit.specs.Points.{IsKeepable, target};
 ghost use Rattle.tree_edit.specs.Lists.{AreMultipliers, HasLists};
 ghost use Rattle.branch_tree.specs.Leaves.{with_state};
-ghost use Rattle.tree_edit.specs.Queued.{HasRank, HasMultipliers};
-ghost use Rattle.tree_edit.specs.Placing.{JoinsPoint, TakesPoint, IsAt, search_with_leaf, TakesClose, TakesPointClose, PutsJudged, TakesKeep, TakesPointKeep, TakesBasis, IsChild, IsSplitSound, TakesSplit, IsStale, IsOpenLeaf, Takes, closed_data, with_basis};
+ghost use Rattle.leaf_judging.specs.Queued.{HasRank, HasMultipliers, HasState};
+ghost use Rattle.tree_edit.specs.Placing.{JoinsPoint, TakesPoint, HasLeafAt, search_with_leaf, TakesClose, TakesPointClose, PutsJudged, TakesKeep, TakesPointKeep, TakesBasis, IsStale, IsOpenPlace, Takes, closed_data, with_basis};
+ghost use Rattle.tree_edit.specs.Sound.{formulation_of};
 
 use crate::checks::keepable_value;
-use crate::choosing::{Candidate, rank};
-use crate::judging::{closes_by, judge, judge_tree, number_of};
 use crate::lists::{has_lists, is_basis};
 use crate::points::{Joined, is_same_value, join_value, take_out};
 use crate::search::Search;
 use crate::splitting::Split;
 use branch_tree::{LeafData, LeafState, NodeResult};
 use frac128::Frac;
-use lp_model::{Basis, List, Mult, Point, Region};
+use leaf_judging::{Candidate, LeafNumber, judge_again, number_closes, number_of, rank};
+use lp_model::{Basis, List, Model, Mult, Point, Region};
 use std::alloc::{AllocError, Global};
 
 /// What became of a result.
@@ -46,7 +46,7 @@ pub enum Taken {
 impl Search {
     /// What the points' values come to with one more point, where it is feasible and no step lacks room.
     fn join(&self, point: &Point) -> Result<Option<Joined>, AllocError>
-        ensures { IfOk result (λ found. MatchOption found (¬ IsKeepable self.now.model point.now) (λ j. IsKeepable self.now.model point.now × JoinsPoint self.now point.now j)) }
+        ensures { IfOk result (λ found. MatchOption found (¬ IsKeepable self.now.model point.now) (JoinsPoint self.now point.now)) }
     {
         let Some(value) = keepable_value(&self.model, point) else {
             return Ok(None);
@@ -57,7 +57,6 @@ impl Search {
 
     /// Keeps a point that isn't better than those that there are: no leaf is judged anew.
     fn add_point(&mut self, point: Point, joined: Joined) -> Result<(), AllocError>
-        requires keepable { IsKeepable self.old.model point }
         requires joined { JoinsPoint self.old point joined }
         requires same { joined.target ≡ target self.old.model self.old.points }
         ensures taken { OnOk result (TakesPoint self.old point self.new) }
@@ -70,26 +69,25 @@ impl Search {
         Ok(())
     }
 
-    /// Keeps a point, and judges all leaves against the least value.
+    /// Keeps a point, and judges all leaves against the least value by their numbers.
     fn add_better(&mut self, point: Point, joined: Joined) -> Result<(), AllocError>
-        requires keepable { IsKeepable self.old.model point }
         requires joined { JoinsPoint self.old point joined }
         ensures taken { OnOk result (TakesPoint self.old point self.new) }
         ensures target { OnOk result (target self.new.model self.new.points ≡ joined.target) }
         ensures kept { OnErr result (self.new ≡ self.old) }
     {
-        let judgement = judge_tree(self.alloc, &self.model, &joined.target, &self.tree)?;
+        let target = &joined.target;
+        let marks = judge_again(self.alloc, &self.model, target, &self.tree, &self.numbers)?;
         self.points.push(point)?;
         take_out(&mut self.points, joined.worst);
         self.values = joined.values;
-        self.tree.set_states(&judgement.states);
-        self.queue = judgement.queue;
+        self.tree.set_states(&marks.states);
+        self.queue = marks.queue;
         Ok(())
     }
 
     /// Keeps a point. The leaves are judged anew only where the least value changes.
     fn take_point(&mut self, point: Point, joined: Joined) -> Result<(), AllocError>
-        requires keepable { IsKeepable self.old.model point }
         requires joined { JoinsPoint self.old point joined }
         ensures taken { OnOk result (TakesPoint self.old point self.new) }
         ensures target { OnOk result (target self.new.model self.new.points ≡ joined.target) }
@@ -102,42 +100,35 @@ impl Search {
         }
     }
 
-    /// The number of the leaf with the id, if it has one.
-    pub(crate) fn rank_of(&self, id: u64, region: &Region) -> Option<Frac>
-        requires has { HasLeaf self.now.tree id }
-        requires at { IsAt id region.now self.now.tree.root }
-        requires narrow { AreNarrow region.now }
-        ensures { HasRank self.now.model self.now.tree.root (record { rank = result; id = id }) }
+    /// The number that is kept of the leaf with the id, if it has one.
+    pub(crate) fn rank_of(&self, id: u64) -> Option<Frac>
+        ensures { HasRank (formulation_of self.now) self.now.tree.root (record { rank = result; id = id }) }
     {
-        let Some(kept) = self.tree.leaf(id) else {
-            unreachable!()
-        };
-        rank(&number_of(&self.model, region, &kept.mult, &kept.farkas))
+        rank(&self.numbers.number_or_minus(id))
     }
 
-    /// Gives the leaf with the id data by which it is closed.
-    fn put_closed(&mut self, id: u64, region: &Region, kept: LeafData)
-        requires has { HasLeaf self.old.tree id }
-        requires at { IsAt id region.now self.old.tree.root }
-        requires narrow { AreNarrow region.now }
-        requires lists { HasLists self.old.model kept }
-        requires judged { IsJudgedLeaf self.old.model (target self.old.model self.old.points) region.now kept }
+    /// Gives the leaf with the id data with this number, by which it is closed.
+    fn put_closed(&mut self, id: u64, region: &Region, kept: LeafData, number: &LeafNumber)
+        requires leaf { HasLeafAt self.old.tree id region.now }
+        requires number { IsNumber (formulation_of self.old) region.now kept.mult kept.farkas number.now }
+        requires lists { HasLists (formulation_of self.old) kept }
+        requires judged { IsJudgedLeaf (formulation_of self.old) (target self.old.model self.old.points) region.now kept }
         requires closed { kept.state ≡ IsClosed }
         ensures { self.new ≡ search_with_leaf self.old id kept }
     {
-        let rank = self.rank_of(id, region);
+        let rank = self.rank_of(id);
         self.queue.remove(&Some(Candidate { rank, id }));
+        self.numbers.set(id, number);
         self.tree.set_leaf(id, kept);
     }
 
-    /// Gives the leaf with the id other data with its own multipliers, by which it is open.
-    fn put_open(&mut self, id: u64, region: &Region, kept: LeafData)
-        requires has { HasLeaf self.old.tree id }
-        requires at { IsAt id region.now self.old.tree.root }
+    /// Gives the leaf with the id other data with its own multipliers and its own state.
+    fn put_own(&mut self, id: u64, region: &Region, kept: LeafData)
+        requires leaf { HasLeafAt self.old.tree id region.now }
         requires own { HasMultipliers id kept self.old.tree.root }
-        requires lists { HasLists self.old.model kept }
-        requires judged { IsJudgedLeaf self.old.model (target self.old.model self.old.points) region.now kept }
-        requires open { kept.state ≡ IsOpen }
+        requires state { HasState id kept.state self.old.tree.root }
+        requires lists { HasLists (formulation_of self.old) kept }
+        requires judged { IsJudgedLeaf (formulation_of self.old) (target self.old.model self.old.points) region.now kept }
         ensures { self.new ≡ search_with_leaf self.old id kept }
     {
         self.tree.set_leaf(id, kept);
@@ -145,8 +136,7 @@ impl Search {
 
     /// Closes the leaf with the id, if it closes by these data.
     fn place_close(&mut self, id: u64, region: &Region, kept: LeafData) -> Result<Taken, AllocError>
-        requires has { HasLeaf self.old.tree id }
-        requires at { IsAt id region.now self.old.tree.root }
+        requires leaf { HasLeafAt self.old.tree id region.now }
         requires narrow { AreNarrow region.now }
         requires closed { kept.state ≡ IsClosed }
         ensures taken { IfOk result (λ taken. TakesClose self.old id region.now kept self.new taken) }
@@ -154,8 +144,9 @@ impl Search {
     {
         match has_lists(self.alloc, &self.model, &kept) {
             Ok(true) => {
-                if closes_by(&self.model, &self.target(), region, &kept) {
-                    self.put_closed(id, region, kept);
+                let number = number_of(&self.model, region.as_slice(), &kept.mult, &kept.farkas);
+                if closes_by(&self.model, &self.target(), region, &kept, &number) {
+                    self.put_closed(id, region, kept, &number);
                     Ok(Taken::Closed)
                 } else {
                     drop(kept);
@@ -181,21 +172,20 @@ impl Search {
         point: Point,
         joined: Joined,
         kept: LeafData,
+        number: &LeafNumber,
     ) -> Result<Taken, AllocError>
-        requires has { HasLeaf self.old.tree id }
-        requires at { IsAt id region.now self.old.tree.root }
-        requires narrow { AreNarrow region.now }
+        requires leaf { HasLeafAt self.old.tree id region.now }
+        requires number { IsNumber (formulation_of self.old) region.now kept.mult kept.farkas number.now }
         requires closed { kept.state ≡ IsClosed }
-        requires keepable { IsKeepable self.old.model point }
         requires joined { JoinsPoint self.old point joined }
-        requires lists { HasLists self.old.model kept }
-        requires closes { ClosesBy self.old.model joined.target region.now kept }
+        requires lists { HasLists (formulation_of self.old) kept }
+        requires closes { ClosesBy (formulation_of self.old) joined.target region.now kept }
         ensures taken { IfOk result (λ taken. TakesPointClose self.old id region.now point kept self.new taken) }
         ensures kept { OnErr result (self.new ≡ self.old) }
     {
         match self.take_point(point, joined) {
             Ok(()) => {
-                self.put_closed(id, region, kept);
+                self.put_closed(id, region, kept, number);
                 Ok(Taken::Closed)
             }
             Err(error) => {
@@ -214,18 +204,17 @@ impl Search {
         joined: Joined,
         kept: LeafData,
     ) -> Result<Taken, AllocError>
-        requires has { HasLeaf self.old.tree id }
-        requires at { IsAt id region.now self.old.tree.root }
+        requires leaf { HasLeafAt self.old.tree id region.now }
         requires narrow { AreNarrow region.now }
         requires closed { kept.state ≡ IsClosed }
-        requires keepable { IsKeepable self.old.model point }
         requires joined { JoinsPoint self.old point joined }
-        requires lists { HasLists self.old.model kept }
+        requires lists { HasLists (formulation_of self.old) kept }
         ensures taken { IfOk result (λ taken. TakesPointClose self.old id region.now point kept self.new taken) }
         ensures kept { OnErr result (self.new ≡ self.old) }
     {
-        if closes_by(&self.model, &joined.target, region, &kept) {
-            self.put_joined_close(id, region, point, joined, kept)
+        let number = number_of(&self.model, region.as_slice(), &kept.mult, &kept.farkas);
+        if closes_by(&self.model, &joined.target, region, &kept, &number) {
+            self.put_joined_close(id, region, point, joined, kept, &number)
         } else {
             drop(point);
             drop(joined);
@@ -243,11 +232,9 @@ impl Search {
         joined: Joined,
         kept: LeafData,
     ) -> Result<Taken, AllocError>
-        requires has { HasLeaf self.old.tree id }
-        requires at { IsAt id region.now self.old.tree.root }
+        requires leaf { HasLeafAt self.old.tree id region.now }
         requires narrow { AreNarrow region.now }
         requires closed { kept.state ≡ IsClosed }
-        requires keepable { IsKeepable self.old.model point }
         requires joined { JoinsPoint self.old point joined }
         ensures taken { IfOk result (λ taken. TakesPointClose self.old id region.now point kept self.new taken) }
         ensures kept { OnErr result (self.new ≡ self.old) }
@@ -277,8 +264,7 @@ impl Search {
         point: Point,
         kept: LeafData,
     ) -> Result<Taken, AllocError>
-        requires has { HasLeaf self.old.tree id }
-        requires at { IsAt id region.now self.old.tree.root }
+        requires leaf { HasLeafAt self.old.tree id region.now }
         requires narrow { AreNarrow region.now }
         requires closed { kept.state ≡ IsClosed }
         ensures taken { IfOk result (λ taken. TakesPointClose self.old id region.now point kept self.new taken) }
@@ -299,33 +285,26 @@ impl Search {
         }
     }
 
-    /// Gives the leaf with the id these data with its own multipliers, and judges it.
+    /// Gives the leaf with the id these data with its own multipliers. By these it is judged, so its state stays.
     fn put_judged(&mut self, id: u64, region: &Region, kept: LeafData)
-        requires has { HasLeaf self.old.tree id }
-        requires at { IsAt id region.now self.old.tree.root }
+        requires leaf { HasLeafAt self.old.tree id region.now }
         requires own { HasMultipliers id kept self.old.tree.root }
-        requires narrow { AreNarrow region.now }
-        requires lists { HasLists self.old.model kept }
+        requires lists { HasLists (formulation_of self.old) kept }
         ensures { PutsJudged self.old id region.now kept self.new }
     {
-        let target = self.target();
-        let state = judge(&self.model, &target, region, &kept.mult, &kept.farkas);
-        let kept = in_state(state, kept);
-        if is_closed(&kept.state) {
-            self.put_closed(id, region, kept);
-        } else {
-            self.put_open(id, region, kept);
-        }
+        let Some(leaf) = self.tree.leaf(id) else {
+            unreachable!()
+        };
+        let kept = in_state(leaf.state, kept);
+        self.put_own(id, region, kept);
     }
 
     /// Gives the leaf with the id these data, which are its own but for the basis.
     fn place_keep(&mut self, id: u64, region: &Region, kept: LeafData) -> Result<Taken, AllocError>
-        requires has { HasLeaf self.old.tree id }
-        requires at { IsAt id region.now self.old.tree.root }
+        requires leaf { HasLeafAt self.old.tree id region.now }
         requires own { HasMultipliers id kept self.old.tree.root }
-        requires narrow { AreNarrow region.now }
-        requires mult { AreMultipliers self.old.model kept.mult }
-        requires farkas { AreMultipliers self.old.model kept.farkas }
+        requires mult { AreMultipliers (formulation_of self.old) kept.mult }
+        requires farkas { AreMultipliers (formulation_of self.old) kept.farkas }
         ensures taken { IfOk result (λ taken. TakesKeep self.old id region.now kept self.new taken) }
         ensures kept { OnErr result (self.new ≡ self.old) }
     {
@@ -345,13 +324,10 @@ impl Search {
         joined: Joined,
         kept: LeafData,
     ) -> Result<Taken, AllocError>
-        requires has { HasLeaf self.old.tree id }
-        requires at { IsAt id region.now self.old.tree.root }
+        requires leaf { HasLeafAt self.old.tree id region.now }
         requires own { HasMultipliers id kept self.old.tree.root }
-        requires narrow { AreNarrow region.now }
-        requires mult { AreMultipliers self.old.model kept.mult }
-        requires farkas { AreMultipliers self.old.model kept.farkas }
-        requires keepable { IsKeepable self.old.model point }
+        requires mult { AreMultipliers (formulation_of self.old) kept.mult }
+        requires farkas { AreMultipliers (formulation_of self.old) kept.farkas }
         requires joined { JoinsPoint self.old point joined }
         ensures taken { IfOk result (λ taken. TakesPointKeep self.old id region.now point kept self.new taken) }
         ensures kept { OnErr result (self.new ≡ self.old) }
@@ -382,12 +358,10 @@ impl Search {
         point: Point,
         kept: LeafData,
     ) -> Result<Taken, AllocError>
-        requires has { HasLeaf self.old.tree id }
-        requires at { IsAt id region.now self.old.tree.root }
+        requires leaf { HasLeafAt self.old.tree id region.now }
         requires own { HasMultipliers id kept self.old.tree.root }
-        requires narrow { AreNarrow region.now }
-        requires mult { AreMultipliers self.old.model kept.mult }
-        requires farkas { AreMultipliers self.old.model kept.farkas }
+        requires mult { AreMultipliers (formulation_of self.old) kept.mult }
+        requires farkas { AreMultipliers (formulation_of self.old) kept.farkas }
         ensures taken { IfOk result (λ taken. TakesPointKeep self.old id region.now point kept self.new taken) }
         ensures kept { OnErr result (self.new ≡ self.old) }
     {
@@ -414,12 +388,10 @@ impl Search {
         point: Option<Point>,
         kept: LeafData,
     ) -> Result<Taken, AllocError>
-        requires has { HasLeaf self.old.tree id }
-        requires at { IsAt id region.now self.old.tree.root }
+        requires leaf { HasLeafAt self.old.tree id region.now }
         requires own { HasMultipliers id kept self.old.tree.root }
-        requires narrow { AreNarrow region.now }
-        requires mult { AreMultipliers self.old.model kept.mult }
-        requires farkas { AreMultipliers self.old.model kept.farkas }
+        requires mult { AreMultipliers (formulation_of self.old) kept.mult }
+        requires farkas { AreMultipliers (formulation_of self.old) kept.farkas }
         ensures taken { IfOk result (λ taken. TakesBasis self.old id region.now point kept self.new taken) }
         ensures kept { OnErr result (self.new ≡ self.old) }
     {
@@ -431,7 +403,7 @@ impl Search {
 
     /// The region of the open leaf with the id, if there is one.
     fn open_region(&self, id: u64) -> Result<Option<Region>, AllocError>
-        ensures { IfOk result (λ found. MatchOption found (IsStale self.now id) (λ region. IsOpenLeaf self.now id region)) }
+        ensures { IfOk result (λ found. MatchOption found (IsStale self.now id) (λ region. IsOpenPlace self.now id region)) }
     {
         let Some(leaf) = self.tree.leaf(id) else {
             return Ok(None);
@@ -450,7 +422,7 @@ impl Search {
         point: Option<Point>,
         basis: Basis,
     ) -> Result<Taken, AllocError>
-        requires open { IsOpenLeaf self.old id region.now }
+        requires open { IsOpenPlace self.old id region.now }
         ensures taken { IfOk result (λ taken. Takes self.old id (Keep point basis) self.new taken) }
         ensures kept { OnErr result (self.new ≡ self.old) }
     {
@@ -473,7 +445,7 @@ impl Search {
         region: &Region,
         done: NodeResult,
     ) -> Result<Taken, AllocError>
-        requires open { IsOpenLeaf self.old id region.now }
+        requires open { IsOpenPlace self.old id region.now }
         ensures taken { IfOk result (λ taken. Takes self.old id done self.new taken) }
         ensures kept { OnErr result (self.new ≡ self.old) }
     {
@@ -523,6 +495,20 @@ impl Search {
             }
         }
     }
+}
+
+/// Whether a leaf of a region with these data, whose number this is, closes against the target.
+fn closes_by(
+    model: &Model,
+    target: &Option<Frac>,
+    region: &Region,
+    kept: &LeafData,
+    number: &LeafNumber,
+) -> bool
+    requires { IsNumber (without_cuts model.now) region.now kept.now.mult kept.now.farkas number.now }
+    ensures { IsTrue result ↔ ClosesBy (without_cuts model.now) target.now region.now kept.now }
+{
+    number_closes(model, target, number)
 }
 
 /// Whether the leaf is closed.

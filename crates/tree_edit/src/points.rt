@@ -2,7 +2,7 @@
 ghost use Rattle.std.specs.Prelude.{◌≡◌, ◌↔◌, ◌<◌, ◌++◌, ◌∷◌, IsTrue, IfOk, MatchOption, [], length, vec_len, Some};
 ghost use Rattle.rational.specs.Rational.{◌<ℚ◌};
 ghost use Rattle.tree_edit.specs.Points.{IsOldestLeast, lesser};
-ghost use Rattle.tree_edit.specs.Placing.{IsOldestGreatestOf, IsWorst, IsPlaceWithin, without, IsLeastValue, Joins};
+ghost use Rattle.tree_edit.specs.Placing.{IsOldestGreatestOf, IsWorst, IsPlaceWithin, list_without, IsLeastValue, Joins};
 
 use frac128::Frac;
 use std::alloc::{AllocError, Global};
@@ -98,7 +98,7 @@ pub(crate) fn with_value(
 /// Takes out what stands at a place, if one is given.
 pub(crate) fn take_out<T: Drop>(items: &mut Vec<T>, place: Option<usize>)
     requires { IsPlaceWithin (vec_len items.old) place }
-    ensures { items.new.items ≡ without items.old.items place }
+    ensures { items.new.items ≡ list_without items.old.items place }
 {
     if let Some(place) = place {
         let _ = items.remove(place);

@@ -1,20 +1,20 @@
 // A search: a model, a tree and the kept points.
 ghost use Rattle.std.specs.Prelude.{◌≡◌, None, IfOk, OnErr, length};
 ghost use Rattle.std.specs.Option.{option_copied};
+ghost use Rattle.lp_model.specs.Formulations.{without_cuts};
 ghost use Rattle.branch_tree.specs.Leaves.{open_count};
 ghost use Rattle.branch_tree.specs.Changes.{first_tree};
 ghost use Rattle.tree_edit.specs.Points.{target, IsIncumbent};
 ghost use Rattle.tree_edit.specs.Sound.{IsSound};
-ghost use Rattle.tree_edit.specs.Judged.{JudgesAll};
-ghost use Rattle.tree_edit.specs.Queued.{IsQueueOf};
-ghost use Rattle.tree_edit.specs.Choosing.{IsNext};
-ghost use Rattle.tree_edit.specs.Calls.{IsFresh, search_with_limit, IsNumberAnswer};
+ghost use Rattle.leaf_judging.specs.Judged.{JudgesAll};
+ghost use Rattle.leaf_judging.specs.Queued.{IsQueueOf};
+ghost use Rattle.leaf_judging.specs.Numbers.{AreNumbersOf};
+ghost use Rattle.tree_edit.specs.Calls.{IsNext, IsFresh, search_with_limit, IsNumberAnswer};
 
-use crate::judging::{LeafNumber, judge_all, number_of};
 use crate::points::oldest_least;
-use crate::queue::LeafQueue;
 use branch_tree::Tree;
 use frac128::Frac;
+use leaf_judging::{LeafIndex, LeafNumber, LeafNumbers, LeafQueue, judge_all};
 use lp_model::{Model, Point};
 use std::alloc::{AllocError, Global};
 
@@ -29,13 +29,14 @@ pub struct Search {
     pub(crate) tree: Tree,
     pub(crate) points: Vec<Point>,
     pub(crate) values: Vec<Frac>,
+    pub(crate) numbers: LeafNumbers,
     pub(crate) queue: LeafQueue,
     pub(crate) alloc: Global,
 }
 
 impl std::marker::Model for Search {
     ghost use Rattle.tree_edit.specs.Sound.{PlainSearch};
-    ghost use Rattle.tree_edit.specs.Queued.{IsIndexed};
+    ghost use Rattle.tree_edit.specs.Indexed.{IsIndexed};
     ghost use Rattle.tree_edit.specs.SearchCode.{search_code};
 
     ghost Value = { PlainSearch };
@@ -44,17 +45,18 @@ impl std::marker::Model for Search {
 
     ghost view = { λ s. record { model = s.model; tree = s.tree; points = s.points.items } };
 
-    ghost invariant = { λ s. IsIndexed (record { model = s.model; tree = s.tree; points = s.points.items }) s.values.items s.queue };
+    ghost invariant = { λ s. IsIndexed (record { model = s.model; tree = s.tree; points = s.points.items }) s.values.items s.numbers s.queue };
 }
 
-/// A tree of one leaf, which is judged where there is no point, and the queue of its open leaves.
-fn judged_tree(alloc: Global, model: &Model, limit: u64) -> Result<(Tree, LeafQueue), AllocError>
-    ensures judged { IfOk result (λ both. JudgesAll model.now None (first_tree limit) both.0) }
-    ensures queue { IfOk result (λ both. IsQueueOf model.now both.0.root both.1) }
+/// A tree of one leaf, which is judged where there is no point, and what is kept of its leaf.
+fn judged_tree(alloc: Global, model: &Model, limit: u64) -> Result<(Tree, LeafIndex), AllocError>
+    ensures judged { IfOk result (λ both. JudgesAll (without_cuts model.now) None (first_tree limit) both.0) }
+    ensures numbers { IfOk result (λ both. AreNumbersOf (without_cuts model.now) both.0.root both.1.numbers) }
+    ensures queue { IfOk result (λ both. IsQueueOf (without_cuts model.now) both.0.root both.1.queue) }
 {
     let mut tree = Tree::new(alloc, limit)?;
     match judge_all(alloc, model, &None, &mut tree) {
-        Ok(queue) => Ok((tree, queue)),
+        Ok(index) => Ok((tree, index)),
         Err(error) => {
             drop(tree);
             Err(error)
@@ -68,12 +70,13 @@ impl Search {
         ensures { IfOk result (λ s. IsFresh model 1000000 s) }
     {
         match judged_tree(alloc, &model, NODE_LIMIT) {
-            Ok((tree, queue)) => Ok(Search {
+            Ok((tree, index)) => Ok(Search {
                 model,
                 tree,
                 points: Vec::new(alloc),
                 values: Vec::new(alloc),
-                queue,
+                numbers: index.numbers,
+                queue: index.queue,
                 alloc,
             }),
             Err(error) => {
@@ -88,11 +91,12 @@ impl Search {
         ensures fresh { IfOk result (λ _. IsFresh self.old.model self.old.tree.limit self.new) }
         ensures kept { OnErr result (self.new ≡ self.old) }
     {
-        let (tree, queue) = judged_tree(self.alloc, &self.model, self.tree.limit())?;
+        let (tree, index) = judged_tree(self.alloc, &self.model, self.tree.limit())?;
         self.tree = tree;
         self.points = Vec::new(self.alloc);
         self.values = Vec::new(self.alloc);
-        self.queue = queue;
+        self.numbers = index.numbers;
+        self.queue = index.queue;
         Ok(())
     }
 
@@ -153,27 +157,24 @@ impl Search {
         self.tree.open_leaves()
     }
 
-    /// The number of the leaf with the id.
-    pub fn number(&self, id: u64) -> Result<Option<LeafNumber>, AllocError>
-        ensures { IfOk result (λ number. IsNumberAnswer self.now id number) }
+    /// The number of the leaf with the id, if there is such a leaf.
+    pub fn number(&self, id: u64) -> Option<LeafNumber>
+        ensures { IsNumberAnswer self.now id result }
     {
-        let Some(kept) = self.tree.leaf(id) else {
-            return Ok(None);
-        };
-        let Some(region) = self.tree.region_of(id)? else {
-            return Ok(None);
-        };
-        Ok(Some(number_of(&self.model, &region, &kept.mult, &kept.farkas)))
+        match self.tree.leaf(id) {
+            None => None,
+            Some(_) => self.numbers.get(id),
+        }
     }
 
     /// The id of the open leaf with the least number. One whose number is `Minus` or could not be computed goes before
     /// all numbers, and of equals the one with the least id.
-    pub fn next_leaf(&self) -> Result<Option<u64>, AllocError>
-        ensures { IfOk result (λ next. IsNext self.now next) }
+    pub fn next_leaf(&self) -> Option<u64>
+        ensures { IsNext self.now result }
     {
         match self.queue.first() {
-            None => Ok(None),
-            Some(first) => Ok(Some(first.id)),
+            None => None,
+            Some(first) => Some(first.id),
         }
     }
 }

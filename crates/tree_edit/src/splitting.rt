@@ -5,17 +5,15 @@ ghost use Rattle.frac128.specs.Range.{largest};
 ghost use Rattle.branch_tree.specs.Tree.{left_path, right_path};
 ghost use Rattle.lp_model.specs.Regions.{AreNarrow, at_most, at_least};
 ghost use Rattle.branch_tree.specs.Changes.{HasLeaf, HasRoom};
-ghost use Rattle.tree_edit.specs.Queued.{IsRank};
-ghost use Rattle.tree_edit.specs.Placing.{IsAt, IsChild, IsSplitSound, TakesSplit, tree_with_split};
+ghost use Rattle.tree_edit.specs.Placing.{HasLeafAt, IsNumberedChild, IsSplitSound, TakesSplit, tree_with_split};
+ghost use Rattle.tree_edit.specs.Sound.{formulation_of};
 
 use crate::checks::is_split_allowed;
-use crate::choosing::{Candidate, as_candidate, rank};
-use crate::judging::{number_of, state_by};
 use crate::lists::{are_multipliers, is_basis};
 use crate::placing::Taken;
 use crate::search::Search;
 use branch_tree::{LeafData, Tree};
-use frac128::Frac;
+use leaf_judging::{Candidate, LeafNumber, as_candidate, number_of, rank, state_by};
 use lp_model::{Basis, BoundChange, ColId, List, Mult, Region};
 use std::alloc::AllocError;
 
@@ -45,11 +43,11 @@ impl Split {
     }
 }
 
-/// A split's child, with its number, if it has one.
+/// A split's child, with its number.
 #[derive(Drop)]
 pub(crate) struct Child {
     pub(crate) kept: LeafData,
-    pub(crate) rank: Option<Frac>,
+    pub(crate) number: LeafNumber,
 }
 
 /// Splits the leaf with the id, whose children get these data. There is room, so that nothing but memory can be missing.
@@ -97,15 +95,14 @@ impl Search {
         basis: &Basis,
     ) -> Result<Child, AllocError>
         requires { AreNarrow (region.now ++ change ∷ []) }
-        ensures child { IfOk result (λ child. IsChild self.now (region.now ++ change ∷ []) mult.now basis.now child.kept) }
-        ensures rank { IfOk result (λ child. IsRank self.now.model (region.now ++ change ∷ []) child.kept child.rank) }
+        ensures { IfOk result (λ child. IsNumberedChild self.now (region.now ++ change ∷ []) mult.now basis.now child) }
     {
         let mut path = region.copy(self.alloc)?;
         path.push(change)?;
         let mult = mult.copy(self.alloc)?;
         let basis = basis.copy(self.alloc)?;
         let farkas = List::new(self.alloc);
-        let number = number_of(&self.model, &path, &mult, &farkas);
+        let number = number_of(&self.model, path.as_slice(), &mult, &farkas);
         let state = state_by(&self.model, &self.target(), &number);
         Ok(Child {
             kept: LeafData {
@@ -114,7 +111,7 @@ impl Search {
                 farkas,
                 basis,
             },
-            rank: rank(&number),
+            number,
         })
     }
 
@@ -127,36 +124,44 @@ impl Search {
         left: Child,
         right: Child,
     ) -> Result<Taken, AllocError>
-        requires has { HasLeaf self.old.tree id }
-        requires at { IsAt id region.now self.old.tree.root }
+        requires leaf { HasLeafAt self.old.tree id region.now }
         requires narrow { AreNarrow region.now }
-        requires sound { IsSplitSound self.old.model region.now split.col.0 split.v split.mult split.basis }
+        requires sound { IsSplitSound (formulation_of self.old) region.now split.col.0 split.v split.mult split.basis }
         requires room { (neg_ℤ (pos largest) ≤ℤ split.v) × (split.v <ℤ pos largest) }
-        requires left { IsChild self.old (left_path region.now split.col.0 split.v) split.mult split.basis left.kept }
-        requires right { IsChild self.old (right_path region.now split.col.0 split.v) split.mult split.basis right.kept }
-        requires left_rank { IsRank self.old.model (left_path region.now split.col.0 split.v) left.kept left.rank }
-        requires right_rank { IsRank self.old.model (right_path region.now split.col.0 split.v) right.kept right.rank }
+        requires left { IsNumberedChild self.old (left_path region.now split.col.0 split.v) split.mult split.basis left }
+        requires right { IsNumberedChild self.old (right_path region.now split.col.0 split.v) split.mult split.basis right }
         ensures taken { IfOk result (λ taken. TakesSplit self.old id region.now split.col.0 split.v split.mult split.basis self.new taken) }
         ensures kept { OnErr result (self.new ≡ self.old) }
     {
-        let Some((first, second)) = self.tree.next_ids() else {
+        let Some((one, two)) = self.tree.next_ids() else {
             drop(split);
             drop(left);
             drop(right);
             return Ok(Taken::Full);
         };
         let _numbered = self.tree.nodes();
-        let rank = self.rank_of(id, region);
-        let first = as_candidate(&left.kept.state, left.rank, first);
-        let second = as_candidate(&right.kept.state, right.rank, second);
-        match self.queue.add_both(&first, &second) {
-            Ok(()) => match split_tree(&mut self.tree, id, split, left.kept, right.kept) {
-                Ok(()) => {
-                    self.queue.remove(&Some(Candidate { rank, id }));
-                    Ok(Taken::Split)
-                }
+        let own = self.rank_of(id);
+        let left_rank = rank(&left.number);
+        let right_rank = rank(&right.number);
+        let first = as_candidate(&left.kept.state, left_rank, one);
+        let second = as_candidate(&right.kept.state, right_rank, two);
+        match self.numbers.put_both(one, &left.number, two, &right.number) {
+            Ok(()) => match self.queue.add_both(&first, &second) {
+                Ok(()) => match split_tree(&mut self.tree, id, split, left.kept, right.kept) {
+                    Ok(()) => {
+                        self.queue.remove(&Some(Candidate { rank: own, id }));
+                        self.numbers.remove(id);
+                        Ok(Taken::Split)
+                    }
+                    Err(error) => {
+                        self.queue.take_back(&first, &second);
+                        Err(error)
+                    }
+                },
                 Err(error) => {
-                    self.queue.take_back(&first, &second);
+                    drop(split);
+                    drop(left);
+                    drop(right);
                     Err(error)
                 }
             },
@@ -172,7 +177,7 @@ impl Search {
     /// Whether a split fits the model and the leaf.
     fn split_fits(&self, region: &Region, split: &Split) -> Result<bool, AllocError>
         requires { AreNarrow region.now }
-        ensures sound { IfOk result (λ fits. IsTrue fits ↔ IsSplitSound self.now.model region.now split.now.col.0 split.now.v split.now.mult split.now.basis) }
+        ensures sound { IfOk result (λ fits. IsTrue fits ↔ IsSplitSound (formulation_of self.now) region.now split.now.col.0 split.now.v split.now.mult split.now.basis) }
         ensures room { IfOk result (λ fits. IsTrue fits → (neg_ℤ (pos largest) ≤ℤ split.now.v) × (split.now.v <ℤ pos largest)) }
     {
         if !is_split_allowed(&self.model, region, split.col, split.v) {
@@ -188,10 +193,8 @@ impl Search {
     fn children(&self, region: &Region, split: &Split) -> Result<(Child, Child), AllocError>
         requires narrow { AreNarrow region.now }
         requires room { (neg_ℤ (pos largest) ≤ℤ split.now.v) × (split.now.v <ℤ pos largest) }
-        ensures left { IfOk result (λ both. IsChild self.now (left_path region.now split.now.col.0 split.now.v) split.now.mult split.now.basis both.0.kept) }
-        ensures right { IfOk result (λ both. IsChild self.now (right_path region.now split.now.col.0 split.now.v) split.now.mult split.now.basis both.1.kept) }
-        ensures left_rank { IfOk result (λ both. IsRank self.now.model (left_path region.now split.now.col.0 split.now.v) both.0.kept both.0.rank) }
-        ensures right_rank { IfOk result (λ both. IsRank self.now.model (right_path region.now split.now.col.0 split.now.v) both.1.kept both.1.rank) }
+        ensures left { IfOk result (λ both. IsNumberedChild self.now (left_path region.now split.now.col.0 split.now.v) split.now.mult split.now.basis both.0) }
+        ensures right { IfOk result (λ both. IsNumberedChild self.now (right_path region.now split.now.col.0 split.now.v) split.now.mult split.now.basis both.1) }
     {
         let left = self.child(region, split.up_to(), &split.mult, &split.basis)?;
         let right = self.child(region, split.above(), &split.mult, &split.basis)?;
@@ -200,10 +203,9 @@ impl Search {
 
     /// Splits the leaf with the id by a split that fits.
     fn place_fitting(&mut self, id: u64, region: &Region, split: Split) -> Result<Taken, AllocError>
-        requires has { HasLeaf self.old.tree id }
-        requires at { IsAt id region.now self.old.tree.root }
+        requires leaf { HasLeafAt self.old.tree id region.now }
         requires narrow { AreNarrow region.now }
-        requires sound { IsSplitSound self.old.model region.now split.col.0 split.v split.mult split.basis }
+        requires sound { IsSplitSound (formulation_of self.old) region.now split.col.0 split.v split.mult split.basis }
         requires room { (neg_ℤ (pos largest) ≤ℤ split.v) × (split.v <ℤ pos largest) }
         ensures taken { IfOk result (λ taken. TakesSplit self.old id region.now split.col.0 split.v split.mult split.basis self.new taken) }
         ensures kept { OnErr result (self.new ≡ self.old) }
@@ -224,8 +226,7 @@ impl Search {
         region: &Region,
         split: Split,
     ) -> Result<Taken, AllocError>
-        requires has { HasLeaf self.old.tree id }
-        requires at { IsAt id region.now self.old.tree.root }
+        requires leaf { HasLeafAt self.old.tree id region.now }
         requires narrow { AreNarrow region.now }
         ensures taken { IfOk result (λ taken. TakesSplit self.old id region.now split.col.0 split.v split.mult split.basis self.new taken) }
         ensures kept { OnErr result (self.new ≡ self.old) }

@@ -4,11 +4,12 @@ use anyhow::{Result, bail, ensure};
 use branch_tree::NodeResult;
 use frac128::Frac;
 use leaf_dual::LagValue;
+use leaf_judging::LeafNumber;
 use lp_model::{Model, Point};
 use model_calls::{has_section, numbers_of, push_answer, push_step, section, take_number};
 use model_texts::{Words, basis_of, edit_of, multipliers_of, point_of, push_point};
 use std::alloc::Global;
-use tree_edit::{LeafNumber, Search, Taken};
+use tree_edit::{Search, Taken};
 use tree_search::{Outcome, StopWhy, cap, is_integral, solve};
 
 /// Makes a call of a search, and writes its answer.
@@ -155,7 +156,7 @@ fn stands(search: &Search, got: &mut String) -> Result<()> {
     let open = search.open_leaves();
     let points = search.points().len();
     write!(got, "nodes {nodes} open {open} points {points}")?;
-    if let Some(next) = search.next_leaf()? {
+    if let Some(next) = search.next_leaf() {
         write!(got, " next {next}")?;
     }
     if let Some(target) = search.target() {
@@ -189,7 +190,7 @@ fn incumbent(search: &Search, got: &mut String) -> Result<()> {
 
 /// Writes the number of a leaf.
 fn number(search: &Search, id: u64, got: &mut String) -> Result<()> {
-    match &search.number(id)? {
+    match &search.number(id) {
         None => got.push_str("none")?,
         Some(LeafNumber::Empty) => got.push_str("empty")?,
         Some(LeafNumber::Lag(LagValue::Minus)) => got.push_str("minus")?,

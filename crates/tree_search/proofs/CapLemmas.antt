@@ -17,14 +17,14 @@ use Rattle.branch_tree.specs.Plain.{Plain}
 use Rattle.branch_tree.specs.declared.node.LeafState.{LeafState}
 use Rattle.branch_tree.specs.declared.node.LeafState.TheVariants.{IsOpen, IsClosed}
 use Rattle.tree_search.specs.Integral.{AreIntegral, IsIntegral}
-use Rattle.tree_search.specs.Points.{numbers_from, numbers_within, product_below, points}
+use Rattle.tree_search.specs.Points.{whole_numbers_from, numbers_within, product_below, points}
 use Rattle.tree_search.specs.Work.{whole_points_of, whole_points, cap_of, if_open, sum_open, work, splits}
 use Rattle.tree_search.proofs.RegionLemmas.{IsWholeBound, ceil-int, floor-int, region_low-whole, region_high-whole}
 use Rattle.tree_search.proofs.PointLemmas.{bounds-split, product-split, low-left, high-left, low-right, high-right, high-left_other, low-right_other}
 
 -- ---- any split
 
-numbers-none : (l h : ℤ) → h <ℤ l → numbers_from l h ≡ 0
+numbers-none : (l h : ℤ) → h <ℤ l → whole_numbers_from l h ≡ 0
 numbers-none l h crossed = grind (arith, ints)
 
 -- where the split's number is not among the column's, one child has none and the other has all
@@ -34,8 +34,8 @@ bounds-beyond l h v p q over =
     let same : min_ℚ h (int v) ≡ h = ≤ℚ_antisymm ((min-≤ℚ h (int v)).0) (≤ℚ-min h h (int v) (≤ℚ_refl h) over) in
     let under : floor h ≤ℤ v = (int-≤ℚ-int (floor h) v).0 (≤ℚ_trans (floor-≤ℚ h) over) in
     let low : (v +ℤ pos 1) ≤ℤ ceil (max_ℚ l (int (v +ℤ pos 1))) = (int-≤ℚ-int (v +ℤ pos 1) (ceil (max_ℚ l (int (v +ℤ pos 1))))).0 (≤ℚ_trans ((≤ℚ-max l (int (v +ℤ pos 1))).1) (over_ceil (max_ℚ l (int (v +ℤ pos 1))))) in
-    let none : numbers_from (ceil (max_ℚ l (int (v +ℤ pos 1)))) (floor h) ≡ 0 = numbers-none (ceil (max_ℚ l (int (v +ℤ pos 1)))) (floor h) (omega (arith, ints)) in
-    (λ t. numbers_from (ceil l) (floor (same t)) + none t) ∙ plus_zero (numbers_from (ceil l) (floor h))
+    let none : whole_numbers_from (ceil (max_ℚ l (int (v +ℤ pos 1)))) (floor h) ≡ 0 = numbers-none (ceil (max_ℚ l (int (v +ℤ pos 1)))) (floor h) (omega (arith, ints)) in
+    (λ t. whole_numbers_from (ceil l) (floor (same t)) + none t) ∙ plus_zero (whole_numbers_from (ceil l) (floor h))
   where
     over_ceil : (x : ℚ) → x ≤ℚ int (ceil x)
     over_ceil x = (≤ℚ-int x (ceil x)).1 (omega (arith, ints))
@@ -51,8 +51,8 @@ bounds-below l h v p q under =
     let same : max_ℚ l (int (v +ℤ pos 1)) ≡ l = ≤ℚ_antisymm (max-≤ℚ l (int (v +ℤ pos 1)) l (≤ℚ_refl l) above) ((≤ℚ-max l (int (v +ℤ pos 1))).0) in
     let high : floor (min_ℚ h (int v)) ≤ℤ v = (int-≤ℚ-int (floor (min_ℚ h (int v))) v).0 (≤ℚ_trans (floor-≤ℚ (min_ℚ h (int v))) ((min-≤ℚ h (int v)).1)) in
     let low : (v +ℤ pos 1) ≤ℤ ceil l = (int-≤ℚ-int (v +ℤ pos 1) (ceil l)).0 (≤ℚ_trans above ((≤ℚ-int l (ceil l)).1 (omega (arith, ints)))) in
-    let none : numbers_from (ceil l) (floor (min_ℚ h (int v))) ≡ 0 = numbers-none (ceil l) (floor (min_ℚ h (int v))) (omega (arith, ints)) in
-    (λ t. none t + numbers_from (ceil (same t)) (floor h)) ∙ zero_plus (numbers_from (ceil l) (floor h))
+    let none : whole_numbers_from (ceil l) (floor (min_ℚ h (int v))) ≡ 0 = numbers-none (ceil l) (floor (min_ℚ h (int v))) (omega (arith, ints)) in
+    (λ t. none t + whole_numbers_from (ceil (same t)) (floor h)) ∙ zero_plus (whole_numbers_from (ceil l) (floor h))
   where
     zero_plus : (n : ℕ) → 0 + n ≡ n
     zero_plus n = omega arith
@@ -120,7 +120,7 @@ first_numbers : (integer : Bool) (lo up : Option ℚ) → IsTrue integer → IsS
 first_numbers false lo up t l u = let f : false ≡ true = t in cc
 first_numbers true None up t l u = let f : false ≡ true = l in cc
 first_numbers true (Some l) None t p u = let f : false ≡ true = u in cc
-first_numbers true (Some l) (Some u) t p q = (λ k. numbers_from (ceil-int (ceil l) k) (floor-int (floor u) k))
+first_numbers true (Some l) (Some u) t p q = (λ k. whole_numbers_from (ceil-int (ceil l) k) (floor-int (floor u) k))
 
 root-points : (cs : List Col) → AreIntegral cs → product_below (length cs) (column_numbers cs) ≡ whole_points_of cs
 unfolding column_numbers

@@ -10,13 +10,13 @@ use Rattle.branch_tree.specs.declared.node.LeafData.{LeafData}
 use Rattle.branch_tree.specs.declared.node.LeafState.TheVariants.{IsOpen}
 use Rattle.branch_tree.proofs.CountLemmas.{nodes-splits}
 use Rattle.branch_tree.proofs.StateLemmas.{split_count-states}
-use Rattle.tree_edit.specs.Calls.{IsFresh}
+use Rattle.tree_edit.specs.Calls.{IsFresh, IsOpenLeaf}
 use Rattle.tree_edit.specs.Sound.{PlainSearch, IsSound}
 use Rattle.tree_search.specs.Integral.{IsIntegral}
 use Rattle.tree_search.specs.Points.{points, middle_within}
 use Rattle.tree_search.specs.Work.{whole_points, cap_of, if_open, HasRoomFor}
 use Rattle.tree_search.specs.Working.{PointIsWide}
-use Rattle.tree_search.specs.Steps.{IsOpenLeaf, IsTooFull, work_of, splits_of, IsRoomy, PlacesMany, Goes}
+use Rattle.tree_search.specs.Steps.{IsTooFull, work_of, splits_of, IsRoomy, PlacesMany, Goes}
 use Rattle.tree_search.specs.Causes.{IsCause, HasCause, IsFinished, IsJudgeable, IsEnough}
 use Rattle.tree_search.specs.Search.{StopsFor, ShowsFor, Finds, GivesUp}
 use Rattle.tree_search.specs.declared.stepping.StopWhy.{StopWhy}

@@ -71,6 +71,9 @@ module _ (M : Program) (path : Path) (x : Point) (integral : IsIntegral M) (only
   -- it is feasible, or a row refutes the region or has a step without room
   pub only-broken : IsFeasibilityAnswer M x (Ok false) → IsRefutingOf M path (IsTrial M) (NotRefuted None) → ⊥
   only-broken answer tried = elim answer [
-    | inl columns ↦ columns only-columns
-    | inr row ↦ allowed-rows M path x row.0 only row.1.within tried.1 row.1.breach
+    | inl other ↦ other only.shape
+    | inr broken ↦ elim broken.1 [
+      | inl columns ↦ columns only-columns
+      | inr row ↦ allowed-rows M path x row.0 only row.1.within tried.1 row.1.breach
+    ]
   ]

@@ -19,9 +19,11 @@ use Rattle.lp_model.specs.Program.{Program, Point, coordinate, coefficient, cons
 use Rattle.lp_model.specs.declared.types.Sense.{Sense}
 use Rattle.lp_model.specs.declared.types.Sense.TheVariants.{Min, Max}
 use Rattle.lp_model.specs.Regions.{Path}
+use Rattle.lp_model.specs.Formulations.{without_cuts}
 use Rattle.leaf_dual.specs.declared.dual.LagValue.TheVariants.{Num}
-use Rattle.leaf_dual.specs.Dual.{side_by, needed_side, reduced_cost, row_side, column_side, times, plus, total_below, dual_number, least_constant, least_cost}
-use Rattle.leaf_dual.specs.Answers.{IsLagAnswer, LacksSide, RowsFit, ColumnsFit, rows_total, row_number, bound_number, side_number}
+use Rattle.leaf_dual.specs.Dual.{cut_weight, side_by, needed_side, column_reduced_cost, row_side, column_side, times, plus, total_below, dual_number, least_constant, least_cost}
+use Rattle.leaf_dual.specs.Answers.{IsLagAnswer, LacksSide, RowsFit, CutsFit, ColumnsFit, rows_total, cuts_total, row_number, bound_number, side_number}
+use Rattle.leaf_dual.proofs.WithoutCuts.{reduced_cost-without_cuts}
 use Rattle.tree_search.specs.Single.{IsOnlyPoint}
 use Rattle.tree_search.proofs.SingleLemmas.{total-is, single-side, single-there}
 
@@ -104,20 +106,35 @@ module _ (M : Program) (path : Path) (x : Point) (only : IsOnlyPoint M path x) (
   none : ℕ → ℚ
   none i = int (pos 0)
 
-  reduced_is : (j : ℕ) → reduced_cost M none (least_cost M) j ≡ least_cost M j
+  -- the weights of the cuts, of which there are none
+  abbrev z : ℕ → ℚ
+  z = cut_weight [] []
+
+  -- what is left of a column's cost, and the bound that it takes
+  abbrev left : ℕ → ℚ
+  left = column_reduced_cost (without_cuts M) none z (least_cost M)
+
+  abbrev bounds : ℕ → ℚ
+  bounds = bound_number (without_cuts M) path none z (least_cost M)
+
+  reduced_is : (j : ℕ) → left j ≡ least_cost M j
   unfolding none
   reduced_is j =
-      ap (λ z. least_cost M j -ℚ z) (sum_below-same (length M.rows) (λ i. int (pos 0) *ℚ coefficient M i j) (λ i. int (pos 0)) (λ i below. ring (coefficient M i j ∷ []) (search reads_ℚ) tt) ∙ sum_below-zero (length M.rows))
+      reduced_cost-without_cuts M none z (least_cost M) j
+      ∙ ap (λ t. least_cost M j -ℚ t) (sum_below-same (length M.rows) (λ i. int (pos 0) *ℚ coefficient M i j) (λ i. int (pos 0)) (λ i below. ring (coefficient M i j ∷ []) (search reads_ℚ) tt) ∙ sum_below-zero (length M.rows))
       ∙ ring (least_cost M j ∷ []) (search reads_ℚ) tt
 
-  column_is : (j : ℕ) → j < length M.cols → column_side M path none (least_cost M) j ≡ needed_side (least_cost M j) (Some (coordinate x j)) (Some (coordinate x j))
+  column_is : (j : ℕ) → j < length M.cols → column_side (without_cuts M) path none z (least_cost M) j ≡ needed_side (least_cost M j) (Some (coordinate x j)) (Some (coordinate x j))
   column_is j below = (λ t. needed_side (reduced_is j t) (only.low j below t) (only.high j below t))
 
-  lacks_none : ¬ LacksSide M path none (least_cost M)
+  lacks_none : ¬ LacksSide (without_cuts M) path none z (least_cost M)
   unfolding none
   lacks_none lacks = elim lacks [
     | inl row ↦ some_none (sym (no_side (side_low row.0) (side_high row.0)) ∙ row.1.1)
-    | inr column ↦ single-there (least_cost M column.0) (coordinate x column.0) (sym (column_is column.0 column.1.0) ∙ column.1.1.1)
+    | inr other ↦ elim other [
+      | inl (k, (below, e)) ↦ absurd (omega arith)
+      | inr column ↦ single-there (least_cost M column.0) (coordinate x column.0) (sym (column_is column.0 column.1.0) ∙ column.1.1.1)
+    ]
   ]
     where
       side_low : ℕ → Option ℚ
@@ -140,42 +157,53 @@ module _ (M : Program) (path : Path) (x : Point) (only : IsOnlyPoint M path x) (
       (sum_below-same (length M.rows) (λ i. int (pos 0) *ℚ row_number M (λ i. int (pos 0)) i) (λ i. int (pos 0)) (λ i below. ring (row_number M (λ i. int (pos 0)) i ∷ []) (search reads_ℚ) tt) ∙ sum_below-zero (length M.rows))
       ∙ ring (least_constant M ∷ []) (search reads_ℚ) tt
 
+  cuts_fit : CutsFit (without_cuts M) none z (least_constant M)
+  cuts_fit k below = absurd (omega arith)
+
+  -- what the columns' terms are added to
+  start : ℚ
+  start = cuts_total (without_cuts M) none z (least_constant M)
+
+  start_is : start ≡ least_constant M
+  unfolding start
+  start_is = ap (λ t. t +ℚ int (pos 0)) rows_are ∙ ring (least_constant M ∷ []) (search reads_ℚ) tt
+
   -- the bound of a column in a term, where its cost is not 0
-  bound_is : (j : ℕ) → j < length M.cols → (least_cost M j ≡ int (pos 0)) ⊎ (bound_number M path none (least_cost M) j ≡ coordinate x j)
+  bound_is : (j : ℕ) → j < length M.cols → (least_cost M j ≡ int (pos 0)) ⊎ (bounds j ≡ coordinate x j)
   bound_is j below = elim (taken_side (least_cost M j) (coordinate x j)) [ inl zero_cost ↦ inl zero_cost | inr side ↦ inr (ap side_number (column_is j below ∙ side)) ]
 
-  product_is : (j : ℕ) → j < length M.cols → reduced_cost M none (least_cost M) j *ℚ bound_number M path none (least_cost M) j ≡ least_cost M j *ℚ coordinate x j
+  product_is : (j : ℕ) → j < length M.cols → left j *ℚ bounds j ≡ least_cost M j *ℚ coordinate x j
   product_is j below = elim (bound_is j below) [
     | inl zero_cost ↦
-        ap (λ z. z *ℚ bound_number M path none (least_cost M) j) (reduced_is j ∙ zero_cost) ∙ ring (bound_number M path none (least_cost M) j ∷ coordinate x j ∷ []) (search reads_ℚ) tt
+        ap (λ z. z *ℚ bounds j) (reduced_is j ∙ zero_cost) ∙ ring (bounds j ∷ coordinate x j ∷ []) (search reads_ℚ) tt
         ∙ ap (λ z. z *ℚ coordinate x j) (sym zero_cost)
     | inr side ↦ (λ t. reduced_is j t *ℚ side t)
   ]
 
-  before_is : (j : ℕ) → j ≤ length M.cols → partial (rows_total M none (least_constant M)) (reduced_cost M none (least_cost M)) (bound_number M path none (least_cost M)) j
+  before_is : (j : ℕ) → j ≤ length M.cols → partial start left bounds j
       ≡ in_least_form M.sense (partial (constant M 1) (λ k. cost M 1 k) (λ k. coordinate x k) j)
   before_is j below =
-      (λ t. rows_are t +ℚ sum_below-same j (λ k. reduced_cost M none (least_cost M) k *ℚ bound_number M path none (least_cost M) k) (λ k. least_cost M k *ℚ coordinate x k) (λ k h. product_is k (omega arith)) t)
+      (λ t. start_is t +ℚ sum_below-same j (λ k. left k *ℚ bounds k) (λ k. least_cost M k *ℚ coordinate x k) (λ k h. product_is k (omega arith)) t)
       ∙ by_costs M.sense j (constant M 1) (λ k. cost M 1 k) (λ k. coordinate x k)
 
-  columns_fit : ColumnsFit M path none (least_cost M) (rows_total M none (least_constant M)) (length M.cols)
+  columns_fit : ColumnsFit (without_cuts M) path none z (least_cost M) start (length M.cols)
   unfolding none
-  columns_fit j below = record { entries = λ i h. inl (ring [] (search reads_ℚ) tt); term = term }
+  columns_fit j below = record { entries = record { of_rows = λ i h. inl (ring [] (search reads_ℚ) tt); of_cuts = λ k h. absurd (omega arith) }; term = term }
     where
       old : StepFits (in_least_form M.sense (partial (constant M 1) (λ k. cost M 1 k) (λ k. coordinate x k) j)) (least_cost M j) (coordinate x j)
       old = step-least M.sense (partial (constant M 1) (λ k. cost M 1 k) (λ k. coordinate x k) j) (cost M 1 j) (coordinate x j) (fits j below)
 
-      term : StepFits (partial (rows_total M none (least_constant M)) (reduced_cost M none (least_cost M)) (bound_number M path none (least_cost M)) j) (reduced_cost M none (least_cost M) j) (bound_number M path none (least_cost M) j)
+      term : StepFits (partial start left bounds j) (left j) (bounds j)
       term = elim (bound_is j below) [
         | inl zero_cost ↦ inl (reduced_is j ∙ zero_cost)
         | inr side ↦ subst (λ P. P) (λ t. StepFits (sym (before_is j (omega arith)) t) (sym (reduced_is j) t) (sym side t)) old
       ]
 
-  number_is : Num (least_value M 1 x) ≡ dual_number M path none (least_constant M) (least_cost M)
+  number_is : Num (least_value M 1 x) ≡ dual_number (without_cuts M) path none z (least_constant M) (least_cost M)
   unfolding none
   number_is =
       ap Num (sym (by_costs M.sense (length M.cols) (constant M 1) (λ k. cost M 1 k) (λ k. coordinate x k)) ∙ ring (least_constant M ∷ sum_below (length M.cols) (λ j. least_cost M j *ℚ coordinate x j) ∷ []) (search reads_ℚ) tt)
-      ∙ (λ t. plus (plus (Num (least_constant M)) (sym (rows_sum) t)) (sym (total-is (length M.cols) (λ j. times (reduced_cost M none (least_cost M) j) (column_side M path none (least_cost M) j)) (λ j. least_cost M j *ℚ coordinate x j) column_term) t))
+      ∙ (λ t. plus (plus (plus (Num (least_constant M)) (sym (rows_sum) t)) (Num (int (pos 0)))) (sym (total-is (length M.cols) (λ j. times (left j) (column_side (without_cuts M) path none z (least_cost M) j)) (λ j. least_cost M j *ℚ coordinate x j) column_term) t))
     where
       row_term : (i : ℕ) → times (int (pos 0)) (row_side M none i) ≡ Num (int (pos 0))
       row_term i = ap (times (int (pos 0))) (no_side (low_side M i) (high_side M i)) ∙ ap Num (ring [] (search reads_ℚ) tt)
@@ -183,10 +211,10 @@ module _ (M : Program) (path : Path) (x : Point) (only : IsOnlyPoint M path x) (
       rows_sum : total_below (length M.rows) (λ i. times (none i) (row_side M none i)) ≡ Num (int (pos 0))
       rows_sum = total-is (length M.rows) (λ i. times (none i) (row_side M none i)) (λ i. int (pos 0)) (λ i below. row_term i) ∙ ap Num (sum_below-zero (length M.rows))
 
-      column_term : (j : ℕ) → j < length M.cols → times (reduced_cost M none (least_cost M) j) (column_side M path none (least_cost M) j) ≡ Num (least_cost M j *ℚ coordinate x j)
+      column_term : (j : ℕ) → j < length M.cols → times (left j) (column_side (without_cuts M) path none z (least_cost M) j) ≡ Num (least_cost M j *ℚ coordinate x j)
       column_term j below = (λ t. times (reduced_is j t) (column_is j below t)) ∙ single-side (least_cost M j) (coordinate x j)
 
   -- without multipliers the number of the region is the point's value in least form
-  pub lag-value : IsLagAnswer M path [] (Ok (Num (least_value M 1 x)))
-  unfolding none
-  lag-value = (lacks_none, rows_fit, columns_fit, number_is)
+  pub lag-value : IsLagAnswer (without_cuts M) path [] (Ok (Num (least_value M 1 x)))
+  unfolding none start
+  lag-value = (lacks_none, rows_fit, cuts_fit, columns_fit, number_is)

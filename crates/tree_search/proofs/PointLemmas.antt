@@ -16,7 +16,7 @@ use Rattle.lp_model.specs.declared.types.BoundChange.{BoundChange}
 use Rattle.branch_tree.specs.Tree.{left_path, right_path}
 use Rattle.tree_edit.specs.Checks.{IsFrom, IsUnder, IsSplitAllowed}
 use Rattle.tree_search.specs.Integral.{IsIntegral}
-use Rattle.tree_search.specs.Points.{numbers_from, numbers_within, product_below, points}
+use Rattle.tree_search.specs.Points.{whole_numbers_from, numbers_within, product_below, points}
 use Rattle.tree_search.proofs.RegionLemmas.{IsWholeBound, ceil-int, floor-int, region_low-whole, region_high-whole}
 
 -- ---- a path and one more change
@@ -78,10 +78,10 @@ min-below h v less = ≤ℚ_antisymm ((min-≤ℚ h (int v)).1) (≤ℚ-min (int
 pub max-above : (l : ℚ) (v : ℤ) → l ≤ℚ int v → max_ℚ l (int v) ≡ int v
 max-above l v under = ≤ℚ_antisymm (max-≤ℚ l (int v) (int v) under (≤ℚ_refl (int v))) ((≤ℚ-max l (int v)).1)
 
-numbers-some : (l h : ℤ) → l ≤ℤ h → numbers_from l h ≡ suc (unsigned_abs (h -ℤ l))
+numbers-some : (l h : ℤ) → l ≤ℤ h → whole_numbers_from l h ≡ suc (unsigned_abs (h -ℤ l))
 numbers-some l h ordered = grind (arith, ints)
 
-numbers-split : (l v h : ℤ) → l ≤ℤ v → v ≤ℤ h → numbers_from l v + numbers_from (v +ℤ pos 1) h ≡ numbers_from l h
+numbers-split : (l v h : ℤ) → l ≤ℤ v → v ≤ℤ h → whole_numbers_from l v + whole_numbers_from (v +ℤ pos 1) h ≡ whole_numbers_from l h
 numbers-split l v h low high = grind (arith, ints)
 
 -- the numbers below and those above a split, of a column's bounds
@@ -93,8 +93,8 @@ bounds-split (Some l) (Some h) v from under =
     let next : l ≤ℚ int (v +ℤ pos 1) = ≤ℚ_trans from ((int-≤ℚ-int v (v +ℤ pos 1)).1 (omega (arith, ints))) in
     let low : ceil l ≤ℤ v = (≤ℚ-int l v).0 from in
     let high : v ≤ℤ floor h = (int-≤ℚ v h).0 (≤ℚ_of_<ℚ under) in
-    (λ t. numbers_from (ceil l) (floor (min-below h v under t)) + numbers_from (ceil (max-above l (v +ℤ pos 1) next t)) (floor h))
-    ∙ (λ t. numbers_from (ceil l) (floor-int v t) + numbers_from (ceil-int (v +ℤ pos 1) t) (floor h))
+    (λ t. whole_numbers_from (ceil l) (floor (min-below h v under t)) + whole_numbers_from (ceil (max-above l (v +ℤ pos 1) next t)) (floor h))
+    ∙ (λ t. whole_numbers_from (ceil l) (floor-int v t) + whole_numbers_from (ceil-int (v +ℤ pos 1) t) (floor h))
     ∙ numbers-split (ceil l) v (floor h) low high
 
 -- ---- products
@@ -156,7 +156,7 @@ within-positive (Some l) None p q some = absurd q
 within-positive (Some l) (Some h) p q some =
     let under : l ≤ℚ h = ≤ℚ_from_not l h some in
     let ordered : ceil l ≤ℤ floor h = (≤ℚ-int l (floor h)).0 (subst (λ z. l ≤ℚ z) (sym (int-floor h q)) under) in
-    let is : numbers_from (ceil l) (floor h) ≡ suc (unsigned_abs (floor h -ℤ ceil l)) = numbers-some (ceil l) (floor h) ordered in
+    let is : whole_numbers_from (ceil l) (floor h) ≡ suc (unsigned_abs (floor h -ℤ ceil l)) = numbers-some (ceil l) (floor h) ordered in
     omega (arith, is)
 
 -- a region that is not seen to be empty has a point

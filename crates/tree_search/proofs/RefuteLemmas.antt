@@ -5,6 +5,7 @@ use Rattle.std.proofs.Common.{inl, inr, refl, subst, sym}
 use Rattle.rational.specs.Rational.{ℚ}
 use Rattle.lp_model.specs.Program.{Program}
 use Rattle.lp_model.specs.Regions.{Path}
+use Rattle.lp_model.specs.Formulations.{without_cuts}
 use Rattle.lp_model.specs.declared.types.WideStep.{WideStep}
 use Rattle.leaf_dual.specs.Dual.{Multipliers, IsPositiveNumber}
 use Rattle.leaf_dual.specs.Answers.{IsFarkasAnswer}
@@ -19,19 +20,19 @@ module _ (M : Program) (path : Path) where
     abbrev Only : ℕ → ℚ → Type 0
     Only i y = (i ≡ row) × (y ≡ multiplier)
 
-    pub one_refutes : (mult : Multipliers) (v : LagValue) → mult ≡ one_row row multiplier → IsFarkasAnswer M path mult (Ok v) → IsPositiveNumber v → IsRefutingOf M path Only (Refuted mult)
+    pub one_refutes : (mult : Multipliers) (v : LagValue) → mult ≡ one_row row multiplier → IsFarkasAnswer (without_cuts M) path mult (Ok v) → IsPositiveNumber v → IsRefutingOf M path Only (Refuted mult)
     one_refutes mult v is answer positive =
-        (row, (multiplier, ((refl, refl), is, record { number = v; answer = subst (λ m. IsFarkasAnswer M path m (Ok v)) is answer; positive = positive })))
+        (row, (multiplier, ((refl, refl), is, record { number = v; answer = subst (λ m. IsFarkasAnswer (without_cuts M) path m (Ok v)) is answer; positive = positive })))
 
-    pub one_allows : (mult : Multipliers) (v : LagValue) → mult ≡ one_row row multiplier → IsFarkasAnswer M path mult (Ok v) → (¬ IsPositiveNumber v) → IsRefutingOf M path Only (NotRefuted None)
+    pub one_allows : (mult : Multipliers) (v : LagValue) → mult ≡ one_row row multiplier → IsFarkasAnswer (without_cuts M) path mult (Ok v) → (¬ IsPositiveNumber v) → IsRefutingOf M path Only (NotRefuted None)
     one_allows mult v is answer not =
-        let here : RowAllows M path row multiplier = record { number = v; answer = subst (λ m. IsFarkasAnswer M path m (Ok v)) is answer; not_positive = not } in
+        let here : RowAllows M path row multiplier = record { number = v; answer = subst (λ m. IsFarkasAnswer (without_cuts M) path m (Ok v)) is answer; not_positive = not } in
         let all : (i : ℕ) (y : ℚ) → (i ≡ row) × (y ≡ multiplier) → RowAllows M path i y = λ i y t. subst (λ n. RowAllows M path n y) (sym t.0) (subst (RowAllows M path row) (sym t.1) here) in
         ((λ i y t. inl (all i y t)), all)
 
-    pub one_wide : (mult : Multipliers) (step : WideStep) → mult ≡ one_row row multiplier → IsFarkasAnswer M path mult (Err step) → IsRefutingOf M path Only (NotRefuted (Some step))
+    pub one_wide : (mult : Multipliers) (step : WideStep) → mult ≡ one_row row multiplier → IsFarkasAnswer (without_cuts M) path mult (Err step) → IsRefutingOf M path Only (NotRefuted (Some step))
     one_wide mult step is answer =
-        let here : IsWideRefutation M path row multiplier step = subst (λ m. IsFarkasAnswer M path m (Err step)) is answer in (
+        let here : IsWideRefutation M path row multiplier step = subst (λ m. IsFarkasAnswer (without_cuts M) path m (Err step)) is answer in (
           (λ i y t. inr (step, subst (λ n. IsWideRefutation M path n y step) (sym t.0) (subst (λ z. IsWideRefutation M path row z step) (sym t.1) here))),
           (row, (multiplier, ((refl, refl), here))),
         )

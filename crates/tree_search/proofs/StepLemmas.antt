@@ -13,13 +13,12 @@ use Rattle.branch_tree.specs.declared.node.RegionLeaf.{RegionLeaf}
 use Rattle.branch_tree.specs.declared.node.LeafState.{LeafState}
 use Rattle.branch_tree.specs.declared.node.LeafState.TheVariants.{IsOpen, IsClosed}
 use Rattle.branch_tree.proofs.TreeLemmas.{each_leaf-leaves}
-use Rattle.tree_edit.specs.Sound.{PlainSearch, IsSound}
-use Rattle.tree_edit.specs.Calls.{IsLeafAt}
+use Rattle.tree_edit.specs.Sound.{PlainSearch, formulation_of, IsSound}
+use Rattle.tree_edit.specs.Calls.{IsLeafAt, IsNext, IsOpenLeaf}
 use Rattle.tree_edit.proofs.PlaceLemmas.{narrow-found}
-use Rattle.tree_search.specs.Steps.{IsOpenLeaf}
-use Rattle.lp_model.specs.Program.{Program}
+use Rattle.lp_model.specs.Formulations.{Formulation}
 use Rattle.branch_tree.specs.Plain.{path_of}
-use Rattle.tree_edit.specs.Choosing.{IsNext, IsOneOf, IsCandidate, AreClosed}
+use Rattle.leaf_judging.specs.Choosing.{IsOneOf, IsCandidate, AreClosed}
 use Rattle.tree_search.specs.Steps.{IsNextLeaf}
 use Rattle.tree_search.specs.Working.{IsResultFor}
 use Rattle.branch_tree.specs.declared.node.LeafData.{LeafData}
@@ -86,14 +85,14 @@ pub closed-all : (ls : List RegionLeaf) → AreClosed ls → All (λ (l : Region
 closed-all [] h = λ k d below. absurd (omega arith)
 closed-all (l ∷ ls) h = All-cons (λ (l : RegionLeaf). l.kept.state ≡ IsClosed) l ls h.0 (closed-all ls h.1)
 
-pub one-of : (M : Program) (P : RegionLeaf → Type 0) (ls : List RegionLeaf) (c : _) → All P ls → IsOneOf M ls c → (l : RegionLeaf) × (IsCandidate M l c × P l)
-one-of M P [] c all h = absurd h
-one-of M P (l ∷ ls) c all (inl h) = (l, (h, All-head P l ls all))
-one-of M P (l ∷ ls) c all (inr h) = one-of M P ls c (All-tail P l ls all) h
+pub one-of : (F : Formulation) (P : RegionLeaf → Type 0) (ls : List RegionLeaf) (c : _) → All P ls → IsOneOf F ls c → (l : RegionLeaf) × (IsCandidate F l c × P l)
+one-of F P [] c all h = absurd h
+one-of F P (l ∷ ls) c all (inl h) = (l, (h, All-head P l ls all))
+one-of F P (l ∷ ls) c all (inr h) = one-of F P ls c (All-tail P l ls all) h
 
 pub next-found : (S : PlainSearch) (id : ℕ) → IsNumbered S.tree → IsNext S (Some id) → (l : RegionLeaf) × ((l.kept.state ≡ IsOpen) × IsLeafAt S.tree.root id l.region l.kept)
 next-found S id numbered next =
-    let (l, (candidate, at)) = one-of S.model (λ l. IsLeafAt S.tree.root l.id l.region l.kept) (region_leaves [] S.tree.root) next.0 (placed-at S.tree.root (once S.tree numbered)) next.1.0.0 in
+    let (l, (candidate, at)) = one-of (formulation_of S) (λ l. IsLeafAt S.tree.root l.id l.region l.kept) (region_leaves [] S.tree.root) next.0 (placed-at S.tree.root (once S.tree numbered)) next.1.0.0 in
     (l, (candidate.state, subst (λ n. IsLeafAt S.tree.root n l.region l.kept) (sym (next.1.1 ∙ candidate.id)) at))
 
 pub next-leaf : (S : PlainSearch) (id : ℕ) (path : Path) → IsNumbered S.tree → IsNext S (Some id) → Some path ≡ path_of id S.tree.root → IsNextLeaf S id path

@@ -6,6 +6,7 @@ use Rattle.std.proofs.lemmas.Bool.Decides.{eqb_tells}
 use Rattle.rational.specs.Rational.{ℚ}
 use Rattle.lp_model.specs.Program.{Program}
 use Rattle.lp_model.specs.Regions.{Path, IsEmptyRegion}
+use Rattle.lp_model.specs.Formulations.{without_cuts}
 use Rattle.leaf_dual.specs.Dual.{Multipliers}
 use Rattle.lp_model.specs.declared.types.Basis.{Basis}
 use Rattle.branch_tree.specs.Tree.{Leaf, Split, left_path, right_path, EachLeaf}
@@ -17,14 +18,14 @@ use Rattle.branch_tree.specs.declared.node.LeafState.TheVariants.{IsOpen, IsClos
 use Rattle.branch_tree.proofs.LeafLemmas.{leaf_below-split, leaf_below-found, leaf_below-none}
 use Rattle.branch_tree.proofs.IdLemmas.{no_leaf}
 use Rattle.branch_tree.proofs.StateLemmas.{leaves_with-states}
-use Rattle.tree_edit.specs.declared.judging.LeafNumber.{LeafNumber}
-use Rattle.tree_edit.specs.declared.judging.LeafNumber.TheVariants.{Empty}
-use Rattle.tree_edit.specs.Closing.{NumberCloses, StateSays, IsJudged, IsJudgedLeaf}
+use Rattle.leaf_judging.specs.declared.closing.LeafNumber.{LeafNumber}
+use Rattle.leaf_judging.specs.declared.closing.LeafNumber.TheVariants.{Empty}
+use Rattle.leaf_judging.specs.Closing.{NumberCloses, StateSays, IsJudged, IsJudgedLeaf}
 use Rattle.branch_tree.proofs.PathLaws.{each-found}
 use Rattle.tree_edit.specs.Points.{target}
-use Rattle.tree_edit.specs.Sound.{PlainSearch, IsSound}
+use Rattle.tree_edit.specs.Sound.{PlainSearch, formulation_of, IsSound}
 use Rattle.tree_edit.specs.Calls.{IsLeafAt}
-use Rattle.tree_edit.proofs.JudgeLemmas.{closes_same}
+use Rattle.leaf_judging.proofs.JudgeLemmas.{closes_same}
 use Rattle.tree_edit.proofs.SoundLemmas.{each-weaker}
 use Rattle.tree_search.specs.Points.{points}
 use Rattle.tree_search.specs.Work.{if_open, sum_open}
@@ -91,16 +92,16 @@ module _ (f : ℕ → ℕ) (M : Program) (id : ℕ) (new : Plain) (d : ℕ) wher
 
 module _ (f : ℕ → ℕ) (M : Program) (t t' : Option ℚ) (closer : (n : LeafNumber) → NumberCloses M t n → NumberCloses M t' n) where
   -- a leaf that was closed stays closed
-  judged-le : (path : Path) (mult farkas : Multipliers) (s s' : LeafState) (n : ℕ) → IsJudged M t path mult farkas s → IsJudged M t' path mult farkas s' → if_open f s' n ≤ if_open f s n
+  judged-le : (path : Path) (mult farkas : Multipliers) (s s' : LeafState) (n : ℕ) → IsJudged (without_cuts M) t path mult farkas s → IsJudged (without_cuts M) t' path mult farkas s' → if_open f s' n ≤ if_open f s n
   judged-le path mult farkas s s' n old new = by s s' old.says new.says
     where
       by : (s s' : LeafState) → StateSays s (NumberCloses M t old.number) → StateSays s' (NumberCloses M t' new.number) → if_open f s' n ≤ if_open f s n
       by IsOpen IsOpen h k = omega arith
       by IsOpen IsClosed h k = omega arith
       by IsClosed IsClosed h k = omega arith
-      by IsClosed IsOpen h k = absurd (k (closes_same M path mult farkas t' new.number old.number new.number_is old.number_is (closer old.number h)))
+      by IsClosed IsOpen h k = absurd (k (closes_same (without_cuts M) path mult farkas t' new.number old.number new.number_is old.number_is (closer old.number h)))
 
-  sum-states : (path : Path) (u : Plain) (states : List LeafState) → EachLeaf (λ p l. IsJudgedLeaf M t p l.kept) path u → EachLeaf (λ p l. IsJudgedLeaf M t' p l.kept) path (with_states states u)
+  sum-states : (path : Path) (u : Plain) (states : List LeafState) → EachLeaf (λ p l. IsJudgedLeaf (without_cuts M) t p l.kept) path u → EachLeaf (λ p l. IsJudgedLeaf (without_cuts M) t' p l.kept) path (with_states states u)
       → sum_open f M path (with_states states u) ≤ sum_open f M path u
   sum-states path (Leaf l) [] old new = omega arith
   sum-states path (Leaf l) (s ∷ states) old new = judged-le path l.kept.mult l.kept.farkas l.kept.state s (points M path) old new
@@ -114,7 +115,7 @@ module _ (f : ℕ → ℕ) (M : Program) (t t' : Option ℚ) (closer : (n : Leaf
     closed = record { id = id; kept = record { state = IsClosed; mult = mult; farkas = farkas; basis = basis } }
 
     -- and the leaf with the id closed
-    pub sum-closed : (path : Path) (u : Plain) (states : List LeafState) → leaves_with id u ≡ 1 → EachLeaf (λ p l. IsJudgedLeaf M t p l.kept) path u → EachLeaf (λ p l. IsJudgedLeaf M t' p l.kept) path (with_states states u)
+    pub sum-closed : (path : Path) (u : Plain) (states : List LeafState) → leaves_with id u ≡ 1 → EachLeaf (λ p l. IsJudgedLeaf (without_cuts M) t p l.kept) path u → EachLeaf (λ p l. IsJudgedLeaf (without_cuts M) t' p l.kept) path (with_states states u)
         → EachLeaf (λ p l. l.id ≡ id → d ≤ if_open f l.kept.state (points M p)) path u → sum_open f M path (replaced id (Leaf closed) (with_states states u)) + d ≤ sum_open f M path u
     sum-closed path (Leaf l) states one old new some = by states
       where
@@ -147,10 +148,10 @@ module _ (f : ℕ → ℕ) (M : Program) (t t' : Option ℚ) (closer : (n : Leaf
 -- ---- open leaves
 
 -- the region of a leaf that does not close is not seen to be empty
-pub open-not_empty : (M : Program) (t : Option ℚ) (path : Path) (kept : LeafData) → IsJudgedLeaf M t path kept → kept.state ≡ IsOpen → ¬ IsEmptyRegion M path
+pub open-not_empty : (M : Program) (t : Option ℚ) (path : Path) (kept : LeafData) → IsJudgedLeaf (without_cuts M) t path kept → kept.state ≡ IsOpen → ¬ IsEmptyRegion M path
 open-not_empty M t path kept judged is_open empty =
     let says : ¬ NumberCloses M t judged.number = subst (λ s. StateSays s (NumberCloses M t judged.number)) is_open judged.says in
-    says (closes_same M path kept.mult kept.farkas t judged.number Empty judged.number_is (inl empty) tt)
+    says (closes_same (without_cuts M) path kept.mult kept.farkas t judged.number Empty judged.number_is (inl empty) tt)
 
 pub leaf_at : (t : Plain) (id : ℕ) (path : Path) (kept : LeafData) → IsLeafAt t id path kept → (l : LeafKept) × ((leaf_below id [] t ≡ Some (path, l)) × (l.kept ≡ kept))
 leaf_at t id path kept at = by (leaf_below id [] t) refl at.path_is at.data_is
@@ -161,10 +162,10 @@ leaf_at t id path kept at = by (leaf_below id [] t) refl at.path_is at.data_is
     by (Some q) e h k = (q.1, (e ∙ (λ t. Some (some_is q.0 path h t, q.1)), some_is q.1.kept kept k))
 
 -- an open leaf of a sound search was judged so
-pub open-judged : (S : PlainSearch) → IsSound S → (id : ℕ) (path : Path) (kept : LeafData) → IsLeafAt S.tree.root id path kept → IsJudgedLeaf S.model (target S.model S.points) path kept
+pub open-judged : (S : PlainSearch) → IsSound S → (id : ℕ) (path : Path) (kept : LeafData) → IsLeafAt S.tree.root id path kept → IsJudgedLeaf (formulation_of S) (target S.model S.points) path kept
 open-judged S sound id path kept at =
     let l = leaf_at S.tree.root id path kept at in
-    subst (IsJudgedLeaf S.model (target S.model S.points) path) l.1.1 (each-found (λ p k. IsJudgedLeaf S.model (target S.model S.points) p k.kept) id [] S.tree.root (path, l.0) sound.judged l.1.0).0
+    subst (IsJudgedLeaf (formulation_of S) (target S.model S.points) path) l.1.1 (each-found (λ p k. IsJudgedLeaf (formulation_of S) (target S.model S.points) p k.kept) id [] S.tree.root (path, l.0) sound.judged l.1.0).0
 
 pub open-found : (S : PlainSearch) → IsSound S → (id : ℕ) (path : Path) (kept : LeafData) → IsLeafAt S.tree.root id path kept → kept.state ≡ IsOpen → ¬ IsEmptyRegion S.model path
 open-found S sound id path kept at is_open = open-not_empty S.model (target S.model S.points) path kept (open-judged S sound id path kept at) is_open

@@ -5,13 +5,13 @@ use Rattle.rational.specs.Rational.{ℚ, int, ceil, ◌≤ℚ◌}
 use Rattle.lp_model.specs.Program.{Program, Point, IsFeasible, HasWholeObjective, least_value, in_least_form}
 use Rattle.leaf_dual.specs.declared.dual.LagValue.TheVariants.{Minus, Num}
 use Rattle.lp_model.specs.Regions.{Path}
+use Rattle.lp_model.specs.Formulations.{without_cuts}
 use Rattle.lp_model.specs.declared.types.WideStep.{WideStep}
 use Rattle.leaf_dual.specs.Dual.{Multipliers}
 use Rattle.leaf_dual.specs.Answers.{IsLagAnswer}
 use Rattle.leaf_dual.specs.declared.dual.LagValue.{LagValue}
 use Rattle.branch_tree.specs.declared.node.LeafData.{LeafData}
-use Rattle.tree_edit.specs.Calls.{IsLeafAt}
-use Rattle.tree_edit.specs.Choosing.{IsNext}
+use Rattle.tree_edit.specs.Calls.{IsLeafAt, IsNext}
 use Rattle.tree_edit.specs.Sound.{PlainSearch}
 
 -- r is q, rounded up where the objective is whole
@@ -27,7 +27,7 @@ IsRoundedAnswer M (Err step) least = least ≡ None
 
 pub record IsRoundedLag (M : Program) (path : Path) (mult : Multipliers) (least : Option ℚ) : Type 0 where
   pub answer : Result LagValue WideStep
-  pub answer_is : IsLagAnswer M path mult answer
+  pub answer_is : IsLagAnswer (without_cuts M) path mult answer
   pub least_is : IsRoundedAnswer M answer least
 
 -- that of the open leaf with the least number; one without a number goes before all

@@ -7,12 +7,12 @@ use Rattle.rational.specs.Rational.{ℚ, ◌<ℚ◌, floor, ceil}
 use Rattle.lp_model.specs.Program.{Program}
 use Rattle.lp_model.specs.Regions.{Path, region_low, region_high}
 
-abbrev pub numbers_from : ℤ → ℤ → ℕ
-numbers_from l h = if int_le l h then suc (unsigned_abs (h -ℤ l)) else 0
+abbrev pub whole_numbers_from : ℤ → ℤ → ℕ
+whole_numbers_from l h = if int_le l h then suc (unsigned_abs (h -ℤ l)) else 0
 
 -- none where a bound is missing
 abbrev pub numbers_within : Option ℚ → Option ℚ → ℕ
-numbers_within (Some l) (Some h) = numbers_from (ceil l) (floor h)
+numbers_within (Some l) (Some h) = whole_numbers_from (ceil l) (floor h)
 numbers_within (Some l) None = 0
 numbers_within None hi = 0
 

@@ -6,6 +6,7 @@ use Rattle.std.specs.Prelude.{◌≡◌, ◌⊎◌, ℕ, ◌<◌, [], ◌∷◌,
 use Rattle.rational.specs.Rational.{ℚ, int}
 use Rattle.lp_model.specs.Program.{Program}
 use Rattle.lp_model.specs.Regions.{Path}
+use Rattle.lp_model.specs.Formulations.{without_cuts}
 use Rattle.lp_model.specs.declared.types.Var.TheVariants.{Row}
 use Rattle.lp_model.specs.declared.types.WideStep.{WideStep}
 use Rattle.leaf_dual.specs.Dual.{Multipliers, IsPositiveNumber}
@@ -26,18 +27,18 @@ IsTrial M i y = (i < length M.rows) × IsSign y
 
 pub record RowRefutes (M : Program) (path : Path) (i : ℕ) (y : ℚ) : Type 0 where
   pub number : LagValue
-  pub answer : IsFarkasAnswer M path (one_row i y) (Ok number)
+  pub answer : IsFarkasAnswer (without_cuts M) path (one_row i y) (Ok number)
   pub positive : IsPositiveNumber number
 
 -- there is a number, and it is not above 0
 pub record RowAllows (M : Program) (path : Path) (i : ℕ) (y : ℚ) : Type 0 where
   pub number : LagValue
-  pub answer : IsFarkasAnswer M path (one_row i y) (Ok number)
+  pub answer : IsFarkasAnswer (without_cuts M) path (one_row i y) (Ok number)
   pub not_positive : ¬ IsPositiveNumber number
 
 -- the step is the first of the number that has no room
 abbrev pub IsWideRefutation : Program → Path → ℕ → ℚ → WideStep → Type 0
-IsWideRefutation M path i y step = IsFarkasAnswer M path (one_row i y) (Err step)
+IsWideRefutation M path i y step = IsFarkasAnswer (without_cuts M) path (one_row i y) (Err step)
 
 abbrev pub RowDoesNotRefute : Program → Path → ℕ → ℚ → Type 0
 RowDoesNotRefute M path i y = RowAllows M path i y ⊎ ((step : WideStep) × IsWideRefutation M path i y step)

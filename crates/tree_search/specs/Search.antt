@@ -11,7 +11,8 @@ use Rattle.tree_edit.specs.Sound.{PlainSearch}
 use Rattle.tree_search.specs.Bounds.{IsBoundOf}
 use Rattle.tree_search.specs.Work.{cap_of}
 use Rattle.tree_search.specs.Working.{PointIsWide}
-use Rattle.tree_search.specs.Steps.{IsOpenLeaf, IsNextLeaf, IsTooFull, Goes}
+use Rattle.tree_edit.specs.Calls.{IsOpenLeaf}
+use Rattle.tree_search.specs.Steps.{IsNextLeaf, IsTooFull, Goes}
 use Rattle.tree_search.specs.Causes.{HasCause}
 use Rattle.tree_search.specs.declared.stepping.StopWhy.{StopWhy}
 use Rattle.tree_search.specs.declared.stepping.StopWhy.TheVariants.{Nodes, Tree, Wide}

@@ -2,28 +2,19 @@
 use Rattle.std.specs.Prelude.{◌≡◌, ℕ, zero, suc, ◌+◌, ◌≤◌, [], Option, Some, None}
 use Rattle.lp_model.specs.Regions.{Path}
 use Rattle.branch_tree.specs.Changes.{HasRoom}
-use Rattle.branch_tree.specs.declared.node.LeafData.{LeafData}
-use Rattle.branch_tree.specs.declared.node.LeafState.TheVariants.{IsOpen}
 use Rattle.branch_tree.specs.declared.node.NodeResult.{NodeResult}
 use Rattle.tree_edit.specs.declared.placing.Taken.{Taken}
 use Rattle.tree_edit.specs.declared.placing.Taken.TheVariants.{Stale, Refused, Reopened, Full, Closed, Split, Kept}
 use Rattle.tree_edit.specs.Placing.{Takes}
 use Rattle.tree_edit.specs.Sound.{PlainSearch, IsSound}
-use Rattle.tree_edit.specs.Calls.{IsLeafAt}
-use Rattle.tree_edit.specs.Choosing.{IsNext}
+use Rattle.tree_edit.specs.Calls.{IsOpenLeaf, IsNext}
 use Rattle.tree_search.specs.Points.{IsFirstOpen}
 use Rattle.tree_search.specs.Work.{work, splits, HasRoomFor}
 use Rattle.tree_search.specs.Working.{PointIsWide, IsResultFor}
 use Rattle.tree_search.specs.declared.stepping.StopWhy.{StopWhy}
 use Rattle.tree_search.specs.declared.stepping.StopWhy.TheVariants.{Nodes, Tree, Wide}
 
--- an open leaf with this path has the id
-pub record IsOpenLeaf (S : PlainSearch) (id : ℕ) (path : Path) : Type 0 where
-  pub kept : LeafData
-  pub leaf : IsLeafAt S.tree.root id path kept
-  pub state : kept.state ≡ IsOpen
-
--- and its number is the least, or it has none
+-- an open leaf with this path has the id, and its number is the least, or it has none
 pub record IsNextLeaf (S : PlainSearch) (id : ℕ) (path : Path) : Type 0 where
   pub leaf : IsOpenLeaf S id path
   pub next : IsNext S (Some id)

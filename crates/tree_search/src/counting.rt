@@ -1,13 +1,13 @@
 // How many results a search of a model can place.
 ghost use Rattle.std.specs.Prelude.{◌≡◌, ◌<◌, ◌≤◌, ◌^◌, ◌-◌, min, MatchOption};
-ghost use Rattle.tree_search.specs.Points.{numbers_from, numbers_within};
+ghost use Rattle.tree_search.specs.Points.{whole_numbers_from, numbers_within};
 ghost use Rattle.tree_search.specs.Work.{factor, whole_points_of, results_for, cap_of};
 
 use lp_model::{Col, Model};
 
 /// How many numbers there are from one to another, or the greatest number of 64 bits where there are more.
 fn numbers_from(low: i128, high: i128) -> u64
-    ensures { result ≡ min (numbers_from low high) (2 ^ 64 - 1) }
+    ensures { result ≡ min (whole_numbers_from low high) (2 ^ 64 - 1) }
 {
     if high < low {
         return 0;

@@ -3,7 +3,7 @@ ghost use Rattle.std.specs.Prelude.{◌≡◌, ◌≤◌, ℕ, IfOk, OnErr};
 ghost use Rattle.tree_edit.specs.Laws.{HasNoOpenLeaf};
 ghost use Rattle.tree_search.specs.Integral.{IsIntegral};
 ghost use Rattle.lp_model.specs.Regions.{Path};
-ghost use Rattle.tree_search.specs.Steps.{IsOpenLeaf};
+ghost use Rattle.tree_edit.specs.Calls.{IsOpenLeaf};
 ghost use Rattle.tree_search.specs.Bounds.{IsBoundOf};
 ghost use Rattle.tree_search.specs.Work.{cap_of};
 ghost use Rattle.tree_search.specs.Causes.{IsEnough, IsJudgeable, IsFinished};

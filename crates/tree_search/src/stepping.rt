@@ -38,7 +38,7 @@ pub(crate) fn next_open(search: &Search) -> Result<Option<OpenLeaf>, AllocError>
 {
     let _sound = search.points();
     let _numbered = search.tree().nodes();
-    let Some(id) = search.next_leaf()? else {
+    let Some(id) = search.next_leaf() else {
         return Ok(None);
     };
     let Some(region) = search.tree().region_of(id)? else {

@@ -44,7 +44,6 @@ fn no_basis(alloc: Global) -> Basis
 
 /// What a point is. Its test comes first, then its value.
 fn verdict_on(model: &Model, point: &Point) -> Verdict
-    requires { length point.now ≡ length model.now.cols }
     ensures { IsPointVerdict model.now point.now result }
 {
     match model.is_feasible(point) {

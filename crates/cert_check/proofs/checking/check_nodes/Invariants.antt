@@ -1,5 +1,5 @@
 use Rattle.std.proofs.Common.{◌≤◌, ◌≡◌}
-use Rattle.cert_check.specs.Tree.{CertTree}
+use Rattle.cert_text.specs.Tree.{CertTree}
 use Rattle.cert_check.specs.Walk.{IsWalked}
 use Rattle.cert_check.specs.Tight.{IsTrail, path_of_trail, room}
 use Rattle.cert_check.proofs.VerdictSteps.{Goes}

@@ -1,4 +1,4 @@
-use Rattle.dual_simplex.specs.Held.{relaxation, state}
+use Rattle.basic_solution.specs.Held.{relaxation, state}
 use Rattle.bases.proofs.Lag.{farkas_of}
 use Rattle.dual_simplex.proofs.laws.blocked_law.Goals as goal
 

@@ -1,5 +1,5 @@
-use Rattle.leaf_dual.proofs.WeakDuality.{farkas_answer-none}
+use Rattle.leaf_dual.proofs.WeakDuality.{farkas-none}
 use Rattle.leaf_dual.proofs.dual.farkas_law.Goals as goal
 
 pub returns : goal.returns
-returns c = λ M path mult v x answer positive feasible. farkas_answer-none M path mult x feasible v answer positive
+returns c = λ F path mult x valid positive feasible inside. farkas-none F path mult x valid feasible inside positive

@@ -1,5 +1,5 @@
-use Rattle.leaf_dual.proofs.WeakDuality.{lag_answer-bound}
+use Rattle.leaf_dual.proofs.WeakDuality.{lag-bound}
 use Rattle.leaf_dual.proofs.dual.weak_duality_law.Goals as goal
 
 pub returns : goal.returns
-returns c = λ M path mult v x answer feasible inside. lag_answer-bound M path mult x feasible v answer inside
+returns c = λ F path mult x valid feasible inside. lag-bound F path mult x valid feasible inside

@@ -1,10 +1,10 @@
-use Rattle.std.proofs.Common.{◌<◌, ◌^◌, length, ap, arith, ◌∙◌}
-use Rattle.mps_model.specs.Words.{among}
-use Rattle.mps_model.proofs.FreeNames.{never_taken}
+use Rattle.std.proofs.Common.{◌∙◌, ap, sym}
+use Rattle.mps_sections.specs.Words.{among}
+use Rattle.mps_model.proofs.FreeNames.{passed, started}
 use Rattle.mps_model.proofs.free_names.free_name.Goals as goal
 
-pub returns-clause-free : goal.returns-clause-free
-returns-clause-free c =
-    let taken = c.args.taken.now in
-    let small : length taken < 2 ^ 64 = omega (arith, c.iter-names.ensures.bound, ap length c.iter-names.ensures.rest) in
-    ap (among taken) c.in_ok-name.ensures ∙ never_taken taken c.args.base.now small
+pub loop-number-init : goal.loop-number-init
+loop-number-init c = started c.args.taken.now c.args.base.now
+
+pub loop-number-preserved : goal.loop-number-preserved
+loop-number-preserved c = c.loop-number.invariant ∙ passed c.args.taken.now c.args.base.now c.loop-number.number c.loop-number-test.true (ap (among c.args.taken.now) (sym (c.as_slice.ensures ∙ c.in_ok-name.ensures)) ∙ sym c.contains.ensures ∙ c.if-not-contains.false)

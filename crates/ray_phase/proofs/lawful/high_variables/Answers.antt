@@ -1,8 +1,8 @@
 use Rattle.std.proofs.Common.{◌∙◌, ◌+◌, sym, subst}
 use Rattle.std.proofs.lemmas.Bool.{false≢true}
 use Rattle.row_tableau.specs.Variables.{numbers}
-use Rattle.dual_simplex.specs.Lists.{AreRising}
-use Rattle.dual_simplex.proofs.ListLemmas.{rising_named, rising_skip}
+use Rattle.basic_solution.specs.Lists.{AreRising}
+use Rattle.basic_solution.proofs.ListLemmas.{rising_named, rising_skip}
 use Rattle.ray_phase.specs.Answers.{IsModelHigh}
 use Rattle.ray_phase.proofs.lawful.high_variables.Goals as goal
 use Rattle.ray_phase.proofs.lawful.high_variables.Goals.{then-is_model_high+in_ok-push, else-is_model_high}

@@ -1,5 +1,5 @@
 use Rattle.row_tableau.specs.Variables.{numbers}
-use Rattle.dual_simplex.specs.Lists.{AreRising}
+use Rattle.basic_solution.specs.Lists.{AreRising}
 use Rattle.ray_phase.specs.Answers.{IsModelHigh}
 use Rattle.ray_phase.proofs.lawful.high_variables.Given as goal
 

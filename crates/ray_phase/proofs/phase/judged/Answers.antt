@@ -1,56 +1,46 @@
-use Rattle.std.proofs.Common.{◌≡◌, ◌∙◌, sym, ap, subst, refl, inl, inr, pos, length}
+use Rattle.std.proofs.Common.{sym, subst, ◌∙◌, inl, inr, pos, Ok}
 use Rattle.std.proofs.lemmas.Bool.{false≢true}
-use Rattle.rational.specs.Rational.{ℚ, int, ◌<ℚ◌, ◌*ℚ◌}
+use Rattle.rational.specs.Rational.{int, ◌<ℚ◌}
 use Rattle.rational.proofs.RationalOrder.{≤ℚ_from_not}
-use Rattle.rational.proofs.RationalRing.{zero-+ℚ}
-use Rattle.checked_sum.specs.Sums.{sum_below}
-use Rattle.checked_sum.specs.Steps.{IsFirstWide, partial}
-use Rattle.lp_model.specs.Program.{Program, Point, cost, coordinate, in_least_form}
-use Rattle.lp_model.specs.declared.types.Sense.{Sense}
-use Rattle.ray_phase.specs.Rays.{direction_cost}
-use Rattle.ray_phase.proofs.DirectionLemmas.{count_is, model_ray, lawful_basis}
+use Rattle.lp_model.specs.Rays.{direction_cost, IsRayJudged}
+use Rattle.lp_model.proofs.RayLemmas.{judged_rightly}
+use Rattle.ray_phase.proofs.DirectionLemmas.{count_is, model_ray, lawful_basis, wide_end}
 use Rattle.ray_phase.proofs.phase.judged.Goals as goal
 
 pub high_variables-requires : goal.high_variables-requires
 high_variables-requires c = count_is c.args.model.now c.args.state.now c.requires.directions
 
 pub returns-in-Err : goal.returns-in-Err
-returns-in-Err c = λ n limit.
-    let M = c.args.model.now in
+returns-in-Err c =
     let best = c.requires.best in
-    let first = subst (IsFirstWide (int (pos 0)) (cost M 1) (coordinate c.args.direction) (length M.cols)) (sym c.in-Err.ensures.1.1) c.in-Err.ensures.1.0 in
-    (inr (best.1.inside, (c.args.direction, (best.1.point, inl (c.in-Err.column, (first, refl))))), c.requires.basis)
+    wide_end c.args.model.now c.args.state.now c.in-Err.step c.args.basis (inr (best.1.inside, (c.args.direction, (best.1.point, inl c.in-Err.ensures)))) c.requires.basis c.wide_at.result c.wide_at.ensures
 
--- the cost that is tested is what the direction gains
-below_is : (M : Program) (d : Point) (sense : Sense) (number least : ℚ) → sense ≡ M.sense → number ≡ partial (int (pos 0)) (cost M 1) (coordinate d) (length M.cols)
-    → least ≡ in_least_form sense number → least ≡ direction_cost M d
-below_is M d sense number least s e f = f ∙ (λ i. in_least_form (s i) (e i)) ∙ ap (in_least_form M.sense) (zero-+ℚ (sum_below (length M.cols) (λ j. cost M 1 j *ℚ coordinate d j)))
-
-pub returns-in-Ok-add_rows_up : goal.returns-in-Ok-add_rows_up
-returns-in-Ok-add_rows_up c = λ n limit.
+pub unreachable-requires : goal.unreachable-requires
+unreachable-requires c =
     let M = c.args.model.now in
     let d = c.args.direction in
-    let best = c.requires.best in
-    let is = below_is M d c.sense.result c.in-Ok.cost c.least_form.result c.sense.ensures c.in-Ok.ensures.1 c.least_form.ensures in
-    let below = subst (λ t. t <ℚ int (pos 0)) is (c.is_negative.ensures.0 c.if-is_negative.true) in
-    (best.1.inside, (best.1.point, (model_ray M c.args.state.now c.requires.directions d best c.cols-lawful.ensures.lawful below, record { cost = c.in-Ok.ensures.0; rows = c.in-Ok-add_rows_up.ensures.fit })))
+    let below = subst (λ t. t <ℚ int (pos 0)) c.in-Ok.ensures.1 (c.is_negative.ensures.0 c.if-is_negative.true) in
+    let never = subst (λ b. IsRayJudged M d (Ok b)) c.in-Ok-false.field-0-test c.in-Ok-false.ensures in
+    (judged_rightly M d).none never (model_ray M c.args.state.now c.requires.directions d c.requires.best c.cols-lawful.ensures.lawful below)
 
-pub returns-in-Err-add_rows_up : goal.returns-in-Err-add_rows_up
-returns-in-Err-add_rows_up c = λ n limit.
-    let M = c.args.model.now in
-    let d = c.args.direction in
+pub returns-in-Ok-true : goal.returns-in-Ok-true
+returns-in-Ok-true c = λ n limit.
     let best = c.requires.best in
-    let is = below_is M d c.sense.result c.in-Ok.cost c.least_form.result c.sense.ensures c.in-Ok.ensures.1 c.least_form.ensures in
-    let below = subst (λ t. t <ℚ int (pos 0)) is (c.is_negative.ensures.0 c.if-is_negative.true) in
-    (inr (best.1.inside, (d, (best.1.point, inr ((c.in-Ok.ensures.0, below), c.in-Err-add_rows_up.ensures.wide)))), c.requires.basis)
+    (best.1.inside, (best.1.point, subst (λ b. IsRayJudged c.args.model.now c.args.direction (Ok b)) c.in-Ok-true.field-0-test c.in-Ok-true.ensures))
 
-pub returns-in_ok-high-in-Ok : goal.returns-in_ok-high-in-Ok
-returns-in_ok-high-in-Ok c = λ n limit.
+pub returns-in-Err-is_ray : goal.returns-in-Err-is_ray
+returns-in-Err-is_ray c =
+    let best = c.requires.best in
+    let below = subst (λ t. t <ℚ int (pos 0)) c.in-Ok.ensures.1 (c.is_negative.ensures.0 c.if-is_negative.true) in
+    wide_end c.args.model.now c.args.state.now c.in-Err-is_ray.step c.args.basis (inr (best.1.inside, (c.args.direction, (best.1.point, inr ((c.in-Ok.ensures.0, below), c.in-Err-is_ray.ensures))))) c.requires.basis
+    c.wide_at-in-Err-is_ray.result c.wide_at-in-Err-is_ray.ensures
+
+pub returns-in-Ok-high_variables : goal.returns-in-Ok-high_variables
+returns-in-Ok-high_variables c = λ n limit.
     let M = c.args.model.now in
     let s = c.args.state.now in
     let d = c.args.direction in
     let best = c.requires.best in
-    let high = c.in_ok-high-in-Ok.high in
-    let is = below_is M d c.sense.result c.in-Ok.cost c.least_form.result c.sense.ensures c.in-Ok.ensures.1 c.least_form.ensures in
-    let not_below = ≤ℚ_from_not (int (pos 0)) (direction_cost M d) (λ h. false≢true (sym c.if-is_negative.false ∙ c.is_negative.ensures.1 (subst (λ t. t <ℚ int (pos 0)) (sym is) h))) in
-    (best.1.inside, (record { basic = c.requires.basis.basic; high = c.in_ok-high-in-Ok.ensures }, lawful_basis M s c.requires.directions d best not_below c.args.basis.basic high c.requires.basis.basic c.in_ok-high-in-Ok.ensures))
+    let high = c.in-Ok-high_variables.high in
+    let not_below = ≤ℚ_from_not (int (pos 0)) (direction_cost M d) (λ h. false≢true (sym c.if-is_negative.false ∙ c.is_negative.ensures.1 (subst (λ t. t <ℚ int (pos 0)) (sym c.in-Ok.ensures.1) h))) in
+    (best.1.inside, (record { basic = c.requires.basis.basic; high = c.in-Ok-high_variables.ensures }, lawful_basis M s c.requires.directions d best not_below c.args.basis.basic high c.requires.basis.basic c.in-Ok-high_variables.ensures))

@@ -1,6 +1,7 @@
 use Rattle.std.proofs.Common.{◌++◌, ◌∙◌, ap}
 use Rattle.std.specs.Prelude.{codes}
-use Rattle.sym_shell.specs.Texts.{column_name, variable_text}
+use Rattle.sym_shell.specs.Texts.{variable_text}
+use Rattle.lp_model.specs.Lawful.{column_name}
 use Rattle.sym_shell.proofs.TextLemmas.{join}
 use Rattle.sym_shell.proofs.stops.write_entry.Goals as goal
 

@@ -1,6 +1,6 @@
 use Rattle.std.proofs.Common.{◌++◌, ◌∙◌, ap}
 use Rattle.std.specs.Prelude.{codes}
-use Rattle.sym_shell.specs.Texts.{row_name}
+use Rattle.lp_model.specs.Lawful.{row_name}
 use Rattle.sym_shell.proofs.TextLemmas.{join}
 use Rattle.sym_shell.proofs.stops.write_row.Goals as goal
 

@@ -1,6 +1,6 @@
 use Rattle.std.proofs.Common.{◌++◌, ◌∙◌, ap}
 use Rattle.std.specs.Prelude.{codes}
-use Rattle.sym_shell.specs.Texts.{column_name}
+use Rattle.lp_model.specs.Lawful.{column_name}
 use Rattle.sym_shell.proofs.TextLemmas.{join}
 use Rattle.sym_shell.proofs.stops.write_value_at.Goals as goal
 

@@ -1,6 +1,6 @@
 use Rattle.std.proofs.Common.{◌≡◌, sym, subst, ap, ◌∙◌, map, ◌++◌}
 use Rattle.std.specs.Prelude.{All, codes}
-use Rattle.cert_check.specs.Text.{MeantCertificate}
+use Rattle.cert_text.specs.Text.{MeantCertificate}
 use Rattle.tree_cert.specs.CertText.{node_words, lines_text}
 use Rattle.tree_cert.specs.Printed.{HasNodeRoom}
 use Rattle.tree_cert.proofs.PutLaws.{text_parts}

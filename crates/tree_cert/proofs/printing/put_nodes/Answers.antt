@@ -1,5 +1,5 @@
 use Rattle.std.proofs.Common.{◌++◌, ◌∷◌, [], map, List, arith}
-use Rattle.cert_check.specs.declared.cert.CertNode.{CertNode}
+use Rattle.cert_text.specs.declared.cert.CertNode.{CertNode}
 use Rattle.tree_cert.specs.CertText.{node_words, line_text, lines_text}
 use Rattle.tree_cert.specs.Printed.{HasNodeRoom}
 use Rattle.tree_cert.proofs.PutLaws.{put_next, all_next, all_end, line_step, line_put}

@@ -1,5 +1,5 @@
 use Rattle.std.proofs.Common.{List, [], ◌++◌, drop}
-use Rattle.cert_check.specs.declared.cert.CertNode.{CertNode}
+use Rattle.cert_text.specs.declared.cert.CertNode.{CertNode}
 use Rattle.tree_cert.specs.Walked.{AreNodesOf, AreFit, HasTurns}
 use Rattle.tree_cert.proofs.walk.cert_nodes.Given as goal
 

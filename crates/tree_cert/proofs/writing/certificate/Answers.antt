@@ -1,6 +1,6 @@
 use Rattle.std.proofs.Common.{subst}
 use Rattle.lp_model.specs.Lawful.{IsLawful}
-use Rattle.cert_check.specs.declared.cert.Cert.{Cert}
+use Rattle.cert_text.specs.declared.cert.Cert.{Cert}
 use Rattle.tree_cert.specs.Certificates.{IsCertificateOf}
 use Rattle.tree_cert.proofs.AcceptedLaws.{is_certificate, is_accepted}
 use Rattle.tree_cert.proofs.writing.certificate.Goals as goal

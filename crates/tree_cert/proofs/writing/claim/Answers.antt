@@ -1,6 +1,6 @@
 use Rattle.std.proofs.Common.{ap, ◌∙◌, ◌≡◌}
 use Rattle.lp_model.specs.Program.{in_least_form}
-use Rattle.cert_check.specs.declared.cert.Claim.TheVariants.{Optimal}
+use Rattle.cert_text.specs.declared.cert.Claim.TheVariants.{Optimal}
 use Rattle.tree_cert.proofs.AcceptedLaws.{claim_some}
 use Rattle.tree_cert.proofs.writing.claim.Goals as goal
 

@@ -2,7 +2,7 @@ use Rattle.std.specs.Prelude.{◌≡◌, Some}
 use Rattle.std.proofs.Common.{subst, sym, ap, ◌∙◌}
 use Rattle.branch_tree.specs.Plain.{path_of}
 use Rattle.branch_tree.specs.Numbered.{NumberedTree, IsNumbered}
-use Rattle.tree_edit.specs.Choosing.{IsNext}
+use Rattle.tree_edit.specs.Calls.{IsNext}
 use Rattle.tree_edit.proofs.PlaceLemmas.{narrow-found}
 use Rattle.tree_search.proofs.StepLemmas.{next-none, next-there}
 use Rattle.tree_search.proofs.bounds.least_number.Goals as goal
@@ -10,13 +10,13 @@ use Rattle.tree_search.proofs.bounds.least_number.Goals as goal
 pub unreachable-requires : goal.unreachable-requires
 unreachable-requires c =
     let S = c.args.search.now in
-    next-none S c.requires.0 c.requires.1.0 (subst (IsNext S) c.in_default.is c.in_ok-id.ensures) c.requires.1.1
+    next-none S c.requires.0 c.requires.1.0 c.in_default.ensures c.requires.1.1
 
 pub unreachable-requires-in_default-2 : goal.unreachable-requires-in_default-2
 unreachable-requires-in_default-2 c =
     let S = c.args.search.now in
     let numbered : IsNumbered S.tree = subst IsNumbered c.tree.ensures.tree c.nodes-numbered.ensures.numbered in
-    let next : IsNext S (Some c.in-Some.id) = subst (IsNext S) c.in-Some.is c.in_ok-id.ensures in
+    let next : IsNext S (Some c.in-Some.id) = c.in-Some.ensures in
     next-there S c.in-Some.id numbered next (sym c.in_default-2.is ∙ c.in_ok-region.ensures.region ∙ ap (λ (T : NumberedTree). path_of c.in-Some.id T.root) c.tree-2.ensures.tree)
 
 pub rounded_lag-requires : goal.rounded_lag-requires

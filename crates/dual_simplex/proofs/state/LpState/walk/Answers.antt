@@ -34,7 +34,7 @@ returns-in-Ok-Optimal c =
 pub returns-in-Ok-Infeasible : goal.returns-in-Ok-Infeasible
 returns-in-Ok-Infeasible c =
     let answer = subst (λ o. IsStepAnswer c.loop-move.self (Ok o) c.step.new.self) c.in-Ok-Infeasible.field-0-is c.in-Ok-Infeasible.ensures in
-    (c.loop-move._move, (c.loop-move.auto._move-end, (subst (Moves c.loop-move._move c.args.self.now) (sym answer.1) c.loop-move.invariant, subst IsBlocked (sym answer.1) answer.0)))
+    (c.loop-move._move, (c.loop-move.auto._move-end, (subst (Moves c.loop-move._move c.args.self.now) (sym answer.1) c.loop-move.invariant, (c.loop-move-test.true, subst IsBlocked (sym answer.1) answer.0))))
 
 pub returns-in-Err-leaving : goal.returns-in-Err-leaving
 returns-in-Err-leaving c = (c.loop-move._move, (c.loop-move.auto._move-end, (c.loop-move.invariant, c.in-Err-leaving.ensures)))

@@ -8,11 +8,14 @@ pub returns-then-not-is_within : goal.returns-then-not-is_within
 returns-then-not-is_within c =
     let M = c.args.self.now in
     let x = c.args.point.now in
+    let numbers : length c.as_slice.result.now ≡ length x = ap length c.as_slice.ensures in
+    let columns : length c.cols.result.now ≡ length M.cols = ap length c.cols.ensures.items in
+    let shape : length x ≡ length M.cols = omega arith in
     let items : length c.rows-row-items.result.now ≡ length M.rows = ap length c.rows-row-items.ensures.items in
     let within : c.loop-index.index < length M.rows = omega arith in
     let row = c.row-item.result in
     let outside : ¬ Within row.lo row.hi c.in-Ok.activity = λ h. let t : IsTrue c.is_within.result = c.is_within.ensures.1 h in let f : c.is_within.result ≡ false = search rules in cc in
-    inr (c.loop-index.index, row-breach M x _ c.loop-index.index row c.in-Ok.activity c.rows-row-items.ensures.items within c.row-item.is c.in-Ok.ensures c.loop-index.invariant outside)
+    inr (shape, inr (c.loop-index.index, row-breach M x _ c.loop-index.index row c.in-Ok.activity c.rows-row-items.ensures.items within c.row-item.is c.in-Ok.ensures c.loop-index.invariant outside))
 
 pub loop-index-preserved : goal.loop-index-preserved
 loop-index-preserved c =
@@ -28,6 +31,9 @@ pub returns : goal.returns
 returns c =
     let M = c.args.self.now in
     let x = c.args.point.now in
+    let numbers : length c.as_slice.result.now ≡ length x = ap length c.as_slice.ensures in
+    let columns : length c.cols.result.now ≡ length M.cols = ap length c.cols.ensures.items in
+    let shape : length x ≡ length M.cols = omega arith in
     let items : length c.rows-row-items.result.now ≡ length M.rows = ap length c.rows-row-items.ensures.items in
     let hold : IsTrue c.columns_hold.result = search rules in
-    all-pass M x c.requires (c.columns_hold.ensures.0 hold) c.loop-index.index (omega arith) c.loop-index.invariant
+    all-pass M x shape (c.columns_hold.ensures.0 hold) c.loop-index.index (omega arith) c.loop-index.invariant

@@ -2,7 +2,7 @@ use Rattle.std.proofs.Common.{◌≡◌, refl, true, false, arith}
 use Rattle.std.proofs.lemmas.Bool.Decides.{nat_tests}
 use Rattle.std.proofs.lemmas.Result.{err_from_is_err_and}
 use Rattle.script_session.specs.Request.{RequestStep}
-use Rattle.script_session.specs.Script.{Line, is_long}
+use Rattle.script_session.specs.Script.{ScriptLine, is_long_line}
 use Rattle.script_session.specs.Session.{moment_of}
 use Rattle.script_session.specs.declared.session.Session.{Session}
 use Rattle.script_session.proofs.SessionLemmas.{Serves-overlong, Breaks-overlong}
@@ -15,8 +15,8 @@ returns-in_err-write_all-clause-served g c =
     let written = g.W.Sink.written in
     let files = g.S.Store.files in
     let faults = g.S.Store.faults in
-    let line : Line = record { raw = c.args.raw.now; text = c.args.text.now } in
-    let long : is_long line ≡ true = grind (arith, nat_tests) in
+    let line : ScriptLine = record { raw = c.args.raw.now; text = c.args.text.now } in
+    let long : is_long_line line ≡ true = grind (arith, nat_tests) in
     let old = moment_of c.args.self.now c.args.machine.now (written c.args.out.now) (files c.args.store.now) (faults c.args.store.now) in
     let refused : Session = record c.args.self.now { refused = true } in
     let new = moment_of refused c.args.machine.now (written c.write_all.new.out) (files c.args.store.now) (faults c.args.store.now) in
@@ -27,8 +27,8 @@ returns-then-is_long-clause-served g c =
     let written = g.W.Sink.written in
     let files = g.S.Store.files in
     let faults = g.S.Store.faults in
-    let line : Line = record { raw = c.args.raw.now; text = c.args.text.now } in
-    let long : is_long line ≡ true = grind (arith, nat_tests) in
+    let line : ScriptLine = record { raw = c.args.raw.now; text = c.args.text.now } in
+    let long : is_long_line line ≡ true = grind (arith, nat_tests) in
     let old = moment_of c.args.self.now c.args.machine.now (written c.args.out.now) (files c.args.store.now) (faults c.args.store.now) in
     let refused : Session = record c.args.self.now { refused = true } in
     let new = moment_of refused c.args.machine.now (written c.write_all.new.out) (files c.args.store.now) (faults c.args.store.now) in
@@ -39,8 +39,8 @@ returns-clause-served g c =
     let written = g.W.Sink.written in
     let files = g.S.Store.files in
     let faults = g.S.Store.faults in
-    let line : Line = record { raw = c.args.raw.now; text = c.args.text.now } in
-    let short : is_long line ≡ false = grind (arith, nat_tests) in
+    let line : ScriptLine = record { raw = c.args.raw.now; text = c.args.text.now } in
+    let short : is_long_line line ≡ false = grind (arith, nat_tests) in
     let old = moment_of c.args.self.now c.args.machine.now (written c.args.out.now) (files c.args.store.now) (faults c.args.store.now) in
     let new = moment_of c.serve_text.new.self c.serve_text.new.machine (written c.serve_text.new.out) (files c.serve_text.new.store) (faults c.serve_text.new.store) in
     short_line g.M.Machine.ends (RequestStep g.M.Machine.step) c.serve_text.result old new line short c.serve_text.ensures.served

@@ -1,10 +1,9 @@
 use Rattle.tree_edit.proofs.SplitLemmas.{narrow-left, narrow-right}
-use Rattle.std.proofs.Common.{sym, ap, subst, ◌++◌, ◌∷◌, []}
-use Rattle.lp_model.specs.Regions.{Path, AreNarrow}
+use Rattle.std.proofs.Common.{sym, subst, ◌++◌, ◌∷◌, []}
+use Rattle.lp_model.specs.Regions.{AreNarrow}
 use Rattle.lp_model.specs.declared.types.BoundChange.{BoundChange}
 use Rattle.tree_edit.specs.Sound.{PlainSearch}
-use Rattle.tree_edit.specs.Queued.{IsRank}
-use Rattle.tree_edit.specs.Placing.{IsChild}
+use Rattle.tree_edit.specs.Placing.{IsNumberedChild}
 use Rattle.tree_edit.proofs.search.Search.children.Goals as goal
 
 pub child-requires : goal.child-requires
@@ -26,23 +25,11 @@ returns-clause-left c =
     let S : PlainSearch = c.args.self.now in
     let path = c.args.region.now in
     let split = c.args.split.now in
-    subst (λ (b : BoundChange). IsChild S (path ++ b ∷ []) split.mult split.basis c.in_ok-left.left.kept) c.up_to.ensures c.in_ok-left.ensures.child
+    subst (λ (b : BoundChange). IsNumberedChild S (path ++ b ∷ []) split.mult split.basis c.in_ok-left.left) c.up_to.ensures c.in_ok-left.ensures
 
 pub returns-clause-right : goal.returns-clause-right
 returns-clause-right c =
     let S : PlainSearch = c.args.self.now in
     let path = c.args.region.now in
     let split = c.args.split.now in
-    subst (λ (b : BoundChange). IsChild S (path ++ b ∷ []) split.mult split.basis c.in_ok-right.right.kept) c.above.ensures c.in_ok-right.ensures.child
-
-pub returns-clause-left_rank : goal.returns-clause-left_rank
-returns-clause-left_rank c =
-    let S : PlainSearch = c.args.self.now in
-    let path = c.args.region.now in
-    subst (λ (b : BoundChange). IsRank S.model (path ++ b ∷ []) c.in_ok-left.left.kept c.in_ok-left.left.rank) c.up_to.ensures c.in_ok-left.ensures.rank
-
-pub returns-clause-right_rank : goal.returns-clause-right_rank
-returns-clause-right_rank c =
-    let S : PlainSearch = c.args.self.now in
-    let path = c.args.region.now in
-    subst (λ (b : BoundChange). IsRank S.model (path ++ b ∷ []) c.in_ok-right.right.kept c.in_ok-right.right.rank) c.above.ensures c.in_ok-right.ensures.rank
+    subst (λ (b : BoundChange). IsNumberedChild S (path ++ b ∷ []) split.mult split.basis c.in_ok-right.right) c.above.ensures c.in_ok-right.ensures

@@ -1,7 +1,6 @@
 use Rattle.std.proofs.Common.{List, subst}
 use Rattle.rational.specs.Rational.{ℚ}
 use Rattle.tree_edit.specs.Sound.{PlainSearch}
-use Rattle.tree_edit.specs.Points.{IsKeepable}
 use Rattle.tree_edit.specs.Placing.{Joins, JoinsPoint}
 use Rattle.tree_edit.proofs.WorstLemmas.{joins-point}
 use Rattle.tree_edit.proofs.search.Search.join.Goals as goal
@@ -12,5 +11,5 @@ returns c =
     let S : PlainSearch = record { model = i.model; tree = i.tree; points = i.points.items } in
     let j = c.in_ok-joined.joined in
     let joins = subst (λ (vs : List ℚ). Joins vs c.in-Some.value j) c.deref.ensures.value c.in_ok-joined.ensures in
-    subst (λ (T : PlainSearch). IsKeepable T.model c.args.point.now × JoinsPoint T c.args.point.now j) c.self.view_is
-    (c.in-Some.ensures.0, joins-point S i.values.items c.args.point.now c.in-Some.value j c.self.invariant.values_are c.in-Some.ensures.1 joins)
+    subst (λ (T : PlainSearch). JoinsPoint T c.args.point.now j) c.self.view_is
+    (joins-point S i.values.items c.args.point.now c.in-Some.value j c.in-Some.ensures.0 c.self.invariant.values_are c.in-Some.ensures.1 joins)

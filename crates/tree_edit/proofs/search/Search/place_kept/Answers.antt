@@ -1,26 +1,19 @@
 use Rattle.std.proofs.Common.{◌≡◌, ◌∙◌, IfOk, Some, ap, sym, subst}
-use Rattle.lp_model.specs.Regions.{Path}
 use Rattle.leaf_dual.specs.Dual.{Multipliers}
 use Rattle.branch_tree.specs.Plain.{data_of}
 use Rattle.branch_tree.specs.declared.node.LeafData.{LeafData}
 use Rattle.branch_tree.specs.declared.node.NodeResult.TheVariants.{Keep}
 use Rattle.tree_edit.specs.declared.placing.Taken.{Taken}
 use Rattle.tree_edit.specs.Lists.{AreMultipliers, HasLists}
-use Rattle.tree_edit.specs.Sound.{PlainSearch}
-use Rattle.tree_edit.specs.Queued.{HasMultipliers}
+use Rattle.tree_edit.specs.Sound.{PlainSearch, formulation_of}
+use Rattle.leaf_judging.specs.Queued.{HasMultipliers}
 use Rattle.tree_edit.specs.Placing.{TakesBasis, with_basis}
 use Rattle.tree_edit.proofs.QueuedLemmas.{own-multipliers}
 use Rattle.tree_edit.proofs.PlaceLemmas.{lists-found, takes_ok, some_same}
 use Rattle.tree_edit.proofs.search.Search.place_kept.Goals as goal
 
-pub place_basis-requires-clause-has : goal.place_basis-requires-clause-has
-place_basis-requires-clause-has c = c.requires.open.has
-
-pub place_basis-requires-clause-at : goal.place_basis-requires-clause-at
-place_basis-requires-clause-at c = c.requires.open.at
-
-pub place_basis-requires-clause-narrow : goal.place_basis-requires-clause-narrow
-place_basis-requires-clause-narrow c = c.requires.open.narrow
+pub place_basis-requires-clause-leaf : goal.place_basis-requires-clause-leaf
+place_basis-requires-clause-leaf c = c.requires.open.leaf
 
 pub place_basis-requires-clause-own : goal.place_basis-requires-clause-own
 place_basis-requires-clause-own c =
@@ -37,8 +30,8 @@ place_basis-requires-clause-mult c =
     let S : PlainSearch = record { model = i.model; tree = i.tree; points = i.points.items } in
     let kept : LeafData = c.in-Some.leaf.now in
     let data_is : data_of c.args.id S.tree.root ≡ Some kept = sym c.in-Some.ensures.data in
-    let lists : HasLists S.model kept = lists-found S c.args.id kept c.self.invariant.sound data_is in
-    subst (λ (m : Multipliers). AreMultipliers c.args.self.now.model m) (ap (λ (d : LeafData). d.mult) (sym c.in-Ok.ensures)) (subst (λ (R : PlainSearch). AreMultipliers R.model kept.mult) c.self.view_is lists.mult)
+    let lists : HasLists (formulation_of S) kept = lists-found S c.args.id kept c.self.invariant.sound data_is in
+    subst (λ (m : Multipliers). AreMultipliers (formulation_of c.args.self.now) m) (ap (λ (d : LeafData). d.mult) (sym c.in-Ok.ensures)) (subst (λ (R : PlainSearch). AreMultipliers (formulation_of R) kept.mult) c.self.view_is lists.mult)
 
 pub place_basis-requires-clause-farkas : goal.place_basis-requires-clause-farkas
 place_basis-requires-clause-farkas c =
@@ -46,14 +39,14 @@ place_basis-requires-clause-farkas c =
     let S : PlainSearch = record { model = i.model; tree = i.tree; points = i.points.items } in
     let kept : LeafData = c.in-Some.leaf.now in
     let data_is : data_of c.args.id S.tree.root ≡ Some kept = sym c.in-Some.ensures.data in
-    let lists : HasLists S.model kept = lists-found S c.args.id kept c.self.invariant.sound data_is in
-    subst (λ (m : Multipliers). AreMultipliers c.args.self.now.model m) (ap (λ (d : LeafData). d.farkas) (sym c.in-Ok.ensures)) (subst (λ (R : PlainSearch). AreMultipliers R.model kept.farkas) c.self.view_is lists.farkas)
+    let lists : HasLists (formulation_of S) kept = lists-found S c.args.id kept c.self.invariant.sound data_is in
+    subst (λ (m : Multipliers). AreMultipliers (formulation_of c.args.self.now) m) (ap (λ (d : LeafData). d.farkas) (sym c.in-Ok.ensures)) (subst (λ (R : PlainSearch). AreMultipliers (formulation_of R) kept.farkas) c.self.view_is lists.farkas)
 
 pub returns-in-Ok-clause-taken : goal.returns-in-Ok-clause-taken
 returns-in-Ok-clause-taken c =
     let i = c.self.inside in
     let S : PlainSearch = record { model = i.model; tree = i.tree; points = i.points.items } in
-    let o = c.requires.open in
+    let o = c.requires.open.is_open in
     let kept : LeafData = c.in-Some.leaf.now in
     let data_is : data_of c.args.id c.args.self.now.tree.root ≡ Some kept = subst (λ (R : PlainSearch). data_of c.args.id R.tree.root ≡ Some kept) c.self.view_is (sym c.in-Some.ensures.data) in
     let same : kept ≡ o.kept = some_same kept o.kept (sym data_is ∙ o.leaf.data_is) in

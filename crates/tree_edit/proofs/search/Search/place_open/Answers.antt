@@ -10,42 +10,33 @@ use Rattle.tree_edit.specs.Placing.{TakesClose, TakesSplit, TakesPointClose, clo
 use Rattle.tree_edit.proofs.PlaceLemmas.{takes_ok}
 use Rattle.tree_edit.proofs.search.Search.place_open.Goals as goal
 
-pub place_close-requires-clause-has : goal.place_close-requires-clause-has
-place_close-requires-clause-has c = c.requires.open.has
-
-pub place_close-requires-clause-at : goal.place_close-requires-clause-at
-place_close-requires-clause-at c = c.requires.open.at
+pub place_close-requires-clause-leaf : goal.place_close-requires-clause-leaf
+place_close-requires-clause-leaf c = c.requires.open.leaf
 
 pub place_close-requires-clause-narrow : goal.place_close-requires-clause-narrow
 place_close-requires-clause-narrow c = c.requires.open.narrow
 
-pub place_split-requires-clause-has : goal.place_split-requires-clause-has
-place_split-requires-clause-has c = c.requires.open.has
-
-pub place_split-requires-clause-at : goal.place_split-requires-clause-at
-place_split-requires-clause-at c = c.requires.open.at
+pub place_split-requires-clause-leaf : goal.place_split-requires-clause-leaf
+place_split-requires-clause-leaf c = c.requires.open.leaf
 
 pub place_split-requires-clause-narrow : goal.place_split-requires-clause-narrow
 place_split-requires-clause-narrow c = c.requires.open.narrow
 
-pub place_point_close-requires-clause-has : goal.place_point_close-requires-clause-has
-place_point_close-requires-clause-has c = c.requires.open.has
-
-pub place_point_close-requires-clause-at : goal.place_point_close-requires-clause-at
-place_point_close-requires-clause-at c = c.requires.open.at
+pub place_point_close-requires-clause-leaf : goal.place_point_close-requires-clause-leaf
+place_point_close-requires-clause-leaf c = c.requires.open.leaf
 
 pub place_point_close-requires-clause-narrow : goal.place_point_close-requires-clause-narrow
 place_point_close-requires-clause-narrow c = c.requires.open.narrow
 
 pub returns-in-Close-clause-taken : goal.returns-in-Close-clause-taken
 returns-in-Close-clause-taken c =
-    let o = c.requires.open in
+    let o = c.requires.open.is_open in
     rw c.in-Close.is (takes_ok c.args.self.now c.args.id c.args.region.now o.kept (Close c.in-Close.mult c.in-Close.farkas c.in-Close.basis) c.place_close.new.self o.leaf o.state c.place_close.result
     (subst (λ (d : LeafData). IfOk c.place_close.result (λ (t : Taken). TakesClose c.args.self.now c.args.id c.args.region.now d c.place_close.new.self t)) c.closed_data.ensures c.place_close.ensures.taken))
 
 pub returns-in-Split-clause-taken : goal.returns-in-Split-clause-taken
 returns-in-Split-clause-taken c =
-    let o = c.requires.open in
+    let o = c.requires.open.is_open in
     let fits : FitsSigned w128 c.in-Split.v = search rules in
     let same : to_z w128 (of_z w128 c.in-Split.v) ≡ c.in-Split.v = simp to_z-of_z in
     rw c.in-Split.is (takes_ok c.args.self.now c.args.id c.args.region.now o.kept (Split c.in-Split.col c.in-Split.v c.in-Split.mult c.in-Split.basis) c.place_split.new.self o.leaf o.state c.place_split.result
@@ -53,6 +44,6 @@ returns-in-Split-clause-taken c =
 
 pub returns-in-PointAndClose-clause-taken : goal.returns-in-PointAndClose-clause-taken
 returns-in-PointAndClose-clause-taken c =
-    let o = c.requires.open in
+    let o = c.requires.open.is_open in
     rw c.in-PointAndClose.is (takes_ok c.args.self.now c.args.id c.args.region.now o.kept (PointAndClose c.in-PointAndClose.point c.in-PointAndClose.mult c.in-PointAndClose.basis) c.place_point_close.new.self o.leaf o.state c.place_point_close.result
     (subst (λ (d : LeafData). IfOk c.place_point_close.result (λ (t : Taken). TakesPointClose c.args.self.now c.args.id c.args.region.now c.in-PointAndClose.point d c.place_point_close.new.self t)) (c.closed_data-kept.ensures ∙ ap (λ (f : Multipliers). closed_data c.in-PointAndClose.mult f c.in-PointAndClose.basis) c.new.ensures) c.place_point_close.ensures.taken))

@@ -1,8 +1,19 @@
-use Rattle.tree_edit.proofs.WorstLemmas.{has-taken, at-taken}
+use Rattle.std.proofs.Common.{sym, subst}
+use Rattle.leaf_judging.specs.Closing.{ClosesBy}
+use Rattle.tree_edit.specs.Sound.{PlainSearch, formulation_of}
+use Rattle.tree_edit.specs.Points.{target}
+use Rattle.tree_edit.proofs.CloseLemmas.{judged-closed}
+use Rattle.tree_edit.proofs.WorstLemmas.{leaf-taken}
 use Rattle.tree_edit.proofs.search.Search.put_joined_close.Goals as goal
+use Rattle.lp_model.specs.Formulations.{without_cuts}
 
-pub put_closed-requires-clause-has : goal.put_closed-requires-clause-has
-put_closed-requires-clause-has c = has-taken c.args.self.now c.args.point c.take_point.new.self c.args.id c.in-Ok.ensures.taken c.requires.has
+pub put_closed-requires-clause-leaf : goal.put_closed-requires-clause-leaf
+put_closed-requires-clause-leaf c = leaf-taken c.args.self.now c.args.point c.take_point.new.self c.args.id c.args.region.now c.in-Ok.ensures.taken c.requires.leaf
 
-pub put_closed-requires-clause-at : goal.put_closed-requires-clause-at
-put_closed-requires-clause-at c = at-taken c.args.self.now c.args.point c.take_point.new.self c.args.id c.args.region.now c.in-Ok.ensures.taken c.requires.at
+pub put_closed-requires-clause-judged : goal.put_closed-requires-clause-judged
+put_closed-requires-clause-judged c =
+    let new : PlainSearch = c.take_point.new.self in
+    let path = c.args.region.now in
+    let kept = c.args.kept in
+    judged-closed (formulation_of new) (target new.model new.points) path kept
+    (subst (λ P. P) (λ k. ClosesBy (without_cuts (sym c.in-Ok.ensures.taken.model k)) (sym c.in-Ok.ensures.target k) path kept) c.requires.closes) c.requires.closed

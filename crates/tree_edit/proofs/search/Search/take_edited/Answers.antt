@@ -1,9 +1,9 @@
 use Rattle.std.proofs.Common.{◌≡◌, ◌∙◌, ◌≤◌, length, map, sym, subst, ap, arith}
 use Rattle.std.specs.Prelude.{Result, Ok, Err, OnOk}
 use Rattle.std.proofs.lemmas.List.{length-map}
-use Rattle.lp_model.specs.Program.{Program}
 use Rattle.lp_model.specs.Edits.{edited, EditFits}
-use Rattle.tree_edit.specs.Judged.{JudgesAll}
+use Rattle.lp_model.specs.Formulations.{without_cuts}
+use Rattle.leaf_judging.specs.Judged.{JudgesAll}
 use Rattle.tree_edit.specs.Points.{target}
 use Rattle.tree_edit.specs.Sound.{PlainSearch, IsSoundTree}
 use Rattle.tree_edit.specs.Edited.{point_after, AreKeepable, HasParts, Follows}
@@ -18,7 +18,7 @@ take_parts-requires-clause-tree c =
     let fits : EditFits i.model e = subst (λ (R : PlainSearch). EditFits R.model e) (sym c.self.view_is) c.requires.fits in
     let new : c.args.model ≡ edited i.model e = c.requires.edited ∙ ap (λ (R : PlainSearch). edited R.model e) (sym c.self.view_is) in
     let follows = follow-sound i.model e i.tree fits c.self.invariant.sound.tree in
-    subst (λ P. P) (λ j. IsSoundTree (sym new j) (sym c.in-Ok.ensures j).root) follows
+    subst (λ P. P) (λ j. IsSoundTree (without_cuts (sym new j)) (sym c.in-Ok.ensures j).root) follows
 
 pub take_parts-requires-clause-points : goal.take_parts-requires-clause-points
 take_parts-requires-clause-points c =
@@ -49,6 +49,6 @@ returns-in-Ok-kept_points-clause-follows c =
     subst (λ (R : PlainSearch). Follows R e new) c.self.view_is (record {
       model = parts.model ∙ model;
       points = subst (λ P. P) (λ j. AreKeepable (sym parts.model j) (map (point_after i.model e) (c.deref.ensures.value j)) (sym parts.points_are j)) kept.ensures.keepable;
-      tree = subst (λ P. P) (λ j. JudgesAll (sym parts.model j) (target (sym parts.model j) (sym parts.points_are j)) (c.in-Ok.ensures j) new.tree) parts.tree;
+      tree = subst (λ P. P) (λ j. JudgesAll (without_cuts (sym parts.model j)) (target (sym parts.model j) (sym parts.points_are j)) (c.in-Ok.ensures j) new.tree) parts.tree;
     }) in
     on_ok c.take_parts.result follows c.take_parts.ensures.parts

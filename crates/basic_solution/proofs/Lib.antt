@@ -1,0 +1,12 @@
+pub mod PointLemmas
+pub mod SideLemmas
+pub mod PartLemmas
+pub mod ExchangeLemmas
+pub mod SideListLemmas
+pub mod SignLemmas
+pub mod OrderLemmas
+pub mod TiltLemmas
+pub mod SlackLemmas
+pub mod ListLemmas
+pub mod AskedLemmas
+pub mod ListedLemmas

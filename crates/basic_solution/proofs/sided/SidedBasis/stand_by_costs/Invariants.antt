@@ -1,0 +1,10 @@
+use Rattle.std.proofs.Common.{◌<◌, ℕ, get_or}
+use Rattle.bases.specs.declared.stand.Stand.TheVariants.{Free}
+use Rattle.basic_solution.specs.Slack.{IsRestood, IsPlaced}
+use Rattle.basic_solution.proofs.sided.SidedBasis.stand_by_costs.Given as goal
+
+abbrev pub invariant-loop-place : goal.invariant-loop-place
+invariant-loop-place l = record {
+  same : IsRestood l.fn.self l.self;
+  placed : (k : ℕ) → k < l.place → IsPlaced l.fn.self k (get_or l.self.stands k Free);
+}

@@ -1,0 +1,100 @@
+-- States at a list of basic variables, and where bringing it in leads.
+use Rattle.std.specs.Prelude.{◌≡◌, ◌⊎◌, ℕ, ◌<◌, Bool, true, false, IsTrue, ◌↔◌, List, get_or, Result, Ok, Err}
+use Rattle.std.specs.Option.{IsSomeAnd}
+use Rattle.lp_model.specs.WideSteps.{TablePlace, Pivot, table_place}
+use Rattle.lp_model.specs.declared.types.Basis.{Basis}
+use Rattle.lp_model.specs.declared.types.WideStep.{WideStep}
+use Rattle.bases.specs.declared.stand.Stand.{Stand}
+use Rattle.bases.specs.declared.stand.Stand.TheVariants.{Low, High, Free}
+use Rattle.bases.specs.Relaxation.{Relaxation}
+use Rattle.bases.specs.Bases.{Lists, IsNamedBy, IsNonsingular, BringsIn, IsOnWay}
+use Rattle.bases.specs.States.{IsFree}
+use Rattle.row_tableau.specs.declared.relax.Relax.{Relax}
+use Rattle.row_tableau.specs.Relaxations.{relaxation_of}
+use Rattle.row_tableau.specs.Dense.{IsTableauOf}
+use Rattle.row_tableau.specs.Variables.{numbers}
+use Rattle.row_tableau.specs.Answers.{IsPivotNamed, IsLeftOff}
+use Rattle.basic_solution.specs.Held.{Held, IsSided, IsLawfulHeld, relaxation, table}
+use Rattle.basic_solution.specs.Numbers.{IsWideCostStep}
+use Rattle.basic_solution.specs.Slack.{IsOf, IsPlaced}
+
+-- a variable that is not basic stands high where the list names it, and else low, or at 0 where it has no side
+abbrev pub IsStandBy : Relaxation → List ℕ → ℕ → Stand → Type 0
+IsStandBy p high v High = Lists high v
+IsStandBy p high v Low = (¬ Lists high v) × (¬ IsFree p v)
+IsStandBy p high v Free = (¬ Lists high v) × IsFree p v
+
+abbrev pub StandBy : List ℕ → Held → ℕ → Type 0
+StandBy high s k = IsStandBy (relaxation s) high ((table s).nonbasic k) (get_or s.stands k Free)
+
+-- the basic variables are those of the list, and the others stand as it says
+pub record StandsAsListed (list : Basis) (s : Held) : Type 0 where
+  pub named : IsNamedBy s.tableau.activities (numbers s.tableau list.basic) (table s)
+  pub stands : (k : ℕ) → k < s.tableau.columns → StandBy (numbers s.tableau list.high) s k
+
+-- the list is a basis, and the states of the relaxation that stand at it are lawful
+pub record IsLawfulBasis (relax : Relax) (list : Basis) : Type 0 where
+  pub basis : (s : Held) → IsOf relax s → IsNonsingular (relaxation_of relax) (numbers s.tableau list.basic)
+  pub lawful : (s : Held) → IsSided s → IsOf relax s → StandsAsListed list s → IsLawfulHeld s
+
+-- ---- one list
+
+-- the same but for the tableau, which is of the same relaxations, and for where the nonbasic variables stand
+pub record Keeps (s after : Held) : Type 0 where
+  pub model : after.model ≡ s.model
+  pub low : after.low ≡ s.low
+  pub high : after.high ≡ s.high
+  pub cost : after.cost ≡ s.cost
+  pub tilt : after.tilt ≡ s.tilt
+  pub order : after.order ≡ s.order
+  pub columns : after.tableau.columns ≡ s.tableau.columns
+  pub rows : after.tableau.rows ≡ s.tableau.rows
+  pub activities : after.tableau.activities ≡ s.tableau.activities
+  pub basis : (p : Relaxation) → IsTableauOf p s.tableau → IsTableauOf p after.tableau
+
+-- no variable stands at a side
+abbrev pub StandsNowhere : Held → Type 0
+StandsNowhere s = (k : ℕ) → k < s.tableau.columns → get_or s.stands k Free ≡ Free
+
+abbrev pub IsExchangePlace : Basis → Held → TablePlace → Type 0
+IsExchangePlace list s (Pivot r v i k) =
+    (row : ℕ) × ((place : ℕ) × (BringsIn s.tableau.columns s.tableau.activities (numbers s.tableau list.basic) (table s) row place × IsPivotNamed s.tableau row place r v i k))
+IsExchangePlace list s other = ⊥
+
+-- bringing the list in makes this step of an exchange next, which has no room
+abbrev pub IsWideExchange : Basis → Held → WideStep → Type 0
+IsWideExchange list s step = IsSomeAnd (table_place step) (IsExchangePlace list s)
+
+-- what comes of bringing a list in: true where it is, and false where it is left off
+abbrev pub IsBroughtTo : Held → Basis → Result Bool WideStep → Held → Type 0
+IsBroughtTo s list (Ok true) after = IsNamedBy after.tableau.activities (numbers after.tableau list.basic) (table after)
+IsBroughtTo s list (Ok false) after = IsLeftOff s.tableau (numbers s.tableau list.basic) after.tableau
+IsBroughtTo s list (Err e) after = IsWideExchange list after e
+
+-- whether each variable stands where its reduced cost asks it to
+abbrev pub IsLawfulAnswer : Held → Result Bool WideStep → Type 0
+IsLawfulAnswer s (Ok true) = IsLawfulHeld s
+IsLawfulAnswer s (Ok false) = ¬ IsLawfulHeld s
+IsLawfulAnswer s (Err e) = IsWideCostStep s e
+
+abbrev pub IsPlaceAnswer : Held → ℕ → Result Bool WideStep → Type 0
+IsPlaceAnswer s k (Ok b) = IsTrue b ↔ IsPlaced s k (get_or s.stands k Free)
+IsPlaceAnswer s k (Err e) = IsWideCostStep s e
+
+-- the step of an exchange, where no variable counts as standing high, or of a reduced cost at the list
+abbrev pub IsListRefused : Basis → Held → WideStep → Type 0
+IsListRefused list s e = (StandsNowhere s × IsWideExchange list s e) ⊎ (StandsAsListed list s × IsWideCostStep s e)
+
+-- where a list is left: bringing it in is left off there, or its state is there and is not lawful
+abbrev pub IsLeftAt : Basis → Held → Held → Type 0
+IsLeftAt list s after = IsLeftOff s.tableau (numbers s.tableau list.basic) after.tableau ⊎ (StandsAsListed list after × (¬ IsLawfulHeld after))
+
+-- what comes of standing at a list: true where the state is lawful
+abbrev pub IsStoodAt : Held → Basis → Result Bool WideStep → Held → Type 0
+IsStoodAt s list (Ok true) after = StandsAsListed list after × IsLawfulHeld after
+IsStoodAt s list (Ok false) after = IsLeftAt list s after
+IsStoodAt s list (Err e) after = IsListRefused list after e
+
+-- exchanges that bring the list in lead from one table to the other
+abbrev pub LeadsOn : Basis → Held → Held → Type 0
+LeadsOn list s after = IsOnWay s.tableau.columns s.tableau.activities (numbers s.tableau list.basic) (table s) (table after)

@@ -1,0 +1,22 @@
+// Which basic variable is outside a side.
+ghost use Rattle.std.specs.Prelude.{◌<◌};
+ghost use Rattle.basic_solution.specs.Numbers.{IsRowBreach};
+
+use crate::sided::SidedBasis;
+use crate::sides::breach;
+use bases::Stand;
+use lp_model::WideStep;
+
+impl SidedBasis<'_> {
+    /// The side that the basic variable of a row is outside of, if any.
+    pub fn row_breach(&self, row: usize) -> Result<Option<Stand>, WideStep>
+        requires { row < self.now.tableau.activities }
+        ensures { IsRowBreach self.now row result }
+    {
+        let variable = self.tableau.basic(row);
+        match self.basic_value(row) {
+            Err(step) => Err(step),
+            Ok(value) => Ok(breach(&self.low[variable], &self.high[variable], &value)),
+        }
+    }
+}

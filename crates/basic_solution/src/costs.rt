@@ -1,0 +1,130 @@
+// Reduced costs.
+ghost use Rattle.std.specs.Prelude.{◌≡◌, ◌<◌, ◌<ℤ◌, pos, IfErr, IfSome};
+ghost use Rattle.bases.specs.Relaxation.{reduced_cost};
+ghost use Rattle.bases.specs.Steps.{at_basic};
+ghost use Rattle.row_tableau.specs.WholeSums.{IsWholeTerm};
+ghost use Rattle.basic_solution.specs.Held.{relaxation, table, variables};
+ghost use Rattle.basic_solution.specs.Numbers.{IsNumberOrWideTerm};
+ghost use Rattle.basic_solution.specs.Numbers.{IsWideCostStep};
+
+use crate::sided::SidedBasis;
+use checked_sum::{Terms, checked_sum};
+use frac128::Frac;
+use lp_model::WideStep;
+use row_tableau::{Position, WholeTerm, WholeTerms, whole_number, whole_sum};
+
+/// The terms of the reduced cost of a place, by variable: cost times entry of the basic ones.
+#[derive(Drop)]
+struct CostTerms<'a, 'b> {
+    state: &'b SidedBasis<'a>,
+    place: usize,
+    ghost within: { place < state.now.tableau.columns },
+}
+
+impl Terms for CostTerms<'_, '_> {
+    ghost count = { λ t. variables t.state.now };
+
+    ghost factor = { λ t v. (relaxation t.state.now).cost v };
+
+    ghost number = { λ t v. at_basic (relaxation t.state.now) (table t.state.now) (λ i. (table t.state.now).entry i t.place) v };
+
+    fn count(&self) -> usize {
+        self.state.variables()
+    }
+
+    fn number(&self, index: usize) -> Frac {
+        self.state.saved_of(self.place, index)
+    }
+
+    fn factor(&self, index: usize) -> Frac {
+        self.state.cost_of(index)
+    }
+}
+
+impl WholeTerms for CostTerms<'_, '_> {
+    ghost count = { λ t. variables t.state.now };
+
+    ghost factor = { λ t v. (relaxation t.state.now).cost v };
+
+    ghost number = { λ t v. at_basic (relaxation t.state.now) (table t.state.now) (λ i. (table t.state.now).entry i t.place) v };
+
+    fn count(&self) -> usize {
+        self.state.variables()
+    }
+
+    fn term(&self, index: usize, denominator: i64) -> Option<WholeTerm> {
+        self.state.cost_term(self.place, index, denominator)
+    }
+}
+
+impl SidedBasis<'_> {
+    /// The cost of a variable.
+    pub(crate) fn cost_of(&self, variable: usize) -> Frac
+        requires { variable < variables self.now }
+        ensures { result ≡ (relaxation self.now).cost variable }
+    {
+        self.cost[variable]
+    }
+
+    /// The entry of a basic variable at a place, 0 for another one.
+    pub(crate) fn saved_of(&self, place: usize, variable: usize) -> Frac
+        requires place { place < self.now.tableau.columns }
+        requires variable { variable < variables self.now }
+        ensures { result ≡ at_basic (relaxation self.now) (table self.now) (λ i. (table self.now).entry i place) variable }
+    {
+        match self.tableau.find(variable) {
+            Position::Row(row) => self.tableau.entry(row, place),
+            Position::Place(_) => Frac::whole(0),
+        }
+    }
+
+    /// The term of a variable in the reduced cost of a place, as whole numbers over the denominator.
+    fn cost_term(&self, place: usize, variable: usize, denominator: i64) -> Option<WholeTerm>
+        requires place { place < self.now.tableau.columns }
+        requires variable { variable < variables self.now }
+        requires positive { pos 0 <ℤ denominator }
+        ensures { IfSome result (λ t. IsWholeTerm denominator ((relaxation self.now).cost variable) (at_basic (relaxation self.now) (table self.now) (λ i. (table self.now).entry i place) variable) t.factor t.number) }
+    {
+        match self.tableau.find(variable) {
+            Position::Place(_) => Some(WholeTerm {
+                factor: 0,
+                number: 0,
+            }),
+            Position::Row(row) => {
+                let number = whole_number(&self.cost_of(variable))?;
+                let factor = self.tableau.number_over(row, place, denominator)?;
+                Some(WholeTerm { factor, number })
+            }
+        }
+    }
+
+    /// The reduced cost of a place, where it can be had with one division. None says nothing of it.
+    fn whole_cost(&self, place: usize) -> Option<Frac>
+        requires { place < self.now.tableau.columns }
+        ensures { IfSome result (λ cost. cost ≡ reduced_cost (relaxation self.now) (table self.now) (relaxation self.now).cost place) }
+    {
+        let terms = CostTerms { state: self, place };
+        let start = whole_number(&self.cost_of(self.tableau.nonbasic(place)))?;
+        whole_sum(start, self.tableau.denominator(), &terms)
+    }
+
+    /// The reduced cost of a place, or the first of its terms, in the order of the variables, that has no room.
+    pub(crate) fn reduced_cost(&self, place: usize) -> Result<Frac, WideStep>
+        requires { place < self.now.tableau.columns }
+        ensures value { IsNumberOrWideTerm self.now (reduced_cost (relaxation self.now) (table self.now) (relaxation self.now).cost place) result }
+        ensures step { IfErr result (IsWideCostStep self.now) }
+    {
+        if let Some(cost) = self.whole_cost(place) {
+            return Ok(cost);
+        }
+        let variable = self.tableau.nonbasic(place);
+        let terms = CostTerms { state: self, place };
+        match checked_sum(&self.cost_of(variable), &terms) {
+            Ok(cost) => Ok(cost),
+            Err(basic) => Err(WideStep::Cost {
+                k: self.tableau.variable(variable),
+                b: self.tableau.variable(basic),
+            }),
+        }
+    }
+}

@@ -1,0 +1,147 @@
+// The point of a state: where the nonbasic variables stand, and the values of the basic ones.
+ghost use Rattle.std.specs.Prelude.{◌≡◌, ◌<◌, ◌+◌, ◌<ℤ◌, pos, get_or, IfSome};
+ghost use Rattle.bases.specs.Steps.{at_nonbasic};
+ghost use Rattle.bases.specs.States.{basic_value};
+ghost use Rattle.bases.specs.Directions.{stand_number};
+ghost use Rattle.row_tableau.specs.WholeSums.{IsWholeTerm};
+ghost use Rattle.basic_solution.specs.Held.{relaxation, state, table, variables};
+
+use crate::sided::SidedBasis;
+use bases::Stand;
+use checked_sum::{Terms, checked_sum};
+use frac128::Frac;
+use lp_model::{Bound, WideStep};
+use row_tableau::{Position, WholeTerm, WholeTerms, whole_number, whole_sum};
+
+/// The number at a side, 0 where there is none.
+fn side_number(stand: Stand, low: &Bound, high: &Bound) -> Frac
+    ensures { result ≡ stand_number stand low.now high.now }
+{
+    match (stand, low, high) {
+        (Stand::Low, Some(number), _) => *number,
+        (Stand::High, _, Some(number)) => *number,
+        _ => Frac::whole(0),
+    }
+}
+
+/// The terms of the value of a basic variable, by variable: entry times number of the nonbasic ones.
+#[derive(Drop)]
+struct PointTerms<'a, 'b> {
+    state: &'b SidedBasis<'a>,
+    row: usize,
+    ghost within: { row < state.now.tableau.activities },
+}
+
+impl Terms for PointTerms<'_, '_> {
+    ghost count = { λ t. variables t.state.now };
+
+    ghost factor = { λ t v. at_nonbasic (relaxation t.state.now) (table t.state.now) ((table t.state.now).entry t.row) v };
+
+    ghost number = { λ t v. at_nonbasic (relaxation t.state.now) (table t.state.now) (state t.state.now).at v };
+
+    fn count(&self) -> usize {
+        self.state.variables()
+    }
+
+    fn number(&self, index: usize) -> Frac {
+        self.state.standing(index)
+    }
+
+    fn factor(&self, index: usize) -> Frac {
+        self.state.entry_of(self.row, index)
+    }
+}
+
+impl WholeTerms for PointTerms<'_, '_> {
+    ghost count = { λ t. variables t.state.now };
+
+    ghost factor = { λ t v. at_nonbasic (relaxation t.state.now) (table t.state.now) ((table t.state.now).entry t.row) v };
+
+    ghost number = { λ t v. at_nonbasic (relaxation t.state.now) (table t.state.now) (state t.state.now).at v };
+
+    fn count(&self) -> usize {
+        self.state.variables()
+    }
+
+    fn term(&self, index: usize, denominator: i64) -> Option<WholeTerm> {
+        self.state.point_term(self.row, index, denominator)
+    }
+}
+
+impl SidedBasis<'_> {
+    ghost use Rattle.basic_solution.specs.Numbers.{IsNumberOrWideTerm};
+
+    /// The number at which the variable of a place stands.
+    pub(crate) fn place_number(&self, place: usize) -> Frac
+        requires { place < self.now.tableau.columns }
+        ensures { result ≡ (state self.now).at place }
+    {
+        let variable = self.tableau.nonbasic(place);
+        side_number(
+            self.stands[place],
+            &self.low[variable],
+            &self.high[variable],
+        )
+    }
+
+    /// The number at which a variable stands, 0 for a basic one.
+    pub(crate) fn standing(&self, variable: usize) -> Frac
+        requires { variable < variables self.now }
+        ensures { result ≡ at_nonbasic (relaxation self.now) (table self.now) (state self.now).at variable }
+    {
+        match self.tableau.find(variable) {
+            Position::Row(_) => Frac::whole(0),
+            Position::Place(place) => self.place_number(place),
+        }
+    }
+
+    /// The entry of a row at a variable, 0 for a basic one.
+    pub(crate) fn entry_of(&self, row: usize, variable: usize) -> Frac
+        requires row { row < self.now.tableau.activities }
+        requires variable { variable < variables self.now }
+        ensures { result ≡ at_nonbasic (relaxation self.now) (table self.now) ((table self.now).entry row) variable }
+    {
+        match self.tableau.find(variable) {
+            Position::Row(_) => Frac::whole(0),
+            Position::Place(place) => self.tableau.entry(row, place),
+        }
+    }
+
+    /// The term of a variable in the value of the basic variable of a row, as whole numbers over the denominator.
+    fn point_term(&self, row: usize, variable: usize, denominator: i64) -> Option<WholeTerm>
+        requires row { row < self.now.tableau.activities }
+        requires variable { variable < variables self.now }
+        requires positive { pos 0 <ℤ denominator }
+        ensures { IfSome result (λ t. IsWholeTerm denominator (at_nonbasic (relaxation self.now) (table self.now) ((table self.now).entry row) variable) (at_nonbasic (relaxation self.now) (table self.now) (state self.now).at variable) t.factor t.number) }
+    {
+        match self.tableau.find(variable) {
+            Position::Row(_) => Some(WholeTerm {
+                factor: 0,
+                number: 0,
+            }),
+            Position::Place(place) => {
+                let number = whole_number(&self.place_number(place))?;
+                let factor = self.tableau.number_over(row, place, denominator)?;
+                Some(WholeTerm { factor, number })
+            }
+        }
+    }
+
+    /// The value of the basic variable of a row, or the first of its terms, in the order of the variables, that has no room.
+    pub(crate) fn basic_value(&self, row: usize) -> Result<Frac, WideStep>
+        requires { row < self.now.tableau.activities }
+        ensures { IsNumberOrWideTerm self.now (basic_value (relaxation self.now) (state self.now) row) result }
+    {
+        let terms = PointTerms { state: self, row };
+        if let Some(value) = whole_sum(0, self.tableau.denominator(), &terms) {
+            return Ok(value);
+        }
+        match checked_sum(&Frac::whole(0), &terms) {
+            Ok(value) => Ok(value),
+            Err(variable) => Err(WideStep::Point {
+                b: self.tableau.variable(self.tableau.basic(row)),
+                k: self.tableau.variable(variable),
+            }),
+        }
+    }
+}

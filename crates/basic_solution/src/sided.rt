@@ -1,0 +1,113 @@
+// A basis whose other variables stand at sides.
+ghost use Rattle.std.specs.Prelude.{◌≡◌, ◌<◌, get_or, length};
+ghost use Rattle.bases.specs.declared.stand.Stand.TheVariants.{Free};
+ghost use Rattle.row_tableau.specs.Answers.{IsPosition};
+ghost use Rattle.row_tableau.specs.Variables.{variable_number};
+ghost use Rattle.basic_solution.specs.Held.{IsSided, table, variables};
+
+use bases::Stand;
+use frac128::Frac;
+use lp_model::{Bound, Model, Var};
+use row_tableau::{Position, Tableau};
+
+/// The table of a basis of a relaxation, and where its nonbasic variables stand, by place: lawful or not. Sides, costs and
+/// tilts are by variable; `order` has the variables whose tilts are costs in a part of their own, in the order of the
+/// parts.
+#[derive(Drop)]
+pub struct SidedBasis<'a> {
+    pub(crate) model: &'a Model,
+    pub(crate) low: Vec<Bound>,
+    pub(crate) high: Vec<Bound>,
+    pub(crate) cost: Vec<Frac>,
+    pub(crate) tilt: Vec<Stand>,
+    pub(crate) order: Vec<usize>,
+    pub(crate) tableau: Tableau,
+    pub(crate) stands: Vec<Stand>,
+}
+
+impl<'a> std::marker::Model for SidedBasis<'a> {
+    ghost use Rattle.basic_solution.specs.Held.{Held, IsSided};
+
+    ghost Value = { Held };
+
+    ghost view = { λ s. record { model = s.model.now; low = s.low.items; high = s.high.items; cost = s.cost.items; tilt = s.tilt.items; order = s.order.items; tableau = s.tableau; stands = s.stands.items } };
+
+    ghost invariant = { λ s. IsSided (record { model = s.model.now; low = s.low.items; high = s.high.items; cost = s.cost.items; tilt = s.tilt.items; order = s.order.items; tableau = s.tableau; stands = s.stands.items }) };
+}
+
+impl SidedBasis<'_> {
+    /// How many columns there are, which is how many places.
+    pub fn columns(&self) -> usize
+        ensures value { result ≡ self.now.tableau.columns }
+        ensures sided { IsSided self.now }
+    {
+        self.tableau.columns()
+    }
+
+    /// How many variables there are.
+    pub fn variables(&self) -> usize
+        ensures { result ≡ variables self.now }
+    {
+        self.tableau.columns() + self.tableau.activities()
+    }
+
+    /// The variable of a number.
+    pub fn variable(&self, index: usize) -> Var
+        requires { index < variables self.now }
+        ensures { variable_number self.now.tableau result ≡ index }
+    {
+        self.tableau.variable(index)
+    }
+
+    /// Where a variable stands.
+    pub fn find(&self, variable: usize) -> Position
+        requires { variable < variables self.now }
+        ensures { IsPosition self.now.tableau variable result }
+    {
+        self.tableau.find(variable)
+    }
+
+    /// The number of the basic variable of a row.
+    pub fn basic(&self, row: usize) -> usize
+        requires { row < self.now.tableau.activities }
+        ensures value { result ≡ (table self.now).basic row }
+        ensures within { result < variables self.now }
+    {
+        self.tableau.basic(row)
+    }
+
+    /// The number of the variable at a place.
+    pub fn nonbasic(&self, place: usize) -> usize
+        requires { place < self.now.tableau.columns }
+        ensures value { result ≡ (table self.now).nonbasic place }
+        ensures within { result < variables self.now }
+    {
+        self.tableau.nonbasic(place)
+    }
+
+    /// The entry of a row and a place.
+    pub fn entry(&self, row: usize, place: usize) -> Frac
+        requires row { row < self.now.tableau.activities }
+        requires place { place < self.now.tableau.columns }
+        ensures { result ≡ (table self.now).entry row place }
+    {
+        self.tableau.entry(row, place)
+    }
+
+    /// Where the variable of a place stands.
+    pub fn stand_of(&self, place: usize) -> Stand
+        requires { place < self.now.tableau.columns }
+        ensures { result ≡ get_or self.now.stands place Free }
+    {
+        self.stands[place]
+    }
+
+    /// The variable whose tilt is a cost in the part of this turn behind the costs.
+    pub fn tilted(&self, turn: usize) -> usize
+        requires { turn < length self.now.order }
+        ensures value { result ≡ get_or self.now.order turn 0 }
+        ensures within { result < variables self.now }
+    {
+        self.order[turn]
+    }
+}

@@ -1,0 +1,105 @@
+// The slack state.
+ghost use Rattle.std.specs.Prelude.{◌≡◌, ◌<◌, ℕ, length, get_or, false, IsTrue, IfOk, IsSome};
+ghost use Rattle.lp_model.specs.Regions.{AreNarrow};
+ghost use Rattle.bases.specs.declared.stand.Stand.TheVariants.{Free};
+ghost use Rattle.bases.specs.Relaxation.{reduced_cost};
+ghost use Rattle.row_tableau.specs.declared.relax.RelaxKind.TheVariants.{Directions};
+ghost use Rattle.basic_solution.specs.Held.{relaxation, table};
+ghost use Rattle.basic_solution.specs.Tilts.{KeepsFree};
+ghost use Rattle.basic_solution.specs.Slack.{IsSlackState, IsSlackAnswer, IsPlaced, IsMisplaced, IsStandAnswer, IsRestood};
+
+use crate::sided::SidedBasis;
+use crate::sides_of::{costs, highs, lows};
+use crate::tilts::{order, tilts};
+use bases::Stand;
+use row_tableau::{Relax, Tableau};
+use std::alloc::{AllocError, Global};
+
+/// As many places without a side.
+fn all_free(alloc: Global, count: usize) -> Result<Vec<Stand>, AllocError>
+    ensures { IfOk result (λ v. length v.items ≡ count) }
+{
+    let mut list = Vec::new(alloc);
+    for _place in 0..count {
+        list.push(Stand::Free)?;
+    }
+    Ok(list)
+}
+
+impl<'a> SidedBasis<'a> {
+    /// The slack basis of a relaxation, with no variable at a side.
+    pub fn slack(alloc: Global, relax: &Relax<'a>) -> Result<SidedBasis<'a>, AllocError>
+        requires narrow { AreNarrow relax.now.region.now }
+        requires sides { KeepsFree relax.now.model.now relax.now.region.now }
+        ensures { IfOk result (IsSlackState relax.now) }
+    {
+        let tableau = Tableau::slack_start(alloc, relax)?;
+        let low = lows(alloc, relax)?;
+        let high = highs(alloc, relax)?;
+        let cost = costs(alloc, relax)?;
+        let tilt = tilts(alloc, relax)?;
+        let order = order(alloc, relax)?;
+        let stands = all_free(alloc, relax.model.cols().len())?;
+        Ok(SidedBasis {
+            model: relax.model,
+            low,
+            high,
+            cost,
+            tilt,
+            order,
+            tableau,
+            stands,
+        })
+    }
+
+    /// Where the variable of a place stands by its cost, which is its reduced cost, if it can.
+    fn stand_by_cost(&self, place: usize) -> Option<Stand>
+        requires place { place < self.now.tableau.columns }
+        requires cost { (relaxation self.now).cost ((table self.now).nonbasic place) ≡ reduced_cost (relaxation self.now) (table self.now) (relaxation self.now).cost place }
+        ensures { IsStandAnswer self.now place result }
+    {
+        let cost = self.cost_of(self.tableau.nonbasic(place));
+        let stand = self.asked(place, &cost);
+        if self.can_stand(place, stand) {
+            Some(stand)
+        } else {
+            None
+        }
+    }
+
+    /// Lets each variable stand where its cost, which is its reduced cost, asks it to. False: one cannot.
+    fn stand_by_costs(&mut self) -> bool
+        requires { (k : ℕ) → k < self.old.tableau.columns → (relaxation self.old).cost ((table self.old).nonbasic k) ≡ reduced_cost (relaxation self.old) (table self.old) (relaxation self.old).cost k }
+        ensures same { IsRestood self.old self.new }
+        ensures placed { IsTrue result → (k : ℕ) → k < self.new.tableau.columns → IsPlaced self.new k (get_or self.new.stands k Free) }
+        ensures misplaced { result ≡ false → (k : ℕ) × ((k < self.old.tableau.columns) × IsMisplaced self.old k) }
+    {
+        for place in 0..self.tableau.columns() {
+            match self.stand_by_cost(place) {
+                Some(stand) => self.set_stand(place, stand),
+                None => return false,
+            }
+        }
+        true
+    }
+
+    /// The slack basis with each column where the first part of its perturbed cost that is not 0 asks it to stand. None where
+    /// some column has no such side, which is never so in the directions.
+    pub fn slack_state(
+        alloc: Global,
+        relax: &Relax<'a>,
+    ) -> Result<Option<SidedBasis<'a>>, AllocError>
+        requires narrow { AreNarrow relax.now.region.now }
+        requires sides { KeepsFree relax.now.model.now relax.now.region.now }
+        ensures answer { IfOk result (IsSlackAnswer relax.now) }
+        ensures directions { IfOk result (λ basis. relax.now.kind ≡ Directions → IsSome basis) }
+    {
+        let mut basis = SidedBasis::slack(alloc, relax)?;
+        let _sided = &basis.tableau;
+        if !basis.stand_by_costs() {
+            return Ok(None);
+        }
+        let _kept = &basis.tableau;
+        Ok(Some(basis))
+    }
+}

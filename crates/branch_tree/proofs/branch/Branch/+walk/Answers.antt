@@ -1,0 +1,32 @@
+use Rattle.std.proofs.Common.{◌≡◌, [], ◌∷◌, ◌++◌, take, pos, ◌+ℤ◌, ap, subst, ◌∙◌}
+use Rattle.std.specs.Prelude.{OnOk}
+use Rattle.lp_model.specs.Regions.{Path, at_most, at_least}
+use Rattle.branch_tree.specs.Tree.{left_path, right_path}
+use Rattle.branch_tree.specs.Plain.{SplitKept, LeafKept}
+use Rattle.branch_tree.specs.Leaves.{region_leaves}
+use Rattle.branch_tree.specs.Visits.{Visits}
+use Rattle.branch_tree.specs.Branches.{plain_branch}
+use Rattle.branch_tree.proofs.LeafLemmas.{take_front}
+use Rattle.branch_tree.proofs.VisitLemmas.{visits_leaf, visits_split}
+use Rattle.branch_tree.proofs.branch.Branch.+walk.Goals as goal
+
+pub returns-in-Leaf-clause-visits : goal.returns-in-Leaf-clause-visits
+returns-in-Leaf-clause-visits g t c =
+    let s = c.in-Leaf in
+    let l : LeafKept = record { id = s.leaf.id; kept = s.leaf.kept } in
+    let step = g.V.LeafVisitor.step in
+    let made = subst (λ (p : Path). OnOk c.visit.result (step c.args.visitor.now (record { id = s.leaf.id; region = p; kept = s.leaf.kept }) c.visit.new.self)) c.deref.ensures.value c.visit.ensures in
+    rw s.is (visits_leaf step c.visit.result c.args.path.now.items l c.args.visitor.now c.visit.new.self made)
+
+pub returns-in_ok-walk-in-Split-2-clause-visits : goal.returns-in_ok-walk-in-Split-2-clause-visits
+returns-in_ok-walk-in-Split-2-clause-visits g t c =
+    let s = c.in-Split in
+    let step = g.V.LeafVisitor.step in
+    let path : Path = c.args.path.now.items in
+    let kept : SplitKept = record { id = s.split.id; mult = s.split.mult; basis = s.split.basis } in
+    let on : c.push.new.self.items ≡ left_path path s.split.col.0 s.split.v = c.in_ok-push-in-Split.ensures.items ∙ ap (λ b. path ++ b ∷ []) c.at_most.ensures in
+    let back : c.truncate.new.self.items ≡ path = c.truncate.ensures.items ∙ ap (take c.len-depth.result) (c.in_ok-walk-in-Split.ensures.path ∙ on) ∙ take_front path (at_most s.split.col.0 s.split.v ∷ []) c.len-depth.result (c.len-depth.ensures ∙ c.args.path.now.ok.0) in
+    let on_right : c.push-in-Split.new.self.items ≡ right_path path s.split.col.0 s.split.v = c.in_ok-push-in-Split-2.ensures.items ∙ ap (λ b. c.truncate.new.self.items ++ b ∷ []) c.at_least.ensures ∙ ap (λ p. p ++ at_least s.split.col.0 (s.split.v +ℤ pos 1) ∷ []) back in
+    let first : Visits step (region_leaves (left_path path s.split.col.0 s.split.v) (plain_branch s.left.value)) c.args.visitor.now c.walk.new.visitor = rw (← on, ← c.deref-in-Split.ensures) c.in_ok-walk-in-Split.ensures.visits in
+    let second : Visits step (region_leaves (right_path path s.split.col.0 s.split.v) (plain_branch s.right.value)) c.walk.new.visitor c.walk-in-Split.new.visitor = rw (← on_right, ← c.deref-in-Split-2.ensures) c.in_ok-walk-in-Split-2.ensures.visits in
+    rw s.is (visits_split step path kept s.split.col.0 s.split.v (plain_branch s.left.value) (plain_branch s.right.value) c.args.visitor.now c.walk.new.visitor c.walk-in-Split.new.visitor first second)

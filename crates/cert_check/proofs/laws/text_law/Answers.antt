@@ -1,5 +1,0 @@
-use Rattle.cert_check.proofs.TextLaws.{means_one}
-use Rattle.cert_check.proofs.laws.text_law.Goals as goal
-
-pub returns : goal.returns
-returns c = means_one

@@ -1,7 +1,0 @@
-use Rattle.std.proofs.Common.{subst, sym}
-use Rattle.cert_check.specs.Whole.{IsCertificate}
-use Rattle.cert_check.proofs.KeptLemmas.{certificate}
-use Rattle.cert_check.proofs.reading.Reading.into_cert.Goals as goal
-
-pub returns-clause-certificate : goal.returns-clause-certificate
-returns-clause-certificate c = subst IsCertificate (sym c.parts.ensures) (certificate c.args.self c.requires.ended c.requires.kept)

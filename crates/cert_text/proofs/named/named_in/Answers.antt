@@ -1,0 +1,18 @@
+use Rattle.std.proofs.Common.{map, ap, sym, ◌∙◌, arith}
+use Rattle.std.proofs.lemmas.Grind.{common_steps}
+use Rattle.cert_text.specs.Lines.{named_in}
+use Rattle.cert_text.specs.Reading.{joined_items}
+use Rattle.cert_text.proofs.NamedLemmas.{joined-nothing, joined-form, named_in-odd}
+use Rattle.cert_text.proofs.named.named_in.Goals as goal
+
+pub loop-rest-init : goal.loop-rest-init
+loop-rest-init c =
+    let said = named_in (map (λ word. word.now) c.args.words.now) in
+    joined-nothing said ∙ (λ i. joined_items (sym c.new-gathered.ensures.least i) (sym c.new-gathered.ensures.items i) said)
+
+pub returns-else-is_empty : goal.returns-else-is_empty
+returns-else-is_empty c =
+    let g = c.loop-rest.gathered in
+    c.loop-rest.invariant
+    ∙ ap (joined_items g.least g.items) (named_in-odd c.loop-rest.rest.now (grind (arith, common_steps)) (grind (arith, common_steps)))
+    ∙ joined-form g.least g.items g.high

@@ -1,0 +1,197 @@
+-- The lines of a certificate's text, and what each says by itself, or the least code of its own faults:
+--     2   its first word is unknown, or it begins with a blank
+--     3   its form: the words behind the first one, a blank at its end, or a split's number that is not whole
+--     4   no number stands where one is due
+--     5   a number is too wide, or a split's is 2^127 - 1
+use Rattle.std.specs.Prelude.{ℕ, ◌-◌, ◌^◌, Bool, true, false, ◌||◌, if◌then◌else◌, ◌==◌, min, List, [], ◌∷◌, length, get_or, codes, pos, bytes_eq, Option, None, Some, Result, Ok, Err}
+use Rattle.std.specs.Ordering.{int_eq}
+use Rattle.std.specs.List.{slice_split, filter}
+use Rattle.rational.specs.Rational.{ℚ, den}
+use Rattle.frac_text.specs.Spelling.{reading_of}
+use Rattle.frac_text.specs.Parsing.{parsed}
+use Rattle.frac_text.specs.declared.parsing.NumFault.{NumFault}
+use Rattle.frac_text.specs.declared.parsing.NumFault.TheVariants.{NotNumber, Wide}
+use Rattle.lp_model.specs.Edits.{Named}
+use Rattle.cert_text.specs.declared.cert.Claim.TheVariants.{Optimal, Infeasible}
+use Rattle.cert_text.specs.declared.cert.CertMult.{CertMult}
+use Rattle.cert_text.specs.declared.cert.CertMult.TheVariants.{Row}
+use Rattle.cert_text.specs.declared.cert.CertNode.{CertNode}
+use Rattle.cert_text.specs.declared.cert.CertNode.TheVariants.{Split, Bound, Farkas, Empty}
+use Rattle.cert_text.specs.declared.line.LineWord.{LineWord}
+use Rattle.cert_text.specs.declared.line.LineWord.TheVariants as word
+use Rattle.cert_text.specs.declared.line.Statement.{Statement}
+use Rattle.cert_text.specs.declared.line.Statement.TheVariants as says
+use Rattle.frac_text.specs.Parsing.{spelled_number}
+
+-- ---- lines and words
+
+abbrev pub is_newline : ℕ → Bool
+is_newline byte = byte == 10
+
+abbrev pub is_blank : ℕ → Bool
+is_blank byte = byte == 32 || byte == 9
+
+abbrev pub is_nothing : List ℕ → Bool
+is_nothing [] = true
+is_nothing (byte ∷ bytes) = false
+
+abbrev pub is_piece : List ℕ → Bool
+is_piece [] = false
+is_piece (byte ∷ bytes) = true
+
+-- the pieces between newlines are the lines: what follows the last newline is one only where it has a byte
+abbrev pub without_last : List (List ℕ) → List (List ℕ)
+without_last [] = []
+without_last (piece ∷ []) = if is_nothing piece then [] else piece ∷ []
+without_last (piece ∷ next ∷ more) = piece ∷ without_last (next ∷ more)
+
+unfoldable pub lines_of : List ℕ → List (List ℕ)
+lines_of text = without_last (slice_split is_newline text)
+
+-- the pieces between blanks and tabs
+unfoldable pub words_of : List ℕ → List (List ℕ)
+words_of line = filter is_piece (slice_split is_blank line)
+
+-- the first byte is a blank, the last one is
+abbrev pub begins_blank : List ℕ → Bool
+begins_blank line = is_blank (get_or line 0 0)
+
+abbrev pub ends_blank : List ℕ → Bool
+ends_blank line = is_blank (get_or line (length line - 1) 0)
+
+-- ---- numbers
+
+abbrev pub number_code : NumFault → ℕ
+number_code NotNumber = 4
+number_code Wide = 5
+
+-- the lesser of a code and that of what follows, if it has one
+abbrev pub least_code : {A : Type 0} → ℕ → Result A ℕ → ℕ
+least_code code (Ok rest) = code
+least_code code (Err other) = min code other
+
+abbrev pub with_named : List ℕ → ℚ → Result Named ℕ → Result Named ℕ
+with_named name x (Ok named) = Ok ((name, x) ∷ named)
+with_named name x (Err code) = Err code
+
+-- a number beside a name, in front of others
+abbrev pub beside : List ℕ → Result ℚ NumFault → Result Named ℕ → Result Named ℕ
+beside name (Ok x) rest = with_named name x rest
+beside name (Err fault) rest = Err (least_code (number_code fault) rest)
+
+-- `NAME V` any number of times
+abbrev pub named_in : List (List ℕ) → Result Named ℕ
+named_in [] = Ok []
+named_in (name ∷ []) = Err 3
+named_in (name ∷ number ∷ more) = beside name (spelled_number number) (named_in more)
+
+abbrev pub row_mult : List ℕ → Result ℚ NumFault → Result CertMult ℕ
+row_mult name (Ok v) = Ok (Row name v)
+row_mult name (Err fault) = Err (number_code fault)
+
+-- a multiplier in front of others
+abbrev pub with_mult : Result CertMult ℕ → Result (List CertMult) ℕ → Result (List CertMult) ℕ
+with_mult (Ok mult) (Ok mults) = Ok (mult ∷ mults)
+with_mult (Ok mult) (Err code) = Err code
+with_mult (Err code) rest = Err (least_code code rest)
+
+-- `row NAME V` any number of times
+abbrev pub rows_in : List (List ℕ) → Result (List CertMult) ℕ
+rows_in (key ∷ name ∷ number ∷ more) = if bytes_eq key (codes "row") then with_mult (row_mult name (spelled_number number)) (rows_in more) else Err 3
+rows_in [] = Ok []
+rows_in words = Err 3
+
+-- ---- what the words behind the first one say
+
+-- `cert 1`
+abbrev pub cert_says : List (List ℕ) → Result Statement ℕ
+cert_says (version ∷ []) = if bytes_eq version (codes "1") then Ok says.Header else Err 3
+cert_says words = Err 3
+
+abbrev pub claimed : Result ℚ NumFault → Result Statement ℕ
+claimed (Ok v) = Ok (says.Claims (Optimal v))
+claimed (Err fault) = Err (number_code fault)
+
+-- `claim infeasible` and `claim optimal V`
+abbrev pub claim_says : List (List ℕ) → Result Statement ℕ
+claim_says (kind ∷ []) = if bytes_eq kind (codes "infeasible") then Ok (says.Claims Infeasible) else Err 3
+claim_says (kind ∷ number ∷ []) = if bytes_eq kind (codes "optimal") then claimed (spelled_number number) else Err 3
+claim_says words = Err 3
+
+abbrev pub as_point : Result Named ℕ → Result Statement ℕ
+as_point (Ok named) = Ok (says.Point named)
+as_point (Err code) = Err code
+
+-- `ray [NAME V]..`
+abbrev pub as_ray : Result Named ℕ → Result Statement ℕ
+as_ray (Ok named) = Ok (says.Ray named)
+as_ray (Err code) = Err code
+
+abbrev pub is_whole : ℚ → Bool
+is_whole x = den x == 1
+
+abbrev pub split_at : List ℕ → Result ℚ NumFault → Result Statement ℕ
+split_at name (Ok x) = if is_whole x then if int_eq x.num (pos (2 ^ 127 - 1)) then Err 5 else Ok (says.Node (Split name x.num)) else Err 3
+split_at name (Err fault) = Err (number_code fault)
+
+-- `split NAME V`
+abbrev pub split_says : List (List ℕ) → Result Statement ℕ
+split_says (name ∷ number ∷ []) = split_at name (spelled_number number)
+split_says words = Err 3
+
+abbrev pub as_leaf : (List CertMult → CertNode) → Result (List CertMult) ℕ → Result Statement ℕ
+as_leaf leaf (Ok mults) = Ok (says.Node (leaf mults))
+as_leaf leaf (Err code) = Err code
+
+-- `leaf bound [row NAME V]..`, `leaf farkas [row NAME V]..` and `leaf empty`
+abbrev pub empty_says : List (List ℕ) → Result Statement ℕ
+empty_says [] = Ok (says.Node Empty)
+empty_says words = Err 3
+
+abbrev pub leaf_says : List (List ℕ) → Result Statement ℕ
+leaf_says [] = Err 3
+leaf_says (kind ∷ words) =
+    if bytes_eq kind (codes "bound") then as_leaf Bound (rows_in words)
+    else if bytes_eq kind (codes "farkas") then as_leaf Farkas (rows_in words)
+    else if bytes_eq kind (codes "empty") then empty_says words
+    else Err 3
+
+abbrev pub end_says : List (List ℕ) → Result Statement ℕ
+end_says [] = Ok says.End
+end_says words = Err 3
+
+-- ---- what a line says
+
+-- words of certificates of other kinds stand in none of this one
+abbrev pub word_of : List ℕ → Option LineWord
+word_of first =
+    if bytes_eq first (codes "cert") then Some word.Cert
+    else if bytes_eq first (codes "claim") then Some word.Claim
+    else if bytes_eq first (codes "point") then Some word.Point
+    else if bytes_eq first (codes "split") then Some word.Split
+    else if bytes_eq first (codes "leaf") then Some word.Leaf
+    else if bytes_eq first (codes "end") then Some word.End
+    else if bytes_eq first (codes "ray") then Some word.Ray
+    else if bytes_eq first (codes "front") || bytes_eq first (codes "outcome") || bytes_eq first (codes "tree") then Some word.Foreign
+    else None
+
+abbrev pub word_says : LineWord → List (List ℕ) → Result Statement ℕ
+word_says word.Cert words = cert_says words
+word_says word.Claim words = claim_says words
+word_says word.Point words = as_point (named_in words)
+word_says word.Split words = split_says words
+word_says word.Leaf words = leaf_says words
+word_says word.End words = end_says words
+word_says word.Ray words = as_ray (named_in words)
+word_says word.Foreign words = Ok says.Foreign
+
+abbrev pub known_says : Option LineWord → Bool → List (List ℕ) → Result Statement ℕ
+known_says None blank words = Err 2
+known_says (Some known) blank words = if blank then Err 3 else word_says known words
+
+abbrev pub words_say : Bool → List (List ℕ) → Result Statement ℕ
+words_say blank [] = Err 2
+words_say blank (first ∷ words) = known_says (word_of first) blank words
+
+unfoldable pub line_says : List ℕ → Result Statement ℕ
+line_says line = if begins_blank line then Err 2 else words_say (ends_blank line) (words_of line)

@@ -1,0 +1,56 @@
+-- Which certificates are judged: those that a text states.
+use Rattle.std.specs.Prelude.{◌≡◌, ℕ, zero, suc, List, [], ◌∷◌, All, pos, ◌+ℤ◌, Option, Some, None}
+use Rattle.frac128.specs.Range.{IsNarrow}
+use Rattle.lp_model.specs.Edits.{Named}
+use Rattle.cert_text.specs.declared.cert.Claim.{Claim}
+use Rattle.cert_text.specs.declared.cert.Claim.TheVariants.{Optimal, Infeasible}
+use Rattle.cert_text.specs.declared.cert.CertNode.{CertNode}
+use Rattle.cert_text.specs.declared.cert.CertNode.TheVariants as node
+use Rattle.cert_text.specs.declared.cert.Cert.{Cert}
+use Rattle.cert_text.specs.declared.line.Statement.{Statement}
+use Rattle.cert_text.specs.declared.line.Statement.TheVariants as says
+use Rattle.cert_text.specs.Tree.{CertTree, certificate_nodes}
+
+-- a fraction has room for both numbers of a split
+abbrev pub IsNarrowNode : CertNode → Type 0
+IsNarrowNode (node.Split col v) = IsNarrow v × IsNarrow (v +ℤ pos 1)
+IsNarrowNode (node.Bound mults) = Unit {0}
+IsNarrowNode (node.Farkas mults) = Unit {0}
+IsNarrowNode node.Empty = Unit {0}
+
+abbrev pub HasNoPoint : Claim → Named → Type 0
+HasNoPoint (Optimal v) named = Unit {0}
+HasNoPoint Infeasible named = named ≡ []
+
+-- the nodes are one whole tree, splits have room, and a claim that no point is feasible has none
+pub record IsCertificate (cert : Cert) : Type 0 where
+  pub tree : CertTree
+  pub nodes : certificate_nodes tree ≡ cert.nodes
+  pub narrow : All IsNarrowNode cert.nodes
+  pub point : HasNoPoint cert.claim cert.point
+
+-- ---- on the way through a text
+
+abbrev pub IsNarrowStatement : Statement → Type 0
+IsNarrowStatement (says.Node n) = IsNarrowNode n
+IsNarrowStatement says.Header = Unit {0}
+IsNarrowStatement (says.Claims claim) = Unit {0}
+IsNarrowStatement (says.Point named) = Unit {0}
+IsNarrowStatement says.End = Unit {0}
+IsNarrowStatement (says.Ray named) = Unit {0}
+IsNarrowStatement says.Foreign = Unit {0}
+
+-- each node stands where one of some trees is still due
+abbrev pub TakesAll : ℕ → List CertNode → Type 0
+TakesAll due [] = Unit {0}
+TakesAll zero (n ∷ nodes) = ⊥
+TakesAll (suc due) (node.Split col v ∷ nodes) = TakesAll (suc (suc due)) nodes
+TakesAll (suc due) (node.Bound mults ∷ nodes) = TakesAll due nodes
+TakesAll (suc due) (node.Farkas mults ∷ nodes) = TakesAll due nodes
+TakesAll (suc due) (node.Empty ∷ nodes) = TakesAll due nodes
+
+-- there is a point only where a value is claimed
+abbrev pub IsPointed : Option Claim → Option Named → Type 0
+IsPointed (Some (Optimal v)) point = Unit {0}
+IsPointed (Some Infeasible) point = point ≡ None
+IsPointed None point = point ≡ None

@@ -1,0 +1,279 @@
+// What one line of a certificate's text says.
+ghost use Rattle.std.specs.Prelude.{◌≡◌, map, IfOk, Ok};
+ghost use Rattle.cert_text.specs.Lines.{is_blank, words_of, begins_blank, ends_blank, is_whole, word_of, named_in, as_point, as_ray, cert_says, claim_says, split_at, split_says, leaf_says, end_says, word_says, words_say, line_says};
+ghost use Rattle.cert_text.specs.Reading.{Says};
+ghost use Rattle.cert_text.specs.Whole.{IsNarrowStatement};
+
+use crate::cert::{CertNode, Claim};
+use crate::named::{named_in, number_code, rows_in};
+use frac128::Frac;
+use lp_model::{List, Name};
+use std::alloc::{AllocError, Global};
+
+/// The first words that there are.
+#[derive(Clone, Copy, Debug, PartialEq, Eq)]
+pub enum LineWord {
+    Cert,
+    Claim,
+    Point,
+    Split,
+    Leaf,
+    End,
+    /// A ray's numbers, which no certificate of this kind has.
+    Ray,
+    /// A word of certificates of other kinds.
+    Foreign,
+}
+
+/// What a line says.
+#[derive(Drop)]
+pub enum Statement {
+    Header,
+    Claims(Claim),
+    Point(List<(Name, Frac)>),
+    Node(CertNode),
+    End,
+    /// The numbers of a ray beside names of columns: it has no place in a certificate of this kind.
+    Ray(List<(Name, Frac)>),
+    /// Something else that has no place in a certificate of this kind.
+    Foreign,
+}
+
+/// Why a line says nothing.
+#[derive(Clone, Copy, Debug, Drop)]
+pub(crate) enum LineFault {
+    /// The least code of its faults, 2 to 5.
+    Code(u8),
+    /// There is no memory.
+    Memory,
+}
+
+impl From<AllocError> for LineFault {
+    ghost use Rattle.cert_text.specs.declared.line.LineFault.TheVariants.{Memory};
+
+    ghost from_gives = { λ _ fault. fault ≡ Memory };
+
+    fn from(_: AllocError) -> Self {
+        LineFault::Memory
+    }
+}
+
+fn is_blank_byte(byte: u8) -> bool
+    ensures { result ≡ is_blank byte }
+{
+    byte == b' ' || byte == b'\t'
+}
+
+/// Whether the line begins with a blank.
+fn begins_blank(line: &[u8]) -> bool
+    ensures { result ≡ begins_blank line.now }
+{
+    match line.first() {
+        Some(byte) => is_blank_byte(*byte),
+        None => false,
+    }
+}
+
+/// Whether the line ends with a blank.
+fn ends_blank(line: &[u8]) -> bool
+    ensures { result ≡ ends_blank line.now }
+{
+    match line.last() {
+        Some(byte) => is_blank_byte(*byte),
+        None => false,
+    }
+}
+
+/// The pieces between blanks and tabs.
+fn words(alloc: Global, line: &[u8]) -> Result<Vec<&[u8]>, AllocError>
+    ensures { IfOk result (λ words. map (λ word. word.now) words.items ≡ words_of line.now) }
+{
+    line.split(|byte| *byte == b' ' || *byte == b'\t')
+        .filter(|word| !word.is_empty())
+        .collect(alloc)
+}
+
+fn line_word(word: &[u8]) -> Option<LineWord>
+    ensures { result ≡ word_of word.now }
+{
+    if word == b"cert".as_slice() {
+        Some(LineWord::Cert)
+    } else if word == b"claim".as_slice() {
+        Some(LineWord::Claim)
+    } else if word == b"point".as_slice() {
+        Some(LineWord::Point)
+    } else if word == b"split".as_slice() {
+        Some(LineWord::Split)
+    } else if word == b"leaf".as_slice() {
+        Some(LineWord::Leaf)
+    } else if word == b"end".as_slice() {
+        Some(LineWord::End)
+    } else if word == b"ray".as_slice() {
+        Some(LineWord::Ray)
+    } else if word == b"front".as_slice()
+        || word == b"outcome".as_slice()
+        || word == b"tree".as_slice()
+    {
+        Some(LineWord::Foreign)
+    } else {
+        None
+    }
+}
+
+/// What `cert` with these further words says.
+fn cert_says(words: &[&[u8]]) -> Result<Statement, LineFault>
+    ensures says { Says (cert_says (map (λ word. word.now) words.now)) result }
+    ensures narrow { IfOk result IsNarrowStatement }
+{
+    match words {
+        [version] if *version == b"1".as_slice() => Ok(Statement::Header),
+        _ => Err(LineFault::Code(3)),
+    }
+}
+
+/// What `claim` with these further words says.
+fn claim_says(words: &[&[u8]]) -> Result<Statement, LineFault>
+    ensures says { Says (claim_says (map (λ word. word.now) words.now)) result }
+    ensures narrow { IfOk result IsNarrowStatement }
+{
+    match words {
+        [kind] if *kind == b"infeasible".as_slice() => Ok(Statement::Claims(Claim::Infeasible)),
+        [kind, number] if *kind == b"optimal".as_slice() => match frac_text::parse(number) {
+            Ok(value) => Ok(Statement::Claims(Claim::Optimal(value))),
+            Err(fault) => Err(LineFault::Code(number_code(fault))),
+        },
+        _ => Err(LineFault::Code(3)),
+    }
+}
+
+/// What `end` with these further words says.
+fn end_says(words: &[&[u8]]) -> Result<Statement, LineFault>
+    ensures says { Says (end_says (map (λ word. word.now) words.now)) result }
+    ensures narrow { IfOk result IsNarrowStatement }
+{
+    match words {
+        [] => Ok(Statement::End),
+        _ => Err(LineFault::Code(3)),
+    }
+}
+
+/// What `split` with these further words says.
+fn split_says(alloc: Global, words: &[&[u8]]) -> Result<Statement, LineFault>
+    ensures says { Says (split_says (map (λ word. word.now) words.now)) result }
+    ensures narrow { IfOk result IsNarrowStatement }
+{
+    let [name, number] = words else {
+        return Err(LineFault::Code(3));
+    };
+    match frac_text::parse(number) {
+        Ok(value) => split_at(alloc, name, &value),
+        Err(fault) => Err(LineFault::Code(number_code(fault))),
+    }
+}
+
+/// The split of a column at a number.
+fn split_at(alloc: Global, name: &[u8], value: &Frac) -> Result<Statement, LineFault>
+    ensures says { Says (split_at name.now (Ok value.now)) result }
+    ensures narrow { IfOk result IsNarrowStatement }
+{
+    if !is_whole(value) {
+        return Err(LineFault::Code(3));
+    }
+    value.has_room();
+    let v = value.numerator();
+    if v == i128::MAX {
+        return Err(LineFault::Code(5));
+    }
+    let col = Name::from_slice(alloc, name)?;
+    Ok(Statement::Node(CertNode::Split { col, v }))
+}
+
+fn is_whole(value: &Frac) -> bool
+    ensures { result ≡ is_whole value.now }
+{
+    value.denominator() == 1
+}
+
+/// What `leaf` with these further words says.
+fn leaf_says(alloc: Global, words: &[&[u8]]) -> Result<Statement, LineFault>
+    ensures says { Says (leaf_says (map (λ word. word.now) words.now)) result }
+    ensures narrow { IfOk result IsNarrowStatement }
+{
+    let [kind, more @ ..] = words else {
+        return Err(LineFault::Code(3));
+    };
+    if *kind == b"bound".as_slice() {
+        let mults = rows_in(alloc, more)?;
+        return Ok(Statement::Node(CertNode::Bound(mults)));
+    }
+    if *kind == b"farkas".as_slice() {
+        let mults = rows_in(alloc, more)?;
+        return Ok(Statement::Node(CertNode::Farkas(mults)));
+    }
+    if *kind == b"empty".as_slice() && more.is_empty() {
+        return Ok(Statement::Node(CertNode::Empty));
+    }
+    Err(LineFault::Code(3))
+}
+
+/// What `point` with these further words says.
+fn point_says(alloc: Global, words: &[&[u8]]) -> Result<Statement, LineFault>
+    ensures says { Says (as_point (named_in (map (λ word. word.now) words.now))) result }
+    ensures narrow { IfOk result IsNarrowStatement }
+{
+    let named = named_in(alloc, words)?;
+    Ok(Statement::Point(named))
+}
+
+/// What `ray` with these further words says.
+fn ray_says(alloc: Global, words: &[&[u8]]) -> Result<Statement, LineFault>
+    ensures says { Says (as_ray (named_in (map (λ word. word.now) words.now))) result }
+    ensures narrow { IfOk result IsNarrowStatement }
+{
+    let named = named_in(alloc, words)?;
+    Ok(Statement::Ray(named))
+}
+
+/// What a known first word with these further words says.
+fn word_says(alloc: Global, word: LineWord, words: &[&[u8]]) -> Result<Statement, LineFault>
+    ensures says { Says (word_says word (map (λ word. word.now) words.now)) result }
+    ensures narrow { IfOk result IsNarrowStatement }
+{
+    match word {
+        LineWord::Cert => cert_says(words),
+        LineWord::Claim => claim_says(words),
+        LineWord::Point => point_says(alloc, words),
+        LineWord::Split => split_says(alloc, words),
+        LineWord::Leaf => leaf_says(alloc, words),
+        LineWord::End => end_says(words),
+        LineWord::Ray => ray_says(alloc, words),
+        LineWord::Foreign => Ok(Statement::Foreign),
+    }
+}
+
+/// What words say, in a line that ends with a blank or not.
+fn words_say(alloc: Global, blank: bool, words: &[&[u8]]) -> Result<Statement, LineFault>
+    ensures says { Says (words_say blank (map (λ word. word.now) words.now)) result }
+    ensures narrow { IfOk result IsNarrowStatement }
+{
+    let [first, more @ ..] = words else {
+        return Err(LineFault::Code(2));
+    };
+    match line_word(first) {
+        None => Err(LineFault::Code(2)),
+        Some(_) if blank => Err(LineFault::Code(3)),
+        Some(word) => word_says(alloc, word, more),
+    }
+}
+
+/// What a line says by itself.
+pub(crate) fn line_says(alloc: Global, line: &[u8]) -> Result<Statement, LineFault>
+    ensures says { Says (line_says line.now) result }
+    ensures narrow { IfOk result IsNarrowStatement }
+{
+    if begins_blank(line) {
+        return Err(LineFault::Code(2));
+    }
+    let words = words(alloc, line)?;
+    words_say(alloc, ends_blank(line), &words)
+}

@@ -1,5 +1,0 @@
-use Rattle.dual_simplex.proofs.SideLemmas.{over_decided}
-use Rattle.dual_simplex.proofs.sides.is_over.Goals as goal
-
-pub returns-in-Some : goal.returns-in-Some
-returns-in-Some c = over_decided c.args.high.now c.in-Some.bound c.args.value.now c.is_below.result c.in-Some.is c.is_below.ensures

@@ -1,0 +1,5 @@
+pub mod JudgeLemmas
+pub mod QueueLemmas
+pub mod QueueLists
+pub mod NumberLemmas
+pub mod MarkLemmas

@@ -1,0 +1,25 @@
+use Rattle.std.proofs.Common.{◌≡◌, ap, length, ◌∙◌, sym, subst, true, false, eqb}
+use Rattle.std.specs.Prelude.{Ok, Err}
+use Rattle.lp_model.specs.Formulations.{without_cuts}
+use Rattle.leaf_dual.specs.Dual.{Multipliers}
+use Rattle.leaf_dual.specs.Answers.{IsFarkasAnswer}
+use Rattle.leaf_judging.proofs.JudgeLemmas.{refuted-ok, refuted-wide}
+use Rattle.leaf_judging.proofs.closing.is_refuted.Goals as goal
+
+pub returns-in-Ok : goal.returns-in-Ok
+returns-in-Ok c =
+    let F = without_cuts c.args.model.now in
+    let path = c.args.path.now in
+    let mult = c.args.mult.now in
+    let answer = subst (λ (ms : Multipliers). IsFarkasAnswer F path ms (Ok c.in-Ok.value)) c.as_slice-2.ensures c.in-Ok.ensures in
+    refuted-ok F path mult
+    (λ none. let f : false ≡ true = sym c.if-is_empty.false ∙ c.is_empty.ensures ∙ ap (λ n. eqb n 0) (ap length (c.as_slice.ensures ∙ none)) in cc)
+    c.in-Ok.value answer c.is_positive.result c.is_positive.ensures
+
+pub returns-in-Err : goal.returns-in-Err
+returns-in-Err c =
+    let F = without_cuts c.args.model.now in
+    let path = c.args.path.now in
+    let mult = c.args.mult.now in
+    let answer = subst (λ (ms : Multipliers). IsFarkasAnswer F path ms (Err c.in-Err.field-0)) c.as_slice-2.ensures c.in-Err.ensures in
+    ((λ h. cc), (λ h. absurd (refuted-wide F path mult c.in-Err.field-0 answer h)))

@@ -1,0 +1,12 @@
+use Rattle.std.proofs.Common.{[], refl}
+use Rattle.branch_tree.proofs.NumberedLaws.{one_leaf}
+use Rattle.leaf_judging.specs.declared.judging.Numbering.{Numbering}
+use Rattle.leaf_judging.proofs.NumberLemmas.{numbered}
+use Rattle.leaf_judging.proofs.judging.numbers_of.Goals as goal
+
+pub returns : goal.returns
+returns c =
+    let T = c.args.tree.now in
+    let old : Numbering = record { model = c.args.model; numbers = c.new.result } in
+    let walk = numbered c.args.model.now [] T.root old c.visit_leaves.new.visitor refl (λ i. one_leaf T i c.visit_leaves.ensures.numbered) c.in_ok-visit_leaves.ensures.visits in
+    walk.1.0

@@ -1,0 +1,5 @@
+pub mod Closing
+pub mod Judged
+pub mod Choosing
+pub mod Queued
+pub mod Numbers

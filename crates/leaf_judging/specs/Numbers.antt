@@ -1,0 +1,68 @@
+-- The numbers of leaves, which are kept by their ids, and what a walk over a tree makes of them.
+use Rattle.std.specs.Prelude.{◌≡◌, ◌≢◌, ℕ, [], ◌∷◌, ◌++◌, Option, Some}
+use Rattle.std.specs.BTreeMap.{get}
+use Rattle.std.specs.Ordering.{nat_cmp}
+use Rattle.lp_model.specs.Regions.{Path}
+use Rattle.lp_model.specs.Formulations.{Formulation, without_cuts}
+use Rattle.branch_tree.specs.Tree.{EachLeaf}
+use Rattle.branch_tree.specs.Plain.{LeafKept, Plain}
+use Rattle.branch_tree.specs.declared.node.LeafState.{LeafState}
+use Rattle.branch_tree.specs.declared.node.RegionLeaf.{RegionLeaf}
+use Rattle.leaf_judging.specs.declared.closing.LeafNumber.{LeafNumber}
+use Rattle.leaf_judging.specs.declared.numbers.LeafNumbers.{LeafNumbers}
+use Rattle.leaf_judging.specs.declared.judging.Numbering.{Numbering}
+use Rattle.leaf_judging.specs.declared.judging.Marking.{Marking}
+use Rattle.leaf_judging.specs.Closing.{IsNumber, NumberCloses, StateSays}
+use Rattle.leaf_judging.specs.Choosing.{finite_number}
+use Rattle.leaf_judging.specs.Queued.{Adds, candidate_of}
+
+-- the number that is kept under an id
+unfoldable pub kept_number : LeafNumbers → ℕ → Option LeafNumber
+kept_number numbers id = get nat_cmp numbers.kept id
+
+-- under the id the new ones have n, and under each other what the old ones have
+abbrev pub PutsNumber : LeafNumbers → ℕ → LeafNumber → LeafNumbers → Type 0
+PutsNumber old id n new = (kept_number new id ≡ Some n) × ((i : ℕ) → i ≢ id → kept_number new i ≡ kept_number old i)
+
+-- under each other id the new ones have what the old ones have
+abbrev pub KeepsOtherNumbers : LeafNumbers → ℕ → LeafNumbers → Type 0
+KeepsOtherNumbers old id new = (i : ℕ) → i ≢ id → kept_number new i ≡ kept_number old i
+
+abbrev pub AreSameNumbers : LeafNumbers → LeafNumbers → Type 0
+AreSameNumbers old new = (i : ℕ) → kept_number new i ≡ kept_number old i
+
+-- under each id but two
+abbrev pub KeepsOtherTwo : LeafNumbers → ℕ → ℕ → LeafNumbers → Type 0
+KeepsOtherTwo old first second new = (i : ℕ) → i ≢ first → i ≢ second → kept_number new i ≡ kept_number old i
+
+abbrev pub HasBoth : LeafNumbers → ℕ → LeafNumber → ℕ → LeafNumber → Type 0
+HasBoth numbers first left second right = (kept_number numbers first ≡ Some left) × (kept_number numbers second ≡ Some right)
+
+-- ---- the numbers of a tree
+
+-- a leaf's number is kept under its id
+abbrev pub HasKept : Formulation → LeafNumbers → Path → LeafKept → Type 0
+HasKept F numbers path l = (n : LeafNumber) × ((kept_number numbers l.id ≡ Some n) × IsNumber F path l.kept.mult l.kept.farkas n)
+
+-- that of each leaf is
+abbrev pub AreNumbersOf : Formulation → Plain → LeafNumbers → Type 0
+AreNumbersOf F t numbers = EachLeaf (HasKept F numbers) [] t
+
+-- ---- one leaf of a walk
+
+-- its number is put down
+pub record NumbersLeaf (old : Numbering) (l : RegionLeaf) (new : Numbering) : Type 0 where
+  pub same : new.model.now ≡ old.model.now
+  pub number : LeafNumber
+  pub number_is : IsNumber (without_cuts old.model.now) l.region l.kept.mult l.kept.farkas number
+  pub puts : PutsNumber old.numbers l.id number new.numbers
+
+-- its state by the number that is kept goes behind the others, and it goes into the queue where it is open
+pub record MarksLeaf (old : Marking) (l : RegionLeaf) (new : Marking) : Type 0 where
+  pub same : new.against ≡ old.against
+  pub number : LeafNumber
+  pub number_is : (n : LeafNumber) → kept_number old.against.numbers.now l.id ≡ Some n → number ≡ n
+  pub state : LeafState
+  pub says : StateSays state (NumberCloses old.against.model.now old.against.target.now number)
+  pub states_are : new.states.items ≡ old.states.items ++ state ∷ []
+  pub queue_is : Adds old.queue (candidate_of state (finite_number number) l.id) new.queue

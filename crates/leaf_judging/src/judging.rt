@@ -1,0 +1,201 @@
+// Leaves judged, all of a tree: each leaf's number once, and its state by that number as often as the target changes.
+ghost use Rattle.std.specs.Prelude.{IfOk, OnOk, OnErr, ◌≡◌};
+ghost use Rattle.lp_model.specs.Regions.{AreNarrow};
+ghost use Rattle.lp_model.specs.Formulations.{without_cuts};
+ghost use Rattle.branch_tree.specs.Tree.{HasNarrowSplits};
+ghost use Rattle.branch_tree.specs.Leaves.{with_states};
+ghost use Rattle.leaf_judging.specs.Judged.{AreStates, JudgesAll};
+ghost use Rattle.leaf_judging.specs.Queued.{IsQueueOf};
+ghost use Rattle.leaf_judging.specs.Numbers.{AreNumbersOf};
+
+use crate::choosing::{as_candidate, rank};
+use crate::closing::{number_of, state_by};
+use crate::numbers::LeafNumbers;
+use crate::queue::LeafQueue;
+use branch_tree::{LeafData, LeafState, LeafVisitor, Tree};
+use frac128::Frac;
+use lp_model::{BoundChange, Model};
+use std::alloc::{AllocError, Global};
+
+/// Numbers of a model's leaves, put down one by one.
+#[derive(Drop)]
+pub(crate) struct Numbering<'a> {
+    pub(crate) model: &'a Model,
+    pub(crate) numbers: LeafNumbers,
+}
+
+impl Numbering<'_> {
+    ghost use Rattle.leaf_judging.specs.Numbers.{NumbersLeaf};
+
+    /// Puts down a leaf's number.
+    fn number_leaf(
+        &mut self,
+        id: u64,
+        path: &[BoundChange],
+        kept: &LeafData,
+    ) -> Result<(), AllocError>
+        requires { AreNarrow path.now }
+        ensures { OnOk result (NumbersLeaf self.old (record { id = id; region = path.now; kept = kept.now }) self.new) }
+    {
+        let number = number_of(self.model, path, &kept.mult, &kept.farkas);
+        self.numbers.put(id, &number)
+    }
+}
+
+impl LeafVisitor for Numbering<'_> {
+    ghost use Rattle.leaf_judging.specs.Numbers.{NumbersLeaf};
+
+    ghost step = { NumbersLeaf };
+
+    fn visit(&mut self, id: u64, path: &[BoundChange], kept: &LeafData) -> Result<(), AllocError> {
+        self.number_leaf(id, path, kept)
+    }
+}
+
+/// The number of each leaf of a tree.
+fn numbers_of(alloc: Global, model: &Model, tree: &Tree) -> Result<LeafNumbers, AllocError>
+    requires { HasNarrowSplits tree.now.root }
+    ensures { IfOk result (λ numbers. AreNumbersOf (without_cuts model.now) tree.now.root numbers) }
+{
+    let mut numbering = Numbering {
+        model,
+        numbers: LeafNumbers::new(alloc),
+    };
+    tree.visit_leaves(&mut numbering)?;
+    Ok(numbering.numbers)
+}
+
+/// What leaves are marked by: a model, the least value of the known points, if there are any, and the leaves' numbers.
+#[derive(Clone, Copy, Drop)]
+pub(crate) struct Against<'a> {
+    pub(crate) model: &'a Model,
+    pub(crate) target: &'a Option<Frac>,
+    pub(crate) numbers: &'a LeafNumbers,
+}
+
+/// States of leaves, one by one, and the queue of those that are open.
+#[derive(Drop)]
+pub(crate) struct Marking<'a> {
+    pub(crate) against: Against<'a>,
+    pub(crate) states: Vec<LeafState>,
+    pub(crate) queue: LeafQueue,
+}
+
+impl Marking<'_> {
+    ghost use Rattle.leaf_judging.specs.Numbers.{MarksLeaf};
+
+    /// Marks the leaf with the id by its number.
+    fn mark_leaf(
+        &mut self,
+        id: u64,
+        path: &[BoundChange],
+        kept: &LeafData,
+    ) -> Result<(), AllocError>
+        ensures { OnOk result (MarksLeaf self.old (record { id = id; region = path.now; kept = kept.now }) self.new) }
+    {
+        let number = self.against.numbers.number_or_minus(id);
+        let state = state_by(self.against.model, self.against.target, &number);
+        self.queue.add(&as_candidate(&state, rank(&number), id))?;
+        self.states.push(state)?;
+        Ok(())
+    }
+}
+
+impl LeafVisitor for Marking<'_> {
+    ghost use Rattle.leaf_judging.specs.Numbers.{MarksLeaf};
+
+    ghost step = { MarksLeaf };
+
+    fn visit(&mut self, id: u64, path: &[BoundChange], kept: &LeafData) -> Result<(), AllocError> {
+        self.mark_leaf(id, path, kept)
+    }
+}
+
+/// What a tree's leaves are by their numbers: their states, from left to right, and the queue of those that are open.
+#[derive(Drop)]
+pub struct Marks {
+    pub states: Vec<LeafState>,
+    pub queue: LeafQueue,
+}
+
+/// The leaves of a tree, judged by the numbers that are kept of them against a target: numbers are compared, and none is
+/// computed.
+pub fn judge_again(
+    alloc: Global,
+    model: &Model,
+    target: &Option<Frac>,
+    tree: &Tree,
+    numbers: &LeafNumbers,
+) -> Result<Marks, AllocError>
+    requires narrow { HasNarrowSplits tree.now.root }
+    requires numbers { AreNumbersOf (without_cuts model.now) tree.now.root numbers.now }
+    ensures states { IfOk result (λ m. AreStates (without_cuts model.now) target.now tree.now.root m.states.items) }
+    ensures queue { IfOk result (λ m. IsQueueOf (without_cuts model.now) (with_states m.states.items tree.now.root) m.queue) }
+{
+    let mut marking = Marking {
+        against: Against {
+            model,
+            target,
+            numbers,
+        },
+        states: Vec::new(alloc),
+        queue: LeafQueue::new(alloc),
+    };
+    tree.visit_leaves(&mut marking)?;
+    Ok(Marks {
+        states: marking.states,
+        queue: marking.queue,
+    })
+}
+
+/// What is kept of a tree's leaves beside it: their numbers, and the queue of those that are open.
+#[derive(Drop)]
+pub struct LeafIndex {
+    pub numbers: LeafNumbers,
+    pub queue: LeafQueue,
+}
+
+/// The leaves of a tree judged: their states, from left to right, and what is kept of them.
+#[derive(Drop)]
+pub struct Judged {
+    pub states: Vec<LeafState>,
+    pub index: LeafIndex,
+}
+
+/// The leaves of any tree that is handed in, judged against a target. Each number is computed once.
+pub fn judge_tree(
+    alloc: Global,
+    model: &Model,
+    target: &Option<Frac>,
+    tree: &Tree,
+) -> Result<Judged, AllocError>
+    requires { HasNarrowSplits tree.now.root }
+    ensures states { IfOk result (λ j. AreStates (without_cuts model.now) target.now tree.now.root j.states.items) }
+    ensures numbers { IfOk result (λ j. AreNumbersOf (without_cuts model.now) tree.now.root j.index.numbers) }
+    ensures queue { IfOk result (λ j. IsQueueOf (without_cuts model.now) (with_states j.states.items tree.now.root) j.index.queue) }
+{
+    let numbers = numbers_of(alloc, model, tree)?;
+    let Marks { states, queue } = judge_again(alloc, model, target, tree, &numbers)?;
+    Ok(Judged {
+        states,
+        index: LeafIndex { numbers, queue },
+    })
+}
+
+/// Judges each leaf of a tree, and answers what is kept of them. Where there is no memory the tree stays as it was.
+pub fn judge_all(
+    alloc: Global,
+    model: &Model,
+    target: &Option<Frac>,
+    tree: &mut Tree,
+) -> Result<LeafIndex, AllocError>
+    requires { HasNarrowSplits tree.old.root }
+    ensures judged { OnOk result (JudgesAll (without_cuts model.now) target.now tree.old tree.new) }
+    ensures numbers { IfOk result (λ index. AreNumbersOf (without_cuts model.now) tree.new.root index.numbers) }
+    ensures queue { IfOk result (λ index. IsQueueOf (without_cuts model.now) tree.new.root index.queue) }
+    ensures kept { OnErr result (tree.new ≡ tree.old) }
+{
+    let judged = judge_tree(alloc, model, target, tree)?;
+    tree.set_states(&judged.states);
+    Ok(judged.index)
+}

@@ -1,0 +1,35 @@
+//! Leaves judged: their numbers, whether they close, and which is worked first.
+//!
+//! A leaf has a region, multipliers and Farkas multipliers. With `lag` and `farkas` as in `leaf_dual`, and t the least value
+//! (least form) of the known points, its number is
+//!
+//! ```text
+//! Empty        where some column's bounds cross in the region, or farkas(region, its Farkas multipliers) > 0
+//! lag(region, its multipliers), or the first step of it that has no room, else
+//! ```
+//!
+//! and it closes where it is `Empty`, or `lag >= t`, or, for a whole objective and a whole t, the ceiling of `lag` is. A step
+//! of arithmetic without room counts as not closing.
+//!
+//! Public contract: `judge_tree` answers the state of each leaf of a tree by which it is marked closed exactly where it
+//! closes, the number of each, and the queue of the open ones in the order in which they are worked: the least number first,
+//! a leaf without one before all, of equals the least id (specs/Closing, Judged, Choosing, Queued, Numbers). The tree may be
+//! any that is handed in, so that a caller can judge the tree after a change before it makes the change. A number depends on
+//! the model, the region and the multipliers alone, so it is kept under the leaf's id, and for another target `judge_again`
+//! compares the numbers that are kept, and computes none. What is taken grows as the tree does.
+//!
+//! Below stand the trees (`branch_tree`), the numbers of multipliers (`leaf_dual`) and the models (`lp_model`). Above stands
+//! the search, which keeps numbers and queue beside its tree.
+#![tactic(auto)]
+
+mod choosing;
+mod closing;
+mod judging;
+mod numbers;
+mod queue;
+
+pub use choosing::{Candidate, as_candidate, rank};
+pub use closing::{LeafNumber, number_closes, number_of, state_by};
+pub use judging::{Judged, LeafIndex, Marks, judge_again, judge_all, judge_tree};
+pub use numbers::LeafNumbers;
+pub use queue::LeafQueue;

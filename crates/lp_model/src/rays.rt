@@ -1,0 +1,148 @@
+// Whether a direction is a ray, and the model without costs.
+ghost use Rattle.std.specs.Prelude.{◌≡◌, ◌≢◌, ◌↔◌, length, map, pos, None, IsTrue, IfOk};
+ghost use Rattle.rational.specs.Rational.{int, ◌≤ℚ◌};
+ghost use Rattle.lp_model.specs.Rays.{GoesOn, ColumnsGoOn, AreRowsJudged, IsDirectionCostAnswer, IsRayJudged, without_cost, without_costs};
+
+use crate::list::List;
+use crate::model::{Model, copy_rows};
+use crate::names::copy_name;
+use crate::types::{Bound, Col, Point, WideStep};
+use frac128::Frac;
+use std::alloc::{AllocError, Global};
+
+/// Whether a number is at least 0 where there is a low side.
+fn stays_above(low: &Bound, number: &Frac) -> bool
+    ensures { IsTrue result ↔ (low.now ≢ None → int (pos 0) ≤ℚ number.now) }
+{
+    match low {
+        Some(_) => !number.is_negative(),
+        None => true,
+    }
+}
+
+/// Whether a number is at most 0 where there is a high side.
+fn stays_below(high: &Bound, number: &Frac) -> bool
+    ensures { IsTrue result ↔ (high.now ≢ None → number.now ≤ℚ int (pos 0)) }
+{
+    match high {
+        Some(_) => !number.is_positive(),
+        None => true,
+    }
+}
+
+/// Whether neither side is ever passed by adding the number again and again.
+fn goes_on(low: &Bound, high: &Bound, number: &Frac) -> bool
+    ensures { IsTrue result ↔ GoesOn low.now high.now number.now }
+{
+    stays_above(low, number) && stays_below(high, number)
+}
+
+impl Col {
+    /// Whether a direction may have the number in the column: 0 where the column is integer, and no bound is ever passed.
+    fn goes_on(&self, number: &Frac) -> bool
+        ensures { IsTrue result ↔ (IsTrue self.now.int → number.now ≡ int (pos 0)) × GoesOn self.now.lo self.now.up number.now }
+    {
+        (!self.int || number.is_zero()) && goes_on(&self.lo, &self.up, number)
+    }
+
+    /// The column with the cost 0 in objective 1.
+    fn without_cost(&self) -> Result<Col, AllocError>
+        ensures { IfOk result (λ c. c ≡ without_cost self.now) }
+    {
+        let mut col = self.clone()?;
+        col.cost = Frac::whole(0);
+        Ok(col)
+    }
+}
+
+/// The columns with costs 0 in objective 1.
+fn cols_without_costs(alloc: Global, cols: &[Col]) -> Result<List<Col>, AllocError>
+    ensures { IfOk result (λ l. l ≡ map without_cost cols.now) }
+{
+    let mut list = List::new(alloc);
+    for col in cols {
+        list.push(col.without_cost()?)?;
+    }
+    Ok(list)
+}
+
+impl Model {
+    /// What objective 1 gains by a direction, in least form and without the constant, or the first step that has no room.
+    pub fn direction_cost(&self, direction: &Point) -> Result<Frac, WideStep>
+        ensures { IsDirectionCostAnswer self.now direction.now result }
+    {
+        match self.costs_from(&Frac::whole(0), 1, direction) {
+            Ok(cost) => Ok(self.sense().least_form(&cost)),
+            Err(step) => Err(step),
+        }
+    }
+
+    /// Whether each column may go on along a direction.
+    fn columns_go_on(&self, direction: &Point) -> bool
+        requires { length direction.now ≡ length self.now.cols }
+        ensures { IsTrue result ↔ ColumnsGoOn self.now direction.now }
+    {
+        let numbers = direction.as_slice();
+        for (index, col) in self.cols().iter().enumerate() {
+            if !col.goes_on(&numbers[index]) {
+                return false;
+            }
+        }
+        true
+    }
+
+    /// Whether each row goes on along a direction: the first that does not, or step without room, decides.
+    fn rows_go_on(&self, direction: &Point) -> Result<bool, WideStep>
+        ensures { AreRowsJudged self.now direction.now result }
+    {
+        for (index, row) in self.rows().iter().enumerate() {
+            match self.activity(index as u32, direction) {
+                Err(step) => return Err(step),
+                Ok(activity) => {
+                    if !goes_on(&row.lo, &row.hi, &activity) {
+                        return Ok(false);
+                    }
+                }
+            }
+        }
+        Ok(true)
+    }
+
+    /// Whether the direction is a ray: one number for each column, 0 where it is integer, no side and no bound ever passed,
+    /// and an objective 1 that improves. Columns come first, then rows, then the cost: the first breach or step without room
+    /// decides.
+    pub fn is_ray(&self, direction: &Point) -> Result<bool, WideStep>
+        ensures { IsRayJudged self.now direction.now result }
+    {
+        if direction.as_slice().len() != self.cols().len() {
+            return Ok(false);
+        }
+        if !self.columns_go_on(direction) {
+            return Ok(false);
+        }
+        match self.rows_go_on(direction) {
+            Err(step) => return Err(step),
+            Ok(false) => return Ok(false),
+            Ok(true) => {}
+        }
+        match self.direction_cost(direction) {
+            Err(step) => Err(step),
+            Ok(cost) => Ok(cost.is_negative()),
+        }
+    }
+
+    /// The model with costs 0 in objective 1. Its constants and objective 2 stay.
+    pub fn without_costs(&self, alloc: Global) -> Result<Model, AllocError>
+        ensures { IfOk result (λ m. m ≡ without_costs self.now) }
+    {
+        Ok(Model {
+            sense: self.sense,
+            obj: copy_name(&self.obj)?,
+            obj2: copy_name(&self.obj2)?,
+            consts: self.consts,
+            rows: copy_rows(&self.rows)?,
+            cols: cols_without_costs(alloc, self.cols.as_slice())?,
+            wide: self.wide,
+        })
+    }
+}

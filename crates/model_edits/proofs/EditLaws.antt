@@ -1,0 +1,92 @@
+-- An edit fits, or has one first fault.
+use Rattle.std.specs.Prelude.{◌≡◌, ℕ, ◌<◌, Bool, List, length, get_or, take, All, Contains}
+use Rattle.std.proofs.Common.{sym, ap, subst, ◌∙◌, arith, inl, inr}
+use Rattle.std.proofs.lemmas.Bool.{cases_order}
+use Rattle.std.proofs.lemmas.List.{get_or-take, get_or_default, length-take-le}
+use Rattle.lp_model.specs.Program.{Program}
+use Rattle.lp_model.specs.Lawful.{AreWithinLimits}
+use Rattle.lp_model.specs.Edits.{AreKnown, EditFits}
+use Rattle.model_edits.specs.Faults.{IsFirstUnknown, IsNoSuch, PassesLimit, EditBad}
+use Rattle.lp_model.specs.declared.types.Edit.{Edit}
+use Rattle.model_edits.specs.declared.faults.EditFault.{EditFault}
+use Rattle.model_edits.specs.declared.faults.EditFault.TheVariants.{NoSuch, Duplicate, Limit, IntegerUnbounded, Ranged, Memory}
+
+unknown-not_known : (known names : List (List ℕ)) (name : List ℕ) → IsFirstUnknown known names name → ¬ All (Contains known) names
+unknown-not_known known names name u all = u.unknown (subst (Contains known) (sym u.is) (all u.place name u.within))
+
+no_such-not_known : (M : Program) (e : Edit) (name : List ℕ) → IsNoSuch M e name → ¬ AreKnown M e
+no_such-not_known M e name (inl h) known = h.0 known.0
+no_such-not_known M e name (inr h) known = unknown-not_known _ _ name h.1 known.1
+
+limit-not_within : (wide : Bool) (r c e n : ℕ) → PassesLimit wide r c e n → ¬ AreWithinLimits wide r c e
+limit-not_within wide r c e n (inl h) k = let x = h.0 in let y = k.few_rows in absurd (omega arith)
+limit-not_within wide r c e n (inr (h, inl g)) k = let x = g.0 in let y = k.few_columns in absurd (omega arith)
+limit-not_within wide r c e n (inr (h, inr g)) k = let x = g.1 in let y = k.few_entries in absurd (omega arith)
+
+-- an edit that fits has no fault
+pub fits-not_bad : (M : Program) (e : Edit) (f : EditFault) → EditFits M e → ¬ EditBad M e f
+fits-not_bad M e (NoSuch name) fits bad = no_such-not_known M e name bad fits.known
+fits-not_bad M e (Duplicate name) fits bad = fits.free bad.1
+fits-not_bad M e (Limit n) fits bad = limit-not_within M.wide _ _ _ n bad.2 fits.limits
+fits-not_bad M e (IntegerUnbounded name) fits bad = bad.3 fits.bounded
+fits-not_bad M e (Ranged name) fits bad = bad.4 fits.range
+fits-not_bad M e Memory fits bad = bad
+
+earlier_known : (known names : List (List ℕ)) (a b : List ℕ) (p : IsFirstUnknown known names a) (q : IsFirstUnknown known names b) → ¬ (p.place < q.place)
+earlier_known known names a b p q below =
+    let long : length (take q.place names) ≡ q.place = length-take-le q.place names (let h = q.within in omega arith) in
+    let inside : p.place < length (take q.place names) = omega arith in
+    let same : get_or (take q.place names) p.place a ≡ a = get_or-take q.place names p.place a below ∙ sym p.is in
+    p.unknown (subst (Contains known) same (q.before p.place a inside))
+
+unknown_unique : (known names : List (List ℕ)) (a b : List ℕ) → IsFirstUnknown known names a → IsFirstUnknown known names b → a ≡ b
+unknown_unique known names a b p q =
+    elim (cases_order p.place q.place) [
+      | inl e ↦ p.is ∙ get_or_default names p.place a b p.within ∙ ap (λ k. get_or names k b) e ∙ sym q.is
+      | inr apart ↦ elim apart [ inl below ↦ absurd (earlier_known known names a b p q below) | inr above ↦ absurd (earlier_known known names b a q p above) ]
+    ]
+
+no_such_unique : (M : Program) (e : Edit) (a b : List ℕ) → IsNoSuch M e a → IsNoSuch M e b → a ≡ b
+no_such_unique M e a b (inl p) (inl q) = p.1 ∙ sym q.1
+no_such_unique M e a b (inl p) (inr q) = absurd (p.0 q.0)
+no_such_unique M e a b (inr p) (inl q) = absurd (q.0 p.0)
+no_such_unique M e a b (inr p) (inr q) = unknown_unique _ _ a b p.1 q.1
+
+limit_unique : (wide : Bool) (r c e m n : ℕ) → PassesLimit wide r c e m → PassesLimit wide r c e n → m ≡ n
+limit_unique wide r c e m n (inl h) (inl k) = h.1 ∙ sym k.1
+limit_unique wide r c e m n (inl h) (inr k) = let x = h.0 in let y = k.0 in absurd (omega arith)
+limit_unique wide r c e m n (inr h) (inl k) = let x = h.0 in let y = k.0 in absurd (omega arith)
+limit_unique wide r c e m n (inr (h, inl g)) (inr (k, inl l)) = g.1 ∙ sym l.1
+limit_unique wide r c e m n (inr (h, inl g)) (inr (k, inr l)) = let x = g.0 in let y = l.0 in absurd (omega arith)
+limit_unique wide r c e m n (inr (h, inr g)) (inr (k, inl l)) = let x = g.0 in let y = l.0 in absurd (omega arith)
+limit_unique wide r c e m n (inr (h, inr g)) (inr (k, inr l)) = g.2 ∙ sym l.2
+
+-- an edit has one first fault
+pub bad_unique : (M : Program) (e : Edit) (f g : EditFault) → EditBad M e f → EditBad M e g → f ≡ g
+bad_unique M e (NoSuch a) (NoSuch b) p q = ap NoSuch (no_such_unique M e a b p q)
+bad_unique M e (NoSuch a) (Duplicate b) p q = absurd (no_such-not_known M e a p q.0)
+bad_unique M e (NoSuch a) (Limit n) p q = absurd (no_such-not_known M e a p q.0)
+bad_unique M e (NoSuch a) (IntegerUnbounded b) p q = absurd (no_such-not_known M e a p q.0)
+bad_unique M e (NoSuch a) (Ranged b) p q = absurd (no_such-not_known M e a p q.0)
+bad_unique M e (Duplicate a) (NoSuch b) p q = absurd (no_such-not_known M e b q p.0)
+bad_unique M e (Duplicate a) (Duplicate b) p q = ap Duplicate (p.2 ∙ sym q.2)
+bad_unique M e (Duplicate a) (Limit n) p q = absurd (q.1 p.1)
+bad_unique M e (Duplicate a) (IntegerUnbounded b) p q = absurd (q.1 p.1)
+bad_unique M e (Duplicate a) (Ranged b) p q = absurd (q.1 p.1)
+bad_unique M e (Limit m) (NoSuch b) p q = absurd (no_such-not_known M e b q p.0)
+bad_unique M e (Limit m) (Duplicate b) p q = absurd (p.1 q.1)
+bad_unique M e (Limit m) (Limit n) p q = ap Limit (limit_unique M.wide _ _ _ m n p.2 q.2)
+bad_unique M e (Limit m) (IntegerUnbounded b) p q = absurd (limit-not_within M.wide _ _ _ m p.2 q.2)
+bad_unique M e (Limit m) (Ranged b) p q = absurd (limit-not_within M.wide _ _ _ m p.2 q.2)
+bad_unique M e (IntegerUnbounded a) (NoSuch b) p q = absurd (no_such-not_known M e b q p.0)
+bad_unique M e (IntegerUnbounded a) (Duplicate b) p q = absurd (p.1 q.1)
+bad_unique M e (IntegerUnbounded a) (Limit n) p q = absurd (limit-not_within M.wide _ _ _ n q.2 p.2)
+bad_unique M e (IntegerUnbounded a) (IntegerUnbounded b) p q = ap IntegerUnbounded (p.4 ∙ sym q.4)
+bad_unique M e (IntegerUnbounded a) (Ranged b) p q = absurd (p.3 q.3)
+bad_unique M e (Ranged a) (NoSuch b) p q = absurd (no_such-not_known M e b q p.0)
+bad_unique M e (Ranged a) (Duplicate b) p q = absurd (p.1 q.1)
+bad_unique M e (Ranged a) (Limit n) p q = absurd (limit-not_within M.wide _ _ _ n q.2 p.2)
+bad_unique M e (Ranged a) (IntegerUnbounded b) p q = absurd (q.3 p.3)
+bad_unique M e (Ranged a) (Ranged b) p q = ap Ranged (p.5 ∙ sym q.5)
+bad_unique M e f Memory p q = absurd q
+bad_unique M e Memory g p q = absurd p

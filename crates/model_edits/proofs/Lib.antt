@@ -1,0 +1,6 @@
+pub mod EntriesLaws
+pub mod EditedLaws
+pub mod BesideLemmas
+pub mod LawfulLemmas
+pub mod CountLemmas
+pub mod EditLaws

@@ -1,0 +1,25 @@
+use Rattle.std.proofs.Common.{◌≡◌, ◌∙◌, sym, subst}
+use Rattle.lp_model.specs.Elements.{changed_at}
+use Rattle.lp_model.specs.Lawful.{IsLawful}
+use Rattle.lp_model.specs.Edits.{with_col}
+use Rattle.model_edits.specs.Changes.{column_changed}
+use Rattle.model_edits.proofs.EditedLaws.{column-lawful, edited-column}
+use Rattle.model_edits.proofs.changing.set_col.Goals as goal
+
+pub put_lists-requires : goal.put_lists-requires
+put_lists-requires c =
+    let M = c.args.model.now in
+    let change = c.args.change in
+    let taken = c.take_lists-rows.ensures in
+    let columns : c.change_col.result ≡ (with_col M c.args.name.now (column_changed change)).cols =
+    c.change_col.ensures ∙ (λ i. changed_at (column_changed change) (taken.columns i) (c.in_ok-place.ensures.place.is i)) in
+    subst IsLawful (sym (λ i. record (taken.left i) { rows = taken.rows i; cols = columns i })) (column-lawful M c.args.name.now change taken.lawful c.in_ok-place.ensures.fits)
+
+pub returns-clause-edited : goal.returns-clause-edited
+returns-clause-edited c =
+    let M = c.args.model.now in
+    let change = c.args.change in
+    let taken = c.take_lists-rows.ensures in
+    let columns : c.change_col.result ≡ (with_col M c.args.name.now (column_changed change)).cols =
+    c.change_col.ensures ∙ (λ i. changed_at (column_changed change) (taken.columns i) (c.in_ok-place.ensures.place.is i)) in
+    c.put_lists.ensures ∙ (λ i. record (taken.left i) { rows = taken.rows i; cols = columns i }) ∙ sym (edited-column M c.args.name.now change)

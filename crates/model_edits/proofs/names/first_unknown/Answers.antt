@@ -1,0 +1,22 @@
+use Rattle.std.proofs.Common.{rules, ◌≡◌, ◌≤◌, ◌<◌, sym, subst, arith, IsTrue, length, map, get_or, All, Contains, []}
+use Rattle.std.proofs.lemmas.List.{length-map, take_all}
+use Rattle.std.proofs.lemmas.List.Elements.{All-more}
+use Rattle.lp_model.proofs.NameLemmas.{get_or-map}
+use Rattle.model_edits.proofs.names.first_unknown.Goals as goal
+
+pub loop-place-preserved : goal.loop-place-preserved
+loop-place-preserved g c =
+    let known = Contains (map g.T.Named.name c.args.items.now) in
+    let k = c.loop-place.place in
+    let named = c.args.named.now in
+    let t : IsTrue c.has_name.result = search rules in
+    let here : get_or (map (λ e. e.0) named) k [] ≡ c.index-named-place.result.0 = get_or-map (λ e. e.0) named k c.index-named-place.result [] c.loop-place-test.true c.index-named-place.is in
+    let within : k < length (map (λ e. e.0) named) = rw (length-map named (λ e. e.0)) c.loop-place-test.true in
+    All-more known (map (λ e. e.0) named) k [] within c.loop-place.invariant (subst known (sym here) (c.has_name.ensures.0 t))
+
+pub returns : goal.returns
+returns g c =
+    let k = c.loop-place.place in
+    let named = c.args.named.now in
+    let past : length (map (λ e. e.0) named) ≤ k = let e = length-map named (λ e. e.0) in omega arith in
+    subst (All (Contains (map g.T.Named.name c.args.items.now))) (take_all k (map (λ e. e.0) named) past) c.loop-place.invariant

@@ -1,0 +1,156 @@
+-- The model that the lists of a whole text mean is lawful: its rows have ranges, its columns two bounds and entries that rise,
+-- its names differ, and no limit is passed.
+use Rattle.std.proofs.Common.{◌≡◌, ◌≢◌, ℕ, zero, suc, ◌+◌, ◌<◌, ◌≤◌, Bool, true, false, ◌&&◌, List, [], ◌∷◌, ◌++◌, map, length, refl, sym, ◌∙◌, ap, subst, arith, pos, length-append, Contains}
+use Rattle.std.specs.Prelude.{Option, None, Some, if◌then◌else◌, codes, bytes_eq, All, IsTrue, IsSome, is_some, sum_by}
+use Rattle.std.specs.List.{list_all}
+use Rattle.std.proofs.lemmas.Bool.{and_parts, or_left, or_parts, or_from, true≢false, false_from_ne_true}
+use Rattle.std.proofs.lemmas.List.{length-map, get_or_default}
+use Rattle.std.proofs.lemmas.List.Elements.{All-nil, All-cons}
+use Rattle.std.proofs.lemmas.List.Folds.{list_any-append}
+use Rattle.std.proofs.lemmas.List.Sums.{sum_by-cons}
+use Rattle.std.proofs.lemmas.Slice.Eq.{bytes_eq-Decides}
+use Rattle.rational.specs.Rational.{ℚ, int, neg_ℚ}
+use Rattle.lp_model.specs.Lawful.{IsRange, AreEntries, IsLawfulColumn, IsLawful}
+use Rattle.lp_model.specs.declared.types.Sense.TheVariants.{Min}
+use Rattle.lp_model.specs.declared.types.RowId.{RowId}
+use Rattle.lp_model.specs.declared.types.Row.{Row}
+use Rattle.lp_model.specs.declared.types.Col.{Col}
+use Rattle.mps_sections.specs.Words.{among}
+use Rattle.mps_sections.specs.Numbers.{is_zero_number}
+use Rattle.mps_sections.specs.Statements.{coefficients_in, stated_row_names}
+use Rattle.mps_sections.specs.Limits.{AreNamesApart, names_of_columns, coefficient_count, StatesWithinLimits}
+use Rattle.mps_sections.specs.declared.statements.Sections.{Sections}
+use Rattle.mps_sections.specs.declared.statements.RowLine.{RowLine}
+use Rattle.mps_sections.specs.declared.statements.RowNumber.{RowNumber}
+use Rattle.mps_sections.specs.declared.statements.ColumnLines.{ColumnLines}
+use Rattle.mps_sections.proofs.NumberFacts.{is_zero-decides}
+use Rattle.mps_sections.proofs.StatedLimits.{not_among, row_among}
+use Rattle.mps_model.specs.Meaning.{row_numbers_beside, row_entries_from, row_of, column_of, model_of, free_name, objective_or, objective_name, second_name, beside_objective}
+use Rattle.mps_model.specs.Faults.{column_flaw}
+use Rattle.mps_model.specs.Bounded.{is_bounded_column}
+use Rattle.mps_model.proofs.EntryCounts.{few_entries}
+use Rattle.mps_model.proofs.FreeNames.{never_taken}
+use Rattle.mps_model.proofs.BoundedColumns.{flawless}
+
+-- ---- names
+
+few_names : (sided : List RowLine) → length sided ≤ 500 → length (stated_row_names sided) ≤ 500
+few_names sided few = omega (arith, length-map sided (λ (r : RowLine). r.name))
+
+objective_new : (s : Sections) → StatesWithinLimits s → among (stated_row_names s.rows) (objective_name s) ≡ false
+objective_new s keeps = by s.objectives refl
+  where
+    by : (found : List (List ℕ)) → s.objectives ≡ found → among (stated_row_names s.rows) (objective_or found (free_name (stated_row_names s.rows) (codes "OBJ"))) ≡ false
+    by [] e = never_taken (stated_row_names s.rows) (codes "OBJ") (let few = few_names s.rows keeps.few_rows in omega arith)
+    by (name ∷ ignored) e =
+        let own : among s.objectives name ≡ true = ap (λ (names : List (List ℕ)). among names name) e ∙ or_left (bytes_eq name name) (among ignored name) ((bytes_eq-Decides name name).1 refl) in
+        row_among s.rows name ∙ keeps.objectives_apart name own
+
+second_new : (s : Sections) → StatesWithinLimits s → among (stated_row_names s.rows) (second_name s) ≡ false
+second_new s keeps =
+    let taken = stated_row_names s.rows ++ objective_name s ∷ [] in
+    let free = never_taken taken (codes "OBJ2") (let few = few_names s.rows keeps.few_rows in omega (arith, length-append (stated_row_names s.rows) (objective_name s ∷ []))) in
+    (or_parts (among (stated_row_names s.rows) (second_name s)) (among (objective_name s ∷ []) (second_name s)) (sym (list_any-append (λ (other : List ℕ). bytes_eq other (second_name s)) (stated_row_names s.rows) (objective_name s ∷ [])) ∙ free)).0
+
+-- the second objective's name is not the first one's
+second_apart : (s : Sections) → StatesWithinLimits s → bytes_eq (objective_name s) (second_name s) ≡ false
+second_apart s keeps =
+    let taken = stated_row_names s.rows ++ objective_name s ∷ [] in
+    let free = never_taken taken (codes "OBJ2") (let few = few_names s.rows keeps.few_rows in omega (arith, length-append (stated_row_names s.rows) (objective_name s ∷ []))) in
+    let last = (or_parts (among (stated_row_names s.rows) (second_name s)) (among (objective_name s ∷ []) (second_name s)) (sym (list_any-append (λ (other : List ℕ). bytes_eq other (second_name s)) (stated_row_names s.rows) (objective_name s ∷ [])) ∙ free)).1 in
+    (or_parts (bytes_eq (objective_name s) (second_name s)) false last).0
+
+apart_cons : (name : List ℕ) (names : List (List ℕ)) → ¬ Contains names name → AreNamesApart names → AreNamesApart (name ∷ names)
+apart_cons name names new apart zero zero d below within e = absurd (omega arith)
+apart_cons name names new apart zero (suc j) d below within e = let w : j < length names = omega (arith, within) in new (j, w, get_or_default names j name d w ∙ sym e)
+apart_cons name names new apart (suc i) zero d below within e = absurd (omega arith)
+apart_cons name names new apart (suc i) (suc j) d below within e = apart i j d (omega (arith, below)) (omega (arith, within)) e
+
+rows_kept : (sides : List RowNumber) (found : List RowLine) → map (λ r. r.name) (map (row_of sides) found) ≡ stated_row_names found
+rows_kept sides [] = refl
+rows_kept sides (r ∷ more) = ap (λ names. r.name ∷ names) (rows_kept sides more)
+
+columns_kept : (s : Sections) (intupper : Option ℕ) (found : List ColumnLines) → map (λ c. c.name) (map (column_of s intupper) found) ≡ names_of_columns found
+columns_kept s intupper [] = refl
+columns_kept s intupper (c ∷ found) = ap (λ names. c.name ∷ names) (columns_kept s intupper found)
+
+row_names_apart : (s : Sections) → StatesWithinLimits s → AreNamesApart (objective_name s ∷ second_name s ∷ stated_row_names s.rows)
+row_names_apart s keeps =
+    let names = stated_row_names s.rows in
+    let first : among (second_name s ∷ names) (objective_name s) ≡ false =
+    or_from (bytes_eq (second_name s) (objective_name s)) (among names (objective_name s))
+    (false_from_ne_true (bytes_eq (second_name s) (objective_name s)) (λ e. true≢false (sym ((bytes_eq-Decides (objective_name s) (second_name s)).1 (sym ((bytes_eq-Decides (second_name s) (objective_name s)).0 e))) ∙ second_apart s keeps)))
+    (objective_new s keeps)
+    in
+    apart_cons (objective_name s) (second_name s ∷ names) (not_among (second_name s ∷ names) (objective_name s) first)
+    (apart_cons (second_name s) names (not_among names (second_name s) (second_new s keeps)) keeps.rows_apart)
+
+-- ---- columns
+
+two_bounds : (integer : Bool) (lower upper : Option ℚ) → integer && is_some lower && is_some upper ≡ true → IsTrue integer → IsSome lower × IsSome upper
+two_bounds true (Some l) (Some u) e h = (refl, refl)
+two_bounds true (Some l) None e h = absurd (cc)
+two_bounds true None u e h = absurd (cc)
+two_bounds false l u e h = absurd (cc)
+
+number_not_zero : (x : ℚ) → is_zero_number x ≡ false → x ≢ int (pos 0)
+number_not_zero x e h = true≢false (sym ((is_zero-decides x).1 h) ∙ e)
+
+abbrev entry : ℕ → ℚ → RowId × ℚ
+entry k x = (record { 0 = k }, x)
+
+entries_rise : (numbers : List ℚ) (from k to : ℕ) → from ≤ k → k + length numbers ≤ to → AreEntries from to (row_entries_from k numbers)
+entries_rise [] from k to below within = tt
+entries_rise (x ∷ numbers) from k to below within = by (is_zero_number x) refl (entries_rise numbers from (suc k) to (omega (arith, below)) (omega (arith, within))) (entries_rise numbers (suc k) (suc k) to (omega arith) (omega (arith, within)))
+  where
+    by : (b : Bool) → is_zero_number x ≡ b → AreEntries from to (row_entries_from (suc k) numbers) → AreEntries (suc k) to (row_entries_from (suc k) numbers) → AreEntries from to (if b then row_entries_from (suc k) numbers else entry k x ∷ row_entries_from (suc k) numbers)
+    by true e rest later = rest
+    by false e rest later = (below, omega (arith, within), number_not_zero x e, later)
+
+length_beside : (sided : List RowLine) (found : List RowNumber) → length (row_numbers_beside (stated_row_names sided) found) ≡ length sided
+length_beside [] found = refl
+length_beside (r ∷ sided) found = ap suc (length_beside sided found)
+
+lawful_columns : (s : Sections) (intupper : Option ℕ) (n : ℕ) (found : List ColumnLines) → length s.rows ≡ n → list_all is_bounded_column (map (column_of s intupper) found) ≡ true → All (IsLawfulColumn n) (map (column_of s intupper) found)
+lawful_columns s intupper n [] e h = All-nil (IsLawfulColumn n)
+lawful_columns s intupper n (c ∷ found) e h =
+    let parts = and_parts (is_bounded_column (column_of s intupper c)) (list_all is_bounded_column (map (column_of s intupper) found)) h in
+    All-cons (IsLawfulColumn n) (column_of s intupper c) (map (column_of s intupper) found) (record {
+      bounded = two_bounds (column_of s intupper c).int (column_of s intupper c).lo (column_of s intupper c).up parts.0;
+      entries = entries_rise (row_numbers_beside (stated_row_names s.rows) c.numbers) 0 0 n (omega arith) (omega (arith, length_beside s.rows c.numbers, e));
+    }) (lawful_columns s intupper n found e parts.1)
+
+entries_within : (s : Sections) (intupper : Option ℕ) (found : List ColumnLines) → AreNamesApart (stated_row_names s.rows) → sum_by (λ (c : Col). length c.rows) (map (column_of s intupper) found) ≤ coefficient_count s.rows found
+entries_within s intupper [] apart = omega arith
+entries_within s intupper (c ∷ found) apart =
+    omega (
+      arith,
+      sum_by-cons (λ (d : Col). length d.rows) (column_of s intupper c) (map (column_of s intupper) found),
+      sum_by-cons (λ (d : ColumnLines). length (coefficients_in s.rows d.numbers)) c found,
+      few_entries s.rows 0 c.numbers apart,
+      entries_within s intupper found apart,
+    )
+
+-- the model is lawful, where its rows have ranges
+pub meant-lawful : (s : Sections) (intupper : Option ℕ) → StatesWithinLimits s → column_flaw intupper s.bounds s.columns ≡ None → All (λ (r : Row). IsRange r.lo r.hi) (map (row_of s.sides) s.rows) → IsLawful (model_of s intupper)
+unfolding model_of
+meant-lawful s intupper keeps flaw ranges =
+    let rows = length-map s.rows (row_of s.sides) in
+    let columns = length-map s.columns (column_of s intupper) in
+    record {
+      constants = refl;
+      ranges = ranges;
+      columns = lawful_columns s intupper (length (map (row_of s.sides) s.rows)) s.columns (sym rows) (flawless s intupper s.columns flaw);
+      rows_distinct = subst (λ (names : List (List ℕ)). AreNamesApart (objective_name s ∷ second_name s ∷ names)) (sym (rows_kept s.sides s.rows)) (row_names_apart s keeps);
+      columns_distinct = subst AreNamesApart (sym (columns_kept s intupper s.columns)) keeps.columns_apart;
+      limits = record {
+        few_rows = let few = keeps.few_rows in omega (arith, rows);
+        few_columns = let few = keeps.few_columns in omega (arith, columns);
+        few_entries = let few = keeps.few_coefficients in omega (arith, entries_within s intupper s.columns keeps.rows_apart);
+      };
+    }
+
+pub parts_are : (s : Sections) (intupper : Option ℕ) (obj obj2 : List ℕ) (constant none : ℚ) (rows : List Row) (cols : List Col) → obj ≡ objective_name s → obj2 ≡ second_name s → constant ≡ neg_ℚ (beside_objective s.objectives s.sides) → none ≡ int (pos 0)
+    → rows ≡ map (row_of s.sides) s.rows → cols ≡ map (column_of s intupper) s.columns → record { sense = Min; obj = obj; obj2 = obj2; consts = constant ∷ none ∷ []; rows = rows; cols = cols; wide = false } ≡ model_of s intupper
+unfolding model_of
+parts_are s intupper obj obj2 constant none rows cols a b c d e f = cc

@@ -1,0 +1,6 @@
+use Rattle.std.proofs.Common.{◌≡◌, List, ℕ, map, take, pos}
+use Rattle.rational.specs.Rational.{int}
+use Rattle.mps_model.proofs.beside.zeros.Given as goal
+
+abbrev pub invariant-loop-name : goal.invariant-loop-name
+invariant-loop-name l = l.zeros.items ≡ map (λ (name : List ℕ). int (pos 0)) (take l._name-index l.names)

@@ -1,0 +1,11 @@
+pub mod Reached
+pub mod ListFacts
+pub mod NumberFacts
+pub mod TestFacts
+pub mod StatedSteps
+pub mod ReadingSteps
+pub mod SetFacts
+pub mod StatedLimits
+pub mod CountedNumbers
+pub mod PlainNames
+pub mod PlainRows

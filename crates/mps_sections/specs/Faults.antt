@@ -1,0 +1,251 @@
+-- The faults of lines. What a line is refused for depends on what the entries before it state; the least code counts.
+use Rattle.std.specs.Prelude.{◌≡◌, ℕ, ◌+◌, Bool, true, false, not, ◌&&◌, ◌||◌, if◌then◌else◌, nat_le, nat_lt, List, [], ◌∷◌, ◌++◌, length, map, codes, bytes_eq, Option, None, Some, Ok, Err}
+use Rattle.std.specs.List.{list_any}
+use Rattle.mps_text.specs.Text.{Entry, Flaw, Item}
+use Rattle.mps_sections.specs.Words.{is_key, among, word, section_of, section_rank, bars, is_rows, is_columns, is_name_section, is_ended, line_kind, row_kind, bound_kind, takes_number}
+use Rattle.mps_sections.specs.Numbers.{limit_of, limit, is_not_number, is_too_wide, is_misplaced}
+use Rattle.frac_text.specs.Parsing.{spelled_number}
+use Rattle.mps_sections.specs.Statements.{is_row_name, Pair, read_pair, column_pairs, rhs_pairs, StatedModel, is_column, is_numbered, coefficients_in, bound_column, bound_field, stated}
+use Rattle.mps_sections.specs.declared.statements.RowNumber.{RowNumber}
+use Rattle.mps_sections.specs.declared.statements.ColumnLines.{ColumnLines}
+use Rattle.mps_sections.specs.declared.words.Section.{Section}
+use Rattle.mps_sections.specs.declared.words.LineKind.{LineKind}
+use Rattle.mps_sections.specs.declared.words.LineKind.TheVariants.{Header, Row, Marker, Column, RightSide, Bound, Stray}
+use Rattle.mps_sections.specs.declared.words.RowKind.{RowKind}
+use Rattle.mps_sections.specs.declared.words.RowKind.TheVariants.{Free}
+use Rattle.mps_sections.specs.declared.words.BoundKind.{BoundKind}
+
+-- a code, and whether the line has that fault
+abbrev pub Test : Type 0
+Test = ℕ × Bool
+
+-- the first code whose test holds
+abbrev pub least : List Test → Option ℕ
+least [] = None
+least (test ∷ more) = if test.1 then Some test.0 else least more
+
+abbrev pub has_count : Entry → ℕ → ℕ → Bool
+has_count e fewest most = nat_le fewest (length e.words) && nat_le (length e.words) most
+
+-- a row or column name of more than 255 bytes
+abbrev pub is_long_name : List ℕ → Bool
+is_long_name name = nat_lt 255 (length name)
+
+-- ---- headers
+
+-- the section's own header, or that of a later one, stands before
+abbrev pub is_late : Section → StatedModel → Bool
+is_late section s = list_any (λ stands. bars stands section) s.headers
+
+-- COLUMNS needs ROWS, and the sections behind it need both
+abbrev pub lacks_section : Section → StatedModel → Bool
+lacks_section section s = (nat_lt 2 (section_rank section) && not (list_any is_rows s.headers)) || (nat_lt 3 (section_rank section) && not (list_any is_columns s.headers))
+
+abbrev pub section_tests : Option Section → StatedModel → Entry → List Test
+-- an unknown section word
+section_tests None s e = (3, true) ∷ []
+section_tests (Some section) s e =
+    -- a section out of order or twice, or one that it needs is missing
+    (4, is_late section s || lacks_section section s)
+    -- further fields, which NAME alone may have
+    ∷ (6, not (is_name_section section) && not (has_count e 1 1))
+    ∷ []
+
+-- ---- ROWS
+
+-- a row, with sides or of type N, has the name
+abbrev pub is_known : StatedModel → List ℕ → Bool
+is_known s name = is_row_name s.rows name || among s.objectives name
+
+abbrev pub is_unknown_kind : Option RowKind → Bool
+is_unknown_kind None = true
+is_unknown_kind (Some kind) = false
+
+abbrev pub has_sides : Option RowKind → Bool
+has_sides None = false
+has_sides (Some Free) = false
+has_sides (Some kind) = true
+
+abbrev pub row_tests : StatedModel → Entry → List Test
+row_tests s e =
+    -- the number of fields
+    (6, not (has_count e 2 2))
+    ∷ (7, is_long_name (word 1 e))
+    -- an unknown row type
+    ∷ (8, is_unknown_kind (row_kind (word 0 e)))
+    -- a row name twice
+    ∷ (9, is_known s (word 1 e))
+    -- the 501st row
+    ∷ (10, has_sides (row_kind (word 0 e)) && nat_le 500 (length s.rows))
+    ∷ []
+
+-- ---- COLUMNS
+
+abbrev pub marker_tests : StatedModel → Entry → List Test
+marker_tests s e =
+    -- INTORG within, INTEND without, or another marker word
+    (18, not (if s.marked then is_key (codes "'INTEND'") (word 2 e) else is_key (codes "'INTORG'") (word 2 e)))
+    ∷ []
+
+-- a row stands twice in some pairs
+abbrev pub has_twice : List Pair → Bool
+has_twice [] = false
+has_twice (p ∷ more) = among (map (λ q. q.row) more) p.row || has_twice more
+
+abbrev pub has_long : List Pair → Bool
+has_long found = list_any (λ p. is_long_name p.row) found
+
+abbrev pub has_unknown : StatedModel → List Pair → Bool
+has_unknown s found = list_any (λ p. not (is_known s p.row)) found
+
+abbrev pub has_not_number : List Pair → Bool
+has_not_number found = list_any (λ p. is_not_number (spelled_number p.number)) found
+
+abbrev pub has_too_wide : List Pair → Bool
+has_too_wide found = list_any (λ p. is_too_wide (spelled_number p.number)) found
+
+-- a number stands beside a row of some pairs already
+abbrev pub has_again : List RowNumber → List Pair → Bool
+has_again earlier found = list_any (λ p. is_numbered earlier p.row) found
+
+-- the last column has this name
+abbrev pub is_last : List ColumnLines → List ℕ → Bool
+is_last [] name = false
+is_last (c ∷ []) name = bytes_eq c.name name
+is_last (c ∷ next ∷ more) name = is_last (next ∷ more) name
+
+abbrev pub numbers_of_last : List ColumnLines → List RowNumber
+numbers_of_last [] = []
+numbers_of_last (c ∷ []) = c.numbers
+numbers_of_last (c ∷ next ∷ more) = numbers_of_last (next ∷ more)
+
+-- the pairs of a line of COLUMNS or RHS
+abbrev pub pair_tests : StatedModel → List Pair → List Test
+pair_tests s found =
+    -- an unknown row
+    (11, has_unknown s found)
+    ∷ (12, has_not_number found)
+    ∷ (13, has_too_wide found)
+    ∷ []
+
+-- a line of a column by the columns before it
+abbrev pub place_tests : StatedModel → List ℕ → List Pair → List Test
+place_tests s name found =
+    -- a column that returns after another
+    (14, is_column s.columns name && not (is_last s.columns name))
+    -- one row twice in one column, whose earlier lines are the last ones
+    ∷ (15, has_twice found || (is_last s.columns name && has_again (numbers_of_last s.columns) found))
+    -- the 1,001st column
+    ∷ (16, not (is_column s.columns name) && nat_le 1000 (length s.columns))
+    -- the 50,001st non-zero number beside a row with sides
+    ∷ (17, nat_lt 50000 (s.count + length (coefficients_in s.rows (map read_pair found))))
+    ∷ []
+
+abbrev pub column_tests : StatedModel → Entry → List Test
+column_tests s e =
+    -- the number of fields
+    (6, not (has_count e 3 3 || has_count e 5 5))
+    ∷ (7, is_long_name (word 0 e) || has_long (column_pairs e))
+    ∷ (pair_tests s (column_pairs e) ++ place_tests s (word 0 e) (column_pairs e))
+
+-- ---- RHS
+
+abbrev pub rhs_tests : StatedModel → Entry → List Test
+rhs_tests s e =
+    -- the number of fields
+    (6, not (has_count e 2 5))
+    ∷ (7, has_long (rhs_pairs e))
+    ∷ (pair_tests s (rhs_pairs e)
+    -- one row twice in RHS
+    ++ (22, has_twice (rhs_pairs e) || has_again s.sides (rhs_pairs e)) ∷ [])
+
+-- ---- BOUNDS
+
+abbrev pub bound_tests : Option BoundKind → StatedModel → Entry → List Test
+-- an unknown bound type
+bound_tests None s e = (20, true) ∷ []
+bound_tests (Some kind) s e =
+    -- the number of fields
+    (6, takes_number kind && not (has_count e 3 4))
+    ∷ (7, is_long_name (bound_column kind e))
+    ∷ (12, takes_number kind && is_not_number (limit_of (bound_field e)))
+    ∷ (13, takes_number kind && is_too_wide (limit_of (bound_field e)))
+    -- an unknown column
+    ∷ (19, not (is_column s.columns (bound_column kind e)))
+    -- an infinite number where none may stand
+    ∷ (21, is_misplaced kind (limit (bound_field e)))
+    ∷ []
+
+-- ---- the code of a line
+
+abbrev pub tests_of : LineKind → StatedModel → Entry → List Test
+tests_of Header s e = section_tests (section_of (word 0 e)) s e
+tests_of Row s e = row_tests s e
+tests_of Marker s e = marker_tests s e
+tests_of Column s e = column_tests s e
+tests_of RightSide s e = rhs_tests s e
+tests_of Bound s e = (6, not (has_count e 2 4)) ∷ bound_tests (bound_kind (word 0 e)) s e
+-- data where no section takes it
+tests_of Stray s e = (5, true) ∷ []
+
+-- the code of a line behind what is stated, if it has one
+unfoldable pub code_in : StatedModel → Entry → Option ℕ
+code_in s e = least (tests_of (line_kind s.section e) s e)
+
+unfoldable pub code_at : List Entry → Entry → Option ℕ
+code_at before e = code_in (stated before) e
+
+unfoldable pub is_end : Entry → Bool
+is_end e = e.header && is_ended (section_of (word 0 e))
+
+-- Entries, behind others, none of which is faulty or ends the text.
+abbrev pub Clean : List Entry → List Entry → Type 0
+Clean before [] = Unit {0}
+Clean before (e ∷ more) = (code_at before e ≡ None) × (is_end e ≡ false) × Clean (before ++ e ∷ []) more
+
+-- the fault of an item behind some entries
+abbrev pub IsFlawed : List Entry → Item → Flaw → Type 0
+IsFlawed before (Ok e) flaw = (code_at before e ≡ Some flaw.code) × (flaw.line ≡ e.line)
+IsFlawed before (Err own) flaw = flaw ≡ own
+
+-- Of the items behind the entries seen, the first faulty one, and its least code: the entries before it are clean.
+pub record HasFault (seen : List Entry) (items : List Item) (flaw : Flaw) : Type 0 where
+  pub before : List Entry
+  pub item : Item
+  pub after : List Item
+  pub parts : items ≡ map Ok before ++ item ∷ after
+  pub clean : Clean seen before
+  pub flawed : IsFlawed (seen ++ before) item flaw
+
+-- No line is faulty, and the last entry, which is clean too, is ENDATA.
+pub record IsWholeText (seen : List Entry) (items : List Item) (entries : List Entry) : Type 0 where
+  pub before : List Entry
+  pub last : Entry
+  pub after : List Item
+  pub parts : items ≡ map Ok before ++ Ok last ∷ after
+  pub clean : Clean seen before
+  pub clean_last : code_at (seen ++ before) last ≡ None
+  pub ended : is_end last ≡ true
+  pub all : entries ≡ seen ++ before ++ last ∷ []
+
+-- No line is faulty, and there is no ENDATA.
+pub record IsCut (seen : List Entry) (items : List Item) : Type 0 where
+  pub before : List Entry
+  pub parts : items ≡ map Ok before
+  pub clean : Clean seen before
+
+-- Where reading entry by entry comes to, behind the entries seen. What a reader keeps: this stays the same.
+pub data End : Type 0 where
+  Flawed : (flaw : Flaw) → End
+  Whole : (entries : List Entry) → End
+  Cut : End
+
+abbrev pub past : Option ℕ → Bool → List Entry → Entry → End → End
+past (Some code) ended seen e behind = Flawed (record { line = e.line; code = code })
+past None true seen e behind = Whole (seen ++ e ∷ [])
+past None false seen e behind = behind
+
+unfoldable pub reached : List Entry → List Item → End
+reached seen [] = Cut
+reached seen (Ok e ∷ more) = past (code_at seen e) (is_end e) seen e (reached (seen ++ e ∷ []) more)
+reached seen (Err flaw ∷ more) = Flawed flaw

@@ -1,0 +1,9 @@
+pub mod Words
+pub mod Numbers
+pub mod Statements
+pub mod Faults
+pub mod Shown
+pub mod ReadingOf
+pub mod Sets
+pub mod Limits
+pub mod PlainNames

@@ -1,0 +1,82 @@
+// Numbers beside the names of rows.
+ghost use Rattle.std.specs.Prelude.{◌≡◌, ℕ, List as Items, [], ◌∷◌, ◌++◌, map, IfOk};
+ghost use Rattle.mps_sections.specs.Statements.{is_numbered, read_pair};
+ghost use Rattle.mps_sections.specs.Sets.{has};
+
+use crate::name_set::NameSet;
+use crate::names::copied;
+use crate::numbers::number_or_zero;
+use crate::pairs::{Pair, Pairs};
+use crate::statements::RowNumber;
+use lp_model::List;
+use std::alloc::{AllocError, Global};
+
+/// Numbers beside rows in order, and the set of these rows.
+#[derive(Drop)]
+pub(crate) struct Numbered {
+    pub numbers: List<RowNumber>,
+    rows: NameSet,
+    ghost same: { (q : Items ℕ) → has rows q ≡ is_numbered numbers q },
+}
+
+impl Numbered {
+    ghost use Rattle.mps_sections.specs.Faults.{has_again};
+    ghost use Rattle.mps_sections.specs.Shown.{pair_shown, pairs_shown};
+
+    /// No numbers.
+    pub(crate) fn new(alloc: Global) -> Numbered
+        ensures { result.numbers ≡ [] }
+    {
+        Numbered {
+            numbers: List::new(alloc),
+            rows: NameSet::new(alloc),
+        }
+    }
+
+    /// Whether a number stands beside a row of the pairs.
+    pub(crate) fn has_again(&self, pairs: &Pairs) -> bool
+        ensures { result ≡ has_again self.now.numbers (pairs_shown pairs.now) }
+    {
+        match pairs {
+            Pairs::Nothing => false,
+            Pairs::One(p) => self.rows.contains(p.row),
+            Pairs::Two(p, q) => self.rows.contains(p.row) || self.rows.contains(q.row),
+        }
+    }
+
+    fn with_pair(self, alloc: Global, pair: &Pair) -> Result<Numbered, AllocError>
+        ensures { IfOk result (λ more. more.numbers ≡ self.numbers ++ read_pair (pair_shown pair.now) ∷ []) }
+    {
+        let Numbered {
+            mut numbers,
+            mut rows,
+        } = self;
+        rows.insert(alloc, pair.row)?;
+        let row = copied(alloc, pair.row)?;
+        let number = number_or_zero(pair.number);
+        numbers.push(RowNumber { row, number })?;
+        Ok(Numbered { numbers, rows })
+    }
+
+    /// The numbers with those of one more line.
+    pub(crate) fn with(self, alloc: Global, pairs: &Pairs) -> Result<Numbered, AllocError>
+        ensures { IfOk result (λ more. more.numbers ≡ self.numbers ++ map read_pair (pairs_shown pairs.now)) }
+    {
+        match pairs {
+            Pairs::Nothing => Ok(self),
+            Pairs::One(p) => self.with_pair(alloc, p),
+            Pairs::Two(p, q) => {
+                let more = self.with_pair(alloc, p)?;
+                more.with_pair(alloc, q)
+            }
+        }
+    }
+
+    /// The numbers alone.
+    pub(crate) fn into_list(self) -> List<RowNumber>
+        ensures { result ≡ self.numbers }
+    {
+        let Numbered { numbers, rows: _ } = self;
+        numbers
+    }
+}

@@ -1,0 +1,69 @@
+// The lines of a text, one after another, up to ENDATA or to the first fault.
+ghost use Rattle.std.specs.Prelude.{◌≡◌, IfOk, MatchResult};
+ghost use Rattle.mps_text.specs.Reading.{entry_of_record};
+ghost use Rattle.mps_sections.specs.Faults.{code_in};
+ghost use Rattle.mps_sections.specs.Shown.{held};
+ghost use Rattle.mps_sections.specs.ReadingOf.{IsStopAt, IsEntryNoted, IsTablesReading, IsSectionsReading};
+ghost use Rattle.mps_sections.specs.Limits.{StatesWithinLimits};
+
+use crate::statements::Sections;
+use crate::tables::Tables;
+use crate::words::is_end;
+use mps_text::{LineFault, Lines, Record};
+use std::alloc::Global;
+
+/// Why a text states nothing whole: its first fault, or want of memory.
+#[derive(Clone, Copy, Debug, Drop)]
+pub enum Stop {
+    Fault(LineFault),
+    Memory,
+}
+
+/// One more line: its fault, or what the tables hold behind it.
+fn read_line(alloc: Global, tables: &mut Tables, entry: &Record) -> Result<(), Stop>
+    ensures { MatchResult result (λ _. IsEntryNoted tables.old (entry_of_record entry.now) tables.new) (λ stop. IsStopAt (code_in (held tables.old) (entry_of_record entry.now)) entry.now.line stop) }
+{
+    if let Some(code) = tables.fault_of(entry) {
+        let line = entry.line;
+        return Err(Stop::Fault(LineFault { line, code }));
+    }
+    match tables.note(alloc, entry) {
+        Ok(()) => Ok(()),
+        Err(_) => Err(Stop::Memory),
+    }
+}
+
+/// What the lines of a text state, to ENDATA.
+fn tables_of(alloc: Global, text: &[u8]) -> Result<Tables, Stop>
+    ensures { IsTablesReading text.now result }
+{
+    let mut lines = Lines::new(text);
+    let mut tables = Tables::new(alloc);
+    while let Some(item) = lines.next() {
+        match item {
+            Err(fault) => return Err(Stop::Fault(fault)),
+            Ok(entry) => {
+                read_line(alloc, &mut tables, &entry)?;
+                if is_end(&entry) {
+                    return Ok(tables);
+                }
+            }
+        }
+    }
+    let line = lines.next_number();
+    Err(Stop::Fault(LineFault { line, code: 4 }))
+}
+
+/// What the sections of a text state, to ENDATA, or its first fault.
+pub fn read_sections(alloc: Global, text: &[u8]) -> Result<Sections, Stop>
+    ensures is { IsSectionsReading text.now result }
+    ensures limits { IfOk result StatesWithinLimits }
+{
+    match tables_of(alloc, text) {
+        Ok(tables) => match tables.into_sections() {
+            Ok(sections) => Ok(sections),
+            Err(_) => Err(Stop::Memory),
+        },
+        Err(stop) => Err(stop),
+    }
+}

@@ -1,0 +1,103 @@
+// The rows that a text states.
+ghost use Rattle.std.specs.Prelude.{◌≡◌, ◌||◌, ℕ, List as Items, [], ◌++◌, bytes_eq, Some, IfOk};
+ghost use Rattle.mps_sections.specs.Words.{among};
+ghost use Rattle.mps_sections.specs.Statements.{is_row_name, as_row, as_objective};
+ghost use Rattle.mps_sections.specs.Sets.{has};
+
+use crate::name_set::NameSet;
+use crate::names::copied;
+use crate::statements::RowLine;
+use crate::words::RowKind;
+use lp_model::{List, Name};
+use std::alloc::{AllocError, Global};
+
+/// The rows with sides and the names of the rows of type N, each in order, and the sets of all their names and of those of
+/// the rows with sides.
+#[derive(Drop)]
+pub(crate) struct Rows {
+    pub sided: List<RowLine>,
+    pub objectives: List<Name>,
+    known: NameSet,
+    with_sides: NameSet,
+    ghost same: { (q : Items ℕ) → has known q ≡ (is_row_name sided q || among objectives q) },
+    ghost sides: { (q : Items ℕ) → has with_sides q ≡ is_row_name sided q },
+}
+
+impl Rows {
+    /// No rows.
+    pub(crate) fn new(alloc: Global) -> Rows
+        ensures sided { result.sided ≡ [] }
+        ensures objectives { result.objectives ≡ [] }
+    {
+        Rows {
+            sided: List::new(alloc),
+            objectives: List::new(alloc),
+            known: NameSet::new(alloc),
+            with_sides: NameSet::new(alloc),
+        }
+    }
+
+    /// Whether a row has the name.
+    pub(crate) fn contains(&self, name: &[u8]) -> bool
+        ensures { result ≡ (is_row_name self.now.sided name.now || among self.now.objectives name.now) }
+    {
+        self.known.contains(name)
+    }
+
+    /// Whether a row with sides has the name.
+    pub(crate) fn is_row(&self, name: &[u8]) -> bool
+        ensures { result ≡ is_row_name self.now.sided name.now }
+    {
+        self.with_sides.contains(name)
+    }
+
+    /// The rows with one more.
+    pub(crate) fn with(self, alloc: Global, kind: RowKind, name: &[u8]) -> Result<Rows, AllocError>
+        ensures sided { IfOk result (λ rows. rows.sided ≡ self.sided ++ as_row (Some kind) name.now) }
+        ensures objectives { IfOk result (λ rows. rows.objectives ≡ self.objectives ++ as_objective (Some kind) name.now) }
+    {
+        let Rows {
+            mut sided,
+            mut objectives,
+            mut known,
+            mut with_sides,
+        } = self;
+        known.insert(alloc, name)?;
+        let copy = copied(alloc, name)?;
+        match kind {
+            RowKind::Free => {
+                objectives.push(copy)?;
+                Ok(Rows {
+                    sided,
+                    objectives,
+                    known,
+                    with_sides,
+                })
+            }
+            _ => {
+                with_sides.insert(alloc, name)?;
+                sided.push(RowLine { name: copy, kind })?;
+                Ok(Rows {
+                    sided,
+                    objectives,
+                    known,
+                    with_sides,
+                })
+            }
+        }
+    }
+
+    /// The names of the rows of type N, and the rows with sides.
+    pub(crate) fn into_lists(self) -> (List<Name>, List<RowLine>)
+        ensures objectives { result.0 ≡ self.objectives }
+        ensures sided { result.1 ≡ self.sided }
+    {
+        let Rows {
+            sided,
+            objectives,
+            known: _,
+            with_sides: _,
+        } = self;
+        (objectives, sided)
+    }
+}

@@ -1,0 +1,418 @@
+// What a text has stated so far, and the fault of a line that comes next.
+ghost use Rattle.std.specs.Prelude.{◌≡◌, ◌+◌, ◌≤◌, [], ◌∷◌, true, IfOk, OnOk, length, map, nat_lt, not, ◌&&◌, ◌||◌};
+ghost use Rattle.std.specs.List.{list_any};
+ghost use Rattle.mps_text.specs.Reading.{entry_of_record};
+ghost use Rattle.mps_sections.specs.Words.{word, is_marker, bars, section_rank, is_rows, is_columns, line_kind as kind_of_line};
+ghost use Rattle.mps_sections.specs.Statements.{StatedModel, stated, sections_in, coefficients_in, read_pair, column_pairs as pairs_in_column, bound_column as column_of_bound, bound_field};
+ghost use Rattle.mps_sections.specs.Faults.{least, tests_of, section_tests, row_tests, marker_tests, column_tests, rhs_tests, bound_tests, place_tests, pair_tests, has_unknown, has_not_number, has_too_wide, is_late, lacks_section, code_in, has_count as has_fields};
+
+use crate::columns::Columns;
+use crate::names::{copied, count_coefficients};
+use crate::numbered::Numbered;
+use crate::numbers::{is_misplaced, is_no_limit, is_wide_limit, limit_or_plus};
+use crate::pairs::{Pairs, column_pairs, has_count, is_long, rhs_pairs};
+use crate::rows::Rows;
+use crate::statements::{BoundLine, Sections};
+use crate::words::{BoundKind, LineKind, RowKind, Section, first_word, is_key, kind_in};
+use lp_model::List;
+use mps_text::{Fields, Record};
+use std::alloc::{AllocError, Global};
+use std::mem;
+
+/// What the lines before a line have stated.
+#[derive(Drop)]
+pub(crate) struct Tables {
+    pub section: Option<Section>,
+    pub headers: List<Section>,
+    pub rows: Rows,
+    pub columns: Columns,
+    pub marked: bool,
+    /// How many non-zero numbers stand beside rows with sides.
+    pub count: u64,
+    pub sides: Numbered,
+    pub bounds: List<BoundLine>,
+    ghost few: { count ≤ 50000 },
+}
+
+/// The third field of a line of three.
+fn third_word<'a>(entry: &Record<'a>) -> &'a [u8]
+    ensures { is_marker (entry_of_record entry.now) ≡ true → result.now ≡ word 2 (entry_of_record entry.now) }
+{
+    match entry.fields {
+        Fields::Three(_, _, third) => third,
+        _ => first_word(entry),
+    }
+}
+
+/// The field of a bound line that names the column.
+fn bound_column<'a>(kind: BoundKind, entry: &Record<'a>) -> &'a [u8]
+    ensures { has_fields (entry_of_record entry.now) 2 4 ≡ true → result.now ≡ column_of_bound kind (entry_of_record entry.now) }
+{
+    match entry.fields {
+        Fields::Two(_, second) => { if kind.takes_number() { b"" } else { second } }
+        Fields::Three(_, second, third) => { if kind.takes_number() { second } else { third } }
+        Fields::Four(_, _, third, _) => third,
+        _ => first_word(entry),
+    }
+}
+
+/// The last field of a bound line.
+fn last_word<'a>(entry: &Record<'a>) -> &'a [u8]
+    ensures { has_fields (entry_of_record entry.now) 2 4 ≡ true → result.now ≡ bound_field (entry_of_record entry.now) }
+{
+    match entry.fields {
+        Fields::Two(_, last) => last,
+        Fields::Three(_, _, last) => last,
+        Fields::Four(_, _, _, last) => last,
+        _ => first_word(entry),
+    }
+}
+
+fn has_late(headers: &[Section], section: Section) -> bool
+    ensures { result ≡ list_any (λ stands. bars stands section) headers.now }
+{
+    headers.iter().any(|stands| stands.bars(section))
+}
+
+fn has_rows(headers: &[Section]) -> bool
+    ensures { result ≡ list_any is_rows headers.now }
+{
+    headers.iter().any(|stands| stands.is_rows())
+}
+
+fn has_columns(headers: &[Section]) -> bool
+    ensures { result ≡ list_any is_columns headers.now }
+{
+    headers.iter().any(|stands| stands.is_columns())
+}
+
+fn lacks(headers: &[Section], section: Section) -> bool
+    ensures { result ≡ ((nat_lt 2 (section_rank section) && not (list_any is_rows headers.now)) || (nat_lt 3 (section_rank section) && not (list_any is_columns headers.now))) }
+{
+    let lacks_rows = 2 < section.rank() && !has_rows(headers);
+    let lacks_columns = 3 < section.rank() && !has_columns(headers);
+    lacks_rows || lacks_columns
+}
+
+#[tactic(auto, unfolding(crate::specs::Shown::held))]
+impl Tables {
+    ghost use Rattle.mps_sections.specs.Shown.{held, after, after_kind, pairs_shown};
+
+    /// What no lines state.
+    #[tactic(auto, unfolding(crate::specs::Shown::held, crate::specs::Statements::stated, crate::specs::Statements::gathered_behind))]
+    pub(crate) fn new(alloc: Global) -> Tables
+        ensures { held result ≡ stated [] }
+    {
+        Tables {
+            section: None,
+            headers: List::new(alloc),
+            rows: Rows::new(alloc),
+            columns: Columns::new(alloc),
+            marked: false,
+            count: 0,
+            sides: Numbered::new(alloc),
+            bounds: List::new(alloc),
+        }
+    }
+
+    fn fault_of_header(&self, entry: &Record) -> Option<u8>
+        ensures { result ≡ least (tests_of LineKind.Header (held self.now) (entry_of_record entry.now)) }
+    {
+        let Some(section) = Section::of(first_word(entry)) else {
+            return Some(3);
+        };
+        let headers = self.headers.as_slice();
+        if has_late(headers, section) || lacks(headers, section) {
+            Some(4)
+        } else if !section.is_name() && !has_count(entry, 1, 1) {
+            Some(6)
+        } else {
+            None
+        }
+    }
+
+    fn fault_of_row(&self, entry: &Record) -> Option<u8>
+        ensures { result ≡ least (row_tests (held self.now) (entry_of_record entry.now)) }
+    {
+        let Fields::Two(kind, name) = entry.fields else {
+            return Some(6);
+        };
+        if is_long(name) {
+            return Some(7);
+        }
+        let Some(kind) = RowKind::of(kind) else {
+            return Some(8);
+        };
+        if self.rows.contains(name) {
+            Some(9)
+        } else if !matches!(kind, RowKind::Free) && self.rows.sided.as_slice().len() >= 500 {
+            Some(10)
+        } else {
+            None
+        }
+    }
+
+    fn fault_of_marker(&self, entry: &Record) -> Option<u8>
+        ensures { is_marker (entry_of_record entry.now) ≡ true → result ≡ least (marker_tests (held self.now) (entry_of_record entry.now)) }
+    {
+        let word = third_word(entry);
+        let lawful = if self.marked {
+            is_key(b"'INTEND'", word)
+        } else {
+            is_key(b"'INTORG'", word)
+        };
+        if lawful { None } else { Some(18) }
+    }
+
+    /// The least fault of a column's line, of which the number of fields is right.
+    fn fault_of_pairs(&self, pairs: &Pairs) -> Option<u8>
+        ensures { result ≡ least (pair_tests (held self.now) (pairs_shown pairs.now)) }
+    {
+        if pairs.has_unknown(&self.rows) {
+            Some(11)
+        } else if pairs.has_not_number() {
+            Some(12)
+        } else if pairs.has_too_wide() {
+            Some(13)
+        } else {
+            None
+        }
+    }
+
+    /// The least fault of a column's line by the columns before it.
+    fn fault_of_place(&self, name: &[u8], pairs: &Pairs) -> Option<u8>
+        ensures { result ≡ least (place_tests (held self.now) name.now (pairs_shown pairs.now)) }
+    {
+        let last = self.columns.is_last(name);
+        let stands = self.columns.contains(name);
+        if stands && !last {
+            return Some(14);
+        }
+        if pairs.has_twice() || (last && self.columns.has_again(pairs)) {
+            return Some(15);
+        }
+        if !stands && self.columns.len() >= 1000 {
+            return Some(16);
+        }
+        if self.count + count_coefficients(&self.rows, pairs) > 50000 {
+            return Some(17);
+        }
+        None
+    }
+
+    fn fault_of_column(&self, entry: &Record) -> Option<u8>
+        ensures { result ≡ least (column_tests (held self.now) (entry_of_record entry.now)) }
+    {
+        if !(has_count(entry, 3, 3) || has_count(entry, 5, 5)) {
+            return Some(6);
+        }
+        let name = first_word(entry);
+        let pairs = column_pairs(entry);
+        if is_long(name) || pairs.has_long() {
+            return Some(7);
+        }
+        let fault = self.fault_of_pairs(&pairs);
+        if fault.is_some() {
+            return fault;
+        }
+        self.fault_of_place(name, &pairs)
+    }
+
+    fn fault_of_rhs(&self, entry: &Record) -> Option<u8>
+        ensures { result ≡ least (rhs_tests (held self.now) (entry_of_record entry.now)) }
+    {
+        if !has_count(entry, 2, 5) {
+            return Some(6);
+        }
+        let pairs = rhs_pairs(entry);
+        if pairs.has_long() {
+            return Some(7);
+        }
+        let fault = self.fault_of_pairs(&pairs);
+        if fault.is_some() {
+            return fault;
+        }
+        if pairs.has_twice() || self.sides.has_again(&pairs) {
+            return Some(22);
+        }
+        None
+    }
+
+    /// The least fault of a bound line of two to four fields, by its type.
+    fn fault_of_bound_kind(&self, kind: BoundKind, entry: &Record) -> Option<u8>
+        ensures { has_fields (entry_of_record entry.now) 2 4 ≡ true → result ≡ least (bound_tests (Some kind) (held self.now) (entry_of_record entry.now)) }
+    {
+        if kind.takes_number() && !has_count(entry, 3, 4) {
+            return Some(6);
+        }
+        let column = bound_column(kind, entry);
+        let number = last_word(entry);
+        if is_long(column) {
+            Some(7)
+        } else if kind.takes_number() && is_no_limit(number) {
+            Some(12)
+        } else if kind.takes_number() && is_wide_limit(number) {
+            Some(13)
+        } else if !self.columns.contains(column) {
+            Some(19)
+        } else if is_misplaced(kind, &limit_or_plus(number)) {
+            Some(21)
+        } else {
+            None
+        }
+    }
+
+    fn fault_of_bound(&self, entry: &Record) -> Option<u8>
+        ensures { result ≡ least (tests_of LineKind.Bound (held self.now) (entry_of_record entry.now)) }
+    {
+        if !has_count(entry, 2, 4) {
+            return Some(6);
+        }
+        match BoundKind::of(first_word(entry)) {
+            None => Some(20),
+            Some(kind) => self.fault_of_bound_kind(kind, entry),
+        }
+    }
+
+    /// The least fault of the next line, if it has one.
+    #[tactic(auto, unfolding(crate::specs::Shown::held, crate::specs::Faults::code_in))]
+    pub(crate) fn fault_of(&self, entry: &Record) -> Option<u8>
+        ensures { result ≡ code_in (held self.now) (entry_of_record entry.now) }
+    {
+        match kind_in(self.section, entry) {
+            LineKind::Header => self.fault_of_header(entry),
+            LineKind::Row => self.fault_of_row(entry),
+            LineKind::Marker => self.fault_of_marker(entry),
+            LineKind::Column => self.fault_of_column(entry),
+            LineKind::RightSide => self.fault_of_rhs(entry),
+            LineKind::Bound => self.fault_of_bound(entry),
+            LineKind::Stray => Some(5),
+        }
+    }
+
+    fn note_header(&mut self, entry: &Record) -> Result<(), AllocError>
+        ensures { OnOk result (held self.new ≡ after_kind LineKind.Header (held self.old) (entry_of_record entry.now)) }
+    {
+        let section = Section::of(first_word(entry));
+        if let Some(stands) = section {
+            self.headers.push(stands)?;
+        }
+        self.section = section;
+        Ok(())
+    }
+
+    fn note_row(&mut self, alloc: Global, entry: &Record) -> Result<(), AllocError>
+        requires { has_fields (entry_of_record entry.now) 2 2 ≡ true }
+        ensures { OnOk result (held self.new ≡ after_kind LineKind.Row (held self.old) (entry_of_record entry.now)) }
+    {
+        let Fields::Two(kind, name) = entry.fields else {
+            return Ok(());
+        };
+        let Some(kind) = RowKind::of(kind) else {
+            return Ok(());
+        };
+        let rows = mem::replace(&mut self.rows, Rows::new(alloc));
+        self.rows = rows.with(alloc, kind, name)?;
+        Ok(())
+    }
+
+    fn note_marker(&mut self, entry: &Record)
+        requires { is_marker (entry_of_record entry.now) ≡ true }
+        ensures { held self.new ≡ after_kind LineKind.Marker (held self.old) (entry_of_record entry.now) }
+    {
+        self.marked = is_key(b"'INTORG'", third_word(entry));
+    }
+
+    fn note_column(&mut self, alloc: Global, entry: &Record) -> Result<(), AllocError>
+        requires { self.old.count + length (coefficients_in self.old.rows.sided (map read_pair (pairs_in_column (entry_of_record entry.now)))) ≤ 50000 }
+        ensures { OnOk result (held self.new ≡ after_kind LineKind.Column (held self.old) (entry_of_record entry.now)) }
+    {
+        let name = first_word(entry);
+        let pairs = column_pairs(entry);
+        let count = count_coefficients(&self.rows, &pairs);
+        let columns = mem::replace(&mut self.columns, Columns::new(alloc));
+        self.columns = columns.with(alloc, name, entry.line, self.marked, &pairs)?;
+        self.count += count;
+        Ok(())
+    }
+
+    fn note_rhs(&mut self, alloc: Global, entry: &Record) -> Result<(), AllocError>
+        ensures { OnOk result (held self.new ≡ after_kind LineKind.RightSide (held self.old) (entry_of_record entry.now)) }
+    {
+        let pairs = rhs_pairs(entry);
+        let sides = mem::replace(&mut self.sides, Numbered::new(alloc));
+        self.sides = sides.with(alloc, &pairs)?;
+        Ok(())
+    }
+
+    fn note_bound(&mut self, alloc: Global, entry: &Record) -> Result<(), AllocError>
+        requires { has_fields (entry_of_record entry.now) 2 4 ≡ true }
+        ensures { OnOk result (held self.new ≡ after_kind LineKind.Bound (held self.old) (entry_of_record entry.now)) }
+    {
+        let Some(kind) = BoundKind::of(first_word(entry)) else {
+            return Ok(());
+        };
+        let column = copied(alloc, bound_column(kind, entry))?;
+        let limit = limit_or_plus(last_word(entry));
+        self.bounds.push(BoundLine {
+            column,
+            kind,
+            limit,
+        })?;
+        Ok(())
+    }
+
+    /// What one more line states, which has no fault.
+    #[tactic(auto, unfolding(crate::specs::Shown::held, crate::specs::Shown::after, crate::specs::Faults::code_in))]
+    pub(crate) fn note(&mut self, alloc: Global, entry: &Record) -> Result<(), AllocError>
+        requires { code_in (held self.old) (entry_of_record entry.now) ≡ None }
+        ensures { OnOk result (held self.new ≡ after (held self.old) (entry_of_record entry.now)) }
+    {
+        match kind_in(self.section, entry) {
+            LineKind::Header => self.note_header(entry),
+            LineKind::Row => self.note_row(alloc, entry),
+            LineKind::Marker => {
+                self.note_marker(entry);
+                Ok(())
+            }
+            LineKind::Column => self.note_column(alloc, entry),
+            LineKind::RightSide => self.note_rhs(alloc, entry),
+            LineKind::Bound => self.note_bound(alloc, entry),
+            LineKind::Stray => Ok(()),
+        }
+    }
+
+    /// The lists alone.
+    pub(crate) fn into_sections(self) -> Result<Sections, AllocError>
+        ensures { IfOk result (λ sections. sections ≡ sections_in (held self)) }
+    {
+        let Tables {
+            section: _,
+            headers: _,
+            rows,
+            columns,
+            marked: _,
+            count: _,
+            sides,
+            bounds,
+        } = self;
+        let (objectives, rows) = rows.into_lists();
+        let sides = sides.into_list();
+        match columns.into_list() {
+            Ok(columns) => Ok(Sections {
+                objectives,
+                rows,
+                columns,
+                sides,
+                bounds,
+            }),
+            Err(error) => {
+                drop(objectives);
+                drop(rows);
+                drop(sides);
+                drop(bounds);
+                Err(error)
+            }
+        }
+    }
+}

@@ -1,7 +1,0 @@
-use Rattle.tree_edit.specs.Queued.{Has}
-use Rattle.tree_edit.proofs.QueueLemmas.{goes_first}
-use Rattle.tree_edit.proofs.queue.LeafQueue.first.Goals as goal
-
-pub returns-in-Some : goal.returns-in-Some
-unfolding Has
-returns-in-Some c = (c.in-Some.ensures.member, λ d has. goes_first c.in-Some.candidate.now d (c.in-Some.ensures.least d has))

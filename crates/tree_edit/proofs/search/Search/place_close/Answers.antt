@@ -1,0 +1,16 @@
+use Rattle.std.specs.Prelude.{Option}
+use Rattle.std.proofs.Common.{subst}
+use Rattle.rational.specs.Rational.{ℚ}
+use Rattle.leaf_judging.specs.Closing.{ClosesBy}
+use Rattle.tree_edit.specs.Sound.{PlainSearch, formulation_of}
+use Rattle.tree_edit.specs.Points.{target}
+use Rattle.tree_edit.proofs.CloseLemmas.{judged-closed}
+use Rattle.tree_edit.proofs.search.Search.place_close.Goals as goal
+
+pub put_closed-requires-clause-judged : goal.put_closed-requires-clause-judged
+put_closed-requires-clause-judged c =
+    let S : PlainSearch = c.args.self.now in
+    let path = c.args.region.now in
+    let kept = c.args.kept in
+    let closes = subst (λ (R : PlainSearch). ClosesBy (formulation_of R) c.target.result path kept) c.self.view_is (c.closes_by.ensures.0 c.if-closes_by.true) in
+    judged-closed (formulation_of S) (target S.model S.points) path kept (subst (λ (t : Option ℚ). ClosesBy (formulation_of S) t path kept) c.target.ensures closes) c.requires.closed

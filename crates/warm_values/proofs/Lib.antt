@@ -1,0 +1,4 @@
+pub mod Saying
+pub mod EachLemmas
+pub mod TupleLemmas
+pub mod Inversions

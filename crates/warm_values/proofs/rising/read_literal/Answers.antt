@@ -1,0 +1,12 @@
+use Rattle.std.proofs.Common.{◌∙◌, sym}
+use Rattle.serde_json.specs.View.{view}
+use Rattle.warm_values.specs.Rising.{literal_of}
+use Rattle.warm_values.proofs.Saying.{says-there, says-next, says-then}
+use Rattle.warm_values.proofs.rising.read_literal.Goals as goal
+
+pub returns-then-is_past : goal.returns-then-is_past
+unfolding literal_of
+returns-then-is_past c =
+    says-there 3 _ _ (view c.in-Some.first.now, view c.in-Some.second.now) c.literal_at.result c.in-Some.ensures
+    (says-next _ _ c.in_ok-place.place c.literal_at.result c.in_ok-place.ensures
+    (says-then _ _ _ c.literal_at.result (sym c.is_past.ensures ∙ c.if-is_past.true) c.literal_at.ensures))
