@@ -75,9 +75,9 @@ impl Shell {
         requires name { is_file_name name.now ≡ true }
         requires empty { reply.old.items ≡ [] }
         ensures answered { OnOk result (LoadStep (shell_state (present self.old) (S.files store.old) (S.faults store.old)) name.now intupper reply.new.items
-            (state (present self.new) (S.files store.new) (S.faults store.new))) }
+            (shell_state (present self.new) (S.files store.new) (S.faults store.new))) }
         ensures unfinished { OnErr result (LoadStep (shell_state (present self.old) (S.files store.old) (S.faults store.old)) name.now intupper memory_text
-            (state (present self.new) (S.files store.new) (S.faults store.new))) }
+            (shell_state (present self.new) (S.files store.new) (S.faults store.new))) }
         ensures store_later { S.faults store.old ≤ S.faults store.new }
     {
         match read_model(alloc, store, name, intupper) {
@@ -110,9 +110,9 @@ impl Shell {
         requires name { is_file_name name.now ≡ true }
         requires empty { reply.old.items ≡ [] }
         ensures answered { OnOk result (CertStep (shell_state (present self.now) (S.files store.old) (S.faults store.old)) name.now reply.new.items
-            (state (present self.now) (S.files store.new) (S.faults store.new))) }
+            (shell_state (present self.now) (S.files store.new) (S.faults store.new))) }
         ensures unfinished { OnErr result (CertStep (shell_state (present self.now) (S.files store.old) (S.faults store.old)) name.now memory_text
-            (state (present self.now) (S.files store.new) (S.faults store.new))) }
+            (shell_state (present self.now) (S.files store.new) (S.faults store.new))) }
         ensures store_later { S.faults store.old ≤ S.faults store.new }
     {
         let Some(loaded) = &self.loaded else {
@@ -135,9 +135,9 @@ impl Shell {
         requires named { NamesFile (asks_shown asked) }
         requires empty { reply.old.items ≡ [] }
         ensures answered { OnOk result (AnswersTo (asks_shown asked.entry) (shell_state (present self.old) (S.files store.old) (S.faults store.old)) reply.new.items
-            (state (present self.new) (S.files store.new) (S.faults store.new))) }
+            (shell_state (present self.new) (S.files store.new) (S.faults store.new))) }
         ensures unfinished { OnErr result ((bytes : List ℕ) × AnswersTo (asks_shown asked.entry) (shell_state (present self.old) (S.files store.old) (S.faults store.old)) bytes
-            (state (present self.new) (S.files store.new) (S.faults store.new))) }
+            (shell_state (present self.new) (S.files store.new) (S.faults store.new))) }
         ensures store_later { S.faults store.old ≤ S.faults store.new }
     {
         match asked {
