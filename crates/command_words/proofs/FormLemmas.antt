@@ -6,7 +6,7 @@ use Rattle.std.proofs.lemmas.Grind.{common_steps}
 use Rattle.command_words.specs.Names.{command_of, is_file_name, whole_number_of}
 use Rattle.command_words.specs.declared.words.CommandName.{CommandName}
 use Rattle.command_words.specs.declared.words.CommandName.TheVariants as name
-use Rattle.command_words.specs.Asks.{Asks, Load, Solve, Cert, Misused, with_number, load_asks, solve_asks, cert_asks, quit_asks, command_asks, asks_of, NamesFile}
+use Rattle.command_words.specs.Asks.{Asks, Load, Solve, Cert, Misused, no_limit, with_number, load_asks, one_limit_asks, two_limits_asks, both_limits_asks, solve_asks, cert_asks, quit_asks, command_asks, asks_of, NamesFile}
 
 abbrev nows : List (Bor (List ℕ)) → List (List ℕ)
 nows words = map (λ word. word.now) words
@@ -32,6 +32,14 @@ load_asks-other (a ∷ b ∷ []) h k = refl
 load_asks-other (a ∷ b ∷ c ∷ []) h k = absurd (k refl)
 load_asks-other (a ∷ b ∷ c ∷ d ∷ more) h k = refl
 
+pub solve_asks-other : (words : List (Bor (List ℕ))) → ¬ (length words ≡ 0) → ¬ (length words ≡ 2) → ¬ (length words ≡ 4) → Misused ≡ solve_asks (nows words)
+solve_asks-other [] h k l = absurd (h refl)
+solve_asks-other (a ∷ []) h k l = refl
+solve_asks-other (a ∷ b ∷ []) h k l = absurd (k refl)
+solve_asks-other (a ∷ b ∷ c ∷ []) h k l = refl
+solve_asks-other (a ∷ b ∷ c ∷ d ∷ []) h k l = absurd (l refl)
+solve_asks-other (a ∷ b ∷ c ∷ d ∷ e ∷ more) h k l = refl
+
 -- ---- a file that is asked for has a file name
 
 with_number-named : (word : List ℕ) (n : Option ℕ) (asks : ℕ → Asks) → ((k : ℕ) → NamesFile (asks k)) → NamesFile (with_number word n asks)
@@ -54,15 +62,33 @@ load_asks-named (file ∷ key ∷ number ∷ []) = by (is_file_name file) (bytes
     by false b e = tt
 load_asks-named (file ∷ key ∷ number ∷ other ∷ more) = tt
 
+one_limit-named : (key number : List ℕ) → NamesFile (one_limit_asks key number)
+one_limit-named key number = by (bytes_eq key (codes "nodes")) (bytes_eq key (codes "pivots"))
+  where
+    by : (a b : Bool) → NamesFile (if a then with_number number (whole_number_of number) (λ n. Solve n no_limit) else if b then with_number number (whole_number_of number) (λ n. Solve no_limit n) else Misused)
+    by true b = with_number-named number (whole_number_of number) (λ n. Solve n no_limit) (λ k. tt)
+    by false true = with_number-named number (whole_number_of number) (λ n. Solve no_limit n) (λ k. tt)
+    by false false = tt
+
+two_limits-named : (number more : List ℕ) (asks : ℕ → ℕ → Asks) → ((n m : ℕ) → NamesFile (asks n m)) → NamesFile (two_limits_asks number more asks)
+two_limits-named number more asks h =
+    with_number-named number (whole_number_of number) (λ n. with_number more (whole_number_of more) (asks n)) (λ n. with_number-named more (whole_number_of more) (asks n) (h n))
+
+both_limits-named : (key number other more : List ℕ) → NamesFile (both_limits_asks key number other more)
+both_limits-named key number other more = by (bytes_eq key (codes "nodes") && bytes_eq other (codes "pivots")) (bytes_eq key (codes "pivots") && bytes_eq other (codes "nodes"))
+  where
+    by : (a b : Bool) → NamesFile (if a then two_limits_asks number more Solve else if b then two_limits_asks number more (λ n m. Solve m n) else Misused)
+    by true b = two_limits-named number more Solve (λ n m. tt)
+    by false true = two_limits-named number more (λ n m. Solve m n) (λ n m. tt)
+    by false false = tt
+
 solve_asks-named : (arguments : List (List ℕ)) → NamesFile (solve_asks arguments)
 solve_asks-named [] = tt
 solve_asks-named (key ∷ []) = tt
-solve_asks-named (key ∷ number ∷ []) = by (bytes_eq key (codes "nodes"))
-  where
-    by : (b : Bool) → NamesFile (if b then with_number number (whole_number_of number) Solve else Misused)
-    by true = with_number-named number (whole_number_of number) Solve (λ k. tt)
-    by false = tt
-solve_asks-named (key ∷ number ∷ other ∷ more) = tt
+solve_asks-named (key ∷ number ∷ []) = one_limit-named key number
+solve_asks-named (key ∷ number ∷ other ∷ []) = tt
+solve_asks-named (key ∷ number ∷ other ∷ more ∷ []) = both_limits-named key number other more
+solve_asks-named (key ∷ number ∷ other ∷ more ∷ another ∷ rest) = tt
 
 cert_asks-named : (arguments : List (List ℕ)) → NamesFile (cert_asks arguments)
 cert_asks-named [] = tt

@@ -10,8 +10,8 @@ use Rattle.command_words.specs.declared.words.Asked.TheVariants as asked
 pub data Asks : Type 0 where
   -- the model of this file, each integer column without an upper bound having this one
   Load : (file : List ℕ) (intupper : Option ℕ) → Asks
-  -- a search of the model that is present, which may place this many results
-  Solve : (limit : ℕ) → Asks
+  -- a search of the model that is present, which may place so many results, and make so many simplex steps in each relaxation
+  Solve : (nodes pivots : ℕ) → Asks
   -- the certificate of the answer that is held, as this file
   Cert : (file : List ℕ) → Asks
   Quit : Asks
@@ -22,7 +22,7 @@ pub data Asks : Type 0 where
   -- the words have a form of the command, but this one, in a number's place, is none
   NoNumber : (word : List ℕ) → Asks
 
--- the most results that a search may place where no limit is named
+-- a limit that isn't named
 abbrev pub no_limit : ℕ
 no_limit = 2 ^ 64 - 1
 
@@ -38,10 +38,29 @@ load_asks (file ∷ key ∷ number ∷ []) =
     if is_file_name file && bytes_eq key (codes "intupper") then with_number number (whole_number_of number) (λ n. Load file (Some n)) else Misused
 load_asks arguments = Misused
 
--- `solve` and `solve nodes N`
+-- `solve nodes N` and `solve pivots N`
+abbrev pub one_limit_asks : List ℕ → List ℕ → Asks
+one_limit_asks key number =
+    if bytes_eq key (codes "nodes") then with_number number (whole_number_of number) (λ n. Solve n no_limit)
+    else if bytes_eq key (codes "pivots") then with_number number (whole_number_of number) (λ n. Solve no_limit n)
+    else Misused
+
+-- the word that stands first is looked at first
+abbrev pub two_limits_asks : List ℕ → List ℕ → (ℕ → ℕ → Asks) → Asks
+two_limits_asks number more asks = with_number number (whole_number_of number) (λ n. with_number more (whole_number_of more) (asks n))
+
+-- `solve nodes N pivots N` and `solve pivots N nodes N`
+abbrev pub both_limits_asks : List ℕ → List ℕ → List ℕ → List ℕ → Asks
+both_limits_asks key number other more =
+    if bytes_eq key (codes "nodes") && bytes_eq other (codes "pivots") then two_limits_asks number more Solve
+    else if bytes_eq key (codes "pivots") && bytes_eq other (codes "nodes") then two_limits_asks number more (λ n m. Solve m n)
+    else Misused
+
+-- `solve` with its options in any order, each once at most
 abbrev pub solve_asks : List (List ℕ) → Asks
-solve_asks [] = Solve no_limit
-solve_asks (key ∷ number ∷ []) = if bytes_eq key (codes "nodes") then with_number number (whole_number_of number) Solve else Misused
+solve_asks [] = Solve no_limit no_limit
+solve_asks (key ∷ number ∷ []) = one_limit_asks key number
+solve_asks (key ∷ number ∷ other ∷ more ∷ []) = both_limits_asks key number other more
 solve_asks arguments = Misused
 
 -- `cert F`
@@ -69,7 +88,7 @@ asks_of (word ∷ arguments) = command_asks (command_of word) word arguments
 -- what an answer of the reader of words stands for
 abbrev pub asks_shown : Asked → Asks
 asks_shown (asked.Load file intupper) = Load file.now intupper
-asks_shown (asked.Solve limit) = Solve limit
+asks_shown (asked.Solve nodes pivots) = Solve nodes pivots
 asks_shown (asked.Cert file) = Cert file.now
 asks_shown asked.Quit = Quit
 asks_shown (asked.Unknown word) = Unknown word.now
@@ -79,7 +98,7 @@ asks_shown (asked.NoNumber word) = NoNumber word.now
 -- the file that is asked for has a file name
 abbrev pub NamesFile : Asks → Type 0
 NamesFile (Load file intupper) = is_file_name file ≡ true
-NamesFile (Solve limit) = Unit {0}
+NamesFile (Solve nodes pivots) = Unit {0}
 NamesFile (Cert file) = is_file_name file ≡ true
 NamesFile Quit = Unit {0}
 NamesFile (Unknown word) = Unit {0}

@@ -7,6 +7,7 @@
 //! load F intupper N      the same, each integer column without an upper bound having the bound N
 //! solve                  a search without a limit
 //! solve nodes N          a search that may place N results
+//! solve pivots N         one that may make N simplex steps in each relaxation; both options may stand, in any order
 //! cert F                 the certificate of the held answer, as file F
 //! quit                   the end of the script
 //! ```

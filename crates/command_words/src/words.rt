@@ -2,7 +2,10 @@
 ghost use Rattle.std.specs.Prelude.{◌≡◌, true, map, [], ◌∷◌};
 ghost use Rattle.std.specs.List.{list_all};
 ghost use Rattle.command_words.specs.Names.{command_of, begins_name, is_file_name, is_name_byte, whole_number_of};
-ghost use Rattle.command_words.specs.Asks.{asks_of, asks_shown, load_asks, solve_asks, cert_asks, quit_asks, NamesFile};
+ghost use Rattle.command_words.specs.Asks.{Solve, no_limit, with_number, asks_of, asks_shown, load_asks, one_limit_asks, two_limits_asks, both_limits_asks, solve_asks, cert_asks, quit_asks, NamesFile};
+
+/// A limit that isn't named.
+const UNLIMITED: u64 = u64::MAX;
 
 /// The commands that there are.
 #[derive(Clone, Copy, Debug, PartialEq, Eq)]
@@ -21,9 +24,11 @@ pub enum Asked<'a> {
         file: &'a [u8],
         intupper: Option<u64>,
     },
-    /// A search of the model that is present, which may place this many results.
+    /// A search of the model that is present, which may place `nodes` results, and make `pivots` simplex steps in each of its
+    /// relaxations.
     Solve {
-        limit: u64,
+        nodes: u64,
+        pivots: u64,
     },
     /// The certificate of the answer that is held, as a file.
     Cert {
@@ -158,16 +163,81 @@ fn load_asked<'a>(arguments: &[&'a [u8]]) -> Asked<'a>
     }
 }
 
-/// What `solve nodes N` asks for, with these words behind `solve`.
-fn limited_solve<'a>(key: &[u8], number: &'a [u8]) -> Asked<'a>
-    ensures { asks_shown result ≡ solve_asks (key.now ∷ number.now ∷ []) }
+/// What `solve nodes N` asks for, with this word as N.
+fn nodes_limited(number: &[u8]) -> Asked<'_>
+    ensures { asks_shown result ≡ with_number number.now (whole_number_of number.now) (λ n. Solve n no_limit) }
 {
-    if key != b"nodes".as_slice() {
-        return Asked::Misused;
-    }
     match whole_number(number) {
-        Some(limit) => Asked::Solve { limit },
+        Some(nodes) => Asked::Solve {
+            nodes,
+            pivots: UNLIMITED,
+        },
         None => Asked::NoNumber { word: number },
+    }
+}
+
+/// What `solve pivots N` asks for, with this word as N.
+fn pivots_limited(number: &[u8]) -> Asked<'_>
+    ensures { asks_shown result ≡ with_number number.now (whole_number_of number.now) (λ n. Solve no_limit n) }
+{
+    match whole_number(number) {
+        Some(pivots) => Asked::Solve {
+            nodes: UNLIMITED,
+            pivots,
+        },
+        None => Asked::NoNumber { word: number },
+    }
+}
+
+/// What `solve` with one option asks for.
+fn solve_with_one<'a>(key: &[u8], number: &'a [u8]) -> Asked<'a>
+    ensures { asks_shown result ≡ one_limit_asks key.now number.now }
+{
+    if key == b"nodes".as_slice() {
+        nodes_limited(number)
+    } else if key == b"pivots".as_slice() {
+        pivots_limited(number)
+    } else {
+        Asked::Misused
+    }
+}
+
+/// What `solve nodes N pivots N` asks for, with these words as numbers.
+fn nodes_first<'a>(number: &'a [u8], more: &'a [u8]) -> Asked<'a>
+    ensures { asks_shown result ≡ two_limits_asks number.now more.now Solve }
+{
+    let Some(nodes) = whole_number(number) else {
+        return Asked::NoNumber { word: number };
+    };
+    match whole_number(more) {
+        Some(pivots) => Asked::Solve { nodes, pivots },
+        None => Asked::NoNumber { word: more },
+    }
+}
+
+/// What `solve pivots N nodes N` asks for, with these words as numbers.
+fn pivots_first<'a>(number: &'a [u8], more: &'a [u8]) -> Asked<'a>
+    ensures { asks_shown result ≡ two_limits_asks number.now more.now (λ n m. Solve m n) }
+{
+    let Some(pivots) = whole_number(number) else {
+        return Asked::NoNumber { word: number };
+    };
+    match whole_number(more) {
+        Some(nodes) => Asked::Solve { nodes, pivots },
+        None => Asked::NoNumber { word: more },
+    }
+}
+
+/// What `solve` with two options asks for.
+fn solve_with_two<'a>(key: &[u8], number: &'a [u8], other: &[u8], more: &'a [u8]) -> Asked<'a>
+    ensures { asks_shown result ≡ both_limits_asks key.now number.now other.now more.now }
+{
+    if key == b"nodes".as_slice() && other == b"pivots".as_slice() {
+        nodes_first(number, more)
+    } else if key == b"pivots".as_slice() && other == b"nodes".as_slice() {
+        pivots_first(number, more)
+    } else {
+        Asked::Misused
     }
 }
 
@@ -176,8 +246,12 @@ fn solve_asked<'a>(arguments: &[&'a [u8]]) -> Asked<'a>
     ensures { asks_shown result ≡ solve_asks (map (λ word. word.now) arguments.now) }
 {
     match arguments {
-        [] => Asked::Solve { limit: u64::MAX },
-        [key, number] => limited_solve(key, number),
+        [] => Asked::Solve {
+            nodes: UNLIMITED,
+            pivots: UNLIMITED,
+        },
+        [key, number] => solve_with_one(key, number),
+        [key, number, other, more] => solve_with_two(key, number, other, more),
         _ => Asked::Misused,
     }
 }

@@ -16,7 +16,7 @@ some_none : (v : ℚ) → Some v ≢ None
 some_none v e = false≢true (ap (λ o. is_none o) e)
 
 -- q times the direction further
-abbrev moved : ℚ → Point → Point → Point
+abbrev pub moved : ℚ → Point → Point → Point
 moved q [] ds = []
 moved q (x ∷ xs) [] = x ∷ xs
 moved q (x ∷ xs) (d ∷ ds) = (x +ℚ q *ℚ d) ∷ moved q xs ds
@@ -26,7 +26,7 @@ length-moved q [] ds = refl
 length-moved q (x ∷ xs) [] = refl
 length-moved q (x ∷ xs) (d ∷ ds) = ap suc (length-moved q xs ds)
 
-coordinate-moved : (q : ℚ) (xs ds : Point) → length xs ≡ length ds → (j : ℕ) → coordinate (moved q xs ds) j ≡ coordinate xs j +ℚ q *ℚ coordinate ds j
+pub coordinate-moved : (q : ℚ) (xs ds : Point) → length xs ≡ length ds → (j : ℕ) → coordinate (moved q xs ds) j ≡ coordinate xs j +ℚ q *ℚ coordinate ds j
 coordinate-moved q [] [] same j = ring (q ∷ []) (search reads_ℚ) tt
 coordinate-moved q [] (d ∷ ds) same j = absurd (omega arith)
 coordinate-moved q (x ∷ xs) [] same j = absurd (omega arith)
@@ -52,7 +52,7 @@ module _ (M : Program) (x d : Point) (q : ℚ) (same : length x ≡ length d) wh
       (λ i. sum-moved n a i +ℚ a n *ℚ coordinate-moved q x d same n i)
       ∙ ring (sum_below n (λ j. a j *ℚ coordinate x j) ∷ sum_below n (λ j. a j *ℚ coordinate d j) ∷ a n ∷ coordinate x n ∷ coordinate d n ∷ q ∷ []) (search reads_ℚ depth 9) tt
 
-  feasible-moved : int (pos 0) ≤ℚ q → IsFeasible M x → IsRay M d → IsFeasible M (moved q x d)
+  pub feasible-moved : int (pos 0) ≤ℚ q → IsFeasible M x → IsRay M d → IsFeasible M (moved q x d)
   feasible-moved nonnegative feasible ray = record {
     shape = length-moved q x d ∙ feasible.shape;
     columns = λ j below.
@@ -73,27 +73,27 @@ module _ (M : Program) (x d : Point) (q : ℚ) (same : length x ≡ length d) wh
   least-form Min c a b = ring (c ∷ a ∷ b ∷ q ∷ []) (search reads_ℚ depth 9) tt
   least-form Max c a b = ring (c ∷ a ∷ b ∷ q ∷ []) (search reads_ℚ depth 9) tt
 
-  least-moved : least_value M 1 (moved q x d) ≡ least_value M 1 x +ℚ q *ℚ direction_cost M d
+  pub least-moved : least_value M 1 (moved q x d) ≡ least_value M 1 x +ℚ q *ℚ direction_cost M d
   least-moved =
       ap (λ t. in_least_form M.sense (constant M 1 +ℚ t)) (sum-moved (length M.cols) (cost M 1))
       ∙ least-form M.sense (constant M 1) (sum_below (length M.cols) (λ j. cost M 1 j *ℚ coordinate x j)) (sum_below (length M.cols) (λ j. cost M 1 j *ℚ coordinate d j))
 
 -- how far to go from the value l for one that is 1 below k, where each step gains g
 module _ (l g : ℚ) (k : ℤ) (gains : g <ℚ int (pos 0)) (over : int k ≤ℚ l) where
-  abbrev gap : ℚ
+  abbrev pub gap : ℚ
   gap = l -ℚ int k +ℚ int (pos 1)
 
-  abbrev far : ℚ
+  abbrev pub far : ℚ
   far = gap /ℚ neg_ℚ g
 
   step : int (pos 0) <ℚ neg_ℚ g
   step = linear_strict (g ∷ []) gains (search reads_ℚ depth 9) tt
 
-  far-positive : int (pos 0) ≤ℚ far
+  pub far-positive : int (pos 0) ≤ℚ far
   far-positive =
       zero-≤ℚ-*ℚ {x = gap} (linear (l ∷ int k ∷ []) (add-≤ℚ over (≤ℚ_of_<ℚ zero-<ℚ-one)) (search reads_ℚ depth 9) tt) (≤ℚ_of_<ℚ (zero-<ℚ-inverse step))
 
-  far-below : l +ℚ far *ℚ g <ℚ int k
+  pub far-below : l +ℚ far *ℚ g <ℚ int k
   far-below =
       let product : far *ℚ neg_ℚ g ≡ gap = /ℚ-*ℚ gap (neg_ℚ g) (λ e. <ℚ_irrefl (subst (λ t. int (pos 0) <ℚ t) e step)) in
       let turned : l +ℚ far *ℚ g ≡ l -ℚ far *ℚ neg_ℚ g = ring (l ∷ far ∷ g ∷ []) (search reads_ℚ depth 9) tt in

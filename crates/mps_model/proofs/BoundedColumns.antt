@@ -1,16 +1,17 @@
--- Each column of a model that a text means is integer with two bounds.
-use Rattle.std.proofs.Common.{◌≡◌, ℕ, Bool, true, false, ◌&&◌, ◌||◌, not, List, [], ◌∷◌, map, refl, sym, subst, if◌then◌else◌, Option, Some, None}
+-- Each integer column of a model that a text means has two bounds.
+use Rattle.std.proofs.Common.{◌≡◌, ℕ, Bool, true, false, ◌&&◌, ◌||◌, not, List, [], ◌∷◌, map, refl, if◌then◌else◌, Option, Some, None}
 use Rattle.std.specs.Prelude.{is_some}
 use Rattle.std.specs.List.{list_all}
 use Rattle.rational.specs.Rational.{ℚ}
-use Rattle.lp_model.specs.Program.{Program}
-use Rattle.mps_text.specs.Text.{Entry}
+use Rattle.lp_model.specs.declared.types.Col.{Col}
 use Rattle.mps_sections.specs.declared.statements.Sections.{Sections}
 use Rattle.mps_sections.specs.declared.statements.ColumnLines.{ColumnLines}
-use Rattle.mps_sections.specs.Statements.{stated, stated_sections}
-use Rattle.mps_model.specs.Meaning.{span_of, upper_or, column_of, model_of}
-use Rattle.mps_model.specs.Faults.{is_none_of, column_code, code_on, column_flaw, flaw_of_columns, MeantModel}
-use Rattle.mps_model.specs.Bounded.{is_bounded_column, has_integer_bounds}
+use Rattle.mps_model.specs.Meaning.{span_of, upper_or, column_of}
+use Rattle.mps_model.specs.Faults.{is_none_of, column_code, code_on, column_flaw}
+
+-- a column that is not integer, or has two bounds
+abbrev pub is_bounded_column : Col → Bool
+is_bounded_column c = not c.int || (is_some c.lo && is_some c.up)
 
 both : (a b : Bool) → a ≡ true → b ≡ true → a && b ≡ true
 both true b e f = f
@@ -18,13 +19,13 @@ both false b e f = cc
 
 -- the code of a column with this kind and these bounds
 abbrev code_by : Bool → Option ℚ → Option ℚ → Option ℕ
-code_by integer lower upper = if not integer then Some 25 else if is_none_of lower || is_none_of upper then Some 24 else None
+code_by integer lower upper = if integer && (is_none_of lower || is_none_of upper) then Some 24 else None
 
-no_code : (integer : Bool) (lower upper : Option ℚ) → code_by integer lower upper ≡ None → integer && is_some lower && is_some upper ≡ true
+no_code : (integer : Bool) (lower upper : Option ℚ) → code_by integer lower upper ≡ None → not integer || (is_some lower && is_some upper) ≡ true
 no_code true (Some l) (Some u) e = refl
 no_code true (Some l) None e = absurd (cc)
 no_code true None u e = absurd (cc)
-no_code false l u e = absurd (cc)
+no_code false l u e = refl
 
 pub flawless : (s : Sections) (intupper : Option ℕ) (columns : List ColumnLines) → column_flaw intupper s.bounds columns ≡ None → list_all is_bounded_column (map (column_of s intupper) columns) ≡ true
 flawless s intupper [] e = refl
@@ -37,10 +38,3 @@ flawless s intupper (c ∷ more) e = by (column_code intupper (span_of s.bounds 
         both (is_bounded_column (column_of s intupper c)) (list_all is_bounded_column (map (column_of s intupper) more))
         (no_code (span_of s.bounds c).integer (span_of s.bounds c).lower (upper_or intupper (span_of s.bounds c).integer (span_of s.bounds c).upper) is)
         (later h)
-
-bounded_model : (entries : List Entry) (intupper : Option ℕ) → flaw_of_columns entries intupper ≡ None → has_integer_bounds (model_of (stated_sections entries) intupper) ≡ true
-unfolding model_of flaw_of_columns
-bounded_model entries intupper e = flawless (stated_sections entries) intupper (stated entries).columns e
-
-pub meant-bounded : (text : List ℕ) (intupper : Option ℕ) (M : Program) → MeantModel text intupper M → has_integer_bounds M ≡ true
-meant-bounded text intupper M m = subst (λ N. has_integer_bounds N ≡ true) (sym m.is) (bounded_model m.entries intupper m.columns)

@@ -1,6 +1,6 @@
 -- The model that the lists of a whole text mean is lawful: its rows have ranges, its columns two bounds and entries that rise,
 -- its names differ, and no limit is passed.
-use Rattle.std.proofs.Common.{◌≡◌, ◌≢◌, ℕ, zero, suc, ◌+◌, ◌<◌, ◌≤◌, Bool, true, false, ◌&&◌, List, [], ◌∷◌, ◌++◌, map, length, refl, sym, ◌∙◌, ap, subst, arith, pos, length-append, Contains}
+use Rattle.std.proofs.Common.{◌≡◌, ◌≢◌, ℕ, zero, suc, ◌+◌, ◌<◌, ◌≤◌, Bool, true, false, ◌&&◌, ◌||◌, not, List, [], ◌∷◌, ◌++◌, map, length, get_or, refl, sym, ◌∙◌, ap, subst, arith, pos, length-append, inl, inr, Contains}
 use Rattle.std.specs.Prelude.{Option, None, Some, if◌then◌else◌, codes, bytes_eq, All, IsTrue, IsSome, is_some, sum_by}
 use Rattle.std.specs.List.{list_all}
 use Rattle.std.proofs.lemmas.Bool.{and_parts, or_left, or_parts, or_from, true≢false, false_from_ne_true}
@@ -27,10 +27,9 @@ use Rattle.mps_sections.proofs.NumberFacts.{is_zero-decides}
 use Rattle.mps_sections.proofs.StatedLimits.{not_among, row_among}
 use Rattle.mps_model.specs.Meaning.{row_numbers_beside, row_entries_from, row_of, column_of, model_of, free_name, objective_or, objective_name, second_name, beside_objective}
 use Rattle.mps_model.specs.Faults.{column_flaw}
-use Rattle.mps_model.specs.Bounded.{is_bounded_column}
 use Rattle.mps_model.proofs.EntryCounts.{few_entries}
 use Rattle.mps_model.proofs.FreeNames.{never_taken}
-use Rattle.mps_model.proofs.BoundedColumns.{flawless}
+use Rattle.mps_model.proofs.BoundedColumns.{is_bounded_column, flawless}
 
 -- ---- names
 
@@ -87,7 +86,7 @@ row_names_apart s keeps =
 
 -- ---- columns
 
-two_bounds : (integer : Bool) (lower upper : Option ℚ) → integer && is_some lower && is_some upper ≡ true → IsTrue integer → IsSome lower × IsSome upper
+two_bounds : (integer : Bool) (lower upper : Option ℚ) → not integer || (is_some lower && is_some upper) ≡ true → IsTrue integer → IsSome lower × IsSome upper
 two_bounds true (Some l) (Some u) e h = (refl, refl)
 two_bounds true (Some l) None e h = absurd (cc)
 two_bounds true None u e h = absurd (cc)

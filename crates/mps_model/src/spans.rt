@@ -100,9 +100,7 @@ impl Span {
     fn code(&self, intupper: Option<u64>) -> Option<u8>
         ensures { result ≡ column_code intupper self.now }
     {
-        if !self.integer {
-            Some(25)
-        } else if self.lower.is_none() || self.upper_or(intupper).is_none() {
+        if self.integer && (self.lower.is_none() || self.upper_or(intupper).is_none()) {
             Some(24)
         } else {
             None
@@ -165,7 +163,7 @@ pub(crate) fn spans_of(alloc: Global, sections: &Sections) -> Result<Vec<Span>, 
     Ok(spans)
 }
 
-/// The first column's line that lacks bounds or is continuous.
+/// The line of the first integer column that lacks a bound.
 pub(crate) fn column_flaw(
     intupper: Option<u64>,
     spans: &[Span],

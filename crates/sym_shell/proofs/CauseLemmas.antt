@@ -1,27 +1,34 @@
 -- Each reply has its exact cause.
 use Rattle.std.proofs.Common.{◌≡◌, ◌≢◌, ◌⊎◌, ℕ, ◌≤◌, List, [], ◌++◌, refl, sym, subst, ap, inl, inr, arith, ◌∙◌, Option, Some, None, Err}
 use Rattle.std.specs.Prelude.{codes, decimal, IsSome}
+use Rattle.std.specs.Option.{option_map}
 use Rattle.rational.specs.Rational.{ℚ}
 use Rattle.frac128.specs.Printing.{printed}
 use Rattle.lp_model.specs.Program.{Program, value}
+use Rattle.lp_model.specs.declared.answers.Answer.{Answer}
 use Rattle.tree_edit.specs.Sound.{PlainSearch}
-use Rattle.tree_search.specs.Causes.{IsJudgeable}
-use Rattle.tree_search.specs.Work.{cap_of}
+use Rattle.sym_env.specs.Enough.{IsEnough}
+use Rattle.sym_env.specs.Env.{PlainEnv, model_of}
+use Rattle.sym_env.specs.Solves.{Solves}
+use Rattle.sym_env.specs.declared.held.Held.{Held}
+use Rattle.sym_env.specs.declared.held.Held.TheVariants.{Nothing, Finished}
+use Rattle.sym_env.specs.declared.limits.Limits.{Limits}
 use Rattle.command_words.specs.Asks.{Asks, Load, Solve, Cert, Quit, Unknown, Misused, NoNumber, asks_of}
-use Rattle.branch_tree.specs.Limits.{node_limit}
+use Rattle.reply_texts.specs.Places.{block_text, step_line}
+use Rattle.reply_texts.specs.Texts.{ok_text, memory_text, column_lines, known_text}
 use Rattle.sym_shell.specs.State.{ShellState}
-use Rattle.sym_shell.specs.Texts.{ok_text, memory_text, column_lines, known_text, path_line, step_line}
 use Rattle.sym_shell.specs.Load.{LoadStep, ReadsFile, refusal_text}
-use Rattle.sym_shell.specs.Solve.{ShowsOptimum, ShowsEmptiness, AnswersSolve, Optimum, Emptiness, NodeStop, TreeStop, WideStop, Wanting, SolvesHeld, SolveStep}
+use Rattle.sym_shell.specs.Solve.{limits_of, Tells, ShowsOptimum, ShowsEmptiness, ShowsNoEnd, AnswersSolve, Optimum, Emptiness, NoEnd, NodeStop, TreeStop, PivotStop, WideStop, Wanting, Wants, SolvesEnv, SolveStep}
 use Rattle.sym_shell.specs.Shown.{point_shown}
-use Rattle.sym_shell.specs.Certify.{Writes, Written, TooLong, Failed, Certifies, CertStep}
+use Rattle.sym_shell.specs.Certify.{IsReadCertificate, Writes, Written, TooLong, Failed, Certifies, CertStep}
 use Rattle.sym_shell.specs.Certify as certify
 use Rattle.sym_shell.specs.Step.{AnswersTo, Step}
-use Rattle.sym_shell.specs.Kinds.{Kind, Optimal, Infeasible, StoppedNodes, StoppedTree, StoppedWide, Done, UnknownCommand, WrongArguments, NoModel, WrongNumber, NoAnswer, StoreFailed, FileTooLong, FaultyText, WantsMemory, Is, IsError}
+use Rattle.sym_shell.specs.Kinds.{Kind, Optimal, Infeasible, Unbounded, StoppedNodes, StoppedTree, StoppedPivots, StoppedWide, Done, UnknownCommand, WrongArguments, NoModel, WrongNumber, NoAnswer, StoreFailed, FileTooLong, FaultyText, WantsMemory, Is, IsError}
 use Rattle.sym_shell.specs.Causes.{NeedsModel, CauseOf, HasCauses}
 use Rattle.sym_shell.specs.declared.reading.Refusal.{Refusal}
 use Rattle.sym_shell.specs.declared.reading.Refusal.TheVariants as refusal
 use Rattle.sym_shell.proofs.KindLemmas.{one_kind}
+use Rattle.sym_shell.proofs.ReplyLemmas.{solves-model}
 
 -- what follows the first word of an optimum's first line
 abbrev value_tail : ℚ → ℕ → List ℕ
@@ -54,45 +61,68 @@ module _ (old : ShellState) (words : List (List ℕ)) (reply : List ℕ) (new : 
       }
       by refusal.Memory told cause = wants told
 
-  shows_cause : (limit : ℕ) (M : Program) → asks_of words ≡ Solve limit → old.model ≡ Some M → AnswersSolve M limit reply new.held → HasCause old words reply new
-  shows_cause limit M asked present (Optimum s) = record {
-    kind = Optimal;
-    is = (value_tail (value M 1 (point_shown M reply)) s.placed ++ column_lines M.cols (point_shown M reply) ++ codes "end\n", s.shown);
-    cause = record { limit = limit; model = M; asked = asked; present = present; is = s };
-  }
-  shows_cause limit M asked present (Emptiness s) = record {
-    kind = Infeasible;
-    is = (codes "nodes " ++ decimal s.placed ++ codes "\n", s.shown);
-    cause = record { limit = limit; model = M; asked = asked; present = present; is = s };
-  }
-  shows_cause limit M asked present (NodeStop s none) = record {
-    kind = StoppedNodes;
-    is = (known_text limit s.bound s.best, s.shown);
-    cause = record { limit = limit; model = M; asked = asked; present = present; is = s };
-  }
-  shows_cause limit M asked present (TreeStop s none) = record {
-    kind = StoppedTree;
-    is = (known_text s.placed s.bound s.best, s.shown);
-    cause = record { limit = limit; model = M; asked = asked; present = present; is = s };
-  }
-  shows_cause limit M asked present (WideStop s none) = record {
-    kind = StoppedWide;
-    is = (known_text s.placed s.bound s.best ++ path_line M s.path ++ step_line M s.step ++ codes "end\n", s.shown);
-    cause = record { limit = limit; model = M; asked = asked; present = present; is = s };
-  }
-  shows_cause limit M asked present (Wanting e none) = wants e
+  -- the bytes of an answer's reply are of its kind
+  shown_kind : (S : PlainSearch) (l : Limits) → AnswersSolve S l reply new.env → (k : Kind) × (Is k reply × ¬ IsError k)
+  shown_kind S l (Optimum s) = (Optimal, ((value_tail (value S.model 1 (point_shown S.model reply)) s.placed ++ column_lines S.model.cols (point_shown S.model reply) ++ codes "end\n", s.told.shown), λ e. e))
+  shown_kind S l (Emptiness s) = (Infeasible, ((codes "nodes " ++ decimal s.placed ++ codes "\n", s.told.shown), λ e. e))
+  shown_kind S l (NoEnd s) = (Unbounded, ((codes "nodes " ++ decimal s.placed ++ codes "\n", s.told.shown), λ e. e))
+  shown_kind S l (NodeStop s) = (StoppedNodes, ((known_text l.nodes s.bound s.best, s.told.shown), λ e. e))
+  shown_kind S l (TreeStop s) = (StoppedTree, ((known_text s.placed s.stop.bound s.stop.best, s.stop.told.shown), λ e. e))
+  shown_kind S l (PivotStop s) = (StoppedPivots, ((known_text s.placed s.stop.bound s.stop.best ++ block_text S.model s.place.path s.place.cuts s.place.basis ++ codes "end\n", s.stop.told.shown), λ e. e))
+  shown_kind S l (WideStop s) =
+      (StoppedWide, ((known_text s.placed s.stop.bound s.stop.best ++ block_text S.model s.place.path s.place.cuts s.place.basis ++ step_line S.model s.place.step ++ codes "end\n", s.stop.told.shown), λ e. e))
+  shown_kind S l (Wanting s) = (WantsMemory, ((codes "memory\n", s.told), λ e. e))
 
-  solve_cause : (limit : ℕ) → asks_of words ≡ Solve limit → SolveStep old limit reply new → HasCause old words reply new
-  solve_cause limit asked h = by old.model refl h.answer
+  shows_cause : (nodes pivots : ℕ) (S : PlainSearch) → asks_of words ≡ Solve nodes pivots → old.env.search ≡ Some S → AnswersSolve S (limits_of nodes pivots) reply new.env → HasCause old words reply new
+  unfolding shown_kind
+  shows_cause nodes pivots S asked present (Optimum s) = record {
+    kind = Optimal;
+    is = (shown_kind S (limits_of nodes pivots) (Optimum s)).1.0;
+    cause = record { nodes = nodes; pivots = pivots; search = S; asked = asked; present = present; is = s };
+  }
+  shows_cause nodes pivots S asked present (Emptiness s) = record {
+    kind = Infeasible;
+    is = (shown_kind S (limits_of nodes pivots) (Emptiness s)).1.0;
+    cause = record { nodes = nodes; pivots = pivots; search = S; asked = asked; present = present; is = s };
+  }
+  shows_cause nodes pivots S asked present (NoEnd s) = record {
+    kind = Unbounded;
+    is = (shown_kind S (limits_of nodes pivots) (NoEnd s)).1.0;
+    cause = record { nodes = nodes; pivots = pivots; search = S; asked = asked; present = present; is = s };
+  }
+  shows_cause nodes pivots S asked present (NodeStop s) = record {
+    kind = StoppedNodes;
+    is = (shown_kind S (limits_of nodes pivots) (NodeStop s)).1.0;
+    cause = record { nodes = nodes; pivots = pivots; search = S; asked = asked; present = present; is = s };
+  }
+  shows_cause nodes pivots S asked present (TreeStop s) = record {
+    kind = StoppedTree;
+    is = (shown_kind S (limits_of nodes pivots) (TreeStop s)).1.0;
+    cause = record { nodes = nodes; pivots = pivots; search = S; asked = asked; present = present; is = s };
+  }
+  shows_cause nodes pivots S asked present (PivotStop s) = record {
+    kind = StoppedPivots;
+    is = (shown_kind S (limits_of nodes pivots) (PivotStop s)).1.0;
+    cause = record { nodes = nodes; pivots = pivots; search = S; asked = asked; present = present; is = s };
+  }
+  shows_cause nodes pivots S asked present (WideStop s) = record {
+    kind = StoppedWide;
+    is = (shown_kind S (limits_of nodes pivots) (WideStop s)).1.0;
+    cause = record { nodes = nodes; pivots = pivots; search = S; asked = asked; present = present; is = s };
+  }
+  shows_cause nodes pivots S asked present (Wanting s) = wants s.told
+
+  solve_cause : (nodes pivots : ℕ) → asks_of words ≡ Solve nodes pivots → SolveStep old (limits_of nodes pivots) reply new → HasCause old words reply new
+  solve_cause nodes pivots asked h = by old.env.search refl h.answer
     where
-      by : (m : Option Program) → old.model ≡ m → SolvesHeld m limit reply old.held new.held → HasCause old words reply new
-      by (Some M) present s = shows_cause limit M asked present s
+      by : (search : Option PlainSearch) → old.env.search ≡ search → SolvesEnv old.env search (limits_of nodes pivots) reply new.env → HasCause old words reply new
+      by (Some S) present s = shows_cause nodes pivots S asked present s
       by None none s = elim s.0 [
         | inl e ↦ record { kind = NoModel; is = (codes "no model\n", e); cause = (subst NeedsModel (sym asked) tt, e, none) }
         | inr e ↦ wants e
       ]
 
-  writes_cause : (file : List ℕ) (S : PlainSearch) → asks_of words ≡ Cert file → old.model ≡ Some S.model → old.held ≡ Some S → Writes S file old.files old.faults reply new.files new.faults → HasCause old words reply new
+  writes_cause : (file : List ℕ) (S : PlainSearch) → asks_of words ≡ Cert file → old.env.search ≡ Some S → old.env.held ≡ Finished → Writes (IsReadCertificate S) file old.files old.faults reply new.files new.faults → HasCause old words reply new
   writes_cause file S asked present held (Written text is short sets told) = record {
     kind = Done;
     is = ([], told);
@@ -103,30 +133,30 @@ module _ (old : ShellState) (words : List (List ℕ)) (reply : List ℕ) (new : 
     is = (codes "file too long\n", told);
     cause = inr (record { file = file; search = S; asked = asked; present = present; held = held; is = (told, (text, (is, long))) });
   }
-  writes_cause file S asked present held (Failed rose kept told) = record {
+  writes_cause file S asked present held (Failed text is short rose kept told) = record {
     kind = StoreFailed;
     is = (codes "store\n", told);
-    cause = inr (record { file = file; search = S; asked = asked; present = present; held = held; is = (told, rose) });
+    cause = inr (record { file = file; search = S; asked = asked; present = present; held = held; is = (told, (text, (is, short, rose))) });
   }
   writes_cause file S asked present held (certify.Wanting kept told) = wants told
 
   cert_cause : (file : List ℕ) → asks_of words ≡ Cert file → CertStep old file reply new → HasCause old words reply new
-  cert_cause file asked h = by old.model old.held refl refl h.answer
+  cert_cause file asked h = by old.env.search old.env.held refl refl h.answer
     where
-      by : (m : Option Program) (held : Option PlainSearch) → old.model ≡ m → old.held ≡ held → Certifies m held old file reply new → HasCause old words reply new
+      by : (search : Option PlainSearch) (held : Held) → old.env.search ≡ search → old.env.held ≡ held → Certifies search held old file reply new → HasCause old words reply new
       by None held none e t = elim t.told [
         | inl told ↦ record { kind = NoModel; is = (codes "no model\n", told); cause = (subst NeedsModel (sym asked) tt, told, none) }
         | inr told ↦ wants told
       ]
-      by (Some M) None present none t = elim t.told [
-        | inl told ↦ record { kind = NoAnswer; is = (codes "no finished answer\n", told); cause = (file, (record { asks = asked; told = told }, subst IsSome (sym present) refl, none)) }
+      by (Some S) Nothing present none t = elim t.told [
+        | inl told ↦ record { kind = NoAnswer; is = (codes "no finished answer\n", told); cause = (file, (record { asks = asked; told = told }, (subst IsSome (sym present) refl, none))) }
         | inr told ↦ wants told
       ]
-      by (Some M) (Some S) present held w = writes_cause file S asked (present ∙ ap Some (sym w.0)) held w.1
+      by (Some S) Finished present held w = writes_cause file S asked present held w
 
   asked_cause : (a : Asks) → asks_of words ≡ a → AnswersTo a old reply new → HasCause old words reply new
   asked_cause (Load file intupper) asked h = load_cause file intupper asked h
-  asked_cause (Solve limit) asked h = solve_cause limit asked h
+  asked_cause (Solve nodes pivots) asked h = solve_cause nodes pivots asked h
   asked_cause (Cert file) asked h = cert_cause file asked h
   asked_cause Quit asked h = record { kind = Done; is = ([], h.answer); cause = inr (inr (asked, h.unchanged)) }
   asked_cause (Unknown word) asked h = elim h.answer [
@@ -142,50 +172,81 @@ module _ (old : ShellState) (words : List (List ℕ)) (reply : List ℕ) (new : 
     | inr e ↦ wants e
   ]
 
-  finishes : (M : Program) (limit : ℕ) → cap_of M ≤ limit → cap_of M ≤ node_limit → IsJudgeable M → AnswersSolve M limit reply new.held → ShowsOptimum M limit reply new.held ⊎ ShowsEmptiness M limit reply new.held ⊎ (reply ≡ memory_text)
-  finishes M limit enough roomy judgeable (Optimum s) = inl s
-  finishes M limit enough roomy judgeable (Emptiness s) = inr (inl s)
-  finishes M limit enough roomy judgeable (NodeStop s none) = let few = s.below_cap in absurd (omega arith)
-  finishes M limit enough roomy judgeable (TreeStop s none) = let small = s.small in absurd (omega arith)
-  finishes M limit enough roomy judgeable (WideStop s none) = absurd (judgeable s.path s.step s.wide)
-  finishes M limit enough roomy judgeable (Wanting e none) = inr (inr e)
+  -- a solve with enough of all ends with an answer
+  abbrev Ends : Program → Limits → Type 0
+  Ends M l = ShowsOptimum M l reply new.env ⊎ ShowsEmptiness M l reply new.env ⊎ ShowsNoEnd M l reply new.env ⊎ (reply ≡ memory_text)
 
-  completes : (M : Program) (limit : ℕ) → AnswersTo (asks_of words) old reply new → asks_of words ≡ Solve limit → old.model ≡ Some M → cap_of M ≤ limit → cap_of M ≤ node_limit → IsJudgeable M
-      → ShowsOptimum M limit reply new.held ⊎ ShowsEmptiness M limit reply new.held ⊎ (reply ≡ memory_text)
-  completes M limit h asked present enough roomy judgeable =
-      let step : SolveStep old limit reply new = subst (λ a. AnswersTo a old reply new) asked h in
-      finishes M limit enough roomy judgeable (subst (λ m. SolvesHeld m limit reply old.held new.held) present step.answer)
+  finishes : (S : PlainSearch) (l : Limits) → IsEnough S.model l → AnswersSolve S l reply new.env → Ends S.model l
+  finishes S l enough (Optimum s) = inl s
+  finishes S l enough (Emptiness s) = inr (inl s)
+  finishes S l enough (NoEnd s) = inr (inr (inl s))
+  finishes S l enough (NodeStop s) = absurd (s.short enough)
+  finishes S l enough (TreeStop s) = absurd (s.stop.short enough)
+  finishes S l enough (PivotStop s) = absurd (s.stop.short enough)
+  finishes S l enough (WideStop s) = absurd (s.stop.short enough)
+  finishes S l enough (Wanting s) = inr (inr (inr s.told))
 
-  keeps : (a : Asks) → AnswersTo a old reply new → reply ≢ ok_text → new.model ≡ old.model
-  keeps (Load file intupper) h other = elim h.answer [ inl loads ↦ absurd (other loads.ok) | inr refused ↦ refused.kept ]
-  keeps (Solve limit) h other = ap (λ (s : ShellState). s.model) h.unchanged
-  keeps (Cert file) h other = h.model
-  keeps Quit h other = ap (λ (s : ShellState). s.model) h.unchanged
-  keeps (Unknown word) h other = ap (λ (s : ShellState). s.model) h.unchanged
-  keeps Misused h other = ap (λ (s : ShellState). s.model) h.unchanged
-  keeps (NoNumber word) h other = ap (λ (s : ShellState). s.model) h.unchanged
+  completes : (S : PlainSearch) (nodes pivots : ℕ) → AnswersTo (asks_of words) old reply new → asks_of words ≡ Solve nodes pivots → old.env.search ≡ Some S → IsEnough S.model (limits_of nodes pivots) → Ends S.model (limits_of nodes pivots)
+  completes S nodes pivots h asked present enough =
+      let step : SolveStep old (limits_of nodes pivots) reply new = subst (λ a. AnswersTo a old reply new) asked h in
+      finishes S (limits_of nodes pivots) enough (subst (λ m. SolvesEnv old.env m (limits_of nodes pivots) reply new.env) present step.answer)
+
+  -- ---- what stays
+
+  told_model : (S : PlainSearch) (l : Limits) (answer : Answer) → Tells S.model l answer reply new.env → model_of new.env ≡ Some S.model
+  told_model S l answer t = ap model_of t.env_is ∙ ap Some t.solved.model
+
+  solved_model : (S : PlainSearch) (l : Limits) → AnswersSolve S l reply new.env → model_of new.env ≡ Some S.model
+  solved_model S l (Optimum s) = told_model S l _ s.told
+  solved_model S l (Emptiness s) = told_model S l _ s.told
+  solved_model S l (NoEnd s) = told_model S l _ s.told
+  solved_model S l (NodeStop s) = told_model S l _ s.told
+  solved_model S l (TreeStop s) = told_model S l _ s.stop.told
+  solved_model S l (PivotStop s) = told_model S l _ s.stop.told
+  solved_model S l (WideStop s) = told_model S l _ s.stop.told
+  solved_model S l (Wanting s) = ap model_of s.env_is ∙ ap Some (solves-model l S _ s.search s.solves)
+
+  solve_keeps : (l : Limits) (search : Option PlainSearch) → old.env.search ≡ search → SolvesEnv old.env search l reply new.env → model_of new.env ≡ model_of old.env
+  solve_keeps l None none h = ap model_of h.1
+  solve_keeps l (Some S) present h = solved_model S l h ∙ sym (ap (option_map (λ (S : PlainSearch). S.model)) present)
+
+  keeps : (a : Asks) → AnswersTo a old reply new → reply ≢ ok_text → model_of new.env ≡ model_of old.env
+  keeps (Load file intupper) h other = elim h.answer [ inl loads ↦ absurd (other loads.ok) | inr refused ↦ ap model_of refused.kept ]
+  keeps (Solve nodes pivots) h other = solve_keeps (limits_of nodes pivots) old.env.search refl h.answer
+  keeps (Cert file) h other = ap model_of h.env
+  keeps Quit h other = ap (λ (s : ShellState). model_of s.env) h.unchanged
+  keeps (Unknown word) h other = ap (λ (s : ShellState). model_of s.env) h.unchanged
+  keeps Misused h other = ap (λ (s : ShellState). model_of s.env) h.unchanged
+  keeps (NoNumber word) h other = ap (λ (s : ShellState). model_of s.env) h.unchanged
 
   -- a reply of another kind than an error's
   not_error : {P : Type 0} (k l : Kind) → IsError k → Is k reply → Is l reply → ¬ IsError l → P
   not_error k l error a b other = absurd (other (subst IsError (one_kind k l reply a b) error))
 
-  solve_holds : (limit : ℕ) (k : Kind) → IsError k → Is k reply → (m : Option Program) → SolvesHeld m limit reply old.held new.held → new.held ≡ old.held
-  solve_holds limit k error is None h = h.1
-  solve_holds limit k error is (Some M) (Optimum s) = not_error k Optimal error is (value_tail (value M 1 (point_shown M reply)) s.placed ++ column_lines M.cols (point_shown M reply) ++ codes "end\n", s.shown) (λ e. e)
-  solve_holds limit k error is (Some M) (Emptiness s) = not_error k Infeasible error is (codes "nodes " ++ decimal s.placed ++ codes "\n", s.shown) (λ e. e)
-  solve_holds limit k error is (Some M) (NodeStop s none) = not_error k StoppedNodes error is (known_text limit s.bound s.best, s.shown) (λ e. e)
-  solve_holds limit k error is (Some M) (TreeStop s none) = not_error k StoppedTree error is (known_text s.placed s.bound s.best, s.shown) (λ e. e)
-  solve_holds limit k error is (Some M) (WideStop s none) = not_error k StoppedWide error is (known_text s.placed s.bound s.best ++ path_line M s.path ++ step_line M s.step ++ codes "end\n", s.shown) (λ e. e)
-  solve_holds limit k error is (Some M) (Wanting e none) = not_error k WantsMemory error is (codes "memory\n", e) (λ e. e)
+  solve_holds : (l : Limits) (k : Kind) → IsError k → Is k reply → (search : Option PlainSearch) → SolvesEnv old.env search l reply new.env → new.env ≡ old.env
+  solve_holds l k error is None h = h.1
+  solve_holds l k error is (Some S) h = let shown = shown_kind S l h in not_error k shown.0 error is shown.1.0 shown.1.1
 
-  holds : (a : Asks) → AnswersTo a old reply new → (k : Kind) → IsError k → Is k reply → new.held ≡ old.held
-  holds (Load file intupper) h k error is = elim h.answer [ inl loads ↦ not_error k Done error is ([], loads.ok) (λ e. e) | inr refused ↦ refused.held ]
-  holds (Solve limit) h k error is = solve_holds limit k error is old.model h.answer
-  holds (Cert file) h k error is = h.held
-  holds Quit h k error is = ap (λ (s : ShellState). s.held) h.unchanged
-  holds (Unknown word) h k error is = ap (λ (s : ShellState). s.held) h.unchanged
-  holds Misused h k error is = ap (λ (s : ShellState). s.held) h.unchanged
-  holds (NoNumber word) h k error is = ap (λ (s : ShellState). s.held) h.unchanged
+  holds : (a : Asks) → AnswersTo a old reply new → (k : Kind) → IsError k → Is k reply → new.env ≡ old.env
+  holds (Load file intupper) h k error is = elim h.answer [ inl loads ↦ not_error k Done error is ([], loads.ok) (λ e. e) | inr refused ↦ refused.kept ]
+  holds (Solve nodes pivots) h k error is = solve_holds (limits_of nodes pivots) k error is old.env.search h.answer
+  holds (Cert file) h k error is = h.env
+  holds Quit h k error is = ap (λ (s : ShellState). s.env) h.unchanged
+  holds (Unknown word) h k error is = ap (λ (s : ShellState). s.env) h.unchanged
+  holds Misused h k error is = ap (λ (s : ShellState). s.env) h.unchanged
+  holds (NoNumber word) h k error is = ap (λ (s : ShellState). s.env) h.unchanged
+
+  not_done : {P : Type 0} → reply ≡ memory_text → reply ≡ ok_text → P
+  not_done wanting done = let same : WantsMemory ≡ Done = one_kind WantsMemory Done reply (codes "memory\n", wanting) ([], done) in absurd (cc)
+
+  waits : (a : Asks) → AnswersTo a old reply new → reply ≡ memory_text → ((nodes pivots : ℕ) → a ≢ Solve nodes pivots) → new.env ≡ old.env
+  waits (Load file intupper) h wanting other = elim h.answer [ inl loads ↦ not_done wanting loads.ok | inr refused ↦ refused.kept ]
+  waits (Solve nodes pivots) h wanting other = absurd (other nodes pivots refl)
+  waits (Cert file) h wanting other = h.env
+  waits Quit h wanting other = ap (λ (s : ShellState). s.env) h.unchanged
+  waits (Unknown word) h wanting other = ap (λ (s : ShellState). s.env) h.unchanged
+  waits Misused h wanting other = ap (λ (s : ShellState). s.env) h.unchanged
+  waits (NoNumber word) h wanting other = ap (λ (s : ShellState). s.env) h.unchanged
 
 pub step-causes : (old : ShellState) (words : List (List ℕ)) (reply : List ℕ) (new : ShellState) → Step old words reply new → HasCauses old words reply new
 unfolding Step
@@ -195,7 +256,8 @@ step-causes old words reply new h =
       kind = found.kind;
       is = found.is;
       only = λ k is. subst (λ j. CauseOf j old words reply new) (one_kind found.kind k reply found.is is) found.cause;
-      complete = λ M limit asked present enough roomy judgeable. completes old words reply new M limit h asked present enough roomy judgeable;
+      complete = λ S nodes pivots asked present enough. completes old words reply new S nodes pivots h asked present enough;
       kept = λ other. keeps old words reply new (asks_of words) h other;
-      held = λ k error is. holds old words reply new (asks_of words) h k error is;
+      refused = λ k error is. holds old words reply new (asks_of words) h k error is;
+      wanted = λ wanting other. waits old words reply new (asks_of words) h wanting other;
     }

@@ -1,31 +1,33 @@
 -- The certificate of a model whose names are words of a line.
-use Rattle.std.proofs.Common.{◌≡◌, ℕ, ◌≤◌, true, false, List, [], ◌∷◌, ◌++◌, map, refl, subst, sym, ap, ◌∙◌, Option, Some, Ok, Err, Result}
-use Rattle.std.specs.Prelude.{IfOk, OnOk, OnErr, is_ok, is_err, if◌then◌else◌}
+use Rattle.std.proofs.Common.{◌≡◌, ℕ, ◌≤◌, true, false, List, [], ◌∷◌, ◌++◌, map, refl, subst, sym, ap, ◌∙◌, Option, Some, None, Ok, Err, Result}
+use Rattle.std.specs.Prelude.{IfSome, OnOk, OnErr, Vec, is_ok, is_err, if◌then◌else◌}
+use Rattle.std.specs.declared.alloc.Global.{Global}
 use Rattle.std.specs.List.{All}
+use Rattle.std.specs.Option.{option_map}
 use Rattle.std.proofs.lemmas.List.Elements.{All-nil, All-cons, All-head, All-tail}
 use Rattle.lp_model.specs.Program.{Program}
 use Rattle.lp_model.specs.declared.types.Col.{Col}
 use Rattle.lp_model.specs.declared.types.Row.{Row}
 use Rattle.mps_model.specs.PlainNames.{IsPlainName, HasPlainNames, HasPlainRows}
-use Rattle.tree_edit.specs.Sound.{PlainSearch, IsSound}
+use Rattle.tree_edit.specs.Sound.{PlainSearch}
 use Rattle.cert_check.specs.Laws.{AcceptedLaw, VerdictLaw, IsTrueClaim}
-use Rattle.cert_text.specs.Text.{MeantCertificate}
 use Rattle.cert_check.specs.Verdict.{IsVerdict}
 use Rattle.cert_text.specs.Whole.{IsCertificate}
 use Rattle.cert_text.specs.declared.cert.Claim.{Claim}
 use Rattle.cert_text.specs.declared.cert.Cert.{Cert}
 use Rattle.cert_check.specs.declared.verdict.Verdict.{Verdict}
 use Rattle.cert_check.specs.declared.verdict.Verdict.TheVariants.{Accepted}
-use Rattle.tree_cert.specs.Certificates.{IsCertificateOf}
-use Rattle.tree_cert.specs.CertText.{IsWord, HasWordNames, HasCertWords, cert_text}
-use Rattle.tree_cert.specs.Laws.{NamesLaw}
+use Rattle.tree_cert.specs.CertText.{IsWord, HasWordNames}
 use Rattle.sym_io.specs.Faults.{Rose}
 use Rattle.sym_io.specs.Files.{Files, KeepsOthers, Sets, Puts}
-use Rattle.sym_io.specs.declared.traits.Failed.{Failed}
-use Rattle.sym_shell.specs.Loaded.{PlainLoaded}
-use Rattle.sym_shell.specs.Held.{present_of}
-use Rattle.sym_shell.specs.State.{shell_state}
-use Rattle.sym_shell.specs.Certify.{IsCertificateText, Writes, Certifies, CertStep}
+use Rattle.sym_io.specs.declared.traits.Failed.{Failed as SinkFault}
+use Rattle.sym_env.specs.Certificates.{IsCertificateText, IsCertAnswer}
+use Rattle.sym_env.specs.Env.{PlainEnv}
+use Rattle.sym_env.specs.declared.env.EnvFault.{EnvFault}
+use Rattle.sym_env.specs.declared.held.Held.{Held}
+use Rattle.sym_env.specs.declared.held.Held.TheVariants.{Nothing, Finished}
+use Rattle.sym_shell.specs.State.{shell_state, HasWords}
+use Rattle.sym_shell.specs.Certify.{IsReadCertificate, Writes, Written, TooLong, Failed, Wanting, Certifies, CertStep}
 
 plain-word : (name : List ℕ) → IsPlainName name → IsWord name
 plain-word name p = record { some = p.some; one_line = p.one_line; one_word = p.one_word }
@@ -43,20 +45,6 @@ row-words (r ∷ rs) h =
 word-names : (M : Program) → HasPlainNames M → HasPlainRows M → HasWordNames M
 word-names M columns rows = record { columns = column-words M.cols columns; rows = row-words M.rows rows }
 
--- what was printed of a search's certificate
-pub certificate-text : {V E : Type 0} (items : V → List ℕ) (S : PlainSearch) (cert : Cert) (r : Result V E) → NamesLaw → VerdictLaw → AcceptedLaw → IsSound S → HasPlainNames S.model → HasPlainRows S.model
-    → IsCertificateOf S cert → IsCertificate cert → IsVerdict S.model cert (Accepted cert.claim)
-    → IfOk r (λ text. items text ≡ cert_text cert) → IfOk r (λ text. IsCertificate cert → HasCertWords cert → MeantCertificate (items text) cert) → IfOk r (λ text. IsCertificateText S (items text))
-certificate-text items S cert (Ok text) names verdict accepted sound plain rows exact whole is told states = record {
-  cert = cert;
-  exact = exact;
-  is = told;
-  stated = states whole (names S cert sound exact (word-names S.model plain rows));
-  accepted = is;
-  true_claim = accepted S.model cert (verdict S.model cert cert.claim whole is).1;
-}
-certificate-text items S cert (Err e) names verdict accepted sound plain rows exact whole is told states = tt
-
 -- an accepted claim is true
 pub true_claim : (M : Program) (cert : Cert) (verdict : Verdict) → VerdictLaw → AcceptedLaw → IsCertificate cert → IsVerdict M cert verdict → (claim : Claim) → verdict ≡ Accepted claim → IsTrueClaim M claim
 true_claim M cert verdict judged accepted whole is claim e =
@@ -69,21 +57,40 @@ pub told : {E P : Type 0} (r : Result (Unit {0}) E) (old new text : List ℕ) �
 told (Ok done) old new text e empty f = f (e ∙ ap (λ t. t ++ text) empty)
 told (Err fault) old new text e empty f = tt
 
-pub put-failed : (r : Result (Unit {0}) Failed) (files files' : Option Files) (name bytes : List ℕ) (a b : ℕ) → is_err r ≡ true → Puts files files' name bytes r → OnErr r (Rose a b) → Rose a b × KeepsOthers files files' name
-put-failed (Ok done) files files' name bytes a b is p f = absurd (cc)
-put-failed (Err failed) files files' name bytes a b is p f = (f, p)
-
-pub put-written : (r : Result (Unit {0}) Failed) (files files' : Option Files) (name bytes : List ℕ) → is_err r ≡ false → Puts files files' name bytes r → Sets files files' name bytes
+pub put-written : (r : Result (Unit {0}) SinkFault) (files files' : Option Files) (name bytes : List ℕ) → is_err r ≡ false → Puts files files' name bytes r → Sets files files' name bytes
 put-written (Ok done) files files' name bytes is p = p
 put-written (Err failed) files files' name bytes is p = absurd (cc)
 
--- what was written of the answer that is held
-pub cert-step : (loaded : Option PlainLoaded) (l : PlainLoaded) (S : PlainSearch) (files files' : Option Files) (faults faults' : ℕ) (name reply : List ℕ) → loaded ≡ Some l → Some S ≡ (present_of (Some l)).held → S.model ≡ l.search.model
-    → faults ≤ faults' → Writes S name files faults reply files' faults' → CertStep (shell_state (present_of loaded) files faults) name reply (shell_state (present_of loaded) files' faults')
-cert-step loaded l S files files' faults faults' name reply is held same later writes =
-    subst (λ o. CertStep (shell_state (present_of o) files faults) name reply (shell_state (present_of o) files' faults')) (sym is) (record {
-      model = refl;
-      held = refl;
-      later = later;
-      answer = subst (λ h. Certifies (Some l.search.model) h (shell_state (present_of (Some l)) files faults) name reply (shell_state (present_of (Some l)) files' faults')) held (same, writes);
-    })
+pub put-failed : (r : Result (Unit {0}) SinkFault) (files files' : Option Files) (faults faults' : ℕ) (name bytes : List ℕ) → is_err r ≡ true → Puts files files' name bytes r → OnErr r (Rose faults faults') → Rose faults faults' × KeepsOthers files files' name
+put-failed (Ok done) files files' faults faults' name bytes is p rose = absurd (cc)
+put-failed (Err failed) files files' faults faults' name bytes is p rose = (rose, p)
+
+-- what holds of a text holds of what was written
+pub writes-as : (P Q : List ℕ → Type 0) (name : List ℕ) (files : Option Files) (faults : ℕ) (reply : List ℕ) (files' : Option Files) (faults' : ℕ) → ((text : List ℕ) → P text → Q text)
+    → Writes P name files faults reply files' faults' → Writes Q name files faults reply files' faults'
+writes-as P Q name files faults reply files' faults' f (Written text is short sets told) = Written text (f text is) short sets told
+writes-as P Q name files faults reply files' faults' f (TooLong text is long kept told) = TooLong text (f text is) long kept told
+writes-as P Q name files faults reply files' faults' f (Failed text is short rose kept told) = Failed text (f text is) short rose kept told
+writes-as P Q name files faults reply files' faults' f (Wanting kept told) = Wanting kept told
+
+read-certificate : (S : PlainSearch) (text : List ℕ) → HasPlainNames S.model → HasPlainRows S.model → IsCertificateText S text → IsReadCertificate S text
+read-certificate S text plain rows is = record { is = is; stated = is.stated (word-names S.model plain rows) }
+
+-- ---- the answer that is held
+
+module _ (env : PlainEnv) (words : HasWords env) (files files' : Option Files) (faults faults' : ℕ) (name reply : List ℕ) where
+  abbrev Told : Option PlainSearch → Held → Type 0
+  Told search held = Certifies search held (shell_state env files faults) name reply (shell_state env files' faults')
+
+  step : faults ≤ faults' → Told env.search env.held → CertStep (shell_state env files faults) name reply (shell_state env files' faults')
+  step later told = record { env = refl; later = later; answer = told }
+
+  -- the certificate was made, and its text written
+  pub cert-written : (r : Result (Vec ℕ Global) EnvFault) (text : Vec ℕ Global) (bytes : List ℕ) → r ≡ Ok text → IsCertAnswer env.search env.held r → bytes ≡ text.items → faults ≤ faults'
+      → Writes (λ written. written ≡ bytes) name files faults reply files' faults' → CertStep (shell_state env files faults) name reply (shell_state env files' faults')
+  cert-written r text bytes is answer same later writes = step later (by env.search env.held words (subst (IsCertAnswer env.search env.held) is answer))
+    where
+      by : (search : Option PlainSearch) (held : Held) → IfSome (option_map (λ (S : PlainSearch). S.model) search) (λ M. HasPlainNames M × HasPlainRows M) → IsCertAnswer search held (Ok text) → Told search held
+      by None held w h = absurd (cc)
+      by (Some S) Nothing w h = absurd (cc)
+      by (Some S) Finished w h = writes-as (λ written. written ≡ bytes) (IsReadCertificate S) name files faults reply files' faults' (λ t e. subst (IsReadCertificate S) (sym (e ∙ same)) (read-certificate S text.items w.0 w.1 h)) writes

@@ -1,7 +1,7 @@
 -- A reply is of one kind: its first bytes tell which.
 use Rattle.std.proofs.Common.{◌≡◌, ℕ, ◌+◌, ◌*◌, List, ◌++◌, get_or, refl, sym, ap, ◌∙◌, if◌then◌else◌}
 use Rattle.std.specs.Prelude.{nat_eq}
-use Rattle.sym_shell.specs.Kinds.{Kind, Optimal, Infeasible, StoppedNodes, StoppedTree, StoppedWide, Done, UnknownCommand, WrongArguments, NoModel, WrongNumber, NoAnswer, StoreFailed, FileTooLong, FaultyText, WantsMemory, front_of, Is}
+use Rattle.sym_shell.specs.Kinds.{Kind, Optimal, Infeasible, Unbounded, StoppedNodes, StoppedTree, StoppedPivots, StoppedWide, Done, UnknownCommand, WrongArguments, NoModel, WrongNumber, NoAnswer, StoreFailed, FileTooLong, FaultyText, WantsMemory, front_of, Is}
 
 -- by the two digits of an error
 error_kind : ℕ → Kind
@@ -17,26 +17,28 @@ error_kind n =
     else WantsMemory
 
 stop_kind : ℕ → Kind
-stop_kind byte = if nat_eq byte 110 then StoppedNodes else if nat_eq byte 116 then StoppedTree else StoppedWide
+stop_kind byte = if nat_eq byte 110 then StoppedNodes else if nat_eq byte 116 then StoppedTree else if nat_eq byte 112 then StoppedPivots else StoppedWide
 
--- by the second byte
-kind_by : ℕ → ℕ → ℕ → Kind
-kind_by second digits ninth =
-    if nat_eq second 112 then Optimal
-    else if nat_eq second 110 then Infeasible
-    else if nat_eq second 116 then stop_kind ninth
-    else if nat_eq second 107 then Done
+-- by the first byte, and for `o` by the second
+kind_by : ℕ → ℕ → ℕ → ℕ → Kind
+kind_by first second digits ninth =
+    if nat_eq first 111 then (if nat_eq second 112 then Optimal else Done)
+    else if nat_eq first 105 then Infeasible
+    else if nat_eq first 117 then Unbounded
+    else if nat_eq first 115 then stop_kind ninth
     else error_kind digits
 
 kind_of : List ℕ → Kind
-kind_of reply = kind_by (get_or reply 1 0) (10 * get_or reply 6 0 + get_or reply 7 0) (get_or reply 8 0)
+kind_of reply = kind_by (get_or reply 0 0) (get_or reply 1 0) (10 * get_or reply 6 0 + get_or reply 7 0) (get_or reply 8 0)
 
 kind_of-front : (k : Kind) (rest : List ℕ) → kind_of (front_of k ++ rest) ≡ k
 unfolding kind_of kind_by stop_kind error_kind
 kind_of-front Optimal rest = refl
 kind_of-front Infeasible rest = refl
+kind_of-front Unbounded rest = refl
 kind_of-front StoppedNodes rest = refl
 kind_of-front StoppedTree rest = refl
+kind_of-front StoppedPivots rest = refl
 kind_of-front StoppedWide rest = refl
 kind_of-front Done rest = refl
 kind_of-front UnknownCommand rest = refl

@@ -1,7 +1,5 @@
-pub mod TextLemmas
 pub mod ReplyLemmas
 pub mod StepLemmas
-pub mod SearchableLemmas
 pub mod KindLemmas
 pub mod CauseLemmas
 pub mod CertLemmas

@@ -12,22 +12,21 @@ use Rattle.program_words.specs.Forms.{Script, TakesWords}
 use Rattle.program_words.specs.Laws.{IsRunForm, AsksScript, IsCheckForm, AsksCheck}
 use Rattle.program_words.proofs.FormLemmas.{run_law, check_law}
 use Rattle.sym_shell.specs.Causes.{IsAnswered}
-use Rattle.sym_shell.specs.Present.{present}
+use Rattle.sym_env.specs.Env.{PlainEnv, no_model}
 use Rattle.sym_shell.specs.Run.{around, RunsAs, ShellToldLaw}
 use Rattle.sym_shell.specs.Shell.{state_of, quits, ShellStep}
-use Rattle.sym_shell.specs.State.{Present, nothing_present, ShellState, shell_state}
-use Rattle.sym_shell.specs.declared.shell.Shell.{Shell}
+use Rattle.sym_shell.specs.State.{ShellState, shell_state}
 use Rattle.sym_shell.proofs.CauseLemmas.{step-causes}
 
-answered : (old : Stand Shell) (words : Command) (reply : List ℕ) (new : Stand Shell) → ShellStep old words reply new → IsAnswered (state_of old) words reply (state_of new)
+answered : (old : Stand PlainEnv) (words : Command) (reply : List ℕ) (new : Stand PlainEnv) → ShellStep old words reply new → IsAnswered (state_of old) words reply (state_of new)
 answered old words reply new s = record { step = s; causes = step-causes (state_of old) words reply (state_of new) s }
 
 -- a run of a fresh shell is a run from the start
-pub script_run : (shell shell' : Shell) (before after : Outside) (files files' : Option Files) (faults faults' status : ℕ) → present shell ≡ nothing_present
+pub script_run : (shell shell' : PlainEnv) (before after : Outside) (files files' : Option Files) (faults faults' status : ℕ) → shell ≡ no_model
     → IsRun (RequestStep ShellStep) quits (stand shell files faults) before (stand shell' files' faults') after status → RunsAs Script (around before after files files' faults faults') status
 script_run shell shell' before after files files' faults faults' status none run = (
-  present shell',
-  subst (λ (held : Present). IsRun (RequestStep IsAnswered) quits (shell_state held files faults) before (shell_state (present shell') files' faults') after status) none
+  shell',
+  subst (λ (env : PlainEnv). IsRun (RequestStep IsAnswered) quits (shell_state env files faults) before (shell_state shell' files' faults') after status) none
       (IsRun-through state_of ShellStep IsAnswered answered quits (stand shell files faults) before (stand shell' files' faults') after status run),
 )
 

@@ -18,7 +18,7 @@ use Rattle.lp_model.specs.declared.types.Col.{Col}
 use Rattle.mps_model.specs.PlainNames.{IsPlainName, HasPlainNames}
 use Rattle.script_session.specs.Request.{Command}
 use Rattle.script_session.specs.Script.{words_of}
-use Rattle.sym_shell.specs.Texts.{column_line, column_lines, value_line, optimal_text}
+use Rattle.reply_texts.specs.Texts.{column_line, column_lines, value_line, optimal_text}
 use Rattle.sym_shell.specs.Shown.{lines_shown, is_line_of, number_in, number_in_word, or_zero, number_among, point_shown, value_shown}
 use Rattle.sym_shell.proofs.ShownWords.{decimal-plain, printed-plain, tested-plain, words_of-name, words_of-more, joined-one_line, lines_shown-more}
 

@@ -1,16 +1,29 @@
 -- From what is asked to the words that ask it.
-use Rattle.std.proofs.Common.{◌≡◌, ℕ, List, ap, sym, subst, Option, Ok, Err, Result}
-use Rattle.std.specs.Prelude.{OnOk, OnErr}
-use Rattle.command_words.specs.Asks.{Asks, asks_of}
+use Rattle.std.proofs.Common.{◌≡◌, ◌⊎◌, ℕ, ◌≤◌, List, refl, ap, sym, subst, ◌∙◌, inl, inr, Option, Some, None, Ok, Err, Result}
+use Rattle.std.specs.Prelude.{OnOk, OnErr, IfOk, IfSome}
+use Rattle.std.specs.Option.{option_map}
+use Rattle.command_words.specs.Asks.{Asks, Solve, asks_of}
 use Rattle.sym_io.specs.Files.{Files}
 use Rattle.lp_model.specs.Program.{Program}
-use Rattle.sym_shell.specs.State.{Present, ShellState, shell_state}
-use Rattle.sym_shell.specs.Solve.{SolvesHeld, SolveStep}
+use Rattle.mps_model.specs.Faults.{MeantModel}
+use Rattle.mps_model.specs.PlainNames.{HasPlainNames, HasPlainRows}
+use Rattle.tree_edit.specs.Sound.{PlainSearch}
+use Rattle.sym_env.specs.Env.{PlainEnv, Holds}
+use Rattle.sym_env.specs.declared.limits.Limits.{Limits}
+use Rattle.reply_texts.specs.Texts.{ok_text, memory_text}
+use Rattle.sym_shell.specs.State.{ShellState, shell_state, HasWords}
+use Rattle.sym_shell.specs.Load.{HasText, LoadStep}
+use Rattle.sym_shell.specs.Solve.{limits_of, SolvesEnv, SolveStep}
 use Rattle.sym_shell.specs.Step.{AnswersTo, Step}
+use Rattle.sym_shell.specs.declared.reading.Refusal.TheVariants as refusal
 
 pub on_ok : {E P Q : Type 0} (r : Result (Unit {0}) E) → (P → Q) → OnOk r P → OnOk r Q
 on_ok (Ok done) f h = f h
 on_ok (Err e) f h = h
+
+pub on_ok_if : {E P Q : Type 0} (r : Result (Unit {0}) E) → (Q → P) → IfOk r (λ _. Q) → OnOk r P
+on_ok_if (Ok done) f h = f h
+on_ok_if (Err e) f h = tt
 
 pub step_of : (words : List (List ℕ)) (asks : Asks) (old new : ShellState) (reply : List ℕ) → asks ≡ asks_of words → AnswersTo asks old reply new → Step old words reply new
 unfolding Step
@@ -30,9 +43,37 @@ pub on_err : {E P Q : Type 0} (r : Result (Unit {0}) E) → (P → Q) → OnErr 
 on_err (Ok done) f h = tt
 on_err (Err e) f h = f h
 
--- a search leaves the model and the files
-pub solve-step : (old new : Present) (files : Option Files) (faults limit : ℕ) (reply : List ℕ) → new.model ≡ old.model → SolvesHeld old.model limit reply old.held new.held → SolveStep (shell_state old files faults) limit reply (shell_state new files faults)
-solve-step old new files faults limit reply same solves = record {
-  unchanged = ap (λ (m : Option Program). record { model = m; held = new.held; files = files; faults = faults }) same;
-  answer = solves;
+-- a solve leaves the files
+pub solve-step : (old new : PlainEnv) (files : Option Files) (faults : ℕ) (l : Limits) (reply : List ℕ) → SolvesEnv old old.search l reply new → SolveStep (shell_state old files faults) l reply (shell_state new files faults)
+solve-step old new files faults l reply solves = record { files = refl; faults = refl; answer = solves }
+
+pub some-solve-step : {E : Type 0} (r : Result (Unit {0}) E) (asks : Asks) (nodes pivots : ℕ) (old new : PlainEnv) (files : Option Files) (faults : ℕ) → asks ≡ Solve nodes pivots
+    → OnErr r ((bytes : List ℕ) × SolvesEnv old old.search (limits_of nodes pivots) bytes new) → OnErr r ((bytes : List ℕ) × AnswersTo asks (shell_state old files faults) bytes (shell_state new files faults))
+some-solve-step (Ok done) asks nodes pivots old new files faults e h = tt
+some-solve-step (Err f) asks nodes pivots old new files faults e h =
+    (h.0, subst (λ a. AnswersTo a (shell_state old files faults) h.0 (shell_state new files faults)) (sym e) (solve-step old new files faults (limits_of nodes pivots) h.0 h.1))
+
+-- ---- a model that is loaded
+
+-- the reply tells whether it was
+pub load-step : (old new : PlainEnv) (M : Program) (files files' : Option Files) (faults faults' : ℕ) (name : List ℕ) (intupper : Option ℕ) (reply : List ℕ) → files' ≡ files → faults ≤ faults' → HasText files name (λ text. MeantModel text intupper M)
+    → ((reply ≡ ok_text) × Holds M new) ⊎ ((reply ≡ memory_text) × (new ≡ old)) → LoadStep (shell_state old files faults) name intupper reply (shell_state new files' faults')
+load-step old new M files files' faults faults' name intupper reply kept later read h = record {
+  files = kept;
+  later = later;
+  answer = elim h [
+    | inl h ↦ inl (record { ok = h.0; model = M; read = read; holds = h.1 })
+    | inr h ↦ inr (record { refusal = refusal.Memory; told = h.0; cause = tt; kept = h.1 })
+  ];
 }
+
+pub wants-step : (old new : PlainEnv) (files files' : Option Files) (faults faults' : ℕ) (name : List ℕ) (intupper : Option ℕ) → files' ≡ files → faults ≤ faults' → new ≡ old
+    → LoadStep (shell_state old files faults) name intupper memory_text (shell_state new files' faults')
+wants-step old new files files' faults faults' name intupper kept later same = record { files = kept; later = later; answer = inr (record { refusal = refusal.Memory; told = refl; cause = tt; kept = same }) }
+
+pub holds-words : (M : Program) (env : PlainEnv) → HasPlainNames M → HasPlainRows M → Holds M env → HasWords env
+holds-words M env plain rows h = subst (λ (m : Option Program). IfSome m (λ N. HasPlainNames N × HasPlainRows N)) (sym (ap (option_map (λ (S : PlainSearch). S.model)) h.search_is ∙ ap Some h.fresh.model)) (plain, rows)
+
+pub load-words : (old new : PlainEnv) (M : Program) (reply : List ℕ) → HasPlainNames M → HasPlainRows M → HasWords old → ((reply ≡ ok_text) × Holds M new) ⊎ ((reply ≡ memory_text) × (new ≡ old)) → HasWords new
+load-words old new M reply plain rows words (inl h) = holds-words M new plain rows h.1
+load-words old new M reply plain rows words (inr h) = subst HasWords (sym h.1) words

@@ -4,27 +4,28 @@ use Rattle.std.specs.Prelude.{◌≡◌, ◌≢◌, ◌⊎◌, ℕ, ◌<◌, ◌
 use Rattle.sym_io.specs.Faults.{Rose}
 use Rattle.sym_io.specs.Files.{Sets}
 use Rattle.sym_io.specs.declared.traits.TheConstants.{MAX_FILE_LENGTH}
-use Rattle.lp_model.specs.Program.{Program}
 use Rattle.tree_edit.specs.Sound.{PlainSearch}
-use Rattle.tree_search.specs.Causes.{IsJudgeable}
-use Rattle.tree_search.specs.Work.{cap_of}
+use Rattle.sym_env.specs.Enough.{IsEnough}
+use Rattle.sym_env.specs.Env.{model_of}
+use Rattle.sym_env.specs.declared.held.Held.TheVariants.{Nothing, Finished}
+use Rattle.sym_env.specs.declared.limits.Limits.{Limits}
 use Rattle.command_words.specs.Asks.{Asks, Load, Solve, Cert, Quit, Unknown, Misused, NoNumber, asks_of}
-use Rattle.branch_tree.specs.Limits.{node_limit}
+use Rattle.reply_texts.specs.Texts.{ok_text, unknown_text, arguments_text, no_model_text, no_answer_text, number_text, store_text, file_too_long_text, mps_text, memory_text}
 use Rattle.sym_shell.specs.State.{ShellState}
-use Rattle.sym_shell.specs.Texts.{ok_text, unknown_text, arguments_text, no_model_text, no_answer_text, number_text, store_text, file_too_long_text, mps_text, memory_text}
 use Rattle.sym_shell.specs.Load.{HasText, IsMissing, IsTooLong, IsFaulty, Loads}
-use Rattle.sym_shell.specs.Solve.{ShowsOptimum, ShowsEmptiness, ShowsNodeStop, ShowsTreeStop, ShowsWideStop}
-use Rattle.sym_shell.specs.Certify.{IsCertificateText}
+use Rattle.sym_shell.specs.Solve.{limits_of, ShowsOptimum, ShowsEmptiness, ShowsNoEnd, ShowsNodeStop, ShowsTreeStop, ShowsPivotStop, ShowsWideStop}
+use Rattle.sym_shell.specs.Certify.{IsReadCertificate}
 use Rattle.sym_shell.specs.Step.{Step}
-use Rattle.sym_shell.specs.Kinds.{Kind, Optimal, Infeasible, StoppedNodes, StoppedTree, StoppedWide, Done, UnknownCommand, WrongArguments, NoModel, WrongNumber, NoAnswer, StoreFailed, FileTooLong, FaultyText, WantsMemory, Is, IsError}
+use Rattle.sym_shell.specs.Kinds.{Kind, Optimal, Infeasible, Unbounded, StoppedNodes, StoppedTree, StoppedPivots, StoppedWide, Done, UnknownCommand, WrongArguments, NoModel, WrongNumber, NoAnswer, StoreFailed, FileTooLong, FaultyText, WantsMemory, Is, IsError}
 
--- `solve` of the model that is present, which may place `limit` results, and P of both
-pub record Solved (old : ShellState) (words : List (List ℕ)) (P : Program → ℕ → Type 0) : Type 0 where
-  pub limit : ℕ
-  pub model : Program
-  pub asked : asks_of words ≡ Solve limit
-  pub present : old.model ≡ Some model
-  pub is : P model limit
+-- `solve` of the search that the environment has, which may go so far, and P of both
+pub record Solved (old : ShellState) (words : List (List ℕ)) (P : PlainSearch → Limits → Type 0) : Type 0 where
+  pub nodes : ℕ
+  pub pivots : ℕ
+  pub search : PlainSearch
+  pub asked : asks_of words ≡ Solve nodes pivots
+  pub present : old.env.search ≡ Some search
+  pub is : P search (limits_of nodes pivots)
 
 -- `load` of a file, and P of its name and of the bound of integer columns without one
 pub record Loaded (words : List (List ℕ)) (P : List ℕ → Option ℕ → Type 0) : Type 0 where
@@ -38,14 +39,14 @@ pub record Certified (old : ShellState) (words : List (List ℕ)) (P : List ℕ 
   pub file : List ℕ
   pub search : PlainSearch
   pub asked : asks_of words ≡ Cert file
-  pub present : old.model ≡ Some search.model
-  pub held : old.held ≡ Some search
+  pub present : old.env.search ≡ Some search
+  pub held : old.env.held ≡ Finished
   pub is : P file search
 
 -- a command that needs a model
 abbrev pub NeedsModel : Asks → Type 0
 NeedsModel (Load file intupper) = ⊥
-NeedsModel (Solve limit) = Unit {0}
+NeedsModel (Solve nodes pivots) = Unit {0}
 NeedsModel (Cert file) = Unit {0}
 NeedsModel Quit = ⊥
 NeedsModel (Unknown word) = ⊥
@@ -59,30 +60,32 @@ pub record Refused (words : List (List ℕ)) (reply : List ℕ) (asked : Asks) (
 
 -- what a reply of each kind says for sure
 abbrev pub CauseOf : Kind → ShellState → List (List ℕ) → List ℕ → ShellState → Type 0
--- the headline: what is shown is an optimum of the model that is present, or it has no feasible point
-CauseOf Optimal old words reply new = Solved old words (λ M limit. ShowsOptimum M limit reply new.held)
-CauseOf Infeasible old words reply new = Solved old words (λ M limit. ShowsEmptiness M limit reply new.held)
--- what is known where a search stopped
-CauseOf StoppedNodes old words reply new = Solved old words (λ M limit. ShowsNodeStop M limit reply)
-CauseOf StoppedTree old words reply new = Solved old words (λ M limit. ShowsTreeStop M limit reply)
-CauseOf StoppedWide old words reply new = Solved old words (λ M limit. ShowsWideStop M limit reply)
+-- the headline: what is shown is an optimum of the model that is present, or it has no feasible point, or its objective has no end
+CauseOf Optimal old words reply new = Solved old words (λ S l. ShowsOptimum S.model l reply new.env)
+CauseOf Infeasible old words reply new = Solved old words (λ S l. ShowsEmptiness S.model l reply new.env)
+CauseOf Unbounded old words reply new = Solved old words (λ S l. ShowsNoEnd S.model l reply new.env)
+-- what is known where a search stopped, and why it stopped
+CauseOf StoppedNodes old words reply new = Solved old words (λ S l. ShowsNodeStop S.model l reply new.env)
+CauseOf StoppedTree old words reply new = Solved old words (λ S l. ShowsTreeStop S.model l reply new.env)
+CauseOf StoppedPivots old words reply new = Solved old words (λ S l. ShowsPivotStop S.model l reply new.env)
+CauseOf StoppedWide old words reply new = Solved old words (λ S l. ShowsWideStop S.model l reply new.env)
 -- The model that the file's text means is present from now on; or the file has a text that states a certificate which is
 -- accepted for the model that is present; or the script ends.
 CauseOf Done old words reply new =
     Loaded words (λ file intupper. Loads old file intupper reply new)
-    ⊎ Certified old words (λ file S. (text : List ℕ) × (IsCertificateText S text × (length text ≤ MAX_FILE_LENGTH) × Sets old.files new.files file text))
+    ⊎ Certified old words (λ file S. (text : List ℕ) × (IsReadCertificate S text × (length text ≤ MAX_FILE_LENGTH) × Sets old.files new.files file text))
     ⊎ ((asks_of words ≡ Quit) × (new ≡ old))
 CauseOf UnknownCommand old words reply new = (word : List ℕ) × Refused words reply (Unknown word) (unknown_text word)
 CauseOf WrongArguments old words reply new = Refused words reply Misused arguments_text
 CauseOf WrongNumber old words reply new = (word : List ℕ) × Refused words reply (NoNumber word) (number_text word)
-CauseOf NoModel old words reply new = NeedsModel (asks_of words) × (reply ≡ no_model_text) × (old.model ≡ None)
-CauseOf NoAnswer old words reply new = (file : List ℕ) × (Refused words reply (Cert file) no_answer_text × IsSome old.model × (old.held ≡ None))
+CauseOf NoModel old words reply new = NeedsModel (asks_of words) × (reply ≡ no_model_text) × (old.env.search ≡ None)
+CauseOf NoAnswer old words reply new = (file : List ℕ) × (Refused words reply (Cert file) no_answer_text × (IsSome old.env.search × (old.env.held ≡ Nothing)))
 CauseOf StoreFailed old words reply new =
     Loaded words (λ file intupper. (reply ≡ store_text) × (Rose old.faults new.faults ⊎ IsMissing old.files file))
-    ⊎ Certified old words (λ file S. (reply ≡ store_text) × Rose old.faults new.faults)
+    ⊎ Certified old words (λ file S. (reply ≡ store_text) × ((text : List ℕ) × (IsReadCertificate S text × (length text ≤ MAX_FILE_LENGTH) × Rose old.faults new.faults)))
 CauseOf FileTooLong old words reply new =
     Loaded words (λ file intupper. (reply ≡ file_too_long_text) × IsTooLong old.files file)
-    ⊎ Certified old words (λ file S. (reply ≡ file_too_long_text) × ((text : List ℕ) × (IsCertificateText S text × (MAX_FILE_LENGTH < length text))))
+    ⊎ Certified old words (λ file S. (reply ≡ file_too_long_text) × ((text : List ℕ) × (IsReadCertificate S text × (MAX_FILE_LENGTH < length text))))
 CauseOf FaultyText old words reply new =
     Loaded words (λ file intupper. (line : ℕ) × ((code : ℕ) × ((reply ≡ mps_text line code) × HasText old.files file (IsFaulty intupper line code))))
 CauseOf WantsMemory old words reply new = reply ≡ memory_text
@@ -93,14 +96,14 @@ pub record HasCauses (old : ShellState) (words : List (List ℕ)) (reply : List 
   pub is : Is kind reply
   -- and whatever kind its bytes are of, that kind's cause holds
   pub only : (k : Kind) → Is k reply → CauseOf k old words reply new
-  -- completeness: a search that may place as many results as it can, in a tree that may have as many nodes, and meets no
-  -- step without room, ends with an answer
-  pub complete : (M : Program) (limit : ℕ) → asks_of words ≡ Solve limit → old.model ≡ Some M → cap_of M ≤ limit → cap_of M ≤ node_limit → IsJudgeable M
-      → ShowsOptimum M limit reply new.held ⊎ ShowsEmptiness M limit reply new.held ⊎ (reply ≡ memory_text)
+  -- completeness: a search with enough of all ends with an answer
+  pub complete : (S : PlainSearch) (nodes pivots : ℕ) → asks_of words ≡ Solve nodes pivots → old.env.search ≡ Some S → IsEnough S.model (limits_of nodes pivots)
+      → ShowsOptimum S.model (limits_of nodes pivots) reply new.env ⊎ ShowsEmptiness S.model (limits_of nodes pivots) reply new.env ⊎ ShowsNoEnd S.model (limits_of nodes pivots) reply new.env ⊎ (reply ≡ memory_text)
   -- every reply but `ok` leaves the model
-  pub kept : reply ≢ ok_text → new.model ≡ old.model
-  -- an error, but for want of memory, leaves the answer that is held
-  pub held : (k : Kind) → IsError k → Is k reply → new.held ≡ old.held
+  pub kept : reply ≢ ok_text → model_of new.env ≡ model_of old.env
+  -- an error, but for want of memory, leaves the environment; and so does that, but in `solve`
+  pub refused : (k : Kind) → IsError k → Is k reply → new.env ≡ old.env
+  pub wanted : reply ≡ memory_text → ((nodes pivots : ℕ) → asks_of words ≢ Solve nodes pivots) → new.env ≡ old.env
 
 -- a step, which says what each command may be answered, and what the reply says for sure
 pub record IsAnswered (old : ShellState) (words : List (List ℕ)) (reply : List ℕ) (new : ShellState) : Type 0 where

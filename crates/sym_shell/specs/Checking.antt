@@ -19,7 +19,8 @@ use Rattle.cert_text.specs.declared.cert.Cert.{Cert}
 use Rattle.cert_check.specs.declared.verdict.Verdict.{Verdict}
 use Rattle.cert_check.specs.declared.verdict.Verdict.TheVariants.{Accepted, Rejected, Wide}
 use Rattle.sym_shell.specs.Load.{HasText, IsMissing, IsTooLong, ReadsFile, refusal_text}
-use Rattle.sym_shell.specs.Texts.{arguments_text, store_text, file_too_long_text, memory_text, step_text}
+use Rattle.reply_texts.specs.Places.{step_text}
+use Rattle.reply_texts.specs.Texts.{arguments_text, store_text, file_too_long_text, cert_fault_text, memory_text}
 use Rattle.sym_shell.specs.declared.reading.Refusal.{Refusal}
 use Rattle.sym_shell.specs.declared.reading.Refusal.TheVariants as refusal
 
@@ -32,9 +33,6 @@ ReadsCert files name before after (Err refusal.Store) = Rose before after ⊎ Is
 ReadsCert files name before after (Err refusal.FileTooLong) = IsTooLong files name
 ReadsCert files name before after (Err (refusal.Faulty line code)) = HasText files name (λ text. FaultyCertificate text line code)
 ReadsCert files name before after (Err refusal.Memory) = Unit {0}
-
-abbrev pub cert_fault_text : ℕ → ℕ → List ℕ
-cert_fault_text line code = codes "error 32 cert line " ++ decimal line ++ codes " code " ++ decimal code ++ codes "\n"
 
 abbrev pub cert_refusal_text : Refusal → List ℕ
 cert_refusal_text refusal.Store = store_text

@@ -4,8 +4,10 @@ use Rattle.std.specs.Prelude.{◌≡◌, ℕ, List, ◌++◌, codes}
 pub data Kind : Type 0 where
   Optimal : Kind
   Infeasible : Kind
+  Unbounded : Kind
   StoppedNodes : Kind
   StoppedTree : Kind
+  StoppedPivots : Kind
   StoppedWide : Kind
   Done : Kind
   UnknownCommand : Kind
@@ -21,8 +23,10 @@ pub data Kind : Type 0 where
 abbrev pub front_of : Kind → List ℕ
 front_of Optimal = codes "optimal "
 front_of Infeasible = codes "infeasible "
+front_of Unbounded = codes "unbounded "
 front_of StoppedNodes = codes "stopped nodes "
 front_of StoppedTree = codes "stopped tree "
+front_of StoppedPivots = codes "stopped pivots "
 front_of StoppedWide = codes "stopped wide "
 front_of Done = codes "ok\n"
 front_of UnknownCommand = codes "error 02 "
@@ -43,8 +47,10 @@ Is kind reply = (rest : List ℕ) × (reply ≡ front_of kind ++ rest)
 abbrev pub IsError : Kind → Type 0
 IsError Optimal = ⊥
 IsError Infeasible = ⊥
+IsError Unbounded = ⊥
 IsError StoppedNodes = ⊥
 IsError StoppedTree = ⊥
+IsError StoppedPivots = ⊥
 IsError StoppedWide = ⊥
 IsError Done = ⊥
 IsError UnknownCommand = Unit {0}

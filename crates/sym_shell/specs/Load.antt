@@ -5,8 +5,9 @@ use Rattle.sym_io.specs.Files.{Files, file}
 use Rattle.sym_io.specs.declared.traits.TheConstants.{MAX_FILE_LENGTH}
 use Rattle.lp_model.specs.Program.{Program}
 use Rattle.mps_model.specs.Faults.{MeantModel, FaultyModel}
+use Rattle.sym_env.specs.Env.{Holds}
 use Rattle.sym_shell.specs.State.{ShellState}
-use Rattle.sym_shell.specs.Texts.{ok_text, store_text, file_too_long_text, mps_text, memory_text}
+use Rattle.reply_texts.specs.Texts.{ok_text, store_text, file_too_long_text, mps_text, memory_text}
 use Rattle.sym_shell.specs.declared.reading.Refusal.{Refusal}
 use Rattle.sym_shell.specs.declared.reading.Refusal.TheVariants as refusal
 
@@ -45,23 +46,21 @@ refusal_text refusal.FileTooLong = file_too_long_text
 refusal_text (refusal.Faulty line code) = mps_text line code
 refusal_text refusal.Memory = memory_text
 
--- the model that the file's text means is present from now on, and no answer is held
+-- the environment has the model that the file's text means, with a search of one leaf, and holds no answer
 pub record Loads (old : ShellState) (name : List ℕ) (intupper : Option ℕ) (reply : List ℕ) (new : ShellState) : Type 0 where
   pub ok : reply ≡ ok_text
   pub model : Program
   pub read : HasText old.files name (λ text. MeantModel text intupper model)
-  pub present : new.model ≡ Some model
-  pub none_held : new.held ≡ None
+  pub holds : Holds model new.env
 
--- the reply tells why the file's model is refused, and the model that was present stays, with the answer that is held
+-- the reply tells why the file's model is refused, and the environment stays
 pub record LoadRefused (old : ShellState) (name : List ℕ) (intupper : Option ℕ) (reply : List ℕ) (new : ShellState) : Type 0 where
   pub refusal : Refusal
   pub told : reply ≡ refusal_text refusal
   pub cause : ReadsFile old.files name intupper old.faults new.faults (Err refusal)
-  pub kept : new.model ≡ old.model
-  pub held : new.held ≡ old.held
+  pub kept : new.env ≡ old.env
 
--- The files stay. An accepted `load` replaces the model, a refused one leaves it.
+-- the files stay
 pub record LoadStep (old : ShellState) (name : List ℕ) (intupper : Option ℕ) (reply : List ℕ) (new : ShellState) : Type 0 where
   pub files : new.files ≡ old.files
   pub later : old.faults ≤ new.faults

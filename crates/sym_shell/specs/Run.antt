@@ -11,7 +11,8 @@ use Rattle.program_words.specs.Forms.{AskedForm, Script, Check}
 use Rattle.sym_shell.specs.Causes.{IsAnswered}
 use Rattle.sym_shell.specs.Checking.{Checks, check_status}
 use Rattle.sym_shell.specs.Shell.{quits}
-use Rattle.sym_shell.specs.State.{Present, nothing_present, ShellState, shell_state}
+use Rattle.sym_env.specs.Env.{PlainEnv, no_model}
+use Rattle.sym_shell.specs.State.{ShellState, shell_state}
 
 -- the line for words that are refused
 abbrev pub usage : List ℕ
@@ -32,13 +33,13 @@ around before after files files' faults faults' = record { before = before; afte
 
 -- ---- a script
 
--- at the start no model is present
+-- at the start no model is loaded
 abbrev pub start : Around → ShellState
-start around = shell_state nothing_present around.files around.faults
+start around = shell_state no_model around.files around.faults
 
 -- what a run leaves: what the shell holds, beside what the store tells
-abbrev pub end_with : Present → Around → ShellState
-end_with present around = shell_state present around.files' around.faults'
+abbrev pub end_with : PlainEnv → Around → ShellState
+end_with env around = shell_state env around.files' around.faults'
 
 -- ---- a form that prints one text
 
@@ -60,7 +61,7 @@ pub record IsPrinted (P : List ℕ → Type 0) (status_of : List ℕ → ℕ) (a
 
 -- the script is run from the start, each of its commands answered with its causes; or the verdict on a certificate is printed
 abbrev pub RunsAs : AskedForm → Around → ℕ → Type 0
-RunsAs Script around status = (present : Present) × IsRun (RequestStep IsAnswered) quits (start around) around.before (end_with present around) around.after status
+RunsAs Script around status = (env : PlainEnv) × IsRun (RequestStep IsAnswered) quits (start around) around.before (end_with env around) around.after status
 RunsAs (Check model cert) around status = IsPrinted (Checks around.files model cert around.faults around.faults') check_status around status
 
 -- nothing was read, written or kept

@@ -3,14 +3,13 @@ use Rattle.std.specs.Prelude.{ℕ, Bool, true, false, List}
 use Rattle.command_words.specs.Asks.{Asks, Quit, asks_of}
 use Rattle.script_session.specs.Stand.{Stand}
 use Rattle.sym_shell.specs.State.{ShellState, shell_state}
-use Rattle.sym_shell.specs.Present.{present}
+use Rattle.sym_env.specs.Env.{PlainEnv}
 use Rattle.sym_shell.specs.Step.{Step}
-use Rattle.sym_shell.specs.declared.shell.Shell.{Shell}
 
-abbrev pub state_of : Stand Shell → ShellState
-state_of stand = shell_state (present stand.machine) stand.files stand.faults
+abbrev pub state_of : Stand PlainEnv → ShellState
+state_of stand = shell_state stand.machine stand.files stand.faults
 
-abbrev pub ShellStep : Stand Shell → List (List ℕ) → List ℕ → Stand Shell → Type 0
+abbrev pub ShellStep : Stand PlainEnv → List (List ℕ) → List ℕ → Stand PlainEnv → Type 0
 ShellStep old words reply new = Step (state_of old) words reply (state_of new)
 
 -- the words ask for the end of the script

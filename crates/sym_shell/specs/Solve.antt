@@ -1,93 +1,125 @@
--- What `solve` may answer of the model that is present.
+-- What `solve` may answer of the model that is loaded.
 use Rattle.std.specs.Prelude.{◌≡◌, ◌⊎◌, ℕ, ◌<◌, ◌≤◌, List, Option, Some, None}
 use Rattle.rational.specs.Rational.{ℚ}
 use Rattle.lp_model.specs.Program.{Program, IsOptimum, IsEmpty, value}
-use Rattle.lp_model.specs.Regions.{Path}
-use Rattle.lp_model.specs.declared.types.WideStep.{WideStep}
+use Rattle.lp_model.specs.Rays.{IsUnbounded}
+use Rattle.lp_model.specs.declared.answers.PivotPlace.{PivotPlace}
+use Rattle.lp_model.specs.declared.answers.WideAt.{WideAt}
+use Rattle.lp_model.specs.declared.answers.StopWhy.{StopWhy}
+use Rattle.lp_model.specs.declared.answers.StopWhy.TheVariants.{Nodes, Tree, Pivots, Wide}
+use Rattle.lp_model.specs.declared.answers.Answer.{Answer}
+use Rattle.lp_model.specs.declared.answers.Answer.TheVariants.{Optimal, Infeasible, Unbounded, Stopped, Memory}
+use Rattle.search_counting.specs.Work.{cap_of}
 use Rattle.tree_edit.specs.Points.{IsIncumbent}
 use Rattle.tree_edit.specs.Sound.{PlainSearch}
-use Rattle.tree_search.specs.Work.{cap_of}
-use Rattle.tree_search.specs.Working.{PointIsWide}
-use Rattle.tree_search.specs.declared.stepping.StopWhy.TheVariants.{Nodes, Tree, Wide}
-use Rattle.sym_shell.specs.Searched.{Finished, Stops}
-use Rattle.branch_tree.specs.Limits.{node_limit}
+use Rattle.sym_env.specs.Enough.{IsEnough}
+use Rattle.sym_env.specs.Env.{PlainEnv}
+use Rattle.sym_env.specs.Solves.{Solved, Solves, held_by}
+use Rattle.sym_env.specs.Truth.{IsCount, IsBound, IsFoundValue}
+use Rattle.sym_env.specs.declared.held.Held.TheVariants.{Nothing, Finished}
+use Rattle.sym_env.specs.declared.limits.Limits.{Limits}
+use Rattle.reply_texts.specs.Texts.{no_model_text, memory_text, answer_text}
 use Rattle.sym_shell.specs.Shown.{point_shown, value_shown}
 use Rattle.sym_shell.specs.State.{ShellState}
-use Rattle.sym_shell.specs.Texts.{no_model_text, optimal_text, infeasible_text, stopped_nodes_text, stopped_tree_text, stopped_wide_text, memory_text}
+use Rattle.branch_tree.specs.Limits.{node_limit}
+
+abbrev pub limits_of : ℕ → ℕ → Limits
+limits_of nodes pivots = record { nodes = nodes; pivots = pivots; tree = node_limit }
+
+-- This was found of the model by the search that the environment has from now on, which is held where it went to its end with a
+-- certificate; and the reply is the text of the answer.
+pub record Tells (M : Program) (l : Limits) (answer : Answer) (reply : List ℕ) (env : PlainEnv) : Type 0 where
+  pub search : PlainSearch
+  pub solved : Solved M l answer search
+  pub env_is : env ≡ record { search = Some search; held = held_by answer }
+  pub shown : reply ≡ answer_text M answer
 
 -- The point that the reply shows is an optimum of the model, and the value that it shows is the point's. Both are read
 -- from the reply's bytes alone, and the reply is nothing but them and the number of results, which passes neither limit.
 -- Of the points that the finished search keeps it is the oldest with the best value. The search is held.
-pub record ShowsOptimum (M : Program) (limit : ℕ) (reply : List ℕ) (held : Option PlainSearch) : Type 0 where
+pub record ShowsOptimum (M : Program) (l : Limits) (reply : List ℕ) (env : PlainEnv) : Type 0 where
   pub optimum : IsOptimum M (point_shown M reply)
   pub worth : value_shown reply ≡ Some (value M 1 (point_shown M reply))
   pub placed : ℕ
-  pub search : PlainSearch
-  pub finished : Finished M placed search
-  pub oldest : IsIncumbent M search.points (Some (point_shown M reply))
-  pub held_is : held ≡ Some search
-  pub shown : reply ≡ optimal_text M (point_shown M reply) placed
-  pub within_limit : placed ≤ limit
-  pub within_cap : placed ≤ cap_of M
+  pub told : Tells M l (Optimal (value M 1 (point_shown M reply)) (point_shown M reply) placed) reply env
+  pub oldest : IsIncumbent M told.search.points (Some (point_shown M reply))
+  pub count : IsCount M l placed
 
 -- the reply says truly that no point is feasible
-pub record ShowsEmptiness (M : Program) (limit : ℕ) (reply : List ℕ) (held : Option PlainSearch) : Type 0 where
+pub record ShowsEmptiness (M : Program) (l : Limits) (reply : List ℕ) (env : PlainEnv) : Type 0 where
   pub empty : IsEmpty M
   pub placed : ℕ
+  pub told : Tells M l (Infeasible placed) reply env
+  pub count : IsCount M l placed
+
+-- the reply says truly that the objective has no end
+pub record ShowsNoEnd (M : Program) (l : Limits) (reply : List ℕ) (env : PlainEnv) : Type 0 where
+  pub unbounded : IsUnbounded M
+  pub placed : ℕ
+  pub told : Tells M l (Unbounded placed) reply env
+  pub count : IsCount M l placed
+
+-- The search stopped for this cause after so many results, not having enough to go to the end. No feasible point is better than the
+-- bound that is told, and some feasible point has the best value.
+pub record ShowsStop (M : Program) (l : Limits) (why : StopWhy) (placed : ℕ) (reply : List ℕ) (env : PlainEnv) : Type 0 where
+  pub bound : Option ℚ
+  pub best : Option ℚ
+  pub holds : IsBound M bound
+  pub found : IsFoundValue M best
+  pub told : Tells M l (Stopped why placed bound best) reply env
+  pub below_cap : placed < cap_of M
+  pub short : ¬ IsEnough M l
+
+-- all results that the limit allows were placed
+abbrev pub ShowsNodeStop : Program → Limits → List ℕ → PlainEnv → Type 0
+ShowsNodeStop M l reply env = ShowsStop M l Nodes l.nodes reply env
+
+-- a leaf is to be split, the tree having no room for two more nodes, as it may have where it is smaller than the most results
+pub record ShowsTreeStop (M : Program) (l : Limits) (reply : List ℕ) (env : PlainEnv) : Type 0 where
+  pub placed : ℕ
+  pub stop : ShowsStop M l Tree placed reply env
+  pub within_limit : placed < l.nodes
+  pub small : l.tree < cap_of M
+
+-- the relaxation that is told was not solved by as many moves as the limit allows
+pub record ShowsPivotStop (M : Program) (l : Limits) (reply : List ℕ) (env : PlainEnv) : Type 0 where
+  pub placed : ℕ
+  pub place : PivotPlace
+  pub stop : ShowsStop M l (Pivots place) placed reply env
+  pub within_limit : placed ≤ l.nodes
+
+-- the step that is told has no room at the basis that is told
+pub record ShowsWideStop (M : Program) (l : Limits) (reply : List ℕ) (env : PlainEnv) : Type 0 where
+  pub placed : ℕ
+  pub place : WideAt
+  pub stop : ShowsStop M l (Wide place) placed reply env
+  pub within_limit : placed ≤ l.nodes
+
+-- there was no memory: no answer is held, and the search has the results that were placed, or is the old one
+pub record Wants (S : PlainSearch) (l : Limits) (reply : List ℕ) (env : PlainEnv) : Type 0 where
+  pub told : reply ≡ memory_text
   pub search : PlainSearch
-  pub finished : Finished M placed search
-  pub held_is : held ≡ Some search
-  pub shown : reply ≡ infeasible_text placed
-  pub within_limit : placed ≤ limit
-  pub within_cap : placed ≤ cap_of M
+  pub solves : Solves S.model l S Memory search
+  pub env_is : env ≡ record { search = Some search; held = Nothing }
 
--- the search stopped after as many results as the limit allows, fewer than the most
-pub record ShowsNodeStop (M : Program) (limit : ℕ) (reply : List ℕ) : Type 0 where
-  pub bound : Option ℚ
-  pub best : Option ℚ
-  pub known : Stops M limit limit Nodes bound best
-  pub below_cap : limit < cap_of M
-  pub shown : reply ≡ stopped_nodes_text limit bound best
+-- what a search that may go so far may be answered
+pub data AnswersSolve (S : PlainSearch) (l : Limits) (reply : List ℕ) (env : PlainEnv) : Type 0 where
+  Optimum : ShowsOptimum S.model l reply env → AnswersSolve S l reply env
+  Emptiness : ShowsEmptiness S.model l reply env → AnswersSolve S l reply env
+  NoEnd : ShowsNoEnd S.model l reply env → AnswersSolve S l reply env
+  NodeStop : ShowsNodeStop S.model l reply env → AnswersSolve S l reply env
+  TreeStop : ShowsTreeStop S.model l reply env → AnswersSolve S l reply env
+  PivotStop : ShowsPivotStop S.model l reply env → AnswersSolve S l reply env
+  WideStop : ShowsWideStop S.model l reply env → AnswersSolve S l reply env
+  Wanting : Wants S l reply env → AnswersSolve S l reply env
 
--- the search stopped at an open leaf that is to be split, the tree having no room for two more nodes, as it may have where
--- it is smaller than the most results
-pub record ShowsTreeStop (M : Program) (limit : ℕ) (reply : List ℕ) : Type 0 where
-  pub placed : ℕ
-  pub bound : Option ℚ
-  pub best : Option ℚ
-  pub known : Stops M limit placed Tree bound best
-  pub small : node_limit < cap_of M
-  pub within_limit : placed < limit
-  pub below_cap : placed < cap_of M
-  pub shown : reply ≡ stopped_tree_text placed bound best
+-- of the environment's search, if there is one
+abbrev pub SolvesEnv : PlainEnv → Option PlainSearch → Limits → List ℕ → PlainEnv → Type 0
+SolvesEnv old None l reply env = ((reply ≡ no_model_text) ⊎ (reply ≡ memory_text)) × (env ≡ old)
+SolvesEnv old (Some S) l reply env = AnswersSolve S l reply env
 
--- the search stopped at an open leaf whose one whole point has a step without room
-pub record ShowsWideStop (M : Program) (limit : ℕ) (reply : List ℕ) : Type 0 where
-  pub placed : ℕ
-  pub bound : Option ℚ
-  pub best : Option ℚ
-  pub path : Path
-  pub step : WideStep
-  pub known : Stops M limit placed (Wide path step) bound best
-  pub wide : PointIsWide M path step
-  pub within_limit : placed < limit
-  pub below_cap : placed < cap_of M
-  pub shown : reply ≡ stopped_wide_text M placed bound best path step
-
--- what a search that may place `limit` results may be answered, and the finished search that is held from then on
-pub data AnswersSolve (M : Program) (limit : ℕ) (reply : List ℕ) (held : Option PlainSearch) : Type 0 where
-  Optimum : ShowsOptimum M limit reply held → AnswersSolve M limit reply held
-  Emptiness : ShowsEmptiness M limit reply held → AnswersSolve M limit reply held
-  NodeStop : ShowsNodeStop M limit reply → held ≡ None → AnswersSolve M limit reply held
-  TreeStop : ShowsTreeStop M limit reply → held ≡ None → AnswersSolve M limit reply held
-  WideStop : ShowsWideStop M limit reply → held ≡ None → AnswersSolve M limit reply held
-  Wanting : reply ≡ memory_text → held ≡ None → AnswersSolve M limit reply held
-
-abbrev pub SolvesHeld : Option Program → ℕ → List ℕ → Option PlainSearch → Option PlainSearch → Type 0
-SolvesHeld None limit reply before held = ((reply ≡ no_model_text) ⊎ (reply ≡ memory_text)) × (held ≡ before)
-SolvesHeld (Some M) limit reply before held = AnswersSolve M limit reply held
-
--- the model and the files stay
-pub record SolveStep (old : ShellState) (limit : ℕ) (reply : List ℕ) (new : ShellState) : Type 0 where
-  pub unchanged : new ≡ record { model = old.model; held = new.held; files = old.files; faults = old.faults }
-  pub answer : SolvesHeld old.model limit reply old.held new.held
+-- the files stay
+pub record SolveStep (old : ShellState) (l : Limits) (reply : List ℕ) (new : ShellState) : Type 0 where
+  pub files : new.files ≡ old.files
+  pub faults : new.faults ≡ old.faults
+  pub answer : SolvesEnv old.env old.env.search l reply new.env

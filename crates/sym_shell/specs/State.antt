@@ -1,22 +1,17 @@
--- The state that a script's commands change: what the shell holds between them, and what the store tells.
-use Rattle.std.specs.Prelude.{ℕ, Option, None}
+-- The state that a script's commands change: the environment, and what the store tells.
+use Rattle.std.specs.Prelude.{ℕ, Option, IfSome}
 use Rattle.sym_io.specs.Files.{Files}
-use Rattle.lp_model.specs.Program.{Program}
-use Rattle.tree_edit.specs.Sound.{PlainSearch}
-
--- the model that is present, and the finished search whose answer is held
-pub record Present : Type 0 where
-  pub model : Option Program
-  pub held : Option PlainSearch
-
-abbrev pub nothing_present : Present
-nothing_present = record { model = None; held = None }
+use Rattle.mps_model.specs.PlainNames.{HasPlainNames, HasPlainRows}
+use Rattle.sym_env.specs.Env.{PlainEnv, model_of}
 
 pub record ShellState : Type 0 where
-  pub model : Option Program
-  pub held : Option PlainSearch
+  pub env : PlainEnv
   pub files : Option Files
   pub faults : ℕ
 
-abbrev pub shell_state : Present → Option Files → ℕ → ShellState
-shell_state present files faults = record { model = present.model; held = present.held; files = files; faults = faults }
+abbrev pub shell_state : PlainEnv → Option Files → ℕ → ShellState
+shell_state env files faults = record { env = env; files = files; faults = faults }
+
+-- each name of the model is a word of a line
+abbrev pub HasWords : PlainEnv → Type 0
+HasWords env = IfSome (model_of env) (λ M. HasPlainNames M × HasPlainRows M)

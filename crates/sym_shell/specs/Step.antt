@@ -2,9 +2,9 @@
 use Rattle.std.specs.Prelude.{◌≡◌, ◌⊎◌, ℕ, List}
 use Rattle.command_words.specs.Asks.{Asks, Load, Solve, Cert, Quit, Unknown, Misused, NoNumber, asks_of}
 use Rattle.sym_shell.specs.State.{ShellState}
-use Rattle.sym_shell.specs.Texts.{ok_text, unknown_text, arguments_text, number_text, memory_text}
+use Rattle.reply_texts.specs.Texts.{ok_text, unknown_text, arguments_text, number_text, memory_text}
 use Rattle.sym_shell.specs.Load.{LoadStep}
-use Rattle.sym_shell.specs.Solve.{SolveStep}
+use Rattle.sym_shell.specs.Solve.{limits_of, SolveStep}
 use Rattle.sym_shell.specs.Certify.{CertStep}
 
 -- the command is refused with this reply, or for want of memory, and nothing changes
@@ -20,7 +20,7 @@ pub record IsQuit (old : ShellState) (reply : List ℕ) (new : ShellState) : Typ
 -- what is asked is answered so
 abbrev pub AnswersTo : Asks → ShellState → List ℕ → ShellState → Type 0
 AnswersTo (Load file intupper) old reply new = LoadStep old file intupper reply new
-AnswersTo (Solve limit) old reply new = SolveStep old limit reply new
+AnswersTo (Solve nodes pivots) old reply new = SolveStep old (limits_of nodes pivots) reply new
 AnswersTo (Cert file) old reply new = CertStep old file reply new
 AnswersTo Quit old reply new = IsQuit old reply new
 AnswersTo (Unknown word) old reply new = IsRefused old (unknown_text word) reply new

@@ -3,16 +3,16 @@ ghost use Rattle.std.specs.Prelude.{◌≡◌, ◌≤◌, ◌++◌, true, [], If
 ghost use Rattle.command_words.specs.Names.{is_file_name};
 ghost use Rattle.cert_text.specs.Whole.{IsCertificate};
 ghost use Rattle.cert_check.specs.Verdict.{IsVerdict};
-ghost use Rattle.sym_shell.specs.Checking.{ReadsCert, cert_fault_text, cert_refusal_text, accepted_value_text, claim_text, rejected_text, wide_text, verdict_text, WritesVerdict, ChecksFiles, Checks};
+ghost use Rattle.sym_shell.specs.Checking.{ReadsCert, accepted_value_text, claim_text, rejected_text, wide_text, verdict_text, WritesVerdict, ChecksFiles, Checks};
 
 use crate::reading::{Refusal, read_model};
-use crate::refusals::write_refusal;
-use crate::stops::write_place;
+use crate::refusing::{write_cert_refusal, write_refusal};
 use cert_check::{RegionBuf, Verdict, accepted_law, check, verdict_law};
 use cert_text::{Cert, CertFault, Claim, read_cert};
 use command_words::is_file_name_word;
 use frac128::Frac;
 use lp_model::{Model, WideStep};
+use reply_texts::write_step;
 use std::alloc::{AllocError, Global};
 use sym_io::Store;
 
@@ -48,30 +48,6 @@ fn judged(alloc: Global, model: &Model, cert: &Cert) -> Result<Verdict, AllocErr
 {
     let mut buf = RegionBuf::new(alloc, model, cert)?;
     Ok(check(model, cert, &mut buf))
-}
-
-fn write_faulty_certificate(reply: &mut Vec<u8>, line: u64, code: u8) -> Result<(), AllocError>
-    ensures { IfOk result (λ _. reply.new.items ≡ reply.old.items ++ cert_fault_text line code) }
-{
-    let mut digits = itoa::Buffer::new();
-    reply.extend_from_slice(b"error 32 cert line ")?;
-    reply.extend_from_slice(digits.format(line).as_bytes())?;
-    reply.extend_from_slice(b" code ")?;
-    reply.extend_from_slice(digits.format(code).as_bytes())?;
-    reply.extend_from_slice(b"\n")?;
-    Ok(())
-}
-
-/// Why a file's certificate is refused.
-fn write_cert_refusal(reply: &mut Vec<u8>, refusal: Refusal) -> Result<(), AllocError>
-    ensures { IfOk result (λ _. reply.new.items ≡ reply.old.items ++ cert_refusal_text refusal) }
-{
-    match refusal {
-        Refusal::Store => reply.extend_from_slice(b"error 20 store\n"),
-        Refusal::FileTooLong => reply.extend_from_slice(b"error 21 file too long\n"),
-        Refusal::Faulty { line, code } => write_faulty_certificate(reply, line, code),
-        Refusal::Memory => reply.extend_from_slice(b"error 90 memory\n"),
-    }
 }
 
 fn write_accepted_value(reply: &mut Vec<u8>, value: &Frac) -> Result<(), AllocError>
@@ -119,7 +95,7 @@ fn write_wide(
     reply.extend_from_slice(b"wide ")?;
     reply.extend_from_slice(digits.format(node).as_bytes())?;
     reply.extend_from_slice(b" ")?;
-    write_place(reply, model, step)?;
+    write_step(reply, model, step)?;
     reply.extend_from_slice(b"\n")?;
     Ok(())
 }

@@ -41,7 +41,7 @@ fn run_commands<R: Source, W: Sink, S: Store>(
     ensures sink_later { W.faults out.old ≤ W.faults out.new }
     ensures store_later { S.faults store.old ≤ S.faults store.new }
 {
-    let mut shell = Shell::new();
+    let mut shell = Shell::new(alloc);
     run_script(alloc, &mut shell, script, out, store)
 }
 
@@ -128,7 +128,8 @@ pub fn run<R: Source, W: Sink, S: Store>(
     ensures usage_only { ¬ (TakesWords words.now) → (result ≡ 2) ⊎ (result ≡ 5) }
     ensures usage_line { result ≡ 2 → Appends (W.written out.old) (W.written out.new) usage ⊎ (Rose (W.faults out.old) (W.faults out.new) × WritesFront (W.written out.old) (W.written out.new) usage) }
     ensures unwritten { ¬ (TakesWords words.now) → result ≡ 5 → W.written out.new ≡ W.written out.old }
-    ensures untouched { ¬ (TakesWords words.now) → (R.left script.new ≡ R.left script.old) × (S.files store.new ≡ S.files store.old) }
+    ensures untouched { ¬ (TakesWords words.now) → (R.left script.new ≡ R.left script.old) × (R.faults script.new ≡ R.faults script.old)
+        × (S.files store.new ≡ S.files store.old) × (S.faults store.new ≡ S.faults store.old) }
 
     // Which words ask for which form for sure: `run` alone, and `check` with two words that begin with another byte than `-`.
     ensures run_form { IsRunForm words.now → AsksScript words.now × (result ≢ 2) }

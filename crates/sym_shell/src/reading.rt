@@ -2,7 +2,6 @@
 ghost use Rattle.std.specs.Prelude.{◌≡◌, ◌≤◌, true, IfOk};
 ghost use Rattle.command_words.specs.Names.{is_file_name};
 ghost use Rattle.mps_model.specs.PlainNames.{HasPlainNames, HasPlainRows};
-ghost use Rattle.mps_model.specs.Bounded.{has_integer_bounds};
 ghost use Rattle.sym_shell.specs.Load.{ReadsFile};
 
 use command_words::file_name;
@@ -51,7 +50,8 @@ impl From<MpsFault> for Refusal {
     }
 }
 
-/// The model of the named file: each column is integer with two bounds, and its names are words of a reply. An integer column without an upper bound has `intupper`, if that is handed in.
+/// The model of the named file, whose names are words of a reply. An integer column without an upper bound has `intupper`, if
+/// that is handed in.
 pub(crate) fn read_model<S: Store>(
     alloc: Global,
     store: &mut S,
@@ -60,7 +60,6 @@ pub(crate) fn read_model<S: Store>(
 ) -> Result<Model, Refusal>
     requires { is_file_name name.now ≡ true }
     ensures answer { ReadsFile (S.files store.old) name.now intupper (S.faults store.old) (S.faults store.new) result }
-    ensures bounded { IfOk result (λ m. has_integer_bounds m ≡ true) }
     ensures plain { IfOk result (λ m. HasPlainNames m) }
     ensures plain_rows { IfOk result (λ m. HasPlainRows m) }
     ensures kept { S.files store.new ≡ S.files store.old }

@@ -9,6 +9,7 @@
 #![tactic(auto)]
 
 mod searches;
+mod solving;
 mod stage;
 mod told;
 mod trees;

@@ -1,4 +1,5 @@
 // What a search answers.
+use crate::solving::solve;
 use crate::{told, trees};
 use anyhow::{Result, bail, ensure};
 use branch_tree::NodeResult;
@@ -8,9 +9,9 @@ use leaf_judging::LeafNumber;
 use lp_model::{Model, Point};
 use model_calls::{has_section, numbers_of, push_answer, push_step, section, take_number};
 use model_texts::{Words, basis_of, edit_of, multipliers_of, point_of, push_point};
+use search_counting::cap;
 use std::alloc::Global;
 use tree_edit::{Search, Taken};
-use tree_search::{Outcome, StopWhy, cap, is_integral, solve};
 
 /// Makes a call of a search, and writes its answer.
 pub fn call(
@@ -26,7 +27,7 @@ pub fn call(
     let mut words = Words::new(alloc, line)?;
     match word {
         "edit" => edit(alloc, search, &mut words, got)?,
-        "solve" => run(alloc, search, take_number(&mut words)?, got)?,
+        "solve" => solve(alloc, search, &mut words, got)?,
         "limit" => search.set_limit(take_number(&mut words)?),
         "restart" => search.restart()?,
         _ => read(search, word, &mut words, got)?,
@@ -142,7 +143,8 @@ fn edit(alloc: Global, search: &mut Search, words: &mut Words, got: &mut String)
 }
 
 /// Writes a number, and `none` where there is none.
-fn push_some(got: &mut String, number: &Option<Frac>) -> Result<()> {
+/// Writes a number, or that there is none.
+pub fn push_some(got: &mut String, number: &Option<Frac>) -> Result<()> {
     match number {
         Some(number) => write!(got, " {number}")?,
         None => got.push_str(" none")?,
@@ -198,50 +200,6 @@ fn number(search: &Search, id: u64, got: &mut String) -> Result<()> {
         Some(LeafNumber::Wide(step)) => push_step(got, search.model(), *step)?,
     }
     Ok(())
-}
-
-/// Searches on, with as many results as are allowed.
-fn run(alloc: Global, search: &mut Search, limit: u64, got: &mut String) -> Result<()> {
-    ensure!(
-        is_integral(search.model()),
-        "a column that isn't integer with two bounds"
-    );
-    let outcome = solve(alloc, search, limit)?;
-    push_outcome(got, search.model(), &outcome)
-}
-
-fn push_outcome(got: &mut String, model: &Model, outcome: &Outcome) -> Result<()> {
-    match outcome {
-        Outcome::Optimal {
-            value,
-            point,
-            placed,
-        } => {
-            write!(got, "optimal {value} nodes {placed} at")?;
-            push_point(got, model, point)?;
-        }
-        Outcome::Infeasible { placed } => write!(got, "infeasible nodes {placed}")?,
-        Outcome::Stopped {
-            why,
-            placed,
-            bound,
-            best,
-        } => {
-            write!(got, "stopped {} {placed} bound", cause(why))?;
-            push_some(got, bound)?;
-            got.push_str(" best")?;
-            push_some(got, best)?;
-        }
-    }
-    Ok(())
-}
-
-fn cause(why: &StopWhy) -> &'static str {
-    match why {
-        StopWhy::Nodes => "nodes",
-        StopWhy::Tree => "tree",
-        StopWhy::Wide { .. } => "wide",
-    }
 }
 
 /// Writes how many results a search of the model can place.

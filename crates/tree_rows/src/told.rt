@@ -1,7 +1,7 @@
 // What stands in a tree, by itself or in a search.
 use anyhow::{Result, bail};
 use branch_tree::{LeafData, LeafState, Node, Tree};
-use lp_model::{Basis, BoundChange, Model, Mult, Side, Var};
+use lp_model::{Basis, BoundChange, Model, Mult, Region, Side, Var};
 use model_calls::take_number;
 use model_texts::{Words, push_basis, push_multipliers, push_variable};
 
@@ -129,14 +129,19 @@ fn push_change(got: &mut String, model: &Model, change: &BoundChange) -> Result<
     Ok(())
 }
 
+/// Writes bound changes.
+pub fn push_region(got: &mut String, model: &Model, region: &Region) -> Result<()> {
+    for change in region.as_slice() {
+        push_change(got, model, change)?;
+    }
+    Ok(())
+}
+
 /// Writes the bound changes on the way to a leaf.
 fn region(tree: &Tree, model: &Model, id: u64, got: &mut String) -> Result<()> {
     let Some(region) = tree.region_of(id)? else {
         got.push_str("none")?;
         return Ok(());
     };
-    for change in region.as_slice() {
-        push_change(got, model, change)?;
-    }
-    Ok(())
+    push_region(got, model, &region)
 }

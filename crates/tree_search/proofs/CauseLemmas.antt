@@ -1,143 +1,266 @@
 -- Why a search stops, as seen from its start; and where there is enough it goes to the end.
-use Rattle.std.specs.Prelude.{◌≡◌, ℕ, ◌+◌, ◌*◌, ◌-◌, ◌^◌, ◌<◌, ◌≤◌, max, [], IfOk, OnErr, Result, Ok, Err}
-use Rattle.std.proofs.Common.{sym, subst, ap, ◌∙◌, arith}
+use Rattle.std.specs.Prelude.{◌≡◌, ◌⊎◌, ℕ, ◌+◌, ◌-◌, ◌^◌, ◌<◌, ◌≤◌, ℤ, Some, None, Result, Ok, Err, IfOk}
+use Rattle.std.proofs.Common.{refl, sym, subst, ap, ◌∙◌, inl, inr, arith}
 use Rattle.lp_model.specs.Program.{Program}
+use Rattle.lp_model.specs.Answers.{IsValueAnswer}
+use Rattle.lp_model.specs.Lawful.{IsLawful}
 use Rattle.lp_model.specs.Regions.{Path}
-use Rattle.branch_tree.specs.Tree.{node_count, split_count}
-use Rattle.branch_tree.specs.Leaves.{with_states}
-use Rattle.branch_tree.specs.Changes.{first_tree, with_leaf_states}
-use Rattle.branch_tree.specs.declared.node.LeafData.{LeafData}
-use Rattle.branch_tree.specs.declared.node.LeafState.TheVariants.{IsOpen}
-use Rattle.branch_tree.proofs.CountLemmas.{nodes-splits}
-use Rattle.branch_tree.proofs.StateLemmas.{split_count-states}
-use Rattle.tree_edit.specs.Calls.{IsFresh, IsOpenLeaf}
+use Rattle.lp_model.specs.declared.types.Basis.{Basis}
+use Rattle.lp_model.specs.declared.types.ColId.{ColId}
+use Rattle.lp_model.specs.declared.types.WideStep.{WideStep}
+use Rattle.lp_model.specs.declared.answers.PivotPlace.{PivotPlace}
+use Rattle.lp_model.specs.declared.answers.WideAt.{WideAt}
+use Rattle.lp_model.specs.declared.answers.StopWhy.{StopWhy}
+use Rattle.lp_model.specs.declared.answers.StopWhy.TheVariants as why
+use Rattle.leaf_dual.specs.Dual.{Multipliers}
+use Rattle.branch_tree.specs.Changes.{HasRoom}
+use Rattle.branch_tree.specs.declared.node.Job.{Job}
+use Rattle.branch_tree.specs.declared.node.NodeResult.TheVariants.{Split, PointAndClose}
+use Rattle.tree_edit.specs.Checks.{IsSplitAllowed}
 use Rattle.tree_edit.specs.Sound.{PlainSearch, IsSound}
-use Rattle.tree_search.specs.Integral.{IsIntegral}
-use Rattle.tree_search.specs.Points.{points, middle_within}
-use Rattle.tree_search.specs.Work.{whole_points, cap_of, if_open, HasRoomFor}
-use Rattle.tree_search.specs.Working.{PointIsWide}
-use Rattle.tree_search.specs.Steps.{IsTooFull, work_of, splits_of, IsRoomy, PlacesMany, Goes}
-use Rattle.tree_search.specs.Causes.{IsCause, HasCause, IsFinished, IsJudgeable, IsEnough}
-use Rattle.tree_search.specs.Search.{StopsFor, ShowsFor, Finds, GivesUp}
-use Rattle.tree_search.specs.declared.stepping.StopWhy.{StopWhy}
-use Rattle.tree_search.specs.declared.stepping.StopWhy.TheVariants.{Nodes, Tree, Wide}
-use Rattle.tree_search.specs.declared.searching.Outcome.{Outcome}
-use Rattle.tree_search.specs.declared.searching.Outcome.TheVariants.{Optimal, Infeasible, Stopped}
-use Rattle.lp_model.specs.Regions.{region_low, region_high}
-use Rattle.tree_search.proofs.RegionLemmas.{middle-allowed}
-use Rattle.tree_search.proofs.WorkLemmas.{leaf_at, open-found}
-use Rattle.tree_search.proofs.RoomLemmas.{room-fewer, room-now}
-use Rattle.tree_search.proofs.PlacedLemmas.{two_points}
-use Rattle.tree_search.proofs.CapLemmas.{work-cap, splits-cap}
-use Rattle.tree_search.proofs.SearchLemmas.{found-sum, open-work}
+use Rattle.search_counting.specs.Work.{whole_points, cap_of, HasRoomFor, work_of, splits_of, IsRoomy}
+use Rattle.search_counting.proofs.CapLemmas.{work-cap, splits-cap}
+use Rattle.search_counting.proofs.FreshLemmas.{fresh-roomy}
+use Rattle.search_counting.proofs.LowerLemmas.{has-room}
+use Rattle.search_counting.proofs.RoomLemmas.{room-fewer}
+use Rattle.search_counting.proofs.WorkLemmas.{open-work}
+use Rattle.tree_edit.specs.Calls.{IsFresh}
+use Rattle.node_solve.specs.Works.{IsWorked}
+use Rattle.node_solve.specs.declared.working.Worked.{Worked}
+use Rattle.node_solve.specs.declared.working.Worked.TheVariants.{Done, Pivots, Wide}
+use Rattle.basic_solution.specs.Held.{Held, IsLawfulHeld}
+use Rattle.dual_simplex.proofs.SolveLemmas.{of_after}
+use Rattle.tree_search.specs.Steps.{worked_model, IsWayFor, HasOpenLeaf, WorksNext, Goes, KeepsOpen, FullAtNext, PivotsAtNext, StepAtNext, ValueAtNext, PointAtNext, StopsAtNext, IsRayWay}
+use Rattle.tree_search.specs.Room.{IsWorkedRegion, HasMoves, HasRoomAt}
+use Rattle.tree_search.specs.Causes.{IsPivotCause, IsStepCause, IsWideValueBy, IsCause, HasCause, IsAtEnd, HasOwnValues, IsEnough}
+use Rattle.tree_search.specs.Search.{IsAfter, IsAtLimit, StopsFor, FindsPoint, Finishes, Ends, IsLeft, Finds, GivesUp}
+use Rattle.tree_search.specs.declared.searching.Ways.{Ways}
+use Rattle.tree_search.specs.declared.searching.Ways.TheVariants.{Own, Rays}
+use Rattle.tree_search.specs.declared.searching.Ended.{Ended}
+use Rattle.tree_search.specs.declared.searching.Ended.TheVariants.{Finished, Unbounded, Stopped}
+use Rattle.tree_search.specs.declared.searching.Searched.{Searched}
+use Rattle.tree_search.specs.declared.stepping.Limits.{Limits}
+use Rattle.tree_search.specs.Stepping.{Comes}
+use Rattle.tree_search.proofs.JobLemmas.{IsWorkedBy, worked-by, worked-region, job-region}
+use Rattle.tree_search.proofs.KeepLemmas.{keeps-model}
+use Rattle.tree_search.proofs.PlacedLemmas.{split-there}
+use Rattle.tree_search.proofs.StepRoomLemmas.{lawful-after, all-stand, run-room}
 
-pub goes-on : (old new : PlainSearch) (n : ℕ) → new.model ≡ old.model → PlacesMany n old new → n + work_of new ≤ work_of old → (IsRoomy old → IsRoomy new) → IsSound new → Goes n old new
-goes-on old new n model placed work room sound = record { model = model; placed = placed; work = work; room = room; sound = sound }
+-- ---- results that were placed
+
+module _ (ways : Ways) (first : Basis) (pivots : ℕ) (old : PlainSearch) (sound : IsSound old) (lawful : IsLawful old.model) (n : ℕ) (mid : PlainSearch) (goes : Goes ways first pivots n old mid) where
+  most : n + work_of mid ≤ cap_of old.model
+  most =
+      let cap : work_of old ≤ cap_of old.model = work-cap old.model old.tree.root lawful sound.tree.lawful in
+      let work : n + work_of mid ≤ work_of old = goes.work in
+      omega (arith, cap, work)
+
+  pub goes-cap : n ≤ cap_of old.model
+  goes-cap = let h : n + work_of mid ≤ cap_of old.model = most in omega (arith, h)
+
+  lawful_mid : IsLawful mid.model
+  lawful_mid = subst IsLawful (sym goes.model) lawful
+
+  left-work : HasOpenLeaf mid → 1 ≤ work_of mid
+  left-work (id, (path, leaf)) = open-work mid id path leaf.kept goes.sound lawful_mid leaf.leaf leaf.state
+
+  pub goes-below : HasOpenLeaf mid → n + 1 ≤ cap_of old.model
+  goes-below left = let h : n + work_of mid ≤ cap_of old.model = most in let some : 1 ≤ work_of mid = left-work left in omega (arith, h, some)
+
+  pub left-less : HasOpenLeaf mid → n + 1 ≤ work_of old
+  left-less left = let work : n + work_of mid ≤ work_of old = goes.work in let some : 1 ≤ work_of mid = left-work left in omega (arith, work, some)
+
+next-left : (ways : Ways) (first : Basis) (pivots : ℕ) (S : PlainSearch) (job : Job) (worked : Worked) → WorksNext ways first pivots S job worked → HasOpenLeaf S
+next-left ways first pivots S job worked works = (job.id, (job.region, record { kept = works.next.job_is.kept; leaf = works.next.job_is.leaf; state = works.next.job_is.state }))
 
 -- ---- causes
 
--- where a leaf can be split and the tree is full, the tree had no room for all splits
-full-unroomy : (S : PlainSearch) → IsSound S → IsIntegral S.model → (id : ℕ) (path : Path) → IsOpenLeaf S id path → IsTooFull S path → ¬ IsRoomy S
-full-unroomy S sound integral id path leaf full roomy =
-    let j : ℕ = full.column in
-    let two : 2 ≤ points S.model path =
-    two_points S.model integral path (open-found S sound id path leaf.kept leaf.leaf leaf.state) j (middle_within (region_low S.model path j) (region_high S.model path j))
-    (middle-allowed S.model path j integral full.is_open.within full.is_open.is_open) in
-    let l = leaf_at S.tree.root id path leaf.kept leaf.leaf in
-    let state : l.0.kept.state ≡ IsOpen = ap (λ (k : LeafData). k.state) l.1.1 ∙ leaf.state in
-    let own : points S.model path - 1 ≤ splits_of S =
-    subst (λ s. if_open (λ n. n - 1) s (points S.model path) ≤ splits_of S) state (found-sum (λ n. n - 1) S.model id path l.0 [] S.tree.root l.1.0) in
-    full.full (room-now S.tree (splits_of S) (omega (arith, two, own)) roomy)
+module _ (ways : Ways) (first : Basis) (nodes pivots : ℕ) (old : PlainSearch) (sound : IsSound old) (lawful : IsLawful old.model) (way : IsWayFor old ways) where
+  abbrev Z : Program
+  Z = worked_model ways old.model
 
-stop-cause : (old S : PlainSearch) (limit n : ℕ) (why : StopWhy) → IsIntegral S.model → Goes n old S → StopsFor S limit n why → IsCause old limit why
-stop-cause old S limit n Nodes integral goes h =
-    let all : n ≡ limit = h.0 in
-    let some : 1 ≤ work_of S = open-work S goes.sound integral h.1.1.id h.1.0 h.1.1.leaf.leaf in
-    let most : n + work_of S ≤ work_of old = goes.work in
-    omega (arith, all, some, most)
-stop-cause old S limit n Tree integral goes h = λ roomy. full-unroomy S goes.sound integral h.1.1.0.id h.1.0 h.1.1.0.leaf.leaf h.1.1.1 (goes.room roomy)
-stop-cause old S limit n (Wide path step) integral goes h = subst (λ M. PointIsWide M path step) goes.model h.2
+  by : IsWorkedBy ways old.model
+  by = worked-by old ways way
 
-has-cause : (old S : PlainSearch) (limit n : ℕ) (outcome : Outcome) → IsIntegral S.model → Goes n old S → ShowsFor S limit n outcome → HasCause old limit outcome
-has-cause old S limit n (Optimal v x m) integral goes h = tt
-has-cause old S limit n (Infeasible m) integral goes h = tt
-has-cause old S limit n (Stopped why m bound best) integral goes h = stop-cause old S limit n why integral goes (subst (λ k. StopsFor S limit k why) h.0 h.1.0)
+  module _ (n : ℕ) (mid : PlainSearch) (goes : Goes ways first pivots n old mid) (job : Job) where
+    works-old : (worked : Worked) → WorksNext ways first pivots mid job worked → IsWorked Z job first pivots worked
+    works-old worked works = subst (λ M. IsWorked (worked_model ways M) job first pivots worked) goes.model works.worked_is
 
-finds : {E : Type 0} (old new : PlainSearch) (limit n : ℕ) (r : Result Outcome E) → IsIntegral new.model → Goes n old new → IfOk r (λ outcome. ShowsFor new limit n outcome) → IfOk r (λ outcome. Finds old new limit outcome)
-finds old new limit n (Ok outcome) integral goes h =
-    record { goes = subst (λ m. Goes m old new) (sym h.0) goes; cause = has-cause old new limit n outcome integral goes h; shows = h.1 }
-finds old new limit n (Err e) integral goes h = tt
+    region-old : (worked : Worked) → WorksNext ways first pivots mid job worked → IsWorkedRegion Z job.region
+    region-old worked works = worked-region ways old.model job.region by (subst (λ M. IsWorkedRegion M job.region) goes.model (job-region mid goes.sound job works.next.job_is))
 
--- ---- searches that go to the end
+    -- a leaf that can be split has room where all splits have
+    split-room : (col : ColId) (v : ℤ) (mult : Multipliers) (basis : Basis) → WorksNext ways first pivots mid job (Done (Split col v mult basis)) → IsRoomy mid → HasRoom mid.tree
+    split-room col v mult basis works =
+        let is = works.next.job_is in
+        has-room mid job.id job.region is.kept col.0 v goes.sound (subst IsLawful (sym goes.model) lawful) is.leaf is.state
+        (subst (λ M. IsSplitAllowed M job.region col.0 v) (sym goes.model) (split-there ways old.model by lawful job first pivots col v mult basis (works-old (Done (Split col v mult basis)) works)))
 
-module _ (S : PlainSearch) (sound : IsSound S) (integral : IsIntegral S.model) (limit : ℕ) (enough : IsEnough S limit) (judgeable : IsJudgeable S.model) where
-  no-cause : (why : StopWhy) → ¬ IsCause S limit why
-  no-cause Nodes below =
-      let most : work_of S ≤ cap_of S.model = work-cap S.model S.tree.root integral sound.tree.lawful in
-      let within : cap_of S.model ≤ limit = enough.results in
-      no_less (work_of S) (cap_of S.model) below most within
+  tree-cause : (n : ℕ) (mid : PlainSearch) → Goes ways first pivots n old mid → FullAtNext ways first pivots mid → ¬ IsRoomy old
+  tree-cause n mid goes full roomy = full.full (split-room n mid goes full.job full.col full.v full.mult full.basis full.works (goes.room roomy))
+
+  pivots-cause : (n : ℕ) (mid new : PlainSearch) (place : PivotPlace) → Goes ways first pivots n old mid → PivotsAtNext ways first pivots mid new place → IsPivotCause Z first pivots place
+  pivots-cause n mid new place goes here =
+      let worked = works-old n mid goes here.job (Pivots place.basis) here.works in
+      record {
+        path = here.job.region;
+        path_is = here.path_is;
+        region = region-old n mid goes here.job (Pivots place.basis) here.works;
+        list = here.job.basis;
+        state = worked.0;
+        run = worked.1.0;
+        out = worked.1.1.0;
+        basis_is = worked.1.1.1;
+      }
+
+  step-cause : (n : ℕ) (mid new : PlainSearch) (at : WideAt) → Goes ways first pivots n old mid → StepAtNext ways first pivots mid new at → IsStepCause ways old.model first pivots at
+  step-cause n mid new at goes here =
+      let worked = works-old n mid goes here.job (Wide at) here.works in
+      record {
+        path = here.job.region;
+        path_is = worked.0.path_is;
+        region = region-old n mid goes here.job (Wide at) here.works;
+        list = here.job.basis;
+        wide = inl worked.1;
+      }
+
+  value-cause : (n : ℕ) (mid new : PlainSearch) (at : WideAt) → Goes ways first pivots n old mid → ValueAtNext ways first pivots mid new at → IsStepCause ways old.model first pivots at
+  value-cause n mid new at goes here =
+      let result = Done (PointAndClose here.point here.mult at.basis) in
+      record {
+        path = here.job.region;
+        path_is = here.path_is;
+        region = region-old n mid goes here.job result here.works;
+        list = here.job.basis;
+        wide = inr (wide ways here.rays (works-old n mid goes here.job result here.works));
+      }
     where
-      no_less : (w c : ℕ) → limit < w → w ≤ c → c ≤ limit → ⊥
-      no_less w c h k l = omega (arith, h, k, l)
-  no-cause Tree unroomy = unroomy (room-fewer S.tree (whole_points S.model - 1) (splits_of S) (splits-cap S.model S.tree.root integral sound.tree.lawful) enough.room)
-  no-cause (Wide path step) wide = judgeable path step wide
+      wide : (w : Ways) → IsRayWay w → IsWorked (worked_model w old.model) here.job first pivots (Done (PointAndClose here.point here.mult at.basis)) → IsWideValueBy w old.model here.job.region here.job.basis first pivots at.basis at.step
+      wide Own rays worked = absurd rays
+      wide (Rays Y) rays (m, (s, (run, (few, done)))) = record {
+        moves = m;
+        state = s;
+        run = run;
+        few = few.within;
+        basis_is = done.0.basis_is;
+        point = here.point;
+        point_is = done.0.optimum.point;
+        wide = subst (λ M. IsValueAnswer M 1 here.point (Err at.step)) goes.model here.wide;
+      }
 
-  finds-finished : (new : PlainSearch) (outcome : Outcome) → Finds S new limit outcome → IsFinished outcome
-  finds-finished new (Optimal v x n) h = tt
-  finds-finished new (Infeasible n) h = tt
-  finds-finished new (Stopped why n bound best) h = no-cause why h.cause
+  stop-cause : (n : ℕ) (new : PlainSearch) (w : StopWhy) → HasOpenLeaf new → StopsFor ways first nodes pivots n old new w → IsCause old ways first nodes pivots w
+  stop-cause n new why.Nodes left h =
+      let less : n + 1 ≤ work_of old = left-less ways first pivots old sound lawful n new h.goes left in
+      let all : n ≡ nodes = h.all in
+      omega (arith, less, all)
+  stop-cause n new why.Tree left h = tree-cause n h.mid h.goes h.here.1
+  stop-cause n new (why.Pivots place) left h = pivots-cause n h.mid new place h.goes h.here
+  stop-cause n new (why.Wide at) left h = elim h.here [ inl step ↦ step-cause n h.mid new at h.goes step | inr value ↦ value-cause n h.mid new at h.goes value ]
 
--- what a search may answer, so many results having been placed
-module _ {E : Type 0} (old new : PlainSearch) (limit n : ℕ) (r : Result Outcome E) (sound : IsSound old) (integral : IsIntegral old.model) (within : n ≤ limit) (goes : Goes n old new) where
-  pub gives-up : OnErr r (GivesUp old new limit)
-  gives-up = by r
-    where
-      by : (q : Result Outcome E) → OnErr q (GivesUp old new limit)
-      by (Ok outcome) = tt
-      by (Err e) = record { placed = n; within_limit = within; goes = goes }
+  has-cause : (n : ℕ) (new : PlainSearch) (e : Ended) → IsLeft new e → Ends ways first nodes pivots n old new e → HasCause old ways first nodes pivots e
+  has-cause n new Finished left h = tt
+  has-cause n new Unbounded left h = tt
+  has-cause n new (Stopped w) left h = stop-cause n new w left h
 
-  module _ (shows : IfOk r (λ outcome. ShowsFor new limit n outcome)) where
-    pub found : IfOk r (λ outcome. Finds old new limit outcome)
-    found = finds old new limit n r (subst IsIntegral (sym goes.model) integral) goes shows
+  -- ---- the whole search
 
-    pub complete : IfOk r (λ outcome. IsEnough old limit → IsJudgeable old.model → IsFinished outcome)
-    complete = by r found
+  next-most : (n : ℕ) (mid : PlainSearch) (job : Job) (worked : Worked) → Goes ways first pivots n old mid → WorksNext ways first pivots mid job worked → n + 1 ≤ cap_of old.model
+  next-most n mid job worked goes works = goes-below ways first pivots old sound lawful n mid goes (next-left ways first pivots mid job worked works)
+
+  ends-cap : (n : ℕ) (new : PlainSearch) (e : Ended) → Ends ways first nodes pivots n old new e → n ≤ cap_of old.model
+  ends-cap n new Finished h = goes-cap ways first pivots old sound lawful n new h.goes
+  ends-cap n new Unbounded h =
+      let most : h.before + 1 ≤ cap_of old.model = next-most h.before h.after.mid h.after.here.job (Done (PointAndClose h.after.here.point h.after.here.mult h.after.here.basis)) h.after.goes h.after.here.works in
+      let is : n ≡ h.before + 1 = h.counted in
+      omega (arith, most, is)
+  ends-cap n new (Stopped why.Nodes) h = goes-cap ways first pivots old sound lawful n new h.goes
+  ends-cap n new (Stopped why.Tree) h = goes-cap ways first pivots old sound lawful n h.mid h.goes
+  ends-cap n new (Stopped (why.Pivots place)) h = goes-cap ways first pivots old sound lawful n h.mid h.goes
+  ends-cap n new (Stopped (why.Wide at)) h = goes-cap ways first pivots old sound lawful n h.mid h.goes
+
+  next-model : (mid new : PlainSearch) (w : StopWhy) → StopsAtNext ways first pivots mid new w → new.model ≡ mid.model
+  next-model mid new why.Nodes h = absurd h
+  next-model mid new why.Tree h = ap (λ (T : PlainSearch). T.model) h.0
+  next-model mid new (why.Pivots place) h = keeps-model mid h.job None place.basis new h.keeps
+  next-model mid new (why.Wide at) (inl h) = keeps-model mid h.job None at.basis new h.keeps
+  next-model mid new (why.Wide at) (inr h) = keeps-model mid h.job None at.basis new h.keeps
+
+  ends-model : (n : ℕ) (new : PlainSearch) (e : Ended) → Ends ways first nodes pivots n old new e → new.model ≡ old.model
+  ends-model n new Finished h = h.goes.model
+  ends-model n new Unbounded h = keeps-model h.after.mid h.after.here.job (Some h.after.here.point) h.after.here.basis new h.after.here.keeps ∙ h.after.goes.model
+  ends-model n new (Stopped why.Nodes) h = h.goes.model
+  ends-model n new (Stopped why.Tree) h = next-model h.mid new why.Tree h.here ∙ h.goes.model
+  ends-model n new (Stopped (why.Pivots place)) h = next-model h.mid new (why.Pivots place) h.here ∙ h.goes.model
+  ends-model n new (Stopped (why.Wide at)) h = next-model h.mid new (why.Wide at) h.here ∙ h.goes.model
+
+  pub finds : (new : PlainSearch) (searched : Searched) → searched.placed ≤ nodes → Ends ways first nodes pivots searched.placed old new searched.ended → IsLeft new searched.ended → Finds ways first nodes pivots old new searched
+  finds new searched few ends left = record {
+    within_limit = few;
+    within_cap = ends-cap searched.placed new searched.ended ends;
+    model = ends-model searched.placed new searched.ended ends;
+    ends = ends;
+    left = left;
+    cause = has-cause searched.placed new searched.ended left ends;
+  }
+
+  -- ---- searches that go to the end
+
+  module _ (enough : IsEnough old ways nodes pivots) where
+    no-value : (w : Ways) → HasOwnValues w old.model → (path : Path) → IsWorkedRegion (worked_model w old.model) path → (list : Basis) (basis : Basis) (step : WideStep) → ¬ IsWideValueBy w old.model path list first pivots basis step
+    no-value Own h path region list basis step wide = wide
+    no-value (Rays Y) h path region list basis step wide =
+        let run = wide.run in
+        h path region run.relax run.relax_is wide.state (of_after run.relax wide.moves run.began wide.state run.moves run.started.is)
+        (all-stand wide.state (lawful-after wide.moves run.began wide.state run.kept run.moves)) wide.point wide.point_is step wide.wide
+
+    no-cause : (w : StopWhy) → ¬ IsCause old ways first nodes pivots w
+    no-cause why.Nodes below =
+        let cap : work_of old ≤ cap_of old.model = work-cap old.model old.tree.root lawful sound.tree.lawful in
+        let within : cap_of old.model ≤ nodes = enough.results in
+        no_less nodes (work_of old) (cap_of old.model) below cap within
       where
-        by : (q : Result Outcome E) → IfOk q (λ outcome. Finds old new limit outcome) → IfOk q (λ outcome. IsEnough old limit → IsJudgeable old.model → IsFinished outcome)
-        by (Ok outcome) h = λ enough judgeable. finds-finished old sound integral limit enough judgeable new outcome h
-        by (Err e) h = tt
+        no_less : (m a c : ℕ) → m < a → a ≤ c → c ≤ m → ⊥
+        no_less m a c h k l = omega (arith, h, k, l)
+    no-cause why.Tree unroomy = unroomy (room-fewer old.tree (whole_points old.model - 1) (splits_of old) (splits-cap old.model old.tree.root lawful sound.tree.lawful) enough.room)
+    no-cause (why.Pivots place) cause =
+        let run = cause.run in
+        let less : pivots < pivots = enough.moves cause.path cause.region run.relax run.relax_is run.began run.started.is run.kept pivots cause.state run.moves in
+        omega (arith, less)
+    no-cause (why.Wide at) cause = elim cause.wide [
+      | inl wide ↦ run-room Z enough.steps cause.path cause.region cause.list first pivots at.basis at.step wide
+      | inr wide ↦ no-value ways enough.values cause.path cause.region cause.list at.basis at.step wide
+    ]
+
+    pub at-end : (new : PlainSearch) (searched : Searched) → Finds ways first nodes pivots old new searched → IsAtEnd searched.ended
+    at-end new searched h = ended searched.ended h.cause
+      where
+        ended : (e : Ended) → HasCause old ways first nodes pivots e → IsAtEnd e
+        ended Finished cause = tt
+        ended Unbounded cause = tt
+        ended (Stopped w) cause = no-cause w cause
 
 -- ---- a new search
 
-pub fresh-enough : (M : Program) (nodes limit : ℕ) (S : PlainSearch) → IsFresh M nodes S → cap_of M ≤ nodes → nodes ≤ 2 ^ 63 → cap_of M ≤ limit → IsEnough S limit
-fresh-enough M nodes limit S fresh within few enough =
-    let room : HasRoomFor (whole_points M - 1) (with_leaf_states (first_tree nodes) fresh.tree.states) =
-    let splits : split_count (with_states fresh.tree.states (first_tree nodes).root) ≡ 0 = split_count-states fresh.tree.states (first_tree nodes).root in
-    let count : node_count (with_states fresh.tree.states (first_tree nodes).root) ≡ split_count (with_states fresh.tree.states (first_tree nodes).root) + split_count (with_states fresh.tree.states (first_tree nodes).root) + 1 =
-    nodes-splits (with_states fresh.tree.states (first_tree nodes).root) in
-    record {
-      nodes = nodes_fit (node_count (with_states fresh.tree.states (first_tree nodes).root)) (split_count (with_states fresh.tree.states (first_tree nodes).root)) (whole_points M) splits count within;
-      ids = ids_fit (split_count (with_states fresh.tree.states (first_tree nodes).root)) (whole_points M) splits within;
-    } in
-    record {
-      results = subst (λ P. cap_of P ≤ limit) (sym fresh.model) enough;
-      room = subst (λ P. HasRoomFor (whole_points P - 1) S.tree) (sym fresh.model) (subst (HasRoomFor (whole_points M - 1)) (sym fresh.tree.tree) room);
-    }
-  where
-    nodes_fit : (c s p : ℕ) → s ≡ 0 → c ≡ s + s + 1 → max 1 (2 * p - 1) ≤ nodes → c + 2 * (p - 1) ≤ nodes
-    nodes_fit c s p e f h = omega (arith, e, f, h)
+pub fresh-enough : (M : Program) (limit : ℕ) (S : PlainSearch) (ways : Ways) (nodes pivots : ℕ) → IsFresh M limit S → cap_of M ≤ limit → limit ≤ 2 ^ 63 → cap_of M ≤ nodes
+    → HasMoves (worked_model ways M) pivots → HasRoomAt (worked_model ways M) → HasOwnValues ways M → IsEnough S ways nodes pivots
+fresh-enough M limit S ways nodes pivots fresh within few results moves steps values = record {
+  results = subst (λ P. cap_of P ≤ nodes) (sym fresh.model) results;
+  room = subst (λ P. HasRoomFor (whole_points P - 1) S.tree) (sym fresh.model) (fresh-roomy M limit S fresh within few);
+  moves = subst (λ P. HasMoves (worked_model ways P) pivots) (sym fresh.model) moves;
+  steps = subst (λ P. HasRoomAt (worked_model ways P)) (sym fresh.model) steps;
+  values = subst (HasOwnValues ways) (sym fresh.model) values;
+}
 
-    ids_fit : (s p : ℕ) → s ≡ 0 → max 1 (2 * p - 1) ≤ nodes → 1 + s + 3 * (p - 1) < 2 ^ 64
-    ids_fit s p e h = omega (arith, e, h, few)
+-- ---- what is answered
 
--- a new search whose tree has no room for all splits may have fewer nodes than the cap
-pub fresh-small : (M : Program) (nodes : ℕ) (S : PlainSearch) → IsFresh M nodes S → IsSound S → IsIntegral M → nodes ≤ 2 ^ 63 → (¬ IsRoomy S) → nodes < cap_of M
-fresh-small M nodes S fresh sound integral few unroomy = less nodes (cap_of M) not
-  where
-    not : cap_of M ≤ nodes → ⊥
-    not within =
-        let enough : IsEnough S (cap_of M) = fresh-enough M nodes (cap_of M) S fresh within few (omega arith) in
-        unroomy (room-fewer S.tree (whole_points S.model - 1) (splits_of S) (splits-cap S.model S.tree.root (subst IsIntegral (sym fresh.model) integral) sound.tree.lawful) enough.room)
+module _ (limits : Limits) (nodes : ℕ) (old : PlainSearch) (sound : IsSound old) (lawful : IsLawful old.model) (way : IsWayFor old limits.ways) (new : PlainSearch) where
+  from-comes : (searched : Searched) → Comes limits nodes old new searched → Finds limits.ways limits.first.now nodes limits.pivots old new searched
+  from-comes searched h = finds limits.ways limits.first.now nodes limits.pivots old sound lawful way new searched h.within_limit h.ends h.left
 
-    less : (a b : ℕ) → (b ≤ a → ⊥) → a < b
-    less a b h = grind arith
+  pub found : {E : Type 0} (r : Result Searched E) → IfOk r (λ searched. Comes limits nodes old new searched) → IfOk r (λ searched. Finds limits.ways limits.first.now nodes limits.pivots old new searched)
+  found (Ok searched) h = from-comes searched h
+  found (Err e) h = tt
+
+  pub complete : {E : Type 0} (r : Result Searched E) → IfOk r (λ searched. Comes limits nodes old new searched) → IfOk r (λ searched. IsEnough old limits.ways nodes limits.pivots → IsAtEnd searched.ended)
+  complete (Ok searched) h = λ enough. at-end limits.ways limits.first.now nodes limits.pivots old sound lawful way enough new searched (from-comes searched h)
+  complete (Err e) h = tt

@@ -1,166 +1,84 @@
--- How many points regions have.
-use Rattle.std.specs.Prelude.{◌≡◌, ℕ, zero, suc, ◌+◌, ◌*◌, ◌<◌, ◌≤◌, Bool, true, false, if◌then◌else◌, nat_eq, [], ◌∷◌, ◌++◌, length, pos, Option, Some, None, ℤ, ◌+ℤ◌, ◌-ℤ◌, ◌≤ℤ◌, unsigned_abs}
-use Rattle.std.specs.Option.{option_map}
-use Rattle.std.proofs.Common.{refl, sym, subst, ap, ◌∙◌, inl, inr, arith}
-use Rattle.std.proofs.lemmas.Int.{ints}
-use Rattle.std.proofs.lemmas.Bool.{ne_eqb}
-use Rattle.std.proofs.lemmas.Bool.Decides.{eqb_tells}
-use Rattle.rational.specs.Rational.{ℚ, int, ◌≤ℚ◌, ◌<ℚ◌, floor, ceil, min_ℚ, max_ℚ}
-use Rattle.rational.proofs.RationalOrder.{≤ℚ_refl, ≤ℚ_trans, ≤ℚ_antisymm, ≤ℚ_from_not, ≤ℚ_of_<ℚ}
-use Rattle.rational.proofs.Rounding.{int-≤ℚ, ≤ℚ-int, int-floor}
-use Rattle.rational.proofs.Integers.{int-≤ℚ-int}
-use Rattle.rational.proofs.Division.{min-≤ℚ, ≤ℚ-min, ≤ℚ-max, max-≤ℚ}
-use Rattle.lp_model.specs.Program.{Program, lower, upper, is_integer}
-use Rattle.lp_model.specs.Regions.{Path, tighter_low, tighter_high, low_after, high_after, low_along, high_along, region_low, region_high, IsCrossed, IsEmptyRegion, at_most, at_least}
-use Rattle.lp_model.specs.declared.types.BoundChange.{BoundChange}
-use Rattle.branch_tree.specs.Tree.{left_path, right_path}
-use Rattle.tree_edit.specs.Checks.{IsFrom, IsUnder, IsSplitAllowed}
-use Rattle.tree_search.specs.Integral.{IsIntegral}
-use Rattle.tree_search.specs.Points.{whole_numbers_from, numbers_within, product_below, points}
-use Rattle.tree_search.proofs.RegionLemmas.{IsWholeBound, ceil-int, floor-int, region_low-whole, region_high-whole}
+-- The first point beside a ray: it may be kept, and its leaf stays open.
+use Rattle.std.specs.Prelude.{◌≡◌, ℕ, Some, Ok}
+use Rattle.std.proofs.Common.{subst}
+use Rattle.lp_model.specs.Program.{Program, Point, value, IsFeasible}
+use Rattle.lp_model.specs.Answers.{IsValueAnswer}
+use Rattle.lp_model.specs.Formulations.{without_cuts}
+use Rattle.lp_model.specs.Rays.{IsRay, IsUnbounded, without_costs}
+use Rattle.lp_model.specs.Regions.{InRegion}
+use Rattle.lp_model.specs.declared.types.Basis.{Basis}
+use Rattle.lp_model.proofs.SamePointsLemmas.{same_points}
+use Rattle.lp_model.proofs.UnboundedLemmas.{unbounded}
+use Rattle.leaf_dual.specs.Dual.{Multipliers}
+use Rattle.branch_tree.specs.Numbered.{IsNumbered}
+use Rattle.branch_tree.specs.declared.node.Job.{Job}
+use Rattle.branch_tree.specs.declared.node.NodeResult.TheVariants.{PointAndClose, Keep}
+use Rattle.tree_edit.specs.declared.placing.Taken.{Taken}
+use Rattle.tree_edit.specs.declared.placing.Taken.TheVariants.{Kept}
+use Rattle.tree_edit.specs.Placing.{Takes, TakesOpen}
+use Rattle.tree_edit.specs.Lists.{IsBasis}
+use Rattle.tree_edit.specs.Points.{IsKeepable}
+use Rattle.tree_edit.specs.Sound.{PlainSearch, IsSound}
+use Rattle.node_solve.specs.Works.{IsWorked}
+use Rattle.node_solve.specs.declared.working.Worked.TheVariants.{Done}
+use Rattle.tree_search.specs.Steps.{worked_model, IsWayFor, IsRayWay, KeepsOpen, PointAtNext}
+use Rattle.tree_search.specs.Room.{IsWorkedRegion}
+use Rattle.tree_search.specs.Stepping.{IsReady, WorksBy}
+use Rattle.tree_search.specs.declared.searching.Ways.{Ways}
+use Rattle.tree_search.specs.declared.searching.Ways.TheVariants.{Own, Rays}
+use Rattle.tree_search.specs.declared.stepping.Limits.{Limits}
+use Rattle.tree_search.proofs.JobLemmas.{worked-by, job-region, region-same}
+use Rattle.tree_search.proofs.KeepLemmas.{point-taken, point-open}
+use Rattle.tree_search.proofs.PlacedLemmas.{point-basis, point-inside, point-keepable}
+use Rattle.tree_search.proofs.SameLemmas.{keepable-same}
 
--- ---- a path and one more change
+-- a point of the work beside a ray: what is asked of it in the search's own model, and the ray
+record IsRayPoint (S : PlainSearch) (job : Job) (x : Point) : Type 0 where
+  keepable : IsKeepable S.model x
+  inside : InRegion job.region x
+  direction : Point
+  ray : IsRay S.model direction
 
-low_along-more : (path : Path) (c : BoundChange) (k : ℕ) (b : Option ℚ) → low_along (path ++ c ∷ []) k b ≡ (if nat_eq c.col.0 k then low_after c.side (low_along path k b) (int c.v) else low_along path k b)
-low_along-more [] c k b = refl
-low_along-more (d ∷ path) c k b = low_along-more path c k (if nat_eq d.col.0 k then low_after d.side b (int d.v) else b)
+ray-point : (ways : Ways) (S : PlainSearch) → IsSound S → IsRayWay ways → IsWayFor S ways → (job : Job) → IsWorkedRegion S.model job.region → (first : Basis) (limit : ℕ) (x : Point) (mult : Multipliers) (basis : Basis) → IsWorked (worked_model ways S.model) job first limit (Done (PointAndClose x mult basis))
+    → IsValueAnswer S.model 1 x (Ok (value S.model 1 x)) → IsRayPoint S job x
+ray-point Own S sound rays way job region first limit x mult basis worked v = absurd rays
+ray-point (Rays Z) S sound rays way job region first limit x mult basis worked v =
+    let here = subst (λ M. IsWorked M job first limit (Done (PointAndClose x mult basis))) way.worked worked in
+    record {
+      keepable = keepable-same S.model x (point-keepable (without_costs S.model) job first limit x mult basis here) v;
+      inside = point-inside (without_costs S.model) job first limit (region-same S.model job.region region).names x mult basis here;
+      direction = way.direction;
+      ray = way.ray;
+    }
 
-high_along-more : (path : Path) (c : BoundChange) (k : ℕ) (b : Option ℚ) → high_along (path ++ c ∷ []) k b ≡ (if nat_eq c.col.0 k then high_after c.side (high_along path k b) (int c.v) else high_along path k b)
-high_along-more [] c k b = refl
-high_along-more (d ∷ path) c k b = high_along-more path c k (if nat_eq d.col.0 k then high_after d.side b (int d.v) else b)
+module _ (limits : Limits) (S : PlainSearch) (sound : IsSound S) (numbered : IsNumbered S.tree) (rays : IsRayWay limits.ways) (ready : IsReady limits S) (job : Job) (x : Point) (mult : Multipliers) (basis : Basis) (works : WorksBy limits S job (Done (PointAndClose x mult basis)))
+    (v : IsValueAnswer S.model 1 x (Ok (value S.model 1 x))) (S' : PlainSearch) where
+  region : IsWorkedRegion S.model job.region
+  region = job-region S sound job works.next.job_is
 
-if_same : {A : Type 0} (t : Bool) (a : A) → (if t then a else a) ≡ a
-if_same true a = refl
-if_same false a = refl
+  point : IsRayPoint S job x
+  point = ray-point limits.ways S sound rays ready.ways job region limits.first.now limits.pivots x mult basis works.worked_is v
 
-itself : (j : ℕ) → nat_eq j j ≡ true
-itself j = elim (eqb_tells j j) [ inl h ↦ h.0 | inr h ↦ absurd (h.1 refl) ]
+  there : IsBasis (without_cuts S.model) basis
+  there = point-basis limits.ways S.model (worked-by S limits.ways ready.ways) job limits.first.now limits.pivots x mult basis works.worked_is
 
-module _ (M : Program) (path : Path) (j : ℕ) (v : ℤ) where
-  first_low : ℕ → Option ℚ
-  first_low k = if is_integer M k then option_map (λ l. int (ceil l)) (lower M k) else lower M k
+  pub ray_point-taken : (taken : Taken) → Takes S job.id (Keep (Some x) basis) S' taken → taken ≡ Kept
+  ray_point-taken taken takes = point-taken S sound numbered job works.next.job_is S' basis there x point.keepable taken takes
 
-  first_high : ℕ → Option ℚ
-  first_high k = if is_integer M k then option_map (λ h. int (floor h)) (upper M k) else upper M k
+  pub ray_point-next : TakesOpen S job.id (Keep (Some x) basis) S' Kept → PointAtNext limits.ways limits.first.now limits.pivots S S'
+  ray_point-next takes = record {
+    rays = rays;
+    job = job;
+    point = x;
+    mult = mult;
+    basis = basis;
+    works = works;
+    keeps = point-open S sound numbered job works.next.job_is S' basis there x point.keepable point.direction point.ray region.names point.inside takes;
+  }
 
-  pub low-left : (k : ℕ) → region_low M (left_path path j v) k ≡ region_low M path k
-  low-left k = low_along-more path (at_most j v) k (if is_integer M k then option_map (λ l. int (ceil l)) (lower M k) else lower M k) ∙ if_same (nat_eq j k) (region_low M path k)
-
-  pub high-right : (k : ℕ) → region_high M (right_path path j v) k ≡ region_high M path k
-  high-right k = high_along-more path (at_least j (v +ℤ pos 1)) k (if is_integer M k then option_map (λ h. int (floor h)) (upper M k) else upper M k) ∙ if_same (nat_eq j k) (region_high M path k)
-
-  pub high-left : region_high M (left_path path j v) j ≡ tighter_high (region_high M path j) (int v)
-  high-left =
-      high_along-more path (at_most j v) j (if is_integer M j then option_map (λ h. int (floor h)) (upper M j) else upper M j)
-      ∙ ap (λ (t : Bool). if t then tighter_high (region_high M path j) (int v) else region_high M path j) (itself j)
-
-  pub low-right : region_low M (right_path path j v) j ≡ tighter_low (region_low M path j) (int (v +ℤ pos 1))
-  low-right =
-      low_along-more path (at_least j (v +ℤ pos 1)) j (if is_integer M j then option_map (λ l. int (ceil l)) (lower M j) else lower M j)
-      ∙ ap (λ (t : Bool). if t then tighter_low (region_low M path j) (int (v +ℤ pos 1)) else region_low M path j) (itself j)
-
-  module _ (k : ℕ) (other : j ≡ k → ⊥) where
-    pub high-left_other : region_high M (left_path path j v) k ≡ region_high M path k
-    high-left_other =
-        high_along-more path (at_most j v) k (if is_integer M k then option_map (λ h. int (floor h)) (upper M k) else upper M k)
-        ∙ ap (λ (t : Bool). if t then tighter_high (region_high M path k) (int v) else region_high M path k) (ne_eqb j k other)
-
-    pub low-right_other : region_low M (right_path path j v) k ≡ region_low M path k
-    low-right_other =
-        low_along-more path (at_least j (v +ℤ pos 1)) k (if is_integer M k then option_map (λ l. int (ceil l)) (lower M k) else lower M k)
-        ∙ ap (λ (t : Bool). if t then tighter_low (region_low M path k) (int (v +ℤ pos 1)) else region_low M path k) (ne_eqb j k other)
-
--- ---- the numbers of one column
-
-pub min-below : (h : ℚ) (v : ℤ) → int v <ℚ h → min_ℚ h (int v) ≡ int v
-min-below h v less = ≤ℚ_antisymm ((min-≤ℚ h (int v)).1) (≤ℚ-min (int v) h (int v) (≤ℚ_of_<ℚ less) (≤ℚ_refl (int v)))
-
-pub max-above : (l : ℚ) (v : ℤ) → l ≤ℚ int v → max_ℚ l (int v) ≡ int v
-max-above l v under = ≤ℚ_antisymm (max-≤ℚ l (int v) (int v) under (≤ℚ_refl (int v))) ((≤ℚ-max l (int v)).1)
-
-numbers-some : (l h : ℤ) → l ≤ℤ h → whole_numbers_from l h ≡ suc (unsigned_abs (h -ℤ l))
-numbers-some l h ordered = grind (arith, ints)
-
-numbers-split : (l v h : ℤ) → l ≤ℤ v → v ≤ℤ h → whole_numbers_from l v + whole_numbers_from (v +ℤ pos 1) h ≡ whole_numbers_from l h
-numbers-split l v h low high = grind (arith, ints)
-
--- the numbers below and those above a split, of a column's bounds
-pub bounds-split : (lo hi : Option ℚ) (v : ℤ) → IsFrom lo v → IsUnder hi v
-    → numbers_within lo (tighter_high hi (int v)) + numbers_within (tighter_low lo (int (v +ℤ pos 1))) hi ≡ numbers_within lo hi
-bounds-split None hi v from under = absurd from
-bounds-split (Some l) None v from under = absurd under
-bounds-split (Some l) (Some h) v from under =
-    let next : l ≤ℚ int (v +ℤ pos 1) = ≤ℚ_trans from ((int-≤ℚ-int v (v +ℤ pos 1)).1 (omega (arith, ints))) in
-    let low : ceil l ≤ℤ v = (≤ℚ-int l v).0 from in
-    let high : v ≤ℤ floor h = (int-≤ℚ v h).0 (≤ℚ_of_<ℚ under) in
-    (λ t. whole_numbers_from (ceil l) (floor (min-below h v under t)) + whole_numbers_from (ceil (max-above l (v +ℤ pos 1) next t)) (floor h))
-    ∙ (λ t. whole_numbers_from (ceil l) (floor-int v t) + whole_numbers_from (ceil-int (v +ℤ pos 1) t) (floor h))
-    ∙ numbers-split (ceil l) v (floor h) low high
-
--- ---- products
-
-product-same : (n : ℕ) (f g : ℕ → ℕ) → ((k : ℕ) → k < n → f k ≡ g k) → product_below n f ≡ product_below n g
-product-same zero f g h = refl
-product-same (suc n) f g h = (λ t. product-same n f g (λ k below. h k (omega arith)) t * h n (omega arith) t)
-
--- products that differ at j alone, where the factors add up
-pub product-split : (n j : ℕ) (f g k : ℕ → ℕ) → j < n → ((i : ℕ) → (j ≡ i → ⊥) → g i ≡ f i) → ((i : ℕ) → (j ≡ i → ⊥) → k i ≡ f i) → g j + k j ≡ f j
-    → product_below n g + product_below n k ≡ product_below n f
-product-split zero j f g k within left right add = absurd (omega arith)
-product-split (suc n) j f g k within left right add = elim (eqb_tells j n) [
-  | inl same ↦
-      let g_is : product_below n g ≡ product_below n f = product-same n g f (λ i below. left i (λ e. let at : j ≡ n = same.1 in omega arith)) in
-      let k_is : product_below n k ≡ product_below n f = product-same n k f (λ i below. right i (λ e. let at : j ≡ n = same.1 in omega arith)) in
-      let here : g n + k n ≡ f n = subst (λ m. g m + k m ≡ f m) same.1 add in
-      (λ t. g_is t * g n + k_is t * k n) ∙ times-add (product_below n f) (g n) (k n) ∙ ap (λ m. product_below n f * m) here
-  | inr other ↦
-      let not : j ≡ n → ⊥ = other.1 in
-      let below : j < n = omega arith in
-      (λ t. product_below n g * left n not t + product_below n k * right n not t)
-      ∙ add-times (product_below n g) (product_below n k) (f n)
-      ∙ ap (λ m. m * f n) (product-split n j f g k below left right add)
-]
-  where
-    times-add : (a b c : ℕ) → a * b + a * c ≡ a * (b + c)
-    times-add a b c = omega arith
-
-    add-times : (a b c : ℕ) → a * c + b * c ≡ (a + b) * c
-    add-times a b c = omega arith
-
--- a split's two children have together the points of their parent
-pub points-split : (M : Program) (path : Path) (j : ℕ) (v : ℤ) → IsSplitAllowed M path j v → points M (left_path path j v) + points M (right_path path j v) ≡ points M path
-points-split M path j v allowed =
-    product-split (length M.cols) j (λ k. numbers_within (region_low M path k) (region_high M path k))
-    (λ k. numbers_within (region_low M (left_path path j v) k) (region_high M (left_path path j v) k))
-    (λ k. numbers_within (region_low M (right_path path j v) k) (region_high M (right_path path j v) k))
-    allowed.there
-    (λ k other t. numbers_within (low-left M path j v k t) (high-left_other M path j v k other t))
-    (λ k other t. numbers_within (low-right_other M path j v k other t) (high-right M path j v k t))
-    ((λ t. numbers_within (low-left M path j v j t) (high-left M path j v t) + numbers_within (low-right M path j v t) (high-right M path j v j t))
-    ∙ bounds-split (region_low M path j) (region_high M path j) v allowed.low allowed.high)
-
--- ---- regions with a point
-
-product-positive : (n : ℕ) (f : ℕ → ℕ) → ((k : ℕ) → k < n → 1 ≤ f k) → 1 ≤ product_below n f
-product-positive zero f h = omega arith
-product-positive (suc n) f h = positive (product_below n f) (f n) (product-positive n f (λ k below. h k (omega arith))) (h n (omega arith))
-  where
-    positive : (a b : ℕ) → 1 ≤ a → 1 ≤ b → 1 ≤ a * b
-    positive zero b h k = absurd (omega arith)
-    positive (suc a) zero h k = absurd (omega arith)
-    positive (suc a) (suc b) h k = let e : suc a * suc b ≡ suc a * b + suc a = omega arith in omega arith
-
-within-positive : (lo hi : Option ℚ) → IsWholeBound lo → IsWholeBound hi → (¬ IsCrossed lo hi) → 1 ≤ numbers_within lo hi
-within-positive None hi p q some = absurd p
-within-positive (Some l) None p q some = absurd q
-within-positive (Some l) (Some h) p q some =
-    let under : l ≤ℚ h = ≤ℚ_from_not l h some in
-    let ordered : ceil l ≤ℤ floor h = (≤ℚ-int l (floor h)).0 (subst (λ z. l ≤ℚ z) (sym (int-floor h q)) under) in
-    let is : whole_numbers_from (ceil l) (floor h) ≡ suc (unsigned_abs (floor h -ℤ ceil l)) = numbers-some (ceil l) (floor h) ordered in
-    omega (arith, is)
-
--- a region that is not seen to be empty has a point
-pub points-some : (M : Program) (path : Path) → IsIntegral M → (¬ IsEmptyRegion M path) → 1 ≤ points M path
-points-some M path integral some =
-    product-positive (length M.cols) (λ k. numbers_within (region_low M path k) (region_high M path k))
-    (λ k within. within-positive (region_low M path k) (region_high M path k) (region_low-whole M integral path k within) (region_high-whole M integral path k within) (λ crossed. some (k, (within, crossed))))
+-- the model is unbounded then
+pub point-unbounded : (ways : Ways) (S : PlainSearch) → IsRayWay ways → IsWayFor S ways → (job : Job) (first : Basis) (limit : ℕ) (x : Point) (mult : Multipliers) (basis : Basis) → IsWorked (worked_model ways S.model) job first limit (Done (PointAndClose x mult basis)) → IsUnbounded S.model
+point-unbounded Own S rays way job first limit x mult basis worked = absurd rays
+point-unbounded (Rays Z) S rays way job first limit x mult basis worked =
+    let keepable = point-keepable Z.now job first limit x mult basis worked in
+    unbounded S.model x way.direction (((same_points S.model).feasible x).0 (subst (λ M. IsFeasible M x) way.worked keepable.feasible.0)) way.ray

@@ -1,38 +1,29 @@
--- Open leaves: each is found by its id, and where the scan finds none no leaf is open.
-use Rattle.std.specs.Prelude.{◌≡◌, ℕ, suc, ◌+◌, ◌≤◌, List, [], ◌∷◌, ◌++◌, length, map, All, Some, None}
+-- The leaf that goes first: it is there and open, and where there is none no leaf is open.
+use Rattle.std.specs.Prelude.{◌≡◌, ℕ, ◌≤◌, List, [], ◌∷◌, ◌++◌, length, map, All, Some, None}
 use Rattle.std.specs.Option.{option_map}
 use Rattle.std.proofs.Common.{refl, sym, subst, ap, ◌∙◌, inl, inr, arith}
 use Rattle.std.proofs.lemmas.List.{get_or-map, length-map}
 use Rattle.std.proofs.lemmas.List.Elements.{All-map, All-head, All-tail, All-cons}
-use Rattle.lp_model.specs.Regions.{Path, AreNarrow}
+use Rattle.lp_model.specs.Regions.{Path}
+use Rattle.lp_model.specs.Formulations.{Formulation}
 use Rattle.branch_tree.specs.Tree.{Leaf, Split, left_path, right_path, EachLeaf, leaves}
-use Rattle.branch_tree.specs.Plain.{Plain, LeafKept, leaves_with, leaf_below}
-use Rattle.branch_tree.specs.Numbered.{NumberedTree, IsNumbered}
+use Rattle.branch_tree.specs.Plain.{Plain, LeafKept, leaves_with, leaf_below, path_of}
+use Rattle.branch_tree.specs.Numbered.{IsNumbered}
 use Rattle.branch_tree.specs.Leaves.{region_leaf, region_leaves}
 use Rattle.branch_tree.specs.declared.node.RegionLeaf.{RegionLeaf}
-use Rattle.branch_tree.specs.declared.node.LeafState.{LeafState}
-use Rattle.branch_tree.specs.declared.node.LeafState.TheVariants.{IsOpen, IsClosed}
-use Rattle.branch_tree.proofs.TreeLemmas.{each_leaf-leaves}
-use Rattle.tree_edit.specs.Sound.{PlainSearch, formulation_of, IsSound}
-use Rattle.tree_edit.specs.Calls.{IsLeafAt, IsNext, IsOpenLeaf}
-use Rattle.tree_edit.proofs.PlaceLemmas.{narrow-found}
-use Rattle.lp_model.specs.Formulations.{Formulation}
-use Rattle.branch_tree.specs.Plain.{path_of}
-use Rattle.leaf_judging.specs.Choosing.{IsOneOf, IsCandidate, AreClosed}
-use Rattle.tree_search.specs.Steps.{IsNextLeaf}
-use Rattle.tree_search.specs.Working.{IsResultFor}
 use Rattle.branch_tree.specs.declared.node.LeafData.{LeafData}
+use Rattle.branch_tree.specs.declared.node.LeafState.TheVariants.{IsOpen, IsClosed}
 use Rattle.branch_tree.proofs.PathLaws.{each-found}
-use Rattle.tree_search.proofs.WorkLemmas.{found_each, leaf_at, some_is}
-use Rattle.tree_search.specs.Steps.{Lowers, Places, PlacesMany}
-use Rattle.tree_edit.specs.Placing.{Takes}
-use Rattle.branch_tree.specs.declared.node.NodeResult.{NodeResult}
-use Rattle.tree_edit.specs.declared.placing.Taken.{Taken}
-use Rattle.tree_edit.specs.declared.placing.Taken.TheVariants.{Stale, Refused, Reopened, Full, Closed, Split as SplitTaken, Kept}
-use Rattle.tree_search.proofs.PlacedLemmas.{AfterPlace}
-
-pub once : (T : NumberedTree) → IsNumbered T → (id : ℕ) → leaves_with id T.root ≤ 1
-once T n id = let h = n.distinct id in omega (arith, h)
+use Rattle.branch_tree.proofs.TreeLemmas.{each_leaf-leaves}
+use Rattle.leaf_judging.specs.Choosing.{IsOneOf, IsCandidate, AreClosed}
+use Rattle.tree_edit.specs.Sound.{PlainSearch, formulation_of}
+use Rattle.tree_edit.specs.Calls.{IsLeafAt, IsOpenLeaf, IsNext}
+use Rattle.tree_edit.specs.Jobs.{IsJobOf}
+use Rattle.tree_search.specs.Steps.{IsNextJob, HasOpenLeaf}
+use Rattle.branch_tree.specs.declared.node.Job.{Job}
+use Rattle.tree_edit.specs.Laws.{HasNoOpenLeaf}
+use Rattle.tree_edit.specs.Placing.{IsStale}
+use Rattle.search_counting.proofs.LeafLemmas.{once, found_each, leaf_at, some_is}
 
 -- each of the leaves is the one with its id
 pub placed-at : (t : Plain) → ((id : ℕ) → leaves_with id t ≤ 1) → All (λ l. IsLeafAt t l.id l.region l.kept) (region_leaves [] t)
@@ -60,25 +51,6 @@ none-open t h =
     subst (λ (l : RegionLeaf). l.kept.state ≡ IsClosed) (get_or-map region_leaf (leaves [] t) k d (region_leaf d) below)
     (h k (region_leaf d) (let same : length (map region_leaf (leaves [] t)) ≡ length (leaves [] t) = length-map (leaves [] t) region_leaf in omega (arith, same))))
 
-pub not-open : (s : LeafState) → (s ≡ IsOpen → ⊥) → s ≡ IsClosed
-not-open IsOpen h = absurd (h refl)
-not-open IsClosed h = refl
-
-pub leaf-narrow : (S : PlainSearch) (id : ℕ) (path : Path) → IsSound S → IsOpenLeaf S id path → AreNarrow path
-leaf-narrow S id path sound leaf = narrow-found S id path sound leaf.leaf.path_is
-
-pub not-full : (S : PlainSearch) (path : Path) (S' : PlainSearch) (id : ℕ) (done : NodeResult) (taken : Taken) → IsNextLeaf S id path → IsResultFor S.model path done → AfterPlace S path S' taken → Takes S id done S' taken → (taken ≡ Full → ⊥) → Lowers S S' × Places S S'
-not-full S path S' id done Stale next result h takes other = absurd h
-not-full S path S' id done Refused next result h takes other = absurd h
-not-full S path S' id done Reopened next result h takes other = absurd h
-not-full S path S' id done Full next result h takes other = absurd (other refl)
-not-full S path S' id done Closed next result h takes other = (h, record { id = id; path = path; next = next; done = done; result = result; taken = Closed; takes = takes; effective = tt })
-not-full S path S' id done SplitTaken next result h takes other = (h, record { id = id; path = path; next = next; done = done; result = result; taken = SplitTaken; takes = takes; effective = tt })
-not-full S path S' id done Kept next result h takes other = absurd h
-
-pub places-more : (n : ℕ) (old mid new : PlainSearch) → PlacesMany n old mid → Places mid new → PlacesMany (n + 1) old new
-places-more n old mid new h p = let e : suc n ≡ n + 1 = omega arith in subst (λ m. PlacesMany m old new) e (mid, (h, p))
-
 -- ---- the next leaf
 
 pub closed-all : (ls : List RegionLeaf) → AreClosed ls → All (λ (l : RegionLeaf). l.kept.state ≡ IsClosed) ls
@@ -95,12 +67,6 @@ next-found S id numbered next =
     let (l, (candidate, at)) = one-of (formulation_of S) (λ l. IsLeafAt S.tree.root l.id l.region l.kept) (region_leaves [] S.tree.root) next.0 (placed-at S.tree.root (once S.tree numbered)) next.1.0.0 in
     (l, (candidate.state, subst (λ n. IsLeafAt S.tree.root n l.region l.kept) (sym (next.1.1 ∙ candidate.id)) at))
 
-pub next-leaf : (S : PlainSearch) (id : ℕ) (path : Path) → IsNumbered S.tree → IsNext S (Some id) → Some path ≡ path_of id S.tree.root → IsNextLeaf S id path
-next-leaf S id path numbered next is =
-    let (l, (state, at)) = next-found S id numbered next in
-    let same : path ≡ l.region = some_is path l.region (is ∙ at.path_is) in
-    record { leaf = record { kept = l.kept; leaf = subst (λ p. IsLeafAt S.tree.root id p l.kept) (sym same) at; state = state }; next = next }
-
 pub next-there : (S : PlainSearch) (id : ℕ) → IsNumbered S.tree → IsNext S (Some id) → None ≡ path_of id S.tree.root → ⊥
 next-there S id numbered next is =
     let found = next-found S id numbered next in
@@ -113,3 +79,20 @@ next-none S id path next leaf =
     let closed : l.0.kept.state ≡ IsClosed = (each-found (λ p k. k.kept.state ≡ IsClosed) id [] S.tree.root (path, l.0) (none-open S.tree.root (closed-all (region_leaves [] S.tree.root) next)) l.1.0).0 in
     let state : l.0.kept.state ≡ IsOpen = ap (λ (k : LeafData). k.state) l.1.1 ∙ leaf.state in
     let e : IsOpen ≡ IsClosed = sym state ∙ closed in cc
+
+-- the leaf that goes first is open
+pub next-not_stale : (S : PlainSearch) (id : ℕ) → IsNumbered S.tree → IsNext S (Some id) → IsStale S id → ⊥
+next-not_stale S id numbered next stale =
+    let found = next-found S id numbered next in
+    let e : IsOpen ≡ IsClosed = sym found.1.0 ∙ stale found.0.kept found.1.1.data_is in cc
+
+pub no-leaf_open : (S : PlainSearch) → IsNext S None → HasNoOpenLeaf S
+no-leaf_open S next = none-open S.tree.root (closed-all (region_leaves [] S.tree.root) next)
+
+pub next-job : (S : PlainSearch) (id : ℕ) (job : Job) → IsNext S (Some id) → IsJobOf S id job → IsNextJob S job
+next-job S id job next is = record { next = subst (λ n. IsNext S (Some n)) (sym is.id_is) next; job_is = subst (λ n. IsJobOf S n job) (sym is.id_is) is }
+
+pub next-open_leaf : (S : PlainSearch) (id : ℕ) → IsNumbered S.tree → IsNext S (Some id) → HasOpenLeaf S
+next-open_leaf S id numbered next =
+    let found = next-found S id numbered next in
+    (id, (found.0.region, record { kept = found.0.kept; leaf = found.1.1; state = found.1.0 }))

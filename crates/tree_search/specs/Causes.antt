@@ -1,41 +1,92 @@
 -- Why a search stops, as seen from its start, and what is enough for it to go to the end.
-use Rattle.std.specs.Prelude.{ℕ, ◌-◌, ◌<◌, ◌≤◌}
-use Rattle.lp_model.specs.Program.{Program}
+use Rattle.std.specs.Prelude.{◌≡◌, ◌⊎◌, ℕ, ◌-◌, ◌<◌, ◌≤◌, Some, Err}
+use Rattle.lp_model.specs.Program.{Program, Point}
+use Rattle.lp_model.specs.Answers.{IsValueAnswer}
 use Rattle.lp_model.specs.Regions.{Path}
+use Rattle.lp_model.specs.declared.types.Basis.{Basis}
 use Rattle.lp_model.specs.declared.types.WideStep.{WideStep}
+use Rattle.lp_model.specs.declared.answers.PivotPlace.{PivotPlace}
+use Rattle.lp_model.specs.declared.answers.WideAt.{WideAt}
+use Rattle.lp_model.specs.declared.answers.StopWhy.{StopWhy}
+use Rattle.lp_model.specs.declared.answers.StopWhy.TheVariants.{Nodes, Tree, Pivots, Wide}
+use Rattle.bases.specs.declared.stand.Stand.{Stand}
 use Rattle.tree_edit.specs.Sound.{PlainSearch}
-use Rattle.tree_search.specs.Work.{whole_points, cap_of, HasRoomFor}
-use Rattle.tree_search.specs.Working.{PointIsWide}
-use Rattle.tree_search.specs.Steps.{work_of, IsRoomy}
-use Rattle.tree_search.specs.declared.stepping.StopWhy.{StopWhy}
-use Rattle.tree_search.specs.declared.stepping.StopWhy.TheVariants.{Nodes, Tree, Wide}
-use Rattle.tree_search.specs.declared.searching.Outcome.{Outcome}
-use Rattle.tree_search.specs.declared.searching.Outcome.TheVariants.{Optimal, Infeasible, Stopped}
+use Rattle.search_counting.specs.Work.{whole_points, cap_of, HasRoomFor, work_of, IsRoomy}
+use Rattle.basic_solution.specs.Held.{Held}
+use Rattle.dual_simplex.specs.Answers.{IsFirstOut}
+use Rattle.basic_solution.specs.Lists.{IsBasisOf, IsPointOfHeld}
+use Rattle.node_solve.specs.Runs.{IsSimplexRun}
+use Rattle.node_solve.specs.Works.{IsRunWide}
+use Rattle.tree_search.specs.Steps.{worked_model}
+use Rattle.tree_search.specs.Room.{IsWorkedRegion, HasMoves, HasRoomAt, HasRoomForValues}
+use Rattle.tree_search.specs.declared.searching.Ways.{Ways}
+use Rattle.tree_search.specs.declared.searching.Ways.TheVariants.{Own, Rays}
+use Rattle.tree_search.specs.declared.searching.Ended.{Ended}
+use Rattle.tree_search.specs.declared.searching.Ended.TheVariants.{Finished, Unbounded, Stopped}
 
--- the limit is below the most results, the tree has no room for the most splits, or a point cannot be judged
-abbrev pub IsCause : PlainSearch → ℕ → StopWhy → Type 0
-IsCause S limit Nodes = limit < work_of S
-IsCause S limit Tree = ¬ IsRoomy S
-IsCause S limit (Wide path step) = PointIsWide S.model path step
+-- after exactly so many moves from the start of a leaf's run a basic variable is outside a side, and the basis is that of the state there
+pub record IsPivotCause (M : Program) (first : Basis) (limit : ℕ) (place : PivotPlace) : Type 0 where
+  pub path : Path
+  pub path_is : place.path ≡ Some path
+  pub region : IsWorkedRegion M path
+  pub list : Basis
+  pub state : Held
+  pub run : IsSimplexRun M path list first limit state
+  pub out : (row : ℕ) × ((side : Stand) × IsFirstOut state row side)
+  pub basis_is : IsBasisOf state place.basis
 
--- a search that begins with S and this limit has a cause to stop, if it stops
-abbrev pub HasCause : PlainSearch → ℕ → Outcome → Type 0
-HasCause S limit (Optimal v x n) = Unit {0}
-HasCause S limit (Infeasible n) = Unit {0}
-HasCause S limit (Stopped why n bound best) = IsCause S limit why
+-- after at most so many moves the value of the state's point in the search's own model has this first step without room
+pub record IsWideValue (Z M : Program) (path : Path) (list first : Basis) (limit : ℕ) (basis : Basis) (step : WideStep) : Type 0 where
+  pub moves : ℕ
+  pub state : Held
+  pub run : IsSimplexRun Z path list first moves state
+  pub few : moves ≤ limit
+  pub basis_is : IsBasisOf state basis
+  pub point : Point
+  pub point_is : IsPointOfHeld state point
+  pub wide : IsValueAnswer M 1 point (Err step)
+
+abbrev pub IsWideValueBy : Ways → Program → Path → Basis → Basis → ℕ → Basis → WideStep → Type 0
+IsWideValueBy Own M path list first limit basis step = ⊥
+IsWideValueBy (Rays Z) M path list first limit basis step = IsWideValue Z.now M path list first limit basis step
+
+-- the run of a leaf makes the step at that basis, and it has no room
+pub record IsStepCause (ways : Ways) (M : Program) (first : Basis) (limit : ℕ) (at : WideAt) : Type 0 where
+  pub path : Path
+  pub path_is : at.path ≡ Some path
+  pub region : IsWorkedRegion (worked_model ways M) path
+  pub list : Basis
+  pub wide : IsRunWide (worked_model ways M) path list first limit at.basis at.step ⊎ IsWideValueBy ways M path list first limit at.basis at.step
+
+-- the limit is below the most results; the tree has no room for the most splits; a run is too long; a step has no room
+abbrev pub IsCause : PlainSearch → Ways → Basis → ℕ → ℕ → StopWhy → Type 0
+IsCause S ways first nodes pivots Nodes = nodes < work_of S
+IsCause S ways first nodes pivots Tree = ¬ IsRoomy S
+IsCause S ways first nodes pivots (Pivots place) = IsPivotCause (worked_model ways S.model) first pivots place
+IsCause S ways first nodes pivots (Wide at) = IsStepCause ways S.model first pivots at
+
+-- a search that begins with S and these limits has a cause to stop, if it stops
+abbrev pub HasCause : PlainSearch → Ways → Basis → ℕ → ℕ → Ended → Type 0
+HasCause S ways first nodes pivots Finished = Unit {0}
+HasCause S ways first nodes pivots Unbounded = Unit {0}
+HasCause S ways first nodes pivots (Stopped why) = IsCause S ways first nodes pivots why
 
 -- ---- searches that go to the end
 
-abbrev pub IsFinished : Outcome → Type 0
-IsFinished (Optimal v x n) = Unit {0}
-IsFinished (Infeasible n) = Unit {0}
-IsFinished (Stopped why n bound best) = ⊥
+abbrev pub IsAtEnd : Ended → Type 0
+IsAtEnd Finished = Unit {0}
+IsAtEnd Unbounded = Unit {0}
+IsAtEnd (Stopped why) = ⊥
 
--- no step without room keeps the one point of a region from being judged
-abbrev pub IsJudgeable : Program → Type 0
-IsJudgeable M = (path : Path) (step : WideStep) → ¬ PointIsWide M path step
+abbrev pub HasOwnValues : Ways → Program → Type 0
+HasOwnValues Own M = Unit {0}
+HasOwnValues (Rays Z) M = HasRoomForValues Z.now M
 
--- as many results as any search of the model can place, and room for one split fewer than it has points
-pub record IsEnough (S : PlainSearch) (limit : ℕ) : Type 0 where
-  pub results : cap_of S.model ≤ limit
+-- as many results as any search of the model can place, room for one split fewer than it has points, more moves than any run
+-- of its relaxations has, and room for each of their steps
+pub record IsEnough (S : PlainSearch) (ways : Ways) (nodes pivots : ℕ) : Type 0 where
+  pub results : cap_of S.model ≤ nodes
   pub room : HasRoomFor (whole_points S.model - 1) S.tree
+  pub moves : HasMoves (worked_model ways S.model) pivots
+  pub steps : HasRoomAt (worked_model ways S.model)
+  pub values : HasOwnValues ways S.model

@@ -1,11 +1,7 @@
-pub mod Refuting
-pub mod Single
-pub mod Laws
-pub mod Integral
-pub mod Points
-pub mod Work
-pub mod Working
 pub mod Steps
+pub mod Room
 pub mod Causes
-pub mod Search
 pub mod Bounds
+pub mod Search
+pub mod Stepping
+pub mod Laws

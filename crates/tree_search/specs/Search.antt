@@ -1,74 +1,107 @@
--- What a search shows of its model: an optimum, that there is no feasible point, or what is known where it stopped.
-use Rattle.std.specs.Prelude.{◌≡◌, ◌⊎◌, ℕ, ◌<◌, ◌≤◌, [], Option, Some, None}
+-- What a search on a model comes to: its end, or where it stopped; and what that shows.
+use Rattle.std.specs.Prelude.{◌≡◌, ◌⊎◌, ℕ, ◌+◌, ◌<◌, ◌≤◌, [], Option, Some, None}
 use Rattle.std.specs.Option.{option_map}
 use Rattle.rational.specs.Rational.{ℚ}
 use Rattle.lp_model.specs.Program.{Program, Point, IsFeasible, IsOptimum, IsEmpty, value, in_least_form}
+use Rattle.lp_model.specs.Rays.{IsUnbounded}
 use Rattle.lp_model.specs.Regions.{Path, InRegion}
-use Rattle.lp_model.specs.declared.types.WideStep.{WideStep}
+use Rattle.lp_model.specs.declared.types.Basis.{Basis}
+use Rattle.lp_model.specs.declared.answers.StopWhy.{StopWhy}
+use Rattle.lp_model.specs.declared.answers.StopWhy.TheVariants as why
+use Rattle.lp_model.specs.declared.answers.Answer.{Answer}
+use Rattle.lp_model.specs.declared.answers.Answer.TheVariants as answer
 use Rattle.tree_edit.specs.Points.{target, IsIncumbent}
+use Rattle.tree_edit.specs.Calls.{IsOpenLeaf}
 use Rattle.tree_edit.specs.Laws.{HasNoOpenLeaf, IsNoBetter}
 use Rattle.tree_edit.specs.Sound.{PlainSearch}
+use Rattle.search_counting.specs.Work.{cap_of}
 use Rattle.tree_search.specs.Bounds.{IsBoundOf}
-use Rattle.tree_search.specs.Work.{cap_of}
-use Rattle.tree_search.specs.Working.{PointIsWide}
-use Rattle.tree_edit.specs.Calls.{IsOpenLeaf}
-use Rattle.tree_search.specs.Steps.{IsNextLeaf, IsTooFull, Goes}
+use Rattle.tree_search.specs.Steps.{HasOpenLeaf, Goes, PointAtNext, StopsAtNext}
 use Rattle.tree_search.specs.Causes.{HasCause}
-use Rattle.tree_search.specs.declared.stepping.StopWhy.{StopWhy}
-use Rattle.tree_search.specs.declared.stepping.StopWhy.TheVariants.{Nodes, Tree, Wide}
-use Rattle.tree_search.specs.declared.searching.Outcome.{Outcome}
-use Rattle.tree_search.specs.declared.searching.Outcome.TheVariants.{Optimal, Infeasible, Stopped}
+use Rattle.tree_search.specs.declared.searching.Ways.{Ways}
+use Rattle.tree_search.specs.declared.searching.Ended.{Ended}
+use Rattle.tree_search.specs.declared.searching.Ended.TheVariants.{Finished, Unbounded, Stopped}
+use Rattle.tree_search.specs.declared.searching.Searched.{Searched}
+
+-- ---- where it stops, and where it ends
+
+-- n results were placed, fewer than the limit allows, and what is said holds of the search then
+pub record IsAfter (ways : Ways) (first : Basis) (nodes pivots n : ℕ) (old : PlainSearch) (Here : PlainSearch → Type 0) : Type 0 where
+  pub mid : PlainSearch
+  pub goes : Goes ways first pivots n old mid
+  pub below_limit : n < nodes
+  pub here : Here mid
+
+-- as many results as the limit allows were placed
+pub record IsAtLimit (ways : Ways) (first : Basis) (nodes pivots n : ℕ) (old new : PlainSearch) : Type 0 where
+  pub goes : Goes ways first pivots n old new
+  pub all : n ≡ nodes
+
+abbrev pub StopsFor : Ways → Basis → ℕ → ℕ → ℕ → PlainSearch → PlainSearch → StopWhy → Type 0
+StopsFor ways first nodes pivots n old new why.Nodes = IsAtLimit ways first nodes pivots n old new
+StopsFor ways first nodes pivots n old new why.Tree = IsAfter ways first nodes pivots n old (λ mid. StopsAtNext ways first pivots mid new why.Tree)
+StopsFor ways first nodes pivots n old new (why.Pivots place) = IsAfter ways first nodes pivots n old (λ mid. StopsAtNext ways first pivots mid new (why.Pivots place))
+StopsFor ways first nodes pivots n old new (why.Wide at) = IsAfter ways first nodes pivots n old (λ mid. StopsAtNext ways first pivots mid new (why.Wide at))
+
+-- the point that is found beside a ray is the last of n results
+pub record FindsPoint (ways : Ways) (first : Basis) (nodes pivots n : ℕ) (old new : PlainSearch) : Type 0 where
+  pub before : ℕ
+  pub counted : n ≡ before + 1
+  pub after : IsAfter ways first nodes pivots before old (λ mid. PointAtNext ways first pivots mid new)
+  pub unbounded : IsUnbounded old.model
+
+-- no leaf is open
+pub record Finishes (ways : Ways) (first : Basis) (pivots n : ℕ) (old new : PlainSearch) : Type 0 where
+  pub goes : Goes ways first pivots n old new
+  pub finished : HasNoOpenLeaf new
+
+abbrev pub Ends : Ways → Basis → ℕ → ℕ → ℕ → PlainSearch → PlainSearch → Ended → Type 0
+Ends ways first nodes pivots n old new Finished = Finishes ways first pivots n old new
+Ends ways first nodes pivots n old new Unbounded = FindsPoint ways first nodes pivots n old new
+Ends ways first nodes pivots n old new (Stopped why) = StopsFor ways first nodes pivots n old new why
+
+-- whether a leaf is left open
+abbrev pub IsLeft : PlainSearch → Ended → Type 0
+IsLeft S Finished = HasNoOpenLeaf S
+IsLeft S Unbounded = HasOpenLeaf S
+IsLeft S (Stopped why) = HasOpenLeaf S
+
+-- so many results were placed, no more than the limit and the model's cap; the search had from its start a cause to stop, if it stops
+pub record Finds (ways : Ways) (first : Basis) (nodes pivots : ℕ) (old new : PlainSearch) (searched : Searched) : Type 0 where
+  pub within_limit : searched.placed ≤ nodes
+  pub within_cap : searched.placed ≤ cap_of old.model
+  pub model : new.model ≡ old.model
+  pub ends : Ends ways first nodes pivots searched.placed old new searched.ended
+  pub left : IsLeft new searched.ended
+  pub cause : HasCause old ways first nodes pivots searched.ended
+
+-- without memory: results were placed, no more than the limit allows, and the search can go on
+pub record GivesUp (ways : Ways) (first : Basis) (nodes pivots : ℕ) (old new : PlainSearch) : Type 0 where
+  pub placed : ℕ
+  pub within_limit : placed ≤ nodes
+  pub goes : Goes ways first pivots placed old new
+
+-- ---- what an end shows
 
 -- the best value is that of a feasible point, if there is one
 abbrev pub IsValueFound : Program → Option ℚ → Type 0
 IsValueFound M None = Unit {0}
 IsValueFound M (Some best) = (x : Point) × (IsFeasible M x × (best ≡ value M 1 x))
 
--- ---- what a search shows, n results having been placed
-
 -- no leaf is open, and the best kept point is an optimum
-pub record FindsOptimum (S : PlainSearch) (limit : ℕ) (v : ℚ) (x : Point) (n : ℕ) : Type 0 where
+pub record FindsOptimum (S : PlainSearch) (v : ℚ) (x : Point) : Type 0 where
   pub finished : HasNoOpenLeaf S
   pub incumbent : IsIncumbent S.model S.points (Some x)
   pub optimum : IsOptimum S.model x
   pub value : v ≡ value S.model 1 x
-  pub within_limit : n ≤ limit
-  pub within_cap : n ≤ cap_of S.model
 
 -- no leaf is open, and no point was kept
-pub record FindsNone (S : PlainSearch) (limit n : ℕ) : Type 0 where
+pub record FindsNone (S : PlainSearch) : Type 0 where
   pub finished : HasNoOpenLeaf S
   pub no_point : S.points ≡ []
   pub none : IsEmpty S.model
-  pub within_limit : n ≤ limit
-  pub within_cap : n ≤ cap_of S.model
 
--- ---- where it stops, with an open leaf left
-
--- the leaf that goes first is left, and no result was placed for it
-pub record StopsAtLeaf (S : PlainSearch) (n : ℕ) (path : Path) : Type 0 where
-  pub id : ℕ
-  pub leaf : IsNextLeaf S id path
-  pub below_cap : n < cap_of S.model
-
--- all results that the limit allows were placed
-abbrev pub StopsAtLimit : PlainSearch → ℕ → ℕ → Type 0
-StopsAtLimit S limit n = (n ≡ limit) × ((path : Path) × StopsAtLeaf S n path)
-
--- an open leaf is to be split, and the tree is full
-abbrev pub StopsAtFull : PlainSearch → ℕ → ℕ → Type 0
-StopsAtFull S limit n = (n < limit) × ((path : Path) × (StopsAtLeaf S n path × IsTooFull S path))
-
--- the one point of an open leaf could not be judged
-abbrev pub StopsAtPoint : PlainSearch → ℕ → ℕ → Path → WideStep → Type 0
-StopsAtPoint S limit n path step = (n < limit) × StopsAtLeaf S n path × PointIsWide S.model path step
-
-abbrev pub StopsFor : PlainSearch → ℕ → ℕ → StopWhy → Type 0
-StopsFor S limit n Nodes = StopsAtLimit S limit n
-StopsFor S limit n Tree = StopsAtFull S limit n
-StopsFor S limit n (Wide path step) = StopsAtPoint S limit n path step
-
--- ---- what is known there
+-- ---- what is known where it stops
 
 -- x is in the region of an open leaf
 pub record IsInOpenLeaf (S : PlainSearch) (x : Point) : Type 0 where
@@ -89,30 +122,33 @@ pub record StopsWith (S : PlainSearch) (bound best : Option ℚ) : Type 0 where
   pub best_is : best ≡ best_value S
   pub found : IsValueFound S.model best
 
--- ---- the whole search
+-- ---- answers
 
-abbrev pub Shows : PlainSearch → ℕ → Outcome → Type 0
-Shows S limit (Optimal v x n) = FindsOptimum S limit v x n
-Shows S limit (Infeasible n) = FindsNone S limit n
-Shows S limit (Stopped why n bound best) = StopsFor S limit n why × StopsWith S bound best
+-- the answer of a search without an open leaf
+abbrev pub IsFinishedAnswer : PlainSearch → ℕ → Answer → Type 0
+IsFinishedAnswer S n (answer.Optimal v x m) = FindsOptimum S v x × (m ≡ n)
+IsFinishedAnswer S n (answer.Infeasible m) = FindsNone S × (m ≡ n)
+IsFinishedAnswer S n (answer.Unbounded m) = ⊥
+IsFinishedAnswer S n (answer.Stopped why m bound best) = ⊥
+IsFinishedAnswer S n answer.Memory = Unit {0}
 
-abbrev pub placed_of : Outcome → ℕ
-placed_of (Optimal v x n) = n
-placed_of (Infeasible n) = n
-placed_of (Stopped why n bound best) = n
+-- the answer of a search that stops for this with an open leaf
+abbrev pub IsStoppedAnswer : PlainSearch → StopWhy → ℕ → Answer → Type 0
+IsStoppedAnswer S why n (answer.Optimal v x m) = ⊥
+IsStoppedAnswer S why n (answer.Infeasible m) = ⊥
+IsStoppedAnswer S why n (answer.Unbounded m) = ⊥
+IsStoppedAnswer S why n (answer.Stopped reason m bound best) = (reason ≡ why) × (m ≡ n) × StopsWith S bound best
+IsStoppedAnswer S why n answer.Memory = Unit {0}
 
--- and this is how many
-abbrev pub ShowsFor : PlainSearch → ℕ → ℕ → Outcome → Type 0
-ShowsFor S limit n outcome = (placed_of outcome ≡ n) × Shows S limit outcome
+abbrev pub IsUnboundedAnswer : ℕ → Answer → Type 0
+IsUnboundedAnswer n (answer.Optimal v x m) = ⊥
+IsUnboundedAnswer n (answer.Infeasible m) = ⊥
+IsUnboundedAnswer n (answer.Unbounded m) = m ≡ n
+IsUnboundedAnswer n (answer.Stopped why m bound best) = ⊥
+IsUnboundedAnswer n answer.Memory = ⊥
 
--- so many results were placed, the search had from its start a cause to stop, if it stops, and this it shows now
-pub record Finds (old new : PlainSearch) (limit : ℕ) (outcome : Outcome) : Type 0 where
-  pub goes : Goes (placed_of outcome) old new
-  pub cause : HasCause old limit outcome
-  pub shows : Shows new limit outcome
-
--- without memory: results were placed, no more than the limit allows, and the search can go on
-pub record GivesUp (old new : PlainSearch) (limit : ℕ) : Type 0 where
-  pub placed : ℕ
-  pub within_limit : placed ≤ limit
-  pub goes : Goes placed old new
+-- what is answered of a search that came to this
+abbrev pub IsAnswerTo : PlainSearch → Ended → ℕ → Answer → Type 0
+IsAnswerTo S Finished n a = IsFinishedAnswer S n a
+IsAnswerTo S Unbounded n a = IsUnboundedAnswer n a
+IsAnswerTo S (Stopped why) n a = IsStoppedAnswer S why n a

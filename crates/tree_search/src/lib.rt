@@ -1,38 +1,33 @@
-//! The search of a model whose columns are all integer with two bounds, over a tree of regions.
+//! The search of a model over a tree of regions, whose leaves are worked by their relaxations.
 //!
-//! With low(j) and high(j) the whole bounds of column j in a region, a region has
+//! Until no leaf is open, the open leaf with the least number is handed out and worked (`node_solve`): a whole point, a
+//! split at a fractional number, or multipliers that close it. The result is placed in the search, which judges it again
+//! (`tree_edit`). The search stops where it has placed as many results as the limit allows, where the tree has no room for
+//! a split, where a relaxation has as many moves as its limit allows, and where a step of arithmetic has no room; in the
+//! last two the leaf keeps the basis that was reached.
+//!
+//! Where the model has a ray, its relaxations have no least value. Then those of the model without costs are worked, and
+//! the first point ends the search: with the ray beside it the objective has no end.
 //!
 //! ```text
-//! points = product over j of (high(j) - low(j) + 1)
+//! each result leaves less to place     2 points - 1 of each open leaf's region, summed (`search_counting`)
 //! ```
 //!
-//! whole points. Until no leaf is open an open leaf is taken, and its region is refuted by one row (its Farkas number with
-//! the multiplier 1 or -1 is above 0), or split at the middle of the first column with more than one number, or judged at
-//! its one point. An open leaf takes at most 2 points - 1 results: one for each point, and one for each split before it.
+//! Public contract: `search_on` makes exactly the placings that `Goes` says, and ends or stops as `Ends` says (specs/Search).
+//! Each stop had its cause from the start (`HasCause`), so a search with enough results, nodes, moves and room for its steps
+//! goes to the end. `answer_of` says what that shows: an optimum, that no point is feasible, that the objective has no end,
+//! or a bound that no feasible point beats.
 //!
-//! Public contract: what `solve` answers is a theorem (`Finds` in specs/Search): an optimum, or that no point is feasible,
-//! or why it stopped and what is known there. Each stop had its cause from the start (`HasCause` in specs/Causes), so a
-//! search with a limit of `cap`, room in the tree for each split and room for each step goes to the end.
-//!
-//! Below stand the searches (`tree_edit`), the numbers of leaves (`leaf_dual`) and the models (`lp_model`). Above stands the
-//! shell, which answers what this shows.
+//! Below stand the work on a leaf (`node_solve`), the searches (`tree_edit`) and their counting (`search_counting`). Above
+//! stands the environment, which finds the first basis.
 #![tactic(auto)]
 
+mod answering;
 mod bounds;
-mod counting;
-mod integral;
 mod laws;
-mod refuting;
-mod regions;
 mod searching;
 mod stepping;
-mod working;
 
-pub use counting::cap;
-pub use integral::is_integral;
-pub use laws::{
-    cap_law, corner_law, enough_law, single_law, some_point_law, split_cap_law, split_law,
-    stop_bound_law, too_few_nodes_law,
-};
-pub use searching::{Outcome, solve};
-pub use stepping::StopWhy;
+pub use answering::{answer_of, finished, stopped};
+pub use laws::{enough_law, open_law, stop_bound_law};
+pub use searching::{Ended, Searched, Ways, search_on};

@@ -1,10 +1,6 @@
 use Rattle.mps_model.proofs.PlainNames.{meant-plain_names}
 use Rattle.mps_model.proofs.PlainRows.{meant-plain_rows}
-use Rattle.mps_model.proofs.BoundedColumns.{meant-bounded}
 use Rattle.sym_shell.proofs.reading.read_model.Goals as goal
-
-pub returns-clause-bounded : goal.returns-clause-bounded
-returns-clause-bounded g c = meant-bounded c.deref.result.now c.args.intupper c.in_ok-model.model c.in_ok-model.ensures
 
 pub returns-clause-plain : goal.returns-clause-plain
 returns-clause-plain g c = meant-plain_names c.deref.result.now c.args.intupper c.in_ok-model.model c.in_ok-model.ensures

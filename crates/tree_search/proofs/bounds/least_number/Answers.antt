@@ -15,12 +15,12 @@ unreachable-requires c =
 pub unreachable-requires-in_default-2 : goal.unreachable-requires-in_default-2
 unreachable-requires-in_default-2 c =
     let S = c.args.search.now in
-    let numbered : IsNumbered S.tree = subst IsNumbered c.tree.ensures.tree c.nodes-numbered.ensures.numbered in
+    let numbered : IsNumbered S.tree = c.known.ensures.numbered in
     let next : IsNext S (Some c.in-Some.id) = c.in-Some.ensures in
-    next-there S c.in-Some.id numbered next (sym c.in_default-2.is ∙ c.in_ok-region.ensures.region ∙ ap (λ (T : NumberedTree). path_of c.in-Some.id T.root) c.tree-2.ensures.tree)
+    next-there S c.in-Some.id numbered next (sym c.in_default-2.is ∙ c.in_ok-region.ensures.region ∙ ap (λ (T : NumberedTree). path_of c.in-Some.id T.root) c.tree.ensures.tree)
 
 pub rounded_lag-requires : goal.rounded_lag-requires
 rounded_lag-requires c =
     let S = c.args.search.now in
-    let at : Some c.in-Some-2.region ≡ path_of c.in-Some.id S.tree.root = sym c.in-Some-2.is ∙ c.in_ok-region.ensures.region ∙ ap (λ (T : NumberedTree). path_of c.in-Some.id T.root) c.tree-2.ensures.tree in
-    narrow-found S c.in-Some.id c.in-Some-2.region c.points-sound.ensures.sound (sym at)
+    let at : Some c.in-Some-2.region ≡ path_of c.in-Some.id S.tree.root = sym c.in-Some-2.is ∙ c.in_ok-region.ensures.region ∙ ap (λ (T : NumberedTree). path_of c.in-Some.id T.root) c.tree.ensures.tree in
+    narrow-found S c.in-Some.id c.in-Some-2.region c.known.ensures.sound (sym at)

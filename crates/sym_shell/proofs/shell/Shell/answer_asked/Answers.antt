@@ -1,46 +1,42 @@
 use Rattle.std.proofs.Common.{ap, refl, inr}
 use Rattle.command_words.specs.Asks.{Load, Solve, Cert, Quit, Unknown, Misused, NoNumber, asks_shown}
-use Rattle.sym_shell.specs.Present.{present}
 use Rattle.sym_shell.specs.State.{shell_state}
-use Rattle.sym_shell.specs.Texts.{ok_text, memory_text}
-use Rattle.sym_shell.proofs.StepLemmas.{unfinished, always, on_err, solve-step}
+use Rattle.reply_texts.specs.Texts.{ok_text, memory_text}
+use Rattle.sym_shell.proofs.StepLemmas.{unfinished, always, some-solve-step}
 use Rattle.sym_shell.proofs.shell.Shell.answer_asked.Goals as goal
 
 pub returns-in-Load-clause-unfinished : goal.returns-in-Load-clause-unfinished
 returns-in-Load-clause-unfinished g c =
-    let old = (shell_state (present c.args.self.now) (g.S.Store.files c.args.store.now) (g.S.Store.faults c.args.store.now)) in
-    let new = shell_state (present c.load.new.self) (g.S.Store.files c.load.new.store) (g.S.Store.faults c.load.new.store) in
+    let old = (shell_state c.args.self.now (g.S.Store.files c.args.store.now) (g.S.Store.faults c.args.store.now)) in
+    let new = shell_state (c.load.new.self) (g.S.Store.files c.load.new.store) (g.S.Store.faults c.load.new.store) in
     unfinished c.load.result (Load c.in-Load.file.now c.in-Load.intupper) (asks_shown c.args.asked) old new memory_text (ap asks_shown c.in-Load.is) c.load.ensures.unfinished
 
 pub returns-in-Solve-clause-unfinished : goal.returns-in-Solve-clause-unfinished
 returns-in-Solve-clause-unfinished g c =
-    let old = (shell_state (present c.args.self.now) (g.S.Store.files c.args.store.now) (g.S.Store.faults c.args.store.now)) in
-    let new = shell_state (present c.solve.new.self) (g.S.Store.files c.args.store.now) (g.S.Store.faults c.args.store.now) in
-    unfinished c.solve.result (Solve c.in-Solve.limit) (asks_shown c.args.asked) old new memory_text (ap asks_shown c.in-Solve.is)
-    (on_err c.solve.result (solve-step (present c.args.self.now) (present c.solve.new.self) (g.S.Store.files c.args.store.now) (g.S.Store.faults c.args.store.now) c.in-Solve.limit memory_text c.solve.ensures.model) c.solve.ensures.unfinished)
+    some-solve-step c.solve.result (asks_shown c.args.asked) c.in-Solve.nodes c.in-Solve.pivots c.args.self.now c.solve.new.self (g.S.Store.files c.args.store.now) (g.S.Store.faults c.args.store.now) (ap asks_shown c.in-Solve.is) c.solve.ensures.unfinished
 
 pub returns-in-Cert-clause-unfinished : goal.returns-in-Cert-clause-unfinished
 returns-in-Cert-clause-unfinished g c =
-    let old = (shell_state (present c.args.self.now) (g.S.Store.files c.args.store.now) (g.S.Store.faults c.args.store.now)) in
-    let new = shell_state (present c.args.self.now) (g.S.Store.files c.cert.new.store) (g.S.Store.faults c.cert.new.store) in
+    let old = (shell_state c.args.self.now (g.S.Store.files c.args.store.now) (g.S.Store.faults c.args.store.now)) in
+    let new = shell_state c.args.self.now (g.S.Store.files c.cert.new.store) (g.S.Store.faults c.cert.new.store) in
     unfinished c.cert.result (Cert c.in-Cert.file.now) (asks_shown c.args.asked) old new memory_text (ap asks_shown c.in-Cert.is) c.cert.ensures.unfinished
 
 pub returns-in-Quit-clause-unfinished : goal.returns-in-Quit-clause-unfinished
 returns-in-Quit-clause-unfinished g c =
-    let old = (shell_state (present c.args.self.now) (g.S.Store.files c.args.store.now) (g.S.Store.faults c.args.store.now)) in
+    let old = (shell_state c.args.self.now (g.S.Store.files c.args.store.now) (g.S.Store.faults c.args.store.now)) in
     unfinished c.extend_from_slice.result Quit (asks_shown c.args.asked) old old ok_text (ap asks_shown c.in-Quit.is) (always c.extend_from_slice.result (record { unchanged = refl; answer = refl }))
 
 pub returns-in-Unknown-clause-unfinished : goal.returns-in-Unknown-clause-unfinished
 returns-in-Unknown-clause-unfinished g c =
-    let old = (shell_state (present c.args.self.now) (g.S.Store.files c.args.store.now) (g.S.Store.faults c.args.store.now)) in
+    let old = (shell_state c.args.self.now (g.S.Store.files c.args.store.now) (g.S.Store.faults c.args.store.now)) in
     unfinished c.write_unknown.result (Unknown c.in-Unknown.word.now) (asks_shown c.args.asked) old old memory_text (ap asks_shown c.in-Unknown.is) (always c.write_unknown.result (record { unchanged = refl; answer = inr refl }))
 
 pub returns-in-Misused-clause-unfinished : goal.returns-in-Misused-clause-unfinished
 returns-in-Misused-clause-unfinished g c =
-    let old = (shell_state (present c.args.self.now) (g.S.Store.files c.args.store.now) (g.S.Store.faults c.args.store.now)) in
+    let old = (shell_state c.args.self.now (g.S.Store.files c.args.store.now) (g.S.Store.faults c.args.store.now)) in
     unfinished c.extend_from_slice-in-Misused.result Misused (asks_shown c.args.asked) old old memory_text (ap asks_shown c.in-Misused.is) (always c.extend_from_slice-in-Misused.result (record { unchanged = refl; answer = inr refl }))
 
 pub returns-in-NoNumber-clause-unfinished : goal.returns-in-NoNumber-clause-unfinished
 returns-in-NoNumber-clause-unfinished g c =
-    let old = (shell_state (present c.args.self.now) (g.S.Store.files c.args.store.now) (g.S.Store.faults c.args.store.now)) in
+    let old = (shell_state c.args.self.now (g.S.Store.files c.args.store.now) (g.S.Store.faults c.args.store.now)) in
     unfinished c.write_no_number.result (NoNumber c.in-NoNumber.word.now) (asks_shown c.args.asked) old old memory_text (ap asks_shown c.in-NoNumber.is) (always c.write_no_number.result (record { unchanged = refl; answer = inr refl }))

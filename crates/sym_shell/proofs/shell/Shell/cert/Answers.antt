@@ -1,18 +1,32 @@
+use Rattle.std.proofs.Common.{subst}
+use Rattle.std.specs.Prelude.{OnOk, OnErr}
+use Rattle.reply_texts.specs.Texts.{memory_text}
+use Rattle.sym_env.specs.Env.{PlainEnv}
+use Rattle.sym_shell.specs.State.{shell_state}
+use Rattle.sym_shell.specs.Certify.{CertStep}
+use Rattle.sym_shell.proofs.CertLemmas.{cert-written}
 use Rattle.sym_shell.proofs.StepLemmas.{on_ok, on_err}
-use Rattle.sym_shell.specs.Texts.{memory_text}
-use Rattle.sym_shell.proofs.CertLemmas.{cert-step}
 use Rattle.sym_shell.proofs.shell.Shell.cert.Goals as goal
 
-pub returns-in-Some-answer-clause-answered : goal.returns-in-Some-answer-clause-answered
-returns-in-Some-answer-clause-answered g c =
-    on_ok c.write_certificate.result
-    (cert-step c.args.self.now.loaded c.in-Some.loaded c.in-Some-answer.search.now (g.S.Store.files c.args.store.now) (g.S.Store.files c.write_certificate.new.store) (g.S.Store.faults c.args.store.now) (g.S.Store.faults c.write_certificate.new.store)
-    c.args.name.now c.write_certificate.new.reply.items c.in-Some.is c.in-Some-answer.ensures.answer c.in-Some-answer.ensures.model c.write_certificate.ensures.later)
-    c.write_certificate.ensures.answered
+pub returns-in-Ok-clause-answered : goal.returns-in-Ok-clause-answered
+returns-in-Ok-clause-answered g c =
+    let files = g.S.Store.files c.args.store.now in
+    let faults = g.S.Store.faults c.args.store.now in
+    let after = g.S.Store.files c.write_file.new.store in
+    let later = g.S.Store.faults c.write_file.new.store in
+    let reply = c.write_file.new.reply.items in
+    subst (λ (env : PlainEnv). OnOk c.write_file.result (CertStep (shell_state env files faults) c.args.name.now reply (shell_state env after later))) c.self.view_is
+    (on_ok c.write_file.result
+    (cert-written c.self.inside.env c.self.invariant files after faults later c.args.name.now reply c.cert.result c.in-Ok.text c.deref.result.now c.in-Ok.is c.cert.ensures c.deref.ensures.value c.write_file.ensures.later)
+    c.write_file.ensures.answered)
 
-pub returns-in-Some-answer-clause-unfinished : goal.returns-in-Some-answer-clause-unfinished
-returns-in-Some-answer-clause-unfinished g c =
-    on_err c.write_certificate.result
-    (cert-step c.args.self.now.loaded c.in-Some.loaded c.in-Some-answer.search.now (g.S.Store.files c.args.store.now) (g.S.Store.files c.write_certificate.new.store) (g.S.Store.faults c.args.store.now) (g.S.Store.faults c.write_certificate.new.store)
-    c.args.name.now memory_text c.in-Some.is c.in-Some-answer.ensures.answer c.in-Some-answer.ensures.model c.write_certificate.ensures.later)
-    c.write_certificate.ensures.unfinished
+pub returns-in-Ok-clause-unfinished : goal.returns-in-Ok-clause-unfinished
+returns-in-Ok-clause-unfinished g c =
+    let files = g.S.Store.files c.args.store.now in
+    let faults = g.S.Store.faults c.args.store.now in
+    let after = g.S.Store.files c.write_file.new.store in
+    let later = g.S.Store.faults c.write_file.new.store in
+    subst (λ (env : PlainEnv). OnErr c.write_file.result (CertStep (shell_state env files faults) c.args.name.now memory_text (shell_state env after later))) c.self.view_is
+    (on_err c.write_file.result
+    (cert-written c.self.inside.env c.self.invariant files after faults later c.args.name.now memory_text c.cert.result c.in-Ok.text c.deref.result.now c.in-Ok.is c.cert.ensures c.deref.ensures.value c.write_file.ensures.later)
+    c.write_file.ensures.unfinished)

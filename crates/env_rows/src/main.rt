@@ -1,0 +1,17 @@
+//! Worked rows of the environment: what the calls of the callable library answer, for a model that is loaded and for none.
+//!
+//! A row's lines are calls, each with its answer behind ` -> `, and `ok` where none is written. They are made from above.
+//! `docs/ROWS.md` tells each call; `row_texts` reads the files, and `model_texts` the models.
+//!
+//! The proof says that the program is safe and ends, whatever the files are. What the calls are to answer comes from outside.
+#![tactic(auto)]
+
+mod answers;
+mod stage;
+
+use crate::stage::Calls;
+use std::process::ExitCode;
+
+fn main(rt: HostRuntime) -> ExitCode {
+    row_texts::run_rows::<Calls>(&rt)
+}

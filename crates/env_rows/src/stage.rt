@@ -1,0 +1,148 @@
+// The environment of a row, and how its calls were answered so far.
+use crate::answers::push_answer;
+use anyhow::{Result, bail, ensure};
+use lp_model::Model;
+use model_calls::take_number;
+use model_texts::{Words, model_of};
+use row_texts::{Stage, bytes_of};
+use std::alloc::Global;
+use sym_env::{Env, EnvFault, Limits};
+
+/// The environment, and what was noted of answers that aren't the wanted ones.
+#[derive(Drop)]
+pub struct Calls {
+    alloc: Global,
+    env: Env,
+    is_judged: bool,
+    report: String,
+}
+
+/// The model that the lines of a text say.
+fn model_in(alloc: Global, text: &[String]) -> Result<Model> {
+    let bytes = bytes_of(alloc, text)?;
+    let Ok(text) = str::from_utf8(&bytes) else {
+        bail!("no text");
+    };
+    model_of(alloc, text)
+}
+
+/// The limits that the words name; one that isn't named is the greatest.
+fn limits_in(words: &mut Words) -> Result<Limits> {
+    let mut limits = Limits {
+        nodes: u64::MAX,
+        pivots: u64::MAX,
+        tree: 1_000_000,
+    };
+    for _ in 0..words.most() {
+        if words.is_done() {
+            break;
+        }
+        let key = words.next("limit")?;
+        let number = take_number(words)?;
+        match key.as_str() {
+            "nodes" => limits.nodes = number,
+            "pivots" => limits.pivots = number,
+            "tree" => limits.tree = number,
+            _ => bail!("no limit: `{key}`"),
+        }
+    }
+    words.end()?;
+    Ok(limits)
+}
+
+fn push_fault(got: &mut String, fault: &EnvFault) -> Result<()> {
+    match fault {
+        EnvFault::NoModel => got.push_str("no model")?,
+        EnvFault::NoAnswer => got.push_str("no answer")?,
+        EnvFault::Memory => got.push_str("no memory")?,
+    }
+    Ok(())
+}
+
+impl Calls {
+    fn solve(&mut self, line: &str, got: &mut String) -> Result<()> {
+        let limits = limits_in(&mut Words::new(self.alloc, line)?)?;
+        let found = self.env.solve(&limits);
+        match &found {
+            Ok(answer) => {
+                let Some(model) = self.env.model() else {
+                    bail!("an answer, and no model");
+                };
+                push_answer(got, model, answer)
+            }
+            Err(fault) => push_fault(got, fault),
+        }
+    }
+
+    /// How many bytes the certificate's text has.
+    fn cert(&self, got: &mut String) -> Result<()> {
+        match &self.env.cert() {
+            Ok(text) => write!(got, "{} bytes", text.len())?,
+            Err(fault) => push_fault(got, fault)?,
+        }
+        Ok(())
+    }
+
+    /// How many columns the model has.
+    fn columns(&self, got: &mut String) -> Result<()> {
+        match self.env.model() {
+            Some(model) => write!(got, "{}", model.cols().len())?,
+            None => got.push_str("no model")?,
+        }
+        Ok(())
+    }
+
+    fn answer(&mut self, word: &str, line: &str, got: &mut String) -> Result<()> {
+        match word {
+            "solve" => self.solve(line, got),
+            "cert" => self.cert(got),
+            "columns" => self.columns(got),
+            _ => bail!("no call: `{word}`"),
+        }
+    }
+
+    /// Notes an answer that isn't the wanted one.
+    fn judge(&mut self, word: &str, rest: &str, got: &str, wanted: &str) -> Result<()> {
+        self.is_judged = true;
+        if got != wanted {
+            writeln!(self.report, "  {word} {rest}\n    got {got}")?;
+        }
+        Ok(())
+    }
+}
+
+impl Stage for Calls {
+    fn new(alloc: Global) -> Result<Self> {
+        Ok(Calls {
+            alloc,
+            env: Env::new(alloc),
+            is_judged: false,
+            report: String::new(alloc),
+        })
+    }
+
+    fn has_text(word: &str) -> bool {
+        word == "load"
+    }
+
+    fn take(&mut self, word: &str, rest: &str, text: &[String]) -> Result<()> {
+        if word == "load" {
+            ensure!(rest.is_empty(), "no name stands here: {rest}");
+            let model = model_in(self.alloc, text)?;
+            if self.env.load(model).is_err() {
+                bail!("no memory");
+            }
+            return Ok(());
+        }
+        let (said, wanted) = rest.split_once("-> ").unwrap_or((rest, "ok"));
+        let mut got = String::new(self.alloc);
+        self.answer(word, said, &mut got)?;
+        let got = if got.is_empty() { "ok" } else { got.trim() };
+        self.judge(word, rest, got, wanted)
+    }
+
+    fn end(&self) -> Result<&str> {
+        ensure!(self.is_judged, "no call");
+        Ok(self.report.as_str())
+    }
+}

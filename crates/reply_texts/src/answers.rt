@@ -1,0 +1,268 @@
+// The bytes of the reply to what was found of a model.
+ghost use Rattle.std.specs.Prelude.{◌≡◌, ◌<◌, ◌^◌, ◌++◌, length, IfOk};
+ghost use Rattle.std.specs.List.{All};
+ghost use Rattle.frac128.specs.Range.{Fits};
+ghost use Rattle.lp_model.specs.Program.{value};
+ghost use Rattle.reply_texts.specs.Reports.{IsShaped, HasRoom};
+ghost use Rattle.reply_texts.specs.Texts.{value_line, column_line, column_lines, optimal_text, infeasible_text, unbounded_text, number_or_none, known_text, stopped_nodes_text, stopped_tree_text, stopped_pivots_text, stopped_wide_text, stopped_text, answer_text};
+
+use crate::blocks::{write_block, write_step_line};
+use frac128::Frac;
+use lp_model::{Answer, Col, Model, PivotPlace, Point, StopWhy, WideAt};
+use std::alloc::AllocError;
+
+fn write_infeasible(reply: &mut Vec<u8>, placed: u64) -> Result<(), AllocError>
+    ensures { IfOk result (λ _. reply.new.items ≡ reply.old.items ++ infeasible_text placed) }
+{
+    let mut digits = itoa::Buffer::new();
+    reply.extend_from_slice(b"infeasible nodes ")?;
+    reply.extend_from_slice(digits.format(placed).as_bytes())?;
+    reply.extend_from_slice(b"\n")?;
+    Ok(())
+}
+
+/// The first line of an optimum: its value, and how many results were placed.
+fn write_value(reply: &mut Vec<u8>, value: &Frac, placed: u64) -> Result<(), AllocError>
+    ensures { IfOk result (λ _. reply.new.items ≡ reply.old.items ++ value_line value.now placed) }
+{
+    let mut digits = itoa::Buffer::new();
+    reply.extend_from_slice(b"optimal ")?;
+    value.write_to(reply)?;
+    reply.extend_from_slice(b" nodes ")?;
+    reply.extend_from_slice(digits.format(placed).as_bytes())?;
+    reply.extend_from_slice(b"\n")?;
+    Ok(())
+}
+
+/// The line of a column whose number is not 0.
+fn write_column_line(reply: &mut Vec<u8>, name: &[u8], number: &Frac) -> Result<(), AllocError>
+    ensures { IfOk result (λ _. reply.new.items ≡ reply.old.items ++ column_line name.now number.now) }
+{
+    if number.is_zero() {
+        return Ok(());
+    }
+    reply.extend_from_slice(b"x ")?;
+    reply.extend_from_slice(name)?;
+    reply.extend_from_slice(b" ")?;
+    number.write_to(reply)?;
+    reply.extend_from_slice(b"\n")?;
+    Ok(())
+}
+
+/// The lines of the columns in order.
+fn write_columns(reply: &mut Vec<u8>, columns: &[Col], numbers: &[Frac]) -> Result<(), AllocError>
+    requires { length numbers.now ≡ length columns.now }
+    ensures { IfOk result (λ _. reply.new.items ≡ reply.old.items ++ column_lines columns.now numbers.now) }
+{
+    for (index, column) in columns.iter().enumerate() {
+        write_column_line(reply, column.name.as_slice(), &numbers[index])?;
+    }
+    Ok(())
+}
+
+/// Nothing happens: a caller learns that each fraction has room.
+fn have_room(numbers: &[Frac])
+    ensures { All Fits numbers.now }
+{
+    for number in numbers {
+        number.has_room();
+    }
+}
+
+/// An optimum: its value, how many results were placed, and its numbers.
+fn write_optimal(
+    reply: &mut Vec<u8>,
+    model: &Model,
+    best: &Frac,
+    point: &Point,
+    placed: u64,
+) -> Result<(), AllocError>
+    requires shape { length point.now ≡ length model.now.cols }
+    requires best { best.now ≡ value model.now 1 point.now }
+    ensures { IfOk result (λ _. reply.new.items ≡ reply.old.items ++ optimal_text model.now point.now placed) }
+{
+    write_value(reply, best, placed)?;
+    write_columns(reply, model.cols(), point.as_slice())?;
+    reply.extend_from_slice(b"end\n")?;
+    Ok(())
+}
+
+/// A model whose objective has no end.
+fn write_unbounded(reply: &mut Vec<u8>, placed: u64) -> Result<(), AllocError>
+    ensures { IfOk result (λ _. reply.new.items ≡ reply.old.items ++ unbounded_text placed) }
+{
+    let mut digits = itoa::Buffer::new();
+    reply.extend_from_slice(b"unbounded nodes ")?;
+    reply.extend_from_slice(digits.format(placed).as_bytes())?;
+    reply.extend_from_slice(b"\n")?;
+    Ok(())
+}
+
+fn write_number_or_none(reply: &mut Vec<u8>, number: &Option<Frac>) -> Result<(), AllocError>
+    ensures { IfOk result (λ _. reply.new.items ≡ reply.old.items ++ number_or_none number.now) }
+{
+    match number {
+        Some(number) => number.write_to(reply)?,
+        None => reply.extend_from_slice(b"none")?,
+    }
+    Ok(())
+}
+
+/// The number of results, the bound and the best value.
+fn write_known(
+    reply: &mut Vec<u8>,
+    placed: u64,
+    bound: &Option<Frac>,
+    best: &Option<Frac>,
+) -> Result<(), AllocError>
+    ensures { IfOk result (λ _. reply.new.items ≡ reply.old.items ++ known_text placed bound.now best.now) }
+{
+    let mut digits = itoa::Buffer::new();
+    reply.extend_from_slice(digits.format(placed).as_bytes())?;
+    reply.extend_from_slice(b" bound ")?;
+    write_number_or_none(reply, bound)?;
+    reply.extend_from_slice(b" best ")?;
+    write_number_or_none(reply, best)?;
+    reply.extend_from_slice(b"\n")?;
+    Ok(())
+}
+
+/// A search stopped after as many results as it may place.
+fn write_stopped_nodes(
+    reply: &mut Vec<u8>,
+    placed: u64,
+    bound: &Option<Frac>,
+    best: &Option<Frac>,
+) -> Result<(), AllocError>
+    ensures { IfOk result (λ _. reply.new.items ≡ reply.old.items ++ stopped_nodes_text placed bound.now best.now) }
+{
+    reply.extend_from_slice(b"stopped nodes ")?;
+    write_known(reply, placed, bound, best)?;
+    Ok(())
+}
+
+/// A search stopped where a leaf is to be split and the tree has no room for two more nodes.
+fn write_stopped_tree(
+    reply: &mut Vec<u8>,
+    placed: u64,
+    bound: &Option<Frac>,
+    best: &Option<Frac>,
+) -> Result<(), AllocError>
+    ensures { IfOk result (λ _. reply.new.items ≡ reply.old.items ++ stopped_tree_text placed bound.now best.now) }
+{
+    reply.extend_from_slice(b"stopped tree ")?;
+    write_known(reply, placed, bound, best)?;
+    Ok(())
+}
+
+/// A search stopped where a relaxation had as many moves as the limit allows.
+fn write_stopped_pivots(
+    reply: &mut Vec<u8>,
+    model: &Model,
+    placed: u64,
+    bound: &Option<Frac>,
+    best: &Option<Frac>,
+    place: &PivotPlace,
+) -> Result<(), AllocError>
+    ensures { IfOk result (λ _. reply.new.items ≡ reply.old.items ++ stopped_pivots_text model.now placed bound.now best.now place.now) }
+{
+    reply.extend_from_slice(b"stopped pivots ")?;
+    write_known(reply, placed, bound, best)?;
+    write_block(
+        reply,
+        model,
+        &place.path,
+        place.cuts.as_slice(),
+        &place.basis,
+    )?;
+    reply.extend_from_slice(b"end\n")?;
+    Ok(())
+}
+
+/// A search stopped at a step of arithmetic without room.
+fn write_stopped_wide(
+    reply: &mut Vec<u8>,
+    model: &Model,
+    placed: u64,
+    bound: &Option<Frac>,
+    best: &Option<Frac>,
+    at: &WideAt,
+) -> Result<(), AllocError>
+    ensures { IfOk result (λ _. reply.new.items ≡ reply.old.items ++ stopped_wide_text model.now placed bound.now best.now at.now) }
+{
+    reply.extend_from_slice(b"stopped wide ")?;
+    write_known(reply, placed, bound, best)?;
+    write_block(reply, model, &at.path, at.cuts.as_slice(), &at.basis)?;
+    write_step_line(reply, model, &at.step)?;
+    reply.extend_from_slice(b"end\n")?;
+    Ok(())
+}
+
+/// Where and why a search stopped.
+fn write_stopped(
+    reply: &mut Vec<u8>,
+    model: &Model,
+    why: &StopWhy,
+    placed: u64,
+    bound: &Option<Frac>,
+    best: &Option<Frac>,
+) -> Result<(), AllocError>
+    ensures { IfOk result (λ _. reply.new.items ≡ reply.old.items ++ stopped_text model.now why.now placed bound.now best.now) }
+{
+    match why {
+        StopWhy::Nodes => write_stopped_nodes(reply, placed, bound, best),
+        StopWhy::Tree => write_stopped_tree(reply, placed, bound, best),
+        StopWhy::Pivots(place) => write_stopped_pivots(reply, model, placed, bound, best, place),
+        StopWhy::Wide(at) => write_stopped_wide(reply, model, placed, bound, best, at),
+    }
+}
+
+/// What is found of a model.
+pub fn write_answer(reply: &mut Vec<u8>, model: &Model, answer: &Answer) -> Result<(), AllocError>
+    requires { IsShaped model.now answer.now }
+    ensures { IfOk result (λ _. reply.new.items ≡ reply.old.items ++ answer_text model.now answer.now) }
+{
+    match answer {
+        Answer::Optimal {
+            value,
+            point,
+            placed,
+        } => write_optimal(reply, model, value, point, *placed),
+        Answer::Infeasible { placed } => write_infeasible(reply, *placed),
+        Answer::Unbounded { placed } => write_unbounded(reply, *placed),
+        Answer::Stopped {
+            why,
+            placed,
+            bound,
+            best,
+        } => write_stopped(reply, model, why, *placed, bound, best),
+        Answer::Memory => reply.extend_from_slice(b"error 90 memory\n"),
+    }
+}
+
+/// Nothing happens: a caller learns that the numbers of an optimum have room.
+fn optimum_has_room(value: &Frac, point: &Point, placed: u64)
+    ensures value { Fits value.now }
+    ensures numbers { All Fits point.now }
+    ensures count { placed < 2 ^ 64 }
+{
+    value.has_room();
+    have_room(point.as_slice());
+}
+
+/// Nothing happens: a caller learns that the numbers of an answer have room, so that its text can be read back.
+pub fn answer_has_room(answer: &Answer)
+    ensures { HasRoom answer.now }
+{
+    match answer {
+        Answer::Optimal {
+            value,
+            point,
+            placed,
+        } => optimum_has_room(value, point, *placed),
+        Answer::Infeasible { .. }
+        | Answer::Unbounded { .. }
+        | Answer::Stopped { .. }
+        | Answer::Memory => {}
+    }
+}

@@ -1,0 +1,198 @@
+// Where a search stopped: a relaxation, and a basis of it.
+ghost use Rattle.std.specs.Prelude.{◌≡◌, ◌++◌, codes, decimal, IfOk};
+ghost use Rattle.std.specs.List.{flat_map};
+ghost use Rattle.std.specs.Fmt.{signed_decimal};
+ghost use Rattle.reply_texts.specs.Places.{relation_text, change_text, path_line, region_line, side_text, literal_text, sign_text, cut_line, cut_lines, basis_line, high_line, basis_lines, block_text, step_line};
+
+use crate::names::{column_name, row_name, write_variables};
+use crate::steps::write_step;
+use lp_model::{Basis, BoundChange, Derivation, Literal, Model, Region, Side, Var, WideStep};
+use std::alloc::AllocError;
+
+fn relation(side: Side) -> &'static [u8]
+    ensures { result.now ≡ relation_text side }
+{
+    match side {
+        Side::Lo => b" >= ",
+        Side::Hi => b" <= ",
+    }
+}
+
+fn write_whole(reply: &mut Vec<u8>, number: i128) -> Result<(), AllocError>
+    ensures { IfOk result (λ _. reply.new.items ≡ reply.old.items ++ signed_decimal number) }
+{
+    let mut digits = itoa::Buffer::new();
+    reply.extend_from_slice(digits.format(number).as_bytes())?;
+    Ok(())
+}
+
+fn write_change(reply: &mut Vec<u8>, model: &Model, change: BoundChange) -> Result<(), AllocError>
+    ensures { IfOk result (λ _. reply.new.items ≡ reply.old.items ++ change_text model.now change) }
+{
+    let BoundChange { col, side, v } = change;
+    reply.extend_from_slice(relation(side))?;
+    reply.extend_from_slice(column_name(model, col))?;
+    reply.extend_from_slice(b" ")?;
+    write_whole(reply, v)?;
+    Ok(())
+}
+
+fn write_changes(
+    reply: &mut Vec<u8>,
+    model: &Model,
+    changes: &[BoundChange],
+) -> Result<(), AllocError>
+    ensures { IfOk result (λ _. reply.new.items ≡ reply.old.items ++ flat_map (change_text model.now) changes.now) }
+{
+    for change in changes {
+        write_change(reply, model, *change)?;
+    }
+    Ok(())
+}
+
+/// The bound changes of a region.
+fn write_path(reply: &mut Vec<u8>, model: &Model, path: &Region) -> Result<(), AllocError>
+    ensures { IfOk result (λ _. reply.new.items ≡ reply.old.items ++ path_line model.now path.now) }
+{
+    reply.extend_from_slice(b"path")?;
+    write_changes(reply, model, path.as_slice())?;
+    reply.extend_from_slice(b"\n")?;
+    Ok(())
+}
+
+/// The bound changes of a leaf, or that the relaxation is that of the ray phase.
+fn write_region(
+    reply: &mut Vec<u8>,
+    model: &Model,
+    region: &Option<Region>,
+) -> Result<(), AllocError>
+    ensures { IfOk result (λ _. reply.new.items ≡ reply.old.items ++ region_line model.now region.now) }
+{
+    match region {
+        Some(path) => write_path(reply, model, path),
+        None => reply.extend_from_slice(b"path ray\n"),
+    }
+}
+
+fn sign(plus: bool) -> &'static [u8]
+    ensures { result.now ≡ sign_text plus }
+{
+    if plus { b" +" } else { b" -" }
+}
+
+fn write_literal(reply: &mut Vec<u8>, model: &Model, literal: Literal) -> Result<(), AllocError>
+    ensures { IfOk result (λ _. reply.new.items ≡ reply.old.items ++ literal_text model.now literal) }
+{
+    reply.extend_from_slice(sign(literal.plus))?;
+    reply.extend_from_slice(column_name(model, literal.col))?;
+    Ok(())
+}
+
+fn write_literals(
+    reply: &mut Vec<u8>,
+    model: &Model,
+    literals: &[Literal],
+) -> Result<(), AllocError>
+    ensures { IfOk result (λ _. reply.new.items ≡ reply.old.items ++ flat_map (literal_text model.now) literals.now) }
+{
+    for literal in literals {
+        write_literal(reply, model, *literal)?;
+    }
+    Ok(())
+}
+
+fn side(side: Side) -> &'static [u8]
+    ensures { result.now ≡ side_text side }
+{
+    match side {
+        Side::Lo => b" lo",
+        Side::Hi => b" hi",
+    }
+}
+
+/// A cut, by its place from 1, and where it comes from.
+fn write_cut_line(
+    reply: &mut Vec<u8>,
+    model: &Model,
+    place: u64,
+    cut: &Derivation,
+) -> Result<(), AllocError>
+    ensures { IfOk result (λ _. reply.new.items ≡ reply.old.items ++ cut_line model.now place cut.now) }
+{
+    let mut digits = itoa::Buffer::new();
+    reply.extend_from_slice(b"cut ")?;
+    reply.extend_from_slice(digits.format(place).as_bytes())?;
+    reply.extend_from_slice(b" ")?;
+    reply.extend_from_slice(row_name(model, cut.row))?;
+    reply.extend_from_slice(side(cut.side))?;
+    write_literals(reply, model, cut.literals.as_slice())?;
+    reply.extend_from_slice(b"\n")?;
+    Ok(())
+}
+
+/// The cuts of a relaxation, in order.
+fn write_cuts(reply: &mut Vec<u8>, model: &Model, cuts: &[Derivation]) -> Result<(), AllocError>
+    ensures { IfOk result (λ _. reply.new.items ≡ reply.old.items ++ cut_lines model.now 1 cuts.now) }
+{
+    for (index, cut) in cuts.iter().enumerate() {
+        write_cut_line(reply, model, index as u64 + 1, cut)?;
+    }
+    Ok(())
+}
+
+fn write_basic(reply: &mut Vec<u8>, model: &Model, variables: &[Var]) -> Result<(), AllocError>
+    ensures { IfOk result (λ _. reply.new.items ≡ reply.old.items ++ basis_line model.now variables.now) }
+{
+    reply.extend_from_slice(b"basis")?;
+    write_variables(reply, model, variables)?;
+    reply.extend_from_slice(b"\n")?;
+    Ok(())
+}
+
+fn write_high(reply: &mut Vec<u8>, model: &Model, variables: &[Var]) -> Result<(), AllocError>
+    ensures { IfOk result (λ _. reply.new.items ≡ reply.old.items ++ high_line model.now variables.now) }
+{
+    reply.extend_from_slice(b"high")?;
+    write_variables(reply, model, variables)?;
+    reply.extend_from_slice(b"\n")?;
+    Ok(())
+}
+
+/// A basis: its variables, and those of the others that stand at their high side.
+fn write_basis(reply: &mut Vec<u8>, model: &Model, basis: &Basis) -> Result<(), AllocError>
+    ensures { IfOk result (λ _. reply.new.items ≡ reply.old.items ++ basis_lines model.now basis.now) }
+{
+    write_basic(reply, model, basis.basic.as_slice())?;
+    write_high(reply, model, basis.high.as_slice())?;
+    Ok(())
+}
+
+/// A relaxation, by its cuts and its region, and a basis of it.
+pub(crate) fn write_block(
+    reply: &mut Vec<u8>,
+    model: &Model,
+    region: &Option<Region>,
+    cuts: &[Derivation],
+    basis: &Basis,
+) -> Result<(), AllocError>
+    ensures { IfOk result (λ _. reply.new.items ≡ reply.old.items ++ block_text model.now region.now cuts.now basis.now) }
+{
+    write_cuts(reply, model, cuts)?;
+    write_region(reply, model, region)?;
+    write_basis(reply, model, basis)?;
+    Ok(())
+}
+
+/// The step of arithmetic without room.
+pub(crate) fn write_step_line(
+    reply: &mut Vec<u8>,
+    model: &Model,
+    step: &WideStep,
+) -> Result<(), AllocError>
+    ensures { IfOk result (λ _. reply.new.items ≡ reply.old.items ++ step_line model.now step.now) }
+{
+    reply.extend_from_slice(b"at ")?;
+    write_step(reply, model, step)?;
+    reply.extend_from_slice(b"\n")?;
+    Ok(())
+}

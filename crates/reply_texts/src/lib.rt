@@ -1,0 +1,20 @@
+//! The bytes of replies: names, steps of arithmetic, where a search stopped, answers and refusals.
+//!
+//! Each definition in specs/ is a text; each function writes one behind what a reply has already. Names and numbers are
+//! written as a model has them, one blank between words, a newline behind each line.
+//!
+//! Contract in one sentence: where there is memory, what is written is the text that specs/ defines, and all that stood
+//! before it stays.
+//!
+//! Below stands `lp_model`; above, `sym_shell`, which says when each text is the reply.
+#![tactic(auto)]
+
+mod answers;
+mod blocks;
+mod names;
+mod refusals;
+mod steps;
+
+pub use answers::{answer_has_room, write_answer};
+pub use refusals::{write_faulty_certificate, write_faulty_model, write_no_number, write_unknown};
+pub use steps::write_step;

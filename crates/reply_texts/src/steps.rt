@@ -1,0 +1,159 @@
+// The places of steps of arithmetic.
+ghost use Rattle.std.specs.Prelude.{◌≡◌, ◌++◌, codes, IfOk};
+ghost use Rattle.reply_texts.specs.Places.{variable_text, next_text, value_step_text, step_text};
+ghost use Rattle.lp_model.specs.Lawful.{row_name};
+ghost use Rattle.lp_model.specs.Lawful.{column_name};
+
+use crate::names::{column_name, row_name, write_next, write_variable};
+use lp_model::{ColId, Model, RowId, Var, WideStep};
+use std::alloc::AllocError;
+
+fn write_activity(
+    reply: &mut Vec<u8>,
+    model: &Model,
+    row: RowId,
+    column: ColId,
+) -> Result<(), AllocError>
+    ensures { IfOk result (λ _. reply.new.items ≡ reply.old.items ++ (codes "act row " ++ row_name model.now row.0 ++ codes " col " ++ column_name model.now column.0)) }
+{
+    reply.extend_from_slice(b"act row ")?;
+    reply.extend_from_slice(row_name(model, row))?;
+    reply.extend_from_slice(b" col ")?;
+    reply.extend_from_slice(column_name(model, column))?;
+    Ok(())
+}
+
+fn write_cover(
+    reply: &mut Vec<u8>,
+    model: &Model,
+    row: RowId,
+    column: ColId,
+) -> Result<(), AllocError>
+    ensures { IfOk result (λ _. reply.new.items ≡ reply.old.items ++ (codes "cover row " ++ row_name model.now row.0 ++ codes " col " ++ column_name model.now column.0)) }
+{
+    reply.extend_from_slice(b"cover row ")?;
+    reply.extend_from_slice(row_name(model, row))?;
+    reply.extend_from_slice(b" col ")?;
+    reply.extend_from_slice(column_name(model, column))?;
+    Ok(())
+}
+
+fn write_value_at(reply: &mut Vec<u8>, model: &Model, column: ColId) -> Result<(), AllocError>
+    ensures { IfOk result (λ _. reply.new.items ≡ reply.old.items ++ (codes "value col " ++ column_name model.now column.0)) }
+{
+    reply.extend_from_slice(b"value col ")?;
+    reply.extend_from_slice(column_name(model, column))?;
+    Ok(())
+}
+
+fn write_value(reply: &mut Vec<u8>, model: &Model, column: &Option<ColId>) -> Result<(), AllocError>
+    ensures { IfOk result (λ _. reply.new.items ≡ reply.old.items ++ value_step_text model.now column.now) }
+{
+    match column {
+        Some(column) => write_value_at(reply, model, *column),
+        None => reply.extend_from_slice(b"value"),
+    }
+}
+
+fn write_entry(
+    reply: &mut Vec<u8>,
+    model: &Model,
+    column: ColId,
+    by: &Var,
+) -> Result<(), AllocError>
+    ensures { IfOk result (λ _. reply.new.items ≡ reply.old.items ++ (codes "lag col " ++ column_name model.now column.0 ++ codes " " ++ variable_text model.now by.now)) }
+{
+    reply.extend_from_slice(b"lag col ")?;
+    reply.extend_from_slice(column_name(model, column))?;
+    reply.extend_from_slice(b" ")?;
+    write_variable(reply, model, by)?;
+    Ok(())
+}
+
+fn write_term(reply: &mut Vec<u8>, model: &Model, of: &Var) -> Result<(), AllocError>
+    ensures { IfOk result (λ _. reply.new.items ≡ reply.old.items ++ (codes "lag " ++ variable_text model.now of.now)) }
+{
+    reply.extend_from_slice(b"lag ")?;
+    write_variable(reply, model, of)?;
+    Ok(())
+}
+
+/// A word and two variables.
+fn write_pair(
+    reply: &mut Vec<u8>,
+    model: &Model,
+    word: &[u8],
+    first: &Var,
+    second: &Var,
+) -> Result<(), AllocError>
+    ensures { IfOk result (λ _. reply.new.items ≡ reply.old.items ++ (word.now ++ next_text model.now first.now ++ next_text model.now second.now)) }
+{
+    reply.extend_from_slice(word)?;
+    write_next(reply, model, first)?;
+    write_next(reply, model, second)?;
+    Ok(())
+}
+
+/// An entry after an exchange: who leaves, who enters, and the variables of the entry.
+fn write_pivot(
+    reply: &mut Vec<u8>,
+    model: &Model,
+    leaving: &Var,
+    entering: &Var,
+    first: &Var,
+    second: &Var,
+) -> Result<(), AllocError>
+    ensures { IfOk result (λ _. reply.new.items ≡ reply.old.items ++ (codes "pivot" ++ next_text model.now leaving.now ++ next_text model.now entering.now ++ next_text model.now first.now ++ next_text model.now second.now)) }
+{
+    write_pair(reply, model, b"pivot", leaving, entering)?;
+    write_next(reply, model, first)?;
+    write_next(reply, model, second)?;
+    Ok(())
+}
+
+/// A ratio of the costs.
+fn write_cost_ratio(
+    reply: &mut Vec<u8>,
+    model: &Model,
+    leaving: &Var,
+    entering: &Var,
+) -> Result<(), AllocError>
+    ensures { IfOk result (λ _. reply.new.items ≡ reply.old.items ++ (codes "ratio" ++ next_text model.now leaving.now ++ next_text model.now entering.now ++ codes " 0")) }
+{
+    write_pair(reply, model, b"ratio", leaving, entering)?;
+    reply.extend_from_slice(b" 0")?;
+    Ok(())
+}
+
+/// A ratio of a part of the perturbation.
+fn write_part_ratio(
+    reply: &mut Vec<u8>,
+    model: &Model,
+    leaving: &Var,
+    entering: &Var,
+    part: &Var,
+) -> Result<(), AllocError>
+    ensures { IfOk result (λ _. reply.new.items ≡ reply.old.items ++ (codes "ratio" ++ next_text model.now leaving.now ++ next_text model.now entering.now ++ next_text model.now part.now)) }
+{
+    write_pair(reply, model, b"ratio", leaving, entering)?;
+    write_next(reply, model, part)?;
+    Ok(())
+}
+
+/// The place of a step of arithmetic.
+pub fn write_step(reply: &mut Vec<u8>, model: &Model, step: &WideStep) -> Result<(), AllocError>
+    ensures { IfOk result (λ _. reply.new.items ≡ reply.old.items ++ step_text model.now step.now) }
+{
+    match step {
+        WideStep::Pivot { r, s, i, k } => write_pivot(reply, model, r, s, i, k),
+        WideStep::Point { b, k } => write_pair(reply, model, b"point", b, k),
+        WideStep::Cost { k, b } => write_pair(reply, model, b"cost", k, b),
+        WideStep::RatioCost { r, k } => write_cost_ratio(reply, model, r, k),
+        WideStep::Ratio { r, k, v } => write_part_ratio(reply, model, r, k, v),
+        WideStep::Act { row, col } => write_activity(reply, model, *row, *col),
+        WideStep::Value { col } => write_value(reply, model, col),
+        WideStep::LagEntry { col, by } => write_entry(reply, model, *col, by),
+        WideStep::LagTerm { of } => write_term(reply, model, of),
+        WideStep::Cover { row, col } => write_cover(reply, model, *row, *col),
+    }
+}

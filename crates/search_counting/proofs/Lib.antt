@@ -1,0 +1,9 @@
+pub mod RegionLemmas
+pub mod PointLemmas
+pub mod CountLemmas
+pub mod CapLemmas
+pub mod LeafLemmas
+pub mod WorkLemmas
+pub mod RoomLemmas
+pub mod LowerLemmas
+pub mod FreshLemmas

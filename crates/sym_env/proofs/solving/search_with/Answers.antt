@@ -1,0 +1,28 @@
+use Rattle.std.specs.Prelude.{◌≡◌, IfOk, OnErr}
+use Rattle.std.proofs.Common.{subst}
+use Rattle.tree_search.specs.Causes.{IsAtEnd}
+use Rattle.tree_search.specs.Causes as search
+use Rattle.tree_search.specs.Search.{Finds, GivesUp}
+use Rattle.sym_env.proofs.SolveLemmas.{gave-up, searched-so, searched-whole}
+use Rattle.sym_env.proofs.solving.search_with.Goals as goal
+
+pub returns-in-Err-clause-solved : goal.returns-in-Err-clause-solved
+returns-in-Err-clause-solved c =
+    let S = c.args.search.now in
+    let l = c.args.limits.now in
+    let gives = subst (λ r. OnErr r (GivesUp c.args.ways.now c.args.first.now l.nodes l.pivots S c.search_on.new.search)) c.in-Err.is c.search_on.ensures.unfinished in
+    gave-up l S c.requires.fresh c.points-sound.ensures.sound c.args.ways.now c.args.first.now c.requires.begins c.search_on.new.search gives
+
+pub returns-in-Ok-clause-solved : goal.returns-in-Ok-clause-solved
+returns-in-Ok-clause-solved c =
+    let S = c.args.search.now in
+    let l = c.args.limits.now in
+    let finds = subst (λ r. IfOk r (λ searched. Finds c.args.ways.now c.args.first.now l.nodes l.pivots S c.search_on.new.search searched)) c.in-Ok.is c.search_on.ensures.found in
+    searched-so l S c.requires.fresh c.points-sound.ensures.sound c.args.ways.now c.args.first.now c.requires.begins c.requires.some c.search_on.new.search c.in-Ok.searched c.answer_of.result finds c.answer_of.ensures
+
+pub returns-in-Ok-clause-complete : goal.returns-in-Ok-clause-complete
+returns-in-Ok-clause-complete c =
+    let S = c.args.search.now in
+    let l = c.args.limits.now in
+    let whole = subst (λ r. IfOk r (λ searched. search.IsEnough S c.args.ways.now l.nodes l.pivots → IsAtEnd searched.ended)) c.in-Ok.is c.search_on.ensures.complete in
+    searched-whole l S c.requires.fresh c.points-sound.ensures.sound c.no_ray_law.ensures c.enough_law.ensures c.args.ways.now c.args.first.now c.requires.begins c.search_on.new.search c.in-Ok.searched c.answer_of.result whole c.answer_of.ensures

@@ -1,0 +1,32 @@
+-- What an environment's certificate is.
+use Rattle.std.specs.Prelude.{◌≡◌, ℕ, List, Vec, Option, Some, None, Result, Ok, Err}
+use Rattle.std.specs.declared.alloc.Global.{Global}
+use Rattle.tree_edit.specs.Sound.{PlainSearch}
+use Rattle.cert_text.specs.Text.{MeantCertificate as States}
+use Rattle.cert_check.specs.Verdict.{IsVerdict}
+use Rattle.cert_check.specs.Laws.{IsTrueClaim}
+use Rattle.cert_text.specs.declared.cert.Cert.{Cert}
+use Rattle.cert_check.specs.declared.verdict.Verdict.TheVariants.{Accepted}
+use Rattle.tree_cert.specs.Certificates.{IsCertificateOf}
+use Rattle.tree_cert.specs.CertText.{HasWordNames, cert_text}
+use Rattle.sym_env.specs.declared.held.Held.{Held}
+use Rattle.sym_env.specs.declared.held.Held.TheVariants.{Nothing, Finished}
+use Rattle.sym_env.specs.declared.env.EnvFault.{EnvFault}
+use Rattle.sym_env.specs.declared.env.EnvFault.TheVariants.{NoModel, NoAnswer, Memory}
+
+-- The bytes are the text of the search's certificate, which is accepted for the search's model, so that its claim is true. They
+-- read as that certificate where each name of the model is a word of a line.
+pub record IsCertificateText (S : PlainSearch) (text : List ℕ) : Type 0 where
+  pub cert : Cert
+  pub exact : IsCertificateOf S cert
+  pub is : text ≡ cert_text cert
+  pub stated : HasWordNames S.model → States text cert
+  pub accepted : IsVerdict S.model cert (Accepted cert.claim)
+  pub true_claim : IsTrueClaim S.model cert.claim
+
+-- what is answered, by what is held
+abbrev pub IsCertAnswer : Option PlainSearch → Held → Result (Vec ℕ Global) EnvFault → Type 0
+IsCertAnswer None held result = result ≡ Err NoModel
+IsCertAnswer (Some S) Nothing result = result ≡ Err NoAnswer
+IsCertAnswer (Some S) Finished (Ok text) = IsCertificateText S text.items
+IsCertAnswer (Some S) Finished (Err fault) = fault ≡ Memory

@@ -1,0 +1,37 @@
+-- What is enough for a solve to go to the end.
+use Rattle.std.specs.Prelude.{ℕ, ◌<◌, ◌≤◌, ◌^◌}
+use Rattle.lp_model.specs.Program.{Program, Point}
+use Rattle.lp_model.specs.Rays.{IsRay, without_costs}
+use Rattle.lp_model.specs.declared.types.WideStep.{WideStep}
+use Rattle.basic_solution.specs.Held.{Held}
+use Rattle.dual_simplex.specs.Walks.{Moves}
+use Rattle.ray_phase.specs.Answers.{IsStart, IsWideAt}
+use Rattle.search_counting.specs.Work.{cap_of}
+use Rattle.tree_search.specs.Room.{HasMoves, HasRoomAt, HasRoomForValues}
+use Rattle.sym_env.specs.Beginnings.{HasNoSlackBasis}
+use Rattle.sym_env.specs.declared.limits.Limits.{Limits}
+
+-- the run of the ray phase has fewer moves than the limit, and room for each step at each of its states
+pub record IsRayPhaseEnough (M : Program) (pivots : ℕ) : Type 0 where
+  pub moves : (s : Held) → IsStart M s → (n : ℕ) (after : Held) → Moves n s after → n < pivots
+  pub steps : (s : Held) → IsStart M s → (n : ℕ) (after : Held) → Moves n s after → (step : WideStep) → ¬ IsWideAt M after step
+
+-- the same of the model's relaxations, each from any list
+pub record AreRelaxationsEnough (M : Program) (pivots : ℕ) : Type 0 where
+  pub moves : HasMoves M pivots
+  pub steps : HasRoomAt M
+
+-- beside a ray the model without costs is worked, and points have their own values
+pub record IsEnoughBeside (M : Program) (pivots : ℕ) : Type 0 where
+  pub ray_phase : IsRayPhaseEnough (without_costs M) pivots
+  pub relaxations : AreRelaxationsEnough (without_costs M) pivots
+  pub values : HasRoomForValues (without_costs M) M
+
+-- as many results as any search of the model can place, as many nodes, more moves than any run has, and room for each step
+pub record IsEnough (M : Program) (l : Limits) : Type 0 where
+  pub results : cap_of M ≤ l.nodes
+  pub tree : cap_of M ≤ l.tree
+  pub few : l.tree ≤ 2 ^ 63
+  pub ray_phase : HasNoSlackBasis M → IsRayPhaseEnough M l.pivots
+  pub own : ((d : Point) → ¬ IsRay M d) → AreRelaxationsEnough M l.pivots
+  pub beside : (d : Point) → IsRay M d → IsEnoughBeside M l.pivots

@@ -1,0 +1,78 @@
+// How the search of a model begins: at the slack basis, or at what the ray phase finds.
+ghost use Rattle.std.specs.Prelude.{◌≡◌, [], None};
+ghost use Rattle.lp_model.specs.declared.answers.StopWhy.TheVariants as stop;
+ghost use Rattle.sym_env.specs.Beginnings.{HasNoSlackBasis, FindsRay};
+ghost use Rattle.sym_env.specs.Beginning.{IsBeginning};
+
+use dual_simplex::slack_basis;
+use lp_model::{Basis, List, Model, PivotPlace, StopWhy, same_points_law};
+use ray_phase::{RayAnswer, ray};
+use std::alloc::{AllocError, Global};
+
+/// How the search of a model begins.
+#[derive(Drop)]
+pub(crate) enum Beginning {
+    /// With the model's own relaxations, which can begin at these lists.
+    Own(Basis),
+    /// Beside a ray: with those of the model without costs, which can begin at these lists.
+    BesideRay(Model, Basis),
+    /// Not at all: the ray phase stopped.
+    Stopped(StopWhy),
+    /// There is no memory.
+    Memory,
+}
+
+/// The ray phase had as many moves as the limit allows.
+fn out_of_moves(alloc: Global, basis: Basis) -> StopWhy
+    ensures { result ≡ stop.Pivots (record { path = None; cuts = []; basis = basis }) }
+{
+    StopWhy::Pivots(PivotPlace {
+        path: None,
+        cuts: List::new(alloc),
+        basis,
+    })
+}
+
+/// The beginning beside a ray of the model. The model without costs has none.
+fn beside_ray(alloc: Global, model: &Model, pivots: u64) -> Beginning
+    requires none { HasNoSlackBasis model.now }
+    requires ray { FindsRay model.now pivots }
+    ensures { IsBeginning model.now pivots result }
+{
+    same_points_law();
+    let Ok(costless) = model.without_costs(alloc) else {
+        return Beginning::Memory;
+    };
+    match ray(alloc, &costless, pivots) {
+        RayAnswer::Memory => Beginning::Memory,
+        RayAnswer::DualBasis(first) => Beginning::BesideRay(costless, first),
+        RayAnswer::Ray(_) => unreachable!(),
+        RayAnswer::Pivots { basis } => Beginning::Stopped(out_of_moves(alloc, basis)),
+        RayAnswer::Wide(at) => Beginning::Stopped(StopWhy::Wide(at)),
+    }
+}
+
+/// The beginning where the slack state is not lawful, by the ray phase.
+fn by_ray_phase(alloc: Global, model: &Model, pivots: u64) -> Beginning
+    requires { HasNoSlackBasis model.now }
+    ensures { IsBeginning model.now pivots result }
+{
+    match ray(alloc, model, pivots) {
+        RayAnswer::Memory => Beginning::Memory,
+        RayAnswer::DualBasis(first) => Beginning::Own(first),
+        RayAnswer::Ray(_) => beside_ray(alloc, model, pivots),
+        RayAnswer::Pivots { basis } => Beginning::Stopped(out_of_moves(alloc, basis)),
+        RayAnswer::Wide(at) => Beginning::Stopped(StopWhy::Wide(at)),
+    }
+}
+
+/// How the search of a model begins, with at most so many moves in a ray phase.
+pub(crate) fn find_beginning(alloc: Global, model: &Model, pivots: u64) -> Beginning
+    ensures { IsBeginning model.now pivots result }
+{
+    match slack_basis(alloc, model) {
+        Err(AllocError) => Beginning::Memory,
+        Ok(Some(first)) => Beginning::Own(first),
+        Ok(None) => by_ray_phase(alloc, model, pivots),
+    }
+}

@@ -1,0 +1,140 @@
+// The environment: a model, its search, and the answer that is held.
+ghost use Rattle.std.specs.Prelude.{◌≡◌, OnOk, OnErr, IfOk, IfErr, IfSome};
+ghost use Rattle.std.specs.Option.{option_copied};
+ghost use Rattle.sym_env.specs.Env.{no_model, model_of, Holds};
+ghost use Rattle.sym_env.specs.Certificates.{IsCertAnswer};
+ghost use Rattle.sym_env.specs.Enough.{IsEnough};
+ghost use Rattle.sym_env.specs.Solves.{held_by, SolvesEnv};
+ghost use Rattle.sym_env.specs.Truth.{IsTrueAnswer, HasEnded};
+ghost use Rattle.sym_env.specs.declared.env.EnvFault.TheVariants.{Memory};
+
+use crate::certificates::certificate_text;
+use crate::held::Held;
+use crate::limits::Limits;
+use crate::solving::solve;
+use lp_model::{Answer, Model};
+use std::alloc::{AllocError, Global};
+use thiserror::Error;
+use tree_edit::Search;
+
+/// Why a call is refused.
+#[derive(Debug, Drop, Error)]
+pub enum EnvFault {
+    /// No model is loaded.
+    #[error("no model is loaded")]
+    NoModel,
+    /// No answer is held.
+    #[error("no answer is held")]
+    NoAnswer,
+    /// There is no memory.
+    #[error("there is no memory")]
+    Memory,
+}
+
+impl From<AllocError> for EnvFault {
+    ghost from_gives = { λ _ fault. fault ≡ Memory };
+
+    fn from(_: AllocError) -> Self {
+        EnvFault::Memory
+    }
+}
+
+/// A model with the search of it, and the answer that is held. Contracts see a `PlainEnv`.
+#[derive(Drop)]
+pub struct Env {
+    search: Option<Search>,
+    held: Held,
+    alloc: Global,
+}
+
+impl std::marker::Model for Env {
+    ghost use Rattle.sym_env.specs.Env.{PlainEnv, IsEnv, env_code};
+
+    ghost Value = { PlainEnv };
+
+    ghost coded = { env_code };
+
+    ghost view = { λ e. record { search = e.search; held = e.held } };
+
+    ghost invariant = { λ e. IsEnv (record { search = e.search; held = e.held }) };
+}
+
+/// Which answer is held afterwards.
+fn held_by(answer: &Answer) -> Held
+    ensures { result ≡ held_by answer.now }
+{
+    match answer {
+        Answer::Optimal { .. } | Answer::Infeasible { .. } => Held::Finished,
+        Answer::Unbounded { .. } | Answer::Stopped { .. } | Answer::Memory => Held::Nothing,
+    }
+}
+
+impl Env {
+    /// An environment without a model. It takes no memory; its calls take theirs from `alloc`.
+    pub fn new(alloc: Global) -> Env
+        ensures { result ≡ no_model }
+    {
+        Env {
+            search: None,
+            held: Held::Nothing,
+            alloc,
+        }
+    }
+
+    /// Replaces the model, of which there is a search of one leaf from now on, and no answer is held. Where there is no memory
+    /// all stays as before, and the new model is let go.
+    pub fn load(&mut self, model: Model) -> Result<(), EnvFault>
+        ensures loaded { OnOk result (Holds model self.new) }
+        ensures kept { OnErr result (self.new ≡ self.old) }
+        ensures fault { IfErr result (λ fault. fault ≡ Memory) }
+    {
+        let search = Search::new(self.alloc, model)?;
+        drop(self.search.replace(search));
+        self.held = Held::Nothing;
+        Ok(())
+    }
+
+    /// The model, if one is loaded.
+    pub fn model(&self) -> Option<&Model>
+        ensures { option_copied result ≡ model_of self.now }
+    {
+        match &self.search {
+            Some(search) => Some(search.model()),
+            None => None,
+        }
+    }
+
+    /// Solves the model: drops the tree and the points, and searches from the root. What is answered is true of the model; an
+    /// optimum, or that no point is feasible, is held from then on, and no other answer. Where there is no memory no answer is
+    /// held, and the results that were placed stay; where there was none for the root, the old search stays.
+    ///
+    /// The ray phase, where it is needed, comes before the limit on results is tested.
+    pub fn solve(&mut self, limits: &Limits) -> Result<Answer, EnvFault>
+        ensures solves { SolvesEnv self.old.search limits.now self.old result self.new }
+        ensures true_answer { IfOk result (λ answer. IfSome self.old.search (λ S. IsTrueAnswer S.model limits.now answer)) }
+        ensures complete { IfOk result (λ answer. IfSome self.old.search (λ S. IsEnough S.model limits.now → HasEnded answer)) }
+    {
+        let Some(search) = &mut self.search else {
+            return Err(EnvFault::NoModel);
+        };
+        let answer = solve(self.alloc, search, limits);
+        self.held = held_by(&answer);
+        Ok(answer)
+    }
+
+    /// The text of the certificate of the answer that is held.
+    pub fn cert(&self) -> Result<Vec<u8>, EnvFault>
+        ensures { IsCertAnswer self.now.search self.now.held result }
+    {
+        let Some(search) = &self.search else {
+            return Err(EnvFault::NoModel);
+        };
+        match self.held {
+            Held::Nothing => Err(EnvFault::NoAnswer),
+            Held::Finished => match certificate_text(self.alloc, search) {
+                Ok(text) => Ok(text),
+                Err(AllocError) => Err(EnvFault::Memory),
+            },
+        }
+    }
+}

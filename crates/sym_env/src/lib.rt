@@ -1,0 +1,30 @@
+//! The environment: the solver as a library. It has a model with the search of it, and holds the answer of a search that went
+//! to its end.
+//!
+//! `solve` searches the model from a fresh root on. First it finds lists at which each relaxation of a leaf can begin:
+//!
+//! ```text
+//! the slack state is lawful           its lists                                           else the ray phase (`ray_phase`):
+//! there is no ray                     the lists of its last state
+//! there is a ray                      those of the ray phase of the model without costs; the relaxations are those of that model
+//! ```
+//!
+//! Then leaves are worked until none is open, or the search stops (`tree_search`). Beside a ray one feasible point is enough:
+//! the objective has no end.
+//!
+//! Public contract: each answer is true of the model (`IsTrueAnswer` in specs/Truth), with what was done to find it (`Solves`
+//! in specs/Solves); with enough of all (`IsEnough` in specs/Enough) a solve goes to its end. `cert` writes the certificate of
+//! the answer that is held, which is accepted for the model. The calls are those of the SYMPHONY manual's `sym_environment`
+//! in purpose. Below stand the search, the ray phase and the certificates (`tree_cert`); above, the shell.
+#![tactic(auto)]
+
+mod beginnings;
+mod certificates;
+mod env;
+mod held;
+mod limits;
+mod solving;
+
+pub use env::{Env, EnvFault};
+pub use held::Held;
+pub use limits::Limits;

@@ -1,0 +1,138 @@
+// A solve: a fresh search, from its beginning to what it shows.
+ghost use Rattle.std.specs.Prelude.{◌≡◌};
+ghost use Rattle.lp_model.specs.Lawful.{IsLawful};
+ghost use Rattle.tree_edit.specs.Calls.{IsFresh};
+ghost use Rattle.tree_search.specs.Steps.{HasOpenLeaf, IsWayFor, IsFirstFor};
+ghost use Rattle.tree_search.specs.declared.searching.Ways.TheVariants.{Own};
+ghost use Rattle.sym_env.specs.Beginnings.{BeginsWith, BeginsBeside};
+ghost use Rattle.sym_env.specs.Enough.{IsEnough};
+ghost use Rattle.sym_env.specs.Solves.{Solved, Solves};
+ghost use Rattle.sym_env.specs.Truth.{IsTrueAnswer, HasEnded};
+
+use crate::beginnings::{Beginning, find_beginning};
+use crate::limits::Limits;
+use lp_model::{Answer, Basis, Model};
+use node_solve::first_in_law;
+use ray_phase::{first_law, no_ray_law};
+use search_counting::{cap_law, left_law, too_few_nodes_law};
+use std::alloc::{AllocError, Global};
+use tree_edit::{Search, empty_law};
+use tree_search::{Ways, answer_of, enough_law, search_on, stop_bound_law, stopped};
+
+/// Searches with these relaxations from the first lists on, and says what that shows.
+fn search_with(
+    alloc: Global,
+    search: &mut Search,
+    ways: &Ways<'_>,
+    first: &Basis,
+    limits: &Limits,
+) -> Answer
+    requires fresh { IsFresh search.old.model limits.now.tree search.old }
+    requires some { HasOpenLeaf search.old }
+    requires begins { BeginsWith search.old.model limits.now.pivots ways.now first.now }
+    requires ways { IsWayFor search.old ways.now }
+    requires first { IsFirstFor ways.now search.old first.now }
+    ensures solved { Solved search.old.model limits.now result search.new }
+    ensures complete { IsEnough search.old.model limits.now → HasEnded result }
+{
+    let _sound = search.points();
+    enough_law();
+    no_ray_law();
+    match search_on(alloc, search, ways, first, limits.nodes, limits.pivots) {
+        Err(AllocError) => Answer::Memory,
+        Ok(searched) => answer_of(alloc, search, searched),
+    }
+}
+
+/// Searches with the model's own relaxations.
+fn search_own(alloc: Global, search: &mut Search, first: &Basis, limits: &Limits) -> Answer
+    requires fresh { IsFresh search.old.model limits.now.tree search.old }
+    requires some { HasOpenLeaf search.old }
+    requires begins { BeginsWith search.old.model limits.now.pivots Own first.now }
+    ensures solved { Solved search.old.model limits.now result search.new }
+    ensures complete { IsEnough search.old.model limits.now → HasEnded result }
+{
+    first_law();
+    first_in_law();
+    let _lawful = search.model().cols();
+    search_with(alloc, search, &Ways::Own, first, limits)
+}
+
+/// Searches with the relaxations of the model without costs, which has a ray.
+fn search_beside_ray(
+    alloc: Global,
+    search: &mut Search,
+    costless: &Model,
+    first: &Basis,
+    limits: &Limits,
+) -> Answer
+    requires fresh { IsFresh search.old.model limits.now.tree search.old }
+    requires some { HasOpenLeaf search.old }
+    requires begins { BeginsBeside search.old.model limits.now.pivots costless.now first.now }
+    ensures solved { Solved search.old.model limits.now result search.new }
+    ensures complete { IsEnough search.old.model limits.now → HasEnded result }
+{
+    first_law();
+    first_in_law();
+    let _lawful = costless.cols();
+    search_with(alloc, search, &Ways::Rays(costless), first, limits)
+}
+
+/// Solves a search with an open leaf.
+fn solve_open(alloc: Global, search: &mut Search, limits: &Limits) -> Answer
+    requires fresh { IsFresh search.old.model limits.now.tree search.old }
+    requires some { HasOpenLeaf search.old }
+    ensures solved { Solved search.old.model limits.now result search.new }
+    ensures complete { IsEnough search.old.model limits.now → HasEnded result }
+{
+    let _sound = search.points();
+    match find_beginning(alloc, search.model(), limits.pivots) {
+        Beginning::Memory => Answer::Memory,
+        Beginning::Stopped(why) => stopped(search, why, 0),
+        Beginning::Own(first) => search_own(alloc, search, &first, limits),
+        Beginning::BesideRay(costless, first) => {
+            search_beside_ray(alloc, search, &costless, &first, limits)
+        }
+    }
+}
+
+/// Solves a search of one leaf.
+fn solve_fresh(alloc: Global, search: &mut Search, limits: &Limits) -> Answer
+    requires { IsFresh search.old.model limits.now.tree search.old }
+    ensures solved { Solved search.old.model limits.now result search.new }
+    ensures complete { IsEnough search.old.model limits.now → HasEnded result }
+{
+    let _sound = search.points();
+    let _numbered = search.tree().nodes();
+    match search.next_leaf() {
+        None => Answer::Infeasible { placed: 0 },
+        Some(_) => solve_open(alloc, search, limits),
+    }
+}
+
+/// Solves the search's model from a fresh leaf on. Where there is no memory for it the search stays, with the new limit.
+fn solve_again(alloc: Global, search: &mut Search, limits: &Limits) -> Answer
+    ensures solves { Solves search.old.model limits.now search.old result search.new }
+    ensures complete { IsEnough search.old.model limits.now → HasEnded result }
+{
+    search.set_limit(limits.tree);
+    match search.restart() {
+        Err(AllocError) => Answer::Memory,
+        Ok(()) => solve_fresh(alloc, search, limits),
+    }
+}
+
+/// Solves the search's model. What is answered is true of it.
+pub(crate) fn solve(alloc: Global, search: &mut Search, limits: &Limits) -> Answer
+    ensures solves { Solves search.old.model limits.now search.old result search.new }
+    ensures complete { IsEnough search.old.model limits.now → HasEnded result }
+    ensures true_answer { IsTrueAnswer search.old.model limits.now result }
+{
+    let _lawful = search.model().cols();
+    empty_law();
+    cap_law();
+    left_law();
+    too_few_nodes_law();
+    stop_bound_law();
+    solve_again(alloc, search, limits)
+}

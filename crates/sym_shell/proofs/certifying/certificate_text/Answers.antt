@@ -1,9 +1,0 @@
-use Rattle.std.specs.Prelude.{ℕ, Vec}
-use Rattle.std.specs.declared.alloc.Global.{Global}
-use Rattle.sym_shell.proofs.CertLemmas.{certificate-text}
-use Rattle.sym_shell.proofs.certifying.certificate_text.Goals as goal
-
-pub returns : goal.returns
-returns c =
-    certificate-text (λ (v : Vec ℕ Global). v.items) c.args.search.now c.in_ok-cert.cert c.print_cert.result c.names_law.ensures c.verdict_law.ensures c.accepted_law.ensures c.points-sound.ensures.sound c.requires.plain c.requires.plain_rows
-    c.in_ok-cert.ensures.exact c.in_ok-cert.ensures.certificate c.in_ok-cert.ensures.accepted c.print_cert.ensures.text c.print_cert.ensures.states

@@ -1,0 +1,44 @@
+// What the work on a leaf begins from.
+ghost use Rattle.std.specs.Prelude.{◌≡◌, ◌↔◌, IsTrue, IfOk};
+ghost use Rattle.branch_tree.specs.declared.node.LeafState.TheVariants.{IsOpen};
+ghost use Rattle.tree_edit.specs.Jobs.{IsJobAnswer};
+
+use crate::search::Search;
+use branch_tree::{Job, LeafState};
+use frac128::Frac;
+use std::alloc::AllocError;
+
+/// Whether a leaf is open.
+fn is_open(state: &LeafState) -> bool
+    ensures { IsTrue result ↔ (state.now ≡ IsOpen) }
+{
+    match state {
+        LeafState::IsOpen => true,
+        LeafState::IsClosed => false,
+    }
+}
+
+impl Search {
+    /// What the work on the open leaf with the id begins from, `None` where no open leaf has it. The target is the least
+    /// value of the kept points, in least form.
+    pub fn job(&self, id: u64) -> Result<Option<Job>, AllocError>
+        ensures { IfOk result (λ job. IsJobAnswer self.now id job) }
+    {
+        let Some(kept) = self.tree.leaf(id) else {
+            return Ok(None);
+        };
+        if !is_open(&kept.state) {
+            return Ok(None);
+        }
+        let Some(region) = self.tree.region_of(id)? else {
+            unreachable!()
+        };
+        Ok(Some(Job {
+            id,
+            region,
+            mult: kept.mult.copy(self.alloc)?,
+            basis: kept.basis.copy(self.alloc)?,
+            target: self.target(),
+        }))
+    }
+}

@@ -1,0 +1,92 @@
+-- A search step by step: what was placed so far, and where it ends or stops.
+use Rattle.std.specs.Prelude.{◌≡◌, ◌⊎◌, ℕ, suc, ◌+◌, ◌<◌, ◌≤◌}
+use Rattle.std.proofs.Common.{refl, sym, subst, ◌∙◌, inl, inr, arith}
+use Rattle.lp_model.specs.Rays.{IsUnbounded}
+use Rattle.lp_model.specs.declared.types.Basis.{Basis}
+use Rattle.lp_model.specs.declared.answers.StopWhy.{StopWhy}
+use Rattle.lp_model.specs.declared.answers.StopWhy.TheVariants as why
+use Rattle.branch_tree.specs.Numbered.{IsNumbered}
+use Rattle.tree_edit.specs.Laws.{HasNoOpenLeaf}
+use Rattle.tree_edit.specs.Sound.{PlainSearch, IsSound}
+use Rattle.search_counting.specs.Work.{work_of, IsRoomy, Lowers}
+use Rattle.tree_search.specs.Steps.{HasOpenLeaf, WorksNext, Places, PlacesMany, Goes, PointAtNext, StopsAtNext}
+use Rattle.tree_search.specs.Search.{StopsFor, IsLeft}
+use Rattle.tree_search.specs.Stepping.{IsReady, Steps, Comes}
+use Rattle.tree_search.specs.declared.searching.Ways.{Ways}
+use Rattle.tree_search.specs.declared.searching.Ended.TheVariants.{Finished, Unbounded, Stopped}
+use Rattle.tree_search.specs.declared.searching.Searched.{Searched}
+use Rattle.tree_search.specs.declared.stepping.Limits.{Limits}
+use Rattle.tree_search.specs.declared.stepping.Stepped.TheVariants as stepped
+use Rattle.tree_search.proofs.PointLemmas.{point-unbounded}
+use Rattle.tree_search.proofs.ReadyLemmas.{ready-after}
+
+-- what holds after n results
+pub record IsUnderway (limits : Limits) (nodes n : ℕ) (old S : PlainSearch) : Type 0 where
+  pub model : S.model ≡ old.model
+  pub placed : PlacesMany limits.ways limits.first.now limits.pivots n old S
+  pub work : n + work_of S ≤ work_of old
+  pub room : IsRoomy old → IsRoomy S
+  pub ready : IsReady limits S
+  pub limit : n ≤ nodes
+
+module _ (limits : Limits) (nodes : ℕ) (old : PlainSearch) where
+  pub begins : IsReady limits old → IsUnderway limits nodes 0 old old
+  begins ready = record { model = refl; placed = refl; work = omega arith; room = λ roomy. roomy; ready = ready; limit = omega arith }
+
+  module _ (n : ℕ) (S : PlainSearch) (h : IsUnderway limits nodes n old S) where
+    pub goes : IsSound S → Goes limits.ways limits.first.now limits.pivots n old S
+    goes sound = record { model = h.model; placed = h.placed; work = h.work; room = h.room; sound = sound }
+
+    below : (n ≡ nodes → ⊥) → n < nodes
+    below other = let most : n ≤ nodes = h.limit in omega (arith, most, other)
+
+    pub goes-on : (T : PlainSearch) → (n ≡ nodes → ⊥) → Steps limits S T stepped.Placed → IsUnderway limits nodes (n + 1) old T
+    goes-on T other steps =
+        let less : work_of T + 1 ≤ work_of S = steps.0.work in
+        let work : n + work_of S ≤ work_of old = h.work in
+        let under : n < nodes = below other in
+        let next : suc n ≡ n + 1 = omega arith in
+        record {
+          model = steps.0.model ∙ h.model;
+          placed = subst (λ m. PlacesMany limits.ways limits.first.now limits.pivots m old T) next (S, (h.placed, steps.1));
+          work = omega (arith, less, work);
+          room = λ roomy. steps.0.room (h.room roomy);
+          ready = ready-after limits S T h.ready steps.0.model steps.1;
+          limit = omega (arith, under);
+        }
+
+    -- ---- where it ends
+
+    pub at-limit : IsSound S → n ≡ nodes → HasOpenLeaf S → Comes limits nodes old S (record { ended = Stopped why.Nodes; placed = n })
+    at-limit sound all left = record { within_limit = h.limit; ends = record { goes = goes sound; all = all }; left = left }
+
+    pub finishes : IsSound S → HasNoOpenLeaf S → Comes limits nodes old S (record { ended = Finished; placed = n })
+    finishes sound none = record { within_limit = h.limit; ends = record { goes = goes sound; finished = none }; left = none }
+
+    pub finds-point : (T : PlainSearch) → IsSound S → (n ≡ nodes → ⊥) → Steps limits S T stepped.Found → Comes limits nodes old T (record { ended = Unbounded; placed = n + 1 })
+    finds-point T sound other here = record {
+      within_limit = let under : n < nodes = below other in omega (arith, under);
+      ends = record {
+        before = n;
+        counted = refl;
+        after = record { mid = S; goes = goes sound; below_limit = below other; here = here };
+        unbounded = subst IsUnbounded h.model (point-unbounded limits.ways S here.rays h.ready.ways here.job limits.first.now limits.pivots here.point here.mult here.basis here.works.worked_is);
+      };
+      left = (here.job.id, (here.job.region, here.keeps.stays));
+    }
+
+    stop-left : (T : PlainSearch) (w : StopWhy) → HasOpenLeaf S → StopsAtNext limits.ways limits.first.now limits.pivots S T w → HasOpenLeaf T
+    stop-left T why.Nodes left here = absurd here
+    stop-left T why.Tree left here = subst HasOpenLeaf (sym here.0) left
+    stop-left T (why.Pivots place) left here = (here.job.id, (here.job.region, here.keeps.stays))
+    stop-left T (why.Wide at) left (inl here) = (here.job.id, (here.job.region, here.keeps.stays))
+    stop-left T (why.Wide at) left (inr here) = (here.job.id, (here.job.region, here.keeps.stays))
+
+    stops-for : (T : PlainSearch) (w : StopWhy) → IsSound S → (n ≡ nodes → ⊥) → StopsAtNext limits.ways limits.first.now limits.pivots S T w → StopsFor limits.ways limits.first.now nodes limits.pivots n old T w
+    stops-for T why.Nodes sound other here = absurd here
+    stops-for T why.Tree sound other here = record { mid = S; goes = goes sound; below_limit = below other; here = here }
+    stops-for T (why.Pivots place) sound other here = record { mid = S; goes = goes sound; below_limit = below other; here = here }
+    stops-for T (why.Wide at) sound other here = record { mid = S; goes = goes sound; below_limit = below other; here = here }
+
+    pub stops : (T : PlainSearch) (w : StopWhy) → IsSound S → (n ≡ nodes → ⊥) → HasOpenLeaf S → Steps limits S T (stepped.Stopped w) → Comes limits nodes old T (record { ended = Stopped w; placed = n })
+    stops T w sound other left here = record { within_limit = h.limit; ends = stops-for T w sound other here; left = stop-left T w left here }

@@ -1,0 +1,55 @@
+-- After a result was placed the search can be worked on as before.
+use Rattle.std.specs.Prelude.{◌≡◌, ℕ, []}
+use Rattle.std.proofs.Common.{refl, sym, subst, ap, ◌∙◌}
+use Rattle.lp_model.specs.Program.{Program, Point}
+use Rattle.lp_model.specs.Rays.{IsRay, without_costs}
+use Rattle.lp_model.specs.Regions.{Path}
+use Rattle.lp_model.specs.declared.types.Basis.{Basis}
+use Rattle.branch_tree.specs.declared.node.NodeResult.{NodeResult}
+use Rattle.branch_tree.specs.declared.node.NodeResult.TheVariants.{Close, Split as SplitAt, PointAndClose, Keep}
+use Rattle.tree_edit.specs.declared.placing.Taken.{Taken}
+use Rattle.tree_edit.specs.declared.placing.Taken.TheVariants.{Stale, Refused, Reopened, Full, Closed, Split, Kept}
+use Rattle.tree_edit.specs.Placing.{Takes}
+use Rattle.tree_edit.specs.Sound.{PlainSearch}
+use Rattle.search_counting.specs.Laws.{IsEffective}
+use Rattle.node_solve.specs.Runs.{NamesIntegers, IsFirstOf}
+use Rattle.tree_search.specs.Steps.{worked_model, IsWayFor, IsFirstFor, IsPlacedBy, Places}
+use Rattle.tree_search.specs.Stepping.{IsReady}
+use Rattle.tree_search.specs.declared.searching.Ways.{Ways}
+use Rattle.tree_search.specs.declared.searching.Ways.TheVariants.{Own, Rays}
+use Rattle.tree_search.specs.declared.stepping.Limits.{Limits}
+
+module _ (S : PlainSearch) (id : ℕ) (S' : PlainSearch) where
+  -- a result that brings no point leaves the points
+  points-same : (Z : _) (done : NodeResult) → IsPlacedBy (Rays Z) done → (taken : Taken) → IsEffective taken → Takes S id done S' taken → S'.points ≡ S.points
+  points-same Z (Close mult farkas basis) by Stale effective h = absurd effective
+  points-same Z (Close mult farkas basis) by Refused effective h = absurd effective
+  points-same Z (Close mult farkas basis) by Reopened effective h = absurd effective
+  points-same Z (Close mult farkas basis) by Full effective h = absurd effective
+  points-same Z (Close mult farkas basis) by Closed effective h = ap (λ (T : PlainSearch). T.points) h.result_is.2
+  points-same Z (Close mult farkas basis) by Split effective h = absurd h.result_is
+  points-same Z (Close mult farkas basis) by Kept effective h = absurd effective
+  points-same Z (SplitAt col v mult basis) by Stale effective h = absurd effective
+  points-same Z (SplitAt col v mult basis) by Refused effective h = absurd effective
+  points-same Z (SplitAt col v mult basis) by Reopened effective h = absurd effective
+  points-same Z (SplitAt col v mult basis) by Full effective h = absurd effective
+  points-same Z (SplitAt col v mult basis) by Closed effective h = absurd h.result_is
+  points-same Z (SplitAt col v mult basis) by Split effective h = ap (λ (T : PlainSearch). T.points) h.result_is.2.1.1.1.1
+  points-same Z (SplitAt col v mult basis) by Kept effective h = absurd effective
+  points-same Z (PointAndClose x mult basis) by taken effective h = absurd by
+  points-same Z (Keep point basis) by taken effective h = absurd by
+
+way-after : (ways : Ways) (first : Basis) (pivots : ℕ) (S S' : PlainSearch) → S'.model ≡ S.model → Places ways first pivots S S' → IsWayFor S ways → IsWayFor S' ways
+way-after Own first pivots S S' model places h = tt
+way-after (Rays Z) first pivots S S' model places h = record {
+  worked = h.worked ∙ ap without_costs (sym model);
+  direction = h.direction;
+  ray = subst (λ M. IsRay M h.direction) (sym model) h.ray;
+  none = points-same S places.job.id S' Z places.result places.by places.taken places.effective places.takes ∙ h.none;
+}
+
+pub ready-after : (limits : Limits) (S S' : PlainSearch) → IsReady limits S → S'.model ≡ S.model → Places limits.ways limits.first.now limits.pivots S S' → IsReady limits S'
+ready-after limits S S' ready model places = record {
+  ways = way-after limits.ways limits.first.now limits.pivots S S' model places ready.ways;
+  first = subst (λ M. (path : Path) → NamesIntegers (worked_model limits.ways M) path → IsFirstOf (worked_model limits.ways M) path limits.first.now) (sym model) ready.first;
+}

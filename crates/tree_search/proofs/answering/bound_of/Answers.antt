@@ -1,0 +1,21 @@
+use Rattle.std.specs.Prelude.{◌≡◌, Some}
+use Rattle.std.proofs.Common.{subst, ap, ◌∙◌}
+use Rattle.lp_model.specs.Program.{Program, in_least_form}
+use Rattle.lp_model.specs.declared.types.Sense.{Sense}
+use Rattle.branch_tree.specs.Numbered.{IsNumbered}
+use Rattle.tree_search.specs.Bounds.{IsLeastNumber}
+use Rattle.tree_search.proofs.BoundLemmas.{least-unbeaten}
+use Rattle.tree_search.proofs.answering.bound_of.Goals as goal
+
+pub returns-in-Some : goal.returns-in-Some
+returns-in-Some c =
+    let S = c.args.search.now in
+    let numbered : IsNumbered S.tree = c.known.ensures.numbered in
+    let least : IsLeastNumber S (Some c.in-Some.least) = subst (IsLeastNumber S) c.in-Some.is c.in_ok-least_number.ensures in
+    let sense : c.sense.result ≡ S.model.sense = c.sense.ensures ∙ ap (λ (M : Program). M.sense) c.model.ensures in
+    record {
+      least = Some c.in-Some.least;
+      least_is = least;
+      unbeaten = least-unbeaten S (Some c.in-Some.least) c.known.ensures.sound numbered least;
+      bound_is = ap Some (c.least_form.ensures ∙ ap (λ (s : Sense). in_least_form s c.in-Some.least) sense);
+    }

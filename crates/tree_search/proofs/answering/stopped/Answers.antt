@@ -1,0 +1,18 @@
+use Rattle.std.proofs.Common.{refl, subst, sym}
+use Rattle.tree_search.specs.Search.{IsValueFound}
+use Rattle.tree_search.proofs.SearchLemmas.{value-found, cover}
+use Rattle.search_counting.proofs.LeafLemmas.{once}
+use Rattle.tree_search.proofs.answering.stopped.Goals as goal
+
+pub returns-in-Ok : goal.returns-in-Ok
+returns-in-Ok c =
+    let S = c.args.search.now in (
+      refl,
+      refl,
+      record {
+        cover = cover S c.known.ensures.sound (once S.tree c.known.ensures.numbered);
+        bound_is = c.in-Ok.ensures;
+        best_is = c.best_value.ensures;
+        found = subst (IsValueFound S.model) (sym c.best_value.ensures) (value-found S c.known.ensures.sound);
+      },
+    )

@@ -1,0 +1,31 @@
+-- The steps of a search one by one, for the calls that make them.
+use Rattle.std.specs.Prelude.{ℕ, ◌≤◌}
+use Rattle.tree_edit.specs.Sound.{PlainSearch}
+use Rattle.search_counting.specs.Work.{Lowers}
+use Rattle.branch_tree.specs.declared.node.Job.{Job}
+use Rattle.node_solve.specs.declared.working.Worked.{Worked}
+use Rattle.tree_search.specs.Steps.{IsWayFor, IsFirstFor, WorksNext, Places, PointAtNext, StopsAtNext}
+use Rattle.tree_search.specs.Search.{Ends, IsLeft}
+use Rattle.tree_search.specs.declared.searching.Searched.{Searched}
+use Rattle.tree_search.specs.declared.stepping.Limits.{Limits}
+use Rattle.tree_search.specs.declared.stepping.Stepped.{Stepped}
+use Rattle.tree_search.specs.declared.stepping.Stepped.TheVariants.{Placed, Found, Stopped}
+
+-- leaves of the search can be worked so
+pub record IsReady (limits : Limits) (S : PlainSearch) : Type 0 where
+  pub ways : IsWayFor S limits.ways
+  pub first : IsFirstFor limits.ways S limits.first.now
+
+abbrev pub WorksBy : Limits → PlainSearch → Job → Worked → Type 0
+WorksBy limits S job worked = WorksNext limits.ways limits.first.now limits.pivots S job worked
+
+abbrev pub Steps : Limits → PlainSearch → PlainSearch → Stepped → Type 0
+Steps limits old new Placed = Lowers old new × Places limits.ways limits.first.now limits.pivots old new
+Steps limits old new Found = PointAtNext limits.ways limits.first.now limits.pivots old new
+Steps limits old new (Stopped why) = StopsAtNext limits.ways limits.first.now limits.pivots old new why
+
+-- what a search comes to, within its limit
+pub record Comes (limits : Limits) (nodes : ℕ) (old new : PlainSearch) (searched : Searched) : Type 0 where
+  pub within_limit : searched.placed ≤ nodes
+  pub ends : Ends limits.ways limits.first.now nodes limits.pivots searched.placed old new searched.ended
+  pub left : IsLeft new searched.ended

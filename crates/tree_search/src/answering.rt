@@ -1,0 +1,91 @@
+// What the end of a search shows.
+ghost use Rattle.std.specs.Prelude.{◌≡◌, IfOk};
+ghost use Rattle.tree_edit.specs.Laws.{HasNoOpenLeaf};
+ghost use Rattle.tree_search.specs.Steps.{HasOpenLeaf};
+ghost use Rattle.tree_search.specs.Bounds.{IsBoundOf};
+ghost use Rattle.tree_search.specs.Search.{best_value, IsLeft, IsFinishedAnswer, IsStoppedAnswer, IsAnswerTo};
+
+use crate::bounds::least_number;
+use crate::searching::{Ended, Searched};
+use crate::stepping::known;
+use frac128::Frac;
+use lp_model::{Answer, Point, StopWhy};
+use std::alloc::{AllocError, Global};
+use tree_edit::Search;
+
+/// The best value of the kept points in the model's own sense, if there are any.
+fn best_value(search: &Search) -> Option<Frac>
+    ensures { result ≡ best_value search.now }
+{
+    match search.target() {
+        None => None,
+        Some(least) => Some(search.model().sense().least_form(&least)),
+    }
+}
+
+/// What a search without an open leaf has shown.
+pub fn finished(alloc: Global, search: &Search, placed: u64) -> Answer
+    requires { HasNoOpenLeaf search.now }
+    ensures { IsFinishedAnswer search.now placed result }
+{
+    known(search);
+    let Some(incumbent) = search.incumbent() else {
+        return Answer::Infeasible { placed };
+    };
+    let Some(value) = best_value(search) else {
+        unreachable!()
+    };
+    match Point::from_slice(alloc, incumbent.as_slice()) {
+        Err(_) => Answer::Memory,
+        Ok(point) => Answer::Optimal {
+            value,
+            point,
+            placed,
+        },
+    }
+}
+
+/// The least number of an open leaf in the model's own sense, if each has one. No feasible point is better.
+fn bound_of(search: &Search) -> Result<Option<Frac>, AllocError>
+    requires { HasOpenLeaf search.now }
+    ensures { IfOk result (λ bound. IsBoundOf search.now bound) }
+{
+    known(search);
+    match least_number(search)? {
+        None => Ok(None),
+        Some(least) => Ok(Some(search.model().sense().least_form(&least))),
+    }
+}
+
+/// What is known where a search stops with an open leaf.
+pub fn stopped(search: &Search, why: StopWhy, placed: u64) -> Answer
+    requires { HasOpenLeaf search.now }
+    ensures { IsStoppedAnswer search.now why placed result }
+{
+    known(search);
+    match bound_of(search) {
+        Err(_) => {
+            drop(why);
+            Answer::Memory
+        }
+        Ok(bound) => Answer::Stopped {
+            why,
+            placed,
+            bound,
+            best: best_value(search),
+        },
+    }
+}
+
+/// What a search has shown that came to this end.
+pub fn answer_of(alloc: Global, search: &Search, searched: Searched) -> Answer
+    requires { IsLeft search.now searched.ended }
+    ensures { IsAnswerTo search.now searched.ended searched.placed result }
+{
+    let placed = searched.placed;
+    match searched.ended {
+        Ended::Finished => finished(alloc, search, placed),
+        Ended::Unbounded => Answer::Unbounded { placed },
+        Ended::Stopped(why) => stopped(search, why, placed),
+    }
+}

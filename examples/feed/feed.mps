@@ -1,0 +1,30 @@
+* Twelve tonnes of feed are mixed of barley, peas and fish meal, of each any amount. A column is an amount in tonnes, or how
+* many vans bring it: a van carries five tonnes. Cost is money: for each tonne, and 35 for each van.
+NAME FEED
+ROWS
+ N COST
+ E WEIGHT
+ G PROTEIN
+ L BARLEY_BROUGHT
+ L PEAS_BROUGHT
+ L FISH_BROUGHT
+COLUMNS
+ BARLEY COST 180 WEIGHT 1
+ BARLEY PROTEIN 0.1 BARLEY_BROUGHT 1
+ PEAS COST 260 WEIGHT 1
+ PEAS PROTEIN 0.2 PEAS_BROUGHT 1
+ FISH COST 900 WEIGHT 1
+ FISH PROTEIN 0.6 FISH_BROUGHT 1
+ M 'MARKER' 'INTORG'
+ BARLEY_VANS COST 35 BARLEY_BROUGHT -5
+ PEAS_VANS COST 35 PEAS_BROUGHT -5
+ FISH_VANS COST 35 FISH_BROUGHT -5
+ M 'MARKER' 'INTEND'
+RHS
+* at least 18 in 100 are protein
+ WEIGHT 12 PROTEIN 2.16
+BOUNDS
+ UP BARLEY_VANS 3
+ UP PEAS_VANS 3
+ UP FISH_VANS 3
+ENDATA
