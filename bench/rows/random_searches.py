@@ -42,6 +42,27 @@ class Model:
     def value(self, point):
         return self.constant + sum(column.cost * x for column, x in zip(self.columns, point))
 
+    def numbers(self, point):
+        """The numbers that are not 0, behind the names of their columns."""
+        return [f"{column.name} {x}" for column, x in zip(self.columns, point) if x != 0]
+
+    def sums(self, point):
+        return [sum(c.entries.get(place, 0) * x for c, x in zip(self.columns, point)) for place in range(len(self.rows))]
+
+    def is_feasible(self, point):
+        sides = [(column.low, column.high) for column in self.columns] + [row[1:] for row in self.rows]
+        numbers = [*point, *self.sums(point)]
+        within = all((low is None or low <= x) and (high is None or x <= high) for (low, high), x in zip(sides, numbers))
+        return within and all(not column.integer or x.denominator == 1 for column, x in zip(self.columns, point))
+
+    def is_ray(self, direction):
+        """Is no integer column moved, no bound and no side passed however far one goes, and does the objective fall?"""
+        sides = [(column.low, column.high) for column in self.columns] + [row[1:] for row in self.rows]
+        numbers = [*direction, *self.sums(direction)]
+        kept = all((low is None or x >= 0) and (high is None or x <= 0) for (low, high), x in zip(sides, numbers))
+        still = all(not column.integer or x == 0 for column, x in zip(self.columns, direction))
+        return kept and still and sum(column.cost * x for column, x in zip(self.columns, direction)) < 0
+
     def is_whole(self):
         """Is the objective whole at each point whose integer columns are?"""
         costs = all(c.cost == 0 or (c.integer and c.cost.denominator == 1) for c in self.columns)
@@ -243,7 +264,11 @@ class State:
 
 
 class Stop(Exception):
-    """A search that ends before no leaf is open: its lines."""
+    """A search that ends before no leaf is open: its lines, and those of the certificate where one is held."""
+
+    def __init__(self, lines, certificate=None):
+        super().__init__()
+        self.lines, self.certificate = lines, certificate
 
 
 class Leaf:
@@ -303,7 +328,7 @@ class Search:
         raise Stop([f"stopped pivots {self.known()}", *block])
 
     def direction(self, own_costs):
-        """Is there a direction along which the costs fall for ever? And the basis in which the ray phase ends."""
+        """The direction along which the costs fall for ever, if there is one. And the basis in which the ray phase ends."""
         state = State(Relaxation(self.model, directions=True, own_costs=own_costs))
         assert state.stand_as_wanted()
         end = state.solve(self.pivots)
@@ -312,23 +337,25 @@ class Search:
         assert end == "optimal"
         basic, high = state.lists()
         sides = Relaxation(self.model).sides
-        falls = sum(cost * x for cost, x in zip(state.relaxation.costs, state.point())) < 0
-        return falls, (basic, [v for v in high if sides[v] != (None, None)])
+        point = state.point()
+        falls = sum(cost * x for cost, x in zip(state.relaxation.costs, point)) < 0
+        return point if falls else None, (basic, [v for v in high if sides[v] != (None, None)])
 
     def begin(self):
-        """Does the objective fall for ever? And the basis for leaves whose own doesn't serve."""
+        """The ray along which the objective falls for ever, if it does. And the basis for leaves whose own doesn't serve."""
         state = State(Relaxation(self.model))
         if state.stand_as_wanted():
-            return False, state.lists()
-        falls, basis = self.direction(own_costs=True)
-        if falls:
+            return None, state.lists()
+        ray, basis = self.direction(own_costs=True)
+        if ray is not None:
+            assert self.model.is_ray(ray)
             basis = self.direction(own_costs=False)[1]
-        return falls, basis
+        return ray, basis
 
-    def work(self, leaf, falls, first):
+    def work(self, leaf, ray, first):
         """Places the result of a leaf."""
         model = self.model
-        state = State(Relaxation(model, leaf.path, own_costs=not falls))
+        state = State(Relaxation(model, leaf.path, own_costs=ray is None))
         if not (state.bring_in(leaf.basis[0]) and state.stand(leaf.basis[1])):
             assert state.bring_in(first[0]) and state.stand(first[1])
         end = state.solve(self.pivots)
@@ -342,11 +369,13 @@ class Search:
             leaf.is_open = False
             return
         point = state.point()
-        assert falls or model.proved(leaf.path, leaf.multipliers) == model.value(point)
+        assert ray is not None or model.proved(leaf.path, leaf.multipliers) == model.value(point)
         split = next((j for j, c in enumerate(model.columns) if c.integer and point[j].denominator != 1), None)
         if split is None:
-            if falls:
-                raise Stop([f"unbounded nodes {self.placed}"])
+            if ray is not None:
+                assert model.is_feasible(point)
+                lines = [" ".join([word, *model.numbers(x)]) for word, x in [("point", point), ("ray", ray)]]
+                raise Stop([f"unbounded nodes {self.placed}"], ["cert 1", "claim unbounded", *lines, "end"])
             self.points.append(point)
             self.judge()
             assert not leaf.is_open
@@ -367,17 +396,17 @@ class Search:
         try:
             self.judge()
             if self.next() is not None:
-                falls, first = self.begin()
+                ray, first = self.begin()
             while self.next() is not None:
                 if self.placed == self.nodes:
                     raise Stop([f"stopped nodes {self.known()}"])
-                self.work(self.next(), falls, first)
+                self.work(self.next(), ray, first)
         except Stop as stop:
-            return stop.args[0], None
+            return stop.lines, stop.certificate
         if not self.points:
             return [f"infeasible nodes {self.placed}"], ["cert 1", "claim infeasible", *self.told(self.root), "end"]
         best = min(self.points, key=self.model.value)
-        numbers = [f"{column.name} {x}" for column, x in zip(self.model.columns, best) if x != 0]
+        numbers = self.model.numbers(best)
         lines = [f"optimal {self.least()} nodes {self.placed}", *(f"x {number}" for number in numbers), "end"]
         claim = ["cert 1", f"claim optimal {self.least()}", " ".join(["point", *numbers])]
         return lines, [*claim, *self.told(self.root), "end"]

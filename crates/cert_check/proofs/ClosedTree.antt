@@ -8,19 +8,20 @@ use Rattle.lp_model.specs.Edits.{Named}
 use Rattle.lp_model.specs.Regions.{Path, InRegion}
 use Rattle.lp_model.specs.Formulations.{Formulation, without_cuts, IsValid}
 use Rattle.lp_model.proofs.RegionLemmas.{empty_region}
+use Rattle.lp_model.proofs.UnboundedLemmas.{unbounded}
 use Rattle.lp_model.proofs.FormulationLemmas.{valid-without_cuts}
 use Rattle.leaf_dual.specs.Dual.{Multipliers}
 use Rattle.leaf_dual.proofs.WeakDuality.{farkas-none, reached-bound}
 use Rattle.branch_tree.specs.Tree.{Tree, SplitsLawfully, EachLeaf}
 use Rattle.branch_tree.proofs.TreeLemmas.{point_in_one_leaf, leaf_with_both}
 use Rattle.cert_text.specs.declared.cert.Claim.{Claim}
-use Rattle.cert_text.specs.declared.cert.Claim.TheVariants.{Optimal, Infeasible}
+use Rattle.cert_text.specs.declared.cert.Claim.TheVariants.{Optimal, Infeasible, Unbounded}
 use Rattle.cert_text.specs.declared.cert.CertNode.{CertNode}
 use Rattle.cert_text.specs.declared.cert.CertNode.TheVariants.{Split, Bound, Farkas, Empty}
 use Rattle.cert_text.specs.declared.cert.Cert.{Cert}
 use Rattle.cert_check.specs.Places.{with_places}
 use Rattle.cert_check.specs.Mults.{mults_of}
-use Rattle.cert_check.specs.Accepted.{ReachesValue, Closes, HasPoint, Accepts, point_of}
+use Rattle.cert_check.specs.Accepted.{ReachesValue, Closes, HasPoint, HasRay, IsClosedTree, HasClosedTree, Accepts, point_of}
 use Rattle.cert_check.specs.Laws.{IsTrueClaim}
 
 module _ (F : Formulation) (valid : IsValid F) where
@@ -47,6 +48,12 @@ module _ (F : Formulation) (valid : IsValid F) where
     closes-none Empty closes = empty_region F.model y path closes feasible inside
     closes-none (Split col w) closes = closes
 
+    no_bound-none : (n : CertNode) → Closes F Unbounded path n → ⊥
+    no_bound-none (Bound mults) closes = closes.1
+    no_bound-none (Farkas mults) closes = farkas-none F path (mults_of F.model mults) y valid feasible inside closes.1
+    no_bound-none Empty closes = empty_region F.model y path closes feasible inside
+    no_bound-none (Split col w) closes = closes
+
   module _ (tree : Tree (List ℕ) CertNode) (lawful : SplitsLawfully F.model tree) where
     tree-bound : (v : ℚ) → EachLeaf (Closes F (Optimal v)) [] tree → (y : Point) → IsFeasible F.model y → in_least_form F.model.sense v ≤ℚ least_value F.model 1 y
     tree-bound v closed y feasible =
@@ -57,6 +64,12 @@ module _ (F : Formulation) (valid : IsValid F) where
     tree-empty closed y feasible =
         let found = leaf_with_both (λ path leaf. InRegion path y) (Closes F Infeasible) [] tree closed (point_in_one_leaf F.model tree y lawful feasible) in
         closes-none y feasible found.0 found.1.1.0 found.1.0 found.1.1.1
+
+    -- no tree closes where the model is claimed unbounded: there is a feasible point
+    tree-unbounded : EachLeaf (Closes F Unbounded) [] tree → IsEmpty F.model
+    tree-unbounded closed y feasible =
+        let found = leaf_with_both (λ path leaf. InRegion path y) (Closes F Unbounded) [] tree closed (point_in_one_leaf F.model tree y lawful feasible) in
+        no_bound-none y feasible found.0 found.1.1.0 found.1.0 found.1.1.1
 
     pub tree-claim : (claim : Claim) (named : Named) → HasPoint F.model claim named → EachLeaf (Closes F claim) [] tree → IsTrueClaim F.model claim
     tree-claim (Optimal v) named point closed = (
@@ -71,6 +84,15 @@ module _ (F : Formulation) (valid : IsValid F) where
       ),
     )
     tree-claim Infeasible named point closed = tree-empty closed
+    tree-claim Unbounded named point closed = absurd (tree-unbounded closed (point_of F.model named) point.feasible)
+
+closed_tree-claim : (M : Program) (claim : Claim) (point : Named) → HasPoint M claim point → (nodes : List CertNode) → IsClosedTree M claim nodes → IsTrueClaim M claim
+closed_tree-claim M claim point has nodes t = tree-claim (without_cuts M) (valid-without_cuts M) (with_places M t.tree) t.splits claim point has t.leaves
+
+parts-claim : (M : Program) (claim : Claim) (point ray : Named) (nodes : List CertNode) → HasPoint M claim point → HasRay M claim ray → HasClosedTree M claim nodes → IsTrueClaim M claim
+parts-claim M (Optimal v) point ray nodes has no_ray tree = closed_tree-claim M (Optimal v) point has nodes tree
+parts-claim M Infeasible point ray nodes has no_ray tree = closed_tree-claim M Infeasible point has nodes tree
+parts-claim M Unbounded point ray nodes has is none = unbounded M (point_of M point) (point_of M ray) has.feasible is.is_ray
 
 pub accepted_claim : (M : Program) (cert : Cert) → Accepts M cert → IsTrueClaim M cert.claim
-accepted_claim M cert accepts = tree-claim (without_cuts M) (valid-without_cuts M) (with_places M accepts.tree) accepts.splits cert.claim cert.point accepts.point accepts.leaves
+accepted_claim M cert accepts = parts-claim M cert.claim cert.point cert.ray cert.nodes accepts.point accepts.ray accepts.nodes

@@ -1,6 +1,6 @@
 -- A certificate that is rejected is not accepted by the definition: what was found wrong of it is so.
 use Rattle.std.specs.Prelude.{◌≡◌, ℕ, ◌<◌, true, false, IsTrue, List, [], ◌∷◌, ◌++◌, length, All}
-use Rattle.std.proofs.Common.{refl, sym, ap, subst, ◌∙◌, inl, inr}
+use Rattle.std.proofs.Common.{refl, sym, subst, ◌∙◌, inl, inr}
 use Rattle.std.proofs.lemmas.List.Elements.{All-nil, All-cons, All-head, All-tail, All-append}
 use Rattle.lp_model.specs.Program.{Program, is_integer}
 use Rattle.lp_model.specs.Lawful.{column_names}
@@ -8,9 +8,10 @@ use Rattle.lp_model.specs.Edits.{Named}
 use Rattle.lp_model.specs.Regions.{Path}
 use Rattle.lp_model.specs.Formulations.{without_cuts}
 use Rattle.lp_model.proofs.AnswerLemmas.{feasible_answer}
+use Rattle.lp_model.proofs.RayLemmas.{judged_rightly}
 use Rattle.branch_tree.specs.Tree.{SplitsLawfully, EachLeaf, left_path, right_path}
 use Rattle.cert_text.specs.declared.cert.Claim.{Claim}
-use Rattle.cert_text.specs.declared.cert.Claim.TheVariants.{Optimal, Infeasible}
+use Rattle.cert_text.specs.declared.cert.Claim.TheVariants.{Optimal, Infeasible, Unbounded}
 use Rattle.cert_text.specs.declared.cert.CertNode.{CertNode}
 use Rattle.cert_text.specs.declared.cert.CertNode.TheVariants as node
 use Rattle.cert_text.specs.declared.cert.Cert.{Cert}
@@ -19,11 +20,11 @@ use Rattle.cert_check.specs.declared.verdict.Verdict.TheVariants.{Rejected}
 use Rattle.cert_text.specs.Tree.{CertTree, Bound, Farkas, Empty, Split}
 use Rattle.cert_check.specs.Places.{place_among, with_places}
 use Rattle.cert_check.specs.Mults.{mults_of}
-use Rattle.cert_check.specs.Accepted.{point_of, Closes, HasPoint, Accepts}
-use Rattle.cert_check.specs.Verdict.{IsNodeJudged, IsClaimJudged, visits, IsFirstFailing, IsVerdict}
+use Rattle.cert_check.specs.Accepted.{point_of, Closes, HasPoint, HasRay, IsClosedTree, HasClosedTree, Accepts}
+use Rattle.cert_check.specs.Verdict.{IsNodeJudged, IsClaimJudged, visits, AreTreeVisits, AreVisits, IsJudgedAt, IsFirstFailing, IsVerdict}
 use Rattle.cert_check.proofs.PlaceLemmas.{column_known}
 use Rattle.cert_check.proofs.LeafLemmas.{bound-breaks, farkas-breaks}
-use Rattle.cert_check.proofs.OneVerdict.{tree_one}
+use Rattle.cert_check.proofs.OneVerdict.{tree_visits_one}
 
 -- ---- nodes
 
@@ -53,13 +54,17 @@ module _ (M : Program) (claim : Claim) where
       All-cons IsTrueNode (path, node.Split col v) (visits M (left_path path j v) left ++ visits M (right_path path j v) right) lawful.0
       (All-append IsTrueNode (visits M (left_path path j v) left) (visits M (right_path path j v) right) (tree-true (left_path path j v) left lawful.1.0 closes.0) (tree-true (right_path path j v) right lawful.1.1 closes.1))
 
--- ---- the point
+-- ---- the point and the ray
 
-point-true : (M : Program) (claim : Claim) (named : Named) (why : ℕ) → HasPoint M claim named → IsClaimJudged M claim named (Breaks why) → ⊥
-point-true M Infeasible named why has judged = cc
-point-true M (Optimal v) named why has (inr judged) = judged.0 has.names
-point-true M (Optimal v) named why has (inl (names, inl wrong)) = let f : false ≡ true = (feasible_answer M (point_of M named) false wrong.0).1 has.feasible in cc
-point-true M (Optimal v) named why has (inl (names, inr wrong)) = wrong.1.1.1.0 (wrong.1.1.0.1 ∙ has.is)
+point-true : (M : Program) (claim : Claim) (point ray : Named) (why : ℕ) → HasPoint M claim point → HasRay M claim ray → IsClaimJudged M claim point ray (Breaks why) → ⊥
+point-true M Infeasible point ray why has no_ray judged = cc
+point-true M (Optimal v) point ray why has no_ray (inr judged) = judged.0 has.names
+point-true M (Optimal v) point ray why has no_ray (inl (names, inl wrong)) = let f : false ≡ true = (feasible_answer M (point_of M point) false wrong.0).1 has.feasible in cc
+point-true M (Optimal v) point ray why has no_ray (inl (names, inr wrong)) = wrong.1.1.1.0 (wrong.1.1.0.1 ∙ has.is)
+point-true M Unbounded point ray why has along (inr (inr judged, some)) = judged.0 has.names
+point-true M Unbounded point ray why has along (inr (inl (names, wrong), some)) = let f : false ≡ true = (feasible_answer M (point_of M point) false wrong.0).1 has.feasible in cc
+point-true M Unbounded point ray why has along (inl (first, inr judged)) = judged.0 along.names
+point-true M Unbounded point ray why has along (inl (first, inl (names, wrong))) = (judged_rightly M (point_of M ray)).none wrong.0 along.is_ray
 
 -- ---- certificates
 
@@ -67,14 +72,24 @@ among : {A : Type 0} (P : A → Type 0) (before : List A) (x : A) (behind : List
 among P [] x behind all = All-head P x behind all
 among P (y ∷ before) x behind all = among P before x behind (All-tail P y (before ++ x ∷ behind) all)
 
-first-true : (M : Program) (cert : Cert) (accepts : Accepts M cert) (n why : ℕ) → IsFirstFailing M cert accepts.tree n (Breaks why) → ⊥
-first-true M cert accepts n why (inl claim) = point-true M cert.claim cert.point why accepts.point claim.1
-first-true M cert accepts n why (inr node) =
-    let at = node.1 in
-    let here = among (IsTrueNode M cert.claim) at.before at.visit at.behind (subst (All (IsTrueNode M cert.claim)) at.parts (tree-true M cert.claim [] accepts.tree accepts.splits accepts.leaves)) in
-    node-true M cert.claim at.visit.0 at.visit.1 why here at.judged
+tree-breaks : (M : Program) (claim : Claim) (nodes : List CertNode) (visited : List (Path × CertNode)) (n why : ℕ) → IsClosedTree M claim nodes → AreTreeVisits M nodes visited → IsJudgedAt M claim visited n (Breaks why) → ⊥
+tree-breaks M claim nodes visited n why t are at =
+    let same = tree_visits_one M nodes visited (visits M [] t.tree) are (record { tree = t.tree; nodes_are = t.nodes_are; are = refl }) in
+    let here = among (IsTrueNode M claim) at.before at.visit at.behind (subst (All (IsTrueNode M claim)) (sym same ∙ at.parts) (tree-true M claim [] t.tree t.splits t.leaves)) in
+    node-true M claim at.visit.0 at.visit.1 why here at.judged
+
+nodes-breaks : (M : Program) (claim : Claim) (nodes : List CertNode) (visited : List (Path × CertNode)) (n why : ℕ) → HasClosedTree M claim nodes → AreVisits M claim nodes visited → IsJudgedAt M claim visited n (Breaks why) → ⊥
+nodes-breaks M (Optimal v) nodes visited n why t are at = tree-breaks M (Optimal v) nodes visited n why t are at
+nodes-breaks M Infeasible nodes visited n why t are at = tree-breaks M Infeasible nodes visited n why t are at
+nodes-breaks M Unbounded nodes visited n why none are at = none_parts at.before at.visit at.behind (sym are.1 ∙ at.parts)
+  where
+    none_parts : (before : List (Path × CertNode)) (x : Path × CertNode) (behind : List (Path × CertNode)) → [] ≡ before ++ x ∷ behind → ⊥
+    none_parts [] x behind e = cc
+    none_parts (y ∷ before) x behind e = cc
+
+first-true : (M : Program) (cert : Cert) (accepts : Accepts M cert) (visited : List (Path × CertNode)) → AreVisits M cert.claim cert.nodes visited → (n why : ℕ) → IsFirstFailing M cert visited n (Breaks why) → ⊥
+first-true M cert accepts visited are n why (inl claim) = point-true M cert.claim cert.point cert.ray why accepts.point accepts.ray claim.1
+first-true M cert accepts visited are n why (inr node) = nodes-breaks M cert.claim cert.nodes visited n why accepts.nodes are node.1
 
 pub not_accepted : (M : Program) (cert : Cert) (n why : ℕ) → IsVerdict M cert (Rejected n why) → Accepts M cert → ⊥
-not_accepted M cert n why verdict accepts =
-    let same = tree_one verdict.tree accepts.tree [] [] (ap (λ ns. ns ++ []) (verdict.nodes ∙ sym accepts.nodes)) in
-    first-true M cert accepts n why (subst (λ t. IsFirstFailing M cert t n (Breaks why)) same.0 verdict.is)
+not_accepted M cert n why verdict accepts = first-true M cert accepts verdict.visited verdict.are n why verdict.is

@@ -1,5 +1,5 @@
 -- A certificate whose point and nodes pass is accepted.
-use Rattle.std.proofs.Common.{◌≡◌, suc, ◌+◌, List, [], ◌∷◌, ◌++◌, length, sym, subst, arith, inl, inr, length-append}
+use Rattle.std.proofs.Common.{◌≡◌, refl, suc, ◌+◌, List, [], ◌∷◌, ◌++◌, length, sym, subst, arith, inl, inr, length-append}
 use Rattle.std.specs.Prelude.{All}
 use Rattle.std.proofs.lemmas.List.{get_or_append_left, get_or-append-add, length-map}
 use Rattle.lp_model.specs.Program.{Program}
@@ -9,7 +9,7 @@ use Rattle.lp_model.specs.Regions.{Path}
 use Rattle.lp_model.specs.Formulations.{without_cuts}
 use Rattle.branch_tree.specs.Tree.{SplitsLawfully, EachLeaf, left_path, right_path}
 use Rattle.cert_text.specs.declared.cert.Claim.{Claim}
-use Rattle.cert_text.specs.declared.cert.Claim.TheVariants.{Optimal, Infeasible}
+use Rattle.cert_text.specs.declared.cert.Claim.TheVariants.{Optimal, Infeasible, Unbounded}
 use Rattle.cert_text.specs.declared.cert.Cert.{Cert}
 use Rattle.cert_text.specs.declared.cert.CertMult.{CertMult}
 use Rattle.cert_text.specs.declared.cert.CertNode.{CertNode}
@@ -19,9 +19,9 @@ use Rattle.cert_check.specs.declared.verdict.Verdict.TheVariants.{Accepted}
 use Rattle.cert_text.specs.Tree.{CertTree, Bound, Farkas, Empty, Split}
 use Rattle.cert_check.specs.Places.{place_among, with_places}
 use Rattle.cert_check.specs.Mults.{AreMults, mults_of}
-use Rattle.cert_check.specs.Accepted.{Closes, HasPoint, Accepts}
-use Rattle.cert_check.specs.Verdict.{WhereThere, IsNumberJudged, IsFarkasJudged, IsClaimJudged, visits, IsVisitJudged, IsVerdict}
-use Rattle.cert_text.specs.Whole.{IsCertificate, HasNoPoint}
+use Rattle.cert_check.specs.Accepted.{Closes, HasPoint, HasRay, IsClosedTree, HasClosedTree, Accepts}
+use Rattle.cert_check.specs.Verdict.{WhereThere, IsNumberJudged, IsFarkasJudged, IsClaimJudged, visits, AreTreeVisits, AreVisits, IsVisitJudged, IsVerdict}
+use Rattle.cert_text.specs.Whole.{IsCertificate, HasNoPoint, HasNoRay}
 use Rattle.cert_check.proofs.PairLemmas.{place_within}
 use Rattle.cert_check.proofs.LeafLemmas.{bound-passes, farkas-passes}
 
@@ -91,24 +91,43 @@ module _ (M : Program) (claim : Claim) where
         tree_closes (right_path path j v) right (all_right P (visits M (left_path path j v) left) (visits M (right_path path j v) right) rest),
       )
 
--- ---- points and certificates
+-- ---- the parts of a claim
 
-point_passes : (M : Program) (claim : Claim) (named : Named) → IsClaimJudged M claim named Passes → HasNoPoint claim named → HasPoint M claim named
-point_passes M (Optimal v) named judged none =
-    elim judged [
-      | inl good ↦ record { names = good.0; feasible = good.1.0.0; is = sym good.1.1.1 }
-      | inr bad ↦ absurd (no_pass bad.1)
-    ]
-point_passes M Infeasible named judged none = none
+module _ (M : Program) where
+  point_passes : (claim : Claim) (point ray : Named) → IsClaimJudged M claim point ray Passes → HasNoPoint claim point → HasPoint M claim point
+  point_passes (Optimal v) point ray judged none =
+      elim judged [
+        | inl good ↦ record { names = good.0; feasible = good.1.0.0; is = sym good.1.1.1 }
+        | inr bad ↦ absurd (no_pass bad.1)
+      ]
+  point_passes Infeasible point ray judged none = none
+  point_passes Unbounded point ray (inr first) none = absurd (first.1 refl)
+  point_passes Unbounded point ray (inl (inr bad, ray_judged)) none = absurd (no_pass bad.1)
+  point_passes Unbounded point ray (inl (inl good, ray_judged)) none = record { names = good.0; feasible = good.1.0 }
+
+  ray_passes : (claim : Claim) (point ray : Named) → IsClaimJudged M claim point ray Passes → HasNoRay claim ray → HasRay M claim ray
+  ray_passes (Optimal v) point ray judged none = none
+  ray_passes Infeasible point ray judged none = none
+  ray_passes Unbounded point ray (inr first) none = absurd (first.1 refl)
+  ray_passes Unbounded point ray (inl (first, inr bad)) none = absurd (no_pass bad.1)
+  ray_passes Unbounded point ray (inl (first, inl good)) none = record { names = good.0; is_ray = good.1.0 }
+
+  closed_tree : (claim : Claim) (nodes : List CertNode) (visited : List (Path × CertNode)) → AreTreeVisits M nodes visited → All (λ p. IsVisitJudged M claim p Passes) visited → IsClosedTree M claim nodes
+  closed_tree claim nodes visited t all =
+      let pass = subst (All (λ p. IsVisitJudged M claim p Passes)) t.are all in
+      record { tree = t.tree; nodes_are = t.nodes_are; splits = tree_lawful M claim [] t.tree pass; leaves = tree_closes M claim [] t.tree pass }
+
+  nodes_pass : (claim : Claim) (nodes : List CertNode) (visited : List (Path × CertNode)) → AreVisits M claim nodes visited → All (λ p. IsVisitJudged M claim p Passes) visited → HasClosedTree M claim nodes
+  nodes_pass (Optimal v) nodes visited t all = closed_tree (Optimal v) nodes visited t all
+  nodes_pass Infeasible nodes visited t all = closed_tree Infeasible nodes visited t all
+  nodes_pass Unbounded nodes visited none all = none.0
 
 pub accepted_verdict : (M : Program) (cert : Cert) (claim : Claim) → IsCertificate cert → IsVerdict M cert (Accepted claim) → (claim ≡ cert.claim) × Accepts M cert
 accepted_verdict M cert claim certificate verdict = (
   verdict.is.0,
   record {
-    point = point_passes M cert.claim cert.point verdict.is.1 certificate.point;
-    tree = verdict.tree;
-    nodes = verdict.nodes;
-    splits = tree_lawful M cert.claim [] verdict.tree verdict.is.2;
-    leaves = tree_closes M cert.claim [] verdict.tree verdict.is.2;
+    point = point_passes M cert.claim cert.point cert.ray verdict.is.1 certificate.point;
+    ray = ray_passes M cert.claim cert.point cert.ray verdict.is.1 certificate.ray;
+    nodes = nodes_pass M cert.claim cert.nodes verdict.visited verdict.are verdict.is.2;
   },
 )

@@ -18,7 +18,9 @@ use Rattle.cert_check.specs.declared.judging.NodeWithPlaces.TheVariants as node_
 use Rattle.cert_check.specs.declared.verdict.Judgement.{Judgement}
 use Rattle.cert_check.specs.declared.verdict.Judgement.TheVariants.{Passes, Breaks}
 use Rattle.cert_text.specs.Tree.{CertTree, certificate_nodes}
-use Rattle.cert_check.specs.Verdict.{IsKindJudged, IsNumberJudged, IsFarkasJudged, IsNodeJudged, IsPointJudged, IsClaimJudged, visits, IsVisitJudged, IsJudgedAt}
+use Rattle.lp_model.specs.Lawful.{column_names}
+use Rattle.cert_check.specs.Accepted.{AreNames, point_of}
+use Rattle.cert_check.specs.Verdict.{WhereThere, IsKindJudged, IsNumberJudged, IsFarkasJudged, IsNodeJudged, IsPointJudged, IsFeasibleJudged, IsDirectionJudged, IsClaimJudged, visits, IsVisitJudged, IsJudgedAt}
 use Rattle.cert_text.specs.Whole.{IsNarrowNode}
 use Rattle.cert_check.specs.Walk.{IsPlace, IsPlacedJudged, IsWalked, IsPointOf, CanTurn, after_node}
 use Rattle.cert_check.proofs.PlaceLemmas.{column_known}
@@ -98,7 +100,7 @@ module _ (M : Program) (claim : Claim) (tree : CertTree) (nodes : List NodeWithP
       no_pass : Passes ≡ Breaks 1 → ⊥
       no_pass e = absurd cc
 
-  pub goes_wrong : (p : NodeWithPlaces) (j : Judgement) → p ≡ get_or nodes k p → IsPlacedJudged M claim path p j → IsJudgedAt M claim tree (k + 1) j
+  pub goes_wrong : (p : NodeWithPlaces) (j : Judgement) → p ≡ get_or nodes k p → IsPlacedJudged M claim path p j → IsJudgedAt M claim (visits M [] tree) (k + 1) j
   goes_wrong p j is judged = record {
     before = take k (visits M [] tree);
     visit = (path, here.node);
@@ -118,5 +120,11 @@ goes_all M claim tree nodes k path walked past goes =
     let e = sym (length-map (visits M [] tree) (λ p. p.1)) ∙ ap length (nodes_of M [] tree) in
     subst (All (λ p. IsVisitJudged M claim p Passes)) (take_all k (visits M [] tree) (let n = walked.places.0 in omega (arith, e, n, past))) goes.pass
 
-pub point_judged : (M : Program) (v : ℚ) (x : Point) (named : Named) (j : Judgement) → IsPointJudged M v x j → IsPointOf M named (Some x) → IsClaimJudged M (Optimal v) named j
-point_judged M v x named j judged is = inl (is.0, subst (λ y. IsPointJudged M v y j) is.1 judged)
+pub point_judged : (M : Program) (v : ℚ) (x : Point) (named ray : Named) (j : Judgement) → IsPointJudged M v x j → IsPointOf M named (Some x) → IsClaimJudged M (Optimal v) named ray j
+point_judged M v x named ray j judged is = inl (is.0, subst (λ y. IsPointJudged M v y j) is.1 judged)
+
+pub feasible_judged : (M : Program) (x : Point) (named : Named) (j : Judgement) → IsFeasibleJudged M x j → IsPointOf M named (Some x) → WhereThere (AreNames (column_names M) named) (IsFeasibleJudged M (point_of M named)) j
+feasible_judged M x named j judged is = inl (is.0, subst (λ y. IsFeasibleJudged M y j) is.1 judged)
+
+pub direction_judged : (M : Program) (d : Point) (named : Named) (j : Judgement) → IsDirectionJudged M d j → IsPointOf M named (Some d) → WhereThere (AreNames (column_names M) named) (IsDirectionJudged M (point_of M named)) j
+direction_judged M d named j judged is = inl (is.0, subst (λ y. IsDirectionJudged M y j) is.1 judged)

@@ -5,13 +5,14 @@ use Rattle.std.specs.Prelude.{◌≡◌, ◌≢◌, ◌⊎◌, ℕ, true, false,
 use Rattle.rational.specs.Rational.{ℚ}
 use Rattle.lp_model.specs.Program.{Program, Point, value, in_least_form, IsFeasible, HasWholeObjective}
 use Rattle.lp_model.specs.Lawful.{column_names}
+use Rattle.lp_model.specs.Rays.{IsRay}
 use Rattle.lp_model.specs.Edits.{Named, number_beside}
 use Rattle.lp_model.specs.Regions.{Path, IsEmptyRegion}
 use Rattle.lp_model.specs.Formulations.{Formulation, without_cuts}
 use Rattle.leaf_dual.specs.Dual.{Multipliers, lag, farkas, IsPositiveNumber, Reaches}
 use Rattle.branch_tree.specs.Tree.{SplitsLawfully, EachLeaf}
 use Rattle.cert_text.specs.declared.cert.Claim.{Claim}
-use Rattle.cert_text.specs.declared.cert.Claim.TheVariants.{Optimal, Infeasible}
+use Rattle.cert_text.specs.declared.cert.Claim.TheVariants.{Optimal, Infeasible, Unbounded}
 use Rattle.cert_text.specs.declared.cert.CertNode.{CertNode}
 use Rattle.cert_text.specs.declared.cert.CertNode.TheVariants.{Split, Bound, Farkas, Empty}
 use Rattle.cert_text.specs.declared.cert.Cert.{Cert}
@@ -40,6 +41,7 @@ ReachesValue F path mult t = Reaches (lag F path mult) t false ⊎ (HasWholeObje
 abbrev pub ReachesClaim : Formulation → Claim → Path → Multipliers → Type 0
 ReachesClaim F (Optimal v) path mult = ReachesValue F path mult (in_least_form F.model.sense v)
 ReachesClaim F Infeasible path mult = ⊥
+ReachesClaim F Unbounded path mult = ⊥
 
 -- the leaf of a region closes as it says; a split closes nothing
 abbrev pub Closes : Formulation → Claim → Path → CertNode → Type 0
@@ -56,14 +58,42 @@ pub record HasValue (M : Program) (named : Named) (v : ℚ) : Type 0 where
   pub feasible : IsFeasible M (point_of M named)
   pub is : value M 1 (point_of M named) ≡ v
 
+-- the point is feasible
+pub record IsFeasibleNamed (M : Program) (named : Named) : Type 0 where
+  pub names : AreNames (column_names M) named
+  pub feasible : IsFeasible M (point_of M named)
+
 -- a claim that no point is feasible has no point
 abbrev pub HasPoint : Program → Claim → Named → Type 0
 HasPoint M (Optimal v) named = HasValue M named v
 HasPoint M Infeasible named = named ≡ []
+HasPoint M Unbounded named = IsFeasibleNamed M named
+
+-- the numbers beside names are a ray's
+pub record IsRayNamed (M : Program) (named : Named) : Type 0 where
+  pub names : AreNames (column_names M) named
+  pub is_ray : IsRay M (point_of M named)
+
+-- only a claim that the model is unbounded has a ray
+abbrev pub HasRay : Program → Claim → Named → Type 0
+HasRay M (Optimal v) named = named ≡ []
+HasRay M Infeasible named = named ≡ []
+HasRay M Unbounded named = IsRayNamed M named
+
+-- the nodes are those of a lawful tree, each of whose leaves closes as it says
+pub record IsClosedTree (M : Program) (claim : Claim) (nodes : List CertNode) : Type 0 where
+  pub tree : CertTree
+  pub nodes_are : certificate_nodes tree ≡ nodes
+  pub splits : SplitsLawfully M (with_places M tree)
+  pub leaves : EachLeaf (Closes (without_cuts M) claim) [] (with_places M tree)
+
+-- nothing else stands under a claim that the model is unbounded
+abbrev pub HasClosedTree : Program → Claim → List CertNode → Type 0
+HasClosedTree M (Optimal v) nodes = IsClosedTree M (Optimal v) nodes
+HasClosedTree M Infeasible nodes = IsClosedTree M Infeasible nodes
+HasClosedTree M Unbounded nodes = nodes ≡ []
 
 pub record Accepts (M : Program) (cert : Cert) : Type 0 where
   pub point : HasPoint M cert.claim cert.point
-  pub tree : CertTree
-  pub nodes : certificate_nodes tree ≡ cert.nodes
-  pub splits : SplitsLawfully M (with_places M tree)
-  pub leaves : EachLeaf (Closes (without_cuts M) cert.claim) [] (with_places M tree)
+  pub ray : HasRay M cert.claim cert.ray
+  pub nodes : HasClosedTree M cert.claim cert.nodes

@@ -1,8 +1,9 @@
 -- What an accepted certificate proves.
 use Rattle.std.specs.Prelude.{◌≡◌, ℕ}
 use Rattle.lp_model.specs.Program.{Program, Point, value, IsOptimum, IsEmpty}
+use Rattle.lp_model.specs.Rays.{IsUnbounded}
 use Rattle.cert_text.specs.declared.cert.Claim.{Claim}
-use Rattle.cert_text.specs.declared.cert.Claim.TheVariants.{Optimal, Infeasible}
+use Rattle.cert_text.specs.declared.cert.Claim.TheVariants.{Optimal, Infeasible, Unbounded}
 use Rattle.cert_text.specs.declared.cert.Cert.{Cert}
 use Rattle.cert_check.specs.declared.verdict.Verdict.{Verdict}
 use Rattle.cert_check.specs.declared.verdict.Verdict.TheVariants.{Accepted, Rejected}
@@ -10,10 +11,12 @@ use Rattle.cert_check.specs.Accepted.{Accepts}
 use Rattle.cert_check.specs.Verdict.{IsVerdict}
 use Rattle.cert_text.specs.Whole.{IsCertificate}
 
--- a feasible point that no feasible point beats has the value; no point is feasible
+-- a feasible point that no feasible point beats has the value; no point is feasible; one is, and there are feasible points below each
+-- whole number
 abbrev pub IsTrueClaim : Program → Claim → Type 0
 IsTrueClaim M (Optimal v) = (x : Point) × (IsOptimum M x × (value M 1 x ≡ v))
 IsTrueClaim M Infeasible = IsEmpty M
+IsTrueClaim M Unbounded = IsUnbounded M
 
 abbrev pub AcceptedLaw : Type 0
 AcceptedLaw = (M : Program) (cert : Cert) → Accepts M cert → IsTrueClaim M cert.claim

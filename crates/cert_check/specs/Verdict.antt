@@ -1,8 +1,9 @@
--- What the judging of a certificate answers. Its point comes first, then the nodes in preorder; the first that does not
--- pass decides. Node 0 is the point, and nodes are counted from 1. What does not pass breaks for a reason
+-- What the judging of a certificate answers. Its point comes first, then its ray, then the nodes in preorder; the first that does
+-- not pass decides. Node 0 is the point and the ray, and nodes are counted from 1. What does not pass breaks for a reason
 --     1   a name is unknown, or stands twice on a line
 --     2   the point is not feasible
 --     3   its value is not the claimed one
+--     4   the ray moves an integer column, passes a bound or a side, or does not improve
 --     6   a split on a column that is not integer
 --     7   a leaf does not close as it says
 -- or has a step of arithmetic without room.
@@ -12,6 +13,7 @@ use Rattle.lp_model.specs.Program.{Program, Point, is_integer, in_least_form, Ha
 use Rattle.lp_model.specs.Lawful.{column_names}
 use Rattle.lp_model.specs.Answers.{IsValueAnswer, IsFeasibilityAnswer}
 use Rattle.lp_model.specs.Edits.{Named}
+use Rattle.lp_model.specs.Rays.{IsRayJudged}
 use Rattle.lp_model.specs.Regions.{Path, IsEmptyRegion}
 use Rattle.lp_model.specs.Formulations.{Formulation, without_cuts}
 use Rattle.leaf_dual.specs.Dual.{Multipliers, IsPositiveNumber, Reaches}
@@ -19,7 +21,7 @@ use Rattle.leaf_dual.specs.Answers.{IsLagAnswer, IsFarkasAnswer}
 use Rattle.leaf_dual.specs.declared.dual.LagValue.{LagValue}
 use Rattle.branch_tree.specs.Tree.{left_path, right_path}
 use Rattle.cert_text.specs.declared.cert.Claim.{Claim}
-use Rattle.cert_text.specs.declared.cert.Claim.TheVariants.{Optimal, Infeasible}
+use Rattle.cert_text.specs.declared.cert.Claim.TheVariants.{Optimal, Infeasible, Unbounded}
 use Rattle.cert_text.specs.declared.cert.CertNode.{CertNode}
 use Rattle.cert_text.specs.declared.cert.CertNode.TheVariants as node
 use Rattle.cert_text.specs.declared.cert.Cert.{Cert}
@@ -51,6 +53,7 @@ IsBoundJudged F t path mult (NoRoom step) = IsLagAnswer F path mult (Err step)
 abbrev pub IsNumberJudged : Formulation → Claim → Path → Multipliers → Judgement → Type 0
 IsNumberJudged F (Optimal v) path mult j = IsBoundJudged F (in_least_form F.model.sense v) path mult j
 IsNumberJudged F Infeasible path mult j = j ≡ Breaks 7
+IsNumberJudged F Unbounded path mult j = j ≡ Breaks 7
 
 abbrev pub IsFarkasJudged : Formulation → Path → Multipliers → Judgement → Type 0
 IsFarkasJudged F path mult Passes = (q : LagValue) × (IsFarkasAnswer F path mult (Ok q) × IsPositiveNumber q)
@@ -79,7 +82,7 @@ IsNodeJudged F claim path (node.Bound mults) j = WhereThere (AreMults F.model (l
 IsNodeJudged F claim path (node.Farkas mults) j = WhereThere (AreMults F.model (length F.cuts) mults) (IsFarkasJudged F path (mults_of F.model mults)) j
 IsNodeJudged F claim path node.Empty j = IsEmptyJudged F.model path j
 
--- ---- the point
+-- ---- the point and the ray
 
 abbrev pub IsPointJudged : Program → ℚ → Point → Judgement → Type 0
 IsPointJudged M v x Passes = IsFeasibilityAnswer M x (Ok true) × IsValueAnswer M 1 x (Ok v)
@@ -88,9 +91,30 @@ IsPointJudged M v x (Breaks why) =
     ⊎ (IsFeasibilityAnswer M x (Ok true) × ((w : ℚ) × (IsValueAnswer M 1 x (Ok w) × ((w ≢ v) × (why ≡ 3)))))
 IsPointJudged M v x (NoRoom step) = IsFeasibilityAnswer M x (Err step) ⊎ (IsFeasibilityAnswer M x (Ok true) × IsValueAnswer M 1 x (Err step))
 
-abbrev pub IsClaimJudged : Program → Claim → Named → Judgement → Type 0
-IsClaimJudged M (Optimal v) named j = WhereThere (AreNames (column_names M) named) (IsPointJudged M v (point_of M named)) j
-IsClaimJudged M Infeasible named j = j ≡ Passes
+-- where no value is claimed none is computed
+abbrev pub IsFeasibleJudged : Program → Point → Judgement → Type 0
+IsFeasibleJudged M x Passes = IsFeasibilityAnswer M x (Ok true)
+IsFeasibleJudged M x (Breaks why) = IsFeasibilityAnswer M x (Ok false) × (why ≡ 2)
+IsFeasibleJudged M x (NoRoom step) = IsFeasibilityAnswer M x (Err step)
+
+-- columns, then rows, then the cost: the first breach or step without room
+abbrev pub IsDirectionJudged : Program → Point → Judgement → Type 0
+IsDirectionJudged M d Passes = IsRayJudged M d (Ok true)
+IsDirectionJudged M d (Breaks why) = IsRayJudged M d (Ok false) × (why ≡ 4)
+IsDirectionJudged M d (NoRoom step) = IsRayJudged M d (Err step)
+
+-- the second is judged where the first passes
+abbrev pub InOrder : (Judgement → Type 0) → (Judgement → Type 0) → Judgement → Type 0
+InOrder P Q j = (P Passes × Q j) ⊎ (P j × (j ≢ Passes))
+
+-- the numbers beside names, as the claim has them
+abbrev pub IsClaimJudged : Program → Claim → Named → Named → Judgement → Type 0
+IsClaimJudged M (Optimal v) point ray j = WhereThere (AreNames (column_names M) point) (IsPointJudged M v (point_of M point)) j
+IsClaimJudged M Infeasible point ray j = j ≡ Passes
+IsClaimJudged M Unbounded point ray j =
+    InOrder
+    (WhereThere (AreNames (column_names M) point) (IsFeasibleJudged M (point_of M point)))
+    (WhereThere (AreNames (column_names M) ray) (IsDirectionJudged M (point_of M ray))) j
 
 -- ---- the certificate
 
@@ -107,28 +131,40 @@ visits M path (Split col v left right) =
 abbrev pub IsVisitJudged : Program → Claim → (Path × CertNode) → Judgement → Type 0
 IsVisitJudged M claim visit j = IsNodeJudged (without_cuts M) claim visit.0 visit.1 j
 
--- some nodes of the tree pass, and then there is one that is judged so; it has this number
-pub record IsJudgedAt (M : Program) (claim : Claim) (tree : CertTree) (number : ℕ) (j : Judgement) : Type 0 where
+-- the nodes are those of one whole tree, with their paths
+pub record AreTreeVisits (M : Program) (nodes : List CertNode) (visited : List (Path × CertNode)) : Type 0 where
+  pub tree : CertTree
+  pub nodes_are : certificate_nodes tree ≡ nodes
+  pub are : visited ≡ visits M [] tree
+
+-- the nodes that are judged, with their paths: none where the model is claimed unbounded
+abbrev pub AreVisits : Program → Claim → List CertNode → List (Path × CertNode) → Type 0
+AreVisits M (Optimal v) nodes visited = AreTreeVisits M nodes visited
+AreVisits M Infeasible nodes visited = AreTreeVisits M nodes visited
+AreVisits M Unbounded nodes visited = (nodes ≡ []) × (visited ≡ [])
+
+-- some of the nodes pass, and then there is one that is judged so; it has this number
+pub record IsJudgedAt (M : Program) (claim : Claim) (visited : List (Path × CertNode)) (number : ℕ) (j : Judgement) : Type 0 where
   pub before : List (Path × CertNode)
   pub visit : Path × CertNode
   pub behind : List (Path × CertNode)
-  pub parts : visits M [] tree ≡ before ++ visit ∷ behind
+  pub parts : visited ≡ before ++ visit ∷ behind
   pub pass : All (λ p. IsVisitJudged M claim p Passes) before
   pub judged : IsVisitJudged M claim visit j
   pub counted : number ≡ suc (length before)
 
--- The judgement j of node `number`, 0 being the point, is the first that is no pass.
-abbrev pub IsFirstFailing : Program → Cert → CertTree → ℕ → Judgement → Type 0
-IsFirstFailing M cert tree number j =
-    ((number ≡ 0) × IsClaimJudged M cert.claim cert.point j)
-    ⊎ (IsClaimJudged M cert.claim cert.point Passes × IsJudgedAt M cert.claim tree number j)
+-- The judgement j of node `number`, 0 being the point and the ray, is the first that is no pass.
+abbrev pub IsFirstFailing : Program → Cert → List (Path × CertNode) → ℕ → Judgement → Type 0
+IsFirstFailing M cert visited number j =
+    ((number ≡ 0) × IsClaimJudged M cert.claim cert.point cert.ray j)
+    ⊎ (IsClaimJudged M cert.claim cert.point cert.ray Passes × IsJudgedAt M cert.claim visited number j)
 
-abbrev pub IsVerdictOn : Program → Cert → CertTree → Verdict → Type 0
-IsVerdictOn M cert tree (Accepted claim) = (claim ≡ cert.claim) × IsClaimJudged M cert.claim cert.point Passes × All (λ p. IsVisitJudged M cert.claim p Passes) (visits M [] tree)
-IsVerdictOn M cert tree (Rejected number why) = IsFirstFailing M cert tree number (Breaks why)
-IsVerdictOn M cert tree (Wide number step) = IsFirstFailing M cert tree number (NoRoom step)
+abbrev pub IsVerdictOn : Program → Cert → List (Path × CertNode) → Verdict → Type 0
+IsVerdictOn M cert visited (Accepted claim) = (claim ≡ cert.claim) × IsClaimJudged M cert.claim cert.point cert.ray Passes × All (λ p. IsVisitJudged M cert.claim p Passes) visited
+IsVerdictOn M cert visited (Rejected number why) = IsFirstFailing M cert visited number (Breaks why)
+IsVerdictOn M cert visited (Wide number step) = IsFirstFailing M cert visited number (NoRoom step)
 
 pub record IsVerdict (M : Program) (cert : Cert) (verdict : Verdict) : Type 0 where
-  pub tree : CertTree
-  pub nodes : certificate_nodes tree ≡ cert.nodes
-  pub is : IsVerdictOn M cert tree verdict
+  pub visited : List (Path × CertNode)
+  pub are : AreVisits M cert.claim cert.nodes visited
+  pub is : IsVerdictOn M cert visited verdict

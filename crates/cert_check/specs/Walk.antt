@@ -1,5 +1,5 @@
 -- The walk through a certificate's nodes in preorder: the path to each, and the nodes with their names as places.
-use Rattle.std.specs.Prelude.{◌≡◌, ℕ, ◌<◌, ◌≤◌, ◌++◌, List, [], ◌∷◌, length, get_or, All, Contains, pos, ◌+ℤ◌, Option, MatchOption}
+use Rattle.std.specs.Prelude.{◌≡◌, ℕ, Bool, true, false, ◌<◌, ◌≤◌, ◌++◌, List, [], ◌∷◌, length, get_or, All, Contains, pos, ◌+ℤ◌, Option, MatchOption}
 use Rattle.lp_model.specs.Edits.{Named}
 use Rattle.frac128.specs.Range.{IsNarrow}
 use Rattle.lp_model.specs.Program.{Program, Point}
@@ -10,6 +10,7 @@ use Rattle.lp_model.specs.declared.types.Side.{Side}
 use Rattle.lp_model.specs.declared.types.Side.TheVariants.{Lo, Hi}
 use Rattle.lp_model.specs.declared.types.BoundChange.{BoundChange}
 use Rattle.cert_text.specs.declared.cert.Claim.{Claim}
+use Rattle.cert_text.specs.declared.cert.Claim.TheVariants.{Optimal, Infeasible, Unbounded}
 use Rattle.cert_text.specs.declared.cert.CertNode.{CertNode}
 use Rattle.cert_text.specs.declared.cert.CertNode.TheVariants as node
 use Rattle.cert_text.specs.declared.cert.Cert.{Cert}
@@ -75,6 +76,14 @@ after_node (Bound mult) path = after_leaf path
 after_node (Farkas mult) path = after_leaf path
 after_node Empty path = after_leaf path
 
+-- ---- the claim
+
+-- whether the claim is proved by a tree; where the model is claimed unbounded a point and a ray prove it
+abbrev pub has_tree : Claim → Bool
+has_tree (Optimal v) = true
+has_tree Infeasible = true
+has_tree Unbounded = false
+
 -- ---- the buffer
 
 abbrev pub ArePlaced : Program → List CertNode → List NodeWithPlaces → Type 0
@@ -88,8 +97,8 @@ pub record IsWalked (M : Program) (tree : CertTree) (placed : List NodeWithPlace
 -- the verdict on the nodes alone
 abbrev pub IsNodesVerdict : Program → Claim → CertTree → Verdict → Type 0
 IsNodesVerdict M claim tree (Accepted told) = (told ≡ claim) × All (λ p. IsVisitJudged M claim p Passes) (visits M [] tree)
-IsNodesVerdict M claim tree (Rejected number why) = IsJudgedAt M claim tree number (Breaks why)
-IsNodesVerdict M claim tree (Wide number step) = IsJudgedAt M claim tree number (NoRoom step)
+IsNodesVerdict M claim tree (Rejected number why) = IsJudgedAt M claim (visits M [] tree) number (Breaks why)
+IsNodesVerdict M claim tree (Wide number step) = IsJudgedAt M claim (visits M [] tree) number (NoRoom step)
 
 -- the numbers beside names as a point, if each name is a column's and none stands twice
 abbrev pub IsPointOf : Program → Named → Option Point → Type 0
@@ -101,3 +110,4 @@ pub record IsBufferOf (M : Program) (cert : Cert) (buf : RegionBuf) : Type 0 whe
   pub trail : IsTrail buf.trail
   pub room : length cert.nodes ≤ room buf.trail
   pub point : IsPointOf M cert.point buf.point
+  pub ray : IsPointOf M cert.ray buf.ray

@@ -1,18 +1,22 @@
 // The walk through a certificate's nodes.
-ghost use Rattle.std.specs.Prelude.{◌≡◌, ◌↔◌, ◌<◌, ◌≤◌, ◌+◌, ◌+ℤ◌, pos, length, All, IsTrue, IfOk, MatchOption};
+ghost use Rattle.std.specs.Prelude.{◌≡◌, ◌↔◌, ◌<◌, ◌≤◌, ◌+◌, ◌+ℤ◌, pos, length, All, IsTrue, IfOk};
 ghost use Rattle.frac128.specs.Range.{IsNarrow};
 ghost use Rattle.lp_model.specs.Program.{HasWholeObjective};
 ghost use Rattle.lp_model.specs.Regions.{AreNarrow, at_least};
-ghost use Rattle.cert_check.specs.Walk.{IsPlace, ArePlaced, IsBufferOf, IsPlacedJudged, CanTurn, after_leaf, after_node, IsWalked, IsNodesVerdict, IsPointOf};
+ghost use Rattle.cert_check.specs.Walk.{IsPlace, ArePlaced, IsBufferOf, IsPlacedJudged, CanTurn, after_leaf, after_node, IsWalked, IsNodesVerdict, IsPointOf, has_tree};
 ghost use Rattle.cert_check.specs.Tight.{IsTrail, path_of_trail, room};
-ghost use Rattle.cert_check.specs.Verdict.{IsClaimJudged, IsVerdict};
-ghost use Rattle.cert_text.specs.Whole.{IsCertificate, HasNoPoint};
+ghost use Rattle.cert_check.specs.Verdict.{WhereThere, IsFeasibleJudged, IsDirectionJudged, IsClaimJudged, IsVerdict};
+ghost use Rattle.lp_model.specs.Lawful.{column_names};
+ghost use Rattle.cert_check.specs.Accepted.{AreNames, point_of};
+ghost use Rattle.cert_text.specs.Whole.{IsCertificate};
 ghost use Rattle.lp_model.specs.Edits.{Named};
 ghost use Rattle.cert_text.specs.Tree.{CertTree};
 ghost use Rattle.cert_text.specs.declared.cert.CertNode.{CertNode};
+ghost use Rattle.cert_text.specs.declared.cert.Claim.TheVariants.{Unbounded};
 
 use crate::judging::{
-    NodeWithPlaces, is_whole, judge_empty, judge_farkas, judge_number, judge_point, judge_split,
+    NodeWithPlaces, is_whole, judge_empty, judge_farkas, judge_feasible, judge_number, judge_point,
+    judge_ray, judge_split,
 };
 use crate::mults::multipliers;
 use crate::names::{column_place, point};
@@ -22,13 +26,14 @@ use cert_text::{Cert, CertNode, Claim};
 use lp_model::{BoundChange, Model, Point, Side};
 use std::alloc::{AllocError, Global};
 
-/// What the judging of a certificate works in: its nodes and its point with the names as places, and room for the path
-/// to a node and the region's changes.
+/// What the judging of a certificate works in: its nodes, its point and its ray with the names as places, and room for the
+/// path to a node and the region's changes.
 #[derive(Drop)]
 pub struct RegionBuf {
     pub(crate) nodes: Vec<NodeWithPlaces>,
     pub(crate) trail: Trail,
     pub(crate) point: Option<Point>,
+    pub(crate) ray: Option<Point>,
 }
 
 /// A node with its names as places.
@@ -79,11 +84,13 @@ impl RegionBuf {
     {
         let nodes = placed_nodes(alloc, model, cert.nodes.as_slice())?;
         let trail = Trail::new(alloc, cert.nodes.as_slice().len())?;
-        let point = point(alloc, model, cert.point.as_slice())?;
+        let found = point(alloc, model, cert.point.as_slice())?;
+        let ray = point(alloc, model, cert.ray.as_slice())?;
         Ok(RegionBuf {
             nodes,
             trail,
-            point,
+            point: found,
+            ray,
         })
     }
 }
@@ -197,13 +204,49 @@ fn check_nodes(model: &Model, claim: &Claim, nodes: &[NodeWithPlaces], trail: &m
     Verdict::Accepted(*claim)
 }
 
-/// The point of the claim, if the claim has one.
-fn check_point(model: &Model, claim: &Claim, point: &Option<Point>) -> Judgement
-    requires { MatchOption point.now (Unit {0}) (λ x. length x ≡ length model.now.cols) }
-    ensures { (named : Named) → IsPointOf model.now named point.now → HasNoPoint claim.now named → IsClaimJudged model.now claim.now named result }
+/// A point that is claimed to be feasible.
+fn check_feasible(model: &Model, point: &Option<Point>) -> Judgement
+    ensures { (named : Named) → IsPointOf model.now named point.now → WhereThere (AreNames (column_names model.now) named) (IsFeasibleJudged model.now (point_of model.now named)) result }
+{
+    match point {
+        None => Judgement::Breaks(1),
+        Some(point) => judge_feasible(model, point),
+    }
+}
+
+/// A direction that is claimed to be a ray.
+fn check_ray(model: &Model, ray: &Option<Point>) -> Judgement
+    ensures { (named : Named) → IsPointOf model.now named ray.now → WhereThere (AreNames (column_names model.now) named) (IsDirectionJudged model.now (point_of model.now named)) result }
+{
+    match ray {
+        None => Judgement::Breaks(1),
+        Some(direction) => judge_ray(model, direction),
+    }
+}
+
+/// The point and the ray of a model that is claimed unbounded. The ray is judged where the point passes.
+fn check_unbounded(model: &Model, point: &Option<Point>, ray: &Option<Point>) -> Judgement
+    ensures { (p r : Named) → IsPointOf model.now p point.now → IsPointOf model.now r ray.now → IsClaimJudged model.now Unbounded p r result }
+{
+    match check_feasible(model, point) {
+        Judgement::Passes => check_ray(model, ray),
+        Judgement::Breaks(why) => Judgement::Breaks(why),
+        Judgement::NoRoom(step) => Judgement::NoRoom(step),
+    }
+}
+
+/// The point and the ray of the claim, as it has them.
+fn check_claim(
+    model: &Model,
+    claim: &Claim,
+    point: &Option<Point>,
+    ray: &Option<Point>,
+) -> Judgement
+    ensures { (p r : Named) → IsPointOf model.now p point.now → IsPointOf model.now r ray.now → IsClaimJudged model.now claim.now p r result }
 {
     match claim {
         Claim::Infeasible => Judgement::Passes,
+        Claim::Unbounded => check_unbounded(model, point, ray),
         Claim::Optimal(value) => match point {
             None => Judgement::Breaks(1),
             Some(point) => judge_point(model, value, point),
@@ -211,19 +254,34 @@ fn check_point(model: &Model, claim: &Claim, point: &Option<Point>) -> Judgement
     }
 }
 
+/// Whether the claim is proved by a tree.
+fn has_tree(claim: &Claim) -> bool
+    ensures { result ≡ has_tree claim.now }
+{
+    match claim {
+        Claim::Optimal(_) => true,
+        Claim::Infeasible => true,
+        Claim::Unbounded => false,
+    }
+}
+
 /// Whether the certificate is accepted for the model: the first node that does not hold, or has a step of arithmetic
-/// without room, in the order of the text, and its point before all. No memory is taken, and a deep tree takes no more of
-/// the stack than a flat one.
+/// without room, in the order of the text, its point and its ray before all. No memory is taken, and a deep tree takes no
+/// more of the stack than a flat one.
 pub fn check(model: &Model, cert: &Cert, buf: &mut RegionBuf) -> Verdict
     requires certificate { IsCertificate cert.now }
     requires buffer { IsBufferOf model.now cert.now buf.old }
     ensures verdict { IsVerdict model.now cert.now result }
     ensures buffer { IsBufferOf model.now cert.now buf.new }
 {
-    match check_point(model, &cert.claim, &buf.point) {
+    match check_claim(model, &cert.claim, &buf.point, &buf.ray) {
         Judgement::Passes => {}
         Judgement::Breaks(why) => return Verdict::Rejected { node: 0, why },
         Judgement::NoRoom(step) => return Verdict::Wide { node: 0, step },
     }
-    check_nodes(model, &cert.claim, &buf.nodes, &mut buf.trail)
+    if has_tree(&cert.claim) {
+        check_nodes(model, &cert.claim, &buf.nodes, &mut buf.trail)
+    } else {
+        Verdict::Accepted(cert.claim)
+    }
 }

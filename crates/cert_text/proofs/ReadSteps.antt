@@ -4,7 +4,7 @@ use Rattle.std.specs.Prelude.{Ok, Err, Some}
 use Rattle.std.proofs.lemmas.List.{length-take-le, length-map}
 use Rattle.cert_text.specs.declared.reader.CertFault.{CertFault}
 use Rattle.cert_text.specs.declared.reader.CertFault.TheVariants.{Bad, Memory}
-use Rattle.cert_text.specs.Lines.{lines_of}
+use Rattle.text_lines.specs.Lines.{line_bytes}
 use Rattle.cert_text.specs.Text.{StatedCertificate, stated, AreClean, OnLine}
 use Rattle.cert_text.specs.Reading.{IsNoted, IsReading, IsFaultyLine, IsCertificateAnswer}
 use Rattle.cert_text.proofs.TextLemmas.{code_here, holds_more, clean_more}
@@ -35,8 +35,8 @@ module _ (lines : List (List ℕ)) (k : ℕ) (below : k < length lines) (clean :
   pub noted_holds : (r : Unit {0}) → IsNoted s line number t (Ok r) → t ≡ stated (take (k + 1) lines)
   noted_holds r noted = holds_more lines k below s line _ holds is noted.0 t noted.1
 
-pub faulty_answer : (text : List ℕ) (lines : List (List ℕ)) (fault : CertFault) → lines ≡ lines_of text → IsReading lines (Err fault) → IsCertificateAnswer text (Err fault)
+pub faulty_answer : (text : List ℕ) (lines : List (List ℕ)) (fault : CertFault) → lines ≡ line_bytes text → IsReading lines (Err fault) → IsCertificateAnswer text (Err fault)
 faulty_answer text lines (Bad at code) e reading =
-    let here : IsFaultyLine (lines_of text) at code = subst (λ (ls : List (List ℕ)). IsFaultyLine ls at code) e reading in
+    let here : IsFaultyLine (line_bytes text) at code = subst (λ (ls : List (List ℕ)). IsFaultyLine ls at code) e reading in
     OnLine here.0 here.1.0 here.1.1.0 here.1.1.1.0 here.1.1.1.1
 faulty_answer text lines Memory e reading = tt

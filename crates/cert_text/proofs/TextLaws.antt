@@ -2,7 +2,7 @@
 use Rattle.std.proofs.Common.{◌≡◌, ◌⊎◌, ℕ, zero, suc, ◌+◌, ◌<◌, List, length, refl, sym, ◌∙◌, arith, below_more, inl, inr}
 use Rattle.std.specs.Prelude.{Option, None, Some}
 use Rattle.cert_text.specs.declared.cert.Cert.{Cert}
-use Rattle.cert_text.specs.Lines.{lines_of}
+use Rattle.text_lines.specs.Lines.{line_bytes}
 use Rattle.cert_text.specs.Text.{stated, end_code, code_at, AreClean, cert_of, MeantCertificate, FaultyCertificate, OnLine, AtEnd}
 use Rattle.cert_text.specs.Laws.{CertificateMeansOne}
 
@@ -44,34 +44,34 @@ module _ (text : List ℕ) where
   abbrev Some_reading : Type 0
   Some_reading = ((cert : Cert) × MeantCertificate text cert) ⊎ ((line : ℕ) × ((code : ℕ) × FaultyCertificate text line code))
 
-  at_end : AreClean (lines_of text) (length (lines_of text)) → (o : Option ℕ) → end_code (stated (lines_of text)) ≡ o → Some_reading
-  at_end clean None e = inl (cert_of (stated (lines_of text)), record { clean = clean; ended = e; is = refl })
-  at_end clean (Some code) e = inr (suc (length (lines_of text)), (code, AtEnd clean e refl))
+  at_end : AreClean (line_bytes text) (length (line_bytes text)) → (o : Option ℕ) → end_code (stated (line_bytes text)) ≡ o → Some_reading
+  at_end clean None e = inl (cert_of (stated (line_bytes text)), record { clean = clean; ended = e; is = refl })
+  at_end clean (Some code) e = inr (suc (length (line_bytes text)), (code, AtEnd clean e refl))
 
-  some_reading : First (lines_of text) (length (lines_of text)) → Some_reading
-  some_reading (inl clean) = at_end clean (end_code (stated (lines_of text))) refl
+  some_reading : First (line_bytes text) (length (line_bytes text)) → Some_reading
+  some_reading (inl clean) = at_end clean (end_code (stated (line_bytes text))) refl
   some_reading (inr found) = inr (suc found.0, (found.1.1.1.0, OnLine found.0 found.1.0 found.1.1.0 found.1.1.1.1 refl))
 
   one_fault : (l c m d : ℕ) → FaultyCertificate text l c → FaultyCertificate text m d → (l ≡ m) × (c ≡ d)
   one_fault l c m d (OnLine k below clean has is) (OnLine j below_j clean_j has_j is_j) =
       elim (order k j) [
-        | inl h ↦ absurd (none_some (code_at (lines_of text) k) c (clean_j k h) has)
+        | inl h ↦ absurd (none_some (code_at (line_bytes text) k) c (clean_j k h) has)
         | inr h ↦ elim h [
-          | inl e ↦ (omega (arith, is, is_j, e), same_code (code_at (lines_of text) j) c d (Rattle.std.proofs.Common.subst (λ n. code_at (lines_of text) n ≡ Some c) e has) has_j)
-          | inr g ↦ absurd (none_some (code_at (lines_of text) j) d (clean j g) has_j)
+          | inl e ↦ (omega (arith, is, is_j, e), same_code (code_at (line_bytes text) j) c d (Rattle.std.proofs.Common.subst (λ n. code_at (line_bytes text) n ≡ Some c) e has) has_j)
+          | inr g ↦ absurd (none_some (code_at (line_bytes text) j) d (clean j g) has_j)
         ]
       ]
-  one_fault l c m d (OnLine k below clean has is) (AtEnd all has_j is_j) = absurd (none_some (code_at (lines_of text) k) c (all k below) has)
-  one_fault l c m d (AtEnd all has is) (OnLine j below_j clean_j has_j is_j) = absurd (none_some (code_at (lines_of text) j) d (all j below_j) has_j)
-  one_fault l c m d (AtEnd all has is) (AtEnd all_j has_j is_j) = (omega (arith, is, is_j), same_code (end_code (stated (lines_of text))) c d has has_j)
+  one_fault l c m d (OnLine k below clean has is) (AtEnd all has_j is_j) = absurd (none_some (code_at (line_bytes text) k) c (all k below) has)
+  one_fault l c m d (AtEnd all has is) (OnLine j below_j clean_j has_j is_j) = absurd (none_some (code_at (line_bytes text) j) d (all j below_j) has_j)
+  one_fault l c m d (AtEnd all has is) (AtEnd all_j has_j is_j) = (omega (arith, is, is_j), same_code (end_code (stated (line_bytes text))) c d has has_j)
 
   not_both : (cert : Cert) (l c : ℕ) → MeantCertificate text cert → FaultyCertificate text l c → ⊥
-  not_both cert l c meant (OnLine k below clean has is) = none_some (code_at (lines_of text) k) c (meant.clean k below) has
-  not_both cert l c meant (AtEnd all has is) = none_some (end_code (stated (lines_of text))) c meant.ended has
+  not_both cert l c meant (OnLine k below clean has is) = none_some (code_at (line_bytes text) k) c (meant.clean k below) has
+  not_both cert l c meant (AtEnd all has is) = none_some (end_code (stated (line_bytes text))) c meant.ended has
 
 pub means_one : (text : List ℕ) → CertificateMeansOne text
 means_one text = record {
-  some = some_reading text (first (lines_of text) (length (lines_of text)));
+  some = some_reading text (first (line_bytes text) (length (line_bytes text)));
   one_meaning = λ a b m n. m.is ∙ sym n.is;
   one_fault = one_fault text;
   not_both = not_both text;

@@ -2,10 +2,11 @@
 --     3   form: no side `hi` or `lo`, no literal, a literal without a sign or without a name; words that are no multipliers
 --     4   no number where one is due: for a cut's number, no decimal digits without a leading zero
 --     5   a number is too wide, or a cut's is above 2^64 - 1
-use Rattle.std.specs.Prelude.{ℕ, ◌+◌, ◌*◌, ◌-◌, ◌^◌, Bool, true, false, not, ◌&&◌, ◌||◌, if◌then◌else◌, ◌==◌, nat_lt, min, List, [], ◌∷◌, drop, codes, bytes_eq, Option, None, Some, Result, Ok, Err}
+use Rattle.std.specs.Prelude.{ℕ, ◌^◌, Bool, true, false, not, ◌&&◌, ◌||◌, if◌then◌else◌, ◌==◌, nat_lt, min, List, [], ◌∷◌, drop, codes, bytes_eq, Option, None, Some, Result, Ok, Err}
 use Rattle.std.specs.List.{list_all}
 use Rattle.std.specs.Option.{option_map}
 use Rattle.rational.specs.Rational.{ℚ}
+use Rattle.frac_text.specs.Spelling.{is_digit, value_of}
 use Rattle.frac_text.specs.declared.parsing.NumFault.{NumFault}
 use Rattle.lp_model.specs.declared.types.Side.{Side}
 use Rattle.lp_model.specs.declared.types.Side.TheVariants.{Lo, Hi}
@@ -14,7 +15,7 @@ use Rattle.cert_text.specs.declared.cert.CertMult.{CertMult}
 use Rattle.cert_text.specs.declared.cert.CertMult.TheVariants.{Cut}
 use Rattle.cert_text.specs.Lines.{number_code, row_mult, with_mult}
 use Rattle.frac_text.specs.Parsing.{spelled_number}
-use Rattle.cert_text.specs.Text.{StatedCertificate, lacks_part, are_none}
+use Rattle.cert_text.specs.Text.{StatedCertificate, lacks_part, takes_ray, are_none}
 
 -- ---- `cut ROW hi LIT..` and `cut ROW lo LIT..`
 
@@ -49,14 +50,11 @@ abbrev pub cut_line_in : List (List ℕ) → Result NamedCut ℕ
 cut_line_in (row ∷ side ∷ literals) = as_cut row (side_in side) (literals_in literals)
 cut_line_in words = Err 3
 
--- a cut stands behind the claim and its point, and before the nodes
+-- a cut stands behind the claim and its point, and before the nodes; where the model is claimed unbounded there is none
 abbrev pub cut_code : StatedCertificate → Option ℕ
-cut_code s = if lacks_part s || not (are_none s.nodes) then Some 6 else None
+cut_code s = if lacks_part s || takes_ray s.claims || not (are_none s.nodes) then Some 6 else None
 
 -- ---- a cut's number
-
-abbrev pub is_digit : ℕ → Bool
-is_digit byte = nat_lt 47 byte && nat_lt byte 58
 
 -- decimal digits without a leading zero
 abbrev pub are_plain_digits : List ℕ → Bool
@@ -64,12 +62,8 @@ are_plain_digits [] = false
 are_plain_digits (byte ∷ []) = is_digit byte
 are_plain_digits (byte ∷ next ∷ more) = not (byte == 48) && list_all is_digit (byte ∷ next ∷ more)
 
-abbrev pub decimal : ℕ → List ℕ → ℕ
-decimal value [] = value
-decimal value (byte ∷ more) = decimal (10 * value + (byte - 48)) more
-
 abbrev pub number_of_cut : List ℕ → Result ℕ ℕ
-number_of_cut word = if are_plain_digits word then (if nat_lt (decimal 0 word) (2 ^ 64) then Ok (decimal 0 word) else Err 5) else Err 4
+number_of_cut word = if are_plain_digits word then (if nat_lt (value_of word) (2 ^ 64) then Ok (value_of word) else Err 5) else Err 4
 
 -- ---- `row NAME V` and `cut K V` any number of times
 

@@ -3,16 +3,16 @@
 --     3   its form: the words behind the first one, a blank at its end, or a split's number that is not whole
 --     4   no number stands where one is due
 --     5   a number is too wide, or a split's is 2^127 - 1
-use Rattle.std.specs.Prelude.{ℕ, ◌-◌, ◌^◌, Bool, true, false, ◌||◌, if◌then◌else◌, ◌==◌, min, List, [], ◌∷◌, length, get_or, codes, pos, bytes_eq, Option, None, Some, Result, Ok, Err}
+use Rattle.std.specs.Prelude.{ℕ, ◌-◌, ◌^◌, Bool, ◌||◌, if◌then◌else◌, ◌==◌, min, List, [], ◌∷◌, length, get_or, codes, pos, bytes_eq, Option, None, Some, Result, Ok, Err}
 use Rattle.std.specs.Ordering.{int_eq}
-use Rattle.std.specs.List.{slice_split, filter}
+use Rattle.text_lines.specs.Words.{is_blank, words_of}
 use Rattle.rational.specs.Rational.{ℚ, den}
 use Rattle.frac_text.specs.Spelling.{reading_of}
 use Rattle.frac_text.specs.Parsing.{parsed}
 use Rattle.frac_text.specs.declared.parsing.NumFault.{NumFault}
 use Rattle.frac_text.specs.declared.parsing.NumFault.TheVariants.{NotNumber, Wide}
 use Rattle.lp_model.specs.Edits.{Named}
-use Rattle.cert_text.specs.declared.cert.Claim.TheVariants.{Optimal, Infeasible}
+use Rattle.cert_text.specs.declared.cert.Claim.TheVariants.{Optimal, Infeasible, Unbounded}
 use Rattle.cert_text.specs.declared.cert.CertMult.{CertMult}
 use Rattle.cert_text.specs.declared.cert.CertMult.TheVariants.{Row}
 use Rattle.cert_text.specs.declared.cert.CertNode.{CertNode}
@@ -23,34 +23,7 @@ use Rattle.cert_text.specs.declared.line.Statement.{Statement}
 use Rattle.cert_text.specs.declared.line.Statement.TheVariants as says
 use Rattle.frac_text.specs.Parsing.{spelled_number}
 
--- ---- lines and words
-
-abbrev pub is_newline : ℕ → Bool
-is_newline byte = byte == 10
-
-abbrev pub is_blank : ℕ → Bool
-is_blank byte = byte == 32 || byte == 9
-
-abbrev pub is_nothing : List ℕ → Bool
-is_nothing [] = true
-is_nothing (byte ∷ bytes) = false
-
-abbrev pub is_piece : List ℕ → Bool
-is_piece [] = false
-is_piece (byte ∷ bytes) = true
-
--- the pieces between newlines are the lines: what follows the last newline is one only where it has a byte
-abbrev pub without_last : List (List ℕ) → List (List ℕ)
-without_last [] = []
-without_last (piece ∷ []) = if is_nothing piece then [] else piece ∷ []
-without_last (piece ∷ next ∷ more) = piece ∷ without_last (next ∷ more)
-
-unfoldable pub lines_of : List ℕ → List (List ℕ)
-lines_of text = without_last (slice_split is_newline text)
-
--- the pieces between blanks and tabs
-unfoldable pub words_of : List ℕ → List (List ℕ)
-words_of line = filter is_piece (slice_split is_blank line)
+-- ---- blanks at the ends
 
 -- the first byte is a blank, the last one is
 abbrev pub begins_blank : List ℕ → Bool
@@ -112,9 +85,16 @@ abbrev pub claimed : Result ℚ NumFault → Result Statement ℕ
 claimed (Ok v) = Ok (says.Claims (Optimal v))
 claimed (Err fault) = Err (number_code fault)
 
--- `claim infeasible` and `claim optimal V`
+-- `claim infeasible` and `claim unbounded`
+abbrev pub claim_word : List ℕ → Result Statement ℕ
+claim_word kind =
+    if bytes_eq kind (codes "infeasible") then Ok (says.Claims Infeasible)
+    else if bytes_eq kind (codes "unbounded") then Ok (says.Claims Unbounded)
+    else Err 3
+
+-- these, and `claim optimal V`
 abbrev pub claim_says : List (List ℕ) → Result Statement ℕ
-claim_says (kind ∷ []) = if bytes_eq kind (codes "infeasible") then Ok (says.Claims Infeasible) else Err 3
+claim_says (kind ∷ []) = claim_word kind
 claim_says (kind ∷ number ∷ []) = if bytes_eq kind (codes "optimal") then claimed (spelled_number number) else Err 3
 claim_says words = Err 3
 

@@ -1,7 +1,8 @@
 -- What a certificate's text means, and its faults: the first faulty line, and the least code on it. Beside a line's own
 -- codes 2 to 5 (specs/Lines) there are
 --     1   the first line is not `cert 1`
---     6   a part out of order, missing or twice: claim, point (where a value is claimed), nodes, `end`
+--     6   a part out of order, missing or twice: claim, point (where a value is claimed, or that the model is unbounded), then a
+--         ray for `unbounded`, and nodes for the other claims, `end`
 --     7   the nodes are not one whole tree
 --     8   no `end`, or a line after it
 -- A missing part stands at the line where it was due.
@@ -9,13 +10,14 @@ use Rattle.std.specs.Prelude.{◌≡◌, ℕ, suc, ◌-◌, ◌<◌, Bool, true,
 use Rattle.std.specs.List.{filter_map, list_any}
 use Rattle.lp_model.specs.Edits.{Named}
 use Rattle.cert_text.specs.declared.cert.Claim.{Claim}
-use Rattle.cert_text.specs.declared.cert.Claim.TheVariants.{Optimal, Infeasible}
+use Rattle.cert_text.specs.declared.cert.Claim.TheVariants.{Optimal, Infeasible, Unbounded}
 use Rattle.cert_text.specs.declared.cert.CertNode.{CertNode}
 use Rattle.cert_text.specs.declared.cert.CertNode.TheVariants.{Split, Bound, Farkas, Empty}
 use Rattle.cert_text.specs.declared.cert.Cert.{Cert}
 use Rattle.cert_text.specs.declared.line.Statement.{Statement}
 use Rattle.cert_text.specs.declared.line.Statement.TheVariants.{Header, Claims, Point, Node, End, Ray, Foreign}
-use Rattle.cert_text.specs.Lines.{lines_of, line_says}
+use Rattle.text_lines.specs.Lines.{line_bytes}
+use Rattle.cert_text.specs.Lines.{line_says}
 
 -- ---- what some lines state, each its part
 
@@ -26,6 +28,10 @@ claim_in said = None
 abbrev pub point_in : Result Statement ℕ → Option Named
 point_in (Ok (Point named)) = Some named
 point_in said = None
+
+abbrev pub ray_in : Result Statement ℕ → Option Named
+ray_in (Ok (Ray named)) = Some named
+ray_in said = None
 
 abbrev pub node_in : Result Statement ℕ → Option CertNode
 node_in (Ok (Node node)) = Some node
@@ -44,6 +50,7 @@ pub record StatedCertificate : Type 0 where
   pub count : ℕ
   pub claims : List Claim
   pub points : List Named
+  pub rays : List Named
   pub nodes : List CertNode
   pub ended : Bool
 
@@ -52,6 +59,7 @@ stated lines = record {
   count = length lines;
   claims = filter_map (λ line. claim_in (line_says line)) lines;
   points = filter_map (λ line. point_in (line_says line)) lines;
+  rays = filter_map (λ line. ray_in (line_says line)) lines;
   nodes = filter_map (λ line. node_in (line_says line)) lines;
   ended = list_any (λ line. is_end_statement (line_says line)) lines;
 }
@@ -73,29 +81,46 @@ abbrev pub are_none : {A : Type 0} → List A → Bool
 are_none [] = true
 are_none (x ∷ xs) = false
 
--- a point is due where a value is claimed
+-- a point is due where a value is claimed, or that the model is unbounded
 abbrev pub takes_point : List Claim → Bool
 takes_point (Optimal v ∷ claims) = true
+takes_point (Unbounded ∷ claims) = true
 takes_point claims = false
+
+-- a ray is due, and no nodes are, where the model is claimed unbounded
+abbrev pub takes_ray : List Claim → Bool
+takes_ray (Unbounded ∷ claims) = true
+takes_ray claims = false
 
 abbrev pub lacks_point : StatedCertificate → Bool
 lacks_point s = takes_point s.claims && are_none s.points
 
--- the claim or the point is still due
+abbrev pub lacks_ray : StatedCertificate → Bool
+lacks_ray s = takes_ray s.claims && are_none s.rays
+
+-- the point or the ray is still due
+abbrev pub lacks_numbers : StatedCertificate → Bool
+lacks_numbers s = lacks_point s || lacks_ray s
+
+-- the claim, the point or the ray is still due
 abbrev pub lacks_part : StatedCertificate → Bool
-lacks_part s = are_none s.claims || lacks_point s
+lacks_part s = are_none s.claims || lacks_numbers s
 
 abbrev pub node_code : StatedCertificate → Option ℕ
-node_code s = if lacks_part s then Some 6 else if is_whole_tree s.nodes then Some 7 else None
+node_code s = if lacks_part s || takes_ray s.claims then Some 6 else if is_whole_tree s.nodes then Some 7 else None
+
+-- the code of `end` by the nodes
+abbrev pub tree_code : StatedCertificate → Option ℕ
+tree_code s = if takes_ray s.claims then None else if are_none s.nodes then Some 6 else if is_whole_tree s.nodes then None else Some 7
 
 -- the code of a statement by what stands before it
 abbrev pub place_code : StatedCertificate → Statement → Option ℕ
 place_code s (Claims claim) = if are_none s.claims then None else Some 6
 place_code s (Point named) = if not (are_none s.claims) && lacks_point s then None else Some 6
 place_code s (Node node) = node_code s
-place_code s End = if lacks_part s || are_none s.nodes then Some 6 else if is_whole_tree s.nodes then None else Some 7
+place_code s End = if lacks_part s then Some 6 else tree_code s
 place_code s Header = Some 6
-place_code s (Ray named) = Some 6
+place_code s (Ray named) = if not (lacks_point s) && lacks_ray s then None else Some 6
 place_code s Foreign = Some 6
 
 abbrev pub said_code : StatedCertificate → Result Statement ℕ → Option ℕ
@@ -134,20 +159,20 @@ abbrev pub first_claim : List Claim → Claim
 first_claim [] = Infeasible
 first_claim (claim ∷ claims) = claim
 
-abbrev pub first_point : List Named → Named
-first_point [] = []
-first_point (named ∷ points) = named
+abbrev pub first_named : List Named → Named
+first_named [] = []
+first_named (named ∷ more) = named
 
 abbrev pub cert_of : StatedCertificate → Cert
-cert_of s = record { claim = first_claim s.claims; point = first_point s.points; nodes = s.nodes }
+cert_of s = record { claim = first_claim s.claims; point = first_named s.points; ray = first_named s.rays; nodes = s.nodes }
 
 -- the certificate that the text states
 pub record MeantCertificate (text : List ℕ) (cert : Cert) : Type 0 where
-  pub clean : AreClean (lines_of text) (length (lines_of text))
-  pub ended : end_code (stated (lines_of text)) ≡ None
-  pub is : cert ≡ cert_of (stated (lines_of text))
+  pub clean : AreClean (line_bytes text) (length (line_bytes text))
+  pub ended : end_code (stated (line_bytes text)) ≡ None
+  pub is : cert ≡ cert_of (stated (line_bytes text))
 
 -- the first faulty line, from 1, and its least code
 pub data FaultyCertificate (text : List ℕ) (line code : ℕ) : Type 0 where
-  OnLine : (k : ℕ) → k < length (lines_of text) → AreClean (lines_of text) k → code_at (lines_of text) k ≡ Some code → line ≡ suc k → FaultyCertificate text line code
-  AtEnd : AreClean (lines_of text) (length (lines_of text)) → end_code (stated (lines_of text)) ≡ Some code → line ≡ suc (length (lines_of text)) → FaultyCertificate text line code
+  OnLine : (k : ℕ) → k < length (line_bytes text) → AreClean (line_bytes text) k → code_at (line_bytes text) k ≡ Some code → line ≡ suc k → FaultyCertificate text line code
+  AtEnd : AreClean (line_bytes text) (length (line_bytes text)) → end_code (stated (line_bytes text)) ≡ Some code → line ≡ suc (length (line_bytes text)) → FaultyCertificate text line code

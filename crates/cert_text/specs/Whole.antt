@@ -3,7 +3,7 @@ use Rattle.std.specs.Prelude.{◌≡◌, ℕ, zero, suc, List, [], ◌∷◌, Al
 use Rattle.frac128.specs.Range.{IsNarrow}
 use Rattle.lp_model.specs.Edits.{Named}
 use Rattle.cert_text.specs.declared.cert.Claim.{Claim}
-use Rattle.cert_text.specs.declared.cert.Claim.TheVariants.{Optimal, Infeasible}
+use Rattle.cert_text.specs.declared.cert.Claim.TheVariants.{Optimal, Infeasible, Unbounded}
 use Rattle.cert_text.specs.declared.cert.CertNode.{CertNode}
 use Rattle.cert_text.specs.declared.cert.CertNode.TheVariants as node
 use Rattle.cert_text.specs.declared.cert.Cert.{Cert}
@@ -18,16 +18,35 @@ IsNarrowNode (node.Bound mults) = Unit {0}
 IsNarrowNode (node.Farkas mults) = Unit {0}
 IsNarrowNode node.Empty = Unit {0}
 
+-- a claim that no point is feasible has none
 abbrev pub HasNoPoint : Claim → Named → Type 0
 HasNoPoint (Optimal v) named = Unit {0}
 HasNoPoint Infeasible named = named ≡ []
+HasNoPoint Unbounded named = Unit {0}
 
--- the nodes are one whole tree, splits have room, and a claim that no point is feasible has none
-pub record IsCertificate (cert : Cert) : Type 0 where
+-- a ray stands only where the model is claimed unbounded
+abbrev pub HasNoRay : Claim → Named → Type 0
+HasNoRay (Optimal v) named = named ≡ []
+HasNoRay Infeasible named = named ≡ []
+HasNoRay Unbounded named = Unit {0}
+
+-- the nodes in preorder of one tree
+pub record AreOneTree (nodes : List CertNode) : Type 0 where
   pub tree : CertTree
-  pub nodes : certificate_nodes tree ≡ cert.nodes
+  pub nodes_are : certificate_nodes tree ≡ nodes
+
+-- the nodes are one whole tree; where the model is claimed unbounded there are none
+abbrev pub HasTree : Claim → List CertNode → Type 0
+HasTree (Optimal v) nodes = AreOneTree nodes
+HasTree Infeasible nodes = AreOneTree nodes
+HasTree Unbounded nodes = nodes ≡ []
+
+-- the parts of the claim are there and no others, and splits have room
+pub record IsCertificate (cert : Cert) : Type 0 where
+  pub tree : HasTree cert.claim cert.nodes
   pub narrow : All IsNarrowNode cert.nodes
   pub point : HasNoPoint cert.claim cert.point
+  pub ray : HasNoRay cert.claim cert.ray
 
 -- ---- on the way through a text
 
@@ -49,8 +68,23 @@ TakesAll (suc due) (node.Bound mults ∷ nodes) = TakesAll due nodes
 TakesAll (suc due) (node.Farkas mults ∷ nodes) = TakesAll due nodes
 TakesAll (suc due) (node.Empty ∷ nodes) = TakesAll due nodes
 
--- there is a point only where a value is claimed
+-- there is a point only where a value is claimed, or that the model is unbounded
 abbrev pub IsPointed : Option Claim → Option Named → Type 0
 IsPointed (Some (Optimal v)) point = Unit {0}
 IsPointed (Some Infeasible) point = point ≡ None
+IsPointed (Some Unbounded) point = Unit {0}
 IsPointed None point = point ≡ None
+
+-- there is a ray only where the model is claimed unbounded
+abbrev pub IsDirected : Option Claim → Option Named → Type 0
+IsDirected (Some (Optimal v)) ray = ray ≡ None
+IsDirected (Some Infeasible) ray = ray ≡ None
+IsDirected (Some Unbounded) ray = Unit {0}
+IsDirected None ray = ray ≡ None
+
+-- there are nodes only where something else is claimed
+abbrev pub IsRooted : Option Claim → List CertNode → Type 0
+IsRooted (Some (Optimal v)) nodes = Unit {0}
+IsRooted (Some Infeasible) nodes = Unit {0}
+IsRooted (Some Unbounded) nodes = nodes ≡ []
+IsRooted None nodes = nodes ≡ []

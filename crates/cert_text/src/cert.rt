@@ -10,6 +10,8 @@ pub enum Claim {
     Optimal(Frac),
     /// No point is feasible.
     Infeasible,
+    /// Some point is feasible, and whatever number is named, some feasible point has a better value in objective 1.
+    Unbounded,
 }
 
 /// A multiplier.
@@ -44,11 +46,13 @@ pub struct NamedCut {
     pub literals: List<(Name, bool)>,
 }
 
-/// A certificate: its claim, the numbers of a point beside the names of columns, and the nodes of its tree, each before
-/// those below it, the left ones first. The other columns are 0.
+/// A certificate: its claim, the numbers of a point and of a ray beside the names of columns, and the nodes of its tree,
+/// each before those below it, the left ones first. The other columns are 0. A point stands where a feasible one is
+/// claimed, a ray where the model is claimed unbounded, and nodes in all other certificates.
 #[derive(Drop)]
 pub struct Cert {
     pub claim: Claim,
     pub point: List<(Name, Frac)>,
+    pub ray: List<(Name, Frac)>,
     pub nodes: List<CertNode>,
 }

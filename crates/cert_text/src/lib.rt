@@ -1,11 +1,15 @@
 //! Certificates and their text.
 //!
-//! A certificate claims a best value `V`, or that no point is feasible, and gives its reasons: a point, and a branching
-//! tree whose leaves each say why no feasible point of their region beats `V`. Its text has a line for each part, the nodes
-//! of the tree each before those below it, the left ones first:
+//! A certificate claims a best value `V`, that no point is feasible, or that the model is unbounded, and gives its reasons.
+//! For the first two these are a point and a branching tree whose leaves each say why no feasible point of their region beats
+//! `V`; for the last a feasible point and a ray, along which points stay feasible and improve without end. Its text has a line
+//! for each part, the nodes of the tree each before those below it, the left ones first:
 //!
 //! ```text
-//! cert 1                                   claim optimal V | claim infeasible, then for a value: point [NAME V]..
+//! cert 1
+//! claim optimal V | claim infeasible | claim unbounded
+//! point [NAME V]..                         for a value, and for unbounded
+//! ray [NAME V]..                           for unbounded, which has no nodes
 //! split NAME V                             NAME <= V below it on the left, NAME >= V + 1 on the right
 //! leaf bound [row NAME V]..                multipliers whose number reaches V
 //! leaf farkas [row NAME V]..               multipliers whose number with all costs 0 is above 0
@@ -14,13 +18,14 @@
 //! ```
 //!
 //! Contract: `read_cert` answers the certificate that a text states or its first faulty line with the least code, a
-//! function of the whole text (`specs/Lines`, `specs/Text`), and each text has one such answer (`text_law`). What is read is
-//! one whole tree (`specs/Whole`). What it proves of a model is not asked here.
+//! function of the whole text (`specs/Lines`, `specs/Text`), and each text has one such answer (`text_law`). What is read has
+//! the parts of its claim, and one whole tree where it has nodes (`specs/Whole`). What it proves of a model is not asked here.
 //!
 //! Beside this stand the parts of a certificate with cuts, which `read_cert` does not read yet: what a cut's line says
 //! (`specs/CutLines`), and multipliers of cuts.
 //!
-//! Below stand the names and lists of `lp_model` and the spelling of numbers (`frac128`). Above stand the checker
+//! Below stand the lines and words of `text_lines`, the names and lists of `lp_model`, and the spelling of numbers
+//! (`frac_text`). Above stand the checker
 //! (`cert_check`), what writes certificates, and the words `check MODEL CERT`.
 #![tactic(auto)]
 

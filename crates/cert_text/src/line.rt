@@ -1,6 +1,6 @@
 // What one line of a certificate's text says.
 ghost use Rattle.std.specs.Prelude.{◌≡◌, map, IfOk, Ok};
-ghost use Rattle.cert_text.specs.Lines.{is_blank, words_of, begins_blank, ends_blank, is_whole, word_of, named_in, as_point, as_ray, cert_says, claim_says, split_at, split_says, leaf_says, end_says, word_says, words_say, line_says};
+ghost use Rattle.cert_text.specs.Lines.{begins_blank, ends_blank, is_whole, word_of, named_in, as_point, as_ray, cert_says, claim_word, claim_says, split_at, split_says, leaf_says, end_says, word_says, words_say, line_says};
 ghost use Rattle.cert_text.specs.Reading.{Says};
 ghost use Rattle.cert_text.specs.Whole.{IsNarrowStatement};
 
@@ -9,6 +9,7 @@ use crate::named::{named_in, number_code, rows_in};
 use frac128::Frac;
 use lp_model::{List, Name};
 use std::alloc::{AllocError, Global};
+use text_lines::{is_blank_byte, words};
 
 /// The first words that there are.
 #[derive(Clone, Copy, Debug, PartialEq, Eq)]
@@ -19,7 +20,6 @@ pub enum LineWord {
     Split,
     Leaf,
     End,
-    /// A ray's numbers, which no certificate of this kind has.
     Ray,
     /// A word of certificates of other kinds.
     Foreign,
@@ -33,9 +33,8 @@ pub enum Statement {
     Point(List<(Name, Frac)>),
     Node(CertNode),
     End,
-    /// The numbers of a ray beside names of columns: it has no place in a certificate of this kind.
     Ray(List<(Name, Frac)>),
-    /// Something else that has no place in a certificate of this kind.
+    /// What has no place in a certificate of this kind.
     Foreign,
 }
 
@@ -58,12 +57,6 @@ impl From<AllocError> for LineFault {
     }
 }
 
-fn is_blank_byte(byte: u8) -> bool
-    ensures { result ≡ is_blank byte }
-{
-    byte == b' ' || byte == b'\t'
-}
-
 /// Whether the line begins with a blank.
 fn begins_blank(line: &[u8]) -> bool
     ensures { result ≡ begins_blank line.now }
@@ -82,15 +75,6 @@ fn ends_blank(line: &[u8]) -> bool
         Some(byte) => is_blank_byte(*byte),
         None => false,
     }
-}
-
-/// The pieces between blanks and tabs.
-fn words(alloc: Global, line: &[u8]) -> Result<Vec<&[u8]>, AllocError>
-    ensures { IfOk result (λ words. map (λ word. word.now) words.items ≡ words_of line.now) }
-{
-    line.split(|byte| *byte == b' ' || *byte == b'\t')
-        .filter(|word| !word.is_empty())
-        .collect(alloc)
 }
 
 fn line_word(word: &[u8]) -> Option<LineWord>
@@ -131,13 +115,27 @@ fn cert_says(words: &[&[u8]]) -> Result<Statement, LineFault>
     }
 }
 
+/// What `claim` with this one word says.
+fn claim_word(kind: &[u8]) -> Result<Statement, LineFault>
+    ensures says { Says (claim_word kind.now) result }
+    ensures narrow { IfOk result IsNarrowStatement }
+{
+    if kind == b"infeasible".as_slice() {
+        Ok(Statement::Claims(Claim::Infeasible))
+    } else if kind == b"unbounded".as_slice() {
+        Ok(Statement::Claims(Claim::Unbounded))
+    } else {
+        Err(LineFault::Code(3))
+    }
+}
+
 /// What `claim` with these further words says.
 fn claim_says(words: &[&[u8]]) -> Result<Statement, LineFault>
     ensures says { Says (claim_says (map (λ word. word.now) words.now)) result }
     ensures narrow { IfOk result IsNarrowStatement }
 {
     match words {
-        [kind] if *kind == b"infeasible".as_slice() => Ok(Statement::Claims(Claim::Infeasible)),
+        [kind] => claim_word(kind),
         [kind, number] if *kind == b"optimal".as_slice() => match frac_text::parse(number) {
             Ok(value) => Ok(Statement::Claims(Claim::Optimal(value))),
             Err(fault) => Err(LineFault::Code(number_code(fault))),

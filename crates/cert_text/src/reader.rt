@@ -1,7 +1,7 @@
 // The certificate that a text states, or its first fault.
 ghost use Rattle.std.specs.Prelude.{◌≡◌, ◌+◌, ◌<◌, ◌^◌, map, IfOk};
 ghost use Rattle.std.specs.List.{slice_split};
-ghost use Rattle.cert_text.specs.Lines.{is_newline, lines_of};
+ghost use Rattle.text_lines.specs.Lines.{is_newline, line_bytes};
 ghost use Rattle.cert_text.specs.Whole.{IsCertificate};
 ghost use Rattle.cert_text.specs.Reading.{held, IsReadable, IsNoted, IsReading, IsCertificateAnswer};
 
@@ -30,9 +30,9 @@ fn pieces(alloc: Global, text: &[u8]) -> Result<Vec<&[u8]>, AllocError>
     text.split(|byte| *byte == b'\n').collect(alloc)
 }
 
-/// The lines of a text: what follows the last newline is one only where it has a byte.
-fn lines_of(alloc: Global, text: &[u8]) -> Result<Vec<&[u8]>, AllocError>
-    ensures { IfOk result (λ lines. map (λ line. line.now) lines.items ≡ lines_of text.now) }
+/// The bytes of each line of a text: what follows the last newline is a line only where it has a byte.
+fn line_bytes(alloc: Global, text: &[u8]) -> Result<Vec<&[u8]>, AllocError>
+    ensures { IfOk result (λ lines. map (λ line. line.now) lines.items ≡ line_bytes text.now) }
 {
     let mut lines = pieces(alloc, text)?;
     let Some(last) = lines.pop() else {
@@ -94,7 +94,7 @@ pub fn read_cert(alloc: Global, text: &[u8]) -> Result<Cert, CertFault>
     ensures answer { IsCertificateAnswer text.now result }
     ensures certificate { IfOk result IsCertificate }
 {
-    let Ok(lines) = lines_of(alloc, text) else {
+    let Ok(lines) = line_bytes(alloc, text) else {
         return Err(CertFault::Memory);
     };
     let reading = match read_lines(alloc, &lines) {

@@ -1,7 +1,7 @@
 // What the lines of a certificate's text state so far.
-ghost use Rattle.std.specs.Prelude.{◌≡◌, ◌+◌, ◌<◌, ◌≤◌, ◌^◌, ◌++◌, ◌∷◌, [], length, IfOk, Ok, Err, Some, None};
+ghost use Rattle.std.specs.Prelude.{◌≡◌, ◌+◌, ◌<◌, ◌≤◌, ◌^◌, ◌++◌, ◌∷◌, [], length, option_to_list, IfOk, Ok, Err, Some, None};
 ghost use Rattle.cert_text.specs.Whole.{IsNarrowStatement, IsCertificate};
-ghost use Rattle.cert_text.specs.Text.{stated, lacks_point, lacks_part, node_code, place_code, code_in, end_code, cert_of, due_after};
+ghost use Rattle.cert_text.specs.Text.{stated, takes_point, takes_ray, lacks_point, lacks_ray, lacks_numbers, lacks_part, node_code, tree_code, place_code, code_in, end_code, first_claim, first_named, cert_of, due_after};
 
 use crate::cert::{Cert, CertNode, Claim};
 use crate::line::Statement;
@@ -15,6 +15,7 @@ pub(crate) struct Reading {
     pub(crate) count: u64,
     pub(crate) claim: Option<Claim>,
     pub(crate) point: Option<List<(Name, Frac)>>,
+    pub(crate) ray: Option<List<(Name, Frac)>>,
     pub(crate) nodes: List<CertNode>,
     /// How many trees are still due: one more than there are lines at most.
     pub(crate) due: u128,
@@ -36,6 +37,26 @@ fn due_behind(due: u128, node: &CertNode) -> u128
     }
 }
 
+/// The claim, as far as there is one.
+fn claim_or_infeasible(claim: Option<Claim>) -> Claim
+    ensures { result ≡ first_claim (option_to_list claim) }
+{
+    match claim {
+        Some(claim) => claim,
+        None => Claim::Infeasible,
+    }
+}
+
+/// The numbers beside names, as far as there are some.
+fn numbers_or_none(alloc: Global, numbers: Option<List<(Name, Frac)>>) -> List<(Name, Frac)>
+    ensures { result ≡ first_named (option_to_list numbers) }
+{
+    match numbers {
+        Some(numbers) => numbers,
+        None => List::new(alloc),
+    }
+}
+
 impl Reading {
     ghost use Rattle.cert_text.specs.Reading.{held, after, IsReadable};
     ghost use Rattle.cert_text.specs.declared.line.Statement.TheVariants.{End};
@@ -49,31 +70,67 @@ impl Reading {
             count: 0,
             claim: None,
             point: None,
+            ray: None,
             nodes: List::new(alloc),
             due: 1,
             ended: false,
         }
     }
 
-    /// Whether a value is claimed and there is no point yet.
+    /// Whether the model is claimed unbounded, so that a ray is due and no nodes are.
+    fn takes_ray(&self) -> bool
+        ensures { result ≡ takes_ray (held self.now).claims }
+    {
+        matches!(self.claim, Some(Claim::Unbounded))
+    }
+
+    /// Whether the claim has a point.
+    fn takes_point(&self) -> bool
+        ensures { result ≡ takes_point (held self.now).claims }
+    {
+        match &self.claim {
+            Some(Claim::Optimal(_)) => true,
+            Some(Claim::Unbounded) => true,
+            Some(Claim::Infeasible) => false,
+            None => false,
+        }
+    }
+
+    /// Whether the claim has a point that isn't there yet.
     fn lacks_point(&self) -> bool
         ensures { result ≡ lacks_point (held self.now) }
     {
-        matches!(self.claim, Some(Claim::Optimal(_))) && self.point.is_none()
+        self.takes_point() && self.point.is_none()
     }
 
-    /// Whether the claim or the point is still due.
+    /// Whether the claim has a ray that isn't there yet.
+    fn lacks_ray(&self) -> bool
+        ensures { result ≡ lacks_ray (held self.now) }
+    {
+        self.takes_ray() && self.ray.is_none()
+    }
+
+    /// Whether the point or the ray is still due.
+    fn lacks_numbers(&self) -> bool
+        ensures { result ≡ lacks_numbers (held self.now) }
+    {
+        self.lacks_point() || self.lacks_ray()
+    }
+
+    /// Whether the claim, the point or the ray is still due.
     fn lacks_part(&self) -> bool
         ensures { result ≡ lacks_part (held self.now) }
     {
-        self.claim.is_none() || self.lacks_point()
+        self.claim.is_none() || self.lacks_numbers()
     }
 
-    /// The code of `end` by what stands before it.
-    fn end_place_code(&self) -> Option<u8>
-        ensures { result ≡ place_code (held self.now) End }
+    /// The code of `end` by the nodes.
+    fn tree_code(&self) -> Option<u8>
+        ensures { result ≡ tree_code (held self.now) }
     {
-        if self.lacks_part() || self.nodes.as_slice().is_empty() {
+        if self.takes_ray() {
+            None
+        } else if self.nodes.as_slice().is_empty() {
             Some(6)
         } else if self.due == 0 {
             None
@@ -82,11 +139,22 @@ impl Reading {
         }
     }
 
+    /// The code of `end` by what stands before it.
+    fn end_place_code(&self) -> Option<u8>
+        ensures { result ≡ place_code (held self.now) End }
+    {
+        if self.lacks_part() {
+            Some(6)
+        } else {
+            self.tree_code()
+        }
+    }
+
     /// The code of a node by what stands before it.
     fn node_code(&self) -> Option<u8>
         ensures { result ≡ node_code (held self.now) }
     {
-        if self.lacks_part() {
+        if self.lacks_part() || self.takes_ray() {
             Some(6)
         } else if self.due == 0 {
             Some(7)
@@ -102,6 +170,7 @@ impl Reading {
         match statement {
             Statement::Claims(_) if self.claim.is_none() => None,
             Statement::Point(_) if self.claim.is_some() && self.lacks_point() => None,
+            Statement::Ray(_) if !self.lacks_point() && self.lacks_ray() => None,
             Statement::Node(_) => self.node_code(),
             Statement::End => self.end_place_code(),
             _ => Some(6),
@@ -161,7 +230,7 @@ impl Reading {
         requires few { self.old.count < 2 ^ 64 }
         ensures stated { IfOk result (λ _. held self.new ≡ record (held self.old) { nodes = self.old.nodes ++ node ∷ [] }) }
         ensures nodes { IfOk result (λ _. self.new.nodes ≡ self.old.nodes ++ node ∷ []) }
-        ensures parts { IfOk result (λ _. (self.new.claim ≡ self.old.claim) × (self.new.point ≡ self.old.point) × (self.new.ended ≡ self.old.ended)) }
+        ensures parts { IfOk result (λ _. (self.new.claim ≡ self.old.claim) × (self.new.point ≡ self.old.point) × (self.new.ray ≡ self.old.ray) × (self.new.ended ≡ self.old.ended)) }
     {
         let due = due_behind(self.due, &node);
         self.nodes.push(node)?;
@@ -184,7 +253,7 @@ impl Reading {
             Statement::Point(point) => self.point = Some(point),
             Statement::Node(node) => self.add_node(node)?,
             Statement::End => self.ended = true,
-            Statement::Ray(_named) => {}
+            Statement::Ray(ray) => self.ray = Some(ray),
             Statement::Header | Statement::Foreign => {}
         }
         Ok(())
@@ -200,27 +269,24 @@ impl Reading {
         self.parts(alloc)
     }
 
-    /// The claim, the point and the nodes, as far as they are there.
+    /// The claim, the point, the ray and the nodes, as far as they are there.
     fn parts(self, alloc: Global) -> Cert
         ensures { result ≡ cert_of (held self) }
     {
         let Reading {
             claim,
             point,
+            ray,
             nodes,
             ..
         } = self;
-        let claim = match claim {
-            Some(claim) => claim,
-            None => Claim::Infeasible,
-        };
-        let point = match point {
-            Some(point) => point,
-            None => List::new(alloc),
-        };
+        let claim = claim_or_infeasible(claim);
+        let point = numbers_or_none(alloc, point);
+        let ray = numbers_or_none(alloc, ray);
         Cert {
             claim,
             point,
+            ray,
             nodes,
         }
     }

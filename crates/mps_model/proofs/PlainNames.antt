@@ -8,11 +8,12 @@ use Rattle.mps_sections.specs.Statements.{columns, stated, stated_sections}
 use Rattle.mps_sections.proofs.PlainNames.{plain_entries, plain_columns}
 use Rattle.mps_model.specs.Meaning.{column_of, model_of}
 use Rattle.mps_model.specs.Faults.{MeantModel}
-use Rattle.mps_model.specs.PlainNames.{IsPlainName, HasPlainNames}
+use Rattle.text_lines.specs.Words.{IsWord}
+use Rattle.mps_model.specs.PlainNames.{HasPlainNames}
 
-plain_model : (entries : List Entry) (intupper : Option ℕ) → All (λ c. IsPlainName c.name) (columns entries) → HasPlainNames (model_of (stated_sections entries) intupper)
+plain_model : (entries : List Entry) (intupper : Option ℕ) → All (λ c. IsWord c.name) (columns entries) → HasPlainNames (model_of (stated_sections entries) intupper)
 unfolding model_of stated
-plain_model entries intupper h = All-map (λ c. IsPlainName c.name) (column_of (stated_sections entries) intupper) (columns entries) h
+plain_model entries intupper h = All-map (λ c. IsWord c.name) (column_of (stated_sections entries) intupper) (columns entries) h
 
 -- The columns of a model that a text means have plain names.
 pub meant-plain_names : (text : List ℕ) (intupper : Option ℕ) (M : Program) → MeantModel text intupper M → HasPlainNames M

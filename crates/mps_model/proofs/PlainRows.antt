@@ -7,11 +7,12 @@ use Rattle.mps_sections.specs.Statements.{stated, stated_sections}
 use Rattle.mps_sections.proofs.PlainRows.{ArePlain, whole_rows}
 use Rattle.mps_model.specs.Meaning.{row_of, model_of}
 use Rattle.mps_model.specs.Faults.{MeantModel}
-use Rattle.mps_model.specs.PlainNames.{IsPlainName, HasPlainRows}
+use Rattle.text_lines.specs.Words.{IsWord}
+use Rattle.mps_model.specs.PlainNames.{HasPlainRows}
 
 plain_model : (entries : List Entry) (intupper : Option ℕ) → ArePlain (stated entries).rows → HasPlainRows (model_of (stated_sections entries) intupper)
 unfolding model_of
-plain_model entries intupper h = All-map (λ r. IsPlainName r.name) (row_of (stated entries).sides) (stated entries).rows h
+plain_model entries intupper h = All-map (λ r. IsWord r.name) (row_of (stated entries).sides) (stated entries).rows h
 
 -- The rows of a model that a text means have plain names.
 pub meant-plain_rows : (text : List ℕ) (intupper : Option ℕ) (M : Program) → MeantModel text intupper M → HasPlainRows M

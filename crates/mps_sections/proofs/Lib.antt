@@ -2,6 +2,7 @@ pub mod Reached
 pub mod ListFacts
 pub mod NumberFacts
 pub mod TestFacts
+pub mod PairCounts
 pub mod StatedSteps
 pub mod ReadingSteps
 pub mod SetFacts

@@ -3,12 +3,12 @@ use Rattle.std.proofs.Common.{◌≡◌, ℕ, zero, suc, refl, ◌<◌, false, n
 use Rattle.std.specs.Prelude.{nat_le, Option, None, Some}
 use Rattle.std.specs.List.{All}
 use Rattle.std.proofs.lemmas.List.Elements.{All-nil, All-cons, All-append, All-head, All-tail, All-get_or}
+use Rattle.text_lines.specs.Words.{IsWord}
 use Rattle.mps_text.specs.Text.{Entry, records_of}
 use Rattle.mps_sections.specs.Words.{word, row_kind, line_kind}
 use Rattle.mps_sections.specs.Statements.{StatedModel, stated, gathered_behind, as_row}
 use Rattle.mps_sections.specs.Faults.{least, tests_of, row_tests, has_count, code_at, Clean, IsWholeText}
 use Rattle.mps_sections.specs.Shown.{after_kind, after}
-use Rattle.mps_sections.specs.PlainNames.{IsPlainName}
 use Rattle.mps_sections.specs.declared.words.LineKind.{LineKind}
 use Rattle.mps_sections.specs.declared.words.LineKind.TheVariants.{Header, Row, Marker, Column, RightSide, Bound, Stray}
 use Rattle.mps_sections.specs.declared.words.RowKind.{RowKind}
@@ -19,23 +19,23 @@ use Rattle.mps_sections.proofs.StatedSteps.{nothing_more, stated_more}
 use Rattle.mps_sections.proofs.PlainNames.{IsPlainEntry, plain_entries}
 
 abbrev pub ArePlain : List RowLine → Type 0
-ArePlain = All (λ (r : RowLine). IsPlainName r.name)
+ArePlain = All (λ (r : RowLine). IsWord r.name)
 
-one_more : (sided : List RowLine) (r : RowLine) → IsPlainName r.name → ArePlain sided → ArePlain (sided ++ r ∷ [])
-one_more sided r p h = All-append (λ (q : RowLine). IsPlainName q.name) sided (r ∷ []) h (All-cons (λ (q : RowLine). IsPlainName q.name) r [] p (All-nil (λ (q : RowLine). IsPlainName q.name)))
+one_more : (sided : List RowLine) (r : RowLine) → IsWord r.name → ArePlain sided → ArePlain (sided ++ r ∷ [])
+one_more sided r p h = All-append (λ (q : RowLine). IsWord q.name) sided (r ∷ []) h (All-cons (λ (q : RowLine). IsWord q.name) r [] p (All-nil (λ (q : RowLine). IsWord q.name)))
 
 no_more : (sided : List RowLine) → ArePlain sided → ArePlain (sided ++ [])
-no_more sided h = All-append (λ (q : RowLine). IsPlainName q.name) sided [] h (All-nil (λ (q : RowLine). IsPlainName q.name))
+no_more sided h = All-append (λ (q : RowLine). IsWord q.name) sided [] h (All-nil (λ (q : RowLine). IsWord q.name))
 
-with_row : (kind : Option RowKind) (name : List ℕ) (sided : List RowLine) → IsPlainName name → ArePlain sided → ArePlain (sided ++ as_row kind name)
+with_row : (kind : Option RowKind) (name : List ℕ) (sided : List RowLine) → IsWord name → ArePlain sided → ArePlain (sided ++ as_row kind name)
 with_row None name sided p h = no_more sided h
 with_row (Some Free) name sided p h = no_more sided h
 with_row (Some AtMost) name sided p h = one_more sided (record { name = name; kind = AtMost }) p h
 with_row (Some AtLeast) name sided p h = one_more sided (record { name = name; kind = AtLeast }) p h
 with_row (Some Equal) name sided p h = one_more sided (record { name = name; kind = Equal }) p h
 
-second : (e : Entry) → IsPlainEntry e → not (has_count e 2 2) ≡ false → IsPlainName (word 1 e)
-second e p h = All-get_or IsPlainName e.words 1 [] (two (length e.words) h) p.all
+second : (e : Entry) → IsPlainEntry e → not (has_count e 2 2) ≡ false → IsWord (word 1 e)
+second e p h = All-get_or IsWord e.words 1 [] (two (length e.words) h) p.all
   where
     two : (n : ℕ) → not (nat_le 2 n && nat_le n 2) ≡ false → 1 < n
     two zero e = absurd (cc)
@@ -59,7 +59,7 @@ kept_behind seen e p none h =
 
 kept_at_start : ArePlain (stated []).rows
 unfolding stated gathered_behind
-kept_at_start = All-nil (λ (r : RowLine). IsPlainName r.name)
+kept_at_start = All-nil (λ (r : RowLine). IsWord r.name)
 
 kept_clean : (seen more : List Entry) → All IsPlainEntry more → Clean seen more → ArePlain (stated seen).rows → ArePlain (stated (seen ++ more)).rows
 kept_clean seen [] p clean h = subst (λ (es : List Entry). ArePlain (stated es).rows) (sym (nothing_more seen)) h

@@ -6,4 +6,3 @@ pub mod Shown
 pub mod ReadingOf
 pub mod Sets
 pub mod Limits
-pub mod PlainNames

@@ -1,6 +1,7 @@
 -- What reading a text line by line comes to.
 use Rattle.std.specs.Prelude.{◌≡◌, ℕ, suc, List, [], length, Option, None, Some, Result, Ok, Err}
-use Rattle.mps_text.specs.Text.{Entry, Flaw, lines_of, records_of}
+use Rattle.text_lines.specs.Lines.{lines_of}
+use Rattle.mps_text.specs.Text.{Entry, Flaw, records_of}
 use Rattle.mps_text.specs.Reading.{flaw_of}
 use Rattle.mps_sections.specs.Statements.{StatedModel, stated, stated_sections}
 use Rattle.mps_sections.specs.Faults.{code_in, HasFault, IsWholeText, IsCut}

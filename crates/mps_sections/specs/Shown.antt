@@ -10,20 +10,26 @@ use Rattle.mps_sections.specs.declared.statements.ColumnLines.{ColumnLines}
 use Rattle.mps_sections.specs.Faults.{is_last}
 use Rattle.mps_sections.specs.declared.words.LineKind.{LineKind}
 use Rattle.mps_sections.specs.declared.words.LineKind.TheVariants.{Header, Row, Marker, Column, RightSide, Bound, Stray}
-use Rattle.mps_sections.specs.declared.pairs.Pair.{Pair as PairOfFields}
-use Rattle.mps_sections.specs.declared.pairs.Pairs.{Pairs}
-use Rattle.mps_sections.specs.declared.pairs.Pairs.TheVariants.{Nothing, One, Two}
+use Rattle.mps_sections.specs.declared.pair.Pair.{Pair as PairOfFields}
+use Rattle.mps_sections.specs.declared.pair.Pairs.{Pairs}
+use Rattle.mps_sections.specs.declared.pair.Pairs.TheVariants.{Nothing, One, Two}
 use Rattle.mps_sections.specs.declared.columns.OpenColumn.{OpenColumn}
 use Rattle.mps_sections.specs.declared.columns.Columns.{Columns}
 use Rattle.mps_sections.specs.declared.tables.Tables.{Tables}
 
 abbrev pub pair_shown : PairOfFields → Pair
-pair_shown p = record { row = p.row.now; number = p.number.now }
+pair_shown p = record { row = p.row.now; number = p.field.now }
 
 abbrev pub pairs_shown : Pairs → List Pair
 pairs_shown Nothing = []
 pairs_shown (One p) = pair_shown p ∷ []
 pairs_shown (Two p q) = pair_shown p ∷ pair_shown q ∷ []
+
+-- the pairs of a line of COLUMNS or RHS, and none of another one
+abbrev pub pairs_on : LineKind → Entry → List Pair
+pairs_on Column e = column_pairs e
+pairs_on RightSide e = rhs_pairs e
+pairs_on kind e = []
 
 abbrev pub flaw_shown : Option LineFault → Option Flaw
 flaw_shown None = None

@@ -7,7 +7,7 @@ ghost use Rattle.mps_sections.specs.Faults.{is_last, numbers_of_last, has_again}
 use crate::name_set::NameSet;
 use crate::names::copied;
 use crate::numbered::Numbered;
-use crate::pairs::Pairs;
+use crate::pair::Pairs;
 use crate::statements::ColumnLines;
 use lp_model::{List, Name};
 use std::alloc::{AllocError, Global};
@@ -142,7 +142,7 @@ impl Columns {
         ensures { result ≡ is_column (columns_in self.now) name.now }
     {
         match &self.last {
-            Some(column) => self.known.contains(name) || column.is_named(name),
+            Some(column) => column.is_named(name) || self.known.contains(name),
             None => false,
         }
     }

@@ -18,6 +18,7 @@ mod name_set;
 mod names;
 mod numbered;
 mod numbers;
+mod pair;
 mod pairs;
 mod reading;
 mod rows;

@@ -3,8 +3,8 @@ ghost use Rattle.std.specs.Prelude.{◌≡◌, ◌≤◌, IfOk, map, length};
 ghost use Rattle.mps_sections.specs.Statements.{read_pair, is_coefficient, coefficients_in};
 ghost use Rattle.mps_sections.specs.Shown.{pair_shown, pairs_shown};
 
-use crate::numbers::{is_zero, number_or_zero};
-use crate::pairs::{Pair, Pairs};
+use crate::numbers::is_zero;
+use crate::pair::{Pair, Pairs};
 use crate::rows::Rows;
 use lp_model::{List, Name};
 use std::alloc::{AllocError, Global};
@@ -20,7 +20,7 @@ pub fn copied(alloc: Global, name: &[u8]) -> Result<Name, AllocError>
 fn is_coefficient(rows: &Rows, pair: &Pair) -> bool
     ensures { result ≡ is_coefficient rows.now.sided (read_pair (pair_shown pair.now)) }
 {
-    rows.is_row(pair.row) && !is_zero(&number_or_zero(pair.number))
+    rows.is_row(pair.row) && !is_zero(&pair.number_or_zero())
 }
 
 /// How many of the pairs have a non-zero number beside a row with sides.

@@ -5,8 +5,7 @@ ghost use Rattle.mps_sections.specs.Sets.{has};
 
 use crate::name_set::NameSet;
 use crate::names::copied;
-use crate::numbers::number_or_zero;
-use crate::pairs::{Pair, Pairs};
+use crate::pair::{Pair, Pairs};
 use crate::statements::RowNumber;
 use lp_model::List;
 use std::alloc::{AllocError, Global};
@@ -53,7 +52,7 @@ impl Numbered {
         } = self;
         rows.insert(alloc, pair.row)?;
         let row = copied(alloc, pair.row)?;
-        let number = number_or_zero(pair.number);
+        let number = pair.number_or_zero();
         numbers.push(RowNumber { row, number })?;
         Ok(Numbered { numbers, rows })
     }

@@ -2,8 +2,7 @@
 ghost use Rattle.std.specs.Prelude.{◌≡◌};
 ghost use Rattle.rational.specs.Rational.{rational_le};
 ghost use Rattle.frac_text.specs.Spelling.{without_sign, is_minus};
-ghost use Rattle.mps_sections.specs.Numbers.{field_number, is_zero_number, limit_of, limit, within, limit_at_side, infinite, is_infinite_word, is_misplaced, is_not_number, is_too_wide, finite, is_below_zero};
-ghost use Rattle.frac_text.specs.Parsing.{spelled_number};
+ghost use Rattle.mps_sections.specs.Numbers.{is_zero_number, limit_of, limit_or_plus, within, limit_at_side, infinite, is_infinite_word, is_misplaced, is_not_number, is_too_wide, finite, is_below_zero};
 
 use crate::words::{BoundKind, is_key};
 use frac_text::{NumFault, Numeral, Side};
@@ -15,37 +14,6 @@ pub enum Limit {
     Finite(Frac),
     Plus,
     Minus,
-}
-
-/// The number that a field spells.
-fn number_of(field: &[u8]) -> Result<Frac, NumFault>
-    ensures { result ≡ spelled_number field.now }
-{
-    frac_text::parse(field)
-}
-
-/// Whether a field is no number.
-pub(crate) fn is_not_number(field: &[u8]) -> bool
-    ensures { result ≡ is_not_number (spelled_number field.now) }
-{
-    matches!(number_of(field), Err(NumFault::NotNumber))
-}
-
-/// Whether a field is a number that has no room.
-pub(crate) fn is_too_wide(field: &[u8]) -> bool
-    ensures { result ≡ is_too_wide (spelled_number field.now) }
-{
-    matches!(number_of(field), Err(NumFault::Wide))
-}
-
-/// The number that a field spells, and 0 where it spells none.
-pub(crate) fn number_or_zero(field: &[u8]) -> Frac
-    ensures { result ≡ field_number field.now }
-{
-    match number_of(field) {
-        Ok(number) => number,
-        Err(_) => Frac::whole(0),
-    }
 }
 
 fn without_sign(field: &[u8]) -> &[u8]
@@ -131,28 +99,28 @@ pub(crate) fn limit_of(field: &[u8]) -> Result<Limit, NumFault>
     }
 }
 
-/// What the number of a bound line states, `Plus` where it states nothing.
-pub(crate) fn limit_or_plus(field: &[u8]) -> Limit
-    ensures { result ≡ limit field.now }
+/// What a bound line states, `Plus` where its field states nothing.
+pub(crate) fn limit_or_plus(read: &Result<Limit, NumFault>) -> Limit
+    ensures { result ≡ limit_or_plus read.now }
 {
-    match limit_of(field) {
-        Ok(limit) => limit,
+    match read {
+        Ok(limit) => *limit,
         Err(_) => Limit::Plus,
     }
 }
 
-/// Whether the field states no limit.
-pub(crate) fn is_no_limit(field: &[u8]) -> bool
-    ensures { result ≡ is_not_number (limit_of field.now) }
+/// Whether the field of a bound line states no limit.
+pub(crate) fn is_no_limit(read: &Result<Limit, NumFault>) -> bool
+    ensures { result ≡ is_not_number read.now }
 {
-    matches!(limit_of(field), Err(NumFault::NotNumber))
+    matches!(read, Err(NumFault::NotNumber))
 }
 
-/// Whether the field is a number that has no room and isn't infinite.
-pub(crate) fn is_wide_limit(field: &[u8]) -> bool
-    ensures { result ≡ is_too_wide (limit_of field.now) }
+/// Whether the field of a bound line is a number that has no room and isn't infinite.
+pub(crate) fn is_wide_limit(read: &Result<Limit, NumFault>) -> bool
+    ensures { result ≡ is_too_wide read.now }
 {
-    matches!(limit_of(field), Err(NumFault::Wide))
+    matches!(read, Err(NumFault::Wide))
 }
 
 /// Whether a limit is infinite on the side where it bounds nothing.

@@ -6,9 +6,11 @@ ghost use Rattle.mps_sections.specs.Shown.{held};
 ghost use Rattle.mps_sections.specs.ReadingOf.{IsStopAt, IsEntryNoted, IsTablesReading, IsSectionsReading};
 ghost use Rattle.mps_sections.specs.Limits.{StatesWithinLimits};
 
+use crate::pair::Pairs;
+use crate::pairs::pairs_on;
 use crate::statements::Sections;
 use crate::tables::Tables;
-use crate::words::is_end;
+use crate::words::{is_end, kind_in};
 use mps_text::{LineFault, Lines, Record};
 use std::alloc::Global;
 
@@ -23,11 +25,18 @@ pub enum Stop {
 fn read_line(alloc: Global, tables: &mut Tables, entry: &Record) -> Result<(), Stop>
     ensures { MatchResult result (λ _. IsEntryNoted tables.old (entry_of_record entry.now) tables.new) (λ stop. IsStopAt (code_in (held tables.old) (entry_of_record entry.now)) entry.now.line stop) }
 {
-    if let Some(code) = tables.fault_of(entry) {
+    let kind = kind_in(tables.section, entry);
+    // The borrow checker lends the pairs only in a function that has a `Pair` of its own.
+    let pairs = match pairs_on(kind, entry) {
+        Pairs::Nothing => Pairs::Nothing,
+        Pairs::One(p) => Pairs::One(p),
+        Pairs::Two(p, q) => Pairs::Two(p, q),
+    };
+    if let Some(code) = tables.fault_of(entry, kind, &pairs) {
         let line = entry.line;
         return Err(Stop::Fault(LineFault { line, code }));
     }
-    match tables.note(alloc, entry) {
+    match tables.note(alloc, entry, kind, &pairs) {
         Ok(()) => Ok(()),
         Err(_) => Err(Stop::Memory),
     }

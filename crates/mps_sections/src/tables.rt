@@ -3,17 +3,18 @@ ghost use Rattle.std.specs.Prelude.{◌≡◌, ◌+◌, ◌≤◌, [], ◌∷◌
 ghost use Rattle.std.specs.List.{list_any};
 ghost use Rattle.mps_text.specs.Reading.{entry_of_record};
 ghost use Rattle.mps_sections.specs.Words.{word, is_marker, bars, section_rank, is_rows, is_columns, line_kind as kind_of_line};
-ghost use Rattle.mps_sections.specs.Statements.{StatedModel, stated, sections_in, coefficients_in, read_pair, column_pairs as pairs_in_column, bound_column as column_of_bound, bound_field};
+ghost use Rattle.mps_sections.specs.Statements.{StatedModel, stated, sections_in, coefficients_in, read_pair, column_pairs as pairs_in_column, rhs_pairs as pairs_in_rhs, bound_column as column_of_bound, bound_field};
 ghost use Rattle.mps_sections.specs.Faults.{least, tests_of, section_tests, row_tests, marker_tests, column_tests, rhs_tests, bound_tests, place_tests, pair_tests, has_unknown, has_not_number, has_too_wide, is_late, lacks_section, code_in, has_count as has_fields};
 
 use crate::columns::Columns;
 use crate::names::{copied, count_coefficients};
 use crate::numbered::Numbered;
-use crate::numbers::{is_misplaced, is_no_limit, is_wide_limit, limit_or_plus};
-use crate::pairs::{Pairs, column_pairs, has_count, is_long, rhs_pairs};
+use crate::numbers::{is_misplaced, is_no_limit, is_wide_limit, limit_of, limit_or_plus};
+use crate::pair::Pairs;
+use crate::pairs::{has_count, is_long};
 use crate::rows::Rows;
 use crate::statements::{BoundLine, Sections};
-use crate::words::{BoundKind, LineKind, RowKind, Section, first_word, is_key, kind_in};
+use crate::words::{BoundKind, LineKind, RowKind, Section, first_word, is_key};
 use lp_model::List;
 use mps_text::{Fields, Record};
 use std::alloc::{AllocError, Global};
@@ -96,7 +97,7 @@ fn lacks(headers: &[Section], section: Section) -> bool
 
 #[tactic(auto, unfolding(crate::specs::Shown::held))]
 impl Tables {
-    ghost use Rattle.mps_sections.specs.Shown.{held, after, after_kind, pairs_shown};
+    ghost use Rattle.mps_sections.specs.Shown.{held, after, after_kind, pairs_shown, pairs_on};
 
     /// What no lines state.
     #[tactic(auto, unfolding(crate::specs::Shown::held, crate::specs::Statements::stated, crate::specs::Statements::gathered_behind))]
@@ -179,6 +180,14 @@ impl Tables {
         }
     }
 
+    /// Whether the pairs have too many coefficients. They have two at most, so most lines need no count here.
+    #[tactic(auto, using(crate::proofs::PairCounts::two_at_most))]
+    fn has_too_many(&self, pairs: &Pairs) -> bool
+        ensures { result ≡ nat_lt 50000 (self.now.count + length (coefficients_in self.now.rows.sided (map read_pair (pairs_shown pairs.now)))) }
+    {
+        self.count > 49998 && self.count + count_coefficients(&self.rows, pairs) > 50000
+    }
+
     /// The least fault of a column's line by the columns before it.
     fn fault_of_place(&self, name: &[u8], pairs: &Pairs) -> Option<u8>
         ensures { result ≡ least (place_tests (held self.now) name.now (pairs_shown pairs.now)) }
@@ -194,45 +203,45 @@ impl Tables {
         if !stands && self.columns.len() >= 1000 {
             return Some(16);
         }
-        if self.count + count_coefficients(&self.rows, pairs) > 50000 {
+        if self.has_too_many(pairs) {
             return Some(17);
         }
         None
     }
 
-    fn fault_of_column(&self, entry: &Record) -> Option<u8>
+    fn fault_of_column(&self, entry: &Record, pairs: &Pairs) -> Option<u8>
+        requires { pairs_shown pairs.now ≡ pairs_in_column (entry_of_record entry.now) }
         ensures { result ≡ least (column_tests (held self.now) (entry_of_record entry.now)) }
     {
         if !(has_count(entry, 3, 3) || has_count(entry, 5, 5)) {
             return Some(6);
         }
         let name = first_word(entry);
-        let pairs = column_pairs(entry);
         if is_long(name) || pairs.has_long() {
             return Some(7);
         }
-        let fault = self.fault_of_pairs(&pairs);
+        let fault = self.fault_of_pairs(pairs);
         if fault.is_some() {
             return fault;
         }
-        self.fault_of_place(name, &pairs)
+        self.fault_of_place(name, pairs)
     }
 
-    fn fault_of_rhs(&self, entry: &Record) -> Option<u8>
+    fn fault_of_rhs(&self, entry: &Record, pairs: &Pairs) -> Option<u8>
+        requires { pairs_shown pairs.now ≡ pairs_in_rhs (entry_of_record entry.now) }
         ensures { result ≡ least (rhs_tests (held self.now) (entry_of_record entry.now)) }
     {
         if !has_count(entry, 2, 5) {
             return Some(6);
         }
-        let pairs = rhs_pairs(entry);
         if pairs.has_long() {
             return Some(7);
         }
-        let fault = self.fault_of_pairs(&pairs);
+        let fault = self.fault_of_pairs(pairs);
         if fault.is_some() {
             return fault;
         }
-        if pairs.has_twice() || self.sides.has_again(&pairs) {
+        if pairs.has_twice() || self.sides.has_again(pairs) {
             return Some(22);
         }
         None
@@ -246,16 +255,16 @@ impl Tables {
             return Some(6);
         }
         let column = bound_column(kind, entry);
-        let number = last_word(entry);
+        let limit = limit_of(last_word(entry));
         if is_long(column) {
             Some(7)
-        } else if kind.takes_number() && is_no_limit(number) {
+        } else if kind.takes_number() && is_no_limit(&limit) {
             Some(12)
-        } else if kind.takes_number() && is_wide_limit(number) {
+        } else if kind.takes_number() && is_wide_limit(&limit) {
             Some(13)
         } else if !self.columns.contains(column) {
             Some(19)
-        } else if is_misplaced(kind, &limit_or_plus(number)) {
+        } else if is_misplaced(kind, &limit_or_plus(&limit)) {
             Some(21)
         } else {
             None
@@ -276,15 +285,17 @@ impl Tables {
 
     /// The least fault of the next line, if it has one.
     #[tactic(auto, unfolding(crate::specs::Shown::held, crate::specs::Faults::code_in))]
-    pub(crate) fn fault_of(&self, entry: &Record) -> Option<u8>
+    pub(crate) fn fault_of(&self, entry: &Record, kind: LineKind, pairs: &Pairs) -> Option<u8>
+        requires kind { kind ≡ kind_of_line self.now.section (entry_of_record entry.now) }
+        requires pairs { pairs_shown pairs.now ≡ pairs_on kind (entry_of_record entry.now) }
         ensures { result ≡ code_in (held self.now) (entry_of_record entry.now) }
     {
-        match kind_in(self.section, entry) {
+        match kind {
             LineKind::Header => self.fault_of_header(entry),
             LineKind::Row => self.fault_of_row(entry),
             LineKind::Marker => self.fault_of_marker(entry),
-            LineKind::Column => self.fault_of_column(entry),
-            LineKind::RightSide => self.fault_of_rhs(entry),
+            LineKind::Column => self.fault_of_column(entry, pairs),
+            LineKind::RightSide => self.fault_of_rhs(entry, pairs),
             LineKind::Bound => self.fault_of_bound(entry),
             LineKind::Stray => Some(5),
         }
@@ -323,25 +334,30 @@ impl Tables {
         self.marked = is_key(b"'INTORG'", third_word(entry));
     }
 
-    fn note_column(&mut self, alloc: Global, entry: &Record) -> Result<(), AllocError>
-        requires { self.old.count + length (coefficients_in self.old.rows.sided (map read_pair (pairs_in_column (entry_of_record entry.now)))) ≤ 50000 }
+    fn note_column(
+        &mut self,
+        alloc: Global,
+        entry: &Record,
+        pairs: &Pairs,
+    ) -> Result<(), AllocError>
+        requires pairs { pairs_shown pairs.now ≡ pairs_in_column (entry_of_record entry.now) }
+        requires few { self.old.count + length (coefficients_in self.old.rows.sided (map read_pair (pairs_in_column (entry_of_record entry.now)))) ≤ 50000 }
         ensures { OnOk result (held self.new ≡ after_kind LineKind.Column (held self.old) (entry_of_record entry.now)) }
     {
         let name = first_word(entry);
-        let pairs = column_pairs(entry);
-        let count = count_coefficients(&self.rows, &pairs);
+        let count = count_coefficients(&self.rows, pairs);
         let columns = mem::replace(&mut self.columns, Columns::new(alloc));
-        self.columns = columns.with(alloc, name, entry.line, self.marked, &pairs)?;
+        self.columns = columns.with(alloc, name, entry.line, self.marked, pairs)?;
         self.count += count;
         Ok(())
     }
 
-    fn note_rhs(&mut self, alloc: Global, entry: &Record) -> Result<(), AllocError>
+    fn note_rhs(&mut self, alloc: Global, entry: &Record, pairs: &Pairs) -> Result<(), AllocError>
+        requires { pairs_shown pairs.now ≡ pairs_in_rhs (entry_of_record entry.now) }
         ensures { OnOk result (held self.new ≡ after_kind LineKind.RightSide (held self.old) (entry_of_record entry.now)) }
     {
-        let pairs = rhs_pairs(entry);
         let sides = mem::replace(&mut self.sides, Numbered::new(alloc));
-        self.sides = sides.with(alloc, &pairs)?;
+        self.sides = sides.with(alloc, pairs)?;
         Ok(())
     }
 
@@ -353,7 +369,7 @@ impl Tables {
             return Ok(());
         };
         let column = copied(alloc, bound_column(kind, entry))?;
-        let limit = limit_or_plus(last_word(entry));
+        let limit = limit_or_plus(&limit_of(last_word(entry)));
         self.bounds.push(BoundLine {
             column,
             kind,
@@ -364,19 +380,27 @@ impl Tables {
 
     /// What one more line states, which has no fault.
     #[tactic(auto, unfolding(crate::specs::Shown::held, crate::specs::Shown::after, crate::specs::Faults::code_in))]
-    pub(crate) fn note(&mut self, alloc: Global, entry: &Record) -> Result<(), AllocError>
-        requires { code_in (held self.old) (entry_of_record entry.now) ≡ None }
+    pub(crate) fn note(
+        &mut self,
+        alloc: Global,
+        entry: &Record,
+        kind: LineKind,
+        pairs: &Pairs,
+    ) -> Result<(), AllocError>
+        requires kind { kind ≡ kind_of_line self.old.section (entry_of_record entry.now) }
+        requires pairs { pairs_shown pairs.now ≡ pairs_on kind (entry_of_record entry.now) }
+        requires clean { code_in (held self.old) (entry_of_record entry.now) ≡ None }
         ensures { OnOk result (held self.new ≡ after (held self.old) (entry_of_record entry.now)) }
     {
-        match kind_in(self.section, entry) {
+        match kind {
             LineKind::Header => self.note_header(entry),
             LineKind::Row => self.note_row(alloc, entry),
             LineKind::Marker => {
                 self.note_marker(entry);
                 Ok(())
             }
-            LineKind::Column => self.note_column(alloc, entry),
-            LineKind::RightSide => self.note_rhs(alloc, entry),
+            LineKind::Column => self.note_column(alloc, entry, pairs),
+            LineKind::RightSide => self.note_rhs(alloc, entry, pairs),
             LineKind::Bound => self.note_bound(alloc, entry),
             LineKind::Stray => Ok(()),
         }

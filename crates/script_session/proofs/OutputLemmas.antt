@@ -1,7 +1,8 @@
 -- What is appended piece by piece.
-use Rattle.std.proofs.Common.{◌≡◌, ℕ, List, [], ◌++◌, length, take, drop, refl, sym, ◌∙◌, ap, append_assoc, append-nil, Option, Some, None, ◌-◌, arith}
-use Rattle.std.specs.Io.KnownBytes.{Appends}
+use Rattle.std.proofs.Common.{◌≡◌, ℕ, ◌<◌, List, [], ◌++◌, length, take, drop, refl, sym, ◌∙◌, ap, append_assoc, append-nil, subst, Option, Some, None, ◌-◌, arith}
+use Rattle.std.specs.Io.KnownBytes.{Appends, Keeps}
 use Rattle.std.proofs.lemmas.List.{take-append-drop, take_all, length-drop}
+use Rattle.script_session.specs.Output.{WritesFront}
 
 -- a front of the bytes was appended, and rest is what remains of them
 pub record Sends (old new : Option (List ℕ)) (bytes rest : List ℕ) : Type 0 where
@@ -28,6 +29,19 @@ Sends-more old now new bytes rest n s h = record {
   parts = append_assoc s.front (take n rest) (drop n rest) ∙ ap (λ xs. s.front ++ xs) (take-append-drop n rest) ∙ s.parts;
   output = Appends-append old now new s.front (take n rest) s.output h;
 }
+
+Appends-kept : (a b c : Option (List ℕ)) (xs : List ℕ) → Appends a b xs → Keeps b c → Appends a c xs
+Appends-kept None b c xs h k = tt
+Appends-kept (Some ws) None c xs h k = absurd h
+Appends-kept (Some ws) (Some bs) None xs h k = absurd k
+Appends-kept (Some ws) (Some bs) (Some cs) xs h k = k ∙ h
+
+-- the sink has failed before all was written, or has taken none of the rest
+pub broken_off : (old now new : Option (List ℕ)) (bytes rest : List ℕ) → Sends old now bytes rest → Keeps now new → 0 < length rest → WritesFront old new bytes
+broken_off old now new bytes rest s kept some = (s.front, rest, s.parts, Appends-kept old now new s.front s.output kept, some)
+
+pub none_taken : (old now new : Option (List ℕ)) (bytes rest : List ℕ) → Sends old now bytes rest → Appends now new [] → 0 < length rest → WritesFront old new bytes
+none_taken old now new bytes rest s none some = (s.front, rest, s.parts, subst (λ (front : List ℕ). Appends old new front) (append-nil s.front) (Appends-append old now new s.front [] s.output none), some)
 
 -- a slice from n on
 pub from_on : (n : ℕ) (rest : List ℕ) → take (length rest - n) (drop n rest) ≡ drop n rest

@@ -1,9 +1,9 @@
 -- A piece of a script, line by line.
 use Rattle.std.proofs.Common.{◌≡◌, ℕ, List, [], ◌∷◌, ◌++◌, refl, sym, ◌∙◌, ap, append_assoc, subst, Bool, true, false}
 use Rattle.std.specs.Prelude.{if◌then◌else◌, Result, Ok, Err}
-use Rattle.std.specs.Str.Lines.{strip_carriage_return}
+use Rattle.text_lines.specs.Lines.{Line, ended_line, HasNoNewline, text_of}
 use Rattle.script_session.specs.Request.{Command, Request, Overlong}
-use Rattle.script_session.specs.Script.{ScriptLine, ended_line, is_long_line, text_requests, is_end_text, HasNoNewline, is_end, line_requests, script_requests, whole_requests}
+use Rattle.script_session.specs.Script.{is_long_line, text_requests, is_end_text, is_end, line_requests, script_requests, whole_requests}
 use Rattle.script_session.specs.Session.{Moment, Serves, Breaks, Reads, ServesOne, ServesAll, ServesLine, ServesPiece}
 use Rattle.script_session.specs.Stand.{Stand}
 use Rattle.script_session.specs.declared.session.Flow.{Flow}
@@ -28,27 +28,27 @@ module _ {M : Type 0} (ends : Command → Bool) (step : Stand M → Request → 
   all_failed stop.TooLong old new requests last request asked h = h
 
   -- a line within its limit is its text
-  pub short_line : (result : Result Flow Stop) (old new : Moment M) (line : ScriptLine) → is_long_line line ≡ false → ServesAll step result old (text_requests line.text) (is_end_text ends line.text) new → ServesLine ends step result old line new
+  pub short_line : (result : Result Flow Stop) (old new : Moment M) (line : Line) → is_long_line line ≡ false → ServesAll step result old (text_requests (text_of line)) (is_end_text ends (text_of line)) new → ServesLine ends step result old line new
   short_line result old new line short h =
       subst (λ (requests : List Request). ServesAll step result old requests (is_end ends line) new) (sym (short-requests line short))
-      (subst (λ (last : Bool). ServesAll step result old (text_requests line.text) last new) (sym (short-end ends line short)) h)
+      (subst (λ (last : Bool). ServesAll step result old (text_requests (text_of line)) last new) (sym (short-end ends line short)) h)
 
   -- the script goes on after a line that is too long
-  pub long_line : (old new : Moment M) (line : ScriptLine) → is_long_line line ≡ true → Serves step old (Overlong ∷ []) new → ServesLine ends step (Ok Open) old line new
+  pub long_line : (old new : Moment M) (line : Line) → is_long_line line ≡ true → Serves step old (Overlong ∷ []) new → ServesLine ends step (Ok Open) old line new
   long_line old new line long h =
       (subst (λ (requests : List Request). Serves step old requests new) (sym (long-requests line long)) h, ap (λ (b : Bool). if b then Ended else Open) (sym (long-end ends line long)))
 
-  pub long_broken : (old new : Moment M) (line : ScriptLine) → is_long_line line ≡ true → Breaks step old (Overlong ∷ []) new → ServesLine ends step (Err stop.Sink) old line new
+  pub long_broken : (old new : Moment M) (line : Line) → is_long_line line ≡ true → Breaks step old (Overlong ∷ []) new → ServesLine ends step (Err stop.Sink) old line new
   long_broken old new line long h = subst (λ (requests : List Request). Breaks step old requests new) (sym (long-requests line long)) h
 
   pub Stands-start : (old : Moment M) (bytes : List ℕ) → Stands ends step old bytes old bytes
   Stands-start old bytes = record { done = []; serves = Serves-none step old; reads = Reads-start ends bytes }
 
-  flow_open : (line : ScriptLine) → Open ≡ (if is_end ends line then Ended else Open) → is_end ends line ≡ false
+  flow_open : (line : Line) → Open ≡ (if is_end ends line then Ended else Open) → is_end ends line ≡ false
   flow_open line h =
       elim (is_end ends line) as (λ b. Open ≡ (if b then Ended else Open) → b ≡ false) [ true ↦ λ e. absurd (cc) | false ↦ λ _. refl ] h
 
-  flow_ended : (line : ScriptLine) → Ended ≡ (if is_end ends line then Ended else Open) → is_end ends line ≡ true
+  flow_ended : (line : Line) → Ended ≡ (if is_end ends line then Ended else Open) → is_end ends line ≡ true
   flow_ended line h =
       elim (is_end ends line) as (λ b. Ended ≡ (if b then Ended else Open) → b ≡ true) [ true ↦ λ _. refl | false ↦ λ e. absurd (cc) ] h
 
@@ -101,6 +101,6 @@ module _ {M : Type 0} (ends : Command → Bool) (step : Stand M → Request → 
       subst (λ (left : List ℕ). Stands ends step old bytes now left) (ap (λ xs. pending ++ xs) parts ∙ sym (append_assoc pending line (10 ∷ more))) s
 
   -- the line that the session is given is a whole line of the script
-  pub served_line : (a b : Result Flow Stop) (old new : Moment M) (raw text whole : List ℕ) → a ≡ b → raw ≡ whole → text ≡ strip_carriage_return whole → ServesLine ends step a old (record { raw = raw; text = text }) new → ServesLine ends step b old (ended_line whole) new
-  served_line a b old new raw text whole same all cut h =
-      subst (λ r. ServesLine ends step r old (ended_line whole) new) same (subst (λ (t : List ℕ). ServesLine ends step a old (record { raw = whole; text = t }) new) cut (subst (λ (w : List ℕ). ServesLine ends step a old (record { raw = w; text = text }) new) all h))
+  pub served_line : (a b : Result Flow Stop) (old new : Moment M) (bytes whole : List ℕ) → a ≡ b → bytes ≡ whole → ServesLine ends step a old (ended_line bytes) new → ServesLine ends step b old (ended_line whole) new
+  served_line a b old new bytes whole same all h =
+      subst (λ r. ServesLine ends step r old (ended_line whole) new) same (subst (λ (w : List ℕ). ServesLine ends step a old (ended_line w) new) all h)

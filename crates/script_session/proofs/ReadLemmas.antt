@@ -1,16 +1,17 @@
 -- A script as it is read, piece by piece.
 use Rattle.std.proofs.Common.{◌≡◌, ℕ, ◌≤◌, ◌<◌, ◌+◌, ◌-◌, List, [], ◌∷◌, ◌++◌, length, take, drop, refl, sym, ◌∙◌, ap, append_assoc, append-nil, subst, arith, Option, Some, None, true, false, Bool, length-append, inl, inr}
-use Rattle.std.specs.Prelude.{Result, Ok, Err, if◌then◌else◌, ◌==◌}
+use Rattle.std.specs.Prelude.{Result, Ok, Err, if◌then◌else◌}
 use Rattle.std.specs.Io.KnownBytes.{Consumes, Keeps, IsAtEnd}
 use Rattle.std.specs.List.{list_any}
-use Rattle.std.proofs.lemmas.Bool.Decides.{nat_tests}
 use Rattle.std.proofs.lemmas.List.{take-append-drop, take-take}
 use Rattle.std.proofs.lemmas.List.Elements.{All-nil}
-use Rattle.std.proofs.lemmas.List.Splits.{slice_split_none}
 use Rattle.std.proofs.Math.Seq.{take-append_seam, take-append-add}
 use Rattle.script_session.specs.Run.{IsLastRead}
 use Rattle.script_session.specs.Request.{Command, Request}
-use Rattle.script_session.specs.Script.{HasNoNewline, is_newline, last_line, ended_lines, all_lines, whole_lines, script_lines, requests, line_requests, is_end, script_requests, whole_requests, has_ending}
+use Rattle.text_lines.specs.Lines.{HasNoNewline, is_newline, last_line}
+use Rattle.text_lines.proofs.LineLemmas.{lines-nothing, lines-last}
+use Rattle.text_lines.proofs.WordLemmas.{something}
+use Rattle.script_session.specs.Script.{requests, line_requests, is_end, script_requests, whole_requests, has_ending}
 use Rattle.script_session.specs.Session.{Moment, Serves, Breaks, Reads, Begins, ServesLine, ServesPiece, ServesRest, ServesTaken, ServesScript}
 use Rattle.script_session.specs.Stand.{Stand}
 use Rattle.script_session.specs.declared.session.Flow.TheVariants.{Open, Ended}
@@ -18,7 +19,7 @@ use Rattle.script_session.specs.declared.session.Stop.{Stop}
 use Rattle.script_session.specs.declared.session.Stop.TheVariants as stop
 use Rattle.script_session.specs.declared.reading.TheConstants.{SCRIPT_LIMIT, PIECE_LENGTH}
 use Rattle.script_session.proofs.SessionLemmas.{Serves-none, Serves-append, Serves-Breaks, Serves-Halts}
-use Rattle.script_session.proofs.ScriptLemmas.{Reads-append, Reads-more, Reads-Finishes, Reads-Begins, nil_right}
+use Rattle.script_session.proofs.ScriptLemmas.{whole_lines-none, Reads-append, Reads-more, Reads-Finishes, Reads-Begins, nil_right}
 use Rattle.script_session.proofs.PieceLemmas.{Stands, Stands-start}
 
 -- the bytes taken so far, of which pending follows the last newline
@@ -32,14 +33,6 @@ pub record ReadsOn {M : Type 0} (ends : Command → Bool) (step : Stand M → Re
 either_none : (b : Bool) (none : List Request) → (if b then none else none) ≡ none
 either_none true none = refl
 either_none false none = refl
-
-positive : (n : ℕ) → 0 < n → (n == 0) ≡ false
-positive n some = grind (arith, nat_tests)
-
--- a last line
-one_line : (line : List ℕ) → 0 < length line → (if length line == 0 then [] else last_line line ∷ []) ≡ last_line line ∷ []
-one_line [] some = absurd (omega arith)
-one_line (byte ∷ line) some = ap (λ (b : Bool). if b then [] else last_line (byte ∷ line) ∷ []) (positive (length (byte ∷ line)) some)
 
 Consumes-none : (a : Option (List ℕ)) → Consumes a a []
 Consumes-none None = tt
@@ -67,22 +60,22 @@ Consumes-kept (Some xs) (Some ys) h = sym h
 
 module _ (ends : Command → Bool) where
   pub script-rest : (line : List ℕ) → HasNoNewline line → 0 < length line → script_requests ends line ≡ line_requests (last_line line)
-  unfolding script_requests script_lines requests
+  unfolding script_requests requests
   script-rest line clean some =
-      ap (requests ends) (ap all_lines (slice_split_none is_newline line clean) ∙ one_line line some)
+      ap (requests ends) (lines-last line clean (something line some))
       ∙ ap (λ rest. line_requests (last_line line) ++ rest) (either_none (is_end ends (last_line line)) []) ∙ nil_right (line_requests (last_line line))
 
   pub script-empty : script_requests ends [] ≡ []
-  unfolding script_requests script_lines requests
-  script-empty = refl
+  unfolding script_requests requests
+  script-empty = ap (requests ends) lines-nothing
 
   pub whole-rest : (line : List ℕ) → HasNoNewline line → whole_requests ends line ≡ []
-  unfolding whole_requests whole_lines requests
-  whole-rest line clean = ap (λ parts. requests ends (ended_lines parts)) (slice_split_none is_newline line clean)
+  unfolding whole_requests requests
+  whole-rest line clean = ap (requests ends) (whole_lines-none line clean)
 
   pub ending-rest : (line : List ℕ) → HasNoNewline line → has_ending ends line ≡ false
-  unfolding has_ending whole_lines
-  ending-rest line clean = ap (λ parts. list_any (is_end ends) (ended_lines parts)) (slice_split_none is_newline line clean)
+  unfolding has_ending
+  ending-rest line clean = ap (list_any (is_end ends)) (whole_lines-none line clean)
 
   pub whole_taken : (bytes : List ℕ) (done : List Request) (pending : List ℕ) → Reads ends bytes done pending → HasNoNewline pending → whole_requests ends bytes ≡ done
   whole_taken bytes done pending r clean =

@@ -29,10 +29,12 @@ module _ {S T : Type 0} (f : S → T) (step : S → Command → List ℕ → S �
     rest = h.rest;
     parts = h.parts;
     replies = h.replies;
-    transcript = Transcript-through old new h.first h.replies h.transcript;
+    broken = h.broken;
+    transcript = Transcript-through old new h.first (h.replies ++ h.broken ∷ []) h.transcript;
     bytes = h.bytes;
     unwritten = h.unwritten;
     front = h.front;
+    some = h.some;
     output = h.output;
   }
 

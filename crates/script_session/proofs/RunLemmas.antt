@@ -46,7 +46,7 @@ module _ {M : Type 0} (ends : Command → Bool) (step : Stand M → Request → 
   stopped_as stop.Source left left' sources sources' sinks sinks' taken old new status h source sink is =
       SourceFailed h.0.replies (record { transcript = h.0.run; output = h.0.output }) h.1 h.2 source is
   stopped_as stop.Sink left left' sources sources' sinks sinks' taken old new status h source sink is =
-      SinkFailed h.0 h.3 (record { first = h.1; rest = h.2; parts = h.4; replies = h.5.replies; transcript = h.5.run; bytes = h.5.bytes; unwritten = h.5.unwritten; front = h.5.front; output = h.5.output }) sink is
+      SinkFailed h.0 h.3 (record { first = h.1; rest = h.2; parts = h.4; replies = h.5.replies; broken = h.5.broken; transcript = h.5.run; bytes = h.5.bytes; unwritten = h.5.unwritten; front = h.5.front; some = h.5.some; output = h.5.output }) sink is
   stopped_as stop.Memory left left' sources sources' sinks sinks' taken old new status h source sink is =
       MemoryWanted h.0 h.3 (record { first = h.1; rest = h.2; parts = h.4; replies = h.5.replies; missing = h.5.missing; one = h.5.one; transcript = h.5.run; output = h.5.output }) is
   stopped_as stop.TooLong left left' sources sources' sinks sinks' taken old new status h source sink is =

@@ -2,42 +2,23 @@
 use Rattle.std.proofs.Common.{◌≡◌, ℕ, ◌<◌, List, [], ◌∷◌, ◌++◌, length, refl, sym, ◌∙◌, ap, append_assoc, arith, Bool, true, false, not, ◌&&◌, ◌||◌, map, Bor}
 use Rattle.std.specs.Prelude.{if◌then◌else◌, ◌==◌}
 use Rattle.std.proofs.lemmas.Bool.Decides.{nat_tests}
-use Rattle.std.specs.List.{slice_split, list_any}
-use Rattle.std.specs.Str.Lines.{lines, lines_of_parts, strip_carriage_return}
-use Rattle.std.proofs.lemmas.List.Splits.{slice_split_at, length-slice_split}
+use Rattle.std.specs.List.{filter, list_any}
+use Rattle.text_lines.specs.Lines.{Line, ended_line, HasNoNewline, text_of}
+use Rattle.text_lines.specs.Words.{words_of}
+use Rattle.text_lines.proofs.LineLemmas.{lines-ended, lines-nothing, lines-last}
 use Rattle.script_session.specs.Request.{Command, Request, Overlong, Words}
-use Rattle.script_session.specs.Script.{ScriptLine, ended_line, last_line, HasNoNewline, is_newline, is_comment, is_silent, words_of, is_long_line, text_requests, is_end_text, all_lines, ended_lines, whole_lines, script_lines, requests, line_requests, is_end, script_requests, whole_requests, has_ending}
+use Rattle.script_session.specs.Script.{is_comment, is_silent, is_long_line, text_requests, is_end_text, whole_lines, requests, line_requests, is_end, script_requests, whole_requests, has_ending}
 use Rattle.script_session.specs.Session.{Reads, Finishes, Begins}
-
-all-more : (part : List ℕ) (parts : List (List ℕ)) → 0 < length parts → all_lines (part ∷ parts) ≡ ended_line part ∷ all_lines parts
-all-more part [] h = absurd (omega arith)
-all-more part (next ∷ more) h = refl
-
-ended-more : (part : List ℕ) (parts : List (List ℕ)) → 0 < length parts → ended_lines (part ∷ parts) ≡ ended_line part ∷ ended_lines parts
-ended-more part [] h = absurd (omega arith)
-ended-more part (next ∷ more) h = refl
-
--- the texts of the lines are the lines of the script as a text
-texts_of_parts : (parts : List (List ℕ)) → map (λ (line : ScriptLine). line.text) (all_lines parts) ≡ lines_of_parts parts
-texts_of_parts [] = refl
-texts_of_parts (part ∷ []) = elim (length part == 0) as (λ b. map (λ (line : ScriptLine). line.text) (if b then [] else last_line part ∷ []) ≡ (if b then [] else part ∷ [])) [ true ↦ refl | false ↦ refl ]
-texts_of_parts (part ∷ next ∷ more) = ap (λ texts. strip_carriage_return part ∷ texts) (texts_of_parts (next ∷ more))
-
-pub text-script_lines : (script : List ℕ) → map (λ (line : ScriptLine). line.text) (script_lines script) ≡ lines script
-unfolding script_lines
-text-script_lines script = texts_of_parts (slice_split is_newline script)
-
-has_part : (bytes : List ℕ) → 0 < length (slice_split is_newline bytes)
-has_part bytes = omega (arith, length-slice_split is_newline bytes)
-
--- a script that begins with a whole line
-script_lines-line : (line rest : List ℕ) → HasNoNewline line → script_lines (line ++ 10 ∷ rest) ≡ ended_line line ∷ script_lines rest
-unfolding script_lines
-script_lines-line line rest none = ap all_lines (slice_split_at is_newline line 10 rest none refl) ∙ all-more line (slice_split is_newline rest) (has_part rest)
 
 whole_lines-line : (line rest : List ℕ) → HasNoNewline line → whole_lines (line ++ 10 ∷ rest) ≡ ended_line line ∷ whole_lines rest
 unfolding whole_lines
-whole_lines-line line rest none = ap ended_lines (slice_split_at is_newline line 10 rest none refl) ∙ ended-more line (slice_split is_newline rest) (has_part rest)
+whole_lines-line line rest none = ap (filter (λ (line : Line). line.ended)) (lines-ended line rest none)
+
+-- a last line is no whole one
+pub whole_lines-none : (line : List ℕ) → HasNoNewline line → whole_lines line ≡ []
+unfolding whole_lines
+whole_lines-none [] none = ap (filter (λ (line : Line). line.ended)) lines-nothing
+whole_lines-none (byte ∷ line) none = ap (filter (λ (line : Line). line.ended)) (lines-last (byte ∷ line) none refl)
 
 goes_on : (b : Bool) (x y : List Request) → b ≡ false → (if b then x else y) ≡ y
 goes_on true x y h = absurd (cc)
@@ -83,16 +64,16 @@ pub spoken-requests : (line : List ℕ) (words : List (List ℕ)) → is_silent 
 spoken-requests line words speaks same = ap (λ (b : Bool). if b then [] else Words (words_of line) ∷ []) speaks ∙ ap (λ (ws : List (List ℕ)). Words ws ∷ []) (sym same)
 
 -- a line within its limit asks what its text does
-pub short-requests : (line : ScriptLine) → is_long_line line ≡ false → line_requests line ≡ text_requests line.text
-short-requests line h = ap (λ (b : Bool). if b then Overlong ∷ [] else text_requests line.text) h
+pub short-requests : (line : Line) → is_long_line line ≡ false → line_requests line ≡ text_requests (text_of line)
+short-requests line h = ap (λ (b : Bool). if b then Overlong ∷ [] else text_requests (text_of line)) h
 
-pub long-requests : (line : ScriptLine) → is_long_line line ≡ true → line_requests line ≡ Overlong ∷ []
-long-requests line h = ap (λ (b : Bool). if b then Overlong ∷ [] else text_requests line.text) h
+pub long-requests : (line : Line) → is_long_line line ≡ true → line_requests line ≡ Overlong ∷ []
+long-requests line h = ap (λ (b : Bool). if b then Overlong ∷ [] else text_requests (text_of line)) h
 
 module _ (ends : Command → Bool) where
   script-line : (line rest : List ℕ) → HasNoNewline line → script_requests ends (line ++ 10 ∷ rest) ≡ line_requests (ended_line line) ++ (if is_end ends (ended_line line) then [] else script_requests ends rest)
   unfolding script_requests requests
-  script-line line rest none = ap (requests ends) (script_lines-line line rest none)
+  script-line line rest none = ap (requests ends) (lines-ended line rest none)
 
   whole-line : (line rest : List ℕ) → HasNoNewline line → whole_requests ends (line ++ 10 ∷ rest) ≡ line_requests (ended_line line) ++ (if is_end ends (ended_line line) then [] else whole_requests ends rest)
   unfolding whole_requests requests
@@ -161,8 +142,8 @@ module _ (ends : Command → Bool) where
   pub spoken-end : (text : List ℕ) (words : List (List ℕ)) → is_silent text ≡ false → words ≡ words_of text → is_end_text ends text ≡ ends words
   spoken-end text words speaks same = ap (λ b. not b && ends (words_of text)) speaks ∙ ap ends (sym same)
 
-  pub short-end : (line : ScriptLine) → is_long_line line ≡ false → is_end ends line ≡ is_end_text ends line.text
-  short-end line h = ap (λ b. not b && is_end_text ends line.text) h
+  pub short-end : (line : Line) → is_long_line line ≡ false → is_end ends line ≡ is_end_text ends (text_of line)
+  short-end line h = ap (λ b. not b && is_end_text ends (text_of line)) h
 
-  pub long-end : (line : ScriptLine) → is_long_line line ≡ true → is_end ends line ≡ false
-  long-end line h = ap (λ b. not b && is_end_text ends line.text) h
+  pub long-end : (line : Line) → is_long_line line ≡ true → is_end ends line ≡ false
+  long-end line h = ap (λ b. not b && is_end_text ends (text_of line)) h

@@ -35,6 +35,10 @@ any_both p (r ∷ rs) vs = or_assoc (p r) (list_any p rs) (list_any p vs) ∙ ap
 any-append : (p : List ℕ → Bool) (b : Bool) (rs vs : List (List ℕ)) → (b || list_any p rs) || list_any p vs ≡ b || list_any p (rs ++ vs)
 any-append p b rs vs = or_assoc b (list_any p rs) (list_any p vs) ∙ ap (λ a. b || a) (any_both p rs vs)
 
+-- replies, more of them, and then bytes
+whole_behind : (rs vs : List (List ℕ)) (bytes : List ℕ) → concat (rs ++ vs) ++ bytes ≡ concat rs ++ (concat vs ++ bytes)
+whole_behind rs vs bytes = ap (λ (front : List ℕ). front ++ bytes) (concat-append rs vs) ∙ append_assoc (concat rs) (concat vs) bytes
+
 module _ {M : Type 0} (step : Stand M → Request → List ℕ → Stand M → Type 0) where
   pub Serves-none : (old : Moment M) → Serves step old [] old
   Serves-none old = record { replies = []; run = refl; output = Appends-none old.written; wanted = or_false old.wanted; refused = or_false old.refused }
@@ -51,11 +55,13 @@ module _ {M : Type 0} (step : Stand M → Request → List ℕ → Stand M → T
   pub Serves-Breaks : (a b c : Moment M) (qs us : List Request) → Serves step a qs b → Breaks step b us c → Breaks step a (qs ++ us) c
   Serves-Breaks a b c qs us h k = record {
     replies = h.replies ++ k.replies;
-    run = Transcript-append step a.state b.state c.state qs us h.replies k.replies h.run k.run;
-    bytes = concat h.replies ++ k.bytes;
-    output = Appends-append a.written b.written c.written (concat h.replies) k.bytes h.output k.output;
+    broken = k.broken;
+    run = subst (λ rs. Transcript step a.state (qs ++ us) rs c.state) (sym (append_assoc h.replies k.replies (k.broken ∷ []))) (Transcript-append step a.state b.state c.state qs us h.replies (k.replies ++ k.broken ∷ []) h.run k.run);
+    bytes = k.bytes;
     unwritten = k.unwritten;
-    front = append_assoc (concat h.replies) k.bytes k.unwritten ∙ ap (λ bytes. concat h.replies ++ bytes) k.front ∙ sym (concat-append h.replies k.replies);
+    front = k.front;
+    some = k.some;
+    output = subst (λ bytes. Appends a.written c.written bytes) (sym (whole_behind h.replies k.replies k.bytes)) (Appends-append a.written b.written c.written (concat h.replies) (concat k.replies ++ k.bytes) h.output k.output);
   }
 
   pub Serves-Halts : (a b c : Moment M) (qs us : List Request) → Serves step a qs b → Halts step b us c → Halts step a (qs ++ us) c
@@ -77,15 +83,17 @@ module _ {M : Type 0} (step : Stand M → Request → List ℕ → Stand M → T
     refused = refused ∙ ap (λ b. old.refused || b) (or_false (is_error reply));
   }
 
-  -- one whose reply was written in part
+  -- one whose reply was broken off
   pub Breaks-one : (old new : Moment M) (request : Request) (reply : List ℕ) → step old.state request reply new.state → WritesFront old.written new.written reply → Breaks step old (request ∷ []) new
   Breaks-one old new request reply answered sent = record {
-    replies = reply ∷ [];
+    replies = [];
+    broken = reply;
     run = (new.state, answered, refl);
     bytes = sent.0;
-    output = sent.3;
     unwritten = sent.1;
-    front = sent.2 ∙ sym (append-nil reply);
+    front = sent.2;
+    some = sent.4;
+    output = sent.3;
   }
 
   -- one whose reply couldn't be made whole

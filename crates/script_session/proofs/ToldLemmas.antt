@@ -9,7 +9,8 @@ use Rattle.std.proofs.lemmas.List.Elements.{All-nil, All-append, All-cons}
 use Rattle.std.proofs.Math.Seq.{take-append-add}
 use Rattle.script_session.specs.Request.{Command, Request}
 use Rattle.script_session.specs.Reply.{final_status, status_of, wants_memory, is_error}
-use Rattle.script_session.specs.Script.{HasNoNewline, is_newline, ended_line, line_requests, is_end, script_requests, whole_requests, has_ending, IsWithinLimit, IsOverlong}
+use Rattle.text_lines.specs.Lines.{HasNoNewline, is_newline, ended_line}
+use Rattle.script_session.specs.Script.{line_requests, is_end, script_requests, whole_requests, has_ending, IsWithinLimit, IsOverlong}
 use Rattle.script_session.specs.Session.{Reads, Finishes}
 use Rattle.script_session.specs.Run.{Outside, Answers, IsCutOff, IsCutShort, IsAll, IsAnswerable, EndsAs, Finished, SourceFailed, SinkFailed, MemoryWanted, TooLong}
 use Rattle.script_session.specs.Stand.{Transcript}
@@ -205,7 +206,7 @@ module _ {S : Type 0} (step : S → Request → List ℕ → S → Type 0) (ends
       record {
         transcript = λ below. absurd (omega arith);
         within = λ below. absurd (omega arith);
-        until_sink_failed = λ _. record { first = cut.first; rest = found.0; parts = found.1; replies = cut.replies; transcript = cut.transcript; bytes = cut.bytes; unwritten = cut.unwritten; front = cut.front; output = cut.output };
+        until_sink_failed = λ _. record { first = cut.first; rest = found.0; parts = found.1; replies = cut.replies; broken = cut.broken; transcript = cut.transcript; bytes = cut.bytes; unwritten = cut.unwritten; front = cut.front; some = cut.some; output = cut.output };
         until_memory_wanted = λ five. absurd (omega arith);
         too_long = λ six. absurd (omega arith);
         until_too_long = λ six. absurd (omega arith);

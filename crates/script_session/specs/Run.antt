@@ -1,6 +1,6 @@
 -- What a run of a script is: one definition for every status, over the bytes that were taken from the source, whether the
 -- source tells them or not.
-use Rattle.std.specs.Prelude.{◌≡◌, ℕ, ◌≤◌, ◌⊎◌, Bool, true, false, List, ◌++◌, length, take, Option}
+use Rattle.std.specs.Prelude.{◌≡◌, ℕ, ◌<◌, ◌≤◌, ◌⊎◌, Bool, true, false, List, [], ◌∷◌, ◌++◌, length, take, Option}
 use Rattle.std.specs.List.{concat}
 use Rattle.std.specs.Io.KnownBytes.{Appends, Consumes, IsAtEnd}
 use Rattle.sym_io.specs.Faults.{Rose}
@@ -28,17 +28,20 @@ pub record Answers {S : Type 0} (step : S → Request → List ℕ → S → Typ
   pub transcript : Transcript step old requests replies new
   pub output : Appends before.written after.written (concat replies)
 
--- first requests were answered, and a front of their replies' bytes was written
+-- First requests were answered: their replies were written whole, but of the last one, which was broken off, a front and not
+-- all. So nothing is asked of the machine behind a reply that was broken off.
 pub record IsCutOff {S : Type 0} (step : S → Request → List ℕ → S → Type 0) (requests : List Request) (old : S) (before : Outside) (new : S) (after : Outside) : Type 0 where
   pub first : List Request
   pub rest : List Request
   pub parts : requests ≡ first ++ rest
   pub replies : List (List ℕ)
-  pub transcript : Transcript step old first replies new
+  pub broken : List ℕ
+  pub transcript : Transcript step old first (replies ++ broken ∷ []) new
   pub bytes : List ℕ
   pub unwritten : List ℕ
-  pub front : bytes ++ unwritten ≡ concat replies
-  pub output : Appends before.written after.written bytes
+  pub front : bytes ++ unwritten ≡ broken
+  pub some : 0 < length unwritten
+  pub output : Appends before.written after.written (concat replies ++ bytes)
 
 -- first requests were answered, and their replies were written whole, but for the last one maybe
 pub record IsCutShort {S : Type 0} (step : S → Request → List ℕ → S → Type 0) (requests : List Request) (old : S) (before : Outside) (new : S) (after : Outside) : Type 0 where

@@ -1,5 +1,5 @@
 -- What a session has done between two moments: the parts of which the clauses of a run are made.
-use Rattle.std.specs.Prelude.{◌≡◌, ℕ, ◌≤◌, Bool, true, false, ◌||◌, List, [], ◌∷◌, ◌++◌, length, take, if◌then◌else◌, Option, Result, Ok, Err}
+use Rattle.std.specs.Prelude.{◌≡◌, ℕ, ◌<◌, ◌≤◌, Bool, true, false, ◌||◌, List, [], ◌∷◌, ◌++◌, length, take, if◌then◌else◌, Option, Result, Ok, Err}
 use Rattle.std.specs.List.{list_any, concat}
 use Rattle.std.specs.Io.KnownBytes.{Appends, Consumes}
 use Rattle.sym_io.specs.Files.{Files}
@@ -10,7 +10,8 @@ use Rattle.script_session.specs.declared.session.Flow.TheVariants.{Open, Ended}
 use Rattle.script_session.specs.declared.session.Stop.{Stop}
 use Rattle.script_session.specs.declared.session.Stop.TheVariants as stop
 use Rattle.script_session.specs.Request.{Command, Request}
-use Rattle.script_session.specs.Script.{ScriptLine, HasNoNewline, is_end, line_requests, script_requests, whole_requests, has_ending, IsWithinLimit, IsOverlong}
+use Rattle.text_lines.specs.Lines.{Line, HasNoNewline}
+use Rattle.script_session.specs.Script.{is_end, line_requests, script_requests, whole_requests, has_ending, IsWithinLimit, IsOverlong}
 use Rattle.script_session.specs.Reply.{wants_memory, is_error}
 use Rattle.script_session.specs.Run.{IsLastRead, IsAll, IsAnswerable}
 use Rattle.script_session.specs.Stand.{Stand, stand, Transcript}
@@ -34,14 +35,16 @@ pub record Serves {M : Type 0} (step : Stand M → Request → List ℕ → Stan
   pub wanted : new.wanted ≡ (old.wanted || list_any wants_memory replies)
   pub refused : new.refused ≡ (old.refused || list_any is_error replies)
 
--- the requests were answered, and a front of the replies' bytes was written
+-- the requests were answered, and the replies were written whole, but of the last one a front, and not all
 pub record Breaks {M : Type 0} (step : Stand M → Request → List ℕ → Stand M → Type 0) (old : Moment M) (requests : List Request) (new : Moment M) : Type 0 where
   pub replies : List (List ℕ)
-  pub run : Transcript step old.state requests replies new.state
+  pub broken : List ℕ
+  pub run : Transcript step old.state requests (replies ++ broken ∷ []) new.state
   pub bytes : List ℕ
-  pub output : Appends old.written new.written bytes
   pub unwritten : List ℕ
-  pub front : bytes ++ unwritten ≡ concat replies
+  pub front : bytes ++ unwritten ≡ broken
+  pub some : 0 < length unwritten
+  pub output : Appends old.written new.written (concat replies ++ bytes)
 
 -- the requests were answered, and the replies were written but for the last one maybe
 pub record Halts {M : Type 0} (step : Stand M → Request → List ℕ → Stand M → Type 0) (old : Moment M) (requests : List Request) (new : Moment M) : Type 0 where
@@ -85,7 +88,7 @@ ServesAll step (Err stop.Source) old requests last new = ⊥
 ServesAll step (Err stop.TooLong) old requests last new = ⊥
 
 -- what the answer to one line says
-abbrev pub ServesLine : {M : Type 0} → (Command → Bool) → (Stand M → Request → List ℕ → Stand M → Type 0) → Result Flow Stop → Moment M → ScriptLine → Moment M → Type 0
+abbrev pub ServesLine : {M : Type 0} → (Command → Bool) → (Stand M → Request → List ℕ → Stand M → Type 0) → Result Flow Stop → Moment M → Line → Moment M → Type 0
 ServesLine ends step result old line new = ServesAll step result old (line_requests line) (is_end ends line) new
 
 -- what the answer to a piece of a script says, where pending is what is kept of its last line

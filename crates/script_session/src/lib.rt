@@ -16,8 +16,8 @@
 //! Contract in one sentence: `run_script` writes the transcript of the script's requests, up to the first that ends it,
 //! and its status tells why it stopped earlier, if it did, and whether all is well.
 //!
-//! Nothing here depends on what the commands are, so this layer stands as it is when one is added. Below stands `sym_io`:
-//! sources, sinks and stores. Above stands the shell, whose machine is the solver.
+//! Nothing here depends on what the commands are, so this layer stands as it is when one is added. Below stand `sym_io`:
+//! sources, sinks and stores; and `text_lines`: lines and words. Above stands the shell, whose machine is the solver.
 #![tactic(auto)]
 
 mod machine;
@@ -26,7 +26,6 @@ mod reading;
 mod reply;
 mod run;
 mod session;
-mod words;
 
 pub use machine::Machine;
 pub use output::write_all;

@@ -6,7 +6,7 @@ ghost use Rattle.script_session.specs.Output.{WritesFront};
 
 use sym_io::{Failed, Sink};
 
-/// Writes all of the bytes. A failure leaves a front of them written.
+/// Writes all of the bytes. A failure leaves a front of them written, and not all.
 pub fn write_all<W: Sink>(out: &mut W, bytes: &[u8]) -> Result<(), Failed>
     ensures ok { OnOk result (Appends (W.written out.old) (W.written out.new) bytes.now) }
     ensures err { OnErr result (WritesFront (W.written out.old) (W.written out.new) bytes.now) }

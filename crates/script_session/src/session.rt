@@ -3,16 +3,27 @@ ghost use Rattle.std.specs.Prelude.{◌≡◌, ◌<◌, ◌≤◌, ◌++◌, ◌
 ghost use Rattle.script_session.specs.Output.{SinkCause};
 ghost use Rattle.script_session.specs.Reply.{wants_memory, is_error, final_status};
 ghost use Rattle.script_session.specs.Request.{RequestStep, Words};
-ghost use Rattle.script_session.specs.Script.{HasNoNewline, text_requests, is_end_text};
+ghost use Rattle.text_lines.specs.Lines.{HasNoNewline};
+ghost use Rattle.script_session.specs.Script.{is_comment, text_requests, is_end_text};
 ghost use Rattle.script_session.specs.declared.session.Stop.TheVariants.{Memory, Sink as SinkStop};
 
 use crate::machine::Machine;
 use crate::output::write_all;
 use crate::reading::LINE_LIMIT;
 use crate::reply::{is_error_reply, is_memory_reply};
-use crate::words::{cut_line, is_comment_line, without_carriage_return, words};
 use std::alloc::{AllocError, Global};
 use sym_io::{Failed, Sink, Store};
+use text_lines::{cut_line, line_text, words};
+
+/// A comment's first byte is `#`.
+fn is_comment_line(line: &[u8]) -> bool
+    ensures { result ≡ is_comment line.now }
+{
+    match line {
+        [first, ..] => *first == b'#',
+        [] => false,
+    }
+}
 
 /// Whether a script goes on after a line.
 #[derive(Clone, Copy, Debug, PartialEq, Eq)]
@@ -149,28 +160,28 @@ impl Session {
         }
     }
 
-    /// Answers one line, of which `raw` is all that stands before its newline, and `text` is that without a carriage
-    /// return before the newline. The reply to a line that is too long needs no memory.
+    /// Answers the line of these bytes, `ended` by a newline or not. The reply to a line that is too long needs no memory.
     fn serve_line<M: Machine, W: Sink, S: Store>(
         &mut self,
         machine: &mut M,
         out: &mut W,
         store: &mut S,
-        raw: &[u8],
-        text: &[u8],
+        bytes: &[u8],
+        ended: bool,
     ) -> Result<Flow, Stop>
         ensures served { ServesLine M.ends (RequestStep M.step) result (moment_of self.old machine.old (W.written out.old) (S.files store.old) (S.faults store.old))
-            (record { raw = raw.now; text = text.now }) (moment_of self.new machine.new (W.written out.new) (S.files store.new) (S.faults store.new)) }
+            (record { bytes = bytes.now; ended = ended }) (moment_of self.new machine.new (W.written out.new) (S.files store.new) (S.faults store.new)) }
         ensures cause { SinkCause result (W.faults out.old) (W.faults out.new) }
         ensures later { W.faults out.old ≤ W.faults out.new }
         ensures store_later { S.faults store.old ≤ S.faults store.new }
     {
-        let is_long = raw.len() > LINE_LIMIT;
+        let is_long = bytes.len() > LINE_LIMIT;
         if is_long {
             self.refused = true;
             write_all(out, b"error 01 line too long\n")?;
             return Ok(Flow::Open);
         }
+        let text = line_text(bytes, ended);
         self.serve_text(machine, out, store, text)
     }
 
@@ -193,8 +204,7 @@ impl Session {
         let mut rest = piece;
         while let Some((line, more)) = cut_line(rest) {
             pending.extend_from_slice(line)?;
-            let text = without_carriage_return(pending);
-            match self.serve_line(machine, out, store, pending, text)? {
+            match self.serve_line(machine, out, store, pending, true)? {
                 Flow::Ended => return Ok(Flow::Ended),
                 Flow::Open => pending.clear(),
             }
@@ -222,7 +232,7 @@ impl Session {
         if pending.is_empty() {
             return Ok(());
         }
-        self.serve_line(machine, out, store, pending, pending)?;
+        self.serve_line(machine, out, store, pending, false)?;
         Ok(())
     }
 }

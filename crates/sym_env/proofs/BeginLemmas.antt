@@ -1,6 +1,6 @@
 -- The lists at which relaxations can begin, and the ray beside which they are worked.
 use Rattle.std.proofs.Common.{◌≡◌, ◌⊎◌, ℕ, ◌<◌, [], ◌∷◌, sym, ap, subst, ◌∙◌, pos, inl, inr}
-use Rattle.std.specs.Prelude.{length, None, refl}
+use Rattle.std.specs.Prelude.{length, true, None, Ok, refl}
 use Rattle.rational.specs.Rational.{ℚ, int, ◌*ℚ◌, ◌<ℚ◌, neg_ℚ}
 use Rattle.rational.proofs.RationalOrder.{<ℚ_irrefl}
 use Rattle.rational.proofs.RationalRing.{ring, reads_ℚ}
@@ -9,7 +9,7 @@ use Rattle.checked_sum.proofs.SumLaws.{sum_below-zero, sum_below-same}
 use Rattle.lp_model.specs.Program.{Program, Point, coordinate, cost, in_least_form}
 use Rattle.lp_model.specs.Lawful.{IsLawful}
 use Rattle.lp_model.specs.Laws.{SamePointsLaw}
-use Rattle.lp_model.specs.Rays.{IsRay, direction_cost, without_costs}
+use Rattle.lp_model.specs.Rays.{IsRay, IsRayJudged, direction_cost, without_costs}
 use Rattle.lp_model.specs.Regions.{Path}
 use Rattle.lp_model.specs.declared.types.Basis.{Basis}
 use Rattle.lp_model.specs.declared.answers.StopWhy.{StopWhy}
@@ -32,6 +32,9 @@ dual_basis M pivots first h = h.1.1.1.1.1.1.1.1
 
 pub is_ray : (M : Program) (pivots : ℕ) (d : Point) → IsRayAnswer M pivots (ray.Ray d) → IsRay M d
 is_ray M pivots d h = h.1.1.1.1.1.1.1.1.0
+
+pub judged_ray : (M : Program) (pivots : ℕ) (d : Point) → IsRayAnswer M pivots (ray.Ray d) → IsRayJudged M d (Ok true)
+judged_ray M pivots d h = h.1.1.1.1.1.1.1.1
 
 pub first-own : FirstLaw → FirstInLaw → (S : PlainSearch) (pivots : ℕ) (first : Basis) → IsLawful S.model → BeginsWith S.model pivots Own first → IsFirstFor Own S first
 first-own f g S pivots first lawful (inl slack) = λ path names. g S.model lawful path names first slack.lawful

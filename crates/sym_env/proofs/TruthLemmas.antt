@@ -1,9 +1,12 @@
 -- What a solve answers is true of its model.
-use Rattle.std.proofs.Common.{◌≡◌, ◌⊎◌, ℕ, zero, suc, ◌+◌, ◌<◌, ◌≤◌, ◌^◌, [], sym, ap, subst, refl, ◌∙◌, inl, inr, arith, Option, Some, None, Ok}
+use Rattle.std.proofs.Common.{◌≡◌, ◌⊎◌, ℕ, zero, suc, ◌+◌, ◌<◌, ◌≤◌, ◌^◌, List, [], ◌∷◌, ◌++◌, length, map, take, drop, sym, ap, subst, refl, ◌∙◌, inl, inr, arith, Option, Some, None, Ok}
+use Rattle.std.specs.Prelude.{true}
+use Rattle.std.specs.List.{remove}
+use Rattle.std.proofs.lemmas.List.{length-map, length-take, length-drop, length-append}
 use Rattle.rational.specs.Rational.{ℚ}
-use Rattle.lp_model.specs.Program.{Program, Point, IsFeasible, IsOptimum, IsEmpty, value}
+use Rattle.lp_model.specs.Program.{Program, Point, IsFeasible, IsOptimum, IsEmpty, value, least_value}
 use Rattle.lp_model.specs.Lawful.{IsLawful}
-use Rattle.lp_model.specs.Rays.{without_costs}
+use Rattle.lp_model.specs.Rays.{without_costs, IsRayJudged}
 use Rattle.lp_model.specs.declared.types.Basis.{Basis}
 use Rattle.lp_model.specs.declared.answers.StopWhy.{StopWhy}
 use Rattle.lp_model.specs.declared.answers.StopWhy.TheVariants as stop
@@ -12,23 +15,26 @@ use Rattle.lp_model.specs.declared.answers.Answer.TheVariants.{Optimal, Infeasib
 use Rattle.branch_tree.specs.declared.node.Job.{Job}
 use Rattle.tree_edit.specs.Calls.{IsFresh}
 use Rattle.tree_edit.specs.Laws.{HasNoOpenLeaf, EmptyLaw}
+use Rattle.tree_edit.specs.Placing.{IsWorst, AddsPoint}
 use Rattle.tree_edit.specs.Sound.{PlainSearch, IsSound}
 use Rattle.search_counting.specs.Laws.{CapLaw, LeftLaw, TooFewNodesLaw}
 use Rattle.search_counting.specs.Work.{cap_of, work_of}
 use Rattle.tree_search.specs.Bounds.{IsBoundOf}
 use Rattle.tree_search.specs.Causes.{HasCause}
 use Rattle.tree_search.specs.Laws.{StopBoundLaw}
-use Rattle.tree_search.specs.Search.{IsAfter, StopsFor, Ends, IsLeft, IsValueFound, StopsWith, IsAnswerTo, IsStoppedAnswer}
+use Rattle.tree_search.specs.Search.{IsAfter, StopsFor, FindsPoint, Ends, IsLeft, IsValueFound, StopsWith, IsAnswerTo, IsStoppedAnswer}
 use Rattle.tree_search.specs.Steps.{HasOpenLeaf, IsNextJob, Goes, StopsAtNext, StepAtNext, ValueAtNext}
 use Rattle.tree_search.specs.declared.searching.Ended.{Ended}
 use Rattle.tree_search.specs.declared.searching.Ended.TheVariants as ended
 use Rattle.tree_search.specs.declared.searching.Ways.{Ways}
 use Rattle.sym_env.specs.Beginnings.{IsRayStop, StopsBefore}
-use Rattle.sym_env.specs.Env.{PlainEnv, IsHeld}
-use Rattle.sym_env.specs.Solves.{Course, NothingOpen, StopsFirst, Searches, WantsBefore, WantsWithin, Solved, Solves, held_by, IsOldest, SolvesEnv}
+use Rattle.sym_env.specs.Env.{PlainEnv, HasPointAndRay, IsHeld}
+use Rattle.sym_env.specs.Solves.{Course, NothingOpen, StopsFirst, Searches, WantsBefore, WantsWithin, Solved, Solves, SaysUnbounded, HasRayFor, held_by, IsOldest, SolvesEnv}
 use Rattle.sym_env.specs.Truth.{IsCount, IsBound, IsFoundValue, IsEarly, IsTrueAnswer}
 use Rattle.sym_env.specs.declared.held.Held.{Held}
+use Rattle.sym_env.specs.declared.held.Held.TheVariants.{Unbounded as Beside}
 use Rattle.sym_env.specs.declared.limits.Limits.{Limits}
+use Rattle.sym_env.proofs.BeginLemmas.{judged_ray}
 
 -- the laws of searches that are used
 pub record Laws : Type 0 where
@@ -167,43 +173,114 @@ solves-oldest M l old answer S (inr wants) = subst (IsOldest S) (sym wants.wants
 
 -- ---- what is held
 
-answered : (S : PlainSearch) (e : Ended) (n : ℕ) (answer : Answer) → IsLeft S e → IsAnswerTo S e n answer → IsHeld (Some S) (held_by answer)
-answered S ended.Finished n (Optimal v x m) left told = left
-answered S ended.Finished n (Infeasible m) left told = left
-answered S ended.Finished n (Unbounded m) left told = tt
-answered S ended.Finished n (Stopped why m bound best) left told = tt
-answered S ended.Finished n Memory left told = tt
-answered S ended.Unbounded n (Optimal v x m) left told = absurd told
-answered S ended.Unbounded n (Infeasible m) left told = absurd told
-answered S ended.Unbounded n (Unbounded m) left told = tt
-answered S ended.Unbounded n (Stopped why m bound best) left told = tt
-answered S ended.Unbounded n Memory left told = tt
-answered S (ended.Stopped why) n (Optimal v x m) left told = absurd told
-answered S (ended.Stopped why) n (Infeasible m) left told = absurd told
-answered S (ended.Stopped why) n (Unbounded m) left told = tt
-answered S (ended.Stopped why) n (Stopped reason m bound best) left told = tt
-answered S (ended.Stopped why) n Memory left told = tt
+-- where it is held that the model is unbounded, it keeps a point beside the ray
+pub keeps-beside : (search : Option PlainSearch) (held : Held) (S : PlainSearch) (d : Point) → search ≡ Some S → held ≡ Beside d → IsHeld search held → HasPointAndRay S d
+keeps-beside search held S d there is kept = subst (λ T. T) (λ i. IsHeld (there i) (is i)) kept
 
-stop-held : (S : PlainSearch) (why : StopWhy) (answer : Answer) → IsStoppedAnswer S why 0 answer → IsHeld (Some S) (held_by answer)
-stop-held S why (Optimal v x m) told = absurd told
-stop-held S why (Infeasible m) told = absurd told
-stop-held S why (Unbounded m) told = tt
-stop-held S why (Stopped reason m bound best) told = tt
-stop-held S why Memory told = tt
+-- with one more there are some
+some-more : {A : Type 0} (xs : List A) (x : A) → 0 < length (xs ++ x ∷ [])
+some-more xs x = let l = length-append xs (x ∷ []) in omega (arith, l)
 
-course-held : (M : Program) (l : Limits) (fresh : PlainSearch) (answer : Answer) (S : PlainSearch) → Course M l fresh answer S → IsHeld (Some S) (held_by answer)
-course-held M l fresh answer S (NothingOpen none kept is) = subst (λ a. IsHeld (Some S) (held_by a)) (sym is) (subst HasNoOpenLeaf (sym kept) none)
-course-held M l fresh answer S (StopsFirst some why s kept told) = stop-held S why answer told
-course-held M l fresh answer S (Searches some ways first b e finds told) = answered S e.ended e.placed answer finds.left told
-course-held M l fresh answer S (WantsBefore kept is) = subst (λ a. IsHeld (Some S) (held_by a)) (sym is) tt
-course-held M l fresh answer S (WantsWithin ways first b gives is) = subst (λ a. IsHeld (Some S) (held_by a)) (sym is) tt
+-- and without the worst of more than 100 too
+left-some : (M : Program) (all : List Point) (k : ℕ) → IsWorst (map (least_value M 1) all) (Some k) → 0 < length (remove all k)
+left-some M all k worst =
+    let size : length (map (least_value M 1) all) ≡ length all = length-map all (least_value M 1) in
+    let many : 100 < length (map (least_value M 1) all) = worst.0 in
+    let within : k < length (map (least_value M 1) all) = worst.1.within in
+    omega (arith, length-append (take k all) (drop (suc k) all), length-take k all, length-drop (suc k) all, size, many, within)
 
-pub solves-held : (M : Program) (l : Limits) (old : PlainSearch) (answer : Answer) (S : PlainSearch) → Solves M l old answer S → IsHeld (Some S) (held_by answer)
-solves-held M l old answer S (inl s) = course-held M l s.fresh answer S s.course
-solves-held M l old answer S (inr wants) = subst (λ a. IsHeld (Some S) (held_by a)) (sym wants.wants) tt
+adds-some : (M : Program) (points : List Point) (x : Point) (new : List Point) → AddsPoint M points x new → 0 < length new
+adds-some M points x new (None, (worst, is)) = subst (λ (l : List Point). 0 < length l) (sym is) (some-more points x)
+adds-some M points x new (Some k, (worst, is)) = subst (λ (l : List Point). 0 < length l) (sym is) (left-some M (points ++ x ∷ []) k worst)
 
-pub solves-env : (l : Limits) (old : PlainEnv) (S T : PlainSearch) (answer : Answer) (held : Held) → old.search ≡ Some S → Solves S.model l S answer T → held ≡ held_by answer
+-- the search that found a point beside a ray keeps one
+points-some : (ways : Ways) (first : Basis) (nodes pivots n : ℕ) (old new : PlainSearch) → FindsPoint ways first nodes pivots n old new → 0 < length new.points
+points-some ways first nodes pivots n old new finds =
+    let here = finds.after.here in
+    let kept = here.keeps.takes.result_is.2 in
+    let mid = kept.0 in
+    let adds : 0 < length mid.points = adds-some finds.after.mid.model finds.after.mid.points here.point mid.points kept.1.0.points in
+    subst (λ (S : PlainSearch). 0 < length S.points) (sym kept.1.1.1.1) adds
+
+abbrev IsFinishedKind : Answer → Type 0
+IsFinishedKind (Optimal v x n) = Unit {0}
+IsFinishedKind (Infeasible n) = Unit {0}
+IsFinishedKind (Unbounded n) = ⊥
+IsFinishedKind (Stopped why n bound best) = ⊥
+IsFinishedKind Memory = ⊥
+
+finished-left : (S : PlainSearch) (e : Ended) (n : ℕ) (answer : Answer) → IsLeft S e → IsAnswerTo S e n answer → IsFinishedKind answer → HasNoOpenLeaf S
+finished-left S ended.Finished n answer left told kind = left
+finished-left S ended.Unbounded n (Optimal v x m) left told kind = absurd told
+finished-left S ended.Unbounded n (Infeasible m) left told kind = absurd told
+finished-left S ended.Unbounded n (Unbounded m) left told kind = absurd kind
+finished-left S ended.Unbounded n (Stopped why m bound best) left told kind = absurd kind
+finished-left S ended.Unbounded n Memory left told kind = absurd kind
+finished-left S (ended.Stopped why) n (Optimal v x m) left told kind = absurd told
+finished-left S (ended.Stopped why) n (Infeasible m) left told kind = absurd told
+finished-left S (ended.Stopped why) n (Unbounded m) left told kind = absurd kind
+finished-left S (ended.Stopped why) n (Stopped reason m bound best) left told kind = absurd kind
+finished-left S (ended.Stopped why) n Memory left told kind = absurd kind
+
+stop-kind : (S : PlainSearch) (why : StopWhy) (answer : Answer) → IsStoppedAnswer S why 0 answer → IsFinishedKind answer → ⊥
+stop-kind S why (Optimal v x m) told kind = told
+stop-kind S why (Infeasible m) told kind = told
+stop-kind S why (Unbounded m) told kind = kind
+stop-kind S why (Stopped reason m bound best) told kind = kind
+stop-kind S why Memory told kind = kind
+
+pub stop-bounded : (S : PlainSearch) (why : StopWhy) (answer : Answer) (n : ℕ) → IsStoppedAnswer S why n answer → SaysUnbounded answer → ⊥
+stop-bounded S why (Optimal v x m) n told u = u
+stop-bounded S why (Infeasible m) n told u = u
+stop-bounded S why (Unbounded m) n told u = told
+stop-bounded S why (Stopped reason m bound best) n told u = u
+stop-bounded S why Memory n told u = u
+
+-- only a search that found a point beside a ray shows that the model is unbounded
+pub unbounded-ended : (S : PlainSearch) (e : Ended) (n : ℕ) (answer : Answer) → IsAnswerTo S e n answer → SaysUnbounded answer → e ≡ ended.Unbounded
+unbounded-ended S ended.Finished n (Optimal v x m) told u = absurd u
+unbounded-ended S ended.Finished n (Infeasible m) told u = absurd u
+unbounded-ended S ended.Finished n (Unbounded m) told u = absurd told
+unbounded-ended S ended.Finished n (Stopped why m bound best) told u = absurd u
+unbounded-ended S ended.Finished n Memory told u = absurd u
+unbounded-ended S ended.Unbounded n answer told u = refl
+unbounded-ended S (ended.Stopped why) n answer told u = absurd (stop-bounded S why answer n told u)
+
+module _ (M : Program) (l : Limits) (fresh : PlainSearch) (answer : Answer) (S : PlainSearch) where
+  course-finished : Course M l fresh answer S → IsFinishedKind answer → HasNoOpenLeaf S
+  course-finished (NothingOpen none kept is) kind = subst HasNoOpenLeaf (sym kept) none
+  course-finished (StopsFirst some why s kept told) kind = absurd (stop-kind S why answer told kind)
+  course-finished (Searches some ways first b e finds told) kind = finished-left S e.ended e.placed answer finds.left told kind
+  course-finished (WantsBefore kept is) kind = absurd (subst IsFinishedKind is kind)
+  course-finished (WantsWithin ways first b gives is) kind = absurd (subst IsFinishedKind is kind)
+
+  course-points : Course M l fresh answer S → SaysUnbounded answer → 0 < length S.points
+  course-points (NothingOpen none kept is) u = absurd (subst SaysUnbounded is u)
+  course-points (StopsFirst some why s kept told) u = absurd (stop-bounded S why answer 0 told u)
+  course-points (Searches some ways first b e finds told) u =
+      points-some ways first l.nodes l.pivots e.placed fresh S (subst (Ends ways first l.nodes l.pivots e.placed fresh S) (unbounded-ended S e.ended e.placed answer told u) finds.ends)
+  course-points (WantsBefore kept is) u = absurd (subst SaysUnbounded is u)
+  course-points (WantsWithin ways first b gives is) u = absurd (subst SaysUnbounded is u)
+
+held-so : (S : PlainSearch) (answer : Answer) (direction : Option Point) → (IsFinishedKind answer → HasNoOpenLeaf S) → (SaysUnbounded answer → (d : Point) → direction ≡ Some d → HasPointAndRay S d) → IsHeld (Some S) (held_by answer direction)
+held-so S (Optimal v x n) direction closed beside = closed tt
+held-so S (Infeasible n) direction closed beside = closed tt
+held-so S (Unbounded n) (Some d) closed beside = beside tt d refl
+held-so S (Unbounded n) None closed beside = tt
+held-so S (Stopped why n bound best) direction closed beside = tt
+held-so S Memory direction closed beside = tt
+
+pub solves-held : (M : Program) (l : Limits) (old : PlainSearch) (answer : Answer) (direction : Option Point) (S : PlainSearch) → Solves M l old answer S → HasRayFor M l.pivots answer direction → IsHeld (Some S) (held_by answer direction)
+solves-held M l old answer direction S (inl s) has =
+    held-so S answer direction (course-finished M l s.fresh answer S s.course)
+    (λ u d is. record {
+      point = course-points M l s.fresh answer S s.course u;
+      is_ray = subst (λ N. IsRayJudged N d (Ok true)) (sym s.model) (judged_ray M l.pivots d (subst (HasRayFor M l.pivots answer) is has));
+    })
+solves-held M l old answer direction S (inr wants) has = subst (λ a. IsHeld (Some S) (held_by a direction)) (sym wants.wants) tt
+
+pub solves-env : (l : Limits) (old : PlainEnv) (S T : PlainSearch) (answer : Answer) (direction : Option Point) (held : Held) → old.search ≡ Some S → Solves S.model l S answer T → HasRayFor S.model l.pivots answer direction → held ≡ held_by answer direction
     → SolvesEnv old.search l old (Ok answer) (record { search = Some T; held = held })
-solves-env l old S T answer held there solves is =
+solves-env l old S T answer direction held there solves has is =
     subst (λ o. SolvesEnv o l old (Ok answer) (record { search = Some T; held = held })) (sym there)
-    (record { search = T; solves = solves; oldest = solves-oldest S.model l S answer T solves; env_is = ap (λ h. record { search = Some T; held = h }) is })
+    (record { search = T; solves = solves; oldest = solves-oldest S.model l S answer T solves; direction = direction; has_ray = has; env_is = ap (λ h. record { search = Some T; held = h }) is })

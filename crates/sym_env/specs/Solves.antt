@@ -2,11 +2,13 @@
 --     Solved M l answer S          a fresh search of M became S, and this was found
 --     Solves M l old answer S      so; or there was no memory for a fresh one, and old stays
 use Rattle.std.specs.Prelude.{◌≡◌, ◌⊎◌, ℕ, Option, Some, None, Result, Ok, Err}
-use Rattle.lp_model.specs.Program.{Program}
+use Rattle.lp_model.specs.Program.{Program, Point}
 use Rattle.lp_model.specs.declared.types.Basis.{Basis}
 use Rattle.lp_model.specs.declared.answers.StopWhy.{StopWhy}
 use Rattle.lp_model.specs.declared.answers.Answer.{Answer}
 use Rattle.lp_model.specs.declared.answers.Answer.TheVariants.{Optimal, Infeasible, Unbounded, Stopped, Memory}
+use Rattle.ray_phase.specs.Answers.{IsRayAnswer}
+use Rattle.ray_phase.specs.declared.phase.RayAnswer.TheVariants as ray
 use Rattle.tree_edit.specs.Calls.{IsFresh, search_with_limit}
 use Rattle.tree_edit.specs.Laws.{HasNoOpenLeaf}
 use Rattle.tree_edit.specs.Points.{IsIncumbent}
@@ -20,7 +22,7 @@ use Rattle.sym_env.specs.Env.{PlainEnv}
 use Rattle.sym_env.specs.declared.env.EnvFault.{EnvFault}
 use Rattle.sym_env.specs.declared.env.EnvFault.TheVariants as fault
 use Rattle.sym_env.specs.declared.held.Held.{Held}
-use Rattle.sym_env.specs.declared.held.Held.TheVariants.{Nothing, Finished}
+use Rattle.sym_env.specs.declared.held.Held.TheVariants as held
 use Rattle.sym_env.specs.declared.limits.Limits.{Limits}
 
 -- the fresh search has no open leaf; it stays so since the ray phase stopped; it was searched, and this shows what is answered; or there
@@ -50,13 +52,30 @@ Solves M l old answer S = Solved M l answer S ⊎ WantsRoot l old answer S
 
 -- ---- environments
 
--- which answer is held afterwards: that the objective has no end isn't, as its certificates aren't written
-abbrev pub held_by : Answer → Held
-held_by (Optimal v x n) = Finished
-held_by (Infeasible n) = Finished
-held_by (Unbounded n) = Nothing
-held_by (Stopped why n bound best) = Nothing
-held_by Memory = Nothing
+abbrev pub SaysUnbounded : Answer → Type 0
+SaysUnbounded (Optimal v x n) = ⊥
+SaysUnbounded (Infeasible n) = ⊥
+SaysUnbounded (Unbounded n) = Unit {0}
+SaysUnbounded (Stopped why n bound best) = ⊥
+SaysUnbounded Memory = ⊥
+
+-- a direction that is told is the ray phase's answer, and one is told where the model is unbounded
+abbrev pub HasRayFor : Program → ℕ → Answer → Option Point → Type 0
+HasRayFor M pivots answer (Some direction) = IsRayAnswer M pivots (ray.Ray direction)
+HasRayFor M pivots answer None = ¬ SaysUnbounded answer
+
+-- that the model is unbounded is held with its ray
+abbrev pub held_beside : Option Point → Held
+held_beside (Some direction) = held.Unbounded direction
+held_beside None = held.Nothing
+
+-- which answer is held afterwards
+abbrev pub held_by : Answer → Option Point → Held
+held_by (Optimal v x n) direction = held.Finished
+held_by (Infeasible n) direction = held.Finished
+held_by (Unbounded n) direction = held_beside direction
+held_by (Stopped why n bound best) direction = held.Nothing
+held_by Memory direction = held.Nothing
 
 -- of the points that the search keeps an optimum is the oldest with the best value
 abbrev pub IsOldest : PlainSearch → Answer → Type 0
@@ -70,7 +89,9 @@ pub record SolvesIn (l : Limits) (old : PlainSearch) (answer : Answer) (env : Pl
   pub search : PlainSearch
   pub solves : Solves old.model l old answer search
   pub oldest : IsOldest search answer
-  pub env_is : env ≡ record { search = Some search; held = held_by answer }
+  pub direction : Option Point
+  pub has_ray : HasRayFor old.model l.pivots answer direction
+  pub env_is : env ≡ record { search = Some search; held = held_by answer direction }
 
 -- without a model there is nothing to solve, and all stays
 abbrev pub SolvesEnv : Option PlainSearch → Limits → PlainEnv → Result Answer EnvFault → PlainEnv → Type 0

@@ -1,11 +1,13 @@
 // How the search of a model begins: at the slack basis, or at what the ray phase finds.
 ghost use Rattle.std.specs.Prelude.{◌≡◌, [], None};
 ghost use Rattle.lp_model.specs.declared.answers.StopWhy.TheVariants as stop;
-ghost use Rattle.sym_env.specs.Beginnings.{HasNoSlackBasis, FindsRay};
+ghost use Rattle.ray_phase.specs.Answers.{IsRayAnswer};
+ghost use Rattle.ray_phase.specs.declared.phase.RayAnswer.TheVariants.{Ray};
+ghost use Rattle.sym_env.specs.Beginnings.{HasNoSlackBasis};
 ghost use Rattle.sym_env.specs.Beginning.{IsBeginning};
 
 use dual_simplex::slack_basis;
-use lp_model::{Basis, List, Model, PivotPlace, StopWhy, same_points_law};
+use lp_model::{Basis, List, Model, PivotPlace, Point, StopWhy, same_points_law};
 use ray_phase::{RayAnswer, ray};
 use std::alloc::{AllocError, Global};
 
@@ -14,8 +16,8 @@ use std::alloc::{AllocError, Global};
 pub(crate) enum Beginning {
     /// With the model's own relaxations, which can begin at these lists.
     Own(Basis),
-    /// Beside a ray: with those of the model without costs, which can begin at these lists.
-    BesideRay(Model, Basis),
+    /// Beside this ray: with the relaxations of the model without costs, which can begin at these lists.
+    BesideRay(Point, Model, Basis),
     /// Not at all: the ray phase stopped.
     Stopped(StopWhy),
     /// There is no memory.
@@ -34,9 +36,9 @@ fn out_of_moves(alloc: Global, basis: Basis) -> StopWhy
 }
 
 /// The beginning beside a ray of the model. The model without costs has none.
-fn beside_ray(alloc: Global, model: &Model, pivots: u64) -> Beginning
+fn beside_ray(alloc: Global, model: &Model, pivots: u64, direction: Point) -> Beginning
     requires none { HasNoSlackBasis model.now }
-    requires ray { FindsRay model.now pivots }
+    requires ray { IsRayAnswer model.now pivots (Ray direction) }
     ensures { IsBeginning model.now pivots result }
 {
     same_points_law();
@@ -45,7 +47,7 @@ fn beside_ray(alloc: Global, model: &Model, pivots: u64) -> Beginning
     };
     match ray(alloc, &costless, pivots) {
         RayAnswer::Memory => Beginning::Memory,
-        RayAnswer::DualBasis(first) => Beginning::BesideRay(costless, first),
+        RayAnswer::DualBasis(first) => Beginning::BesideRay(direction, costless, first),
         RayAnswer::Ray(_) => unreachable!(),
         RayAnswer::Pivots { basis } => Beginning::Stopped(out_of_moves(alloc, basis)),
         RayAnswer::Wide(at) => Beginning::Stopped(StopWhy::Wide(at)),
@@ -60,7 +62,7 @@ fn by_ray_phase(alloc: Global, model: &Model, pivots: u64) -> Beginning
     match ray(alloc, model, pivots) {
         RayAnswer::Memory => Beginning::Memory,
         RayAnswer::DualBasis(first) => Beginning::Own(first),
-        RayAnswer::Ray(_) => beside_ray(alloc, model, pivots),
+        RayAnswer::Ray(direction) => beside_ray(alloc, model, pivots, direction),
         RayAnswer::Pivots { basis } => Beginning::Stopped(out_of_moves(alloc, basis)),
         RayAnswer::Wide(at) => Beginning::Stopped(StopWhy::Wide(at)),
     }

@@ -1,11 +1,14 @@
-// The certificate of a search that went to its end.
-ghost use Rattle.std.specs.Prelude.{IfOk};
+// The certificate of a search that went to its end, or that found a point beside a ray.
+ghost use Rattle.std.specs.Prelude.{◌<◌, length, true, IfOk, Ok};
+ghost use Rattle.lp_model.specs.Answers.{IsFeasibilityAnswer};
+ghost use Rattle.lp_model.specs.Rays.{IsRayJudged};
 ghost use Rattle.tree_edit.specs.Laws.{HasNoOpenLeaf};
-ghost use Rattle.sym_env.specs.Certificates.{IsCertificateText};
+ghost use Rattle.sym_env.specs.Certificates.{IsCertificateText, IsUnboundedTextBy, IsUnboundedText};
 
 use cert_check::{accepted_law, verdict_law};
+use lp_model::{Model, Point};
 use std::alloc::{AllocError, Global};
-use tree_cert::{certificate, names_law, print_cert};
+use tree_cert::{certificate, names_law, print_cert, unbounded_certificate, unbounded_names_law};
 use tree_edit::Search;
 
 /// The text of the certificate of a search without an open leaf.
@@ -19,4 +22,39 @@ pub(crate) fn certificate_text(alloc: Global, search: &Search) -> Result<Vec<u8>
     accepted_law();
     let cert = certificate(alloc, search)?;
     print_cert(alloc, &cert)
+}
+
+/// The text of the certificate that a model is unbounded, by this point and this ray.
+fn unbounded_text_by(
+    alloc: Global,
+    model: &Model,
+    point: &Point,
+    ray: &Point,
+) -> Result<Vec<u8>, AllocError>
+    requires point { IsFeasibilityAnswer model.now point.now (Ok true) }
+    requires ray { IsRayJudged model.now ray.now (Ok true) }
+    ensures { IfOk result (λ text. IsUnboundedTextBy model.now point.now ray.now text.items) }
+{
+    unbounded_names_law();
+    verdict_law();
+    accepted_law();
+    let cert = unbounded_certificate(alloc, model, point, ray)?;
+    print_cert(alloc, &cert)
+}
+
+/// The text of the certificate that the search's model is unbounded, by the incumbent and this ray.
+pub(crate) fn unbounded_text(
+    alloc: Global,
+    search: &Search,
+    ray: &Point,
+) -> Result<Vec<u8>, AllocError>
+    requires point { 0 < length search.now.points }
+    requires ray { IsRayJudged search.now.model ray.now (Ok true) }
+    ensures { IfOk result (λ text. IsUnboundedText search.now ray.now text.items) }
+{
+    let _sound = search.points();
+    match search.incumbent() {
+        None => unreachable!(),
+        Some(point) => unbounded_text_by(alloc, search.model(), point, ray),
+    }
 }

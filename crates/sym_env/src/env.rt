@@ -4,16 +4,17 @@ ghost use Rattle.std.specs.Option.{option_copied};
 ghost use Rattle.sym_env.specs.Env.{no_model, model_of, Holds};
 ghost use Rattle.sym_env.specs.Certificates.{IsCertAnswer};
 ghost use Rattle.sym_env.specs.Enough.{IsEnough};
-ghost use Rattle.sym_env.specs.Solves.{held_by, SolvesEnv};
+ghost use Rattle.sym_env.specs.Solves.{held_beside, held_by, SolvesEnv};
 ghost use Rattle.sym_env.specs.Truth.{IsTrueAnswer, HasEnded};
 ghost use Rattle.sym_env.specs.declared.env.EnvFault.TheVariants.{Memory};
 
-use crate::certificates::certificate_text;
+use crate::certificates::{certificate_text, unbounded_text};
 use crate::held::Held;
 use crate::limits::Limits;
-use crate::solving::solve;
-use lp_model::{Answer, Model};
+use crate::solving::{Solution, solve};
+use lp_model::{Answer, Model, Point};
 use std::alloc::{AllocError, Global};
+use std::mem;
 use thiserror::Error;
 use tree_edit::Search;
 
@@ -59,13 +60,30 @@ impl std::marker::Model for Env {
     ghost invariant = { λ e. IsEnv (record { search = e.search; held = e.held }) };
 }
 
+/// That the model is unbounded is held with its ray.
+fn held_beside(ray: Option<Point>) -> Held
+    ensures { result ≡ held_beside ray }
+{
+    match ray {
+        Some(ray) => Held::Unbounded(ray),
+        None => Held::Nothing,
+    }
+}
+
 /// Which answer is held afterwards.
-fn held_by(answer: &Answer) -> Held
-    ensures { result ≡ held_by answer.now }
+fn held_by(answer: &Answer, ray: Option<Point>) -> Held
+    ensures { result ≡ held_by answer.now ray }
 {
     match answer {
-        Answer::Optimal { .. } | Answer::Infeasible { .. } => Held::Finished,
-        Answer::Unbounded { .. } | Answer::Stopped { .. } | Answer::Memory => Held::Nothing,
+        Answer::Optimal { .. } | Answer::Infeasible { .. } => {
+            drop(ray);
+            Held::Finished
+        }
+        Answer::Unbounded { .. } => held_beside(ray),
+        Answer::Stopped { .. } | Answer::Memory => {
+            drop(ray);
+            Held::Nothing
+        }
     }
 }
 
@@ -105,8 +123,8 @@ impl Env {
     }
 
     /// Solves the model: drops the tree and the points, and searches from the root. What is answered is true of the model; an
-    /// optimum, or that no point is feasible, is held from then on, and no other answer. Where there is no memory no answer is
-    /// held, and the results that were placed stay; where there was none for the root, the old search stays.
+    /// optimum, that no point is feasible, or that the model is unbounded is held from then on, and no other answer. Where there
+    /// is no memory no answer is held, and the results that were placed stay; where there was none for the root, the old search stays.
     ///
     /// The ray phase, where it is needed, comes before the limit on results is tested.
     pub fn solve(&mut self, limits: &Limits) -> Result<Answer, EnvFault>
@@ -117,8 +135,10 @@ impl Env {
         let Some(search) = &mut self.search else {
             return Err(EnvFault::NoModel);
         };
-        let answer = solve(self.alloc, search, limits);
-        self.held = held_by(&answer);
+        let Solution { answer, ray } = solve(self.alloc, search, limits);
+        let held = held_by(&answer, ray);
+        let old = mem::replace(&mut self.held, held);
+        drop(old);
         Ok(answer)
     }
 
@@ -129,9 +149,13 @@ impl Env {
         let Some(search) = &self.search else {
             return Err(EnvFault::NoModel);
         };
-        match self.held {
+        match &self.held {
             Held::Nothing => Err(EnvFault::NoAnswer),
             Held::Finished => match certificate_text(self.alloc, search) {
+                Ok(text) => Ok(text),
+                Err(AllocError) => Err(EnvFault::Memory),
+            },
+            Held::Unbounded(ray) => match unbounded_text(self.alloc, search, ray) {
                 Ok(text) => Ok(text),
                 Err(AllocError) => Err(EnvFault::Memory),
             },

@@ -1,5 +1,5 @@
 //! The environment: the solver as a library. It has a model with the search of it, and holds the answer of a search that went
-//! to its end.
+//! to its end, or that the model is unbounded, with a ray of it.
 //!
 //! `solve` searches the model from a fresh root on. First it finds lists at which each relaxation of a leaf can begin:
 //!

@@ -2,22 +2,29 @@
 ghost use Rattle.std.specs.Prelude.{◌≡◌};
 ghost use Rattle.lp_model.specs.Lawful.{IsLawful};
 ghost use Rattle.tree_edit.specs.Calls.{IsFresh};
-ghost use Rattle.tree_search.specs.Steps.{HasOpenLeaf, IsWayFor, IsFirstFor};
+ghost use Rattle.tree_search.specs.Steps.{HasOpenLeaf, IsWayFor, IsFirstFor, IsRayWay};
 ghost use Rattle.tree_search.specs.declared.searching.Ways.TheVariants.{Own};
 ghost use Rattle.sym_env.specs.Beginnings.{BeginsWith, BeginsBeside};
 ghost use Rattle.sym_env.specs.Enough.{IsEnough};
-ghost use Rattle.sym_env.specs.Solves.{Solved, Solves};
+ghost use Rattle.sym_env.specs.Solves.{Solved, Solves, SaysUnbounded, HasRayFor};
 ghost use Rattle.sym_env.specs.Truth.{IsTrueAnswer, HasEnded};
 
 use crate::beginnings::{Beginning, find_beginning};
 use crate::limits::Limits;
-use lp_model::{Answer, Basis, Model};
+use lp_model::{Answer, Basis, Model, Point};
 use node_solve::first_in_law;
 use ray_phase::{first_law, no_ray_law};
 use search_counting::{cap_law, left_law, too_few_nodes_law};
 use std::alloc::{AllocError, Global};
 use tree_edit::{Search, empty_law};
 use tree_search::{Ways, answer_of, enough_law, search_on, stop_bound_law, stopped};
+
+/// What a solve shows, and the ray beside which it searched, if it did.
+#[derive(Drop)]
+pub(crate) struct Solution {
+    pub(crate) answer: Answer,
+    pub(crate) ray: Option<Point>,
+}
 
 /// Searches with these relaxations from the first lists on, and says what that shows.
 fn search_with(
@@ -33,6 +40,7 @@ fn search_with(
     requires ways { IsWayFor search.old ways.now }
     requires first { IsFirstFor ways.now search.old first.now }
     ensures solved { Solved search.old.model limits.now result search.new }
+    ensures beside { SaysUnbounded result → IsRayWay ways.now }
     ensures complete { IsEnough search.old.model limits.now → HasEnded result }
 {
     let _sound = search.points();
@@ -50,6 +58,7 @@ fn search_own(alloc: Global, search: &mut Search, first: &Basis, limits: &Limits
     requires some { HasOpenLeaf search.old }
     requires begins { BeginsWith search.old.model limits.now.pivots Own first.now }
     ensures solved { Solved search.old.model limits.now result search.new }
+    ensures bounded { ¬ SaysUnbounded result }
     ensures complete { IsEnough search.old.model limits.now → HasEnded result }
 {
     first_law();
@@ -79,54 +88,77 @@ fn search_beside_ray(
 }
 
 /// Solves a search with an open leaf.
-fn solve_open(alloc: Global, search: &mut Search, limits: &Limits) -> Answer
+fn solve_open(alloc: Global, search: &mut Search, limits: &Limits) -> Solution
     requires fresh { IsFresh search.old.model limits.now.tree search.old }
     requires some { HasOpenLeaf search.old }
-    ensures solved { Solved search.old.model limits.now result search.new }
-    ensures complete { IsEnough search.old.model limits.now → HasEnded result }
+    ensures solved { Solved search.old.model limits.now result.answer search.new }
+    ensures ray { HasRayFor search.old.model limits.now.pivots result.answer result.ray }
+    ensures complete { IsEnough search.old.model limits.now → HasEnded result.answer }
 {
     let _sound = search.points();
     match find_beginning(alloc, search.model(), limits.pivots) {
-        Beginning::Memory => Answer::Memory,
-        Beginning::Stopped(why) => stopped(search, why, 0),
-        Beginning::Own(first) => search_own(alloc, search, &first, limits),
-        Beginning::BesideRay(costless, first) => {
-            search_beside_ray(alloc, search, &costless, &first, limits)
+        Beginning::Memory => Solution {
+            answer: Answer::Memory,
+            ray: None,
+        },
+        Beginning::Stopped(why) => Solution {
+            answer: stopped(search, why, 0),
+            ray: None,
+        },
+        Beginning::Own(first) => Solution {
+            answer: search_own(alloc, search, &first, limits),
+            ray: None,
+        },
+        Beginning::BesideRay(direction, costless, first) => {
+            let answer = search_beside_ray(alloc, search, &costless, &first, limits);
+            Solution {
+                answer,
+                ray: Some(direction),
+            }
         }
     }
 }
 
 /// Solves a search of one leaf.
-fn solve_fresh(alloc: Global, search: &mut Search, limits: &Limits) -> Answer
+fn solve_fresh(alloc: Global, search: &mut Search, limits: &Limits) -> Solution
     requires { IsFresh search.old.model limits.now.tree search.old }
-    ensures solved { Solved search.old.model limits.now result search.new }
-    ensures complete { IsEnough search.old.model limits.now → HasEnded result }
+    ensures solved { Solved search.old.model limits.now result.answer search.new }
+    ensures ray { HasRayFor search.old.model limits.now.pivots result.answer result.ray }
+    ensures complete { IsEnough search.old.model limits.now → HasEnded result.answer }
 {
     let _sound = search.points();
     let _numbered = search.tree().nodes();
     match search.next_leaf() {
-        None => Answer::Infeasible { placed: 0 },
+        None => Solution {
+            answer: Answer::Infeasible { placed: 0 },
+            ray: None,
+        },
         Some(_) => solve_open(alloc, search, limits),
     }
 }
 
 /// Solves the search's model from a fresh leaf on. Where there is no memory for it the search stays, with the new limit.
-fn solve_again(alloc: Global, search: &mut Search, limits: &Limits) -> Answer
-    ensures solves { Solves search.old.model limits.now search.old result search.new }
-    ensures complete { IsEnough search.old.model limits.now → HasEnded result }
+fn solve_again(alloc: Global, search: &mut Search, limits: &Limits) -> Solution
+    ensures solves { Solves search.old.model limits.now search.old result.answer search.new }
+    ensures ray { HasRayFor search.old.model limits.now.pivots result.answer result.ray }
+    ensures complete { IsEnough search.old.model limits.now → HasEnded result.answer }
 {
     search.set_limit(limits.tree);
     match search.restart() {
-        Err(AllocError) => Answer::Memory,
+        Err(AllocError) => Solution {
+            answer: Answer::Memory,
+            ray: None,
+        },
         Ok(()) => solve_fresh(alloc, search, limits),
     }
 }
 
 /// Solves the search's model. What is answered is true of it.
-pub(crate) fn solve(alloc: Global, search: &mut Search, limits: &Limits) -> Answer
-    ensures solves { Solves search.old.model limits.now search.old result search.new }
-    ensures complete { IsEnough search.old.model limits.now → HasEnded result }
-    ensures true_answer { IsTrueAnswer search.old.model limits.now result }
+pub(crate) fn solve(alloc: Global, search: &mut Search, limits: &Limits) -> Solution
+    ensures solves { Solves search.old.model limits.now search.old result.answer search.new }
+    ensures ray { HasRayFor search.old.model limits.now.pivots result.answer result.ray }
+    ensures complete { IsEnough search.old.model limits.now → HasEnded result.answer }
+    ensures true_answer { IsTrueAnswer search.old.model limits.now result.answer }
 {
     let _lawful = search.model().cols();
     empty_law();

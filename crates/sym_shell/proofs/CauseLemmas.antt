@@ -12,6 +12,7 @@ use Rattle.sym_env.specs.Env.{PlainEnv, model_of}
 use Rattle.sym_env.specs.Solves.{Solves}
 use Rattle.sym_env.specs.declared.held.Held.{Held}
 use Rattle.sym_env.specs.declared.held.Held.TheVariants.{Nothing, Finished}
+use Rattle.sym_env.specs.declared.held.Held.TheVariants.{Unbounded as Beside}
 use Rattle.sym_env.specs.declared.limits.Limits.{Limits}
 use Rattle.command_words.specs.Asks.{Asks, Load, Solve, Cert, Quit, Unknown, Misused, NoNumber, asks_of}
 use Rattle.reply_texts.specs.Places.{block_text, step_line}
@@ -20,7 +21,7 @@ use Rattle.sym_shell.specs.State.{ShellState}
 use Rattle.sym_shell.specs.Load.{LoadStep, ReadsFile, refusal_text}
 use Rattle.sym_shell.specs.Solve.{limits_of, Tells, ShowsOptimum, ShowsEmptiness, ShowsNoEnd, AnswersSolve, Optimum, Emptiness, NoEnd, NodeStop, TreeStop, PivotStop, WideStop, Wanting, Wants, SolvesEnv, SolveStep}
 use Rattle.sym_shell.specs.Shown.{point_shown}
-use Rattle.sym_shell.specs.Certify.{IsReadCertificate, Writes, Written, TooLong, Failed, Certifies, CertStep}
+use Rattle.sym_shell.specs.Certify.{IsHeldText, Writes, Written, TooLong, Failed, Certifies, CertStep}
 use Rattle.sym_shell.specs.Certify as certify
 use Rattle.sym_shell.specs.Step.{AnswersTo, Step}
 use Rattle.sym_shell.specs.Kinds.{Kind, Optimal, Infeasible, Unbounded, StoppedNodes, StoppedTree, StoppedPivots, StoppedWide, Done, UnknownCommand, WrongArguments, NoModel, WrongNumber, NoAnswer, StoreFailed, FileTooLong, FaultyText, WantsMemory, Is, IsError}
@@ -122,23 +123,23 @@ module _ (old : ShellState) (words : List (List ℕ)) (reply : List ℕ) (new : 
         | inr e ↦ wants e
       ]
 
-  writes_cause : (file : List ℕ) (S : PlainSearch) → asks_of words ≡ Cert file → old.env.search ≡ Some S → old.env.held ≡ Finished → Writes (IsReadCertificate S) file old.files old.faults reply new.files new.faults → HasCause old words reply new
-  writes_cause file S asked present held (Written text is short sets told) = record {
+  writes_cause : (file : List ℕ) (S : PlainSearch) (held : Held) → asks_of words ≡ Cert file → old.env.search ≡ Some S → old.env.held ≡ held → old.env.held ≢ Nothing → Writes (IsHeldText S held) file old.files old.faults reply new.files new.faults → HasCause old words reply new
+  writes_cause file S held asked present same some (Written text is short sets told) = record {
     kind = Done;
     is = ([], told);
-    cause = inr (inl (record { file = file; search = S; asked = asked; present = present; held = held; is = (text, (is, short, sets)) }));
+    cause = inr (inl (record { file = file; search = S; text = text; asked = asked; present = present; held = some; certificate = subst (λ h. IsHeldText S h text) (sym same) is; is = (short, sets) }));
   }
-  writes_cause file S asked present held (TooLong text is long kept told) = record {
+  writes_cause file S held asked present same some (TooLong text is long kept told) = record {
     kind = FileTooLong;
     is = (codes "file too long\n", told);
-    cause = inr (record { file = file; search = S; asked = asked; present = present; held = held; is = (told, (text, (is, long))) });
+    cause = inr (record { file = file; search = S; text = text; asked = asked; present = present; held = some; certificate = subst (λ h. IsHeldText S h text) (sym same) is; is = (told, long) });
   }
-  writes_cause file S asked present held (Failed text is short rose kept told) = record {
+  writes_cause file S held asked present same some (Failed text is short rose kept told) = record {
     kind = StoreFailed;
     is = (codes "store\n", told);
-    cause = inr (record { file = file; search = S; asked = asked; present = present; held = held; is = (told, (text, (is, short, rose))) });
+    cause = inr (record { file = file; search = S; text = text; asked = asked; present = present; held = some; certificate = subst (λ h. IsHeldText S h text) (sym same) is; is = (told, short, rose) });
   }
-  writes_cause file S asked present held (certify.Wanting kept told) = wants told
+  writes_cause file S held asked present same some (certify.Wanting kept told) = wants told
 
   cert_cause : (file : List ℕ) → asks_of words ≡ Cert file → CertStep old file reply new → HasCause old words reply new
   cert_cause file asked h = by old.env.search old.env.held refl refl h.answer
@@ -152,7 +153,8 @@ module _ (old : ShellState) (words : List (List ℕ)) (reply : List ℕ) (new : 
         | inl told ↦ record { kind = NoAnswer; is = (codes "no finished answer\n", told); cause = (file, (record { asks = asked; told = told }, (subst IsSome (sym present) refl, none))) }
         | inr told ↦ wants told
       ]
-      by (Some S) Finished present held w = writes_cause file S asked present held w
+      by (Some S) Finished present same w = writes_cause file S Finished asked present same (λ none. let e : Finished ≡ Nothing = sym same ∙ none in cc) w
+      by (Some S) (Beside ray) present same w = writes_cause file S (Beside ray) asked present same (λ none. let e : Beside ray ≡ Nothing = sym same ∙ none in cc) w
 
   asked_cause : (a : Asks) → asks_of words ≡ a → AnswersTo a old reply new → HasCause old words reply new
   asked_cause (Load file intupper) asked h = load_cause file intupper asked h
@@ -193,17 +195,17 @@ module _ (old : ShellState) (words : List (List ℕ)) (reply : List ℕ) (new : 
 
   -- ---- what stays
 
-  told_model : (S : PlainSearch) (l : Limits) (answer : Answer) → Tells S.model l answer reply new.env → model_of new.env ≡ Some S.model
-  told_model S l answer t = ap model_of t.env_is ∙ ap Some t.solved.model
+  told_model : (S : PlainSearch) (l : Limits) (answer : Answer) (held : Held) → Tells S.model l answer held reply new.env → model_of new.env ≡ Some S.model
+  told_model S l answer held t = ap model_of t.env_is ∙ ap Some t.solved.model
 
   solved_model : (S : PlainSearch) (l : Limits) → AnswersSolve S l reply new.env → model_of new.env ≡ Some S.model
-  solved_model S l (Optimum s) = told_model S l _ s.told
-  solved_model S l (Emptiness s) = told_model S l _ s.told
-  solved_model S l (NoEnd s) = told_model S l _ s.told
-  solved_model S l (NodeStop s) = told_model S l _ s.told
-  solved_model S l (TreeStop s) = told_model S l _ s.stop.told
-  solved_model S l (PivotStop s) = told_model S l _ s.stop.told
-  solved_model S l (WideStop s) = told_model S l _ s.stop.told
+  solved_model S l (Optimum s) = told_model S l _ _ s.told
+  solved_model S l (Emptiness s) = told_model S l _ _ s.told
+  solved_model S l (NoEnd s) = told_model S l _ _ s.told
+  solved_model S l (NodeStop s) = told_model S l _ _ s.told
+  solved_model S l (TreeStop s) = told_model S l _ _ s.stop.told
+  solved_model S l (PivotStop s) = told_model S l _ _ s.stop.told
+  solved_model S l (WideStop s) = told_model S l _ _ s.stop.told
   solved_model S l (Wanting s) = ap model_of s.env_is ∙ ap Some (solves-model l S _ s.search s.solves)
 
   solve_keeps : (l : Limits) (search : Option PlainSearch) → old.env.search ≡ search → SolvesEnv old.env search l reply new.env → model_of new.env ≡ model_of old.env

@@ -6,6 +6,7 @@ use Rattle.rational.specs.Rational.{ℚ}
 use Rattle.frac128.specs.Range.{Fits}
 use Rattle.lp_model.specs.Lawful.{IsLawful}
 use Rattle.lp_model.specs.Program.{Program, Point, IsOptimum, value}
+use Rattle.lp_model.specs.Rays.{IsUnbounded}
 use Rattle.lp_model.specs.declared.answers.StopWhy.TheVariants.{Nodes, Tree, Pivots, Wide}
 use Rattle.lp_model.specs.declared.answers.Answer.{Answer}
 use Rattle.lp_model.specs.declared.answers.Answer.TheVariants.{Optimal, Infeasible, Unbounded, Stopped, Memory}
@@ -15,15 +16,16 @@ use Rattle.tree_edit.specs.Points.{IsIncumbent}
 use Rattle.tree_edit.specs.Sound.{PlainSearch}
 use Rattle.sym_env.specs.Enough.{IsEnough}
 use Rattle.sym_env.specs.Env.{PlainEnv, model_of}
-use Rattle.sym_env.specs.Solves.{Solved, Solves, WantsRoot, SolvesIn}
+use Rattle.sym_env.specs.Solves.{Solved, Solves, WantsRoot, HasRayFor, held_by, SolvesIn}
 use Rattle.sym_env.specs.Solves as env
-use Rattle.sym_env.specs.Truth.{IsTrueAnswer, HasEnded}
+use Rattle.sym_env.specs.Truth.{IsCount, IsTrueAnswer, HasEnded}
+use Rattle.sym_env.proofs.BeginLemmas.{is_ray}
 use Rattle.sym_env.specs.declared.env.EnvFault.{EnvFault}
 use Rattle.sym_env.specs.declared.limits.Limits.{Limits}
 use Rattle.reply_texts.specs.Reports.{IsShaped, HasRoom}
 use Rattle.reply_texts.specs.Texts.{optimal_text, stopped_nodes_text, answer_text, no_model_text, memory_text}
 use Rattle.sym_shell.specs.Shown.{point_shown, value_shown}
-use Rattle.sym_shell.specs.Solve.{limits_of, AnswersSolve, Optimum, Emptiness, NoEnd, NodeStop, TreeStop, PivotStop, WideStop, Wanting, SolvesEnv}
+use Rattle.sym_shell.specs.Solve.{limits_of, ShowsNoEnd, AnswersSolve, Optimum, Emptiness, NoEnd, NodeStop, TreeStop, PivotStop, WideStop, Wanting, SolvesEnv}
 use Rattle.sym_shell.specs.State.{HasWords}
 use Rattle.sym_shell.proofs.ShownBack.{point-shown, value-shown}
 use Rattle.sym_shell.proofs.StepLemmas.{on_ok_if}
@@ -40,6 +42,20 @@ model-kept l old answer new s = ap model_of s.env_is ∙ ap Some (solves-model l
 found : (l : Limits) (old : PlainSearch) (answer : Answer) (S : PlainSearch) → ¬ (answer ≡ Memory) → Solves old.model l old answer S → Solved old.model l answer S
 found l old answer S other (inl s) = s
 found l old answer S other (inr wants) = absurd (other wants.wants)
+
+-- that the objective has no end is held with the ray
+no-end : (M : Program) (l : Limits) (n : ℕ) (new : PlainEnv) (T : PlainSearch) (direction : Option Point) → IsUnbounded M → IsCount M l n → Solved M l (Unbounded n) T → HasRayFor M l.pivots (Unbounded n) direction
+    → new ≡ record { search = Some T; held = held_by (Unbounded n) direction } → ShowsNoEnd M l (answer_text M (Unbounded n)) new
+no-end M l n new T None unbounded count solved has is = absurd (has tt)
+no-end M l n new T (Some d) unbounded count solved has is = record {
+  unbounded = unbounded;
+  placed = n;
+  direction = d;
+  is_ray = is_ray M l.pivots d has;
+  found = has;
+  told = record { search = T; solved = solved; env_is = is; shown = refl };
+  count = count;
+}
 
 module _ (l : Limits) (few : l.tree ≤ 2 ^ 63) (S : PlainSearch) (lawful : IsLawful S.model) (plain : HasPlainNames S.model) where
   pub answers-solve : (answer : Answer) (new : PlainEnv) → HasRoom answer → IsTrueAnswer S.model l answer → (IsEnough S.model l → HasEnded answer) → SolvesIn l S answer new → AnswersSolve S l (answer_text S.model answer) new
@@ -70,12 +86,7 @@ module _ (l : Limits) (few : l.tree ≤ 2 ^ 63) (S : PlainSearch) (lawful : IsLa
     told = record { search = s.search; solved = found l S (Infeasible n) s.search (λ e. cc) s.solves; env_is = s.env_is; shown = refl };
     count = is.1;
   })
-  answers-solve (Unbounded n) new room is complete s = NoEnd (record {
-    unbounded = is.0;
-    placed = n;
-    told = record { search = s.search; solved = found l S (Unbounded n) s.search (λ e. cc) s.solves; env_is = s.env_is; shown = refl };
-    count = is.1;
-  })
+  answers-solve (Unbounded n) new room is complete s = NoEnd (no-end S.model l n new s.search s.direction is.0 is.1 (found l S (Unbounded n) s.search (λ e. cc) s.solves) s.has_ray s.env_is)
   answers-solve (Stopped Nodes n bound best) new room is complete s =
       let all : n ≡ l.nodes = is.1.0 in
       let solved : Solved S.model l (Stopped Nodes n bound best) s.search = found l S (Stopped Nodes n bound best) s.search (λ e. cc) s.solves in

@@ -15,9 +15,9 @@ use Rattle.frac_text.proofs.PrintedReads.{reading_of-printed}
 use Rattle.lp_model.specs.Program.{Program, Point, value}
 use Rattle.lp_model.specs.Lawful.{column_names}
 use Rattle.lp_model.specs.declared.types.Col.{Col}
-use Rattle.mps_model.specs.PlainNames.{IsPlainName, HasPlainNames}
+use Rattle.mps_model.specs.PlainNames.{HasPlainNames}
 use Rattle.script_session.specs.Request.{Command}
-use Rattle.script_session.specs.Script.{words_of}
+use Rattle.text_lines.specs.Words.{words_of, IsWord}
 use Rattle.reply_texts.specs.Texts.{column_line, column_lines, value_line, optimal_text}
 use Rattle.sym_shell.specs.Shown.{lines_shown, is_line_of, number_in, number_in_word, or_zero, number_among, point_shown, value_shown}
 use Rattle.sym_shell.proofs.ShownWords.{decimal-plain, printed-plain, tested-plain, words_of-name, words_of-more, joined-one_line, lines_shown-more}
@@ -41,13 +41,13 @@ last_lines = (codes "end" ∷ []) ∷ [] ∷ []
 abbrev first_words : ℚ → ℕ → Command
 first_words v n = codes "optimal" ∷ printed v ∷ codes "nodes" ∷ decimal n ∷ []
 
-name_x : IsPlainName (codes "x")
+name_x : IsWord (codes "x")
 name_x = tested-plain (codes "x") (omega arith) refl
 
-name_optimal : IsPlainName (codes "optimal")
+name_optimal : IsWord (codes "optimal")
 name_optimal = tested-plain (codes "optimal") (omega arith) refl
 
-name_nodes : IsPlainName (codes "nodes")
+name_nodes : IsWord (codes "nodes")
 name_nodes = tested-plain (codes "nodes") (omega arith) refl
 
 -- what is written piece by piece, with the newline behind all but what follows
@@ -55,7 +55,7 @@ moved : (a b c d rest : List ℕ) → ((((a ++ b) ++ c) ++ d) ++ (10 ∷ [])) ++
 moved a b c d rest = simp append_assoc
 
 -- a column's line
-written : (name number rest : List ℕ) → IsPlainName name → IsPlainName number
+written : (name number rest : List ℕ) → IsWord name → IsWord number
     → lines_shown ((codes "x " ++ name ++ codes " " ++ number ++ codes "\n") ++ rest) ≡ (codes "x" ∷ name ∷ number ∷ []) ∷ lines_shown rest
 written name number rest p q =
     let inner = name ++ (32 ∷ number) in
@@ -65,7 +65,7 @@ written name number rest p q =
     (words_of-more (codes "x") inner name_x ∙ ap (λ words. codes "x" ∷ words) (words_of-more name number p ∙ ap (λ words. name ∷ words) (words_of-name number q))))
 
 -- the first line
-written_first : (number count rest : List ℕ) → IsPlainName number → IsPlainName count
+written_first : (number count rest : List ℕ) → IsWord number → IsWord count
     → lines_shown ((codes "optimal " ++ number ++ codes " nodes " ++ count ++ codes "\n") ++ rest) ≡ (codes "optimal" ∷ number ∷ codes "nodes" ∷ count ∷ []) ∷ lines_shown rest
 written_first number count rest p q =
     let last = codes "nodes" ++ (32 ∷ count) in
@@ -78,21 +78,21 @@ written_first number count rest p q =
     ∙ ap (λ words. codes "optimal" ∷ words) (words_of-more number last p
     ∙ ap (λ words. number ∷ words) (words_of-more (codes "nodes") count name_nodes ∙ ap (λ words. codes "nodes" ∷ words) (words_of-name count q)))))
 
-column_shown : (name : List ℕ) (v : ℚ) (rest : List ℕ) → IsPlainName name → Fits v → lines_shown (column_line name v ++ rest) ≡ told_line name v ++ lines_shown rest
+column_shown : (name : List ℕ) (v : ℚ) (rest : List ℕ) → IsWord name → Fits v → lines_shown (column_line name v ++ rest) ≡ told_line name v ++ lines_shown rest
 column_shown name v rest p f = by (nat_eq (unsigned_abs v.num) 0)
   where
     by : (b : Bool) → lines_shown ((if b then [] else codes "x " ++ name ++ codes " " ++ printed v ++ codes "\n") ++ rest) ≡ (if b then [] else words_of_column name v ∷ []) ++ lines_shown rest
     by true = refl
     by false = written name (printed v) rest p (printed-plain v f)
 
-columns_shown : (cs : List Col) (xs : Point) (rest : List ℕ) → All (λ c. IsPlainName c.name) cs → All Fits xs → lines_shown (column_lines cs xs ++ rest) ≡ told cs xs ++ lines_shown rest
+columns_shown : (cs : List Col) (xs : Point) (rest : List ℕ) → All (λ c. IsWord c.name) cs → All Fits xs → lines_shown (column_lines cs xs ++ rest) ≡ told cs xs ++ lines_shown rest
 unfolding column_lines told
 columns_shown [] xs rest p f = refl
 columns_shown (c ∷ cs) [] rest p f = refl
 columns_shown (c ∷ cs) (v ∷ vs) rest p f =
     ap lines_shown (append_assoc (column_line c.name v) (column_lines cs vs) rest)
-    ∙ column_shown c.name v (column_lines cs vs ++ rest) (All-head (λ c. IsPlainName c.name) c cs p) (All-head Fits v vs f)
-    ∙ ap (λ lines. told_line c.name v ++ lines) (columns_shown cs vs rest (All-tail (λ c. IsPlainName c.name) c cs p) (All-tail Fits v vs f))
+    ∙ column_shown c.name v (column_lines cs vs ++ rest) (All-head (λ c. IsWord c.name) c cs p) (All-head Fits v vs f)
+    ∙ ap (λ lines. told_line c.name v ++ lines) (columns_shown cs vs rest (All-tail (λ c. IsWord c.name) c cs p) (All-tail Fits v vs f))
     ∙ sym (append_assoc (told_line c.name v) (told cs vs) (lines_shown rest))
 
 end_shown : lines_shown (codes "end\n") ≡ last_lines

@@ -1,21 +1,22 @@
--- The words of a line, and the lines of a reply, that were put together from plain names.
-use Rattle.std.proofs.Common.{◌≡◌, ℕ, suc, ◌+◌, ◌%◌, ◌^◌, ◌<◌, ◌≤◌, Bool, true, false, not, List, [], ◌∷◌, ◌++◌, length, map, refl, ap, ◌∙◌, arith, ℤ, pos, negsuc, unsigned_abs, if◌then◌else◌}
+-- The words of a line, and the lines of a reply, that were put together from words.
+use Rattle.std.proofs.Common.{◌≡◌, ℕ, suc, ◌+◌, ◌%◌, ◌^◌, ◌<◌, ◌≤◌, Bool, true, false, List, [], ◌∷◌, ◌++◌, length, map, refl, ap, arith, ℤ, pos, negsuc, unsigned_abs, if◌then◌else◌}
 use Rattle.std.specs.Prelude.{nat_le, ◌==◌}
 use Rattle.std.specs.Fmt.{decimal, signed_decimal}
-use Rattle.std.specs.List.{All, list_all, filter, slice_split}
+use Rattle.std.specs.List.{All, list_all}
 use Rattle.std.proofs.lemmas.Bool.Decides.{nat_tests}
 use Rattle.std.proofs.lemmas.Fmt.{decimal_by_steps_wide}
 use Rattle.std.proofs.lemmas.List.Elements.{All-nil, All-cons, All-append, All-weaker}
-use Rattle.std.proofs.lemmas.List.Splits.{slice_split_none, slice_split_at}
+use Rattle.std.proofs.lemmas.List.Splits.{slice_split_at}
 use Rattle.rational.specs.Rational.{ℚ, den}
 use Rattle.frac128.specs.Range.{Fits, largest}
 use Rattle.frac128.specs.Printing.{printed}
 use Rattle.frac_text.proofs.Cuts.{both}
-use Rattle.mps_model.specs.PlainNames.{IsPlainName}
-use Rattle.script_session.specs.Script.{is_newline, is_blank, is_piece, words_of}
+use Rattle.text_lines.specs.Lines.{is_newline, HasNoNewline}
+use Rattle.text_lines.specs.Words.{is_blank, words_of, IsWord}
+use Rattle.text_lines.proofs.WordLemmas.{words-one, words-more, something}
 use Rattle.sym_shell.specs.Shown.{lines_shown}
 
--- ---- what is printed is a plain name
+-- ---- what is printed is a word
 
 abbrev IsHigh : ℕ → Type 0
 IsHigh byte = 33 ≤ byte
@@ -25,7 +26,7 @@ record AreHigh (bytes : List ℕ) : Type 0 where
   some : 0 < length bytes
   all : All IsHigh bytes
 
-plain : (bytes : List ℕ) → AreHigh bytes → IsPlainName bytes
+plain : (bytes : List ℕ) → AreHigh bytes → IsWord bytes
 plain bytes h = record {
   some = h.some;
   one_line = All-weaker IsHigh (λ byte. is_newline byte ≡ false) no_newline bytes h.all;
@@ -87,44 +88,31 @@ high_tested (byte ∷ bytes) h =
     at_least : (byte : ℕ) → nat_le 33 byte ≡ true → 33 ≤ byte
     at_least byte e = grind (arith, nat_tests)
 
-pub decimal-plain : (n : ℕ) → n < 2 ^ 64 → IsPlainName (decimal n)
+pub decimal-plain : (n : ℕ) → n < 2 ^ 64 → IsWord (decimal n)
 decimal-plain n h = plain (decimal n) (high_decimal n (omega arith))
 
-pub printed-plain : (x : ℚ) → Fits x → IsPlainName (printed x)
+pub printed-plain : (x : ℚ) → Fits x → IsWord (printed x)
 printed-plain x f = plain (printed x) (high_printed x f)
 
 -- a word that is written out
-pub tested-plain : (bytes : List ℕ) → 0 < length bytes → list_all (nat_le 33) bytes ≡ true → IsPlainName bytes
+pub tested-plain : (bytes : List ℕ) → 0 < length bytes → list_all (nat_le 33) bytes ≡ true → IsWord bytes
 tested-plain bytes some h = plain bytes (record { some = some; all = high_tested bytes h })
 
 -- ---- words
 
-a_piece : (word : List ℕ) → 0 < length word → is_piece word ≡ true
-a_piece word h = ap not (not_zero (length word) h)
-  where
-    not_zero : (n : ℕ) → 0 < n → (n == 0) ≡ false
-    not_zero n some = grind (arith, nat_tests)
+-- a word alone
+pub words_of-name : (word : List ℕ) → IsWord word → words_of word ≡ word ∷ []
+words_of-name word p = words-one word p.one_word (something word p.some)
 
--- a plain name is one word
-pub words_of-name : (word : List ℕ) → IsPlainName word → words_of word ≡ word ∷ []
-unfolding words_of
-words_of-name word p = ap (filter is_piece) (slice_split_none is_blank word p.one_word) ∙ ap (λ b. if b then word ∷ [] else []) (a_piece word p.some)
-
--- a plain name and a blank are one word, before the words of what follows
-pub words_of-more : (word rest : List ℕ) → IsPlainName word → words_of (word ++ 32 ∷ rest) ≡ word ∷ words_of rest
-unfolding words_of
-words_of-more word rest p =
-    ap (filter is_piece) (slice_split_at is_blank word 32 rest p.one_word refl)
-    ∙ ap (λ b. if b then word ∷ filter is_piece (slice_split is_blank rest) else filter is_piece (slice_split is_blank rest)) (a_piece word p.some)
+-- a word and a blank, before the words of what follows
+pub words_of-more : (word rest : List ℕ) → IsWord word → words_of (word ++ 32 ∷ rest) ≡ word ∷ words_of rest
+words_of-more word rest p = words-more word 32 rest p.one_word (something word p.some) refl
 
 -- ---- lines
 
-abbrev pub IsOneLine : List ℕ → Type 0
-IsOneLine bytes = All (λ byte. is_newline byte ≡ false) bytes
-
-pub joined-one_line : (word rest : List ℕ) → IsPlainName word → IsOneLine rest → IsOneLine (word ++ 32 ∷ rest)
+pub joined-one_line : (word rest : List ℕ) → IsWord word → HasNoNewline rest → HasNoNewline (word ++ 32 ∷ rest)
 joined-one_line word rest p h = All-append (λ byte. is_newline byte ≡ false) word (32 ∷ rest) p.one_line (All-cons (λ byte. is_newline byte ≡ false) 32 rest refl h)
 
-pub lines_shown-more : (line rest : List ℕ) → IsOneLine line → lines_shown (line ++ 10 ∷ rest) ≡ words_of line ∷ lines_shown rest
+pub lines_shown-more : (line rest : List ℕ) → HasNoNewline line → lines_shown (line ++ 10 ∷ rest) ≡ words_of line ∷ lines_shown rest
 unfolding lines_shown
 lines_shown-more line rest h = ap (map words_of) (slice_split_at is_newline line 10 rest h refl)

@@ -7,14 +7,14 @@ use Rattle.sym_io.specs.declared.traits.TheConstants.{MAX_FILE_LENGTH}
 use Rattle.tree_edit.specs.Sound.{PlainSearch}
 use Rattle.sym_env.specs.Enough.{IsEnough}
 use Rattle.sym_env.specs.Env.{model_of}
-use Rattle.sym_env.specs.declared.held.Held.TheVariants.{Nothing, Finished}
+use Rattle.sym_env.specs.declared.held.Held.TheVariants.{Nothing}
 use Rattle.sym_env.specs.declared.limits.Limits.{Limits}
 use Rattle.command_words.specs.Asks.{Asks, Load, Solve, Cert, Quit, Unknown, Misused, NoNumber, asks_of}
 use Rattle.reply_texts.specs.Texts.{ok_text, unknown_text, arguments_text, no_model_text, no_answer_text, number_text, store_text, file_too_long_text, mps_text, memory_text}
 use Rattle.sym_shell.specs.State.{ShellState}
 use Rattle.sym_shell.specs.Load.{HasText, IsMissing, IsTooLong, IsFaulty, Loads}
 use Rattle.sym_shell.specs.Solve.{limits_of, ShowsOptimum, ShowsEmptiness, ShowsNoEnd, ShowsNodeStop, ShowsTreeStop, ShowsPivotStop, ShowsWideStop}
-use Rattle.sym_shell.specs.Certify.{IsReadCertificate}
+use Rattle.sym_shell.specs.Certify.{IsHeldText}
 use Rattle.sym_shell.specs.Step.{Step}
 use Rattle.sym_shell.specs.Kinds.{Kind, Optimal, Infeasible, Unbounded, StoppedNodes, StoppedTree, StoppedPivots, StoppedWide, Done, UnknownCommand, WrongArguments, NoModel, WrongNumber, NoAnswer, StoreFailed, FileTooLong, FaultyText, WantsMemory, Is, IsError}
 
@@ -34,14 +34,16 @@ pub record Loaded (words : List (List ℕ)) (P : List ℕ → Option ℕ → Typ
   pub asked : asks_of words ≡ Load file intupper
   pub is : P file intupper
 
--- `cert` as a file, where there is a model and the answer of its finished search is held, and P of the file and the search
-pub record Certified (old : ShellState) (words : List (List ℕ)) (P : List ℕ → PlainSearch → Type 0) : Type 0 where
+-- `cert` as a file, where there is a model and an answer is held, and P of the file and of the text of its certificate
+pub record Certified (old : ShellState) (words : List (List ℕ)) (P : List ℕ → List ℕ → Type 0) : Type 0 where
   pub file : List ℕ
   pub search : PlainSearch
+  pub text : List ℕ
   pub asked : asks_of words ≡ Cert file
   pub present : old.env.search ≡ Some search
-  pub held : old.env.held ≡ Finished
-  pub is : P file search
+  pub held : old.env.held ≢ Nothing
+  pub certificate : IsHeldText search old.env.held text
+  pub is : P file text
 
 -- a command that needs a model
 abbrev pub NeedsModel : Asks → Type 0
@@ -73,7 +75,7 @@ CauseOf StoppedWide old words reply new = Solved old words (λ S l. ShowsWideSto
 -- accepted for the model that is present; or the script ends.
 CauseOf Done old words reply new =
     Loaded words (λ file intupper. Loads old file intupper reply new)
-    ⊎ Certified old words (λ file S. (text : List ℕ) × (IsReadCertificate S text × (length text ≤ MAX_FILE_LENGTH) × Sets old.files new.files file text))
+    ⊎ Certified old words (λ file text. (length text ≤ MAX_FILE_LENGTH) × Sets old.files new.files file text)
     ⊎ ((asks_of words ≡ Quit) × (new ≡ old))
 CauseOf UnknownCommand old words reply new = (word : List ℕ) × Refused words reply (Unknown word) (unknown_text word)
 CauseOf WrongArguments old words reply new = Refused words reply Misused arguments_text
@@ -82,10 +84,10 @@ CauseOf NoModel old words reply new = NeedsModel (asks_of words) × (reply ≡ n
 CauseOf NoAnswer old words reply new = (file : List ℕ) × (Refused words reply (Cert file) no_answer_text × (IsSome old.env.search × (old.env.held ≡ Nothing)))
 CauseOf StoreFailed old words reply new =
     Loaded words (λ file intupper. (reply ≡ store_text) × (Rose old.faults new.faults ⊎ IsMissing old.files file))
-    ⊎ Certified old words (λ file S. (reply ≡ store_text) × ((text : List ℕ) × (IsReadCertificate S text × (length text ≤ MAX_FILE_LENGTH) × Rose old.faults new.faults)))
+    ⊎ Certified old words (λ file text. (reply ≡ store_text) × (length text ≤ MAX_FILE_LENGTH) × Rose old.faults new.faults)
 CauseOf FileTooLong old words reply new =
     Loaded words (λ file intupper. (reply ≡ file_too_long_text) × IsTooLong old.files file)
-    ⊎ Certified old words (λ file S. (reply ≡ file_too_long_text) × ((text : List ℕ) × (IsReadCertificate S text × (MAX_FILE_LENGTH < length text))))
+    ⊎ Certified old words (λ file text. (reply ≡ file_too_long_text) × (MAX_FILE_LENGTH < length text))
 CauseOf FaultyText old words reply new =
     Loaded words (λ file intupper. (line : ℕ) × ((code : ℕ) × ((reply ≡ mps_text line code) × HasText old.files file (IsFaulty intupper line code))))
 CauseOf WantsMemory old words reply new = reply ≡ memory_text

@@ -5,9 +5,11 @@ use Rattle.sym_io.specs.Files.{Files, KeepsOthers, Sets}
 use Rattle.sym_io.specs.declared.traits.TheConstants.{MAX_FILE_LENGTH}
 use Rattle.tree_edit.specs.Sound.{PlainSearch}
 use Rattle.cert_text.specs.Text.{MeantCertificate as States}
-use Rattle.sym_env.specs.Certificates.{IsCertificateText}
+use Rattle.tree_cert.specs.Certificates.{unbounded_certificate}
+use Rattle.lp_model.specs.Program.{Point}
+use Rattle.sym_env.specs.Certificates.{IsCertificateText, IsUnboundedText}
 use Rattle.sym_env.specs.declared.held.Held.{Held}
-use Rattle.sym_env.specs.declared.held.Held.TheVariants.{Nothing, Finished}
+use Rattle.sym_env.specs.declared.held.Held.TheVariants.{Nothing, Finished, Unbounded}
 use Rattle.reply_texts.specs.Texts.{ok_text, no_model_text, no_answer_text, store_text, file_too_long_text, memory_text}
 use Rattle.sym_shell.specs.State.{ShellState}
 
@@ -16,6 +18,18 @@ use Rattle.sym_shell.specs.State.{ShellState}
 pub record IsReadCertificate (S : PlainSearch) (text : List ℕ) : Type 0 where
   pub is : IsCertificateText S text
   pub stated : States text is.cert
+
+-- The bytes are the text of the certificate that the model is unbounded, by a point that the search keeps and this ray. They read as that
+-- certificate, which is accepted for the model, so that it is unbounded.
+pub record IsReadUnbounded (S : PlainSearch) (ray : Point) (text : List ℕ) : Type 0 where
+  pub is : IsUnboundedText S ray text
+  pub stated : States text (unbounded_certificate S.model is.point ray)
+
+-- the certificate of the answer that is held, by which it is; there is none without one
+abbrev pub IsHeldText : PlainSearch → Held → List ℕ → Type 0
+IsHeldText S Nothing text = ⊥
+IsHeldText S Finished text = IsReadCertificate S text
+IsHeldText S (Unbounded ray) text = IsReadUnbounded S ray text
 
 -- a text with P stands in the file, or why it does not, and the reply tells it
 pub data Writes (P : List ℕ → Type 0) (name : List ℕ) (files : Option Files) (faults : ℕ) (reply : List ℕ) (files' : Option Files) (faults' : ℕ) : Type 0 where
@@ -33,7 +47,8 @@ pub record IsTold (old : ShellState) (text reply : List ℕ) (new : ShellState) 
 abbrev pub Certifies : Option PlainSearch → Held → ShellState → List ℕ → List ℕ → ShellState → Type 0
 Certifies None held old name reply new = IsTold old no_model_text reply new
 Certifies (Some S) Nothing old name reply new = IsTold old no_answer_text reply new
-Certifies (Some S) Finished old name reply new = Writes (IsReadCertificate S) name old.files old.faults reply new.files new.faults
+Certifies (Some S) Finished old name reply new = Writes (IsHeldText S Finished) name old.files old.faults reply new.files new.faults
+Certifies (Some S) (Unbounded ray) old name reply new = Writes (IsHeldText S (Unbounded ray)) name old.files old.faults reply new.files new.faults
 
 -- the environment stays
 pub record CertStep (old : ShellState) (name reply : List ℕ) (new : ShellState) : Type 0 where

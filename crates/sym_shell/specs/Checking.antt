@@ -14,7 +14,7 @@ use Rattle.cert_text.specs.Text.{MeantCertificate as States, FaultyCertificate}
 use Rattle.cert_check.specs.Verdict.{IsVerdict}
 use Rattle.cert_check.specs.Laws.{IsTrueClaim}
 use Rattle.cert_text.specs.declared.cert.Claim.{Claim}
-use Rattle.cert_text.specs.declared.cert.Claim.TheVariants.{Optimal, Infeasible}
+use Rattle.cert_text.specs.declared.cert.Claim.TheVariants.{Optimal, Infeasible, Unbounded}
 use Rattle.cert_text.specs.declared.cert.Cert.{Cert}
 use Rattle.cert_check.specs.declared.verdict.Verdict.{Verdict}
 use Rattle.cert_check.specs.declared.verdict.Verdict.TheVariants.{Accepted, Rejected, Wide}
@@ -48,6 +48,7 @@ accepted_value_text v = codes "accepted optimal " ++ printed v ++ codes "\n"
 abbrev pub claim_text : Claim → List ℕ
 claim_text (Optimal v) = accepted_value_text v
 claim_text Infeasible = codes "accepted infeasible\n"
+claim_text Unbounded = codes "accepted unbounded\n"
 
 abbrev pub rejected_text : ℕ → ℕ → List ℕ
 rejected_text node why = codes "rejected " ++ decimal node ++ codes " " ++ decimal why ++ codes "\n"

@@ -6,7 +6,8 @@ use Rattle.std.specs.List.{slice_split, filter}
 use Rattle.rational.specs.Rational.{ℚ, int}
 use Rattle.frac_text.specs.Spelling.{Reading, Number, reading_of}
 use Rattle.script_session.specs.Request.{Command}
-use Rattle.script_session.specs.Script.{is_newline, words_of}
+use Rattle.text_lines.specs.Lines.{is_newline}
+use Rattle.text_lines.specs.Words.{words_of}
 use Rattle.lp_model.specs.Program.{Program, Point}
 
 -- the words of each line of a reply

@@ -1,22 +1,26 @@
 -- What `solve` may answer of the model that is loaded.
 use Rattle.std.specs.Prelude.{◌≡◌, ◌⊎◌, ℕ, ◌<◌, ◌≤◌, List, Option, Some, None}
 use Rattle.rational.specs.Rational.{ℚ}
-use Rattle.lp_model.specs.Program.{Program, IsOptimum, IsEmpty, value}
-use Rattle.lp_model.specs.Rays.{IsUnbounded}
+use Rattle.lp_model.specs.Program.{Program, Point, IsOptimum, IsEmpty, value}
+use Rattle.lp_model.specs.Rays.{IsRay, IsUnbounded}
 use Rattle.lp_model.specs.declared.answers.PivotPlace.{PivotPlace}
 use Rattle.lp_model.specs.declared.answers.WideAt.{WideAt}
 use Rattle.lp_model.specs.declared.answers.StopWhy.{StopWhy}
 use Rattle.lp_model.specs.declared.answers.StopWhy.TheVariants.{Nodes, Tree, Pivots, Wide}
 use Rattle.lp_model.specs.declared.answers.Answer.{Answer}
 use Rattle.lp_model.specs.declared.answers.Answer.TheVariants.{Optimal, Infeasible, Unbounded, Stopped, Memory}
+use Rattle.ray_phase.specs.Answers.{IsRayAnswer}
+use Rattle.ray_phase.specs.declared.phase.RayAnswer.TheVariants as phase
 use Rattle.search_counting.specs.Work.{cap_of}
 use Rattle.tree_edit.specs.Points.{IsIncumbent}
 use Rattle.tree_edit.specs.Sound.{PlainSearch}
 use Rattle.sym_env.specs.Enough.{IsEnough}
 use Rattle.sym_env.specs.Env.{PlainEnv}
-use Rattle.sym_env.specs.Solves.{Solved, Solves, held_by}
+use Rattle.sym_env.specs.Solves.{Solved, Solves}
 use Rattle.sym_env.specs.Truth.{IsCount, IsBound, IsFoundValue}
+use Rattle.sym_env.specs.declared.held.Held.{Held}
 use Rattle.sym_env.specs.declared.held.Held.TheVariants.{Nothing, Finished}
+use Rattle.sym_env.specs.declared.held.Held.TheVariants as holding
 use Rattle.sym_env.specs.declared.limits.Limits.{Limits}
 use Rattle.reply_texts.specs.Texts.{no_model_text, memory_text, answer_text}
 use Rattle.sym_shell.specs.Shown.{point_shown, value_shown}
@@ -26,12 +30,12 @@ use Rattle.branch_tree.specs.Limits.{node_limit}
 abbrev pub limits_of : ℕ → ℕ → Limits
 limits_of nodes pivots = record { nodes = nodes; pivots = pivots; tree = node_limit }
 
--- This was found of the model by the search that the environment has from now on, which is held where it went to its end with a
--- certificate; and the reply is the text of the answer.
-pub record Tells (M : Program) (l : Limits) (answer : Answer) (reply : List ℕ) (env : PlainEnv) : Type 0 where
+-- This was found of the model by the search that the environment has from now on, and so much of it is held; the reply is the text of
+-- the answer.
+pub record Tells (M : Program) (l : Limits) (answer : Answer) (held : Held) (reply : List ℕ) (env : PlainEnv) : Type 0 where
   pub search : PlainSearch
   pub solved : Solved M l answer search
-  pub env_is : env ≡ record { search = Some search; held = held_by answer }
+  pub env_is : env ≡ record { search = Some search; held = held }
   pub shown : reply ≡ answer_text M answer
 
 -- The point that the reply shows is an optimum of the model, and the value that it shows is the point's. Both are read
@@ -41,22 +45,25 @@ pub record ShowsOptimum (M : Program) (l : Limits) (reply : List ℕ) (env : Pla
   pub optimum : IsOptimum M (point_shown M reply)
   pub worth : value_shown reply ≡ Some (value M 1 (point_shown M reply))
   pub placed : ℕ
-  pub told : Tells M l (Optimal (value M 1 (point_shown M reply)) (point_shown M reply) placed) reply env
+  pub told : Tells M l (Optimal (value M 1 (point_shown M reply)) (point_shown M reply) placed) Finished reply env
   pub oldest : IsIncumbent M told.search.points (Some (point_shown M reply))
   pub count : IsCount M l placed
 
--- the reply says truly that no point is feasible
+-- the reply says truly that no point is feasible, and the search is held
 pub record ShowsEmptiness (M : Program) (l : Limits) (reply : List ℕ) (env : PlainEnv) : Type 0 where
   pub empty : IsEmpty M
   pub placed : ℕ
-  pub told : Tells M l (Infeasible placed) reply env
+  pub told : Tells M l (Infeasible placed) Finished reply env
   pub count : IsCount M l placed
 
--- the reply says truly that the objective has no end
+-- the reply says truly that the objective has no end; a ray that the ray phase found is held beside the search, which keeps a point
 pub record ShowsNoEnd (M : Program) (l : Limits) (reply : List ℕ) (env : PlainEnv) : Type 0 where
   pub unbounded : IsUnbounded M
   pub placed : ℕ
-  pub told : Tells M l (Unbounded placed) reply env
+  pub direction : Point
+  pub is_ray : IsRay M direction
+  pub found : IsRayAnswer M l.pivots (phase.Ray direction)
+  pub told : Tells M l (Unbounded placed) (holding.Unbounded direction) reply env
   pub count : IsCount M l placed
 
 -- The search stopped for this cause after so many results, not having enough to go to the end. No feasible point is better than the
@@ -66,7 +73,7 @@ pub record ShowsStop (M : Program) (l : Limits) (why : StopWhy) (placed : ℕ) (
   pub best : Option ℚ
   pub holds : IsBound M bound
   pub found : IsFoundValue M best
-  pub told : Tells M l (Stopped why placed bound best) reply env
+  pub told : Tells M l (Stopped why placed bound best) Nothing reply env
   pub below_cap : placed < cap_of M
   pub short : ¬ IsEnough M l
 

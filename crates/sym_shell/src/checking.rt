@@ -66,6 +66,7 @@ fn write_accepted(reply: &mut Vec<u8>, claim: &Claim) -> Result<(), AllocError>
     match claim {
         Claim::Optimal(value) => write_accepted_value(reply, value),
         Claim::Infeasible => reply.extend_from_slice(b"accepted infeasible\n"),
+        Claim::Unbounded => reply.extend_from_slice(b"accepted unbounded\n"),
     }
 }
 

@@ -1,7 +1,7 @@
 -- The certificate of a finished search passes: its point is kept, and each of its leaves is judged closed by the very
 -- numbers that the certificate gives.
 use Rattle.std.proofs.Common.{◌≡◌, ◌≢◌, ℕ, List, [], ◌∷◌, ◌++◌, length, refl, sym, ap, subst, ◌∙◌, inl, inr}
-use Rattle.std.specs.Prelude.{All, AllPairs, IsTrue, Option, Some, None}
+use Rattle.std.specs.Prelude.{All, AllPairs, IsTrue, true, Option, Some, None, Ok}
 use Rattle.std.proofs.lemmas.List.Elements.{All-append}
 use Rattle.std.proofs.lemmas.List.Elements.{All-get_or}
 use Rattle.rational.specs.Rational.{ℚ, neg_ℚ}
@@ -26,7 +26,7 @@ use Rattle.tree_edit.specs.Points.{IsKeepable, target, IsIncumbent, IsIncumbentA
 use Rattle.tree_edit.specs.Sound.{PlainSearch, IsSound}
 use Rattle.tree_edit.proofs.PointLemmas.{target-at}
 use Rattle.cert_text.specs.declared.cert.Claim.{Claim}
-use Rattle.cert_text.specs.declared.cert.Claim.TheVariants.{Optimal, Infeasible}
+use Rattle.cert_text.specs.declared.cert.Claim.TheVariants.{Optimal, Infeasible, Unbounded}
 use Rattle.cert_text.specs.declared.cert.CertNode.{CertNode}
 use Rattle.cert_text.specs.declared.cert.CertNode.TheVariants as node
 use Rattle.cert_text.specs.declared.cert.Cert.{Cert}
@@ -35,11 +35,13 @@ use Rattle.cert_check.specs.declared.verdict.Verdict.TheVariants.{Accepted}
 use Rattle.cert_text.specs.Tree.{CertTree, certificate_nodes}
 use Rattle.cert_text.specs.Tree.{Bound as CertBound, Farkas as CertFarkas, Empty as CertEmpty, Split as CertSplit}
 use Rattle.cert_check.specs.Places.{place_among}
-use Rattle.lp_model.specs.Edits.{only_row_names}
-use Rattle.cert_check.specs.Verdict.{IsNumberJudged, IsFarkasJudged, IsNodeJudged, IsPointJudged, IsClaimJudged, visits, IsVisitJudged, IsVerdict}
-use Rattle.cert_text.specs.Whole.{IsNarrowNode, HasNoPoint, IsCertificate}
+use Rattle.lp_model.specs.Edits.{Named, only_row_names}
+use Rattle.lp_model.specs.Answers.{IsFeasibilityAnswer}
+use Rattle.lp_model.specs.Rays.{IsRayJudged}
+use Rattle.cert_check.specs.Verdict.{IsNumberJudged, IsFarkasJudged, IsNodeJudged, IsPointJudged, IsFeasibleJudged, IsDirectionJudged, IsClaimJudged, visits, AreVisits, IsVisitJudged, IsVerdict}
+use Rattle.cert_text.specs.Whole.{IsNarrowNode, HasNoPoint, HasNoRay, AreOneTree, HasTree, IsCertificate}
 use Rattle.cert_check.proofs.PlaceLemmas.{rows_differ}
-use Rattle.tree_cert.specs.Certificates.{claim_of, point_numbers, IsReason, IsTreeOf, IsCertificateOf}
+use Rattle.tree_cert.specs.Certificates.{claim_of, point_numbers, IsReason, IsTreeOf, IsCertificateOf, unbounded_certificate}
 use Rattle.lp_model.specs.Lawful.{column_name}
 use Rattle.tree_cert.proofs.NameLaws.{all_cons, all_none, column_place, column_there, rows_read, rows_named, numbers_named, numbers_read}
 
@@ -56,6 +58,7 @@ twice M v = by M.sense
 abbrev pub IsClaimFor : Program → Option ℚ → Claim → Type 0
 IsClaimFor M t (Optimal v) = t ≡ Some (in_least_form M.sense v)
 IsClaimFor M t Infeasible = t ≡ None
+IsClaimFor M t Unbounded = ⊥
 
 pub claim_for : (S : PlainSearch) (best : Option Point) → IsIncumbent S.model S.points best → IsClaimFor S.model (target S.model S.points) (claim_of S.model best)
 claim_for S None none = ap (target S.model) none
@@ -93,6 +96,7 @@ module _ (M : Program) (lawful_model : IsLawfulModel M) where
       )
   number-passes t (Optimal v) for path kept (number.Lag q) is closes some stands = (q, (is.1, subst (λ u. NumberCloses M u (number.Lag q)) for closes))
   number-passes t Infeasible for path kept (number.Lag q) is closes some stands = absurd (subst (λ u. NumberCloses M u (number.Lag q)) for closes)
+  number-passes t Unbounded for path kept (number.Lag q) is closes some stands = absurd for
   number-passes t claim for path kept (number.Wide step) is closes some stands = absurd closes
 
   leaf-passes : (t : Option ℚ) (claim : Claim) → IsClaimFor M t claim → (path : Path) (kept : LeafData) (n : CertNode) → HasLists (without_cuts M) kept → IsJudgedLeaf (without_cuts M) t path kept → kept.state ≡ IsClosed → IsReason M path kept n → IsNodeJudged (without_cuts M) claim path n Passes
@@ -158,15 +162,15 @@ narrow-tree M path (Split kept j v left right) (CertSplit col w first second) na
 
 -- ---- points and certificates
 
-incumbent-keepable : (S : PlainSearch) (x : Point) (k : ℕ) → IsSound S → IsIncumbentAt S.model S.points x k → IsKeepable S.model x
+pub incumbent-keepable : (S : PlainSearch) (x : Point) (k : ℕ) → IsSound S → IsIncumbentAt S.model S.points x k → IsKeepable S.model x
 incumbent-keepable S x k sound at = subst (IsKeepable S.model) at.is (All-get_or (IsKeepable S.model) S.points k x at.within sound.points)
 
 pub point_shape : (S : PlainSearch) (x : Point) → IsSound S → IsIncumbent S.model S.points (Some x) → length x ≡ length S.model.cols
 point_shape S x sound (k, at) = (incumbent-keepable S x k sound at).shape
 
-claim-passes : (S : PlainSearch) (best : Option Point) → IsSound S → IsLawfulModel S.model → IsIncumbent S.model S.points best → IsClaimJudged S.model (claim_of S.model best) (point_numbers S.model best) Passes
-claim-passes S None sound lawful none = refl
-claim-passes S (Some x) sound lawful (k, at) =
+claim-passes : (S : PlainSearch) (best : Option Point) (ray : Named) → IsSound S → IsLawfulModel S.model → IsIncumbent S.model S.points best → IsClaimJudged S.model (claim_of S.model best) (point_numbers S.model best) ray Passes
+claim-passes S None ray sound lawful none = refl
+claim-passes S (Some x) ray sound lawful (k, at) =
     let M = S.model in
     let kept = incumbent-keepable S x k sound at in
     inl (
@@ -178,22 +182,55 @@ none-claimed : (M : Program) (best : Option Point) → HasNoPoint (claim_of M be
 none-claimed M None = refl
 none-claimed M (Some x) = tt
 
+no_ray-claimed : (M : Program) (best : Option Point) → HasNoRay (claim_of M best) []
+no_ray-claimed M None = refl
+no_ray-claimed M (Some x) = refl
+
+tree-claimed : (M : Program) (best : Option Point) (nodes : List CertNode) → AreOneTree nodes → HasTree (claim_of M best) nodes
+tree-claimed M None nodes t = t
+tree-claimed M (Some x) nodes t = t
+
+visits-claimed : (M : Program) (best : Option Point) (nodes : List CertNode) (t : CertTree) → certificate_nodes t ≡ nodes → AreVisits M (claim_of M best) nodes (visits M [] t)
+visits-claimed M None nodes t are = record { tree = t; nodes_are = are; are = refl }
+visits-claimed M (Some x) nodes t are = record { tree = t; nodes_are = are; are = refl }
+
 module _ (S : PlainSearch) (cert : Cert) (sound : IsSound S) (of : IsCertificateOf S cert) where
   pub is_certificate : IsCertificate cert
   is_certificate = record {
-    tree = of.tree;
-    nodes = of.nodes;
+    tree = subst (λ claim. HasTree claim cert.nodes) (sym of.claim) (tree-claimed S.model of.incumbent cert.nodes (record { tree = of.tree; nodes_are = of.nodes }));
     narrow = subst (All IsNarrowNode) of.nodes (narrow-tree S.model [] S.tree.root of.tree sound.tree.narrow of.like);
     point = subst (λ T. T) (λ i. HasNoPoint (sym of.claim i) (sym of.point i)) (none-claimed S.model of.incumbent);
+    ray = subst (λ T. T) (λ i. HasNoRay (sym of.claim i) (sym of.ray i)) (no_ray-claimed S.model of.incumbent);
   }
 
   pub is_accepted : IsLawfulModel S.model → HasNoOpenLeaf S → IsVerdict S.model cert (Accepted cert.claim)
   is_accepted lawful closed = record {
-    tree = of.tree;
-    nodes = of.nodes;
+    visited = visits S.model [] of.tree;
+    are = subst (λ claim. AreVisits S.model claim cert.nodes (visits S.model [] of.tree)) (sym of.claim) (visits-claimed S.model of.incumbent cert.nodes of.tree of.nodes);
     is = (
       refl,
-      subst (λ T. T) (λ i. IsClaimJudged S.model (sym of.claim i) (sym of.point i) Passes) (claim-passes S of.incumbent sound lawful of.best),
+      subst (λ T. T) (λ i. IsClaimJudged S.model (sym of.claim i) (sym of.point i) cert.ray Passes) (claim-passes S of.incumbent cert.ray sound lawful of.best),
       tree-passes S.model lawful (target S.model S.points) cert.claim (subst (IsClaimFor S.model (target S.model S.points)) (sym of.claim) (claim_for S of.incumbent of.best)) [] S.tree.root of.tree sound.tree.lawful sound.tree.lists sound.judged closed of.like,
+    );
+  }
+
+-- ---- models with a ray
+
+module _ (M : Program) (x d : Point) where
+  pub unbounded-whole : IsCertificate (unbounded_certificate M x d)
+  unbounded-whole = record { tree = refl; narrow = all_none IsNarrowNode; point = tt; ray = tt }
+
+  -- the written point and ray are read as they were, and so they pass
+  pub unbounded-accepted : IsLawfulModel M → IsFeasibilityAnswer M x (Ok true) → IsRayJudged M d (Ok true) → IsVerdict M (unbounded_certificate M x d) (Accepted Unbounded)
+  unbounded-accepted lawful feasible ray = record {
+    visited = [];
+    are = (refl, refl);
+    is = (
+      refl,
+      inl (
+        inl (numbers_named M x lawful.columns_distinct, subst (λ y. IsFeasibleJudged M y Passes) (sym (numbers_read M x lawful.columns_distinct feasible.0.shape)) feasible),
+        inl (numbers_named M d lawful.columns_distinct, subst (λ y. IsDirectionJudged M y Passes) (sym (numbers_read M d lawful.columns_distinct ray.0.shape)) ray),
+      ),
+      all_none (λ p. IsVisitJudged M Unbounded p Passes),
     );
   }

@@ -6,43 +6,47 @@ use Rattle.std.proofs.lemmas.List.{take_all}
 use Rattle.std.proofs.lemmas.List.Elements.{All-nil, All-cons, All-head, All-append}
 use Rattle.lp_model.specs.Edits.{Named}
 use Rattle.cert_text.specs.declared.cert.Claim.{Claim}
-use Rattle.cert_text.specs.declared.cert.Claim.TheVariants.{Optimal, Infeasible}
+use Rattle.cert_text.specs.declared.cert.Claim.TheVariants.{Optimal, Infeasible, Unbounded}
 use Rattle.cert_text.specs.declared.cert.CertNode.{CertNode}
 use Rattle.cert_text.specs.declared.cert.Cert.{Cert}
 use Rattle.cert_text.specs.declared.line.Statement.{Statement}
 use Rattle.cert_text.specs.declared.line.Statement.TheVariants as says
-use Rattle.cert_text.specs.Lines.{lines_of, line_says}
+use Rattle.text_lines.specs.Lines.{HasNoNewline, line_bytes}
+use Rattle.text_lines.specs.Words.{IsWord}
+use Rattle.text_lines.proofs.CleanLemmas.{line_bytes-clean}
+use Rattle.cert_text.specs.Lines.{line_says}
 use Rattle.cert_text.specs.Reading.{after}
-use Rattle.cert_text.specs.Text.{StatedCertificate, stated, due_after, is_whole_tree, are_none, takes_point, lacks_part, place_code, code_in, code_at, AreClean, or_no_end, end_code, first_claim, first_point, cert_of, MeantCertificate}
-use Rattle.cert_text.specs.Whole.{TakesAll, IsNarrowNode, HasNoPoint, IsCertificate}
+use Rattle.cert_text.specs.Text.{StatedCertificate, stated, due_after, is_whole_tree, are_none, takes_point, takes_ray, lacks_point, lacks_numbers, lacks_part, place_code, code_in, code_at, AreClean, or_no_end, end_code, first_claim, first_named, cert_of, MeantCertificate}
+use Rattle.cert_text.specs.Whole.{TakesAll, IsNarrowNode, HasNoPoint, HasNoRay, AreOneTree, HasTree, IsCertificate}
 use Rattle.cert_text.proofs.DueLemmas.{takes-more, whole_tree}
 use Rattle.cert_text.proofs.TextLemmas.{taken_more}
-use Rattle.tree_cert.specs.CertText.{IsWord, HasNodeWords, HasCertWords, cert_text}
-use Rattle.tree_cert.specs.Printed.{HasFractions, HasClaimRoom, HasPointRoom, HasNodeRoom, HasCertRoom}
-use Rattle.tree_cert.proofs.WordLaws.{OneLine}
-use Rattle.tree_cert.proofs.SaidLaws.{GoodNamed, GoodNode, Good, line-good, text-lines}
+use Rattle.tree_cert.specs.CertText.{HasNodeWords, HasCertWords, cert_text}
+use Rattle.tree_cert.specs.Printed.{HasFractions, HasClaimRoom, HasPointRoom, HasRayRoom, HasNodeRoom, HasCertRoom}
+use Rattle.tree_cert.proofs.SaidLaws.{GoodNamed, GoodNode, Good, line-good}
 use Rattle.tree_cert.proofs.PrintedLaws.{printed_states}
 
 nil_right : {A : Type 0} (l : List A) → l ++ [] ≡ l
 nil_right [] = refl
 nil_right (x ∷ l) = ap (λ m. x ∷ m) (nil_right l)
 
--- a point stands only behind a claimed value
-abbrev IsBehind : List Claim → List Named → Type 0
-IsBehind [] points = points ≡ []
-IsBehind (Optimal v ∷ claims) points = Unit {0}
-IsBehind (Infeasible ∷ claims) points = points ≡ []
+-- parts stand only behind a claim that has them
+abbrev AreBehind : List Claim → List Named → List Named → List CertNode → Type 0
+AreBehind [] points rays nodes = (points ≡ []) × ((rays ≡ []) × (nodes ≡ []))
+AreBehind (Optimal v ∷ claims) points rays nodes = rays ≡ []
+AreBehind (Infeasible ∷ claims) points rays nodes = (points ≡ []) × (rays ≡ [])
+AreBehind (Unbounded ∷ claims) points rays nodes = nodes ≡ []
 
-record Keeps (claims : List Claim) (points : List Named) (nodes : List CertNode) (ended : Bool) : Type 0 where
+record Keeps (claims : List Claim) (points rays : List Named) (nodes : List CertNode) (ended : Bool) : Type 0 where
   takes : TakesAll 1 nodes
   nodes_good : All GoodNode nodes
   claims_room : All HasClaimRoom claims
   points_good : All GoodNamed points
-  behind : IsBehind claims points
-  whole : ended ≡ true → due_after 1 nodes ≡ 0
+  rays_good : All GoodNamed rays
+  behind : AreBehind claims points rays nodes
+  whole : ended ≡ true → takes_ray claims ≡ false → due_after 1 nodes ≡ 0
 
 abbrev KeepsIn : StatedCertificate → Type 0
-KeepsIn s = Keeps s.claims s.points s.nodes s.ended
+KeepsIn s = Keeps s.claims s.points s.rays s.nodes s.ended
 
 one : {A : Type 0} (P : A → Type 0) (x : A) → P x → All P (x ∷ [])
 one P x here = All-cons P x [] here (All-nil P)
@@ -69,8 +73,8 @@ some_due (suc n) e = omega arith
 abbrev node_test : Bool → Bool → Option ℕ
 node_test a b = if a then Some 6 else if b then Some 7 else None
 
-abbrev end_test : Bool → Bool → Option ℕ
-end_test a b = if a then Some 6 else if b then None else Some 7
+abbrev end_test : Bool → Bool → Bool → Bool → Option ℕ
+end_test a r n w = if a then Some 6 else if r then None else if n then Some 6 else if w then None else Some 7
 
 abbrev point_test : Bool → Option ℕ
 point_test b = if b then None else Some 6
@@ -78,24 +82,46 @@ point_test b = if b then None else Some 6
 abbrev ended_test : Bool → Bool → ℕ → Option ℕ
 ended_test a b x = if a then Some 1 else if b then None else Some x
 
-node_clean : (a b : Bool) → node_test a b ≡ None → b ≡ false
+node_clean : (a b : Bool) → node_test a b ≡ None → (a ≡ false) × (b ≡ false)
 node_clean true b e = absurd cc
 node_clean false true e = absurd cc
-node_clean false false e = refl
+node_clean false false e = (refl, refl)
 
-end_clean : (a b : Bool) → end_test a b ≡ None → b ≡ true
-end_clean true b e = absurd cc
-end_clean false true e = refl
-end_clean false false e = absurd cc
+end_clean : (a r n w : Bool) → end_test a r n w ≡ None → r ≡ false → w ≡ true
+end_clean true r n w e no_ray = absurd cc
+end_clean false true n w e no_ray = absurd cc
+end_clean false false true w e no_ray = absurd cc
+end_clean false false false true e no_ray = refl
+end_clean false false false false e no_ray = absurd cc
 
--- a point without a code stands behind a claimed value
-point_clean : (s : StatedCertificate) (named : Named) → place_code s (says.Point named) ≡ None → IsBehind s.claims (s.points ++ named ∷ [])
+-- a point without a code stands behind a claim that has one
+point_clean : (s : StatedCertificate) (named : Named) → place_code s (says.Point named) ≡ None → AreBehind s.claims s.points s.rays s.nodes → AreBehind s.claims (s.points ++ named ∷ []) s.rays s.nodes
 point_clean s named = by s.claims (are_none s.points)
   where
-    by : (claims : List Claim) (b : Bool) → point_test (not (are_none claims) && (takes_point claims && b)) ≡ None → IsBehind claims (s.points ++ named ∷ [])
-    by [] b e = absurd cc
-    by (Optimal v ∷ claims) b e = tt
-    by (Infeasible ∷ claims) b e = absurd cc
+    by : (claims : List Claim) (b : Bool) → point_test (not (are_none claims) && (takes_point claims && b)) ≡ None → AreBehind claims s.points s.rays s.nodes → AreBehind claims (s.points ++ named ∷ []) s.rays s.nodes
+    by [] b e h = absurd cc
+    by (Optimal v ∷ claims) b e h = h
+    by (Infeasible ∷ claims) b e h = absurd cc
+    by (Unbounded ∷ claims) b e h = h
+
+-- so does a ray
+ray_clean : (s : StatedCertificate) (named : Named) → place_code s (says.Ray named) ≡ None → AreBehind s.claims s.points s.rays s.nodes → AreBehind s.claims s.points (s.rays ++ named ∷ []) s.nodes
+ray_clean s named = by s.claims (lacks_point s) (are_none s.rays)
+  where
+    by : (claims : List Claim) (a b : Bool) → point_test (not a && (takes_ray claims && b)) ≡ None → AreBehind claims s.points s.rays s.nodes → AreBehind claims s.points (s.rays ++ named ∷ []) s.nodes
+    by claims true b e h = absurd cc
+    by [] false b e h = absurd cc
+    by (Optimal v ∷ claims) false b e h = absurd cc
+    by (Infeasible ∷ claims) false b e h = absurd cc
+    by (Unbounded ∷ claims) false b e h = h
+
+-- and a node
+rooted-more : (claims : List Claim) (lacks : Bool) (points rays : List Named) (nodes more : List CertNode) → ((are_none claims || lacks) || takes_ray claims) ≡ false → AreBehind claims points rays nodes → AreBehind claims points rays more
+rooted-more [] lacks points rays nodes more e h = absurd cc
+rooted-more (Optimal v ∷ claims) lacks points rays nodes more e h = h
+rooted-more (Infeasible ∷ claims) lacks points rays nodes more e h = h
+rooted-more (Unbounded ∷ claims) true points rays nodes more e h = absurd cc
+rooted-more (Unbounded ∷ claims) false points rays nodes more e h = absurd cc
 
 -- ---- one more line
 
@@ -103,59 +129,77 @@ same_ended : (b : Bool) → (b || false) ≡ b
 same_ended true = refl
 same_ended false = refl
 
-unchanged : (s : StatedCertificate) → KeepsIn s → Keeps (s.claims ++ []) (s.points ++ []) (s.nodes ++ []) (s.ended || false)
-unchanged s k = subst (λ T. T) (λ i. Keeps (sym (nil_right s.claims) i) (sym (nil_right s.points) i) (sym (nil_right s.nodes) i) (sym (same_ended s.ended) i)) k
+unchanged : (s : StatedCertificate) → KeepsIn s → Keeps (s.claims ++ []) (s.points ++ []) (s.rays ++ []) (s.nodes ++ []) (s.ended || false)
+unchanged s k =
+    subst (λ T. T) (λ i. Keeps (sym (nil_right s.claims) i) (sym (nil_right s.points) i) (sym (nil_right s.rays) i) (sym (nil_right s.nodes) i) (sym (same_ended s.ended) i)) k
 
-behind-more : (claims : List Claim) (points : List Named) (claim : Claim) → IsBehind claims points → IsBehind (claims ++ claim ∷ []) points
-behind-more [] points (Optimal v) h = tt
-behind-more [] points Infeasible h = h
-behind-more (Optimal v ∷ claims) points claim h = h
-behind-more (Infeasible ∷ claims) points claim h = h
+behind-more : (claims : List Claim) (points rays : List Named) (nodes : List CertNode) (claim : Claim) → AreBehind claims points rays nodes → AreBehind (claims ++ claim ∷ []) points rays nodes
+behind-more [] points rays nodes (Optimal v) h = h.1.0
+behind-more [] points rays nodes Infeasible h = (h.0, h.1.0)
+behind-more [] points rays nodes Unbounded h = h.1.1
+behind-more (Optimal v ∷ claims) points rays nodes claim h = h
+behind-more (Infeasible ∷ claims) points rays nodes claim h = h
+behind-more (Unbounded ∷ claims) points rays nodes claim h = h
 
 keeps_more : (s : StatedCertificate) (said : Result Statement ℕ) → KeepsIn s → Good said → code_in s said ≡ None → KeepsIn (after s said)
 keeps_more s (Err code) k good clean = absurd (err_code (s.count == 0) s.ended code clean)
 keeps_more s (Ok says.Header) k good clean = unchanged s k
-keeps_more s (Ok (says.Ray named)) k good clean = unchanged s k
 keeps_more s (Ok says.Foreign) k good clean = unchanged s k
 keeps_more s (Ok (says.Claims claim)) k good clean =
-    subst (λ T. T) (λ i. Keeps (s.claims ++ claim ∷ []) (sym (nil_right s.points) i) (sym (nil_right s.nodes) i) (sym (same_ended s.ended) i)) (record {
+    let c = clean_code (s.count == 0) s.ended (place_code s (says.Claims claim)) clean in
+    subst (λ T. T) (λ i. Keeps (s.claims ++ claim ∷ []) (sym (nil_right s.points) i) (sym (nil_right s.rays) i) (sym (nil_right s.nodes) i) (sym (same_ended s.ended) i)) (record {
       takes = k.takes;
       nodes_good = k.nodes_good;
       claims_room = All-append HasClaimRoom s.claims (claim ∷ []) k.claims_room (one HasClaimRoom claim good);
       points_good = k.points_good;
-      behind = behind-more s.claims s.points claim k.behind;
-      whole = k.whole;
+      rays_good = k.rays_good;
+      behind = behind-more s.claims s.points s.rays s.nodes claim k.behind;
+      whole = λ e _. let f : true ≡ false = sym e ∙ c.0 in absurd cc;
     })
 keeps_more s (Ok (says.Point named)) k good clean =
-    subst (λ T. T) (λ i. Keeps (sym (nil_right s.claims) i) (s.points ++ named ∷ []) (sym (nil_right s.nodes) i) (sym (same_ended s.ended) i)) (record {
+    subst (λ T. T) (λ i. Keeps (sym (nil_right s.claims) i) (s.points ++ named ∷ []) (sym (nil_right s.rays) i) (sym (nil_right s.nodes) i) (sym (same_ended s.ended) i)) (record {
       takes = k.takes;
       nodes_good = k.nodes_good;
       claims_room = k.claims_room;
       points_good = All-append GoodNamed s.points (named ∷ []) k.points_good (one GoodNamed named good);
-      behind = point_clean s named (clean_code (s.count == 0) s.ended (place_code s (says.Point named)) clean).1;
+      rays_good = k.rays_good;
+      behind = point_clean s named (clean_code (s.count == 0) s.ended (place_code s (says.Point named)) clean).1 k.behind;
       whole = k.whole;
     })
-keeps_more s (Ok (says.Node n)) k good clean =
-    let c = clean_code (s.count == 0) s.ended (place_code s (says.Node n)) clean in
-    let due = some_due (due_after 1 s.nodes) (node_clean (lacks_part s) (is_whole_tree s.nodes) c.1) in
-    subst (λ T. T) (λ i. Keeps (sym (nil_right s.claims) i) (sym (nil_right s.points) i) (s.nodes ++ n ∷ []) (sym (same_ended s.ended) i)) (record {
-      takes = takes-more 1 s.nodes n k.takes due;
-      nodes_good = All-append GoodNode s.nodes (n ∷ []) k.nodes_good (one GoodNode n good);
-      claims_room = k.claims_room;
-      points_good = k.points_good;
-      behind = k.behind;
-      whole = λ e. let f : true ≡ false = sym e ∙ c.0 in absurd cc;
-    })
-keeps_more s (Ok says.End) k good clean =
-    let c = clean_code (s.count == 0) s.ended (place_code s says.End) clean in
-    let done : due_after 1 s.nodes ≡ 0 = (Decides-eqb (due_after 1 s.nodes) 0).0 (end_clean (lacks_part s || are_none s.nodes) (is_whole_tree s.nodes) c.1) in
-    subst (λ T. T) (λ i. Keeps (sym (nil_right s.claims) i) (sym (nil_right s.points) i) (sym (nil_right s.nodes) i) (s.ended || true)) (record {
+keeps_more s (Ok (says.Ray named)) k good clean =
+    subst (λ T. T) (λ i. Keeps (sym (nil_right s.claims) i) (sym (nil_right s.points) i) (s.rays ++ named ∷ []) (sym (nil_right s.nodes) i) (sym (same_ended s.ended) i)) (record {
       takes = k.takes;
       nodes_good = k.nodes_good;
       claims_room = k.claims_room;
       points_good = k.points_good;
+      rays_good = All-append GoodNamed s.rays (named ∷ []) k.rays_good (one GoodNamed named good);
+      behind = ray_clean s named (clean_code (s.count == 0) s.ended (place_code s (says.Ray named)) clean).1 k.behind;
+      whole = k.whole;
+    })
+keeps_more s (Ok (says.Node n)) k good clean =
+    let c = clean_code (s.count == 0) s.ended (place_code s (says.Node n)) clean in
+    let tests = node_clean (lacks_part s || takes_ray s.claims) (is_whole_tree s.nodes) c.1 in
+    let due = some_due (due_after 1 s.nodes) tests.1 in
+    subst (λ T. T) (λ i. Keeps (sym (nil_right s.claims) i) (sym (nil_right s.points) i) (sym (nil_right s.rays) i) (s.nodes ++ n ∷ []) (sym (same_ended s.ended) i)) (record {
+      takes = takes-more 1 s.nodes n k.takes due;
+      nodes_good = All-append GoodNode s.nodes (n ∷ []) k.nodes_good (one GoodNode n good);
+      claims_room = k.claims_room;
+      points_good = k.points_good;
+      rays_good = k.rays_good;
+      behind = rooted-more s.claims (lacks_numbers s) s.points s.rays s.nodes (s.nodes ++ n ∷ []) tests.0 k.behind;
+      whole = λ e _. let f : true ≡ false = sym e ∙ c.0 in absurd cc;
+    })
+keeps_more s (Ok says.End) k good clean =
+    let c = clean_code (s.count == 0) s.ended (place_code s says.End) clean in
+    let done : takes_ray s.claims ≡ false → due_after 1 s.nodes ≡ 0 = λ no_ray. (Decides-eqb (due_after 1 s.nodes) 0).0 (end_clean (lacks_part s) (takes_ray s.claims) (are_none s.nodes) (is_whole_tree s.nodes) c.1 no_ray) in
+    subst (λ T. T) (λ i. Keeps (sym (nil_right s.claims) i) (sym (nil_right s.points) i) (sym (nil_right s.rays) i) (sym (nil_right s.nodes) i) (s.ended || true)) (record {
+      takes = k.takes;
+      nodes_good = k.nodes_good;
+      claims_room = k.claims_room;
+      points_good = k.points_good;
+      rays_good = k.rays_good;
       behind = k.behind;
-      whole = λ e. done;
+      whole = λ e no_ray. done no_ray;
     })
 
 keeps_none : KeepsIn (stated [])
@@ -165,11 +209,12 @@ keeps_none = record {
   nodes_good = All-nil GoodNode;
   claims_room = All-nil HasClaimRoom;
   points_good = All-nil GoodNamed;
-  behind = refl;
-  whole = λ e. let f : false ≡ true = e in absurd cc;
+  rays_good = All-nil GoodNamed;
+  behind = (refl, (refl, refl));
+  whole = λ e _. let f : false ≡ true = e in absurd cc;
 }
 
-module _ (lines : List (List ℕ)) (one_line : All OneLine lines) where
+module _ (lines : List (List ℕ)) (one_line : All HasNoNewline lines) where
   keeps_first : (k : ℕ) → k ≤ length lines → AreClean lines k → KeepsIn (stated (take k lines))
   unfolding code_at
   keeps_first zero within clean = keeps_none
@@ -193,22 +238,45 @@ ended_is s e = by (s.count == 0) s.ended (or_no_end (place_code s says.End)) e
     by false true x e = refl
     by false false x e = absurd cc
 
-no_point : (claims : List Claim) (points : List Named) → IsBehind claims points → HasNoPoint (first_claim claims) (first_point points)
-no_point [] points h = ap first_point h
-no_point (Optimal v ∷ claims) points h = tt
-no_point (Infeasible ∷ claims) points h = ap first_point h
+module _ (points rays : List Named) (nodes : List CertNode) where
+  no_point : (claims : List Claim) → AreBehind claims points rays nodes → HasNoPoint (first_claim claims) (first_named points)
+  no_point [] h = ap first_named h.0
+  no_point (Optimal v ∷ claims) h = tt
+  no_point (Infeasible ∷ claims) h = ap first_named h.0
+  no_point (Unbounded ∷ claims) h = tt
+
+  no_ray : (claims : List Claim) → AreBehind claims points rays nodes → HasNoRay (first_claim claims) (first_named rays)
+  no_ray [] h = ap first_named h.1.0
+  no_ray (Optimal v ∷ claims) h = ap first_named h
+  no_ray (Infeasible ∷ claims) h = ap first_named h.1
+  no_ray (Unbounded ∷ claims) h = tt
+
+  one_tree : TakesAll 1 nodes → due_after 1 nodes ≡ 0 → AreOneTree nodes
+  one_tree takes done = let t = whole_tree nodes takes done in record { tree = t.0; nodes_are = t.1 }
+
+  has_tree : (claims : List Claim) → AreBehind claims points rays nodes → TakesAll 1 nodes → (takes_ray claims ≡ false → due_after 1 nodes ≡ 0) → HasTree (first_claim claims) nodes
+  has_tree [] h takes done = one_tree takes (done refl)
+  has_tree (Optimal v ∷ claims) h takes done = one_tree takes (done refl)
+  has_tree (Infeasible ∷ claims) h takes done = one_tree takes (done refl)
+  has_tree (Unbounded ∷ claims) h takes done = h
 
 claim_room : (claims : List Claim) → All HasClaimRoom claims → HasClaimRoom (first_claim claims)
 claim_room [] all = tt
 claim_room (claim ∷ claims) all = All-head HasClaimRoom claim claims all
 
-point_good : (points : List Named) → All GoodNamed points → GoodNamed (first_point points)
+point_good : (points : List Named) → All GoodNamed points → GoodNamed (first_named points)
 point_good [] all = record { words = All-nil (λ (e : List ℕ × Rattle.rational.specs.Rational.ℚ). IsWord e.0); room = All-nil (λ (e : List ℕ × Rattle.rational.specs.Rational.ℚ). Rattle.frac128.specs.Range.Fits e.1) }
 point_good (named ∷ points) all = All-head GoodNamed named points all
 
 point_room : (claim : Claim) (named : Named) → HasFractions named → HasPointRoom claim named
 point_room (Optimal v) named room = room
 point_room Infeasible named room = tt
+point_room Unbounded named room = room
+
+ray_room : (claim : Claim) (named : Named) → HasFractions named → HasRayRoom claim named
+ray_room (Optimal v) named room = tt
+ray_room Infeasible named room = tt
+ray_room Unbounded named room = room
 
 all_weaker : {A : Type 0} (P Q : A → Type 0) → ((x : A) → P x → Q x) → (xs : List A) → All P xs → All Q xs
 all_weaker P Q w xs all k d below = w (get_or xs k d) (all k d below)
@@ -220,15 +288,20 @@ record Whole (cert : Cert) : Type 0 where
 
 whole_by : (s : StatedCertificate) → KeepsIn s → end_code s ≡ None → Whole (cert_of s)
 whole_by s k ended =
-    let t = whole_tree s.nodes k.takes (k.whole (ended_is s ended)) in
     let point = point_good s.points k.points_good in
+    let ray = point_good s.rays k.rays_good in
     record {
-      certificate = record { tree = t.0; nodes = t.1; narrow = all_weaker GoodNode IsNarrowNode (λ n g. g.narrow) s.nodes k.nodes_good; point = no_point s.claims s.points k.behind };
-      words = record { point = point.words; nodes = all_weaker GoodNode HasNodeWords (λ n g. g.words) s.nodes k.nodes_good };
-      room = record { claim = claim_room s.claims k.claims_room; point = point_room (first_claim s.claims) (first_point s.points) point.room; nodes = all_weaker GoodNode HasNodeRoom (λ n g. g.room) s.nodes k.nodes_good };
+      certificate = record {
+        tree = has_tree s.points s.rays s.nodes s.claims k.behind k.takes (k.whole (ended_is s ended));
+        narrow = all_weaker GoodNode IsNarrowNode (λ n g. g.narrow) s.nodes k.nodes_good;
+        point = no_point s.points s.rays s.nodes s.claims k.behind;
+        ray = no_ray s.points s.rays s.nodes s.claims k.behind;
+      };
+      words = record { point = point.words; ray = ray.words; nodes = all_weaker GoodNode HasNodeWords (λ n g. g.words) s.nodes k.nodes_good };
+      room = record { claim = claim_room s.claims k.claims_room; point = point_room (first_claim s.claims) (first_named s.points) point.room; ray = ray_room (first_claim s.claims) (first_named s.rays) ray.room; nodes = all_weaker GoodNode HasNodeRoom (λ n g. g.room) s.nodes k.nodes_good };
     }
 
 pub print_again : (text : List ℕ) (cert : Cert) → MeantCertificate text cert → MeantCertificate (cert_text cert) cert
 print_again text cert m =
-    let w = subst Whole (sym m.is) (whole_by (stated (lines_of text)) (keeps_all (lines_of text) (text-lines text) m.clean) m.ended) in
+    let w = subst Whole (sym m.is) (whole_by (stated (line_bytes text)) (keeps_all (line_bytes text) (line_bytes-clean text) m.clean) m.ended) in
     printed_states cert w.certificate w.words w.room

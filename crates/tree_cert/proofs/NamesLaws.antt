@@ -22,9 +22,10 @@ use Rattle.cert_text.specs.declared.cert.CertNode.TheVariants as node
 use Rattle.cert_text.specs.declared.cert.Cert.{Cert}
 use Rattle.cert_text.specs.Tree.{CertTree, certificate_nodes}
 use Rattle.cert_text.specs.Tree.{Bound as CertBound, Farkas as CertFarkas, Empty as CertEmpty, Split as CertSplit}
-use Rattle.tree_cert.specs.Certificates.{activity_name, named_mult, row_mults, nonzero_numbers, point_numbers, IsReason, IsTreeOf, IsCertificateOf}
+use Rattle.tree_cert.specs.Certificates.{activity_name, named_mult, row_mults, nonzero_numbers, point_numbers, IsReason, IsTreeOf, IsCertificateOf, unbounded_certificate}
 use Rattle.lp_model.specs.Lawful.{column_name}
-use Rattle.tree_cert.specs.CertText.{IsWord, HasWords, IsMultWord, HasNodeWords, HasCertWords, HasWordNames}
+use Rattle.text_lines.specs.Words.{IsWord}
+use Rattle.tree_cert.specs.CertText.{HasWords, IsMultWord, HasNodeWords, HasCertWords, HasWordNames}
 use Rattle.tree_cert.proofs.NameLaws.{element-get}
 
 abbrev Worded : List ℕ × ℚ → Type 0
@@ -82,5 +83,9 @@ point-words M (Some x) plain = numbers-words M.cols x plain.columns
 pub certificate_words : (S : PlainSearch) (cert : Cert) → IsSound S → IsCertificateOf S cert → HasWordNames S.model → HasCertWords cert
 certificate_words S cert sound of plain = record {
   point = subst HasWords (sym of.point) (point-words S.model of.incumbent plain);
+  ray = subst HasWords (sym of.ray) (All-nil Worded);
   nodes = subst (All HasNodeWords) of.nodes (tree-words S.model plain [] S.tree.root of.tree sound.tree.lawful sound.tree.lists of.like);
 }
+
+pub unbounded_words : (M : Program) (x d : Point) → HasWordNames M → HasCertWords (unbounded_certificate M x d)
+unbounded_words M x d plain = record { point = numbers-words M.cols x plain.columns; ray = numbers-words M.cols d plain.columns; nodes = All-nil HasNodeWords }

@@ -16,7 +16,7 @@ use Rattle.frac_text.proofs.PrintedReads.{reading_of-printed}
 use Rattle.frac128.proofs.Whole.{Fits-int}
 use Rattle.lp_model.specs.Edits.{Named}
 use Rattle.cert_text.specs.declared.cert.Claim.{Claim}
-use Rattle.cert_text.specs.declared.cert.Claim.TheVariants.{Optimal, Infeasible}
+use Rattle.cert_text.specs.declared.cert.Claim.TheVariants.{Optimal, Infeasible, Unbounded}
 use Rattle.cert_text.specs.declared.cert.CertMult.{CertMult}
 use Rattle.cert_text.specs.declared.cert.CertMult.TheVariants.{Row, Cut}
 use Rattle.cert_text.specs.declared.cert.CertNode.{CertNode}
@@ -24,14 +24,15 @@ use Rattle.cert_text.specs.declared.cert.CertNode.TheVariants as node
 use Rattle.cert_text.specs.declared.cert.Cert.{Cert}
 use Rattle.cert_text.specs.declared.line.Statement.{Statement}
 use Rattle.cert_text.specs.declared.line.Statement.TheVariants as says
-use Rattle.cert_text.specs.Lines.{beside, named_in, row_mult, with_mult, rows_in, claimed, split_at, as_leaf, as_point, words_say, line_says}
+use Rattle.cert_text.specs.Lines.{beside, named_in, row_mult, with_mult, rows_in, claimed, split_at, as_leaf, as_point, as_ray, words_say, line_says}
 use Rattle.frac_text.specs.Parsing.{spelled_number}
 use Rattle.cert_text.specs.Text.{MeantCertificate}
 use Rattle.cert_text.specs.Whole.{IsNarrowNode, IsCertificate}
-use Rattle.tree_cert.specs.CertText.{Words, named_words, all_mult_words, claim_words, node_words, point_lines, cert_lines, line_text, lines_text, cert_text, IsWord, HasWords, IsMultWord, HasNodeWords, HasCertWords}
-use Rattle.tree_cert.specs.Printed.{HasFractions, MultFits, HasClaimRoom, HasPointRoom, HasNodeRoom, HasCertRoom}
+use Rattle.text_lines.specs.Words.{IsWord}
+use Rattle.tree_cert.specs.CertText.{Words, named_words, all_mult_words, claim_words, node_words, point_lines, ray_lines, cert_lines, line_text, lines_text, cert_text, HasWords, IsMultWord, HasNodeWords, HasCertWords}
+use Rattle.tree_cert.specs.Printed.{HasFractions, MultFits, HasClaimRoom, HasPointRoom, HasRayRoom, HasNodeRoom, HasCertRoom}
 use Rattle.tree_cert.proofs.WordLaws.{plain_word, signed_word, number_word, line-says, lines-cut}
-use Rattle.tree_cert.proofs.StatedLaws.{SayAll, all_statements, point_statements, cert_statements, states}
+use Rattle.tree_cert.proofs.StatedLaws.{SayAll, all_statements, point_statements, ray_statements, cert_statements, states}
 
 -- ---- numbers
 
@@ -97,9 +98,14 @@ claim_line (Optimal v) room =
     line_by (codes "claim") (codes "optimal" ∷ printed v ∷ []) (says.Claims (Optimal v)) (plain_word (codes "claim") refl) (two (codes "optimal") (printed v) (plain_word (codes "optimal") refl) (number_word v room)) (ap claimed (number_read v room))
 claim_line Infeasible room =
     line_by (codes "claim") (codes "infeasible" ∷ []) (says.Claims Infeasible) (plain_word (codes "claim") refl) (All-cons IsWord (codes "infeasible") [] (plain_word (codes "infeasible") refl) (All-nil IsWord)) refl
+claim_line Unbounded room =
+    line_by (codes "claim") (codes "unbounded" ∷ []) (says.Claims Unbounded) (plain_word (codes "claim") refl) (All-cons IsWord (codes "unbounded") [] (plain_word (codes "unbounded") refl) (All-nil IsWord)) refl
 
 point_line : (named : Named) → HasWords named → HasFractions named → Line (codes "point" ∷ named_words named) (says.Point named)
 point_line named words room = line_by (codes "point") (named_words named) (says.Point named) (plain_word (codes "point") refl) (named_are named words room) (ap as_point (named_read named room))
+
+ray_line : (named : Named) → HasWords named → HasFractions named → Line (codes "ray" ∷ named_words named) (says.Ray named)
+ray_line named words room = line_by (codes "ray") (named_words named) (says.Ray named) (plain_word (codes "ray") refl) (named_are named words room) (ap as_ray (named_read named room))
 
 below_largest : (v : ℤ) → IsNarrow (v +ℤ pos 1) → int_eq v (pos (2 ^ 127 - 1)) ≡ false
 below_largest v narrow = false_from_ne_true (int_eq v (pos (2 ^ 127 - 1))) (λ t. let e = (Decides-int_eq v (pos (2 ^ 127 - 1))).0 t in omega (arith, ints, e, narrow))
@@ -143,15 +149,22 @@ nodes_lines (n ∷ nodes) narrow words room =
 point_behind : (claim : Claim) (point : Named) (lines : List Words) (xs : List Statement) → HasWords point → HasPointRoom claim point → Lines lines xs → Lines (point_lines claim point ++ lines) (point_statements claim point ++ xs)
 point_behind (Optimal v) point lines xs words room rest = lines_cons (codes "point" ∷ named_words point) (says.Point point) lines xs (point_line point words room) rest
 point_behind Infeasible point lines xs words room rest = rest
+point_behind Unbounded point lines xs words room rest = lines_cons (codes "point" ∷ named_words point) (says.Point point) lines xs (point_line point words room) rest
+
+ray_behind : (claim : Claim) (ray : Named) (lines : List Words) (xs : List Statement) → HasWords ray → HasRayRoom claim ray → Lines lines xs → Lines (ray_lines claim ray ++ lines) (ray_statements claim ray ++ xs)
+ray_behind (Optimal v) ray lines xs words room rest = rest
+ray_behind Infeasible ray lines xs words room rest = rest
+ray_behind Unbounded ray lines xs words room rest = lines_cons (codes "ray" ∷ named_words ray) (says.Ray ray) lines xs (ray_line ray words room) rest
 
 -- the printed text of a certificate whose names are words states it
 pub printed_states : (cert : Cert) → IsCertificate cert → HasCertWords cert → HasCertRoom cert → MeantCertificate (cert_text cert) cert
 unfolding cert_text
 printed_states cert whole words room =
     let nodes = nodes_lines cert.nodes whole.narrow words.nodes room.nodes in
-    let point = point_behind cert.claim cert.point (map node_words cert.nodes ++ (codes "end" ∷ []) ∷ []) (all_statements cert.nodes ++ says.End ∷ []) words.point room.point nodes in
+    let ray = ray_behind cert.claim cert.ray (map node_words cert.nodes ++ (codes "end" ∷ []) ∷ []) (all_statements cert.nodes ++ says.End ∷ []) words.ray room.ray nodes in
+    let point = point_behind cert.claim cert.point _ _ words.point room.point ray in
     let all : Lines (cert_lines cert) (cert_statements cert) =
     lines_cons (codes "cert" ∷ codes "1" ∷ []) says.Header (claim_words cert.claim ∷ _) (says.Claims cert.claim ∷ _) header_line
     (lines_cons (claim_words cert.claim) (says.Claims cert.claim) _ _ (claim_line cert.claim room.claim) point) in
-    states (lines_text (cert_lines cert)) cert.nodes whole.tree whole.nodes cert.claim cert.point whole.point
+    states (lines_text (cert_lines cert)) cert.claim cert.point cert.ray cert.nodes whole.tree whole.point whole.ray
     (subst (λ ls. SayAll ls (cert_statements cert)) (sym (lines-cut (cert_lines cert) all.are)) all.say)

@@ -7,7 +7,7 @@ use Rattle.lp_model.specs.Edits.{Named}
 use Rattle.cert_text.specs.declared.cert.CertMult.{CertMult}
 use Rattle.cert_text.specs.declared.cert.CertNode.{CertNode}
 use Rattle.cert_text.specs.declared.cert.Cert.{Cert}
-use Rattle.tree_cert.specs.CertText.{Words, named_words, mult_words, all_mult_words, claim_words, node_words, point_lines, spaced, line_text, lines_text, cert_text}
+use Rattle.tree_cert.specs.CertText.{Words, named_words, mult_words, all_mult_words, claim_words, node_words, point_lines, ray_lines, spaced, line_text, lines_text, cert_text}
 use Rattle.std.proofs.lemmas.List.{drop_more, drop_all, take_all}
 use Rattle.std.proofs.lemmas.List.Elements.{All-more}
 
@@ -58,19 +58,32 @@ line_step n nodes = sym (append_assoc (line_text (node_words n)) (10 ∷ []) (li
 pub line_put : (old line one new : List ℕ) → one ≡ old ++ line → new ≡ one ++ 10 ∷ [] → new ≡ old ++ (line ++ 10 ∷ [])
 line_put old line one new first second = second ∙ ap (λ l. l ++ 10 ∷ []) first ∙ append_assoc old line (10 ∷ [])
 
+-- a line of a word and further words, put word by word
+pub named_line_put : (old word : List ℕ) (words : Words) (a b c : List ℕ) → a ≡ old ++ word → b ≡ a ++ spaced words → c ≡ b ++ 10 ∷ [] → c ≡ old ++ lines_text ((word ∷ words) ∷ [])
+named_line_put old word words a b c first second third =
+    third
+    ∙ ap (λ l. l ++ 10 ∷ []) (second ∙ ap (λ l. l ++ spaced words) first ∙ append_assoc old word (spaced words))
+    ∙ append_assoc old (word ++ spaced words) (10 ∷ [])
+
 -- the parts of a certificate's text one after the other
-pub text_parts : (cert : Cert) (a b c d e f : List ℕ) → a ≡ codes "cert 1\n" → b ≡ a ++ line_text (claim_words cert.claim) → c ≡ b ++ 10 ∷ [] → d ≡ c ++ lines_text (point_lines cert.claim cert.point) →
-    e ≡ d ++ lines_text (map node_words cert.nodes) → f ≡ e ++ codes "end\n" → f ≡ cert_text cert
+pub text_parts : (cert : Cert) (a b c d r e f : List ℕ) → a ≡ codes "cert 1\n" → b ≡ a ++ line_text (claim_words cert.claim) → c ≡ b ++ 10 ∷ [] → d ≡ c ++ lines_text (point_lines cert.claim cert.point) →
+    r ≡ d ++ lines_text (ray_lines cert.claim cert.ray) → e ≡ r ++ lines_text (map node_words cert.nodes) → f ≡ e ++ codes "end\n" → f ≡ cert_text cert
 unfolding cert_text
-text_parts cert a b c d e f first second third fourth fifth last =
+text_parts cert a b c d r e f first second third fourth fifth sixth last =
     let claim = line_text (claim_words cert.claim) in
     let points = lines_text (point_lines cert.claim cert.point) in
+    let rays = lines_text (ray_lines cert.claim cert.ray) in
     let nodes = lines_text (map node_words cert.nodes) in
     let ended = codes "end\n" in
+    let behind_nodes = map node_words cert.nodes ++ (codes "end" ∷ []) ∷ [] in
     last
-    ∙ ap (λ l. l ++ ended) (fifth ∙ ap (λ l. l ++ nodes) (fourth ∙ ap (λ l. l ++ points) (third ∙ ap (λ l. l ++ 10 ∷ []) (second ∙ ap (λ l. l ++ claim) first))))
-    ∙ append_assoc (((codes "cert 1\n" ++ claim) ++ 10 ∷ []) ++ points) nodes ended
-    ∙ append_assoc ((codes "cert 1\n" ++ claim) ++ 10 ∷ []) points (nodes ++ ended)
-    ∙ append_assoc (codes "cert 1\n" ++ claim) (10 ∷ []) (points ++ (nodes ++ ended))
-    ∙ append_assoc (codes "cert 1\n") claim (10 ∷ (points ++ (nodes ++ ended)))
-    ∙ ap (λ l. codes "cert 1\n" ++ (claim ++ 10 ∷ l)) (ap (λ l. points ++ l) (sym (lines_append (map node_words cert.nodes) ((codes "end" ∷ []) ∷ []))) ∙ sym (lines_append (point_lines cert.claim cert.point) (map node_words cert.nodes ++ (codes "end" ∷ []) ∷ [])))
+    ∙ ap (λ l. l ++ ended) (sixth ∙ ap (λ l. l ++ nodes) (fifth ∙ ap (λ l. l ++ rays) (fourth ∙ ap (λ l. l ++ points) (third ∙ ap (λ l. l ++ 10 ∷ []) (second ∙ ap (λ l. l ++ claim) first)))))
+    ∙ append_assoc ((((codes "cert 1\n" ++ claim) ++ 10 ∷ []) ++ points) ++ rays) nodes ended
+    ∙ append_assoc (((codes "cert 1\n" ++ claim) ++ 10 ∷ []) ++ points) rays (nodes ++ ended)
+    ∙ append_assoc ((codes "cert 1\n" ++ claim) ++ 10 ∷ []) points (rays ++ (nodes ++ ended))
+    ∙ append_assoc (codes "cert 1\n" ++ claim) (10 ∷ []) (points ++ (rays ++ (nodes ++ ended)))
+    ∙ append_assoc (codes "cert 1\n") claim (10 ∷ (points ++ (rays ++ (nodes ++ ended))))
+    ∙ ap (λ l. codes "cert 1\n" ++ (claim ++ 10 ∷ l))
+    (ap (λ l. points ++ (rays ++ l)) (sym (lines_append (map node_words cert.nodes) ((codes "end" ∷ []) ∷ [])))
+    ∙ ap (λ l. points ++ l) (sym (lines_append (ray_lines cert.claim cert.ray) behind_nodes))
+    ∙ sym (lines_append (point_lines cert.claim cert.point) (ray_lines cert.claim cert.ray ++ behind_nodes)))

@@ -1,7 +1,6 @@
 -- What a line of a text says has names that are words, and numbers that have room.
-use Rattle.std.proofs.Common.{◌≡◌, ℕ, ◌-◌, ◌^◌, ◌<◌, Bool, true, false, List, [], ◌∷◌, length, refl, sym, ◌∙◌, arith, if◌then◌else◌}
+use Rattle.std.proofs.Common.{◌≡◌, ℕ, ◌-◌, ◌^◌, Bool, true, false, List, [], ◌∷◌, refl, sym, ◌∙◌, arith, if◌then◌else◌}
 use Rattle.std.specs.Prelude.{All, codes, bytes_eq, Option, Some, None, Result, Ok, Err, ℤ, pos, ◌+ℤ◌}
-use Rattle.std.specs.List.{filter, slice_split, onto_first}
 use Rattle.std.specs.Ordering.{int_eq}
 use Rattle.std.proofs.lemmas.Bool.Decides.{Decides-int_eq}
 use Rattle.std.proofs.lemmas.Int.{ints}
@@ -10,7 +9,7 @@ use Rattle.rational.specs.Rational.{ℚ}
 use Rattle.frac128.specs.Range.{Fits, IsNarrow}
 use Rattle.frac_text.specs.declared.parsing.NumFault.{NumFault}
 use Rattle.lp_model.specs.Edits.{Named}
-use Rattle.cert_text.specs.declared.cert.Claim.TheVariants.{Infeasible}
+use Rattle.cert_text.specs.declared.cert.Claim.TheVariants.{Infeasible, Unbounded}
 use Rattle.cert_text.specs.declared.cert.CertMult.{CertMult}
 use Rattle.cert_text.specs.declared.cert.CertMult.TheVariants.{Row}
 use Rattle.cert_text.specs.declared.cert.CertNode.{CertNode}
@@ -19,12 +18,14 @@ use Rattle.cert_text.specs.declared.line.LineWord.{LineWord}
 use Rattle.cert_text.specs.declared.line.LineWord.TheVariants as word
 use Rattle.cert_text.specs.declared.line.Statement.{Statement}
 use Rattle.cert_text.specs.declared.line.Statement.TheVariants as says
-use Rattle.cert_text.specs.Lines.{is_newline, is_blank, is_nothing, is_piece, without_last, lines_of, words_of, begins_blank, ends_blank, with_named, beside, named_in, row_mult, with_mult, rows_in, cert_says, claimed, claim_says, as_point, as_ray, is_whole, split_at, split_says, as_leaf, empty_says, leaf_says, end_says, word_of, word_says, known_says, words_say, line_says}
+use Rattle.text_lines.specs.Lines.{HasNoNewline}
+use Rattle.text_lines.specs.Words.{words_of, IsWord}
+use Rattle.text_lines.proofs.CleanLemmas.{words-are}
+use Rattle.cert_text.specs.Lines.{begins_blank, ends_blank, with_named, beside, named_in, row_mult, with_mult, rows_in, cert_says, claimed, claim_says, as_point, as_ray, is_whole, split_at, split_says, as_leaf, empty_says, leaf_says, end_says, word_of, word_says, known_says, words_say, line_says}
 use Rattle.frac_text.specs.Parsing.{spelled_number}
 use Rattle.cert_text.specs.Whole.{IsNarrowNode}
-use Rattle.tree_cert.specs.CertText.{IsWord, HasWords, IsMultWord, HasNodeWords}
+use Rattle.tree_cert.specs.CertText.{HasWords, IsMultWord, HasNodeWords}
 use Rattle.tree_cert.specs.Printed.{HasFractions, MultFits, HasClaimRoom, HasNodeRoom}
-use Rattle.tree_cert.proofs.WordLaws.{OneLine, OneWord}
 use Rattle.tree_cert.proofs.FitLaws.{FitsOk, number-fits}
 
 pub record GoodNamed (named : Named) : Type 0 where
@@ -42,7 +43,7 @@ GoodStatement (says.Claims claim) = HasClaimRoom claim
 GoodStatement (says.Point named) = GoodNamed named
 GoodStatement (says.Node n) = GoodNode n
 GoodStatement says.End = Unit {0}
-GoodStatement (says.Ray named) = Unit {0}
+GoodStatement (says.Ray named) = GoodNamed named
 GoodStatement says.Foreign = Unit {0}
 
 abbrev pub Good : Result Statement ℕ → Type 0
@@ -122,11 +123,12 @@ claimed-good (Err fault) fits = tt
 
 claim-good : (words : List (List ℕ)) → Good (claim_says words)
 claim-good [] = tt
-claim-good (kind ∷ []) = by (bytes_eq kind (codes "infeasible"))
+claim-good (kind ∷ []) = by (bytes_eq kind (codes "infeasible")) (bytes_eq kind (codes "unbounded"))
   where
-    by : (b : Bool) → Good (if b then Ok (says.Claims Infeasible) else Err 3)
-    by true = tt
-    by false = tt
+    by : (a b : Bool) → Good (if a then Ok (says.Claims Infeasible) else if b then Ok (says.Claims Unbounded) else Err 3)
+    by true b = tt
+    by false true = tt
+    by false false = tt
 claim-good (kind ∷ number ∷ []) = by (bytes_eq kind (codes "optimal")) (claimed-good (spelled_number number) (number-fits number))
   where
     by : (b : Bool) → Good (claimed (spelled_number number)) → Good (if b then claimed (spelled_number number) else Err 3)
@@ -187,9 +189,9 @@ end-good : (words : List (List ℕ)) → Good (end_says words)
 end-good [] = tt
 end-good (a ∷ more) = tt
 
-ray-good : (r : Result Named ℕ) → Good (as_ray r)
-ray-good (Ok named) = tt
-ray-good (Err code) = tt
+ray-good : (r : Result Named ℕ) → GoodOk r → Good (as_ray r)
+ray-good (Ok named) good = good
+ray-good (Err code) good = tt
 
 word-good : (known : LineWord) (words : List (List ℕ)) → All IsWord words → Good (word_says known words)
 word-good word.Cert words all = cert-good words
@@ -198,7 +200,7 @@ word-good word.Point words all = point-good (named_in words) (named-good words a
 word-good word.Split words all = split_says-good words all
 word-good word.Leaf words all = leaf-good words all
 word-good word.End words all = end-good words
-word-good word.Ray words all = ray-good (named_in words)
+word-good word.Ray words all = ray-good (named_in words) (named-good words all)
 word-good word.Foreign words all = tt
 
 known-good : (known : Option LineWord) (blank : Bool) (words : List (List ℕ)) → All IsWord words → Good (known_says known blank words)
@@ -210,70 +212,12 @@ words-good : (blank : Bool) (words : List (List ℕ)) → All IsWord words → G
 words-good blank [] all = tt
 words-good blank (first ∷ words) all = known-good (word_of first) blank words (All-tail IsWord first words all)
 
--- ---- pieces of a list
+-- ---- lines
 
-module _ {X : Type 0} (P : X → Type 0) where
-  onto_first-all : (x : X) (parts : List (List X)) → P x → All (All P) parts → All (All P) (onto_first x parts)
-  onto_first-all x [] p h = All-cons (All P) (x ∷ []) [] (All-cons P x [] p (All-nil P)) (All-nil (All P))
-  onto_first-all x (part ∷ parts) p h = All-cons (All P) (x ∷ part) parts (All-cons P x part p (All-head (All P) part parts h)) (All-tail (All P) part parts h)
-
-  -- what holds of each element that does not cut holds in each piece
-  pieces_all : (cuts : X → Bool) (xs : List X) → All (λ x. cuts x ≡ false → P x) xs → All (All P) (slice_split cuts xs)
-  pieces_all cuts [] h = All-cons (All P) [] [] (All-nil P) (All-nil (All P))
-  pieces_all cuts (x ∷ xs) h = by (cuts x) refl (pieces_all cuts xs (All-tail (λ x. cuts x ≡ false → P x) x xs h))
-    where
-      by : (b : Bool) → cuts x ≡ b → All (All P) (slice_split cuts xs) → All (All P) (if b then [] ∷ slice_split cuts xs else onto_first x (slice_split cuts xs))
-      by true e rest = All-cons (All P) [] (slice_split cuts xs) (All-nil P) rest
-      by false e rest = onto_first-all x (slice_split cuts xs) (All-head (λ x. cuts x ≡ false → P x) x xs h e) rest
-
-every : {X : Type 0} (P : X → Type 0) → ((x : X) → P x) → (xs : List X) → All P xs
-every P h [] = All-nil P
-every P h (x ∷ xs) = All-cons P x xs (h x) (every P h xs)
-
-word_by : (bytes : List ℕ) → is_piece bytes ≡ true → OneLine bytes → OneWord bytes → IsWord bytes
-word_by bytes some h k = record { some = some_byte bytes some; one_line = h; one_word = k }
-  where
-    some_byte : (bytes : List ℕ) → is_piece bytes ≡ true → 0 < length bytes
-    some_byte [] e = absurd (cc)
-    some_byte (byte ∷ bytes) e = omega arith
-
-pieces_words : (parts : List (List ℕ)) → All OneLine parts → All OneWord parts → All IsWord (filter is_piece parts)
-pieces_words [] h k = All-nil IsWord
-pieces_words (part ∷ parts) h k = by (is_piece part) refl (pieces_words parts (All-tail OneLine part parts h) (All-tail OneWord part parts k))
-  where
-    by : (b : Bool) → is_piece part ≡ b → All IsWord (filter is_piece parts) → All IsWord (if b then part ∷ filter is_piece parts else filter is_piece parts)
-    by true e rest = All-cons IsWord part (filter is_piece parts) (word_by part e (All-head OneLine part parts h) (All-head OneWord part parts k)) rest
-    by false e rest = rest
-
-weak : (line : List ℕ) → OneLine line → All (λ byte. is_blank byte ≡ false → is_newline byte ≡ false) line
-weak [] h = All-nil (λ byte. is_blank byte ≡ false → is_newline byte ≡ false)
-weak (byte ∷ line) h = All-cons (λ byte. is_blank byte ≡ false → is_newline byte ≡ false) byte line (λ _. All-head (λ byte. is_newline byte ≡ false) byte line h) (weak line (All-tail (λ byte. is_newline byte ≡ false) byte line h))
-
-line-words : (line : List ℕ) → OneLine line → All IsWord (words_of line)
-unfolding words_of
-line-words line h =
-    pieces_words (slice_split is_blank line) (pieces_all (λ byte. is_newline byte ≡ false) is_blank line (weak line h))
-    (pieces_all (λ byte. is_blank byte ≡ false) is_blank line (every (λ byte. is_blank byte ≡ false → is_blank byte ≡ false) (λ byte e. e) line))
-
-pub line-good : (line : List ℕ) → OneLine line → Good (line_says line)
+pub line-good : (line : List ℕ) → HasNoNewline line → Good (line_says line)
 unfolding line_says
-line-good line h = by (begins_blank line) (words-good (ends_blank line) (words_of line) (line-words line h))
+line-good line h = by (begins_blank line) (words-good (ends_blank line) (words_of line) (words-are line h))
   where
     by : (b : Bool) → Good (words_say (ends_blank line) (words_of line)) → Good (if b then Err 2 else words_say (ends_blank line) (words_of line))
     by true good = tt
     by false good = good
-
--- ---- the lines of a text
-
-without-all : (pieces : List (List ℕ)) → All OneLine pieces → All OneLine (without_last pieces)
-without-all [] h = All-nil OneLine
-without-all (piece ∷ []) h = by (is_nothing piece)
-  where
-    by : (b : Bool) → All OneLine (if b then [] else piece ∷ [])
-    by true = All-nil OneLine
-    by false = h
-without-all (piece ∷ next ∷ more) h = All-cons OneLine piece (without_last (next ∷ more)) (All-head OneLine piece (next ∷ more) h) (without-all (next ∷ more) (All-tail OneLine piece (next ∷ more) h))
-
-pub text-lines : (text : List ℕ) → All OneLine (lines_of text)
-unfolding lines_of
-text-lines text = without-all (slice_split is_newline text) (pieces_all (λ byte. is_newline byte ≡ false) is_newline text (every (λ byte. is_newline byte ≡ false → is_newline byte ≡ false) (λ byte e. e) text))

@@ -1,5 +1,5 @@
 -- A text whose lines say a certificate's statements in order states that certificate.
-use Rattle.std.proofs.Common.{◌≡◌, ℕ, zero, suc, ◌+◌, ◌-◌, ◌<◌, Bool, false, ◌||◌, List, [], ◌∷◌, ◌++◌, length, take, map, refl, sym, ap, subst, ◌∙◌, arith, append_assoc, length-append, if◌then◌else◌}
+use Rattle.std.proofs.Common.{◌≡◌, ℕ, zero, suc, ◌+◌, ◌-◌, ◌<◌, Bool, true, false, ◌||◌, List, [], ◌∷◌, ◌++◌, length, take, map, refl, sym, ap, subst, ◌∙◌, arith, append_assoc, length-append, if◌then◌else◌}
 use Rattle.std.specs.Prelude.{◌==◌, Option, Some, None, Ok}
 use Rattle.std.proofs.lemmas.List.{take-append-le, take_all}
 use Rattle.std.proofs.Math.Seq.{get_or-append_seam}
@@ -7,17 +7,18 @@ use Rattle.std.proofs.lemmas.Bool.{false_from_ne_true}
 use Rattle.std.proofs.lemmas.Bool.Decides.{Decides-eqb}
 use Rattle.lp_model.specs.Edits.{Named}
 use Rattle.cert_text.specs.declared.cert.Claim.{Claim}
-use Rattle.cert_text.specs.declared.cert.Claim.TheVariants.{Optimal, Infeasible}
+use Rattle.cert_text.specs.declared.cert.Claim.TheVariants.{Optimal, Infeasible, Unbounded}
 use Rattle.cert_text.specs.declared.cert.CertNode.{CertNode}
 use Rattle.cert_text.specs.declared.cert.CertNode.TheVariants as node
 use Rattle.cert_text.specs.declared.cert.Cert.{Cert}
 use Rattle.cert_text.specs.declared.line.Statement.{Statement}
 use Rattle.cert_text.specs.declared.line.Statement.TheVariants as says
-use Rattle.cert_text.specs.Lines.{lines_of, line_says}
+use Rattle.text_lines.specs.Lines.{line_bytes}
+use Rattle.cert_text.specs.Lines.{line_says}
 use Rattle.cert_text.specs.Reading.{after}
-use Rattle.cert_text.specs.Text.{StatedCertificate, stated, due_after, is_whole_tree, are_none, lacks_part, code_in, code_at, AreClean, end_code, first_point, cert_of, MeantCertificate}
+use Rattle.cert_text.specs.Text.{StatedCertificate, stated, due_after, is_whole_tree, are_none, takes_ray, lacks_part, code_in, code_at, AreClean, end_code, first_named, cert_of, MeantCertificate}
 use Rattle.cert_text.specs.Tree.{CertTree, Bound, Farkas, Empty, Split, certificate_nodes}
-use Rattle.cert_text.specs.Whole.{TakesAll, HasNoPoint}
+use Rattle.cert_text.specs.Whole.{TakesAll, HasNoPoint, HasNoRay, HasTree}
 use Rattle.cert_text.proofs.DueLemmas.{due_after-more}
 use Rattle.cert_text.proofs.TextLemmas.{stated_more, code_here, clean_more}
 
@@ -70,18 +71,25 @@ all_statements nodes = map (λ n. says.Node n) nodes
 
 -- what is stated behind the claim and the point
 abbrev pub with_nodes : ℕ → Claim → List Named → List CertNode → StatedCertificate
-with_nodes count claim points nodes = record { count = suc count; claims = claim ∷ []; points = points; nodes = nodes; ended = false }
+with_nodes count claim points nodes = record { count = suc count; claims = claim ∷ []; points = points; rays = []; nodes = nodes; ended = false }
 
--- a point stands where a value is claimed
+-- a point stands where a value is claimed; what is claimed has nodes
 abbrev pub HasPart : Claim → List Named → Type 0
 HasPart (Optimal v) [] = ⊥
 HasPart (Optimal v) (named ∷ points) = Unit {0}
 HasPart Infeasible points = Unit {0}
+HasPart Unbounded points = ⊥
 
 no_part : (count : ℕ) (claim : Claim) (points : List Named) (nodes : List CertNode) → HasPart claim points → lacks_part (with_nodes count claim points nodes) ≡ false
 no_part count (Optimal v) [] nodes h = absurd h
 no_part count (Optimal v) (named ∷ points) nodes h = refl
 no_part count Infeasible points nodes h = refl
+no_part count Unbounded points nodes h = absurd h
+
+no_ray : (claim : Claim) (points : List Named) → HasPart claim points → takes_ray (claim ∷ []) ≡ false
+no_ray (Optimal v) points h = refl
+no_ray Infeasible points h = refl
+no_ray Unbounded points h = absurd h
 
 some_due : (n : ℕ) → 0 < n → (n == 0) ≡ false
 some_due n h = false_from_ne_true (n == 0) (λ t. let e = (Decides-eqb n 0).0 t in omega (arith, h, e))
@@ -93,22 +101,22 @@ opened b code = if b then Some 1 else code
 abbrev node_test : Bool → Bool → Option ℕ
 node_test a b = if a then Some 6 else if b then Some 7 else None
 
-abbrev end_test : Bool → Bool → Option ℕ
-end_test a b = if a then Some 6 else if b then None else Some 7
+abbrev end_test : Bool → Bool → Bool → Bool → Option ℕ
+end_test a r n w = if a then Some 6 else if r then None else if n then Some 6 else if w then None else Some 7
 
 not_first : (count : ℕ) → (suc count == 0) ≡ false
 not_first count = some_due (suc count) (omega arith)
 
 node_taken : (count : ℕ) (claim : Claim) (points : List Named) (nodes : List CertNode) (n : CertNode) → HasPart claim points → 0 < due_after 1 nodes → code_in (with_nodes count claim points nodes) (Ok (says.Node n)) ≡ None
 node_taken count claim points nodes n part due =
-    ap (λ (b : Bool). opened b (node_test (lacks_part (with_nodes count claim points nodes)) (is_whole_tree nodes))) (not_first count)
-    ∙ ap (λ (b : Bool). node_test b (is_whole_tree nodes)) (no_part count claim points nodes part)
+    ap (λ (b : Bool). opened b (node_test (lacks_part (with_nodes count claim points nodes) || takes_ray (claim ∷ [])) (is_whole_tree nodes))) (not_first count)
+    ∙ (λ i. node_test (no_part count claim points nodes part i || no_ray claim points part i) (is_whole_tree nodes))
     ∙ ap (λ (b : Bool). node_test false b) (some_due (due_after 1 nodes) due)
 
 next_state : (count : ℕ) (claim : Claim) (points : List Named) (nodes : List CertNode) (n : CertNode) → after (with_nodes count claim points nodes) (Ok (says.Node n)) ≡ with_nodes (suc count) claim points (nodes ++ n ∷ [])
 next_state count claim points nodes n =
     let up : suc count + 1 ≡ suc (suc count) = omega arith in
-    (λ i. record { count = up i; claims = claim ∷ []; points = nil_right points i; nodes = nodes ++ n ∷ []; ended = false })
+    (λ i. record { count = up i; claims = claim ∷ []; points = nil_right points i; rays = []; nodes = nodes ++ n ∷ []; ended = false })
 
 module _ (claim : Claim) (points : List Named) (part : HasPart claim points) (xs : List Statement) (t : StatedCertificate) where
   moved : (n : CertNode) (more : List CertNode) (count : ℕ) (nodes : List CertNode) → Takes (with_nodes (length (n ∷ more) + count) claim points (nodes ++ n ∷ more)) xs t → Takes (with_nodes (length more + suc count) claim points ((nodes ++ n ∷ []) ++ more)) xs t
@@ -175,18 +183,24 @@ module _ (nodes : List CertNode) (tree : CertTree) (whole : certificate_nodes tr
 
   end_taken : (count : ℕ) (claim : Claim) (points : List Named) → HasPart claim points → code_in (with_nodes count claim points nodes) (Ok says.End) ≡ None
   end_taken count claim points part =
-      ap (λ (b : Bool). opened b (end_test (lacks_part (with_nodes count claim points nodes) || are_none nodes) (is_whole_tree nodes))) (not_first count)
-      ∙ (λ i. end_test (no_part count claim points nodes part i || (ap are_none (sym whole) ∙ some_nodes tree) i) (is_whole_tree nodes))
-      ∙ ap (λ (d : ℕ). end_test false (d == 0)) due_whole
+      ap (λ (b : Bool). opened b (end_test (lacks_part (with_nodes count claim points nodes)) (takes_ray (claim ∷ [])) (are_none nodes) (is_whole_tree nodes))) (not_first count)
+      ∙ (λ i. end_test (no_part count claim points nodes part i) (no_ray claim points part i) ((ap are_none (sym whole) ∙ some_nodes tree) i) (is_whole_tree nodes))
+      ∙ ap (λ (d : ℕ). end_test false false false (d == 0)) due_whole
 
 -- ---- certificates
 
 abbrev pub point_statements : Claim → Named → List Statement
 point_statements (Optimal v) named = says.Point named ∷ []
 point_statements Infeasible named = []
+point_statements Unbounded named = says.Point named ∷ []
+
+abbrev pub ray_statements : Claim → Named → List Statement
+ray_statements (Optimal v) named = []
+ray_statements Infeasible named = []
+ray_statements Unbounded named = says.Ray named ∷ []
 
 abbrev pub cert_statements : Cert → List Statement
-cert_statements c = says.Header ∷ says.Claims c.claim ∷ (point_statements c.claim c.point ++ (all_statements c.nodes ++ says.End ∷ []))
+cert_statements c = says.Header ∷ says.Claims c.claim ∷ (point_statements c.claim c.point ++ (ray_statements c.claim c.ray ++ (all_statements c.nodes ++ says.End ∷ [])))
 
 -- what is stated in the end
 abbrev pub final : ℕ → Claim → List Named → List CertNode → StatedCertificate
@@ -197,23 +211,39 @@ module _ (text : List ℕ) (nodes : List CertNode) (tree : CertTree) (whole : ce
   behind claim points part count =
       nodes_taken claim points part (says.End ∷ []) (final (length nodes + count) claim points nodes) nodes count 1 [] refl (takes_whole nodes tree whole) (end_taken nodes tree whole (length nodes + count) claim points part, refl)
 
-  meant_by : (claim : Claim) (point : Named) (points : List Named) (count : ℕ) → first_point (points ++ []) ≡ point → IsTaken (lines_of text) (final count claim points nodes) → MeantCertificate text (record { claim = claim; point = point; nodes = nodes })
-  meant_by claim point points count same taken = record {
+  meant_by : (claim : Claim) (point ray : Named) (points : List Named) (count : ℕ) → first_named (points ++ []) ≡ point → ray ≡ [] → IsTaken (line_bytes text) (final count claim points nodes) → MeantCertificate text (record { claim = claim; point = point; ray = ray; nodes = nodes })
+  meant_by claim point ray points count same no_ray taken = record {
     clean = taken.clean;
     ended =
         ap end_code taken.is
         ∙ ap (λ (b : Bool). if b then Some 1 else None) (some_due (suc count + 1) (omega arith));
-    is = (λ i. record { claim = claim; point = sym same i; nodes = sym (nil_right nodes) i }) ∙ ap cert_of (sym taken.is);
+    is = (λ i. record { claim = claim; point = sym same i; ray = no_ray i; nodes = sym (nil_right nodes) i }) ∙ ap cert_of (sym taken.is);
   }
 
-  no_line : AreClean (lines_of text) 0
-  no_line k below = absurd (omega arith)
+no_line : (text : List ℕ) → AreClean (line_bytes text) 0
+no_line text k below = absurd (omega arith)
 
-  pub states : (claim : Claim) (point : Named) → HasNoPoint claim point → SayAll (lines_of text) (cert_statements (record { claim = claim; point = point; nodes = nodes })) → MeantCertificate text (record { claim = claim; point = point; nodes = nodes })
-  unfolding stated
-  states (Optimal v) point none say =
-      meant_by (Optimal v) point (point ∷ []) (length nodes + 2) refl
-      (taken [] (lines_of text) (cert_statements (record { claim = Optimal v; point = point; nodes = nodes })) (final (length nodes + 2) (Optimal v) (point ∷ []) nodes) no_line say (refl, (refl, (refl, behind (Optimal v) (point ∷ []) tt 2))))
-  states Infeasible point none say =
-      meant_by Infeasible point [] (length nodes + 1) (sym none)
-      (taken [] (lines_of text) (cert_statements (record { claim = Infeasible; point = point; nodes = nodes })) (final (length nodes + 1) Infeasible [] nodes) no_line say (refl, (refl, behind Infeasible [] tt 1)))
+-- what is stated where the model is claimed unbounded
+abbrev unbounded_stated : Named → Named → StatedCertificate
+unbounded_stated point ray = record { count = 5; claims = Unbounded ∷ []; points = point ∷ []; rays = ray ∷ []; nodes = []; ended = true }
+
+unbounded_states : (text : List ℕ) (point ray : Named) → SayAll (line_bytes text) (cert_statements (record { claim = Unbounded; point = point; ray = ray; nodes = [] })) → MeantCertificate text (record { claim = Unbounded; point = point; ray = ray; nodes = [] })
+unfolding stated
+unbounded_states text point ray say =
+    let t = taken [] (line_bytes text) (cert_statements (record { claim = Unbounded; point = point; ray = ray; nodes = [] })) (unbounded_stated point ray) (no_line text) say (refl, (refl, (refl, (refl, (refl, refl))))) in
+    record { clean = t.clean; ended = ap end_code t.is; is = ap cert_of (sym t.is) }
+
+pub states : (text : List ℕ) (claim : Claim) (point ray : Named) (nodes : List CertNode) → HasTree claim nodes → HasNoPoint claim point → HasNoRay claim ray →
+    SayAll (line_bytes text) (cert_statements (record { claim = claim; point = point; ray = ray; nodes = nodes })) → MeantCertificate text (record { claim = claim; point = point; ray = ray; nodes = nodes })
+unfolding stated
+states text (Optimal v) point ray nodes t none no_ray say =
+    meant_by text nodes t.tree t.nodes_are (Optimal v) point ray (point ∷ []) (length nodes + 2) refl no_ray
+    (taken [] (line_bytes text) (cert_statements (record { claim = Optimal v; point = point; ray = ray; nodes = nodes })) (final (length nodes + 2) (Optimal v) (point ∷ []) nodes) (no_line text) say
+    (refl, (refl, (refl, behind text nodes t.tree t.nodes_are (Optimal v) (point ∷ []) tt 2))))
+states text Infeasible point ray nodes t none no_ray say =
+    meant_by text nodes t.tree t.nodes_are Infeasible point ray [] (length nodes + 1) (sym none) no_ray
+    (taken [] (line_bytes text) (cert_statements (record { claim = Infeasible; point = point; ray = ray; nodes = nodes })) (final (length nodes + 1) Infeasible [] nodes) (no_line text) say
+    (refl, (refl, behind text nodes t.tree t.nodes_are Infeasible [] tt 1)))
+states text Unbounded point ray nodes none_there none no_ray say =
+    subst (λ ns. MeantCertificate text (record { claim = Unbounded; point = point; ray = ray; nodes = ns })) (sym none_there)
+    (unbounded_states text point ray (subst (λ ns. SayAll (line_bytes text) (cert_statements (record { claim = Unbounded; point = point; ray = ray; nodes = ns }))) none_there say))

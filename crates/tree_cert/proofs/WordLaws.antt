@@ -12,14 +12,12 @@ use Rattle.rational.specs.Rational.{ℚ, den, IsWhole}
 use Rattle.frac128.specs.Range.{Fits, IsNarrow}
 use Rattle.frac128.specs.Printing.{printed}
 use Rattle.frac128.proofs.Printed.{printed-whole, printed-fraction}
-use Rattle.cert_text.specs.Lines.{is_newline, is_blank, is_piece, without_last, lines_of, words_of, ends_blank, words_say, line_says}
-use Rattle.tree_cert.specs.CertText.{Words, spaced, line_text, lines_text, IsWord}
-
-abbrev pub OneLine : List ℕ → Type 0
-OneLine = All (λ byte. is_newline byte ≡ false)
-
-abbrev pub OneWord : List ℕ → Type 0
-OneWord = All (λ byte. is_blank byte ≡ false)
+use Rattle.text_lines.specs.Lines.{Line, is_newline, HasNoNewline, lines_of, lines_of_pieces, line_bytes}
+use Rattle.text_lines.specs.Words.{is_blank, HasNoBlank, is_piece, words_of, IsWord}
+use Rattle.text_lines.proofs.LineLemmas.{bytes-last}
+use Rattle.text_lines.proofs.WordLemmas.{a_piece}
+use Rattle.cert_text.specs.Lines.{ends_blank, words_say, line_says}
+use Rattle.tree_cert.specs.CertText.{Words, spaced, line_text, lines_text}
 
 nil_right : {A : Type 0} (l : List A) → l ++ [] ≡ l
 nil_right [] = refl
@@ -30,11 +28,11 @@ nil_right (x ∷ l) = ap (λ m. x ∷ m) (nil_right l)
 abbrev pub is_plain : List ℕ → Bool
 is_plain word = is_piece word && list_all (λ byte. not (is_newline byte) && not (is_blank byte)) word
 
-plain_bytes : (word : List ℕ) → list_all (λ byte. not (is_newline byte) && not (is_blank byte)) word ≡ true → OneLine word × OneWord word
+plain_bytes : (word : List ℕ) → list_all (λ byte. not (is_newline byte) && not (is_blank byte)) word ≡ true → HasNoNewline word × HasNoBlank word
 plain_bytes [] e = (All-nil (λ byte. is_newline byte ≡ false), All-nil (λ byte. is_blank byte ≡ false))
 plain_bytes (byte ∷ word) e = by (is_newline byte) (is_blank byte) refl refl (plain_bytes word) e
   where
-    by : (a b : Bool) → is_newline byte ≡ a → is_blank byte ≡ b → (list_all (λ byte. not (is_newline byte) && not (is_blank byte)) word ≡ true → OneLine word × OneWord word) → (not a && not b) && list_all (λ byte. not (is_newline byte) && not (is_blank byte)) word ≡ true → OneLine (byte ∷ word) × OneWord (byte ∷ word)
+    by : (a b : Bool) → is_newline byte ≡ a → is_blank byte ≡ b → (list_all (λ byte. not (is_newline byte) && not (is_blank byte)) word ≡ true → HasNoNewline word × HasNoBlank word) → (not a && not b) && list_all (λ byte. not (is_newline byte) && not (is_blank byte)) word ≡ true → HasNoNewline (byte ∷ word) × HasNoBlank (byte ∷ word)
     by true b p q deeper h = absurd (cc)
     by false true p q deeper h = absurd (cc)
     by false false p q deeper h =
@@ -50,7 +48,7 @@ plain_word (byte ∷ word) e = let h = plain_bytes (byte ∷ word) e in record {
 digit_plain : (n : ℕ) → n < 10 → is_plain ((48 + n) ∷ []) ≡ true
 digit_plain n h = grind (arith, nat_tests)
 
-pub word-append : (a b : List ℕ) → IsWord a → OneLine b → OneWord b → IsWord (a ++ b)
+pub word-append : (a b : List ℕ) → IsWord a → HasNoNewline b → HasNoBlank b → IsWord (a ++ b)
 word-append a b h one_line one_word = record {
   some = let l = length-append a b in let s = h.some in omega (arith, l, s);
   one_line = All-append (λ byte. is_newline byte ≡ false) a b h.one_line one_line;
@@ -86,13 +84,13 @@ number_word x fits = at (den x == 1) refl
 
 -- ---- a line and its words
 
-spaced-line : (words : Words) → All IsWord words → OneLine (spaced words)
+spaced-line : (words : Words) → All IsWord words → HasNoNewline (spaced words)
 spaced-line [] all = All-nil (λ byte. is_newline byte ≡ false)
 spaced-line (word ∷ words) all =
     All-cons (λ byte. is_newline byte ≡ false) 32 (word ++ spaced words) refl
     (All-append (λ byte. is_newline byte ≡ false) word (spaced words) (All-head IsWord word words all).one_line (spaced-line words (All-tail IsWord word words all)))
 
-pub line-one : (words : Words) → All IsWord words → OneLine (line_text words)
+pub line-one : (words : Words) → All IsWord words → HasNoNewline (line_text words)
 line-one [] all = All-nil (λ byte. is_newline byte ≡ false)
 line-one (word ∷ words) all = All-append (λ byte. is_newline byte ≡ false) word (spaced words) (All-head IsWord word words all).one_line (spaced-line words (All-tail IsWord word words all))
 
@@ -102,14 +100,10 @@ cut_words word (next ∷ words) w all =
     slice_split_at is_blank word 32 (next ++ spaced words) w.one_word refl
     ∙ ap (λ ws. word ∷ ws) (cut_words next words (All-head IsWord next words all) (All-tail IsWord next words all))
 
-piece-some : (word : List ℕ) → 0 < length word → is_piece word ≡ true
-piece-some [] h = absurd (omega arith)
-piece-some (byte ∷ word) h = refl
-
 keep_words : (words : Words) → All IsWord words → filter is_piece words ≡ words
 keep_words [] all = refl
 keep_words (word ∷ words) all =
-    ap (λ (b : Bool). if b then word ∷ filter is_piece words else filter is_piece words) (piece-some word (All-head IsWord word words all).some)
+    ap (λ (b : Bool). if b then word ∷ filter is_piece words else filter is_piece words) (a_piece word (All-head IsWord word words all).some)
     ∙ ap (λ ws. word ∷ ws) (keep_words words (All-tail IsWord word words all))
 
 last-append : (xs ys : List ℕ) → 0 < length ys → get_or (xs ++ ys) (length (xs ++ ys) - 1) 0 ≡ get_or ys (length ys - 1) 0
@@ -148,11 +142,7 @@ cut_lines (line ∷ lines) all =
     slice_split_at is_newline (line_text line) 10 (lines_text lines) (line-one line (All-head (All IsWord) line lines all)) refl
     ∙ ap (λ pieces. line_text line ∷ pieces) (cut_lines lines (All-tail (All IsWord) line lines all))
 
-drop_last : (pieces : List (List ℕ)) → without_last (pieces ++ [] ∷ []) ≡ pieces
-drop_last [] = refl
-drop_last (a ∷ []) = refl
-drop_last (a ∷ b ∷ more) = ap (λ lines. a ∷ lines) (drop_last (b ∷ more))
-
-pub lines-cut : (lines : List Words) → All (All IsWord) lines → lines_of (lines_text lines) ≡ map line_text lines
-unfolding lines_of
-lines-cut lines all = ap without_last (cut_lines lines all) ∙ drop_last (map line_text lines)
+pub lines-cut : (lines : List Words) → All (All IsWord) lines → line_bytes (lines_text lines) ≡ map line_text lines
+unfolding line_bytes lines_of
+lines-cut lines all =
+    ap (λ pieces. map (λ (line : Line). line.bytes) (lines_of_pieces pieces)) (cut_lines lines all) ∙ bytes-last (map line_text lines) [] ∙ nil_right (map line_text lines)

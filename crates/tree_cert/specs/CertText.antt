@@ -1,19 +1,19 @@
 -- The text of a certificate: its lines, each of words with one blank between them and a newline behind it.
-use Rattle.std.specs.Prelude.{◌≡◌, ℕ, ◌<◌, List, [], ◌∷◌, ◌++◌, length, map, codes, false, All}
+use Rattle.std.specs.Prelude.{ℕ, List, [], ◌∷◌, ◌++◌, map, codes, All}
 use Rattle.std.specs.Fmt.{decimal, signed_decimal}
 use Rattle.frac128.specs.Printing.{printed}
 use Rattle.lp_model.specs.Program.{Program}
 use Rattle.lp_model.specs.Edits.{Named}
 use Rattle.lp_model.specs.Lawful.{column_names}
 use Rattle.cert_text.specs.declared.cert.Claim.{Claim}
-use Rattle.cert_text.specs.declared.cert.Claim.TheVariants.{Optimal, Infeasible}
+use Rattle.cert_text.specs.declared.cert.Claim.TheVariants.{Optimal, Infeasible, Unbounded}
 use Rattle.cert_text.specs.declared.cert.CertMult.{CertMult}
 use Rattle.cert_text.specs.declared.cert.CertMult.TheVariants.{Row, Cut}
 use Rattle.cert_text.specs.declared.cert.CertNode.{CertNode}
 use Rattle.cert_text.specs.declared.cert.CertNode.TheVariants.{Split, Bound, Farkas, Empty}
 use Rattle.cert_text.specs.declared.cert.Cert.{Cert}
 use Rattle.lp_model.specs.Edits.{only_row_names}
-use Rattle.cert_text.specs.Lines.{is_newline, is_blank}
+use Rattle.text_lines.specs.Words.{IsWord}
 
 -- ---- words
 
@@ -37,6 +37,7 @@ all_mult_words (m ∷ mults) = mult_words m ++ all_mult_words mults
 abbrev pub claim_words : Claim → Words
 claim_words (Optimal v) = codes "claim" ∷ codes "optimal" ∷ printed v ∷ []
 claim_words Infeasible = codes "claim" ∷ codes "infeasible" ∷ []
+claim_words Unbounded = codes "claim" ∷ codes "unbounded" ∷ []
 
 abbrev pub node_words : CertNode → Words
 node_words (Split col v) = codes "split" ∷ col ∷ signed_decimal v ∷ []
@@ -44,13 +45,22 @@ node_words (Bound mults) = codes "leaf" ∷ codes "bound" ∷ all_mult_words mul
 node_words (Farkas mults) = codes "leaf" ∷ codes "farkas" ∷ all_mult_words mults
 node_words Empty = codes "leaf" ∷ codes "empty" ∷ []
 
--- a point has a line where a value is claimed
+-- a point has a line where a value is claimed, or that the model is unbounded
 abbrev pub point_lines : Claim → Named → List Words
 point_lines (Optimal v) named = (codes "point" ∷ named_words named) ∷ []
 point_lines Infeasible named = []
+point_lines Unbounded named = (codes "point" ∷ named_words named) ∷ []
+
+-- a ray has one where the model is claimed unbounded
+abbrev pub ray_lines : Claim → Named → List Words
+ray_lines (Optimal v) named = []
+ray_lines Infeasible named = []
+ray_lines Unbounded named = (codes "ray" ∷ named_words named) ∷ []
 
 abbrev pub cert_lines : Cert → List Words
-cert_lines c = (codes "cert" ∷ codes "1" ∷ []) ∷ claim_words c.claim ∷ (point_lines c.claim c.point ++ (map node_words c.nodes ++ (codes "end" ∷ []) ∷ []))
+cert_lines c =
+    (codes "cert" ∷ codes "1" ∷ []) ∷ claim_words c.claim
+    ∷ (point_lines c.claim c.point ++ (ray_lines c.claim c.ray ++ (map node_words c.nodes ++ (codes "end" ∷ []) ∷ [])))
 
 -- ---- bytes
 
@@ -73,12 +83,6 @@ cert_text c = lines_text (cert_lines c)
 
 -- ---- names that are words
 
--- one byte at least, and no newline, blank or tab
-pub record IsWord (word : List ℕ) : Type 0 where
-  pub some : 0 < length word
-  pub one_line : All (λ byte. is_newline byte ≡ false) word
-  pub one_word : All (λ byte. is_blank byte ≡ false) word
-
 abbrev pub HasWords : Named → Type 0
 HasWords named = All (λ e. IsWord e.0) named
 
@@ -96,6 +100,7 @@ HasNodeWords Empty = Unit {0}
 -- each name in the certificate is a word, and its multipliers are of rows
 pub record HasCertWords (cert : Cert) : Type 0 where
   pub point : HasWords cert.point
+  pub ray : HasWords cert.ray
   pub nodes : All HasNodeWords cert.nodes
 
 -- each name of a column or a row of the model is a word

@@ -3,7 +3,7 @@ use Rattle.std.specs.Prelude.{All}
 use Rattle.frac128.specs.Range.{Fits}
 use Rattle.lp_model.specs.Edits.{Named}
 use Rattle.cert_text.specs.declared.cert.Claim.{Claim}
-use Rattle.cert_text.specs.declared.cert.Claim.TheVariants.{Optimal, Infeasible}
+use Rattle.cert_text.specs.declared.cert.Claim.TheVariants.{Optimal, Infeasible, Unbounded}
 use Rattle.cert_text.specs.declared.cert.CertMult.{CertMult}
 use Rattle.cert_text.specs.declared.cert.CertMult.TheVariants.{Row, Cut}
 use Rattle.cert_text.specs.declared.cert.CertNode.{CertNode}
@@ -16,11 +16,19 @@ HasFractions named = All (λ e. Fits e.1) named
 abbrev pub HasClaimRoom : Claim → Type 0
 HasClaimRoom (Optimal v) = Fits v
 HasClaimRoom Infeasible = Unit {0}
+HasClaimRoom Unbounded = Unit {0}
 
 -- the numbers of a point that is printed
 abbrev pub HasPointRoom : Claim → Named → Type 0
 HasPointRoom (Optimal v) named = HasFractions named
 HasPointRoom Infeasible named = Unit {0}
+HasPointRoom Unbounded named = HasFractions named
+
+-- the numbers of a ray that is printed
+abbrev pub HasRayRoom : Claim → Named → Type 0
+HasRayRoom (Optimal v) named = Unit {0}
+HasRayRoom Infeasible named = Unit {0}
+HasRayRoom Unbounded named = HasFractions named
 
 abbrev pub MultFits : CertMult → Type 0
 MultFits (Row name v) = Fits v
@@ -35,4 +43,5 @@ HasNodeRoom Empty = Unit {0}
 pub record HasCertRoom (cert : Cert) : Type 0 where
   pub claim : HasClaimRoom cert.claim
   pub point : HasPointRoom cert.claim cert.point
+  pub ray : HasRayRoom cert.claim cert.ray
   pub nodes : All HasNodeRoom cert.nodes

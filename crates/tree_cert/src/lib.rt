@@ -13,10 +13,13 @@
 //! no kept point                 claim infeasible
 //! ```
 //!
+//! A model with a ray has no such tree: `unbounded_certificate` writes `claim unbounded` with a feasible point and a ray, each by
+//! its numbers that are not 0.
+//!
 //! Public contract: `certificate` is exactly this of a finished search (`IsCertificateOf` in specs/Certificates), and
 //! `check` accepts it for the search's model: no step lacks room, since each leaf was closed by the same steps.
 //! `print_cert` writes a text that states the certificate, where its names are words (specs/CertText); they are where the
-//! model's are (`names_law`), and in what some text states (`print_law`). So `read_cert` reads back what was printed.
+//! model's are (`names_law`, `unbounded_names_law`), and in what some text states (`print_law`). So `read_cert` reads back what was printed.
 //!
 //! The walk keeps the path to a node and no stack of its own, and memory is linear in the tree.
 //!
@@ -32,6 +35,6 @@ mod printing;
 mod walk;
 mod writing;
 
-pub use laws::{names_law, print_law};
+pub use laws::{names_law, print_law, unbounded_names_law};
 pub use printing::print_cert;
-pub use writing::certificate;
+pub use writing::{certificate, unbounded_certificate};

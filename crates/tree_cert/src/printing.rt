@@ -5,8 +5,8 @@ ghost use Rattle.frac128.specs.Range.{Fits};
 ghost use Rattle.frac128.specs.Printing.{printed};
 ghost use Rattle.cert_text.specs.Text.{MeantCertificate};
 ghost use Rattle.cert_text.specs.Whole.{IsCertificate};
-ghost use Rattle.tree_cert.specs.CertText.{named_words, mult_words, all_mult_words, claim_words, node_words, point_lines, spaced, line_text, lines_text, cert_text, HasCertWords};
-ghost use Rattle.tree_cert.specs.Printed.{HasFractions, MultFits, HasNodeRoom, HasClaimRoom, HasPointRoom};
+ghost use Rattle.tree_cert.specs.CertText.{named_words, mult_words, all_mult_words, claim_words, node_words, point_lines, ray_lines, spaced, line_text, lines_text, cert_text, HasCertWords};
+ghost use Rattle.tree_cert.specs.Printed.{HasFractions, MultFits, HasNodeRoom, HasClaimRoom, HasPointRoom, HasRayRoom};
 
 use cert_text::{Cert, CertMult, CertNode, Claim};
 use frac128::Frac;
@@ -109,6 +109,7 @@ fn put_claim(text: &mut Vec<u8>, claim: &Claim) -> Result<(), AllocError>
             put_number(text, value)
         }
         Claim::Infeasible => text.extend_from_slice(b"claim infeasible"),
+        Claim::Unbounded => text.extend_from_slice(b"claim unbounded"),
     }
 }
 
@@ -153,24 +154,43 @@ fn put_nodes(text: &mut Vec<u8>, nodes: &[CertNode]) -> Result<(), AllocError>
     Ok(())
 }
 
-/// The point's line, where a value is claimed.
+/// A line of a word, and of names and numbers.
+fn put_named_line(text: &mut Vec<u8>, word: &[u8], named: &[(Name, Frac)]) -> Result<(), AllocError>
+    ensures text { IfOk result (λ _. text.new.items ≡ text.old.items ++ lines_text ((word.now ∷ named_words named.now) ∷ [])) }
+    ensures room { IfOk result (λ _. HasFractions named.now) }
+{
+    text.extend_from_slice(word)?;
+    put_named(text, named)?;
+    text.push(b'\n')?;
+    Ok(())
+}
+
+/// The point's line, where the claim has one.
 fn put_point(text: &mut Vec<u8>, cert: &Cert) -> Result<(), AllocError>
     ensures text { IfOk result (λ _. text.new.items ≡ text.old.items ++ lines_text (point_lines cert.now.claim cert.now.point)) }
     ensures room { IfOk result (λ _. HasPointRoom cert.now.claim cert.now.point) }
 {
     match cert.claim {
         Claim::Infeasible => Ok(()),
-        Claim::Optimal(_) => {
-            text.extend_from_slice(b"point")?;
-            put_named(text, cert.point.as_slice())?;
-            text.push(b'\n')?;
-            Ok(())
-        }
+        Claim::Optimal(_) => put_named_line(text, b"point", cert.point.as_slice()),
+        Claim::Unbounded => put_named_line(text, b"point", cert.point.as_slice()),
     }
 }
 
-/// The text of a certificate. Where the certificate is one whole tree, and its names are words, the text states it, so
-/// that `read_cert` reads it back.
+/// The ray's line, where the claim has one.
+fn put_ray(text: &mut Vec<u8>, cert: &Cert) -> Result<(), AllocError>
+    ensures text { IfOk result (λ _. text.new.items ≡ text.old.items ++ lines_text (ray_lines cert.now.claim cert.now.ray)) }
+    ensures room { IfOk result (λ _. HasRayRoom cert.now.claim cert.now.ray) }
+{
+    match cert.claim {
+        Claim::Optimal(_) => Ok(()),
+        Claim::Infeasible => Ok(()),
+        Claim::Unbounded => put_named_line(text, b"ray", cert.ray.as_slice()),
+    }
+}
+
+/// The text of a certificate. Where the certificate has the parts of its claim, and its names are words, the text states it,
+/// so that `read_cert` reads it back.
 pub fn print_cert(alloc: Global, cert: &Cert) -> Result<Vec<u8>, AllocError>
     ensures text { IfOk result (λ text. text.items ≡ cert_text cert.now) }
     ensures states { IfOk result (λ text. IsCertificate cert.now → HasCertWords cert.now → MeantCertificate text.items cert.now) }
@@ -180,6 +200,7 @@ pub fn print_cert(alloc: Global, cert: &Cert) -> Result<Vec<u8>, AllocError>
     put_claim(&mut text, &cert.claim)?;
     text.push(b'\n')?;
     put_point(&mut text, cert)?;
+    put_ray(&mut text, cert)?;
     put_nodes(&mut text, cert.nodes.as_slice())?;
     text.extend_from_slice(b"end\n")?;
     Ok(text)

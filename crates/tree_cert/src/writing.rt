@@ -1,20 +1,23 @@
-// The certificate of a finished search.
-ghost use Rattle.std.specs.Prelude.{◌≡◌, IfOk, length, Option};
+// The certificate of a finished search, and that of a model with a ray.
+ghost use Rattle.std.specs.Prelude.{◌≡◌, true, IfOk, length, Option, Ok};
 ghost use Rattle.lp_model.specs.Program.{Point, in_least_form};
+ghost use Rattle.lp_model.specs.Answers.{IsFeasibilityAnswer};
+ghost use Rattle.lp_model.specs.Rays.{IsRayJudged};
 ghost use Rattle.tree_edit.specs.Laws.{HasNoOpenLeaf};
 ghost use Rattle.tree_edit.specs.Sound.{IsSound};
 ghost use Rattle.tree_edit.specs.Points.{IsIncumbent};
 ghost use Rattle.cert_check.specs.Verdict.{IsVerdict};
 ghost use Rattle.cert_text.specs.Whole.{IsCertificate};
+ghost use Rattle.cert_text.specs.declared.cert.Claim.TheVariants.{Unbounded};
 ghost use Rattle.cert_check.specs.declared.verdict.Verdict.TheVariants.{Accepted};
 ghost use Rattle.tree_cert.specs.Walked.{AreOfTree};
-ghost use Rattle.tree_cert.specs.Certificates.{claim_of, point_numbers, IsCertificateOf};
+ghost use Rattle.tree_cert.specs.Certificates.{claim_of, point_numbers, IsCertificateOf, unbounded_certificate};
 
 use crate::names::nonzero_numbers;
 use crate::walk::cert_nodes;
 use cert_text::{Cert, CertNode, Claim};
 use frac128::Frac;
-use lp_model::{List, Name, Sense};
+use lp_model::{List, Model, Name, Point, Sense};
 use std::alloc::{AllocError, Global};
 use tree_edit::Search;
 
@@ -70,9 +73,36 @@ pub fn certificate(alloc: Global, search: &Search) -> Result<Cert, AllocError>
     let claim = claim(search);
     let point = point(alloc, search)?;
     let nodes = nodes(alloc, search)?;
+    let ray = List::new(alloc);
     Ok(Cert {
         claim,
         point,
+        ray,
+        nodes,
+    })
+}
+
+/// The certificate that a model is unbounded, by a feasible point and a ray. `check` accepts it for the model.
+pub fn unbounded_certificate(
+    alloc: Global,
+    model: &Model,
+    point: &Point,
+    ray: &Point,
+) -> Result<Cert, AllocError>
+    requires point { IsFeasibilityAnswer model.now point.now (Ok true) }
+    requires ray { IsRayJudged model.now ray.now (Ok true) }
+    ensures exact { IfOk result (λ cert. cert ≡ unbounded_certificate model.now point.now ray.now) }
+    ensures certificate { IfOk result IsCertificate }
+    ensures accepted { IfOk result (λ cert. IsVerdict model.now cert (Accepted Unbounded)) }
+{
+    let _lawful = model.rows();
+    let point = nonzero_numbers(alloc, model, point)?;
+    let ray = nonzero_numbers(alloc, model, ray)?;
+    let nodes = List::new(alloc);
+    Ok(Cert {
+        claim: Claim::Unbounded,
+        point,
+        ray,
         nodes,
     })
 }

@@ -1,7 +1,7 @@
 use Rattle.std.proofs.Common.{rules, tests}
 use Rattle.std.proofs.lemmas.Iterator.Consumers.{map_from_collect}
 use Rattle.std.proofs.lemmas.Iterator.Splits.{YieldsList-from_slice_split}
-use Rattle.cert_text.specs.Lines.{is_newline}
+use Rattle.text_lines.specs.Lines.{is_newline}
 use Rattle.cert_text.proofs.reader.pieces.Goals as goal
 
 pub returns : goal.returns

@@ -1,7 +1,8 @@
 use Rattle.std.proofs.Common.{◌≡◌, ◌∷◌, ◌∙◌, ap, sym, length, arith, ℕ, suc}
 use Rattle.std.proofs.lemmas.Result.{err_from_is_err_and}
 use Rattle.std.specs.Prelude.{Ok, Err}
-use Rattle.mps_text.specs.Text.{Flaw, lines_of}
+use Rattle.text_lines.specs.Lines.{lines_of}
+use Rattle.mps_text.specs.Text.{Flaw}
 use Rattle.mps_text.specs.Reading.{items_left, item_of, entry_of_record, flaw_of}
 use Rattle.mps_sections.specs.Shown.{held}
 use Rattle.mps_sections.specs.ReadingOf.{OnLine, NoEnd}

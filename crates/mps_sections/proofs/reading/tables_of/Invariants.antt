@@ -1,5 +1,5 @@
 use Rattle.std.proofs.Common.{◌≡◌, length, ◌+◌}
-use Rattle.mps_text.specs.Text.{lines_of}
+use Rattle.text_lines.specs.Lines.{lines_of}
 use Rattle.mps_text.specs.Reading.{items_left, number_behind}
 use Rattle.mps_sections.specs.Shown.{held}
 use Rattle.mps_sections.proofs.ReadingSteps.{IsBehind}

@@ -2,8 +2,9 @@ use Rattle.std.specs.Prelude.{◌≡◌, IfOk, OnErr}
 use Rattle.std.proofs.Common.{subst}
 use Rattle.tree_search.specs.Causes.{IsAtEnd}
 use Rattle.tree_search.specs.Causes as search
-use Rattle.tree_search.specs.Search.{Finds, GivesUp}
+use Rattle.tree_search.specs.Search.{Ends, Finds, GivesUp}
 use Rattle.sym_env.proofs.SolveLemmas.{gave-up, searched-so, searched-whole}
+use Rattle.sym_env.proofs.TruthLemmas.{unbounded-ended}
 use Rattle.sym_env.proofs.solving.search_with.Goals as goal
 
 pub returns-in-Err-clause-solved : goal.returns-in-Err-clause-solved
@@ -12,6 +13,9 @@ returns-in-Err-clause-solved c =
     let l = c.args.limits.now in
     let gives = subst (λ r. OnErr r (GivesUp c.args.ways.now c.args.first.now l.nodes l.pivots S c.search_on.new.search)) c.in-Err.is c.search_on.ensures.unfinished in
     gave-up l S c.requires.fresh c.points-sound.ensures.sound c.args.ways.now c.args.first.now c.requires.begins c.search_on.new.search gives
+
+pub returns-in-Err-clause-beside : goal.returns-in-Err-clause-beside
+returns-in-Err-clause-beside c = λ u. absurd u
 
 pub returns-in-Ok-clause-solved : goal.returns-in-Ok-clause-solved
 returns-in-Ok-clause-solved c =
@@ -26,3 +30,13 @@ returns-in-Ok-clause-complete c =
     let l = c.args.limits.now in
     let whole = subst (λ r. IfOk r (λ searched. search.IsEnough S c.args.ways.now l.nodes l.pivots → IsAtEnd searched.ended)) c.in-Ok.is c.search_on.ensures.complete in
     searched-whole l S c.requires.fresh c.points-sound.ensures.sound c.no_ray_law.ensures c.enough_law.ensures c.args.ways.now c.args.first.now c.requires.begins c.search_on.new.search c.in-Ok.searched c.answer_of.result whole c.answer_of.ensures
+
+pub returns-in-Ok-clause-beside : goal.returns-in-Ok-clause-beside
+returns-in-Ok-clause-beside c = λ u.
+    let S = c.args.search.now in
+    let T = c.search_on.new.search in
+    let l = c.args.limits.now in
+    let finds = subst (λ r. IfOk r (λ searched. Finds c.args.ways.now c.args.first.now l.nodes l.pivots S T searched)) c.in-Ok.is c.search_on.ensures.found in
+    let e = unbounded-ended T c.in-Ok.searched.ended c.in-Ok.searched.placed c.answer_of.result c.answer_of.ensures u in
+    let found = subst (Ends c.args.ways.now c.args.first.now l.nodes l.pivots c.in-Ok.searched.placed S T) e finds.ends in
+    found.after.here.rays

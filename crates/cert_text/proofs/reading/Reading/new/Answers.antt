@@ -5,7 +5,7 @@ use Rattle.cert_text.specs.declared.cert.CertNode.{CertNode}
 use Rattle.cert_text.proofs.reading.Reading.new.Goals as goal
 
 first : List CertNode → StatedCertificate
-first nodes = record { count = 0; claims = []; points = []; nodes = nodes; ended = false }
+first nodes = record { count = 0; claims = []; points = []; rays = []; nodes = nodes; ended = false }
 
 pub returns-clause-stated : goal.returns-clause-stated
 unfolding stated first

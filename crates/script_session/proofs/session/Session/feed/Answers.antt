@@ -1,10 +1,9 @@
 use Rattle.std.proofs.Common.{◌≡◌, List, ℕ, ◌++◌, refl, sym, ◌∙◌, ap, subst, arith, false}
 use Rattle.std.specs.Prelude.{Ok, Err}
-use Rattle.std.specs.Str.Lines.{strip_carriage_return}
 use Rattle.std.proofs.lemmas.Result.{err_from_is_err_and}
 use Rattle.std.proofs.lemmas.List.Elements.{All-append, All-nil}
 use Rattle.script_session.specs.Request.{RequestStep}
-use Rattle.script_session.specs.Script.{is_newline, HasNoNewline}
+use Rattle.text_lines.specs.Lines.{is_newline, HasNoNewline}
 use Rattle.script_session.specs.Session.{moment_of}
 use Rattle.script_session.specs.declared.session.Flow.TheVariants.{Open, Ended}
 use Rattle.script_session.proofs.PieceLemmas.{Stands, Stands-start, Stands-line, Stands-joined, served_line, piece_ended, piece_failed, piece_wanting}
@@ -53,13 +52,11 @@ returns-in_err-serve_line-clause-served g c =
     let more = c.in-Some.more.now in
     let whole = kept ++ line in
     let clean = All-append (λ byte. is_newline byte ≡ false) kept line c.loop-line.invariant.clean c.in-Some.ensures.clean in
-    let passed = c.without_carriage_return-text.result.now in
-    let same : passed ≡ strip_carriage_return whole = c.without_carriage_return-text.ensures ∙ ap strip_carriage_return (c.deref.ensures.value ∙ c.in_ok-extend_from_slice.ensures.items) in
-    let raw = c.deref-in-Some.result.now in
-    let all : raw ≡ whole = c.deref-in-Some.ensures.value ∙ c.in_ok-extend_from_slice.ensures.items in
+    let bytes_of_line = c.deref.result.now in
+    let all : bytes_of_line ≡ whole = c.deref.ensures.value ∙ c.in_ok-extend_from_slice.ensures.items in
     let stands = Stands-joined g.M.Machine.ends (RequestStep g.M.Machine.step) old now bytes kept line more c.loop-line.rest.now c.in-Some.ensures.parts c.loop-line.invariant.stands in
     let fault = c.in_err-serve_line.field-0.0 in
-    let served = served_line g.M.Machine.ends (RequestStep g.M.Machine.step) (Err fault) (Err fault) now new raw passed whole refl all same c.in_err-serve_line.ensures.served in
+    let served = served_line g.M.Machine.ends (RequestStep g.M.Machine.step) (Err fault) (Err fault) now new bytes_of_line whole refl all c.in_err-serve_line.ensures.served in
     rw (p.1, p.2) (piece_failed g.M.Machine.ends (RequestStep g.M.Machine.step) fault old now new bytes whole more c.extend_from_slice.new.self.items clean stands served)
 
 pub returns-in-Ended-clause-served : goal.returns-in-Ended-clause-served
@@ -76,12 +73,10 @@ returns-in-Ended-clause-served g c =
     let more = c.in-Some.more.now in
     let whole = kept ++ line in
     let clean = All-append (λ byte. is_newline byte ≡ false) kept line c.loop-line.invariant.clean c.in-Some.ensures.clean in
-    let passed = c.without_carriage_return-text.result.now in
-    let same : passed ≡ strip_carriage_return whole = c.without_carriage_return-text.ensures ∙ ap strip_carriage_return (c.deref.ensures.value ∙ c.in_ok-extend_from_slice.ensures.items) in
-    let raw = c.deref-in-Some.result.now in
-    let all : raw ≡ whole = c.deref-in-Some.ensures.value ∙ c.in_ok-extend_from_slice.ensures.items in
+    let bytes_of_line = c.deref.result.now in
+    let all : bytes_of_line ≡ whole = c.deref.ensures.value ∙ c.in_ok-extend_from_slice.ensures.items in
     let stands = Stands-joined g.M.Machine.ends (RequestStep g.M.Machine.step) old now bytes kept line more c.loop-line.rest.now c.in-Some.ensures.parts c.loop-line.invariant.stands in
-    let served = served_line g.M.Machine.ends (RequestStep g.M.Machine.step) (Ok c.in_ok-serve_line.field-0) (Ok Ended) now new raw passed whole (ap Ok c.in-Ended.is) all same c.in_ok-serve_line.ensures.served in
+    let served = served_line g.M.Machine.ends (RequestStep g.M.Machine.step) (Ok c.in_ok-serve_line.field-0) (Ok Ended) now new bytes_of_line whole (ap Ok c.in-Ended.is) all c.in_ok-serve_line.ensures.served in
     piece_ended g.M.Machine.ends (RequestStep g.M.Machine.step) old now new bytes whole more c.extend_from_slice.new.self.items clean stands served
 
 pub loop-line-preserved : goal.loop-line-preserved
@@ -98,12 +93,10 @@ loop-line-preserved g c =
     let more = c.in-Some.more.now in
     let whole = kept ++ line in
     let clean = All-append (λ byte. is_newline byte ≡ false) kept line c.loop-line.invariant.clean c.in-Some.ensures.clean in
-    let passed = c.without_carriage_return-text.result.now in
-    let same : passed ≡ strip_carriage_return whole = c.without_carriage_return-text.ensures ∙ ap strip_carriage_return (c.deref.ensures.value ∙ c.in_ok-extend_from_slice.ensures.items) in
-    let raw = c.deref-in-Some.result.now in
-    let all : raw ≡ whole = c.deref-in-Some.ensures.value ∙ c.in_ok-extend_from_slice.ensures.items in
+    let bytes_of_line = c.deref.result.now in
+    let all : bytes_of_line ≡ whole = c.deref.ensures.value ∙ c.in_ok-extend_from_slice.ensures.items in
     let stands = Stands-joined g.M.Machine.ends (RequestStep g.M.Machine.step) old now bytes kept line more c.loop-line.rest.now c.in-Some.ensures.parts c.loop-line.invariant.stands in
-    let served = served_line g.M.Machine.ends (RequestStep g.M.Machine.step) (Ok c.in_ok-serve_line.field-0) (Ok Open) now new raw passed whole (ap Ok c.in-Open.is) all same c.in_ok-serve_line.ensures.served in
+    let served = served_line g.M.Machine.ends (RequestStep g.M.Machine.step) (Ok c.in_ok-serve_line.field-0) (Ok Open) now new bytes_of_line whole (ap Ok c.in-Open.is) all c.in_ok-serve_line.ensures.served in
     let after = Stands-line g.M.Machine.ends (RequestStep g.M.Machine.step) old now new bytes whole more clean stands served in
     record {
       stands = subst (λ (kept : List ℕ). Stands g.M.Machine.ends (RequestStep g.M.Machine.step) old bytes new (kept ++ more)) (sym c.clear.ensures.items) after;

@@ -1,6 +1,7 @@
 use Rattle.std.specs.Prelude.{◌≡◌, Some}
-use Rattle.std.proofs.Common.{subst, sym}
+use Rattle.std.proofs.Common.{subst, sym, ◌∙◌}
 use Rattle.sym_env.specs.Env.{IsHeld}
+use Rattle.sym_env.specs.Solves.{held_by}
 use Rattle.sym_env.proofs.TruthLemmas.{solves-env, solves-held}
 use Rattle.sym_env.proofs.env.Env.solve.Goals as goal
 
@@ -8,10 +9,14 @@ pub invariant_of-self-2 : goal.invariant_of-self-2
 invariant_of-self-2 c =
     let S = c.in-Some.search in
     let T = c.solve-answer.new.search in
-    subst (IsHeld (Some T)) (sym c.held_by-self-inside.ensures) (solves-held S.model c.args.limits.now S c.solve-answer.result T c.solve-answer.ensures.solves)
+    let found = c.solve-answer.result in
+    let is : c.replace-old.new.dest ≡ held_by found.answer found.ray = c.replace-old.ensures.after ∙ c.held_by-held.ensures in
+    subst (IsHeld (Some T)) (sym is) (solves-held S.model c.args.limits.now S found.answer found.ray T c.solve-answer.ensures.solves c.solve-answer.ensures.ray)
 
 pub returns-clause-solves : goal.returns-clause-solves
 returns-clause-solves c =
     let S = c.in-Some.search in
+    let found = c.solve-answer.result in
+    let is : c.replace-old.new.dest ≡ held_by found.answer found.ray = c.replace-old.ensures.after ∙ c.held_by-held.ensures in
     let there : c.args.self.now.search ≡ Some S = subst (λ e. e.search ≡ Some S) c.self.view_is c.in-Some.is in
-    solves-env c.args.limits.now c.args.self.now S c.solve-answer.new.search c.solve-answer.result c.held_by-self-inside.result there c.solve-answer.ensures.solves c.held_by-self-inside.ensures
+    solves-env c.args.limits.now c.args.self.now S c.solve-answer.new.search found.answer found.ray c.replace-old.new.dest there c.solve-answer.ensures.solves c.solve-answer.ensures.ray is

@@ -1,0 +1,11 @@
+use Rattle.std.proofs.Common.{inl, inr}
+use Rattle.cert_check.proofs.checking.check_unbounded.Goals as goal
+
+pub returns-in-Passes : goal.returns-in-Passes
+returns-in-Passes c = λ p r point ray. inl (c.in-Passes.ensures p point, c.check_ray.ensures r ray)
+
+pub returns-in-Breaks : goal.returns-in-Breaks
+returns-in-Breaks c = λ p r point ray. inr (c.in-Breaks.ensures p point, λ e. cc)
+
+pub returns-in-NoRoom : goal.returns-in-NoRoom
+returns-in-NoRoom c = λ p r point ray. inr (c.in-NoRoom.ensures p point, λ e. cc)

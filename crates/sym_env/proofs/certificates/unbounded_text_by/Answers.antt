@@ -1,0 +1,9 @@
+use Rattle.std.specs.Prelude.{ℕ, Vec}
+use Rattle.std.specs.declared.alloc.Global.{Global}
+use Rattle.sym_env.proofs.CertLemmas.{unbounded-text}
+use Rattle.sym_env.proofs.certificates.unbounded_text_by.Goals as goal
+
+pub returns : goal.returns
+returns c =
+    unbounded-text (λ (v : Vec ℕ Global). v.items) c.args.model.now c.args.point.now c.args.ray.now c.in_ok-cert.cert c.print_cert.result c.unbounded_names_law.ensures c.verdict_law.ensures c.accepted_law.ensures
+    c.in_ok-cert.ensures.exact c.in_ok-cert.ensures.certificate c.in_ok-cert.ensures.accepted c.print_cert.ensures.text c.print_cert.ensures.states
