@@ -2,6 +2,7 @@
 use Rattle.std.specs.Prelude.{◌≡◌, ◌≢◌, ℕ, zero, suc, ◌<◌, ◌≤◌, pos, List, length, get_or}
 use Rattle.rational.specs.Rational.{int}
 use Rattle.bases.specs.Relaxation.{Relaxation, Table, IsTable, IsArranged, Agree, pivoted}
+use Rattle.bases.specs.Steps.{ExchangeFits}
 
 -- v is one of f 0 .. f (n - 1)
 abbrev pub Found : ℕ → (ℕ → ℕ) → ℕ → Type 0
@@ -59,12 +60,12 @@ pub record IsStuck (columns activities : ℕ) (list : List ℕ) (d : Table) : Ty
   pub next : IsNextOfList columns activities list d turn place
   pub none : (i : ℕ) → i < activities → ¬ (MayLeave list d place i)
 
--- n exchanges that bring the list in lead from the table d to e
-abbrev pub Way : ℕ → ℕ → List ℕ → ℕ → Table → Table → Type 0
-Way columns activities list zero d e = Agree columns activities e d
-Way columns activities list (suc n) d e =
-    (f : Table) × ((row : ℕ) × ((place : ℕ) × (Way columns activities list n d f × BringsIn columns activities list f row place × Agree columns activities e (pivoted f row place))))
+-- n exchanges that bring the list in, each step of which has room, lead from the table d to e
+abbrev pub OpenWay : ℕ → ℕ → List ℕ → ℕ → Table → Table → Type 0
+OpenWay columns activities list zero d e = Agree columns activities e d
+OpenWay columns activities list (suc n) d e =
+    (f : Table) × ((row : ℕ) × ((place : ℕ) × (OpenWay columns activities list n d f × BringsIn columns activities list f row place × ExchangeFits columns activities f row place × Agree columns activities e (pivoted f row place))))
 
--- some exchanges that bring the list in lead there
-abbrev pub IsOnWay : ℕ → ℕ → List ℕ → Table → Table → Type 0
-IsOnWay columns activities list d e = (n : ℕ) × Way columns activities list n d e
+-- some exchanges that bring the list in, each step of which has room, lead there
+abbrev pub IsOnOpenWay : ℕ → ℕ → List ℕ → Table → Table → Type 0
+IsOnOpenWay columns activities list d e = (n : ℕ) × OpenWay columns activities list n d e

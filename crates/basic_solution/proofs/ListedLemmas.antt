@@ -10,13 +10,13 @@ use Rattle.lp_model.specs.declared.types.Basis.{Basis}
 use Rattle.lp_model.specs.declared.types.WideStep.{WideStep}
 use Rattle.lp_model.specs.WideSteps.{TablePlace, Pivot, Point, Cost, RatioCost, Ratio, table_place}
 use Rattle.bases.specs.declared.stand.Stand.TheVariants.{Free}
-use Rattle.bases.specs.Bases.{IsTableOf, IsNamedBy, BringsIn}
+use Rattle.bases.specs.Bases.{IsTableOf, IsNamedBy, BringsIn, listed}
 use Rattle.bases.specs.States.{Separates}
 use Rattle.row_tableau.specs.declared.relax.Relax.{Relax}
 use Rattle.row_tableau.specs.Relaxations.{relaxation_of}
 use Rattle.row_tableau.specs.Dense.{Dense}
 use Rattle.row_tableau.specs.Variables.{variable_number, numbers}
-use Rattle.row_tableau.specs.Answers.{IsPivotPlace, IsBroughtIn}
+use Rattle.row_tableau.specs.Answers.{IsPivotPlace, IsProper, IsBroughtIn}
 use Rattle.basic_solution.specs.Held.{Held, IsSided, relaxation, parts, table, variables}
 use Rattle.basic_solution.specs.Slack.{IsOf, IsRestood}
 use Rattle.basic_solution.specs.ListedStates.{IsStandBy, StandBy, StandsAsListed, Keeps, IsExchangePlace, IsWideExchange, IsBroughtTo, IsLawfulAnswer, IsStoodAt, LeadsOn}
@@ -136,17 +136,25 @@ module _ (s t : Held) (keeps : Keeps s t) (list : Basis) where
   brought true h = brought_named h
   brought false h = h
 
+  proper_on : IsProper s.tableau (numbers s.tableau list.basic) → IsProper t.tableau (numbers t.tableau list.basic)
+  proper_on h = subst (IsProper t.tableau) same_numbers (record {
+    size = h.size ∙ sym keeps.activities;
+    there = λ k q. subst (λ n. listed (numbers s.tableau list.basic) k < n) (λ i. sym keeps.columns i + sym keeps.activities i) (h.there k q);
+    once = h.once;
+  })
+
   -- the exchange that comes next by the lists of the one state comes next by those of the other
-  exchange_place : (o : Option TablePlace) → (row at : ℕ) → BringsIn s.tableau.columns s.tableau.activities (numbers s.tableau list.basic) (table t) row at → IsSomeAnd o (IsPivotPlace t.tableau row at) → IsSomeAnd o (IsExchangePlace list t)
-  exchange_place None row at brings h = absurd h
-  exchange_place (Some (Pivot r v i k)) row at brings h = (row, (at, (subst (λ X. X) (λ n. BringsIn (sym keeps.columns n) (sym keeps.activities n) (same_numbers n) (table t) row at) brings, h)))
-  exchange_place (Some (Point b k)) row at brings h = absurd h
-  exchange_place (Some (Cost k b)) row at brings h = absurd h
-  exchange_place (Some (RatioCost r k)) row at brings h = absurd h
-  exchange_place (Some (Ratio r k v)) row at brings h = absurd h
+  exchange_place : (o : Option TablePlace) → IsProper t.tableau (numbers t.tableau list.basic) → (row at : ℕ) → BringsIn s.tableau.columns s.tableau.activities (numbers s.tableau list.basic) (table t) row at → IsSomeAnd o (IsPivotPlace t.tableau row at) → IsSomeAnd o (IsExchangePlace list t)
+  exchange_place None proper row at brings h = absurd h
+  exchange_place (Some (Pivot r v i k)) proper row at brings h =
+      (proper, (row, (at, (subst (λ X. X) (λ n. BringsIn (sym keeps.columns n) (sym keeps.activities n) (same_numbers n) (table t) row at) brings, h))))
+  exchange_place (Some (Point b k)) proper row at brings h = absurd h
+  exchange_place (Some (Cost k b)) proper row at brings h = absurd h
+  exchange_place (Some (RatioCost r k)) proper row at brings h = absurd h
+  exchange_place (Some (Ratio r k v)) proper row at brings h = absurd h
 
   pub brought_wide : (e : WideStep) → IsBroughtIn s.tableau (numbers s.tableau list.basic) (Err e) t.tableau → IsWideExchange list t e
-  brought_wide e h = exchange_place (table_place e) h.0 h.1.0 h.1.1.0 h.1.1.1
+  brought_wide e h = exchange_place (table_place e) (proper_on h.0) h.1.0 h.1.1.0 h.1.1.1.0 h.1.1.1.1
 
 -- ---- standing by a list
 

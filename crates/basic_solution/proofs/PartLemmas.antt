@@ -1,5 +1,5 @@
 -- Parts of reduced costs.
-use Rattle.std.specs.Prelude.{◌≡◌, ℕ, zero, suc, ◌+◌, ◌-◌, ◌<◌, ◌≤◌, [], ◌∷◌, pos, if◌then◌else◌, get_or, length}
+use Rattle.std.specs.Prelude.{◌≡◌, ℕ, zero, suc, ◌+◌, ◌-◌, ◌<◌, ◌≤◌, [], ◌∷◌, pos, if◌then◌else◌, get_or, length, Result, Ok, Err}
 use Rattle.std.proofs.Common.{refl, sym, ap, subst, ◌∙◌, arith}
 use Rattle.std.proofs.lemmas.Bool.{lt-ltb, le-ltb}
 use Rattle.std.proofs.lemmas.List.{get_or_default}
@@ -12,6 +12,8 @@ use Rattle.bases.specs.States.{sign}
 use Rattle.bases.proofs.SumBelowLaws.{if_same, if_other}
 use Rattle.bases.proofs.ReducedCosts.{reduced_alone-basic, reduced_alone-nonbasic}
 use Rattle.basic_solution.specs.Held.{Held, IsSided, relaxation, parts, table, variables, own_cost}
+use Rattle.basic_solution.specs.Numbers.{IsCostAnswer, IsPartAnswer}
+use Rattle.lp_model.specs.declared.types.WideStep.{WideStep}
 
 pub tilt_read : (s : Held) → IsSided s → (v : ℕ) → v < variables s → (x : Stand) → x ≡ get_or s.tilt v x → x ≡ get_or s.tilt v Free
 tilt_read s sided v within x is = is ∙ get_or_default s.tilt v x Free (let e = sided.shape.tilt_length in subst (λ n. v < n) (sym e) within)
@@ -59,6 +61,19 @@ module _ (s : Held) where
       let less : q < length s.order = omega (arith, within) in
       let back : suc q - 1 ≡ q = omega arith in
       ap (λ c. reduced_cost (relaxation s) (table s) c place) (λ i v. (ap (λ u. own_cost s u v) (is ∙ ap (λ k. get_or s.order k 0) back) ∙ part_is q less v) i)
+
+  -- what a part of a reduced cost answers: that of the costs, and a later one
+  costs_part : (place : ℕ) (r : Result ℚ WideStep) → IsCostAnswer s place r → IsPartAnswer s place 0 r
+  costs_part place (Ok x) h = h
+  costs_part place (Err e) h = h
+
+  pub first_answer : (place part : ℕ) (r : Result ℚ WideStep) → part ≡ 0 → IsCostAnswer s place r → IsPartAnswer s place part r
+  first_answer place part r none h = subst (λ q. IsPartAnswer s place q r) (sym none) (costs_part place r h)
+
+  pub later_answer : (place part own : ℕ) (x : ℚ) → ¬ (part ≡ 0) → part < length s.order + 1 → own ≡ get_or s.order (part - 1) 0 → x ≡ reduced_cost (relaxation s) (table s) (own_cost s own) place
+      → IsPartAnswer s place part (Ok x)
+  later_answer place zero own x some within is e = absurd (some refl)
+  later_answer place (suc q) own x some within is e = (tt, e ∙ later_part (suc q) own place some within is)
 
   pub turn_part : (turn own place : ℕ) → turn < length s.order → own ≡ get_or s.order turn 0 → reduced_cost (relaxation s) (table s) (own_cost s own) place ≡ reduced_cost (relaxation s) (table s) (parts s (suc turn)) place
   turn_part turn own place within is = ap (λ c. reduced_cost (relaxation s) (table s) c place) (λ i v. (ap (λ u. own_cost s u v) is ∙ part_is turn within v) i)

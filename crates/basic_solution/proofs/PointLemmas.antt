@@ -1,18 +1,19 @@
 -- Sums over all variables at a state are sums over rows or places.
-use Rattle.std.specs.Prelude.{◌≡◌, ℕ, ◌<◌, [], ◌∷◌, pos, Ok, Err, if◌then◌else◌, ◌==◌}
+use Rattle.std.specs.Prelude.{◌≡◌, ℕ, ◌<◌, [], ◌∷◌, pos, Result, Ok, Err, if◌then◌else◌, ◌==◌}
 use Rattle.std.proofs.Common.{refl, sym, ap, ap₂, subst, ◌∙◌}
 use Rattle.rational.specs.Rational.{ℚ, int, ◌+ℚ◌, ◌*ℚ◌, neg_ℚ}
 use Rattle.rational.proofs.RationalRing.{ring, reads_ℚ}
 use Rattle.checked_sum.specs.Sums.{sum_below}
-use Rattle.checked_sum.specs.Steps.{StepFitsAt, IsCheckedSum}
+use Rattle.checked_sum.specs.Steps.{AllFit, IsFirstWide, IsCheckedSum}
 use Rattle.checked_sum.proofs.SumLaws.{sum_below-same}
 use Rattle.bases.specs.Relaxation.{IsArranged, reduced_cost, point, multipliers, row_weights}
 use Rattle.bases.specs.States.{basic_value}
-use Rattle.bases.specs.Steps.{nothing, at_nonbasic, at_basic, PointFits, CostFits}
+use Rattle.bases.specs.Steps.{nothing, at_nonbasic, at_basic}
 use Rattle.bases.proofs.SumBelowLaws.{sum_below-zero, if_same, if_other}
 use Rattle.bases.proofs.Arranged.{assigned-basic, assigned-nonbasic}
 use Rattle.basic_solution.specs.Held.{Held, IsSided, relaxation, state, table, variables}
-use Rattle.basic_solution.specs.Numbers.{IsWidePoint, IsWideCostTerm}
+use Rattle.basic_solution.specs.Numbers.{ValueFits, CostsFit, IsValueNamed, IsCostNamed, IsValueAnswer, IsCostAnswer, IsNumberAnswer, IsMultiplierAnswer}
+use Rattle.lp_model.specs.declared.types.WideStep.{WideStep}
 
 module _ (s : Held) (sided : IsSided s) where
   abbrev arranged : IsArranged (relaxation s) (table s)
@@ -68,30 +69,36 @@ module _ (s : Held) (sided : IsSided s) where
 
   -- what the sum of a basic variable's value answers
   pub value_answer : (row : ℕ) (start x : ℚ) → start ≡ int (pos 0) → IsCheckedSum {P = ℕ} start (at_nonbasic (relaxation s) (table s) ((table s).entry row)) (at_nonbasic (relaxation s) (table s) (state s).at) (variables s) (λ k. k) (Ok x)
-      → x ≡ basic_value (relaxation s) (state s) row
-  value_answer row start x none h = h.1 ∙ ap₂ ◌+ℚ◌ none (sum_of_places ((table s).entry row) (state s).at) ∙ ring (basic_value (relaxation s) (state s) row ∷ []) (search reads_ℚ) tt
+      → IsValueAnswer s row (Ok x)
+  value_answer row start x none h = (
+    subst (λ z. AllFit z (at_nonbasic (relaxation s) (table s) ((table s).entry row)) (at_nonbasic (relaxation s) (table s) (state s).at) (variables s)) none h.0,
+    h.1 ∙ ap₂ ◌+ℚ◌ none (sum_of_places ((table s).entry row) (state s).at) ∙ ring (basic_value (relaxation s) (state s) row ∷ []) (search reads_ℚ) tt,
+  )
 
   pub value_refusal : (row b k e : ℕ) (start : ℚ) → start ≡ int (pos 0) → row < s.tableau.activities → b ≡ (table s).basic row → k ≡ e
-      → IsCheckedSum {P = ℕ} start (at_nonbasic (relaxation s) (table s) ((table s).entry row)) (at_nonbasic (relaxation s) (table s) (state s).at) (variables s) (λ k. k) (Err e) → IsWidePoint s row b k
+      → IsCheckedSum {P = ℕ} start (at_nonbasic (relaxation s) (table s) ((table s).entry row)) (at_nonbasic (relaxation s) (table s) (state s).at) (variables s) (λ k. k) (Err e) → IsValueNamed s row b k
   value_refusal row b k e start none within b_is k_is h = record {
     within = within;
     basic = b_is;
-    wide = λ fits. h.1.0.here (subst (λ z. StepFitsAt z (at_nonbasic (relaxation s) (table s) ((table s).entry row)) (at_nonbasic (relaxation s) (table s) (state s).at) h.0) (sym none)
-        (subst (PointFits (relaxation s) (table s) (state s).at row) (k_is ∙ h.1.1) fits));
+    first = subst (λ z. IsFirstWide z (at_nonbasic (relaxation s) (table s) ((table s).entry row)) (at_nonbasic (relaxation s) (table s) (state s).at) (variables s) k) none
+        (subst (IsFirstWide start (at_nonbasic (relaxation s) (table s) ((table s).entry row)) (at_nonbasic (relaxation s) (table s) (state s).at) (variables s)) (sym (k_is ∙ h.1.1)) h.1.0);
   }
 
   -- what the sum of a reduced cost answers
   pub cost_answer : (place : ℕ) (start x : ℚ) → start ≡ (relaxation s).cost ((table s).nonbasic place) → IsCheckedSum {P = ℕ} start (relaxation s).cost (at_basic (relaxation s) (table s) (λ i. (table s).entry i place)) (variables s) (λ k. k) (Ok x)
-      → x ≡ reduced_cost (relaxation s) (table s) (relaxation s).cost place
-  cost_answer place start x own h = h.1 ∙ ap₂ ◌+ℚ◌ own (sum_of_rows (relaxation s).cost (λ i. (table s).entry i place))
+      → IsCostAnswer s place (Ok x)
+  cost_answer place start x own h = (
+    subst (λ z. AllFit z (relaxation s).cost (at_basic (relaxation s) (table s) (λ i. (table s).entry i place)) (variables s)) own h.0,
+    h.1 ∙ ap₂ ◌+ℚ◌ own (sum_of_rows (relaxation s).cost (λ i. (table s).entry i place)),
+  )
 
   pub cost_refusal : (place k b e : ℕ) (start : ℚ) → start ≡ (relaxation s).cost ((table s).nonbasic place) → place < s.tableau.columns → k ≡ (table s).nonbasic place → b ≡ e
-      → IsCheckedSum {P = ℕ} start (relaxation s).cost (at_basic (relaxation s) (table s) (λ i. (table s).entry i place)) (variables s) (λ k. k) (Err e) → IsWideCostTerm s place k b
+      → IsCheckedSum {P = ℕ} start (relaxation s).cost (at_basic (relaxation s) (table s) (λ i. (table s).entry i place)) (variables s) (λ k. k) (Err e) → IsCostNamed s place k b
   cost_refusal place k b e start own within k_is b_is h = record {
     within = within;
     nonbasic = k_is;
-    wide = λ fits. h.1.0.here (subst (λ z. StepFitsAt z (relaxation s).cost (at_basic (relaxation s) (table s) (λ i. (table s).entry i place)) h.0) (sym own)
-        (subst (CostFits (relaxation s) (table s) (relaxation s).cost place) (b_is ∙ h.1.1) fits));
+    first = subst (λ z. IsFirstWide z (relaxation s).cost (at_basic (relaxation s) (table s) (λ i. (table s).entry i place)) (variables s) b) own
+        (subst (IsFirstWide start (relaxation s).cost (at_basic (relaxation s) (table s) (λ i. (table s).entry i place)) (variables s)) (sym (b_is ∙ h.1.1)) h.1.0);
   }
 
   -- ---- the point and the multipliers, variable by variable
@@ -109,6 +116,22 @@ module _ (s : Held) (sided : IsSided s) where
   pub multiplier_nonbasic : (v k : ℕ) → k < s.tableau.columns → (table s).nonbasic k ≡ v → reduced_cost (relaxation s) (table s) (relaxation s).cost k ≡ multipliers (relaxation s) (table s) (relaxation s).cost v
   multiplier_nonbasic v k within e =
       sym (ap (multipliers (relaxation s) (table s) (relaxation s).cost) (sym e) ∙ assigned-nonbasic (relaxation s) (table s) arranged _ (reduced_cost (relaxation s) (table s) (relaxation s).cost) k within)
+
+  -- a basic variable has the value of its row, and another one the number at which it stands
+  pub number_basic : (v row : ℕ) → row < s.tableau.activities → (table s).basic row ≡ v → (r : Result ℚ WideStep) → IsValueAnswer s row r → IsNumberAnswer s v r
+  number_basic v row within e (Ok x) h = ((λ i q f. subst (λ j. ValueFits s j (variables s)) (arranged.basic_once row i within q (e ∙ sym f)) h.0), h.1 ∙ point_basic v row within e)
+  number_basic v row within e (Err step) h = (row, (e, h))
+
+  pub number_nonbasic : (v k : ℕ) → k < s.tableau.columns → (table s).nonbasic k ≡ v → (x : ℚ) → x ≡ (state s).at k → IsNumberAnswer s v (Ok x)
+  number_nonbasic v k within e x is = ((λ i q f. absurd (arranged.apart i k q within (f ∙ sym e))), is ∙ point_nonbasic v k within e)
+
+  -- a basic variable has the multiplier 0, and another one its reduced cost
+  pub multiplied_basic : (v row : ℕ) → row < s.tableau.activities → (table s).basic row ≡ v → (x : ℚ) → x ≡ int (pos 0) → IsMultiplierAnswer s v (Ok x)
+  multiplied_basic v row within e x is = ((λ k q f. absurd (arranged.apart row k within q (e ∙ sym f))), is ∙ multiplier_basic v row within e)
+
+  pub multiplied_nonbasic : (v k : ℕ) → k < s.tableau.columns → (table s).nonbasic k ≡ v → (r : Result ℚ WideStep) → IsCostAnswer s k r → IsMultiplierAnswer s v r
+  multiplied_nonbasic v k within e (Ok x) h = ((λ l q f. subst (λ j. CostsFit s j (variables s)) (arranged.nonbasic_once k l within q (e ∙ sym f)) h.0), h.1 ∙ multiplier_nonbasic v k within e)
+  multiplied_nonbasic v k within e (Err step) h = (k, (e, h))
 
   pub weight_leaving : (r v i : ℕ) → i ≡ r → i < s.tableau.activities → (table s).basic i ≡ v → int (pos 1) ≡ row_weights (relaxation s) (table s) r v
   weight_leaving r v i same within e =

@@ -11,7 +11,7 @@ use Rattle.bases.specs.Directions.{stand_number}
 use Rattle.bases.proofs.BringIn.{basic_within}
 use Rattle.basic_solution.specs.Held.{Held, IsSided, relaxation, state, table, variables}
 use Rattle.basic_solution.specs.Breach.{IsBelowSide, IsAboveSide, IsBreach}
-use Rattle.basic_solution.specs.Numbers.{IsRowBreach}
+use Rattle.basic_solution.specs.Numbers.{ValueFits, IsRowBreach}
 
 same_some : (o : Option ℚ) (b d : ℚ) → o ≡ Some b → o ≡ Some d → b ≡ d
 same_some o b d e f = ap (λ x. stand_number Low x None) (sym e ∙ f)
@@ -34,11 +34,11 @@ sign_free stand x e = subst (λ s. int (pos 0) ≡ sign s *ℚ x) (sym e) (ring 
 -- ---- the variable of a row
 
 module _ (s : Held) (row : ℕ) where
-  pub row_breach_of : (r : Option Stand) → IsBreach ((relaxation s).low ((table s).basic row)) ((relaxation s).high ((table s).basic row)) (basic_value (relaxation s) (state s) row) r → IsRowBreach s row (Ok r)
-  row_breach_of (Some Low) h = h
-  row_breach_of (Some High) h = h
-  row_breach_of (Some Free) h = absurd h
-  row_breach_of None h = inside
+  pub row_breach_of : ValueFits s row (variables s) → (r : Option Stand) → IsBreach ((relaxation s).low ((table s).basic row)) ((relaxation s).high ((table s).basic row)) (basic_value (relaxation s) (state s) row) r → IsRowBreach s row (Ok r)
+  row_breach_of fits (Some Low) h = (fits, h)
+  row_breach_of fits (Some High) h = (fits, h)
+  row_breach_of fits (Some Free) h = absurd h
+  row_breach_of fits None h = (fits, inside)
     where
       inside : (side : Stand) (b : ℚ) → ¬ (IsOutside (relaxation s) (state s) row side b)
       inside Low b out = h.0 (b, out)

@@ -7,15 +7,15 @@ use Rattle.lp_model.specs.declared.types.WideStep.{WideStep}
 use Rattle.bases.specs.declared.stand.Stand.{Stand}
 use Rattle.bases.specs.declared.stand.Stand.TheVariants.{Low, High, Free}
 use Rattle.bases.specs.Relaxation.{Relaxation}
-use Rattle.bases.specs.Bases.{Lists, IsNamedBy, IsNonsingular, BringsIn, IsOnWay}
+use Rattle.bases.specs.Bases.{Lists, IsNamedBy, IsNonsingular, BringsIn, IsOnOpenWay}
 use Rattle.bases.specs.States.{IsFree}
 use Rattle.row_tableau.specs.declared.relax.Relax.{Relax}
 use Rattle.row_tableau.specs.Relaxations.{relaxation_of}
 use Rattle.row_tableau.specs.Dense.{IsTableauOf}
 use Rattle.row_tableau.specs.Variables.{numbers}
-use Rattle.row_tableau.specs.Answers.{IsPivotNamed, IsLeftOff}
-use Rattle.basic_solution.specs.Held.{Held, IsSided, IsLawfulHeld, relaxation, table}
-use Rattle.basic_solution.specs.Numbers.{IsWideCostStep}
+use Rattle.row_tableau.specs.Answers.{IsPivotNamed, IsProper, IsLeftOff}
+use Rattle.basic_solution.specs.Held.{Held, IsSided, IsLawfulHeld, relaxation, table, variables}
+use Rattle.basic_solution.specs.Numbers.{CostsFit, IsWideCost}
 use Rattle.basic_solution.specs.Slack.{IsOf, IsPlaced}
 
 -- a variable that is not basic stands high where the list names it, and else low, or at 0 where it has no side
@@ -58,10 +58,11 @@ StandsNowhere s = (k : ℕ) → k < s.tableau.columns → get_or s.stands k Free
 
 abbrev pub IsExchangePlace : Basis → Held → TablePlace → Type 0
 IsExchangePlace list s (Pivot r v i k) =
-    (row : ℕ) × ((place : ℕ) × (BringsIn s.tableau.columns s.tableau.activities (numbers s.tableau list.basic) (table s) row place × IsPivotNamed s.tableau row place r v i k))
+    IsProper s.tableau (numbers s.tableau list.basic)
+    × ((row : ℕ) × ((place : ℕ) × (BringsIn s.tableau.columns s.tableau.activities (numbers s.tableau list.basic) (table s) row place × IsPivotNamed s.tableau row place r v i k)))
 IsExchangePlace list s other = ⊥
 
--- bringing the list in makes this step of an exchange next, which has no room
+-- the list is proper, and bringing it in makes this exchange next, the first step of which without room is this one
 abbrev pub IsWideExchange : Basis → Held → WideStep → Type 0
 IsWideExchange list s step = IsSomeAnd (table_place step) (IsExchangePlace list s)
 
@@ -71,30 +72,49 @@ IsBroughtTo s list (Ok true) after = IsNamedBy after.tableau.activities (numbers
 IsBroughtTo s list (Ok false) after = IsLeftOff s.tableau (numbers s.tableau list.basic) after.tableau
 IsBroughtTo s list (Err e) after = IsWideExchange list after e
 
--- whether each variable stands where its reduced cost asks it to
-abbrev pub IsLawfulAnswer : Held → Result Bool WideStep → Type 0
-IsLawfulAnswer s (Ok true) = IsLawfulHeld s
-IsLawfulAnswer s (Ok false) = ¬ IsLawfulHeld s
-IsLawfulAnswer s (Err e) = IsWideCostStep s e
-
+-- whether the variable of a place stands where its reduced cost asks it to, where each term of that has room, else the first that has none
 abbrev pub IsPlaceAnswer : Held → ℕ → Result Bool WideStep → Type 0
-IsPlaceAnswer s k (Ok b) = IsTrue b ↔ IsPlaced s k (get_or s.stands k Free)
-IsPlaceAnswer s k (Err e) = IsWideCostStep s e
+IsPlaceAnswer s k (Ok b) = CostsFit s k (variables s) × (IsTrue b ↔ IsPlaced s k (get_or s.stands k Free))
+IsPlaceAnswer s k (Err e) = IsWideCost s k e
+
+-- the variables of the first n places stand where their reduced costs ask them to, each term of which has room
+abbrev pub ArePlaced : Held → ℕ → Type 0
+ArePlaced s n = (k : ℕ) → k < n → CostsFit s k (variables s) × IsPlaced s k (get_or s.stands k Free)
+
+-- the variable of a place does not, whose reduced cost has room, and those of the places before it do
+pub record IsUnlawfulAt (s : Held) (place : ℕ) : Type 0 where
+  pub within : place < s.tableau.columns
+  pub before : ArePlaced s place
+  pub fits : CostsFit s place (variables s)
+  pub elsewhere : ¬ IsPlaced s place (get_or s.stands place Free)
+
+-- the step is the first without room in the reduced cost of a place, and the variables of the places before it stand where theirs ask them to
+pub record IsWidePlacing (s : Held) (step : WideStep) : Type 0 where
+  pub place : ℕ
+  pub within : place < s.tableau.columns
+  pub before : ArePlaced s place
+  pub wide : IsWideCost s place step
+
+-- whether each variable stands where its reduced cost asks it to, place by place up to the first that does not
+abbrev pub IsLawfulAnswer : Held → Result Bool WideStep → Type 0
+IsLawfulAnswer s (Ok true) = IsLawfulHeld s × ((k : ℕ) → k < s.tableau.columns → CostsFit s k (variables s))
+IsLawfulAnswer s (Ok false) = (¬ IsLawfulHeld s) × ((place : ℕ) × IsUnlawfulAt s place)
+IsLawfulAnswer s (Err e) = IsWidePlacing s e
 
 -- the step of an exchange, where no variable counts as standing high, or of a reduced cost at the list
 abbrev pub IsListRefused : Basis → Held → WideStep → Type 0
-IsListRefused list s e = (StandsNowhere s × IsWideExchange list s e) ⊎ (StandsAsListed list s × IsWideCostStep s e)
+IsListRefused list s e = (StandsNowhere s × IsWideExchange list s e) ⊎ (StandsAsListed list s × IsWidePlacing s e)
 
 -- where a list is left: bringing it in is left off there, or its state is there and is not lawful
 abbrev pub IsLeftAt : Basis → Held → Held → Type 0
-IsLeftAt list s after = IsLeftOff s.tableau (numbers s.tableau list.basic) after.tableau ⊎ (StandsAsListed list after × (¬ IsLawfulHeld after))
+IsLeftAt list s after = IsLeftOff s.tableau (numbers s.tableau list.basic) after.tableau ⊎ (StandsAsListed list after × IsLawfulAnswer after (Ok false))
 
 -- what comes of standing at a list: true where the state is lawful
 abbrev pub IsStoodAt : Held → Basis → Result Bool WideStep → Held → Type 0
-IsStoodAt s list (Ok true) after = StandsAsListed list after × IsLawfulHeld after
+IsStoodAt s list (Ok true) after = StandsAsListed list after × IsLawfulAnswer after (Ok true)
 IsStoodAt s list (Ok false) after = IsLeftAt list s after
 IsStoodAt s list (Err e) after = IsListRefused list after e
 
--- exchanges that bring the list in lead from one table to the other
+-- exchanges that bring the list in, each step of which has room, lead from one table to the other
 abbrev pub LeadsOn : Basis → Held → Held → Type 0
-LeadsOn list s after = IsOnWay s.tableau.columns s.tableau.activities (numbers s.tableau list.basic) (table s) (table after)
+LeadsOn list s after = IsOnOpenWay s.tableau.columns s.tableau.activities (numbers s.tableau list.basic) (table s) (table after)

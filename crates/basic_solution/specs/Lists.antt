@@ -10,7 +10,7 @@ use Rattle.bases.specs.Relaxation.{point}
 use Rattle.row_tableau.specs.Variables.{numbers, variable_number}
 use Rattle.row_tableau.specs.Answers.{IsBasic}
 use Rattle.basic_solution.specs.Held.{Held, relaxation, state, table, variables}
-use Rattle.basic_solution.specs.Numbers.{IsWideTerm}
+use Rattle.basic_solution.specs.Numbers.{NumberFits, IsWideNumber, MultiplierFits, IsWideMultiplier}
 use Rattle.lp_model.specs.declared.types.WideStep.{WideStep}
 
 -- the numbers below n of which P holds, each once and rising
@@ -55,11 +55,26 @@ pub record AreListedMultipliers (s : Held) (y : ℕ → ℚ) (list : List (Var �
   pub named : AreRising (HasMultiplier s y) (variables s) (numbers s.tableau (names list))
   pub values : All (λ m. m.1 ≡ y (variable_number s.tableau m.0)) list
 
--- the list, or a term without room
+-- the step is the first without room in the number of a column, and each column before has a number whose terms have room
+pub record IsWideColumn (s : Held) (step : WideStep) : Type 0 where
+  pub column : ℕ
+  pub within : column < s.tableau.columns
+  pub before : (j : ℕ) → j < column → NumberFits s j
+  pub wide : IsWideNumber s column step
+
+-- the list, where each term of its numbers has room, else the first that has none
 abbrev pub IsPointAnswer : Held → Result (List ℚ) WideStep → Type 0
-IsPointAnswer s (Ok x) = IsPointOfHeld s x
-IsPointAnswer s (Err e) = IsWideTerm s e
+IsPointAnswer s (Ok x) = IsPointOfHeld s x × ((j : ℕ) → j < s.tableau.columns → NumberFits s j)
+IsPointAnswer s (Err e) = IsWideColumn s e
+
+-- the step is the first without room in the multiplier of an activity, and each activity before has a multiplier whose terms have room
+pub record IsWideActivity (s : Held) (step : WideStep) : Type 0 where
+  pub activity : ℕ
+  pub behind : s.tableau.columns ≤ activity
+  pub within : activity < variables s
+  pub before : (v : ℕ) → s.tableau.columns ≤ v → v < activity → MultiplierFits s v
+  pub wide : IsWideMultiplier s activity step
 
 abbrev pub AreMultipliersAnswer : Held → (ℕ → ℚ) → Result (List (Var × ℚ)) WideStep → Type 0
-AreMultipliersAnswer s y (Ok list) = AreListedMultipliers s y list
-AreMultipliersAnswer s y (Err e) = IsWideTerm s e
+AreMultipliersAnswer s y (Ok list) = AreListedMultipliers s y list × ((v : ℕ) → s.tableau.columns ≤ v → v < variables s → MultiplierFits s v)
+AreMultipliersAnswer s y (Err e) = IsWideActivity s e

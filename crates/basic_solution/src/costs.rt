@@ -1,11 +1,10 @@
 // Reduced costs.
-ghost use Rattle.std.specs.Prelude.{◌≡◌, ◌<◌, ◌<ℤ◌, pos, IfErr, IfSome};
+ghost use Rattle.std.specs.Prelude.{◌≡◌, ◌<◌, ◌<ℤ◌, pos, IfSome};
 ghost use Rattle.bases.specs.Relaxation.{reduced_cost};
 ghost use Rattle.bases.specs.Steps.{at_basic};
 ghost use Rattle.row_tableau.specs.WholeSums.{IsWholeTerm};
 ghost use Rattle.basic_solution.specs.Held.{relaxation, table, variables};
-ghost use Rattle.basic_solution.specs.Numbers.{IsNumberOrWideTerm};
-ghost use Rattle.basic_solution.specs.Numbers.{IsWideCostStep};
+ghost use Rattle.basic_solution.specs.Numbers.{CostsFit, IsCostAnswer};
 
 use crate::sided::SidedBasis;
 use checked_sum::{Terms, checked_sum};
@@ -101,7 +100,7 @@ impl SidedBasis<'_> {
     /// The reduced cost of a place, where it can be had with one division. None says nothing of it.
     fn whole_cost(&self, place: usize) -> Option<Frac>
         requires { place < self.now.tableau.columns }
-        ensures { IfSome result (λ cost. cost ≡ reduced_cost (relaxation self.now) (table self.now) (relaxation self.now).cost place) }
+        ensures { IfSome result (λ cost. CostsFit self.now place (variables self.now) × (cost ≡ reduced_cost (relaxation self.now) (table self.now) (relaxation self.now).cost place)) }
     {
         let terms = CostTerms { state: self, place };
         let start = whole_number(&self.cost_of(self.tableau.nonbasic(place)))?;
@@ -111,8 +110,7 @@ impl SidedBasis<'_> {
     /// The reduced cost of a place, or the first of its terms, in the order of the variables, that has no room.
     pub(crate) fn reduced_cost(&self, place: usize) -> Result<Frac, WideStep>
         requires { place < self.now.tableau.columns }
-        ensures value { IsNumberOrWideTerm self.now (reduced_cost (relaxation self.now) (table self.now) (relaxation self.now).cost place) result }
-        ensures step { IfErr result (IsWideCostStep self.now) }
+        ensures { IsCostAnswer self.now place result }
     {
         if let Some(cost) = self.whole_cost(place) {
             return Ok(cost);

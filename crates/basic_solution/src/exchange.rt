@@ -1,6 +1,7 @@
 // Exchanges.
 ghost use Rattle.std.specs.Prelude.{◌≡◌, ◌≢◌, ◌<◌, pos, OnOk, OnErr, IfErr};
 ghost use Rattle.rational.specs.Rational.{int};
+ghost use Rattle.bases.specs.Steps.{ExchangeFits};
 ghost use Rattle.row_tableau.specs.Answers.{IsWidePivot};
 ghost use Rattle.basic_solution.specs.Held.{table};
 ghost use Rattle.basic_solution.specs.Exchanges.{IsMove};
@@ -16,6 +17,7 @@ impl SidedBasis<'_> {
         requires place { place < self.old.tableau.columns }
         requires some { (table self.old).entry row place ≢ int (pos 0) }
         ensures moved { OnOk result (IsMove self.old self.new row side place) }
+        ensures fits { OnOk result (ExchangeFits self.old.tableau.columns self.old.tableau.activities (table self.old) row place) }
         ensures wide { IfErr result (IsWidePivot self.old.tableau row place) }
         ensures kept { OnErr result (self.new ≡ self.old) }
     {

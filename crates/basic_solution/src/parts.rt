@@ -1,7 +1,7 @@
 // Reduced costs part by part.
 ghost use Rattle.std.specs.Prelude.{◌≡◌, ◌<◌, ◌+◌, length};
 ghost use Rattle.bases.specs.Relaxation.{reduced_cost};
-ghost use Rattle.basic_solution.specs.Held.{relaxation, parts, table, variables, own_cost};
+ghost use Rattle.basic_solution.specs.Held.{relaxation, table, variables, own_cost};
 
 use crate::sided::SidedBasis;
 use crate::sides::signed;
@@ -10,7 +10,7 @@ use lp_model::WideStep;
 use row_tableau::Position;
 
 impl SidedBasis<'_> {
-    ghost use Rattle.basic_solution.specs.Numbers.{IsNumberOrWideTerm};
+    ghost use Rattle.basic_solution.specs.Numbers.{IsPartAnswer};
 
     /// The reduced cost of a place where one variable alone has a cost, the sign of its tilt.
     pub(crate) fn own_reduced(&self, place: usize, variable: usize) -> Frac
@@ -33,11 +33,11 @@ impl SidedBasis<'_> {
         self.order.len() + 1
     }
 
-    /// A part of the reduced cost of a place.
+    /// A part of the reduced cost of a place, or the first of its terms, in the order of the variables, that has no room.
     pub fn reduced_part(&self, place: usize, part: usize) -> Result<Frac, WideStep>
         requires place { place < self.now.tableau.columns }
         requires part { part < length self.now.order + 1 }
-        ensures { IsNumberOrWideTerm self.now (reduced_cost (relaxation self.now) (table self.now) (parts self.now part) place) result }
+        ensures { IsPartAnswer self.now place part result }
     {
         if part == 0 {
             self.reduced_cost(place)

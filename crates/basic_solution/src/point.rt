@@ -1,7 +1,6 @@
 // The point of a state: where the nonbasic variables stand, and the values of the basic ones.
 ghost use Rattle.std.specs.Prelude.{◌≡◌, ◌<◌, ◌+◌, ◌<ℤ◌, pos, get_or, IfSome};
 ghost use Rattle.bases.specs.Steps.{at_nonbasic};
-ghost use Rattle.bases.specs.States.{basic_value};
 ghost use Rattle.bases.specs.Directions.{stand_number};
 ghost use Rattle.row_tableau.specs.WholeSums.{IsWholeTerm};
 ghost use Rattle.basic_solution.specs.Held.{relaxation, state, table, variables};
@@ -69,7 +68,7 @@ impl WholeTerms for PointTerms<'_, '_> {
 }
 
 impl SidedBasis<'_> {
-    ghost use Rattle.basic_solution.specs.Numbers.{IsNumberOrWideTerm};
+    ghost use Rattle.basic_solution.specs.Numbers.{IsValueAnswer};
 
     /// The number at which the variable of a place stands.
     pub(crate) fn place_number(&self, place: usize) -> Frac
@@ -130,7 +129,7 @@ impl SidedBasis<'_> {
     /// The value of the basic variable of a row, or the first of its terms, in the order of the variables, that has no room.
     pub(crate) fn basic_value(&self, row: usize) -> Result<Frac, WideStep>
         requires { row < self.now.tableau.activities }
-        ensures { IsNumberOrWideTerm self.now (basic_value (relaxation self.now) (state self.now) row) result }
+        ensures { IsValueAnswer self.now row result }
     {
         let terms = PointTerms { state: self, row };
         if let Some(value) = whole_sum(0, self.tableau.denominator(), &terms) {

@@ -2,6 +2,7 @@
 ghost use Rattle.std.specs.Prelude.{◌≡◌, ◌<◌, get_or, length};
 ghost use Rattle.bases.specs.declared.stand.Stand.TheVariants.{Free};
 ghost use Rattle.row_tableau.specs.Answers.{IsPosition};
+ghost use Rattle.row_tableau.specs.Dense.{HasFullLists};
 ghost use Rattle.row_tableau.specs.Variables.{variable_number};
 ghost use Rattle.basic_solution.specs.Held.{IsSided, table, variables};
 
@@ -40,6 +41,7 @@ impl SidedBasis<'_> {
     pub fn columns(&self) -> usize
         ensures value { result ≡ self.now.tableau.columns }
         ensures sided { IsSided self.now }
+        ensures full { HasFullLists self.now.tableau }
     {
         self.tableau.columns()
     }

@@ -1,9 +1,8 @@
 // What a state gives: the numbers of its point, its multipliers, and the Farkas multipliers of a row.
 ghost use Rattle.std.specs.Prelude.{◌≡◌, ◌<◌};
-ghost use Rattle.bases.specs.Relaxation.{point, multipliers};
 ghost use Rattle.bases.specs.States.{farkas_weights};
-ghost use Rattle.basic_solution.specs.Held.{relaxation, state, table, variables};
-ghost use Rattle.dual_simplex.specs.Answers.{IsNumberOrWide};
+ghost use Rattle.basic_solution.specs.Held.{relaxation, state, variables};
+ghost use Rattle.basic_solution.specs.Numbers.{IsNumberAnswer, IsMultiplierAnswer};
 
 use crate::leaving::Leaving;
 use crate::state::LpState;
@@ -21,7 +20,7 @@ impl LpState<'_> {
     /// The number of a variable at the state's point, or the first step that has no room.
     pub fn number_of(&self, variable: usize) -> Result<Frac, WideStep>
         requires { variable < variables self.now }
-        ensures { IsNumberOrWide self.now (point (relaxation self.now) (table self.now) (state self.now).at variable) result }
+        ensures { IsNumberAnswer self.now variable result }
     {
         self.basis.number_of(variable)
     }
@@ -29,7 +28,7 @@ impl LpState<'_> {
     /// The multiplier of a variable: its reduced cost, 0 for a basic one; or the first step that has no room.
     pub fn multiplier_of(&self, variable: usize) -> Result<Frac, WideStep>
         requires { variable < variables self.now }
-        ensures { IsNumberOrWide self.now (multipliers (relaxation self.now) (table self.now) (relaxation self.now).cost variable) result }
+        ensures { IsMultiplierAnswer self.now variable result }
     {
         self.basis.multiplier_of(variable)
     }

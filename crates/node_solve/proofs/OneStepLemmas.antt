@@ -1,7 +1,6 @@
 -- What is judged at a last state has one answer: a number, a test and a value, or one first step without room.
-use Rattle.std.specs.Prelude.{◌≡◌, ℕ, true, [], ◌∷◌, length, pos, None, Result, Ok, Err}
-use Rattle.std.specs.Option.{IsSomeAnd}
-use Rattle.std.proofs.Common.{refl, sym, ap, subst, ◌∙◌, inl, inr, ⊎_elim}
+use Rattle.std.specs.Prelude.{◌≡◌, ℕ, true, [], ◌∷◌, length, pos, Ok, Err}
+use Rattle.std.proofs.Common.{refl, sym, ap, subst, ◌∙◌, inl, inr}
 use Rattle.std.proofs.lemmas.Bool.{cases_order}
 use Rattle.rational.specs.Rational.{ℚ, int}
 use Rattle.checked_sum.specs.Steps.{IsFirstWide}
@@ -9,11 +8,8 @@ use Rattle.checked_sum.proofs.AnswerLaws.{first_wide_unique}
 use Rattle.lp_model.specs.Program.{Program, Point, coordinate, constant, cost, value, coefficient, least_value}
 use Rattle.lp_model.specs.Regions.{Path}
 use Rattle.lp_model.specs.Formulations.{without_cuts}
-use Rattle.lp_model.specs.WideSteps.{table_place}
 use Rattle.lp_model.specs.Answers.{IsFeasibilityAnswer, IsValueAnswer, IsFirstWideRow, activity_step, value_step}
-use Rattle.lp_model.specs.declared.types.Basis.{Basis}
 use Rattle.lp_model.specs.declared.types.WideStep.{WideStep}
-use Rattle.row_tableau.specs.declared.relax.Relax.{Relax}
 use Rattle.leaf_dual.specs.Dual.{Multipliers}
 use Rattle.leaf_dual.specs.Answers.{IsLagAnswer, IsFarkasAnswer}
 use Rattle.leaf_dual.specs.declared.dual.LagValue.{LagValue}
@@ -21,23 +17,8 @@ use Rattle.leaf_dual.specs.declared.dual.LagValue.TheVariants.{Num}
 use Rattle.leaf_dual.proofs.OneAnswer.{lag_one, farkas_one}
 use Rattle.leaf_judging.specs.Closing.{IsRefuted}
 use Rattle.tree_edit.specs.Points.{IsKeepable}
-use Rattle.basic_solution.specs.Held.{Held}
-use Rattle.basic_solution.specs.Numbers.{IsCostPlace}
-use Rattle.basic_solution.specs.ListedStates.{IsExchangePlace, IsListRefused}
-use Rattle.dual_simplex.specs.Starts.{IsWideStart}
 use Rattle.node_solve.specs.Works.{IsWholeAt, IsWideAtOptimum}
 use Rattle.node_solve.proofs.EndLemmas.{ok_not_err, err_is}
-
--- ---- the steps of a table
-
-refused_at_table : (list : Basis) (s : Held) (step : WideStep) → table_place step ≡ None → ¬ IsListRefused list s step
-refused_at_table list s step none (inl h) = subst (λ o. IsSomeAnd o (IsExchangePlace list s)) none h.1
-refused_at_table list s step none (inr h) = subst (λ o. IsSomeAnd o (IsCostPlace s)) none h.1
-
--- each step of a start is one of a table
-pub start_at_table : (relax : Relax) (list first : Basis) (step : WideStep) (basis : Basis) → table_place step ≡ None → ¬ IsWideStart relax list first step basis
-start_at_table relax list first step basis none wide =
-    ⊎_elim (λ h. refused_at_table list wide.reached step none h.1) (λ h. refused_at_table first wide.reached step none h.1.1.1) wide.at
 
 -- ---- a point
 

@@ -1,15 +1,14 @@
 -- Lists that rise and name the same variables are one.
-use Rattle.std.specs.Prelude.{◌≡◌, ℕ, zero, suc, ◌+◌, ◌-◌, ◌<◌, ◌≤◌, ltb, if◌then◌else◌, List, [], ◌∷◌, length, map, All}
-use Rattle.std.proofs.Common.{refl, sym, ap, subst, ◌∙◌, arith, ⊎_elim}
-use Rattle.std.proofs.lemmas.Bool.{cases_lt, lt-ltb, le-ltb}
+use Rattle.std.specs.Prelude.{◌≡◌, ℕ, zero, suc, ◌+◌, ◌<◌, ◌≤◌, List, [], ◌∷◌, length, map, All}
+use Rattle.std.proofs.Common.{refl, sym, ap, subst, ◌∙◌, arith}
 use Rattle.std.proofs.lemmas.List.Elements.{All-tail}
 use Rattle.rational.specs.Rational.{ℚ}
 use Rattle.lp_model.specs.declared.types.Var.{Var}
-use Rattle.lp_model.specs.declared.types.Var.TheVariants.{Col, Row, Cut}
 use Rattle.bases.specs.Bases.{Lists, listed}
 use Rattle.row_tableau.specs.Dense.{Dense}
 use Rattle.row_tableau.specs.Variables.{variable_number, numbers}
 use Rattle.basic_solution.specs.Lists.{AreRising, names}
+use Rattle.dual_simplex.proofs.VariableLemmas.{variable_of, variable_is}
 
 -- ---- numbers
 
@@ -54,50 +53,19 @@ one_rising P Q n xs ys to from a b = one_list xs ys a.rises b.rises
 -- ---- variables by their numbers
 
 module _ (t : Dense) where
-  abbrev last : ℕ
-  last = t.columns + t.activities
-
-  abbrev activity_of : ℕ → Var
-  activity_of i = if ltb i t.rows then Row (record { 0 = i }) else Cut (record { 0 = i - t.rows })
-
-  abbrev variable_of : ℕ → Var
-  variable_of n = if ltb n t.columns then Col (record { 0 = n }) else activity_of (n - t.columns)
-
-  at_activity : (i : ℕ) → variable_of (t.columns + i) ≡ activity_of i
-  at_activity i =
-      let back : t.columns + i - t.columns ≡ i = omega arith in
-      ap (λ b. if b then Col (record { 0 = t.columns + i }) else activity_of (t.columns + i - t.columns)) (le-ltb (t.columns + i) t.columns (omega arith)) ∙ ap activity_of back
-
-  variable_is : (v : Var) → variable_number t v < last → variable_of (variable_number t v) ≡ v
-  variable_is (Col c) below = ⊎_elim
-      (λ w. ap variable_of (ap (λ b. if b then c.0 else last) (lt-ltb c.0 t.columns w)) ∙ ap (λ b. if b then Col (record { 0 = c.0 }) else activity_of (c.0 - t.columns)) (lt-ltb c.0 t.columns w))
-      (λ past. let e : variable_number t (Col c) ≡ last = ap (λ b. if b then c.0 else last) (le-ltb c.0 t.columns past) in absurd (omega (arith, below, e)))
-      (cases_lt c.0 t.columns)
-  variable_is (Row r) below = ⊎_elim
-      (λ w. ap variable_of (ap (λ b. if b then t.columns + r.0 else last) (lt-ltb r.0 t.rows w)) ∙ at_activity r.0 ∙ ap (λ b. if b then Row (record { 0 = r.0 }) else Cut (record { 0 = r.0 - t.rows })) (lt-ltb r.0 t.rows w))
-      (λ past. let e : variable_number t (Row r) ≡ last = ap (λ b. if b then t.columns + r.0 else last) (le-ltb r.0 t.rows past) in absurd (omega (arith, below, e)))
-      (cases_lt r.0 t.rows)
-  variable_is (Cut k) below = ⊎_elim
-      (λ w.
-      let back : t.rows + k.0 - t.rows ≡ k.0 = omega arith in
-      ap variable_of (ap (λ b. if b then t.columns + (t.rows + k.0) else last) (lt-ltb (t.rows + k.0) t.activities w)) ∙ at_activity (t.rows + k.0)
-      ∙ ap (λ b. if b then Row (record { 0 = t.rows + k.0 }) else Cut (record { 0 = t.rows + k.0 - t.rows })) (le-ltb (t.rows + k.0) t.rows (omega arith)) ∙ ap (λ n. Cut (record { 0 = n })) back)
-      (λ past. let e : variable_number t (Cut k) ≡ last = ap (λ b. if b then t.columns + (t.rows + k.0) else last) (le-ltb (t.rows + k.0) t.activities past) in absurd (omega (arith, below, e)))
-      (cases_lt (t.rows + k.0) t.activities)
-
   -- the numbers are below the last
   abbrev pub AreThere : List Var → Type 0
-  AreThere list = (k : ℕ) → k < length (numbers t list) → listed (numbers t list) k < last
+  AreThere list = (k : ℕ) → k < length (numbers t list) → listed (numbers t list) k < t.columns + t.activities
 
-  variables_are : (list : List Var) → AreThere list → list ≡ map variable_of (numbers t list)
+  variables_are : (list : List Var) → AreThere list → list ≡ map (variable_of t) (numbers t list)
   variables_are [] there = refl
   variables_are (v ∷ vs) there =
-      let first : v ≡ variable_of (variable_number t v) = sym (variable_is v (there 0 (omega arith))) in
-      let rest : vs ≡ map variable_of (numbers t vs) = variables_are vs (λ k q. there (suc k) (omega (arith, q))) in
+      let first : v ≡ variable_of t (variable_number t v) = sym (variable_is t v (there 0 (omega arith))) in
+      let rest : vs ≡ map (variable_of t) (numbers t vs) = variables_are vs (λ k q. there (suc k) (omega (arith, q))) in
       λ i. first i ∷ rest i
 
   pub one_variables : (xs ys : List Var) → AreThere xs → AreThere ys → numbers t xs ≡ numbers t ys → xs ≡ ys
-  one_variables xs ys x_there y_there same = variables_are xs x_there ∙ ap (map variable_of) same ∙ sym (variables_are ys y_there)
+  one_variables xs ys x_there y_there same = variables_are xs x_there ∙ ap (map (variable_of t)) same ∙ sym (variables_are ys y_there)
 
   -- ---- lists of multipliers
 
@@ -111,13 +79,13 @@ module _ (t : Dense) where
       let rest : ms ≡ map (with_value y) (names ms) = values_are y ms (All-tail (λ n. n.1 ≡ y (variable_number t n.0)) m ms all) in
       λ i. first i ∷ rest i
 
-  same_values : (y z : ℕ → ℚ) → ((v : ℕ) → v < last → y v ≡ z v) → (list : List Var) → AreThere list → map (with_value y) list ≡ map (with_value z) list
+  same_values : (y z : ℕ → ℚ) → ((v : ℕ) → v < t.columns + t.activities → y v ≡ z v) → (list : List Var) → AreThere list → map (with_value y) list ≡ map (with_value z) list
   same_values y z same [] there = refl
   same_values y z same (v ∷ vs) there =
       let first = same (variable_number t v) (there 0 (omega arith)) in
       let rest = same_values y z same vs (λ k q. there (suc k) (omega (arith, q))) in
       λ i. (v, first i) ∷ rest i
 
-  pub one_values : (y z : ℕ → ℚ) → ((v : ℕ) → v < last → y v ≡ z v) → (ms ns : List (Var × ℚ)) → AreThere (names ms) → names ms ≡ names ns → All (λ m. m.1 ≡ y (variable_number t m.0)) ms → All (λ m. m.1 ≡ z (variable_number t m.0)) ns → ms ≡ ns
+  pub one_values : (y z : ℕ → ℚ) → ((v : ℕ) → v < t.columns + t.activities → y v ≡ z v) → (ms ns : List (Var × ℚ)) → AreThere (names ms) → names ms ≡ names ns → All (λ m. m.1 ≡ y (variable_number t m.0)) ms → All (λ m. m.1 ≡ z (variable_number t m.0)) ns → ms ≡ ns
   one_values y z same ms ns there named m_all n_all =
       values_are y ms m_all ∙ same_values y z same (names ms) there ∙ ap (map (with_value z)) named ∙ sym (values_are z ns n_all)

@@ -19,8 +19,8 @@ pub enum RayAnswer {
     DualBasis(Basis),
     /// As many moves as the limit allows were made, and a basic variable is outside a side of the directions.
     Pivots { basis: Basis },
-    /// A step of arithmetic has no room: one at a state of the directions, or one of the cost of the optimal direction, or,
-    /// where that is below 0, of a row's sum at it.
+    /// The first step of arithmetic that the run needs and that has no room: one at a state of the directions, or one of the
+    /// cost of the optimal direction, or, where that is below 0, of a row's sum at it.
     Wide(WideAt),
     /// There is no memory.
     Memory,

@@ -1,26 +1,19 @@
 -- Leaves by their ids, and open leaves of sound searches.
-use Rattle.std.specs.Prelude.{◌≡◌, ℕ, ◌+◌, ◌<◌, ◌≤◌, Bool, true, if◌then◌else◌, nat_eq, [], Option, Some, None, unwrap_or, MatchOption}
+use Rattle.std.specs.Prelude.{◌≡◌, ℕ, ◌+◌, ◌<◌, ◌≤◌, Bool, true, if◌then◌else◌, nat_eq, [], Some, None, unwrap_or, MatchOption}
 use Rattle.std.specs.Option.{option_map, option_or}
 use Rattle.std.proofs.Common.{refl, sym, subst, ap, ◌∙◌, inl, inr, arith}
 use Rattle.std.proofs.lemmas.Bool.Decides.{eqb_tells}
-use Rattle.rational.specs.Rational.{ℚ}
-use Rattle.lp_model.specs.Program.{Program}
 use Rattle.lp_model.specs.Regions.{Path, IsEmptyRegion}
-use Rattle.lp_model.specs.Formulations.{without_cuts}
 use Rattle.branch_tree.specs.Tree.{Leaf, Split, left_path, right_path, EachLeaf}
 use Rattle.branch_tree.specs.Plain.{Plain, LeafKept, leaves_with, leaf_below}
 use Rattle.branch_tree.specs.Numbered.{NumberedTree, IsNumbered}
 use Rattle.branch_tree.specs.declared.node.LeafData.{LeafData}
 use Rattle.branch_tree.specs.declared.node.LeafState.TheVariants.{IsOpen}
 use Rattle.branch_tree.proofs.LeafLemmas.{leaf_below-split, leaf_below-found, leaf_below-none}
-use Rattle.branch_tree.proofs.PathLaws.{each-found}
-use Rattle.leaf_judging.specs.declared.closing.LeafNumber.TheVariants.{Empty}
-use Rattle.leaf_judging.specs.Closing.{NumberCloses, StateSays, IsJudgedLeaf}
-use Rattle.tree_edit.specs.Points.{target}
-use Rattle.tree_edit.specs.Sound.{PlainSearch, formulation_of, IsSound}
+use Rattle.tree_edit.specs.Sound.{PlainSearch, IsSound}
 use Rattle.tree_edit.specs.Calls.{IsLeafAt}
-use Rattle.leaf_judging.proofs.JudgeLemmas.{closes_same}
 use Rattle.tree_edit.proofs.SoundLemmas.{each-weaker}
+use Rattle.tree_edit.proofs.OpenLemmas.{open-not_aside}
 
 pub once : (T : NumberedTree) → IsNumbered T → (id : ℕ) → leaves_with id T.root ≤ 1
 once T n id = let h = n.distinct id in omega (arith, h)
@@ -61,25 +54,6 @@ at_leaf t id path kept once at =
 
 -- ---- open leaves
 
--- the region of a leaf that does not close is not seen to be empty
-pub open-not_empty : (M : Program) (t : Option ℚ) (path : Path) (kept : LeafData) → IsJudgedLeaf (without_cuts M) t path kept → kept.state ≡ IsOpen → ¬ IsEmptyRegion M path
-open-not_empty M t path kept judged is_open empty =
-    let says : ¬ NumberCloses M t judged.number = subst (λ s. StateSays s (NumberCloses M t judged.number)) is_open judged.says in
-    says (closes_same (without_cuts M) path kept.mult kept.farkas t judged.number Empty judged.number_is (inl empty) tt)
-
-pub leaf_at : (t : Plain) (id : ℕ) (path : Path) (kept : LeafData) → IsLeafAt t id path kept → (l : LeafKept) × ((leaf_below id [] t ≡ Some (path, l)) × (l.kept ≡ kept))
-leaf_at t id path kept at = by (leaf_below id [] t) refl at.path_is at.data_is
-  where
-    by : (o : Option (Path × LeafKept)) → leaf_below id [] t ≡ o → option_map (λ (l : Path × LeafKept). l.0) o ≡ Some path → option_map (λ (l : Path × LeafKept). l.1.kept) o ≡ Some kept
-        → (l : LeafKept) × ((leaf_below id [] t ≡ Some (path, l)) × (l.kept ≡ kept))
-    by None e h k = absurd cc
-    by (Some q) e h k = (q.1, (e ∙ (λ t. Some (some_is q.0 path h t, q.1)), some_is q.1.kept kept k))
-
--- an open leaf of a sound search was judged so
-pub open-judged : (S : PlainSearch) → IsSound S → (id : ℕ) (path : Path) (kept : LeafData) → IsLeafAt S.tree.root id path kept → IsJudgedLeaf (formulation_of S) (target S.model S.points) path kept
-open-judged S sound id path kept at =
-    let l = leaf_at S.tree.root id path kept at in
-    subst (IsJudgedLeaf (formulation_of S) (target S.model S.points) path) l.1.1 (each-found (λ p k. IsJudgedLeaf (formulation_of S) (target S.model S.points) p k.kept) id [] S.tree.root (path, l.0) sound.judged l.1.0).0
-
+-- the region of an open leaf is not seen to be empty
 pub open-found : (S : PlainSearch) → IsSound S → (id : ℕ) (path : Path) (kept : LeafData) → IsLeafAt S.tree.root id path kept → kept.state ≡ IsOpen → ¬ IsEmptyRegion S.model path
-open-found S sound id path kept at is_open = open-not_empty S.model (target S.model S.points) path kept (open-judged S sound id path kept at) is_open
+open-found S sound id path kept at is_open empty = open-not_aside S sound id path kept at is_open (inl empty)

@@ -35,13 +35,14 @@ use Rattle.tree_edit.specs.Calls.{IsLeafAt}
 use Rattle.tree_edit.specs.Placing.{TakesResult, Takes, TakesPoint, split_node, tree_with_split, closed_data}
 use Rattle.tree_edit.proofs.TakenLemmas.{old_closes}
 use Rattle.tree_edit.proofs.SoundLemmas.{each-weaker}
+use Rattle.tree_edit.proofs.OpenLemmas.{leaf_at}
 use Rattle.search_counting.specs.Points.{points}
 use Rattle.search_counting.specs.Work.{if_open, sum_open, work, splits, HasRoomFor, splits_of, IsRoomy, Lowers}
 use Rattle.search_counting.specs.Laws.{IsEffective}
 use Rattle.lp_model.proofs.WithinRegionLemmas.{IsWholeBound}
 use Rattle.search_counting.proofs.RegionLemmas.{region_high-whole, floor-less, floor-int}
 use Rattle.search_counting.proofs.PointLemmas.{points-split, points-some, low-left, high-left, low-right, high-right, high-left_other, low-right_other, min-below, max-above}
-use Rattle.search_counting.proofs.LeafLemmas.{once, at_leaf, leaf_at, open-found}
+use Rattle.search_counting.proofs.LeafLemmas.{once, at_leaf, open-found}
 use Rattle.search_counting.proofs.WorkLemmas.{sum-replaced, sum-changed, own-part}
 use Rattle.search_counting.proofs.RoomLemmas.{room-after, room-now}
 
@@ -202,7 +203,7 @@ module _ (S : PlainSearch) (sound : IsSound S) (numbered : IsNumbered S.tree) (l
     by_closed : (done : NodeResult) → TakesResult S id path kept done S' Closed → Lowers S S'
     by_closed (Close mult farkas basis) h = closed (closed_data mult farkas basis) refl h.2
     by_closed (SplitAt col v mult basis) h = absurd h
-    by_closed (PointAndClose x mult basis) h = closed_with_point x (closed_data mult [] basis) refl h.3.0 h.0 h.3.1.0 h.3.1.1
+    by_closed (PointAndClose x mult basis) h = closed_with_point x (closed_data mult kept.farkas basis) refl h.3.0 h.0 h.3.1.0 h.3.1.1
     by_closed (Keep None basis) h = absurd h
     by_closed (Keep (Some x) basis) h = absurd h
 

@@ -26,7 +26,8 @@ use Rattle.leaf_judging.proofs.JudgeLemmas.{closes_same}
 use Rattle.search_counting.specs.Points.{points}
 use Rattle.search_counting.specs.Work.{if_open, sum_open, work_of}
 use Rattle.search_counting.proofs.PointLemmas.{points-some}
-use Rattle.search_counting.proofs.LeafLemmas.{some_is, leaf_at, open-found}
+use Rattle.tree_edit.proofs.OpenLemmas.{leaf_at}
+use Rattle.search_counting.proofs.LeafLemmas.{some_is, open-found}
 
 -- ---- a leaf replaced
 

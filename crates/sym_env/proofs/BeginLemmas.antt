@@ -31,10 +31,10 @@ pub dual_basis : (M : Program) (pivots : ℕ) (first : Basis) → IsRayAnswer M 
 dual_basis M pivots first h = h.1.1.1.1.1.1.1.1
 
 pub is_ray : (M : Program) (pivots : ℕ) (d : Point) → IsRayAnswer M pivots (ray.Ray d) → IsRay M d
-is_ray M pivots d h = h.1.1.1.1.1.1.1.1.0
+is_ray M pivots d h = h.1.1.1.1.1.1.1.0
 
 pub judged_ray : (M : Program) (pivots : ℕ) (d : Point) → IsRayAnswer M pivots (ray.Ray d) → IsRayJudged M d (Ok true)
-judged_ray M pivots d h = h.1.1.1.1.1.1.1.1
+judged_ray M pivots d h = h.1.1.1.1.1.1.1
 
 pub first-own : FirstLaw → FirstInLaw → (S : PlainSearch) (pivots : ℕ) (first : Basis) → IsLawful S.model → BeginsWith S.model pivots Own first → IsFirstFor Own S first
 first-own f g S pivots first lawful (inl slack) = λ path names. g S.model lawful path names first slack.lawful

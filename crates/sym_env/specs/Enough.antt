@@ -14,7 +14,7 @@ use Rattle.sym_env.specs.declared.limits.Limits.{Limits}
 -- the run of the ray phase has fewer moves than the limit, and room for each step at each of its states
 pub record IsRayPhaseEnough (M : Program) (pivots : ℕ) : Type 0 where
   pub moves : (s : Held) → IsStart M s → (n : ℕ) (after : Held) → Moves n s after → n < pivots
-  pub steps : (s : Held) → IsStart M s → (n : ℕ) (after : Held) → Moves n s after → (step : WideStep) → ¬ IsWideAt M after step
+  pub steps : (s : Held) → IsStart M s → (n : ℕ) (after : Held) → Moves n s after → (step : WideStep) → ¬ IsWideAt M n pivots after step
 
 -- the same of the model's relaxations, each from any list
 pub record AreRelaxationsEnough (M : Program) (pivots : ℕ) : Type 0 where

@@ -110,7 +110,7 @@ module _ (S : PlainSearch) (id : ℕ) (path : Path) (new : PlainSearch) where
   others-result : (kept : LeafData) (done : NodeResult) (taken : Taken) → TakesResult S id path kept done new taken → Stays new
   others-result kept (Close mult farkas basis) taken h = others-close (closed_data mult farkas basis) taken h
   others-result kept (SplitAt col v mult basis) taken h = others-split col.0 v mult basis taken h
-  others-result kept (PointAndClose point mult basis) taken h = others-point_close point (closed_data mult [] basis) taken h
+  others-result kept (PointAndClose point mult basis) taken h = others-point_close point (closed_data mult kept.farkas basis) taken h
   others-result kept (Keep None basis) taken h = others-keep (with_basis kept basis) taken h
   others-result kept (Keep (Some point) basis) taken h = others-point_keep point (with_basis kept basis) taken h
 

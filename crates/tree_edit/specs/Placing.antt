@@ -213,11 +213,12 @@ closed_data mult farkas basis = record { state = IsClosed; mult = mult; farkas =
 abbrev pub with_basis : LeafData → Basis → LeafData
 with_basis kept basis = record { state = kept.state; mult = kept.mult; farkas = kept.farkas; basis = basis }
 
--- what a result for the open leaf with this path and these data is answered, and the search after it
+-- what a result for the open leaf with this path and these data is answered, and the search after it; one with a point carries
+-- no Farkas multipliers, so the leaf keeps its own
 abbrev pub TakesResult : PlainSearch → ℕ → Path → LeafData → NodeResult → PlainSearch → Taken → Type 0
 TakesResult S id path kept (Close mult farkas basis) S' taken = TakesClose S id path (closed_data mult farkas basis) S' taken
 TakesResult S id path kept (SplitAt col v mult basis) S' taken = TakesSplit S id path col.0 v mult basis S' taken
-TakesResult S id path kept (PointAndClose point mult basis) S' taken = TakesPointClose S id path point (closed_data mult [] basis) S' taken
+TakesResult S id path kept (PointAndClose point mult basis) S' taken = TakesPointClose S id path point (closed_data mult kept.farkas basis) S' taken
 TakesResult S id path kept (Keep point basis) S' taken = TakesBasis S id path point (with_basis kept basis) S' taken
 
 -- an open leaf has the id, and the result is taken there

@@ -4,7 +4,7 @@ ghost use Rattle.std.specs.Prelude.{◌≡◌, ◌↔◌, IsTrue, IfOk, OnOk, On
 ghost use Rattle.lp_model.specs.Regions.{AreNarrow};
 ghost use Rattle.lp_model.specs.Formulations.{without_cuts};
 ghost use Rattle.branch_tree.specs.declared.node.LeafState.TheVariants.{IsOpen, IsClosed};
-ghost use Rattle.branch_tree.specs.declared.node.NodeResult.TheVariants.{Keep};
+ghost use Rattle.branch_tree.specs.declared.node.NodeResult.TheVariants.{PointAndClose, Keep};
 ghost use Rattle.leaf_judging.specs.Closing.{IsNumber, IsJudgedLeaf, ClosesBy};
 ghost use Rattle.tree_edit.specs.Points.{IsKeepable, target};
 ghost use Rattle.tree_edit.specs.Lists.{AreMultipliers, HasLists};
@@ -21,7 +21,7 @@ use crate::splitting::Split;
 use branch_tree::{LeafData, LeafState, NodeResult};
 use frac128::Frac;
 use leaf_judging::{Candidate, LeafNumber, judge_again, number_closes, number_of, rank};
-use lp_model::{Basis, List, Model, Mult, Point, Region};
+use lp_model::{Basis, Model, Mult, Point, Region};
 use std::alloc::{AllocError, Global};
 
 /// What became of a result.
@@ -438,6 +438,32 @@ impl Search {
         }
     }
 
+    /// Closes the open leaf with the id, if it closes by these lists with the point, and keeps the point. The leaf's Farkas
+    /// multipliers stay.
+    fn place_point(
+        &mut self,
+        id: u64,
+        region: &Region,
+        point: Point,
+        mult: Mult,
+        basis: Basis,
+    ) -> Result<Taken, AllocError>
+        requires open { IsOpenPlace self.old id region.now }
+        ensures taken { IfOk result (λ taken. Takes self.old id (PointAndClose point mult basis) self.new taken) }
+        ensures kept { OnErr result (self.new ≡ self.old) }
+    {
+        let Some(leaf) = self.tree.leaf(id) else {
+            unreachable!()
+        };
+        match closed_like(self.alloc, leaf, mult, basis) {
+            Ok(kept) => self.place_point_close(id, region, point, kept),
+            Err(error) => {
+                drop(point);
+                Err(error)
+            }
+        }
+    }
+
     /// Places the result of the work on the open leaf with the id.
     fn place_open(
         &mut self,
@@ -470,8 +496,7 @@ impl Search {
                 self.place_split(id, region, split)
             }
             NodeResult::PointAndClose { point, mult, basis } => {
-                let kept = closed_data(mult, List::new(self.alloc), basis);
-                self.place_point_close(id, region, point, kept)
+                self.place_point(id, region, point, mult, basis)
             }
             NodeResult::Keep { point, basis } => self.place_kept(id, region, point, basis),
         }
@@ -551,14 +576,27 @@ fn closed_data(mult: Mult, farkas: Mult, basis: Basis) -> LeafData
     }
 }
 
+/// The data of a closed leaf with a copy of a leaf's Farkas multipliers.
+fn closed_like(
+    alloc: Global,
+    leaf: &LeafData,
+    mult: Mult,
+    basis: Basis,
+) -> Result<LeafData, AllocError>
+    ensures { IfOk result (λ kept. kept ≡ closed_data mult leaf.now.farkas basis) }
+{
+    let farkas = leaf.farkas.copy(alloc)?;
+    Ok(closed_data(mult, farkas, basis))
+}
+
 /// A copy of a leaf's data with another basis.
 fn with_basis(alloc: Global, leaf: &LeafData, basis: Basis) -> Result<LeafData, AllocError>
     ensures { IfOk result (λ kept. kept ≡ with_basis leaf.now basis) }
 {
     Ok(LeafData {
         state: leaf.state,
-        mult: List::from_slice(alloc, leaf.mult.as_slice())?,
-        farkas: List::from_slice(alloc, leaf.farkas.as_slice())?,
+        mult: leaf.mult.copy(alloc)?,
+        farkas: leaf.farkas.copy(alloc)?,
         basis,
     })
 }

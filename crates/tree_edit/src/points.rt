@@ -1,6 +1,5 @@
 // The kept points of a search, and which is the best.
 ghost use Rattle.std.specs.Prelude.{◌≡◌, ◌↔◌, ◌<◌, ◌++◌, ◌∷◌, IsTrue, IfOk, MatchOption, [], length, vec_len, Some};
-ghost use Rattle.rational.specs.Rational.{◌<ℚ◌};
 ghost use Rattle.tree_edit.specs.Points.{IsOldestLeast, lesser};
 ghost use Rattle.tree_edit.specs.Placing.{IsOldestGreatestOf, IsWorst, IsPlaceWithin, list_without, IsLeastValue, Joins};
 
@@ -16,14 +15,6 @@ pub(crate) struct Joined {
     pub(crate) values: Vec<Frac>,
     pub(crate) worst: Option<usize>,
     pub(crate) target: Option<Frac>,
-}
-
-/// Whether the first is less than the second.
-#[tactic(auto, using(rational::proofs::Comparison::comparisons))]
-pub(crate) fn is_less(first: &Frac, second: &Frac) -> bool
-    ensures { IsTrue result ↔ (first.now <ℚ second.now) }
-{
-    *first < *second
 }
 
 /// Whether the two are one number, or both none.
@@ -47,7 +38,7 @@ pub(crate) fn oldest_least(values: &[Frac]) -> Option<usize>
     }
     let mut best = 0;
     for place in 1..values.len() {
-        if is_less(&values[place], &values[best]) {
+        if values[place].is_below(&values[best]) {
             best = place;
         }
     }
@@ -61,7 +52,7 @@ fn oldest_greatest(values: &[Frac]) -> usize
 {
     let mut worst = 0;
     for place in 1..values.len() {
-        if is_less(&values[worst], &values[place]) {
+        if values[worst].is_below(&values[place]) {
             worst = place;
         }
     }

@@ -210,7 +210,7 @@ module _ (ways : Ways) (first : Basis) (nodes pivots : ℕ) (old : PlainSearch) 
     no-value Own h path region list basis step wide = wide
     no-value (Rays Y) h path region list basis step wide =
         let run = wide.run in
-        h path region run.relax run.relax_is wide.state (of_after run.relax wide.moves run.began wide.state run.moves run.started.is)
+        h path region run.relax run.relax_is wide.state (of_after run.relax wide.moves run.began wide.state run.moves run.started.reached.is)
         (all-stand wide.state (lawful-after wide.moves run.began wide.state run.kept run.moves)) wide.point wide.point_is step wide.wide
 
     no-cause : (w : StopWhy) → ¬ IsCause old ways first nodes pivots w
@@ -224,7 +224,7 @@ module _ (ways : Ways) (first : Basis) (nodes pivots : ℕ) (old : PlainSearch) 
     no-cause why.Tree unroomy = unroomy (room-fewer old.tree (whole_points old.model - 1) (splits_of old) (splits-cap old.model old.tree.root lawful sound.tree.lawful) enough.room)
     no-cause (why.Pivots place) cause =
         let run = cause.run in
-        let less : pivots < pivots = enough.moves cause.path cause.region run.relax run.relax_is run.began run.started.is run.kept pivots cause.state run.moves in
+        let less : pivots < pivots = enough.moves cause.path cause.region run.relax run.relax_is run.began run.started.reached.is run.kept pivots cause.state run.moves in
         omega (arith, less)
     no-cause (why.Wide at) cause = elim cause.wide [
       | inl wide ↦ run-room Z enough.steps cause.path cause.region cause.list first pivots at.basis at.step wide

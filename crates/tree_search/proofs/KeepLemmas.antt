@@ -41,7 +41,8 @@ use Rattle.tree_edit.specs.Points.{IsKeepable, target}
 use Rattle.tree_edit.specs.Sound.{PlainSearch, formulation_of, IsSound}
 use Rattle.tree_edit.proofs.ClosedTree.{set_aside-none}
 use Rattle.tree_edit.proofs.SoundLemmas.{is_at, is_at-states}
-use Rattle.search_counting.proofs.LeafLemmas.{once, some_is, leaf_at, open-judged}
+use Rattle.tree_edit.proofs.OpenLemmas.{leaf_at, open-judged}
+use Rattle.search_counting.proofs.LeafLemmas.{once, some_is}
 use Rattle.node_solve.specs.Runs.{NamesIntegers}
 use Rattle.tree_search.specs.Steps.{KeepsOpen}
 use Rattle.tree_search.proofs.RayLemmas.{ray-open}

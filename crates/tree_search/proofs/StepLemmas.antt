@@ -23,7 +23,8 @@ use Rattle.tree_search.specs.Steps.{IsNextJob, HasOpenLeaf}
 use Rattle.branch_tree.specs.declared.node.Job.{Job}
 use Rattle.tree_edit.specs.Laws.{HasNoOpenLeaf}
 use Rattle.tree_edit.specs.Placing.{IsStale}
-use Rattle.search_counting.proofs.LeafLemmas.{once, found_each, leaf_at, some_is}
+use Rattle.tree_edit.proofs.OpenLemmas.{leaf_at}
+use Rattle.search_counting.proofs.LeafLemmas.{once, found_each}
 
 -- each of the leaves is the one with its id
 pub placed-at : (t : Plain) → ((id : ℕ) → leaves_with id t ≤ 1) → All (λ l. IsLeafAt t l.id l.region l.kept) (region_leaves [] t)

@@ -9,11 +9,10 @@ use Rattle.lp_model.specs.declared.answers.PivotPlace.{PivotPlace}
 use Rattle.lp_model.specs.declared.answers.WideAt.{WideAt}
 use Rattle.lp_model.specs.declared.answers.StopWhy.{StopWhy}
 use Rattle.lp_model.specs.declared.answers.StopWhy.TheVariants.{Nodes, Tree, Pivots, Wide}
-use Rattle.bases.specs.declared.stand.Stand.{Stand}
 use Rattle.tree_edit.specs.Sound.{PlainSearch}
 use Rattle.search_counting.specs.Work.{whole_points, cap_of, HasRoomFor, work_of, IsRoomy}
 use Rattle.basic_solution.specs.Held.{Held}
-use Rattle.dual_simplex.specs.Answers.{IsFirstOut}
+use Rattle.dual_simplex.specs.Answers.{HasLeaving}
 use Rattle.basic_solution.specs.Lists.{IsBasisOf, IsPointOfHeld}
 use Rattle.node_solve.specs.Runs.{IsSimplexRun}
 use Rattle.node_solve.specs.Works.{IsRunWide}
@@ -32,7 +31,7 @@ pub record IsPivotCause (M : Program) (first : Basis) (limit : ℕ) (place : Piv
   pub list : Basis
   pub state : Held
   pub run : IsSimplexRun M path list first limit state
-  pub out : (row : ℕ) × ((side : Stand) × IsFirstOut state row side)
+  pub out : HasLeaving state
   pub basis_is : IsBasisOf state place.basis
 
 -- after at most so many moves the value of the state's point in the search's own model has this first step without room

@@ -1,5 +1,6 @@
-use Rattle.dual_simplex.specs.Answers.{IsLeastBelow}
+use Rattle.std.proofs.Common.{Ok}
+use Rattle.dual_simplex.specs.Answers.{IsEntering}
 use Rattle.dual_simplex.proofs.entering.entering.Given as goal
 
 abbrev pub invariant-loop-place : goal.invariant-loop-place
-invariant-loop-place l = IsLeastBelow l.state l.row l.side l.place l.found
+invariant-loop-place l = IsEntering l.state l.row l.side l.place (Ok l.found)

@@ -1,11 +1,16 @@
 use Rattle.std.proofs.Common.{arith, ◌≤◌, subst, Ok}
 use Rattle.dual_simplex.specs.Answers.{IsVisited}
 use Rattle.basic_solution.specs.Held.{variables}
-use Rattle.dual_simplex.proofs.SideLemmas.{first_out, inside_more, all_inside}
+use Rattle.dual_simplex.proofs.SideLemmas.{first_out, wide_out, inside_more, all_inside}
 use Rattle.dual_simplex.proofs.leaving.first_out.Goals as goal
 
 pub returns-in-Ok-Some : goal.returns-in-Ok-Some
-returns-in-Ok-Some c = first_out c.args.state.now c.loop-variable.variable c.in-Ok-Some.leaving c.loop-variable.invariant (subst (λ o. IsVisited c.args.state.now c.loop-variable.variable (Ok o)) c.in-Ok-Some.field-0-is c.in-Ok-Some.ensures)
+returns-in-Ok-Some c =
+    first_out c.args.state.now c.columns-sided.ensures.sided c.loop-variable.variable c.loop-variable.invariant c.in-Ok-Some.leaving
+    (subst (λ o. IsVisited c.args.state.now c.loop-variable.variable (Ok o)) c.in-Ok-Some.field-0-is c.in-Ok-Some.ensures)
+
+pub returns-in-Err : goal.returns-in-Err
+returns-in-Err c = wide_out c.args.state.now c.columns-sided.ensures.sided c.loop-variable.variable c.loop-variable.invariant c.in-Err.step c.in-Err.ensures
 
 pub loop-variable-preserved : goal.loop-variable-preserved
 loop-variable-preserved c = inside_more c.args.state.now c.loop-variable.variable c.loop-variable.invariant (subst (λ o. IsVisited c.args.state.now c.loop-variable.variable (Ok o)) c.in-Ok-None.field-0-is c.in-Ok-None.ensures)

@@ -4,7 +4,7 @@ use Rattle.lp_model.proofs.ElementLemmas.{get_or-read}
 use Rattle.tree_edit.specs.Points.{value_at}
 use Rattle.tree_edit.specs.Placing.{IsOldestGreatestOf}
 use Rattle.tree_edit.proofs.WorstLemmas.{worst-higher, worst-same}
-use Rattle.tree_edit.proofs.points.oldest_greatest.Goals.{then-is_less, else-is_less}
+use Rattle.tree_edit.proofs.points.oldest_greatest.Goals.{then-is_below, else-is_below}
 use Rattle.tree_edit.proofs.points.oldest_greatest.Goals as goal
 
 pub loop-place-preserved : goal.loop-place-preserved
@@ -16,10 +16,10 @@ loop-place-preserved c =
     let k_in : k < length values = omega (arith, c.loop-place.invariant.within) in
     let at_n : c.index-values-place.result ≡ value_at values n = get_or-read (int (pos 0)) values values n c.index-values-place.result refl n_in c.index-values-place.is in
     let at_k : c.index-values-worst.result ≡ value_at values k = get_or-read (int (pos 0)) values values k c.index-values-worst.result refl k_in c.index-values-worst.is in
-    elim c.if-is_less.branch [
-      | then-is_less w ↦ subst (IsOldestGreatestOf values (n + 1)) (sym w.worst-is)
-          (worst-higher values n k c.loop-place.invariant (subst (λ q. q <ℚ value_at values n) at_k (subst (λ q. c.index-values-worst.result <ℚ q) at_n (c.is_less.ensures.0 w.if-is_less.true))))
-      | else-is_less w ↦ subst (IsOldestGreatestOf values (n + 1)) (sym w.worst-is)
+    elim c.if-is_below.branch [
+      | then-is_below w ↦ subst (IsOldestGreatestOf values (n + 1)) (sym w.worst-is)
+          (worst-higher values n k c.loop-place.invariant (subst (λ q. q <ℚ value_at values n) at_k (subst (λ q. c.index-values-worst.result <ℚ q) at_n (c.is_below.ensures.0 w.if-is_below.true))))
+      | else-is_below w ↦ subst (IsOldestGreatestOf values (n + 1)) (sym w.worst-is)
           (worst-same values n k c.loop-place.invariant
-          (λ less. let t : IsTrue c.is_less.result = c.is_less.ensures.1 (subst (λ q. q <ℚ c.index-values-place.result) (sym at_k) (subst (λ q. value_at values k <ℚ q) (sym at_n) less)) in let f = w.if-is_less.false in cc))
+          (λ less. let t : IsTrue c.is_below.result = c.is_below.ensures.1 (subst (λ q. q <ℚ c.index-values-place.result) (sym at_k) (subst (λ q. value_at values k <ℚ q) (sym at_n) less)) in let f = w.if-is_below.false in cc))
     ]

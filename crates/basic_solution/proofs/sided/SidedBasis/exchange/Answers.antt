@@ -1,5 +1,6 @@
 use Rattle.std.proofs.Common.{◌≢◌, ◌<◌, pos, refl, sym, subst}
 use Rattle.rational.specs.Rational.{int}
+use Rattle.bases.specs.Steps.{ExchangeFits}
 use Rattle.basic_solution.specs.Held.{Held, table}
 use Rattle.basic_solution.proofs.ExchangeLemmas.{sided_after}
 use Rattle.basic_solution.proofs.sided.SidedBasis.exchange.Goals as goal
@@ -27,3 +28,6 @@ invariant_of-self c =
       exchanged = c.in-Ok.ensures.table;
       stands = refl;
     })
+
+pub returns-in-Ok-clause-fits : goal.returns-in-Ok-clause-fits
+returns-in-Ok-clause-fits c = subst (λ s. ExchangeFits s.tableau.columns s.tableau.activities (table s) c.args.row c.args.place) c.self.view_is c.in-Ok.ensures.fits

@@ -10,6 +10,9 @@ pub returns-else-is_same : goal.returns-else-is_same
 returns-else-is_same c =
     let now = c.args.self.now in
     let place = c.args.place in (
-      λ t. absurd (false≢true (sym c.if-is_same.false ∙ t)),
-      λ h. c.is_same.ensures.1 (asked_once (reduced_parts (relaxation now) (parts now) (table now) place) c.asked.result (get_or now.stands place Free) c.asked.ensures h.asked ∙ sym c.stand_of-stand.ensures),
+      c.in-Ok.ensures.0,
+      (
+        (λ t. absurd (false≢true (sym c.if-is_same.false ∙ t))),
+        (λ h. c.is_same.ensures.1 (asked_once (reduced_parts (relaxation now) (parts now) (table now) place) c.asked.result (get_or now.stands place Free) c.asked.ensures h.asked ∙ sym c.stand_of-stand.ensures)),
+      ),
     )

@@ -1,19 +1,16 @@
-use Rattle.std.proofs.Common.{◌≡◌, ◌<◌, ◌∙◌, subst}
+use Rattle.std.proofs.Common.{◌≡◌, ◌<◌, subst}
 use Rattle.basic_solution.specs.Held.{IsSided, table}
-use Rattle.basic_solution.specs.Numbers.{IsNumberOrWideTerm}
-use Rattle.basic_solution.proofs.PointLemmas.{multiplier_basic, multiplier_nonbasic}
+use Rattle.basic_solution.proofs.PointLemmas.{multiplied_basic, multiplied_nonbasic}
 use Rattle.basic_solution.proofs.sided.SidedBasis.multiplier_of.Goals as goal
 
 pub returns-in-Row : goal.returns-in-Row
 returns-in-Row c =
-    let now = c.args.self.now in
     let row = c.in-Row.field-0 in
     let at = subst (λ s. (row < s.tableau.activities) × ((table s).basic row ≡ c.args.variable)) c.self.view_is c.in-Row.ensures in
-    c.whole.ensures ∙ multiplier_basic now (subst IsSided c.self.view_is c.self.invariant) c.args.variable row at.0 at.1
+    multiplied_basic c.args.self.now (subst IsSided c.self.view_is c.self.invariant) c.args.variable row at.0 at.1 c.whole.result c.whole.ensures
 
 pub returns-in-Place : goal.returns-in-Place
 returns-in-Place c =
-    let now = c.args.self.now in
     let place = c.in-Place.place in
     let at = subst (λ s. (place < s.tableau.columns) × ((table s).nonbasic place ≡ c.args.variable)) c.self.view_is (c.in-Place.ensures.0, c.in-Place.ensures.1) in
-    subst (λ x. IsNumberOrWideTerm now x c.reduced_cost.result) (multiplier_nonbasic now (subst IsSided c.self.view_is c.self.invariant) c.args.variable place at.0 at.1) c.reduced_cost.ensures.value
+    multiplied_nonbasic c.args.self.now (subst IsSided c.self.view_is c.self.invariant) c.args.variable place at.0 at.1 c.reduced_cost.result c.reduced_cost.ensures

@@ -1,8 +1,9 @@
-use Rattle.std.proofs.Common.{refl, sym, subst, arith, ◌≡◌, Ok}
-use Rattle.dual_simplex.specs.Answers.{IsWide, IsLeaving}
+use Rattle.std.proofs.Common.{refl, sym, subst, arith, ◌≡◌, Ok, Err, inl}
+use Rattle.dual_simplex.specs.Answers.{IsLeaving}
 use Rattle.dual_simplex.specs.Moves.{IsStepAnswer, IsBlocked}
 use Rattle.dual_simplex.specs.Walks.{Moves, IsWalkEnd}
 use Rattle.dual_simplex.specs.declared.walk.Walk.TheVariants.{Optimal}
+use Rattle.dual_simplex.proofs.StepLemmas.{leaving_of, walk_wide}
 use Rattle.dual_simplex.proofs.WalkLemmas.{moves_more}
 use Rattle.dual_simplex.proofs.state.LpState.walk.Goals as goal
 
@@ -16,7 +17,8 @@ loop-move-preserved c =
 pub returns-in-Err : goal.returns-in-Err
 returns-in-Err c =
     let kept = c.in-Err.ensures.1 in
-    (c.loop-move._move, (c.loop-move.auto._move-end, (subst (Moves c.loop-move._move c.args.self.now) (sym kept) c.loop-move.invariant, subst (λ t. IsWide t c.in-Err.step) (sym kept) c.in-Err.ensures.0)))
+    let wide = walk_wide c.loop-move._move c.args.pivot_limit c.loop-move.self c.in-Err.step c.loop-move-test.true c.in-Err.ensures.0 in
+    (c.loop-move._move, (c.loop-move.auto._move-end, (subst (Moves c.loop-move._move c.args.self.now) (sym kept) c.loop-move.invariant, subst (IsWalkEnd c.loop-move._move c.args.pivot_limit (Err c.in-Err.step)) (sym kept) wide)))
 
 pub returns-in-Ok-Optimal : goal.returns-in-Ok-Optimal
 returns-in-Ok-Optimal c =
@@ -37,7 +39,7 @@ returns-in-Ok-Infeasible c =
     (c.loop-move._move, (c.loop-move.auto._move-end, (subst (Moves c.loop-move._move c.args.self.now) (sym answer.1) c.loop-move.invariant, (c.loop-move-test.true, subst IsBlocked (sym answer.1) answer.0))))
 
 pub returns-in-Err-leaving : goal.returns-in-Err-leaving
-returns-in-Err-leaving c = (c.loop-move._move, (c.loop-move.auto._move-end, (c.loop-move.invariant, c.in-Err-leaving.ensures)))
+returns-in-Err-leaving c = (c.loop-move._move, (c.loop-move.auto._move-end, (c.loop-move.invariant, inl c.in-Err-leaving.ensures)))
 
 pub returns-in-Ok-None : goal.returns-in-Ok-None
 returns-in-Ok-None c =
@@ -47,4 +49,4 @@ pub returns-in-Ok-Some : goal.returns-in-Ok-Some
 returns-in-Ok-Some c =
     let out = subst (λ o. IsLeaving c.loop-move.self (Ok o)) c.in-Ok-Some.field-0-is c.in-Ok-Some.ensures in
     let all : c.loop-move._move ≡ c.args.pivot_limit = let past = c.loop-move-test.false in let within = c.loop-move.auto._move-end in omega (arith, past, within) in
-    (c.loop-move._move, (c.loop-move.auto._move-end, (c.loop-move.invariant, (all, (c.in-Ok-Some.field-0-0.row, (c.in-Ok-Some.field-0-0.side, out))))))
+    (c.loop-move._move, (c.loop-move.auto._move-end, (c.loop-move.invariant, (all, leaving_of c.loop-move.self c.in-Ok-Some.field-0-0 out))))

@@ -1,12 +1,11 @@
 use Rattle.std.specs.Int.{w128}
 use Rattle.std.proofs.lemmas.Int.{to_z-of_z}
-use Rattle.std.proofs.Common.{rules, ℤ, FitsSigned, to_z, of_z, ◌≡◌, ◌∙◌, ap, subst}
+use Rattle.std.proofs.Common.{rules, ℤ, FitsSigned, to_z, of_z, ◌≡◌, subst}
 use Rattle.std.specs.Prelude.{IfOk}
-use Rattle.leaf_dual.specs.Dual.{Multipliers}
 use Rattle.branch_tree.specs.declared.node.LeafData.{LeafData}
-use Rattle.branch_tree.specs.declared.node.NodeResult.TheVariants.{Close, Split, PointAndClose}
+use Rattle.branch_tree.specs.declared.node.NodeResult.TheVariants.{Close, Split}
 use Rattle.tree_edit.specs.declared.placing.Taken.{Taken}
-use Rattle.tree_edit.specs.Placing.{TakesClose, TakesSplit, TakesPointClose, closed_data}
+use Rattle.tree_edit.specs.Placing.{TakesClose, TakesSplit}
 use Rattle.tree_edit.proofs.PlaceLemmas.{takes_ok}
 use Rattle.tree_edit.proofs.search.Search.place_open.Goals as goal
 
@@ -22,12 +21,6 @@ place_split-requires-clause-leaf c = c.requires.open.leaf
 pub place_split-requires-clause-narrow : goal.place_split-requires-clause-narrow
 place_split-requires-clause-narrow c = c.requires.open.narrow
 
-pub place_point_close-requires-clause-leaf : goal.place_point_close-requires-clause-leaf
-place_point_close-requires-clause-leaf c = c.requires.open.leaf
-
-pub place_point_close-requires-clause-narrow : goal.place_point_close-requires-clause-narrow
-place_point_close-requires-clause-narrow c = c.requires.open.narrow
-
 pub returns-in-Close-clause-taken : goal.returns-in-Close-clause-taken
 returns-in-Close-clause-taken c =
     let o = c.requires.open.is_open in
@@ -41,9 +34,3 @@ returns-in-Split-clause-taken c =
     let same : to_z w128 (of_z w128 c.in-Split.v) ≡ c.in-Split.v = simp to_z-of_z in
     rw c.in-Split.is (takes_ok c.args.self.now c.args.id c.args.region.now o.kept (Split c.in-Split.col c.in-Split.v c.in-Split.mult c.in-Split.basis) c.place_split.new.self o.leaf o.state c.place_split.result
     (subst (λ (v : ℤ). IfOk c.place_split.result (λ (t : Taken). TakesSplit c.args.self.now c.args.id c.args.region.now c.in-Split.col.0 v c.in-Split.mult c.in-Split.basis c.place_split.new.self t)) same c.place_split.ensures.taken))
-
-pub returns-in-PointAndClose-clause-taken : goal.returns-in-PointAndClose-clause-taken
-returns-in-PointAndClose-clause-taken c =
-    let o = c.requires.open.is_open in
-    rw c.in-PointAndClose.is (takes_ok c.args.self.now c.args.id c.args.region.now o.kept (PointAndClose c.in-PointAndClose.point c.in-PointAndClose.mult c.in-PointAndClose.basis) c.place_point_close.new.self o.leaf o.state c.place_point_close.result
-    (subst (λ (d : LeafData). IfOk c.place_point_close.result (λ (t : Taken). TakesPointClose c.args.self.now c.args.id c.args.region.now c.in-PointAndClose.point d c.place_point_close.new.self t)) (c.closed_data-kept.ensures ∙ ap (λ (f : Multipliers). closed_data c.in-PointAndClose.mult f c.in-PointAndClose.basis) c.new.ensures) c.place_point_close.ensures.taken))
