@@ -12,7 +12,7 @@ use Rattle.bases.specs.States.{sign}
 use Rattle.bases.proofs.SumBelowLaws.{if_same, if_other}
 use Rattle.bases.proofs.ReducedCosts.{reduced_alone-basic, reduced_alone-nonbasic}
 use Rattle.basic_solution.specs.Held.{Held, IsSided, relaxation, parts, table, variables, own_cost}
-use Rattle.basic_solution.specs.Numbers.{IsCostAnswer, IsPartAnswer}
+use Rattle.basic_solution.specs.Numbers.{IsReducedCostAnswer, IsPartAnswer}
 use Rattle.lp_model.specs.declared.types.WideStep.{WideStep}
 
 pub tilt_read : (s : Held) → IsSided s → (v : ℕ) → v < variables s → (x : Stand) → x ≡ get_or s.tilt v x → x ≡ get_or s.tilt v Free
@@ -63,11 +63,11 @@ module _ (s : Held) where
       ap (λ c. reduced_cost (relaxation s) (table s) c place) (λ i v. (ap (λ u. own_cost s u v) (is ∙ ap (λ k. get_or s.order k 0) back) ∙ part_is q less v) i)
 
   -- what a part of a reduced cost answers: that of the costs, and a later one
-  costs_part : (place : ℕ) (r : Result ℚ WideStep) → IsCostAnswer s place r → IsPartAnswer s place 0 r
+  costs_part : (place : ℕ) (r : Result ℚ WideStep) → IsReducedCostAnswer s place r → IsPartAnswer s place 0 r
   costs_part place (Ok x) h = h
   costs_part place (Err e) h = h
 
-  pub first_answer : (place part : ℕ) (r : Result ℚ WideStep) → part ≡ 0 → IsCostAnswer s place r → IsPartAnswer s place part r
+  pub first_answer : (place part : ℕ) (r : Result ℚ WideStep) → part ≡ 0 → IsReducedCostAnswer s place r → IsPartAnswer s place part r
   first_answer place part r none h = subst (λ q. IsPartAnswer s place q r) (sym none) (costs_part place r h)
 
   pub later_answer : (place part own : ℕ) (x : ℚ) → ¬ (part ≡ 0) → part < length s.order + 1 → own ≡ get_or s.order (part - 1) 0 → x ≡ reduced_cost (relaxation s) (table s) (own_cost s own) place

@@ -12,7 +12,7 @@ use Rattle.bases.specs.Steps.{nothing, at_nonbasic, at_basic}
 use Rattle.bases.proofs.SumBelowLaws.{sum_below-zero, if_same, if_other}
 use Rattle.bases.proofs.Arranged.{assigned-basic, assigned-nonbasic}
 use Rattle.basic_solution.specs.Held.{Held, IsSided, relaxation, state, table, variables}
-use Rattle.basic_solution.specs.Numbers.{ValueFits, CostsFit, IsValueNamed, IsCostNamed, IsValueAnswer, IsCostAnswer, IsNumberAnswer, IsMultiplierAnswer}
+use Rattle.basic_solution.specs.Numbers.{ValueFits, CostsFit, IsValueNamed, IsCostNamed, IsBasicValueAnswer, IsReducedCostAnswer, IsNumberAnswer, IsMultiplierAnswer}
 use Rattle.lp_model.specs.declared.types.WideStep.{WideStep}
 
 module _ (s : Held) (sided : IsSided s) where
@@ -69,7 +69,7 @@ module _ (s : Held) (sided : IsSided s) where
 
   -- what the sum of a basic variable's value answers
   pub value_answer : (row : ℕ) (start x : ℚ) → start ≡ int (pos 0) → IsCheckedSum {P = ℕ} start (at_nonbasic (relaxation s) (table s) ((table s).entry row)) (at_nonbasic (relaxation s) (table s) (state s).at) (variables s) (λ k. k) (Ok x)
-      → IsValueAnswer s row (Ok x)
+      → IsBasicValueAnswer s row (Ok x)
   value_answer row start x none h = (
     subst (λ z. AllFit z (at_nonbasic (relaxation s) (table s) ((table s).entry row)) (at_nonbasic (relaxation s) (table s) (state s).at) (variables s)) none h.0,
     h.1 ∙ ap₂ ◌+ℚ◌ none (sum_of_places ((table s).entry row) (state s).at) ∙ ring (basic_value (relaxation s) (state s) row ∷ []) (search reads_ℚ) tt,
@@ -86,7 +86,7 @@ module _ (s : Held) (sided : IsSided s) where
 
   -- what the sum of a reduced cost answers
   pub cost_answer : (place : ℕ) (start x : ℚ) → start ≡ (relaxation s).cost ((table s).nonbasic place) → IsCheckedSum {P = ℕ} start (relaxation s).cost (at_basic (relaxation s) (table s) (λ i. (table s).entry i place)) (variables s) (λ k. k) (Ok x)
-      → IsCostAnswer s place (Ok x)
+      → IsReducedCostAnswer s place (Ok x)
   cost_answer place start x own h = (
     subst (λ z. AllFit z (relaxation s).cost (at_basic (relaxation s) (table s) (λ i. (table s).entry i place)) (variables s)) own h.0,
     h.1 ∙ ap₂ ◌+ℚ◌ own (sum_of_rows (relaxation s).cost (λ i. (table s).entry i place)),
@@ -118,7 +118,7 @@ module _ (s : Held) (sided : IsSided s) where
       sym (ap (multipliers (relaxation s) (table s) (relaxation s).cost) (sym e) ∙ assigned-nonbasic (relaxation s) (table s) arranged _ (reduced_cost (relaxation s) (table s) (relaxation s).cost) k within)
 
   -- a basic variable has the value of its row, and another one the number at which it stands
-  pub number_basic : (v row : ℕ) → row < s.tableau.activities → (table s).basic row ≡ v → (r : Result ℚ WideStep) → IsValueAnswer s row r → IsNumberAnswer s v r
+  pub number_basic : (v row : ℕ) → row < s.tableau.activities → (table s).basic row ≡ v → (r : Result ℚ WideStep) → IsBasicValueAnswer s row r → IsNumberAnswer s v r
   number_basic v row within e (Ok x) h = ((λ i q f. subst (λ j. ValueFits s j (variables s)) (arranged.basic_once row i within q (e ∙ sym f)) h.0), h.1 ∙ point_basic v row within e)
   number_basic v row within e (Err step) h = (row, (e, h))
 
@@ -129,7 +129,7 @@ module _ (s : Held) (sided : IsSided s) where
   pub multiplied_basic : (v row : ℕ) → row < s.tableau.activities → (table s).basic row ≡ v → (x : ℚ) → x ≡ int (pos 0) → IsMultiplierAnswer s v (Ok x)
   multiplied_basic v row within e x is = ((λ k q f. absurd (arranged.apart row k within q (e ∙ sym f))), is ∙ multiplier_basic v row within e)
 
-  pub multiplied_nonbasic : (v k : ℕ) → k < s.tableau.columns → (table s).nonbasic k ≡ v → (r : Result ℚ WideStep) → IsCostAnswer s k r → IsMultiplierAnswer s v r
+  pub multiplied_nonbasic : (v k : ℕ) → k < s.tableau.columns → (table s).nonbasic k ≡ v → (r : Result ℚ WideStep) → IsReducedCostAnswer s k r → IsMultiplierAnswer s v r
   multiplied_nonbasic v k within e (Ok x) h = ((λ l q f. subst (λ j. CostsFit s j (variables s)) (arranged.nonbasic_once k l within q (e ∙ sym f)) h.0), h.1 ∙ multiplier_nonbasic v k within e)
   multiplied_nonbasic v k within e (Err step) h = (k, (e, h))
 

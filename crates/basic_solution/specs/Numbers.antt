@@ -41,8 +41,8 @@ abbrev pub CostsFit : Held → ℕ → ℕ → Type 0
 CostsFit s place n = AllFit ((relaxation s).cost ((table s).nonbasic place)) (relaxation s).cost (at_basic (relaxation s) (table s) (λ i. (table s).entry i place)) n
 
 -- the term of v is the first of them that has none
-abbrev pub IsFirstWideCost : Held → ℕ → ℕ → Type 0
-IsFirstWideCost s place v = IsFirstWide ((relaxation s).cost ((table s).nonbasic place)) (relaxation s).cost (at_basic (relaxation s) (table s) (λ i. (table s).entry i place)) (variables s) v
+abbrev pub IsFirstWideReducedCost : Held → ℕ → ℕ → Type 0
+IsFirstWideReducedCost s place v = IsFirstWide ((relaxation s).cost ((table s).nonbasic place)) (relaxation s).cost (at_basic (relaxation s) (table s) (λ i. (table s).entry i place)) (variables s) v
 
 -- of the terms in the value of b, which is basic in the row, that of k is the first without room
 pub record IsValueNamed (s : Held) (row b k : ℕ) : Type 0 where
@@ -54,15 +54,15 @@ pub record IsValueNamed (s : Held) (row b k : ℕ) : Type 0 where
 pub record IsCostNamed (s : Held) (place k b : ℕ) : Type 0 where
   pub within : place < s.tableau.columns
   pub nonbasic : k ≡ (table s).nonbasic place
-  pub first : IsFirstWideCost s place b
+  pub first : IsFirstWideReducedCost s place b
 
 abbrev pub IsValuePlace : Held → ℕ → TablePlace → Type 0
 IsValuePlace s row (Point b k) = IsValueNamed s row (variable_number s.tableau b) (variable_number s.tableau k)
 IsValuePlace s row other = ⊥
 
 -- the step is the first without room in the value of the basic variable of the row
-abbrev pub IsWideValue : Held → ℕ → WideStep → Type 0
-IsWideValue s row step = IsSomeAnd (table_place step) (IsValuePlace s row)
+abbrev pub IsWideBasicValue : Held → ℕ → WideStep → Type 0
+IsWideBasicValue s row step = IsSomeAnd (table_place step) (IsValuePlace s row)
 
 abbrev pub IsPlaceCost : Held → ℕ → TablePlace → Type 0
 IsPlaceCost s place (Cost k b) = IsCostNamed s place (variable_number s.tableau k) (variable_number s.tableau b)
@@ -73,14 +73,14 @@ abbrev pub IsWideCost : Held → ℕ → WideStep → Type 0
 IsWideCost s place step = IsSomeAnd (table_place step) (IsPlaceCost s place)
 
 -- the value of the basic variable of the row, where each of its terms has room, else the first that has none
-abbrev pub IsValueAnswer : Held → ℕ → Result ℚ WideStep → Type 0
-IsValueAnswer s row (Ok x) = ValueFits s row (variables s) × (x ≡ basic_value (relaxation s) (state s) row)
-IsValueAnswer s row (Err e) = IsWideValue s row e
+abbrev pub IsBasicValueAnswer : Held → ℕ → Result ℚ WideStep → Type 0
+IsBasicValueAnswer s row (Ok x) = ValueFits s row (variables s) × (x ≡ basic_value (relaxation s) (state s) row)
+IsBasicValueAnswer s row (Err e) = IsWideBasicValue s row e
 
 -- the reduced cost of the place likewise
-abbrev pub IsCostAnswer : Held → ℕ → Result ℚ WideStep → Type 0
-IsCostAnswer s place (Ok x) = CostsFit s place (variables s) × (x ≡ reduced_cost (relaxation s) (table s) (relaxation s).cost place)
-IsCostAnswer s place (Err e) = IsWideCost s place e
+abbrev pub IsReducedCostAnswer : Held → ℕ → Result ℚ WideStep → Type 0
+IsReducedCostAnswer s place (Ok x) = CostsFit s place (variables s) × (x ≡ reduced_cost (relaxation s) (table s) (relaxation s).cost place)
+IsReducedCostAnswer s place (Err e) = IsWideCost s place e
 
 -- only the part of the costs has terms: in each part behind it one variable alone has a cost
 abbrev pub ReducedFits : Held → ℕ → ℕ → Type 0
@@ -103,7 +103,7 @@ NumberFits s v = (row : ℕ) → row < s.tableau.activities → (table s).basic 
 
 -- it is basic, and the step is the first without room in its value
 abbrev pub IsWideNumber : Held → ℕ → WideStep → Type 0
-IsWideNumber s v e = (row : ℕ) × (((table s).basic row ≡ v) × IsWideValue s row e)
+IsWideNumber s v e = (row : ℕ) × (((table s).basic row ≡ v) × IsWideBasicValue s row e)
 
 abbrev pub IsNumberAnswer : Held → ℕ → Result ℚ WideStep → Type 0
 IsNumberAnswer s v (Ok x) = NumberFits s v × (x ≡ point (relaxation s) (table s) (state s).at v)
@@ -134,4 +134,4 @@ IsOut s row side = (b : ℚ) × IsOutside (relaxation s) (state s) row side b
 abbrev pub IsRowBreach : Held → ℕ → Result (Option Stand) WideStep → Type 0
 IsRowBreach s row (Ok None) = ValueFits s row (variables s) × IsInside s row
 IsRowBreach s row (Ok (Some side)) = ValueFits s row (variables s) × IsOut s row side
-IsRowBreach s row (Err e) = IsWideValue s row e
+IsRowBreach s row (Err e) = IsWideBasicValue s row e

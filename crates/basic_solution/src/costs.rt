@@ -4,7 +4,7 @@ ghost use Rattle.bases.specs.Relaxation.{reduced_cost};
 ghost use Rattle.bases.specs.Steps.{at_basic};
 ghost use Rattle.row_tableau.specs.WholeSums.{IsWholeTerm};
 ghost use Rattle.basic_solution.specs.Held.{relaxation, table, variables};
-ghost use Rattle.basic_solution.specs.Numbers.{CostsFit, IsCostAnswer};
+ghost use Rattle.basic_solution.specs.Numbers.{CostsFit, IsReducedCostAnswer};
 
 use crate::sided::SidedBasis;
 use checked_sum::{Terms, checked_sum};
@@ -110,7 +110,7 @@ impl SidedBasis<'_> {
     /// The reduced cost of a place, or the first of its terms, in the order of the variables, that has no room.
     pub(crate) fn reduced_cost(&self, place: usize) -> Result<Frac, WideStep>
         requires { place < self.now.tableau.columns }
-        ensures { IsCostAnswer self.now place result }
+        ensures { IsReducedCostAnswer self.now place result }
     {
         if let Some(cost) = self.whole_cost(place) {
             return Ok(cost);

@@ -68,7 +68,7 @@ impl WholeTerms for PointTerms<'_, '_> {
 }
 
 impl SidedBasis<'_> {
-    ghost use Rattle.basic_solution.specs.Numbers.{IsValueAnswer};
+    ghost use Rattle.basic_solution.specs.Numbers.{IsBasicValueAnswer};
 
     /// The number at which the variable of a place stands.
     pub(crate) fn place_number(&self, place: usize) -> Frac
@@ -129,7 +129,7 @@ impl SidedBasis<'_> {
     /// The value of the basic variable of a row, or the first of its terms, in the order of the variables, that has no room.
     pub(crate) fn basic_value(&self, row: usize) -> Result<Frac, WideStep>
         requires { row < self.now.tableau.activities }
-        ensures { IsValueAnswer self.now row result }
+        ensures { IsBasicValueAnswer self.now row result }
     {
         let terms = PointTerms { state: self, row };
         if let Some(value) = whole_sum(0, self.tableau.denominator(), &terms) {

@@ -33,13 +33,13 @@ impl<'a> SidedBasis<'a> {
         requires sides { KeepsFree relax.now.model.now relax.now.region.now }
         ensures { IfOk result (IsSlackState relax.now) }
     {
-        let tableau = Tableau::slack_start(alloc, relax)?;
         let low = lows(alloc, relax)?;
         let high = highs(alloc, relax)?;
         let cost = costs(alloc, relax)?;
         let tilt = tilts(alloc, relax)?;
         let order = order(alloc, relax)?;
         let stands = all_free(alloc, relax.model.cols().len())?;
+        let tableau = Tableau::slack_start(alloc, relax)?;
         Ok(SidedBasis {
             model: relax.model,
             low,

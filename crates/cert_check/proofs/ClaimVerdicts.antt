@@ -16,7 +16,7 @@ use Rattle.cert_check.specs.declared.verdict.Verdict.{Verdict}
 use Rattle.cert_check.specs.declared.verdict.Verdict.TheVariants.{Accepted, Rejected, Wide}
 use Rattle.cert_check.specs.Verdict.{IsClaimJudged, visits, AreVisits, IsVisitJudged, IsVerdictOn, IsVerdict}
 use Rattle.cert_check.specs.declared.judging.NodeWithPlaces.{NodeWithPlaces}
-use Rattle.cert_check.specs.Walk.{has_tree, ArePlaced, IsWalked, IsNodesVerdict}
+use Rattle.cert_check.specs.Walk.{has_tree, AreNodesPlaced, IsWalked, IsNodesVerdict}
 
 -- ---- the nodes that are judged
 
@@ -57,9 +57,9 @@ module _ (M : Program) (cert : Cert) (certificate : IsCertificate cert) where
   }
 
   -- the places are those of the tree
-  pub tree-walked : (t : AreOneTree cert.nodes) (placed : List NodeWithPlaces) → ArePlaced M cert.nodes placed → IsWalked M t.tree placed
+  pub tree-walked : (t : AreOneTree cert.nodes) (placed : List NodeWithPlaces) → AreNodesPlaced M cert.nodes placed → IsWalked M t.tree placed
   tree-walked t placed are = record {
-    places = subst (λ ns. ArePlaced M ns placed) (sym t.nodes_are) are;
+    places = subst (λ ns. AreNodesPlaced M ns placed) (sym t.nodes_are) are;
     narrow = subst (All IsNarrowNode) (sym t.nodes_are) certificate.narrow;
   }
 

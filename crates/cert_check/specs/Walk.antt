@@ -86,12 +86,12 @@ has_tree Unbounded = false
 
 -- ---- the buffer
 
-abbrev pub ArePlaced : Program → List CertNode → List NodeWithPlaces → Type 0
-ArePlaced M nodes placed = (length placed ≡ length nodes) × ((k : ℕ) (n : CertNode) (p : NodeWithPlaces) → k < length nodes → IsPlace M (get_or nodes k n) (get_or placed k p))
+abbrev pub AreNodesPlaced : Program → List CertNode → List NodeWithPlaces → Type 0
+AreNodesPlaced M nodes placed = (length placed ≡ length nodes) × ((k : ℕ) (n : CertNode) (p : NodeWithPlaces) → k < length nodes → IsPlace M (get_or nodes k n) (get_or placed k p))
 
 -- the places are those of a tree's nodes, and fractions have room for its splits
 pub record IsWalked (M : Program) (tree : CertTree) (placed : List NodeWithPlaces) : Type 0 where
-  pub places : ArePlaced M (certificate_nodes tree) placed
+  pub places : AreNodesPlaced M (certificate_nodes tree) placed
   pub narrow : All IsNarrowNode (certificate_nodes tree)
 
 -- the verdict on the nodes alone
@@ -106,7 +106,7 @@ IsPointOf M named point = MatchOption point (¬ AreNames (column_names M) named)
 
 -- the buffer was made for this model and this certificate
 pub record IsBufferOf (M : Program) (cert : Cert) (buf : RegionBuf) : Type 0 where
-  pub nodes : ArePlaced M cert.nodes buf.nodes.items
+  pub nodes : AreNodesPlaced M cert.nodes buf.nodes.items
   pub trail : IsTrail buf.trail
   pub room : length cert.nodes ≤ room buf.trail
   pub point : IsPointOf M cert.point buf.point

@@ -3,7 +3,7 @@ ghost use Rattle.std.specs.Prelude.{◌≡◌, ◌↔◌, ◌<◌, ◌≤◌, �
 ghost use Rattle.frac128.specs.Range.{IsNarrow};
 ghost use Rattle.lp_model.specs.Program.{HasWholeObjective};
 ghost use Rattle.lp_model.specs.Regions.{AreNarrow, at_least};
-ghost use Rattle.cert_check.specs.Walk.{IsPlace, ArePlaced, IsBufferOf, IsPlacedJudged, CanTurn, after_leaf, after_node, IsWalked, IsNodesVerdict, IsPointOf, has_tree};
+ghost use Rattle.cert_check.specs.Walk.{IsPlace, AreNodesPlaced, IsBufferOf, IsPlacedJudged, CanTurn, after_leaf, after_node, IsWalked, IsNodesVerdict, IsPointOf, has_tree};
 ghost use Rattle.cert_check.specs.Tight.{IsTrail, path_of_trail, room};
 ghost use Rattle.cert_check.specs.Verdict.{WhereThere, IsFeasibleJudged, IsDirectionJudged, IsClaimJudged, IsVerdict};
 ghost use Rattle.lp_model.specs.Lawful.{column_names};
@@ -67,7 +67,7 @@ fn placed_nodes(
     model: &Model,
     nodes: &[CertNode],
 ) -> Result<Vec<NodeWithPlaces>, AllocError>
-    ensures { IfOk result (λ all. ArePlaced model.now nodes.now all.items) }
+    ensures { IfOk result (λ all. AreNodesPlaced model.now nodes.now all.items) }
 {
     let mut all = Vec::new(alloc);
     for node in nodes {
@@ -124,11 +124,7 @@ fn second_child(first: &BoundChange) -> BoundChange
     requires { IsNarrow (first.now.v +ℤ pos 1) }
     ensures { result ≡ at_least first.now.col.0 (first.now.v +ℤ pos 1) }
 {
-    BoundChange {
-        col: first.col,
-        side: Side::Lo,
-        v: first.v + 1,
-    }
+    BoundChange::at_least(first.col, first.v + 1)
 }
 
 /// From a leaf's path to that of the node behind it.

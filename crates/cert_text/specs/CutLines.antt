@@ -9,7 +9,7 @@ use Rattle.rational.specs.Rational.{ℚ}
 use Rattle.frac_text.specs.Spelling.{is_digit, value_of}
 use Rattle.frac_text.specs.declared.parsing.NumFault.{NumFault}
 use Rattle.lp_model.specs.declared.types.Side.{Side}
-use Rattle.lp_model.specs.declared.types.Side.TheVariants.{Lo, Hi}
+use Rattle.lp_model.specs.Sides.{side_of_word}
 use Rattle.cert_text.specs.declared.cert.NamedCut.{NamedCut}
 use Rattle.cert_text.specs.declared.cert.CertMult.{CertMult}
 use Rattle.cert_text.specs.declared.cert.CertMult.TheVariants.{Cut}
@@ -36,9 +36,6 @@ abbrev pub literals_in : List (List ℕ) → Result (List (List ℕ × Bool)) �
 literals_in [] = Ok []
 literals_in (word ∷ words) = with_literal (literal_in word) (literals_in words)
 
-abbrev pub side_in : List ℕ → Option Side
-side_in word = if bytes_eq word (codes "hi") then Some Hi else if bytes_eq word (codes "lo") then Some Lo else None
-
 abbrev pub as_cut : List ℕ → Option Side → Result (List (List ℕ × Bool)) ℕ → Result NamedCut ℕ
 as_cut row (Some s) (Ok (literal ∷ literals)) = Ok (record { row = row; side = s; literals = literal ∷ literals })
 as_cut row (Some s) (Ok []) = Err 3
@@ -47,7 +44,7 @@ as_cut row None literals = Err 3
 
 -- what the words behind `cut` say
 abbrev pub cut_line_in : List (List ℕ) → Result NamedCut ℕ
-cut_line_in (row ∷ side ∷ literals) = as_cut row (side_in side) (literals_in literals)
+cut_line_in (row ∷ side ∷ literals) = as_cut row (side_of_word side) (literals_in literals)
 cut_line_in words = Err 3
 
 -- a cut stands behind the claim and its point, and before the nodes; where the model is claimed unbounded there is none

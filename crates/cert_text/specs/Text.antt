@@ -110,15 +110,15 @@ abbrev pub node_code : StatedCertificate → Option ℕ
 node_code s = if lacks_part s || takes_ray s.claims then Some 6 else if is_whole_tree s.nodes then Some 7 else None
 
 -- the code of `end` by the nodes
-abbrev pub tree_code : StatedCertificate → Option ℕ
-tree_code s = if takes_ray s.claims then None else if are_none s.nodes then Some 6 else if is_whole_tree s.nodes then None else Some 7
+abbrev pub end_tree_code : StatedCertificate → Option ℕ
+end_tree_code s = if takes_ray s.claims then None else if are_none s.nodes then Some 6 else if is_whole_tree s.nodes then None else Some 7
 
 -- the code of a statement by what stands before it
 abbrev pub place_code : StatedCertificate → Statement → Option ℕ
 place_code s (Claims claim) = if are_none s.claims then None else Some 6
 place_code s (Point named) = if not (are_none s.claims) && lacks_point s then None else Some 6
 place_code s (Node node) = node_code s
-place_code s End = if lacks_part s then Some 6 else tree_code s
+place_code s End = if lacks_part s then Some 6 else end_tree_code s
 place_code s Header = Some 6
 place_code s (Ray named) = if not (lacks_point s) && lacks_ray s then None else Some 6
 place_code s Foreign = Some 6

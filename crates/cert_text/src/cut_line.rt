@@ -1,25 +1,12 @@
 // What the words of a cut's line say.
 ghost use Rattle.std.specs.Prelude.{◌≡◌, map};
-ghost use Rattle.cert_text.specs.CutLines.{sign_in, side_in, literals_in, cut_line_in};
+ghost use Rattle.cert_text.specs.CutLines.{sign_in, literals_in, cut_line_in};
 ghost use Rattle.cert_text.specs.Reading.{Says};
 
 use crate::cert::NamedCut;
 use crate::line::LineFault;
 use lp_model::{List, Name, Side};
 use std::alloc::Global;
-
-/// `hi` and `lo`.
-fn side_in(word: &[u8]) -> Option<Side>
-    ensures { result ≡ side_in word.now }
-{
-    if word == b"hi".as_slice() {
-        Some(Side::Hi)
-    } else if word == b"lo".as_slice() {
-        Some(Side::Lo)
-    } else {
-        None
-    }
-}
 
 /// Whether the sign of a literal is `+`, where it has a sign and a name.
 fn sign_in(word: &[u8]) -> Option<bool>
@@ -59,7 +46,7 @@ pub(crate) fn cut_in(alloc: Global, words: &[&[u8]]) -> Result<NamedCut, LineFau
     let [row, side, more @ ..] = words else {
         return Err(LineFault::Code(3));
     };
-    let Some(side) = side_in(side) else {
+    let Some(side) = Side::of_word(side) else {
         return Err(LineFault::Code(3));
     };
     let literals = literals_in(alloc, more)?;

@@ -1,7 +1,7 @@
 // What the lines of a certificate's text state so far.
 ghost use Rattle.std.specs.Prelude.{◌≡◌, ◌+◌, ◌<◌, ◌≤◌, ◌^◌, ◌++◌, ◌∷◌, [], length, option_to_list, IfOk, Ok, Err, Some, None};
 ghost use Rattle.cert_text.specs.Whole.{IsNarrowStatement, IsCertificate};
-ghost use Rattle.cert_text.specs.Text.{stated, takes_point, takes_ray, lacks_point, lacks_ray, lacks_numbers, lacks_part, node_code, tree_code, place_code, code_in, end_code, first_claim, first_named, cert_of, due_after};
+ghost use Rattle.cert_text.specs.Text.{stated, takes_point, takes_ray, lacks_point, lacks_ray, lacks_numbers, lacks_part, node_code, end_tree_code, place_code, code_in, end_code, first_claim, first_named, cert_of, due_after};
 
 use crate::cert::{Cert, CertNode, Claim};
 use crate::line::Statement;
@@ -125,8 +125,8 @@ impl Reading {
     }
 
     /// The code of `end` by the nodes.
-    fn tree_code(&self) -> Option<u8>
-        ensures { result ≡ tree_code (held self.now) }
+    fn end_tree_code(&self) -> Option<u8>
+        ensures { result ≡ end_tree_code (held self.now) }
     {
         if self.takes_ray() {
             None
@@ -146,7 +146,7 @@ impl Reading {
         if self.lacks_part() {
             Some(6)
         } else {
-            self.tree_code()
+            self.end_tree_code()
         }
     }
 

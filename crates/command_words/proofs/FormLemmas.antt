@@ -6,7 +6,7 @@ use Rattle.std.proofs.lemmas.Grind.{common_steps}
 use Rattle.command_words.specs.Names.{command_of, is_file_name, whole_number_of}
 use Rattle.command_words.specs.declared.words.CommandName.{CommandName}
 use Rattle.command_words.specs.declared.words.CommandName.TheVariants as name
-use Rattle.command_words.specs.Asks.{Asks, Load, Solve, Cert, Misused, no_limit, with_number, load_asks, one_limit_asks, two_limits_asks, both_limits_asks, solve_asks, cert_asks, quit_asks, command_asks, asks_of, NamesFile}
+use Rattle.command_words.specs.Asks.{Asks, Load, Solve, Cert, Write, Misused, no_limit, with_number, load_asks, one_limit_asks, two_limits_asks, both_limits_asks, solve_asks, cert_asks, write_asks, quit_asks, command_asks, asks_of, NamesFile}
 
 abbrev nows : List (Bor (List ℕ)) → List (List ℕ)
 nows words = map (λ word. word.now) words
@@ -99,6 +99,15 @@ cert_asks-named (file ∷ []) = by (is_file_name file) refl
     by false e = tt
 cert_asks-named (file ∷ other ∷ more) = tt
 
+write_asks-named : (arguments : List (List ℕ)) → NamesFile (write_asks arguments)
+write_asks-named [] = tt
+write_asks-named (file ∷ []) = by (is_file_name file) refl
+  where
+    by : (b : Bool) → is_file_name file ≡ b → NamesFile (if b then Write file else Misused)
+    by true e = e
+    by false e = tt
+write_asks-named (file ∷ other ∷ more) = tt
+
 quit_asks-named : (arguments : List (List ℕ)) → NamesFile (quit_asks arguments)
 quit_asks-named [] = tt
 quit_asks-named (word ∷ more) = tt
@@ -107,6 +116,7 @@ command_asks-named : (c : Option CommandName) (word : List ℕ) (arguments : Lis
 command_asks-named (Some name.Load) word arguments = load_asks-named arguments
 command_asks-named (Some name.Solve) word arguments = solve_asks-named arguments
 command_asks-named (Some name.Cert) word arguments = cert_asks-named arguments
+command_asks-named (Some name.Write) word arguments = write_asks-named arguments
 command_asks-named (Some name.Quit) word arguments = quit_asks-named arguments
 command_asks-named None word arguments = tt
 

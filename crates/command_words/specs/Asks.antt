@@ -14,6 +14,8 @@ pub data Asks : Type 0 where
   Solve : (nodes pivots : ℕ) → Asks
   -- the certificate of the answer that is held, as this file
   Cert : (file : List ℕ) → Asks
+  -- the model that is present, as this file
+  Write : (file : List ℕ) → Asks
   Quit : Asks
   -- the first word is no command
   Unknown : (word : List ℕ) → Asks
@@ -68,6 +70,11 @@ abbrev pub cert_asks : List (List ℕ) → Asks
 cert_asks (file ∷ []) = if is_file_name file then Cert file else Misused
 cert_asks arguments = Misused
 
+-- `write F`
+abbrev pub write_asks : List (List ℕ) → Asks
+write_asks (file ∷ []) = if is_file_name file then Write file else Misused
+write_asks arguments = Misused
+
 -- `quit`
 abbrev pub quit_asks : List (List ℕ) → Asks
 quit_asks [] = Quit
@@ -77,6 +84,7 @@ abbrev pub command_asks : Option CommandName → List ℕ → List (List ℕ) �
 command_asks (Some name.Load) word arguments = load_asks arguments
 command_asks (Some name.Solve) word arguments = solve_asks arguments
 command_asks (Some name.Cert) word arguments = cert_asks arguments
+command_asks (Some name.Write) word arguments = write_asks arguments
 command_asks (Some name.Quit) word arguments = quit_asks arguments
 command_asks None word arguments = Unknown word
 
@@ -90,6 +98,7 @@ abbrev pub asks_shown : Asked → Asks
 asks_shown (asked.Load file intupper) = Load file.now intupper
 asks_shown (asked.Solve nodes pivots) = Solve nodes pivots
 asks_shown (asked.Cert file) = Cert file.now
+asks_shown (asked.Write file) = Write file.now
 asks_shown asked.Quit = Quit
 asks_shown (asked.Unknown word) = Unknown word.now
 asks_shown asked.Misused = Misused
@@ -100,6 +109,7 @@ abbrev pub NamesFile : Asks → Type 0
 NamesFile (Load file intupper) = is_file_name file ≡ true
 NamesFile (Solve nodes pivots) = Unit {0}
 NamesFile (Cert file) = is_file_name file ≡ true
+NamesFile (Write file) = is_file_name file ≡ true
 NamesFile Quit = Unit {0}
 NamesFile (Unknown word) = Unit {0}
 NamesFile Misused = Unit {0}

@@ -9,6 +9,7 @@
 //! solve nodes N          a search that may place N results
 //! solve pivots N         one that may make N simplex steps in each relaxation; both options may stand, in any order
 //! cert F                 the certificate of the held answer, as file F
+//! write F                the model that is present, as file F
 //! quit                   the end of the script
 //! ```
 //!

@@ -2,7 +2,7 @@
 ghost use Rattle.std.specs.Prelude.{◌≡◌, true, map, [], ◌∷◌};
 ghost use Rattle.std.specs.List.{list_all};
 ghost use Rattle.command_words.specs.Names.{command_of, begins_name, is_file_name, is_name_byte, whole_number_of};
-ghost use Rattle.command_words.specs.Asks.{Solve, no_limit, with_number, asks_of, asks_shown, load_asks, one_limit_asks, two_limits_asks, both_limits_asks, solve_asks, cert_asks, quit_asks, NamesFile};
+ghost use Rattle.command_words.specs.Asks.{Solve, no_limit, with_number, asks_of, asks_shown, load_asks, one_limit_asks, two_limits_asks, both_limits_asks, solve_asks, cert_asks, write_asks, quit_asks, NamesFile};
 
 /// A limit that isn't named.
 const UNLIMITED: u64 = u64::MAX;
@@ -13,6 +13,7 @@ pub enum CommandName {
     Load,
     Solve,
     Cert,
+    Write,
     Quit,
 }
 
@@ -32,6 +33,10 @@ pub enum Asked<'a> {
     },
     /// The certificate of the answer that is held, as a file.
     Cert {
+        file: &'a [u8],
+    },
+    /// The model that is present, as a file.
+    Write {
         file: &'a [u8],
     },
     /// The end of the script.
@@ -58,6 +63,8 @@ fn command_named(word: &[u8]) -> Option<CommandName>
         Some(CommandName::Solve)
     } else if word == b"cert".as_slice() {
         Some(CommandName::Cert)
+    } else if word == b"write".as_slice() {
+        Some(CommandName::Write)
     } else if word == b"quit".as_slice() {
         Some(CommandName::Quit)
     } else {
@@ -277,6 +284,27 @@ fn cert_asked<'a>(arguments: &[&'a [u8]]) -> Asked<'a>
     }
 }
 
+/// What `write F` asks for.
+fn named_write(file: &[u8]) -> Asked<'_>
+    ensures { asks_shown result ≡ write_asks (file.now ∷ []) }
+{
+    if is_file_name_word(file) {
+        Asked::Write { file }
+    } else {
+        Asked::Misused
+    }
+}
+
+/// What `write` with these further words asks for.
+fn write_asked<'a>(arguments: &[&'a [u8]]) -> Asked<'a>
+    ensures { asks_shown result ≡ write_asks (map (λ word. word.now) arguments.now) }
+{
+    match arguments {
+        [file] => named_write(file),
+        _ => Asked::Misused,
+    }
+}
+
 /// What `quit` with these further words asks for.
 fn quit_asked<'a>(arguments: &[&'a [u8]]) -> Asked<'a>
     ensures { asks_shown result ≡ quit_asks (map (λ word. word.now) arguments.now) }
@@ -299,6 +327,7 @@ pub fn read_words<'a>(words: &[&'a [u8]]) -> Asked<'a>
         Some(CommandName::Load) => load_asked(arguments),
         Some(CommandName::Solve) => solve_asked(arguments),
         Some(CommandName::Cert) => cert_asked(arguments),
+        Some(CommandName::Write) => write_asked(arguments),
         Some(CommandName::Quit) => quit_asked(arguments),
         None => Asked::Unknown { word },
     }

@@ -4,7 +4,7 @@ use anyhow::{Result, bail, ensure};
 use cover_cuts::{CutPool, PoolFault, cut_row, valid};
 use cut_find::separate;
 use leaf_dual::{LagValue, farkas, lag};
-use lp_model::{CutId, Derivation, Model, WideStep};
+use lp_model::{CutId, Derivation, Model, Mult, Region, WideStep};
 use model_texts::{Words, is_narrow_region, multipliers_of, point_of, push_wide_step, region_of};
 use row_texts::number_of;
 use std::alloc::{AllocError, Global};
@@ -84,6 +84,14 @@ pub fn push_kept(text: &mut String, pool: &CutPool, model: &Model, words: &str) 
     Ok(())
 }
 
+/// At most so many covers that a point violates, of `X 1 Y 2/3`.
+fn found_at(alloc: Global, model: &Model, point: &str, most: usize) -> Result<Vec<Derivation>> {
+    let mut words = Words::new(alloc, point)?;
+    let point = point_of(alloc, model, &mut words)?;
+    ensure!(point.as_slice().len() == model.cols().len(), "no point");
+    Ok(separate(alloc, model, &point, most)?)
+}
+
 /// The covers that a point violates, of `MOST at X 1 Y 2/3`.
 pub fn push_found(alloc: Global, text: &mut String, model: &Model, words: &str) -> Result<()> {
     let Some((most, point)) = words.split_once(" at") else {
@@ -92,9 +100,7 @@ pub fn push_found(alloc: Global, text: &mut String, model: &Model, words: &str) 
     let Some(most) = number_of(most) else {
         bail!("no number: `{most}`");
     };
-    let point = point_of(alloc, model, &mut Words::new(alloc, point)?)?;
-    ensure!(point.as_slice().len() == model.cols().len(), "no point");
-    let found = separate(alloc, model, &point, most as usize)?;
+    let found = found_at(alloc, model, point, most as usize)?;
     Ok(push_derivations(text, model, &found)?)
 }
 
@@ -110,6 +116,35 @@ fn push_number(
     }
 }
 
+fn multipliers_in(alloc: Global, model: &Model, text: &str) -> Result<Mult> {
+    let mut words = Words::new(alloc, text)?;
+    multipliers_of(alloc, model, &mut words)
+}
+
+fn region_in(alloc: Global, model: &Model, text: &str) -> Result<Region> {
+    let mut words = Words::new(alloc, text)?;
+    region_of(alloc, model, &mut words)
+}
+
+/// The number of multipliers in a region with a pool's cuts.
+fn push_number_in(
+    text: &mut String,
+    pool: &CutPool,
+    model: &Model,
+    is_costed: bool,
+    mult: &Mult,
+    region: &Region,
+) -> Result<()> {
+    ensure!(is_narrow_region(region.as_slice()), "no region");
+    let cuts = pool.rows();
+    let number = if is_costed {
+        lag(model, cuts, region, mult)
+    } else {
+        farkas(model, cuts, region, mult)
+    };
+    Ok(push_number(text, model, &number)?)
+}
+
 /// The number of a leaf with a pool's cuts, of multipliers `A 1 cut#0 -1`, and behind `in` a region `X 0..0`.
 pub fn push_leaf_number(
     alloc: Global,
@@ -120,14 +155,7 @@ pub fn push_leaf_number(
     words: &str,
 ) -> Result<()> {
     let (mult, region) = words.split_once("in ").unwrap_or((words, ""));
-    let mult = multipliers_of(alloc, model, &mut Words::new(alloc, mult)?)?;
-    let region = region_of(alloc, model, &mut Words::new(alloc, region)?)?;
-    ensure!(is_narrow_region(region.as_slice()), "no region");
-    let cuts = pool.rows();
-    let number = if is_costed {
-        lag(model, cuts, &region, &mult)
-    } else {
-        farkas(model, cuts, &region, &mult)
-    };
-    Ok(push_number(text, model, &number)?)
+    let mult = multipliers_in(alloc, model, mult)?;
+    let region = region_in(alloc, model, region)?;
+    push_number_in(text, pool, model, is_costed, &mult, &region)
 }

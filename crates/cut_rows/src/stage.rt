@@ -10,6 +10,7 @@ use lp_model::{Derivation, Model, Sense};
 use model_texts::{apply_line, empty_model, model_of};
 use row_texts::{Stage, bytes_of};
 use std::alloc::Global;
+use std::mem::replace;
 
 /// A model, the last derivation that was said, a pool, and how what they were answered differs from what the row wants.
 #[derive(Drop)]
@@ -27,6 +28,12 @@ fn no_model(alloc: Global) -> Result<Model> {
     empty_model(alloc, Sense::Min, Frac::whole(0), Frac::whole(0))
 }
 
+/// The model that the lines of a text say.
+fn model_in(alloc: Global, text: &[String]) -> Result<Model> {
+    let bytes = bytes_of(alloc, text)?;
+    model_of(alloc, str::from_utf8(&bytes)?)
+}
+
 impl CutStage {
     fn cover(&self) -> Result<&Derivation> {
         match &self.cover {
@@ -36,8 +43,14 @@ impl CutStage {
     }
 
     fn take_model(&mut self, text: &[String]) -> Result<()> {
-        let bytes = bytes_of(self.alloc, text)?;
-        self.model = model_of(self.alloc, str::from_utf8(&bytes)?)?;
+        let model = model_in(self.alloc, text)?;
+        drop(replace(&mut self.model, model));
+        Ok(())
+    }
+
+    fn take_cover(&mut self, text: &str) -> Result<()> {
+        let cover = derivation_of(self.alloc, &self.model, text)?;
+        drop(replace(&mut self.cover, Some(cover)));
         Ok(())
     }
 
@@ -121,7 +134,7 @@ impl Stage for CutStage {
         match word {
             "model" => self.take_model(text)?,
             "edit" => apply_line(self.alloc, &mut self.model, rest)?,
-            "cover" => self.cover = Some(derivation_of(self.alloc, &self.model, rest)?),
+            "cover" => self.take_cover(rest)?,
             "recheck" => self.pool.recheck(&self.model),
             _ => self.judge(word, rest)?,
         }

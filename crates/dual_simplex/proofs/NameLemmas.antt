@@ -16,7 +16,7 @@ use Rattle.bases.proofs.BringIn.{basic_within, nonbasic_within}
 use Rattle.row_tableau.specs.Variables.{variable_number}
 use Rattle.row_tableau.specs.Answers.{IsPivotPlace, IsWidePivot}
 use Rattle.basic_solution.specs.Held.{Held, IsSided, relaxation, table, variables}
-use Rattle.basic_solution.specs.Numbers.{CostsFit, IsValuePlace, IsWideValue, IsPlaceCost, IsWideCost, ReducedFits, IsWideReduced}
+use Rattle.basic_solution.specs.Numbers.{CostsFit, IsValuePlace, IsWideBasicValue, IsPlaceCost, IsWideCost, ReducedFits, IsWideReduced}
 use Rattle.dual_simplex.specs.Answers.{PartFits, IsPartPlace, IsWidePart}
 use Rattle.dual_simplex.proofs.VariableLemmas.{one_variable}
 
@@ -111,7 +111,7 @@ module _ (s : Held) (sided : IsSided s) where
   value_places row (RatioCost r k) q h g = absurd h
   value_places row (Ratio r k v) q h g = absurd h
 
-  pub one_value : (row : ℕ) (e f : WideStep) → IsWideValue s row e → IsWideValue s row f → e ≡ f
+  pub one_value : (row : ℕ) (e f : WideStep) → IsWideBasicValue s row e → IsWideBasicValue s row f → e ≡ f
   one_value row e f h g = one_step (IsValuePlace s row) (value_places row) e f h g
 
   cost_places : (place : ℕ) (p q : TablePlace) → IsPlaceCost s place p → IsPlaceCost s place q → p ≡ q

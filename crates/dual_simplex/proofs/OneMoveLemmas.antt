@@ -15,9 +15,9 @@ use Rattle.bases.proofs.Parts.{less_trans, not_less_self}
 use Rattle.bases.proofs.Least.{less_from_same, enters_once}
 use Rattle.row_tableau.specs.Answers.{IsWidePivot}
 use Rattle.basic_solution.specs.Held.{Held, IsSided, relaxation, parts, state, table}
-use Rattle.basic_solution.specs.Numbers.{IsWideValue, IsWideCost}
+use Rattle.basic_solution.specs.Numbers.{IsWideBasicValue, IsWideCost}
 use Rattle.basic_solution.specs.Lists.{IsWideActivity}
-use Rattle.dual_simplex.specs.Answers.{IsFirstOut, May, AreAllInside, HasLeaving, IsWideLeaving, ratios, PartFits, AreSameParts, IsWideOrder, IsOrder, IsLeastBelow, IsCompared, AreCompared, IsWideEntering, IsEntered, IsWideMove, IsWidePart}
+use Rattle.dual_simplex.specs.Answers.{IsFirstOut, May, AreAllInside, HasLeaving, IsWideLeaving, ratios, PartFits, AreSameParts, IsWideOrder, IsRatioOrder, IsLeastBelow, IsCompared, AreCompared, IsWideEntering, IsEntered, IsWideMove, IsWidePart}
 use Rattle.dual_simplex.specs.Moves.{IsMoved, IsBlocked}
 use Rattle.dual_simplex.specs.Solves.{HaveMultipliers, IsWide}
 use Rattle.dual_simplex.proofs.StepLemmas.{value_not_wide}
@@ -70,7 +70,7 @@ module _ (s : Held) (sided : IsSided s) (uncrossed : HasNoCrossedSides (relaxati
   leaving_one : (e f : WideStep) → IsWideLeaving s e → IsWideLeaving s f → e ≡ f
   leaving_one e f h g =
       elim (cases_order (name h.row) (name g.row)) [
-        | inl same ↦ one_value s sided g.row e f (subst (λ r. IsWideValue s r e) (sided.table.arranged.basic_once h.row g.row h.within g.within same) h.wide) g.wide
+        | inl same ↦ one_value s sided g.row e f (subst (λ r. IsWideBasicValue s r e) (sided.table.arranged.basic_once h.row g.row h.within g.within same) h.wide) g.wide
         | inr apart ↦ elim apart [
           | inl before ↦ absurd (value_not_wide s h.row e (λ within. g.values h.row within before) h.wide)
           | inr past ↦ absurd (value_not_wide s g.row f (λ within. h.values g.row within past) g.wide)
@@ -97,7 +97,7 @@ module _ (s : Held) (sided : IsSided s) (uncrossed : HasNoCrossedSides (relaxati
           ]
         ]
 
-    order_not_wide : (a b : ℕ) (step : WideStep) (o : Ordering) → IsOrder s row side a b (Ok o) → ¬ IsWideOrder s row side a b step
+    order_not_wide : (a b : ℕ) (step : WideStep) (o : Ordering) → IsRatioOrder s row side a b (Ok o) → ¬ IsWideOrder s row side a b step
     order_not_wide a b step Less h wide = less_not_wide a b step wide h.part h.before h.first h.second (λ e. <ℚ_irrefl (subst (λ t. ratios s row side a h.part <ℚ t) (sym e) h.less))
     order_not_wide a b step Equal h wide = parts_not_wide a b step wide (h.first wide.part wide.within) (h.second wide.part wide.within)
     order_not_wide a b step Greater h wide =
@@ -140,7 +140,7 @@ module _ (s : Held) (sided : IsSided s) (uncrossed : HasNoCrossedSides (relaxati
     compared_not_wide : (k best : ℕ) (step : WideStep) → k ≤ s.tableau.columns → IsLeastBelow s row side k (Some best) → IsWideOrder s row side best k step → ¬ IsCompared s row side k
     compared_not_wide k best step most least wide (inl none) = none best least.0 least.1.0
     compared_not_wide k best step most least wide (inr (other, (also, (o, order)))) =
-        order_not_wide best k step o (subst (λ b. IsOrder s row side b k (Ok o)) (least_one k most other best also least) order) wide
+        order_not_wide best k step o (subst (λ b. IsRatioOrder s row side b k (Ok o)) (least_one k most other best also least) order) wide
 
     entering_not_compared : (step : WideStep) → IsWideEntering s row side s.tableau.columns step → ¬ AreCompared s row side s.tableau.columns
     entering_not_compared step h all =

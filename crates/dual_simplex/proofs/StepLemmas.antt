@@ -9,7 +9,7 @@ use Rattle.row_tableau.specs.Dense.{HasFullLists}
 use Rattle.row_tableau.specs.Answers.{IsWidePivot}
 use Rattle.row_tableau.specs.Variables.{variable_number}
 use Rattle.basic_solution.specs.Held.{Held, table, variables}
-use Rattle.basic_solution.specs.Numbers.{ValueFits, IsValuePlace, IsWideValue}
+use Rattle.basic_solution.specs.Numbers.{ValueFits, IsValuePlace, IsWideBasicValue}
 use Rattle.basic_solution.specs.Lists.{IsWideColumn}
 use Rattle.basic_solution.specs.Exchanges.{IsMove}
 use Rattle.dual_simplex.specs.Answers.{IsEntered, AreAllInside, HasLeaving, IsWideLeaving, IsLeaving, IsEntering, IsWideMove}
@@ -27,7 +27,7 @@ value_stays s row fits (Some (Cost k b)) h = h
 value_stays s row fits (Some (RatioCost r k)) h = h
 value_stays s row fits (Some (Ratio r k v)) h = h
 
-pub value_not_wide : (s : Held) (row : ℕ) (step : WideStep) → (row < s.tableau.activities → ValueFits s row (variables s)) → ¬ IsWideValue s row step
+pub value_not_wide : (s : Held) (row : ℕ) (step : WideStep) → (row < s.tableau.activities → ValueFits s row (variables s)) → ¬ IsWideBasicValue s row step
 value_not_wide s row step fits wide = value_stays s row fits (table_place step) wide
 
 -- where no basic variable is outside a side each number of the point has room

@@ -1,7 +1,7 @@
 // The environment of a row, and how its calls were answered so far.
 use crate::answers::push_answer;
 use anyhow::{Result, bail, ensure};
-use lp_model::Model;
+use lp_model::{Answer, Model};
 use model_calls::take_number;
 use model_texts::{Words, model_of};
 use row_texts::{Stage, bytes_of};
@@ -59,11 +59,25 @@ fn push_fault(got: &mut String, fault: &EnvFault) -> Result<()> {
     Ok(())
 }
 
+/// The limits that a line says.
+fn limits_of(alloc: Global, line: &str) -> Result<Limits> {
+    let mut words = Words::new(alloc, line)?;
+    limits_in(&mut words)
+}
+
+/// How many bytes a certificate's text has.
+fn push_length(got: &mut String, cert: &Result<Vec<u8>, EnvFault>) -> Result<()> {
+    match cert {
+        Ok(text) => write!(got, "{} bytes", text.len())?,
+        Err(fault) => push_fault(got, fault)?,
+    }
+    Ok(())
+}
+
 impl Calls {
-    fn solve(&mut self, line: &str, got: &mut String) -> Result<()> {
-        let limits = limits_in(&mut Words::new(self.alloc, line)?)?;
-        let found = self.env.solve(&limits);
-        match &found {
+    /// Writes what was found of the model.
+    fn push_found(&self, got: &mut String, found: &Result<Answer, EnvFault>) -> Result<()> {
+        match found {
             Ok(answer) => {
                 let Some(model) = self.env.model() else {
                     bail!("an answer, and no model");
@@ -74,13 +88,20 @@ impl Calls {
         }
     }
 
+    fn solve(&mut self, line: &str, got: &mut String) -> Result<()> {
+        let limits = limits_of(self.alloc, line)?;
+        let found = self.env.solve(&limits);
+        let pushed = self.push_found(got, &found);
+        drop(found);
+        pushed
+    }
+
     /// How many bytes the certificate's text has.
     fn cert(&self, got: &mut String) -> Result<()> {
-        match &self.env.cert() {
-            Ok(text) => write!(got, "{} bytes", text.len())?,
-            Err(fault) => push_fault(got, fault)?,
-        }
-        Ok(())
+        let cert = self.env.cert();
+        let pushed = push_length(got, &cert);
+        drop(cert);
+        pushed
     }
 
     /// How many columns the model has.
@@ -99,6 +120,24 @@ impl Calls {
             "columns" => self.columns(got),
             _ => bail!("no call: `{word}`"),
         }
+    }
+
+    /// Makes a call, and compares its answer with the wanted one.
+    fn take_call(&mut self, word: &str, rest: &str) -> Result<()> {
+        let (said, wanted) = rest.split_once("-> ").unwrap_or((rest, "ok"));
+        let mut got = String::new(self.alloc);
+        self.answer(word, said, &mut got)?;
+        let got = if got.is_empty() { "ok" } else { got.trim() };
+        self.judge(word, rest, got, wanted)
+    }
+
+    /// Loads the model that the lines of a text say.
+    fn load(&mut self, text: &[String]) -> Result<()> {
+        let model = model_in(self.alloc, text)?;
+        if self.env.load(model).is_err() {
+            bail!("no memory");
+        }
+        Ok(())
     }
 
     /// Notes an answer that isn't the wanted one.
@@ -128,17 +167,9 @@ impl Stage for Calls {
     fn take(&mut self, word: &str, rest: &str, text: &[String]) -> Result<()> {
         if word == "load" {
             ensure!(rest.is_empty(), "no name stands here: {rest}");
-            let model = model_in(self.alloc, text)?;
-            if self.env.load(model).is_err() {
-                bail!("no memory");
-            }
-            return Ok(());
+            return self.load(text);
         }
-        let (said, wanted) = rest.split_once("-> ").unwrap_or((rest, "ok"));
-        let mut got = String::new(self.alloc);
-        self.answer(word, said, &mut got)?;
-        let got = if got.is_empty() { "ok" } else { got.trim() };
-        self.judge(word, rest, got, wanted)
+        self.take_call(word, rest)
     }
 
     fn end(&self) -> Result<&str> {

@@ -14,11 +14,11 @@ use Rattle.lp_model.specs.declared.types.WideStep.TheVariants.{LagEntry, LagTerm
 use Rattle.leaf_dual.specs.declared.dual.LagValue.{LagValue}
 use Rattle.leaf_dual.specs.declared.dual.LagValue.TheVariants.{Minus, Num}
 use Rattle.leaf_dual.specs.Dual.{Multipliers, multiplier, cut_weight, least_constant, least_cost}
-use Rattle.leaf_dual.specs.Answers.{RowsFit, CutsFit, cuts_total, EntriesFit, IsFirstWideEntry, ColumnTermFits, ColumnsFit, IsReached, IsFirstWideStep, IsDualAnswer, IsLagAnswer, IsFarkasAnswer}
+use Rattle.leaf_dual.specs.Answers.{RowsFit, CutsFit, cuts_total, EntriesFit, IsFirstWideEntry, ColumnTermFits, ColumnsFit, IsReachedColumn, IsFirstWideStep, IsDualAnswer, IsLagAnswer, IsFarkasAnswer}
 
 module _ (F : Formulation) (path : Path) (y z : ℕ → ℚ) (c₀ : ℚ) (c : ℕ → ℚ) where
   abbrev pub Reached : ℕ → Type 0
-  Reached j = IsReached F path y z c₀ c j
+  Reached j = IsReachedColumn F path y z c₀ c j
 
   abbrev pub Entry : ℕ → Var → Type 0
   Entry j of = IsFirstWideEntry F y z c j of

@@ -1,8 +1,8 @@
 -- What numbers within a region's bounds are within: the model's bounds, and each change of the path. And bounds of integer
--- columns are whole.
+-- columns are there and whole.
 use Rattle.std.specs.Prelude.{◌≡◌, ℕ, ◌<◌, Bool, true, false, if◌then◌else◌, nat_eq, IsTrue, IsSome, ℤ, [], ◌∷◌, length, Option, Some, None}
 use Rattle.std.specs.Option.{option_map}
-use Rattle.std.proofs.Common.{refl, subst}
+use Rattle.std.proofs.Common.{refl, sym, subst, ◌∙◌}
 use Rattle.std.proofs.lemmas.Bool.{false≢true}
 use Rattle.std.proofs.lemmas.Bool.Decides.{Decides-eqb}
 use Rattle.rational.specs.Rational.{ℚ, int, ◌≤ℚ◌, floor, ceil, rational_le, IsWhole}
@@ -11,10 +11,12 @@ use Rattle.rational.proofs.Rounding.{≤ℚ-ceil, floor-≤ℚ}
 use Rattle.rational.proofs.Division.{min-≤ℚ, ≤ℚ-max}
 use Rattle.rational.proofs.Integers.{IsWhole-int}
 use Rattle.lp_model.specs.Program.{Program, Point, coordinate, lower, upper, is_integer, AtLeast, AtMost, Within}
+use Rattle.lp_model.specs.Lawful.{IsLawful, IsLawfulColumn}
 use Rattle.lp_model.specs.Regions.{Path, IsOnSide, InRegion, NamesColumns, low_after, high_after, low_along, high_along}
 use Rattle.lp_model.specs.Laws.{IsWithinRegion}
 use Rattle.lp_model.specs.declared.types.Side.{Side}
 use Rattle.lp_model.specs.declared.types.Side.TheVariants.{Lo, Hi}
+use Rattle.lp_model.proofs.ElementLemmas.{element, of_element-get}
 
 -- ---- back to the bounds before the changes
 
@@ -106,6 +108,16 @@ module _ (M : Program) (path : Path) (x : Point) (within : IsWithinRegion M path
   inside names = in_region M x path (first_bound_low M) (first_bound_high M) names within.low within.high
 
 -- ---- bounds that are there and whole
+
+-- those of an integer column are there
+pub integer_bounded : (M : Program) → IsLawful M → (j : ℕ) → j < length M.cols → IsTrue (is_integer M j) → IsSome (lower M j) × IsSome (upper M j)
+integer_bounded M lawful j within integer =
+    let el = element M.cols j within in
+    let column : IsLawfulColumn (length M.rows) el.0 = subst (IsLawfulColumn (length M.rows)) (sym el.1) (lawful.columns j el.0 within) in
+    let sides = column.bounded (sym (of_element-get false (λ c. c.int) M.cols j el.0 within el.1) ∙ integer) in (
+      subst IsSome (sym (of_element-get None (λ c. c.lo) M.cols j el.0 within el.1)) sides.0,
+      subst IsSome (sym (of_element-get None (λ c. c.up) M.cols j el.0 within el.1)) sides.1,
+    )
 
 abbrev pub IsWholeBound : Option ℚ → Type 0
 IsWholeBound None = ⊥

@@ -1,7 +1,6 @@
--- The kinds of steps without room: those of the number of multipliers, those at a point, and those of a table.
--- What is said of a step is said of its place in one of these kinds, so that a further step is one more case here.
+-- The kinds of steps without room of which more than one layer speaks: those of the number of multipliers, and those of a table.
+-- What is said of such a step is said of its place in its kind, so that a further step is one more case here.
 use Rattle.std.specs.Prelude.{ℕ, Option, Some, None}
-use Rattle.lp_model.specs.declared.types.ColId.{ColId}
 use Rattle.lp_model.specs.declared.types.Var.{Var}
 use Rattle.lp_model.specs.declared.types.WideStep.{WideStep}
 use Rattle.lp_model.specs.declared.types.WideStep.TheVariants as step
@@ -10,11 +9,6 @@ use Rattle.lp_model.specs.declared.types.WideStep.TheVariants as step
 pub data LagPlace : Type 0 where
   Entry : (col : ℕ) (by : Var) → LagPlace
   Term : (of : Var) → LagPlace
-
--- at a point: a column's term in a row's sum, or in an objective
-pub data PointPlace : Type 0 where
-  Activity : (row col : ℕ) → PointPlace
-  Objective : (col : Option ColId) → PointPlace
 
 -- at a table: an entry after an exchange, a term of a basic variable's value or of a reduced cost, a ratio
 pub data TablePlace : Type 0 where
@@ -28,11 +22,6 @@ abbrev pub lag_place : WideStep → Option LagPlace
 lag_place (step.LagEntry col by) = Some (Entry col.0 by)
 lag_place (step.LagTerm of) = Some (Term of)
 lag_place other = None
-
-abbrev pub point_place : WideStep → Option PointPlace
-point_place (step.Act row col) = Some (Activity row.0 col.0)
-point_place (step.Value col) = Some (Objective col)
-point_place other = None
 
 abbrev pub table_place : WideStep → Option TablePlace
 table_place (step.Pivot r s i k) = Some (Pivot r s i k)

@@ -1,7 +1,7 @@
 // The bounds of a region: the model's, and the bound changes of a path.
 ghost use Rattle.std.specs.Prelude.{◌≡◌, ◌↔◌, ◌<◌, ℕ, length, IsTrue, if◌then◌else◌};
 ghost use Rattle.std.specs.Option.{option_map};
-ghost use Rattle.rational.specs.Rational.{int, floor, ceil, min_ℚ, max_ℚ, rational_le};
+ghost use Rattle.rational.specs.Rational.{int, floor, ceil, min_ℚ, max_ℚ};
 ghost use Rattle.frac128.specs.Range.{IsNarrow};
 ghost use Rattle.lp_model.specs.Program.{lower, upper, is_integer};
 ghost use Rattle.lp_model.specs.Regions.{AreNarrow, tighter_low, tighter_high, low_after, high_after, low_along, high_along, region_low, region_high, IsCrossed, IsEmptyRegion};
@@ -10,19 +10,12 @@ use crate::model::Model;
 use crate::types::{Bound, BoundChange, Col, Side};
 use frac128::Frac;
 
-/// Whether the first is no more than the second.
-fn is_at_most(first: &Frac, second: &Frac) -> bool
-    ensures { result ≡ rational_le first.now second.now }
-{
-    *first <= *second
-}
-
 /// The bound, or the number where that is higher or there is no bound.
 fn tighter_low(bound: &Bound, number: Frac) -> Bound
     ensures { result ≡ tighter_low bound.now number }
 {
     match bound {
-        Some(low) if !is_at_most(low, &number) => Some(*low),
+        Some(low) if !low.is_at_most(&number) => Some(*low),
         _ => Some(number),
     }
 }
@@ -32,7 +25,7 @@ fn tighter_high(bound: &Bound, number: Frac) -> Bound
     ensures { result ≡ tighter_high bound.now number }
 {
     match bound {
-        Some(high) if is_at_most(high, &number) => Some(*high),
+        Some(high) if high.is_at_most(&number) => Some(*high),
         _ => Some(number),
     }
 }

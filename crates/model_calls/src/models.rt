@@ -8,7 +8,8 @@ use model_edits::{EditFault, apply};
 use model_texts::{
     Words, column_of, edit_of, name_text, point_of, push_edit_fault, push_wide_step, variable_of,
 };
-use std::alloc::Global;
+use std::alloc::{AllocError, Global};
+use std::mem::replace;
 
 /// Makes a call of a model, and writes its answer.
 pub fn call(
@@ -19,13 +20,31 @@ pub fn call(
     got: &mut String,
 ) -> Result<()> {
     let mut words = Words::new(alloc, line)?;
-    match word {
-        "edit" => edit(alloc, model, &mut words, got)?,
-        "copy" => *model = model.copy()?,
-        "point" | "value" | "activity" => at_point(alloc, model, word, &mut words, got)?,
-        _ => read(model, word, &mut words, got)?,
-    }
+    answer(alloc, model, word, &mut words, got)?;
     words.end()
+}
+
+/// Makes a call of a model by the words behind it, and writes its answer.
+fn answer(
+    alloc: Global,
+    model: &mut Model,
+    word: &str,
+    words: &mut Words,
+    got: &mut String,
+) -> Result<()> {
+    match word {
+        "edit" => edit(alloc, model, words, got),
+        "copy" => Ok(become_copy(model)?),
+        "point" | "value" | "activity" => at_point(alloc, model, word, words, got),
+        _ => read(model, word, words, got),
+    }
+}
+
+/// Puts a copy of the model in its own place.
+fn become_copy(model: &mut Model) -> Result<(), AllocError> {
+    let copy = model.copy()?;
+    drop(replace(model, copy));
+    Ok(())
 }
 
 /// Makes a call of a point, which changes nothing.
@@ -58,7 +77,9 @@ fn read(model: &Model, word: &str, words: &mut Words, got: &mut String) -> Resul
 fn edit(alloc: Global, model: &mut Model, words: &mut Words, got: &mut String) -> Result<()> {
     let edit = edit_of(alloc, words)?;
     let answer = apply(model, alloc, edit);
-    push_answer(got, &answer)
+    let pushed = push_answer(got, &answer);
+    drop(answer);
+    pushed
 }
 
 /// Writes why an edit is refused, if it is.

@@ -4,9 +4,10 @@ use crate::words::{Words, name_of};
 use crate::writing::push_edit_fault;
 use anyhow::{Context, Result, bail, ensure};
 use frac128::Frac;
-use lp_model::{Model, Sense};
-use model_edits::apply;
-use std::alloc::Global;
+use lp_model::{Edit, Model, Sense};
+use model_edits::{EditFault, apply};
+use std::alloc::{AllocError, Global};
+use std::mem::replace;
 
 /// A model without rows and columns, whose objectives are named `cost` and `cost2`.
 pub fn empty_model(alloc: Global, sense: Sense, constant: Frac, constant2: Frac) -> Result<Model> {
@@ -44,36 +45,56 @@ pub fn head_of(alloc: Global, line: &str) -> Result<Option<Model>> {
     Ok(Some(model))
 }
 
+/// Why an edit is refused, in words.
+fn fault_text(alloc: Global, fault: &EditFault) -> Result<String, AllocError> {
+    let mut text = String::new(alloc);
+    push_edit_fault(&mut text, fault)?;
+    Ok(text)
+}
+
+/// The edit that a line says.
+fn edit_in(alloc: Global, line: &str) -> Result<Edit> {
+    let mut words = Words::new(alloc, line)?;
+    edit_of(alloc, &mut words)
+}
+
 /// Makes the edit that a line says. A model that refuses it is told as a fault.
 pub fn apply_line(alloc: Global, model: &mut Model, line: &str) -> Result<()> {
-    let mut words = Words::new(alloc, line)?;
-    let edit = edit_of(alloc, &mut words)?;
+    let edit = edit_in(alloc, line)?;
     match apply(model, alloc, edit) {
         Ok(()) => Ok(()),
         Err(fault) => {
-            let mut text = String::new(alloc);
-            push_edit_fault(&mut text, &fault)?;
+            let text = fault_text(alloc, &fault);
+            drop(fault);
+            let text = text?;
             bail!("the model refuses it: {text}")
         }
     }
 }
 
-/// The model that a text says, line by line. Blank lines say nothing.
-pub fn model_of(alloc: Global, text: &str) -> Result<Model> {
-    let mut model = empty_model(alloc, Sense::Min, Frac::whole(0), Frac::whole(0))?;
+/// Makes a model what a text says, line by line. Blank lines say nothing.
+fn apply_text(alloc: Global, model: &mut Model, text: &str) -> Result<()> {
     for (at, line) in text.lines().enumerate() {
         let number = at.saturating_add(1);
         if at == 0 {
             if let Some(head) = head_of(alloc, line).context("line 1 of the model")? {
-                model = head;
+                drop(replace(model, head));
                 continue;
             }
         }
         if !line.is_empty() {
-            apply_line(alloc, &mut model, line).context(format_args!(
-                "line {number} of the model"
-            ))?;
+            apply_line(alloc, model, line).context(format_args!("line {number} of the model"))?;
         }
+    }
+    Ok(())
+}
+
+/// The model that a text says, line by line. Blank lines say nothing.
+pub fn model_of(alloc: Global, text: &str) -> Result<Model> {
+    let mut model = empty_model(alloc, Sense::Min, Frac::whole(0), Frac::whole(0))?;
+    if let Err(error) = apply_text(alloc, &mut model, text) {
+        drop(model);
+        return Err(error);
     }
     Ok(model)
 }

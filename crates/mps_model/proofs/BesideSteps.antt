@@ -6,8 +6,8 @@ use Rattle.std.proofs.lemmas.List.{length-map, get_or_default, map-append}
 use Rattle.std.proofs.lemmas.Slice.Eq.{bytes_eq-Decides}
 use Rattle.rational.specs.Rational.{ℚ, int}
 use Rattle.lp_model.specs.declared.types.RowId.{RowId}
-use Rattle.mps_sections.specs.Words.{among}
-use Rattle.mps_sections.specs.Numbers.{is_zero_number}
+use Rattle.mps_fields.specs.Words.{among}
+use Rattle.mps_fields.specs.Numbers.{is_zero_number}
 use Rattle.mps_sections.specs.Statements.{stated_row_names}
 use Rattle.mps_sections.specs.Limits.{AreNamesApart}
 use Rattle.mps_sections.specs.declared.statements.RowLine.{RowLine}

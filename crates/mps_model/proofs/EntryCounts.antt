@@ -5,12 +5,12 @@ use Rattle.std.proofs.lemmas.Bool.{or_cases, true≢false, false≢true, false_f
 use Rattle.std.proofs.lemmas.Slice.Eq.{bytes_eq-Decides}
 use Rattle.rational.specs.Rational.{int}
 use Rattle.lp_model.proofs.NameLemmas.{contains_first, contains_later}
-use Rattle.mps_sections.specs.Numbers.{is_zero_number}
+use Rattle.mps_fields.specs.Numbers.{is_zero_number}
 use Rattle.mps_sections.specs.Statements.{is_row_name, coefficients_in, stated_row_names}
 use Rattle.mps_sections.specs.Limits.{AreNamesApart}
 use Rattle.mps_sections.specs.declared.statements.RowLine.{RowLine}
 use Rattle.mps_sections.specs.declared.statements.RowNumber.{RowNumber}
-use Rattle.mps_sections.proofs.NumberFacts.{is_zero-decides}
+use Rattle.mps_fields.proofs.NumberFacts.{is_zero-decides}
 use Rattle.mps_sections.proofs.ListFacts.{bytes_eq-flips}
 use Rattle.mps_model.specs.Meaning.{row_number_beside, row_numbers_beside, row_entries_from}
 

@@ -12,7 +12,7 @@ use Rattle.std.proofs.lemmas.Slice.Eq.{bytes_eq-Decides}
 use Rattle.std.proofs.lemmas.Fmt.{decimal_is_IsNumeral}
 use Rattle.std.proofs.lemmas.Map.Made.{length-le_from_is_member}
 use Rattle.mps_sections.proofs.ListFacts.{bytes_eq-flips}
-use Rattle.mps_sections.specs.Words.{among}
+use Rattle.mps_fields.specs.Words.{among}
 use Rattle.mps_model.specs.Meaning.{candidate, free_from, free_name}
 
 step_of : (taken : List (List ℕ)) (base : List ℕ) (k n m : ℕ) → n ≡ suc m → among taken (candidate base k) ≡ true → free_from taken base k n ≡ free_from taken base (suc k) m

@@ -3,7 +3,7 @@
 use Rattle.std.proofs.Common.{◌≡◌, ◌≢◌, ℕ, zero, suc, ◌+◌, ◌<◌, ◌≤◌, Bool, true, false, ◌&&◌, ◌||◌, not, List, [], ◌∷◌, ◌++◌, map, length, get_or, refl, sym, ◌∙◌, ap, subst, arith, pos, length-append, inl, inr, Contains}
 use Rattle.std.specs.Prelude.{Option, None, Some, if◌then◌else◌, codes, bytes_eq, All, IsTrue, IsSome, is_some, sum_by}
 use Rattle.std.specs.List.{list_all}
-use Rattle.std.proofs.lemmas.Bool.{and_parts, or_left, or_parts, or_from, true≢false, false_from_ne_true}
+use Rattle.std.proofs.lemmas.Bool.{and_parts, or_left, or_right, or_parts, or_from, true≢false, false_from_ne_true}
 use Rattle.std.proofs.lemmas.List.{length-map, get_or_default}
 use Rattle.std.proofs.lemmas.List.Elements.{All-nil, All-cons}
 use Rattle.std.proofs.lemmas.List.Folds.{list_any-append}
@@ -11,23 +11,24 @@ use Rattle.std.proofs.lemmas.List.Sums.{sum_by-cons}
 use Rattle.std.proofs.lemmas.Slice.Eq.{bytes_eq-Decides}
 use Rattle.rational.specs.Rational.{ℚ, int, neg_ℚ}
 use Rattle.lp_model.specs.Lawful.{IsRange, AreEntries, IsLawfulColumn, IsLawful}
-use Rattle.lp_model.specs.declared.types.Sense.TheVariants.{Min}
 use Rattle.lp_model.specs.declared.types.RowId.{RowId}
 use Rattle.lp_model.specs.declared.types.Row.{Row}
 use Rattle.lp_model.specs.declared.types.Col.{Col}
-use Rattle.mps_sections.specs.Words.{among}
-use Rattle.mps_sections.specs.Numbers.{is_zero_number}
+use Rattle.mps_fields.specs.Words.{among}
+use Rattle.mps_fields.specs.Numbers.{is_zero_number}
 use Rattle.mps_sections.specs.Statements.{coefficients_in, stated_row_names}
 use Rattle.mps_sections.specs.Limits.{AreNamesApart, names_of_columns, coefficient_count, StatesWithinLimits}
 use Rattle.mps_sections.specs.declared.statements.Sections.{Sections}
 use Rattle.mps_sections.specs.declared.statements.RowLine.{RowLine}
 use Rattle.mps_sections.specs.declared.statements.RowNumber.{RowNumber}
 use Rattle.mps_sections.specs.declared.statements.ColumnLines.{ColumnLines}
-use Rattle.mps_sections.proofs.NumberFacts.{is_zero-decides}
+use Rattle.mps_fields.proofs.NumberFacts.{is_zero-decides}
 use Rattle.mps_sections.proofs.StatedLimits.{not_among, row_among}
-use Rattle.mps_model.specs.Meaning.{row_numbers_beside, row_entries_from, row_of, column_of, model_of, free_name, objective_or, objective_name, second_name, beside_objective}
+use Rattle.mps_model.specs.Meaning.{row_numbers_beside, row_entries_from, row_of, column_of, model_of, free_name, objective_or, second_or, objective_name, second_name, beside_objective, beside_second}
 use Rattle.mps_model.specs.Faults.{column_flaw}
+use Rattle.mps_sections.proofs.ListFacts.{bytes_eq-flips}
 use Rattle.mps_model.proofs.EntryCounts.{few_entries}
+use Rattle.mps_model.proofs.NamedItems.{first_alone}
 use Rattle.mps_model.proofs.FreeNames.{never_taken}
 use Rattle.mps_model.proofs.BoundedColumns.{is_bounded_column, flawless}
 
@@ -45,19 +46,45 @@ objective_new s keeps = by s.objectives refl
         let own : among s.objectives name ≡ true = ap (λ (names : List (List ℕ)). among names name) e ∙ or_left (bytes_eq name name) (among ignored name) ((bytes_eq-Decides name name).1 refl) in
         row_among s.rows name ∙ keeps.objectives_apart name own
 
-second_new : (s : Sections) → StatesWithinLimits s → among (stated_row_names s.rows) (second_name s) ≡ false
-second_new s keeps =
+second_missing : Sections → List ℕ
+second_missing s = free_name (stated_row_names s.rows ++ objective_name s ∷ []) (codes "OBJ2")
+
+-- a free name is neither a row's nor the objective's
+missing_new : (s : Sections) → StatesWithinLimits s → (among (stated_row_names s.rows) (second_missing s) ≡ false) × (bytes_eq (objective_name s) (second_missing s) ≡ false)
+unfolding second_missing
+missing_new s keeps =
     let taken = stated_row_names s.rows ++ objective_name s ∷ [] in
+    let name = second_missing s in
     let free = never_taken taken (codes "OBJ2") (let few = few_names s.rows keeps.few_rows in omega (arith, length-append (stated_row_names s.rows) (objective_name s ∷ []))) in
-    (or_parts (among (stated_row_names s.rows) (second_name s)) (among (objective_name s ∷ []) (second_name s)) (sym (list_any-append (λ (other : List ℕ). bytes_eq other (second_name s)) (stated_row_names s.rows) (objective_name s ∷ [])) ∙ free)).0
+    let parts = or_parts (among (stated_row_names s.rows) name) (among (objective_name s ∷ []) name) (sym (list_any-append (λ (other : List ℕ). bytes_eq other name) (stated_row_names s.rows) (objective_name s ∷ [])) ∙ free) in
+    (parts.0, (or_parts (bytes_eq (objective_name s) name) false parts.1).0)
+
+own_name : (name : List ℕ) (others : List (List ℕ)) → among (name ∷ others) name ≡ true
+own_name name others = or_left (bytes_eq name name) (among others name) ((bytes_eq-Decides name name).1 refl)
+
+second_new : (s : Sections) → StatesWithinLimits s → among (stated_row_names s.rows) (second_name s) ≡ false
+unfolding second_missing
+second_new s keeps = by s.objectives refl
+  where
+    by : (found : List (List ℕ)) → s.objectives ≡ found → among (stated_row_names s.rows) (second_or found (free_name (stated_row_names s.rows ++ objective_name s ∷ []) (codes "OBJ2"))) ≡ false
+    by [] e = (missing_new s keeps).0
+    by (first ∷ []) e = (missing_new s keeps).0
+    by (first ∷ name ∷ ignored) e =
+        let own : among s.objectives name ≡ true = ap (λ (names : List (List ℕ)). among names name) e ∙ or_right (bytes_eq first name) (among (name ∷ ignored) name) (own_name name ignored) in
+        row_among s.rows name ∙ keeps.objectives_apart name own
 
 -- the second objective's name is not the first one's
 second_apart : (s : Sections) → StatesWithinLimits s → bytes_eq (objective_name s) (second_name s) ≡ false
-second_apart s keeps =
-    let taken = stated_row_names s.rows ++ objective_name s ∷ [] in
-    let free = never_taken taken (codes "OBJ2") (let few = few_names s.rows keeps.few_rows in omega (arith, length-append (stated_row_names s.rows) (objective_name s ∷ []))) in
-    let last = (or_parts (among (stated_row_names s.rows) (second_name s)) (among (objective_name s ∷ []) (second_name s)) (sym (list_any-append (λ (other : List ℕ). bytes_eq other (second_name s)) (stated_row_names s.rows) (objective_name s ∷ [])) ∙ free)).1 in
-    (or_parts (bytes_eq (objective_name s) (second_name s)) false last).0
+unfolding second_missing
+second_apart s keeps = by s.objectives refl
+  where
+    by : (found : List (List ℕ)) → s.objectives ≡ found → bytes_eq (objective_name s) (second_or found (free_name (stated_row_names s.rows ++ objective_name s ∷ []) (codes "OBJ2"))) ≡ false
+    by [] e = (missing_new s keeps).1
+    by (first ∷ []) e = (missing_new s keeps).1
+    by (first ∷ name ∷ ignored) e =
+        let named : objective_name s ≡ first = ap (λ (names : List (List ℕ)). objective_or names (free_name (stated_row_names s.rows) (codes "OBJ"))) e in
+        let alone : among (name ∷ ignored) first ≡ false = first_alone first (name ∷ ignored) (subst AreNamesApart e keeps.objectives_differ) in
+        ap (λ (n : List ℕ). bytes_eq n name) named ∙ bytes_eq-flips first name ∙ (or_parts (bytes_eq name first) (among ignored first) alone).0
 
 apart_cons : (name : List ℕ) (names : List (List ℕ)) → ¬ Contains names name → AreNamesApart names → AreNamesApart (name ∷ names)
 apart_cons name names new apart zero zero d below within e = absurd (omega arith)
@@ -65,9 +92,9 @@ apart_cons name names new apart zero (suc j) d below within e = let w : j < leng
 apart_cons name names new apart (suc i) zero d below within e = absurd (omega arith)
 apart_cons name names new apart (suc i) (suc j) d below within e = apart i j d (omega (arith, below)) (omega (arith, within)) e
 
-rows_kept : (sides : List RowNumber) (found : List RowLine) → map (λ r. r.name) (map (row_of sides) found) ≡ stated_row_names found
-rows_kept sides [] = refl
-rows_kept sides (r ∷ more) = ap (λ names. r.name ∷ names) (rows_kept sides more)
+rows_kept : (s : Sections) (found : List RowLine) → map (λ r. r.name) (map (row_of s) found) ≡ stated_row_names found
+rows_kept s [] = refl
+rows_kept s (r ∷ more) = ap (λ names. r.name ∷ names) (rows_kept s more)
 
 columns_kept : (s : Sections) (intupper : Option ℕ) (found : List ColumnLines) → map (λ c. c.name) (map (column_of s intupper) found) ≡ names_of_columns found
 columns_kept s intupper [] = refl
@@ -106,7 +133,7 @@ entries_rise (x ∷ numbers) from k to below within = by (is_zero_number x) refl
     by true e rest later = rest
     by false e rest later = (below, omega (arith, within), number_not_zero x e, later)
 
-length_beside : (sided : List RowLine) (found : List RowNumber) → length (row_numbers_beside (stated_row_names sided) found) ≡ length sided
+pub length_beside : (sided : List RowLine) (found : List RowNumber) → length (row_numbers_beside (stated_row_names sided) found) ≡ length sided
 length_beside [] found = refl
 length_beside (r ∷ sided) found = ap suc (length_beside sided found)
 
@@ -131,16 +158,16 @@ entries_within s intupper (c ∷ found) apart =
     )
 
 -- the model is lawful, where its rows have ranges
-pub meant-lawful : (s : Sections) (intupper : Option ℕ) → StatesWithinLimits s → column_flaw intupper s.bounds s.columns ≡ None → All (λ (r : Row). IsRange r.lo r.hi) (map (row_of s.sides) s.rows) → IsLawful (model_of s intupper)
+pub meant-lawful : (s : Sections) (intupper : Option ℕ) → StatesWithinLimits s → column_flaw intupper s.bounds s.columns ≡ None → All (λ (r : Row). IsRange r.lo r.hi) (map (row_of s) s.rows) → IsLawful (model_of s intupper)
 unfolding model_of
 meant-lawful s intupper keeps flaw ranges =
-    let rows = length-map s.rows (row_of s.sides) in
+    let rows = length-map s.rows (row_of s) in
     let columns = length-map s.columns (column_of s intupper) in
     record {
       constants = refl;
       ranges = ranges;
-      columns = lawful_columns s intupper (length (map (row_of s.sides) s.rows)) s.columns (sym rows) (flawless s intupper s.columns flaw);
-      rows_distinct = subst (λ (names : List (List ℕ)). AreNamesApart (objective_name s ∷ second_name s ∷ names)) (sym (rows_kept s.sides s.rows)) (row_names_apart s keeps);
+      columns = lawful_columns s intupper (length (map (row_of s) s.rows)) s.columns (sym rows) (flawless s intupper s.columns flaw);
+      rows_distinct = subst (λ (names : List (List ℕ)). AreNamesApart (objective_name s ∷ second_name s ∷ names)) (sym (rows_kept s s.rows)) (row_names_apart s keeps);
       columns_distinct = subst AreNamesApart (sym (columns_kept s intupper s.columns)) keeps.columns_apart;
       limits = record {
         few_rows = let few = keeps.few_rows in omega (arith, rows);
@@ -149,7 +176,7 @@ meant-lawful s intupper keeps flaw ranges =
       };
     }
 
-pub parts_are : (s : Sections) (intupper : Option ℕ) (obj obj2 : List ℕ) (constant none : ℚ) (rows : List Row) (cols : List Col) → obj ≡ objective_name s → obj2 ≡ second_name s → constant ≡ neg_ℚ (beside_objective s.objectives s.sides) → none ≡ int (pos 0)
-    → rows ≡ map (row_of s.sides) s.rows → cols ≡ map (column_of s intupper) s.columns → record { sense = Min; obj = obj; obj2 = obj2; consts = constant ∷ none ∷ []; rows = rows; cols = cols; wide = false } ≡ model_of s intupper
+pub parts_are : (s : Sections) (intupper : Option ℕ) (obj obj2 : List ℕ) (constant second : ℚ) (rows : List Row) (cols : List Col) → obj ≡ objective_name s → obj2 ≡ second_name s → constant ≡ neg_ℚ (beside_objective s.objectives s.sides) → second ≡ neg_ℚ (beside_second s.objectives s.sides)
+    → rows ≡ map (row_of s) s.rows → cols ≡ map (column_of s intupper) s.columns → record { sense = s.sense; obj = obj; obj2 = obj2; consts = constant ∷ second ∷ []; rows = rows; cols = cols; wide = false } ≡ model_of s intupper
 unfolding model_of
-parts_are s intupper obj obj2 constant none rows cols a b c d e f = cc
+parts_are s intupper obj obj2 constant second rows cols a b c d e f = cc

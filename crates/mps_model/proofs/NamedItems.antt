@@ -6,7 +6,7 @@ use Rattle.std.proofs.lemmas.Bool.{or_parts, or_cases, false_from_ne_true, false
 use Rattle.std.proofs.lemmas.List.{get_or_default}
 use Rattle.std.proofs.lemmas.Slice.Eq.{bytes_eq-Decides}
 use Rattle.lp_model.proofs.NameLemmas.{contains_first, contains_later}
-use Rattle.mps_sections.specs.Words.{among}
+use Rattle.mps_fields.specs.Words.{among}
 use Rattle.mps_sections.specs.Limits.{AreNamesApart}
 use Rattle.mps_model.proofs.EntryCounts.{none_later, apart_later}
 

@@ -13,7 +13,7 @@ use Rattle.std.proofs.lemmas.List.{get_or_append_left}
 use Rattle.std.proofs.lemmas.List.Folds.{list_any-append}
 use Rattle.std.proofs.lemmas.Slice.Eq.{bytes_eq-Decides}
 use Rattle.std.proofs.Math.Seq.{get_or-append_seam}
-use Rattle.mps_sections.specs.Words.{among}
+use Rattle.mps_fields.specs.Words.{among}
 use Rattle.mps_model.specs.Places.{IsFoundAt, is_found}
 
 -- tests that agree find the same

@@ -12,7 +12,7 @@ use Rattle.mps_model.specs.PlainNames.{HasPlainRows}
 
 plain_model : (entries : List Entry) (intupper : Option ℕ) → ArePlain (stated entries).rows → HasPlainRows (model_of (stated_sections entries) intupper)
 unfolding model_of
-plain_model entries intupper h = All-map (λ r. IsWord r.name) (row_of (stated entries).sides) (stated entries).rows h
+plain_model entries intupper h = All-map (λ r. IsWord r.name) (row_of (stated_sections entries)) (stated entries).rows h
 
 -- The rows of a model that a text means have plain names.
 pub meant-plain_rows : (text : List ℕ) (intupper : Option ℕ) (M : Program) → MeantModel text intupper M → HasPlainRows M

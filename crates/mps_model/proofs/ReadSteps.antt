@@ -11,7 +11,7 @@ use Rattle.mps_sections.specs.ReadingOf.{AreSectionsOf, IsLineFault, OnLine, NoE
 use Rattle.mps_sections.specs.declared.statements.Sections.{Sections}
 use Rattle.mps_model.specs.Meaning.{span_of, model_of}
 use Rattle.mps_model.specs.declared.spans.Span.{Span}
-use Rattle.mps_model.specs.Faults.{column_flaw, flaw_of_columns, FaultyModel, OnLine as FaultyOnLine, NoEnd as FaultyNoEnd, OnColumn}
+use Rattle.mps_model.specs.Faults.{column_flaw, sections_flaw, flaw_of_whole, FaultyModel, OnLine as FaultyOnLine, NoEnd as FaultyNoEnd, InWhole}
 use Rattle.mps_model.specs.Answers.{IsModelAnswer, IsSectionsAnswer}
 use Rattle.mps_model.specs.declared.reader.MpsFault.{MpsFault}
 use Rattle.mps_model.specs.declared.reader.MpsFault.TheVariants.{Bad, Memory}
@@ -20,14 +20,14 @@ pub of_line : (text : List ℕ) (intupper : Option ℕ) (flaw : Flaw) → IsLine
 of_line text intupper flaw (OnLine h) = FaultyOnLine h
 of_line text intupper flaw (NoEnd h is) = FaultyNoEnd h is
 
-flaw_stated : (text : List ℕ) (intupper : Option ℕ) (s : Sections) (found : Option Flaw) (w : AreSectionsOf text s) → column_flaw intupper s.bounds s.columns ≡ found → flaw_of_columns w.entries intupper ≡ found
-unfolding flaw_of_columns
-flaw_stated text intupper s found w f = ap (λ (t : Sections). column_flaw intupper t.bounds t.columns) (sym w.is) ∙ f
+flaw_stated : (text : List ℕ) (intupper : Option ℕ) (s : Sections) (found : Option Flaw) (w : AreSectionsOf text s) → sections_flaw s intupper ≡ found → flaw_of_whole w.entries intupper ≡ found
+unfolding flaw_of_whole
+flaw_stated text intupper s found w f = ap (λ (t : Sections). sections_flaw t intupper) (sym w.is) ∙ f
 
 -- what the lists of a whole text answer, the text answers
 pub of_sections : (text : List ℕ) (intupper : Option ℕ) (s : Sections) (answer : Result Program MpsFault) → AreSectionsOf text s → IsSectionsAnswer s intupper answer → IsModelAnswer text intupper answer
-of_sections text intupper s (Ok m) w h = record { entries = w.entries; whole = w.whole; columns = flaw_stated text intupper s None w h.0; is = h.1 ∙ ap (λ (t : Sections). model_of t intupper) w.is }
-of_sections text intupper s (Err (Bad line code)) w h = OnColumn w.entries w.whole (flaw_stated text intupper s (Some (record { line = line; code = code })) w h)
+of_sections text intupper s (Ok m) w h = record { entries = w.entries; whole = w.whole; flawless = flaw_stated text intupper s None w h.0; is = h.1 ∙ ap (λ (t : Sections). model_of t intupper) w.is }
+of_sections text intupper s (Err (Bad line code)) w h = InWhole w.entries w.whole (flaw_stated text intupper s (Some (record { line = line; code = code })) w h)
 of_sections text intupper s (Err Memory) w h = tt
 
 -- the first column's fault, as it was looked for

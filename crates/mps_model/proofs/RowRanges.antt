@@ -11,8 +11,8 @@ use Rattle.rational.proofs.Integers.{num-neg_ℚ, den-neg_ℚ}
 use Rattle.rational.proofs.RationalRing.{ring, reads_ℚ, +ℚ-neg_ℚ}
 use Rattle.frac128.specs.Range.{largest, IsNarrow, Fits, SumFits, left_factor, right_factor}
 use Rattle.lp_model.specs.Lawful.{AreNear, IsRange}
-use Rattle.mps_sections.specs.declared.words.RowKind.{RowKind}
-use Rattle.mps_sections.specs.declared.words.RowKind.TheVariants.{Free, AtMost, AtLeast, Equal}
+use Rattle.mps_fields.specs.declared.words.RowKind.{RowKind}
+use Rattle.mps_fields.specs.declared.words.RowKind.TheVariants.{Free, AtMost, AtLeast, Equal}
 use Rattle.mps_model.specs.Meaning.{low_side_by_kind, high_side_by_kind}
 
 one_factor : (z : ℤ) (n : ℕ) → n ≡ 1 → z *ℤ pos n ≡ z

@@ -7,7 +7,7 @@ use Rattle.std.proofs.lemmas.Grind.{fold-append}
 use Rattle.std.proofs.lemmas.List.Elements.{filter-append}
 use Rattle.std.proofs.lemmas.Slice.Eq.{bytes_eq-Decides}
 use Rattle.mps_text.specs.Text.{Flaw}
-use Rattle.mps_sections.specs.Words.{among}
+use Rattle.mps_fields.specs.Words.{among}
 use Rattle.mps_sections.specs.Limits.{AreNamesApart, names_of_columns}
 use Rattle.mps_sections.specs.declared.statements.BoundLine.{BoundLine}
 use Rattle.mps_sections.specs.declared.statements.ColumnLines.{ColumnLines}

@@ -3,7 +3,7 @@ use Rattle.std.specs.Prelude.{◌≡◌, ℕ, List, Option, None, Some, Result, 
 use Rattle.lp_model.specs.Program.{Program}
 use Rattle.mps_sections.specs.declared.statements.Sections.{Sections}
 use Rattle.mps_model.specs.Meaning.{model_of}
-use Rattle.mps_model.specs.Faults.{FaultyModel, MeantModel, column_flaw}
+use Rattle.mps_model.specs.Faults.{FaultyModel, MeantModel, sections_flaw}
 use Rattle.mps_model.specs.declared.reader.MpsFault.{MpsFault}
 use Rattle.mps_model.specs.declared.reader.MpsFault.TheVariants.{Bad, Memory}
 
@@ -13,8 +13,8 @@ IsModelAnswer text intupper (Ok m) = MeantModel text intupper m
 IsModelAnswer text intupper (Err (Bad line code)) = FaultyModel text intupper (record { line = line; code = code })
 IsModelAnswer text intupper (Err Memory) = Unit {0}
 
--- the model that some lists mean, the fault of a column, or want of memory
+-- the model that some lists mean, their fault, or want of memory
 abbrev pub IsSectionsAnswer : Sections → Option ℕ → Result Program MpsFault → Type 0
-IsSectionsAnswer s intupper (Ok m) = (column_flaw intupper s.bounds s.columns ≡ None) × (m ≡ model_of s intupper)
-IsSectionsAnswer s intupper (Err (Bad line code)) = column_flaw intupper s.bounds s.columns ≡ Some (record { line = line; code = code })
+IsSectionsAnswer s intupper (Ok m) = (sections_flaw s intupper ≡ None) × (m ≡ model_of s intupper)
+IsSectionsAnswer s intupper (Err (Bad line code)) = sections_flaw s intupper ≡ Some (record { line = line; code = code })
 IsSectionsAnswer s intupper (Err Memory) = Unit {0}

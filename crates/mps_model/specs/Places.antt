@@ -1,7 +1,7 @@
 -- The place of a name among names.
 use Rattle.std.specs.Prelude.{◌≡◌, ℕ, ◌<◌, Bool, true, false, not, ◌&&◌, nat_lt, List, [], length, get_or, bytes_eq, Option, None, Some}
 use Rattle.std.specs.Map.{lookup}
-use Rattle.mps_sections.specs.Words.{among}
+use Rattle.mps_fields.specs.Words.{among}
 use Rattle.mps_model.specs.declared.name_index.NameIndex.{NameIndex}
 
 -- what the map has at the name

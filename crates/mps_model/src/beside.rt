@@ -1,11 +1,12 @@
 // Numbers beside names: one for each name, and the entries of those that are not 0.
 ghost use Rattle.std.specs.Prelude.{◌≡◌, ◌∷◌, ◌++◌, ◌<◌, ◌^◌, [], List as Items, length, IfOk, OnOk};
-ghost use Rattle.mps_model.specs.Meaning.{row_number_beside, row_numbers_beside, coefficient_at, row_entries_from, beside_objective};
+ghost use Rattle.mps_model.specs.Meaning.{row_number_beside, row_numbers_beside, coefficient_at, row_entries_from, beside_objective, beside_second};
 
 use crate::names::Names;
 use frac128::Frac;
 use lp_model::{List, Name, RowId};
-use mps_sections::{RowNumber, is_zero};
+use mps_fields::is_zero;
+use mps_sections::RowNumber;
 use std::alloc::{AllocError, Global};
 
 /// The first number beside the name, 0 where there is none.
@@ -27,6 +28,16 @@ pub(crate) fn beside_objective(objectives: &[Name], numbers: &[RowNumber]) -> Fr
     match objectives {
         [name, ..] => number_beside(numbers, name.as_slice()),
         [] => Frac::whole(0),
+    }
+}
+
+/// The second objective's number, 0 where there is no second objective.
+pub(crate) fn beside_second(objectives: &[Name], numbers: &[RowNumber]) -> Frac
+    ensures { result ≡ beside_second objectives.now numbers.now }
+{
+    match objectives {
+        [_, name, ..] => number_beside(numbers, name.as_slice()),
+        _ => Frac::whole(0),
     }
 }
 

@@ -1,7 +1,7 @@
 // Names of objectives that a text lacks: a word, or the word with _1, _2, .. behind, whichever is free first.
 ghost use Rattle.std.specs.Prelude.{◌≡◌, codes, IfOk};
-ghost use Rattle.mps_sections.specs.Words.{among};
-ghost use Rattle.mps_model.specs.Meaning.{candidate, free_name, objective_or, objective_name, second_name};
+ghost use Rattle.mps_fields.specs.Words.{among};
+ghost use Rattle.mps_model.specs.Meaning.{candidate, free_name, objective_or, second_or, objective_name, second_name};
 
 use crate::names::names_of_rows;
 use lp_model::{List, Name};
@@ -51,6 +51,16 @@ fn objective_name(alloc: Global, objectives: &[Name], rows: &[Name]) -> Result<N
     }
 }
 
+/// The second objective's name: that of the second row of type N, or a free one.
+fn second_name(alloc: Global, objectives: &[Name], taken: &[Name]) -> Result<Name, AllocError>
+    ensures { IfOk result (λ name. name ≡ second_or objectives.now (free_name taken.now (codes "OBJ2"))) }
+{
+    match objectives {
+        [_, name, ..] => copied(alloc, name.as_slice()),
+        _ => free_name(alloc, taken, b"OBJ2"),
+    }
+}
+
 /// The names of both objectives.
 pub(crate) fn objective_names(
     alloc: Global,
@@ -63,6 +73,6 @@ pub(crate) fn objective_names(
     let first = objective_name(alloc, sections.objectives.as_slice(), taken.as_slice())?;
     let copy = copied(alloc, first.as_slice())?;
     taken.push(copy)?;
-    let second = free_name(alloc, taken.as_slice(), b"OBJ2")?;
+    let second = second_name(alloc, sections.objectives.as_slice(), taken.as_slice())?;
     Ok((first, second))
 }

@@ -1,6 +1,6 @@
 // A column's kind and bounds, which its bound lines state one after another.
 ghost use Rattle.std.specs.Prelude.{◌≡◌, ◌++◌, ◌∷◌, [], List, length, map, IfOk};
-ghost use Rattle.mps_model.specs.Spans.{with_lower, with_upper, as_integer, bounded};
+ghost use Rattle.mps_model.specs.Spans.{with_lower, with_upper, without_lower, without_upper, as_integer, bounded};
 ghost use Rattle.mps_model.specs.Meaning.{span_of, upper_or};
 ghost use Rattle.mps_model.specs.Faults.{column_code, column_flaw};
 ghost use Rattle.mps_sections.specs.Shown.{flaw_shown};
@@ -8,13 +8,14 @@ ghost use Rattle.mps_sections.specs.Limits.{AreNamesApart, names_of_columns};
 
 use crate::names::{Names, names_of_columns};
 use frac128::Frac;
-use mps_sections::{BoundKind, BoundLine, ColumnLines, Limit, Sections};
+use mps_fields::{BoundKind, Limit};
+use mps_sections::{BoundLine, ColumnLines, Sections};
 use mps_text::LineFault;
 use std::alloc::{AllocError, Global};
 
 /// A column's kind and bounds on the way through its bound lines.
 #[derive(Clone, Copy, Debug, Drop)]
-pub(crate) struct Span {
+pub struct Span {
     pub integer: bool,
     pub lower: Option<Frac>,
     pub upper: Option<Frac>,
@@ -51,6 +52,28 @@ impl Span {
         }
     }
 
+    fn without_lower(&self) -> Span
+        ensures { result ≡ without_lower self.now }
+    {
+        Span {
+            integer: self.integer,
+            lower: None,
+            upper: self.upper,
+            named: true,
+        }
+    }
+
+    fn without_upper(&self) -> Span
+        ensures { result ≡ without_upper self.now }
+    {
+        Span {
+            integer: self.integer,
+            lower: self.lower,
+            upper: None,
+            named: self.named,
+        }
+    }
+
     fn as_integer(&self) -> Span
         ensures { result ≡ as_integer self.now }
     {
@@ -75,6 +98,9 @@ impl Span {
                 upper: limit.finite(),
                 named: true,
             },
+            BoundKind::Unbounded => self.without_lower().without_upper(),
+            BoundKind::NoLower => self.without_lower(),
+            BoundKind::NoUpper => self.without_upper(),
             BoundKind::Binary => Span {
                 integer: true,
                 lower: Some(Frac::whole(0)),

@@ -9,14 +9,15 @@ use Rattle.std.proofs.lemmas.List.Elements.{filter-append}
 use Rattle.std.proofs.lemmas.List.Folds.{list_any-append}
 use Rattle.std.proofs.lemmas.List.Sums.{sum_by-cons, sum_by_push}
 use Rattle.std.proofs.lemmas.Slice.Eq.{bytes_eq-Decides}
-use Rattle.mps_sections.specs.Words.{among}
-use Rattle.mps_sections.specs.Numbers.{is_zero_number}
-use Rattle.mps_sections.specs.Statements.{Pair, read_pair, is_row_name, as_row, as_objective, is_coefficient, coefficients_in}
+use Rattle.mps_fields.specs.Words.{among}
+use Rattle.mps_fields.specs.Numbers.{is_zero_number}
+use Rattle.mps_sections.specs.Statements.{read_pair, is_row_name, as_row, as_objective, is_coefficient, coefficients_in}
+use Rattle.mps_fields.specs.Fields.{Pair}
 use Rattle.mps_sections.specs.Faults.{is_last}
 use Rattle.mps_sections.specs.Shown.{with_more}
 use Rattle.mps_sections.specs.Limits.{coefficient_count}
-use Rattle.mps_sections.specs.declared.words.RowKind.{RowKind}
-use Rattle.mps_sections.specs.declared.words.RowKind.TheVariants.{Free, AtMost, AtLeast, Equal}
+use Rattle.mps_fields.specs.declared.words.RowKind.{RowKind}
+use Rattle.mps_fields.specs.declared.words.RowKind.TheVariants.{Free, AtMost, AtLeast, Equal}
 use Rattle.mps_sections.specs.declared.statements.RowLine.{RowLine}
 use Rattle.mps_sections.specs.declared.statements.RowNumber.{RowNumber}
 use Rattle.mps_sections.specs.declared.statements.ColumnLines.{ColumnLines}

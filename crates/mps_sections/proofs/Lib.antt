@@ -1,6 +1,5 @@
 pub mod Reached
 pub mod ListFacts
-pub mod NumberFacts
 pub mod TestFacts
 pub mod PairCounts
 pub mod StatedSteps

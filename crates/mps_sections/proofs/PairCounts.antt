@@ -2,9 +2,9 @@
 use Rattle.std.proofs.Common.{◌≤◌, List, map, length, arith}
 use Rattle.std.proofs.lemmas.List.Sums.{length-filter, count_by-le-length}
 use Rattle.mps_sections.specs.Statements.{read_pair, is_coefficient, coefficients_in}
-use Rattle.mps_sections.specs.Shown.{pairs_shown}
-use Rattle.mps_sections.specs.declared.pair.Pairs.{Pairs}
-use Rattle.mps_sections.specs.declared.pair.Pairs.TheVariants.{Nothing, One, Two}
+use Rattle.mps_fields.specs.Fields.{pairs_shown}
+use Rattle.mps_fields.specs.declared.pair.Pairs.{Pairs}
+use Rattle.mps_fields.specs.declared.pair.Pairs.TheVariants.{Nothing, One, Two}
 use Rattle.mps_sections.specs.declared.statements.RowLine.{RowLine}
 use Rattle.mps_sections.specs.declared.statements.RowNumber.{RowNumber}
 

@@ -6,10 +6,10 @@ use Rattle.text_lines.specs.Lines.{Line, HasNoNewline, is_nothing, text_of, line
 use Rattle.text_lines.specs.Words.{words_of, IsWord}
 use Rattle.text_lines.proofs.CleanLemmas.{words-are, lines-clean, text-clean}
 use Rattle.mps_text.specs.Text.{Entry, Item, has_strange, too_long, is_comment_line, is_skipped, is_header, items_of_line, items_from, records_of}
-use Rattle.mps_sections.specs.Words.{word, among}
+use Rattle.mps_fields.specs.Words.{word, among}
 use Rattle.mps_sections.specs.Statements.{gathered_behind, FirstLine, first_on, first_lines, stated_column_names, is_marked, kind_of, column_at, columns}
-use Rattle.mps_sections.specs.declared.words.LineKind.{LineKind}
-use Rattle.mps_sections.specs.declared.words.LineKind.TheVariants.{Header, Row, Marker, Column, RightSide, Bound, Stray}
+use Rattle.mps_fields.specs.declared.words.LineKind.{LineKind}
+use Rattle.mps_fields.specs.declared.words.LineKind.TheVariants.{Header, SenseLine, Row, Marker, Column, RightSide, Range, Bound, Stray}
 use Rattle.mps_sections.specs.Faults.{IsWholeText}
 
 -- ---- entries
@@ -84,6 +84,7 @@ gathered_all P part each before (e ∷ more) h =
 
 plain_first : (kind : LineKind) (e : Entry) (seen marked : Bool) → IsPlainEntry e → All (λ (f : FirstLine). IsWord f.name) (first_on kind e seen marked)
 plain_first Header e seen marked p = All-nil (λ (f : FirstLine). IsWord f.name)
+plain_first SenseLine e seen marked p = All-nil (λ (f : FirstLine). IsWord f.name)
 plain_first Row e seen marked p = All-nil (λ (f : FirstLine). IsWord f.name)
 plain_first Marker e seen marked p = All-nil (λ (f : FirstLine). IsWord f.name)
 plain_first Column e true marked p = All-nil (λ (f : FirstLine). IsWord f.name)
@@ -91,6 +92,7 @@ plain_first Column e false marked p =
     All-cons (λ (f : FirstLine). IsWord f.name) (record { name = word 0 e; line = e.line; marked = marked }) [] (All-get_or IsWord e.words 0 [] p.some p.all)
     (All-nil (λ (f : FirstLine). IsWord f.name))
 plain_first RightSide e seen marked p = All-nil (λ (f : FirstLine). IsWord f.name)
+plain_first Range e seen marked p = All-nil (λ (f : FirstLine). IsWord f.name)
 plain_first Bound e seen marked p = All-nil (λ (f : FirstLine). IsWord f.name)
 plain_first Stray e seen marked p = All-nil (λ (f : FirstLine). IsWord f.name)
 

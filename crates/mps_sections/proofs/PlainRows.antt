@@ -5,14 +5,15 @@ use Rattle.std.specs.List.{All}
 use Rattle.std.proofs.lemmas.List.Elements.{All-nil, All-cons, All-append, All-head, All-tail, All-get_or}
 use Rattle.text_lines.specs.Words.{IsWord}
 use Rattle.mps_text.specs.Text.{Entry, records_of}
-use Rattle.mps_sections.specs.Words.{word, row_kind, line_kind}
+use Rattle.mps_fields.specs.Words.{word, row_kind, line_kind}
 use Rattle.mps_sections.specs.Statements.{StatedModel, stated, gathered_behind, as_row}
-use Rattle.mps_sections.specs.Faults.{least, tests_of, row_tests, has_count, code_at, Clean, IsWholeText}
+use Rattle.mps_sections.specs.Faults.{least, tests_of, row_tests, code_at, Clean, IsWholeText}
+use Rattle.mps_fields.specs.Fields.{has_count}
 use Rattle.mps_sections.specs.Shown.{after_kind, after}
-use Rattle.mps_sections.specs.declared.words.LineKind.{LineKind}
-use Rattle.mps_sections.specs.declared.words.LineKind.TheVariants.{Header, Row, Marker, Column, RightSide, Bound, Stray}
-use Rattle.mps_sections.specs.declared.words.RowKind.{RowKind}
-use Rattle.mps_sections.specs.declared.words.RowKind.TheVariants.{Free, AtMost, AtLeast, Equal}
+use Rattle.mps_fields.specs.declared.words.LineKind.{LineKind}
+use Rattle.mps_fields.specs.declared.words.LineKind.TheVariants.{Header, SenseLine, Row, Marker, Column, RightSide, Range, Bound, Stray}
+use Rattle.mps_fields.specs.declared.words.RowKind.{RowKind}
+use Rattle.mps_fields.specs.declared.words.RowKind.TheVariants.{Free, AtMost, AtLeast, Equal}
 use Rattle.mps_sections.specs.declared.statements.RowLine.{RowLine}
 use Rattle.mps_sections.proofs.TestFacts.{none_holds, code_of_kind}
 use Rattle.mps_sections.proofs.StatedSteps.{nothing_more, stated_more}
@@ -44,10 +45,12 @@ second e p h = All-get_or IsWord e.words 1 [] (two (length e.words) h) p.all
 
 kept_by_kind : (kind : LineKind) (s : StatedModel) (e : Entry) → IsPlainEntry e → least (tests_of kind s e) ≡ None → ArePlain s.rows → ArePlain (after_kind kind s e).rows
 kept_by_kind Header s e p none h = h
+kept_by_kind SenseLine s e p none h = h
 kept_by_kind Row s e p none h = with_row (row_kind (word 0 e)) (word 1 e) s.rows (second e p (none_holds (row_tests s e) none).0) h
 kept_by_kind Marker s e p none h = h
 kept_by_kind Column s e p none h = h
 kept_by_kind RightSide s e p none h = h
+kept_by_kind Range s e p none h = h
 kept_by_kind Bound s e p none h = h
 kept_by_kind Stray s e p none h = h
 

@@ -2,7 +2,8 @@
 use Rattle.std.proofs.Common.{◌≡◌, ℕ, Bool, true, false, List, [], ◌∷◌, ◌++◌, map, refl, sym, ◌∙◌, ap, subst, append_assoc}
 use Rattle.std.specs.Prelude.{Option, None, Some, Ok, Err}
 use Rattle.mps_text.specs.Text.{Entry, Flaw, Item}
-use Rattle.mps_sections.specs.Faults.{code_at, is_end, Clean, IsFlawed, HasFault, IsWholeText, IsCut, End, Flawed, Whole, Cut, past, reached}
+use Rattle.mps_sections.specs.Faults.{code_at, Clean, IsFlawed, HasFault, IsWholeText, IsCut, End, Flawed, Whole, Cut, past, reached}
+use Rattle.mps_fields.specs.Fields.{is_end}
 
 nil_right : (es : List Entry) → es ++ [] ≡ es
 nil_right [] = refl

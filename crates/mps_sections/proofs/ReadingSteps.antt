@@ -3,7 +3,8 @@ use Rattle.std.proofs.Common.{◌≡◌, ℕ, Bool, true, false, List, [], ◌�
 use Rattle.std.specs.Prelude.{Option, None, Some, Ok, Err}
 use Rattle.mps_text.specs.Text.{Entry, Flaw, Item, records_of}
 use Rattle.mps_sections.specs.Statements.{StatedModel, stated, sections_in}
-use Rattle.mps_sections.specs.Faults.{code_in, code_at, is_end, HasFault, IsCut, reached, End, past}
+use Rattle.mps_sections.specs.Faults.{code_in, code_at, HasFault, IsCut, reached, End, past}
+use Rattle.mps_fields.specs.Fields.{is_end}
 use Rattle.mps_sections.specs.Shown.{after}
 use Rattle.mps_sections.specs.ReadingOf.{IsWholeStated, AreSectionsOf, OnLine, IsStopAt, IsTablesReading}
 use Rattle.mps_sections.specs.declared.statements.Sections.{Sections}

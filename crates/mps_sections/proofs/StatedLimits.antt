@@ -9,14 +9,15 @@ use Rattle.std.proofs.lemmas.List.Quantifiers.{all_pairs_push}
 use Rattle.std.proofs.lemmas.Slice.Eq.{bytes_eq-Decides}
 use Rattle.mps_text.specs.Text.{Entry, Item}
 use Rattle.lp_model.proofs.NameLemmas.{contains_cases}
-use Rattle.mps_sections.specs.Words.{among, word, row_kind, line_kind}
-use Rattle.mps_sections.specs.Statements.{StatedModel, stated, sections_in, stated_sections, gathered_behind, is_row_name, is_column, as_row, as_objective, read_pair, column_pairs, stated_row_names}
+use Rattle.mps_fields.specs.Words.{among, word, row_kind, line_kind}
+use Rattle.mps_sections.specs.Statements.{StatedModel, stated, sections_in, stated_sections, gathered_behind, is_row_name, is_column, as_row, as_objective, read_pair, stated_row_names}
+use Rattle.mps_fields.specs.Fields.{column_pairs}
 use Rattle.mps_sections.specs.Faults.{least, tests_of, row_tests, column_tests, has_sides, is_last, code_at, Clean, IsWholeText}
 use Rattle.mps_sections.specs.Shown.{with_more, after_kind, after}
-use Rattle.mps_sections.specs.declared.words.LineKind.{LineKind}
-use Rattle.mps_sections.specs.declared.words.LineKind.TheVariants.{Header, Row, Marker, Column, RightSide, Bound, Stray}
-use Rattle.mps_sections.specs.declared.words.RowKind.{RowKind}
-use Rattle.mps_sections.specs.declared.words.RowKind.TheVariants.{Free, AtMost, AtLeast, Equal}
+use Rattle.mps_fields.specs.declared.words.LineKind.{LineKind}
+use Rattle.mps_fields.specs.declared.words.LineKind.TheVariants.{Header, SenseLine, Row, Marker, Column, RightSide, Range, Bound, Stray}
+use Rattle.mps_fields.specs.declared.words.RowKind.{RowKind}
+use Rattle.mps_fields.specs.declared.words.RowKind.TheVariants.{Free, AtMost, AtLeast, Equal}
 use Rattle.mps_sections.specs.declared.statements.RowLine.{RowLine}
 use Rattle.mps_sections.specs.declared.statements.RowNumber.{RowNumber}
 use Rattle.mps_sections.specs.declared.statements.ColumnLines.{ColumnLines}
@@ -63,6 +64,7 @@ record KeepsTests (s : StatedModel) : Type 0 where
   few_numbers : s.count ≤ 50000
   rows_apart : AreNamesApart (stated_row_names s.rows)
   columns_apart : AreNamesApart (names_of_columns s.columns)
+  objectives_differ : AreNamesApart s.objectives
   objectives_apart : IsNoRow s.objectives s.rows
   numbers : AreCounted s.rows s.objectives s.columns s.count
 
@@ -71,22 +73,25 @@ record KeepsTests (s : StatedModel) : Type 0 where
 record KeepsRows (objectives : List (List ℕ)) (sided : List RowLine) : Type 0 where
   few : length sided ≤ 500
   apart : AreNamesApart (stated_row_names sided)
+  objectives_differ : AreNamesApart objectives
   objectives_apart : IsNoRow objectives sided
 
 with_row : (objectives : List (List ℕ)) (sided : List RowLine) (r : RowLine) → among objectives r.name ≡ false → is_row_name sided r.name ≡ false → length sided < 500 → KeepsRows objectives sided → KeepsRows (objectives ++ []) (sided ++ r ∷ [])
 with_row objectives sided r free new room keeps = record {
   few = omega (arith, length-append sided (r ∷ []));
   apart = subst AreNamesApart (sym (row_names-more sided r)) (apart_push (stated_row_names sided) r.name keeps.apart (row_among sided r.name ∙ new));
+  objectives_differ = subst AreNamesApart (sym (nothing_more objectives)) keeps.objectives_differ;
   objectives_apart = λ name h.
       let own : among objectives name ≡ true = ap (λ (names : List (List ℕ)). among names name) (sym (nothing_more objectives)) ∙ h in
       let other : bytes_eq r.name name ≡ false = false_from_ne_true (bytes_eq r.name name) (λ e. true≢false (sym own ∙ ap (among objectives) (sym ((bytes_eq-Decides r.name name).0 e)) ∙ free)) in
       list_any-append (λ (q : RowLine). bytes_eq q.name name) sided (r ∷ []) ∙ or_from (is_row_name sided name) (bytes_eq r.name name || false) (keeps.objectives_apart name own) (or_from (bytes_eq r.name name) false other refl);
 }
 
-with_objective : (objectives : List (List ℕ)) (sided : List RowLine) (new : List ℕ) → is_row_name sided new ≡ false → KeepsRows objectives sided → KeepsRows (objectives ++ new ∷ []) (sided ++ [])
-with_objective objectives sided new free keeps = subst (KeepsRows (objectives ++ new ∷ [])) (sym (nothing_more sided)) (record {
+with_objective : (objectives : List (List ℕ)) (sided : List RowLine) (new : List ℕ) → is_row_name sided new ≡ false → among objectives new ≡ false → KeepsRows objectives sided → KeepsRows (objectives ++ new ∷ []) (sided ++ [])
+with_objective objectives sided new free other keeps = subst (KeepsRows (objectives ++ new ∷ [])) (sym (nothing_more sided)) (record {
   few = keeps.few;
   apart = keeps.apart;
+  objectives_differ = apart_push objectives new keeps.objectives_differ other;
   objectives_apart = λ name h. by name (or_cases (among objectives name) (bytes_eq new name || false) (sym (list_any-append (λ (other : List ℕ). bytes_eq other name) objectives (new ∷ [])) ∙ h));
 })
   where
@@ -103,7 +108,9 @@ no_row objectives sided keeps = subst (KeepsRows (objectives ++ [])) (sym (nothi
 row_kept : (kind : Option RowKind) (name : List ℕ) (objectives : List (List ℕ)) (sided : List RowLine)
     → (is_row_name sided name || among objectives name) ≡ false → (has_sides kind && nat_le 500 (length sided)) ≡ false → KeepsRows objectives sided → KeepsRows (objectives ++ as_objective kind name) (sided ++ as_row kind name)
 row_kept None name objectives sided new room keeps = no_row objectives sided keeps
-row_kept (Some Free) name objectives sided new room keeps = with_objective objectives sided name (or_parts (is_row_name sided name) (among objectives name) new).0 keeps
+row_kept (Some Free) name objectives sided new room keeps =
+    let parts = or_parts (is_row_name sided name) (among objectives name) new in
+    with_objective objectives sided name parts.0 parts.1 keeps
 row_kept (Some AtMost) name objectives sided new room keeps =
     let parts = or_parts (is_row_name sided name) (among objectives name) new in
     with_row objectives sided (record { name = name; kind = AtMost }) parts.1 parts.0 (leb-false 500 (length sided) room) keeps
@@ -117,8 +124,8 @@ row_kept (Some Equal) name objectives sided new room keeps =
 row_step : (s : StatedModel) (e : Entry) → KeepsTests s → least (row_tests s e) ≡ None → KeepsTests (after_kind Row s e)
 row_step s e keeps h =
     let tests = none_holds (row_tests s e) h in
-    let rows = row_kept (row_kind (word 0 e)) (word 1 e) s.objectives s.rows tests.1.1.1.0 tests.1.1.1.1.0 (record { few = keeps.few_rows; apart = keeps.rows_apart; objectives_apart = keeps.objectives_apart }) in
-    record { few_rows = rows.few; few_columns = keeps.few_columns; few_numbers = keeps.few_numbers; rows_apart = rows.apart; columns_apart = keeps.columns_apart; objectives_apart = rows.objectives_apart; numbers = counted_row s.rows s.objectives (row_kind (word 0 e)) (word 1 e) tests.1.1.1.0 s.columns s.count keeps.numbers }
+    let rows = row_kept (row_kind (word 0 e)) (word 1 e) s.objectives s.rows tests.1.1.1.0 tests.1.1.1.1.0 (record { few = keeps.few_rows; apart = keeps.rows_apart; objectives_differ = keeps.objectives_differ; objectives_apart = keeps.objectives_apart }) in
+    record { few_rows = rows.few; few_columns = keeps.few_columns; few_numbers = keeps.few_numbers; rows_apart = rows.apart; columns_apart = keeps.columns_apart; objectives_differ = rows.objectives_differ; objectives_apart = rows.objectives_apart; numbers = counted_row s.rows s.objectives (row_kind (word 0 e)) (word 1 e) tests.1.1.1.0 s.columns s.count keeps.numbers }
 
 -- ---- a line of COLUMNS
 
@@ -154,7 +161,7 @@ column_step s e keeps h =
     let place = tests.1.1.1.1.1 in
     let new : ColumnLines = record { name = word 0 e; line = e.line; marked = s.marked; numbers = map read_pair (column_pairs e) } in
     let columns = column_kept s.columns new (map read_pair (column_pairs e)) (is_last s.columns (word 0 e)) (is_column s.columns (word 0 e)) refl place.0 place.1.1.0 (record { few = keeps.few_columns; apart = keeps.columns_apart }) in
-    record { few_rows = keeps.few_rows; few_columns = columns.few; few_numbers = room_of_column s e h; rows_apart = keeps.rows_apart; columns_apart = columns.apart; objectives_apart = keeps.objectives_apart; numbers = counted_column s.rows s.objectives s.columns s.count new (is_last s.columns (word 0 e)) refl (unknown_read s.rows s.objectives (column_pairs e) ∙ tests.1.1.0) keeps.numbers }
+    record { few_rows = keeps.few_rows; few_columns = columns.few; few_numbers = room_of_column s e h; rows_apart = keeps.rows_apart; columns_apart = columns.apart; objectives_differ = keeps.objectives_differ; objectives_apart = keeps.objectives_apart; numbers = counted_column s.rows s.objectives s.columns s.count new (is_last s.columns (word 0 e)) refl (unknown_read s.rows s.objectives (column_pairs e) ∙ tests.1.1.0) keeps.numbers }
 
 -- ---- each line
 
@@ -165,6 +172,7 @@ as_before s t r c n o keeps = record {
   few_numbers = let few = keeps.few_numbers in omega arith;
   rows_apart = subst (λ (rows : List RowLine). AreNamesApart (stated_row_names rows)) (sym r) keeps.rows_apart;
   columns_apart = subst (λ (columns : List ColumnLines). AreNamesApart (names_of_columns columns)) (sym c) keeps.columns_apart;
+  objectives_differ = subst AreNamesApart (sym o) keeps.objectives_differ;
   objectives_apart = subst (λ (rows : List RowLine). IsNoRow t.objectives rows) (sym r) (subst (λ (names : List (List ℕ)). IsNoRow names s.rows) (sym o) keeps.objectives_apart);
   numbers =
       subst (λ (rows : List RowLine). AreCounted rows t.objectives t.columns t.count) (sym r)
@@ -174,10 +182,12 @@ as_before s t r c n o keeps = record {
 
 kept_by_kind : (kind : LineKind) (s : StatedModel) (e : Entry) → KeepsTests s → least (tests_of kind s e) ≡ None → KeepsTests (after_kind kind s e)
 kept_by_kind Header s e keeps h = as_before s (after_kind Header s e) refl refl refl refl keeps
+kept_by_kind SenseLine s e keeps h = as_before s (after_kind SenseLine s e) refl refl refl refl keeps
 kept_by_kind Row s e keeps h = row_step s e keeps h
 kept_by_kind Marker s e keeps h = as_before s (after_kind Marker s e) refl refl refl refl keeps
 kept_by_kind Column s e keeps h = column_step s e keeps h
 kept_by_kind RightSide s e keeps h = as_before s (after_kind RightSide s e) refl refl refl refl keeps
+kept_by_kind Range s e keeps h = as_before s (after_kind Range s e) refl refl refl refl keeps
 kept_by_kind Bound s e keeps h = as_before s (after_kind Bound s e) refl refl refl refl keeps
 kept_by_kind Stray s e keeps h = keeps
 
@@ -189,7 +199,7 @@ kept_behind seen e h keeps =
 
 kept_at_start : KeepsTests (stated [])
 unfolding stated gathered_behind
-kept_at_start = record { few_rows = omega arith; few_columns = omega arith; few_numbers = omega arith; rows_apart = λ i j d below later within. absurd (omega arith); columns_apart = λ i j d below later within. absurd (omega arith); objectives_apart = λ name h. refl; numbers = record { known = tt; counted = refl } }
+kept_at_start = record { few_rows = omega arith; few_columns = omega arith; few_numbers = omega arith; rows_apart = λ i j d below later within. absurd (omega arith); columns_apart = λ i j d below later within. absurd (omega arith); objectives_differ = λ i j d below later within. absurd (omega arith); objectives_apart = λ name h. refl; numbers = record { known = tt; counted = refl } }
 
 kept_clean : (seen more : List Entry) → Clean seen more → KeepsTests (stated seen) → KeepsTests (stated (seen ++ more))
 kept_clean seen [] clean keeps = subst (λ (es : List Entry). KeepsTests (stated es)) (sym (nothing_more seen)) keeps
@@ -203,6 +213,7 @@ within_limits s keeps = record {
   few_coefficients = let few = keeps.few_numbers in omega (arith, keeps.numbers.counted);
   rows_apart = keeps.rows_apart;
   columns_apart = keeps.columns_apart;
+  objectives_differ = keeps.objectives_differ;
   objectives_apart = keeps.objectives_apart;
 }
 

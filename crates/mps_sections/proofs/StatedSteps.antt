@@ -9,14 +9,15 @@ use Rattle.mps_sections.proofs.ListFacts.{bytes_eq-flips}
 use Rattle.std.proofs.lemmas.Slice.Eq.{bytes_eq-Decides}
 use Rattle.std.proofs.lemmas.List.Folds.{list_any-append}
 use Rattle.mps_text.specs.Text.{Entry}
-use Rattle.mps_sections.specs.Words.{is_key, among, word, section_of, line_kind, data_kind, is_marker}
-use Rattle.mps_sections.specs.Statements.{gathered_behind, gathered, section_behind, kind_of, header_on, objective_on, row_on, marker_on, is_marked, column_name_on, stated_column_names, FirstLine, first_on, first_lines, column_pairs_on, read_pair, numbers_of_column, column_at, columns, rows, coefficients, coefficients_in, rhs_pairs_on, bound_on, StatedModel, stated, Pair, column_pairs, is_column}
+use Rattle.mps_fields.specs.Words.{is_key, among, word, section_of, line_kind, data_kind, is_marker}
+use Rattle.mps_sections.specs.Statements.{gathered_behind, gathered, section_behind, kind_of, header_on, sense_on, objective_on, row_on, marker_on, is_marked, column_name_on, stated_column_names, FirstLine, first_on, first_lines, column_pairs_on, read_pair, numbers_of_column, column_at, columns, rows, coefficients, coefficients_in, rhs_pairs_on, range_on, bound_on, StatedModel, stated, is_column}
+use Rattle.mps_fields.specs.Fields.{Pair, column_pairs}
 use Rattle.mps_sections.specs.Shown.{with_more, with_line, after_kind, after}
 use Rattle.mps_sections.specs.Faults.{is_last, code_at, column_tests}
-use Rattle.mps_sections.specs.declared.words.Section.{Section}
-use Rattle.mps_sections.specs.declared.words.Section.TheVariants.{Name, Rows, Columns, Rhs, Bounds, Ended}
-use Rattle.mps_sections.specs.declared.words.LineKind.{LineKind}
-use Rattle.mps_sections.specs.declared.words.LineKind.TheVariants.{Header, Row, Marker, Column, RightSide, Bound, Stray}
+use Rattle.mps_fields.specs.declared.words.Section.{Section}
+use Rattle.mps_fields.specs.declared.words.Section.TheVariants.{Name, Objsense, Rows, Columns, Rhs, Ranges, Bounds, Ended}
+use Rattle.mps_fields.specs.declared.words.LineKind.{LineKind}
+use Rattle.mps_fields.specs.declared.words.LineKind.TheVariants.{Header, SenseLine, Row, Marker, Column, RightSide, Range, Bound, Stray}
 use Rattle.mps_sections.specs.declared.statements.ColumnLines.{ColumnLines}
 use Rattle.mps_sections.specs.declared.statements.RowNumber.{RowNumber}
 
@@ -85,9 +86,11 @@ section_after-kind section e = by_header e.header
     by_section : (s : Option Section) → section_after (data_kind s e) s e ≡ s
     by_section None = refl
     by_section (Some Name) = refl
+    by_section (Some Objsense) = refl
     by_section (Some Rows) = refl
     by_section (Some Columns) = by_marker (is_marker e)
     by_section (Some Rhs) = refl
+    by_section (Some Ranges) = refl
     by_section (Some Bounds) = refl
     by_section (Some Ended) = refl
 
@@ -105,12 +108,14 @@ joined : LineKind → StatedModel → Entry → List ColumnLines → StatedModel
 joined kind s e found = record {
   section = section_after kind s.section e;
   headers = s.headers ++ header_on kind e;
+  senses = s.senses ++ sense_on kind e;
   objectives = s.objectives ++ objective_on kind e;
   rows = s.rows ++ row_on kind e;
   columns = found;
   marked = fold (λ marked w. is_key (codes "'INTORG'") w) s.marked (marker_on kind e);
   count = s.count + length (coefficients_in s.rows (map read_pair (column_pairs_on kind e)));
   sides = s.sides ++ map read_pair (rhs_pairs_on kind e);
+  ranges = s.ranges ++ range_on kind e;
   bounds = s.bounds ++ bound_on kind e;
 }
 
@@ -119,11 +124,13 @@ unfolding stated joined
 stated_joined seen e =
     let section : section_behind (seen ++ e ∷ []) ≡ section_after (kind_of seen e) (section_behind seen) e = section_more seen e ∙ sym (section_after-kind (section_behind seen) e) in
     let headers_more = gathered_more (λ before x. header_on (kind_of before x) x) seen e in
+    let senses_more = gathered_more (λ before x. sense_on (kind_of before x) x) seen e in
     let objectives_more = gathered_more (λ before x. objective_on (kind_of before x) x) seen e in
     let rows_more = gathered_more (λ before x. row_on (kind_of before x) x) seen e in
     let marks_more = marked_more seen e in
     let count_more = ap length (gathered_more (λ before x. coefficients_in (rows before) (map read_pair (column_pairs_on (kind_of before x) x))) seen e) ∙ length_append (coefficients seen) (coefficients_in (rows seen) (map read_pair (column_pairs_on (kind_of seen e) e))) in
     let sides_more = gathered_more (λ before x. map read_pair (rhs_pairs_on (kind_of before x) x)) seen e in
+    let ranges_more = gathered_more (λ before x. range_on (kind_of before x) x) seen e in
     let bounds_more = gathered_more (λ before x. bound_on (kind_of before x) x) seen e in
     cc
 
@@ -136,26 +143,33 @@ columns_after kind s e = s.columns
 joined_after : (kind : LineKind) (s : StatedModel) (e : Entry) → joined kind s e (columns_after kind s e) ≡ after_kind kind s e
 unfolding joined section_after columns_after
 joined_after Header s e =
-    let o = nothing_more s.objectives in let r = nothing_more s.rows in let d = nothing_more s.sides in let b = nothing_more s.bounds in
+    let o = nothing_more s.objectives in let r = nothing_more s.rows in let d = nothing_more s.sides in let g = nothing_more s.ranges in let b = nothing_more s.bounds in
+    let n : s.count + 0 ≡ s.count = omega arith in cc
+joined_after SenseLine s e =
+    let h = nothing_more s.headers in let o = nothing_more s.objectives in let r = nothing_more s.rows in let d = nothing_more s.sides in let g = nothing_more s.ranges in let b = nothing_more s.bounds in
     let n : s.count + 0 ≡ s.count = omega arith in cc
 joined_after Row s e =
-    let h = nothing_more s.headers in let d = nothing_more s.sides in let b = nothing_more s.bounds in
+    let h = nothing_more s.headers in let z = nothing_more s.senses in let d = nothing_more s.sides in let g = nothing_more s.ranges in let b = nothing_more s.bounds in
     let n : s.count + 0 ≡ s.count = omega arith in cc
 joined_after Marker s e =
-    let h = nothing_more s.headers in let o = nothing_more s.objectives in let r = nothing_more s.rows in let d = nothing_more s.sides in let b = nothing_more s.bounds in
+    let h = nothing_more s.headers in let z = nothing_more s.senses in let o = nothing_more s.objectives in let r = nothing_more s.rows in let d = nothing_more s.sides in let g = nothing_more s.ranges in let b = nothing_more s.bounds in
     let n : s.count + 0 ≡ s.count = omega arith in cc
 joined_after Column s e =
-    let h = nothing_more s.headers in let o = nothing_more s.objectives in let r = nothing_more s.rows in let d = nothing_more s.sides in let b = nothing_more s.bounds in cc
+    let h = nothing_more s.headers in let z = nothing_more s.senses in let o = nothing_more s.objectives in let r = nothing_more s.rows in let d = nothing_more s.sides in let g = nothing_more s.ranges in let b = nothing_more s.bounds in
+    cc
 joined_after RightSide s e =
-    let h = nothing_more s.headers in let o = nothing_more s.objectives in let r = nothing_more s.rows in let b = nothing_more s.bounds in
+    let h = nothing_more s.headers in let z = nothing_more s.senses in let o = nothing_more s.objectives in let r = nothing_more s.rows in let g = nothing_more s.ranges in let b = nothing_more s.bounds in
+    let n : s.count + 0 ≡ s.count = omega arith in cc
+joined_after Range s e =
+    let h = nothing_more s.headers in let z = nothing_more s.senses in let o = nothing_more s.objectives in let r = nothing_more s.rows in let d = nothing_more s.sides in let b = nothing_more s.bounds in
     let n : s.count + 0 ≡ s.count = omega arith in cc
 joined_after Bound s e =
-    let h = nothing_more s.headers in let o = nothing_more s.objectives in let r = nothing_more s.rows in let d = nothing_more s.sides in
+    let h = nothing_more s.headers in let z = nothing_more s.senses in let o = nothing_more s.objectives in let r = nothing_more s.rows in let d = nothing_more s.sides in let g = nothing_more s.ranges in
     let n : s.count + 0 ≡ s.count = omega arith in cc
 joined_after Stray s e =
-    let h = nothing_more s.headers in let o = nothing_more s.objectives in let r = nothing_more s.rows in let d = nothing_more s.sides in let b = nothing_more s.bounds in
+    let h = nothing_more s.headers in let z = nothing_more s.senses in let o = nothing_more s.objectives in let r = nothing_more s.rows in let d = nothing_more s.sides in let g = nothing_more s.ranges in let b = nothing_more s.bounds in
     let n : s.count + 0 ≡ s.count = omega arith in
-    let same : joined Stray s e s.columns ≡ record { section = s.section; headers = s.headers; objectives = s.objectives; rows = s.rows; columns = s.columns; marked = s.marked; count = s.count; sides = s.sides; bounds = s.bounds } = cc in
+    let same : joined Stray s e s.columns ≡ record { section = s.section; headers = s.headers; senses = s.senses; objectives = s.objectives; rows = s.rows; columns = s.columns; marked = s.marked; count = s.count; sides = s.sides; ranges = s.ranges; bounds = s.bounds } = cc in
     same
 
 -- ---- columns
@@ -201,10 +215,12 @@ firsts_stay names found h name = ap (λ (fs : List FirstLine). is_first fs name)
 
 firsts_more : (kind : LineKind) (e : Entry) (names : List (List ℕ)) (found : List FirstLine) (m : Bool) → FirstsAre found names → FirstsAre (found ++ first_on kind e (among names (word 0 e)) m) (names ++ column_name_on kind e)
 firsts_more Header e names found m h = firsts_stay names found h
+firsts_more SenseLine e names found m h = firsts_stay names found h
 firsts_more Row e names found m h = firsts_stay names found h
 firsts_more Marker e names found m h = firsts_stay names found h
 firsts_more Column e names found m h = firsts_column e names found m (among names (word 0 e)) refl h
 firsts_more RightSide e names found m h = firsts_stay names found h
+firsts_more Range e names found m h = firsts_stay names found h
 firsts_more Bound e names found m h = firsts_stay names found h
 firsts_more Stray e names found m h = firsts_stay names found h
 
@@ -238,10 +254,12 @@ apart_column e found m false q a = apart_more found (record { name = word 0 e; l
 
 apart_step : (kind : LineKind) (e : Entry) (found : List FirstLine) (m b : Bool) → is_first found (word 0 e) ≡ b → Apart found → Apart (found ++ first_on kind e b m)
 apart_step Header e found m b q a = subst Apart (sym (nothing_more found)) a
+apart_step SenseLine e found m b q a = subst Apart (sym (nothing_more found)) a
 apart_step Row e found m b q a = subst Apart (sym (nothing_more found)) a
 apart_step Marker e found m b q a = subst Apart (sym (nothing_more found)) a
 apart_step Column e found m b q a = apart_column e found m b q a
 apart_step RightSide e found m b q a = subst Apart (sym (nothing_more found)) a
+apart_step Range e found m b q a = subst Apart (sym (nothing_more found)) a
 apart_step Bound e found m b q a = subst Apart (sym (nothing_more found)) a
 apart_step Stray e found m b q a = subst Apart (sym (nothing_more found)) a
 
@@ -273,6 +291,7 @@ both_nothing false = refl
 part_of_other : (kind : LineKind) (e : Entry) (name : List ℕ) (names : List (List ℕ)) → among (names ++ column_name_on kind e) name ≡ false → part_of kind e name ≡ []
 unfolding part_of
 part_of_other Header e name names h = both_nothing (bytes_eq (word 0 e) name)
+part_of_other SenseLine e name names h = both_nothing (bytes_eq (word 0 e) name)
 part_of_other Row e name names h = both_nothing (bytes_eq (word 0 e) name)
 part_of_other Marker e name names h = both_nothing (bytes_eq (word 0 e) name)
 part_of_other Column e name names h =
@@ -280,6 +299,7 @@ part_of_other Column e name names h =
     let differs = or_parts (bytes_eq (word 0 e) name) false parts.1 in
     ap (λ b. if b then map read_pair (column_pairs e) else []) differs.0
 part_of_other RightSide e name names h = both_nothing (bytes_eq (word 0 e) name)
+part_of_other Range e name names h = both_nothing (bytes_eq (word 0 e) name)
 part_of_other Bound e name names h = both_nothing (bytes_eq (word 0 e) name)
 part_of_other Stray e name names h = both_nothing (bytes_eq (word 0 e) name)
 
@@ -411,10 +431,12 @@ column_line seen e q h false unknown = new_column seen e q unknown
 columns_of_kind : (seen : List Entry) (e : Entry) → code_at seen e ≡ None → (kind : LineKind) → kind_of seen e ≡ kind → columns (seen ++ e ∷ []) ≡ columns_after kind (stated seen) e
 unfolding columns_after stated
 columns_of_kind seen e h Header q = columns_same seen e (λ name. ap (λ (k : LineKind). part_of k e name) q ∙ no_part Header e name refl) (ap (λ (k : LineKind). first_on k e (among (stated_column_names seen) (word 0 e)) (is_marked seen)) q)
+columns_of_kind seen e h SenseLine q = columns_same seen e (λ name. ap (λ (k : LineKind). part_of k e name) q ∙ no_part SenseLine e name refl) (ap (λ (k : LineKind). first_on k e (among (stated_column_names seen) (word 0 e)) (is_marked seen)) q)
 columns_of_kind seen e h Row q = columns_same seen e (λ name. ap (λ (k : LineKind). part_of k e name) q ∙ no_part Row e name refl) (ap (λ (k : LineKind). first_on k e (among (stated_column_names seen) (word 0 e)) (is_marked seen)) q)
 columns_of_kind seen e h Marker q = columns_same seen e (λ name. ap (λ (k : LineKind). part_of k e name) q ∙ no_part Marker e name refl) (ap (λ (k : LineKind). first_on k e (among (stated_column_names seen) (word 0 e)) (is_marked seen)) q)
 columns_of_kind seen e h Column q = column_line seen e q h (among (stated_column_names seen) (word 0 e)) refl
 columns_of_kind seen e h RightSide q = columns_same seen e (λ name. ap (λ (k : LineKind). part_of k e name) q ∙ no_part RightSide e name refl) (ap (λ (k : LineKind). first_on k e (among (stated_column_names seen) (word 0 e)) (is_marked seen)) q)
+columns_of_kind seen e h Range q = columns_same seen e (λ name. ap (λ (k : LineKind). part_of k e name) q ∙ no_part Range e name refl) (ap (λ (k : LineKind). first_on k e (among (stated_column_names seen) (word 0 e)) (is_marked seen)) q)
 columns_of_kind seen e h Bound q = columns_same seen e (λ name. ap (λ (k : LineKind). part_of k e name) q ∙ no_part Bound e name refl) (ap (λ (k : LineKind). first_on k e (among (stated_column_names seen) (word 0 e)) (is_marked seen)) q)
 columns_of_kind seen e h Stray q = columns_same seen e (λ name. ap (λ (k : LineKind). part_of k e name) q ∙ no_part Stray e name refl) (ap (λ (k : LineKind). first_on k e (among (stated_column_names seen) (word 0 e)) (is_marked seen)) q)
 

@@ -3,10 +3,11 @@ use Rattle.std.proofs.Common.{◌≡◌, ◌+◌, ◌≤◌, true, false, List, 
 use Rattle.std.specs.Prelude.{None}
 use Rattle.std.proofs.lemmas.Bool.{ltb-false}
 use Rattle.mps_text.specs.Text.{Entry}
-use Rattle.mps_sections.specs.Words.{line_kind}
-use Rattle.mps_sections.specs.Statements.{StatedModel, read_pair, column_pairs, coefficients_in}
+use Rattle.mps_fields.specs.Words.{line_kind}
+use Rattle.mps_sections.specs.Statements.{StatedModel, read_pair, coefficients_in}
+use Rattle.mps_fields.specs.Fields.{column_pairs}
 use Rattle.mps_sections.specs.Faults.{Test, least, tests_of, column_tests, code_in}
-use Rattle.mps_sections.specs.declared.words.LineKind.{LineKind}
+use Rattle.mps_fields.specs.declared.words.LineKind.{LineKind}
 
 abbrev pub NoneHolds : List Test → Type 0
 NoneHolds [] = Unit {0}

@@ -2,18 +2,20 @@
 use Rattle.std.specs.Prelude.{◌≡◌, ℕ, ◌+◌, Bool, true, false, not, ◌&&◌, ◌||◌, if◌then◌else◌, nat_le, nat_lt, List, [], ◌∷◌, ◌++◌, length, map, codes, bytes_eq, Option, None, Some, Ok, Err}
 use Rattle.std.specs.List.{list_any}
 use Rattle.mps_text.specs.Text.{Entry, Flaw, Item}
-use Rattle.mps_sections.specs.Words.{is_key, among, word, section_of, section_rank, bars, is_rows, is_columns, is_name_section, is_ended, line_kind, row_kind, bound_kind, takes_number}
-use Rattle.mps_sections.specs.Numbers.{limit_of, limit, is_not_number, is_too_wide, is_misplaced}
-use Rattle.frac_text.specs.Parsing.{spelled_number}
-use Rattle.mps_sections.specs.Statements.{is_row_name, Pair, read_pair, column_pairs, rhs_pairs, StatedModel, is_column, is_numbered, coefficients_in, bound_column, bound_field, stated}
+use Rattle.lp_model.specs.declared.types.Sense.{Sense}
+use Rattle.mps_fields.specs.Fields.{has_count, is_long_name, is_unknown_sense, has_unknown_sense, has_twice, has_long, has_not_number, has_too_wide, is_end, Pair, column_pairs, set_pairs, bound_column, bound_field}
+use Rattle.mps_fields.specs.Words.{is_key, among, word, section_of, section_rank, bars, is_rows, is_columns, is_name_section, is_sense_section, line_kind, sense_of, row_kind, bound_kind, takes_number}
+use Rattle.mps_fields.specs.Numbers.{limit_of, limit, is_not_number, is_too_wide, is_misplaced}
+use Rattle.mps_sections.specs.Statements.{is_row_name, read_pair, StatedModel, is_column, is_numbered, is_ranged, coefficients_in, stated}
 use Rattle.mps_sections.specs.declared.statements.RowNumber.{RowNumber}
+use Rattle.mps_sections.specs.declared.statements.RangeLine.{RangeLine}
 use Rattle.mps_sections.specs.declared.statements.ColumnLines.{ColumnLines}
-use Rattle.mps_sections.specs.declared.words.Section.{Section}
-use Rattle.mps_sections.specs.declared.words.LineKind.{LineKind}
-use Rattle.mps_sections.specs.declared.words.LineKind.TheVariants.{Header, Row, Marker, Column, RightSide, Bound, Stray}
-use Rattle.mps_sections.specs.declared.words.RowKind.{RowKind}
-use Rattle.mps_sections.specs.declared.words.RowKind.TheVariants.{Free}
-use Rattle.mps_sections.specs.declared.words.BoundKind.{BoundKind}
+use Rattle.mps_fields.specs.declared.words.Section.{Section}
+use Rattle.mps_fields.specs.declared.words.LineKind.{LineKind}
+use Rattle.mps_fields.specs.declared.words.LineKind.TheVariants.{Header, SenseLine, Row, Marker, Column, RightSide, Range, Bound, Stray}
+use Rattle.mps_fields.specs.declared.words.RowKind.{RowKind}
+use Rattle.mps_fields.specs.declared.words.RowKind.TheVariants.{Free}
+use Rattle.mps_fields.specs.declared.words.BoundKind.{BoundKind}
 
 -- a code, and whether the line has that fault
 abbrev pub Test : Type 0
@@ -24,13 +26,6 @@ abbrev pub least : List Test → Option ℕ
 least [] = None
 least (test ∷ more) = if test.1 then Some test.0 else least more
 
-abbrev pub has_count : Entry → ℕ → ℕ → Bool
-has_count e fewest most = nat_le fewest (length e.words) && nat_le (length e.words) most
-
--- a row or column name of more than 255 bytes
-abbrev pub is_long_name : List ℕ → Bool
-is_long_name name = nat_lt 255 (length name)
-
 -- ---- headers
 
 -- the section's own header, or that of a later one, stands before
@@ -39,7 +34,11 @@ is_late section s = list_any (λ stands. bars stands section) s.headers
 
 -- COLUMNS needs ROWS, and the sections behind it need both
 abbrev pub lacks_section : Section → StatedModel → Bool
-lacks_section section s = (nat_lt 2 (section_rank section) && not (list_any is_rows s.headers)) || (nat_lt 3 (section_rank section) && not (list_any is_columns s.headers))
+lacks_section section s = (nat_lt 3 (section_rank section) && not (list_any is_rows s.headers)) || (nat_lt 4 (section_rank section) && not (list_any is_columns s.headers))
+
+-- how many fields a header but that of NAME may have: OBJSENSE has room for the sense
+abbrev pub most_fields : Section → ℕ
+most_fields section = if is_sense_section section then 2 else 1
 
 abbrev pub section_tests : Option Section → StatedModel → Entry → List Test
 -- an unknown section word
@@ -48,7 +47,25 @@ section_tests (Some section) s e =
     -- a section out of order or twice, or one that it needs is missing
     (4, is_late section s || lacks_section section s)
     -- further fields, which NAME alone may have
-    ∷ (6, not (is_name_section section) && not (has_count e 1 1))
+    ∷ (6, not (is_name_section section) && not (has_count e 1 (most_fields section)))
+    -- an unknown sense
+    ∷ (8, is_sense_section section && has_unknown_sense e)
+    ∷ []
+
+-- ---- OBJSENSE
+
+abbrev pub has_sense : List Sense → Bool
+has_sense [] = false
+has_sense (sense ∷ more) = true
+
+abbrev pub sense_tests : StatedModel → Entry → List Test
+sense_tests s e =
+    -- a second sense
+    (5, has_sense s.senses)
+    -- the number of fields
+    ∷ (6, not (has_count e 1 1))
+    -- an unknown sense
+    ∷ (8, is_unknown_sense (sense_of (word 0 e)))
     ∷ []
 
 -- ---- ROWS
@@ -87,22 +104,8 @@ marker_tests s e =
     (18, not (if s.marked then is_key (codes "'INTEND'") (word 2 e) else is_key (codes "'INTORG'") (word 2 e)))
     ∷ []
 
--- a row stands twice in some pairs
-abbrev pub has_twice : List Pair → Bool
-has_twice [] = false
-has_twice (p ∷ more) = among (map (λ q. q.row) more) p.row || has_twice more
-
-abbrev pub has_long : List Pair → Bool
-has_long found = list_any (λ p. is_long_name p.row) found
-
 abbrev pub has_unknown : StatedModel → List Pair → Bool
 has_unknown s found = list_any (λ p. not (is_known s p.row)) found
-
-abbrev pub has_not_number : List Pair → Bool
-has_not_number found = list_any (λ p. is_not_number (spelled_number p.number)) found
-
-abbrev pub has_too_wide : List Pair → Bool
-has_too_wide found = list_any (λ p. is_too_wide (spelled_number p.number)) found
 
 -- a number stands beside a row of some pairs already
 abbrev pub has_again : List RowNumber → List Pair → Bool
@@ -119,7 +122,7 @@ numbers_of_last [] = []
 numbers_of_last (c ∷ []) = c.numbers
 numbers_of_last (c ∷ next ∷ more) = numbers_of_last (next ∷ more)
 
--- the pairs of a line of COLUMNS or RHS
+-- the pairs of a line of COLUMNS, RHS or RANGES
 abbrev pub pair_tests : StatedModel → List Pair → List Test
 pair_tests s found =
     -- an unknown row
@@ -154,10 +157,35 @@ abbrev pub rhs_tests : StatedModel → Entry → List Test
 rhs_tests s e =
     -- the number of fields
     (6, not (has_count e 2 5))
-    ∷ (7, has_long (rhs_pairs e))
-    ∷ (pair_tests s (rhs_pairs e)
+    ∷ (7, has_long (set_pairs e))
+    ∷ (pair_tests s (set_pairs e)
     -- one row twice in RHS
-    ++ (22, has_twice (rhs_pairs e) || has_again s.sides (rhs_pairs e)) ∷ [])
+    ++ (22, has_twice (set_pairs e) || has_again s.sides (set_pairs e)) ∷ [])
+
+-- ---- RANGES
+
+-- a number of RANGES stands beside a row of some pairs already
+abbrev pub is_ranged_again : List RangeLine → List Pair → Bool
+is_ranged_again earlier found = list_any (λ p. is_ranged earlier p.row) found
+
+-- a row without sides has the name: it is of type N
+abbrev pub is_free_row : StatedModel → List ℕ → Bool
+is_free_row s name = is_known s name && not (is_row_name s.rows name)
+
+abbrev pub has_free_row : StatedModel → List Pair → Bool
+has_free_row s found = list_any (λ p. is_free_row s p.row) found
+
+abbrev pub range_tests : StatedModel → Entry → List Test
+range_tests s e =
+    -- the number of fields
+    (6, not (has_count e 2 5))
+    ∷ (7, has_long (set_pairs e))
+    ∷ (pair_tests s (set_pairs e)
+    -- one row twice in RANGES
+    ++ (22, has_twice (set_pairs e) || is_ranged_again s.ranges (set_pairs e))
+    -- a row of type N
+    ∷ (23, has_free_row s (set_pairs e))
+    ∷ [])
 
 -- ---- BOUNDS
 
@@ -180,10 +208,12 @@ bound_tests (Some kind) s e =
 
 abbrev pub tests_of : LineKind → StatedModel → Entry → List Test
 tests_of Header s e = section_tests (section_of (word 0 e)) s e
+tests_of SenseLine s e = sense_tests s e
 tests_of Row s e = row_tests s e
 tests_of Marker s e = marker_tests s e
 tests_of Column s e = column_tests s e
 tests_of RightSide s e = rhs_tests s e
+tests_of Range s e = range_tests s e
 tests_of Bound s e = (6, not (has_count e 2 4)) ∷ bound_tests (bound_kind (word 0 e)) s e
 -- data where no section takes it
 tests_of Stray s e = (5, true) ∷ []
@@ -194,9 +224,6 @@ code_in s e = least (tests_of (line_kind s.section e) s e)
 
 unfoldable pub code_at : List Entry → Entry → Option ℕ
 code_at before e = code_in (stated before) e
-
-unfoldable pub is_end : Entry → Bool
-is_end e = e.header && is_ended (section_of (word 0 e))
 
 -- Entries, behind others, none of which is faulty or ends the text.
 abbrev pub Clean : List Entry → List Entry → Type 0

@@ -1,5 +1,3 @@
-pub mod Words
-pub mod Numbers
 pub mod Statements
 pub mod Faults
 pub mod Shown

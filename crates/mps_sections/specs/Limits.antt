@@ -1,7 +1,7 @@
--- What the lines of a text without fault keep: few rows, columns and coefficients, names that differ, and no objective that
--- is a row.
+-- What the lines of a text without fault keep: few rows, columns and coefficients, names that differ, also those of the rows
+-- of type N, and no row of type N that has sides.
 use Rattle.std.specs.Prelude.{◌≡◌, ◌≢◌, ℕ, ◌≤◌, true, false, List, length, map, sum_by, AllPairs}
-use Rattle.mps_sections.specs.Words.{among}
+use Rattle.mps_fields.specs.Words.{among}
 use Rattle.mps_sections.specs.Statements.{is_row_name, coefficients_in, stated_row_names}
 use Rattle.mps_sections.specs.declared.statements.Sections.{Sections}
 use Rattle.mps_sections.specs.declared.statements.RowLine.{RowLine}
@@ -28,4 +28,5 @@ pub record StatesWithinLimits (s : Sections) : Type 0 where
   pub few_coefficients : coefficient_count s.rows s.columns ≤ 50000
   pub rows_apart : AreNamesApart (stated_row_names s.rows)
   pub columns_apart : AreNamesApart (names_of_columns s.columns)
+  pub objectives_differ : AreNamesApart s.objectives
   pub objectives_apart : IsNoRow s.objectives s.rows

@@ -3,33 +3,18 @@ use Rattle.std.specs.Prelude.{ℕ, ◌+◌, Bool, if◌then◌else◌, List, [],
 use Rattle.mps_text.specs.Text.{Entry, Flaw}
 use Rattle.mps_text.specs.Reading.{flaw_of}
 use Rattle.mps_text.specs.declared.lines.LineFault.{LineFault}
-use Rattle.mps_sections.specs.Words.{is_key, word, section_of, line_kind}
-use Rattle.mps_sections.specs.Statements.{Pair, read_pair, StatedModel, column_pairs, rhs_pairs, objective_on, row_on, coefficients_in, bound_on}
+use Rattle.lp_model.specs.declared.types.Sense.{Sense}
+use Rattle.mps_fields.specs.Words.{is_key, word, section_of, line_kind}
+use Rattle.mps_sections.specs.Statements.{read_pair, StatedModel, sense_on, objective_on, row_on, coefficients_in, range_on, bound_on}
+use Rattle.mps_fields.specs.Fields.{column_pairs, set_pairs}
 use Rattle.mps_sections.specs.declared.statements.RowNumber.{RowNumber}
 use Rattle.mps_sections.specs.declared.statements.ColumnLines.{ColumnLines}
 use Rattle.mps_sections.specs.Faults.{is_last}
-use Rattle.mps_sections.specs.declared.words.LineKind.{LineKind}
-use Rattle.mps_sections.specs.declared.words.LineKind.TheVariants.{Header, Row, Marker, Column, RightSide, Bound, Stray}
-use Rattle.mps_sections.specs.declared.pair.Pair.{Pair as PairOfFields}
-use Rattle.mps_sections.specs.declared.pair.Pairs.{Pairs}
-use Rattle.mps_sections.specs.declared.pair.Pairs.TheVariants.{Nothing, One, Two}
+use Rattle.mps_fields.specs.declared.words.LineKind.{LineKind}
+use Rattle.mps_fields.specs.declared.words.LineKind.TheVariants.{Header, SenseLine, Row, Marker, Column, RightSide, Range, Bound, Stray}
 use Rattle.mps_sections.specs.declared.columns.OpenColumn.{OpenColumn}
 use Rattle.mps_sections.specs.declared.columns.Columns.{Columns}
 use Rattle.mps_sections.specs.declared.tables.Tables.{Tables}
-
-abbrev pub pair_shown : PairOfFields → Pair
-pair_shown p = record { row = p.row.now; number = p.field.now }
-
-abbrev pub pairs_shown : Pairs → List Pair
-pairs_shown Nothing = []
-pairs_shown (One p) = pair_shown p ∷ []
-pairs_shown (Two p q) = pair_shown p ∷ pair_shown q ∷ []
-
--- the pairs of a line of COLUMNS or RHS, and none of another one
-abbrev pub pairs_on : LineKind → Entry → List Pair
-pairs_on Column e = column_pairs e
-pairs_on RightSide e = rhs_pairs e
-pairs_on kind e = []
 
 abbrev pub flaw_shown : Option LineFault → Option Flaw
 flaw_shown None = None
@@ -48,12 +33,14 @@ unfoldable pub held : Tables → StatedModel
 held t = record {
   section = t.section;
   headers = t.headers;
+  senses = t.senses;
   objectives = t.rows.objectives;
   rows = t.rows.sided;
   columns = columns_in t.columns;
   marked = t.marked;
   count = t.count;
   sides = t.sides.numbers;
+  ranges = t.ranges.lines;
   bounds = t.bounds;
 }
 
@@ -70,15 +57,20 @@ with_line found name line marked more =
     if is_last found name then with_more found more
     else found ++ record { name = name; line = line; marked = marked; numbers = more } ∷ []
 
+abbrev pub with_senses : List Sense → StatedModel → StatedModel
+with_senses more s = record s { senses = s.senses ++ more }
+
 abbrev pub after_kind : LineKind → StatedModel → Entry → StatedModel
-after_kind Header s e = record s { section = section_of (word 0 e); headers = s.headers ++ option_to_list (section_of (word 0 e)) }
+after_kind Header s e = record s { section = section_of (word 0 e); headers = s.headers ++ option_to_list (section_of (word 0 e)); senses = s.senses ++ sense_on Header e }
+after_kind SenseLine s e = with_senses (sense_on SenseLine e) s
 after_kind Row s e = record s { objectives = s.objectives ++ objective_on Row e; rows = s.rows ++ row_on Row e }
 after_kind Marker s e = record s { marked = is_key (codes "'INTORG'") (word 2 e) }
 after_kind Column s e = record s {
   columns = with_line s.columns (word 0 e) e.line s.marked (map read_pair (column_pairs e));
   count = s.count + length (coefficients_in s.rows (map read_pair (column_pairs e)));
 }
-after_kind RightSide s e = record s { sides = s.sides ++ map read_pair (rhs_pairs e) }
+after_kind RightSide s e = record s { sides = s.sides ++ map read_pair (set_pairs e) }
+after_kind Range s e = record s { ranges = s.ranges ++ range_on Range e }
 after_kind Bound s e = record s { bounds = s.bounds ++ bound_on Bound e }
 after_kind Stray s e = s
 

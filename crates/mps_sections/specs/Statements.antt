@@ -1,18 +1,21 @@
 -- What the entries of a text state: each list is gathered from all of them, each entry giving its part by its kind.
-use Rattle.std.specs.Prelude.{ℕ, ◌-◌, Bool, false, not, ◌&&◌, ◌==◌, if◌then◌else◌, List, [], ◌∷◌, ◌++◌, length, map, filter, fold, codes, bytes_eq, option_to_list, Option, None, Some}
+use Rattle.std.specs.Prelude.{ℕ, Bool, false, not, ◌&&◌, if◌then◌else◌, List, [], ◌∷◌, ◌++◌, length, map, filter, fold, codes, bytes_eq, option_to_list, Option, None, Some}
 use Rattle.std.specs.List.{list_any}
 use Rattle.mps_text.specs.Text.{Entry}
-use Rattle.mps_sections.specs.Words.{is_key, among, word, section_of, line_kind, row_kind, bound_kind}
-use Rattle.mps_sections.specs.Numbers.{field_number, is_zero_number, limit}
-use Rattle.mps_sections.specs.declared.words.Section.{Section}
-use Rattle.mps_sections.specs.declared.words.LineKind.{LineKind}
-use Rattle.mps_sections.specs.declared.words.LineKind.TheVariants.{Header, Row, Marker, Column, RightSide, Bound}
-use Rattle.mps_sections.specs.declared.words.RowKind.{RowKind}
-use Rattle.mps_sections.specs.declared.words.RowKind.TheVariants.{Free, AtMost, AtLeast, Equal}
-use Rattle.mps_sections.specs.declared.words.BoundKind.{BoundKind}
-use Rattle.mps_sections.specs.declared.words.BoundKind.TheVariants.{Binary}
+use Rattle.lp_model.specs.declared.types.Sense.{Sense}
+use Rattle.lp_model.specs.declared.types.Sense.TheVariants.{Min}
+use Rattle.mps_fields.specs.Fields.{Pair, column_pairs, set_pairs, bound_column, bound_field, header_sense}
+use Rattle.mps_fields.specs.Words.{is_key, among, word, section_of, line_kind, sense_of, row_kind, bound_kind}
+use Rattle.mps_fields.specs.Numbers.{field_number, is_zero_number, limit}
+use Rattle.mps_fields.specs.declared.words.Section.{Section}
+use Rattle.mps_fields.specs.declared.words.LineKind.{LineKind}
+use Rattle.mps_fields.specs.declared.words.LineKind.TheVariants.{Header, SenseLine, Row, Marker, Column, RightSide, Range, Bound}
+use Rattle.mps_fields.specs.declared.words.RowKind.{RowKind}
+use Rattle.mps_fields.specs.declared.words.RowKind.TheVariants.{Free, AtMost, AtLeast, Equal}
+use Rattle.mps_fields.specs.declared.words.BoundKind.{BoundKind}
 use Rattle.mps_sections.specs.declared.statements.RowLine.{RowLine}
 use Rattle.mps_sections.specs.declared.statements.RowNumber.{RowNumber}
+use Rattle.mps_sections.specs.declared.statements.RangeLine.{RangeLine}
 use Rattle.mps_sections.specs.declared.statements.ColumnLines.{ColumnLines}
 use Rattle.mps_sections.specs.declared.statements.BoundLine.{BoundLine}
 use Rattle.mps_sections.specs.declared.statements.Sections.{Sections}
@@ -41,6 +44,22 @@ header_on kind e = []
 
 abbrev pub headers : List Entry → List Section
 headers = gathered (λ before e. header_on (kind_of before e) e)
+
+-- ---- OBJSENSE
+
+abbrev pub sense_on : LineKind → Entry → List Sense
+sense_on Header e = option_to_list (header_sense (section_of (word 0 e)) e)
+sense_on SenseLine e = option_to_list (sense_of (word 0 e))
+sense_on kind e = []
+
+-- the senses, of which a text without fault has one at most
+abbrev pub senses : List Entry → List Sense
+senses = gathered (λ before e. sense_on (kind_of before e) e)
+
+-- MIN where none stands
+abbrev pub stated_sense : List Sense → Sense
+stated_sense [] = Min
+stated_sense (sense ∷ more) = sense
 
 -- ---- ROWS
 
@@ -80,10 +99,6 @@ is_row_name sided name = list_any (λ r. bytes_eq r.name name) sided
 
 -- ---- pairs of a row and a number
 
-pub record Pair : Type 0 where
-  pub row : List ℕ
-  pub number : List ℕ
-
 -- a pair with its number read
 abbrev pub read_pair : Pair → RowNumber
 read_pair p = record { row = p.row; number = field_number p.number }
@@ -91,28 +106,6 @@ read_pair p = record { row = p.row; number = field_number p.number }
 -- a number stands beside the row
 abbrev pub is_numbered : List RowNumber → List ℕ → Bool
 is_numbered found row = list_any (λ p. bytes_eq p.row row) found
-
-abbrev pub pairs : List (List ℕ) → List Pair
-pairs (a ∷ x ∷ []) = record { row = a; number = x } ∷ []
-pairs (a ∷ x ∷ b ∷ y ∷ []) = record { row = a; number = x } ∷ record { row = b; number = y } ∷ []
-pairs words = []
-
--- behind the column's name
-abbrev pub column_pairs_of : List (List ℕ) → List Pair
-column_pairs_of (name ∷ words) = pairs words
-column_pairs_of [] = []
-
-abbrev pub column_pairs : Entry → List Pair
-column_pairs e = column_pairs_of e.words
-
--- behind the set's name, where the number of fields is odd
-abbrev pub rhs_pairs_of : List (List ℕ) → List Pair
-rhs_pairs_of (set ∷ a ∷ x ∷ []) = pairs (a ∷ x ∷ [])
-rhs_pairs_of (set ∷ a ∷ x ∷ b ∷ y ∷ []) = pairs (a ∷ x ∷ b ∷ y ∷ [])
-rhs_pairs_of words = pairs words
-
-abbrev pub rhs_pairs : Entry → List Pair
-rhs_pairs e = rhs_pairs_of e.words
 
 -- ---- COLUMNS
 
@@ -176,21 +169,30 @@ coefficients = gathered (λ before e. coefficients_in (rows before) (map read_pa
 -- ---- RHS
 
 abbrev pub rhs_pairs_on : LineKind → Entry → List Pair
-rhs_pairs_on RightSide e = rhs_pairs e
+rhs_pairs_on RightSide e = set_pairs e
 rhs_pairs_on kind e = []
 
 abbrev pub right_sides : List Entry → List RowNumber
 right_sides = gathered (λ before e. map read_pair (rhs_pairs_on (kind_of before e) e))
 
+-- ---- RANGES
+
+-- a pair with its number read, and its line
+abbrev pub read_range : ℕ → Pair → RangeLine
+read_range line p = record { row = p.row; number = field_number p.number; line = line }
+
+abbrev pub range_on : LineKind → Entry → List RangeLine
+range_on Range e = map (read_range e.line) (set_pairs e)
+range_on kind e = []
+
+abbrev pub ranges : List Entry → List RangeLine
+ranges = gathered (λ before e. range_on (kind_of before e) e)
+
+-- a number of RANGES stands beside the row
+abbrev pub is_ranged : List RangeLine → List ℕ → Bool
+is_ranged found row = list_any (λ r. bytes_eq r.row row) found
+
 -- ---- BOUNDS
-
--- the column's field: the second, or the third where a set stands before it
-abbrev pub bound_column : BoundKind → Entry → List ℕ
-bound_column Binary e = if length e.words == 2 then word 1 e else word 2 e
-bound_column kind e = if length e.words == 3 then word 1 e else word 2 e
-
-abbrev pub bound_field : Entry → List ℕ
-bound_field e = word (length e.words - 1) e
 
 abbrev pub as_bound : Option BoundKind → Entry → List BoundLine
 as_bound None e = []
@@ -208,6 +210,7 @@ bounds = gathered (λ before e. bound_on (kind_of before e) e)
 pub record StatedModel : Type 0 where
   pub section : Option Section
   pub headers : List Section
+  pub senses : List Sense
   pub objectives : List (List ℕ)
   pub rows : List RowLine
   pub columns : List ColumnLines
@@ -215,24 +218,27 @@ pub record StatedModel : Type 0 where
   -- how many non-zero numbers stand beside rows with sides
   pub count : ℕ
   pub sides : List RowNumber
+  pub ranges : List RangeLine
   pub bounds : List BoundLine
 
 unfoldable pub stated : List Entry → StatedModel
 stated entries = record {
   section = section_behind entries;
   headers = headers entries;
+  senses = senses entries;
   objectives = objectives entries;
   rows = rows entries;
   columns = columns entries;
   marked = is_marked entries;
   count = length (coefficients entries);
   sides = right_sides entries;
+  ranges = ranges entries;
   bounds = bounds entries;
 }
 
 -- the lists of it that a model is made of
 abbrev pub sections_in : StatedModel → Sections
-sections_in s = record { objectives = s.objectives; rows = s.rows; columns = s.columns; sides = s.sides; bounds = s.bounds }
+sections_in s = record { sense = stated_sense s.senses; objectives = s.objectives; rows = s.rows; columns = s.columns; sides = s.sides; ranges = s.ranges; bounds = s.bounds }
 
 abbrev pub stated_sections : List Entry → Sections
 stated_sections entries = sections_in (stated entries)

@@ -7,9 +7,9 @@ ghost use Rattle.mps_sections.specs.Faults.{is_last, numbers_of_last, has_again}
 use crate::name_set::NameSet;
 use crate::names::copied;
 use crate::numbered::Numbered;
-use crate::pair::Pairs;
 use crate::statements::ColumnLines;
 use lp_model::{List, Name};
+use mps_fields::Pairs;
 use std::alloc::{AllocError, Global};
 
 /// A column that may still get lines.
@@ -32,7 +32,8 @@ pub(crate) struct Columns {
 }
 
 impl OpenColumn {
-    ghost use Rattle.mps_sections.specs.Shown.{open_shown, pairs_shown};
+    ghost use Rattle.mps_sections.specs.Shown.{open_shown};
+    ghost use Rattle.mps_fields.specs.Fields.{pairs_shown};
 
     /// A column with its first line.
     fn new(
@@ -114,7 +115,8 @@ impl OpenColumn {
 }
 
 impl Columns {
-    ghost use Rattle.mps_sections.specs.Shown.{columns_in, pairs_shown, with_line, with_more, open_shown};
+    ghost use Rattle.mps_sections.specs.Shown.{columns_in, with_line, with_more, open_shown};
+    ghost use Rattle.mps_fields.specs.Fields.{pairs_shown};
 
     /// No columns.
     pub(crate) fn new(alloc: Global) -> Columns

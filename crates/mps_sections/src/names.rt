@@ -1,12 +1,11 @@
 // Names of rows, and the numbers beside them that count.
 ghost use Rattle.std.specs.Prelude.{◌≡◌, ◌≤◌, IfOk, map, length};
 ghost use Rattle.mps_sections.specs.Statements.{read_pair, is_coefficient, coefficients_in};
-ghost use Rattle.mps_sections.specs.Shown.{pair_shown, pairs_shown};
+ghost use Rattle.mps_fields.specs.Fields.{pair_shown, pairs_shown};
 
-use crate::numbers::is_zero;
-use crate::pair::{Pair, Pairs};
 use crate::rows::Rows;
 use lp_model::{List, Name};
+use mps_fields::{Pair, Pairs, is_zero};
 use std::alloc::{AllocError, Global};
 
 /// A copy of a name.

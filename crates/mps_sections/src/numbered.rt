@@ -5,9 +5,9 @@ ghost use Rattle.mps_sections.specs.Sets.{has};
 
 use crate::name_set::NameSet;
 use crate::names::copied;
-use crate::pair::{Pair, Pairs};
 use crate::statements::RowNumber;
 use lp_model::List;
+use mps_fields::{Pair, Pairs};
 use std::alloc::{AllocError, Global};
 
 /// Numbers beside rows in order, and the set of these rows.
@@ -20,7 +20,7 @@ pub(crate) struct Numbered {
 
 impl Numbered {
     ghost use Rattle.mps_sections.specs.Faults.{has_again};
-    ghost use Rattle.mps_sections.specs.Shown.{pair_shown, pairs_shown};
+    ghost use Rattle.mps_fields.specs.Fields.{pair_shown, pairs_shown};
 
     /// No numbers.
     pub(crate) fn new(alloc: Global) -> Numbered

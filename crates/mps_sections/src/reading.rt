@@ -1,16 +1,16 @@
 // The lines of a text, one after another, up to ENDATA or to the first fault.
 ghost use Rattle.std.specs.Prelude.{◌≡◌, IfOk, MatchResult};
 ghost use Rattle.mps_text.specs.Reading.{entry_of_record};
+ghost use Rattle.mps_fields.specs.Words.{line_kind};
+ghost use Rattle.mps_fields.specs.Fields.{pairs_shown, pairs_on as pairs_of_kind};
 ghost use Rattle.mps_sections.specs.Faults.{code_in};
 ghost use Rattle.mps_sections.specs.Shown.{held};
 ghost use Rattle.mps_sections.specs.ReadingOf.{IsStopAt, IsEntryNoted, IsTablesReading, IsSectionsReading};
 ghost use Rattle.mps_sections.specs.Limits.{StatesWithinLimits};
 
-use crate::pair::Pairs;
-use crate::pairs::pairs_on;
 use crate::statements::Sections;
 use crate::tables::Tables;
-use crate::words::{is_end, kind_in};
+use mps_fields::{LineKind, Pairs, is_end, kind_in, pairs_on};
 use mps_text::{LineFault, Lines, Record};
 use std::alloc::Global;
 
@@ -21,24 +21,44 @@ pub enum Stop {
     Memory,
 }
 
-/// One more line: its fault, or what the tables hold behind it.
+/// One more line, by its kind and its pairs: its fault, or what the tables hold behind it.
+fn take_line(
+    alloc: Global,
+    tables: &mut Tables,
+    entry: &Record,
+    kind: LineKind,
+    pairs: &Pairs,
+) -> Result<(), Stop>
+    requires kind { kind ≡ line_kind tables.old.section (entry_of_record entry.now) }
+    requires pairs { pairs_shown pairs.now ≡ pairs_of_kind kind (entry_of_record entry.now) }
+    ensures { MatchResult result (λ _. IsEntryNoted tables.old (entry_of_record entry.now) tables.new) (λ stop. IsStopAt (code_in (held tables.old) (entry_of_record entry.now)) entry.now.line stop) }
+{
+    if let Some(code) = tables.fault_of(entry, kind, pairs) {
+        let line = entry.line;
+        return Err(Stop::Fault(LineFault { line, code }));
+    }
+    match tables.note(alloc, entry, kind, pairs) {
+        Ok(()) => Ok(()),
+        Err(_) => Err(Stop::Memory),
+    }
+}
+
+/// One more line: its fault, or what the tables hold behind it. The pairs are taken apart first, since the prover has to see each
+/// type that stands within a borrowed value.
 fn read_line(alloc: Global, tables: &mut Tables, entry: &Record) -> Result<(), Stop>
     ensures { MatchResult result (λ _. IsEntryNoted tables.old (entry_of_record entry.now) tables.new) (λ stop. IsStopAt (code_in (held tables.old) (entry_of_record entry.now)) entry.now.line stop) }
 {
     let kind = kind_in(tables.section, entry);
-    // The borrow checker lends the pairs only in a function that has a `Pair` of its own.
-    let pairs = match pairs_on(kind, entry) {
-        Pairs::Nothing => Pairs::Nothing,
-        Pairs::One(p) => Pairs::One(p),
-        Pairs::Two(p, q) => Pairs::Two(p, q),
-    };
-    if let Some(code) = tables.fault_of(entry, kind, &pairs) {
-        let line = entry.line;
-        return Err(Stop::Fault(LineFault { line, code }));
-    }
-    match tables.note(alloc, entry, kind, &pairs) {
-        Ok(()) => Ok(()),
-        Err(_) => Err(Stop::Memory),
+    match pairs_on(kind, entry) {
+        Pairs::Nothing => take_line(alloc, tables, entry, kind, &Pairs::Nothing),
+        Pairs::One(pair) => take_line(alloc, tables, entry, kind, &Pairs::One(pair)),
+        Pairs::Two(first, second) => take_line(
+            alloc,
+            tables,
+            entry,
+            kind,
+            &Pairs::Two(first, second),
+        ),
     }
 }
 
@@ -50,7 +70,10 @@ fn tables_of(alloc: Global, text: &[u8]) -> Result<Tables, Stop>
     let mut tables = Tables::new(alloc);
     while let Some(item) = lines.next() {
         match item {
-            Err(fault) => return Err(Stop::Fault(fault)),
+            Err(fault) => {
+                drop(tables);
+                return Err(Stop::Fault(fault));
+            }
             Ok(entry) => {
                 read_line(alloc, &mut tables, &entry)?;
                 if is_end(&entry) {
@@ -60,6 +83,7 @@ fn tables_of(alloc: Global, text: &[u8]) -> Result<Tables, Stop>
         }
     }
     let line = lines.next_number();
+    drop(tables);
     Err(Stop::Fault(LineFault { line, code: 4 }))
 }
 

@@ -1,14 +1,14 @@
 // The rows that a text states.
-ghost use Rattle.std.specs.Prelude.{◌≡◌, ◌||◌, ℕ, List as Items, [], ◌++◌, bytes_eq, Some, IfOk};
-ghost use Rattle.mps_sections.specs.Words.{among};
+ghost use Rattle.std.specs.Prelude.{◌≡◌, ◌||◌, ◌&&◌, not, ℕ, List as Items, [], ◌++◌, bytes_eq, Some, IfOk};
+ghost use Rattle.mps_fields.specs.Words.{among};
 ghost use Rattle.mps_sections.specs.Statements.{is_row_name, as_row, as_objective};
 ghost use Rattle.mps_sections.specs.Sets.{has};
 
 use crate::name_set::NameSet;
 use crate::names::copied;
 use crate::statements::RowLine;
-use crate::words::RowKind;
 use lp_model::{List, Name};
+use mps_fields::{Pairs, RowKind};
 use std::alloc::{AllocError, Global};
 
 /// The rows with sides and the names of the rows of type N, each in order, and the sets of all their names and of those of
@@ -24,6 +24,9 @@ pub(crate) struct Rows {
 }
 
 impl Rows {
+    ghost use Rattle.std.specs.List.{list_any};
+    ghost use Rattle.mps_fields.specs.Fields.{pairs_shown};
+
     /// No rows.
     pub(crate) fn new(alloc: Global) -> Rows
         ensures sided { result.sided ≡ [] }
@@ -49,6 +52,35 @@ impl Rows {
         ensures { result ≡ is_row_name self.now.sided name.now }
     {
         self.with_sides.contains(name)
+    }
+
+    /// Whether a row without sides has the name: it is of type N.
+    pub(crate) fn is_free(&self, name: &[u8]) -> bool
+        ensures { result ≡ ((is_row_name self.now.sided name.now || among self.now.objectives name.now) && not (is_row_name self.now.sided name.now)) }
+    {
+        self.known.contains(name) && !self.with_sides.contains(name)
+    }
+
+    /// Whether a row of the pairs isn't known.
+    pub(crate) fn has_unknown(&self, pairs: &Pairs) -> bool
+        ensures { result ≡ list_any (λ p. not (is_row_name self.now.sided p.row || among self.now.objectives p.row)) (pairs_shown pairs.now) }
+    {
+        match pairs {
+            Pairs::Nothing => false,
+            Pairs::One(p) => !self.contains(p.row),
+            Pairs::Two(p, q) => !self.contains(p.row) || !self.contains(q.row),
+        }
+    }
+
+    /// Whether a row of the pairs is known and has no sides.
+    pub(crate) fn has_free(&self, pairs: &Pairs) -> bool
+        ensures { result ≡ list_any (λ p. (is_row_name self.now.sided p.row || among self.now.objectives p.row) && not (is_row_name self.now.sided p.row)) (pairs_shown pairs.now) }
+    {
+        match pairs {
+            Pairs::Nothing => false,
+            Pairs::One(p) => self.is_free(p.row),
+            Pairs::Two(p, q) => self.is_free(p.row) || self.is_free(q.row),
+        }
     }
 
     /// The rows with one more.

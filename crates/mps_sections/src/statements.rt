@@ -1,8 +1,7 @@
 // What lines state: rows, numbers beside rows, columns and bounds.
-use crate::numbers::Limit;
-use crate::words::{BoundKind, RowKind};
 use frac128::Frac;
-use lp_model::{List, Name};
+use lp_model::{List, Name, Sense};
+use mps_fields::{BoundKind, Limit, RowKind};
 
 /// A row with sides.
 #[derive(Drop)]
@@ -16,6 +15,14 @@ pub struct RowLine {
 pub struct RowNumber {
     pub row: Name,
     pub number: Frac,
+}
+
+/// A row's name, the number of RANGES that stands beside it, and the line.
+#[derive(Drop)]
+pub struct RangeLine {
+    pub row: Name,
+    pub number: Frac,
+    pub line: u64,
 }
 
 /// A column with the numbers of all its lines, the line of its first, and whether that stands between markers.
@@ -35,13 +42,15 @@ pub struct BoundLine {
     pub limit: Limit,
 }
 
-/// What the sections of a text state: the names of the rows of type N, the rows with sides, the columns, the numbers of
-/// RHS and the bound lines, each in the order of their lines.
+/// What the sections of a text state: the sense, MIN where none stands; the names of the rows of type N, the rows with
+/// sides, the columns, the numbers of RHS and of RANGES and the bound lines, each in the order of their lines.
 #[derive(Drop)]
 pub struct Sections {
+    pub sense: Sense,
     pub objectives: List<Name>,
     pub rows: List<RowLine>,
     pub columns: List<ColumnLines>,
     pub sides: List<RowNumber>,
+    pub ranges: List<RangeLine>,
     pub bounds: List<BoundLine>,
 }

@@ -1,21 +1,24 @@
 // What a text has stated so far, and the fault of a line that comes next.
-ghost use Rattle.std.specs.Prelude.{◌≡◌, ◌+◌, ◌≤◌, [], ◌∷◌, true, IfOk, OnOk, length, map, nat_lt, not, ◌&&◌, ◌||◌};
+ghost use Rattle.std.specs.Prelude.{◌≡◌, ◌+◌, ◌≤◌, [], ◌∷◌, true, IfOk, OnOk, length, map, nat_lt, not, ◌&&◌, ◌||◌, option_to_list};
 ghost use Rattle.std.specs.List.{list_any};
 ghost use Rattle.mps_text.specs.Reading.{entry_of_record};
-ghost use Rattle.mps_sections.specs.Words.{word, is_marker, bars, section_rank, is_rows, is_columns, line_kind as kind_of_line};
-ghost use Rattle.mps_sections.specs.Statements.{StatedModel, stated, sections_in, coefficients_in, read_pair, column_pairs as pairs_in_column, rhs_pairs as pairs_in_rhs, bound_column as column_of_bound, bound_field};
-ghost use Rattle.mps_sections.specs.Faults.{least, tests_of, section_tests, row_tests, marker_tests, column_tests, rhs_tests, bound_tests, place_tests, pair_tests, has_unknown, has_not_number, has_too_wide, is_late, lacks_section, code_in, has_count as has_fields};
+ghost use Rattle.mps_fields.specs.Words.{word, is_marker, bars, section_rank, is_rows, is_columns, is_name_section, is_sense_section, line_kind as kind_of_line};
+ghost use Rattle.mps_sections.specs.Statements.{StatedModel, stated, sections_in, coefficients_in, read_pair, stated_sense};
+ghost use Rattle.mps_fields.specs.Fields.{has_count as has_fields, column_pairs as pairs_in_column, set_pairs as pairs_behind_set, bound_column as column_of_bound, bound_field, has_unknown_sense as is_without_sense, has_not_number, has_too_wide};
+ghost use Rattle.mps_sections.specs.Faults.{least, has_sense, most_fields, tests_of, section_tests, sense_tests, row_tests, marker_tests, column_tests, rhs_tests, range_tests, bound_tests, place_tests, pair_tests, has_unknown, is_late, lacks_section, code_in};
 
 use crate::columns::Columns;
 use crate::names::{copied, count_coefficients};
 use crate::numbered::Numbered;
-use crate::numbers::{is_misplaced, is_no_limit, is_wide_limit, limit_of, limit_or_plus};
-use crate::pair::Pairs;
-use crate::pairs::{has_count, is_long};
+use crate::ranges::Ranges;
 use crate::rows::Rows;
 use crate::statements::{BoundLine, Sections};
-use crate::words::{BoundKind, LineKind, RowKind, Section, first_word, is_key};
-use lp_model::List;
+use lp_model::{List, Sense};
+use mps_fields::{
+    BoundKind, LineKind, Pairs, RowKind, Section, first_word, has_count, has_unknown_sense,
+    header_sense, is_key, is_long, is_misplaced, is_no_limit, is_wide_limit, limit_of,
+    limit_or_plus, sense_of,
+};
 use mps_text::{Fields, Record};
 use std::alloc::{AllocError, Global};
 use std::mem;
@@ -25,12 +28,14 @@ use std::mem;
 pub(crate) struct Tables {
     pub section: Option<Section>,
     pub headers: List<Section>,
+    pub senses: List<Sense>,
     pub rows: Rows,
     pub columns: Columns,
     pub marked: bool,
     /// How many non-zero numbers stand beside rows with sides.
     pub count: u64,
     pub sides: Numbered,
+    pub ranges: Ranges,
     pub bounds: List<BoundLine>,
     ghost few: { count ≤ 50000 },
 }
@@ -69,6 +74,47 @@ fn last_word<'a>(entry: &Record<'a>) -> &'a [u8]
     }
 }
 
+fn has_sense(senses: &[Sense]) -> bool
+    ensures { result ≡ has_sense senses.now }
+{
+    match senses {
+        [_, ..] => true,
+        [] => false,
+    }
+}
+
+/// How many fields a header but that of NAME may have.
+fn most_fields(section: Section) -> usize
+    ensures is { result ≡ most_fields section }
+    ensures few { result ≤ 2 }
+{
+    if section.is_sense() { 2 } else { 1 }
+}
+
+/// Whether a header has more fields than its section may have.
+fn has_more_fields(section: Section, entry: &Record) -> bool
+    ensures { result ≡ (not (is_name_section section) && not (has_fields (entry_of_record entry.now) 1 (most_fields section))) }
+{
+    !section.is_name() && !has_count(entry, 1, most_fields(section))
+}
+
+/// Whether the header OBJSENSE has a second field that is no sense.
+fn lacks_sense(section: Section, entry: &Record) -> bool
+    ensures { result ≡ (is_sense_section section && is_without_sense (entry_of_record entry.now)) }
+{
+    section.is_sense() && has_unknown_sense(entry)
+}
+
+/// The first sense, MIN where there is none.
+fn first_sense(senses: &[Sense]) -> Sense
+    ensures { result ≡ stated_sense senses.now }
+{
+    match senses {
+        [sense, ..] => *sense,
+        [] => Sense::Min,
+    }
+}
+
 fn has_late(headers: &[Section], section: Section) -> bool
     ensures { result ≡ list_any (λ stands. bars stands section) headers.now }
 {
@@ -88,16 +134,17 @@ fn has_columns(headers: &[Section]) -> bool
 }
 
 fn lacks(headers: &[Section], section: Section) -> bool
-    ensures { result ≡ ((nat_lt 2 (section_rank section) && not (list_any is_rows headers.now)) || (nat_lt 3 (section_rank section) && not (list_any is_columns headers.now))) }
+    ensures { result ≡ ((nat_lt 3 (section_rank section) && not (list_any is_rows headers.now)) || (nat_lt 4 (section_rank section) && not (list_any is_columns headers.now))) }
 {
-    let lacks_rows = 2 < section.rank() && !has_rows(headers);
-    let lacks_columns = 3 < section.rank() && !has_columns(headers);
+    let lacks_rows = 3 < section.rank() && !has_rows(headers);
+    let lacks_columns = 4 < section.rank() && !has_columns(headers);
     lacks_rows || lacks_columns
 }
 
 #[tactic(auto, unfolding(crate::specs::Shown::held))]
 impl Tables {
-    ghost use Rattle.mps_sections.specs.Shown.{held, after, after_kind, pairs_shown, pairs_on};
+    ghost use Rattle.mps_sections.specs.Shown.{held, after, after_kind, with_senses};
+    ghost use Rattle.mps_fields.specs.Fields.{pairs_shown, pairs_on};
 
     /// What no lines state.
     #[tactic(auto, unfolding(crate::specs::Shown::held, crate::specs::Statements::stated, crate::specs::Statements::gathered_behind))]
@@ -107,11 +154,13 @@ impl Tables {
         Tables {
             section: None,
             headers: List::new(alloc),
+            senses: List::new(alloc),
             rows: Rows::new(alloc),
             columns: Columns::new(alloc),
             marked: false,
             count: 0,
             sides: Numbered::new(alloc),
+            ranges: Ranges::new(alloc),
             bounds: List::new(alloc),
         }
     }
@@ -124,11 +173,30 @@ impl Tables {
         };
         let headers = self.headers.as_slice();
         if has_late(headers, section) || lacks(headers, section) {
-            Some(4)
-        } else if !section.is_name() && !has_count(entry, 1, 1) {
+            return Some(4);
+        }
+        if has_more_fields(section, entry) {
             Some(6)
+        } else if lacks_sense(section, entry) {
+            Some(8)
         } else {
             None
+        }
+    }
+
+    /// The least fault of a data line of OBJSENSE.
+    fn fault_of_sense(&self, entry: &Record) -> Option<u8>
+        ensures { result ≡ least (sense_tests (held self.now) (entry_of_record entry.now)) }
+    {
+        if has_sense(self.senses.as_slice()) {
+            return Some(5);
+        }
+        let Fields::One(word) = entry.fields else {
+            return Some(6);
+        };
+        match sense_of(word) {
+            Some(_) => None,
+            None => Some(8),
         }
     }
 
@@ -169,7 +237,7 @@ impl Tables {
     fn fault_of_pairs(&self, pairs: &Pairs) -> Option<u8>
         ensures { result ≡ least (pair_tests (held self.now) (pairs_shown pairs.now)) }
     {
-        if pairs.has_unknown(&self.rows) {
+        if self.rows.has_unknown(pairs) {
             Some(11)
         } else if pairs.has_not_number() {
             Some(12)
@@ -228,7 +296,7 @@ impl Tables {
     }
 
     fn fault_of_rhs(&self, entry: &Record, pairs: &Pairs) -> Option<u8>
-        requires { pairs_shown pairs.now ≡ pairs_in_rhs (entry_of_record entry.now) }
+        requires { pairs_shown pairs.now ≡ pairs_behind_set (entry_of_record entry.now) }
         ensures { result ≡ least (rhs_tests (held self.now) (entry_of_record entry.now)) }
     {
         if !has_count(entry, 2, 5) {
@@ -245,6 +313,29 @@ impl Tables {
             return Some(22);
         }
         None
+    }
+
+    fn fault_of_range(&self, entry: &Record, pairs: &Pairs) -> Option<u8>
+        requires { pairs_shown pairs.now ≡ pairs_behind_set (entry_of_record entry.now) }
+        ensures { result ≡ least (range_tests (held self.now) (entry_of_record entry.now)) }
+    {
+        if !has_count(entry, 2, 5) {
+            return Some(6);
+        }
+        if pairs.has_long() {
+            return Some(7);
+        }
+        let fault = self.fault_of_pairs(pairs);
+        if fault.is_some() {
+            return fault;
+        }
+        if pairs.has_twice() || self.ranges.has_again(pairs) {
+            Some(22)
+        } else if self.rows.has_free(pairs) {
+            Some(23)
+        } else {
+            None
+        }
     }
 
     /// The least fault of a bound line of two to four fields, by its type.
@@ -292,12 +383,27 @@ impl Tables {
     {
         match kind {
             LineKind::Header => self.fault_of_header(entry),
+            LineKind::SenseLine => self.fault_of_sense(entry),
             LineKind::Row => self.fault_of_row(entry),
             LineKind::Marker => self.fault_of_marker(entry),
             LineKind::Column => self.fault_of_column(entry, pairs),
             LineKind::RightSide => self.fault_of_rhs(entry, pairs),
+            LineKind::Range => self.fault_of_range(entry, pairs),
             LineKind::Bound => self.fault_of_bound(entry),
             LineKind::Stray => Some(5),
+        }
+    }
+
+    /// A sense, if there is one.
+    fn note_sense(&mut self, sense: Option<Sense>) -> Result<(), AllocError>
+        ensures { OnOk result (held self.new ≡ with_senses (option_to_list sense) (held self.old)) }
+    {
+        match sense {
+            Some(sense) => {
+                self.senses.push(sense)?;
+                Ok(())
+            }
+            None => Ok(()),
         }
     }
 
@@ -305,11 +411,15 @@ impl Tables {
         ensures { OnOk result (held self.new ≡ after_kind LineKind.Header (held self.old) (entry_of_record entry.now)) }
     {
         let section = Section::of(first_word(entry));
-        if let Some(stands) = section {
-            self.headers.push(stands)?;
-        }
+        let sense = header_sense(section, entry);
         self.section = section;
-        Ok(())
+        match section {
+            Some(stands) => {
+                self.headers.push(stands)?;
+                self.note_sense(sense)
+            }
+            None => self.note_sense(sense),
+        }
     }
 
     fn note_row(&mut self, alloc: Global, entry: &Record) -> Result<(), AllocError>
@@ -353,11 +463,20 @@ impl Tables {
     }
 
     fn note_rhs(&mut self, alloc: Global, entry: &Record, pairs: &Pairs) -> Result<(), AllocError>
-        requires { pairs_shown pairs.now ≡ pairs_in_rhs (entry_of_record entry.now) }
+        requires { pairs_shown pairs.now ≡ pairs_behind_set (entry_of_record entry.now) }
         ensures { OnOk result (held self.new ≡ after_kind LineKind.RightSide (held self.old) (entry_of_record entry.now)) }
     {
         let sides = mem::replace(&mut self.sides, Numbered::new(alloc));
         self.sides = sides.with(alloc, pairs)?;
+        Ok(())
+    }
+
+    fn note_range(&mut self, alloc: Global, entry: &Record, pairs: &Pairs) -> Result<(), AllocError>
+        requires { pairs_shown pairs.now ≡ pairs_behind_set (entry_of_record entry.now) }
+        ensures { OnOk result (held self.new ≡ after_kind LineKind.Range (held self.old) (entry_of_record entry.now)) }
+    {
+        let ranges = mem::replace(&mut self.ranges, Ranges::new(alloc));
+        self.ranges = ranges.with(alloc, entry.line, pairs)?;
         Ok(())
     }
 
@@ -394,6 +513,7 @@ impl Tables {
     {
         match kind {
             LineKind::Header => self.note_header(entry),
+            LineKind::SenseLine => self.note_sense(sense_of(first_word(entry))),
             LineKind::Row => self.note_row(alloc, entry),
             LineKind::Marker => {
                 self.note_marker(entry);
@@ -401,6 +521,7 @@ impl Tables {
             }
             LineKind::Column => self.note_column(alloc, entry, pairs),
             LineKind::RightSide => self.note_rhs(alloc, entry, pairs),
+            LineKind::Range => self.note_range(alloc, entry, pairs),
             LineKind::Bound => self.note_bound(alloc, entry),
             LineKind::Stray => Ok(()),
         }
@@ -413,27 +534,35 @@ impl Tables {
         let Tables {
             section: _,
             headers: _,
+            senses,
             rows,
             columns,
             marked: _,
             count: _,
             sides,
+            ranges,
             bounds,
         } = self;
+        let sense = first_sense(senses.as_slice());
+        drop(senses);
         let (objectives, rows) = rows.into_lists();
         let sides = sides.into_list();
+        let ranges = ranges.into_list();
         match columns.into_list() {
             Ok(columns) => Ok(Sections {
+                sense,
                 objectives,
                 rows,
                 columns,
                 sides,
+                ranges,
                 bounds,
             }),
             Err(error) => {
                 drop(objectives);
                 drop(rows);
                 drop(sides);
+                drop(ranges);
                 drop(bounds);
                 Err(error)
             }

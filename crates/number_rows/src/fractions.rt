@@ -121,6 +121,14 @@ fn parts_told(alloc: Global, number: &Frac) -> Result<String> {
     Ok(format!(in alloc; "{top} {bottom}")?)
 }
 
+/// What a call of one number answers in words.
+fn word_told(alloc: Global, call: &str, number: &Frac) -> Result<String, AllocError> {
+    match call {
+        "sign" => String::from_str(alloc, sign_of(number)),
+        _ => String::from_str(alloc, truth(number.is_whole())),
+    }
+}
+
 /// What a call of one number answers.
 fn of_one(alloc: Global, call: &str, number: &Frac) -> Result<String> {
     match call {
@@ -129,8 +137,7 @@ fn of_one(alloc: Global, call: &str, number: &Frac) -> Result<String> {
         "floor" => whole_told(alloc, number.floor()),
         "ceil" => whole_told(alloc, number.ceil()),
         "parts" => parts_told(alloc, number),
-        "sign" => Ok(String::from_str(alloc, sign_of(number))?),
-        "is_whole" => Ok(String::from_str(alloc, truth(number.is_whole()))?),
+        "sign" | "is_whole" => Ok(word_told(alloc, call, number)?),
         "write" => written(alloc, number),
         _ => bail!("no call of one number: {call}"),
     }
@@ -144,16 +151,30 @@ fn order_of(left: &Frac, right: &Frac) -> &'static str {
     }
 }
 
+/// What a sum, a difference or a product of two numbers answers.
+fn computed(alloc: Global, left: &Frac, sign: &str, right: &Frac) -> Result<String, AllocError> {
+    match sign {
+        "+" => told(alloc, &left.add(right)),
+        "-" => told(alloc, &left.sub(right)),
+        _ => told(alloc, &left.mul(right)),
+    }
+}
+
+/// What a comparison of two numbers answers.
+fn compared(alloc: Global, left: &Frac, sign: &str, right: &Frac) -> Result<String, AllocError> {
+    match sign {
+        "against" => String::from_str(alloc, order_of(left, right)),
+        "<" => String::from_str(alloc, truth(*left < *right)),
+        _ => String::from_str(alloc, truth(*left == *right)),
+    }
+}
+
 /// What a call of two numbers answers.
 fn of_two(alloc: Global, left: &Frac, sign: &str, right: &Frac) -> Result<String> {
     match sign {
-        "+" => Ok(told(alloc, &left.add(right))?),
-        "-" => Ok(told(alloc, &left.sub(right))?),
-        "*" => Ok(told(alloc, &left.mul(right))?),
+        "+" | "-" | "*" => Ok(computed(alloc, left, sign, right)?),
         "/" if !right.is_zero() => Ok(told(alloc, &left.div(right))?),
-        "against" => Ok(String::from_str(alloc, order_of(left, right))?),
-        "<" => Ok(String::from_str(alloc, truth(*left < *right))?),
-        "==" => Ok(String::from_str(alloc, truth(*left == *right))?),
+        "against" | "<" | "==" => Ok(compared(alloc, left, sign, right)?),
         _ => bail!("no call of two numbers: {sign}"),
     }
 }

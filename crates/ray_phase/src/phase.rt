@@ -98,7 +98,10 @@ pub fn ray(alloc: Global, model: &Model, pivot_limit: u64) -> RayAnswer
         Err(_) => return RayAnswer::Memory,
     };
     match state.solve(alloc, pivot_limit) {
-        Err(_) => RayAnswer::Memory,
+        Err(_) => {
+            drop(state);
+            RayAnswer::Memory
+        }
         Ok(
             Lp::Optimal {
                 point,
@@ -113,7 +116,13 @@ pub fn ray(alloc: Global, model: &Model, pivot_limit: u64) -> RayAnswer
                 basis: _,
             },
         ) => unreachable!(),
-        Ok(Lp::Pivots { basis }) => RayAnswer::Pivots { basis },
-        Ok(Lp::Wide { step, basis }) => RayAnswer::Wide(wide_at(alloc, step, basis)),
+        Ok(Lp::Pivots { basis }) => {
+            drop(state);
+            RayAnswer::Pivots { basis }
+        }
+        Ok(Lp::Wide { step, basis }) => {
+            drop(state);
+            RayAnswer::Wide(wide_at(alloc, step, basis))
+        }
     }
 }

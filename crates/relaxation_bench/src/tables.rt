@@ -68,6 +68,67 @@ fn column(
     })
 }
 
+/// A row of at least a digit.
+fn row(alloc: Global, random: &mut Pcg32, place: u32) -> Result<Edit, AllocError> {
+    Ok(Edit::AddRow {
+        name: name(alloc, b'r', place)?,
+        lo: Some(Frac::whole(draw(random, 9) as i64 + 1)),
+        hi: None,
+        entries: List::new(alloc),
+    })
+}
+
+/// A model without rows and columns.
+fn empty(alloc: Global) -> Result<Model, EditFault> {
+    let first = name(alloc, b'C', 0)?;
+    let second = name(alloc, b'D', 0)?;
+    if first.as_slice() == second.as_slice() {
+        return Err(EditFault::Memory);
+    }
+    let constants = [Frac::whole(0), Frac::whole(0)];
+    Ok(Model::empty(alloc, Sense::Min, first, second, constants))
+}
+
+/// Adds rows.
+fn add_rows(
+    model: &mut Model,
+    alloc: Global,
+    random: &mut Pcg32,
+    size: Size,
+) -> Result<(), EditFault> {
+    for place in 0..size.rows {
+        apply(model, alloc, row(alloc, random, place)?)?;
+    }
+    Ok(())
+}
+
+/// Adds columns.
+fn add_columns(
+    model: &mut Model,
+    alloc: Global,
+    random: &mut Pcg32,
+    size: Size,
+    is_interval: bool,
+) -> Result<(), EditFault> {
+    for place in 0..size.columns {
+        let edit = column(alloc, random, is_interval, size.rows, place)?;
+        apply(model, alloc, edit)?;
+    }
+    Ok(())
+}
+
+/// Adds rows and columns.
+fn add_parts(
+    model: &mut Model,
+    alloc: Global,
+    random: &mut Pcg32,
+    size: Size,
+    is_interval: bool,
+) -> Result<(), EditFault> {
+    add_rows(model, alloc, random, size)?;
+    add_columns(model, alloc, random, size, is_interval)
+}
+
 /// A model with rows of at least a digit.
 pub fn model(
     alloc: Global,
@@ -75,25 +136,12 @@ pub fn model(
     size: Size,
     is_interval: bool,
 ) -> Result<Model, EditFault> {
-    let first = name(alloc, b'C', 0)?;
-    let second = name(alloc, b'D', 0)?;
-    if first.as_slice() == second.as_slice() {
-        return Err(EditFault::Memory);
+    let mut model = empty(alloc)?;
+    match add_parts(&mut model, alloc, random, size, is_interval) {
+        Ok(()) => Ok(model),
+        Err(fault) => {
+            drop(model);
+            Err(fault)
+        }
     }
-    let constants = [Frac::whole(0), Frac::whole(0)];
-    let mut model = Model::empty(alloc, Sense::Min, first, second, constants);
-    for row in 0..size.rows {
-        let edit = Edit::AddRow {
-            name: name(alloc, b'r', row)?,
-            lo: Some(Frac::whole(draw(random, 9) as i64 + 1)),
-            hi: None,
-            entries: List::new(alloc),
-        };
-        apply(&mut model, alloc, edit)?;
-    }
-    for place in 0..size.columns {
-        let edit = column(alloc, random, is_interval, size.rows, place)?;
-        apply(&mut model, alloc, edit)?;
-    }
-    Ok(model)
 }

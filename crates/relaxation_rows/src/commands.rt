@@ -1,7 +1,7 @@
 // The commands of a row: what they have said so far, and what they ask.
 use crate::leaves::work_on;
 use crate::rays::ray_of;
-use crate::solving::{numbers, solve, steps, walk};
+use crate::solving::{go_on, solve};
 use crate::tables::{bring_in, exchange, push_entry};
 use anyhow::{Result, bail, ensure};
 use branch_tree::Job;
@@ -15,6 +15,7 @@ use model_texts::{
 use row_tableau::{Relax, RelaxKind, Tableau};
 use row_texts::{Subject, number_of};
 use std::alloc::Global;
+use std::mem::replace;
 
 /// A model, what its relaxation is taken of and begins at, a table of a basis, and what was solved last.
 #[derive(Drop)]
@@ -142,19 +143,40 @@ impl Relaxations {
             "a head below the model's lines"
         );
         if let Some(model) = head_of(self.alloc, line)? {
-            self.model = model;
+            drop(replace(&mut self.model, model));
         }
+        Ok(())
+    }
+
+    /// Takes the changes that a relaxation is taken in.
+    fn set_region(&mut self, words: &mut Words) -> Result<()> {
+        let region = region_of(self.alloc, &self.model, words)?;
+        drop(replace(&mut self.region, region));
+        Ok(())
+    }
+
+    /// Takes the list that a start is at.
+    fn set_list(&mut self, words: &mut Words) -> Result<()> {
+        let list = basis_of(self.alloc, &self.model, words)?;
+        drop(replace(&mut self.list, Some(list)));
+        Ok(())
+    }
+
+    /// Begins the table.
+    fn set_table(&mut self) -> Result<()> {
+        let table = Tableau::slack_start(self.alloc, &self.relax())?;
+        drop(replace(&mut self.table, Some(table)));
         Ok(())
     }
 
     /// Takes what a relaxation is taken of and begins at. False: the command says something else.
     fn set(&mut self, command: &str, words: &mut Words) -> Result<bool> {
         match command {
-            "region" => self.region = region_of(self.alloc, &self.model, words)?,
+            "region" => self.set_region(words)?,
             "relax" => self.kind = kind_of(words)?,
-            "from" => self.list = Some(basis_of(self.alloc, &self.model, words)?),
+            "from" => self.set_list(words)?,
             "target" => self.target = Some(words.number()?),
-            "table" => self.table = Some(Tableau::slack_start(self.alloc, &self.relax())?),
+            "table" => self.set_table()?,
             _ => return Ok(false),
         }
         Ok(true)
@@ -163,20 +185,44 @@ impl Relaxations {
     /// Solves, and keeps what was found.
     fn solve(&mut self, limit: u64, replies: &mut String) -> Result<()> {
         let solved = solve(self.alloc, &self.relax(), &self.list, limit, replies)?;
-        self.solved = solved;
+        drop(replace(&mut self.solved, solved));
         Ok(())
+    }
+
+    /// Works the leaf.
+    fn work(&self, limit: u64, replies: &mut String) -> Result<()> {
+        let job = self.job()?;
+        let worked = work_on(self.alloc, &self.model, &job, limit, replies);
+        drop(job);
+        worked
+    }
+
+    /// Moves as the command says.
+    fn go_on(&self, command: &str, limit: u64, replies: &mut String) -> Result<()> {
+        go_on(
+            self.alloc,
+            &self.relax(),
+            &self.list,
+            command,
+            limit,
+            replies,
+        )
+    }
+
+    /// Looks for what the command says.
+    fn look(&mut self, command: &str, limit: u64, replies: &mut String) -> Result<()> {
+        match command {
+            "solve" => self.solve(limit, replies),
+            "ray" => ray_of(self.alloc, &self.model, limit, replies),
+            _ => self.work(limit, replies),
+        }
     }
 
     /// Asks something with a limit of moves. False: the command is none of these.
     fn run(&mut self, command: &str, words: &mut Words, replies: &mut String) -> Result<bool> {
-        let alloc = self.alloc;
         match command {
-            "walk" => walk(alloc, &self.relax(), &self.list, limit_of(words)?, replies)?,
-            "steps" => steps(alloc, &self.relax(), &self.list, limit_of(words)?, replies)?,
-            "numbers" => numbers(alloc, &self.relax(), &self.list, limit_of(words)?, replies)?,
-            "solve" => self.solve(limit_of(words)?, replies)?,
-            "ray" => ray_of(alloc, &self.model, limit_of(words)?, replies)?,
-            "work" => work_on(alloc, &self.model, &self.job()?, limit_of(words)?, replies)?,
+            "walk" | "steps" | "numbers" => self.go_on(command, limit_of(words)?, replies)?,
+            "solve" | "ray" | "work" => self.look(command, limit_of(words)?, replies)?,
             _ => return Ok(false),
         }
         Ok(true)
@@ -208,18 +254,25 @@ impl Relaxations {
         Ok(true)
     }
 
-    /// Asks something of the table.
-    fn ask_table(&mut self, command: &str, words: &mut Words, replies: &mut String) -> Result<()> {
-        let list = basis_of(self.alloc, &self.model, words)?;
+    /// Asks something of the table by a list of variables.
+    fn ask_by(&mut self, command: &str, list: &Basis, replies: &mut String) -> Result<()> {
         let Some(table) = &mut self.table else {
             bail!("no `table` above `{command}`");
         };
         match (command, list.basic.as_slice()) {
-            ("bring", _) => bring_in(replies, &self.model, table, &list),
+            ("bring", _) => bring_in(replies, &self.model, table, list),
             ("exchange", [basic, other]) => exchange(replies, &self.model, table, *basic, *other),
             ("entry", [basic, other]) => push_entry(replies, table, *basic, *other),
             _ => bail!("no two variables behind `{command}`"),
         }
+    }
+
+    /// Asks something of the table.
+    fn ask_table(&mut self, command: &str, words: &mut Words, replies: &mut String) -> Result<()> {
+        let list = basis_of(self.alloc, &self.model, words)?;
+        let asked = self.ask_by(command, &list, replies);
+        drop(list);
+        asked
     }
 }
 

@@ -127,11 +127,15 @@ pub fn work_on(
         return Ok(());
     };
     if model.is_empty_region(job.region.as_slice()) {
+        drop(first);
         text.push_str("empty region\n")?;
         return Ok(());
     }
     first_in_law();
     let _lawful = model.cols();
     let worked = work(alloc, model, job, &first, pivots);
-    push_worked(text, model, job, &worked)
+    drop(first);
+    let pushed = push_worked(text, model, job, &worked);
+    drop(worked);
+    pushed
 }

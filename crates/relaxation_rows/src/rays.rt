@@ -3,7 +3,7 @@ use crate::judging::least_form;
 use crate::steps::push_step;
 use anyhow::{Result, bail};
 use frac128::Frac;
-use lp_model::{Bound, Model, Point};
+use lp_model::{Basis, Bound, Model, Point};
 use model_texts::{push_basis, push_point};
 use ray_phase::{RayAnswer, ray};
 use std::alloc::Global;
@@ -62,18 +62,29 @@ fn push_ray(text: &mut String, model: &Model, direction: &Point) -> Result<()> {
     Ok(())
 }
 
-/// Looks for a ray, and writes what was found.
-pub fn ray_of(alloc: Global, model: &Model, limit: u64, text: &mut String) -> Result<()> {
-    match &ray(alloc, model, limit) {
+/// Writes the basis that the ray phase ended at, where there is no ray.
+fn push_dual_basis(text: &mut String, model: &Model, basis: &Basis) -> Result<()> {
+    text.push_str("basis")?;
+    push_basis(text, model, basis)?;
+    text.push('\n')?;
+    Ok(())
+}
+
+fn push_answer(text: &mut String, model: &Model, answer: &RayAnswer) -> Result<()> {
+    match answer {
         RayAnswer::Ray(direction) => push_ray(text, model, direction)?,
-        RayAnswer::DualBasis(basis) => {
-            text.push_str("basis")?;
-            push_basis(text, model, basis)?;
-            text.push('\n')?;
-        }
+        RayAnswer::DualBasis(basis) => push_dual_basis(text, model, basis)?,
         RayAnswer::Pivots { .. } => text.push_str("pivots\n")?,
         RayAnswer::Wide(at) => push_step(text, model, at.step)?,
         RayAnswer::Memory => bail!("no memory"),
     }
     Ok(())
+}
+
+/// Looks for a ray, and writes what was found.
+pub fn ray_of(alloc: Global, model: &Model, limit: u64, text: &mut String) -> Result<()> {
+    let answer = ray(alloc, model, limit);
+    let pushed = push_answer(text, model, &answer);
+    drop(answer);
+    pushed
 }

@@ -27,20 +27,6 @@ fn push_walk(text: &mut String, model: &Model, state: &mut LpState<'_>, limit: u
     Ok(())
 }
 
-/// Walks from where the relaxation begins.
-pub fn walk(
-    alloc: Global,
-    relax: &Relax<'_>,
-    list: &Option<Basis>,
-    limit: u64,
-    text: &mut String,
-) -> Result<()> {
-    if let Some(mut state) = begin(alloc, relax, list, text)? {
-        push_walk(text, relax.model, &mut state, limit)?;
-    }
-    Ok(())
-}
-
 /// Makes steps up to one that does not move, at most so many: how many moved, and what the last one was.
 fn steps_of(state: &mut LpState<'_>, limit: u64) -> (u64, Result<Step, WideStep>) {
     for moves in 0..limit {
@@ -64,20 +50,6 @@ fn push_steps(text: &mut String, model: &Model, state: &mut LpState<'_>, limit: 
     Ok(())
 }
 
-/// Makes steps from where the relaxation begins.
-pub fn steps(
-    alloc: Global,
-    relax: &Relax<'_>,
-    list: &Option<Basis>,
-    limit: u64,
-    text: &mut String,
-) -> Result<()> {
-    if let Some(mut state) = begin(alloc, relax, list, text)? {
-        push_steps(text, relax.model, &mut state, limit)?;
-    }
-    Ok(())
-}
-
 /// Writes the number and the multiplier of each variable.
 fn push_numbers(text: &mut String, model: &Model, state: &LpState<'_>) -> Result<()> {
     for variable in 0..state.variables() {
@@ -91,18 +63,46 @@ fn push_numbers(text: &mut String, model: &Model, state: &LpState<'_>) -> Result
 }
 
 /// Walks, and writes the number and the multiplier of each variable where that ended.
-pub fn numbers(
+fn push_walk_and_numbers(
+    text: &mut String,
+    model: &Model,
+    state: &mut LpState<'_>,
+    limit: u64,
+) -> Result<()> {
+    push_walk(text, model, state, limit)?;
+    push_numbers(text, model, state)
+}
+
+/// Moves as a command says, and writes what that came to.
+fn push_moves(
+    text: &mut String,
+    model: &Model,
+    state: &mut LpState<'_>,
+    command: &str,
+    limit: u64,
+) -> Result<()> {
+    match command {
+        "walk" => push_walk(text, model, state, limit),
+        "steps" => push_steps(text, model, state, limit),
+        _ => push_walk_and_numbers(text, model, state, limit),
+    }
+}
+
+/// Moves as the command `walk`, `steps` or `numbers` says, from where the relaxation begins.
+pub fn go_on(
     alloc: Global,
     relax: &Relax<'_>,
     list: &Option<Basis>,
+    command: &str,
     limit: u64,
     text: &mut String,
 ) -> Result<()> {
-    if let Some(mut state) = begin(alloc, relax, list, text)? {
-        push_walk(text, relax.model, &mut state, limit)?;
-        push_numbers(text, relax.model, &state)?;
-    }
-    Ok(())
+    let Some(mut state) = begin(alloc, relax, list, text)? else {
+        return Ok(());
+    };
+    let moved = push_moves(text, relax.model, &mut state, command, limit);
+    drop(state);
+    moved
 }
 
 /// Writes the value of an optimum, and judges its point and its multipliers where the relaxation is plain.
@@ -141,7 +141,12 @@ pub fn solve(
     let Some(mut state) = begin(alloc, relax, list, text)? else {
         return Ok(None);
     };
-    let lp = state.solve(alloc, limit)?;
-    push_lp(text, relax, &lp)?;
+    let solved = state.solve(alloc, limit);
+    drop(state);
+    let lp = solved?;
+    if let Err(error) = push_lp(text, relax, &lp) {
+        drop(lp);
+        return Err(error);
+    }
     Ok(Some(lp))
 }

@@ -47,7 +47,9 @@ fn at_list<'a>(
         text.push_str("no first basis\n")?;
         return Ok(None);
     };
-    match LpState::start(alloc, relax, list, &first) {
+    let started = LpState::start(alloc, relax, list, &first);
+    drop(first);
+    match started {
         Ok(state) => Ok(Some(state)),
         Err(StartFault::Wide { step, .. }) => {
             push_step(text, relax.model, step)?;

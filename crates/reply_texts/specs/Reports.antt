@@ -7,17 +7,17 @@ use Rattle.lp_model.specs.declared.answers.Answer.{Answer}
 use Rattle.lp_model.specs.declared.answers.Answer.TheVariants.{Optimal, Infeasible, Unbounded, Stopped, Memory}
 
 -- an optimum has a number for each column, and its value
-abbrev pub IsShaped : Program → Answer → Type 0
-IsShaped M (Optimal v x n) = (length x ≡ length M.cols) × (v ≡ value M 1 x)
-IsShaped M (Infeasible n) = Unit {0}
-IsShaped M (Unbounded n) = Unit {0}
-IsShaped M (Stopped why n bound best) = Unit {0}
-IsShaped M Memory = Unit {0}
+abbrev pub AnswerIsShaped : Program → Answer → Type 0
+AnswerIsShaped M (Optimal v x n) = (length x ≡ length M.cols) × (v ≡ value M 1 x)
+AnswerIsShaped M (Infeasible n) = Unit {0}
+AnswerIsShaped M (Unbounded n) = Unit {0}
+AnswerIsShaped M (Stopped why n bound best) = Unit {0}
+AnswerIsShaped M Memory = Unit {0}
 
 -- the numbers of an optimum have room in fractions of 128 bits, and the count of results in 64
-abbrev pub HasRoom : Answer → Type 0
-HasRoom (Optimal v x n) = Fits v × (All Fits x × (n < 2 ^ 64))
-HasRoom (Infeasible n) = Unit {0}
-HasRoom (Unbounded n) = Unit {0}
-HasRoom (Stopped why n bound best) = Unit {0}
-HasRoom Memory = Unit {0}
+abbrev pub AnswerHasRoom : Answer → Type 0
+AnswerHasRoom (Optimal v x n) = Fits v × (All Fits x × (n < 2 ^ 64))
+AnswerHasRoom (Infeasible n) = Unit {0}
+AnswerHasRoom (Unbounded n) = Unit {0}
+AnswerHasRoom (Stopped why n bound best) = Unit {0}
+AnswerHasRoom Memory = Unit {0}

@@ -3,7 +3,7 @@ ghost use Rattle.std.specs.Prelude.{◌≡◌, ◌<◌, ◌^◌, ◌++◌, lengt
 ghost use Rattle.std.specs.List.{All};
 ghost use Rattle.frac128.specs.Range.{Fits};
 ghost use Rattle.lp_model.specs.Program.{value};
-ghost use Rattle.reply_texts.specs.Reports.{IsShaped, HasRoom};
+ghost use Rattle.reply_texts.specs.Reports.{AnswerIsShaped, AnswerHasRoom};
 ghost use Rattle.reply_texts.specs.Texts.{value_line, column_line, column_lines, optimal_text, infeasible_text, unbounded_text, number_or_none, known_text, stopped_nodes_text, stopped_tree_text, stopped_pivots_text, stopped_wide_text, stopped_text, answer_text};
 
 use crate::blocks::{write_block, write_step_line};
@@ -219,7 +219,7 @@ fn write_stopped(
 
 /// What is found of a model.
 pub fn write_answer(reply: &mut Vec<u8>, model: &Model, answer: &Answer) -> Result<(), AllocError>
-    requires { IsShaped model.now answer.now }
+    requires { AnswerIsShaped model.now answer.now }
     ensures { IfOk result (λ _. reply.new.items ≡ reply.old.items ++ answer_text model.now answer.now) }
 {
     match answer {
@@ -252,7 +252,7 @@ fn optimum_has_room(value: &Frac, point: &Point, placed: u64)
 
 /// Nothing happens: a caller learns that the numbers of an answer have room, so that its text can be read back.
 pub fn answer_has_room(answer: &Answer)
-    ensures { HasRoom answer.now }
+    ensures { AnswerHasRoom answer.now }
 {
     match answer {
         Answer::Optimal {

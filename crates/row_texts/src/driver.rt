@@ -104,11 +104,16 @@ fn take_lines<S: Stage>(rt: &HostRuntime, stage: &mut S, lines: &[Line]) -> Resu
     Ok(())
 }
 
-/// Runs a row, which is read behind the lines that its file's rows share, and prints how it went: how many rows differ.
-fn run_row<S: Stage>(rt: &HostRuntime, name: &str, shared: &[Line], own: &[Line]) -> Result<u64> {
-    let mut stage = S::new(rt.alloc())?;
-    take_lines(rt, &mut stage, shared)?;
-    take_lines(rt, &mut stage, own)?;
+/// Does what the lines of a row say, and prints how it went: how many rows differ.
+fn run_on<S: Stage>(
+    rt: &HostRuntime,
+    stage: &mut S,
+    name: &str,
+    shared: &[Line],
+    own: &[Line],
+) -> Result<u64> {
+    take_lines(rt, stage, shared)?;
+    take_lines(rt, stage, own)?;
     let report = stage.end().context(format_args!("{name}"))?;
     if report.is_empty() {
         println!(rt; "ok {name}")?;
@@ -118,15 +123,33 @@ fn run_row<S: Stage>(rt: &HostRuntime, name: &str, shared: &[Line], own: &[Line]
     Ok(1)
 }
 
+/// Runs a row, which is read behind the lines that its file's rows share, and prints how it went: how many rows differ.
+fn run_row<S: Stage>(rt: &HostRuntime, name: &str, shared: &[Line], own: &[Line]) -> Result<u64> {
+    let mut stage = S::new(rt.alloc())?;
+    let differing = run_on::<S>(rt, &mut stage, name, shared, own);
+    drop(stage);
+    differing
+}
+
+/// Runs a row by the name of its file and its own.
+fn run_named<S: Stage>(
+    rt: &HostRuntime,
+    file: &str,
+    row: &str,
+    shared: &[Line],
+    own: &[Line],
+) -> Result<u64> {
+    let name = format!(in rt.alloc(); "{file}: {row}")?;
+    run_row::<S>(rt, &name, shared, own)
+}
+
 fn lines_in_file(rt: &HostRuntime, file: &str) -> Result<Vec<Line>> {
     let text = fs::read_to_string(rt, file)?;
     expanded(rt.alloc(), &text)
 }
 
-/// Runs the rows of a file: how many differ. What stands above the first line `row NAME` is read at the head of each row,
-/// and a file with no such line is one row.
-fn run_file<S: Stage>(rt: &HostRuntime, file: &str) -> Result<u64> {
-    let lines = lines_in_file(rt, file)?;
+/// Runs the rows that lines say: how many differ.
+fn run_lines<S: Stage>(rt: &HostRuntime, file: &str, lines: &[Line]) -> Result<u64> {
     let mut differing = 0u64;
     let mut count = 0u64;
     for (at, line) in lines.iter().enumerate() {
@@ -134,14 +157,22 @@ fn run_file<S: Stage>(rt: &HostRuntime, file: &str) -> Result<u64> {
             continue;
         };
         count = count.saturating_add(1);
-        let name = format!(in rt.alloc(); "{file}: {row}")?;
         let own = lines.get(at.saturating_add(1)..).unwrap_or(&[]);
-        differing = differing.saturating_add(run_row::<S>(rt, &name, &lines, own)?);
+        differing = differing.saturating_add(run_named::<S>(rt, file, row, lines, own)?);
     }
     if count == 0 {
-        return run_row::<S>(rt, file, &lines, &[]);
+        return run_row::<S>(rt, file, lines, &[]);
     }
     Ok(differing)
+}
+
+/// Runs the rows of a file: how many differ. What stands above the first line `row NAME` is read at the head of each row,
+/// and a file with no such line is one row.
+fn run_file<S: Stage>(rt: &HostRuntime, file: &str) -> Result<u64> {
+    let lines = lines_in_file(rt, file)?;
+    let differing = run_lines::<S>(rt, file, &lines);
+    drop(lines);
+    differing
 }
 
 /// Runs the rows of each file that standard input names: how many differ.

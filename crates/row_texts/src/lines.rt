@@ -64,29 +64,41 @@ fn ends_escaped(text: &str) -> bool {
     escaped
 }
 
-/// The line with what stands for each text in braces. A brace behind a backslash stays.
-fn filled(alloc: Global, line: &str, counters: &[Counter<'_>]) -> Result<String, AllocError> {
-    let mut filled = String::new(alloc);
+/// Writes the text before a brace, and what the brace and the text behind it up to a closing brace stand for. It answers the
+/// text behind that. A brace behind a backslash stays.
+fn push_filled<'a>(
+    filled: &mut String,
+    before: &str,
+    behind: &'a str,
+    counters: &[Counter<'_>],
+) -> Result<&'a str, AllocError> {
+    filled.push_str(before)?;
+    if !ends_escaped(before) {
+        if let Some((inside, after)) = behind.split_once('}') {
+            push_braced(filled, inside, counters)?;
+            return Ok(after);
+        }
+    }
+    filled.push('{')?;
+    Ok(behind)
+}
+
+/// Writes a line with what stands for each text in braces.
+fn push_line(filled: &mut String, line: &str, counters: &[Counter<'_>]) -> Result<(), AllocError> {
     let mut rest = line;
     for _ in 0..line.len() {
         let Some((before, behind)) = rest.split_once('{') else {
             break;
         };
-        filled.push_str(before)?;
-        if ends_escaped(before) {
-            filled.push('{')?;
-            rest = behind;
-            continue;
-        }
-        let Some((inside, after)) = behind.split_once('}') else {
-            filled.push('{')?;
-            rest = behind;
-            continue;
-        };
-        push_braced(&mut filled, inside, counters)?;
-        rest = after;
+        rest = push_filled(filled, before, behind, counters)?;
     }
-    filled.push_str(rest)?;
+    filled.push_str(rest)
+}
+
+/// The line with what stands for each text in braces.
+fn filled(alloc: Global, line: &str, counters: &[Counter<'_>]) -> Result<String, AllocError> {
+    let mut filled = String::new(alloc);
+    push_line(&mut filled, line, counters)?;
     Ok(filled)
 }
 
@@ -104,40 +116,80 @@ fn counter_of(text: &str, start: usize) -> Option<Counter<'_>> {
     }
 }
 
-/// The lines that the text of a file says. An error where `each` and `done` don't fit, and past a million lines.
-pub fn expanded(alloc: Global, text: &str) -> Result<Vec<Line>> {
+/// The lines of a text, one behind the other.
+fn split_lines(alloc: Global, text: &str) -> Result<Vec<&str>, AllocError> {
     let mut lines = Vec::new(alloc);
     for line in text.lines() {
         lines.push(line)?;
     }
-    let mut counters: Vec<Counter<'_>> = Vec::new(alloc);
-    let mut expanded = Vec::new(alloc);
+    Ok(lines)
+}
+
+/// Where a `done` leads whose next line is this one.
+fn behind_done(counters: &mut Vec<Counter<'_>>, at: usize) -> Result<usize> {
+    let Some(counter) = counters.last_mut() else {
+        bail!("line {at}: no `each` for this `done`");
+    };
+    if counter.value < counter.last {
+        counter.value += 1;
+        Ok(counter.start)
+    } else {
+        let _ = counters.pop();
+        Ok(at)
+    }
+}
+
+/// Reads a line, and answers where the next one stands: that is `at`, the line's own number, but behind a `done`.
+fn read_line<'a>(
+    alloc: Global,
+    line: &'a str,
+    at: usize,
+    counters: &mut Vec<Counter<'a>>,
+    expanded: &mut Vec<Line>,
+) -> Result<usize> {
+    if let Some(range) = line.strip_prefix("each ") {
+        let Some(counter) = counter_of(range, at) else {
+            bail!("line {at}: no `each NAME LOW..HIGH`");
+        };
+        counters.push(counter)?;
+    } else if line == "done" {
+        return behind_done(counters, at);
+    } else if !line.is_empty() && !line.starts_with('#') {
+        let text = filled(alloc, line, counters.as_slice())?;
+        expanded.push(Line { number: at, text })?;
+    }
+    Ok(at)
+}
+
+/// Reads lines to their end.
+fn read_lines<'a>(
+    alloc: Global,
+    lines: &[&'a str],
+    counters: &mut Vec<Counter<'a>>,
+    expanded: &mut Vec<Line>,
+) -> Result<()> {
     let mut at = 0usize;
     for _ in 0..MOST_LINES {
         let Some(line) = lines.get(at) else {
             ensure!(counters.is_empty(), "an `each` has no `done`");
-            return Ok(expanded);
+            return Ok(());
         };
-        at = at.saturating_add(1);
-        if let Some(range) = line.strip_prefix("each ") {
-            let Some(counter) = counter_of(range, at) else {
-                bail!("line {at}: no `each NAME LOW..HIGH`");
-            };
-            counters.push(counter)?;
-        } else if *line == "done" {
-            let Some(counter) = counters.last_mut() else {
-                bail!("line {at}: no `each` for this `done`");
-            };
-            if counter.value < counter.last {
-                counter.value += 1;
-                at = counter.start;
-            } else {
-                let _ = counters.pop();
-            }
-        } else if !line.is_empty() && !line.starts_with('#') {
-            let text = filled(alloc, line, &counters)?;
-            expanded.push(Line { number: at, text })?;
-        }
+        at = read_line(alloc, *line, at.saturating_add(1), counters, expanded)?;
     }
     bail!("more than {MOST_LINES} lines")
+}
+
+/// The lines that the text of a file says. An error where `each` and `done` don't fit, and past a million lines.
+pub fn expanded(alloc: Global, text: &str) -> Result<Vec<Line>> {
+    let lines = split_lines(alloc, text)?;
+    let mut counters: Vec<Counter<'_>> = Vec::new(alloc);
+    let mut expanded = Vec::new(alloc);
+    let read = read_lines(alloc, &lines, &mut counters, &mut expanded);
+    drop(counters);
+    drop(lines);
+    if let Err(error) = read {
+        drop(expanded);
+        return Err(error);
+    }
+    Ok(expanded)
 }

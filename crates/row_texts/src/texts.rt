@@ -139,19 +139,39 @@ fn push_shown(line: &mut String, byte: u8) -> Result<(), AllocError> {
     }
 }
 
+/// Writes a byte at the end of the line that stands last. A line feed puts the line behind the others, and begins another one.
+fn push_byte(
+    alloc: Global,
+    lines: &mut Vec<String>,
+    line: &mut String,
+    byte: u8,
+) -> Result<(), AllocError> {
+    if byte != b'\n' {
+        return push_shown(line, byte);
+    }
+    let ended = std::mem::replace(line, String::from_str(alloc, "| ")?);
+    lines.push(ended)?;
+    Ok(())
+}
+
+/// Writes bytes, all but the last line behind the others.
+fn push_bytes(
+    alloc: Global,
+    lines: &mut Vec<String>,
+    line: &mut String,
+    bytes: &[u8],
+) -> Result<(), AllocError> {
+    for byte in bytes {
+        push_byte(alloc, lines, line, *byte)?;
+    }
+    Ok(())
+}
+
 /// The text that writes these bytes: `bytes_of` gives them back.
 pub fn lines_of(alloc: Global, bytes: &[u8]) -> Result<Vec<String>, AllocError> {
     let mut lines = Vec::new(alloc);
     let mut line = String::from_str(alloc, "| ")?;
-    for byte in bytes {
-        match byte {
-            b'\n' => {
-                let ended = std::mem::replace(&mut line, String::from_str(alloc, "| ")?);
-                lines.push(ended)?;
-            }
-            _ => push_shown(&mut line, *byte)?,
-        }
-    }
+    push_bytes(alloc, &mut lines, &mut line, bytes)?;
     if line.len() > 2 {
         line.push('\\')?;
         lines.push(line)?;

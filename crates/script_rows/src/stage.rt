@@ -61,6 +61,23 @@ fn file_now(alloc: Global, store: &mut MemStore, name: &str) -> Result<Vec<u8>, 
     Err(StoreFault::Failed)
 }
 
+/// Compares a file with the text, or with its absence where there is none.
+fn push_file(
+    alloc: Global,
+    report: &mut String,
+    name: &str,
+    wanted: Option<&[String]>,
+    got: &Result<Vec<u8>, StoreFault>,
+) -> Result<()> {
+    match (got, wanted) {
+        (Ok(got), Some(wanted)) => compare(alloc, report, name, wanted, got)?,
+        (Err(StoreFault::Missing), None) => (),
+        (Ok(_), None) => writeln!(report, "  {name}: a file that is not wanted")?,
+        (Err(fault), _) => writeln!(report, "  {name}: {fault}")?,
+    }
+    Ok(())
+}
+
 /// The status of the program with these words.
 fn status_of(
     alloc: Global,
@@ -153,15 +170,28 @@ impl ScriptStage {
         ensure!(rest.is_empty(), "no name stands here: {rest}");
         ensure!(self.status.is_none(), "no `status` for the run above");
         self.begin_store();
+        let mut sink = MemSink::new(self.alloc, self.sink_fails.clone()?);
+        let run = self.run_into(&mut sink, wanted);
+        drop(sink);
+        run
+    }
+
+    /// Runs the program over the row's store into a sink, and compares what it writes with the text.
+    fn run_into(&mut self, sink: &mut MemSink, wanted: &[String]) -> Result<()> {
         let Some(store) = &mut self.store else {
             bail!("no store");
         };
         let mut source = MemSource::new(self.script.clone()?, self.source_fails.clone()?);
-        let mut sink = MemSink::new(self.alloc, self.sink_fails.clone()?);
-        let status = status_of(self.alloc, &self.words, &mut source, &mut sink, store);
+        let status = status_of(self.alloc, &self.words, &mut source, sink, store);
+        drop(source);
         self.status = Some(status);
-        let got = sink.bytes();
-        compare(self.alloc, &mut self.report, "replies", wanted, got)?;
+        compare(
+            self.alloc,
+            &mut self.report,
+            "replies",
+            wanted,
+            sink.bytes(),
+        )?;
         Ok(())
     }
 
@@ -184,12 +214,9 @@ impl ScriptStage {
         let Some(store) = &mut self.store else {
             bail!("no `replies` above");
         };
-        match (file_now(self.alloc, store, name), wanted) {
-            (Ok(got), Some(wanted)) => compare(self.alloc, &mut self.report, name, wanted, &got)?,
-            (Err(StoreFault::Missing), None) => (),
-            (Ok(_), None) => writeln!(self.report, "  {name}: a file that is not wanted")?,
-            (Err(fault), _) => writeln!(self.report, "  {name}: {fault}")?,
-        }
-        Ok(())
+        let got = file_now(self.alloc, store, name);
+        let compared = push_file(self.alloc, &mut self.report, name, wanted, &got);
+        drop(got);
+        compared
     }
 }

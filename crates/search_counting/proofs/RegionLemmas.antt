@@ -1,17 +1,16 @@
 -- The bounds of an integer column in a region of a lawful model are there and whole.
-use Rattle.std.specs.Prelude.{◌≡◌, ℕ, ◌<◌, false, if◌then◌else◌, IsTrue, IsSome, length, pos, None, ℤ, ◌+ℤ◌, ◌≤ℤ◌, ◌<ℤ◌}
+use Rattle.std.specs.Prelude.{◌≡◌, ℕ, ◌<◌, if◌then◌else◌, IsTrue, IsSome, length, pos, ℤ, ◌+ℤ◌, ◌≤ℤ◌, ◌<ℤ◌}
 use Rattle.std.specs.Option.{option_map}
-use Rattle.std.proofs.Common.{sym, subst, ◌∙◌, inl, inr, arith}
+use Rattle.std.proofs.Common.{subst, inl, inr, arith}
 use Rattle.std.proofs.lemmas.Int.{ints}
 use Rattle.rational.specs.Rational.{ℚ, int, ◌≤ℚ◌, ◌<ℚ◌, floor, ceil, IsWhole}
 use Rattle.rational.proofs.RationalOrder.{≤ℚ_refl, ≤ℚ_trans, not_both_ℚ}
 use Rattle.rational.proofs.Rounding.{≤ℚ-int, ≤ℚ-ceil, int-floor, floor-≤ℚ}
 use Rattle.rational.proofs.Integers.{int-≤ℚ-int, int_injective, IsWhole-int, branches}
 use Rattle.lp_model.specs.Program.{Program, lower, upper, is_integer}
-use Rattle.lp_model.specs.Lawful.{IsLawful, IsLawfulColumn}
+use Rattle.lp_model.specs.Lawful.{IsLawful}
 use Rattle.lp_model.specs.Regions.{Path, region_low, region_high}
-use Rattle.lp_model.proofs.ElementLemmas.{element, of_element-get}
-use Rattle.lp_model.proofs.WithinRegionLemmas.{IsWholeBound, low_along-whole, high_along-whole, first_low, first_high}
+use Rattle.lp_model.proofs.WithinRegionLemmas.{integer_bounded, IsWholeBound, low_along-whole, high_along-whole, first_low, first_high}
 
 -- ---- whole numbers
 
@@ -34,13 +33,7 @@ floor-less l h u w less = elim (branches l (floor h)) [
 
 module _ (M : Program) (lawful : IsLawful M) (path : Path) (j : ℕ) (within : j < length M.cols) (integer : IsTrue (is_integer M j)) where
   bounded : IsSome (lower M j) × IsSome (upper M j)
-  bounded =
-      let el = element M.cols j within in
-      let column : IsLawfulColumn (length M.rows) el.0 = subst (IsLawfulColumn (length M.rows)) (sym el.1) (lawful.columns j el.0 within) in
-      let sides = column.bounded (sym (of_element-get false (λ c. c.int) M.cols j el.0 within el.1) ∙ integer) in (
-        subst IsSome (sym (of_element-get None (λ c. c.lo) M.cols j el.0 within el.1)) sides.0,
-        subst IsSome (sym (of_element-get None (λ c. c.up) M.cols j el.0 within el.1)) sides.1,
-      )
+  bounded = integer_bounded M lawful j within integer
 
   pub region_low-whole : IsWholeBound (region_low M path j)
   region_low-whole = low_along-whole path j (if is_integer M j then option_map (λ l. int (ceil l)) (lower M j) else lower M j) (first_low (is_integer M j) (lower M j) integer bounded.0)

@@ -15,7 +15,7 @@ use Rattle.tree_search.specs.Causes.{IsAtEnd}
 use Rattle.tree_search.specs.Causes as search
 use Rattle.tree_search.specs.Laws.{EnoughLaw}
 use Rattle.tree_search.specs.Room.{HasMoves, HasRoomAt, HasRoomForValues}
-use Rattle.tree_search.specs.Search.{IsAnswerTo, IsStoppedAnswer}
+use Rattle.tree_search.specs.Search.{IsAnswerAtEnd, IsStoppedAnswer}
 use Rattle.tree_search.specs.declared.searching.Ended.{Ended}
 use Rattle.tree_search.specs.declared.searching.Ended.TheVariants as ended
 use Rattle.tree_search.specs.declared.searching.Ways.{Ways}
@@ -29,7 +29,7 @@ use Rattle.sym_env.proofs.BeginLemmas.{dual_basis, is_ray}
 -- ---- the search
 
 pub enough-for : NoRayFoundLaw → EnoughLaw → (M : Program) (l : Limits) (fresh : PlainSearch) (ways : Ways) (first : Basis) → IsFresh M l.tree fresh → BeginsWith M l.pivots ways first → IsEnough M l
-    → search.IsEnough fresh ways l.nodes l.pivots
+    → search.IsEnoughForSearch fresh ways l.nodes l.pivots
 enough-for none law M l fresh Own first begins (inl slack) e =
     let own = e.own (λ d. none M first d (inr slack)) in
     law M l.tree fresh Own l.nodes l.pivots begins e.tree e.few e.results own.moves own.steps tt
@@ -41,7 +41,7 @@ enough-for none law M l fresh (Rays Z) first begins beside e =
     law M l.tree fresh (Rays Z) l.nodes l.pivots begins e.tree e.few e.results (subst (λ N. HasMoves N l.pivots) (sym beside.costless) b.relaxations.moves) (subst HasRoomAt (sym beside.costless) b.relaxations.steps)
     (subst (λ N. HasRoomForValues N M) (sym beside.costless) b.values)
 
-pub at-end : (S : PlainSearch) (e : Ended) (n : ℕ) (answer : Answer) → IsAtEnd e → IsAnswerTo S e n answer → HasEnded answer
+pub at-end : (S : PlainSearch) (e : Ended) (n : ℕ) (answer : Answer) → IsAtEnd e → IsAnswerAtEnd S e n answer → HasEnded answer
 at-end S ended.Finished n (Optimal v x m) h told = tt
 at-end S ended.Finished n (Infeasible m) h told = tt
 at-end S ended.Finished n (Unbounded m) h told = tt

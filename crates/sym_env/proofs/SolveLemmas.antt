@@ -10,7 +10,7 @@ use Rattle.ray_phase.specs.Laws.{NoRayFoundLaw}
 use Rattle.tree_search.specs.Causes.{IsAtEnd}
 use Rattle.tree_search.specs.Causes as search
 use Rattle.tree_search.specs.Laws.{EnoughLaw}
-use Rattle.tree_search.specs.Search.{Finds, GivesUp, IsAnswerTo, IsStoppedAnswer}
+use Rattle.tree_search.specs.Search.{Finds, GivesUp, IsAnswerAtEnd, IsStoppedAnswer}
 use Rattle.tree_search.specs.Steps.{HasOpenLeaf}
 use Rattle.tree_search.specs.declared.searching.Searched.{Searched}
 use Rattle.tree_search.specs.declared.searching.Ways.{Ways}
@@ -26,12 +26,12 @@ module _ (l : Limits) (S : PlainSearch) (begins : IsFresh S.model l.tree S) (sou
   gave-up ways first b T gives = record { fresh = S; begins = begins; sound = sound; course = WantsWithin ways first b gives refl; model = gives.goes.model }
 
   pub searched-so : (ways : Ways) (first : Basis) → BeginsWith S.model l.pivots ways first → HasOpenLeaf S → (T : PlainSearch) (searched : Searched) (answer : Answer) → Finds ways first l.nodes l.pivots S T searched
-      → IsAnswerTo T searched.ended searched.placed answer → Solved S.model l answer T
+      → IsAnswerAtEnd T searched.ended searched.placed answer → Solved S.model l answer T
   searched-so ways first b some T searched answer finds told =
       record { fresh = S; begins = begins; sound = sound; course = Searches some ways first b searched finds told; model = finds.model }
 
   pub searched-whole : NoRayFoundLaw → EnoughLaw → (ways : Ways) (first : Basis) → BeginsWith S.model l.pivots ways first → (T : PlainSearch) (searched : Searched) (answer : Answer)
-      → (search.IsEnough S ways l.nodes l.pivots → IsAtEnd searched.ended) → IsAnswerTo T searched.ended searched.placed answer → IsEnough S.model l → HasEnded answer
+      → (search.IsEnoughForSearch S ways l.nodes l.pivots → IsAtEnd searched.ended) → IsAnswerAtEnd T searched.ended searched.placed answer → IsEnough S.model l → HasEnded answer
   searched-whole none law ways first b T searched answer complete told enough =
       at-end T searched.ended searched.placed answer (complete (enough-for none law S.model l S ways first begins b enough)) told
 

@@ -22,14 +22,14 @@ use Rattle.search_counting.specs.Work.{cap_of, work_of}
 use Rattle.tree_search.specs.Bounds.{IsBoundOf}
 use Rattle.tree_search.specs.Causes.{HasCause}
 use Rattle.tree_search.specs.Laws.{StopBoundLaw}
-use Rattle.tree_search.specs.Search.{IsAfter, StopsFor, FindsPoint, Ends, IsLeft, IsValueFound, StopsWith, IsAnswerTo, IsStoppedAnswer}
+use Rattle.tree_search.specs.Search.{IsAfter, StopsFor, FindsPoint, Ends, IsLeft, IsValueFound, StopsWith, IsAnswerAtEnd, IsStoppedAnswer}
 use Rattle.tree_search.specs.Steps.{HasOpenLeaf, IsNextJob, Goes, StopsAtNext, StepAtNext, ValueAtNext}
 use Rattle.tree_search.specs.declared.searching.Ended.{Ended}
 use Rattle.tree_search.specs.declared.searching.Ended.TheVariants as ended
 use Rattle.tree_search.specs.declared.searching.Ways.{Ways}
 use Rattle.sym_env.specs.Beginnings.{IsRayStop, StopsBefore}
 use Rattle.sym_env.specs.Env.{PlainEnv, HasPointAndRay, IsHeld}
-use Rattle.sym_env.specs.Solves.{Course, NothingOpen, StopsFirst, Searches, WantsBefore, WantsWithin, Solved, Solves, SaysUnbounded, HasRayFor, held_by, IsOldest, SolvesEnv}
+use Rattle.sym_env.specs.Solves.{Course, NothingOpen, StopsFirst, Searches, WantsBefore, WantsWithin, Solved, SolvesModel, SaysUnbounded, HasRayFor, held_by, IsOldest, SolvesEnv}
 use Rattle.sym_env.specs.Truth.{IsCount, IsBound, IsFoundValue, IsEarly, IsTrueAnswer}
 use Rattle.sym_env.specs.declared.held.Held.{Held}
 use Rattle.sym_env.specs.declared.held.Held.TheVariants.{Unbounded as Beside}
@@ -104,7 +104,7 @@ module _ (laws : Laws) (l : Limits) (fresh : PlainSearch) (lawful : IsLawful fre
   stopped S why n Memory same is told = tt
 
   searched : (S : PlainSearch) (ways : Ways) (first : Basis) (e : Ended) (n : ℕ) (answer : Answer) → S.model ≡ fresh.model → Ends ways first l.nodes l.pivots n fresh S e → HasCause fresh ways first l.nodes l.pivots e
-      → n ≤ l.nodes → n ≤ cap_of fresh.model → IsAnswerTo S e n answer → IsTrueAnswer fresh.model l answer
+      → n ≤ l.nodes → n ≤ cap_of fresh.model → IsAnswerAtEnd S e n answer → IsTrueAnswer fresh.model l answer
   searched S ways first ended.Finished n (Optimal v x m) same ends cause limit cap told =
       ((subst (λ N. IsOptimum N x) same told.0.optimum, told.0.value ∙ ap (λ N. value N 1 x) same), count n m told.1 limit cap)
   searched S ways first ended.Finished n (Infeasible m) same ends cause limit cap told = (subst IsEmpty same told.0.none, count n m told.1 limit cap)
@@ -135,7 +135,7 @@ module _ (laws : Laws) (l : Limits) (fresh : PlainSearch) (lawful : IsLawful fre
   true-course answer S same (WantsBefore kept is) = subst (IsTrueAnswer fresh.model l) (sym is) tt
   true-course answer S same (WantsWithin ways first b gives is) = subst (IsTrueAnswer fresh.model l) (sym is) tt
 
-pub true-answer : Laws → (l : Limits) (M : Program) (old : PlainSearch) (answer : Answer) (S : PlainSearch) → IsLawful M → Solves M l old answer S → IsTrueAnswer M l answer
+pub true-answer : Laws → (l : Limits) (M : Program) (old : PlainSearch) (answer : Answer) (S : PlainSearch) → IsLawful M → SolvesModel M l old answer S → IsTrueAnswer M l answer
 true-answer laws l M old answer S lawful (inr wants) = subst (IsTrueAnswer M l) (sym wants.wants) tt
 true-answer laws l M old answer S lawful (inl s) =
     let same : s.fresh.model ≡ M = s.begins.model in
@@ -144,7 +144,7 @@ true-answer laws l M old answer S lawful (inl s) =
 
 -- ---- the oldest point of the best value
 
-told-oldest : (S : PlainSearch) (e : Ended) (n : ℕ) (answer : Answer) → IsAnswerTo S e n answer → IsOldest S answer
+told-oldest : (S : PlainSearch) (e : Ended) (n : ℕ) (answer : Answer) → IsAnswerAtEnd S e n answer → IsOldest S answer
 told-oldest S ended.Finished n (Optimal v x m) told = told.0.incumbent
 told-oldest S ended.Unbounded n (Optimal v x m) told = absurd told
 told-oldest S (ended.Stopped why) n (Optimal v x m) told = absurd told
@@ -167,7 +167,7 @@ course-oldest M l fresh answer S (Searches some ways first b e finds told) = tol
 course-oldest M l fresh answer S (WantsBefore kept is) = subst (IsOldest S) (sym is) tt
 course-oldest M l fresh answer S (WantsWithin ways first b gives is) = subst (IsOldest S) (sym is) tt
 
-pub solves-oldest : (M : Program) (l : Limits) (old : PlainSearch) (answer : Answer) (S : PlainSearch) → Solves M l old answer S → IsOldest S answer
+pub solves-oldest : (M : Program) (l : Limits) (old : PlainSearch) (answer : Answer) (S : PlainSearch) → SolvesModel M l old answer S → IsOldest S answer
 solves-oldest M l old answer S (inl s) = course-oldest M l s.fresh answer S s.course
 solves-oldest M l old answer S (inr wants) = subst (IsOldest S) (sym wants.wants) tt
 
@@ -209,7 +209,7 @@ IsFinishedKind (Unbounded n) = ⊥
 IsFinishedKind (Stopped why n bound best) = ⊥
 IsFinishedKind Memory = ⊥
 
-finished-left : (S : PlainSearch) (e : Ended) (n : ℕ) (answer : Answer) → IsLeft S e → IsAnswerTo S e n answer → IsFinishedKind answer → HasNoOpenLeaf S
+finished-left : (S : PlainSearch) (e : Ended) (n : ℕ) (answer : Answer) → IsLeft S e → IsAnswerAtEnd S e n answer → IsFinishedKind answer → HasNoOpenLeaf S
 finished-left S ended.Finished n answer left told kind = left
 finished-left S ended.Unbounded n (Optimal v x m) left told kind = absurd told
 finished-left S ended.Unbounded n (Infeasible m) left told kind = absurd told
@@ -237,7 +237,7 @@ stop-bounded S why (Stopped reason m bound best) n told u = u
 stop-bounded S why Memory n told u = u
 
 -- only a search that found a point beside a ray shows that the model is unbounded
-pub unbounded-ended : (S : PlainSearch) (e : Ended) (n : ℕ) (answer : Answer) → IsAnswerTo S e n answer → SaysUnbounded answer → e ≡ ended.Unbounded
+pub unbounded-ended : (S : PlainSearch) (e : Ended) (n : ℕ) (answer : Answer) → IsAnswerAtEnd S e n answer → SaysUnbounded answer → e ≡ ended.Unbounded
 unbounded-ended S ended.Finished n (Optimal v x m) told u = absurd u
 unbounded-ended S ended.Finished n (Infeasible m) told u = absurd u
 unbounded-ended S ended.Finished n (Unbounded m) told u = absurd told
@@ -270,7 +270,7 @@ held-so S (Unbounded n) None closed beside = tt
 held-so S (Stopped why n bound best) direction closed beside = tt
 held-so S Memory direction closed beside = tt
 
-pub solves-held : (M : Program) (l : Limits) (old : PlainSearch) (answer : Answer) (direction : Option Point) (S : PlainSearch) → Solves M l old answer S → HasRayFor M l.pivots answer direction → IsHeld (Some S) (held_by answer direction)
+pub solves-held : (M : Program) (l : Limits) (old : PlainSearch) (answer : Answer) (direction : Option Point) (S : PlainSearch) → SolvesModel M l old answer S → HasRayFor M l.pivots answer direction → IsHeld (Some S) (held_by answer direction)
 solves-held M l old answer direction S (inl s) has =
     held-so S answer direction (course-finished M l s.fresh answer S s.course)
     (λ u d is. record {
@@ -279,7 +279,7 @@ solves-held M l old answer direction S (inl s) has =
     })
 solves-held M l old answer direction S (inr wants) has = subst (λ a. IsHeld (Some S) (held_by a direction)) (sym wants.wants) tt
 
-pub solves-env : (l : Limits) (old : PlainEnv) (S T : PlainSearch) (answer : Answer) (direction : Option Point) (held : Held) → old.search ≡ Some S → Solves S.model l S answer T → HasRayFor S.model l.pivots answer direction → held ≡ held_by answer direction
+pub solves-env : (l : Limits) (old : PlainEnv) (S T : PlainSearch) (answer : Answer) (direction : Option Point) (held : Held) → old.search ≡ Some S → SolvesModel S.model l S answer T → HasRayFor S.model l.pivots answer direction → held ≡ held_by answer direction
     → SolvesEnv old.search l old (Ok answer) (record { search = Some T; held = held })
 solves-env l old S T answer direction held there solves has is =
     subst (λ o. SolvesEnv o l old (Ok answer) (record { search = Some T; held = held })) (sym there)

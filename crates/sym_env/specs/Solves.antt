@@ -14,7 +14,7 @@ use Rattle.tree_edit.specs.Laws.{HasNoOpenLeaf}
 use Rattle.tree_edit.specs.Points.{IsIncumbent}
 use Rattle.tree_edit.specs.Sound.{PlainSearch, IsSound}
 use Rattle.tree_search.specs.Steps.{HasOpenLeaf}
-use Rattle.tree_search.specs.Search.{Finds, GivesUp, IsAnswerTo, IsStoppedAnswer}
+use Rattle.tree_search.specs.Search.{Finds, GivesUp, IsAnswerAtEnd, IsStoppedAnswer}
 use Rattle.tree_search.specs.declared.searching.Searched.{Searched}
 use Rattle.tree_search.specs.declared.searching.Ways.{Ways}
 use Rattle.sym_env.specs.Beginnings.{BeginsWith, StopsBefore}
@@ -31,7 +31,7 @@ pub data Course (M : Program) (l : Limits) (fresh : PlainSearch) (answer : Answe
   NothingOpen : HasNoOpenLeaf fresh → S ≡ fresh → answer ≡ Infeasible 0 → Course M l fresh answer S
   StopsFirst : HasOpenLeaf fresh → (why : StopWhy) → StopsBefore M l.pivots why → S ≡ fresh → IsStoppedAnswer S why 0 answer → Course M l fresh answer S
   Searches : HasOpenLeaf fresh → (ways : Ways) (first : Basis) → BeginsWith M l.pivots ways first → (searched : Searched)
-      → Finds ways first l.nodes l.pivots fresh S searched → IsAnswerTo S searched.ended searched.placed answer → Course M l fresh answer S
+      → Finds ways first l.nodes l.pivots fresh S searched → IsAnswerAtEnd S searched.ended searched.placed answer → Course M l fresh answer S
   WantsBefore : S ≡ fresh → answer ≡ Memory → Course M l fresh answer S
   WantsWithin : (ways : Ways) (first : Basis) → BeginsWith M l.pivots ways first → GivesUp ways first l.nodes l.pivots fresh S → answer ≡ Memory → Course M l fresh answer S
 
@@ -47,8 +47,8 @@ pub record WantsRoot (l : Limits) (old : PlainSearch) (answer : Answer) (S : Pla
   pub kept : S ≡ search_with_limit old l.tree
   pub wants : answer ≡ Memory
 
-abbrev pub Solves : Program → Limits → PlainSearch → Answer → PlainSearch → Type 0
-Solves M l old answer S = Solved M l answer S ⊎ WantsRoot l old answer S
+abbrev pub SolvesModel : Program → Limits → PlainSearch → Answer → PlainSearch → Type 0
+SolvesModel M l old answer S = Solved M l answer S ⊎ WantsRoot l old answer S
 
 -- ---- environments
 
@@ -87,7 +87,7 @@ IsOldest S Memory = Unit {0}
 
 pub record SolvesIn (l : Limits) (old : PlainSearch) (answer : Answer) (env : PlainEnv) : Type 0 where
   pub search : PlainSearch
-  pub solves : Solves old.model l old answer search
+  pub solves : SolvesModel old.model l old answer search
   pub oldest : IsOldest search answer
   pub direction : Option Point
   pub has_ray : HasRayFor old.model l.pivots answer direction

@@ -12,7 +12,7 @@
 //! Then leaves are worked until none is open, or the search stops (`tree_search`). Beside a ray one feasible point is enough:
 //! the objective has no end.
 //!
-//! Public contract: each answer is true of the model (`IsTrueAnswer` in specs/Truth), with what was done to find it (`Solves`
+//! Public contract: each answer is true of the model (`IsTrueAnswer` in specs/Truth), with what was done to find it (`SolvesModel`
 //! in specs/Solves); with enough of all (`IsEnough` in specs/Enough) a solve goes to its end. `cert` writes the certificate of
 //! the answer that is held, which is accepted for the model. The calls are those of the SYMPHONY manual's `sym_environment`
 //! in purpose. Below stand the search, the ray phase and the certificates (`tree_cert`); above, the shell.

@@ -6,7 +6,7 @@ ghost use Rattle.tree_search.specs.Steps.{HasOpenLeaf, IsWayFor, IsFirstFor, IsR
 ghost use Rattle.tree_search.specs.declared.searching.Ways.TheVariants.{Own};
 ghost use Rattle.sym_env.specs.Beginnings.{BeginsWith, BeginsBeside};
 ghost use Rattle.sym_env.specs.Enough.{IsEnough};
-ghost use Rattle.sym_env.specs.Solves.{Solved, Solves, SaysUnbounded, HasRayFor};
+ghost use Rattle.sym_env.specs.Solves.{Solved, SolvesModel, SaysUnbounded, HasRayFor};
 ghost use Rattle.sym_env.specs.Truth.{IsTrueAnswer, HasEnded};
 
 use crate::beginnings::{Beginning, find_beginning};
@@ -139,7 +139,7 @@ fn solve_fresh(alloc: Global, search: &mut Search, limits: &Limits) -> Solution
 
 /// Solves the search's model from a fresh leaf on. Where there is no memory for it the search stays, with the new limit.
 fn solve_again(alloc: Global, search: &mut Search, limits: &Limits) -> Solution
-    ensures solves { Solves search.old.model limits.now search.old result.answer search.new }
+    ensures solves { SolvesModel search.old.model limits.now search.old result.answer search.new }
     ensures ray { HasRayFor search.old.model limits.now.pivots result.answer result.ray }
     ensures complete { IsEnough search.old.model limits.now → HasEnded result.answer }
 {
@@ -155,7 +155,7 @@ fn solve_again(alloc: Global, search: &mut Search, limits: &Limits) -> Solution
 
 /// Solves the search's model. What is answered is true of it.
 pub(crate) fn solve(alloc: Global, search: &mut Search, limits: &Limits) -> Solution
-    ensures solves { Solves search.old.model limits.now search.old result.answer search.new }
+    ensures solves { SolvesModel search.old.model limits.now search.old result.answer search.new }
     ensures ray { HasRayFor search.old.model limits.now.pivots result.answer result.ray }
     ensures complete { IsEnough search.old.model limits.now → HasEnded result.answer }
     ensures true_answer { IsTrueAnswer search.old.model limits.now result.answer }

@@ -9,20 +9,21 @@ use Rattle.lp_model.specs.declared.answers.Answer.{Answer}
 use Rattle.tree_edit.specs.Sound.{PlainSearch}
 use Rattle.sym_env.specs.Enough.{IsEnough}
 use Rattle.sym_env.specs.Env.{PlainEnv, model_of}
-use Rattle.sym_env.specs.Solves.{Solves}
+use Rattle.sym_env.specs.Solves.{SolvesModel}
 use Rattle.sym_env.specs.declared.held.Held.{Held}
 use Rattle.sym_env.specs.declared.held.Held.TheVariants.{Nothing, Finished}
 use Rattle.sym_env.specs.declared.held.Held.TheVariants.{Unbounded as Beside}
 use Rattle.sym_env.specs.declared.limits.Limits.{Limits}
-use Rattle.command_words.specs.Asks.{Asks, Load, Solve, Cert, Quit, Unknown, Misused, NoNumber, asks_of}
+use Rattle.command_words.specs.Asks.{Asks, Load, Solve, Cert, Write, Quit, Unknown, Misused, NoNumber, asks_of}
 use Rattle.reply_texts.specs.Places.{block_text, step_line}
 use Rattle.reply_texts.specs.Texts.{ok_text, memory_text, column_lines, known_text}
 use Rattle.sym_shell.specs.State.{ShellState}
 use Rattle.sym_shell.specs.Load.{LoadStep, ReadsFile, refusal_text}
-use Rattle.sym_shell.specs.Solve.{limits_of, Tells, ShowsOptimum, ShowsEmptiness, ShowsNoEnd, AnswersSolve, Optimum, Emptiness, NoEnd, NodeStop, TreeStop, PivotStop, WideStop, Wanting, Wants, SolvesEnv, SolveStep}
+use Rattle.sym_shell.specs.Solve.{limits_of, Tells, ShowsOptimum, ShowsEmptiness, ShowsNoEnd, AnswersSolve, Optimum, Emptiness, NoEnd, NodeStop, TreeStop, PivotStop, WideStop, Wanting, Wants, RepliesToSolve, SolveStep}
 use Rattle.sym_shell.specs.Shown.{point_shown}
 use Rattle.sym_shell.specs.Certify.{IsHeldText, Writes, Written, TooLong, Failed, Certifies, CertStep}
 use Rattle.sym_shell.specs.Certify as certify
+use Rattle.sym_shell.specs.Writing.{IsWrittenModel, WritesModel, WriteStep}
 use Rattle.sym_shell.specs.Step.{AnswersTo, Step}
 use Rattle.sym_shell.specs.Kinds.{Kind, Optimal, Infeasible, Unbounded, StoppedNodes, StoppedTree, StoppedPivots, StoppedWide, Done, UnknownCommand, WrongArguments, NoModel, WrongNumber, NoAnswer, StoreFailed, FileTooLong, FaultyText, WantsMemory, Is, IsError}
 use Rattle.sym_shell.specs.Causes.{NeedsModel, CauseOf, HasCauses}
@@ -116,7 +117,7 @@ module _ (old : ShellState) (words : List (List ℕ)) (reply : List ℕ) (new : 
   solve_cause : (nodes pivots : ℕ) → asks_of words ≡ Solve nodes pivots → SolveStep old (limits_of nodes pivots) reply new → HasCause old words reply new
   solve_cause nodes pivots asked h = by old.env.search refl h.answer
     where
-      by : (search : Option PlainSearch) → old.env.search ≡ search → SolvesEnv old.env search (limits_of nodes pivots) reply new.env → HasCause old words reply new
+      by : (search : Option PlainSearch) → old.env.search ≡ search → RepliesToSolve old.env search (limits_of nodes pivots) reply new.env → HasCause old words reply new
       by (Some S) present s = shows_cause nodes pivots S asked present s
       by None none s = elim s.0 [
         | inl e ↦ record { kind = NoModel; is = (codes "no model\n", e); cause = (subst NeedsModel (sym asked) tt, e, none) }
@@ -132,12 +133,12 @@ module _ (old : ShellState) (words : List (List ℕ)) (reply : List ℕ) (new : 
   writes_cause file S held asked present same some (TooLong text is long kept told) = record {
     kind = FileTooLong;
     is = (codes "file too long\n", told);
-    cause = inr (record { file = file; search = S; text = text; asked = asked; present = present; held = some; certificate = subst (λ h. IsHeldText S h text) (sym same) is; is = (told, long) });
+    cause = inr (inl (record { file = file; search = S; text = text; asked = asked; present = present; held = some; certificate = subst (λ h. IsHeldText S h text) (sym same) is; is = (told, long) }));
   }
   writes_cause file S held asked present same some (Failed text is short rose kept told) = record {
     kind = StoreFailed;
     is = (codes "store\n", told);
-    cause = inr (record { file = file; search = S; text = text; asked = asked; present = present; held = some; certificate = subst (λ h. IsHeldText S h text) (sym same) is; is = (told, short, rose) });
+    cause = inr (inl (record { file = file; search = S; text = text; asked = asked; present = present; held = some; certificate = subst (λ h. IsHeldText S h text) (sym same) is; is = (told, short, rose) }));
   }
   writes_cause file S held asked present same some (certify.Wanting kept told) = wants told
 
@@ -156,11 +157,45 @@ module _ (old : ShellState) (words : List (List ℕ)) (reply : List ℕ) (new : 
       by (Some S) Finished present same w = writes_cause file S Finished asked present same (λ none. let e : Finished ≡ Nothing = sym same ∙ none in cc) w
       by (Some S) (Beside ray) present same w = writes_cause file S (Beside ray) asked present same (λ none. let e : Beside ray ≡ Nothing = sym same ∙ none in cc) w
 
+  model_cause : (file : List ℕ) (M : Program) → asks_of words ≡ Write file → model_of old.env ≡ Some M → Writes (IsWrittenModel M) file old.files old.faults reply new.files new.faults → HasCause old words reply new
+  model_cause file M asked present (Written text is short sets told) = record {
+    kind = Done;
+    is = ([], told);
+    cause = inr (inr (inl (record { file = file; model = M; asked = asked; present = present; is = (text, (is, short, sets)) })));
+  }
+  model_cause file M asked present (TooLong text is long kept told) = record {
+    kind = FileTooLong;
+    is = (codes "file too long\n", told);
+    cause = inr (inr (record { file = file; model = M; asked = asked; present = present; is = (told, (text, (is, long))) }));
+  }
+  model_cause file M asked present (Failed text is short rose kept told) = record {
+    kind = StoreFailed;
+    is = (codes "store\n", told);
+    cause = inr (inr (record { file = file; model = M; asked = asked; present = present; is = (told, (text, (is, short, rose))) }));
+  }
+  model_cause file M asked present (certify.Wanting kept told) = wants told
+
+  -- without a model there is no search
+  no_search : (search : Option PlainSearch) → option_map (λ (S : PlainSearch). S.model) search ≡ None → search ≡ None
+  no_search None e = refl
+  no_search (Some S) e = absurd (cc)
+
+  write_cause : (file : List ℕ) → asks_of words ≡ Write file → WriteStep old file reply new → HasCause old words reply new
+  write_cause file asked h = by (model_of old.env) refl h.answer
+    where
+      by : (model : Option Program) → model_of old.env ≡ model → WritesModel model old file reply new → HasCause old words reply new
+      by None none t = elim t.told [
+        | inl told ↦ record { kind = NoModel; is = (codes "no model\n", told); cause = (subst NeedsModel (sym asked) tt, told, no_search old.env.search none) }
+        | inr told ↦ wants told
+      ]
+      by (Some M) present w = model_cause file M asked present w
+
   asked_cause : (a : Asks) → asks_of words ≡ a → AnswersTo a old reply new → HasCause old words reply new
   asked_cause (Load file intupper) asked h = load_cause file intupper asked h
   asked_cause (Solve nodes pivots) asked h = solve_cause nodes pivots asked h
   asked_cause (Cert file) asked h = cert_cause file asked h
-  asked_cause Quit asked h = record { kind = Done; is = ([], h.answer); cause = inr (inr (asked, h.unchanged)) }
+  asked_cause (Write file) asked h = write_cause file asked h
+  asked_cause Quit asked h = record { kind = Done; is = ([], h.answer); cause = inr (inr (inr (asked, h.unchanged))) }
   asked_cause (Unknown word) asked h = elim h.answer [
     | inl e ↦ record { kind = UnknownCommand; is = (codes "unknown command " ++ word ++ codes "\n", e); cause = (word, record { asks = asked; told = e }) }
     | inr e ↦ wants e
@@ -191,7 +226,7 @@ module _ (old : ShellState) (words : List (List ℕ)) (reply : List ℕ) (new : 
   completes : (S : PlainSearch) (nodes pivots : ℕ) → AnswersTo (asks_of words) old reply new → asks_of words ≡ Solve nodes pivots → old.env.search ≡ Some S → IsEnough S.model (limits_of nodes pivots) → Ends S.model (limits_of nodes pivots)
   completes S nodes pivots h asked present enough =
       let step : SolveStep old (limits_of nodes pivots) reply new = subst (λ a. AnswersTo a old reply new) asked h in
-      finishes S (limits_of nodes pivots) enough (subst (λ m. SolvesEnv old.env m (limits_of nodes pivots) reply new.env) present step.answer)
+      finishes S (limits_of nodes pivots) enough (subst (λ m. RepliesToSolve old.env m (limits_of nodes pivots) reply new.env) present step.answer)
 
   -- ---- what stays
 
@@ -208,7 +243,7 @@ module _ (old : ShellState) (words : List (List ℕ)) (reply : List ℕ) (new : 
   solved_model S l (WideStop s) = told_model S l _ _ s.stop.told
   solved_model S l (Wanting s) = ap model_of s.env_is ∙ ap Some (solves-model l S _ s.search s.solves)
 
-  solve_keeps : (l : Limits) (search : Option PlainSearch) → old.env.search ≡ search → SolvesEnv old.env search l reply new.env → model_of new.env ≡ model_of old.env
+  solve_keeps : (l : Limits) (search : Option PlainSearch) → old.env.search ≡ search → RepliesToSolve old.env search l reply new.env → model_of new.env ≡ model_of old.env
   solve_keeps l None none h = ap model_of h.1
   solve_keeps l (Some S) present h = solved_model S l h ∙ sym (ap (option_map (λ (S : PlainSearch). S.model)) present)
 
@@ -216,6 +251,7 @@ module _ (old : ShellState) (words : List (List ℕ)) (reply : List ℕ) (new : 
   keeps (Load file intupper) h other = elim h.answer [ inl loads ↦ absurd (other loads.ok) | inr refused ↦ ap model_of refused.kept ]
   keeps (Solve nodes pivots) h other = solve_keeps (limits_of nodes pivots) old.env.search refl h.answer
   keeps (Cert file) h other = ap model_of h.env
+  keeps (Write file) h other = ap model_of h.env
   keeps Quit h other = ap (λ (s : ShellState). model_of s.env) h.unchanged
   keeps (Unknown word) h other = ap (λ (s : ShellState). model_of s.env) h.unchanged
   keeps Misused h other = ap (λ (s : ShellState). model_of s.env) h.unchanged
@@ -225,7 +261,7 @@ module _ (old : ShellState) (words : List (List ℕ)) (reply : List ℕ) (new : 
   not_error : {P : Type 0} (k l : Kind) → IsError k → Is k reply → Is l reply → ¬ IsError l → P
   not_error k l error a b other = absurd (other (subst IsError (one_kind k l reply a b) error))
 
-  solve_holds : (l : Limits) (k : Kind) → IsError k → Is k reply → (search : Option PlainSearch) → SolvesEnv old.env search l reply new.env → new.env ≡ old.env
+  solve_holds : (l : Limits) (k : Kind) → IsError k → Is k reply → (search : Option PlainSearch) → RepliesToSolve old.env search l reply new.env → new.env ≡ old.env
   solve_holds l k error is None h = h.1
   solve_holds l k error is (Some S) h = let shown = shown_kind S l h in not_error k shown.0 error is shown.1.0 shown.1.1
 
@@ -233,6 +269,7 @@ module _ (old : ShellState) (words : List (List ℕ)) (reply : List ℕ) (new : 
   holds (Load file intupper) h k error is = elim h.answer [ inl loads ↦ not_error k Done error is ([], loads.ok) (λ e. e) | inr refused ↦ refused.kept ]
   holds (Solve nodes pivots) h k error is = solve_holds (limits_of nodes pivots) k error is old.env.search h.answer
   holds (Cert file) h k error is = h.env
+  holds (Write file) h k error is = h.env
   holds Quit h k error is = ap (λ (s : ShellState). s.env) h.unchanged
   holds (Unknown word) h k error is = ap (λ (s : ShellState). s.env) h.unchanged
   holds Misused h k error is = ap (λ (s : ShellState). s.env) h.unchanged
@@ -245,6 +282,7 @@ module _ (old : ShellState) (words : List (List ℕ)) (reply : List ℕ) (new : 
   waits (Load file intupper) h wanting other = elim h.answer [ inl loads ↦ not_done wanting loads.ok | inr refused ↦ refused.kept ]
   waits (Solve nodes pivots) h wanting other = absurd (other nodes pivots refl)
   waits (Cert file) h wanting other = h.env
+  waits (Write file) h wanting other = h.env
   waits Quit h wanting other = ap (λ (s : ShellState). s.env) h.unchanged
   waits (Unknown word) h wanting other = ap (λ (s : ShellState). s.env) h.unchanged
   waits Misused h wanting other = ap (λ (s : ShellState). s.env) h.unchanged

@@ -3,6 +3,7 @@ pub mod StepLemmas
 pub mod KindLemmas
 pub mod CauseLemmas
 pub mod CertLemmas
+pub mod WriteLemmas
 pub mod RunLemmas
 pub mod ShownWords
 pub mod ShownBack

@@ -16,22 +16,22 @@ use Rattle.tree_edit.specs.Points.{IsIncumbent}
 use Rattle.tree_edit.specs.Sound.{PlainSearch}
 use Rattle.sym_env.specs.Enough.{IsEnough}
 use Rattle.sym_env.specs.Env.{PlainEnv, model_of}
-use Rattle.sym_env.specs.Solves.{Solved, Solves, WantsRoot, HasRayFor, held_by, SolvesIn}
+use Rattle.sym_env.specs.Solves.{Solved, SolvesModel, WantsRoot, HasRayFor, held_by, SolvesIn}
 use Rattle.sym_env.specs.Solves as env
 use Rattle.sym_env.specs.Truth.{IsCount, IsTrueAnswer, HasEnded}
 use Rattle.sym_env.proofs.BeginLemmas.{is_ray}
 use Rattle.sym_env.specs.declared.env.EnvFault.{EnvFault}
 use Rattle.sym_env.specs.declared.limits.Limits.{Limits}
-use Rattle.reply_texts.specs.Reports.{IsShaped, HasRoom}
+use Rattle.reply_texts.specs.Reports.{AnswerIsShaped, AnswerHasRoom}
 use Rattle.reply_texts.specs.Texts.{optimal_text, stopped_nodes_text, answer_text, no_model_text, memory_text}
 use Rattle.sym_shell.specs.Shown.{point_shown, value_shown}
-use Rattle.sym_shell.specs.Solve.{limits_of, ShowsNoEnd, AnswersSolve, Optimum, Emptiness, NoEnd, NodeStop, TreeStop, PivotStop, WideStop, Wanting, SolvesEnv}
+use Rattle.sym_shell.specs.Solve.{limits_of, ShowsNoEnd, AnswersSolve, Optimum, Emptiness, NoEnd, NodeStop, TreeStop, PivotStop, WideStop, Wanting, RepliesToSolve}
 use Rattle.sym_shell.specs.State.{HasWords}
 use Rattle.sym_shell.proofs.ShownBack.{point-shown, value-shown}
 use Rattle.sym_shell.proofs.StepLemmas.{on_ok_if}
 
 -- a solve leaves the model
-pub solves-model : (l : Limits) (old : PlainSearch) (answer : Answer) (S : PlainSearch) → Solves old.model l old answer S → S.model ≡ old.model
+pub solves-model : (l : Limits) (old : PlainSearch) (answer : Answer) (S : PlainSearch) → SolvesModel old.model l old answer S → S.model ≡ old.model
 solves-model l old answer S (inl s) = s.model
 solves-model l old answer S (inr wants) = ap (λ (S : PlainSearch). S.model) wants.kept
 
@@ -39,7 +39,7 @@ pub model-kept : (l : Limits) (old : PlainSearch) (answer : Answer) (new : Plain
 model-kept l old answer new s = ap model_of s.env_is ∙ ap Some (solves-model l old answer s.search s.solves)
 
 -- something but want of memory was found
-found : (l : Limits) (old : PlainSearch) (answer : Answer) (S : PlainSearch) → ¬ (answer ≡ Memory) → Solves old.model l old answer S → Solved old.model l answer S
+found : (l : Limits) (old : PlainSearch) (answer : Answer) (S : PlainSearch) → ¬ (answer ≡ Memory) → SolvesModel old.model l old answer S → Solved old.model l answer S
 found l old answer S other (inl s) = s
 found l old answer S other (inr wants) = absurd (other wants.wants)
 
@@ -58,7 +58,7 @@ no-end M l n new T (Some d) unbounded count solved has is = record {
 }
 
 module _ (l : Limits) (few : l.tree ≤ 2 ^ 63) (S : PlainSearch) (lawful : IsLawful S.model) (plain : HasPlainNames S.model) where
-  pub answers-solve : (answer : Answer) (new : PlainEnv) → HasRoom answer → IsTrueAnswer S.model l answer → (IsEnough S.model l → HasEnded answer) → SolvesIn l S answer new → AnswersSolve S l (answer_text S.model answer) new
+  pub answers-solve : (answer : Answer) (new : PlainEnv) → AnswerHasRoom answer → IsTrueAnswer S.model l answer → (IsEnough S.model l → HasEnded answer) → SolvesIn l S answer new → AnswersSolve S l (answer_text S.model answer) new
   answers-solve (Optimal v x n) new room is complete s =
       let M : Program = S.model in
       let text : List ℕ = optimal_text M x n in
@@ -148,7 +148,7 @@ module _ (l : Limits) (few : l.tree ≤ 2 ^ 63) (S : PlainSearch) (lawful : IsLa
   })
   answers-solve Memory new room is complete s = Wanting (record { told = refl; search = s.search; solves = s.solves; env_is = s.env_is })
 
-pub true-shaped : (M : Program) (l : Limits) (answer : Answer) → IsTrueAnswer M l answer → IsShaped M answer
+pub true-shaped : (M : Program) (l : Limits) (answer : Answer) → IsTrueAnswer M l answer → AnswerIsShaped M answer
 true-shaped M l (Optimal v x n) is = (is.0.0.feasible.shape, is.0.1)
 true-shaped M l (Infeasible n) is = tt
 true-shaped M l (Unbounded n) is = tt
@@ -168,25 +168,25 @@ module _ (l : Limits) (old new : PlainEnv) (r : Result Answer EnvFault) (answer 
       by None h = let clash = h.0 in cc
       by (Some S) h = let some = model-kept l S answer new h in cc
 
-  pub is-shaped : (M : Program) → model_of new ≡ Some M → IfOk r (λ a. IfSome old.search (λ S. IsTrueAnswer S.model l a)) → IsShaped M answer
+  pub is-shaped : (M : Program) → model_of new ≡ Some M → IfOk r (λ a. IfSome old.search (λ S. IsTrueAnswer S.model l a)) → AnswerIsShaped M answer
   is-shaped M is holds = by old.search own (subst (λ o. IfOk o (λ a. IfSome old.search (λ S. IsTrueAnswer S.model l a))) ok holds)
     where
-      by : (search : Option PlainSearch) → env.SolvesEnv search l old (Ok answer) new → IfSome search (λ S. IsTrueAnswer S.model l answer) → IsShaped M answer
+      by : (search : Option PlainSearch) → env.SolvesEnv search l old (Ok answer) new → IfSome search (λ S. IsTrueAnswer S.model l answer) → AnswerIsShaped M answer
       by None h t = let clash = h.0 in absurd (cc)
       by (Some S) h t =
           let some = model-kept l S answer new h in
           let same : S.model ≡ M = cc in
-          subst (λ N. IsShaped N answer) same (true-shaped S.model l answer t)
+          subst (λ N. AnswerIsShaped N answer) same (true-shaped S.model l answer t)
 
-  pub shows-answer : l.tree ≤ 2 ^ 63 → (M : Program) → model_of new ≡ Some M → IsLawful M → HasWords new → HasRoom answer → IfOk r (λ a. IfSome old.search (λ S. IsTrueAnswer S.model l a))
-      → IfOk r (λ a. IfSome old.search (λ S. IsEnough S.model l → HasEnded a)) → SolvesEnv old old.search l (answer_text M answer) new
+  pub shows-answer : l.tree ≤ 2 ^ 63 → (M : Program) → model_of new ≡ Some M → IsLawful M → HasWords new → AnswerHasRoom answer → IfOk r (λ a. IfSome old.search (λ S. IsTrueAnswer S.model l a))
+      → IfOk r (λ a. IfSome old.search (λ S. IsEnough S.model l → HasEnded a)) → RepliesToSolve old old.search l (answer_text M answer) new
   shows-answer few M is lawful words room holds complete =
       by old.search own (subst (λ o. IfOk o (λ a. IfSome old.search (λ S. IsTrueAnswer S.model l a))) ok holds) (subst (λ o. IfOk o (λ a. IfSome old.search (λ S. IsEnough S.model l → HasEnded a))) ok complete)
     where
       plain : HasPlainNames M
       plain = (subst (λ (m : Option Program). IfSome m (λ N. HasPlainNames N × HasPlainRows N)) is words).0
 
-      by : (search : Option PlainSearch) → env.SolvesEnv search l old (Ok answer) new → IfSome search (λ S. IsTrueAnswer S.model l answer) → IfSome search (λ S. IsEnough S.model l → HasEnded answer) → SolvesEnv old search l (answer_text M answer) new
+      by : (search : Option PlainSearch) → env.SolvesEnv search l old (Ok answer) new → IfSome search (λ S. IsTrueAnswer S.model l answer) → IfSome search (λ S. IsEnough S.model l → HasEnded answer) → RepliesToSolve old search l (answer_text M answer) new
       by None h t e = let clash = h.0 in absurd (cc)
       by (Some S) h t e =
           let some = model-kept l S answer new h in
@@ -196,17 +196,17 @@ module _ (l : Limits) (old new : PlainEnv) (r : Result Answer EnvFault) (answer 
 
 -- the same with the limits that a command asks for
 pub shows-asked : (nodes pivots : ℕ) (l : Limits) → l ≡ limits_of nodes pivots → (old new : PlainEnv) (r : Result Answer EnvFault) (answer : Answer) → r ≡ Ok answer → env.SolvesEnv old.search l old r new
-    → (M : Program) → model_of new ≡ Some M → IsLawful M → HasWords new → HasRoom answer → IfOk r (λ a. IfSome old.search (λ S. IsTrueAnswer S.model l a))
-    → IfOk r (λ a. IfSome old.search (λ S. IsEnough S.model l → HasEnded a)) → SolvesEnv old old.search (limits_of nodes pivots) (answer_text M answer) new
+    → (M : Program) → model_of new ≡ Some M → IsLawful M → HasWords new → AnswerHasRoom answer → IfOk r (λ a. IfSome old.search (λ S. IsTrueAnswer S.model l a))
+    → IfOk r (λ a. IfSome old.search (λ S. IsEnough S.model l → HasEnded a)) → RepliesToSolve old old.search (limits_of nodes pivots) (answer_text M answer) new
 shows-asked nodes pivots l is old new r answer ok solves M found lawful words room holds complete =
     let few : l.tree ≤ 2 ^ 63 = subst (λ (k : Limits). k.tree ≤ 2 ^ 63) (sym is) (omega arith) in
-    subst (λ k. SolvesEnv old old.search k (answer_text M answer) new) is (shows-answer l old new r answer ok solves few M found lawful words room holds complete)
+    subst (λ k. RepliesToSolve old old.search k (answer_text M answer) new) is (shows-answer l old new r answer ok solves few M found lawful words room holds complete)
 
 -- without a model nothing is solved
-pub shows-none : (l : Limits) (old new : PlainEnv) (r : Result Answer EnvFault) (fault : EnvFault) (reply : List ℕ) → r ≡ Err fault → env.SolvesEnv old.search l old r new → (reply ≡ no_model_text) ⊎ (reply ≡ memory_text) → SolvesEnv old old.search l reply new
+pub shows-none : (l : Limits) (old new : PlainEnv) (r : Result Answer EnvFault) (fault : EnvFault) (reply : List ℕ) → r ≡ Err fault → env.SolvesEnv old.search l old r new → (reply ≡ no_model_text) ⊎ (reply ≡ memory_text) → RepliesToSolve old old.search l reply new
 shows-none l old new r fault reply is solves told = by old.search (subst (λ o. env.SolvesEnv old.search l old o new) is solves)
   where
-    by : (search : Option PlainSearch) → env.SolvesEnv search l old (Err fault) new → SolvesEnv old search l reply new
+    by : (search : Option PlainSearch) → env.SolvesEnv search l old (Err fault) new → RepliesToSolve old search l reply new
     by None h = (told, h.1)
     by (Some S) h = absurd h
 
@@ -224,15 +224,15 @@ solves-words l old new r solves words = by old.search refl r solves
 
 module _ (nodes pivots : ℕ) (l : Limits) (is : l ≡ limits_of nodes pivots) (old new : PlainEnv) (r : Result Answer EnvFault) (solves : env.SolvesEnv old.search l old r new) (words : HasWords old)
     (holds : IfOk r (λ a. IfSome old.search (λ S. IsTrueAnswer S.model l a))) (complete : IfOk r (λ a. IfSome old.search (λ S. IsEnough S.model l → HasEnded a))) where
-  pub shows : (answer : Answer) (M : Program) → r ≡ Ok answer → model_of new ≡ Some M → IsLawful M → HasRoom answer → SolvesEnv old old.search (limits_of nodes pivots) (answer_text M answer) new
+  pub shows : (answer : Answer) (M : Program) → r ≡ Ok answer → model_of new ≡ Some M → IsLawful M → AnswerHasRoom answer → RepliesToSolve old old.search (limits_of nodes pivots) (answer_text M answer) new
   shows answer M ok found lawful room = shows-asked nodes pivots l is old new r answer ok solves M found lawful (solves-words l old new r solves words) room holds complete
 
-  pub tells : {E : Type 0} (answer : Answer) (M : Program) → r ≡ Ok answer → model_of new ≡ Some M → IsLawful M → HasRoom answer → (result written : Result (Unit {0}) E) (before after reply : List ℕ)
-      → result ≡ written → reply ≡ after → before ≡ [] → IfOk written (λ _. after ≡ before ++ answer_text M answer) → OnOk result (SolvesEnv old old.search (limits_of nodes pivots) reply new)
+  pub tells : {E : Type 0} (answer : Answer) (M : Program) → r ≡ Ok answer → model_of new ≡ Some M → IsLawful M → AnswerHasRoom answer → (result written : Result (Unit {0}) E) (before after reply : List ℕ)
+      → result ≡ written → reply ≡ after → before ≡ [] → IfOk written (λ _. after ≡ before ++ answer_text M answer) → OnOk result (RepliesToSolve old old.search (limits_of nodes pivots) reply new)
   tells answer M ok found lawful room result written before after reply same told empty text =
       let shown = shows answer M ok found lawful room in
-      subst (λ w. OnOk w (SolvesEnv old old.search (limits_of nodes pivots) reply new)) (sym same)
-      (on_ok_if written (λ e. subst (λ (t : List ℕ). SolvesEnv old old.search (limits_of nodes pivots) t new) (sym (told ∙ e ∙ ap (λ t. t ++ answer_text M answer) empty)) shown) text)
+      subst (λ w. OnOk w (RepliesToSolve old old.search (limits_of nodes pivots) reply new)) (sym same)
+      (on_ok_if written (λ e. subst (λ (t : List ℕ). RepliesToSolve old old.search (limits_of nodes pivots) t new) (sym (told ∙ e ∙ ap (λ t. t ++ answer_text M answer) empty)) shown) text)
 
-  pub none-shown : (fault : EnvFault) (reply : List ℕ) → r ≡ Err fault → reply ≡ no_model_text → SolvesEnv old old.search (limits_of nodes pivots) reply new
+  pub none-shown : (fault : EnvFault) (reply : List ℕ) → r ≡ Err fault → reply ≡ no_model_text → RepliesToSolve old old.search (limits_of nodes pivots) reply new
   none-shown fault reply fails e = shows-none (limits_of nodes pivots) old new r fault reply fails (subst (λ k. env.SolvesEnv old.search k old r new) is solves) (inl e)

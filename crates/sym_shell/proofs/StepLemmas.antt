@@ -13,7 +13,7 @@ use Rattle.sym_env.specs.declared.limits.Limits.{Limits}
 use Rattle.reply_texts.specs.Texts.{ok_text, memory_text}
 use Rattle.sym_shell.specs.State.{ShellState, shell_state, HasWords}
 use Rattle.sym_shell.specs.Load.{HasText, LoadStep}
-use Rattle.sym_shell.specs.Solve.{limits_of, SolvesEnv, SolveStep}
+use Rattle.sym_shell.specs.Solve.{limits_of, RepliesToSolve, SolveStep}
 use Rattle.sym_shell.specs.Step.{AnswersTo, Step}
 use Rattle.sym_shell.specs.declared.reading.Refusal.TheVariants as refusal
 
@@ -44,11 +44,11 @@ on_err (Ok done) f h = tt
 on_err (Err e) f h = f h
 
 -- a solve leaves the files
-pub solve-step : (old new : PlainEnv) (files : Option Files) (faults : ℕ) (l : Limits) (reply : List ℕ) → SolvesEnv old old.search l reply new → SolveStep (shell_state old files faults) l reply (shell_state new files faults)
+pub solve-step : (old new : PlainEnv) (files : Option Files) (faults : ℕ) (l : Limits) (reply : List ℕ) → RepliesToSolve old old.search l reply new → SolveStep (shell_state old files faults) l reply (shell_state new files faults)
 solve-step old new files faults l reply solves = record { files = refl; faults = refl; answer = solves }
 
 pub some-solve-step : {E : Type 0} (r : Result (Unit {0}) E) (asks : Asks) (nodes pivots : ℕ) (old new : PlainEnv) (files : Option Files) (faults : ℕ) → asks ≡ Solve nodes pivots
-    → OnErr r ((bytes : List ℕ) × SolvesEnv old old.search (limits_of nodes pivots) bytes new) → OnErr r ((bytes : List ℕ) × AnswersTo asks (shell_state old files faults) bytes (shell_state new files faults))
+    → OnErr r ((bytes : List ℕ) × RepliesToSolve old old.search (limits_of nodes pivots) bytes new) → OnErr r ((bytes : List ℕ) × AnswersTo asks (shell_state old files faults) bytes (shell_state new files faults))
 some-solve-step (Ok done) asks nodes pivots old new files faults e h = tt
 some-solve-step (Err f) asks nodes pivots old new files faults e h =
     (h.0, subst (λ a. AnswersTo a (shell_state old files faults) h.0 (shell_state new files faults)) (sym e) (solve-step old new files faults (limits_of nodes pivots) h.0 h.1))

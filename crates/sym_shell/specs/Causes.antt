@@ -4,22 +4,24 @@ use Rattle.std.specs.Prelude.{◌≡◌, ◌≢◌, ◌⊎◌, ℕ, ◌<◌, ◌
 use Rattle.sym_io.specs.Faults.{Rose}
 use Rattle.sym_io.specs.Files.{Sets}
 use Rattle.sym_io.specs.declared.traits.TheConstants.{MAX_FILE_LENGTH}
+use Rattle.lp_model.specs.Program.{Program}
 use Rattle.tree_edit.specs.Sound.{PlainSearch}
 use Rattle.sym_env.specs.Enough.{IsEnough}
 use Rattle.sym_env.specs.Env.{model_of}
 use Rattle.sym_env.specs.declared.held.Held.TheVariants.{Nothing}
 use Rattle.sym_env.specs.declared.limits.Limits.{Limits}
-use Rattle.command_words.specs.Asks.{Asks, Load, Solve, Cert, Quit, Unknown, Misused, NoNumber, asks_of}
+use Rattle.command_words.specs.Asks.{Asks, Load, Solve, Cert, Write, Quit, Unknown, Misused, NoNumber, asks_of}
 use Rattle.reply_texts.specs.Texts.{ok_text, unknown_text, arguments_text, no_model_text, no_answer_text, number_text, store_text, file_too_long_text, mps_text, memory_text}
 use Rattle.sym_shell.specs.State.{ShellState}
 use Rattle.sym_shell.specs.Load.{HasText, IsMissing, IsTooLong, IsFaulty, Loads}
 use Rattle.sym_shell.specs.Solve.{limits_of, ShowsOptimum, ShowsEmptiness, ShowsNoEnd, ShowsNodeStop, ShowsTreeStop, ShowsPivotStop, ShowsWideStop}
 use Rattle.sym_shell.specs.Certify.{IsHeldText}
+use Rattle.sym_shell.specs.Writing.{IsWrittenModel}
 use Rattle.sym_shell.specs.Step.{Step}
 use Rattle.sym_shell.specs.Kinds.{Kind, Optimal, Infeasible, Unbounded, StoppedNodes, StoppedTree, StoppedPivots, StoppedWide, Done, UnknownCommand, WrongArguments, NoModel, WrongNumber, NoAnswer, StoreFailed, FileTooLong, FaultyText, WantsMemory, Is, IsError}
 
 -- `solve` of the search that the environment has, which may go so far, and P of both
-pub record Solved (old : ShellState) (words : List (List ℕ)) (P : PlainSearch → Limits → Type 0) : Type 0 where
+pub record SolveAsked (old : ShellState) (words : List (List ℕ)) (P : PlainSearch → Limits → Type 0) : Type 0 where
   pub nodes : ℕ
   pub pivots : ℕ
   pub search : PlainSearch
@@ -45,11 +47,20 @@ pub record Certified (old : ShellState) (words : List (List ℕ)) (P : List ℕ 
   pub certificate : IsHeldText search old.env.held text
   pub is : P file text
 
+-- `write` as a file, where there is a model, and P of the file and the model
+pub record Wrote (old : ShellState) (words : List (List ℕ)) (P : List ℕ → Program → Type 0) : Type 0 where
+  pub file : List ℕ
+  pub model : Program
+  pub asked : asks_of words ≡ Write file
+  pub present : model_of old.env ≡ Some model
+  pub is : P file model
+
 -- a command that needs a model
 abbrev pub NeedsModel : Asks → Type 0
 NeedsModel (Load file intupper) = ⊥
 NeedsModel (Solve nodes pivots) = Unit {0}
 NeedsModel (Cert file) = Unit {0}
+NeedsModel (Write file) = Unit {0}
 NeedsModel Quit = ⊥
 NeedsModel (Unknown word) = ⊥
 NeedsModel Misused = ⊥
@@ -63,19 +74,20 @@ pub record Refused (words : List (List ℕ)) (reply : List ℕ) (asked : Asks) (
 -- what a reply of each kind says for sure
 abbrev pub CauseOf : Kind → ShellState → List (List ℕ) → List ℕ → ShellState → Type 0
 -- the headline: what is shown is an optimum of the model that is present, or it has no feasible point, or its objective has no end
-CauseOf Optimal old words reply new = Solved old words (λ S l. ShowsOptimum S.model l reply new.env)
-CauseOf Infeasible old words reply new = Solved old words (λ S l. ShowsEmptiness S.model l reply new.env)
-CauseOf Unbounded old words reply new = Solved old words (λ S l. ShowsNoEnd S.model l reply new.env)
+CauseOf Optimal old words reply new = SolveAsked old words (λ S l. ShowsOptimum S.model l reply new.env)
+CauseOf Infeasible old words reply new = SolveAsked old words (λ S l. ShowsEmptiness S.model l reply new.env)
+CauseOf Unbounded old words reply new = SolveAsked old words (λ S l. ShowsNoEnd S.model l reply new.env)
 -- what is known where a search stopped, and why it stopped
-CauseOf StoppedNodes old words reply new = Solved old words (λ S l. ShowsNodeStop S.model l reply new.env)
-CauseOf StoppedTree old words reply new = Solved old words (λ S l. ShowsTreeStop S.model l reply new.env)
-CauseOf StoppedPivots old words reply new = Solved old words (λ S l. ShowsPivotStop S.model l reply new.env)
-CauseOf StoppedWide old words reply new = Solved old words (λ S l. ShowsWideStop S.model l reply new.env)
+CauseOf StoppedNodes old words reply new = SolveAsked old words (λ S l. ShowsNodeStop S.model l reply new.env)
+CauseOf StoppedTree old words reply new = SolveAsked old words (λ S l. ShowsTreeStop S.model l reply new.env)
+CauseOf StoppedPivots old words reply new = SolveAsked old words (λ S l. ShowsPivotStop S.model l reply new.env)
+CauseOf StoppedWide old words reply new = SolveAsked old words (λ S l. ShowsWideStop S.model l reply new.env)
 -- The model that the file's text means is present from now on; or the file has a text that states a certificate which is
--- accepted for the model that is present; or the script ends.
+-- accepted for the model that is present, or the canonical text of that model; or the script ends.
 CauseOf Done old words reply new =
     Loaded words (λ file intupper. Loads old file intupper reply new)
     ⊎ Certified old words (λ file text. (length text ≤ MAX_FILE_LENGTH) × Sets old.files new.files file text)
+    ⊎ Wrote old words (λ file M. (text : List ℕ) × (IsWrittenModel M text × (length text ≤ MAX_FILE_LENGTH) × Sets old.files new.files file text))
     ⊎ ((asks_of words ≡ Quit) × (new ≡ old))
 CauseOf UnknownCommand old words reply new = (word : List ℕ) × Refused words reply (Unknown word) (unknown_text word)
 CauseOf WrongArguments old words reply new = Refused words reply Misused arguments_text
@@ -85,9 +97,11 @@ CauseOf NoAnswer old words reply new = (file : List ℕ) × (Refused words reply
 CauseOf StoreFailed old words reply new =
     Loaded words (λ file intupper. (reply ≡ store_text) × (Rose old.faults new.faults ⊎ IsMissing old.files file))
     ⊎ Certified old words (λ file text. (reply ≡ store_text) × (length text ≤ MAX_FILE_LENGTH) × Rose old.faults new.faults)
+    ⊎ Wrote old words (λ file M. (reply ≡ store_text) × ((text : List ℕ) × (IsWrittenModel M text × (length text ≤ MAX_FILE_LENGTH) × Rose old.faults new.faults)))
 CauseOf FileTooLong old words reply new =
     Loaded words (λ file intupper. (reply ≡ file_too_long_text) × IsTooLong old.files file)
     ⊎ Certified old words (λ file text. (reply ≡ file_too_long_text) × (MAX_FILE_LENGTH < length text))
+    ⊎ Wrote old words (λ file M. (reply ≡ file_too_long_text) × ((text : List ℕ) × (IsWrittenModel M text × (MAX_FILE_LENGTH < length text))))
 CauseOf FaultyText old words reply new =
     Loaded words (λ file intupper. (line : ℕ) × ((code : ℕ) × ((reply ≡ mps_text line code) × HasText old.files file (IsFaulty intupper line code))))
 CauseOf WantsMemory old words reply new = reply ≡ memory_text

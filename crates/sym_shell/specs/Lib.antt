@@ -3,6 +3,7 @@ pub mod Load
 pub mod Shown
 pub mod Solve
 pub mod Certify
+pub mod Writing
 pub mod Refusals
 pub mod Step
 pub mod Kinds

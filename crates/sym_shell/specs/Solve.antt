@@ -16,7 +16,7 @@ use Rattle.tree_edit.specs.Points.{IsIncumbent}
 use Rattle.tree_edit.specs.Sound.{PlainSearch}
 use Rattle.sym_env.specs.Enough.{IsEnough}
 use Rattle.sym_env.specs.Env.{PlainEnv}
-use Rattle.sym_env.specs.Solves.{Solved, Solves}
+use Rattle.sym_env.specs.Solves.{Solved, SolvesModel}
 use Rattle.sym_env.specs.Truth.{IsCount, IsBound, IsFoundValue}
 use Rattle.sym_env.specs.declared.held.Held.{Held}
 use Rattle.sym_env.specs.declared.held.Held.TheVariants.{Nothing, Finished}
@@ -106,7 +106,7 @@ pub record ShowsWideStop (M : Program) (l : Limits) (reply : List ℕ) (env : Pl
 pub record Wants (S : PlainSearch) (l : Limits) (reply : List ℕ) (env : PlainEnv) : Type 0 where
   pub told : reply ≡ memory_text
   pub search : PlainSearch
-  pub solves : Solves S.model l S Memory search
+  pub solves : SolvesModel S.model l S Memory search
   pub env_is : env ≡ record { search = Some search; held = Nothing }
 
 -- what a search that may go so far may be answered
@@ -121,12 +121,12 @@ pub data AnswersSolve (S : PlainSearch) (l : Limits) (reply : List ℕ) (env : P
   Wanting : Wants S l reply env → AnswersSolve S l reply env
 
 -- of the environment's search, if there is one
-abbrev pub SolvesEnv : PlainEnv → Option PlainSearch → Limits → List ℕ → PlainEnv → Type 0
-SolvesEnv old None l reply env = ((reply ≡ no_model_text) ⊎ (reply ≡ memory_text)) × (env ≡ old)
-SolvesEnv old (Some S) l reply env = AnswersSolve S l reply env
+abbrev pub RepliesToSolve : PlainEnv → Option PlainSearch → Limits → List ℕ → PlainEnv → Type 0
+RepliesToSolve old None l reply env = ((reply ≡ no_model_text) ⊎ (reply ≡ memory_text)) × (env ≡ old)
+RepliesToSolve old (Some S) l reply env = AnswersSolve S l reply env
 
 -- the files stay
 pub record SolveStep (old : ShellState) (l : Limits) (reply : List ℕ) (new : ShellState) : Type 0 where
   pub files : new.files ≡ old.files
   pub faults : new.faults ≡ old.faults
-  pub answer : SolvesEnv old.env old.env.search l reply new.env
+  pub answer : RepliesToSolve old.env old.env.search l reply new.env

@@ -7,12 +7,13 @@ ghost use Rattle.sym_env.specs.Env.{no_model, Holds};
 ghost use Rattle.reply_texts.specs.Texts.{ok_text, memory_text};
 ghost use Rattle.sym_shell.specs.State.{shell_state};
 ghost use Rattle.sym_shell.specs.Load.{LoadStep};
-ghost use Rattle.sym_shell.specs.Solve.{limits_of, SolvesEnv};
+ghost use Rattle.sym_shell.specs.Solve.{limits_of, RepliesToSolve};
 ghost use Rattle.sym_shell.specs.Certify.{CertStep};
+ghost use Rattle.sym_shell.specs.Writing.{WriteStep};
 ghost use Rattle.sym_shell.specs.Step.{AnswersTo};
 ghost use Rattle.sym_shell.specs.Shell.{is_quit};
 
-use crate::filing::write_file;
+use crate::filing::{write_file, write_model};
 use crate::reading::read_model;
 use crate::refusing::write_refusal;
 use command_words::{Asked, read_words};
@@ -112,8 +113,8 @@ impl Shell {
     /// Solves the model.
     fn solve(&mut self, nodes: u64, pivots: u64, reply: &mut Vec<u8>) -> Result<(), AllocError>
         requires { reply.old.items ≡ [] }
-        ensures answered { OnOk result (SolvesEnv self.old self.old.search (limits_of nodes pivots) reply.new.items self.new) }
-        ensures unfinished { OnErr result ((bytes : List ℕ) × SolvesEnv self.old self.old.search (limits_of nodes pivots) bytes self.new) }
+        ensures answered { OnOk result (RepliesToSolve self.old self.old.search (limits_of nodes pivots) reply.new.items self.new) }
+        ensures unfinished { OnErr result ((bytes : List ℕ) × RepliesToSolve self.old self.old.search (limits_of nodes pivots) bytes self.new) }
     {
         match self.env.solve(&limits_of(nodes, pivots)) {
             Ok(answer) => {
@@ -151,6 +152,28 @@ impl Shell {
         }
     }
 
+    /// Writes the model that is present to a file.
+    fn write<S: Store>(
+        &self,
+        alloc: Global,
+        store: &mut S,
+        name: &[u8],
+        reply: &mut Vec<u8>,
+    ) -> Result<(), AllocError>
+        requires name { is_file_name name.now ≡ true }
+        requires empty { reply.old.items ≡ [] }
+        ensures answered { OnOk result (WriteStep (shell_state self.now (S.files store.old) (S.faults store.old)) name.now reply.new.items
+            (shell_state self.now (S.files store.new) (S.faults store.new))) }
+        ensures unfinished { OnErr result (WriteStep (shell_state self.now (S.files store.old) (S.faults store.old)) name.now memory_text
+            (shell_state self.now (S.files store.new) (S.faults store.new))) }
+        ensures store_later { S.faults store.old ≤ S.faults store.new }
+    {
+        match self.env.model() {
+            Some(model) => write_model(alloc, store, name, model, reply),
+            None => reply.extend_from_slice(b"error 04 no model\n"),
+        }
+    }
+
     /// Answers what is asked.
     fn answer_asked<S: Store>(
         &mut self,
@@ -171,6 +194,7 @@ impl Shell {
             Asked::Load { file, intupper } => self.load(alloc, store, file, intupper, reply),
             Asked::Solve { nodes, pivots } => self.solve(nodes, pivots, reply),
             Asked::Cert { file } => self.cert(store, file, reply),
+            Asked::Write { file } => self.write(alloc, store, file, reply),
             Asked::Quit => reply.extend_from_slice(b"ok\n"),
             Asked::Unknown { word } => write_unknown(reply, word),
             Asked::Misused => reply.extend_from_slice(b"error 03 arguments\n"),

@@ -1,5 +1,5 @@
--- The words of a line: the runs of bytes between blanks.
-use Rattle.std.specs.Prelude.{◌≡◌, ℕ, ◌<◌, Bool, false, ◌||◌, not, List, length, ◌==◌}
+-- The words of a line: the runs of bytes between blanks; and words that are written, with a blank before each.
+use Rattle.std.specs.Prelude.{◌≡◌, ℕ, ◌<◌, Bool, false, ◌||◌, not, List, [], ◌∷◌, ◌++◌, length, ◌==◌}
 use Rattle.std.specs.List.{All, slice_split, filter}
 use Rattle.text_lines.specs.Lines.{HasNoNewline, is_nothing}
 
@@ -22,3 +22,13 @@ pub record IsWord (word : List ℕ) : Type 0 where
   pub some : 0 < length word
   pub one_line : HasNoNewline word
   pub one_word : HasNoBlank word
+
+-- ---- words that are written
+
+abbrev pub Words : Type 0
+Words = List (List ℕ)
+
+-- words, a blank before each
+abbrev pub spaced : Words → List ℕ
+spaced [] = []
+spaced (word ∷ words) = 32 ∷ (word ++ spaced words)

@@ -25,7 +25,7 @@ use Rattle.cert_text.specs.Tree.{Bound as CertBound, Farkas as CertFarkas, Empty
 use Rattle.tree_cert.specs.Certificates.{activity_name, named_mult, row_mults, nonzero_numbers, point_numbers, IsReason, IsTreeOf, IsCertificateOf, unbounded_certificate}
 use Rattle.lp_model.specs.Lawful.{column_name}
 use Rattle.text_lines.specs.Words.{IsWord}
-use Rattle.tree_cert.specs.CertText.{HasWords, IsMultWord, HasNodeWords, HasCertWords, HasWordNames}
+use Rattle.tree_cert.specs.CertText.{HasNameWords, IsMultWord, HasNodeWords, HasCertWords, HasWordNames}
 use Rattle.tree_cert.proofs.NameLaws.{element-get}
 
 abbrev Worded : List ℕ × ℚ → Type 0
@@ -67,23 +67,23 @@ module _ (M : Program) (plain : HasWordNames M) where
       All-cons HasNodeWords (node.Split col w) (certificate_nodes first ++ certificate_nodes second) (subst IsWord (sym like.0) (column-word j lawful.0.0))
       (All-append HasNodeWords (certificate_nodes first) (certificate_nodes second) (tree-words (left_path path j v) left first lawful.1.0 lists.1.0 like.1.1.0) (tree-words (right_path path j v) right second lawful.1.1 lists.1.1 like.1.1.1))
 
-numbers-words : (cols : List Col) (x : Point) → All IsWord (map (λ c. c.name) cols) → HasWords (nonzero_numbers cols x)
+numbers-words : (cols : List Col) (x : Point) → All IsWord (map (λ c. c.name) cols) → HasNameWords (nonzero_numbers cols x)
 numbers-words [] x plain = All-nil Worded
 numbers-words (c ∷ cols) [] plain = All-nil Worded
 numbers-words (c ∷ cols) (v ∷ x) plain = by (is_zero v) (All-head IsWord c.name (map (λ c. c.name) cols) plain) (numbers-words cols x (All-tail IsWord c.name (map (λ c. c.name) cols) plain))
   where
-    by : (b : Bool) → IsWord c.name → HasWords (nonzero_numbers cols x) → HasWords (if b then nonzero_numbers cols x else (c.name, v) ∷ nonzero_numbers cols x)
+    by : (b : Bool) → IsWord c.name → HasNameWords (nonzero_numbers cols x) → HasNameWords (if b then nonzero_numbers cols x else (c.name, v) ∷ nonzero_numbers cols x)
     by true here rest = rest
     by false here rest = All-cons Worded (c.name, v) (nonzero_numbers cols x) here rest
 
-point-words : (M : Program) (best : Option Point) → HasWordNames M → HasWords (point_numbers M best)
+point-words : (M : Program) (best : Option Point) → HasWordNames M → HasNameWords (point_numbers M best)
 point-words M None plain = All-nil Worded
 point-words M (Some x) plain = numbers-words M.cols x plain.columns
 
 pub certificate_words : (S : PlainSearch) (cert : Cert) → IsSound S → IsCertificateOf S cert → HasWordNames S.model → HasCertWords cert
 certificate_words S cert sound of plain = record {
-  point = subst HasWords (sym of.point) (point-words S.model of.incumbent plain);
-  ray = subst HasWords (sym of.ray) (All-nil Worded);
+  point = subst HasNameWords (sym of.point) (point-words S.model of.incumbent plain);
+  ray = subst HasNameWords (sym of.ray) (All-nil Worded);
   nodes = subst (All HasNodeWords) of.nodes (tree-words S.model plain [] S.tree.root of.tree sound.tree.lawful sound.tree.lists of.like);
 }
 

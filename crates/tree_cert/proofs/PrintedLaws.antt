@@ -28,8 +28,8 @@ use Rattle.cert_text.specs.Lines.{beside, named_in, row_mult, with_mult, rows_in
 use Rattle.frac_text.specs.Parsing.{spelled_number}
 use Rattle.cert_text.specs.Text.{MeantCertificate}
 use Rattle.cert_text.specs.Whole.{IsNarrowNode, IsCertificate}
-use Rattle.text_lines.specs.Words.{IsWord}
-use Rattle.tree_cert.specs.CertText.{Words, named_words, all_mult_words, claim_words, node_words, point_lines, ray_lines, cert_lines, line_text, lines_text, cert_text, HasWords, IsMultWord, HasNodeWords, HasCertWords}
+use Rattle.text_lines.specs.Words.{IsWord, Words}
+use Rattle.tree_cert.specs.CertText.{named_words, all_mult_words, claim_words, node_words, point_lines, ray_lines, cert_lines, line_text, lines_text, cert_text, HasNameWords, IsMultWord, HasNodeWords, HasCertWords}
 use Rattle.tree_cert.specs.Printed.{HasFractions, MultFits, HasClaimRoom, HasPointRoom, HasRayRoom, HasNodeRoom, HasCertRoom}
 use Rattle.tree_cert.proofs.WordLaws.{plain_word, signed_word, number_word, line-says, lines-cut}
 use Rattle.tree_cert.proofs.StatedLaws.{SayAll, all_statements, point_statements, ray_statements, cert_statements, states}
@@ -45,7 +45,7 @@ whole_read v narrow = ap spelled_number (sym (printed-int v)) ∙ number_read (i
 -- ---- words
 
 abbrev All₂ : Named → Type 0
-All₂ named = HasWords named × HasFractions named
+All₂ named = HasNameWords named × HasFractions named
 
 named_read : (named : Named) → HasFractions named → named_in (named_words named) ≡ Ok named
 named_read [] room = refl
@@ -58,7 +58,7 @@ rows_read (Row name v ∷ mults) words room =
     (λ i. with_mult (row_mult name (number_read v (All-head MultFits (Row name v) mults room) i)) (rows_read mults (All-tail IsMultWord (Row name v) mults words) (All-tail MultFits (Row name v) mults room) i))
 rows_read (Cut k v ∷ mults) words room = absurd (All-head IsMultWord (Cut k v) mults words)
 
-named_are : (named : Named) → HasWords named → HasFractions named → All IsWord (named_words named)
+named_are : (named : Named) → HasNameWords named → HasFractions named → All IsWord (named_words named)
 named_are [] words room = All-nil IsWord
 named_are (e ∷ named) words room =
     All-cons IsWord e.0 (printed e.1 ∷ named_words named) (All-head (λ (d : List ℕ × ℚ). IsWord d.0) e named words)
@@ -101,10 +101,10 @@ claim_line Infeasible room =
 claim_line Unbounded room =
     line_by (codes "claim") (codes "unbounded" ∷ []) (says.Claims Unbounded) (plain_word (codes "claim") refl) (All-cons IsWord (codes "unbounded") [] (plain_word (codes "unbounded") refl) (All-nil IsWord)) refl
 
-point_line : (named : Named) → HasWords named → HasFractions named → Line (codes "point" ∷ named_words named) (says.Point named)
+point_line : (named : Named) → HasNameWords named → HasFractions named → Line (codes "point" ∷ named_words named) (says.Point named)
 point_line named words room = line_by (codes "point") (named_words named) (says.Point named) (plain_word (codes "point") refl) (named_are named words room) (ap as_point (named_read named room))
 
-ray_line : (named : Named) → HasWords named → HasFractions named → Line (codes "ray" ∷ named_words named) (says.Ray named)
+ray_line : (named : Named) → HasNameWords named → HasFractions named → Line (codes "ray" ∷ named_words named) (says.Ray named)
 ray_line named words room = line_by (codes "ray") (named_words named) (says.Ray named) (plain_word (codes "ray") refl) (named_are named words room) (ap as_ray (named_read named room))
 
 below_largest : (v : ℤ) → IsNarrow (v +ℤ pos 1) → int_eq v (pos (2 ^ 127 - 1)) ≡ false
@@ -146,12 +146,12 @@ nodes_lines (n ∷ nodes) narrow words room =
     (node_line n (All-head IsNarrowNode n nodes narrow) (All-head HasNodeWords n nodes words) (All-head HasNodeRoom n nodes room))
     (nodes_lines nodes (All-tail IsNarrowNode n nodes narrow) (All-tail HasNodeWords n nodes words) (All-tail HasNodeRoom n nodes room))
 
-point_behind : (claim : Claim) (point : Named) (lines : List Words) (xs : List Statement) → HasWords point → HasPointRoom claim point → Lines lines xs → Lines (point_lines claim point ++ lines) (point_statements claim point ++ xs)
+point_behind : (claim : Claim) (point : Named) (lines : List Words) (xs : List Statement) → HasNameWords point → HasPointRoom claim point → Lines lines xs → Lines (point_lines claim point ++ lines) (point_statements claim point ++ xs)
 point_behind (Optimal v) point lines xs words room rest = lines_cons (codes "point" ∷ named_words point) (says.Point point) lines xs (point_line point words room) rest
 point_behind Infeasible point lines xs words room rest = rest
 point_behind Unbounded point lines xs words room rest = lines_cons (codes "point" ∷ named_words point) (says.Point point) lines xs (point_line point words room) rest
 
-ray_behind : (claim : Claim) (ray : Named) (lines : List Words) (xs : List Statement) → HasWords ray → HasRayRoom claim ray → Lines lines xs → Lines (ray_lines claim ray ++ lines) (ray_statements claim ray ++ xs)
+ray_behind : (claim : Claim) (ray : Named) (lines : List Words) (xs : List Statement) → HasNameWords ray → HasRayRoom claim ray → Lines lines xs → Lines (ray_lines claim ray ++ lines) (ray_statements claim ray ++ xs)
 ray_behind (Optimal v) ray lines xs words room rest = rest
 ray_behind Infeasible ray lines xs words room rest = rest
 ray_behind Unbounded ray lines xs words room rest = lines_cons (codes "ray" ∷ named_words ray) (says.Ray ray) lines xs (ray_line ray words room) rest

@@ -7,7 +7,8 @@ use Rattle.lp_model.specs.Edits.{Named}
 use Rattle.cert_text.specs.declared.cert.CertMult.{CertMult}
 use Rattle.cert_text.specs.declared.cert.CertNode.{CertNode}
 use Rattle.cert_text.specs.declared.cert.Cert.{Cert}
-use Rattle.tree_cert.specs.CertText.{Words, named_words, mult_words, all_mult_words, claim_words, node_words, point_lines, ray_lines, spaced, line_text, lines_text, cert_text}
+use Rattle.tree_cert.specs.CertText.{named_words, mult_words, all_mult_words, claim_words, node_words, point_lines, ray_lines, line_text, lines_text, cert_text}
+use Rattle.text_lines.specs.Words.{spaced, Words}
 use Rattle.std.proofs.lemmas.List.{drop_more, drop_all, take_all}
 use Rattle.std.proofs.lemmas.List.Elements.{All-more}
 

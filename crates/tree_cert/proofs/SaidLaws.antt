@@ -24,12 +24,12 @@ use Rattle.text_lines.proofs.CleanLemmas.{words-are}
 use Rattle.cert_text.specs.Lines.{begins_blank, ends_blank, with_named, beside, named_in, row_mult, with_mult, rows_in, cert_says, claimed, claim_says, as_point, as_ray, is_whole, split_at, split_says, as_leaf, empty_says, leaf_says, end_says, word_of, word_says, known_says, words_say, line_says}
 use Rattle.frac_text.specs.Parsing.{spelled_number}
 use Rattle.cert_text.specs.Whole.{IsNarrowNode}
-use Rattle.tree_cert.specs.CertText.{HasWords, IsMultWord, HasNodeWords}
+use Rattle.tree_cert.specs.CertText.{HasNameWords, IsMultWord, HasNodeWords}
 use Rattle.tree_cert.specs.Printed.{HasFractions, MultFits, HasClaimRoom, HasNodeRoom}
 use Rattle.tree_cert.proofs.FitLaws.{FitsOk, number-fits}
 
 pub record GoodNamed (named : Named) : Type 0 where
-  pub words : HasWords named
+  pub words : HasNameWords named
   pub room : HasFractions named
 
 pub record GoodNode (n : CertNode) : Type 0 where

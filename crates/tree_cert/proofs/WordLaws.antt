@@ -13,11 +13,11 @@ use Rattle.frac128.specs.Range.{Fits, IsNarrow}
 use Rattle.frac128.specs.Printing.{printed}
 use Rattle.frac128.proofs.Printed.{printed-whole, printed-fraction}
 use Rattle.text_lines.specs.Lines.{Line, is_newline, HasNoNewline, lines_of, lines_of_pieces, line_bytes}
-use Rattle.text_lines.specs.Words.{is_blank, HasNoBlank, is_piece, words_of, IsWord}
+use Rattle.text_lines.specs.Words.{is_blank, HasNoBlank, is_piece, words_of, IsWord, spaced, Words}
 use Rattle.text_lines.proofs.LineLemmas.{bytes-last}
 use Rattle.text_lines.proofs.WordLemmas.{a_piece}
 use Rattle.cert_text.specs.Lines.{ends_blank, words_say, line_says}
-use Rattle.tree_cert.specs.CertText.{Words, spaced, line_text, lines_text}
+use Rattle.tree_cert.specs.CertText.{line_text, lines_text}
 
 nil_right : {A : Type 0} (l : List A) → l ++ [] ≡ l
 nil_right [] = refl

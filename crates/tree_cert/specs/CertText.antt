@@ -13,12 +13,9 @@ use Rattle.cert_text.specs.declared.cert.CertNode.{CertNode}
 use Rattle.cert_text.specs.declared.cert.CertNode.TheVariants.{Split, Bound, Farkas, Empty}
 use Rattle.cert_text.specs.declared.cert.Cert.{Cert}
 use Rattle.lp_model.specs.Edits.{only_row_names}
-use Rattle.text_lines.specs.Words.{IsWord}
+use Rattle.text_lines.specs.Words.{IsWord, Words, spaced}
 
 -- ---- words
-
-abbrev pub Words : Type 0
-Words = List (List ℕ)
 
 -- `NAME V` for each
 abbrev pub named_words : Named → Words
@@ -64,11 +61,6 @@ cert_lines c =
 
 -- ---- bytes
 
--- further words, a blank before each
-abbrev pub spaced : Words → List ℕ
-spaced [] = []
-spaced (word ∷ words) = 32 ∷ (word ++ spaced words)
-
 abbrev pub line_text : Words → List ℕ
 line_text [] = []
 line_text (word ∷ words) = word ++ spaced words
@@ -83,8 +75,8 @@ cert_text c = lines_text (cert_lines c)
 
 -- ---- names that are words
 
-abbrev pub HasWords : Named → Type 0
-HasWords named = All (λ e. IsWord e.0) named
+abbrev pub HasNameWords : Named → Type 0
+HasNameWords named = All (λ e. IsWord e.0) named
 
 -- a multiplier is of a row whose name is a word: the line of a leaf says none of a cut
 abbrev pub IsMultWord : CertMult → Type 0
@@ -99,8 +91,8 @@ HasNodeWords Empty = Unit {0}
 
 -- each name in the certificate is a word, and its multipliers are of rows
 pub record HasCertWords (cert : Cert) : Type 0 where
-  pub point : HasWords cert.point
-  pub ray : HasWords cert.ray
+  pub point : HasNameWords cert.point
+  pub ray : HasNameWords cert.ray
   pub nodes : All HasNodeWords cert.nodes
 
 -- each name of a column or a row of the model is a word

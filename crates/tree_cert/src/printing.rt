@@ -5,7 +5,8 @@ ghost use Rattle.frac128.specs.Range.{Fits};
 ghost use Rattle.frac128.specs.Printing.{printed};
 ghost use Rattle.cert_text.specs.Text.{MeantCertificate};
 ghost use Rattle.cert_text.specs.Whole.{IsCertificate};
-ghost use Rattle.tree_cert.specs.CertText.{named_words, mult_words, all_mult_words, claim_words, node_words, point_lines, ray_lines, spaced, line_text, lines_text, cert_text, HasCertWords};
+ghost use Rattle.tree_cert.specs.CertText.{named_words, mult_words, all_mult_words, claim_words, node_words, point_lines, ray_lines, line_text, lines_text, cert_text, HasCertWords};
+ghost use Rattle.text_lines.specs.Words.{spaced};
 ghost use Rattle.tree_cert.specs.Printed.{HasFractions, MultFits, HasNodeRoom, HasClaimRoom, HasPointRoom, HasRayRoom};
 
 use cert_text::{Cert, CertMult, CertNode, Claim};

@@ -1,7 +1,7 @@
 // The walk through the nodes of a tree.
 ghost use Rattle.std.specs.Prelude.{◌≡◌, ◌<◌, ◌+ℤ◌, ◌++◌, ◌∷◌, [], pos, length, IfOk};
 ghost use Rattle.frac128.specs.Range.{IsNarrow};
-ghost use Rattle.lp_model.specs.Regions.{at_most, at_least};
+ghost use Rattle.lp_model.specs.Regions.{at_least};
 ghost use Rattle.cert_check.specs.Walk.{after_leaf};
 ghost use Rattle.tree_cert.specs.Walked.{path_after, IsNodeOf, AreNodesOf, IsFit, AreFit, HasTurns};
 
@@ -9,7 +9,7 @@ use crate::leaf::leaf_node;
 use crate::names::column_name;
 use branch_tree::Node;
 use cert_text::CertNode;
-use lp_model::{BoundChange, ColId, List, Model, Side};
+use lp_model::{BoundChange, List, Model, Side};
 use std::alloc::{AllocError, Global};
 
 /// The change to the second child of a split, whose first child is that of the change.
@@ -17,11 +17,7 @@ fn second_child(first: &BoundChange) -> BoundChange
     requires { IsNarrow (first.now.v +ℤ pos 1) }
     ensures { result ≡ at_least first.now.col.0 (first.now.v +ℤ pos 1) }
 {
-    BoundChange {
-        col: first.col,
-        side: Side::Lo,
-        v: first.v + 1,
-    }
+    BoundChange::at_least(first.col, first.v + 1)
 }
 
 /// From the path to a leaf to that of the node behind it.
@@ -41,17 +37,6 @@ fn turn(path: &mut Vec<BoundChange>) -> Result<(), AllocError>
     Ok(())
 }
 
-/// The change to the first child of a split.
-fn first_child(col: ColId, v: i128) -> BoundChange
-    ensures { result ≡ at_most col.0 v }
-{
-    BoundChange {
-        col,
-        side: Side::Hi,
-        v,
-    }
-}
-
 /// From the path to a node to that of the node behind it.
 fn step_on(path: &mut Vec<BoundChange>, node: &Node) -> Result<(), AllocError>
     requires { HasTurns path.old.items }
@@ -59,7 +44,7 @@ fn step_on(path: &mut Vec<BoundChange>, node: &Node) -> Result<(), AllocError>
 {
     match node {
         Node::Split { col, v, .. } => {
-            path.push(first_child(*col, *v))?;
+            path.push(BoundChange::at_most(*col, *v))?;
             Ok(())
         }
         Node::Leaf { .. } => turn(path),

@@ -1,6 +1,6 @@
 // The certificate of a finished search, and that of a model with a ray.
 ghost use Rattle.std.specs.Prelude.{◌≡◌, true, IfOk, length, Option, Ok};
-ghost use Rattle.lp_model.specs.Program.{Point, in_least_form};
+ghost use Rattle.lp_model.specs.Program.{Point};
 ghost use Rattle.lp_model.specs.Answers.{IsFeasibilityAnswer};
 ghost use Rattle.lp_model.specs.Rays.{IsRayJudged};
 ghost use Rattle.tree_edit.specs.Laws.{HasNoOpenLeaf};
@@ -17,26 +17,16 @@ use crate::names::nonzero_numbers;
 use crate::walk::cert_nodes;
 use cert_text::{Cert, CertNode, Claim};
 use frac128::Frac;
-use lp_model::{List, Model, Name, Point, Sense};
+use lp_model::{List, Model, Name, Point};
 use std::alloc::{AllocError, Global};
 use tree_edit::Search;
-
-/// A value in the model's own sense, from its least form.
-fn in_own_sense(sense: Sense, value: &Frac) -> Frac
-    ensures { result ≡ in_least_form sense value.now }
-{
-    match sense {
-        Sense::Min => *value,
-        Sense::Max => value.neg(),
-    }
-}
 
 /// The incumbent's value, or that no point is feasible.
 fn claim(search: &Search) -> Claim
     ensures { (best : Option Point) → IsIncumbent search.now.model search.now.points best → result ≡ claim_of search.now.model best }
 {
     match search.target() {
-        Some(value) => Claim::Optimal(in_own_sense(search.model().sense(), &value)),
+        Some(value) => Claim::Optimal(search.model().sense().least_form(&value)),
         None => Claim::Infeasible,
     }
 }

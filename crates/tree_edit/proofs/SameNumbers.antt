@@ -21,7 +21,7 @@ use Rattle.leaf_judging.specs.Choosing.{finite_number}
 use Rattle.leaf_judging.specs.Queued.{IsRank, HasRank, HasMultipliers, HasState}
 use Rattle.leaf_judging.specs.Numbers.{kept_number, PutsNumber, KeepsOtherNumbers, KeepsOtherTwo, HasBoth, HasKept, AreNumbersOf}
 use Rattle.tree_edit.specs.Sound.{PlainSearch, formulation_of}
-use Rattle.tree_edit.specs.Calls.{IsNumberAnswer}
+use Rattle.tree_edit.specs.Calls.{IsLeafNumberAnswer}
 use Rattle.tree_edit.specs.Placing.{IsAt, split_node}
 use Rattle.tree_edit.proofs.ClosedTree.{each_both}
 use Rattle.tree_edit.proofs.SoundLemmas.{each-weaker, none_with}
@@ -53,13 +53,13 @@ kept-there F numbers id path (Split kept j v left right) h some =
     ]
 
 -- what is kept of the leaf that is found is its number
-pub number-found : (S : PlainSearch) (numbers : LeafNumbers) (id : ℕ) (kept : LeafData) (o : Option LeafNumber) → AreNumbersOf (formulation_of S) S.tree.root numbers → data_of id S.tree.root ≡ Some kept → o ≡ kept_number numbers id → IsNumberAnswer S id o
+pub number-found : (S : PlainSearch) (numbers : LeafNumbers) (id : ℕ) (kept : LeafData) (o : Option LeafNumber) → AreNumbersOf (formulation_of S) S.tree.root numbers → data_of id S.tree.root ≡ Some kept → o ≡ kept_number numbers id → IsLeafNumberAnswer S id o
 number-found S numbers id kept o are found is =
     let l = leaf_of_data (leaf_below id [] S.tree.root) kept found in
     let at = each-found (HasKept (formulation_of S) numbers) id [] S.tree.root l.0 are l.1.0 in
     let n : LeafNumber = at.0.0 in
     let has : kept_number numbers id ≡ Some n = subst (λ i. kept_number numbers i ≡ Some n) at.1 at.0.1.0 in
-    subst (IsNumberAnswer S id) (sym (is ∙ has))
+    subst (IsLeafNumberAnswer S id) (sym (is ∙ has))
     (record {
       path = l.0.0;
       kept = kept;

@@ -41,9 +41,9 @@ pub record HasNumber (S : PlainSearch) (id : ℕ) (number : LeafNumber) : Type 0
   pub leaf : IsLeafAt S.tree.root id path kept
   pub number_is : IsNumber (formulation_of S) path kept.mult kept.farkas number
 
-abbrev pub IsNumberAnswer : PlainSearch → ℕ → Option LeafNumber → Type 0
-IsNumberAnswer S id None = leaves_with id S.tree.root ≡ 0
-IsNumberAnswer S id (Some number) = HasNumber S id number
+abbrev pub IsLeafNumberAnswer : PlainSearch → ℕ → Option LeafNumber → Type 0
+IsLeafNumberAnswer S id None = leaves_with id S.tree.root ≡ 0
+IsLeafNumberAnswer S id (Some number) = HasNumber S id number
 
 -- the id of the leaf that goes first
 abbrev pub IsNext : PlainSearch → Option ℕ → Type 0

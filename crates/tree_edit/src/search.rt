@@ -9,7 +9,7 @@ ghost use Rattle.tree_edit.specs.Sound.{IsSound};
 ghost use Rattle.leaf_judging.specs.Judged.{JudgesAll};
 ghost use Rattle.leaf_judging.specs.Queued.{IsQueueOf};
 ghost use Rattle.leaf_judging.specs.Numbers.{AreNumbersOf};
-ghost use Rattle.tree_edit.specs.Calls.{IsNext, IsFresh, search_with_limit, IsNumberAnswer};
+ghost use Rattle.tree_edit.specs.Calls.{IsNext, IsFresh, search_with_limit, IsLeafNumberAnswer};
 
 use crate::points::oldest_least;
 use branch_tree::Tree;
@@ -159,7 +159,7 @@ impl Search {
 
     /// The number of the leaf with the id, if there is such a leaf.
     pub fn number(&self, id: u64) -> Option<LeafNumber>
-        ensures { IsNumberAnswer self.now id result }
+        ensures { IsLeafNumberAnswer self.now id result }
     {
         match self.tree.leaf(id) {
             None => None,

@@ -1,6 +1,7 @@
 // What a search answers.
 use crate::solving::solve;
-use crate::{told, trees};
+use crate::told;
+use crate::trees::{basis_in, multipliers_in, take_split};
 use anyhow::{Result, bail, ensure};
 use branch_tree::NodeResult;
 use frac128::Frac;
@@ -8,10 +9,28 @@ use leaf_dual::LagValue;
 use leaf_judging::LeafNumber;
 use lp_model::{Model, Point};
 use model_calls::{has_section, numbers_of, push_answer, push_step, section, take_number};
-use model_texts::{Words, basis_of, edit_of, multipliers_of, point_of, push_point};
+use model_texts::{Words, edit_of, point_of, push_point};
 use search_counting::cap;
 use std::alloc::Global;
 use tree_edit::{Search, Taken};
+
+/// Makes a call of a search by the words behind it, and writes its answer.
+fn answer(
+    alloc: Global,
+    search: &mut Search,
+    word: &str,
+    words: &mut Words,
+    got: &mut String,
+) -> Result<()> {
+    match word {
+        "edit" => edit(alloc, search, words, got)?,
+        "solve" => solve(alloc, search, words, got)?,
+        "limit" => search.set_limit(take_number(words)?),
+        "restart" => search.restart()?,
+        _ => read(search, word, words, got)?,
+    }
+    Ok(())
+}
 
 /// Makes a call of a search, and writes its answer.
 pub fn call(
@@ -25,13 +44,7 @@ pub fn call(
         return place(alloc, search, line, got);
     }
     let mut words = Words::new(alloc, line)?;
-    match word {
-        "edit" => edit(alloc, search, &mut words, got)?,
-        "solve" => solve(alloc, search, &mut words, got)?,
-        "limit" => search.set_limit(take_number(&mut words)?),
-        "restart" => search.restart()?,
-        _ => read(search, word, &mut words, got)?,
-    }
+    answer(alloc, search, word, &mut words, got)?;
     words.end()
 }
 
@@ -47,12 +60,21 @@ fn read(search: &Search, word: &str, words: &mut Words, got: &mut String) -> Res
     }
 }
 
+/// The result of `keep`, `close` or `split COLUMN at V`, to the end, and of the line's sections.
+fn whole_result(alloc: Global, model: &Model, words: &mut Words, line: &str) -> Result<NodeResult> {
+    let done = result_of(alloc, model, words, line)?;
+    if let Err(error) = words.end() {
+        drop(done);
+        return Err(error);
+    }
+    Ok(done)
+}
+
 /// `ID keep`, `ID close` or `ID split COLUMN at V`, and sections.
 fn place(alloc: Global, search: &mut Search, line: &str, got: &mut String) -> Result<()> {
     let mut words = section(alloc, line, "")?;
     let id = take_number(&mut words)?;
-    let done = result_of(alloc, search.model(), &mut words, line)?;
-    words.end()?;
+    let done = whole_result(alloc, search.model(), &mut words, line)?;
     let taken = search.place(id, done)?;
     got.push_str(taken_word(taken))?;
     Ok(())
@@ -80,17 +102,19 @@ fn result_of(alloc: Global, model: &Model, words: &mut Words, line: &str) -> Res
     }
 }
 
-/// The point of the section `point`, by names, or `numbers`, as they are.
-fn point_in(alloc: Global, model: &Model, line: &str) -> Result<Option<Point>> {
+/// Whether a point stands in a line.
+fn has_point(line: &str) -> bool {
+    has_section(line, "numbers") || has_section(line, "point")
+}
+
+/// The point of the section `numbers`, as they are, or of the section `point`, by names.
+fn point_in(alloc: Global, model: &Model, line: &str) -> Result<Point> {
     if has_section(line, "numbers") {
         let mut words = section(alloc, line, "numbers")?;
-        return Ok(Some(numbers_of(alloc, &mut words)?));
+        return numbers_of(alloc, &mut words);
     }
-    if has_section(line, "point") {
-        let mut words = section(alloc, line, "point")?;
-        return Ok(Some(point_of(alloc, model, &mut words)?));
-    }
-    Ok(None)
+    let mut words = section(alloc, line, "point")?;
+    point_of(alloc, model, &mut words)
 }
 
 fn kept(alloc: Global, model: &Model, line: &str) -> Result<NodeResult> {
@@ -98,20 +122,32 @@ fn kept(alloc: Global, model: &Model, line: &str) -> Result<NodeResult> {
         !has_section(line, "multipliers") && !has_section(line, "farkas"),
         "multipliers with `keep`"
     );
-    let point = point_in(alloc, model, line)?;
-    let basis = basis_of(alloc, model, &mut section(alloc, line, "basis")?)?;
+    let basis = basis_in(alloc, model, line)?;
+    let point = if has_point(line) {
+        Some(point_in(alloc, model, line)?)
+    } else {
+        None
+    };
     Ok(NodeResult::Keep { point, basis })
+}
+
+/// With a point, and multipliers where there are any.
+fn closed_with_point(alloc: Global, model: &Model, line: &str) -> Result<NodeResult> {
+    ensure!(!has_section(line, "farkas"), "`farkas` beside a point");
+    let point = point_in(alloc, model, line)?;
+    let mult = multipliers_in(alloc, model, line, "multipliers")?;
+    let basis = basis_in(alloc, model, line)?;
+    Ok(NodeResult::PointAndClose { point, mult, basis })
 }
 
 /// By multipliers alone, or with a point.
 fn closed(alloc: Global, model: &Model, line: &str) -> Result<NodeResult> {
-    let mult = multipliers_of(alloc, model, &mut section(alloc, line, "multipliers")?)?;
-    let basis = basis_of(alloc, model, &mut section(alloc, line, "basis")?)?;
-    if let Some(point) = point_in(alloc, model, line)? {
-        ensure!(!has_section(line, "farkas"), "`farkas` beside a point");
-        return Ok(NodeResult::PointAndClose { point, mult, basis });
+    if has_point(line) {
+        return closed_with_point(alloc, model, line);
     }
-    let farkas = multipliers_of(alloc, model, &mut section(alloc, line, "farkas")?)?;
+    let mult = multipliers_in(alloc, model, line, "multipliers")?;
+    let farkas = multipliers_in(alloc, model, line, "farkas")?;
+    let basis = basis_in(alloc, model, line)?;
     Ok(NodeResult::Close {
         mult,
         farkas,
@@ -120,14 +156,11 @@ fn closed(alloc: Global, model: &Model, line: &str) -> Result<NodeResult> {
 }
 
 fn split(alloc: Global, model: &Model, words: &mut Words, line: &str) -> Result<NodeResult> {
-    ensure!(
-        !has_section(line, "point") && !has_section(line, "numbers"),
-        "a point with `split`"
-    );
+    ensure!(!has_point(line), "a point with `split`");
     ensure!(!has_section(line, "farkas"), "`farkas` with `split`");
-    let (col, v) = trees::take_split(model, words)?;
-    let mult = multipliers_of(alloc, model, &mut section(alloc, line, "multipliers")?)?;
-    let basis = basis_of(alloc, model, &mut section(alloc, line, "basis")?)?;
+    let (col, v) = take_split(model, words)?;
+    let mult = multipliers_in(alloc, model, line, "multipliers")?;
+    let basis = basis_in(alloc, model, line)?;
     Ok(NodeResult::Split {
         col,
         v,
@@ -139,11 +172,12 @@ fn split(alloc: Global, model: &Model, words: &mut Words, line: &str) -> Result<
 fn edit(alloc: Global, search: &mut Search, words: &mut Words, got: &mut String) -> Result<()> {
     let edit = edit_of(alloc, words)?;
     let answer = search.edit(edit);
-    push_answer(got, &answer)
+    let pushed = push_answer(got, &answer);
+    drop(answer);
+    pushed
 }
 
 /// Writes a number, and `none` where there is none.
-/// Writes a number, or that there is none.
 pub fn push_some(got: &mut String, number: &Option<Frac>) -> Result<()> {
     match number {
         Some(number) => write!(got, " {number}")?,

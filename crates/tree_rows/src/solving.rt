@@ -40,7 +40,11 @@ pub fn solve(
     let first = first_basis(alloc, search.model())?;
     let _lawful = search.model().cols();
     let searched = search_on(alloc, search, &Ways::Own, &first, nodes, pivots)?;
-    push_answer(got, search.model(), &answer_of(alloc, search, searched))
+    drop(first);
+    let answer = answer_of(alloc, search, searched);
+    let pushed = push_answer(got, search.model(), &answer);
+    drop(answer);
+    pushed
 }
 
 fn push_answer(got: &mut String, model: &Model, answer: &Answer) -> Result<()> {

@@ -7,7 +7,8 @@ use lp_model::{Model, Sense};
 use model_calls::take_number;
 use model_texts::{Words, empty_model, model_of};
 use row_texts::{Stage, bytes_of};
-use std::alloc::Global;
+use std::alloc::{AllocError, Global};
+use std::mem::replace;
 use tree_edit::Search;
 
 /// The model, the tree and the search of a row, where it has begun them. Calls go to the search if there is one, else to the
@@ -31,15 +32,42 @@ fn model_in(alloc: Global, text: &[String]) -> Result<Model> {
     model_of(alloc, text)
 }
 
+/// The limit of nodes that a line says.
+fn limit_of(alloc: Global, line: &str) -> Result<u64> {
+    let mut words = Words::new(alloc, line)?;
+    take_number(&mut words)
+}
+
+/// A search of a model.
+fn search_of(alloc: Global, model: &Model) -> Result<Search, AllocError> {
+    let model = model.copy()?;
+    Search::new(alloc, model)
+}
+
 impl Calls {
+    /// Takes a model.
+    fn begin_model(&mut self, text: &[String]) -> Result<()> {
+        let model = model_in(self.alloc, text)?;
+        drop(replace(&mut self.model, Some(model)));
+        Ok(())
+    }
+
+    /// Takes a model without rows and columns.
+    fn begin_empty(&mut self) -> Result<()> {
+        let zero = Frac::whole(0);
+        let model = empty_model(self.alloc, Sense::Min, zero, zero)?;
+        drop(replace(&mut self.model, Some(model)));
+        Ok(())
+    }
+
     /// A tree by itself. The columns and rows of its lists are said by place.
     fn begin_tree(&mut self, line: &str) -> Result<()> {
-        let limit = take_number(&mut Words::new(self.alloc, line)?)?;
+        let limit = limit_of(self.alloc, line)?;
         if self.model.is_none() {
-            let zero = Frac::whole(0);
-            self.model = Some(empty_model(self.alloc, Sense::Min, zero, zero)?);
+            self.begin_empty()?;
         }
-        self.tree = Some(Tree::new(self.alloc, limit)?);
+        let tree = Tree::new(self.alloc, limit)?;
+        drop(replace(&mut self.tree, Some(tree)));
         Ok(())
     }
 
@@ -48,7 +76,8 @@ impl Calls {
         let Some(model) = &self.model else {
             bail!("no `model` above");
         };
-        self.search = Some(Search::new(self.alloc, model.copy()?)?);
+        let search = search_of(self.alloc, model)?;
+        drop(replace(&mut self.search, Some(search)));
         Ok(())
     }
 
@@ -73,6 +102,15 @@ impl Calls {
             _ => self.call(word, line, got)?,
         }
         Ok(())
+    }
+
+    /// Makes a call, and compares its answer with the wanted one.
+    fn take_call(&mut self, word: &str, rest: &str) -> Result<()> {
+        let (said, wanted) = rest.split_once("-> ").unwrap_or((rest, "ok"));
+        let mut got = String::new(self.alloc);
+        self.answer(word, said, &mut got)?;
+        let got = if got.is_empty() { "ok" } else { got.trim() };
+        self.judge(word, rest, got, wanted)
     }
 
     /// Notes an answer that isn't the wanted one.
@@ -104,14 +142,9 @@ impl Stage for Calls {
     fn take(&mut self, word: &str, rest: &str, text: &[String]) -> Result<()> {
         if word == "model" {
             ensure!(rest.is_empty(), "no name stands here: {rest}");
-            self.model = Some(model_in(self.alloc, text)?);
-            return Ok(());
+            return self.begin_model(text);
         }
-        let (said, wanted) = rest.split_once("-> ").unwrap_or((rest, "ok"));
-        let mut got = String::new(self.alloc);
-        self.answer(word, said, &mut got)?;
-        let got = if got.is_empty() { "ok" } else { got.trim() };
-        self.judge(word, rest, got, wanted)
+        self.take_call(word, rest)
     }
 
     fn end(&self) -> Result<&str> {

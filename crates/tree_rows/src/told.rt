@@ -98,9 +98,9 @@ fn node(tree: &Tree, model: &Model, id: u64, got: &mut String) -> Result<()> {
 }
 
 /// Writes how many nodes there are, and each one, a split before those below it.
-fn nodes(tree: &Tree, got: &mut String) -> Result<()> {
-    write!(got, "{}:", tree.nodes())?;
-    for node in &tree.preorder()? {
+fn push_nodes(got: &mut String, count: u64, nodes: &[Node]) -> Result<()> {
+    write!(got, "{count}:")?;
+    for node in nodes {
         let kind = match node {
             Node::Split { .. } => "split",
             Node::Leaf { .. } => "leaf",
@@ -108,6 +108,13 @@ fn nodes(tree: &Tree, got: &mut String) -> Result<()> {
         write!(got, " {kind} {}", id_of(node))?;
     }
     Ok(())
+}
+
+fn nodes(tree: &Tree, got: &mut String) -> Result<()> {
+    let nodes = tree.preorder()?;
+    let pushed = push_nodes(got, tree.nodes(), &nodes);
+    drop(nodes);
+    pushed
 }
 
 /// Writes the ids that a split would give.

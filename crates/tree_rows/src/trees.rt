@@ -2,10 +2,27 @@
 use crate::told;
 use anyhow::{Result, ensure};
 use branch_tree::{Tree, TreeFault};
-use lp_model::{ColId, Model};
+use lp_model::{Basis, ColId, Model, Mult};
 use model_calls::{section, take_number};
 use model_texts::{Words, basis_of, column_of, multipliers_of};
 use std::alloc::Global;
+
+/// Makes a call of a tree by the words behind it, and writes its answer.
+fn answer(
+    tree: &mut Tree,
+    model: &Model,
+    word: &str,
+    words: &mut Words,
+    got: &mut String,
+) -> Result<()> {
+    match word {
+        "limit" => tree.set_limit(take_number(words)?),
+        "trim" => tree.trim_depth(take_number(words)?),
+        "collapse" => collapse(tree, take_number(words)?, got)?,
+        _ => told::read(tree, model, word, words, got)?,
+    }
+    Ok(())
+}
 
 /// Makes a call of a tree, and writes its answer. The model gives columns and rows their names.
 pub fn call(
@@ -16,15 +33,24 @@ pub fn call(
     line: &str,
     got: &mut String,
 ) -> Result<()> {
-    let mut words = section(alloc, line, "")?;
-    match word {
-        "limit" => tree.set_limit(take_number(&mut words)?),
-        "trim" => tree.trim_depth(take_number(&mut words)?),
-        "collapse" => collapse(tree, take_number(&mut words)?, got)?,
-        "split" => return split(alloc, tree, model, line, got),
-        _ => told::read(tree, model, word, &mut words, got)?,
+    if word == "split" {
+        return split(alloc, tree, model, line, got);
     }
+    let mut words = section(alloc, line, "")?;
+    answer(tree, model, word, &mut words, got)?;
     words.end()
+}
+
+/// The multipliers of a section.
+pub fn multipliers_in(alloc: Global, model: &Model, line: &str, key: &str) -> Result<Mult> {
+    let mut words = section(alloc, line, key)?;
+    multipliers_of(alloc, model, &mut words)
+}
+
+/// The basis of the section `basis`.
+pub fn basis_in(alloc: Global, model: &Model, line: &str) -> Result<Basis> {
+    let mut words = section(alloc, line, "basis")?;
+    basis_of(alloc, model, &mut words)
 }
 
 /// Takes `COLUMN at V`, to the end.
@@ -36,6 +62,14 @@ pub fn take_split(model: &Model, words: &mut Words) -> Result<(ColId, i128)> {
     Ok((col, v))
 }
 
+/// Takes `ID COLUMN at V` of the front of a line.
+fn split_of(alloc: Global, model: &Model, line: &str) -> Result<(u64, ColId, i128)> {
+    let mut words = section(alloc, line, "")?;
+    let id = take_number(&mut words)?;
+    let (col, v) = take_split(model, &mut words)?;
+    Ok((id, col, v))
+}
+
 /// `split ID COLUMN at V`, and the sections `multipliers` and `basis`.
 fn split(
     alloc: Global,
@@ -44,12 +78,10 @@ fn split(
     line: &str,
     got: &mut String,
 ) -> Result<()> {
-    let mut words = section(alloc, line, "")?;
-    let id = take_number(&mut words)?;
-    let (col, v) = take_split(model, &mut words)?;
+    let (id, col, v) = split_of(alloc, model, line)?;
     ensure!(v < i128::MAX, "no room above {v}");
-    let mult = multipliers_of(alloc, model, &mut section(alloc, line, "multipliers")?)?;
-    let basis = basis_of(alloc, model, &mut section(alloc, line, "basis")?)?;
+    let mult = multipliers_in(alloc, model, line, "multipliers")?;
+    let basis = basis_in(alloc, model, line)?;
     let answer = tree.replace_leaf(id, col, v, mult, basis);
     push_ids(got, &answer)
 }

@@ -32,8 +32,8 @@ use Rattle.basic_solution.specs.Held.{Held, IsLawfulHeld}
 use Rattle.dual_simplex.proofs.SolveLemmas.{of_after}
 use Rattle.tree_search.specs.Steps.{worked_model, IsWayFor, HasOpenLeaf, WorksNext, Goes, KeepsOpen, FullAtNext, PivotsAtNext, StepAtNext, ValueAtNext, PointAtNext, StopsAtNext, IsRayWay}
 use Rattle.tree_search.specs.Room.{IsWorkedRegion, HasMoves, HasRoomAt}
-use Rattle.tree_search.specs.Causes.{IsPivotCause, IsStepCause, IsWideValueBy, IsCause, HasCause, IsAtEnd, HasOwnValues, IsEnough}
-use Rattle.tree_search.specs.Search.{IsAfter, IsAtLimit, StopsFor, FindsPoint, Finishes, Ends, IsLeft, Finds, GivesUp}
+use Rattle.tree_search.specs.Causes.{IsPivotCause, IsStepCause, IsWideValueBy, IsCause, HasCause, IsAtEnd, HasOwnValues, IsEnoughForSearch}
+use Rattle.tree_search.specs.Search.{IsAfter, IsAtLimit, StopsFor, FindsPoint, FinishesSearch, Ends, IsLeft, Finds, GivesUp}
 use Rattle.tree_search.specs.declared.searching.Ways.{Ways}
 use Rattle.tree_search.specs.declared.searching.Ways.TheVariants.{Own, Rays}
 use Rattle.tree_search.specs.declared.searching.Ended.{Ended}
@@ -205,7 +205,7 @@ module _ (ways : Ways) (first : Basis) (nodes pivots : ℕ) (old : PlainSearch) 
 
   -- ---- searches that go to the end
 
-  module _ (enough : IsEnough old ways nodes pivots) where
+  module _ (enough : IsEnoughForSearch old ways nodes pivots) where
     no-value : (w : Ways) → HasOwnValues w old.model → (path : Path) → IsWorkedRegion (worked_model w old.model) path → (list : Basis) (basis : Basis) (step : WideStep) → ¬ IsWideValueBy w old.model path list first pivots basis step
     no-value Own h path region list basis step wide = wide
     no-value (Rays Y) h path region list basis step wide =
@@ -242,7 +242,7 @@ module _ (ways : Ways) (first : Basis) (nodes pivots : ℕ) (old : PlainSearch) 
 -- ---- a new search
 
 pub fresh-enough : (M : Program) (limit : ℕ) (S : PlainSearch) (ways : Ways) (nodes pivots : ℕ) → IsFresh M limit S → cap_of M ≤ limit → limit ≤ 2 ^ 63 → cap_of M ≤ nodes
-    → HasMoves (worked_model ways M) pivots → HasRoomAt (worked_model ways M) → HasOwnValues ways M → IsEnough S ways nodes pivots
+    → HasMoves (worked_model ways M) pivots → HasRoomAt (worked_model ways M) → HasOwnValues ways M → IsEnoughForSearch S ways nodes pivots
 fresh-enough M limit S ways nodes pivots fresh within few results moves steps values = record {
   results = subst (λ P. cap_of P ≤ nodes) (sym fresh.model) results;
   room = subst (λ P. HasRoomFor (whole_points P - 1) S.tree) (sym fresh.model) (fresh-roomy M limit S fresh within few);
@@ -261,6 +261,6 @@ module _ (limits : Limits) (nodes : ℕ) (old : PlainSearch) (sound : IsSound ol
   found (Ok searched) h = from-comes searched h
   found (Err e) h = tt
 
-  pub complete : {E : Type 0} (r : Result Searched E) → IfOk r (λ searched. Comes limits nodes old new searched) → IfOk r (λ searched. IsEnough old limits.ways nodes limits.pivots → IsAtEnd searched.ended)
+  pub complete : {E : Type 0} (r : Result Searched E) → IfOk r (λ searched. Comes limits nodes old new searched) → IfOk r (λ searched. IsEnoughForSearch old limits.ways nodes limits.pivots → IsAtEnd searched.ended)
   complete (Ok searched) h = λ enough. at-end limits.ways limits.first.now nodes limits.pivots old sound lawful way enough new searched (from-comes searched h)
   complete (Err e) h = tt

@@ -83,7 +83,7 @@ HasOwnValues (Rays Z) M = HasRoomForValues Z.now M
 
 -- as many results as any search of the model can place, room for one split fewer than it has points, more moves than any run
 -- of its relaxations has, and room for each of their steps
-pub record IsEnough (S : PlainSearch) (ways : Ways) (nodes pivots : ℕ) : Type 0 where
+pub record IsEnoughForSearch (S : PlainSearch) (ways : Ways) (nodes pivots : ℕ) : Type 0 where
   pub results : cap_of S.model ≤ nodes
   pub room : HasRoomFor (whole_points S.model - 1) S.tree
   pub moves : HasMoves (worked_model ways S.model) pivots

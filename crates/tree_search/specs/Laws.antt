@@ -15,7 +15,7 @@ use Rattle.node_solve.specs.Runs.{NamesIntegers}
 use Rattle.tree_search.specs.Bounds.{IsBoundOf}
 use Rattle.tree_search.specs.Steps.{worked_model}
 use Rattle.tree_search.specs.Room.{HasMoves, HasRoomAt}
-use Rattle.tree_search.specs.Causes.{HasOwnValues, IsEnough}
+use Rattle.tree_search.specs.Causes.{HasOwnValues, IsEnoughForSearch}
 use Rattle.tree_search.specs.declared.searching.Ways.{Ways}
 
 -- no feasible point is better than the bound of the open leaves
@@ -28,7 +28,7 @@ StopBoundLaw =
 abbrev pub EnoughLaw : Type 0
 EnoughLaw =
     (M : Program) (limit : ℕ) (S : PlainSearch) (ways : Ways) (nodes pivots : ℕ) → IsFresh M limit S → cap_of M ≤ limit → limit ≤ 2 ^ 63 → cap_of M ≤ nodes
-    → HasMoves (worked_model ways M) pivots → HasRoomAt (worked_model ways M) → HasOwnValues ways M → IsEnough S ways nodes pivots
+    → HasMoves (worked_model ways M) pivots → HasRoomAt (worked_model ways M) → HasOwnValues ways M → IsEnoughForSearch S ways nodes pivots
 
 -- beside a ray no multipliers have a number that bounds a region with a feasible point
 abbrev pub OpenLaw : Type 0

@@ -51,12 +51,12 @@ pub record FindsPoint (ways : Ways) (first : Basis) (nodes pivots n : ℕ) (old 
   pub unbounded : IsUnbounded old.model
 
 -- no leaf is open
-pub record Finishes (ways : Ways) (first : Basis) (pivots n : ℕ) (old new : PlainSearch) : Type 0 where
+pub record FinishesSearch (ways : Ways) (first : Basis) (pivots n : ℕ) (old new : PlainSearch) : Type 0 where
   pub goes : Goes ways first pivots n old new
   pub finished : HasNoOpenLeaf new
 
 abbrev pub Ends : Ways → Basis → ℕ → ℕ → ℕ → PlainSearch → PlainSearch → Ended → Type 0
-Ends ways first nodes pivots n old new Finished = Finishes ways first pivots n old new
+Ends ways first nodes pivots n old new Finished = FinishesSearch ways first pivots n old new
 Ends ways first nodes pivots n old new Unbounded = FindsPoint ways first nodes pivots n old new
 Ends ways first nodes pivots n old new (Stopped why) = StopsFor ways first nodes pivots n old new why
 
@@ -148,7 +148,7 @@ IsUnboundedAnswer n (answer.Stopped why m bound best) = ⊥
 IsUnboundedAnswer n answer.Memory = ⊥
 
 -- what is answered of a search that came to this
-abbrev pub IsAnswerTo : PlainSearch → Ended → ℕ → Answer → Type 0
-IsAnswerTo S Finished n a = IsFinishedAnswer S n a
-IsAnswerTo S Unbounded n a = IsUnboundedAnswer n a
-IsAnswerTo S (Stopped why) n a = IsStoppedAnswer S why n a
+abbrev pub IsAnswerAtEnd : PlainSearch → Ended → ℕ → Answer → Type 0
+IsAnswerAtEnd S Finished n a = IsFinishedAnswer S n a
+IsAnswerAtEnd S Unbounded n a = IsUnboundedAnswer n a
+IsAnswerAtEnd S (Stopped why) n a = IsStoppedAnswer S why n a

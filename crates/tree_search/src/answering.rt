@@ -3,7 +3,7 @@ ghost use Rattle.std.specs.Prelude.{◌≡◌, IfOk};
 ghost use Rattle.tree_edit.specs.Laws.{HasNoOpenLeaf};
 ghost use Rattle.tree_search.specs.Steps.{HasOpenLeaf};
 ghost use Rattle.tree_search.specs.Bounds.{IsBoundOf};
-ghost use Rattle.tree_search.specs.Search.{best_value, IsLeft, IsFinishedAnswer, IsStoppedAnswer, IsAnswerTo};
+ghost use Rattle.tree_search.specs.Search.{best_value, IsLeft, IsFinishedAnswer, IsStoppedAnswer, IsAnswerAtEnd};
 
 use crate::bounds::least_number;
 use crate::searching::{Ended, Searched};
@@ -80,7 +80,7 @@ pub fn stopped(search: &Search, why: StopWhy, placed: u64) -> Answer
 /// What a search has shown that came to this end.
 pub fn answer_of(alloc: Global, search: &Search, searched: Searched) -> Answer
     requires { IsLeft search.now searched.ended }
-    ensures { IsAnswerTo search.now searched.ended searched.placed result }
+    ensures { IsAnswerAtEnd search.now searched.ended searched.placed result }
 {
     let placed = searched.placed;
     match searched.ended {

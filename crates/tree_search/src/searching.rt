@@ -1,7 +1,7 @@
 // The search: open leaves are worked until none is left, or it stops.
 ghost use Rattle.std.specs.Prelude.{IfOk, OnErr};
 ghost use Rattle.tree_search.specs.Steps.{IsWayFor, IsFirstFor};
-ghost use Rattle.tree_search.specs.Causes.{IsAtEnd, IsEnough};
+ghost use Rattle.tree_search.specs.Causes.{IsAtEnd, IsEnoughForSearch};
 ghost use Rattle.tree_search.specs.Search.{Finds, GivesUp};
 ghost use Rattle.tree_search.specs.Stepping.{IsReady, Comes};
 
@@ -94,7 +94,7 @@ pub fn search_on(
     requires ways { IsWayFor search.old ways.now }
     requires first { IsFirstFor ways.now search.old first.now }
     ensures found { IfOk result (λ searched. Finds ways.now first.now nodes pivots search.old search.new searched) }
-    ensures complete { IfOk result (λ searched. IsEnough search.old ways.now nodes pivots → IsAtEnd searched.ended) }
+    ensures complete { IfOk result (λ searched. IsEnoughForSearch search.old ways.now nodes pivots → IsAtEnd searched.ended) }
     ensures unfinished { OnErr result (GivesUp ways.now first.now nodes pivots search.old search.new) }
 {
     known(search);

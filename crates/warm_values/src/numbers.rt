@@ -1,7 +1,6 @@
 // Texts of numbers.
 ghost use Rattle.std.specs.Prelude.{◌≡◌, ◌==◌};
 ghost use Rattle.rational.specs.Rational.{den};
-ghost use Rattle.lp_model.specs.Edits.{is_zero};
 ghost use Rattle.serde_json.specs.View.{view};
 ghost use Rattle.warm_values.specs.Faults.{SaysFault};
 ghost use Rattle.warm_values.specs.Numbers.{number_fault_code, number_of, nonzero_of, whole_of, side_of, is_far, bound_of};
@@ -10,7 +9,7 @@ use crate::fault::WarmFault;
 use crate::parts::{Part, bad};
 use frac_text::NumFault;
 use frac128::Frac;
-use lp_model::Bound;
+use lp_model::{Bound, is_zero};
 use serde_json::Value;
 use std::alloc::Global;
 
@@ -35,14 +34,6 @@ pub(crate) fn read_number(alloc: Global, value: &Value) -> Result<Frac, WarmFaul
         Ok(number) => Ok(number),
         Err(fault) => bad(alloc, number_code(fault)),
     }
-}
-
-/// Whether the number is 0.
-#[tactic(auto, using(rational::proofs::Comparison::comparisons))]
-fn is_zero(number: &Frac) -> bool
-    ensures { result ≡ is_zero number.now }
-{
-    *number == Frac::whole(0)
 }
 
 /// A number that is not 0.

@@ -1,5 +1,5 @@
 use Rattle.std.proofs.Common.{sym, subst, ◌∙◌}
-use Rattle.cert_check.specs.Walk.{ArePlaced}
+use Rattle.cert_check.specs.Walk.{AreNodesPlaced}
 use Rattle.cert_check.proofs.ClaimVerdicts.{tree_there, claim_rejected, claim_wide, claim_accepted, tree-walked, tree_verdict}
 use Rattle.cert_check.proofs.checking.check.Goals as goal
 
@@ -18,7 +18,7 @@ check_nodes-requires-clause-tree c =
     let M = c.args.model.now in
     let cert = c.args.cert.now in
     let t = tree_there cert.claim cert.nodes (sym c.has_tree.ensures ∙ c.if-has_tree.true) c.requires.certificate.tree in
-    (t.tree, tree-walked M cert c.requires.certificate t c.deref.result.now (subst (ArePlaced M cert.nodes) (sym c.deref.ensures.value) c.requires.buffer.nodes))
+    (t.tree, tree-walked M cert c.requires.certificate t c.deref.result.now (subst (AreNodesPlaced M cert.nodes) (sym c.deref.ensures.value) c.requires.buffer.nodes))
 
 pub returns-then-has_tree-clause-verdict : goal.returns-then-has_tree-clause-verdict
 returns-then-has_tree-clause-verdict c =
@@ -28,7 +28,7 @@ returns-then-has_tree-clause-verdict c =
     let t = tree_there cert.claim cert.nodes some c.requires.certificate.tree in
     let judged = c.in-Passes.ensures cert.point cert.ray c.requires.buffer.point c.requires.buffer.ray in
     tree_verdict M cert c.requires.certificate some judged t c.check_nodes.result
-    (c.check_nodes.ensures.verdict t.tree (tree-walked M cert c.requires.certificate t c.deref.result.now (subst (ArePlaced M cert.nodes) (sym c.deref.ensures.value) c.requires.buffer.nodes)))
+    (c.check_nodes.ensures.verdict t.tree (tree-walked M cert c.requires.certificate t c.deref.result.now (subst (AreNodesPlaced M cert.nodes) (sym c.deref.ensures.value) c.requires.buffer.nodes)))
 
 pub returns-else-has_tree-clause-verdict : goal.returns-else-has_tree-clause-verdict
 returns-else-has_tree-clause-verdict c =

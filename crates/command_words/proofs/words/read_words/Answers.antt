@@ -15,6 +15,9 @@ returns-in-Some-Solve c = let asked = c.solve_asked.ensures ∙ asks_of-first c.
 pub returns-in-Some-Cert : goal.returns-in-Some-Cert
 returns-in-Some-Cert c = let asked = c.cert_asked.ensures ∙ asks_of-first c.args.words.now (record { ref_ptr = (0, 0); now = [] }) (Some name.Cert) c.in-len1-up.len_at_least (search rules) in record { asked = asked; named = shown-named _ c.args.words.now asked }
 
+pub returns-in-Some-Write : goal.returns-in-Some-Write
+returns-in-Some-Write c = let asked = c.write_asked.ensures ∙ asks_of-first c.args.words.now (record { ref_ptr = (0, 0); now = [] }) (Some name.Write) c.in-len1-up.len_at_least (search rules) in record { asked = asked; named = shown-named _ c.args.words.now asked }
+
 pub returns-in-Some-Quit : goal.returns-in-Some-Quit
 returns-in-Some-Quit c = let asked = c.quit_asked.ensures ∙ asks_of-first c.args.words.now (record { ref_ptr = (0, 0); now = [] }) (Some name.Quit) c.in-len1-up.len_at_least (search rules) in record { asked = asked; named = shown-named _ c.args.words.now asked }
 

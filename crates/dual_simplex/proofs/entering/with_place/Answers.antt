@@ -1,7 +1,7 @@
 use Rattle.std.proofs.Common.{◌∙◌, ◌<◌, ◌≤◌, ℕ, sym, subst, arith, Ok}
 use Rattle.std.proofs.lemmas.Bool.{false≢true}
 use Rattle.basic_solution.specs.Held.{table, state}
-use Rattle.dual_simplex.specs.Answers.{IsLeastBelow, IsOrder}
+use Rattle.dual_simplex.specs.Answers.{IsLeastBelow, IsRatioOrder}
 use Rattle.dual_simplex.proofs.EnterLemmas.{may_some, skip_place, first_place, keep_less, keep_same, take_less, take_same, wide_place}
 use Rattle.dual_simplex.proofs.entering.with_place.Goals as goal
 
@@ -35,13 +35,13 @@ pub returns-in-Ok-Less : goal.returns-in-Ok-Less
 returns-in-Ok-Less c =
     let found = subst (IsLeastBelow c.args.state.now c.args.row c.args.side c.args.place) c.in-Some.is c.requires.found in
     keep_less c.args.state.now c.args.row c.args.side c.args.place c.requires.compared c.in-Some.best found (c.may_enter.ensures.0 c.if-not-may_enter.false)
-    (subst (λ o. IsOrder c.args.state.now c.args.row c.args.side c.in-Some.best c.args.place (Ok o)) c.in-Ok-Less.field-0-is c.in-Ok-Less.ensures)
+    (subst (λ o. IsRatioOrder c.args.state.now c.args.row c.args.side c.in-Some.best c.args.place (Ok o)) c.in-Ok-Less.field-0-is c.in-Ok-Less.ensures)
 
 pub returns-in-Ok-Greater : goal.returns-in-Ok-Greater
 returns-in-Ok-Greater c =
     let found = subst (IsLeastBelow c.args.state.now c.args.row c.args.side c.args.place) c.in-Some.is c.requires.found in
     take_less c.args.state.now c.args.row c.args.side c.args.place c.requires.compared c.in-Some.best found (c.may_enter.ensures.0 c.if-not-may_enter.false)
-    (subst (λ o. IsOrder c.args.state.now c.args.row c.args.side c.in-Some.best c.args.place (Ok o)) c.in-Ok-Greater.field-0-is c.in-Ok-Greater.ensures)
+    (subst (λ o. IsRatioOrder c.args.state.now c.args.row c.args.side c.in-Some.best c.args.place (Ok o)) c.in-Ok-Greater.field-0-is c.in-Ok-Greater.ensures)
 
 pub returns-then-nonbasic : goal.returns-then-nonbasic
 returns-then-nonbasic c =
@@ -49,7 +49,7 @@ returns-then-nonbasic c =
     let earlier : (table c.args.state.now).nonbasic c.in-Some.best ≤ (table c.args.state.now).nonbasic c.args.place
     = subst (λ X. X) (λ i. c.nonbasic.ensures.value i ≤ c.nonbasic-in-Ok-Equal.ensures.value i) c.if-nonbasic.true in
     keep_same c.args.state.now c.args.row c.args.side c.args.place c.requires.compared c.in-Some.best found (c.may_enter.ensures.0 c.if-not-may_enter.false)
-    (subst (λ o. IsOrder c.args.state.now c.args.row c.args.side c.in-Some.best c.args.place (Ok o)) c.in-Ok-Equal.field-0-is c.in-Ok-Equal.ensures) earlier
+    (subst (λ o. IsRatioOrder c.args.state.now c.args.row c.args.side c.in-Some.best c.args.place (Ok o)) c.in-Ok-Equal.field-0-is c.in-Ok-Equal.ensures) earlier
 
 pub returns-else-nonbasic : goal.returns-else-nonbasic
 returns-else-nonbasic c =
@@ -57,4 +57,4 @@ returns-else-nonbasic c =
     let earlier : (table c.args.state.now).nonbasic c.args.place ≤ (table c.args.state.now).nonbasic c.in-Some.best
     = subst (λ X. X) (λ i. c.nonbasic-in-Ok-Equal.ensures.value i ≤ c.nonbasic.ensures.value i) (below_at_most _ _ c.if-nonbasic.false) in
     take_same c.args.state.now c.args.row c.args.side c.args.place c.requires.compared c.in-Some.best found (c.may_enter.ensures.0 c.if-not-may_enter.false)
-    (subst (λ o. IsOrder c.args.state.now c.args.row c.args.side c.in-Some.best c.args.place (Ok o)) c.in-Ok-Equal.field-0-is c.in-Ok-Equal.ensures) earlier
+    (subst (λ o. IsRatioOrder c.args.state.now c.args.row c.args.side c.in-Some.best c.args.place (Ok o)) c.in-Ok-Equal.field-0-is c.in-Ok-Equal.ensures) earlier

@@ -10,7 +10,7 @@ of_parts-requires c =
     let s = c.args.sections.now in
     let parts = c.in_ok-parts.parts in
     let names = c.in-Ok.names in
-    let same = parts_are s c.args.intupper names.0 names.1 c.constant_of.result c.whole.result parts.0 parts.1 c.in-Ok.ensures.first c.in-Ok.ensures.second c.constant_of.ensures c.whole.ensures c.in_ok-parts.ensures.rows c.in_ok-parts.ensures.columns in
+    let same = parts_are s c.args.intupper names.0 names.1 c.constant_of.result c.second_constant_of.result parts.0 parts.1 c.in-Ok.ensures.first c.in-Ok.ensures.second c.constant_of.ensures c.second_constant_of.ensures c.in_ok-parts.ensures.rows c.in_ok-parts.ensures.columns in
     let ranges = subst (All (λ (r : Row). IsRange r.lo r.hi)) c.in_ok-parts.ensures.rows c.in_ok-parts.ensures.ranges in
     subst IsLawful (sym same) (meant-lawful s c.args.intupper c.requires.limits c.requires.bounded ranges)
 
@@ -20,4 +20,4 @@ returns-in-Ok c =
     let parts = c.in_ok-parts.parts in
     let names = c.in-Ok.names in
     c.of_parts.ensures
-    ∙ parts_are s c.args.intupper names.0 names.1 c.constant_of.result c.whole.result parts.0 parts.1 c.in-Ok.ensures.first c.in-Ok.ensures.second c.constant_of.ensures c.whole.ensures c.in_ok-parts.ensures.rows c.in_ok-parts.ensures.columns
+    ∙ parts_are s c.args.intupper names.0 names.1 c.constant_of.result c.second_constant_of.result parts.0 parts.1 c.in-Ok.ensures.first c.in-Ok.ensures.second c.constant_of.ensures c.second_constant_of.ensures c.in_ok-parts.ensures.rows c.in_ok-parts.ensures.columns

@@ -1,5 +1,5 @@
 use Rattle.std.proofs.Common.{◌∙◌, ap, sym}
-use Rattle.mps_sections.specs.Words.{among}
+use Rattle.mps_fields.specs.Words.{among}
 use Rattle.mps_model.proofs.FreeNames.{passed, started}
 use Rattle.mps_model.proofs.free_names.free_name.Goals as goal
 

@@ -1,7 +1,7 @@
 use Rattle.std.proofs.Common.{◌≡◌, ◌++◌, ◌∷◌, [], ap, ◌∙◌}
 use Rattle.std.specs.Prelude.{codes}
 use Rattle.mps_sections.specs.Statements.{stated_row_names}
-use Rattle.mps_model.specs.Meaning.{objective_name, objective_or, free_name}
+use Rattle.mps_model.specs.Meaning.{objective_name, objective_or, second_or, free_name}
 use Rattle.mps_model.proofs.free_names.objective_names.Goals as goal
 
 pub returns-clause-first : goal.returns-clause-first
@@ -23,5 +23,6 @@ returns-clause-second c =
     ∙ ap (λ found. objective_or s.objectives (free_name found (codes "OBJ"))) (c.as_slice-3.ensures ∙ named)
     in
     c.in_ok-second.ensures
-    ∙ ap (λ found. free_name found (codes "OBJ2"))
-    (c.as_slice-5.ensures ∙ c.in_ok-push.ensures.pushed ∙ ap (λ name. taken ++ name ∷ []) (c.in_ok-copy.ensures ∙ c.as_slice-4.ensures ∙ first) ∙ ap (λ found. found ++ objective_name s ∷ []) named)
+    ∙ ap (λ found. second_or found (free_name c.as_slice-6.result.now (codes "OBJ2"))) c.as_slice-5.ensures
+    ∙ ap (λ found. second_or s.objectives (free_name found (codes "OBJ2")))
+    (c.as_slice-6.ensures ∙ c.in_ok-push.ensures.pushed ∙ ap (λ name. taken ++ name ∷ []) (c.in_ok-copy.ensures ∙ c.as_slice-4.ensures ∙ first) ∙ ap (λ found. found ++ objective_name s ∷ []) named)

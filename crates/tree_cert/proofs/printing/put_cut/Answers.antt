@@ -2,7 +2,7 @@ use Rattle.std.proofs.Common.{◌∷◌, [], ◌++◌, ap, ◌∙◌}
 use Rattle.std.specs.Prelude.{codes}
 use Rattle.std.specs.Fmt.{decimal}
 use Rattle.frac128.specs.Printing.{printed}
-use Rattle.tree_cert.specs.CertText.{spaced}
+use Rattle.text_lines.specs.Words.{spaced}
 use Rattle.tree_cert.proofs.PutLaws.{words_put}
 use Rattle.tree_cert.proofs.printing.put_cut.Goals as goal
 

@@ -1,6 +1,7 @@
 use Rattle.std.proofs.Common.{◌++◌, List, arith}
 use Rattle.cert_text.specs.declared.cert.CertMult.{CertMult}
-use Rattle.tree_cert.specs.CertText.{mult_words, all_mult_words, spaced}
+use Rattle.tree_cert.specs.CertText.{mult_words, all_mult_words}
+use Rattle.text_lines.specs.Words.{spaced}
 use Rattle.tree_cert.specs.Printed.{MultFits}
 use Rattle.tree_cert.proofs.PutLaws.{put_next, all_next, all_end, mult_step}
 use Rattle.tree_cert.proofs.printing.put_mults.Goals as goal

@@ -3,7 +3,8 @@ use Rattle.rational.specs.Rational.{ℚ}
 use Rattle.frac128.specs.Range.{Fits}
 use Rattle.frac128.specs.Printing.{printed}
 use Rattle.lp_model.specs.Edits.{Named}
-use Rattle.tree_cert.specs.CertText.{named_words, spaced}
+use Rattle.tree_cert.specs.CertText.{named_words}
+use Rattle.text_lines.specs.Words.{spaced}
 use Rattle.tree_cert.proofs.PutLaws.{put_next, all_next, all_end, named_step}
 use Rattle.tree_cert.proofs.printing.put_named.Goals as goal
 

@@ -1,6 +1,7 @@
 use Rattle.std.proofs.Common.{ap, sym, ◌∙◌, ◌++◌, ◌∷◌, [], List, map}
 use Rattle.mps_sections.specs.Statements.{read_pair}
-use Rattle.mps_sections.specs.Shown.{with_more, pairs_shown, open_shown}
+use Rattle.mps_sections.specs.Shown.{with_more, open_shown}
+use Rattle.mps_fields.specs.Fields.{pairs_shown}
 use Rattle.mps_sections.specs.declared.statements.ColumnLines.{ColumnLines}
 use Rattle.mps_sections.proofs.ListFacts.{held_some, with_more-more}
 use Rattle.mps_sections.proofs.columns.Columns.with_last.Goals as goal

@@ -1,5 +1,5 @@
 use Rattle.std.proofs.Common.{ap, refl, inr}
-use Rattle.command_words.specs.Asks.{Load, Solve, Cert, Quit, Unknown, Misused, NoNumber, asks_shown}
+use Rattle.command_words.specs.Asks.{Load, Solve, Cert, Write, Quit, Unknown, Misused, NoNumber, asks_shown}
 use Rattle.sym_shell.specs.State.{shell_state}
 use Rattle.reply_texts.specs.Texts.{ok_text, memory_text}
 use Rattle.sym_shell.proofs.StepLemmas.{unfinished, always, some-solve-step}
@@ -20,6 +20,12 @@ returns-in-Cert-clause-unfinished g c =
     let old = (shell_state c.args.self.now (g.S.Store.files c.args.store.now) (g.S.Store.faults c.args.store.now)) in
     let new = shell_state c.args.self.now (g.S.Store.files c.cert.new.store) (g.S.Store.faults c.cert.new.store) in
     unfinished c.cert.result (Cert c.in-Cert.file.now) (asks_shown c.args.asked) old new memory_text (ap asks_shown c.in-Cert.is) c.cert.ensures.unfinished
+
+pub returns-in-Write-clause-unfinished : goal.returns-in-Write-clause-unfinished
+returns-in-Write-clause-unfinished g c =
+    let old = (shell_state c.args.self.now (g.S.Store.files c.args.store.now) (g.S.Store.faults c.args.store.now)) in
+    let new = shell_state c.args.self.now (g.S.Store.files c.write.new.store) (g.S.Store.faults c.write.new.store) in
+    unfinished c.write.result (Write c.in-Write.file.now) (asks_shown c.args.asked) old new memory_text (ap asks_shown c.in-Write.is) c.write.ensures.unfinished
 
 pub returns-in-Quit-clause-unfinished : goal.returns-in-Quit-clause-unfinished
 returns-in-Quit-clause-unfinished g c =

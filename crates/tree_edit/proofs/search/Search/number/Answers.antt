@@ -1,6 +1,6 @@
 use Rattle.std.proofs.Common.{sym, subst}
 use Rattle.tree_edit.specs.Sound.{PlainSearch}
-use Rattle.tree_edit.specs.Calls.{IsNumberAnswer}
+use Rattle.tree_edit.specs.Calls.{IsLeafNumberAnswer}
 use Rattle.tree_edit.proofs.SameNumbers.{number-found}
 use Rattle.tree_edit.proofs.search.Search.number.Goals as goal
 
@@ -8,5 +8,5 @@ pub returns-in-Some : goal.returns-in-Some
 returns-in-Some c =
     let i = c.self.inside in
     let S : PlainSearch = record { model = i.model; tree = i.tree; points = i.points.items } in
-    subst (λ (R : PlainSearch). IsNumberAnswer R c.args.id c.get.result) c.self.view_is
+    subst (λ (R : PlainSearch). IsLeafNumberAnswer R c.args.id c.get.result) c.self.view_is
     (number-found S i.numbers c.args.id c.in-Some.field-0.now c.get.result c.self.invariant.numbers_are (sym c.in-Some.ensures.data) c.get.ensures)

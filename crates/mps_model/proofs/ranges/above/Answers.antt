@@ -1,0 +1,10 @@
+use Rattle.std.proofs.Common.{◌≡◌, true, false, subst}
+use Rattle.std.specs.Prelude.{MatchOption}
+use Rattle.rational.specs.Rational.{ℚ, ◌+ℚ◌}
+use Rattle.mps_model.specs.Ranges.{sum_fits}
+use Rattle.mps_model.proofs.ranges.above.Goals as goal
+
+pub returns : goal.returns
+returns c =
+    let x = c.args.number.now in
+    subst (λ (y : ℚ). MatchOption c.sum_of.result (sum_fits x y ≡ false) (λ sum. (sum_fits x y ≡ true) × (sum ≡ x +ℚ y))) c.magnitude-size.ensures c.sum_of.ensures

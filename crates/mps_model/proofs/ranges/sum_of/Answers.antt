@@ -1,0 +1,8 @@
+use Rattle.mps_model.proofs.RangeRoom.{sum_has_room, sum_lacks_room}
+use Rattle.mps_model.proofs.ranges.sum_of.Goals as goal
+
+pub returns-in-Ok : goal.returns-in-Ok
+returns-in-Ok c = (sum_has_room c.args.first.now c.args.second.now c.in-Ok.ensures.0, c.in-Ok.ensures.1)
+
+pub returns-in-Err : goal.returns-in-Err
+returns-in-Err c = sum_lacks_room c.args.first.now c.args.second.now c.in-Err.ensures

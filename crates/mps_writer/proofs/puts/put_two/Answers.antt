@@ -1,0 +1,11 @@
+use Rattle.std.proofs.Common.{◌∷◌, []}
+use Rattle.mps_writer.proofs.PutLaws.{words_put, data_put}
+use Rattle.mps_writer.proofs.puts.put_two.Goals as goal
+
+pub returns : goal.returns
+returns c =
+    let a = c.args.first.now in
+    let b = c.args.second.now in
+    let old = c.args.text.now.items in
+    data_put (a ∷ b ∷ []) old c.put_word-2.new.text.items c.push.new.self.items
+    (words_put (a ∷ []) (b ∷ []) old c.put_word.new.text.items c.put_word-2.new.text.items c.in_ok-put_word.ensures c.in_ok-put_word-2.ensures) c.in_ok-push.ensures.items

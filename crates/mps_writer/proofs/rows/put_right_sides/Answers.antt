@@ -1,0 +1,17 @@
+use Rattle.std.proofs.Common.{◌++◌, List, refl, arith}
+use Rattle.std.specs.Prelude.{flat_map}
+use Rattle.lp_model.specs.declared.types.Row.{Row}
+use Rattle.mps_writer.specs.Canonical.{rhs_line, written_text}
+use Rattle.mps_writer.proofs.PutLaws.{put_next, put_end, lines_step}
+use Rattle.mps_writer.proofs.rows.put_right_sides.Goals as goal
+
+pub loop-row-preserved : goal.loop-row-preserved
+loop-row-preserved c =
+    let items = c.args.rows.now in
+    put_next (λ (xs : List Row). written_text (flat_map rhs_line xs)) (λ (x : Row). written_text (rhs_line x)) (lines_step rhs_line) items c.loop-row.row-index (c.args.text.now.items ++ written_text (flat_map rhs_line items)) c.loop-row.text.items c.loop-row.invariant
+    c.row-item.result c.put_right_side.new.text.items c.loop-row-test.true c.row-item.is c.in_ok-put_right_side.ensures
+
+pub returns : goal.returns
+returns c =
+    let items = c.args.rows.now in
+    put_end (λ (xs : List Row). written_text (flat_map rhs_line xs)) (λ (x : Row). written_text (rhs_line x)) (lines_step rhs_line) items c.loop-row.row-index (c.args.text.now.items ++ written_text (flat_map rhs_line items)) c.loop-row.text.items c.loop-row.invariant (omega arith) refl

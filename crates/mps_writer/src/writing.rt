@@ -1,0 +1,106 @@
+// The canonical text of a model.
+ghost use Rattle.std.specs.Prelude.{◌≡◌, ◌++◌, IfOk, None};
+ghost use Rattle.mps_model.specs.Faults.{MeantModel};
+ghost use Rattle.mps_writer.specs.Canonical.{canonical_text, written_text, sense_word, opening_lines, rows_lines, columns_lines, rhs_lines, ranges_lines, bounds_lines};
+ghost use Rattle.mps_writer.specs.Writable.{IsWritableMps};
+ghost use Rattle.mps_writer.specs.Laws.{IsReadBack};
+
+use crate::columns::{put_bounds, put_columns};
+use crate::puts::{put_header, put_nonzero, put_two, put_word};
+use crate::rows::{put_ranges, put_right_sides, put_rows};
+use lp_model::{Model, Sense, show_model};
+use mps_model::{MpsFault, read};
+use std::alloc::{AllocError, Global};
+
+fn sense_word(sense: Sense) -> &'static [u8]
+    ensures { result.now ≡ sense_word sense }
+{
+    match sense {
+        Sense::Min => b"MIN",
+        Sense::Max => b"MAX",
+    }
+}
+
+fn put_opening(text: &mut Vec<u8>, sense: Sense) -> Result<(), AllocError>
+    ensures { IfOk result (λ _. text.new.items ≡ text.old.items ++ written_text (opening_lines sense)) }
+{
+    put_header(text, b"NAME")?;
+    text.extend_from_slice(b"OBJSENSE")?;
+    put_word(text, sense_word(sense))?;
+    text.push(b'\n')?;
+    Ok(())
+}
+
+fn put_row_section(text: &mut Vec<u8>, model: &Model) -> Result<(), AllocError>
+    ensures { IfOk result (λ _. text.new.items ≡ text.old.items ++ written_text (rows_lines model.now)) }
+{
+    put_header(text, b"ROWS")?;
+    put_two(text, b"N", model.objective_name(1).as_slice())?;
+    put_two(text, b"N", model.objective_name(2).as_slice())?;
+    put_rows(text, model.rows())?;
+    Ok(())
+}
+
+fn put_column_section(text: &mut Vec<u8>, model: &Model) -> Result<(), AllocError>
+    ensures { IfOk result (λ _. text.new.items ≡ text.old.items ++ written_text (columns_lines model.now)) }
+{
+    put_header(text, b"COLUMNS")?;
+    put_columns(text, model, model.cols())?;
+    Ok(())
+}
+
+fn put_rhs_section(text: &mut Vec<u8>, model: &Model) -> Result<(), AllocError>
+    ensures { IfOk result (λ _. text.new.items ≡ text.old.items ++ written_text (rhs_lines model.now)) }
+{
+    put_header(text, b"RHS")?;
+    let first = model.constant(1).neg();
+    put_nonzero(text, b"RHS", model.objective_name(1).as_slice(), &first)?;
+    let second = model.constant(2).neg();
+    put_nonzero(text, b"RHS", model.objective_name(2).as_slice(), &second)?;
+    put_right_sides(text, model.rows())?;
+    Ok(())
+}
+
+fn put_range_section(text: &mut Vec<u8>, model: &Model) -> Result<(), AllocError>
+    ensures { IfOk result (λ _. text.new.items ≡ text.old.items ++ written_text (ranges_lines model.now)) }
+{
+    put_header(text, b"RANGES")?;
+    put_ranges(text, model.rows())?;
+    Ok(())
+}
+
+fn put_bound_section(text: &mut Vec<u8>, model: &Model) -> Result<(), AllocError>
+    ensures { IfOk result (λ _. text.new.items ≡ text.old.items ++ written_text (bounds_lines model.now)) }
+{
+    put_header(text, b"BOUNDS")?;
+    put_bounds(text, model.cols())?;
+    Ok(())
+}
+
+/// The canonical text of a model as a free MPS file.
+pub fn write(alloc: Global, model: &Model) -> Result<Vec<u8>, AllocError>
+    ensures text { IfOk result (λ text. text.items ≡ canonical_text model.now) }
+    ensures means { IfOk result (λ text. IsWritableMps model.now → MeantModel text.items None model.now) }
+{
+    show_model(model);
+    let mut text = Vec::new(alloc);
+    put_opening(&mut text, model.sense())?;
+    put_row_section(&mut text, model)?;
+    put_column_section(&mut text, model)?;
+    put_rhs_section(&mut text, model)?;
+    put_range_section(&mut text, model)?;
+    put_bound_section(&mut text, model)?;
+    put_header(&mut text, b"ENDATA")?;
+    Ok(text)
+}
+
+/// A law: what `write` writes, `read` reads as the model that was written.
+pub fn read_back(alloc: Global, model: &Model) -> Result<Model, MpsFault>
+    requires { IsWritableMps model.now }
+    ensures { IsReadBack model.now result }
+{
+    match write(alloc, model) {
+        Ok(text) => read(alloc, text.as_slice(), None),
+        Err(_) => Err(MpsFault::Memory),
+    }
+}
