@@ -6,7 +6,9 @@ use Rattle.std.proofs.lemmas.Grind.{common_steps}
 use Rattle.command_words.specs.Names.{command_of, is_file_name, whole_number_of}
 use Rattle.command_words.specs.declared.words.CommandName.{CommandName}
 use Rattle.command_words.specs.declared.words.CommandName.TheVariants as name
-use Rattle.command_words.specs.Asks.{Asks, Load, Solve, Cert, Write, Misused, no_limit, with_number, load_asks, one_limit_asks, two_limits_asks, both_limits_asks, solve_asks, cert_asks, write_asks, quit_asks, command_asks, asks_of, NamesFile}
+use Rattle.command_words.specs.declared.words.Beginning.{Beginning}
+use Rattle.command_words.specs.declared.words.Beginning.TheVariants as beginning
+use Rattle.command_words.specs.Asks.{Asks, Load, Cert, Write, Misused, no_limit, with_number, load_asks, one_limit_asks, two_limits_asks, both_limits_asks, search_asks, begun_asks, cert_asks, write_asks, quit_asks, command_asks, asks_of, NamesFile}
 
 abbrev nows : List (Bor (List ℕ)) → List (List ℕ)
 nows words = map (λ word. word.now) words
@@ -32,13 +34,13 @@ load_asks-other (a ∷ b ∷ []) h k = refl
 load_asks-other (a ∷ b ∷ c ∷ []) h k = absurd (k refl)
 load_asks-other (a ∷ b ∷ c ∷ d ∷ more) h k = refl
 
-pub solve_asks-other : (words : List (Bor (List ℕ))) → ¬ (length words ≡ 0) → ¬ (length words ≡ 2) → ¬ (length words ≡ 4) → Misused ≡ solve_asks (nows words)
-solve_asks-other [] h k l = absurd (h refl)
-solve_asks-other (a ∷ []) h k l = refl
-solve_asks-other (a ∷ b ∷ []) h k l = absurd (k refl)
-solve_asks-other (a ∷ b ∷ c ∷ []) h k l = refl
-solve_asks-other (a ∷ b ∷ c ∷ d ∷ []) h k l = absurd (l refl)
-solve_asks-other (a ∷ b ∷ c ∷ d ∷ e ∷ more) h k l = refl
+pub search_asks-other : (asks : ℕ → ℕ → Asks) (words : List (Bor (List ℕ))) → ¬ (length words ≡ 0) → ¬ (length words ≡ 2) → ¬ (length words ≡ 4) → Misused ≡ search_asks asks (nows words)
+search_asks-other asks [] h k l = absurd (h refl)
+search_asks-other asks (a ∷ []) h k l = refl
+search_asks-other asks (a ∷ b ∷ []) h k l = absurd (k refl)
+search_asks-other asks (a ∷ b ∷ c ∷ []) h k l = refl
+search_asks-other asks (a ∷ b ∷ c ∷ d ∷ []) h k l = absurd (l refl)
+search_asks-other asks (a ∷ b ∷ c ∷ d ∷ e ∷ more) h k l = refl
 
 -- ---- a file that is asked for has a file name
 
@@ -62,33 +64,38 @@ load_asks-named (file ∷ key ∷ number ∷ []) = by (is_file_name file) (bytes
     by false b e = tt
 load_asks-named (file ∷ key ∷ number ∷ other ∷ more) = tt
 
-one_limit-named : (key number : List ℕ) → NamesFile (one_limit_asks key number)
-one_limit-named key number = by (bytes_eq key (codes "nodes")) (bytes_eq key (codes "pivots"))
-  where
-    by : (a b : Bool) → NamesFile (if a then with_number number (whole_number_of number) (λ n. Solve n no_limit) else if b then with_number number (whole_number_of number) (λ n. Solve no_limit n) else Misused)
-    by true b = with_number-named number (whole_number_of number) (λ n. Solve n no_limit) (λ k. tt)
-    by false true = with_number-named number (whole_number_of number) (λ n. Solve no_limit n) (λ k. tt)
-    by false false = tt
+begun-named : (b : Beginning) (nodes pivots : ℕ) → NamesFile (begun_asks b nodes pivots)
+begun-named beginning.Anew nodes pivots = tt
+begun-named beginning.Kept nodes pivots = tt
 
 two_limits-named : (number more : List ℕ) (asks : ℕ → ℕ → Asks) → ((n m : ℕ) → NamesFile (asks n m)) → NamesFile (two_limits_asks number more asks)
 two_limits-named number more asks h =
     with_number-named number (whole_number_of number) (λ n. with_number more (whole_number_of more) (asks n)) (λ n. with_number-named more (whole_number_of more) (asks n) (h n))
 
-both_limits-named : (key number other more : List ℕ) → NamesFile (both_limits_asks key number other more)
-both_limits-named key number other more = by (bytes_eq key (codes "nodes") && bytes_eq other (codes "pivots")) (bytes_eq key (codes "pivots") && bytes_eq other (codes "nodes"))
-  where
-    by : (a b : Bool) → NamesFile (if a then two_limits_asks number more Solve else if b then two_limits_asks number more (λ n m. Solve m n) else Misused)
-    by true b = two_limits-named number more Solve (λ n m. tt)
-    by false true = two_limits-named number more (λ n m. Solve m n) (λ n m. tt)
-    by false false = tt
+module _ (asks : ℕ → ℕ → Asks) (named : (n m : ℕ) → NamesFile (asks n m)) where
+  one_limit-named : (key number : List ℕ) → NamesFile (one_limit_asks asks key number)
+  one_limit-named key number = by (bytes_eq key (codes "nodes")) (bytes_eq key (codes "pivots"))
+    where
+      by : (a b : Bool) → NamesFile (if a then with_number number (whole_number_of number) (λ n. asks n no_limit) else if b then with_number number (whole_number_of number) (λ n. asks no_limit n) else Misused)
+      by true b = with_number-named number (whole_number_of number) (λ n. asks n no_limit) (λ k. named k no_limit)
+      by false true = with_number-named number (whole_number_of number) (λ n. asks no_limit n) (λ k. named no_limit k)
+      by false false = tt
 
-solve_asks-named : (arguments : List (List ℕ)) → NamesFile (solve_asks arguments)
-solve_asks-named [] = tt
-solve_asks-named (key ∷ []) = tt
-solve_asks-named (key ∷ number ∷ []) = one_limit-named key number
-solve_asks-named (key ∷ number ∷ other ∷ []) = tt
-solve_asks-named (key ∷ number ∷ other ∷ more ∷ []) = both_limits-named key number other more
-solve_asks-named (key ∷ number ∷ other ∷ more ∷ another ∷ rest) = tt
+  both_limits-named : (key number other more : List ℕ) → NamesFile (both_limits_asks asks key number other more)
+  both_limits-named key number other more = by (bytes_eq key (codes "nodes") && bytes_eq other (codes "pivots")) (bytes_eq key (codes "pivots") && bytes_eq other (codes "nodes"))
+    where
+      by : (a b : Bool) → NamesFile (if a then two_limits_asks number more asks else if b then two_limits_asks number more (λ n m. asks m n) else Misused)
+      by true b = two_limits-named number more asks named
+      by false true = two_limits-named number more (λ n m. asks m n) (λ n m. named m n)
+      by false false = tt
+
+  search_asks-named : (arguments : List (List ℕ)) → NamesFile (search_asks asks arguments)
+  search_asks-named [] = named no_limit no_limit
+  search_asks-named (key ∷ []) = tt
+  search_asks-named (key ∷ number ∷ []) = one_limit-named key number
+  search_asks-named (key ∷ number ∷ other ∷ []) = tt
+  search_asks-named (key ∷ number ∷ other ∷ more ∷ []) = both_limits-named key number other more
+  search_asks-named (key ∷ number ∷ other ∷ more ∷ another ∷ rest) = tt
 
 cert_asks-named : (arguments : List (List ℕ)) → NamesFile (cert_asks arguments)
 cert_asks-named [] = tt
@@ -114,7 +121,9 @@ quit_asks-named (word ∷ more) = tt
 
 command_asks-named : (c : Option CommandName) (word : List ℕ) (arguments : List (List ℕ)) → NamesFile (command_asks c word arguments)
 command_asks-named (Some name.Load) word arguments = load_asks-named arguments
-command_asks-named (Some name.Solve) word arguments = solve_asks-named arguments
+command_asks-named (Some name.Solve) word arguments = search_asks-named (begun_asks beginning.Anew) (begun-named beginning.Anew) arguments
+command_asks-named (Some name.Warm) word arguments = search_asks-named (begun_asks beginning.Kept) (begun-named beginning.Kept) arguments
+command_asks-named (Some name.Edit) word arguments = tt
 command_asks-named (Some name.Cert) word arguments = cert_asks-named arguments
 command_asks-named (Some name.Write) word arguments = write_asks-named arguments
 command_asks-named (Some name.Quit) word arguments = quit_asks-named arguments

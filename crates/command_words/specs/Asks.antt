@@ -1,9 +1,11 @@
 -- What the words of a line ask for: a command with what it is given, or which fault they have.
-use Rattle.std.specs.Prelude.{◌≡◌, true, ℕ, ◌-◌, ◌^◌, ◌&&◌, List, [], ◌∷◌, codes, if◌then◌else◌, Option, Some, None}
+use Rattle.std.specs.Prelude.{◌≡◌, true, ℕ, ◌-◌, ◌^◌, ◌&&◌, List, [], ◌∷◌, map, codes, if◌then◌else◌, Option, Some, None}
 use Rattle.std.specs.Str.{bytes_eq}
 use Rattle.command_words.specs.Names.{command_of, is_file_name, whole_number_of}
 use Rattle.command_words.specs.declared.words.CommandName.{CommandName}
 use Rattle.command_words.specs.declared.words.CommandName.TheVariants as name
+use Rattle.command_words.specs.declared.words.Beginning.{Beginning}
+use Rattle.command_words.specs.declared.words.Beginning.TheVariants as beginning
 use Rattle.command_words.specs.declared.words.Asked.{Asked}
 use Rattle.command_words.specs.declared.words.Asked.TheVariants as asked
 
@@ -12,6 +14,10 @@ pub data Asks : Type 0 where
   Load : (file : List ℕ) (intupper : Option ℕ) → Asks
   -- a search of the model that is present, which may place so many results, and make so many simplex steps in each relaxation
   Solve : (nodes pivots : ℕ) → Asks
+  -- the same, going on from the search that is kept
+  Warm : (nodes pivots : ℕ) → Asks
+  -- an edit of the model that is present, as these words behind `edit` say it
+  Edit : (words : List (List ℕ)) → Asks
   -- the certificate of the answer that is held, as this file
   Cert : (file : List ℕ) → Asks
   -- the model that is present, as this file
@@ -40,30 +46,44 @@ load_asks (file ∷ key ∷ number ∷ []) =
     if is_file_name file && bytes_eq key (codes "intupper") then with_number number (whole_number_of number) (λ n. Load file (Some n)) else Misused
 load_asks arguments = Misused
 
--- `solve nodes N` and `solve pivots N`
-abbrev pub one_limit_asks : List ℕ → List ℕ → Asks
-one_limit_asks key number =
-    if bytes_eq key (codes "nodes") then with_number number (whole_number_of number) (λ n. Solve n no_limit)
-    else if bytes_eq key (codes "pivots") then with_number number (whole_number_of number) (λ n. Solve no_limit n)
+-- ---- searches, by what is asked with a limit on results and one on steps
+
+-- `nodes N` and `pivots N`
+abbrev pub one_limit_asks : (ℕ → ℕ → Asks) → List ℕ → List ℕ → Asks
+one_limit_asks asks key number =
+    if bytes_eq key (codes "nodes") then with_number number (whole_number_of number) (λ n. asks n no_limit)
+    else if bytes_eq key (codes "pivots") then with_number number (whole_number_of number) (λ n. asks no_limit n)
     else Misused
 
 -- the word that stands first is looked at first
 abbrev pub two_limits_asks : List ℕ → List ℕ → (ℕ → ℕ → Asks) → Asks
 two_limits_asks number more asks = with_number number (whole_number_of number) (λ n. with_number more (whole_number_of more) (asks n))
 
--- `solve nodes N pivots N` and `solve pivots N nodes N`
-abbrev pub both_limits_asks : List ℕ → List ℕ → List ℕ → List ℕ → Asks
-both_limits_asks key number other more =
-    if bytes_eq key (codes "nodes") && bytes_eq other (codes "pivots") then two_limits_asks number more Solve
-    else if bytes_eq key (codes "pivots") && bytes_eq other (codes "nodes") then two_limits_asks number more (λ n m. Solve m n)
+-- `nodes N pivots N` and `pivots N nodes N`
+abbrev pub both_limits_asks : (ℕ → ℕ → Asks) → List ℕ → List ℕ → List ℕ → List ℕ → Asks
+both_limits_asks asks key number other more =
+    if bytes_eq key (codes "nodes") && bytes_eq other (codes "pivots") then two_limits_asks number more asks
+    else if bytes_eq key (codes "pivots") && bytes_eq other (codes "nodes") then two_limits_asks number more (λ n m. asks m n)
     else Misused
 
--- `solve` with its options in any order, each once at most
+-- the options in any order, each once at most
+abbrev pub search_asks : (ℕ → ℕ → Asks) → List (List ℕ) → Asks
+search_asks asks [] = asks no_limit no_limit
+search_asks asks (key ∷ number ∷ []) = one_limit_asks asks key number
+search_asks asks (key ∷ number ∷ other ∷ more ∷ []) = both_limits_asks asks key number other more
+search_asks asks arguments = Misused
+
+-- what a search is asked by that begins so
+abbrev pub begun_asks : Beginning → ℕ → ℕ → Asks
+begun_asks beginning.Anew nodes pivots = Solve nodes pivots
+begun_asks beginning.Kept nodes pivots = Warm nodes pivots
+
+-- `solve` and `warm` with their options
 abbrev pub solve_asks : List (List ℕ) → Asks
-solve_asks [] = Solve no_limit no_limit
-solve_asks (key ∷ number ∷ []) = one_limit_asks key number
-solve_asks (key ∷ number ∷ other ∷ more ∷ []) = both_limits_asks key number other more
-solve_asks arguments = Misused
+solve_asks arguments = search_asks (begun_asks beginning.Anew) arguments
+
+abbrev pub warm_asks : List (List ℕ) → Asks
+warm_asks arguments = search_asks (begun_asks beginning.Kept) arguments
 
 -- `cert F`
 abbrev pub cert_asks : List (List ℕ) → Asks
@@ -83,6 +103,8 @@ quit_asks arguments = Misused
 abbrev pub command_asks : Option CommandName → List ℕ → List (List ℕ) → Asks
 command_asks (Some name.Load) word arguments = load_asks arguments
 command_asks (Some name.Solve) word arguments = solve_asks arguments
+command_asks (Some name.Warm) word arguments = warm_asks arguments
+command_asks (Some name.Edit) word arguments = Edit arguments
 command_asks (Some name.Cert) word arguments = cert_asks arguments
 command_asks (Some name.Write) word arguments = write_asks arguments
 command_asks (Some name.Quit) word arguments = quit_asks arguments
@@ -97,6 +119,8 @@ asks_of (word ∷ arguments) = command_asks (command_of word) word arguments
 abbrev pub asks_shown : Asked → Asks
 asks_shown (asked.Load file intupper) = Load file.now intupper
 asks_shown (asked.Solve nodes pivots) = Solve nodes pivots
+asks_shown (asked.Warm nodes pivots) = Warm nodes pivots
+asks_shown (asked.Edit words) = Edit (map (λ word. word.now) words.now)
 asks_shown (asked.Cert file) = Cert file.now
 asks_shown (asked.Write file) = Write file.now
 asks_shown asked.Quit = Quit
@@ -108,6 +132,8 @@ asks_shown (asked.NoNumber word) = NoNumber word.now
 abbrev pub NamesFile : Asks → Type 0
 NamesFile (Load file intupper) = is_file_name file ≡ true
 NamesFile (Solve nodes pivots) = Unit {0}
+NamesFile (Warm nodes pivots) = Unit {0}
+NamesFile (Edit words) = Unit {0}
 NamesFile (Cert file) = is_file_name file ≡ true
 NamesFile (Write file) = is_file_name file ≡ true
 NamesFile Quit = Unit {0}

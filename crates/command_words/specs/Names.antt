@@ -4,13 +4,15 @@ use Rattle.std.specs.List.{list_all}
 use Rattle.std.specs.Str.{bytes_eq}
 use Rattle.std.specs.Str.Parse.{digits_value}
 use Rattle.command_words.specs.declared.words.CommandName.{CommandName}
-use Rattle.command_words.specs.declared.words.CommandName.TheVariants.{Load, Solve, Cert, Write, Quit}
+use Rattle.command_words.specs.declared.words.CommandName.TheVariants.{Load, Solve, Warm, Edit, Cert, Write, Quit}
 
 -- the command that a first word names
 abbrev pub command_of : List ℕ → Option CommandName
 command_of word =
     if bytes_eq word (codes "load") then Some Load
     else if bytes_eq word (codes "solve") then Some Solve
+    else if bytes_eq word (codes "warm") then Some Warm
+    else if bytes_eq word (codes "edit") then Some Edit
     else if bytes_eq word (codes "cert") then Some Cert
     else if bytes_eq word (codes "write") then Some Write
     else if bytes_eq word (codes "quit") then Some Quit

@@ -8,6 +8,8 @@
 //! solve                  a search without a limit
 //! solve nodes N          a search that may place N results
 //! solve pivots N         one that may make N simplex steps in each relaxation; both options may stand, in any order
+//! warm                   the search that is kept goes on, with the same options
+//! edit ..                an edit of the model; `edit_words` reads the words behind it
 //! cert F                 the certificate of the held answer, as file F
 //! write F                the model that is present, as file F
 //! quit                   the end of the script

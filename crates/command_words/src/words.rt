@@ -2,7 +2,7 @@
 ghost use Rattle.std.specs.Prelude.{◌≡◌, true, map, [], ◌∷◌};
 ghost use Rattle.std.specs.List.{list_all};
 ghost use Rattle.command_words.specs.Names.{command_of, begins_name, is_file_name, is_name_byte, whole_number_of};
-ghost use Rattle.command_words.specs.Asks.{Solve, no_limit, with_number, asks_of, asks_shown, load_asks, one_limit_asks, two_limits_asks, both_limits_asks, solve_asks, cert_asks, write_asks, quit_asks, NamesFile};
+ghost use Rattle.command_words.specs.Asks.{no_limit, with_number, asks_of, asks_shown, load_asks, one_limit_asks, two_limits_asks, both_limits_asks, search_asks, begun_asks, solve_asks, warm_asks, cert_asks, write_asks, quit_asks, NamesFile};
 
 /// A limit that isn't named.
 const UNLIMITED: u64 = u64::MAX;
@@ -12,9 +12,20 @@ const UNLIMITED: u64 = u64::MAX;
 pub enum CommandName {
     Load,
     Solve,
+    Warm,
+    Edit,
     Cert,
     Write,
     Quit,
+}
+
+/// Where a search begins.
+#[derive(Clone, Copy, Debug, PartialEq, Eq)]
+enum Beginning {
+    /// At a fresh root.
+    Anew,
+    /// At the search that is kept.
+    Kept,
 }
 
 /// What the words of a line ask for.
@@ -30,6 +41,15 @@ pub enum Asked<'a> {
     Solve {
         nodes: u64,
         pivots: u64,
+    },
+    /// The same, going on from the search that is kept.
+    Warm {
+        nodes: u64,
+        pivots: u64,
+    },
+    /// An edit of the model that is present, as these words behind `edit` say it.
+    Edit {
+        words: &'a [&'a [u8]],
     },
     /// The certificate of the answer that is held, as a file.
     Cert {
@@ -61,6 +81,10 @@ fn command_named(word: &[u8]) -> Option<CommandName>
         Some(CommandName::Load)
     } else if word == b"solve".as_slice() {
         Some(CommandName::Solve)
+    } else if word == b"warm".as_slice() {
+        Some(CommandName::Warm)
+    } else if word == b"edit".as_slice() {
+        Some(CommandName::Edit)
     } else if word == b"cert".as_slice() {
         Some(CommandName::Cert)
     } else if word == b"write".as_slice() {
@@ -170,81 +194,103 @@ fn load_asked<'a>(arguments: &[&'a [u8]]) -> Asked<'a>
     }
 }
 
-/// What `solve nodes N` asks for, with this word as N.
-fn nodes_limited(number: &[u8]) -> Asked<'_>
-    ensures { asks_shown result ≡ with_number number.now (whole_number_of number.now) (λ n. Solve n no_limit) }
+/// A search that begins so, with these limits.
+fn search_asked<'a>(beginning: Beginning, nodes: u64, pivots: u64) -> Asked<'a>
+    ensures { asks_shown result ≡ begun_asks beginning nodes pivots }
+{
+    match beginning {
+        Beginning::Anew => Asked::Solve { nodes, pivots },
+        Beginning::Kept => Asked::Warm { nodes, pivots },
+    }
+}
+
+/// What `nodes N` asks for behind `solve` or `warm`, with this word as N.
+fn nodes_limited(beginning: Beginning, number: &[u8]) -> Asked<'_>
+    ensures { asks_shown result ≡ with_number number.now (whole_number_of number.now) (λ n. begun_asks beginning n no_limit) }
 {
     match whole_number(number) {
-        Some(nodes) => Asked::Solve {
-            nodes,
-            pivots: UNLIMITED,
-        },
+        Some(nodes) => search_asked(beginning, nodes, UNLIMITED),
         None => Asked::NoNumber { word: number },
     }
 }
 
-/// What `solve pivots N` asks for, with this word as N.
-fn pivots_limited(number: &[u8]) -> Asked<'_>
-    ensures { asks_shown result ≡ with_number number.now (whole_number_of number.now) (λ n. Solve no_limit n) }
+/// What `pivots N` asks for behind `solve` or `warm`, with this word as N.
+fn pivots_limited(beginning: Beginning, number: &[u8]) -> Asked<'_>
+    ensures { asks_shown result ≡ with_number number.now (whole_number_of number.now) (λ n. begun_asks beginning no_limit n) }
 {
     match whole_number(number) {
-        Some(pivots) => Asked::Solve {
-            nodes: UNLIMITED,
-            pivots,
-        },
+        Some(pivots) => search_asked(beginning, UNLIMITED, pivots),
         None => Asked::NoNumber { word: number },
     }
 }
 
-/// What `solve` with one option asks for.
-fn solve_with_one<'a>(key: &[u8], number: &'a [u8]) -> Asked<'a>
-    ensures { asks_shown result ≡ one_limit_asks key.now number.now }
+/// What a search with one option asks for.
+fn one_limit<'a>(beginning: Beginning, key: &[u8], number: &'a [u8]) -> Asked<'a>
+    ensures { asks_shown result ≡ one_limit_asks (begun_asks beginning) key.now number.now }
 {
     if key == b"nodes".as_slice() {
-        nodes_limited(number)
+        nodes_limited(beginning, number)
     } else if key == b"pivots".as_slice() {
-        pivots_limited(number)
+        pivots_limited(beginning, number)
     } else {
         Asked::Misused
     }
 }
 
-/// What `solve nodes N pivots N` asks for, with these words as numbers.
-fn nodes_first<'a>(number: &'a [u8], more: &'a [u8]) -> Asked<'a>
-    ensures { asks_shown result ≡ two_limits_asks number.now more.now Solve }
+/// What `nodes N pivots N` asks for, with these words as numbers.
+fn nodes_first<'a>(beginning: Beginning, number: &'a [u8], more: &'a [u8]) -> Asked<'a>
+    ensures { asks_shown result ≡ two_limits_asks number.now more.now (begun_asks beginning) }
 {
     let Some(nodes) = whole_number(number) else {
         return Asked::NoNumber { word: number };
     };
     match whole_number(more) {
-        Some(pivots) => Asked::Solve { nodes, pivots },
+        Some(pivots) => search_asked(beginning, nodes, pivots),
         None => Asked::NoNumber { word: more },
     }
 }
 
-/// What `solve pivots N nodes N` asks for, with these words as numbers.
-fn pivots_first<'a>(number: &'a [u8], more: &'a [u8]) -> Asked<'a>
-    ensures { asks_shown result ≡ two_limits_asks number.now more.now (λ n m. Solve m n) }
+/// What `pivots N nodes N` asks for, with these words as numbers.
+fn pivots_first<'a>(beginning: Beginning, number: &'a [u8], more: &'a [u8]) -> Asked<'a>
+    ensures { asks_shown result ≡ two_limits_asks number.now more.now (λ n m. begun_asks beginning m n) }
 {
     let Some(pivots) = whole_number(number) else {
         return Asked::NoNumber { word: number };
     };
     match whole_number(more) {
-        Some(nodes) => Asked::Solve { nodes, pivots },
+        Some(nodes) => search_asked(beginning, nodes, pivots),
         None => Asked::NoNumber { word: more },
     }
 }
 
-/// What `solve` with two options asks for.
-fn solve_with_two<'a>(key: &[u8], number: &'a [u8], other: &[u8], more: &'a [u8]) -> Asked<'a>
-    ensures { asks_shown result ≡ both_limits_asks key.now number.now other.now more.now }
+/// What a search with two options asks for.
+fn both_limits<'a>(
+    beginning: Beginning,
+    key: &[u8],
+    number: &'a [u8],
+    other: &[u8],
+    more: &'a [u8],
+) -> Asked<'a>
+    ensures { asks_shown result ≡ both_limits_asks (begun_asks beginning) key.now number.now other.now more.now }
 {
     if key == b"nodes".as_slice() && other == b"pivots".as_slice() {
-        nodes_first(number, more)
+        nodes_first(beginning, number, more)
     } else if key == b"pivots".as_slice() && other == b"nodes".as_slice() {
-        pivots_first(number, more)
+        pivots_first(beginning, number, more)
     } else {
         Asked::Misused
+    }
+}
+
+/// What a search with these further words asks for.
+fn limited_search<'a>(beginning: Beginning, arguments: &[&'a [u8]]) -> Asked<'a>
+    ensures { asks_shown result ≡ search_asks (begun_asks beginning) (map (λ word. word.now) arguments.now) }
+{
+    match arguments {
+        [] => search_asked(beginning, UNLIMITED, UNLIMITED),
+        [key, number] => one_limit(beginning, key, number),
+        [key, number, other, more] => both_limits(beginning, key, number, other, more),
+        _ => Asked::Misused,
     }
 }
 
@@ -252,15 +298,14 @@ fn solve_with_two<'a>(key: &[u8], number: &'a [u8], other: &[u8], more: &'a [u8]
 fn solve_asked<'a>(arguments: &[&'a [u8]]) -> Asked<'a>
     ensures { asks_shown result ≡ solve_asks (map (λ word. word.now) arguments.now) }
 {
-    match arguments {
-        [] => Asked::Solve {
-            nodes: UNLIMITED,
-            pivots: UNLIMITED,
-        },
-        [key, number] => solve_with_one(key, number),
-        [key, number, other, more] => solve_with_two(key, number, other, more),
-        _ => Asked::Misused,
-    }
+    limited_search(Beginning::Anew, arguments)
+}
+
+/// What `warm` with these further words asks for.
+fn warm_asked<'a>(arguments: &[&'a [u8]]) -> Asked<'a>
+    ensures { asks_shown result ≡ warm_asks (map (λ word. word.now) arguments.now) }
+{
+    limited_search(Beginning::Kept, arguments)
 }
 
 /// What `cert F` asks for.
@@ -316,7 +361,7 @@ fn quit_asked<'a>(arguments: &[&'a [u8]]) -> Asked<'a>
 }
 
 /// What the words of a line ask for. A line that is answered has a word.
-pub fn read_words<'a>(words: &[&'a [u8]]) -> Asked<'a>
+pub fn read_words<'a>(words: &'a [&'a [u8]]) -> Asked<'a>
     ensures asked { asks_shown result ≡ asks_of (map (λ word. word.now) words.now) }
     ensures named { NamesFile (asks_shown result) }
 {
@@ -326,6 +371,8 @@ pub fn read_words<'a>(words: &[&'a [u8]]) -> Asked<'a>
     match command_named(word) {
         Some(CommandName::Load) => load_asked(arguments),
         Some(CommandName::Solve) => solve_asked(arguments),
+        Some(CommandName::Warm) => warm_asked(arguments),
+        Some(CommandName::Edit) => Asked::Edit { words: arguments },
         Some(CommandName::Cert) => cert_asked(arguments),
         Some(CommandName::Write) => write_asked(arguments),
         Some(CommandName::Quit) => quit_asked(arguments),

@@ -1,9 +1,9 @@
 // The environment of a row, and how its calls were answered so far.
 use crate::answers::push_answer;
 use anyhow::{Result, bail, ensure};
-use lp_model::{Answer, Model};
+use lp_model::{Answer, Edit, Model};
 use model_calls::take_number;
-use model_texts::{Words, model_of};
+use model_texts::{Words, edit_of, model_of, push_edit_fault};
 use row_texts::{Stage, bytes_of};
 use std::alloc::Global;
 use sym_env::{Env, EnvFault, Limits};
@@ -54,6 +54,7 @@ fn push_fault(got: &mut String, fault: &EnvFault) -> Result<()> {
     match fault {
         EnvFault::NoModel => got.push_str("no model")?,
         EnvFault::NoAnswer => got.push_str("no answer")?,
+        EnvFault::Edit(fault) => push_edit_fault(got, fault)?,
         EnvFault::Memory => got.push_str("no memory")?,
     }
     Ok(())
@@ -63,6 +64,20 @@ fn push_fault(got: &mut String, fault: &EnvFault) -> Result<()> {
 fn limits_of(alloc: Global, line: &str) -> Result<Limits> {
     let mut words = Words::new(alloc, line)?;
     limits_in(&mut words)
+}
+
+/// The edit that a line says.
+fn edit_in(alloc: Global, line: &str) -> Result<Edit> {
+    let mut words = Words::new(alloc, line)?;
+    edit_of(alloc, &mut words)
+}
+
+/// Writes the fault of an edit, if it has one.
+fn push_edited(got: &mut String, edited: &Result<(), EnvFault>) -> Result<()> {
+    match edited {
+        Ok(()) => Ok(()),
+        Err(fault) => push_fault(got, fault),
+    }
 }
 
 /// How many bytes a certificate's text has.
@@ -75,7 +90,7 @@ fn push_length(got: &mut String, cert: &Result<Vec<u8>, EnvFault>) -> Result<()>
 }
 
 impl Calls {
-    /// Writes what was found of the model.
+    /// Writes what was found of the model that is loaded.
     fn push_found(&self, got: &mut String, found: &Result<Answer, EnvFault>) -> Result<()> {
         match found {
             Ok(answer) => {
@@ -93,6 +108,22 @@ impl Calls {
         let found = self.env.solve(&limits);
         let pushed = self.push_found(got, &found);
         drop(found);
+        pushed
+    }
+
+    fn warm(&mut self, line: &str, got: &mut String) -> Result<()> {
+        let limits = limits_of(self.alloc, line)?;
+        let found = self.env.warm_solve(&limits);
+        let pushed = self.push_found(got, &found);
+        drop(found);
+        pushed
+    }
+
+    fn edit(&mut self, line: &str, got: &mut String) -> Result<()> {
+        let edit = edit_in(self.alloc, line)?;
+        let edited = self.env.edit(edit);
+        let pushed = push_edited(got, &edited);
+        drop(edited);
         pushed
     }
 
@@ -116,6 +147,8 @@ impl Calls {
     fn answer(&mut self, word: &str, line: &str, got: &mut String) -> Result<()> {
         match word {
             "solve" => self.solve(line, got),
+            "warm" => self.warm(line, got),
+            "edit" => self.edit(line, got),
             "cert" => self.cert(got),
             "columns" => self.columns(got),
             _ => bail!("no call: `{word}`"),

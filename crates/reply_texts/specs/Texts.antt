@@ -29,6 +29,23 @@ no_model_text = codes "error 04 no model\n"
 abbrev pub no_answer_text : List ℕ
 no_answer_text = codes "error 13 no finished answer\n"
 
+-- no row or column has the name; it is taken; a count would pass this limit; an integer column would lack a bound; a row would have no
+-- sides to compute with
+abbrev pub unknown_name_text : List ℕ → List ℕ
+unknown_name_text name = codes "error 05 unknown " ++ name ++ codes "\n"
+
+abbrev pub taken_text : List ℕ → List ℕ
+taken_text name = codes "error 06 taken " ++ name ++ codes "\n"
+
+abbrev pub limit_text : ℕ → List ℕ
+limit_text n = codes "error 08 limit " ++ decimal n ++ codes "\n"
+
+abbrev pub bounds_text : List ℕ → List ℕ
+bounds_text name = codes "error 10 bounds " ++ name ++ codes "\n"
+
+abbrev pub sides_text : List ℕ → List ℕ
+sides_text name = codes "error 11 sides " ++ name ++ codes "\n"
+
 abbrev pub number_text : List ℕ → List ℕ
 number_text word = codes "error 07 number " ++ word ++ codes "\n"
 

@@ -16,5 +16,8 @@ mod refusals;
 mod steps;
 
 pub use answers::{answer_has_room, write_answer};
-pub use refusals::{write_faulty_certificate, write_faulty_model, write_no_number, write_unknown};
+pub use refusals::{
+    write_bounds, write_faulty_certificate, write_faulty_model, write_limit, write_no_number,
+    write_sides, write_taken, write_unknown, write_unknown_name,
+};
 pub use steps::write_step;

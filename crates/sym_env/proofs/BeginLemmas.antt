@@ -16,7 +16,6 @@ use Rattle.lp_model.specs.declared.answers.StopWhy.{StopWhy}
 use Rattle.lp_model.specs.declared.answers.StopWhy.TheVariants as stop
 use Rattle.lp_model.specs.declared.types.Sense.{Sense}
 use Rattle.lp_model.specs.declared.types.Sense.TheVariants.{Min, Max}
-use Rattle.tree_edit.specs.Calls.{IsFresh}
 use Rattle.tree_edit.specs.Sound.{PlainSearch}
 use Rattle.ray_phase.specs.Answers.{IsDualBasis, IsRayAnswer}
 use Rattle.ray_phase.specs.Laws.{FirstLaw}
@@ -43,12 +42,12 @@ first-own f g S pivots first lawful (inr dual) = λ path names. g S.model lawful
 pub first-beside : FirstLaw → FirstInLaw → (M Z : Program) (pivots : ℕ) (first : Basis) → IsLawful Z → BeginsBeside M pivots Z first → (path : Path) → NamesIntegers Z path → IsFirstOf Z path first
 first-beside f g M Z pivots first lawful begins = λ path names. g Z lawful path names first (f Z first (dual_basis Z pivots first begins.basis))
 
-pub beside-ray : (S : PlainSearch) (limit pivots : ℕ) (Z : Program) (first : Basis) → IsFresh S.model limit S → BeginsBeside S.model pivots Z first → IsBesideRay S Z
-beside-ray S limit pivots Z first fresh begins = record {
+pub beside-ray : (S : PlainSearch) (pivots : ℕ) (Z : Program) (first : Basis) → S.points ≡ [] → BeginsBeside S.model pivots Z first → IsBesideRay S Z
+beside-ray S pivots Z first none begins = record {
   worked = begins.costless;
   direction = begins.has_ray.0;
   ray = is_ray S.model pivots begins.has_ray.0 begins.has_ray.1;
-  none = fresh.points;
+  none = none;
 }
 
 -- ---- the model without costs has no ray

@@ -1,5 +1,6 @@
--- A solve with enough of all goes to the end.
-use Rattle.std.proofs.Common.{◌≡◌, ◌⊎◌, ℕ, ◌<◌, sym, subst, inl, inr, arith, Ok, Err, Result}
+-- A search with enough of all goes to the end.
+use Rattle.std.specs.Prelude.{◌*◌, ◌-◌, max}
+use Rattle.std.proofs.Common.{◌≡◌, ◌⊎◌, ℕ, ◌+◌, ◌<◌, ◌≤◌, ◌^◌, sym, subst, inl, inr, arith}
 use Rattle.lp_model.specs.Program.{Program, Point}
 use Rattle.lp_model.specs.Rays.{without_costs}
 use Rattle.lp_model.specs.declared.types.Basis.{Basis}
@@ -7,13 +8,15 @@ use Rattle.lp_model.specs.declared.answers.StopWhy.{StopWhy}
 use Rattle.lp_model.specs.declared.answers.StopWhy.TheVariants as stop
 use Rattle.lp_model.specs.declared.answers.Answer.{Answer}
 use Rattle.lp_model.specs.declared.answers.Answer.TheVariants.{Optimal, Infeasible, Unbounded, Stopped, Memory}
-use Rattle.tree_edit.specs.Calls.{IsFresh}
+use Rattle.branch_tree.specs.Tree.{node_count, split_count}
+use Rattle.tree_edit.specs.Calls.{IsFresh, search_with_limit}
 use Rattle.tree_edit.specs.Sound.{PlainSearch}
 use Rattle.ray_phase.specs.Answers.{IsRayAnswer}
 use Rattle.ray_phase.specs.Laws.{NoRayFoundLaw}
+use Rattle.search_counting.specs.Laws.{RoomyLaw}
+use Rattle.search_counting.specs.Work.{whole_points}
 use Rattle.tree_search.specs.Causes.{IsAtEnd}
 use Rattle.tree_search.specs.Causes as search
-use Rattle.tree_search.specs.Laws.{EnoughLaw}
 use Rattle.tree_search.specs.Room.{HasMoves, HasRoomAt, HasRoomForValues}
 use Rattle.tree_search.specs.Search.{IsAnswerAtEnd, IsStoppedAnswer}
 use Rattle.tree_search.specs.declared.searching.Ended.{Ended}
@@ -21,25 +24,52 @@ use Rattle.tree_search.specs.declared.searching.Ended.TheVariants as ended
 use Rattle.tree_search.specs.declared.searching.Ways.{Ways}
 use Rattle.tree_search.specs.declared.searching.Ways.TheVariants.{Own, Rays}
 use Rattle.sym_env.specs.Beginnings.{BeginsWith, IsRayStop, FindsRay, StopsBefore}
-use Rattle.sym_env.specs.Enough.{IsRayPhaseEnough, IsEnough}
+use Rattle.sym_env.specs.Enough.{IsRayPhaseEnough, AreRelaxationsEnough, IsEnoughBeside, IsEnough, IsKeptEnough, IsEnoughFrom}
 use Rattle.sym_env.specs.Truth.{HasEnded}
 use Rattle.sym_env.specs.declared.limits.Limits.{Limits}
 use Rattle.sym_env.proofs.BeginLemmas.{dual_basis, is_ray}
 
 -- ---- the search
 
-pub enough-for : NoRayFoundLaw → EnoughLaw → (M : Program) (l : Limits) (fresh : PlainSearch) (ways : Ways) (first : Basis) → IsFresh M l.tree fresh → BeginsWith M l.pivots ways first → IsEnough M l
-    → search.IsEnoughForSearch fresh ways l.nodes l.pivots
-enough-for none law M l fresh Own first begins (inl slack) e =
-    let own = e.own (λ d. none M first d (inr slack)) in
-    law M l.tree fresh Own l.nodes l.pivots begins e.tree e.few e.results own.moves own.steps tt
-enough-for none law M l fresh Own first begins (inr dual) e =
-    let own = e.own (λ d. none M first d (inl (dual_basis M l.pivots first dual.1))) in
-    law M l.tree fresh Own l.nodes l.pivots begins e.tree e.few e.results own.moves own.steps tt
-enough-for none law M l fresh (Rays Z) first begins beside e =
-    let b = e.beside beside.has_ray.0 (is_ray M l.pivots beside.has_ray.0 beside.has_ray.1) in
-    law M l.tree fresh (Rays Z) l.nodes l.pivots begins e.tree e.few e.results (subst (λ N. HasMoves N l.pivots) (sym beside.costless) b.relaxations.moves) (subst HasRoomAt (sym beside.costless) b.relaxations.steps)
-    (subst (λ N. HasRoomForValues N M) (sym beside.costless) b.values)
+pub enough-for : NoRayFoundLaw → (S : PlainSearch) (nodes pivots : ℕ) (ways : Ways) (first : Basis) → BeginsWith S.model pivots ways first → IsEnoughFrom S nodes pivots → search.IsEnoughForSearch S ways nodes pivots
+enough-for none S nodes pivots Own first (inl slack) e =
+    let own : AreRelaxationsEnough S.model pivots = e.own (λ d. none S.model first d (inr slack)) in
+    record { results = e.results; room = e.room; moves = own.moves; steps = own.steps; values = tt }
+enough-for none S nodes pivots Own first (inr dual) e =
+    let own : AreRelaxationsEnough S.model pivots = e.own (λ d. none S.model first d (inl (dual_basis S.model pivots first dual.1))) in
+    record { results = e.results; room = e.room; moves = own.moves; steps = own.steps; values = tt }
+enough-for none S nodes pivots (Rays Z) first beside e =
+    let b : IsEnoughBeside S.model pivots = e.beside beside.has_ray.0 (is_ray S.model pivots beside.has_ray.0 beside.has_ray.1) in
+    record {
+      results = e.results;
+      room = e.room;
+      moves = subst (λ N. HasMoves N pivots) (sym beside.costless) b.relaxations.moves;
+      steps = subst HasRoomAt (sym beside.costless) b.relaxations.steps;
+      values = subst (λ N. HasRoomForValues N S.model) (sym beside.costless) b.values;
+    }
+
+-- what is enough for a solve is enough from its fresh root
+pub from-fresh : RoomyLaw → (l : Limits) (S : PlainSearch) → IsFresh S.model l.tree S → IsEnough S.model l → IsEnoughFrom S l.nodes l.pivots
+from-fresh law l S begins e = record { results = e.results; room = law S.model l.tree S begins e.tree e.few; ray_phase = e.ray_phase; own = e.own; beside = e.beside }
+
+-- and what is enough to go on, from the kept tree with the limit on its nodes
+pub from-kept : (l : Limits) (S : PlainSearch) → IsKeptEnough S l → IsEnoughFrom (search_with_limit S l.tree) l.nodes l.pivots
+from-kept l S e = record {
+  results = e.results;
+  room = record {
+    nodes = nodes_fit (node_count S.tree.root) (whole_points S.model) e.nodes;
+    ids = ids_fit S.tree.last (split_count S.tree.root) (whole_points S.model) e.ids;
+  };
+  ray_phase = e.ray_phase;
+  own = e.own;
+  beside = e.beside;
+}
+  where
+    nodes_fit : (c p : ℕ) → c + max 1 (2 * p - 1) ≤ l.tree → c + 2 * (p - 1) ≤ l.tree
+    nodes_fit c p h = omega (arith, h)
+
+    ids_fit : (a s p : ℕ) → a + s + 3 * max 1 (2 * p - 1) < 2 ^ 64 → a + s + 3 * (p - 1) < 2 ^ 64
+    ids_fit a s p h = omega (arith, h)
 
 pub at-end : (S : PlainSearch) (e : Ended) (n : ℕ) (answer : Answer) → IsAtEnd e → IsAnswerAtEnd S e n answer → HasEnded answer
 at-end S ended.Finished n (Optimal v x m) h told = tt
@@ -66,9 +96,9 @@ ray-goes_on M pivots (stop.Pivots place) e h =
     absurd (omega arith)
 ray-goes_on M pivots (stop.Wide at_) e h = e.steps h.0 h.1.1.0 h.1.1.1.0 h.1.0 h.1.1.1.1.1.0 at_.step h.1.1.1.1.1.1.1.0
 
-pub goes-on : (M : Program) (l : Limits) (why : StopWhy) → IsEnough M l → StopsBefore M l.pivots why → ⊥
-goes-on M l why e s = by s.stop
+pub goes-on : (S : PlainSearch) (nodes pivots : ℕ) (why : StopWhy) → IsEnoughFrom S nodes pivots → StopsBefore S.model pivots why → ⊥
+goes-on S nodes pivots why e s = by s.stop
   where
-    by : IsRayStop M l.pivots why ⊎ (FindsRay M l.pivots × IsRayStop (without_costs M) l.pivots why) → ⊥
-    by (inl h) = ray-goes_on M l.pivots why (e.ray_phase s.none) h
-    by (inr h) = ray-goes_on (without_costs M) l.pivots why (e.beside h.0.0 (is_ray M l.pivots h.0.0 h.0.1)).ray_phase h.1
+    by : IsRayStop S.model pivots why ⊎ (FindsRay S.model pivots × IsRayStop (without_costs S.model) pivots why) → ⊥
+    by (inl h) = ray-goes_on S.model pivots why (e.ray_phase s.none) h
+    by (inr h) = ray-goes_on (without_costs S.model) pivots why (e.beside h.0.0 (is_ray S.model pivots h.0.0 h.0.1)).ray_phase h.1

@@ -1,4 +1,4 @@
--- What was done in a solve, put together.
+-- What was done in a search, put together.
 use Rattle.std.proofs.Common.{◌≡◌, ◌⊎◌, ℕ, refl}
 use Rattle.lp_model.specs.declared.types.Basis.{Basis}
 use Rattle.lp_model.specs.declared.answers.Answer.{Answer}
@@ -9,34 +9,41 @@ use Rattle.tree_edit.specs.Sound.{PlainSearch, IsSound}
 use Rattle.ray_phase.specs.Laws.{NoRayFoundLaw}
 use Rattle.tree_search.specs.Causes.{IsAtEnd}
 use Rattle.tree_search.specs.Causes as search
-use Rattle.tree_search.specs.Laws.{EnoughLaw}
 use Rattle.tree_search.specs.Search.{Finds, GivesUp, IsAnswerAtEnd, IsStoppedAnswer}
 use Rattle.tree_search.specs.Steps.{HasOpenLeaf}
 use Rattle.tree_search.specs.declared.searching.Searched.{Searched}
 use Rattle.tree_search.specs.declared.searching.Ways.{Ways}
+use Rattle.tree_search.proofs.ExtendLemmas.{extends-self}
 use Rattle.sym_env.specs.Beginnings.{BeginsWith, StopsBefore}
-use Rattle.sym_env.specs.Enough.{IsEnough}
-use Rattle.sym_env.specs.Solves.{StopsFirst, Searches, WantsWithin, Solved}
+use Rattle.sym_env.specs.Enough.{IsEnoughFrom}
+use Rattle.sym_env.specs.Solves.{StopsFirst, Searches, WantsBefore, WantsWithin, Solved}
 use Rattle.sym_env.specs.Truth.{HasEnded}
+use Rattle.sym_env.specs.Warm.{Went}
 use Rattle.sym_env.specs.declared.limits.Limits.{Limits}
 use Rattle.sym_env.proofs.EnoughLemmas.{enough-for, at-end, goes-on}
 
-module _ (l : Limits) (S : PlainSearch) (begins : IsFresh S.model l.tree S) (sound : IsSound S) where
-  pub gave-up : (ways : Ways) (first : Basis) → BeginsWith S.model l.pivots ways first → (T : PlainSearch) → GivesUp ways first l.nodes l.pivots S T → Solved S.model l Memory T
-  gave-up ways first b T gives = record { fresh = S; begins = begins; sound = sound; course = WantsWithin ways first b gives refl; model = gives.goes.model }
+module _ (l : Limits) (S : PlainSearch) (sound : IsSound S) where
+  pub gave-up : (ways : Ways) (first : Basis) → BeginsWith S.model l.pivots ways first → (T : PlainSearch) → GivesUp ways first l.nodes l.pivots S T → Went l S Memory T
+  gave-up ways first b T gives = record { sound = sound; course = WantsWithin ways first b gives refl; model = gives.goes.model; extends = gives.goes.extends }
 
   pub searched-so : (ways : Ways) (first : Basis) → BeginsWith S.model l.pivots ways first → HasOpenLeaf S → (T : PlainSearch) (searched : Searched) (answer : Answer) → Finds ways first l.nodes l.pivots S T searched
-      → IsAnswerAtEnd T searched.ended searched.placed answer → Solved S.model l answer T
+      → IsAnswerAtEnd T searched.ended searched.placed answer → Went l S answer T
   searched-so ways first b some T searched answer finds told =
-      record { fresh = S; begins = begins; sound = sound; course = Searches some ways first b searched finds told; model = finds.model }
+      record { sound = sound; course = Searches some ways first b searched finds told; model = finds.model; extends = finds.extends }
 
-  pub searched-whole : NoRayFoundLaw → EnoughLaw → (ways : Ways) (first : Basis) → BeginsWith S.model l.pivots ways first → (T : PlainSearch) (searched : Searched) (answer : Answer)
-      → (search.IsEnoughForSearch S ways l.nodes l.pivots → IsAtEnd searched.ended) → IsAnswerAtEnd T searched.ended searched.placed answer → IsEnough S.model l → HasEnded answer
-  searched-whole none law ways first b T searched answer complete told enough =
-      at-end T searched.ended searched.placed answer (complete (enough-for none law S.model l S ways first begins b enough)) told
+  pub stopped-first : HasOpenLeaf S → (why : StopWhy) → StopsBefore S.model l.pivots why → (answer : Answer) → IsStoppedAnswer S why 0 answer → Went l S answer S
+  stopped-first some why stops answer told = record { sound = sound; course = StopsFirst some why stops refl told; model = refl; extends = extends-self S.tree.root }
 
-  pub stopped-first : HasOpenLeaf S → (why : StopWhy) → StopsBefore S.model l.pivots why → (answer : Answer) → IsStoppedAnswer S why 0 answer → Solved S.model l answer S
-  stopped-first some why stops answer told = record { fresh = S; begins = begins; sound = sound; course = StopsFirst some why stops refl told; model = refl }
+  pub wants-first : Went l S Memory S
+  wants-first = record { sound = sound; course = WantsBefore refl refl; model = refl; extends = extends-self S.tree.root }
 
-pub stopped-never : (l : Limits) (S : PlainSearch) (why : StopWhy) → StopsBefore S.model l.pivots why → (answer : Answer) → IsEnough S.model l → HasEnded answer
-stopped-never l S why stops answer enough = absurd (goes-on S.model l why enough stops)
+  pub fresh-solved : IsFresh S.model l.tree S → (answer : Answer) (T : PlainSearch) → Went l S answer T → Solved S.model l answer T
+  fresh-solved begins answer T went = record { fresh = S; begins = begins; sound = sound; course = went.course; model = went.model }
+
+pub searched-whole : NoRayFoundLaw → (l : Limits) (S : PlainSearch) (ways : Ways) (first : Basis) → BeginsWith S.model l.pivots ways first → (T : PlainSearch) (searched : Searched) (answer : Answer)
+    → (search.IsEnoughForSearch S ways l.nodes l.pivots → IsAtEnd searched.ended) → IsAnswerAtEnd T searched.ended searched.placed answer → IsEnoughFrom S l.nodes l.pivots → HasEnded answer
+searched-whole none l S ways first b T searched answer complete told enough =
+    at-end T searched.ended searched.placed answer (complete (enough-for none S l.nodes l.pivots ways first b enough)) told
+
+pub stopped-never : (l : Limits) (S : PlainSearch) (why : StopWhy) → StopsBefore S.model l.pivots why → (answer : Answer) → IsEnoughFrom S l.nodes l.pivots → HasEnded answer
+stopped-never l S why stops answer enough = absurd (goes-on S l.nodes l.pivots why enough stops)

@@ -1,28 +1,40 @@
--- What a solve answers is true of its model.
+-- What a search answers is true of its model, whether it begins with a fresh root or goes on.
 use Rattle.std.proofs.Common.{◌≡◌, ◌⊎◌, ℕ, zero, suc, ◌+◌, ◌<◌, ◌≤◌, ◌^◌, List, [], ◌∷◌, ◌++◌, length, map, take, drop, sym, ap, subst, refl, ◌∙◌, inl, inr, arith, Option, Some, None, Ok}
-use Rattle.std.specs.Prelude.{true}
+use Rattle.std.specs.Prelude.{true, ◌-◌, All}
 use Rattle.std.specs.List.{remove}
 use Rattle.std.proofs.lemmas.List.{length-map, length-take, length-drop, length-append}
+use Rattle.std.proofs.lemmas.List.Elements.{All-head}
 use Rattle.rational.specs.Rational.{ℚ}
 use Rattle.lp_model.specs.Program.{Program, Point, IsFeasible, IsOptimum, IsEmpty, value, least_value}
 use Rattle.lp_model.specs.Lawful.{IsLawful}
-use Rattle.lp_model.specs.Rays.{without_costs, IsRayJudged}
+use Rattle.lp_model.specs.Rays.{without_costs, IsRayJudged, IsUnbounded}
+use Rattle.lp_model.proofs.UnboundedLemmas.{unbounded}
 use Rattle.lp_model.specs.declared.types.Basis.{Basis}
 use Rattle.lp_model.specs.declared.answers.StopWhy.{StopWhy}
 use Rattle.lp_model.specs.declared.answers.StopWhy.TheVariants as stop
 use Rattle.lp_model.specs.declared.answers.Answer.{Answer}
 use Rattle.lp_model.specs.declared.answers.Answer.TheVariants.{Optimal, Infeasible, Unbounded, Stopped, Memory}
+use Rattle.ray_phase.specs.Answers.{IsRayAnswer}
+use Rattle.ray_phase.specs.declared.phase.RayAnswer.TheVariants as phase
+use Rattle.branch_tree.specs.Changes.{with_limit}
 use Rattle.branch_tree.specs.declared.node.Job.{Job}
-use Rattle.tree_edit.specs.Calls.{IsFresh}
+use Rattle.branch_tree.specs.declared.node.LeafData.{LeafData}
+use Rattle.branch_tree.specs.declared.node.LeafState.TheVariants.{IsOpen, IsClosed}
+use Rattle.branch_tree.proofs.PathLaws.{each-found}
+use Rattle.tree_edit.specs.Calls.{IsFresh, search_with_limit}
 use Rattle.tree_edit.specs.Laws.{HasNoOpenLeaf, EmptyLaw}
 use Rattle.tree_edit.specs.Placing.{IsWorst, AddsPoint}
+use Rattle.tree_edit.specs.Points.{IsKeepable}
 use Rattle.tree_edit.specs.Sound.{PlainSearch, IsSound}
+use Rattle.tree_edit.proofs.OpenLemmas.{leaf_at}
 use Rattle.search_counting.specs.Laws.{CapLaw, LeftLaw, TooFewNodesLaw}
-use Rattle.search_counting.specs.Work.{cap_of, work_of}
+use Rattle.search_counting.specs.Work.{whole_points, cap_of, HasRoomFor, work_of, splits_of, IsRoomy}
+use Rattle.search_counting.proofs.CapLemmas.{splits-cap}
+use Rattle.search_counting.proofs.RoomLemmas.{room-fewer}
 use Rattle.tree_search.specs.Bounds.{IsBoundOf}
 use Rattle.tree_search.specs.Causes.{HasCause}
 use Rattle.tree_search.specs.Laws.{StopBoundLaw}
-use Rattle.tree_search.specs.Search.{IsAfter, StopsFor, FindsPoint, Ends, IsLeft, IsValueFound, StopsWith, IsAnswerAtEnd, IsStoppedAnswer}
+use Rattle.tree_search.specs.Search.{IsAfter, StopsFor, FindsPoint, Ends, IsLeft, IsValueFound, StopsWith, IsAnswerAtEnd, IsFinishedAnswer, IsStoppedAnswer}
 use Rattle.tree_search.specs.Steps.{HasOpenLeaf, IsNextJob, Goes, StopsAtNext, StepAtNext, ValueAtNext}
 use Rattle.tree_search.specs.declared.searching.Ended.{Ended}
 use Rattle.tree_search.specs.declared.searching.Ended.TheVariants as ended
@@ -30,18 +42,18 @@ use Rattle.tree_search.specs.declared.searching.Ways.{Ways}
 use Rattle.sym_env.specs.Beginnings.{IsRayStop, StopsBefore}
 use Rattle.sym_env.specs.Env.{PlainEnv, HasPointAndRay, IsHeld}
 use Rattle.sym_env.specs.Solves.{Course, NothingOpen, StopsFirst, Searches, WantsBefore, WantsWithin, Solved, SolvesModel, SaysUnbounded, HasRayFor, held_by, IsOldest, SolvesEnv}
-use Rattle.sym_env.specs.Truth.{IsCount, IsBound, IsFoundValue, IsEarly, IsTrueAnswer}
+use Rattle.sym_env.specs.Truth.{IsCount, IsBound, IsFoundValue, IsEarlyBy, IsTrueBy, IsSmallTree, IsTrueAnswer, IsTrueOfKept}
+use Rattle.sym_env.specs.Warm.{Resumes, BesidePoint, GoesOn, Warms, Still, SomeOpen}
 use Rattle.sym_env.specs.declared.held.Held.{Held}
 use Rattle.sym_env.specs.declared.held.Held.TheVariants.{Unbounded as Beside}
 use Rattle.sym_env.specs.declared.limits.Limits.{Limits}
-use Rattle.sym_env.proofs.BeginLemmas.{judged_ray}
+use Rattle.sym_env.proofs.BeginLemmas.{is_ray, judged_ray}
 
 -- the laws of searches that are used
 pub record Laws : Type 0 where
   pub empty : EmptyLaw
   pub cap : CapLaw
   pub left : LeftLaw
-  pub nodes : TooFewNodesLaw
   pub bound : StopBoundLaw
 
 is-bound : StopBoundLaw → (S : PlainSearch) (bound : Option ℚ) → IsBoundOf S bound → IsBound S.model bound
@@ -52,7 +64,16 @@ is-found : (M : Program) (best : Option ℚ) → IsValueFound M best → IsFound
 is-found M None h = tt
 is-found M (Some b) h = h
 
-module _ (laws : Laws) (l : Limits) (fresh : PlainSearch) (lawful : IsLawful fresh.model) (begins : IsFresh fresh.model l.tree fresh) (sound : IsSound fresh) where
+-- an open leaf is not closed
+pub open-not_none : (S : PlainSearch) → HasOpenLeaf S → HasNoOpenLeaf S → ⊥
+open-not_none S some none =
+    let here = some.1.1 in
+    let l = leaf_at S.tree.root some.0 some.1.0 here.kept here.leaf in
+    let closed : l.0.kept.state ≡ IsClosed = (each-found (λ p k. k.kept.state ≡ IsClosed) some.0 [] S.tree.root (some.1.0, l.0) none l.1.0).0 in
+    let state : l.0.kept.state ≡ IsOpen = ap (λ (k : LeafData). k.state) l.1.1 ∙ here.state in
+    let e : IsOpen ≡ IsClosed = sym state ∙ closed in cc
+
+module _ (laws : Laws) (l : Limits) (fresh : PlainSearch) (lawful : IsLawful fresh.model) (sound : IsSound fresh) (Small : Type 0) (small : (¬ IsRoomy fresh) → Small) where
   at_most : work_of fresh ≤ cap_of fresh.model
   at_most = laws.cap fresh.model fresh.tree.root lawful sound.tree.lawful
 
@@ -72,13 +93,13 @@ module _ (laws : Laws) (l : Limits) (fresh : PlainSearch) (lawful : IsLawful fre
       let one = laws.left fresh h.0 h.1.0 h.1.1.kept sound lawful h.1.1.leaf h.1.1.state in
       omega arith
 
-  early : (S : PlainSearch) (ways : Ways) (first : Basis) (why : StopWhy) (n : ℕ) → StopsFor ways first l.nodes l.pivots n fresh S why → HasCause fresh ways first l.nodes l.pivots (ended.Stopped why) → IsEarly fresh.model l why n
+  early : (S : PlainSearch) (ways : Ways) (first : Basis) (why : StopWhy) (n : ℕ) → StopsFor ways first l.nodes l.pivots n fresh S why → HasCause fresh ways first l.nodes l.pivots (ended.Stopped why) → IsEarlyBy Small fresh.model l why n
   early S ways first stop.Nodes n ends cause =
       let most = at_most in
       let all = ends.all in
       (all, omega arith)
   early S ways first stop.Tree n ends cause =
-      (ends.below_limit, (below_cap n ends.mid ways first ends.goes ends.here.1.job ends.here.1.works.next, λ few. laws.nodes fresh.model l.tree fresh begins sound lawful few cause))
+      (ends.below_limit, (below_cap n ends.mid ways first ends.goes ends.here.1.job ends.here.1.works.next, small cause))
   early S ways first (stop.Pivots place) n ends cause =
       let below = ends.below_limit in
       (omega arith, below_cap n ends.mid ways first ends.goes ends.here.job ends.here.works.next)
@@ -93,18 +114,18 @@ module _ (laws : Laws) (l : Limits) (fresh : PlainSearch) (lawful : IsLawful fre
   count : (n m : ℕ) → m ≡ n → n ≤ l.nodes → n ≤ cap_of fresh.model → IsCount fresh.model l m
   count n m same limit cap = record { within_limit = subst (λ k. k ≤ l.nodes) (sym same) limit; within_cap = subst (λ k. k ≤ cap_of fresh.model) (sym same) cap }
 
-  stopped : (S : PlainSearch) (why : StopWhy) (n : ℕ) (answer : Answer) → S.model ≡ fresh.model → IsEarly fresh.model l why n → IsStoppedAnswer S why n answer → IsTrueAnswer fresh.model l answer
+  stopped : (S : PlainSearch) (why : StopWhy) (n : ℕ) (answer : Answer) → S.model ≡ fresh.model → IsEarlyBy Small fresh.model l why n → IsStoppedAnswer S why n answer → IsTrueBy Small fresh.model l answer
   stopped S why n (Optimal v x m) same is told = absurd told
   stopped S why n (Infeasible m) same is told = absurd told
   stopped S why n (Unbounded m) same is told = absurd told
   stopped S why n (Stopped reason m bound best) same is told = (
     (subst (λ N. IsBound N bound) same (is-bound laws.bound S bound told.2.bound_is), subst (λ N. IsFoundValue N best) same (is-found S.model best told.2.found)),
-    subst (λ k. IsEarly fresh.model l reason k) (sym told.1) (subst (λ r. IsEarly fresh.model l r n) (sym told.0) is),
+    subst (λ k. IsEarlyBy Small fresh.model l reason k) (sym told.1) (subst (λ r. IsEarlyBy Small fresh.model l r n) (sym told.0) is),
   )
   stopped S why n Memory same is told = tt
 
   searched : (S : PlainSearch) (ways : Ways) (first : Basis) (e : Ended) (n : ℕ) (answer : Answer) → S.model ≡ fresh.model → Ends ways first l.nodes l.pivots n fresh S e → HasCause fresh ways first l.nodes l.pivots e
-      → n ≤ l.nodes → n ≤ cap_of fresh.model → IsAnswerAtEnd S e n answer → IsTrueAnswer fresh.model l answer
+      → n ≤ l.nodes → n ≤ cap_of fresh.model → IsAnswerAtEnd S e n answer → IsTrueBy Small fresh.model l answer
   searched S ways first ended.Finished n (Optimal v x m) same ends cause limit cap told =
       ((subst (λ N. IsOptimum N x) same told.0.optimum, told.0.value ∙ ap (λ N. value N 1 x) same), count n m told.1 limit cap)
   searched S ways first ended.Finished n (Infeasible m) same ends cause limit cap told = (subst IsEmpty same told.0.none, count n m told.1 limit cap)
@@ -118,33 +139,69 @@ module _ (laws : Laws) (l : Limits) (fresh : PlainSearch) (lawful : IsLawful fre
   searched S ways first ended.Unbounded n Memory same ends cause limit cap told = tt
   searched S ways first (ended.Stopped why) n answer same ends cause limit cap told = stopped S why n answer same (early S ways first why n ends cause) told
 
-  ray_early : (why : StopWhy) → HasOpenLeaf fresh → (M : Program) → IsRayStop M l.pivots why → IsEarly fresh.model l why 0
+  ray_early : (why : StopWhy) → HasOpenLeaf fresh → (M : Program) → IsRayStop M l.pivots why → IsEarlyBy Small fresh.model l why 0
   ray_early stop.Nodes some M h = absurd h
   ray_early stop.Tree some M h = absurd h
   ray_early (stop.Pivots place) some M h = (omega arith, first_below some)
   ray_early (stop.Wide at_) some M h = (omega arith, first_below some)
 
-  stopped_early : (why : StopWhy) → HasOpenLeaf fresh → StopsBefore fresh.model l.pivots why → IsEarly fresh.model l why 0
+  stopped_early : (why : StopWhy) → HasOpenLeaf fresh → StopsBefore fresh.model l.pivots why → IsEarlyBy Small fresh.model l why 0
   stopped_early why some s = elim s.stop [ inl h ↦ ray_early why some fresh.model h | inr h ↦ ray_early why some (without_costs fresh.model) h.1 ]
 
-  true-course : (answer : Answer) (S : PlainSearch) → S.model ≡ fresh.model → Course fresh.model l fresh answer S → IsTrueAnswer fresh.model l answer
-  true-course answer S same (NothingOpen none kept is) =
-      subst (IsTrueAnswer fresh.model l) (sym is) (laws.empty fresh sound none begins.points, record { within_limit = omega arith; within_cap = omega arith })
-  true-course answer S same (StopsFirst some why s kept told) = stopped S why 0 answer same (stopped_early why some s) told
-  true-course answer S same (Searches some ways first b e finds told) = searched S ways first e.ended e.placed answer same finds.ends finds.cause finds.within_limit finds.within_cap told
-  true-course answer S same (WantsBefore kept is) = subst (IsTrueAnswer fresh.model l) (sym is) tt
-  true-course answer S same (WantsWithin ways first b gives is) = subst (IsTrueAnswer fresh.model l) (sym is) tt
+  true-course : (HasNoOpenLeaf fresh → fresh.points ≡ []) → (answer : Answer) (S : PlainSearch) → S.model ≡ fresh.model → Course fresh.model l fresh answer S → IsTrueBy Small fresh.model l answer
+  true-course no_point answer S same (NothingOpen none kept is) =
+      subst (IsTrueBy Small fresh.model l) (sym is) (laws.empty fresh sound none (no_point none), record { within_limit = omega arith; within_cap = omega arith })
+  true-course no_point answer S same (StopsFirst some why s kept told) = stopped S why 0 answer same (stopped_early why some s) told
+  true-course no_point answer S same (Searches some ways first b e finds told) = searched S ways first e.ended e.placed answer same finds.ends finds.cause finds.within_limit finds.within_cap told
+  true-course no_point answer S same (WantsBefore kept is) = subst (IsTrueBy Small fresh.model l) (sym is) tt
+  true-course no_point answer S same (WantsWithin ways first b gives is) = subst (IsTrueBy Small fresh.model l) (sym is) tt
 
-pub true-answer : Laws → (l : Limits) (M : Program) (old : PlainSearch) (answer : Answer) (S : PlainSearch) → IsLawful M → SolvesModel M l old answer S → IsTrueAnswer M l answer
-true-answer laws l M old answer S lawful (inr wants) = subst (IsTrueAnswer M l) (sym wants.wants) tt
-true-answer laws l M old answer S lawful (inl s) =
+  -- an answer that is told where no leaf is open and nothing is placed
+  finished : (answer : Answer) → IsFinishedAnswer fresh 0 answer → IsTrueBy Small fresh.model l answer
+  finished (Optimal v x m) told = ((told.0.optimum, told.0.value), count 0 m told.1 (omega arith) (omega arith))
+  finished (Infeasible m) told = (told.0.none, count 0 m told.1 (omega arith) (omega arith))
+  finished (Unbounded m) told = absurd told
+  finished (Stopped why m bound best) told = absurd told
+  finished Memory told = tt
+
+  -- beside a ray a kept point shows that the objective has no end
+  no-end : 0 < length fresh.points → (d : Point) → IsRayAnswer fresh.model l.pivots (phase.Ray d) → IsTrueBy Small fresh.model l (Unbounded 0)
+  no-end some d found = (by fresh.points sound.points some, record { within_limit = omega arith; within_cap = omega arith })
+    where
+      by : (points : List Point) → All (IsKeepable fresh.model) points → 0 < length points → IsUnbounded fresh.model
+      by [] all h = absurd (omega arith)
+      by (x ∷ xs) all h = unbounded fresh.model x d (All-head (IsKeepable fresh.model) x xs all).feasible.0 (is_ray fresh.model l.pivots d found)
+
+  true-resumed : HasOpenLeaf fresh → (answer : Answer) (S : PlainSearch) → Resumes l fresh answer S → IsTrueBy Small fresh.model l answer
+  true-resumed open_leaf answer S (BesidePoint some d none found kept is) = subst (IsTrueBy Small fresh.model l) (sym is) (no-end some d found)
+  true-resumed open_leaf answer S (GoesOn untold went) = true-course (λ none. absurd (open-not_none fresh open_leaf none)) answer S went.model went.course
+
+  pub true-warmed : (answer : Answer) (S : PlainSearch) → Warms l fresh answer S → IsTrueBy Small fresh.model l answer
+  true-warmed answer S (Still none kept told) = finished answer told
+  true-warmed answer S (SomeOpen open_leaf how) = true-resumed open_leaf answer S how
+
+pub true-answer : Laws → TooFewNodesLaw → (l : Limits) (M : Program) (old : PlainSearch) (answer : Answer) (S : PlainSearch) → IsLawful M → SolvesModel M l old answer S → IsTrueAnswer M l answer
+true-answer laws few_nodes l M old answer S lawful (inr wants) = subst (IsTrueAnswer M l) (sym wants.wants) tt
+true-answer laws few_nodes l M old answer S lawful (inl s) =
     let same : s.fresh.model ≡ M = s.begins.model in
+    let own : IsLawful s.fresh.model = subst IsLawful (sym same) lawful in
+    let begins : IsFresh s.fresh.model l.tree s.fresh = subst (λ N. IsFresh N l.tree s.fresh) (sym same) s.begins in
     subst (λ N. IsTrueAnswer N l answer) same
-    (true-course laws l s.fresh (subst IsLawful (sym same) lawful) (subst (λ N. IsFresh N l.tree s.fresh) (sym same) s.begins) s.sound answer S (s.model ∙ sym same) (subst (λ N. Course N l s.fresh answer S) (sym same) s.course))
+    (true-course laws l s.fresh own s.sound (IsSmallTree s.fresh.model l) (λ unroomy few. few_nodes s.fresh.model l.tree s.fresh begins s.sound own few unroomy)
+    (λ none. begins.points) answer S (s.model ∙ sym same) (subst (λ N. Course N l s.fresh answer S) (sym same) s.course))
+
+-- a search that goes on is too small where it has no room for the most splits
+pub true-kept : Laws → (l : Limits) (old : PlainSearch) (answer : Answer) (S : PlainSearch) → IsLawful old.model → IsSound (search_with_limit old l.tree) → Warms l (search_with_limit old l.tree) answer S
+    → IsTrueOfKept old l answer
+true-kept laws l old answer S lawful sound how =
+    let begun : PlainSearch = search_with_limit old l.tree in
+    true-warmed laws l begun lawful sound (¬ HasRoomFor (whole_points old.model - 1) (with_limit old.tree l.tree))
+    (λ unroomy room. unroomy (room-fewer begun.tree (whole_points old.model - 1) (splits_of begun) (splits-cap old.model old.tree.root lawful sound.tree.lawful) room))
+    answer S how
 
 -- ---- the oldest point of the best value
 
-told-oldest : (S : PlainSearch) (e : Ended) (n : ℕ) (answer : Answer) → IsAnswerAtEnd S e n answer → IsOldest S answer
+pub told-oldest : (S : PlainSearch) (e : Ended) (n : ℕ) (answer : Answer) → IsAnswerAtEnd S e n answer → IsOldest S answer
 told-oldest S ended.Finished n (Optimal v x m) told = told.0.incumbent
 told-oldest S ended.Unbounded n (Optimal v x m) told = absurd told
 told-oldest S (ended.Stopped why) n (Optimal v x m) told = absurd told
@@ -160,7 +217,7 @@ stop-oldest S why (Unbounded m) told = tt
 stop-oldest S why (Stopped reason m bound best) told = tt
 stop-oldest S why Memory told = tt
 
-course-oldest : (M : Program) (l : Limits) (fresh : PlainSearch) (answer : Answer) (S : PlainSearch) → Course M l fresh answer S → IsOldest S answer
+pub course-oldest : (M : Program) (l : Limits) (fresh : PlainSearch) (answer : Answer) (S : PlainSearch) → Course M l fresh answer S → IsOldest S answer
 course-oldest M l fresh answer S (NothingOpen none kept is) = subst (IsOldest S) (sym is) tt
 course-oldest M l fresh answer S (StopsFirst some why s kept told) = stop-oldest S why answer (told)
 course-oldest M l fresh answer S (Searches some ways first b e finds told) = told-oldest S e.ended e.placed answer told
@@ -202,7 +259,7 @@ points-some ways first nodes pivots n old new finds =
     let adds : 0 < length mid.points = adds-some finds.after.mid.model finds.after.mid.points here.point mid.points kept.1.0.points in
     subst (λ (S : PlainSearch). 0 < length S.points) (sym kept.1.1.1.1) adds
 
-abbrev IsFinishedKind : Answer → Type 0
+abbrev pub IsFinishedKind : Answer → Type 0
 IsFinishedKind (Optimal v x n) = Unit {0}
 IsFinishedKind (Infeasible n) = Unit {0}
 IsFinishedKind (Unbounded n) = ⊥
@@ -247,14 +304,14 @@ unbounded-ended S ended.Unbounded n answer told u = refl
 unbounded-ended S (ended.Stopped why) n answer told u = absurd (stop-bounded S why answer n told u)
 
 module _ (M : Program) (l : Limits) (fresh : PlainSearch) (answer : Answer) (S : PlainSearch) where
-  course-finished : Course M l fresh answer S → IsFinishedKind answer → HasNoOpenLeaf S
+  pub course-finished : Course M l fresh answer S → IsFinishedKind answer → HasNoOpenLeaf S
   course-finished (NothingOpen none kept is) kind = subst HasNoOpenLeaf (sym kept) none
   course-finished (StopsFirst some why s kept told) kind = absurd (stop-kind S why answer told kind)
   course-finished (Searches some ways first b e finds told) kind = finished-left S e.ended e.placed answer finds.left told kind
   course-finished (WantsBefore kept is) kind = absurd (subst IsFinishedKind is kind)
   course-finished (WantsWithin ways first b gives is) kind = absurd (subst IsFinishedKind is kind)
 
-  course-points : Course M l fresh answer S → SaysUnbounded answer → 0 < length S.points
+  pub course-points : Course M l fresh answer S → SaysUnbounded answer → 0 < length S.points
   course-points (NothingOpen none kept is) u = absurd (subst SaysUnbounded is u)
   course-points (StopsFirst some why s kept told) u = absurd (stop-bounded S why answer 0 told u)
   course-points (Searches some ways first b e finds told) u =
@@ -262,7 +319,7 @@ module _ (M : Program) (l : Limits) (fresh : PlainSearch) (answer : Answer) (S :
   course-points (WantsBefore kept is) u = absurd (subst SaysUnbounded is u)
   course-points (WantsWithin ways first b gives is) u = absurd (subst SaysUnbounded is u)
 
-held-so : (S : PlainSearch) (answer : Answer) (direction : Option Point) → (IsFinishedKind answer → HasNoOpenLeaf S) → (SaysUnbounded answer → (d : Point) → direction ≡ Some d → HasPointAndRay S d) → IsHeld (Some S) (held_by answer direction)
+pub held-so : (S : PlainSearch) (answer : Answer) (direction : Option Point) → (IsFinishedKind answer → HasNoOpenLeaf S) → (SaysUnbounded answer → (d : Point) → direction ≡ Some d → HasPointAndRay S d) → IsHeld (Some S) (held_by answer direction)
 held-so S (Optimal v x n) direction closed beside = closed tt
 held-so S (Infeasible n) direction closed beside = closed tt
 held-so S (Unbounded n) (Some d) closed beside = beside tt d refl

@@ -1,12 +1,14 @@
--- What is enough for a solve to go to the end.
-use Rattle.std.specs.Prelude.{ℕ, ◌<◌, ◌≤◌, ◌^◌}
+-- What is enough for a search to go to the end.
+use Rattle.std.specs.Prelude.{ℕ, ◌+◌, ◌*◌, ◌-◌, ◌<◌, ◌≤◌, ◌^◌}
 use Rattle.lp_model.specs.Program.{Program, Point}
 use Rattle.lp_model.specs.Rays.{IsRay, without_costs}
 use Rattle.lp_model.specs.declared.types.WideStep.{WideStep}
 use Rattle.basic_solution.specs.Held.{Held}
 use Rattle.dual_simplex.specs.Walks.{Moves}
 use Rattle.ray_phase.specs.Answers.{IsStart, IsWideAt}
-use Rattle.search_counting.specs.Work.{cap_of}
+use Rattle.branch_tree.specs.Tree.{node_count, split_count}
+use Rattle.tree_edit.specs.Sound.{PlainSearch}
+use Rattle.search_counting.specs.Work.{whole_points, cap_of, HasRoomFor}
 use Rattle.tree_search.specs.Room.{HasMoves, HasRoomAt, HasRoomForValues}
 use Rattle.sym_env.specs.Beginnings.{HasNoSlackBasis}
 use Rattle.sym_env.specs.declared.limits.Limits.{Limits}
@@ -35,3 +37,21 @@ pub record IsEnough (M : Program) (l : Limits) : Type 0 where
   pub ray_phase : HasNoSlackBasis M → IsRayPhaseEnough M l.pivots
   pub own : ((d : Point) → ¬ IsRay M d) → AreRelaxationsEnough M l.pivots
   pub beside : (d : Point) → IsRay M d → IsEnoughBeside M l.pivots
+
+-- the same of a search that goes on: as many results as any search of its model can place, as many nodes beside those that there are,
+-- and for each of them three ids beside those that were given and one for each split
+pub record IsKeptEnough (S : PlainSearch) (l : Limits) : Type 0 where
+  pub results : cap_of S.model ≤ l.nodes
+  pub nodes : node_count S.tree.root + cap_of S.model ≤ l.tree
+  pub ids : S.tree.last + split_count S.tree.root + 3 * cap_of S.model < 2 ^ 64
+  pub ray_phase : HasNoSlackBasis S.model → IsRayPhaseEnough S.model l.pivots
+  pub own : ((d : Point) → ¬ IsRay S.model d) → AreRelaxationsEnough S.model l.pivots
+  pub beside : (d : Point) → IsRay S.model d → IsEnoughBeside S.model l.pivots
+
+-- what both come to: the tree has room for the most splits (for the calls that go on with a search)
+pub record IsEnoughFrom (S : PlainSearch) (nodes pivots : ℕ) : Type 0 where
+  pub results : cap_of S.model ≤ nodes
+  pub room : HasRoomFor (whole_points S.model - 1) S.tree
+  pub ray_phase : HasNoSlackBasis S.model → IsRayPhaseEnough S.model pivots
+  pub own : ((d : Point) → ¬ IsRay S.model d) → AreRelaxationsEnough S.model pivots
+  pub beside : (d : Point) → IsRay S.model d → IsEnoughBeside S.model pivots

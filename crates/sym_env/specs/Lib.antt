@@ -5,3 +5,5 @@ pub mod Beginning
 pub mod Truth
 pub mod Solves
 pub mod Enough
+pub mod Warm
+pub mod Editing

@@ -1,6 +1,6 @@
 -- What `solve` does to the search, and what it answers of it.
---     Solved M l answer S          a fresh search of M became S, and this was found
---     Solves M l old answer S      so; or there was no memory for a fresh one, and old stays
+--     Solved M l answer S               a fresh search of M became S, and this was found
+--     SolvesModel M l old answer S      so; or there was no memory for a fresh one, and old stays
 use Rattle.std.specs.Prelude.{◌≡◌, ◌⊎◌, ℕ, Option, Some, None, Result, Ok, Err}
 use Rattle.lp_model.specs.Program.{Program, Point}
 use Rattle.lp_model.specs.declared.types.Basis.{Basis}
@@ -25,8 +25,8 @@ use Rattle.sym_env.specs.declared.held.Held.{Held}
 use Rattle.sym_env.specs.declared.held.Held.TheVariants as held
 use Rattle.sym_env.specs.declared.limits.Limits.{Limits}
 
--- the fresh search has no open leaf; it stays so since the ray phase stopped; it was searched, and this shows what is answered; or there
--- was no memory, before it was searched or then, and the results that were placed stay
+-- The search that it began with, a fresh one or one that is kept, has no open leaf; it stays since the ray phase stopped; it was searched,
+-- and this shows what is answered; or there was no memory, before it was searched or then, and the results that were placed stay.
 pub data Course (M : Program) (l : Limits) (fresh : PlainSearch) (answer : Answer) (S : PlainSearch) : Type 0 where
   NothingOpen : HasNoOpenLeaf fresh → S ≡ fresh → answer ≡ Infeasible 0 → Course M l fresh answer S
   StopsFirst : HasOpenLeaf fresh → (why : StopWhy) → StopsBefore M l.pivots why → S ≡ fresh → IsStoppedAnswer S why 0 answer → Course M l fresh answer S

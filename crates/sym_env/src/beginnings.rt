@@ -25,7 +25,7 @@ pub(crate) enum Beginning {
 }
 
 /// The ray phase had as many moves as the limit allows.
-fn out_of_moves(alloc: Global, basis: Basis) -> StopWhy
+pub(crate) fn out_of_moves(alloc: Global, basis: Basis) -> StopWhy
     ensures { result ≡ stop.Pivots (record { path = None; cuts = []; basis = basis }) }
 {
     StopWhy::Pivots(PivotPlace {

@@ -3,16 +3,20 @@ ghost use Rattle.std.specs.Prelude.{◌≡◌, OnOk, OnErr, IfOk, IfErr, IfSome}
 ghost use Rattle.std.specs.Option.{option_copied};
 ghost use Rattle.sym_env.specs.Env.{no_model, model_of, Holds};
 ghost use Rattle.sym_env.specs.Certificates.{IsCertAnswer};
-ghost use Rattle.sym_env.specs.Enough.{IsEnough};
+ghost use Rattle.sym_env.specs.Editing.{EditsEnv};
+ghost use Rattle.sym_env.specs.Enough.{IsEnough, IsKeptEnough};
 ghost use Rattle.sym_env.specs.Solves.{held_beside, held_by, SolvesEnv};
-ghost use Rattle.sym_env.specs.Truth.{IsTrueAnswer, HasEnded};
+ghost use Rattle.sym_env.specs.Truth.{IsTrueAnswer, IsTrueOfKept, HasEnded};
+ghost use Rattle.sym_env.specs.Warm.{WarmsEnv};
 ghost use Rattle.sym_env.specs.declared.env.EnvFault.TheVariants.{Memory};
 
 use crate::certificates::{certificate_text, unbounded_text};
 use crate::held::Held;
 use crate::limits::Limits;
 use crate::solving::{Solution, solve};
-use lp_model::{Answer, Model, Point};
+use crate::warming::warm;
+use lp_model::{Answer, Edit, Model, Point};
+use model_edits::EditFault;
 use std::alloc::{AllocError, Global};
 use std::mem;
 use thiserror::Error;
@@ -27,6 +31,9 @@ pub enum EnvFault {
     /// No answer is held.
     #[error("no answer is held")]
     NoAnswer,
+    /// The edit is refused.
+    #[error("the edit is refused")]
+    Edit(EditFault),
     /// There is no memory.
     #[error("there is no memory")]
     Memory,
@@ -140,6 +147,45 @@ impl Env {
         let old = mem::replace(&mut self.held, held);
         drop(old);
         Ok(answer)
+    }
+
+    /// Goes on with the search that is kept: open leaves are worked, and every other node stays. Where no leaf is open it answers
+    /// again what the search has shown, and where the ray phase answers a ray beside a kept point, that the objective has no end;
+    /// neither places a result. What is answered is true of the model, and is held as in `solve`. Where there is no memory no answer
+    /// is held, the results that were placed stay, and the search can go on.
+    pub fn warm_solve(&mut self, limits: &Limits) -> Result<Answer, EnvFault>
+        ensures warms { WarmsEnv self.old.search limits.now self.old result self.new }
+        ensures true_answer { IfOk result (λ answer. IfSome self.old.search (λ S. IsTrueOfKept S limits.now answer)) }
+        ensures complete { IfOk result (λ answer. IfSome self.old.search (λ S. IsKeptEnough S limits.now → HasEnded answer)) }
+    {
+        let Some(search) = &mut self.search else {
+            return Err(EnvFault::NoModel);
+        };
+        let Solution { answer, ray } = warm(self.alloc, search, limits);
+        let held = held_by(&answer, ray);
+        let former = mem::replace(&mut self.held, held);
+        drop(former);
+        Ok(answer)
+    }
+
+    /// Makes an edit of the model. The search follows it: its nodes as far as they are still of use, each leaf judged anew, and the
+    /// points that are still feasible. No answer is held from then on. After a refusal, and where there is no memory, all is as
+    /// before.
+    pub fn edit(&mut self, edit: Edit) -> Result<(), EnvFault>
+        ensures edits { EditsEnv self.old.search edit self.old result self.new }
+    {
+        let Some(search) = &mut self.search else {
+            drop(edit);
+            return Err(EnvFault::NoModel);
+        };
+        match search.edit(edit) {
+            Ok(()) => {
+                let old = mem::replace(&mut self.held, Held::Nothing);
+                drop(old);
+                Ok(())
+            }
+            Err(fault) => Err(EnvFault::Edit(fault)),
+        }
     }
 
     /// The text of the certificate of the answer that is held.

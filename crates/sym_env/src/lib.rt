@@ -12,10 +12,14 @@
 //! Then leaves are worked until none is open, or the search stops (`tree_search`). Beside a ray one feasible point is enough:
 //! the objective has no end.
 //!
+//! `warm_solve` goes on from the tree and the points that are kept, after an edit or a stop: every node but open leaves stays.
+//! Where no leaf is open, and where a ray stands beside a kept point, it places nothing.
+//!
 //! Public contract: each answer is true of the model (`IsTrueAnswer` in specs/Truth), with what was done to find it (`SolvesModel`
-//! in specs/Solves); with enough of all (`IsEnough` in specs/Enough) a solve goes to its end. `cert` writes the certificate of
-//! the answer that is held, which is accepted for the model. The calls are those of the SYMPHONY manual's `sym_environment`
-//! in purpose. Below stand the search, the ray phase and the certificates (`tree_cert`); above, the shell.
+//! in specs/Solves, `WarmsIn` in specs/Warm); with enough of all (`IsEnough`, `IsKeptEnough` in specs/Enough) a search goes to its
+//! end. `edit` makes an edit of the model, which the search follows, or tells its first fault (`EditsEnv` in specs/Editing). `cert`
+//! writes the certificate of the answer that is held, which is accepted for the model. The calls are those of the SYMPHONY manual's
+//! `sym_environment` in purpose. Below stand the search, the ray phase and the certificates (`tree_cert`); above, the shell.
 #![tactic(auto)]
 
 mod beginnings;
@@ -24,6 +28,7 @@ mod env;
 mod held;
 mod limits;
 mod solving;
+mod warming;
 
 pub use env::{Env, EnvFault};
 pub use held::Held;

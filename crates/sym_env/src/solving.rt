@@ -1,25 +1,26 @@
-// A solve: a fresh search, from its beginning to what it shows.
-ghost use Rattle.std.specs.Prelude.{◌≡◌};
+// A search from its beginning to what it shows: from a fresh root, or from the tree and the points that are kept.
+ghost use Rattle.std.specs.Prelude.{◌≡◌, ◌<◌, length, []};
 ghost use Rattle.lp_model.specs.Lawful.{IsLawful};
 ghost use Rattle.tree_edit.specs.Calls.{IsFresh};
 ghost use Rattle.tree_search.specs.Steps.{HasOpenLeaf, IsWayFor, IsFirstFor, IsRayWay};
 ghost use Rattle.tree_search.specs.declared.searching.Ways.TheVariants.{Own};
 ghost use Rattle.sym_env.specs.Beginnings.{BeginsWith, BeginsBeside};
-ghost use Rattle.sym_env.specs.Enough.{IsEnough};
+ghost use Rattle.sym_env.specs.Enough.{IsEnough, IsEnoughFrom};
 ghost use Rattle.sym_env.specs.Solves.{Solved, SolvesModel, SaysUnbounded, HasRayFor};
 ghost use Rattle.sym_env.specs.Truth.{IsTrueAnswer, HasEnded};
+ghost use Rattle.sym_env.specs.Warm.{Went};
 
 use crate::beginnings::{Beginning, find_beginning};
 use crate::limits::Limits;
 use lp_model::{Answer, Basis, Model, Point};
 use node_solve::first_in_law;
 use ray_phase::{first_law, no_ray_law};
-use search_counting::{cap_law, left_law, too_few_nodes_law};
+use search_counting::{cap_law, left_law, roomy_law, too_few_nodes_law};
 use std::alloc::{AllocError, Global};
 use tree_edit::{Search, empty_law};
-use tree_search::{Ways, answer_of, enough_law, search_on, stop_bound_law, stopped};
+use tree_search::{Ways, answer_of, search_on, stop_bound_law, stopped};
 
-/// What a solve shows, and the ray beside which it searched, if it did.
+/// What a search shows, and the ray beside which it was made, if there is one.
 #[derive(Drop)]
 pub(crate) struct Solution {
     pub(crate) answer: Answer,
@@ -34,17 +35,15 @@ fn search_with(
     first: &Basis,
     limits: &Limits,
 ) -> Answer
-    requires fresh { IsFresh search.old.model limits.now.tree search.old }
     requires some { HasOpenLeaf search.old }
     requires begins { BeginsWith search.old.model limits.now.pivots ways.now first.now }
     requires ways { IsWayFor search.old ways.now }
     requires first { IsFirstFor ways.now search.old first.now }
-    ensures solved { Solved search.old.model limits.now result search.new }
+    ensures went { Went limits.now search.old result search.new }
     ensures beside { SaysUnbounded result → IsRayWay ways.now }
-    ensures complete { IsEnough search.old.model limits.now → HasEnded result }
+    ensures complete { IsEnoughFrom search.old limits.now.nodes limits.now.pivots → HasEnded result }
 {
     let _sound = search.points();
-    enough_law();
     no_ray_law();
     match search_on(alloc, search, ways, first, limits.nodes, limits.pivots) {
         Err(AllocError) => Answer::Memory,
@@ -53,13 +52,17 @@ fn search_with(
 }
 
 /// Searches with the model's own relaxations.
-fn search_own(alloc: Global, search: &mut Search, first: &Basis, limits: &Limits) -> Answer
-    requires fresh { IsFresh search.old.model limits.now.tree search.old }
+pub(crate) fn search_own(
+    alloc: Global,
+    search: &mut Search,
+    first: &Basis,
+    limits: &Limits,
+) -> Answer
     requires some { HasOpenLeaf search.old }
     requires begins { BeginsWith search.old.model limits.now.pivots Own first.now }
-    ensures solved { Solved search.old.model limits.now result search.new }
+    ensures went { Went limits.now search.old result search.new }
     ensures bounded { ¬ SaysUnbounded result }
-    ensures complete { IsEnough search.old.model limits.now → HasEnded result }
+    ensures complete { IsEnoughFrom search.old limits.now.nodes limits.now.pivots → HasEnded result }
 {
     first_law();
     first_in_law();
@@ -75,11 +78,11 @@ fn search_beside_ray(
     first: &Basis,
     limits: &Limits,
 ) -> Answer
-    requires fresh { IsFresh search.old.model limits.now.tree search.old }
     requires some { HasOpenLeaf search.old }
+    requires none { search.old.points ≡ [] }
     requires begins { BeginsBeside search.old.model limits.now.pivots costless.now first.now }
-    ensures solved { Solved search.old.model limits.now result search.new }
-    ensures complete { IsEnough search.old.model limits.now → HasEnded result }
+    ensures went { Went limits.now search.old result search.new }
+    ensures complete { IsEnoughFrom search.old limits.now.nodes limits.now.pivots → HasEnded result }
 {
     first_law();
     first_in_law();
@@ -87,13 +90,13 @@ fn search_beside_ray(
     search_with(alloc, search, &Ways::Rays(costless), first, limits)
 }
 
-/// Solves a search with an open leaf.
-fn solve_open(alloc: Global, search: &mut Search, limits: &Limits) -> Solution
-    requires fresh { IsFresh search.old.model limits.now.tree search.old }
+/// Goes on with a search that has an open leaf and keeps no point.
+pub(crate) fn search_without_point(alloc: Global, search: &mut Search, limits: &Limits) -> Solution
     requires some { HasOpenLeaf search.old }
-    ensures solved { Solved search.old.model limits.now result.answer search.new }
+    requires none { search.old.points ≡ [] }
+    ensures went { Went limits.now search.old result.answer search.new }
     ensures ray { HasRayFor search.old.model limits.now.pivots result.answer result.ray }
-    ensures complete { IsEnough search.old.model limits.now → HasEnded result.answer }
+    ensures complete { IsEnoughFrom search.old limits.now.nodes limits.now.pivots → HasEnded result.answer }
 {
     let _sound = search.points();
     match find_beginning(alloc, search.model(), limits.pivots) {
@@ -128,12 +131,13 @@ fn solve_fresh(alloc: Global, search: &mut Search, limits: &Limits) -> Solution
 {
     let _sound = search.points();
     let _numbered = search.tree().nodes();
+    roomy_law();
     match search.next_leaf() {
         None => Solution {
             answer: Answer::Infeasible { placed: 0 },
             ray: None,
         },
-        Some(_) => solve_open(alloc, search, limits),
+        Some(_) => search_without_point(alloc, search, limits),
     }
 }
 

@@ -1,32 +1,43 @@
 -- Each reply has its exact cause.
-use Rattle.std.proofs.Common.{◌≡◌, ◌≢◌, ◌⊎◌, ℕ, ◌≤◌, List, [], ◌++◌, refl, sym, subst, ap, inl, inr, arith, ◌∙◌, Option, Some, None, Err}
+use Rattle.std.proofs.Common.{◌≡◌, ◌≢◌, ℕ, List, [], ◌++◌, refl, sym, subst, ap, inl, inr, ◌∙◌, Option, Some, None, Err}
 use Rattle.std.specs.Prelude.{codes, decimal, IsSome}
 use Rattle.std.specs.Option.{option_map}
 use Rattle.rational.specs.Rational.{ℚ}
 use Rattle.frac128.specs.Printing.{printed}
 use Rattle.lp_model.specs.Program.{Program, value}
 use Rattle.lp_model.specs.declared.answers.Answer.{Answer}
+use Rattle.lp_model.specs.declared.answers.Answer.TheVariants.{Memory}
+use Rattle.lp_model.specs.declared.types.Edit.{Edit as ModelEdit}
+use Rattle.model_edits.specs.Faults.{EditBad}
+use Rattle.model_edits.specs.declared.faults.EditFault.{EditFault}
+use Rattle.model_edits.specs.declared.faults.EditFault.TheVariants as edit_fault
 use Rattle.tree_edit.specs.Sound.{PlainSearch}
-use Rattle.sym_env.specs.Enough.{IsEnough}
-use Rattle.sym_env.specs.Env.{PlainEnv, model_of}
-use Rattle.sym_env.specs.Solves.{SolvesModel}
+use Rattle.sym_env.specs.Enough.{IsEnough, IsKeptEnough}
+use Rattle.sym_env.specs.Env.{model_of}
+use Rattle.sym_env.specs.Solves.{Solved, SolvesModel}
 use Rattle.sym_env.specs.declared.held.Held.{Held}
 use Rattle.sym_env.specs.declared.held.Held.TheVariants.{Nothing, Finished}
 use Rattle.sym_env.specs.declared.held.Held.TheVariants.{Unbounded as Beside}
 use Rattle.sym_env.specs.declared.limits.Limits.{Limits}
-use Rattle.command_words.specs.Asks.{Asks, Load, Solve, Cert, Write, Quit, Unknown, Misused, NoNumber, asks_of}
+use Rattle.command_words.specs.Asks.{Asks, Load, Solve, Warm, Edit, Cert, Write, Quit, Unknown, Misused, NoNumber, asks_of}
+use Rattle.edit_words.specs.EditWords.{EditAsks, Edits, edit_asks}
+use Rattle.edit_words.specs.EditWords as says
 use Rattle.reply_texts.specs.Places.{block_text, step_line}
 use Rattle.reply_texts.specs.Texts.{ok_text, memory_text, column_lines, known_text}
 use Rattle.sym_shell.specs.State.{ShellState}
 use Rattle.sym_shell.specs.Load.{LoadStep, ReadsFile, refusal_text}
-use Rattle.sym_shell.specs.Solve.{limits_of, Tells, ShowsOptimum, ShowsEmptiness, ShowsNoEnd, AnswersSolve, Optimum, Emptiness, NoEnd, NodeStop, TreeStop, PivotStop, WideStop, Wanting, Wants, RepliesToSolve, SolveStep}
+use Rattle.sym_shell.specs.Showing.{Finding, TellsBy, ShowsOptimumBy, ShowsEmptinessBy, ShowsNoEndBy, ShowsNodeStopBy, ShowsTreeStopBy, ShowsPivotStopBy, ShowsWideStopBy, AnswersBy, Optimum, Emptiness, NoEnd, NodeStop, TreeStop, PivotStop, WideStop, Wanting, EndsBy}
+use Rattle.sym_shell.specs.Solve.{limits_of, HasFewNodes, RepliesToSolve, SolveStep}
+use Rattle.sym_shell.specs.Warming.{WentOn, IsTooSmall, RepliesToWarm, WarmStep}
+use Rattle.sym_shell.specs.Editing.{edit_fault_text, AnswersEdit, RepliesToEdit, RepliesToWords, EditStep}
+use Rattle.sym_shell.specs.Editing as editing
 use Rattle.sym_shell.specs.Shown.{point_shown}
 use Rattle.sym_shell.specs.Certify.{IsHeldText, Writes, Written, TooLong, Failed, Certifies, CertStep}
 use Rattle.sym_shell.specs.Certify as certify
 use Rattle.sym_shell.specs.Writing.{IsWrittenModel, WritesModel, WriteStep}
 use Rattle.sym_shell.specs.Step.{AnswersTo, Step}
-use Rattle.sym_shell.specs.Kinds.{Kind, Optimal, Infeasible, Unbounded, StoppedNodes, StoppedTree, StoppedPivots, StoppedWide, Done, UnknownCommand, WrongArguments, NoModel, WrongNumber, NoAnswer, StoreFailed, FileTooLong, FaultyText, WantsMemory, Is, IsError}
-use Rattle.sym_shell.specs.Causes.{NeedsModel, CauseOf, HasCauses}
+use Rattle.sym_shell.specs.Kinds.{Kind, Optimal, Infeasible, Unbounded, StoppedNodes, StoppedTree, StoppedPivots, StoppedWide, Done, UnknownCommand, WrongArguments, NoModel, UnknownName, TakenName, WrongNumber, OverLimit, NoBounds, BadSides, NoAnswer, StoreFailed, FileTooLong, FaultyText, WantsMemory, Is, IsError}
+use Rattle.sym_shell.specs.Causes.{OfSearch, Searched, SaysEdit, NeedsModel, CauseOf, HasCauses}
 use Rattle.sym_shell.specs.declared.reading.Refusal.{Refusal}
 use Rattle.sym_shell.specs.declared.reading.Refusal.TheVariants as refusal
 use Rattle.sym_shell.proofs.KindLemmas.{one_kind}
@@ -64,65 +75,115 @@ module _ (old : ShellState) (words : List (List ℕ)) (reply : List ℕ) (new : 
       by refusal.Memory told cause = wants told
 
   -- the bytes of an answer's reply are of its kind
-  shown_kind : (S : PlainSearch) (l : Limits) → AnswersSolve S l reply new.env → (k : Kind) × (Is k reply × ¬ IsError k)
-  shown_kind S l (Optimum s) = (Optimal, ((value_tail (value S.model 1 (point_shown S.model reply)) s.placed ++ column_lines S.model.cols (point_shown S.model reply) ++ codes "end\n", s.told.shown), λ e. e))
-  shown_kind S l (Emptiness s) = (Infeasible, ((codes "nodes " ++ decimal s.placed ++ codes "\n", s.told.shown), λ e. e))
-  shown_kind S l (NoEnd s) = (Unbounded, ((codes "nodes " ++ decimal s.placed ++ codes "\n", s.told.shown), λ e. e))
-  shown_kind S l (NodeStop s) = (StoppedNodes, ((known_text l.nodes s.bound s.best, s.told.shown), λ e. e))
-  shown_kind S l (TreeStop s) = (StoppedTree, ((known_text s.placed s.stop.bound s.stop.best, s.stop.told.shown), λ e. e))
-  shown_kind S l (PivotStop s) = (StoppedPivots, ((known_text s.placed s.stop.bound s.stop.best ++ block_text S.model s.place.path s.place.cuts s.place.basis ++ codes "end\n", s.stop.told.shown), λ e. e))
-  shown_kind S l (WideStop s) =
-      (StoppedWide, ((known_text s.placed s.stop.bound s.stop.best ++ block_text S.model s.place.path s.place.cuts s.place.basis ++ step_line S.model s.place.step ++ codes "end\n", s.stop.told.shown), λ e. e))
-  shown_kind S l (Wanting s) = (WantsMemory, ((codes "memory\n", s.told), λ e. e))
+  shown_kind : (Found : Finding) (Left : PlainSearch → Type 0) (Enough Small : Type 0) (M : Program) (l : Limits) → AnswersBy Found Left Enough Small M l reply new.env → (k : Kind) × (Is k reply × ¬ IsError k)
+  shown_kind Found Left Enough Small M l (Optimum s) = (Optimal, ((value_tail (value M 1 (point_shown M reply)) s.placed ++ column_lines M.cols (point_shown M reply) ++ codes "end\n", s.told.shown), λ e. e))
+  shown_kind Found Left Enough Small M l (Emptiness s) = (Infeasible, ((codes "nodes " ++ decimal s.placed ++ codes "\n", s.told.shown), λ e. e))
+  shown_kind Found Left Enough Small M l (NoEnd s) = (Unbounded, ((codes "nodes " ++ decimal s.placed ++ codes "\n", s.told.shown), λ e. e))
+  shown_kind Found Left Enough Small M l (NodeStop s) = (StoppedNodes, ((known_text l.nodes s.bound s.best, s.told.shown), λ e. e))
+  shown_kind Found Left Enough Small M l (TreeStop s) = (StoppedTree, ((known_text s.placed s.stop.bound s.stop.best, s.stop.told.shown), λ e. e))
+  shown_kind Found Left Enough Small M l (PivotStop s) = (StoppedPivots, ((known_text s.placed s.stop.bound s.stop.best ++ block_text M s.place.path s.place.cuts s.place.basis ++ codes "end\n", s.stop.told.shown), λ e. e))
+  shown_kind Found Left Enough Small M l (WideStop s) =
+      (StoppedWide, ((known_text s.placed s.stop.bound s.stop.best ++ block_text M s.place.path s.place.cuts s.place.basis ++ step_line M s.place.step ++ codes "end\n", s.stop.told.shown), λ e. e))
+  shown_kind Found Left Enough Small M l (Wanting s) = (WantsMemory, ((codes "memory\n", s.told), λ e. e))
 
-  shows_cause : (nodes pivots : ℕ) (S : PlainSearch) → asks_of words ≡ Solve nodes pivots → old.env.search ≡ Some S → AnswersSolve S (limits_of nodes pivots) reply new.env → HasCause old words reply new
+  -- what a search shows has its cause, by the command that asked for it
+  shows_cause : (Found : Finding) (Left : PlainSearch → Type 0) (Enough Small : Type 0) (M : Program) (l : Limits) → ((P : OfSearch) → P Found Enough Small M l → Searched old words P) → AnswersBy Found Left Enough Small M l reply new.env → HasCause old words reply new
   unfolding shown_kind
-  shows_cause nodes pivots S asked present (Optimum s) = record {
-    kind = Optimal;
-    is = (shown_kind S (limits_of nodes pivots) (Optimum s)).1.0;
-    cause = record { nodes = nodes; pivots = pivots; search = S; asked = asked; present = present; is = s };
-  }
-  shows_cause nodes pivots S asked present (Emptiness s) = record {
-    kind = Infeasible;
-    is = (shown_kind S (limits_of nodes pivots) (Emptiness s)).1.0;
-    cause = record { nodes = nodes; pivots = pivots; search = S; asked = asked; present = present; is = s };
-  }
-  shows_cause nodes pivots S asked present (NoEnd s) = record {
-    kind = Unbounded;
-    is = (shown_kind S (limits_of nodes pivots) (NoEnd s)).1.0;
-    cause = record { nodes = nodes; pivots = pivots; search = S; asked = asked; present = present; is = s };
-  }
-  shows_cause nodes pivots S asked present (NodeStop s) = record {
-    kind = StoppedNodes;
-    is = (shown_kind S (limits_of nodes pivots) (NodeStop s)).1.0;
-    cause = record { nodes = nodes; pivots = pivots; search = S; asked = asked; present = present; is = s };
-  }
-  shows_cause nodes pivots S asked present (TreeStop s) = record {
-    kind = StoppedTree;
-    is = (shown_kind S (limits_of nodes pivots) (TreeStop s)).1.0;
-    cause = record { nodes = nodes; pivots = pivots; search = S; asked = asked; present = present; is = s };
-  }
-  shows_cause nodes pivots S asked present (PivotStop s) = record {
-    kind = StoppedPivots;
-    is = (shown_kind S (limits_of nodes pivots) (PivotStop s)).1.0;
-    cause = record { nodes = nodes; pivots = pivots; search = S; asked = asked; present = present; is = s };
-  }
-  shows_cause nodes pivots S asked present (WideStop s) = record {
-    kind = StoppedWide;
-    is = (shown_kind S (limits_of nodes pivots) (WideStop s)).1.0;
-    cause = record { nodes = nodes; pivots = pivots; search = S; asked = asked; present = present; is = s };
-  }
-  shows_cause nodes pivots S asked present (Wanting s) = wants s.told
+  shows_cause Found Left Enough Small M l asked (Optimum s) = record { kind = Optimal; is = (shown_kind Found Left Enough Small M l (Optimum s)).1.0; cause = asked (λ F E T N k. ShowsOptimumBy F N k reply new.env) s }
+  shows_cause Found Left Enough Small M l asked (Emptiness s) = record { kind = Infeasible; is = (shown_kind Found Left Enough Small M l (Emptiness s)).1.0; cause = asked (λ F E T N k. ShowsEmptinessBy F N k reply new.env) s }
+  shows_cause Found Left Enough Small M l asked (NoEnd s) = record { kind = Unbounded; is = (shown_kind Found Left Enough Small M l (NoEnd s)).1.0; cause = asked (λ F E T N k. ShowsNoEndBy F N k reply new.env) s }
+  shows_cause Found Left Enough Small M l asked (NodeStop s) = record { kind = StoppedNodes; is = (shown_kind Found Left Enough Small M l (NodeStop s)).1.0; cause = asked (λ F E T N k. ShowsNodeStopBy F E N k reply new.env) s }
+  shows_cause Found Left Enough Small M l asked (TreeStop s) = record { kind = StoppedTree; is = (shown_kind Found Left Enough Small M l (TreeStop s)).1.0; cause = asked (λ F E T N k. ShowsTreeStopBy F E T N k reply new.env) s }
+  shows_cause Found Left Enough Small M l asked (PivotStop s) = record { kind = StoppedPivots; is = (shown_kind Found Left Enough Small M l (PivotStop s)).1.0; cause = asked (λ F E T N k. ShowsPivotStopBy F E N k reply new.env) s }
+  shows_cause Found Left Enough Small M l asked (WideStop s) = record { kind = StoppedWide; is = (shown_kind Found Left Enough Small M l (WideStop s)).1.0; cause = asked (λ F E T N k. ShowsWideStopBy F E N k reply new.env) s }
+  shows_cause Found Left Enough Small M l asked (Wanting s) = wants s.told
 
   solve_cause : (nodes pivots : ℕ) → asks_of words ≡ Solve nodes pivots → SolveStep old (limits_of nodes pivots) reply new → HasCause old words reply new
   solve_cause nodes pivots asked h = by old.env.search refl h.answer
     where
       by : (search : Option PlainSearch) → old.env.search ≡ search → RepliesToSolve old.env search (limits_of nodes pivots) reply new.env → HasCause old words reply new
-      by (Some S) present s = shows_cause nodes pivots S asked present s
+      by (Some S) present s =
+          shows_cause (Solved S.model (limits_of nodes pivots)) (SolvesModel S.model (limits_of nodes pivots) S Memory) (IsEnough S.model (limits_of nodes pivots)) (HasFewNodes S.model (limits_of nodes pivots)) S.model (limits_of nodes pivots)
+          (λ P is. inl (record { nodes = nodes; pivots = pivots; search = S; asked = asked; present = present; is = is })) s
       by None none s = elim s.0 [
         | inl e ↦ record { kind = NoModel; is = (codes "no model\n", e); cause = (subst NeedsModel (sym asked) tt, e, none) }
         | inr e ↦ wants e
       ]
+
+  warm_cause : (nodes pivots : ℕ) → asks_of words ≡ Warm nodes pivots → WarmStep old (limits_of nodes pivots) reply new → HasCause old words reply new
+  warm_cause nodes pivots asked h = by old.env.search refl h.answer
+    where
+      by : (search : Option PlainSearch) → old.env.search ≡ search → RepliesToWarm old.env search (limits_of nodes pivots) reply new.env → HasCause old words reply new
+      by (Some S) present s =
+          shows_cause (WentOn S (limits_of nodes pivots)) (WentOn S (limits_of nodes pivots) Memory) (IsKeptEnough S (limits_of nodes pivots)) (IsTooSmall S (limits_of nodes pivots)) S.model (limits_of nodes pivots)
+          (λ P is. inr (record { nodes = nodes; pivots = pivots; search = S; asked = asked; present = present; is = is })) s.0
+      by None none s = elim s.0 [
+        | inl e ↦ record { kind = NoModel; is = (codes "no model\n", e); cause = (subst NeedsModel (sym asked) tt, e, none) }
+        | inr e ↦ wants e
+      ]
+
+  -- ---- an edit
+
+  faulty_cause : (behind : List (List ℕ)) (e : ModelEdit) (S : PlainSearch) → asks_of words ≡ Edit behind → edit_asks behind ≡ Edits e → old.env.search ≡ Some S → (f : EditFault) → EditBad S.model e f → reply ≡ edit_fault_text f → HasCause old words reply new
+  faulty_cause behind e S asked reads present (edit_fault.NoSuch name) bad told = record {
+    kind = UnknownName;
+    is = (codes "unknown " ++ name ++ codes "\n", told);
+    cause = (name, record { behind = behind; edit = e; search = S; asked = asked; reads = reads; present = present; is = (bad, told) });
+  }
+  faulty_cause behind e S asked reads present (edit_fault.Duplicate name) bad told = record {
+    kind = TakenName;
+    is = (codes "taken " ++ name ++ codes "\n", told);
+    cause = (name, record { behind = behind; edit = e; search = S; asked = asked; reads = reads; present = present; is = (bad, told) });
+  }
+  faulty_cause behind e S asked reads present (edit_fault.Limit n) bad told = record {
+    kind = OverLimit;
+    is = (codes "limit " ++ decimal n ++ codes "\n", told);
+    cause = (n, record { behind = behind; edit = e; search = S; asked = asked; reads = reads; present = present; is = (bad, told) });
+  }
+  faulty_cause behind e S asked reads present (edit_fault.IntegerUnbounded name) bad told = record {
+    kind = NoBounds;
+    is = (codes "bounds " ++ name ++ codes "\n", told);
+    cause = (name, record { behind = behind; edit = e; search = S; asked = asked; reads = reads; present = present; is = (bad, told) });
+  }
+  faulty_cause behind e S asked reads present (edit_fault.Ranged name) bad told = record {
+    kind = BadSides;
+    is = (codes "sides " ++ name ++ codes "\n", told);
+    cause = (name, record { behind = behind; edit = e; search = S; asked = asked; reads = reads; present = present; is = (bad, told) });
+  }
+  faulty_cause behind e S asked reads present edit_fault.Memory bad told = wants told
+
+  edited_cause : (behind : List (List ℕ)) (e : ModelEdit) → asks_of words ≡ Edit behind → edit_asks behind ≡ Edits e → RepliesToEdit old.env.search e old.env reply new.env → HasCause old words reply new
+  edited_cause behind e asked reads h = by old.env.search refl h
+    where
+      shown : (S : PlainSearch) → old.env.search ≡ Some S → AnswersEdit S e old.env reply new.env → HasCause old words reply new
+      shown S present (editing.Edited told edits) = record {
+        kind = Done;
+        is = ([], told);
+        cause = inr (inr (inr (inl (record { behind = behind; edit = e; search = S; asked = asked; reads = reads; present = present; is = edits }))));
+      }
+      shown S present (editing.Faulty f bad told kept) = faulty_cause behind e S asked reads present f bad told
+      shown S present (editing.Wanting told kept) = wants told
+
+      needs : NeedsModel (asks_of words)
+      needs = subst NeedsModel (sym asked) (subst SaysEdit (sym reads) tt)
+
+      by : (search : Option PlainSearch) → old.env.search ≡ search → RepliesToEdit search e old.env reply new.env → HasCause old words reply new
+      by None none h = elim h.answer [
+        | inl told ↦ record { kind = NoModel; is = (codes "no model\n", told); cause = (needs, told, none) }
+        | inr told ↦ wants told
+      ]
+      by (Some S) present h = shown S present h
+
+  words_cause : (behind : List (List ℕ)) → asks_of words ≡ Edit behind → (asks : EditAsks) → edit_asks behind ≡ asks → RepliesToWords asks old.env reply new.env → HasCause old words reply new
+  words_cause behind asked (Edits e) reads h = edited_cause behind e asked reads h
+  words_cause behind asked says.Misused reads h = elim h.answer [
+    | inl told ↦ record { kind = WrongArguments; is = (codes "arguments\n", told); cause = inr (record { behind = behind; asks = asked; reads = reads; told = told }) }
+    | inr told ↦ wants told
+  ]
+  words_cause behind asked (says.NoNumber word) reads h = elim h.answer [
+    | inl told ↦ record { kind = WrongNumber; is = (codes "number " ++ word ++ codes "\n", told); cause = (word, inr (record { behind = behind; asks = asked; reads = reads; told = told })) }
+    | inr told ↦ wants told
+  ]
 
   writes_cause : (file : List ℕ) (S : PlainSearch) (held : Held) → asks_of words ≡ Cert file → old.env.search ≡ Some S → old.env.held ≡ held → old.env.held ≢ Nothing → Writes (IsHeldText S held) file old.files old.faults reply new.files new.faults → HasCause old words reply new
   writes_cause file S held asked present same some (Written text is short sets told) = record {
@@ -193,63 +254,99 @@ module _ (old : ShellState) (words : List (List ℕ)) (reply : List ℕ) (new : 
   asked_cause : (a : Asks) → asks_of words ≡ a → AnswersTo a old reply new → HasCause old words reply new
   asked_cause (Load file intupper) asked h = load_cause file intupper asked h
   asked_cause (Solve nodes pivots) asked h = solve_cause nodes pivots asked h
+  asked_cause (Warm nodes pivots) asked h = warm_cause nodes pivots asked h
+  asked_cause (Edit behind) asked h = words_cause behind asked (edit_asks behind) refl h.answer
   asked_cause (Cert file) asked h = cert_cause file asked h
   asked_cause (Write file) asked h = write_cause file asked h
-  asked_cause Quit asked h = record { kind = Done; is = ([], h.answer); cause = inr (inr (inr (asked, h.unchanged))) }
+  asked_cause Quit asked h = record { kind = Done; is = ([], h.answer); cause = inr (inr (inr (inr (asked, h.unchanged)))) }
   asked_cause (Unknown word) asked h = elim h.answer [
     | inl e ↦ record { kind = UnknownCommand; is = (codes "unknown command " ++ word ++ codes "\n", e); cause = (word, record { asks = asked; told = e }) }
     | inr e ↦ wants e
   ]
   asked_cause Misused asked h = elim h.answer [
-    | inl e ↦ record { kind = WrongArguments; is = (codes "arguments\n", e); cause = record { asks = asked; told = e } }
+    | inl e ↦ record { kind = WrongArguments; is = (codes "arguments\n", e); cause = inl (record { asks = asked; told = e }) }
     | inr e ↦ wants e
   ]
   asked_cause (NoNumber word) asked h = elim h.answer [
-    | inl e ↦ record { kind = WrongNumber; is = (codes "number " ++ word ++ codes "\n", e); cause = (word, record { asks = asked; told = e }) }
+    | inl e ↦ record { kind = WrongNumber; is = (codes "number " ++ word ++ codes "\n", e); cause = (word, inl (record { asks = asked; told = e })) }
     | inr e ↦ wants e
   ]
 
-  -- a solve with enough of all ends with an answer
-  abbrev Ends : Program → Limits → Type 0
-  Ends M l = ShowsOptimum M l reply new.env ⊎ ShowsEmptiness M l reply new.env ⊎ ShowsNoEnd M l reply new.env ⊎ (reply ≡ memory_text)
+  -- a search with enough of all ends with an answer
+  finishes : (Found : Finding) (Left : PlainSearch → Type 0) (Enough Small : Type 0) (M : Program) (l : Limits) → Enough → AnswersBy Found Left Enough Small M l reply new.env → EndsBy Found M l reply new.env
+  finishes Found Left Enough Small M l enough (Optimum s) = inl s
+  finishes Found Left Enough Small M l enough (Emptiness s) = inr (inl s)
+  finishes Found Left Enough Small M l enough (NoEnd s) = inr (inr (inl s))
+  finishes Found Left Enough Small M l enough (NodeStop s) = absurd (s.short enough)
+  finishes Found Left Enough Small M l enough (TreeStop s) = absurd (s.stop.short enough)
+  finishes Found Left Enough Small M l enough (PivotStop s) = absurd (s.stop.short enough)
+  finishes Found Left Enough Small M l enough (WideStop s) = absurd (s.stop.short enough)
+  finishes Found Left Enough Small M l enough (Wanting s) = inr (inr (inr s.told))
 
-  finishes : (S : PlainSearch) (l : Limits) → IsEnough S.model l → AnswersSolve S l reply new.env → Ends S.model l
-  finishes S l enough (Optimum s) = inl s
-  finishes S l enough (Emptiness s) = inr (inl s)
-  finishes S l enough (NoEnd s) = inr (inr (inl s))
-  finishes S l enough (NodeStop s) = absurd (s.short enough)
-  finishes S l enough (TreeStop s) = absurd (s.stop.short enough)
-  finishes S l enough (PivotStop s) = absurd (s.stop.short enough)
-  finishes S l enough (WideStop s) = absurd (s.stop.short enough)
-  finishes S l enough (Wanting s) = inr (inr (inr s.told))
-
-  completes : (S : PlainSearch) (nodes pivots : ℕ) → AnswersTo (asks_of words) old reply new → asks_of words ≡ Solve nodes pivots → old.env.search ≡ Some S → IsEnough S.model (limits_of nodes pivots) → Ends S.model (limits_of nodes pivots)
+  completes : (S : PlainSearch) (nodes pivots : ℕ) → AnswersTo (asks_of words) old reply new → asks_of words ≡ Solve nodes pivots → old.env.search ≡ Some S → IsEnough S.model (limits_of nodes pivots)
+      → EndsBy (Solved S.model (limits_of nodes pivots)) S.model (limits_of nodes pivots) reply new.env
   completes S nodes pivots h asked present enough =
-      let step : SolveStep old (limits_of nodes pivots) reply new = subst (λ a. AnswersTo a old reply new) asked h in
-      finishes S (limits_of nodes pivots) enough (subst (λ m. RepliesToSolve old.env m (limits_of nodes pivots) reply new.env) present step.answer)
+      let l : Limits = limits_of nodes pivots in
+      let step : SolveStep old l reply new = subst (λ a. AnswersTo a old reply new) asked h in
+      finishes (Solved S.model l) (SolvesModel S.model l S Memory) (IsEnough S.model l) (HasFewNodes S.model l) S.model l enough (subst (λ m. RepliesToSolve old.env m l reply new.env) present step.answer)
+
+  warmed : (S : PlainSearch) (nodes pivots : ℕ) → AnswersTo (asks_of words) old reply new → asks_of words ≡ Warm nodes pivots → old.env.search ≡ Some S → RepliesToWarm old.env (Some S) (limits_of nodes pivots) reply new.env
+  warmed S nodes pivots h asked present =
+      let l : Limits = limits_of nodes pivots in
+      let step : WarmStep old l reply new = subst (λ a. AnswersTo a old reply new) asked h in
+      subst (λ m. RepliesToWarm old.env m l reply new.env) present step.answer
+
+  completes_warm : (S : PlainSearch) (nodes pivots : ℕ) → AnswersTo (asks_of words) old reply new → asks_of words ≡ Warm nodes pivots → old.env.search ≡ Some S → IsKeptEnough S (limits_of nodes pivots)
+      → EndsBy (WentOn S (limits_of nodes pivots)) S.model (limits_of nodes pivots) reply new.env
+  completes_warm S nodes pivots h asked present enough =
+      let l : Limits = limits_of nodes pivots in
+      finishes (WentOn S l) (WentOn S l Memory) (IsKeptEnough S l) (IsTooSmall S l) S.model l enough (warmed S nodes pivots h asked present).0
 
   -- ---- what stays
 
-  told_model : (S : PlainSearch) (l : Limits) (answer : Answer) (held : Held) → Tells S.model l answer held reply new.env → model_of new.env ≡ Some S.model
-  told_model S l answer held t = ap model_of t.env_is ∙ ap Some t.solved.model
+  told_model : (Found : Finding) (M : Program) → ((a : Answer) (T : PlainSearch) → Found a T → T.model ≡ M) → (answer : Answer) (held : Held) → TellsBy Found M answer held reply new.env → model_of new.env ≡ Some M
+  told_model Found M same answer held t = ap model_of t.env_is ∙ ap Some (same answer t.search t.solved)
 
-  solved_model : (S : PlainSearch) (l : Limits) → AnswersSolve S l reply new.env → model_of new.env ≡ Some S.model
-  solved_model S l (Optimum s) = told_model S l _ _ s.told
-  solved_model S l (Emptiness s) = told_model S l _ _ s.told
-  solved_model S l (NoEnd s) = told_model S l _ _ s.told
-  solved_model S l (NodeStop s) = told_model S l _ _ s.told
-  solved_model S l (TreeStop s) = told_model S l _ _ s.stop.told
-  solved_model S l (PivotStop s) = told_model S l _ _ s.stop.told
-  solved_model S l (WideStop s) = told_model S l _ _ s.stop.told
-  solved_model S l (Wanting s) = ap model_of s.env_is ∙ ap Some (solves-model l S _ s.search s.solves)
+  shown_model : (Found : Finding) (Left : PlainSearch → Type 0) (Enough Small : Type 0) (M : Program) (l : Limits) → ((a : Answer) (T : PlainSearch) → Found a T → T.model ≡ M) → ((T : PlainSearch) → Left T → T.model ≡ M)
+      → AnswersBy Found Left Enough Small M l reply new.env → model_of new.env ≡ Some M
+  shown_model Found Left Enough Small M l same kept (Optimum s) = told_model Found M same _ _ s.told
+  shown_model Found Left Enough Small M l same kept (Emptiness s) = told_model Found M same _ _ s.told
+  shown_model Found Left Enough Small M l same kept (NoEnd s) = told_model Found M same _ _ s.told
+  shown_model Found Left Enough Small M l same kept (NodeStop s) = told_model Found M same _ _ s.told
+  shown_model Found Left Enough Small M l same kept (TreeStop s) = told_model Found M same _ _ s.stop.told
+  shown_model Found Left Enough Small M l same kept (PivotStop s) = told_model Found M same _ _ s.stop.told
+  shown_model Found Left Enough Small M l same kept (WideStop s) = told_model Found M same _ _ s.stop.told
+  shown_model Found Left Enough Small M l same kept (Wanting s) = ap model_of s.env_is ∙ ap Some (kept s.search s.left)
 
   solve_keeps : (l : Limits) (search : Option PlainSearch) → old.env.search ≡ search → RepliesToSolve old.env search l reply new.env → model_of new.env ≡ model_of old.env
   solve_keeps l None none h = ap model_of h.1
-  solve_keeps l (Some S) present h = solved_model S l h ∙ sym (ap (option_map (λ (S : PlainSearch). S.model)) present)
+  solve_keeps l (Some S) present h =
+      shown_model (Solved S.model l) (SolvesModel S.model l S Memory) (IsEnough S.model l) (HasFewNodes S.model l) S.model l (λ a T s. s.model) (λ T s. solves-model l S Memory T s) h
+      ∙ sym (ap (option_map (λ (S : PlainSearch). S.model)) present)
+
+  warm_keeps : (l : Limits) (search : Option PlainSearch) → old.env.search ≡ search → RepliesToWarm old.env search l reply new.env → model_of new.env ≡ model_of old.env
+  warm_keeps l None none h = ap model_of h.1
+  warm_keeps l (Some S) present h =
+      shown_model (WentOn S l) (WentOn S l Memory) (IsKeptEnough S l) (IsTooSmall S l) S.model l (λ a T s. s.model) (λ T s. s.model) h.0
+      ∙ sym (ap (option_map (λ (S : PlainSearch). S.model)) present)
+
+  -- an edit that was not made leaves the environment
+  edit_keeps : {P : Type 0} (e : ModelEdit) (search : Option PlainSearch) → RepliesToEdit search e old.env reply new.env → (reply ≡ ok_text → P) → (new.env ≡ old.env → P) → P
+  edit_keeps e None h ok kept = kept h.unchanged
+  edit_keeps e (Some S) (editing.Edited told edits) ok kept = ok told
+  edit_keeps e (Some S) (editing.Faulty f bad told same) ok kept = kept same
+  edit_keeps e (Some S) (editing.Wanting told same) ok kept = kept same
+
+  words_keep : {P : Type 0} (asks : EditAsks) → RepliesToWords asks old.env reply new.env → (reply ≡ ok_text → P) → (new.env ≡ old.env → P) → P
+  words_keep (Edits e) h ok kept = edit_keeps e old.env.search h ok kept
+  words_keep says.Misused h ok kept = kept h.unchanged
+  words_keep (says.NoNumber word) h ok kept = kept h.unchanged
 
   keeps : (a : Asks) → AnswersTo a old reply new → reply ≢ ok_text → model_of new.env ≡ model_of old.env
   keeps (Load file intupper) h other = elim h.answer [ inl loads ↦ absurd (other loads.ok) | inr refused ↦ ap model_of refused.kept ]
   keeps (Solve nodes pivots) h other = solve_keeps (limits_of nodes pivots) old.env.search refl h.answer
+  keeps (Warm nodes pivots) h other = warm_keeps (limits_of nodes pivots) old.env.search refl h.answer
+  keeps (Edit behind) h other = words_keep (edit_asks behind) h.answer (λ done. absurd (other done)) (λ same. ap model_of same)
   keeps (Cert file) h other = ap model_of h.env
   keeps (Write file) h other = ap model_of h.env
   keeps Quit h other = ap (λ (s : ShellState). model_of s.env) h.unchanged
@@ -263,11 +360,21 @@ module _ (old : ShellState) (words : List (List ℕ)) (reply : List ℕ) (new : 
 
   solve_holds : (l : Limits) (k : Kind) → IsError k → Is k reply → (search : Option PlainSearch) → RepliesToSolve old.env search l reply new.env → new.env ≡ old.env
   solve_holds l k error is None h = h.1
-  solve_holds l k error is (Some S) h = let shown = shown_kind S l h in not_error k shown.0 error is shown.1.0 shown.1.1
+  solve_holds l k error is (Some S) h =
+      let shown = shown_kind (Solved S.model l) (SolvesModel S.model l S Memory) (IsEnough S.model l) (HasFewNodes S.model l) S.model l h in
+      not_error k shown.0 error is shown.1.0 shown.1.1
+
+  warm_holds : (l : Limits) (k : Kind) → IsError k → Is k reply → (search : Option PlainSearch) → RepliesToWarm old.env search l reply new.env → new.env ≡ old.env
+  warm_holds l k error is None h = h.1
+  warm_holds l k error is (Some S) h =
+      let shown = shown_kind (WentOn S l) (WentOn S l Memory) (IsKeptEnough S l) (IsTooSmall S l) S.model l h.0 in
+      not_error k shown.0 error is shown.1.0 shown.1.1
 
   holds : (a : Asks) → AnswersTo a old reply new → (k : Kind) → IsError k → Is k reply → new.env ≡ old.env
   holds (Load file intupper) h k error is = elim h.answer [ inl loads ↦ not_error k Done error is ([], loads.ok) (λ e. e) | inr refused ↦ refused.kept ]
   holds (Solve nodes pivots) h k error is = solve_holds (limits_of nodes pivots) k error is old.env.search h.answer
+  holds (Warm nodes pivots) h k error is = warm_holds (limits_of nodes pivots) k error is old.env.search h.answer
+  holds (Edit behind) h k error is = words_keep (edit_asks behind) h.answer (λ done. not_error k Done error is ([], done) (λ e. e)) (λ same. same)
   holds (Cert file) h k error is = h.env
   holds (Write file) h k error is = h.env
   holds Quit h k error is = ap (λ (s : ShellState). s.env) h.unchanged
@@ -278,15 +385,17 @@ module _ (old : ShellState) (words : List (List ℕ)) (reply : List ℕ) (new : 
   not_done : {P : Type 0} → reply ≡ memory_text → reply ≡ ok_text → P
   not_done wanting done = let same : WantsMemory ≡ Done = one_kind WantsMemory Done reply (codes "memory\n", wanting) ([], done) in absurd (cc)
 
-  waits : (a : Asks) → AnswersTo a old reply new → reply ≡ memory_text → ((nodes pivots : ℕ) → a ≢ Solve nodes pivots) → new.env ≡ old.env
-  waits (Load file intupper) h wanting other = elim h.answer [ inl loads ↦ not_done wanting loads.ok | inr refused ↦ refused.kept ]
-  waits (Solve nodes pivots) h wanting other = absurd (other nodes pivots refl)
-  waits (Cert file) h wanting other = h.env
-  waits (Write file) h wanting other = h.env
-  waits Quit h wanting other = ap (λ (s : ShellState). s.env) h.unchanged
-  waits (Unknown word) h wanting other = ap (λ (s : ShellState). s.env) h.unchanged
-  waits Misused h wanting other = ap (λ (s : ShellState). s.env) h.unchanged
-  waits (NoNumber word) h wanting other = ap (λ (s : ShellState). s.env) h.unchanged
+  waits : (a : Asks) → AnswersTo a old reply new → reply ≡ memory_text → ((nodes pivots : ℕ) → a ≢ Solve nodes pivots) → ((nodes pivots : ℕ) → a ≢ Warm nodes pivots) → new.env ≡ old.env
+  waits (Load file intupper) h wanting other another = elim h.answer [ inl loads ↦ not_done wanting loads.ok | inr refused ↦ refused.kept ]
+  waits (Solve nodes pivots) h wanting other another = absurd (other nodes pivots refl)
+  waits (Warm nodes pivots) h wanting other another = absurd (another nodes pivots refl)
+  waits (Edit behind) h wanting other another = words_keep (edit_asks behind) h.answer (λ done. not_done wanting done) (λ same. same)
+  waits (Cert file) h wanting other another = h.env
+  waits (Write file) h wanting other another = h.env
+  waits Quit h wanting other another = ap (λ (s : ShellState). s.env) h.unchanged
+  waits (Unknown word) h wanting other another = ap (λ (s : ShellState). s.env) h.unchanged
+  waits Misused h wanting other another = ap (λ (s : ShellState). s.env) h.unchanged
+  waits (NoNumber word) h wanting other another = ap (λ (s : ShellState). s.env) h.unchanged
 
 pub step-causes : (old : ShellState) (words : List (List ℕ)) (reply : List ℕ) (new : ShellState) → Step old words reply new → HasCauses old words reply new
 unfolding Step
@@ -297,7 +406,9 @@ step-causes old words reply new h =
       is = found.is;
       only = λ k is. subst (λ j. CauseOf j old words reply new) (one_kind found.kind k reply found.is is) found.cause;
       complete = λ S nodes pivots asked present enough. completes old words reply new S nodes pivots h asked present enough;
+      complete_warm = λ S nodes pivots asked present enough. completes_warm old words reply new S nodes pivots h asked present enough;
+      again = λ S nodes pivots asked present. (warmed old words reply new S nodes pivots h asked present).1;
       kept = λ other. keeps old words reply new (asks_of words) h other;
       refused = λ k error is. holds old words reply new (asks_of words) h k error is;
-      wanted = λ wanting other. waits old words reply new (asks_of words) h wanting other;
+      wanted = λ wanting other another. waits old words reply new (asks_of words) h wanting other another;
     }

@@ -1,7 +1,7 @@
 -- A reply is of one kind: its first bytes tell which.
 use Rattle.std.proofs.Common.{◌≡◌, ℕ, ◌+◌, ◌*◌, List, ◌++◌, get_or, refl, sym, ap, ◌∙◌, if◌then◌else◌}
 use Rattle.std.specs.Prelude.{nat_eq}
-use Rattle.sym_shell.specs.Kinds.{Kind, Optimal, Infeasible, Unbounded, StoppedNodes, StoppedTree, StoppedPivots, StoppedWide, Done, UnknownCommand, WrongArguments, NoModel, WrongNumber, NoAnswer, StoreFailed, FileTooLong, FaultyText, WantsMemory, front_of, Is}
+use Rattle.sym_shell.specs.Kinds.{Kind, Optimal, Infeasible, Unbounded, StoppedNodes, StoppedTree, StoppedPivots, StoppedWide, Done, UnknownCommand, WrongArguments, NoModel, UnknownName, TakenName, WrongNumber, OverLimit, NoBounds, BadSides, NoAnswer, StoreFailed, FileTooLong, FaultyText, WantsMemory, front_of, Is}
 
 -- by the two digits of an error
 error_kind : ℕ → Kind
@@ -9,7 +9,12 @@ error_kind n =
     if nat_eq n 530 then UnknownCommand
     else if nat_eq n 531 then WrongArguments
     else if nat_eq n 532 then NoModel
+    else if nat_eq n 533 then UnknownName
+    else if nat_eq n 534 then TakenName
     else if nat_eq n 535 then WrongNumber
+    else if nat_eq n 536 then OverLimit
+    else if nat_eq n 538 then NoBounds
+    else if nat_eq n 539 then BadSides
     else if nat_eq n 541 then NoAnswer
     else if nat_eq n 548 then StoreFailed
     else if nat_eq n 549 then FileTooLong
@@ -44,7 +49,12 @@ kind_of-front Done rest = refl
 kind_of-front UnknownCommand rest = refl
 kind_of-front WrongArguments rest = refl
 kind_of-front NoModel rest = refl
+kind_of-front UnknownName rest = refl
+kind_of-front TakenName rest = refl
 kind_of-front WrongNumber rest = refl
+kind_of-front OverLimit rest = refl
+kind_of-front NoBounds rest = refl
+kind_of-front BadSides rest = refl
 kind_of-front NoAnswer rest = refl
 kind_of-front StoreFailed rest = refl
 kind_of-front FileTooLong rest = refl

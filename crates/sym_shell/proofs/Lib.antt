@@ -1,5 +1,6 @@
 pub mod ReplyLemmas
 pub mod StepLemmas
+pub mod EditLemmas
 pub mod KindLemmas
 pub mod CauseLemmas
 pub mod CertLemmas

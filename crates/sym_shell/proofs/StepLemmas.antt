@@ -1,8 +1,9 @@
 -- From what is asked to the words that ask it.
-use Rattle.std.proofs.Common.{◌≡◌, ◌⊎◌, ℕ, ◌≤◌, List, refl, ap, sym, subst, ◌∙◌, inl, inr, Option, Some, None, Ok, Err, Result}
+use Rattle.std.proofs.Common.{◌≡◌, ◌⊎◌, ℕ, ◌≤◌, List, refl, ap, sym, subst, ◌∙◌, inl, inr, Option, Some, Ok, Err, Result}
 use Rattle.std.specs.Prelude.{OnOk, OnErr, IfOk, IfSome}
 use Rattle.std.specs.Option.{option_map}
-use Rattle.command_words.specs.Asks.{Asks, Solve, asks_of}
+use Rattle.command_words.specs.Asks.{Asks, Solve, Warm, asks_of}
+use Rattle.edit_words.specs.EditWords.{EditAsks}
 use Rattle.sym_io.specs.Files.{Files}
 use Rattle.lp_model.specs.Program.{Program}
 use Rattle.mps_model.specs.Faults.{MeantModel}
@@ -14,6 +15,8 @@ use Rattle.reply_texts.specs.Texts.{ok_text, memory_text}
 use Rattle.sym_shell.specs.State.{ShellState, shell_state, HasWords}
 use Rattle.sym_shell.specs.Load.{HasText, LoadStep}
 use Rattle.sym_shell.specs.Solve.{limits_of, RepliesToSolve, SolveStep}
+use Rattle.sym_shell.specs.Warming.{RepliesToWarm, WarmStep}
+use Rattle.sym_shell.specs.Editing.{RepliesToWords, EditStep}
 use Rattle.sym_shell.specs.Step.{AnswersTo, Step}
 use Rattle.sym_shell.specs.declared.reading.Refusal.TheVariants as refusal
 
@@ -52,6 +55,19 @@ pub some-solve-step : {E : Type 0} (r : Result (Unit {0}) E) (asks : Asks) (node
 some-solve-step (Ok done) asks nodes pivots old new files faults e h = tt
 some-solve-step (Err f) asks nodes pivots old new files faults e h =
     (h.0, subst (λ a. AnswersTo a (shell_state old files faults) h.0 (shell_state new files faults)) (sym e) (solve-step old new files faults (limits_of nodes pivots) h.0 h.1))
+
+-- and so do a search that goes on, and an edit
+pub warm-step : (old new : PlainEnv) (files : Option Files) (faults : ℕ) (l : Limits) (reply : List ℕ) → RepliesToWarm old old.search l reply new → WarmStep (shell_state old files faults) l reply (shell_state new files faults)
+warm-step old new files faults l reply warms = record { files = refl; faults = refl; answer = warms }
+
+pub some-warm-step : {E : Type 0} (r : Result (Unit {0}) E) (asks : Asks) (nodes pivots : ℕ) (old new : PlainEnv) (files : Option Files) (faults : ℕ) → asks ≡ Warm nodes pivots
+    → OnErr r ((bytes : List ℕ) × RepliesToWarm old old.search (limits_of nodes pivots) bytes new) → OnErr r ((bytes : List ℕ) × AnswersTo asks (shell_state old files faults) bytes (shell_state new files faults))
+some-warm-step (Ok done) asks nodes pivots old new files faults e h = tt
+some-warm-step (Err f) asks nodes pivots old new files faults e h =
+    (h.0, subst (λ a. AnswersTo a (shell_state old files faults) h.0 (shell_state new files faults)) (sym e) (warm-step old new files faults (limits_of nodes pivots) h.0 h.1))
+
+pub edit-step : (old new : PlainEnv) (files : Option Files) (faults : ℕ) (asks : EditAsks) (reply : List ℕ) → RepliesToWords asks old reply new → EditStep (shell_state old files faults) asks reply (shell_state new files faults)
+edit-step old new files faults asks reply edits = record { files = refl; faults = refl; answer = edits }
 
 -- ---- a model that is loaded
 

@@ -5,29 +5,50 @@ use Rattle.sym_io.specs.Faults.{Rose}
 use Rattle.sym_io.specs.Files.{Sets}
 use Rattle.sym_io.specs.declared.traits.TheConstants.{MAX_FILE_LENGTH}
 use Rattle.lp_model.specs.Program.{Program}
+use Rattle.lp_model.specs.declared.types.Edit.{Edit as ModelEdit}
+use Rattle.model_edits.specs.Faults.{EditBad}
+use Rattle.model_edits.specs.declared.faults.EditFault.{EditFault}
+use Rattle.model_edits.specs.declared.faults.EditFault.TheVariants.{NoSuch, Duplicate, Limit, IntegerUnbounded, Ranged}
 use Rattle.tree_edit.specs.Sound.{PlainSearch}
-use Rattle.sym_env.specs.Enough.{IsEnough}
+use Rattle.sym_env.specs.Editing.{EditsTo}
+use Rattle.sym_env.specs.Enough.{IsEnough, IsKeptEnough}
 use Rattle.sym_env.specs.Env.{model_of}
+use Rattle.sym_env.specs.Solves.{Solved}
 use Rattle.sym_env.specs.declared.held.Held.TheVariants.{Nothing}
 use Rattle.sym_env.specs.declared.limits.Limits.{Limits}
-use Rattle.command_words.specs.Asks.{Asks, Load, Solve, Cert, Write, Quit, Unknown, Misused, NoNumber, asks_of}
+use Rattle.command_words.specs.Asks.{Asks, Load, Solve, Warm, Edit, Cert, Write, Quit, Unknown, Misused, NoNumber, asks_of}
+use Rattle.edit_words.specs.EditWords.{EditAsks, Edits, edit_asks}
+use Rattle.edit_words.specs.EditWords as says
 use Rattle.reply_texts.specs.Texts.{ok_text, unknown_text, arguments_text, no_model_text, no_answer_text, number_text, store_text, file_too_long_text, mps_text, memory_text}
 use Rattle.sym_shell.specs.State.{ShellState}
 use Rattle.sym_shell.specs.Load.{HasText, IsMissing, IsTooLong, IsFaulty, Loads}
-use Rattle.sym_shell.specs.Solve.{limits_of, ShowsOptimum, ShowsEmptiness, ShowsNoEnd, ShowsNodeStop, ShowsTreeStop, ShowsPivotStop, ShowsWideStop}
+use Rattle.sym_shell.specs.Showing.{Finding, ShowsOptimumBy, ShowsEmptinessBy, ShowsNoEndBy, ShowsNodeStopBy, ShowsTreeStopBy, ShowsPivotStopBy, ShowsWideStopBy, EndsBy}
+use Rattle.sym_shell.specs.Solve.{limits_of, HasFewNodes}
+use Rattle.sym_shell.specs.Warming.{WentOn, IsTooSmall, TellsAgain}
+use Rattle.sym_shell.specs.Editing.{edit_fault_text}
 use Rattle.sym_shell.specs.Certify.{IsHeldText}
 use Rattle.sym_shell.specs.Writing.{IsWrittenModel}
 use Rattle.sym_shell.specs.Step.{Step}
-use Rattle.sym_shell.specs.Kinds.{Kind, Optimal, Infeasible, Unbounded, StoppedNodes, StoppedTree, StoppedPivots, StoppedWide, Done, UnknownCommand, WrongArguments, NoModel, WrongNumber, NoAnswer, StoreFailed, FileTooLong, FaultyText, WantsMemory, Is, IsError}
+use Rattle.sym_shell.specs.Kinds.{Kind, Optimal, Infeasible, Unbounded, StoppedNodes, StoppedTree, StoppedPivots, StoppedWide, Done, UnknownCommand, WrongArguments, NoModel, UnknownName, TakenName, WrongNumber, OverLimit, NoBounds, BadSides, NoAnswer, StoreFailed, FileTooLong, FaultyText, WantsMemory, Is, IsError}
 
--- `solve` of the search that the environment has, which may go so far, and P of both
-pub record SolveAsked (old : ShellState) (words : List (List ℕ)) (P : PlainSearch → Limits → Type 0) : Type 0 where
+-- a search that is asked for so, may go so far and finds the search that the environment has, and P of both
+pub record SearchAsked (asks : ℕ → ℕ → Asks) (old : ShellState) (words : List (List ℕ)) (P : PlainSearch → Limits → Type 0) : Type 0 where
   pub nodes : ℕ
   pub pivots : ℕ
   pub search : PlainSearch
-  pub asked : asks_of words ≡ Solve nodes pivots
+  pub asked : asks_of words ≡ asks nodes pivots
   pub present : old.env.search ≡ Some search
   pub is : P search (limits_of nodes pivots)
+
+-- what is said of a search of a model that may go so far, by how it was had, what had been enough for it, and what it means that its tree was too small
+abbrev pub OfSearch : Type 1
+OfSearch = Finding → (Enough Small : Type 0) → Program → Limits → Type 0
+
+-- `solve` from a fresh root, or `warm` from the search that is kept, and P of it
+abbrev pub Searched : ShellState → List (List ℕ) → OfSearch → Type 0
+Searched old words P =
+    SearchAsked Solve old words (λ S l. P (Solved S.model l) (IsEnough S.model l) (HasFewNodes S.model l) S.model l)
+    ⊎ SearchAsked Warm old words (λ S l. P (WentOn S l) (IsKeptEnough S l) (IsTooSmall S l) S.model l)
 
 -- `load` of a file, and P of its name and of the bound of integer columns without one
 pub record Loaded (words : List (List ℕ)) (P : List ℕ → Option ℕ → Type 0) : Type 0 where
@@ -55,10 +76,39 @@ pub record Wrote (old : ShellState) (words : List (List ℕ)) (P : List ℕ → 
   pub present : model_of old.env ≡ Some model
   pub is : P file model
 
+-- an edit that its words say, where there is a model, and P of the search that the environment has and of the edit
+pub record EditRead (old : ShellState) (words : List (List ℕ)) (P : PlainSearch → ModelEdit → Type 0) : Type 0 where
+  pub behind : List (List ℕ)
+  pub edit : ModelEdit
+  pub search : PlainSearch
+  pub asked : asks_of words ≡ Edit behind
+  pub reads : edit_asks behind ≡ Edits edit
+  pub present : old.env.search ≡ Some search
+  pub is : P search edit
+
+-- this is the first fault of the edit, and the reply is its line
+abbrev pub EditFaulty : ShellState → List (List ℕ) → List ℕ → EditFault → Type 0
+EditFaulty old words reply f = EditRead old words (λ S e. EditBad S.model e f × (reply ≡ edit_fault_text f))
+
+-- the words behind `edit` ask for this, and the reply is this line
+pub record EditMisread (words : List (List ℕ)) (reply : List ℕ) (asked : EditAsks) (text : List ℕ) : Type 0 where
+  pub behind : List (List ℕ)
+  pub asks : asks_of words ≡ Edit behind
+  pub reads : edit_asks behind ≡ asked
+  pub told : reply ≡ text
+
+-- words behind `edit` that say an edit
+abbrev pub SaysEdit : EditAsks → Type 0
+SaysEdit (Edits e) = Unit {0}
+SaysEdit says.Misused = ⊥
+SaysEdit (says.NoNumber word) = ⊥
+
 -- a command that needs a model
 abbrev pub NeedsModel : Asks → Type 0
 NeedsModel (Load file intupper) = ⊥
 NeedsModel (Solve nodes pivots) = Unit {0}
+NeedsModel (Warm nodes pivots) = Unit {0}
+NeedsModel (Edit behind) = SaysEdit (edit_asks behind)
 NeedsModel (Cert file) = Unit {0}
 NeedsModel (Write file) = Unit {0}
 NeedsModel Quit = ⊥
@@ -73,26 +123,35 @@ pub record Refused (words : List (List ℕ)) (reply : List ℕ) (asked : Asks) (
 
 -- what a reply of each kind says for sure
 abbrev pub CauseOf : Kind → ShellState → List (List ℕ) → List ℕ → ShellState → Type 0
--- the headline: what is shown is an optimum of the model that is present, or it has no feasible point, or its objective has no end
-CauseOf Optimal old words reply new = SolveAsked old words (λ S l. ShowsOptimum S.model l reply new.env)
-CauseOf Infeasible old words reply new = SolveAsked old words (λ S l. ShowsEmptiness S.model l reply new.env)
-CauseOf Unbounded old words reply new = SolveAsked old words (λ S l. ShowsNoEnd S.model l reply new.env)
+-- the headline: what is shown is an optimum of the model that is present, as it was edited, or it has no feasible point, or its objective
+-- has no end
+CauseOf Optimal old words reply new = Searched old words (λ Found Enough Small M l. ShowsOptimumBy Found M l reply new.env)
+CauseOf Infeasible old words reply new = Searched old words (λ Found Enough Small M l. ShowsEmptinessBy Found M l reply new.env)
+CauseOf Unbounded old words reply new = Searched old words (λ Found Enough Small M l. ShowsNoEndBy Found M l reply new.env)
 -- what is known where a search stopped, and why it stopped
-CauseOf StoppedNodes old words reply new = SolveAsked old words (λ S l. ShowsNodeStop S.model l reply new.env)
-CauseOf StoppedTree old words reply new = SolveAsked old words (λ S l. ShowsTreeStop S.model l reply new.env)
-CauseOf StoppedPivots old words reply new = SolveAsked old words (λ S l. ShowsPivotStop S.model l reply new.env)
-CauseOf StoppedWide old words reply new = SolveAsked old words (λ S l. ShowsWideStop S.model l reply new.env)
+CauseOf StoppedNodes old words reply new = Searched old words (λ Found Enough Small M l. ShowsNodeStopBy Found Enough M l reply new.env)
+CauseOf StoppedTree old words reply new = Searched old words (λ Found Enough Small M l. ShowsTreeStopBy Found Enough Small M l reply new.env)
+CauseOf StoppedPivots old words reply new = Searched old words (λ Found Enough Small M l. ShowsPivotStopBy Found Enough M l reply new.env)
+CauseOf StoppedWide old words reply new = Searched old words (λ Found Enough Small M l. ShowsWideStopBy Found Enough M l reply new.env)
 -- The model that the file's text means is present from now on; or the file has a text that states a certificate which is
--- accepted for the model that is present, or the canonical text of that model; or the script ends.
+-- accepted for the model that is present, or the canonical text of that model; or the model that was present is edited, the search
+-- follows, and no answer is held; or the script ends.
 CauseOf Done old words reply new =
     Loaded words (λ file intupper. Loads old file intupper reply new)
     ⊎ Certified old words (λ file text. (length text ≤ MAX_FILE_LENGTH) × Sets old.files new.files file text)
     ⊎ Wrote old words (λ file M. (text : List ℕ) × (IsWrittenModel M text × (length text ≤ MAX_FILE_LENGTH) × Sets old.files new.files file text))
+    ⊎ EditRead old words (λ S e. EditsTo S e new.env)
     ⊎ ((asks_of words ≡ Quit) × (new ≡ old))
 CauseOf UnknownCommand old words reply new = (word : List ℕ) × Refused words reply (Unknown word) (unknown_text word)
-CauseOf WrongArguments old words reply new = Refused words reply Misused arguments_text
-CauseOf WrongNumber old words reply new = (word : List ℕ) × Refused words reply (NoNumber word) (number_text word)
+CauseOf WrongArguments old words reply new = Refused words reply Misused arguments_text ⊎ EditMisread words reply says.Misused arguments_text
+CauseOf WrongNumber old words reply new = (word : List ℕ) × (Refused words reply (NoNumber word) (number_text word) ⊎ EditMisread words reply (says.NoNumber word) (number_text word))
 CauseOf NoModel old words reply new = NeedsModel (asks_of words) × (reply ≡ no_model_text) × (old.env.search ≡ None)
+-- the first fault of an edit
+CauseOf UnknownName old words reply new = (name : List ℕ) × EditFaulty old words reply (NoSuch name)
+CauseOf TakenName old words reply new = (name : List ℕ) × EditFaulty old words reply (Duplicate name)
+CauseOf OverLimit old words reply new = (n : ℕ) × EditFaulty old words reply (Limit n)
+CauseOf NoBounds old words reply new = (name : List ℕ) × EditFaulty old words reply (IntegerUnbounded name)
+CauseOf BadSides old words reply new = (name : List ℕ) × EditFaulty old words reply (Ranged name)
 CauseOf NoAnswer old words reply new = (file : List ℕ) × (Refused words reply (Cert file) no_answer_text × (IsSome old.env.search × (old.env.held ≡ Nothing)))
 CauseOf StoreFailed old words reply new =
     Loaded words (λ file intupper. (reply ≡ store_text) × (Rose old.faults new.faults ⊎ IsMissing old.files file))
@@ -114,12 +173,16 @@ pub record HasCauses (old : ShellState) (words : List (List ℕ)) (reply : List 
   pub only : (k : Kind) → Is k reply → CauseOf k old words reply new
   -- completeness: a search with enough of all ends with an answer
   pub complete : (S : PlainSearch) (nodes pivots : ℕ) → asks_of words ≡ Solve nodes pivots → old.env.search ≡ Some S → IsEnough S.model (limits_of nodes pivots)
-      → ShowsOptimum S.model (limits_of nodes pivots) reply new.env ⊎ ShowsEmptiness S.model (limits_of nodes pivots) reply new.env ⊎ ShowsNoEnd S.model (limits_of nodes pivots) reply new.env ⊎ (reply ≡ memory_text)
+      → EndsBy (Solved S.model (limits_of nodes pivots)) S.model (limits_of nodes pivots) reply new.env
+  pub complete_warm : (S : PlainSearch) (nodes pivots : ℕ) → asks_of words ≡ Warm nodes pivots → old.env.search ≡ Some S → IsKeptEnough S (limits_of nodes pivots)
+      → EndsBy (WentOn S (limits_of nodes pivots)) S.model (limits_of nodes pivots) reply new.env
+  -- `warm` after a search that closed every leaf places no result
+  pub again : (S : PlainSearch) (nodes pivots : ℕ) → asks_of words ≡ Warm nodes pivots → old.env.search ≡ Some S → TellsAgain S reply
   -- every reply but `ok` leaves the model
   pub kept : reply ≢ ok_text → model_of new.env ≡ model_of old.env
-  -- an error, but for want of memory, leaves the environment; and so does that, but in `solve`
+  -- an error, but for want of memory, leaves the environment; and so does that, but in `solve` and `warm`
   pub refused : (k : Kind) → IsError k → Is k reply → new.env ≡ old.env
-  pub wanted : reply ≡ memory_text → ((nodes pivots : ℕ) → asks_of words ≢ Solve nodes pivots) → new.env ≡ old.env
+  pub wanted : reply ≡ memory_text → ((nodes pivots : ℕ) → asks_of words ≢ Solve nodes pivots) → ((nodes pivots : ℕ) → asks_of words ≢ Warm nodes pivots) → new.env ≡ old.env
 
 -- a step, which says what each command may be answered, and what the reply says for sure
 pub record IsAnswered (old : ShellState) (words : List (List ℕ)) (reply : List ℕ) (new : ShellState) : Type 0 where

@@ -13,7 +13,12 @@ pub data Kind : Type 0 where
   UnknownCommand : Kind
   WrongArguments : Kind
   NoModel : Kind
+  UnknownName : Kind
+  TakenName : Kind
   WrongNumber : Kind
+  OverLimit : Kind
+  NoBounds : Kind
+  BadSides : Kind
   NoAnswer : Kind
   StoreFailed : Kind
   FileTooLong : Kind
@@ -32,7 +37,12 @@ front_of Done = codes "ok\n"
 front_of UnknownCommand = codes "error 02 "
 front_of WrongArguments = codes "error 03 "
 front_of NoModel = codes "error 04 "
+front_of UnknownName = codes "error 05 "
+front_of TakenName = codes "error 06 "
 front_of WrongNumber = codes "error 07 "
+front_of OverLimit = codes "error 08 "
+front_of NoBounds = codes "error 10 "
+front_of BadSides = codes "error 11 "
 front_of NoAnswer = codes "error 13 "
 front_of StoreFailed = codes "error 20 "
 front_of FileTooLong = codes "error 21 "
@@ -56,7 +66,12 @@ IsError Done = ⊥
 IsError UnknownCommand = Unit {0}
 IsError WrongArguments = Unit {0}
 IsError NoModel = Unit {0}
+IsError UnknownName = Unit {0}
+IsError TakenName = Unit {0}
 IsError WrongNumber = Unit {0}
+IsError OverLimit = Unit {0}
+IsError NoBounds = Unit {0}
+IsError BadSides = Unit {0}
 IsError NoAnswer = Unit {0}
 IsError StoreFailed = Unit {0}
 IsError FileTooLong = Unit {0}

@@ -1,7 +1,11 @@
 pub mod State
+pub mod Unchanged
 pub mod Load
 pub mod Shown
+pub mod Showing
 pub mod Solve
+pub mod Warming
+pub mod Editing
 pub mod Certify
 pub mod Writing
 pub mod Refusals

@@ -1,27 +1,23 @@
 -- What a command may be answered, and what it does to the state.
-use Rattle.std.specs.Prelude.{◌≡◌, ◌⊎◌, ℕ, List}
-use Rattle.command_words.specs.Asks.{Asks, Load, Solve, Cert, Write, Quit, Unknown, Misused, NoNumber, asks_of}
+use Rattle.std.specs.Prelude.{ℕ, List}
+use Rattle.command_words.specs.Asks.{Asks, Load, Solve, Warm, Edit, Cert, Write, Quit, Unknown, Misused, NoNumber, asks_of}
+use Rattle.edit_words.specs.EditWords.{edit_asks}
 use Rattle.sym_shell.specs.State.{ShellState}
-use Rattle.reply_texts.specs.Texts.{ok_text, unknown_text, arguments_text, number_text, memory_text}
+use Rattle.reply_texts.specs.Texts.{unknown_text, arguments_text, number_text}
+use Rattle.sym_shell.specs.Unchanged.{IsRefused, IsQuit}
 use Rattle.sym_shell.specs.Load.{LoadStep}
 use Rattle.sym_shell.specs.Solve.{limits_of, SolveStep}
+use Rattle.sym_shell.specs.Warming.{WarmStep}
+use Rattle.sym_shell.specs.Editing.{EditStep}
 use Rattle.sym_shell.specs.Certify.{CertStep}
 use Rattle.sym_shell.specs.Writing.{WriteStep}
-
--- the command is refused with this reply, or for want of memory, and nothing changes
-pub record IsRefused (old : ShellState) (text reply : List ℕ) (new : ShellState) : Type 0 where
-  pub unchanged : new ≡ old
-  pub answer : (reply ≡ text) ⊎ (reply ≡ memory_text)
-
--- `ok`, and nothing changes
-pub record IsQuit (old : ShellState) (reply : List ℕ) (new : ShellState) : Type 0 where
-  pub unchanged : new ≡ old
-  pub answer : reply ≡ ok_text
 
 -- what is asked is answered so
 abbrev pub AnswersTo : Asks → ShellState → List ℕ → ShellState → Type 0
 AnswersTo (Load file intupper) old reply new = LoadStep old file intupper reply new
 AnswersTo (Solve nodes pivots) old reply new = SolveStep old (limits_of nodes pivots) reply new
+AnswersTo (Warm nodes pivots) old reply new = WarmStep old (limits_of nodes pivots) reply new
+AnswersTo (Edit words) old reply new = EditStep old (edit_asks words) reply new
 AnswersTo (Cert file) old reply new = CertStep old file reply new
 AnswersTo (Write file) old reply new = WriteStep old file reply new
 AnswersTo Quit old reply new = IsQuit old reply new

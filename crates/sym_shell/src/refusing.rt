@@ -1,11 +1,17 @@
 // The reply where a file is refused.
 ghost use Rattle.std.specs.Prelude.{◌≡◌, ◌++◌, IfOk};
 ghost use Rattle.sym_shell.specs.Checking.{cert_refusal_text};
+ghost use Rattle.sym_shell.specs.Editing.{edit_fault_text, refused_edit_text};
 ghost use Rattle.sym_shell.specs.Load.{refusal_text};
 
 use crate::reading::Refusal;
-use reply_texts::{write_faulty_certificate, write_faulty_model};
+use model_edits::EditFault;
+use reply_texts::{
+    write_bounds, write_faulty_certificate, write_faulty_model, write_limit, write_sides,
+    write_taken, write_unknown_name,
+};
 use std::alloc::AllocError;
+use sym_env::EnvFault;
 
 /// Why a file's model is refused.
 pub(crate) fn write_refusal(reply: &mut Vec<u8>, refusal: Refusal) -> Result<(), AllocError>
@@ -28,5 +34,31 @@ pub(crate) fn write_cert_refusal(reply: &mut Vec<u8>, refusal: Refusal) -> Resul
         Refusal::FileTooLong => reply.extend_from_slice(b"error 21 file too long\n"),
         Refusal::Faulty { line, code } => write_faulty_certificate(reply, line, code),
         Refusal::Memory => reply.extend_from_slice(b"error 90 memory\n"),
+    }
+}
+
+/// Which fault an edit has.
+fn write_edit_fault(reply: &mut Vec<u8>, fault: EditFault) -> Result<(), AllocError>
+    ensures { IfOk result (λ _. reply.new.items ≡ reply.old.items ++ edit_fault_text fault) }
+{
+    match fault {
+        EditFault::NoSuch(name) => write_unknown_name(reply, name.as_slice()),
+        EditFault::Duplicate(name) => write_taken(reply, name.as_slice()),
+        EditFault::Limit(limit) => write_limit(reply, limit),
+        EditFault::IntegerUnbounded(name) => write_bounds(reply, name.as_slice()),
+        EditFault::Ranged(name) => write_sides(reply, name.as_slice()),
+        EditFault::Memory => reply.extend_from_slice(b"error 90 memory\n"),
+    }
+}
+
+/// Why an edit is refused: its fault, or that no model is loaded.
+pub(crate) fn write_refused_edit(reply: &mut Vec<u8>, fault: EnvFault) -> Result<(), AllocError>
+    ensures { IfOk result (λ _. reply.new.items ≡ reply.old.items ++ refused_edit_text fault) }
+{
+    match fault {
+        EnvFault::NoModel => reply.extend_from_slice(b"error 04 no model\n"),
+        EnvFault::Edit(fault) => write_edit_fault(reply, fault),
+        EnvFault::NoAnswer => reply.extend_from_slice(b"error 90 memory\n"),
+        EnvFault::Memory => reply.extend_from_slice(b"error 90 memory\n"),
     }
 }

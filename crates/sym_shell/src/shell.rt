@@ -1,5 +1,7 @@
 // The machine behind the script: the environment, and what a command does to it.
 ghost use Rattle.std.specs.Prelude.{◌≡◌, ◌≤◌, ◌⊎◌, true, [], OnOk, OnErr, ℕ, List, map};
+ghost use Rattle.edit_words.specs.EditWords.{edit_asks};
+ghost use Rattle.edit_words.specs.NewNames.{BringsName, IsNewName};
 ghost use Rattle.mps_model.specs.PlainNames.{HasPlainNames, HasPlainRows};
 ghost use Rattle.command_words.specs.Names.{is_file_name};
 ghost use Rattle.command_words.specs.Asks.{asks_shown, NamesFile};
@@ -8,6 +10,8 @@ ghost use Rattle.reply_texts.specs.Texts.{ok_text, memory_text};
 ghost use Rattle.sym_shell.specs.State.{shell_state};
 ghost use Rattle.sym_shell.specs.Load.{LoadStep};
 ghost use Rattle.sym_shell.specs.Solve.{limits_of, RepliesToSolve};
+ghost use Rattle.sym_shell.specs.Warming.{RepliesToWarm};
+ghost use Rattle.sym_shell.specs.Editing.{RepliesToEdit, RepliesToWords};
 ghost use Rattle.sym_shell.specs.Certify.{CertStep};
 ghost use Rattle.sym_shell.specs.Writing.{WriteStep};
 ghost use Rattle.sym_shell.specs.Step.{AnswersTo};
@@ -15,9 +19,10 @@ ghost use Rattle.sym_shell.specs.Shell.{is_quit};
 
 use crate::filing::{write_file, write_model};
 use crate::reading::read_model;
-use crate::refusing::write_refusal;
+use crate::refusing::{write_refusal, write_refused_edit};
 use command_words::{Asked, read_words};
-use lp_model::{Answer, Model};
+use edit_words::{EditAsked, read_edit};
+use lp_model::{Edit, Model};
 use reply_texts::{answer_has_room, write_answer, write_no_number, write_unknown};
 use script_session::Machine;
 use std::alloc::{AllocError, Global};
@@ -129,6 +134,64 @@ impl Shell {
         }
     }
 
+    /// Goes on with the search that is kept.
+    fn warm(&mut self, nodes: u64, pivots: u64, reply: &mut Vec<u8>) -> Result<(), AllocError>
+        requires { reply.old.items ≡ [] }
+        ensures answered { OnOk result (RepliesToWarm self.old self.old.search (limits_of nodes pivots) reply.new.items self.new) }
+        ensures unfinished { OnErr result ((bytes : List ℕ) × RepliesToWarm self.old self.old.search (limits_of nodes pivots) bytes self.new) }
+    {
+        match self.env.warm_solve(&limits_of(nodes, pivots)) {
+            Ok(answer) => {
+                answer_has_room(&answer);
+                let Some(model) = self.env.model() else {
+                    unreachable!()
+                };
+                let _lawful = model.cols();
+                write_answer(reply, model, &answer)
+            }
+            Err(_) => reply.extend_from_slice(b"error 04 no model\n"),
+        }
+    }
+
+    /// Makes an edit, and tells whether it was made. The reply's memory is taken first, so that all stays where there is none.
+    fn change(&mut self, edit: Edit, reply: &mut Vec<u8>) -> Result<(), AllocError>
+        requires named { BringsName IsNewName edit }
+        requires empty { reply.old.items ≡ [] }
+        ensures answered { OnOk result (RepliesToEdit self.old.search edit self.old reply.new.items self.new) }
+        ensures unfinished { OnErr result (RepliesToEdit self.old.search edit self.old memory_text self.new) }
+    {
+        if reply.extend_from_slice(b"ok\n").is_err() {
+            drop(edit);
+            return Err(AllocError);
+        }
+        match self.env.edit(edit) {
+            Ok(()) => Ok(()),
+            Err(fault) => {
+                reply.clear();
+                write_refused_edit(reply, fault)
+            }
+        }
+    }
+
+    /// Makes the edit that the words behind `edit` ask for, or tells why not.
+    fn edit(
+        &mut self,
+        alloc: Global,
+        words: &[&[u8]],
+        reply: &mut Vec<u8>,
+    ) -> Result<(), AllocError>
+        requires empty { reply.old.items ≡ [] }
+        ensures answered { OnOk result (RepliesToWords (edit_asks (map (λ word. word.now) words.now)) self.old reply.new.items self.new) }
+        ensures unfinished { OnErr result (RepliesToWords (edit_asks (map (λ word. word.now) words.now)) self.old memory_text self.new) }
+    {
+        match read_edit(alloc, words) {
+            EditAsked::Edits(edit) => self.change(edit, reply),
+            EditAsked::Misused => reply.extend_from_slice(b"error 03 arguments\n"),
+            EditAsked::NoNumber { word } => write_no_number(reply, word),
+            EditAsked::Memory => reply.extend_from_slice(b"error 90 memory\n"),
+        }
+    }
+
     /// Writes the certificate of the answer that is held to a file.
     fn cert<S: Store>(
         &self,
@@ -148,6 +211,10 @@ impl Shell {
             Ok(text) => write_file(store, name, &text, reply),
             Err(EnvFault::NoModel) => reply.extend_from_slice(b"error 04 no model\n"),
             Err(EnvFault::NoAnswer) => reply.extend_from_slice(b"error 13 no finished answer\n"),
+            Err(EnvFault::Edit(fault)) => {
+                drop(fault);
+                reply.extend_from_slice(b"error 90 memory\n")
+            }
             Err(EnvFault::Memory) => reply.extend_from_slice(b"error 90 memory\n"),
         }
     }
@@ -193,6 +260,8 @@ impl Shell {
         match asked {
             Asked::Load { file, intupper } => self.load(alloc, store, file, intupper, reply),
             Asked::Solve { nodes, pivots } => self.solve(nodes, pivots, reply),
+            Asked::Warm { nodes, pivots } => self.warm(nodes, pivots, reply),
+            Asked::Edit { words } => self.edit(alloc, words, reply),
             Asked::Cert { file } => self.cert(store, file, reply),
             Asked::Write { file } => self.write(alloc, store, file, reply),
             Asked::Quit => reply.extend_from_slice(b"ok\n"),

@@ -20,11 +20,9 @@ use Rattle.tree_edit.specs.Checks.{IsSplitAllowed}
 use Rattle.tree_edit.specs.Sound.{PlainSearch, IsSound}
 use Rattle.search_counting.specs.Work.{whole_points, cap_of, HasRoomFor, work_of, splits_of, IsRoomy}
 use Rattle.search_counting.proofs.CapLemmas.{work-cap, splits-cap}
-use Rattle.search_counting.proofs.FreshLemmas.{fresh-roomy}
 use Rattle.search_counting.proofs.LowerLemmas.{has-room}
 use Rattle.search_counting.proofs.RoomLemmas.{room-fewer}
 use Rattle.search_counting.proofs.WorkLemmas.{open-work}
-use Rattle.tree_edit.specs.Calls.{IsFresh}
 use Rattle.node_solve.specs.Works.{IsWorked}
 use Rattle.node_solve.specs.declared.working.Worked.{Worked}
 use Rattle.node_solve.specs.declared.working.Worked.TheVariants.{Done, Pivots, Wide}
@@ -33,6 +31,7 @@ use Rattle.dual_simplex.proofs.SolveLemmas.{of_after}
 use Rattle.tree_search.specs.Steps.{worked_model, IsWayFor, HasOpenLeaf, WorksNext, Goes, KeepsOpen, FullAtNext, PivotsAtNext, StepAtNext, ValueAtNext, PointAtNext, StopsAtNext, IsRayWay}
 use Rattle.tree_search.specs.Room.{IsWorkedRegion, HasMoves, HasRoomAt}
 use Rattle.tree_search.specs.Causes.{IsPivotCause, IsStepCause, IsWideValueBy, IsCause, HasCause, IsAtEnd, HasOwnValues, IsEnoughForSearch}
+use Rattle.tree_search.specs.Extends.{Extends}
 use Rattle.tree_search.specs.Search.{IsAfter, IsAtLimit, StopsFor, FindsPoint, FinishesSearch, Ends, IsLeft, Finds, GivesUp}
 use Rattle.tree_search.specs.declared.searching.Ways.{Ways}
 use Rattle.tree_search.specs.declared.searching.Ways.TheVariants.{Own, Rays}
@@ -193,13 +192,14 @@ module _ (ways : Ways) (first : Basis) (nodes pivots : ℕ) (old : PlainSearch) 
   ends-model n new (Stopped (why.Pivots place)) h = next-model h.mid new (why.Pivots place) h.here ∙ h.goes.model
   ends-model n new (Stopped (why.Wide at)) h = next-model h.mid new (why.Wide at) h.here ∙ h.goes.model
 
-  pub finds : (new : PlainSearch) (searched : Searched) → searched.placed ≤ nodes → Ends ways first nodes pivots searched.placed old new searched.ended → IsLeft new searched.ended → Finds ways first nodes pivots old new searched
-  finds new searched few ends left = record {
+  pub finds : (new : PlainSearch) (searched : Searched) → searched.placed ≤ nodes → Ends ways first nodes pivots searched.placed old new searched.ended → IsLeft new searched.ended → Extends old.tree.root new.tree.root → Finds ways first nodes pivots old new searched
+  finds new searched few ends left extends = record {
     within_limit = few;
     within_cap = ends-cap searched.placed new searched.ended ends;
     model = ends-model searched.placed new searched.ended ends;
     ends = ends;
     left = left;
+    extends = extends;
     cause = has-cause searched.placed new searched.ended left ends;
   }
 
@@ -239,23 +239,11 @@ module _ (ways : Ways) (first : Basis) (nodes pivots : ℕ) (old : PlainSearch) 
         ended Unbounded cause = tt
         ended (Stopped w) cause = no-cause w cause
 
--- ---- a new search
-
-pub fresh-enough : (M : Program) (limit : ℕ) (S : PlainSearch) (ways : Ways) (nodes pivots : ℕ) → IsFresh M limit S → cap_of M ≤ limit → limit ≤ 2 ^ 63 → cap_of M ≤ nodes
-    → HasMoves (worked_model ways M) pivots → HasRoomAt (worked_model ways M) → HasOwnValues ways M → IsEnoughForSearch S ways nodes pivots
-fresh-enough M limit S ways nodes pivots fresh within few results moves steps values = record {
-  results = subst (λ P. cap_of P ≤ nodes) (sym fresh.model) results;
-  room = subst (λ P. HasRoomFor (whole_points P - 1) S.tree) (sym fresh.model) (fresh-roomy M limit S fresh within few);
-  moves = subst (λ P. HasMoves (worked_model ways P) pivots) (sym fresh.model) moves;
-  steps = subst (λ P. HasRoomAt (worked_model ways P)) (sym fresh.model) steps;
-  values = subst (HasOwnValues ways) (sym fresh.model) values;
-}
-
 -- ---- what is answered
 
 module _ (limits : Limits) (nodes : ℕ) (old : PlainSearch) (sound : IsSound old) (lawful : IsLawful old.model) (way : IsWayFor old limits.ways) (new : PlainSearch) where
   from-comes : (searched : Searched) → Comes limits nodes old new searched → Finds limits.ways limits.first.now nodes limits.pivots old new searched
-  from-comes searched h = finds limits.ways limits.first.now nodes limits.pivots old sound lawful way new searched h.within_limit h.ends h.left
+  from-comes searched h = finds limits.ways limits.first.now nodes limits.pivots old sound lawful way new searched h.within_limit h.ends h.left h.extends
 
   pub found : {E : Type 0} (r : Result Searched E) → IfOk r (λ searched. Comes limits nodes old new searched) → IfOk r (λ searched. Finds limits.ways limits.first.now nodes limits.pivots old new searched)
   found (Ok searched) h = from-comes searched h

@@ -1,5 +1,5 @@
--- What the bound of a search that stopped says of its model, when a search has enough, and why a leaf stays open beside a ray.
-use Rattle.std.specs.Prelude.{ℕ, ◌^◌, ◌≤◌, Some, Ok}
+-- What the bound of a search that stopped says of its model, and why a leaf stays open beside a ray.
+use Rattle.std.specs.Prelude.{Some, Ok}
 use Rattle.rational.specs.Rational.{ℚ, ◌≤ℚ◌}
 use Rattle.lp_model.specs.Program.{Program, Point, IsFeasible, least_value, in_least_form}
 use Rattle.lp_model.specs.Formulations.{without_cuts}
@@ -8,27 +8,14 @@ use Rattle.lp_model.specs.Regions.{Path, InRegion}
 use Rattle.leaf_dual.specs.Dual.{Multipliers}
 use Rattle.leaf_dual.specs.Answers.{IsLagAnswer}
 use Rattle.leaf_dual.specs.declared.dual.LagValue.TheVariants.{Num}
-use Rattle.tree_edit.specs.Calls.{IsFresh}
 use Rattle.tree_edit.specs.Sound.{PlainSearch}
-use Rattle.search_counting.specs.Work.{cap_of}
 use Rattle.node_solve.specs.Runs.{NamesIntegers}
 use Rattle.tree_search.specs.Bounds.{IsBoundOf}
-use Rattle.tree_search.specs.Steps.{worked_model}
-use Rattle.tree_search.specs.Room.{HasMoves, HasRoomAt}
-use Rattle.tree_search.specs.Causes.{HasOwnValues, IsEnoughForSearch}
-use Rattle.tree_search.specs.declared.searching.Ways.{Ways}
 
 -- no feasible point is better than the bound of the open leaves
 abbrev pub StopBoundLaw : Type 0
 StopBoundLaw =
     (S : PlainSearch) (bound : ℚ) (x : Point) → IsBoundOf S (Some bound) → IsFeasible S.model x → in_least_form S.model.sense bound ≤ℚ least_value S.model 1 x
-
--- a new search whose tree may have as many nodes as the cap says has enough with as many results, and the moves and the room
--- that its relaxations ask for
-abbrev pub EnoughLaw : Type 0
-EnoughLaw =
-    (M : Program) (limit : ℕ) (S : PlainSearch) (ways : Ways) (nodes pivots : ℕ) → IsFresh M limit S → cap_of M ≤ limit → limit ≤ 2 ^ 63 → cap_of M ≤ nodes
-    → HasMoves (worked_model ways M) pivots → HasRoomAt (worked_model ways M) → HasOwnValues ways M → IsEnoughForSearch S ways nodes pivots
 
 -- beside a ray no multipliers have a number that bounds a region with a feasible point
 abbrev pub OpenLaw : Type 0

@@ -1,3 +1,4 @@
+pub mod Extends
 pub mod Steps
 pub mod Room
 pub mod Causes

@@ -18,6 +18,7 @@ use Rattle.search_counting.specs.Work.{cap_of}
 use Rattle.tree_search.specs.Bounds.{IsBoundOf}
 use Rattle.tree_search.specs.Steps.{HasOpenLeaf, Goes, PointAtNext, StopsAtNext}
 use Rattle.tree_search.specs.Causes.{HasCause}
+use Rattle.tree_search.specs.Extends.{Extends}
 use Rattle.tree_search.specs.declared.searching.Ways.{Ways}
 use Rattle.tree_search.specs.declared.searching.Ended.{Ended}
 use Rattle.tree_search.specs.declared.searching.Ended.TheVariants.{Finished, Unbounded, Stopped}
@@ -66,13 +67,15 @@ IsLeft S Finished = HasNoOpenLeaf S
 IsLeft S Unbounded = HasOpenLeaf S
 IsLeft S (Stopped why) = HasOpenLeaf S
 
--- so many results were placed, no more than the limit and the model's cap; the search had from its start a cause to stop, if it stops
+-- so many results were placed, no more than the limit and the model's cap, and every node but open leaves stays; the search had from its
+-- start a cause to stop, if it stops
 pub record Finds (ways : Ways) (first : Basis) (nodes pivots : ℕ) (old new : PlainSearch) (searched : Searched) : Type 0 where
   pub within_limit : searched.placed ≤ nodes
   pub within_cap : searched.placed ≤ cap_of old.model
   pub model : new.model ≡ old.model
   pub ends : Ends ways first nodes pivots searched.placed old new searched.ended
   pub left : IsLeft new searched.ended
+  pub extends : Extends old.tree.root new.tree.root
   pub cause : HasCause old ways first nodes pivots searched.ended
 
 -- without memory: results were placed, no more than the limit allows, and the search can go on

@@ -6,6 +6,7 @@ use Rattle.branch_tree.specs.declared.node.Job.{Job}
 use Rattle.node_solve.specs.declared.working.Worked.{Worked}
 use Rattle.tree_search.specs.Steps.{IsWayFor, IsFirstFor, WorksNext, Places, PointAtNext, StopsAtNext}
 use Rattle.tree_search.specs.Search.{Ends, IsLeft}
+use Rattle.tree_search.specs.Extends.{Extends}
 use Rattle.tree_search.specs.declared.searching.Searched.{Searched}
 use Rattle.tree_search.specs.declared.stepping.Limits.{Limits}
 use Rattle.tree_search.specs.declared.stepping.Stepped.{Stepped}
@@ -29,3 +30,4 @@ pub record Comes (limits : Limits) (nodes : ℕ) (old new : PlainSearch) (search
   pub within_limit : searched.placed ≤ nodes
   pub ends : Ends limits.ways limits.first.now nodes limits.pivots searched.placed old new searched.ended
   pub left : IsLeft new searched.ended
+  pub extends : Extends old.tree.root new.tree.root

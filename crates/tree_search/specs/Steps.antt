@@ -32,6 +32,7 @@ use Rattle.node_solve.specs.Runs.{NamesIntegers, IsFirstOf}
 use Rattle.node_solve.specs.Works.{IsWorked}
 use Rattle.node_solve.specs.declared.working.Worked.{Worked}
 use Rattle.node_solve.specs.declared.working.Worked.TheVariants.{Done, Pivots, Wide}
+use Rattle.tree_search.specs.Extends.{Extends}
 use Rattle.tree_search.specs.declared.searching.Ways.{Ways}
 use Rattle.tree_search.specs.declared.searching.Ways.TheVariants.{Own, Rays}
 
@@ -97,10 +98,11 @@ abbrev pub PlacesMany : Ways → Basis → ℕ → ℕ → PlainSearch → Plain
 PlacesMany ways first pivots zero old new = new ≡ old
 PlacesMany ways first pivots (suc n) old new = (mid : PlainSearch) × (PlacesMany ways first pivots n old mid × Places ways first pivots mid new)
 
--- so many results were placed, each with less left to place, in the same model
+-- so many results were placed, each with less left to place, in the same model; open leaves became trees
 pub record Goes (ways : Ways) (first : Basis) (pivots n : ℕ) (old new : PlainSearch) : Type 0 where
   pub model : new.model ≡ old.model
   pub placed : PlacesMany ways first pivots n old new
+  pub extends : Extends old.tree.root new.tree.root
   pub work : n + work_of new ≤ work_of old
   pub room : IsRoomy old → IsRoomy new
   pub sound : IsSound new

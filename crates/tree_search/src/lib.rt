@@ -29,5 +29,5 @@ mod searching;
 mod stepping;
 
 pub use answering::{answer_of, finished, stopped};
-pub use laws::{enough_law, open_law, stop_bound_law};
+pub use laws::{open_law, stop_bound_law};
 pub use searching::{Ended, Searched, Ways, search_on};

@@ -12,6 +12,12 @@ returns-in-Some-Load c = let asked = c.load_asked.ensures ∙ asks_of-first c.ar
 pub returns-in-Some-Solve : goal.returns-in-Some-Solve
 returns-in-Some-Solve c = let asked = c.solve_asked.ensures ∙ asks_of-first c.args.words.now (record { ref_ptr = (0, 0); now = [] }) (Some name.Solve) c.in-len1-up.len_at_least (search rules) in record { asked = asked; named = shown-named _ c.args.words.now asked }
 
+pub returns-in-Some-Warm : goal.returns-in-Some-Warm
+returns-in-Some-Warm c = let asked = c.warm_asked.ensures ∙ asks_of-first c.args.words.now (record { ref_ptr = (0, 0); now = [] }) (Some name.Warm) c.in-len1-up.len_at_least (search rules) in record { asked = asked; named = shown-named _ c.args.words.now asked }
+
+pub returns-in-Some-Edit : goal.returns-in-Some-Edit
+returns-in-Some-Edit c = let asked = asks_of-first c.args.words.now (record { ref_ptr = (0, 0); now = [] }) (Some name.Edit) c.in-len1-up.len_at_least (search rules) in record { asked = asked; named = shown-named _ c.args.words.now asked }
+
 pub returns-in-Some-Cert : goal.returns-in-Some-Cert
 returns-in-Some-Cert c = let asked = c.cert_asked.ensures ∙ asks_of-first c.args.words.now (record { ref_ptr = (0, 0); now = [] }) (Some name.Cert) c.in-len1-up.len_at_least (search rules) in record { asked = asked; named = shown-named _ c.args.words.now asked }
 

@@ -7,29 +7,29 @@ use Rattle.sym_env.proofs.SolveLemmas.{gave-up, searched-so, searched-whole}
 use Rattle.sym_env.proofs.TruthLemmas.{unbounded-ended}
 use Rattle.sym_env.proofs.solving.search_with.Goals as goal
 
-pub returns-in-Err-clause-solved : goal.returns-in-Err-clause-solved
-returns-in-Err-clause-solved c =
+pub returns-in-Err-clause-went : goal.returns-in-Err-clause-went
+returns-in-Err-clause-went c =
     let S = c.args.search.now in
     let l = c.args.limits.now in
     let gives = subst (λ r. OnErr r (GivesUp c.args.ways.now c.args.first.now l.nodes l.pivots S c.search_on.new.search)) c.in-Err.is c.search_on.ensures.unfinished in
-    gave-up l S c.requires.fresh c.points-sound.ensures.sound c.args.ways.now c.args.first.now c.requires.begins c.search_on.new.search gives
+    gave-up l S c.points-sound.ensures.sound c.args.ways.now c.args.first.now c.requires.begins c.search_on.new.search gives
 
 pub returns-in-Err-clause-beside : goal.returns-in-Err-clause-beside
 returns-in-Err-clause-beside c = λ u. absurd u
 
-pub returns-in-Ok-clause-solved : goal.returns-in-Ok-clause-solved
-returns-in-Ok-clause-solved c =
+pub returns-in-Ok-clause-went : goal.returns-in-Ok-clause-went
+returns-in-Ok-clause-went c =
     let S = c.args.search.now in
     let l = c.args.limits.now in
     let finds = subst (λ r. IfOk r (λ searched. Finds c.args.ways.now c.args.first.now l.nodes l.pivots S c.search_on.new.search searched)) c.in-Ok.is c.search_on.ensures.found in
-    searched-so l S c.requires.fresh c.points-sound.ensures.sound c.args.ways.now c.args.first.now c.requires.begins c.requires.some c.search_on.new.search c.in-Ok.searched c.answer_of.result finds c.answer_of.ensures
+    searched-so l S c.points-sound.ensures.sound c.args.ways.now c.args.first.now c.requires.begins c.requires.some c.search_on.new.search c.in-Ok.searched c.answer_of.result finds c.answer_of.ensures
 
 pub returns-in-Ok-clause-complete : goal.returns-in-Ok-clause-complete
 returns-in-Ok-clause-complete c =
     let S = c.args.search.now in
     let l = c.args.limits.now in
     let whole = subst (λ r. IfOk r (λ searched. search.IsEnoughForSearch S c.args.ways.now l.nodes l.pivots → IsAtEnd searched.ended)) c.in-Ok.is c.search_on.ensures.complete in
-    searched-whole l S c.requires.fresh c.points-sound.ensures.sound c.no_ray_law.ensures c.enough_law.ensures c.args.ways.now c.args.first.now c.requires.begins c.search_on.new.search c.in-Ok.searched c.answer_of.result whole c.answer_of.ensures
+    searched-whole c.no_ray_law.ensures l S c.args.ways.now c.args.first.now c.requires.begins c.search_on.new.search c.in-Ok.searched c.answer_of.result whole c.answer_of.ensures
 
 pub returns-in-Ok-clause-beside : goal.returns-in-Ok-clause-beside
 returns-in-Ok-clause-beside c = λ u.

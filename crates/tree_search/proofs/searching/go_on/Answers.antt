@@ -10,7 +10,7 @@ loop-id-init c = begins c.args.limits.now c.args.nodes c.args.search.now c.requi
 
 pub loop-id-preserved : goal.loop-id-preserved
 loop-id-preserved c =
-    goes-on c.args.limits.now c.args.nodes c.args.search.now c.loop-id.placed c.loop-id.search c.loop-id.invariant c.step.new.search c.if-placed-nodes.false
+    goes-on c.args.limits.now c.args.nodes c.args.search.now c.loop-id.placed c.loop-id.search c.loop-id.invariant c.step.new.search c.known.ensures.sound c.known.ensures.numbered c.if-placed-nodes.false
     (subst (Steps c.args.limits.now c.loop-id.search c.step.new.search) c.in-Placed.is c.in_ok-step.ensures.steps)
 
 pub returns-then-placed-nodes-clause-comes : goal.returns-then-placed-nodes-clause-comes
@@ -19,12 +19,12 @@ returns-then-placed-nodes-clause-comes c =
 
 pub returns-in-Found-clause-comes : goal.returns-in-Found-clause-comes
 returns-in-Found-clause-comes c =
-    finds-point c.args.limits.now c.args.nodes c.args.search.now c.loop-id.placed c.loop-id.search c.loop-id.invariant c.step.new.search c.known.ensures.sound c.if-placed-nodes.false
+    finds-point c.args.limits.now c.args.nodes c.args.search.now c.loop-id.placed c.loop-id.search c.loop-id.invariant c.step.new.search c.known.ensures.sound c.known.ensures.numbered c.if-placed-nodes.false
     (subst (Steps c.args.limits.now c.loop-id.search c.step.new.search) c.in-Found.is c.in_ok-step.ensures.steps)
 
 pub returns-in-Stopped-clause-comes : goal.returns-in-Stopped-clause-comes
 returns-in-Stopped-clause-comes c =
-    stops c.args.limits.now c.args.nodes c.args.search.now c.loop-id.placed c.loop-id.search c.loop-id.invariant c.step.new.search c.in-Stopped.why c.known.ensures.sound c.if-placed-nodes.false
+    stops c.args.limits.now c.args.nodes c.args.search.now c.loop-id.placed c.loop-id.search c.loop-id.invariant c.step.new.search c.in-Stopped.why c.known.ensures.sound c.known.ensures.numbered c.if-placed-nodes.false
     (next-open_leaf c.loop-id.search c.in-Some.id c.known.ensures.numbered c.in-Some.ensures)
     (subst (Steps c.args.limits.now c.loop-id.search c.step.new.search) c.in-Stopped.is c.in_ok-step.ensures.steps)
 

@@ -1,8 +1,10 @@
 use Rattle.std.proofs.Common.{ap, refl, inr}
-use Rattle.command_words.specs.Asks.{Load, Solve, Cert, Write, Quit, Unknown, Misused, NoNumber, asks_shown}
+use Rattle.std.specs.Prelude.{map}
+use Rattle.command_words.specs.Asks.{Load, Edit, Cert, Write, Quit, Unknown, Misused, NoNumber, asks_shown}
+use Rattle.edit_words.specs.EditWords.{edit_asks}
 use Rattle.sym_shell.specs.State.{shell_state}
 use Rattle.reply_texts.specs.Texts.{ok_text, memory_text}
-use Rattle.sym_shell.proofs.StepLemmas.{unfinished, always, some-solve-step}
+use Rattle.sym_shell.proofs.StepLemmas.{unfinished, always, on_err, some-solve-step, some-warm-step, edit-step}
 use Rattle.sym_shell.proofs.shell.Shell.answer_asked.Goals as goal
 
 pub returns-in-Load-clause-unfinished : goal.returns-in-Load-clause-unfinished
@@ -14,6 +16,18 @@ returns-in-Load-clause-unfinished g c =
 pub returns-in-Solve-clause-unfinished : goal.returns-in-Solve-clause-unfinished
 returns-in-Solve-clause-unfinished g c =
     some-solve-step c.solve.result (asks_shown c.args.asked) c.in-Solve.nodes c.in-Solve.pivots c.args.self.now c.solve.new.self (g.S.Store.files c.args.store.now) (g.S.Store.faults c.args.store.now) (ap asks_shown c.in-Solve.is) c.solve.ensures.unfinished
+
+pub returns-in-Warm-clause-unfinished : goal.returns-in-Warm-clause-unfinished
+returns-in-Warm-clause-unfinished g c =
+    some-warm-step c.warm.result (asks_shown c.args.asked) c.in-Warm.nodes c.in-Warm.pivots c.args.self.now c.warm.new.self (g.S.Store.files c.args.store.now) (g.S.Store.faults c.args.store.now) (ap asks_shown c.in-Warm.is) c.warm.ensures.unfinished
+
+pub returns-in-Edit-clause-unfinished : goal.returns-in-Edit-clause-unfinished
+returns-in-Edit-clause-unfinished g c =
+    let files = g.S.Store.files c.args.store.now in
+    let faults = g.S.Store.faults c.args.store.now in
+    let words = map (λ word. word.now) c.in-Edit.words.now in
+    unfinished c.edit.result (Edit words) (asks_shown c.args.asked) (shell_state c.args.self.now files faults) (shell_state c.edit.new.self files faults) memory_text (ap asks_shown c.in-Edit.is)
+    (on_err c.edit.result (edit-step c.args.self.now c.edit.new.self files faults (edit_asks words) memory_text) c.edit.ensures.unfinished)
 
 pub returns-in-Cert-clause-unfinished : goal.returns-in-Cert-clause-unfinished
 returns-in-Cert-clause-unfinished g c =

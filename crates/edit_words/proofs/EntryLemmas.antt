@@ -1,0 +1,54 @@
+-- Names with numbers that were read one after the other are those that the words are.
+use Rattle.std.proofs.Common.{◌≡◌, ℕ, ◌-◌, ◌≤◌, ◌<◌, List, [], ◌∷◌, ◌++◌, length, get_or, take, drop, arith, refl, sym, ap, ◌∙◌, append_assoc, Bor, Some, None}
+use Rattle.std.proofs.lemmas.List.{append-nil}
+use Rattle.rational.specs.Rational.{ℚ}
+use Rattle.lp_model.specs.Edits.{Named}
+use Rattle.edit_words.specs.EditWords.{EntriesAsk, AreRead, AreMisused, HasNoNumber, number_in, with_first, entries_of}
+use Rattle.edit_words.proofs.FormLemmas.{nows, some_word, first_two}
+
+-- those that were read, and those behind them
+abbrev pub behind : Named → EntriesAsk → EntriesAsk
+behind read (AreRead named) = AreRead (read ++ named)
+behind read AreMisused = AreMisused
+behind read (HasNoNumber word) = HasNoNumber word
+
+pub behind_nothing : (asks : EntriesAsk) → asks ≡ behind [] asks
+behind_nothing (AreRead named) = refl
+behind_nothing AreMisused = refl
+behind_nothing (HasNoNumber word) = refl
+
+pub one_more : (read : Named) (name word : List ℕ) (x : ℚ) (asks : EntriesAsk) → behind read (with_first name word (Some x) asks) ≡ behind (read ++ (name, x) ∷ []) asks
+one_more read name word x (AreRead named) = ap AreRead (sym (append_assoc read ((name, x) ∷ []) named))
+one_more read name word x AreMisused = refl
+one_more read name word x (HasNoNumber other) = refl
+
+pub entries_end : (read : Named) (words : List (Bor (List ℕ))) → length words ≡ 0 → behind read (entries_of (nows words)) ≡ AreRead read
+unfolding entries_of
+entries_end read [] none = ap AreRead (append-nil read)
+entries_end read (a ∷ more) none = absurd (omega arith)
+
+pub entries_odd : (read : Named) (words : List (Bor (List ℕ))) → ¬ (length words ≡ 0) → length words < 2 → behind read (entries_of (nows words)) ≡ AreMisused
+unfolding entries_of
+entries_odd read [] some few = absurd (some refl)
+entries_odd read (a ∷ []) some few = refl
+entries_odd read (a ∷ b ∷ more) some few = absurd (omega arith)
+
+pub entries_first : (words : List (Bor (List ℕ))) → 2 ≤ length words
+    → entries_of (nows words) ≡ with_first (get_or words 0 some_word).now (get_or words 1 some_word).now (number_in (get_or words 1 some_word).now) (entries_of (nows (take (length words - 2) (drop 2 words))))
+unfolding entries_of
+entries_first words h = (λ i. entries_of (first_two words h i))
+
+pub entries_more : (read longer : Named) (words : List (Bor (List ℕ))) (x : ℚ) → 2 ≤ length words → number_in (get_or words 1 some_word).now ≡ Some x → longer ≡ read ++ ((get_or words 0 some_word).now, x) ∷ []
+    → behind read (entries_of (nows words)) ≡ behind longer (entries_of (nows (take (length words - 2) (drop 2 words))))
+entries_more read longer words x h is push =
+    let name : List ℕ = (get_or words 0 some_word).now in
+    let word : List ℕ = (get_or words 1 some_word).now in
+    let rest : EntriesAsk = entries_of (nows (take (length words - 2) (drop 2 words))) in
+    ap (behind read) (entries_first words h) ∙ ap (λ o. behind read (with_first name word o rest)) is ∙ one_more read name word x rest ∙ ap (λ r. behind r rest) (sym push)
+
+pub entries_none : (read : Named) (words : List (Bor (List ℕ))) → 2 ≤ length words → number_in (get_or words 1 some_word).now ≡ None → behind read (entries_of (nows words)) ≡ HasNoNumber (get_or words 1 some_word).now
+entries_none read words h is =
+    let name : List ℕ = (get_or words 0 some_word).now in
+    let word : List ℕ = (get_or words 1 some_word).now in
+    let rest : EntriesAsk = entries_of (nows (take (length words - 2) (drop 2 words))) in
+    ap (behind read) (entries_first words h) ∙ ap (λ o. behind read (with_first name word o rest)) is

@@ -1,0 +1,98 @@
+-- Words from the first one on.
+use Rattle.std.proofs.Common.{◌≡◌, ℕ, ◌-◌, ◌≤◌, ◌<◌, List, [], ◌∷◌, length, get_or, take, drop, arith, sym, refl, Bor, Option}
+use Rattle.std.specs.Prelude.{map, Bool, false, not, ◌&&◌, ◌||◌, bytes_eq}
+use Rattle.std.proofs.lemmas.Grind.{common_steps}
+use Rattle.edit_words.specs.declared.kinds.EditKind.{EditKind}
+use Rattle.edit_words.specs.declared.forms.Slot.{Slot}
+use Rattle.edit_words.specs.Forms.{is_named, are_distinct, fits}
+use Rattle.edit_words.specs.EditWords.{Misused, kind_of, formed_asks, edit_asks}
+
+abbrev pub nows : List (Bor (List ℕ)) → List (List ℕ)
+nows words = map (λ word. word.now) words
+
+-- what a pattern of the code finds where there is no word
+abbrev pub some_word : Bor (List ℕ)
+some_word = record { ref_ptr = (0, 0); now = [] }
+
+back-one : (a : Bor (List ℕ)) (more : List (Bor (List ℕ))) → take (length (a ∷ more) - 1) (drop 1 (a ∷ more)) ≡ more
+back-one a more = grind (arith, common_steps)
+
+back-two : (a b : Bor (List ℕ)) (more : List (Bor (List ℕ))) → take (length (a ∷ b ∷ more) - 2) (drop 2 (a ∷ b ∷ more)) ≡ more
+back-two a b more = grind (arith, common_steps)
+
+back-three : (a b c : Bor (List ℕ)) (more : List (Bor (List ℕ))) → take (length (a ∷ b ∷ c ∷ more) - 3) (drop 3 (a ∷ b ∷ c ∷ more)) ≡ more
+back-three a b c more = grind (arith, common_steps)
+
+back-six : (a b c e f g : Bor (List ℕ)) (more : List (Bor (List ℕ))) → take (length (a ∷ b ∷ c ∷ e ∷ f ∷ g ∷ more) - 6) (drop 6 (a ∷ b ∷ c ∷ e ∷ f ∷ g ∷ more)) ≡ more
+back-six a b c e f g more = grind (arith, common_steps)
+
+pub first_two : (words : List (Bor (List ℕ))) → 2 ≤ length words → nows words ≡ (get_or words 0 some_word).now ∷ (get_or words 1 some_word).now ∷ nows (take (length words - 2) (drop 2 words))
+first_two [] h = absurd (omega arith)
+first_two (a ∷ []) h = absurd (omega arith)
+first_two (a ∷ b ∷ more) h = (λ i. a.now ∷ b.now ∷ nows (sym (back-two a b more) i))
+
+pub first_three : (words : List (Bor (List ℕ))) → 3 ≤ length words
+    → nows words ≡ (get_or words 0 some_word).now ∷ (get_or words 1 some_word).now ∷ (get_or words 2 some_word).now ∷ nows (take (length words - 3) (drop 3 words))
+first_three [] h = absurd (omega arith)
+first_three (a ∷ []) h = absurd (omega arith)
+first_three (a ∷ b ∷ []) h = absurd (omega arith)
+first_three (a ∷ b ∷ c ∷ more) h = (λ i. a.now ∷ b.now ∷ c.now ∷ nows (sym (back-three a b c more) i))
+
+pub first_six : (words : List (Bor (List ℕ))) → 6 ≤ length words
+    → nows words ≡ (get_or words 0 some_word).now ∷ (get_or words 1 some_word).now ∷ (get_or words 2 some_word).now ∷ (get_or words 3 some_word).now ∷ (get_or words 4 some_word).now ∷ (get_or words 5 some_word).now ∷ nows (take (length words - 6) (drop 6 words))
+first_six [] h = absurd (omega arith)
+first_six (a ∷ []) h = absurd (omega arith)
+first_six (a ∷ b ∷ []) h = absurd (omega arith)
+first_six (a ∷ b ∷ c ∷ []) h = absurd (omega arith)
+first_six (a ∷ b ∷ c ∷ e ∷ []) h = absurd (omega arith)
+first_six (a ∷ b ∷ c ∷ e ∷ f ∷ []) h = absurd (omega arith)
+first_six (a ∷ b ∷ c ∷ e ∷ f ∷ g ∷ more) h = (λ i. a.now ∷ b.now ∷ c.now ∷ e.now ∷ f.now ∷ g.now ∷ nows (sym (back-six a b c e f g more) i))
+
+-- ---- the word behind `edit`
+
+pub edit_asks-first : (words : List (Bor (List ℕ))) (k : Option EditKind) → 1 ≤ length words → k ≡ kind_of (get_or words 0 some_word).now
+    → edit_asks (nows words) ≡ formed_asks k (nows (take (length words - 1) (drop 1 words)))
+unfolding edit_asks
+edit_asks-first [] k h e = absurd (omega arith)
+edit_asks-first (word ∷ more) k h e = (λ i. formed_asks (sym e i) (nows (sym (back-one word more) i)))
+
+pub edit_asks-nothing : (words : List (Bor (List ℕ))) → length words < 1 → edit_asks (nows words) ≡ Misused
+unfolding edit_asks
+edit_asks-nothing [] h = refl
+edit_asks-nothing (word ∷ more) h = absurd (omega arith)
+
+-- ---- names with numbers
+
+pub is_named_few : (name : List ℕ) (pairs : List (Bor (List ℕ))) → length pairs < 2 → is_named name (nows pairs) ≡ false
+unfolding is_named
+is_named_few name [] h = refl
+is_named_few name (a ∷ []) h = refl
+is_named_few name (a ∷ b ∷ more) h = absurd (omega arith)
+
+pub is_named_first : (name : List ℕ) (pairs : List (Bor (List ℕ))) → 2 ≤ length pairs
+    → is_named name (nows pairs) ≡ (bytes_eq (get_or pairs 0 some_word).now name || is_named name (nows (take (length pairs - 2) (drop 2 pairs))))
+unfolding is_named
+is_named_first name [] h = absurd (omega arith)
+is_named_first name (a ∷ []) h = absurd (omega arith)
+is_named_first name (a ∷ b ∷ more) h = (λ i. bytes_eq a.now name || is_named name (nows (sym (back-two a b more) i)))
+
+pub are_distinct_one : (words : List (Bor (List ℕ))) → ¬ (length words ≡ 0) → length words < 2 → are_distinct (nows words) ≡ false
+unfolding are_distinct
+are_distinct_one [] some few = absurd (some refl)
+are_distinct_one (a ∷ []) some few = refl
+are_distinct_one (a ∷ b ∷ more) some few = absurd (omega arith)
+
+pub are_distinct_first : (words : List (Bor (List ℕ))) → 2 ≤ length words
+    → are_distinct (nows words) ≡ (not (is_named (get_or words 0 some_word).now (nows (take (length words - 2) (drop 2 words)))) && are_distinct (nows (take (length words - 2) (drop 2 words))))
+unfolding are_distinct
+are_distinct_first [] h = absurd (omega arith)
+are_distinct_first (a ∷ []) h = absurd (omega arith)
+are_distinct_first (a ∷ b ∷ more) h = (λ i. not (is_named a.now (nows (sym (back-two a b more) i))) && are_distinct (nows (sym (back-two a b more) i)))
+
+-- ---- a slot without a word
+
+pub fits_none : (slots : List Slot) (pairs : Bool) (words : List (Bor (List ℕ))) → 1 ≤ length slots → length words ≡ 0 → fits slots pairs (nows words) ≡ false
+unfolding fits
+fits_none [] pairs words some none = absurd (omega arith)
+fits_none (slot ∷ slots) pairs [] some none = refl
+fits_none (slot ∷ slots) pairs (word ∷ words) some none = absurd (omega arith)

@@ -1,0 +1,53 @@
+// Names with numbers.
+ghost use Rattle.std.specs.Prelude.{◌≡◌, ◌∷◌, ◌++◌, [], map, IfOk};
+ghost use Rattle.edit_words.specs.EditWords.{entries_of, IsEntriesOf};
+
+use crate::numbers::number_in;
+use frac128::Frac;
+use lp_model::{List, Name};
+use std::alloc::{AllocError, Global};
+
+/// Names with numbers, or why they are none.
+#[derive(Drop)]
+pub(crate) enum Entries<'a> {
+    Read(List<(Name, Frac)>),
+    Misused,
+    NoNumber { word: &'a [u8] },
+    Memory,
+}
+
+/// Adds a name with its number.
+fn push_entry(
+    alloc: Global,
+    entries: &mut List<(Name, Frac)>,
+    name: &[u8],
+    number: Frac,
+) -> Result<(), AllocError>
+    ensures { IfOk result (λ _. entries.new ≡ entries.old ++ (name.now, number) ∷ []) }
+{
+    let name = Name::from_slice(alloc, name)?;
+    entries.push((name, number))
+}
+
+/// The names with numbers that words are.
+#[tactic(auto, using(crate::proofs::EntryLemmas::entries_first, crate::proofs::EntryLemmas::one_more, crate::proofs::EntryLemmas::entries_end, crate::proofs::EntryLemmas::entries_odd, crate::proofs::EntryLemmas::behind_nothing))]
+pub(crate) fn entries_in<'a>(alloc: Global, words: &[&'a [u8]]) -> Entries<'a>
+    ensures { IsEntriesOf (entries_of (map (λ word. word.now) words.now)) result }
+{
+    let mut entries = List::new(alloc);
+    let mut rest = words;
+    while let [name, word, more @ ..] = rest {
+        let Some(number) = number_in(word) else {
+            return Entries::NoNumber { word };
+        };
+        if push_entry(alloc, &mut entries, name, number).is_err() {
+            return Entries::Memory;
+        }
+        rest = more;
+    }
+    if rest.is_empty() {
+        Entries::Read(entries)
+    } else {
+        Entries::Misused
+    }
+}

@@ -1,0 +1,109 @@
+// Forms of words as data, and the words that have one.
+ghost use Rattle.std.specs.Prelude.{◌≡◌, map};
+ghost use Rattle.std.specs.List.{list_all};
+ghost use Rattle.edit_words.specs.Forms.{is_name_byte, is_new_name, fits_slot, fits_behind, fits, is_named, are_distinct};
+
+/// What may stand in a word's place.
+#[derive(Clone, Copy, Debug, PartialEq, Eq)]
+pub(crate) enum Slot {
+    /// `int` or `cont`.
+    Kind,
+    /// `lo`, `hi` or `both`.
+    Sides,
+    /// The name of a row or a column that is there.
+    Known,
+    /// The name of a new one: 1 to 255 bytes from `!` to `~`.
+    New,
+    /// A number.
+    Number,
+    /// A number, or `none`.
+    NumberOrNone,
+    /// A number, or `none`; far enough below 0 it is none.
+    Lower,
+    /// A number, or `none`; far enough above 0 it is none.
+    Upper,
+}
+
+fn is_name_byte(byte: u8) -> bool
+    ensures { result ≡ is_name_byte byte }
+{
+    matches!(byte, b'!'..=b'~')
+}
+
+fn has_name_bytes(word: &[u8]) -> bool
+    ensures { result ≡ list_all is_name_byte word.now }
+{
+    word.iter().all(|byte| is_name_byte(*byte))
+}
+
+fn is_new_name(word: &[u8]) -> bool
+    ensures { result ≡ is_new_name word.now }
+{
+    1 <= word.len() && word.len() <= 255 && has_name_bytes(word)
+}
+
+/// Whether the word may stand there, numbers aside.
+fn fits_slot(slot: Slot, word: &[u8]) -> bool
+    ensures { result ≡ fits_slot slot word.now }
+{
+    match slot {
+        Slot::Kind => word == b"int".as_slice() || word == b"cont".as_slice(),
+        Slot::Sides => {
+            word == b"lo".as_slice() || word == b"hi".as_slice() || word == b"both".as_slice()
+        }
+        Slot::Known => true,
+        Slot::New => is_new_name(word),
+        Slot::Number => true,
+        Slot::NumberOrNone => true,
+        Slot::Lower => true,
+        Slot::Upper => true,
+    }
+}
+
+/// Whether the name is that of one of the pairs.
+#[tactic(auto, using(crate::proofs::FormLemmas::is_named_few, crate::proofs::FormLemmas::is_named_first))]
+fn is_named(name: &[u8], pairs: &[&[u8]]) -> bool
+    ensures { result ≡ is_named name.now (map (λ word. word.now) pairs.now) }
+{
+    match pairs {
+        [first, _, rest @ ..] => *first == name || is_named(name, rest),
+        _ => false,
+    }
+}
+
+/// Whether the words are names with numbers, each name once.
+#[tactic(auto, unfolding(crate::specs::Forms::are_distinct), using(crate::proofs::FormLemmas::are_distinct_one, crate::proofs::FormLemmas::are_distinct_first))]
+fn are_distinct(words: &[&[u8]]) -> bool
+    ensures { result ≡ are_distinct (map (λ word. word.now) words.now) }
+{
+    match words {
+        [] => true,
+        [name, _, rest @ ..] => !is_named(name, rest) && are_distinct(rest),
+        _ => false,
+    }
+}
+
+/// Whether the words behind the slots are as the form has them.
+fn fits_behind(pairs: bool, words: &[&[u8]]) -> bool
+    ensures { result ≡ fits_behind pairs (map (λ word. word.now) words.now) }
+{
+    if pairs {
+        are_distinct(words)
+    } else {
+        words.is_empty()
+    }
+}
+
+/// Whether the words have the form: one in each slot, and behind them none, or names with numbers.
+#[tactic(auto, unfolding(crate::specs::Forms::fits), using(crate::proofs::FormLemmas::fits_none))]
+pub(crate) fn fits(slots: &[Slot], pairs: bool, words: &[&[u8]]) -> bool
+    ensures { result ≡ fits slots.now pairs (map (λ word. word.now) words.now) }
+{
+    match slots {
+        [] => fits_behind(pairs, words),
+        [slot, more @ ..] => match words {
+            [] => false,
+            [word, rest @ ..] => fits_slot(*slot, word) && fits(more, pairs, rest),
+        },
+    }
+}

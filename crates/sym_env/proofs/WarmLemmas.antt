@@ -1,0 +1,144 @@
+-- What a search that goes on answers, and what is held of it; and what an edit does to an environment.
+use Rattle.std.specs.Prelude.{true}
+use Rattle.std.proofs.Common.{◌≡◌, ◌⊎◌, ℕ, ◌<◌, List, [], ◌∷◌, length, sym, ap, subst, refl, ◌∙◌, inl, inr, arith, Option, Some, None, Result, Ok, Err}
+use Rattle.lp_model.specs.Program.{Program, Point}
+use Rattle.lp_model.specs.Edits.{EditFits}
+use Rattle.lp_model.specs.Rays.{IsRayJudged}
+use Rattle.lp_model.specs.declared.types.Basis.{Basis}
+use Rattle.lp_model.specs.declared.types.Edit.{Edit}
+use Rattle.lp_model.specs.declared.answers.StopWhy.{StopWhy}
+use Rattle.lp_model.specs.declared.answers.Answer.{Answer}
+use Rattle.lp_model.specs.declared.answers.Answer.TheVariants.{Optimal, Infeasible, Unbounded, Stopped, Memory}
+use Rattle.model_edits.specs.Faults.{IsEditFault}
+use Rattle.model_edits.specs.declared.faults.EditFault.{EditFault}
+use Rattle.ray_phase.specs.Answers.{IsRayAnswer}
+use Rattle.ray_phase.specs.declared.phase.RayAnswer.TheVariants as phase
+use Rattle.tree_edit.specs.Calls.{search_with_limit}
+use Rattle.tree_edit.specs.Edited.{Follows}
+use Rattle.tree_edit.specs.Laws.{HasNoOpenLeaf}
+use Rattle.tree_edit.specs.Points.{target}
+use Rattle.tree_edit.specs.Sound.{PlainSearch}
+use Rattle.tree_search.specs.Extends.{Extends}
+use Rattle.tree_search.specs.Search.{IsFinishedAnswer, IsStoppedAnswer}
+use Rattle.tree_search.specs.Steps.{HasOpenLeaf}
+use Rattle.tree_search.specs.declared.searching.Ended.TheVariants as ended
+use Rattle.tree_search.specs.declared.searching.Ways.TheVariants.{Own}
+use Rattle.sym_env.specs.Beginnings.{HasNoSlackBasis, BeginsWith, IsRayStop, StopsBefore}
+use Rattle.sym_env.specs.Editing.{EditsEnv}
+use Rattle.sym_env.specs.Env.{PlainEnv, IsHeld}
+use Rattle.sym_env.specs.Solves.{SaysUnbounded, HasRayFor, held_by, IsOldest}
+use Rattle.sym_env.specs.Truth.{HasEnded}
+use Rattle.sym_env.specs.Warm.{Went, Resumes, BesidePoint, GoesOn, Warms, Still, SomeOpen, PlacesNone, WarmsEnv}
+use Rattle.sym_env.specs.declared.env.EnvFault.{EnvFault}
+use Rattle.sym_env.specs.declared.env.EnvFault.TheVariants as fault
+use Rattle.sym_env.specs.declared.held.Held.{Held}
+use Rattle.sym_env.specs.declared.held.Held.TheVariants.{Nothing}
+use Rattle.sym_env.specs.declared.limits.Limits.{Limits}
+use Rattle.sym_env.proofs.BeginLemmas.{judged_ray}
+use Rattle.sym_env.proofs.TruthLemmas.{open-not_none, told-oldest, course-oldest, IsFinishedKind, course-finished, course-points, held-so}
+
+-- ---- kept points
+
+pub no-points : (M : Program) (points : List Point) → target M points ≡ None → points ≡ []
+no-points M [] h = refl
+no-points M (x ∷ xs) h = absurd (cc)
+
+pub some-points : (M : Program) (points : List Point) (t : _) → target M points ≡ Some t → 0 < length points
+some-points M [] t h = absurd (cc)
+some-points M (x ∷ xs) t h = omega arith
+
+-- ---- from a search with an open leaf
+
+pub without-point : (l : Limits) (begun : PlainSearch) (answer : Answer) (S : PlainSearch) → begun.points ≡ [] → Went l begun answer S → Resumes l begun answer S
+without-point l begun answer S none went = GoesOn (λ some. let e = ap length none in absurd (omega (arith, some, e))) went
+
+pub with-own : (l : Limits) (begun : PlainSearch) (answer : Answer) (S : PlainSearch) (first : Basis) → BeginsWith begun.model l.pivots Own first → Went l begun answer S → Resumes l begun answer S
+with-own l begun answer S first begins went = GoesOn (λ some. inl (first, begins)) went
+
+pub with-stop : (l : Limits) (begun : PlainSearch) (answer : Answer) (S : PlainSearch) (why : StopWhy) → HasNoSlackBasis begun.model → IsRayStop begun.model l.pivots why → Went l begun answer S → Resumes l begun answer S
+with-stop l begun answer S why none stop went = GoesOn (λ some. inr (inl (none, (why, stop)))) went
+
+pub with-none : (l : Limits) (begun : PlainSearch) (S : PlainSearch) → Went l begun Memory S → Resumes l begun Memory S
+with-none l begun S went = GoesOn (λ some. inr (inr refl)) went
+
+pub own-stop : (M : Program) (pivots : ℕ) (why : StopWhy) → HasNoSlackBasis M → IsRayStop M pivots why → StopsBefore M pivots why
+own-stop M pivots why none stop = record { none = none; stop = inl stop }
+
+-- ---- what is answered
+
+places-none : (S : PlainSearch) (answer : Answer) → IsFinishedAnswer S 0 answer → PlacesNone answer
+places-none S (Optimal v x m) told = told.1
+places-none S (Infeasible m) told = told.1
+places-none S (Unbounded m) told = absurd told
+places-none S (Stopped why m bound best) told = absurd told
+places-none S Memory told = tt
+
+pub finished-bounded : (S : PlainSearch) (answer : Answer) → IsFinishedAnswer S 0 answer → SaysUnbounded answer → ⊥
+finished-bounded S (Optimal v x m) told u = u
+finished-bounded S (Infeasible m) told u = u
+finished-bounded S (Unbounded m) told u = told
+finished-bounded S (Stopped why m bound best) told u = u
+finished-bounded S Memory told u = u
+
+pub finished-ended : (S : PlainSearch) (answer : Answer) → IsFinishedAnswer S 0 answer → HasEnded answer
+finished-ended S (Optimal v x m) told = tt
+finished-ended S (Infeasible m) told = tt
+finished-ended S (Unbounded m) told = absurd told
+finished-ended S (Stopped why m bound best) told = absurd told
+finished-ended S Memory told = tt
+
+module _ (l : Limits) (begun : PlainSearch) (answer : Answer) (S : PlainSearch) where
+  warms-oldest : Warms l begun answer S → IsOldest S answer
+  warms-oldest (Still none kept told) = subst (λ T. IsOldest T answer) (sym kept) (told-oldest begun ended.Finished 0 answer told)
+  warms-oldest (SomeOpen some (BesidePoint point d none found kept is)) = subst (IsOldest S) (sym is) tt
+  warms-oldest (SomeOpen some (GoesOn untold went)) = course-oldest begun.model l begun answer S went.course
+
+  warms-finished : Warms l begun answer S → IsFinishedKind answer → HasNoOpenLeaf S
+  warms-finished (Still none kept told) kind = subst HasNoOpenLeaf (sym kept) none
+  warms-finished (SomeOpen some (BesidePoint point d none found kept is)) kind = absurd (subst IsFinishedKind is kind)
+  warms-finished (SomeOpen some (GoesOn untold went)) kind = course-finished begun.model l begun answer S went.course kind
+
+  warms-points : Warms l begun answer S → SaysUnbounded answer → 0 < length S.points
+  warms-points (Still none kept told) u = absurd (finished-bounded begun answer told u)
+  warms-points (SomeOpen some (BesidePoint point d none found kept is)) u = subst (λ (T : PlainSearch). 0 < length T.points) (sym kept) point
+  warms-points (SomeOpen some (GoesOn untold went)) u = course-points begun.model l begun answer S went.course u
+
+  warms-again : Warms l begun answer S → HasNoOpenLeaf begun → PlacesNone answer × (S ≡ begun)
+  warms-again (Still none kept told) closed = (places-none begun answer told, kept)
+  warms-again (SomeOpen some how) closed = absurd (open-not_none begun some closed)
+
+  pub warms-held : (direction : Option Point) → Warms l begun answer S → S.model ≡ begun.model → HasRayFor begun.model l.pivots answer direction → IsHeld (Some S) (held_by answer direction)
+  warms-held direction how model has =
+      held-so S answer direction (warms-finished how)
+      (λ u d is. record {
+        point = warms-points how u;
+        is_ray = subst (λ N. IsRayJudged N d (Ok true)) (sym model) (judged_ray begun.model l.pivots d (subst (HasRayFor begun.model l.pivots answer) is has));
+      })
+
+pub warms-env : (l : Limits) (old : PlainEnv) (S T : PlainSearch) (answer : Answer) (direction : Option Point) (held : Held) → old.search ≡ Some S → Warms l (search_with_limit S l.tree) answer T → T.model ≡ S.model
+    → Extends S.tree.root T.tree.root → HasRayFor S.model l.pivots answer direction → held ≡ held_by answer direction → WarmsEnv old.search l old (Ok answer) (record { search = Some T; held = held })
+warms-env l old S T answer direction held there how model extends has is =
+    subst (λ o. WarmsEnv o l old (Ok answer) (record { search = Some T; held = held })) (sym there)
+    (record {
+      search = T;
+      warms = how;
+      model = model;
+      extends = extends;
+      again = warms-again l (search_with_limit S l.tree) answer T how;
+      oldest = warms-oldest l (search_with_limit S l.tree) answer T how;
+      direction = direction;
+      has_ray = has;
+      env_is = ap (λ h. record { search = Some T; held = h }) is;
+    })
+
+-- ---- edits
+
+pub edits-env : (e : Edit) (old : PlainEnv) (S T : PlainSearch) (held : Held) (u : Unit {0}) → old.search ≡ Some S → EditFits S.model e → Follows S e T → held ≡ Nothing
+    → EditsEnv old.search e old (Ok u) (record { search = Some T; held = held })
+edits-env e old S T held u there fits follows is =
+    subst (λ o. EditsEnv o e old (Ok u) (record { search = Some T; held = held })) (sym there)
+    (record { fits = fits; search = T; follows = follows; env_is = ap (λ h. record { search = Some T; held = h }) is })
+
+pub refuses-env : (e : Edit) (old new : PlainEnv) (S : PlainSearch) (bad : EditFault) → old.search ≡ Some S → new ≡ old → IsEditFault S.model e bad → EditsEnv old.search e old (Err (fault.Edit bad)) new
+refuses-env e old new S bad there kept cause =
+    subst (λ o. EditsEnv o e old (Err (fault.Edit bad)) new) (sym there) (record { kept = kept; bad = bad; is = refl; cause = cause })

@@ -1,0 +1,34 @@
+use Rattle.std.specs.Prelude.{Some, None}
+use Rattle.std.proofs.Common.{subst, refl}
+use Rattle.branch_tree.specs.Numbered.{IsNumbered}
+use Rattle.tree_edit.specs.Calls.{IsNext}
+use Rattle.tree_search.proofs.ExtendLemmas.{extends-self}
+use Rattle.tree_search.proofs.StepLemmas.{next-open_leaf, no-leaf_open}
+use Rattle.sym_env.specs.Warm.{Still, SomeOpen}
+use Rattle.sym_env.proofs.WarmLemmas.{finished-bounded, finished-ended}
+use Rattle.sym_env.proofs.warming.warm_limited.Goals as goal
+
+pub finished-requires : goal.finished-requires
+finished-requires c = no-leaf_open c.args.search.now (subst (IsNext c.args.search.now) c.in-None.is c.next_leaf.ensures)
+
+pub resume-requires : goal.resume-requires
+resume-requires c =
+    let S = c.args.search.now in
+    record { some = next-open_leaf S c.in-Some.field-0 (subst IsNumbered c.tree.ensures.tree c.nodes-numbered.ensures.numbered) (subst (IsNext S) c.in-Some.is c.next_leaf.ensures) }
+
+pub returns-in-None-clause-warms : goal.returns-in-None-clause-warms
+returns-in-None-clause-warms c = Still (no-leaf_open c.args.search.now (subst (IsNext c.args.search.now) c.in-None.is c.next_leaf.ensures)) refl c.finished.ensures
+
+pub returns-in-None-clause-extends : goal.returns-in-None-clause-extends
+returns-in-None-clause-extends c = extends-self c.args.search.now.tree.root
+
+pub returns-in-None-clause-ray : goal.returns-in-None-clause-ray
+returns-in-None-clause-ray c = finished-bounded c.args.search.now c.finished.result c.finished.ensures
+
+pub returns-in-None-clause-complete : goal.returns-in-None-clause-complete
+returns-in-None-clause-complete c = λ enough. finished-ended c.args.search.now c.finished.result c.finished.ensures
+
+pub returns-in-Some-clause-warms : goal.returns-in-Some-clause-warms
+returns-in-Some-clause-warms c =
+    let S = c.args.search.now in
+    SomeOpen (next-open_leaf S c.in-Some.field-0 (subst IsNumbered c.tree.ensures.tree c.nodes-numbered.ensures.numbered) (subst (IsNext S) c.in-Some.is c.next_leaf.ensures)) c.resume.ensures.resumes
