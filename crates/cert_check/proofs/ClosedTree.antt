@@ -1,21 +1,21 @@
 -- A lawful tree whose leaves close as they say proves the claim.
-use Rattle.std.specs.Prelude.{◌≡◌, ℕ, true, false, List, []}
+use Rattle.std.specs.Prelude.{◌≡◌, ℕ, true, false, List, [], All}
 use Rattle.std.proofs.Common.{subst, sym, inl, inr}
 use Rattle.rational.specs.Rational.{ℚ, ◌≤ℚ◌}
 use Rattle.rational.proofs.RationalOrder.{not_both_ℚ}
 use Rattle.lp_model.specs.Program.{Program, Point, least_value, in_least_form, IsFeasible, IsEmpty}
 use Rattle.lp_model.specs.Edits.{Named}
 use Rattle.lp_model.specs.Regions.{Path, InRegion}
-use Rattle.lp_model.specs.Formulations.{Formulation, without_cuts, IsValid}
+use Rattle.lp_model.specs.Formulations.{Formulation, IsValid}
 use Rattle.lp_model.proofs.RegionLemmas.{empty_region}
 use Rattle.lp_model.proofs.UnboundedLemmas.{unbounded}
-use Rattle.lp_model.proofs.FormulationLemmas.{valid-without_cuts}
 use Rattle.leaf_dual.specs.Dual.{Multipliers}
 use Rattle.leaf_dual.proofs.WeakDuality.{farkas-none, reached-bound}
 use Rattle.branch_tree.specs.Tree.{Tree, SplitsLawfully, EachLeaf}
 use Rattle.branch_tree.proofs.TreeLemmas.{point_in_one_leaf, leaf_with_both}
 use Rattle.cert_text.specs.declared.cert.Claim.{Claim}
 use Rattle.cert_text.specs.declared.cert.Claim.TheVariants.{Optimal, Infeasible, Unbounded}
+use Rattle.cert_text.specs.declared.cert.NamedCut.{NamedCut}
 use Rattle.cert_text.specs.declared.cert.CertNode.{CertNode}
 use Rattle.cert_text.specs.declared.cert.CertNode.TheVariants.{Split, Bound, Farkas, Empty}
 use Rattle.cert_text.specs.declared.cert.Cert.{Cert}
@@ -23,34 +23,36 @@ use Rattle.cert_check.specs.Places.{with_places}
 use Rattle.cert_check.specs.Mults.{mults_of}
 use Rattle.cert_check.specs.Accepted.{ReachesValue, Closes, HasPoint, HasRay, IsClosedTree, HasClosedTree, Accepts, point_of}
 use Rattle.cert_check.specs.Laws.{IsTrueClaim}
+use Rattle.cert_check.specs.Cuts.{formulation_by, CutStands}
+use Rattle.cert_check.proofs.ValidCuts.{valid}
 
-module _ (F : Formulation) (valid : IsValid F) where
+module _ (F : Formulation) (is_valid : IsValid F) where
   module _ (y : Point) (feasible : IsFeasible F.model y) (path : Path) (inside : InRegion path y) where
     -- no feasible point of a region whose number reaches a value is below it
     reaches_value-bound : (mult : Multipliers) (t : ℚ) → ReachesValue F path mult t → t ≤ℚ least_value F.model 1 y
     reaches_value-bound mult t reaches =
         elim reaches [
-          | inl plain ↦ reached-bound F path mult y valid feasible inside t false (λ never. let f : false ≡ true = never in absurd cc) plain
-          | inr rounded ↦ reached-bound F path mult y valid feasible inside t true (λ _. rounded.0) rounded.1
+          | inl plain ↦ reached-bound F path mult y is_valid feasible inside t false (λ never. let f : false ≡ true = never in absurd cc) plain
+          | inr rounded ↦ reached-bound F path mult y is_valid feasible inside t true (λ _. rounded.0) rounded.1
         ]
 
     -- a leaf that closes has no feasible point with a value below the claimed one
     closes-bound : (v : ℚ) (n : CertNode) → Closes F (Optimal v) path n → in_least_form F.model.sense v ≤ℚ least_value F.model 1 y
     closes-bound v (Bound mults) closes = reaches_value-bound (mults_of F.model mults) (in_least_form F.model.sense v) closes.1
-    closes-bound v (Farkas mults) closes = absurd (farkas-none F path (mults_of F.model mults) y valid feasible inside closes.1)
+    closes-bound v (Farkas mults) closes = absurd (farkas-none F path (mults_of F.model mults) y is_valid feasible inside closes.1)
     closes-bound v Empty closes = absurd (empty_region F.model y path closes feasible inside)
     closes-bound v (Split col w) closes = absurd closes
 
     -- and none at all where none is claimed feasible
     closes-none : (n : CertNode) → Closes F Infeasible path n → ⊥
     closes-none (Bound mults) closes = closes.1
-    closes-none (Farkas mults) closes = farkas-none F path (mults_of F.model mults) y valid feasible inside closes.1
+    closes-none (Farkas mults) closes = farkas-none F path (mults_of F.model mults) y is_valid feasible inside closes.1
     closes-none Empty closes = empty_region F.model y path closes feasible inside
     closes-none (Split col w) closes = closes
 
     no_bound-none : (n : CertNode) → Closes F Unbounded path n → ⊥
     no_bound-none (Bound mults) closes = closes.1
-    no_bound-none (Farkas mults) closes = farkas-none F path (mults_of F.model mults) y valid feasible inside closes.1
+    no_bound-none (Farkas mults) closes = farkas-none F path (mults_of F.model mults) y is_valid feasible inside closes.1
     no_bound-none Empty closes = empty_region F.model y path closes feasible inside
     no_bound-none (Split col w) closes = closes
 
@@ -71,7 +73,7 @@ module _ (F : Formulation) (valid : IsValid F) where
         let found = leaf_with_both (λ path leaf. InRegion path y) (Closes F Unbounded) [] tree closed (point_in_one_leaf F.model tree y lawful feasible) in
         no_bound-none y feasible found.0 found.1.1.0 found.1.0 found.1.1.1
 
-    pub tree-claim : (claim : Claim) (named : Named) → HasPoint F.model claim named → EachLeaf (Closes F claim) [] tree → IsTrueClaim F.model claim
+    tree-claim : (claim : Claim) (named : Named) → HasPoint F.model claim named → EachLeaf (Closes F claim) [] tree → IsTrueClaim F.model claim
     tree-claim (Optimal v) named point closed = (
       point_of F.model named,
       (
@@ -86,13 +88,13 @@ module _ (F : Formulation) (valid : IsValid F) where
     tree-claim Infeasible named point closed = tree-empty closed
     tree-claim Unbounded named point closed = absurd (tree-unbounded closed (point_of F.model named) point.feasible)
 
-closed_tree-claim : (M : Program) (claim : Claim) (point : Named) → HasPoint M claim point → (nodes : List CertNode) → IsClosedTree M claim nodes → IsTrueClaim M claim
-closed_tree-claim M claim point has nodes t = tree-claim (without_cuts M) (valid-without_cuts M) (with_places M t.tree) t.splits claim point has t.leaves
+closed_tree-claim : (M : Program) (claim : Claim) (point : Named) → HasPoint M claim point → (cuts : List NamedCut) → All (CutStands M) cuts → (nodes : List CertNode) → IsClosedTree (formulation_by M cuts) claim nodes → IsTrueClaim M claim
+closed_tree-claim M claim point has cuts stand nodes t = tree-claim (formulation_by M cuts) (valid M cuts stand) (with_places M t.tree) t.splits claim point has t.leaves
 
-parts-claim : (M : Program) (claim : Claim) (point ray : Named) (nodes : List CertNode) → HasPoint M claim point → HasRay M claim ray → HasClosedTree M claim nodes → IsTrueClaim M claim
-parts-claim M (Optimal v) point ray nodes has no_ray tree = closed_tree-claim M (Optimal v) point has nodes tree
-parts-claim M Infeasible point ray nodes has no_ray tree = closed_tree-claim M Infeasible point has nodes tree
-parts-claim M Unbounded point ray nodes has is none = unbounded M (point_of M point) (point_of M ray) has.feasible is.is_ray
+parts-claim : (M : Program) (claim : Claim) (point ray : Named) (cuts : List NamedCut) (nodes : List CertNode) → HasPoint M claim point → HasRay M claim ray → All (CutStands M) cuts → HasClosedTree (formulation_by M cuts) claim nodes → IsTrueClaim M claim
+parts-claim M (Optimal v) point ray cuts nodes has no_ray stand tree = closed_tree-claim M (Optimal v) point has cuts stand nodes tree
+parts-claim M Infeasible point ray cuts nodes has no_ray stand tree = closed_tree-claim M Infeasible point has cuts stand nodes tree
+parts-claim M Unbounded point ray cuts nodes has is stand none = unbounded M (point_of M point) (point_of M ray) has.feasible is.is_ray
 
 pub accepted_claim : (M : Program) (cert : Cert) → Accepts M cert → IsTrueClaim M cert.claim
-accepted_claim M cert accepts = parts-claim M cert.claim cert.point cert.ray cert.nodes accepts.point accepts.ray accepts.nodes
+accepted_claim M cert accepts = parts-claim M cert.claim cert.point cert.ray cert.cuts cert.nodes accepts.point accepts.ray accepts.cuts accepts.nodes

@@ -6,12 +6,13 @@ use Rattle.lp_model.specs.Program.{Program, is_integer}
 use Rattle.lp_model.specs.Lawful.{column_names}
 use Rattle.lp_model.specs.Edits.{Named}
 use Rattle.lp_model.specs.Regions.{Path}
-use Rattle.lp_model.specs.Formulations.{without_cuts}
+use Rattle.lp_model.specs.Formulations.{Formulation}
 use Rattle.lp_model.proofs.AnswerLemmas.{feasible_answer}
 use Rattle.lp_model.proofs.RayLemmas.{judged_rightly}
 use Rattle.branch_tree.specs.Tree.{SplitsLawfully, EachLeaf, left_path, right_path}
 use Rattle.cert_text.specs.declared.cert.Claim.{Claim}
 use Rattle.cert_text.specs.declared.cert.Claim.TheVariants.{Optimal, Infeasible, Unbounded}
+use Rattle.cert_text.specs.declared.cert.NamedCut.{NamedCut}
 use Rattle.cert_text.specs.declared.cert.CertNode.{CertNode}
 use Rattle.cert_text.specs.declared.cert.CertNode.TheVariants as node
 use Rattle.cert_text.specs.declared.cert.Cert.{Cert}
@@ -20,32 +21,37 @@ use Rattle.cert_check.specs.declared.verdict.Verdict.TheVariants.{Rejected}
 use Rattle.cert_text.specs.Tree.{CertTree, Bound, Farkas, Empty, Split}
 use Rattle.cert_check.specs.Places.{place_among, with_places}
 use Rattle.cert_check.specs.Mults.{mults_of}
+use Rattle.cert_check.specs.Cuts.{formulation_by, CutStands}
 use Rattle.cert_check.specs.Accepted.{point_of, Closes, HasPoint, HasRay, IsClosedTree, HasClosedTree, Accepts}
-use Rattle.cert_check.specs.Verdict.{IsNodeJudged, IsClaimJudged, visits, AreTreeVisits, AreVisits, IsJudgedAt, IsFirstFailing, IsVerdict}
+use Rattle.cert_check.specs.Verdict.{IsNodeJudged, IsClaimJudged, IsHeadJudged, visits, AreTreeVisits, AreVisits, IsJudgedAt, IsFirstFailing, IsVerdict}
 use Rattle.cert_check.proofs.PlaceLemmas.{column_known}
 use Rattle.cert_check.proofs.LeafLemmas.{bound-breaks, farkas-breaks}
 use Rattle.cert_check.proofs.OneVerdict.{tree_visits_one}
+use Rattle.cert_check.proofs.CutVerdicts.{cuts_judged}
 
 -- ---- nodes
 
-module _ (M : Program) (claim : Claim) where
+module _ (F : Formulation) (claim : Claim) where
+  abbrev M : Program
+  M = F.model
+
   -- the split is on an integer column, the leaf closes
   abbrev IsTrueNode : Path × CertNode → Type 0
   IsTrueNode (path, node.Split col v) = (place_among (column_names M) col < length M.cols) × IsTrue (is_integer M (place_among (column_names M) col))
-  IsTrueNode (path, node.Bound mults) = Closes (without_cuts M) claim path (node.Bound mults)
-  IsTrueNode (path, node.Farkas mults) = Closes (without_cuts M) claim path (node.Farkas mults)
-  IsTrueNode (path, node.Empty) = Closes (without_cuts M) claim path node.Empty
+  IsTrueNode (path, node.Bound mults) = Closes F claim path (node.Bound mults)
+  IsTrueNode (path, node.Farkas mults) = Closes F claim path (node.Farkas mults)
+  IsTrueNode (path, node.Empty) = Closes F claim path node.Empty
 
-  node-true : (path : Path) (n : CertNode) (why : ℕ) → IsTrueNode (path, n) → IsNodeJudged (without_cuts M) claim path n (Breaks why) → ⊥
+  node-true : (path : Path) (n : CertNode) (why : ℕ) → IsTrueNode (path, n) → IsNodeJudged F claim path n (Breaks why) → ⊥
   node-true path (node.Split col v) why here (inl judged) = judged.1.0 here.1
   node-true path (node.Split col v) why here (inr judged) = judged.0 (column_known M col (place_among (column_names M) col) (here.0, refl))
-  node-true path (node.Bound mults) why closes (inl judged) = bound-breaks (without_cuts M) path (mults_of M mults) claim why judged.1 closes.1
+  node-true path (node.Bound mults) why closes (inl judged) = bound-breaks F path (mults_of M mults) claim why judged.1 closes.1
   node-true path (node.Bound mults) why closes (inr judged) = judged.0 closes.0
-  node-true path (node.Farkas mults) why closes (inl judged) = farkas-breaks (without_cuts M) path (mults_of M mults) why judged.1 closes.1
+  node-true path (node.Farkas mults) why closes (inl judged) = farkas-breaks F path (mults_of M mults) why judged.1 closes.1
   node-true path (node.Farkas mults) why closes (inr judged) = judged.0 closes.0
   node-true path node.Empty why closes judged = judged.0 closes
 
-  tree-true : (path : Path) (tree : CertTree) → SplitsLawfully M (with_places M tree) → EachLeaf (Closes (without_cuts M) claim) path (with_places M tree) → All IsTrueNode (visits M path tree)
+  tree-true : (path : Path) (tree : CertTree) → SplitsLawfully M (with_places M tree) → EachLeaf (Closes F claim) path (with_places M tree) → All IsTrueNode (visits M path tree)
   tree-true path (Bound mults) lawful closes = All-cons IsTrueNode (path, node.Bound mults) [] closes (All-nil IsTrueNode)
   tree-true path (Farkas mults) lawful closes = All-cons IsTrueNode (path, node.Farkas mults) [] closes (All-nil IsTrueNode)
   tree-true path Empty lawful closes = All-cons IsTrueNode (path, node.Empty) [] closes (All-nil IsTrueNode)
@@ -72,24 +78,28 @@ among : {A : Type 0} (P : A → Type 0) (before : List A) (x : A) (behind : List
 among P [] x behind all = All-head P x behind all
 among P (y ∷ before) x behind all = among P before x behind (All-tail P y (before ++ x ∷ behind) all)
 
-tree-breaks : (M : Program) (claim : Claim) (nodes : List CertNode) (visited : List (Path × CertNode)) (n why : ℕ) → IsClosedTree M claim nodes → AreTreeVisits M nodes visited → IsJudgedAt M claim visited n (Breaks why) → ⊥
-tree-breaks M claim nodes visited n why t are at =
-    let same = tree_visits_one M nodes visited (visits M [] t.tree) are (record { tree = t.tree; nodes_are = t.nodes_are; are = refl }) in
-    let here = among (IsTrueNode M claim) at.before at.visit at.behind (subst (All (IsTrueNode M claim)) (sym same ∙ at.parts) (tree-true M claim [] t.tree t.splits t.leaves)) in
-    node-true M claim at.visit.0 at.visit.1 why here at.judged
+tree-breaks : (F : Formulation) (claim : Claim) (nodes : List CertNode) (visited : List (Path × CertNode)) (n why : ℕ) → IsClosedTree F claim nodes → AreTreeVisits F.model nodes visited → IsJudgedAt F claim visited n (Breaks why) → ⊥
+tree-breaks F claim nodes visited n why t are at =
+    let same = tree_visits_one F.model nodes visited (visits F.model [] t.tree) are (record { tree = t.tree; nodes_are = t.nodes_are; are = refl }) in
+    let here = among (IsTrueNode F claim) at.before at.visit at.behind (subst (All (IsTrueNode F claim)) (sym same ∙ at.parts) (tree-true F claim [] t.tree t.splits t.leaves)) in
+    node-true F claim at.visit.0 at.visit.1 why here at.judged
 
-nodes-breaks : (M : Program) (claim : Claim) (nodes : List CertNode) (visited : List (Path × CertNode)) (n why : ℕ) → HasClosedTree M claim nodes → AreVisits M claim nodes visited → IsJudgedAt M claim visited n (Breaks why) → ⊥
-nodes-breaks M (Optimal v) nodes visited n why t are at = tree-breaks M (Optimal v) nodes visited n why t are at
-nodes-breaks M Infeasible nodes visited n why t are at = tree-breaks M Infeasible nodes visited n why t are at
-nodes-breaks M Unbounded nodes visited n why none are at = none_parts at.before at.visit at.behind (sym are.1 ∙ at.parts)
+nodes-breaks : (F : Formulation) (claim : Claim) (nodes : List CertNode) (visited : List (Path × CertNode)) (n why : ℕ) → HasClosedTree F claim nodes → AreVisits F.model claim nodes visited → IsJudgedAt F claim visited n (Breaks why) → ⊥
+nodes-breaks F (Optimal v) nodes visited n why t are at = tree-breaks F (Optimal v) nodes visited n why t are at
+nodes-breaks F Infeasible nodes visited n why t are at = tree-breaks F Infeasible nodes visited n why t are at
+nodes-breaks F Unbounded nodes visited n why none are at = none_parts at.before at.visit at.behind (sym are.1 ∙ at.parts)
   where
     none_parts : (before : List (Path × CertNode)) (x : Path × CertNode) (behind : List (Path × CertNode)) → [] ≡ before ++ x ∷ behind → ⊥
     none_parts [] x behind e = cc
     none_parts (y ∷ before) x behind e = cc
 
+head-true : (M : Program) (claim : Claim) (point ray : Named) (cuts : List NamedCut) (why : ℕ) → HasPoint M claim point → HasRay M claim ray → All (CutStands M) cuts → IsHeadJudged M claim point ray cuts (Breaks why) → ⊥
+head-true M claim point ray cuts why has along stand (inl judged) = (cuts_judged M cuts).broken why judged.1 stand
+head-true M claim point ray cuts why has along stand (inr first) = point-true M claim point ray why has along first.0
+
 first-true : (M : Program) (cert : Cert) (accepts : Accepts M cert) (visited : List (Path × CertNode)) → AreVisits M cert.claim cert.nodes visited → (n why : ℕ) → IsFirstFailing M cert visited n (Breaks why) → ⊥
-first-true M cert accepts visited are n why (inl claim) = point-true M cert.claim cert.point cert.ray why accepts.point accepts.ray claim.1
-first-true M cert accepts visited are n why (inr node) = nodes-breaks M cert.claim cert.nodes visited n why accepts.nodes are node.1
+first-true M cert accepts visited are n why (inl head) = head-true M cert.claim cert.point cert.ray cert.cuts why accepts.point accepts.ray accepts.cuts head.1
+first-true M cert accepts visited are n why (inr node) = nodes-breaks (formulation_by M cert.cuts) cert.claim cert.nodes visited n why accepts.nodes are node.1
 
 pub not_accepted : (M : Program) (cert : Cert) (n why : ℕ) → IsVerdict M cert (Rejected n why) → Accepts M cert → ⊥
 not_accepted M cert n why verdict accepts = first-true M cert accepts verdict.visited verdict.are n why verdict.is

@@ -149,10 +149,10 @@ here_drop (y ∷ all) zero x d rest e = cc
 here_drop (y ∷ all) (suc k) x d rest e = here_drop all k x d rest e
 
 -- the node that is visited next, and where the walk stands behind it
-pub record Visits (M : Program) (all : List (Path × CertNode)) (k : ℕ) (path : Path) : Type 0 where
+pub record Visits (M : Program) (cuts : ℕ) (all : List (Path × CertNode)) (k : ℕ) (path : Path) : Type 0 where
   pub node : CertNode
   pub is : (d : Path × CertNode) → get_or all k d ≡ (path, node)
-  pub behind : (p : NodeWithPlaces) → IsNarrowNode node → IsPlace M node p → (p ≡ node_place.Misnamed → ⊥) → Stands M all (k + 1) (after_node p path)
+  pub behind : (p : NodeWithPlaces) → IsNarrowNode node → IsPlace M cuts node p → (p ≡ node_place.Misnamed → ⊥) → Stands M all (k + 1) (after_node p path)
 
 behind_leaf : (M : Program) (all : List (Path × CertNode)) (k : ℕ) (frames : List Frame) → HasRoom frames → drop (k + 1) all ≡ due M frames → (path : Path) → path ≡ path_of frames → Stands M all (k + 1) (after_leaf path)
 behind_leaf M all k frames room left path at = record {
@@ -179,11 +179,11 @@ behind_split M all k frames col v left right room narrow e path at =
     }
 
 -- a node that no place of a split is of
-abbrev IsLeafNode : Program → CertNode → Type 0
-IsLeafNode M n = (col : ColId) (v : ℤ) → IsPlace M n (node_place.Split col v) → ⊥
+abbrev IsLeafNode : Program → ℕ → CertNode → Type 0
+IsLeafNode M cuts n = (col : ColId) (v : ℤ) → IsPlace M cuts n (node_place.Split col v) → ⊥
 
-module _ (M : Program) (all : List (Path × CertNode)) (k : ℕ) (path : Path) (frames : List Frame) (room : HasRoom frames) (at : path ≡ path_of frames) where
-  leaf_behind : (n : CertNode) → IsLeafNode M n → drop (k + 1) all ≡ due M frames → (p : NodeWithPlaces) → IsPlace M n p → (p ≡ node_place.Misnamed → ⊥) → Stands M all (k + 1) (after_node p path)
+module _ (M : Program) (cuts : ℕ) (all : List (Path × CertNode)) (k : ℕ) (path : Path) (frames : List Frame) (room : HasRoom frames) (at : path ≡ path_of frames) where
+  leaf_behind : (n : CertNode) → IsLeafNode M cuts n → drop (k + 1) all ≡ due M frames → (p : NodeWithPlaces) → IsPlace M cuts n p → (p ≡ node_place.Misnamed → ⊥) → Stands M all (k + 1) (after_node p path)
   leaf_behind n leaf next node_place.Misnamed place named = absurd (named refl)
   leaf_behind n leaf next (node_place.Split col v) place named = absurd (leaf col v place)
   leaf_behind n leaf next (node_place.Bound mult) place named = behind_leaf M all k frames room next path at
@@ -192,7 +192,7 @@ module _ (M : Program) (all : List (Path × CertNode)) (k : ℕ) (path : Path) (
 
   split_behind : (col : List ℕ) (v : ℤ) (left right : CertTree) →
       drop (k + 1) all ≡ (visits M (left_path (path_of frames) (place_among (column_names M) col) v) left ++ visits M (right_path (path_of frames) (place_among (column_names M) col) v) right) ++ due M frames →
-      (p : NodeWithPlaces) → IsNarrow v × IsNarrow (v +ℤ pos 1) → IsPlace M (node.Split col v) p → (p ≡ node_place.Misnamed → ⊥) → Stands M all (k + 1) (after_node p path)
+      (p : NodeWithPlaces) → IsNarrow v × IsNarrow (v +ℤ pos 1) → IsPlace M cuts (node.Split col v) p → (p ≡ node_place.Misnamed → ⊥) → Stands M all (k + 1) (after_node p path)
   split_behind col v left right next node_place.Misnamed narrow place named = absurd (named refl)
   split_behind col v left right next (node_place.Split j w) narrow place named =
       subst (λ T. T) (λ i. Stands M all (k + 1) (path ++ at_most (sym place.1 i) (sym place.2 i) ∷ [])) (behind_split M all k frames col v left right room narrow next path at)
@@ -200,14 +200,14 @@ module _ (M : Program) (all : List (Path × CertNode)) (k : ℕ) (path : Path) (
   split_behind col v left right next (node_place.Farkas mult) narrow place named = absurd place
   split_behind col v left right next node_place.Empty narrow place named = absurd place
 
-  visits_leaf : (n : CertNode) → IsLeafNode M n → drop k all ≡ (path_of frames, n) ∷ due M frames → Visits M all k path
+  visits_leaf : (n : CertNode) → IsLeafNode M cuts n → drop k all ≡ (path_of frames, n) ∷ due M frames → Visits M cuts all k path
   visits_leaf n leaf e = record {
     node = n;
     is = λ d. here_drop all k (path_of frames, n) d (due M frames) e ∙ ap (λ p. (p, n)) (sym at);
     behind = λ p narrow place named. leaf_behind n leaf (next_drop all k (path_of frames, n) (due M frames) e) p place named;
   }
 
-  visits_tree : (tree : CertTree) → drop k all ≡ visits M (path_of frames) tree ++ due M frames → Visits M all k path
+  visits_tree : (tree : CertTree) → drop k all ≡ visits M (path_of frames) tree ++ due M frames → Visits M cuts all k path
   visits_tree (Bound mults) e = visits_leaf (node.Bound mults) (λ col v place. place) e
   visits_tree (Farkas mults) e = visits_leaf (node.Farkas mults) (λ col v place. place) e
   visits_tree Empty e = visits_leaf node.Empty (λ col v place. place) e
@@ -217,10 +217,10 @@ module _ (M : Program) (all : List (Path × CertNode)) (k : ℕ) (path : Path) (
     behind = λ p narrow place named. split_behind col v left right (next_drop all k (path_of frames, node.Split col v) _ e) p narrow place named;
   }
 
-  visits_left : (tree : Option CertTree) → k < length all → drop k all ≡ left_at M frames tree → Visits M all k path
+  visits_left : (tree : Option CertTree) → k < length all → drop k all ≡ left_at M frames tree → Visits M cuts all k path
   unfolding left_at
   visits_left None below e = absurd (some_left all k below e)
   visits_left (Some tree) below e = visits_tree tree e
 
-pub visits_next : (M : Program) (all : List (Path × CertNode)) (k : ℕ) (path : Path) → k < length all → Stands M all k path → Visits M all k path
-visits_next M all k path below s = visits_left M all k path s.frames s.room s.at s.tree below s.left
+pub visits_next : (M : Program) (cuts : ℕ) (all : List (Path × CertNode)) (k : ℕ) (path : Path) → k < length all → Stands M all k path → Visits M cuts all k path
+visits_next M cuts all k path below s = visits_left M cuts all k path s.frames s.room s.at s.tree below s.left

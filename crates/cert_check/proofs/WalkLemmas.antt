@@ -11,24 +11,24 @@ use Rattle.cert_text.specs.declared.cert.CertNode.{CertNode}
 use Rattle.cert_check.specs.declared.judging.NodeWithPlaces.{NodeWithPlaces}
 use Rattle.cert_check.specs.Walk.{IsPlace, AreNodesPlaced, turned_change, in_front, after_leaf}
 
-module _ (M : Program) (node : CertNode) (one : NodeWithPlaces) (here : IsPlace M node one) where
-  placed_last : (ns : List CertNode) (ps : List NodeWithPlaces) → AreNodesPlaced M ns ps → AreNodesPlaced M (ns ++ node ∷ []) (ps ++ one ∷ [])
+module _ (M : Program) (cuts : ℕ) (node : CertNode) (one : NodeWithPlaces) (here : IsPlace M cuts node one) where
+  placed_last : (ns : List CertNode) (ps : List NodeWithPlaces) → AreNodesPlaced M cuts ns ps → AreNodesPlaced M cuts (ns ++ node ∷ []) (ps ++ one ∷ [])
   placed_last ns ps (same, each) =
-      let P : ℕ → Type 0 = λ k. (n : CertNode) (p : NodeWithPlaces) → IsPlace M (get_or (ns ++ node ∷ []) k n) (get_or (ps ++ one ∷ []) k p) in
+      let P : ℕ → Type 0 = λ k. (n : CertNode) (p : NodeWithPlaces) → IsPlace M cuts (get_or (ns ++ node ∷ []) k n) (get_or (ps ++ one ∷ []) k p) in
       let all : (k : ℕ) → k < length ns + 1 → P k =
       below_more P (length ns)
       (λ k below n p.
-      subst (λ T. T) (λ i. IsPlace M (sym (get_or_append_left ns (node ∷ []) n k below) i) (sym (get_or_append_left ps (one ∷ []) p k (omega (arith, same, below))) i)) (each k n p below))
+      subst (λ T. T) (λ i. IsPlace M cuts (sym (get_or_append_left ns (node ∷ []) n k below) i) (sym (get_or_append_left ps (one ∷ []) p k (omega (arith, same, below))) i)) (each k n p below))
       (λ n p.
-      subst (λ T. T) (λ i. IsPlace M (sym (get_or-append_seam ns node [] n) i) (sym (ap (λ k. get_or (ps ++ one ∷ []) k p) (sym same) ∙ get_or-append_seam ps one [] p) i)) here) in
+      subst (λ T. T) (λ i. IsPlace M cuts (sym (get_or-append_seam ns node [] n) i) (sym (ap (λ k. get_or (ps ++ one ∷ []) k p) (sym same) ∙ get_or-append_seam ps one [] p) i)) here) in
       let long = length-append ns (node ∷ []) in
       let long_ps = length-append ps (one ∷ []) in
       (omega (arith, same, long, long_ps), λ k n p below. all k (omega (arith, below, long)) n p)
 
-  pub placed_more : (nodes : List CertNode) (k : ℕ) (old new : List NodeWithPlaces) → k < length nodes → node ≡ get_or nodes k node → AreNodesPlaced M (take k nodes) old → new ≡ old ++ one ∷ [] → AreNodesPlaced M (take (k + 1) nodes) new
+  pub placed_more : (nodes : List CertNode) (k : ℕ) (old new : List NodeWithPlaces) → k < length nodes → node ≡ get_or nodes k node → AreNodesPlaced M cuts (take k nodes) old → new ≡ old ++ one ∷ [] → AreNodesPlaced M cuts (take (k + 1) nodes) new
   placed_more nodes k old new below is before after =
       let more : take (k + 1) nodes ≡ take k nodes ++ node ∷ [] = take_more nodes k node below ∙ ap (λ n. take k nodes ++ n ∷ []) (sym is) in
-      subst (λ T. T) (λ i. AreNodesPlaced M (sym more i) (sym after i)) (placed_last (take k nodes) old before)
+      subst (λ T. T) (λ i. AreNodesPlaced M cuts (sym more i) (sym after i)) (placed_last (take k nodes) old before)
 
 -- ---- paths
 

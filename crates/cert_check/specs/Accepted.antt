@@ -1,5 +1,7 @@
--- When a certificate is accepted for a model. Names not in this file:
+-- When a certificate is accepted for a model: its point and its ray are so, each of its cuts derives, and the leaves of its tree
+-- close by the rows of the model and of the cuts. Names not in this file:
 --     lag, farkas        the numbers of a leaf's multipliers in a region, with the costs and without (leaf_dual)
+--     CutStands          a cut's names are known, and it derives (specs/Cuts)
 --     SplitsLawfully, EachLeaf each split is on an integer column; what holds of each leaf and its path (branch_tree)
 use Rattle.std.specs.Prelude.{◌≡◌, ◌≢◌, ◌⊎◌, ℕ, true, false, List, [], map, length, All, AllPairs, Contains}
 use Rattle.rational.specs.Rational.{ℚ}
@@ -8,7 +10,7 @@ use Rattle.lp_model.specs.Lawful.{column_names}
 use Rattle.lp_model.specs.Rays.{IsRay}
 use Rattle.lp_model.specs.Edits.{Named, number_beside}
 use Rattle.lp_model.specs.Regions.{Path, IsEmptyRegion}
-use Rattle.lp_model.specs.Formulations.{Formulation, without_cuts}
+use Rattle.lp_model.specs.Formulations.{Formulation}
 use Rattle.leaf_dual.specs.Dual.{Multipliers, lag, farkas, IsPositiveNumber, Reaches}
 use Rattle.branch_tree.specs.Tree.{SplitsLawfully, EachLeaf}
 use Rattle.cert_text.specs.declared.cert.Claim.{Claim}
@@ -19,6 +21,7 @@ use Rattle.cert_text.specs.declared.cert.Cert.{Cert}
 use Rattle.cert_text.specs.Tree.{CertTree, certificate_nodes}
 use Rattle.cert_check.specs.Places.{with_places}
 use Rattle.cert_check.specs.Mults.{AreMults, mults_of}
+use Rattle.cert_check.specs.Cuts.{formulation_by, CutStands}
 
 -- ---- names
 
@@ -81,19 +84,20 @@ HasRay M Infeasible named = named ≡ []
 HasRay M Unbounded named = IsRayNamed M named
 
 -- the nodes are those of a lawful tree, each of whose leaves closes as it says
-pub record IsClosedTree (M : Program) (claim : Claim) (nodes : List CertNode) : Type 0 where
+pub record IsClosedTree (F : Formulation) (claim : Claim) (nodes : List CertNode) : Type 0 where
   pub tree : CertTree
   pub nodes_are : certificate_nodes tree ≡ nodes
-  pub splits : SplitsLawfully M (with_places M tree)
-  pub leaves : EachLeaf (Closes (without_cuts M) claim) [] (with_places M tree)
+  pub splits : SplitsLawfully F.model (with_places F.model tree)
+  pub leaves : EachLeaf (Closes F claim) [] (with_places F.model tree)
 
 -- nothing else stands under a claim that the model is unbounded
-abbrev pub HasClosedTree : Program → Claim → List CertNode → Type 0
-HasClosedTree M (Optimal v) nodes = IsClosedTree M (Optimal v) nodes
-HasClosedTree M Infeasible nodes = IsClosedTree M Infeasible nodes
-HasClosedTree M Unbounded nodes = nodes ≡ []
+abbrev pub HasClosedTree : Formulation → Claim → List CertNode → Type 0
+HasClosedTree F (Optimal v) nodes = IsClosedTree F (Optimal v) nodes
+HasClosedTree F Infeasible nodes = IsClosedTree F Infeasible nodes
+HasClosedTree F Unbounded nodes = nodes ≡ []
 
 pub record Accepts (M : Program) (cert : Cert) : Type 0 where
   pub point : HasPoint M cert.claim cert.point
   pub ray : HasRay M cert.claim cert.ray
-  pub nodes : HasClosedTree M cert.claim cert.nodes
+  pub cuts : All (CutStands M) cert.cuts
+  pub nodes : HasClosedTree (formulation_by M cert.cuts) cert.claim cert.nodes

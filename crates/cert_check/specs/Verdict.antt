@@ -1,9 +1,11 @@
--- What the judging of a certificate answers. Its point comes first, then its ray, then the nodes in preorder; the first that does
--- not pass decides. Node 0 is the point and the ray, and nodes are counted from 1. What does not pass breaks for a reason
---     1   a name is unknown, or stands twice on a line
+-- What the judging of a certificate answers. Its point comes first, then its ray, then its cuts, then the nodes in preorder; the
+-- first that does not pass decides. Node 0 is the point, the ray and the cuts, and nodes are counted from 1. What does not pass
+-- breaks for a reason
+--     1   a name is unknown, or stands twice on a line; a cut's number is not there, or stands twice
 --     2   the point is not feasible
 --     3   its value is not the claimed one
 --     4   the ray moves an integer column, passes a bound or a side, or does not improve
+--     5   a cut does not derive
 --     6   a split on a column that is not integer
 --     7   a leaf does not close as it says
 -- or has a step of arithmetic without room.
@@ -15,13 +17,14 @@ use Rattle.lp_model.specs.Answers.{IsValueAnswer, IsFeasibilityAnswer}
 use Rattle.lp_model.specs.Edits.{Named}
 use Rattle.lp_model.specs.Rays.{IsRayJudged}
 use Rattle.lp_model.specs.Regions.{Path, IsEmptyRegion}
-use Rattle.lp_model.specs.Formulations.{Formulation, without_cuts}
+use Rattle.lp_model.specs.Formulations.{Formulation}
 use Rattle.leaf_dual.specs.Dual.{Multipliers, IsPositiveNumber, Reaches}
 use Rattle.leaf_dual.specs.Answers.{IsLagAnswer, IsFarkasAnswer}
 use Rattle.leaf_dual.specs.declared.dual.LagValue.{LagValue}
 use Rattle.branch_tree.specs.Tree.{left_path, right_path}
 use Rattle.cert_text.specs.declared.cert.Claim.{Claim}
 use Rattle.cert_text.specs.declared.cert.Claim.TheVariants.{Optimal, Infeasible, Unbounded}
+use Rattle.cert_text.specs.declared.cert.NamedCut.{NamedCut}
 use Rattle.cert_text.specs.declared.cert.CertNode.{CertNode}
 use Rattle.cert_text.specs.declared.cert.CertNode.TheVariants as node
 use Rattle.cert_text.specs.declared.cert.Cert.{Cert}
@@ -32,6 +35,7 @@ use Rattle.cert_check.specs.declared.verdict.Verdict.TheVariants.{Accepted, Reje
 use Rattle.cert_text.specs.Tree.{CertTree, Bound, Farkas, Empty, Split, certificate_nodes}
 use Rattle.cert_check.specs.Places.{place_among}
 use Rattle.cert_check.specs.Mults.{AreMults, mults_of}
+use Rattle.cert_check.specs.Cuts.{formulation_by, AreCutsJudged}
 use Rattle.cert_check.specs.Accepted.{AreNames, point_of}
 
 -- where what the line names is there, and stands once, what holds of the judgement; else it breaks for that
@@ -116,6 +120,10 @@ IsClaimJudged M Unbounded point ray j =
     (WhereThere (AreNames (column_names M) point) (IsFeasibleJudged M (point_of M point)))
     (WhereThere (AreNames (column_names M) ray) (IsDirectionJudged M (point_of M ray))) j
 
+-- the point and the ray, and then the cuts
+abbrev pub IsHeadJudged : Program → Claim → Named → Named → List NamedCut → Judgement → Type 0
+IsHeadJudged M claim point ray cuts j = InOrder (IsClaimJudged M claim point ray) (AreCutsJudged M cuts) j
+
 -- ---- the certificate
 
 -- the nodes in preorder, each with its path
@@ -128,8 +136,8 @@ visits M path (Split col v left right) =
     ∷ (visits M (left_path path (place_among (column_names M) col) v) left
     ++ visits M (right_path path (place_among (column_names M) col) v) right)
 
-abbrev pub IsVisitJudged : Program → Claim → (Path × CertNode) → Judgement → Type 0
-IsVisitJudged M claim visit j = IsNodeJudged (without_cuts M) claim visit.0 visit.1 j
+abbrev pub IsVisitJudged : Formulation → Claim → (Path × CertNode) → Judgement → Type 0
+IsVisitJudged F claim visit j = IsNodeJudged F claim visit.0 visit.1 j
 
 -- the nodes are those of one whole tree, with their paths
 pub record AreTreeVisits (M : Program) (nodes : List CertNode) (visited : List (Path × CertNode)) : Type 0 where
@@ -144,23 +152,24 @@ AreVisits M Infeasible nodes visited = AreTreeVisits M nodes visited
 AreVisits M Unbounded nodes visited = (nodes ≡ []) × (visited ≡ [])
 
 -- some of the nodes pass, and then there is one that is judged so; it has this number
-pub record IsJudgedAt (M : Program) (claim : Claim) (visited : List (Path × CertNode)) (number : ℕ) (j : Judgement) : Type 0 where
+pub record IsJudgedAt (F : Formulation) (claim : Claim) (visited : List (Path × CertNode)) (number : ℕ) (j : Judgement) : Type 0 where
   pub before : List (Path × CertNode)
   pub visit : Path × CertNode
   pub behind : List (Path × CertNode)
   pub parts : visited ≡ before ++ visit ∷ behind
-  pub pass : All (λ p. IsVisitJudged M claim p Passes) before
-  pub judged : IsVisitJudged M claim visit j
+  pub pass : All (λ p. IsVisitJudged F claim p Passes) before
+  pub judged : IsVisitJudged F claim visit j
   pub counted : number ≡ suc (length before)
 
--- The judgement j of node `number`, 0 being the point and the ray, is the first that is no pass.
+-- The judgement j of node `number`, 0 being what stands before the nodes, is the first that is no pass.
 abbrev pub IsFirstFailing : Program → Cert → List (Path × CertNode) → ℕ → Judgement → Type 0
 IsFirstFailing M cert visited number j =
-    ((number ≡ 0) × IsClaimJudged M cert.claim cert.point cert.ray j)
-    ⊎ (IsClaimJudged M cert.claim cert.point cert.ray Passes × IsJudgedAt M cert.claim visited number j)
+    ((number ≡ 0) × IsHeadJudged M cert.claim cert.point cert.ray cert.cuts j)
+    ⊎ (IsHeadJudged M cert.claim cert.point cert.ray cert.cuts Passes × IsJudgedAt (formulation_by M cert.cuts) cert.claim visited number j)
 
 abbrev pub IsVerdictOn : Program → Cert → List (Path × CertNode) → Verdict → Type 0
-IsVerdictOn M cert visited (Accepted claim) = (claim ≡ cert.claim) × IsClaimJudged M cert.claim cert.point cert.ray Passes × All (λ p. IsVisitJudged M cert.claim p Passes) visited
+IsVerdictOn M cert visited (Accepted claim) =
+    (claim ≡ cert.claim) × IsHeadJudged M cert.claim cert.point cert.ray cert.cuts Passes × All (λ p. IsVisitJudged (formulation_by M cert.cuts) cert.claim p Passes) visited
 IsVerdictOn M cert visited (Rejected number why) = IsFirstFailing M cert visited number (Breaks why)
 IsVerdictOn M cert visited (Wide number step) = IsFirstFailing M cert visited number (NoRoom step)
 

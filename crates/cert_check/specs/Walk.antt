@@ -5,7 +5,7 @@ use Rattle.frac128.specs.Range.{IsNarrow}
 use Rattle.lp_model.specs.Program.{Program, Point}
 use Rattle.lp_model.specs.Lawful.{column_names}
 use Rattle.lp_model.specs.Regions.{Path, at_most, at_least}
-use Rattle.lp_model.specs.Formulations.{without_cuts}
+use Rattle.lp_model.specs.Formulations.{Formulation}
 use Rattle.lp_model.specs.declared.types.Side.{Side}
 use Rattle.lp_model.specs.declared.types.Side.TheVariants.{Lo, Hi}
 use Rattle.lp_model.specs.declared.types.BoundChange.{BoundChange}
@@ -24,6 +24,7 @@ use Rattle.cert_check.specs.declared.checking.RegionBuf.{RegionBuf}
 use Rattle.cert_text.specs.Tree.{CertTree, certificate_nodes}
 use Rattle.cert_check.specs.Places.{place_among}
 use Rattle.cert_check.specs.Mults.{AreMults, mults_of}
+use Rattle.cert_check.specs.Cuts.{AreCutsFound}
 use Rattle.cert_check.specs.Accepted.{AreNames, point_of}
 use Rattle.cert_check.specs.Verdict.{IsNumberJudged, IsFarkasJudged, IsEmptyJudged, IsKindJudged, visits, IsVisitJudged, IsJudgedAt}
 use Rattle.cert_text.specs.Whole.{IsNarrowNode}
@@ -31,23 +32,23 @@ use Rattle.cert_check.specs.Tight.{IsTrail, room}
 
 -- ---- nodes with places
 
--- the node with its names as places; Misnamed where one is unknown or stands twice
-abbrev pub IsPlace : Program → CertNode → NodeWithPlaces → Type 0
-IsPlace M (node.Split col v) Misnamed = ¬ Contains (column_names M) col
-IsPlace M (node.Split col v) (Split place w) = (place.0 < length M.cols) × (place.0 ≡ place_among (column_names M) col) × (w ≡ v)
-IsPlace M (node.Bound mults) Misnamed = ¬ AreMults M 0 mults
-IsPlace M (node.Bound mults) (Bound mult) = AreMults M 0 mults × (mult ≡ mults_of M mults)
-IsPlace M (node.Farkas mults) Misnamed = ¬ AreMults M 0 mults
-IsPlace M (node.Farkas mults) (Farkas mult) = AreMults M 0 mults × (mult ≡ mults_of M mults)
-IsPlace M node.Empty Empty = Unit {0}
-IsPlace M n placed = ⊥
+-- the node with its names and the numbers of some cuts as places; Misnamed where one is unknown or stands twice
+abbrev pub IsPlace : Program → ℕ → CertNode → NodeWithPlaces → Type 0
+IsPlace M cuts (node.Split col v) Misnamed = ¬ Contains (column_names M) col
+IsPlace M cuts (node.Split col v) (Split place w) = (place.0 < length M.cols) × (place.0 ≡ place_among (column_names M) col) × (w ≡ v)
+IsPlace M cuts (node.Bound mults) Misnamed = ¬ AreMults M cuts mults
+IsPlace M cuts (node.Bound mults) (Bound mult) = AreMults M cuts mults × (mult ≡ mults_of M mults)
+IsPlace M cuts (node.Farkas mults) Misnamed = ¬ AreMults M cuts mults
+IsPlace M cuts (node.Farkas mults) (Farkas mult) = AreMults M cuts mults × (mult ≡ mults_of M mults)
+IsPlace M cuts node.Empty Empty = Unit {0}
+IsPlace M cuts n placed = ⊥
 
-abbrev pub IsPlacedJudged : Program → Claim → Path → NodeWithPlaces → Judgement → Type 0
-IsPlacedJudged M claim path Misnamed j = j ≡ Breaks 1
-IsPlacedJudged M claim path (Split col v) j = IsKindJudged M col.0 j
-IsPlacedJudged M claim path (Bound mult) j = IsNumberJudged (without_cuts M) claim path mult j
-IsPlacedJudged M claim path (Farkas mult) j = IsFarkasJudged (without_cuts M) path mult j
-IsPlacedJudged M claim path Empty j = IsEmptyJudged M path j
+abbrev pub IsPlacedJudged : Formulation → Claim → Path → NodeWithPlaces → Judgement → Type 0
+IsPlacedJudged F claim path Misnamed j = j ≡ Breaks 1
+IsPlacedJudged F claim path (Split col v) j = IsKindJudged F.model col.0 j
+IsPlacedJudged F claim path (Bound mult) j = IsNumberJudged F claim path mult j
+IsPlacedJudged F claim path (Farkas mult) j = IsFarkasJudged F path mult j
+IsPlacedJudged F claim path Empty j = IsEmptyJudged F.model path j
 
 -- ---- paths
 
@@ -86,19 +87,19 @@ has_tree Unbounded = false
 
 -- ---- the buffer
 
-abbrev pub AreNodesPlaced : Program → List CertNode → List NodeWithPlaces → Type 0
-AreNodesPlaced M nodes placed = (length placed ≡ length nodes) × ((k : ℕ) (n : CertNode) (p : NodeWithPlaces) → k < length nodes → IsPlace M (get_or nodes k n) (get_or placed k p))
+abbrev pub AreNodesPlaced : Program → ℕ → List CertNode → List NodeWithPlaces → Type 0
+AreNodesPlaced M cuts nodes placed = (length placed ≡ length nodes) × ((k : ℕ) (n : CertNode) (p : NodeWithPlaces) → k < length nodes → IsPlace M cuts (get_or nodes k n) (get_or placed k p))
 
 -- the places are those of a tree's nodes, and fractions have room for its splits
-pub record IsWalked (M : Program) (tree : CertTree) (placed : List NodeWithPlaces) : Type 0 where
-  pub places : AreNodesPlaced M (certificate_nodes tree) placed
+pub record IsWalked (F : Formulation) (tree : CertTree) (placed : List NodeWithPlaces) : Type 0 where
+  pub places : AreNodesPlaced F.model (length F.cuts) (certificate_nodes tree) placed
   pub narrow : All IsNarrowNode (certificate_nodes tree)
 
 -- the verdict on the nodes alone
-abbrev pub IsNodesVerdict : Program → Claim → CertTree → Verdict → Type 0
-IsNodesVerdict M claim tree (Accepted told) = (told ≡ claim) × All (λ p. IsVisitJudged M claim p Passes) (visits M [] tree)
-IsNodesVerdict M claim tree (Rejected number why) = IsJudgedAt M claim (visits M [] tree) number (Breaks why)
-IsNodesVerdict M claim tree (Wide number step) = IsJudgedAt M claim (visits M [] tree) number (NoRoom step)
+abbrev pub IsNodesVerdict : Formulation → Claim → CertTree → Verdict → Type 0
+IsNodesVerdict F claim tree (Accepted told) = (told ≡ claim) × All (λ p. IsVisitJudged F claim p Passes) (visits F.model [] tree)
+IsNodesVerdict F claim tree (Rejected number why) = IsJudgedAt F claim (visits F.model [] tree) number (Breaks why)
+IsNodesVerdict F claim tree (Wide number step) = IsJudgedAt F claim (visits F.model [] tree) number (NoRoom step)
 
 -- the numbers beside names as a point, if each name is a column's and none stands twice
 abbrev pub IsPointOf : Program → Named → Option Point → Type 0
@@ -106,7 +107,9 @@ IsPointOf M named point = MatchOption point (¬ AreNames (column_names M) named)
 
 -- the buffer was made for this model and this certificate
 pub record IsBufferOf (M : Program) (cert : Cert) (buf : RegionBuf) : Type 0 where
-  pub nodes : AreNodesPlaced M cert.nodes buf.nodes.items
+  pub cuts : AreCutsFound M cert.cuts buf.cuts
+  pub few : length cert.cuts ≤ 4294967296
+  pub nodes : AreNodesPlaced M (length cert.cuts) cert.nodes buf.nodes.items
   pub trail : IsTrail buf.trail
   pub room : length cert.nodes ≤ room buf.trail
   pub point : IsPointOf M cert.point buf.point

@@ -1,19 +1,24 @@
 // The walk through a certificate's nodes.
-ghost use Rattle.std.specs.Prelude.{◌≡◌, ◌↔◌, ◌<◌, ◌≤◌, ◌+◌, ◌+ℤ◌, pos, length, All, IsTrue, IfOk};
+ghost use Rattle.std.specs.Prelude.{◌≡◌, ◌↔◌, ◌<◌, ◌≤◌, ◌+◌, ◌+ℤ◌, pos, length, All, IsTrue, IfOk, ℕ, List as Items};
 ghost use Rattle.frac128.specs.Range.{IsNarrow};
 ghost use Rattle.lp_model.specs.Program.{HasWholeObjective};
 ghost use Rattle.lp_model.specs.Regions.{AreNarrow, at_least};
+ghost use Rattle.lp_model.specs.Formulations.{formulation};
+ghost use Rattle.leaf_dual.specs.Dual.{HavePlaces};
 ghost use Rattle.cert_check.specs.Walk.{IsPlace, AreNodesPlaced, IsBufferOf, IsPlacedJudged, CanTurn, after_leaf, after_node, IsWalked, IsNodesVerdict, IsPointOf, has_tree};
 ghost use Rattle.cert_check.specs.Tight.{IsTrail, path_of_trail, room};
-ghost use Rattle.cert_check.specs.Verdict.{WhereThere, IsFeasibleJudged, IsDirectionJudged, IsClaimJudged, IsVerdict};
+ghost use Rattle.cert_check.specs.Verdict.{WhereThere, IsFeasibleJudged, IsDirectionJudged, IsClaimJudged, IsHeadJudged, IsVerdict};
+ghost use Rattle.cert_check.specs.Cuts.{AreCutsFound};
 ghost use Rattle.lp_model.specs.Lawful.{column_names};
 ghost use Rattle.cert_check.specs.Accepted.{AreNames, point_of};
 ghost use Rattle.cert_text.specs.Whole.{IsCertificate};
 ghost use Rattle.lp_model.specs.Edits.{Named};
 ghost use Rattle.cert_text.specs.Tree.{CertTree};
 ghost use Rattle.cert_text.specs.declared.cert.CertNode.{CertNode};
+ghost use Rattle.cert_text.specs.declared.cert.NamedCut.{NamedCut};
 ghost use Rattle.cert_text.specs.declared.cert.Claim.TheVariants.{Unbounded};
 
+use crate::cuts::{CutRows, cut_rows, cuts_judgement, standing_rows};
 use crate::judging::{
     NodeWithPlaces, is_whole, judge_empty, judge_farkas, judge_feasible, judge_number, judge_point,
     judge_ray, judge_split,
@@ -23,37 +28,43 @@ use crate::names::{column_place, point};
 use crate::trail::Trail;
 use crate::verdict::{Judgement, Verdict};
 use cert_text::{Cert, CertNode, Claim};
-use lp_model::{BoundChange, Model, Point, Side};
+use lp_model::{BoundChange, CutRow, Model, Point, Side};
 use std::alloc::{AllocError, Global};
 
-/// What the judging of a certificate works in: its nodes, its point and its ray with the names as places, and room for the
-/// path to a node and the region's changes.
+/// The most cuts of a certificate: the place of a cut has 32 bits.
+const MOST_CUTS: usize = 4_294_967_296;
+
+/// What the judging of a certificate works in: its nodes, its point and its ray with the names as places, the rows of its
+/// cuts, and room for the path to a node and the region's changes.
 #[derive(Drop)]
 pub struct RegionBuf {
     pub(crate) nodes: Vec<NodeWithPlaces>,
     pub(crate) trail: Trail,
     pub(crate) point: Option<Point>,
     pub(crate) ray: Option<Point>,
+    pub(crate) cuts: CutRows,
 }
 
-/// A node with its names as places.
+/// A node with its names and the numbers of some cuts as places.
 fn node_with_places(
     alloc: Global,
     model: &Model,
+    cuts: usize,
     node: &CertNode,
 ) -> Result<NodeWithPlaces, AllocError>
-    ensures { IfOk result (λ placed. IsPlace model.now node.now placed) }
+    requires { cuts ≤ 4294967296 }
+    ensures { IfOk result (λ placed. IsPlace model.now cuts node.now placed) }
 {
     Ok(match node {
         CertNode::Split { col, v } => match column_place(model, col) {
             Some(col) => NodeWithPlaces::Split { col, v: *v },
             None => NodeWithPlaces::Misnamed,
         },
-        CertNode::Bound(mults) => match multipliers(alloc, model, 0, mults.as_slice())? {
+        CertNode::Bound(mults) => match multipliers(alloc, model, cuts, mults.as_slice())? {
             Some(mult) => NodeWithPlaces::Bound(mult),
             None => NodeWithPlaces::Misnamed,
         },
-        CertNode::Farkas(mults) => match multipliers(alloc, model, 0, mults.as_slice())? {
+        CertNode::Farkas(mults) => match multipliers(alloc, model, cuts, mults.as_slice())? {
             Some(mult) => NodeWithPlaces::Farkas(mult),
             None => NodeWithPlaces::Misnamed,
         },
@@ -61,28 +72,37 @@ fn node_with_places(
     })
 }
 
-/// The nodes with their names as places.
+/// The nodes with their names and the numbers of some cuts as places.
 fn placed_nodes(
     alloc: Global,
     model: &Model,
+    cuts: usize,
     nodes: &[CertNode],
 ) -> Result<Vec<NodeWithPlaces>, AllocError>
-    ensures { IfOk result (λ all. AreNodesPlaced model.now nodes.now all.items) }
+    requires { cuts ≤ 4294967296 }
+    ensures { IfOk result (λ all. AreNodesPlaced model.now cuts nodes.now all.items) }
 {
     let mut all = Vec::new(alloc);
     for node in nodes {
-        let one = node_with_places(alloc, model, node)?;
+        let one = node_with_places(alloc, model, cuts, node)?;
         all.push(one)?;
     }
     Ok(all)
 }
 
 impl RegionBuf {
-    /// The buffer for a model and a certificate: the names are looked up. Memory is linear in the certificate.
+    /// The buffer for a model and a certificate: the names are looked up, and the cuts are judged. Memory is linear in the
+    /// certificate.
     pub fn new(alloc: Global, model: &Model, cert: &Cert) -> Result<RegionBuf, AllocError>
         ensures { IfOk result (λ buf. IsBufferOf model.now cert.now buf) }
     {
-        let nodes = placed_nodes(alloc, model, cert.nodes.as_slice())?;
+        let count = cert.cuts.as_slice().len();
+        // so many rows would take more memory than a machine has
+        if count > MOST_CUTS {
+            return Err(AllocError);
+        }
+        let cuts = cut_rows(alloc, model, cert.cuts.as_slice())?;
+        let nodes = placed_nodes(alloc, model, count, cert.nodes.as_slice())?;
         let trail = Trail::new(alloc, cert.nodes.as_slice().len())?;
         let found = point(alloc, model, cert.point.as_slice())?;
         let ray = point(alloc, model, cert.ray.as_slice())?;
@@ -91,6 +111,7 @@ impl RegionBuf {
             trail,
             point: found,
             ray,
+            cuts,
         })
     }
 }
@@ -98,23 +119,25 @@ impl RegionBuf {
 /// One node, by the changes of a path to it or others that leave the same bounds.
 fn judge(
     model: &Model,
+    cuts: &[CutRow],
     claim: &Claim,
     whole: bool,
     path: &[BoundChange],
     node: &NodeWithPlaces,
 ) -> Judgement
     requires narrow { AreNarrow path.now }
+    requires places { HavePlaces cuts.now }
     requires whole { IsTrue whole ↔ HasWholeObjective model.now 1 }
-    requires placed { (n : CertNode) × IsPlace model.now n node.now }
-    ensures { IsPlacedJudged model.now claim.now path.now node.now result }
+    requires placed { (n : CertNode) × IsPlace model.now (length cuts.now) n node.now }
+    ensures { IsPlacedJudged (formulation model.now cuts.now) claim.now path.now node.now result }
 {
     match node {
         NodeWithPlaces::Misnamed => Judgement::Breaks(1),
         NodeWithPlaces::Split { col, .. } => judge_split(model, *col),
         NodeWithPlaces::Bound(mult) => {
-            judge_number(model, &[], claim, whole, path, mult.as_slice())
+            judge_number(model, cuts, claim, whole, path, mult.as_slice())
         }
-        NodeWithPlaces::Farkas(mult) => judge_farkas(model, &[], path, mult.as_slice()),
+        NodeWithPlaces::Farkas(mult) => judge_farkas(model, cuts, path, mult.as_slice()),
         NodeWithPlaces::Empty => judge_empty(model, path),
     }
 }
@@ -169,11 +192,18 @@ fn step_on(trail: &mut Trail, node: &NodeWithPlaces)
 }
 
 /// The nodes in order, each judged by the region of its path.
-fn check_nodes(model: &Model, claim: &Claim, nodes: &[NodeWithPlaces], trail: &mut Trail) -> Verdict
+fn check_nodes(
+    model: &Model,
+    cuts: &[CutRow],
+    claim: &Claim,
+    nodes: &[NodeWithPlaces],
+    trail: &mut Trail,
+) -> Verdict
     requires trail { IsTrail trail.old }
     requires room { length nodes.now ≤ room trail.old }
-    requires tree { (tree : CertTree) × IsWalked model.now tree nodes.now }
-    ensures verdict { (tree : CertTree) → IsWalked model.now tree nodes.now → IsNodesVerdict model.now claim.now tree result }
+    requires places { HavePlaces cuts.now }
+    requires tree { (tree : CertTree) × IsWalked (formulation model.now cuts.now) tree nodes.now }
+    ensures verdict { (tree : CertTree) → IsWalked (formulation model.now cuts.now) tree nodes.now → IsNodesVerdict (formulation model.now cuts.now) claim.now tree result }
     ensures trail { IsTrail trail.new }
     ensures room { room trail.new ≡ room trail.old }
 {
@@ -181,7 +211,7 @@ fn check_nodes(model: &Model, claim: &Claim, nodes: &[NodeWithPlaces], trail: &m
     trail.restart();
     for index in 0..nodes.len() {
         let node = &nodes[index];
-        match judge(model, claim, whole, trail.region(), node) {
+        match judge(model, cuts, claim, whole, trail.region(), node) {
             Judgement::Passes => step_on(trail, node),
             Judgement::Breaks(why) => {
                 return Verdict::Rejected {
@@ -250,6 +280,24 @@ fn check_claim(
     }
 }
 
+/// The point, the ray and the cuts. The cuts were judged before; what was found of them counts where the point and the ray
+/// pass.
+fn check_head(
+    model: &Model,
+    claim: &Claim,
+    point: &Option<Point>,
+    ray: &Option<Point>,
+    cuts: &CutRows,
+) -> Judgement
+    ensures { (p r : Named) (named : Items NamedCut) → IsPointOf model.now p point.now → IsPointOf model.now r ray.now → AreCutsFound model.now named cuts.now → IsHeadJudged model.now claim.now p r named result }
+{
+    match check_claim(model, claim, point, ray) {
+        Judgement::Passes => cuts_judgement(cuts),
+        Judgement::Breaks(why) => Judgement::Breaks(why),
+        Judgement::NoRoom(step) => Judgement::NoRoom(step),
+    }
+}
+
 /// Whether the claim is proved by a tree.
 fn has_tree(claim: &Claim) -> bool
     ensures { result ≡ has_tree claim.now }
@@ -262,21 +310,22 @@ fn has_tree(claim: &Claim) -> bool
 }
 
 /// Whether the certificate is accepted for the model: the first node that does not hold, or has a step of arithmetic
-/// without room, in the order of the text, its point and its ray before all. No memory is taken, and a deep tree takes no
-/// more of the stack than a flat one.
+/// without room, in the order of the text, its point, its ray and its cuts before all. No memory is taken, and a deep tree
+/// takes no more of the stack than a flat one.
 pub fn check(model: &Model, cert: &Cert, buf: &mut RegionBuf) -> Verdict
     requires certificate { IsCertificate cert.now }
     requires buffer { IsBufferOf model.now cert.now buf.old }
     ensures verdict { IsVerdict model.now cert.now result }
     ensures buffer { IsBufferOf model.now cert.now buf.new }
 {
-    match check_claim(model, &cert.claim, &buf.point, &buf.ray) {
+    match check_head(model, &cert.claim, &buf.point, &buf.ray, &buf.cuts) {
         Judgement::Passes => {}
         Judgement::Breaks(why) => return Verdict::Rejected { node: 0, why },
         Judgement::NoRoom(step) => return Verdict::Wide { node: 0, step },
     }
     if has_tree(&cert.claim) {
-        check_nodes(model, &cert.claim, &buf.nodes, &mut buf.trail)
+        let cuts = standing_rows(&buf.cuts);
+        check_nodes(model, cuts, &cert.claim, &buf.nodes, &mut buf.trail)
     } else {
         Verdict::Accepted(cert.claim)
     }

@@ -14,14 +14,15 @@ pub enum Judgement {
 }
 
 /// Whether a certificate is accepted for a model. Nodes are counted from 1 in the order of the text, and node 0 is the
-/// point and the ray.
+/// point, the ray and the cuts.
 #[derive(Clone, Copy, Debug, Drop)]
 pub enum Verdict {
     /// This claim, the certificate's, is true.
     Accepted(Claim),
-    /// The first node that does not hold, and why: 1 a name is unknown or stands twice on a line, 2 the point is not
-    /// feasible, 3 its value is not the claimed one, 4 the ray moves an integer column, passes a bound or a side, or does not
-    /// improve, 6 a split on a column that is not integer, 7 a leaf does not close as it says.
+    /// The first node that does not hold, and why: 1 a name is unknown or stands twice on a line, or a cut's number is not
+    /// there or stands twice, 2 the point is not feasible, 3 its value is not the claimed one, 4 the ray moves an integer
+    /// column, passes a bound or a side, or does not improve, 5 a cut does not derive, 6 a split on a column that is not
+    /// integer, 7 a leaf does not close as it says.
     Rejected { node: u64, why: u8 },
     /// The first node with a step of arithmetic that has no room, all before it holding.
     Wide { node: u64, step: WideStep },

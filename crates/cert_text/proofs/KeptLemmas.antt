@@ -6,12 +6,13 @@ use Rattle.std.proofs.lemmas.List.Elements.{All-append}
 use Rattle.lp_model.specs.Edits.{Named}
 use Rattle.cert_text.specs.declared.cert.Claim.{Claim}
 use Rattle.cert_text.specs.declared.cert.Claim.TheVariants.{Optimal, Infeasible, Unbounded}
+use Rattle.cert_text.specs.declared.cert.NamedCut.{NamedCut}
 use Rattle.cert_text.specs.declared.cert.CertNode.{CertNode}
 use Rattle.cert_text.specs.declared.line.Statement.TheVariants.{Claims, Node}
 use Rattle.cert_text.specs.declared.reading.Reading.{Reading}
 use Rattle.cert_text.specs.Text.{StatedCertificate, due_after, is_whole_tree, are_none, takes_point, takes_ray, lacks_point, lacks_numbers, lacks_part, place_code, code_in, end_code, or_no_end, first_claim, first_named, cert_of}
 use Rattle.cert_text.specs.declared.line.Statement.TheVariants as says
-use Rattle.cert_text.specs.Whole.{TakesAll, IsPointed, IsDirected, IsRooted, IsNarrowNode, HasNoPoint, HasNoRay, AreOneTree, HasTree, IsCertificate}
+use Rattle.cert_text.specs.Whole.{TakesAll, IsPointed, IsDirected, AreCutsDue, IsRooted, IsNarrowNode, HasNoPoint, HasNoRay, HasNoCuts, AreOneTree, HasTree, IsCertificate}
 use Rattle.cert_text.specs.Reading.{held, after, AreKept, IsReadable}
 use Rattle.cert_text.proofs.DueLemmas.{takes-more, whole_tree}
 
@@ -49,8 +50,8 @@ one_node n here zero d below = here
 one_node n here (suc k) d below = absurd (omega arith)
 
 pub node_kept : (old new : Reading) (n : CertNode) → code_in (held old) (Ok (Node n)) ≡ None → IsNarrowNode n → IsReadable old →
-    new.nodes ≡ old.nodes ++ n ∷ [] → new.claim ≡ old.claim → new.point ≡ old.point → new.ray ≡ old.ray → new.ended ≡ old.ended → IsReadable new
-node_kept old new n clean narrow kept nodes claim point ray ended =
+    new.nodes ≡ old.nodes ++ n ∷ [] → new.claim ≡ old.claim → new.point ≡ old.point → new.ray ≡ old.ray → new.cuts ≡ old.cuts → new.ended ≡ old.ended → IsReadable new
+node_kept old new n clean narrow kept nodes claim point ray cuts ended =
     let c = node_clean (held old) n clean in
     record {
       takes = subst (TakesAll 1) (sym nodes) (takes-more 1 old.nodes n kept.takes c.1.1);
@@ -58,6 +59,7 @@ node_kept old new n clean narrow kept nodes claim point ray ended =
       narrow = subst (All IsNarrowNode) (sym nodes) (All-append IsNarrowNode old.nodes (n ∷ []) kept.narrow (one_node n narrow));
       pointed = subst (λ T. T) (λ i. IsPointed (sym claim i) (sym point i)) kept.pointed;
       directed = subst (λ T. T) (λ i. IsDirected (sym claim i) (sym ray i)) kept.directed;
+      cuts_due = subst (λ T. T) (λ i. AreCutsDue (sym claim i) (sym cuts i)) kept.cuts_due;
       rooted = subst (λ o. IsRooted o new.nodes) (sym claim) (rooted_more old.claim (lacks_numbers (held old)) new.nodes c.1.0);
     }
 
@@ -98,12 +100,17 @@ first_directed (Optimal v) ray none = none
 first_directed Infeasible ray none = none
 first_directed Unbounded ray none = tt
 
+first_cuts : (claim : Claim) (cuts : List NamedCut) → cuts ≡ [] → AreCutsDue (Some claim) cuts
+first_cuts (Optimal v) cuts none = tt
+first_cuts Infeasible cuts none = tt
+first_cuts Unbounded cuts none = none
+
 first_rooted : (claim : Claim) (nodes : List CertNode) → nodes ≡ [] → IsRooted (Some claim) nodes
 first_rooted (Optimal v) nodes none = tt
 first_rooted Infeasible nodes none = tt
 first_rooted Unbounded nodes none = none
 
-pub claim_kept : (old : Reading) (claim : Claim) → code_in (held old) (Ok (Claims claim)) ≡ None → IsReadable old → AreKept (Some claim) old.point old.ray old.nodes old.ended old.due
+pub claim_kept : (old : Reading) (claim : Claim) → code_in (held old) (Ok (Claims claim)) ≡ None → IsReadable old → AreKept (Some claim) old.point old.ray old.cuts old.nodes old.ended old.due
 claim_kept old claim clean kept =
     let c = claim_clean (held old) claim clean in
     let none = unclaimed old.claim c.1 in
@@ -113,6 +120,7 @@ claim_kept old claim clean kept =
       narrow = kept.narrow;
       pointed = first_pointed claim old.point (subst (λ o. IsPointed o old.point) none kept.pointed);
       directed = first_directed claim old.ray (subst (λ o. IsDirected o old.ray) none kept.directed);
+      cuts_due = first_cuts claim old.cuts (subst (λ o. AreCutsDue o old.cuts) none kept.cuts_due);
       rooted = first_rooted claim old.nodes (subst (λ o. IsRooted o old.nodes) none kept.rooted);
     }
 
@@ -125,6 +133,7 @@ claim_noted old claim clean =
       claims = ap (λ o. option_to_list o ++ claim ∷ []) (sym none) i;
       points = nil_right (option_to_list old.point) i;
       rays = nil_right (option_to_list old.ray) i;
+      cuts = nil_right old.cuts i;
       nodes = nil_right old.nodes i;
       ended = or_false old.ended i;
     })
@@ -155,7 +164,7 @@ point_there (Some Infeasible) point e = absurd (let f : false ≡ true = e in cc
 point_there (Some Unbounded) point e = tt
 point_there None point e = absurd (let f : false ≡ true = e in cc)
 
-pub point_kept : (old : Reading) (named : Named) → code_in (held old) (Ok (says.Point named)) ≡ None → IsReadable old → AreKept old.claim (Some named) old.ray old.nodes old.ended old.due
+pub point_kept : (old : Reading) (named : Named) → code_in (held old) (Ok (says.Point named)) ≡ None → IsReadable old → AreKept old.claim (Some named) old.ray old.cuts old.nodes old.ended old.due
 point_kept old named clean kept =
     let c = point_clean (held old) named clean in
     record {
@@ -164,6 +173,7 @@ point_kept old named clean kept =
       narrow = kept.narrow;
       pointed = point_there old.claim (Some named) c.1.0;
       directed = kept.directed;
+      cuts_due = kept.cuts_due;
       rooted = kept.rooted;
     }
 
@@ -175,6 +185,7 @@ point_noted old named clean =
       claims = nil_right (option_to_list old.claim) i;
       points = ap (λ o. option_to_list o ++ named ∷ []) (sym none) i;
       rays = nil_right (option_to_list old.ray) i;
+      cuts = nil_right old.cuts i;
       nodes = nil_right old.nodes i;
       ended = or_false old.ended i;
     })
@@ -189,7 +200,7 @@ ray_there (Some Infeasible) ray e = absurd (let f : false ≡ true = e in cc)
 ray_there (Some Unbounded) ray e = tt
 ray_there None ray e = absurd (let f : false ≡ true = e in cc)
 
-pub ray_kept : (old : Reading) (named : Named) → code_in (held old) (Ok (says.Ray named)) ≡ None → IsReadable old → AreKept old.claim old.point (Some named) old.nodes old.ended old.due
+pub ray_kept : (old : Reading) (named : Named) → code_in (held old) (Ok (says.Ray named)) ≡ None → IsReadable old → AreKept old.claim old.point (Some named) old.cuts old.nodes old.ended old.due
 ray_kept old named clean kept =
     let c = ray_clean (held old) named clean in
     record {
@@ -198,6 +209,7 @@ ray_kept old named clean kept =
       narrow = kept.narrow;
       pointed = kept.pointed;
       directed = ray_there old.claim (Some named) c.1.0;
+      cuts_due = kept.cuts_due;
       rooted = kept.rooted;
     }
 
@@ -209,6 +221,51 @@ ray_noted old named clean =
       claims = nil_right (option_to_list old.claim) i;
       points = nil_right (option_to_list old.point) i;
       rays = ap (λ o. option_to_list o ++ named ∷ []) (sym none) i;
+      cuts = nil_right old.cuts i;
+      nodes = nil_right old.nodes i;
+      ended = or_false old.ended i;
+    })
+
+-- a cut stands under a claim that has nodes
+abbrev cut_test : Bool → Bool → Bool → Bool → Option ℕ
+cut_test a b c d = if a then Some 1 else if b then Some 8 else if c then Some 6 else if d then None else Some 6
+
+cut_clean : (s : StatedCertificate) (cut : NamedCut) → code_in s (Ok (says.Cut cut)) ≡ None → (lacks_part s || takes_ray s.claims) ≡ false
+cut_clean s cut e = by (s.count == 0) s.ended (lacks_part s || takes_ray s.claims) (are_none s.nodes) e
+  where
+    by : (a b c d : Bool) → cut_test a b c d ≡ None → c ≡ false
+    by true b c d e = absurd cc
+    by false true c d e = absurd cc
+    by false false true d e = absurd cc
+    by false false false d e = refl
+
+-- where nodes are due there may be cuts
+cuts_more : (claim : Option Claim) (lacks : Bool) (more : List NamedCut) → ((are_none (option_to_list claim) || lacks) || takes_ray (option_to_list claim)) ≡ false → AreCutsDue claim more
+cuts_more (Some (Optimal v)) lacks more e = tt
+cuts_more (Some Infeasible) lacks more e = tt
+cuts_more (Some Unbounded) true more e = absurd cc
+cuts_more (Some Unbounded) false more e = absurd cc
+cuts_more None lacks more e = absurd cc
+
+pub cut_kept : (old : Reading) (cut : NamedCut) (cuts : List NamedCut) → code_in (held old) (Ok (says.Cut cut)) ≡ None → IsReadable old → AreKept old.claim old.point old.ray cuts old.nodes old.ended old.due
+cut_kept old cut cuts clean kept = record {
+  takes = kept.takes;
+  whole = kept.whole;
+  narrow = kept.narrow;
+  pointed = kept.pointed;
+  directed = kept.directed;
+  cuts_due = cuts_more old.claim (lacks_numbers (held old)) cuts (cut_clean (held old) cut clean);
+  rooted = kept.rooted;
+}
+
+pub cut_noted : (old : Reading) (cut : NamedCut) (cuts : List NamedCut) → cuts ≡ old.cuts ++ cut ∷ [] → record (held old) { count = old.count + 1; cuts = cuts } ≡ after (held old) (Ok (says.Cut cut))
+cut_noted old cut cuts more =
+    (λ i. record {
+      count = old.count + 1;
+      claims = nil_right (option_to_list old.claim) i;
+      points = nil_right (option_to_list old.point) i;
+      rays = nil_right (option_to_list old.ray) i;
+      cuts = more i;
       nodes = nil_right old.nodes i;
       ended = or_false old.ended i;
     })
@@ -232,13 +289,14 @@ last_clean s e no_ray = none_due (due_after 1 s.nodes) (by (s.count == 0) s.ende
     none_due : (n : ℕ) → (n == 0) ≡ true → n ≡ 0
     none_due n e = (Decides-eqb n 0).0 e
 
-pub last_kept : (old : Reading) → code_in (held old) (Ok says.End) ≡ None → IsReadable old → AreKept old.claim old.point old.ray old.nodes true old.due
+pub last_kept : (old : Reading) → code_in (held old) (Ok says.End) ≡ None → IsReadable old → AreKept old.claim old.point old.ray old.cuts old.nodes true old.due
 last_kept old clean kept = record {
   takes = kept.takes;
   whole = λ _ no_ray. old.counted ∙ last_clean (held old) clean no_ray;
   narrow = kept.narrow;
   pointed = kept.pointed;
   directed = kept.directed;
+  cuts_due = kept.cuts_due;
   rooted = kept.rooted;
 }
 
@@ -262,6 +320,12 @@ no_ray (Some Infeasible) ray directed = ap (λ d. first_named (option_to_list d)
 no_ray (Some Unbounded) ray directed = tt
 no_ray None ray directed = ap (λ d. first_named (option_to_list d)) directed
 
+no_cuts : (claim : Option Claim) (cuts : List NamedCut) → AreCutsDue claim cuts → HasNoCuts (first_claim (option_to_list claim)) cuts
+no_cuts (Some (Optimal v)) cuts due = tt
+no_cuts (Some Infeasible) cuts due = tt
+no_cuts (Some Unbounded) cuts due = due
+no_cuts None cuts due = tt
+
 one_tree : (nodes : List CertNode) → TakesAll 1 nodes → due_after 1 nodes ≡ 0 → AreOneTree nodes
 one_tree nodes takes done = let t = whole_tree nodes takes done in record { tree = t.0; nodes_are = t.1 }
 
@@ -279,4 +343,5 @@ certificate r ended kept =
       narrow = kept.narrow;
       point = no_point r.claim r.point kept.pointed;
       ray = no_ray r.claim r.ray kept.directed;
+      cuts = no_cuts r.claim r.cuts kept.cuts_due;
     }

@@ -1,4 +1,5 @@
 pub mod NamedLemmas
+pub mod MultLemmas
 pub mod LineLemmas
 pub mod TextLemmas
 pub mod DueLemmas

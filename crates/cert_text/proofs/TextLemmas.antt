@@ -8,7 +8,7 @@ use Rattle.std.proofs.lemmas.List.Elements.{filter_map-append}
 use Rattle.std.proofs.lemmas.List.Folds.{list_any-append}
 use Rattle.cert_text.specs.declared.line.Statement.{Statement}
 use Rattle.cert_text.specs.Lines.{line_says}
-use Rattle.cert_text.specs.Text.{claim_in, point_in, ray_in, node_in, is_end_statement, StatedCertificate, stated, code_in, code_at, AreClean}
+use Rattle.cert_text.specs.Text.{claim_in, point_in, ray_in, cut_in, node_in, is_end_statement, StatedCertificate, stated, code_in, code_at, AreClean}
 use Rattle.cert_text.specs.Reading.{after}
 
 one_more : {A : Type 0} (x : Option A) → cons_option x [] ≡ option_to_list x
@@ -31,6 +31,7 @@ stated_more lines line = (λ i. record {
   claims = gathered claim_in lines line i;
   points = gathered point_in lines line i;
   rays = gathered ray_in lines line i;
+  cuts = gathered cut_in lines line i;
   nodes = gathered node_in lines line i;
   ended = (list_any-append (λ l. is_end_statement (line_says l)) lines (line ∷ []) ∙ ap (λ more. list_any (λ l. is_end_statement (line_says l)) lines || more) (or_false (is_end_statement (line_says line)))) i;
 })

@@ -1,7 +1,9 @@
 pub mod Tree
 pub mod Laws
+pub mod Numbers
+pub mod CutLines
+pub mod Mults
 pub mod Lines
 pub mod Text
 pub mod Reading
 pub mod Whole
-pub mod CutLines

@@ -3,18 +3,15 @@
 --     3   its form: the words behind the first one, a blank at its end, or a split's number that is not whole
 --     4   no number stands where one is due
 --     5   a number is too wide, or a split's is 2^127 - 1
-use Rattle.std.specs.Prelude.{ℕ, ◌-◌, ◌^◌, Bool, ◌||◌, if◌then◌else◌, ◌==◌, min, List, [], ◌∷◌, length, get_or, codes, pos, bytes_eq, Option, None, Some, Result, Ok, Err}
+use Rattle.std.specs.Prelude.{ℕ, ◌-◌, ◌^◌, Bool, ◌||◌, if◌then◌else◌, ◌==◌, List, [], ◌∷◌, length, get_or, codes, pos, bytes_eq, Option, None, Some, Result, Ok, Err}
 use Rattle.std.specs.Ordering.{int_eq}
 use Rattle.text_lines.specs.Words.{is_blank, words_of}
 use Rattle.rational.specs.Rational.{ℚ, den}
-use Rattle.frac_text.specs.Spelling.{reading_of}
-use Rattle.frac_text.specs.Parsing.{parsed}
 use Rattle.frac_text.specs.declared.parsing.NumFault.{NumFault}
-use Rattle.frac_text.specs.declared.parsing.NumFault.TheVariants.{NotNumber, Wide}
 use Rattle.lp_model.specs.Edits.{Named}
 use Rattle.cert_text.specs.declared.cert.Claim.TheVariants.{Optimal, Infeasible, Unbounded}
 use Rattle.cert_text.specs.declared.cert.CertMult.{CertMult}
-use Rattle.cert_text.specs.declared.cert.CertMult.TheVariants.{Row}
+use Rattle.cert_text.specs.declared.cert.NamedCut.{NamedCut}
 use Rattle.cert_text.specs.declared.cert.CertNode.{CertNode}
 use Rattle.cert_text.specs.declared.cert.CertNode.TheVariants.{Split, Bound, Farkas, Empty}
 use Rattle.cert_text.specs.declared.line.LineWord.{LineWord}
@@ -22,6 +19,9 @@ use Rattle.cert_text.specs.declared.line.LineWord.TheVariants as word
 use Rattle.cert_text.specs.declared.line.Statement.{Statement}
 use Rattle.cert_text.specs.declared.line.Statement.TheVariants as says
 use Rattle.frac_text.specs.Parsing.{spelled_number}
+use Rattle.cert_text.specs.Numbers.{number_code, least_code}
+use Rattle.cert_text.specs.Mults.{mults_in}
+use Rattle.cert_text.specs.CutLines.{cut_line_in}
 
 -- ---- blanks at the ends
 
@@ -32,16 +32,7 @@ begins_blank line = is_blank (get_or line 0 0)
 abbrev pub ends_blank : List ℕ → Bool
 ends_blank line = is_blank (get_or line (length line - 1) 0)
 
--- ---- numbers
-
-abbrev pub number_code : NumFault → ℕ
-number_code NotNumber = 4
-number_code Wide = 5
-
--- the lesser of a code and that of what follows, if it has one
-abbrev pub least_code : {A : Type 0} → ℕ → Result A ℕ → ℕ
-least_code code (Ok rest) = code
-least_code code (Err other) = min code other
+-- ---- numbers beside names
 
 abbrev pub with_named : List ℕ → ℚ → Result Named ℕ → Result Named ℕ
 with_named name x (Ok named) = Ok ((name, x) ∷ named)
@@ -57,22 +48,6 @@ abbrev pub named_in : List (List ℕ) → Result Named ℕ
 named_in [] = Ok []
 named_in (name ∷ []) = Err 3
 named_in (name ∷ number ∷ more) = beside name (spelled_number number) (named_in more)
-
-abbrev pub row_mult : List ℕ → Result ℚ NumFault → Result CertMult ℕ
-row_mult name (Ok v) = Ok (Row name v)
-row_mult name (Err fault) = Err (number_code fault)
-
--- a multiplier in front of others
-abbrev pub with_mult : Result CertMult ℕ → Result (List CertMult) ℕ → Result (List CertMult) ℕ
-with_mult (Ok mult) (Ok mults) = Ok (mult ∷ mults)
-with_mult (Ok mult) (Err code) = Err code
-with_mult (Err code) rest = Err (least_code code rest)
-
--- `row NAME V` any number of times
-abbrev pub rows_in : List (List ℕ) → Result (List CertMult) ℕ
-rows_in (key ∷ name ∷ number ∷ more) = if bytes_eq key (codes "row") then with_mult (row_mult name (spelled_number number)) (rows_in more) else Err 3
-rows_in [] = Ok []
-rows_in words = Err 3
 
 -- ---- what the words behind the first one say
 
@@ -107,6 +82,11 @@ abbrev pub as_ray : Result Named ℕ → Result Statement ℕ
 as_ray (Ok named) = Ok (says.Ray named)
 as_ray (Err code) = Err code
 
+-- `cut ROW hi LIT..` and `cut ROW lo LIT..`
+abbrev pub as_cut : Result NamedCut ℕ → Result Statement ℕ
+as_cut (Ok cut) = Ok (says.Cut cut)
+as_cut (Err code) = Err code
+
 abbrev pub is_whole : ℚ → Bool
 is_whole x = den x == 1
 
@@ -123,16 +103,16 @@ abbrev pub as_leaf : (List CertMult → CertNode) → Result (List CertMult) ℕ
 as_leaf leaf (Ok mults) = Ok (says.Node (leaf mults))
 as_leaf leaf (Err code) = Err code
 
--- `leaf bound [row NAME V]..`, `leaf farkas [row NAME V]..` and `leaf empty`
 abbrev pub empty_says : List (List ℕ) → Result Statement ℕ
 empty_says [] = Ok (says.Node Empty)
 empty_says words = Err 3
 
+-- `leaf bound` and `leaf farkas` with multipliers, and `leaf empty`
 abbrev pub leaf_says : List (List ℕ) → Result Statement ℕ
 leaf_says [] = Err 3
 leaf_says (kind ∷ words) =
-    if bytes_eq kind (codes "bound") then as_leaf Bound (rows_in words)
-    else if bytes_eq kind (codes "farkas") then as_leaf Farkas (rows_in words)
+    if bytes_eq kind (codes "bound") then as_leaf Bound (mults_in words)
+    else if bytes_eq kind (codes "farkas") then as_leaf Farkas (mults_in words)
     else if bytes_eq kind (codes "empty") then empty_says words
     else Err 3
 
@@ -152,6 +132,7 @@ word_of first =
     else if bytes_eq first (codes "leaf") then Some word.Leaf
     else if bytes_eq first (codes "end") then Some word.End
     else if bytes_eq first (codes "ray") then Some word.Ray
+    else if bytes_eq first (codes "cut") then Some word.Cut
     else if bytes_eq first (codes "front") || bytes_eq first (codes "outcome") || bytes_eq first (codes "tree") then Some word.Foreign
     else None
 
@@ -163,6 +144,7 @@ word_says word.Split words = split_says words
 word_says word.Leaf words = leaf_says words
 word_says word.End words = end_says words
 word_says word.Ray words = as_ray (named_in words)
+word_says word.Cut words = as_cut (cut_line_in words)
 word_says word.Foreign words = Ok says.Foreign
 
 abbrev pub known_says : Option LineWord → Bool → List (List ℕ) → Result Statement ℕ

@@ -3,10 +3,11 @@ use Rattle.std.specs.Prelude.{◌≡◌, ℕ, suc, ◌+◌, ◌<◌, Bool, ◌||
 use Rattle.lp_model.specs.Edits.{Named}
 use Rattle.cert_text.specs.declared.cert.Cert.{Cert}
 use Rattle.cert_text.specs.declared.cert.Claim.{Claim}
+use Rattle.cert_text.specs.declared.cert.NamedCut.{NamedCut}
 use Rattle.cert_text.specs.declared.cert.CertNode.{CertNode}
 use Rattle.cert_text.specs.Lines.{line_says}
-use Rattle.cert_text.specs.Whole.{TakesAll, IsPointed, IsDirected, IsRooted, IsNarrowNode}
-use Rattle.cert_text.specs.Text.{claim_in, point_in, ray_in, node_in, takes_ray, is_end_statement, StatedCertificate, stated, code_in, code_at, AreClean, MeantCertificate, FaultyCertificate}
+use Rattle.cert_text.specs.Whole.{TakesAll, IsPointed, IsDirected, AreCutsDue, IsRooted, IsNarrowNode}
+use Rattle.cert_text.specs.Text.{claim_in, point_in, ray_in, cut_in, node_in, takes_ray, is_end_statement, StatedCertificate, stated, code_in, code_at, AreClean, MeantCertificate, FaultyCertificate}
 use Rattle.cert_text.specs.declared.line.Statement.{Statement}
 use Rattle.cert_text.specs.declared.reader.CertFault.{CertFault}
 use Rattle.cert_text.specs.declared.reader.CertFault.TheVariants.{Bad, Memory as NoMemory}
@@ -33,7 +34,7 @@ joined_items least items (Err code) = Err (min_or least code)
 
 -- what the reader holds
 abbrev pub held : Reading → StatedCertificate
-held r = record { count = r.count; claims = option_to_list r.claim; points = option_to_list r.point; rays = option_to_list r.ray; nodes = r.nodes; ended = r.ended }
+held r = record { count = r.count; claims = option_to_list r.claim; points = option_to_list r.point; rays = option_to_list r.ray; cuts = r.cuts; nodes = r.nodes; ended = r.ended }
 
 -- what is stated with one more line that says this
 abbrev pub after : StatedCertificate → Result Statement ℕ → StatedCertificate
@@ -42,6 +43,7 @@ after s said = record {
   claims = s.claims ++ option_to_list (claim_in said);
   points = s.points ++ option_to_list (point_in said);
   rays = s.rays ++ option_to_list (ray_in said);
+  cuts = s.cuts ++ option_to_list (cut_in said);
   nodes = s.nodes ++ option_to_list (node_in said);
   ended = s.ended || is_end_statement said;
 }
@@ -69,13 +71,14 @@ IsCertificateAnswer text (Err NoMemory) = Unit {0}
 
 -- what is read so far: parts stand only where the claim has them, nodes only where a tree is due, none is due at the end
 -- where the claim has nodes, and splits have room
-pub record AreKept (claim : Option Claim) (point ray : Option Named) (nodes : List CertNode) (ended : Bool) (due : ℕ) : Type 0 where
+pub record AreKept (claim : Option Claim) (point ray : Option Named) (cuts : List NamedCut) (nodes : List CertNode) (ended : Bool) (due : ℕ) : Type 0 where
   pub takes : TakesAll 1 nodes
   pub whole : ended ≡ true → takes_ray (option_to_list claim) ≡ false → due ≡ 0
   pub narrow : All IsNarrowNode nodes
   pub pointed : IsPointed claim point
   pub directed : IsDirected claim ray
+  pub cuts_due : AreCutsDue claim cuts
   pub rooted : IsRooted claim nodes
 
 abbrev pub IsReadable : Reading → Type 0
-IsReadable r = AreKept r.claim r.point r.ray r.nodes r.ended r.due
+IsReadable r = AreKept r.claim r.point r.ray r.cuts r.nodes r.ended r.due

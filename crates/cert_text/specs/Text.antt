@@ -2,7 +2,7 @@
 -- codes 2 to 5 (specs/Lines) there are
 --     1   the first line is not `cert 1`
 --     6   a part out of order, missing or twice: claim, point (where a value is claimed, or that the model is unbounded), then a
---         ray for `unbounded`, and nodes for the other claims, `end`
+--         ray for `unbounded`, and cuts and nodes for the other claims, `end`
 --     7   the nodes are not one whole tree
 --     8   no `end`, or a line after it
 -- A missing part stands at the line where it was due.
@@ -11,11 +11,12 @@ use Rattle.std.specs.List.{filter_map, list_any}
 use Rattle.lp_model.specs.Edits.{Named}
 use Rattle.cert_text.specs.declared.cert.Claim.{Claim}
 use Rattle.cert_text.specs.declared.cert.Claim.TheVariants.{Optimal, Infeasible, Unbounded}
+use Rattle.cert_text.specs.declared.cert.NamedCut.{NamedCut}
 use Rattle.cert_text.specs.declared.cert.CertNode.{CertNode}
 use Rattle.cert_text.specs.declared.cert.CertNode.TheVariants.{Split, Bound, Farkas, Empty}
 use Rattle.cert_text.specs.declared.cert.Cert.{Cert}
 use Rattle.cert_text.specs.declared.line.Statement.{Statement}
-use Rattle.cert_text.specs.declared.line.Statement.TheVariants.{Header, Claims, Point, Node, End, Ray, Foreign}
+use Rattle.cert_text.specs.declared.line.Statement.TheVariants.{Header, Claims, Point, Node, End, Ray, Cut, Foreign}
 use Rattle.text_lines.specs.Lines.{line_bytes}
 use Rattle.cert_text.specs.Lines.{line_says}
 
@@ -32,6 +33,10 @@ point_in said = None
 abbrev pub ray_in : Result Statement ℕ → Option Named
 ray_in (Ok (Ray named)) = Some named
 ray_in said = None
+
+abbrev pub cut_in : Result Statement ℕ → Option NamedCut
+cut_in (Ok (Cut cut)) = Some cut
+cut_in said = None
 
 abbrev pub node_in : Result Statement ℕ → Option CertNode
 node_in (Ok (Node node)) = Some node
@@ -51,6 +56,7 @@ pub record StatedCertificate : Type 0 where
   pub claims : List Claim
   pub points : List Named
   pub rays : List Named
+  pub cuts : List NamedCut
   pub nodes : List CertNode
   pub ended : Bool
 
@@ -60,6 +66,7 @@ stated lines = record {
   claims = filter_map (λ line. claim_in (line_says line)) lines;
   points = filter_map (λ line. point_in (line_says line)) lines;
   rays = filter_map (λ line. ray_in (line_says line)) lines;
+  cuts = filter_map (λ line. cut_in (line_says line)) lines;
   nodes = filter_map (λ line. node_in (line_says line)) lines;
   ended = list_any (λ line. is_end_statement (line_says line)) lines;
 }
@@ -106,6 +113,10 @@ lacks_numbers s = lacks_point s || lacks_ray s
 abbrev pub lacks_part : StatedCertificate → Bool
 lacks_part s = are_none s.claims || lacks_numbers s
 
+-- a cut stands before the nodes, under a claim that has them
+abbrev pub cut_code : StatedCertificate → Option ℕ
+cut_code s = if lacks_part s || takes_ray s.claims then Some 6 else if are_none s.nodes then None else Some 6
+
 abbrev pub node_code : StatedCertificate → Option ℕ
 node_code s = if lacks_part s || takes_ray s.claims then Some 6 else if is_whole_tree s.nodes then Some 7 else None
 
@@ -117,6 +128,7 @@ end_tree_code s = if takes_ray s.claims then None else if are_none s.nodes then 
 abbrev pub place_code : StatedCertificate → Statement → Option ℕ
 place_code s (Claims claim) = if are_none s.claims then None else Some 6
 place_code s (Point named) = if not (are_none s.claims) && lacks_point s then None else Some 6
+place_code s (Cut cut) = cut_code s
 place_code s (Node node) = node_code s
 place_code s End = if lacks_part s then Some 6 else end_tree_code s
 place_code s Header = Some 6
@@ -164,7 +176,7 @@ first_named [] = []
 first_named (named ∷ more) = named
 
 abbrev pub cert_of : StatedCertificate → Cert
-cert_of s = record { claim = first_claim s.claims; point = first_named s.points; ray = first_named s.rays; nodes = s.nodes }
+cert_of s = record { claim = first_claim s.claims; point = first_named s.points; ray = first_named s.rays; cuts = s.cuts; nodes = s.nodes }
 
 -- the certificate that the text states
 pub record MeantCertificate (text : List ℕ) (cert : Cert) : Type 0 where

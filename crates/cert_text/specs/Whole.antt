@@ -4,6 +4,7 @@ use Rattle.frac128.specs.Range.{IsNarrow}
 use Rattle.lp_model.specs.Edits.{Named}
 use Rattle.cert_text.specs.declared.cert.Claim.{Claim}
 use Rattle.cert_text.specs.declared.cert.Claim.TheVariants.{Optimal, Infeasible, Unbounded}
+use Rattle.cert_text.specs.declared.cert.NamedCut.{NamedCut}
 use Rattle.cert_text.specs.declared.cert.CertNode.{CertNode}
 use Rattle.cert_text.specs.declared.cert.CertNode.TheVariants as node
 use Rattle.cert_text.specs.declared.cert.Cert.{Cert}
@@ -30,6 +31,12 @@ HasNoRay (Optimal v) named = named ≡ []
 HasNoRay Infeasible named = named ≡ []
 HasNoRay Unbounded named = Unit {0}
 
+-- cuts stand only under a claim that has nodes
+abbrev pub HasNoCuts : Claim → List NamedCut → Type 0
+HasNoCuts (Optimal v) cuts = Unit {0}
+HasNoCuts Infeasible cuts = Unit {0}
+HasNoCuts Unbounded cuts = cuts ≡ []
+
 -- the nodes in preorder of one tree
 pub record AreOneTree (nodes : List CertNode) : Type 0 where
   pub tree : CertTree
@@ -47,6 +54,7 @@ pub record IsCertificate (cert : Cert) : Type 0 where
   pub narrow : All IsNarrowNode cert.nodes
   pub point : HasNoPoint cert.claim cert.point
   pub ray : HasNoRay cert.claim cert.ray
+  pub cuts : HasNoCuts cert.claim cert.cuts
 
 -- ---- on the way through a text
 
@@ -57,6 +65,7 @@ IsNarrowStatement (says.Claims claim) = Unit {0}
 IsNarrowStatement (says.Point named) = Unit {0}
 IsNarrowStatement says.End = Unit {0}
 IsNarrowStatement (says.Ray named) = Unit {0}
+IsNarrowStatement (says.Cut cut) = Unit {0}
 IsNarrowStatement says.Foreign = Unit {0}
 
 -- each node stands where one of some trees is still due
@@ -82,7 +91,14 @@ IsDirected (Some Infeasible) ray = ray ≡ None
 IsDirected (Some Unbounded) ray = Unit {0}
 IsDirected None ray = ray ≡ None
 
--- there are nodes only where something else is claimed
+-- there are cuts only where something else is claimed
+abbrev pub AreCutsDue : Option Claim → List NamedCut → Type 0
+AreCutsDue (Some (Optimal v)) cuts = Unit {0}
+AreCutsDue (Some Infeasible) cuts = Unit {0}
+AreCutsDue (Some Unbounded) cuts = cuts ≡ []
+AreCutsDue None cuts = cuts ≡ []
+
+-- so are nodes
 abbrev pub IsRooted : Option Claim → List CertNode → Type 0
 IsRooted (Some (Optimal v)) nodes = Unit {0}
 IsRooted (Some Infeasible) nodes = Unit {0}

@@ -46,13 +46,14 @@ pub struct NamedCut {
     pub literals: List<(Name, bool)>,
 }
 
-/// A certificate: its claim, the numbers of a point and of a ray beside the names of columns, and the nodes of its tree,
-/// each before those below it, the left ones first. The other columns are 0. A point stands where a feasible one is
-/// claimed, a ray where the model is claimed unbounded, and nodes in all other certificates.
+/// A certificate: its claim, the numbers of a point and of a ray beside the names of columns, its cuts, and the nodes of its
+/// tree, each before those below it, the left ones first. The other columns are 0. A point stands where a feasible one is
+/// claimed, a ray where the model is claimed unbounded, and nodes, and cuts for them, in all other certificates.
 #[derive(Drop)]
 pub struct Cert {
     pub claim: Claim,
     pub point: List<(Name, Frac)>,
     pub ray: List<(Name, Frac)>,
+    pub cuts: List<NamedCut>,
     pub nodes: List<CertNode>,
 }

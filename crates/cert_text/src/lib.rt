@@ -2,27 +2,27 @@
 //!
 //! A certificate claims a best value `V`, that no point is feasible, or that the model is unbounded, and gives its reasons.
 //! For the first two these are a point and a branching tree whose leaves each say why no feasible point of their region beats
-//! `V`; for the last a feasible point and a ray, along which points stay feasible and improve without end. Its text has a line
-//! for each part, the nodes of the tree each before those below it, the left ones first:
+//! `V`, by the rows of the model and by cuts, each with the row that it comes from; for the last a feasible point and a ray,
+//! along which points stay feasible and improve without end. Its text has a line for each part, the nodes of the tree each
+//! before those below it, the left ones first:
 //!
 //! ```text
 //! cert 1
 //! claim optimal V | claim infeasible | claim unbounded
 //! point [NAME V]..                         for a value, and for unbounded
-//! ray [NAME V]..                           for unbounded, which has no nodes
+//! ray [NAME V]..                           for unbounded, which has no cuts and no nodes
+//! cut ROW hi LIT.. | cut ROW lo LIT..      literals, +NAME or -NAME, that this side of the row does not allow to be 1 all together
 //! split NAME V                             NAME <= V below it on the left, NAME >= V + 1 on the right
-//! leaf bound [row NAME V]..                multipliers whose number reaches V
-//! leaf farkas [row NAME V]..               multipliers whose number with all costs 0 is above 0
+//! leaf bound [row NAME V | cut K V]..      multipliers whose number reaches V, those of cuts by the cut's number from 1
+//! leaf farkas [row NAME V | cut K V]..     multipliers whose number with all costs 0 is above 0
 //! leaf empty                               an empty region
 //! end
 //! ```
 //!
 //! Contract: `read_cert` answers the certificate that a text states or its first faulty line with the least code, a
-//! function of the whole text (`specs/Lines`, `specs/Text`), and each text has one such answer (`text_law`). What is read has
-//! the parts of its claim, and one whole tree where it has nodes (`specs/Whole`). What it proves of a model is not asked here.
-//!
-//! Beside this stand the parts of a certificate with cuts, which `read_cert` does not read yet: what a cut's line says
-//! (`specs/CutLines`), and multipliers of cuts.
+//! function of the whole text (`specs/CutLines`, `specs/Mults`, `specs/Lines`, `specs/Text`), and each text has one such answer
+//! (`text_law`). What is read has the parts of its claim, and one whole tree where it has nodes (`specs/Whole`). What it proves
+//! of a model is not asked here.
 //!
 //! Below stand the lines and words of `text_lines`, the names and lists of `lp_model`, and the spelling of numbers
 //! (`frac_text`). Above stand the checker
@@ -33,6 +33,7 @@ mod cert;
 mod cut_line;
 mod laws;
 mod line;
+mod mults;
 mod named;
 mod reader;
 mod reading;

@@ -1,11 +1,14 @@
 // What one line of a certificate's text says.
 ghost use Rattle.std.specs.Prelude.{◌≡◌, map, IfOk, Ok};
-ghost use Rattle.cert_text.specs.Lines.{begins_blank, ends_blank, is_whole, word_of, named_in, as_point, as_ray, cert_says, claim_word, claim_says, split_at, split_says, leaf_says, end_says, word_says, words_say, line_says};
+ghost use Rattle.cert_text.specs.CutLines.{cut_line_in};
+ghost use Rattle.cert_text.specs.Lines.{begins_blank, ends_blank, is_whole, word_of, named_in, as_point, as_ray, as_cut, cert_says, claim_word, claim_says, split_at, split_says, leaf_says, end_says, word_says, words_say, line_says};
 ghost use Rattle.cert_text.specs.Reading.{Says};
 ghost use Rattle.cert_text.specs.Whole.{IsNarrowStatement};
 
-use crate::cert::{CertNode, Claim};
-use crate::named::{named_in, number_code, rows_in};
+use crate::cert::{CertNode, Claim, NamedCut};
+use crate::cut_line::cut_in;
+use crate::mults::mults_in;
+use crate::named::{named_in, number_code};
 use frac128::Frac;
 use lp_model::{List, Name};
 use std::alloc::{AllocError, Global};
@@ -21,6 +24,7 @@ pub enum LineWord {
     Leaf,
     End,
     Ray,
+    Cut,
     /// A word of certificates of other kinds.
     Foreign,
 }
@@ -34,6 +38,7 @@ pub enum Statement {
     Node(CertNode),
     End,
     Ray(List<(Name, Frac)>),
+    Cut(NamedCut),
     /// What has no place in a certificate of this kind.
     Foreign,
 }
@@ -94,6 +99,8 @@ fn line_word(word: &[u8]) -> Option<LineWord>
         Some(LineWord::End)
     } else if word == b"ray".as_slice() {
         Some(LineWord::Ray)
+    } else if word == b"cut".as_slice() {
+        Some(LineWord::Cut)
     } else if word == b"front".as_slice()
         || word == b"outcome".as_slice()
         || word == b"tree".as_slice()
@@ -201,11 +208,11 @@ fn leaf_says(alloc: Global, words: &[&[u8]]) -> Result<Statement, LineFault>
         return Err(LineFault::Code(3));
     };
     if *kind == b"bound".as_slice() {
-        let mults = rows_in(alloc, more)?;
+        let mults = mults_in(alloc, more)?;
         return Ok(Statement::Node(CertNode::Bound(mults)));
     }
     if *kind == b"farkas".as_slice() {
-        let mults = rows_in(alloc, more)?;
+        let mults = mults_in(alloc, more)?;
         return Ok(Statement::Node(CertNode::Farkas(mults)));
     }
     if *kind == b"empty".as_slice() && more.is_empty() {
@@ -232,6 +239,15 @@ fn ray_says(alloc: Global, words: &[&[u8]]) -> Result<Statement, LineFault>
     Ok(Statement::Ray(named))
 }
 
+/// What `cut` with these further words says.
+fn cut_says(alloc: Global, words: &[&[u8]]) -> Result<Statement, LineFault>
+    ensures says { Says (as_cut (cut_line_in (map (λ word. word.now) words.now))) result }
+    ensures narrow { IfOk result IsNarrowStatement }
+{
+    let cut = cut_in(alloc, words)?;
+    Ok(Statement::Cut(cut))
+}
+
 /// What a known first word with these further words says.
 fn word_says(alloc: Global, word: LineWord, words: &[&[u8]]) -> Result<Statement, LineFault>
     ensures says { Says (word_says word (map (λ word. word.now) words.now)) result }
@@ -245,6 +261,7 @@ fn word_says(alloc: Global, word: LineWord, words: &[&[u8]]) -> Result<Statement
         LineWord::Leaf => leaf_says(alloc, words),
         LineWord::End => end_says(words),
         LineWord::Ray => ray_says(alloc, words),
+        LineWord::Cut => cut_says(alloc, words),
         LineWord::Foreign => Ok(Statement::Foreign),
     }
 }

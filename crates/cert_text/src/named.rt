@@ -1,24 +1,23 @@
-// Numbers beside names, from the words of a line.
-ghost use Rattle.std.specs.Prelude.{◌≡◌, ◌≤◌, ◌++◌, ◌∷◌, map, [], IfOk, Result, Ok, Err, Some, None, ℕ, List as Items};
+// Numbers beside names, from the words of a line, and what words give one after the other.
+ghost use Rattle.std.specs.Prelude.{◌≡◌, ◌≤◌, ◌++◌, ◌∷◌, map, [], IfOk, Result, Ok, Some, None, ℕ};
 ghost use Rattle.std.specs.Option.{ForSome};
 ghost use Rattle.lp_model.specs.Edits.{Named};
-ghost use Rattle.cert_text.specs.declared.cert.CertMult.{CertMult as Multiplier};
-ghost use Rattle.cert_text.specs.Lines.{number_code, beside, named_in, row_mult, with_mult, rows_in};
+ghost use Rattle.cert_text.specs.Numbers.{number_code};
+ghost use Rattle.cert_text.specs.Lines.{beside, named_in};
 ghost use Rattle.frac_text.specs.Parsing.{spelled_number};
 ghost use Rattle.cert_text.specs.Reading.{Says, min_or, joined_items};
 
-use crate::cert::CertMult;
 use crate::line::LineFault;
 use frac_text::NumFault;
 use frac128::Frac;
 use lp_model::{List, Name};
 use std::alloc::{AllocError, Global};
 
-/// What the words gave so far, and the least code of what is no number among them.
+/// What the words gave so far, and the least code of what is no item among them.
 #[derive(Drop)]
-struct Gathered<T> {
-    items: List<T>,
-    least: Option<u8>,
+pub(crate) struct Gathered<T> {
+    pub(crate) items: List<T>,
+    pub(crate) least: Option<u8>,
     ghost high: { ForSome least (λ code. 3 ≤ code) },
 }
 
@@ -45,7 +44,7 @@ fn lesser(least: Option<u8>, code: u8) -> u8
 
 impl<T: Drop> Gathered<T> {
     /// Nothing yet.
-    fn new(alloc: Global) -> Gathered<T>
+    pub(crate) fn new(alloc: Global) -> Gathered<T>
         ensures items { result.items ≡ [] }
         ensures least { result.least ≡ None }
     {
@@ -56,11 +55,20 @@ impl<T: Drop> Gathered<T> {
     }
 
     /// One more item.
-    fn add(&mut self, item: T) -> Result<(), AllocError>
+    pub(crate) fn add(&mut self, item: T) -> Result<(), AllocError>
         ensures items { IfOk result (λ _. self.new.items ≡ self.old.items ++ item ∷ []) }
         ensures least { IfOk result (λ _. self.new.least ≡ self.old.least) }
     {
         self.items.push(item)
+    }
+
+    /// One more code of what is no item.
+    pub(crate) fn add_code(&mut self, code: u8)
+        requires { 3 ≤ code }
+        ensures items { self.new.items ≡ self.old.items }
+        ensures least { self.new.least ≡ Some (min_or self.old.least code) }
+    {
+        self.least = Some(lesser(self.least, code));
     }
 
     /// One more field that is no number.
@@ -68,11 +76,11 @@ impl<T: Drop> Gathered<T> {
         ensures items { self.new.items ≡ self.old.items }
         ensures least { self.new.least ≡ Some (min_or self.old.least (number_code fault)) }
     {
-        self.least = Some(lesser(self.least, number_code(fault)));
+        self.add_code(number_code(fault));
     }
 
     /// What was gathered, or its code.
-    fn into_items(self) -> Result<List<T>, LineFault>
+    pub(crate) fn into_items(self) -> Result<List<T>, LineFault>
         ensures { Says (joined_items self.least self.items (Ok [])) result }
     {
         match self.least {
@@ -101,25 +109,6 @@ fn add_named(
     Ok(())
 }
 
-/// One more multiplier of a row.
-fn add_row(
-    gathered: &mut Gathered<CertMult>,
-    alloc: Global,
-    name: &[u8],
-    number: &[u8],
-) -> Result<(), AllocError>
-    ensures { IfOk result (λ _. (rest : Result (Items Multiplier) ℕ) → joined_items gathered.old.least gathered.old.items (with_mult (row_mult name.now (spelled_number number.now)) rest) ≡ joined_items gathered.new.least gathered.new.items rest) }
-{
-    match frac_text::parse(number) {
-        Ok(value) => {
-            let name = Name::from_slice(alloc, name)?;
-            gathered.add(CertMult::Row(name, value))?;
-        }
-        Err(fault) => gathered.add_fault(fault),
-    }
-    Ok(())
-}
-
 /// `NAME V` any number of times.
 pub(crate) fn named_in(alloc: Global, words: &[&[u8]]) -> Result<List<(Name, Frac)>, LineFault>
     ensures { Says (named_in (map (λ word. word.now) words.now)) result }
@@ -128,26 +117,6 @@ pub(crate) fn named_in(alloc: Global, words: &[&[u8]]) -> Result<List<(Name, Fra
     let mut rest = words;
     while let [name, number, more @ ..] = rest {
         add_named(&mut gathered, alloc, name, number)?;
-        rest = more;
-    }
-    if rest.is_empty() {
-        gathered.into_items()
-    } else {
-        Err(LineFault::Code(3))
-    }
-}
-
-/// `row NAME V` any number of times.
-pub(crate) fn rows_in(alloc: Global, words: &[&[u8]]) -> Result<List<CertMult>, LineFault>
-    ensures { Says (rows_in (map (λ word. word.now) words.now)) result }
-{
-    let mut gathered = Gathered::new(alloc);
-    let mut rest = words;
-    while let [key, name, number, more @ ..] = rest {
-        if *key != b"row".as_slice() {
-            return Err(LineFault::Code(3));
-        }
-        add_row(&mut gathered, alloc, name, number)?;
         rest = more;
     }
     if rest.is_empty() {

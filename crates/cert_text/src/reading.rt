@@ -1,9 +1,9 @@
 // What the lines of a certificate's text state so far.
 ghost use Rattle.std.specs.Prelude.{◌≡◌, ◌+◌, ◌<◌, ◌≤◌, ◌^◌, ◌++◌, ◌∷◌, [], length, option_to_list, IfOk, Ok, Err, Some, None};
 ghost use Rattle.cert_text.specs.Whole.{IsNarrowStatement, IsCertificate};
-ghost use Rattle.cert_text.specs.Text.{stated, takes_point, takes_ray, lacks_point, lacks_ray, lacks_numbers, lacks_part, node_code, end_tree_code, place_code, code_in, end_code, first_claim, first_named, cert_of, due_after};
+ghost use Rattle.cert_text.specs.Text.{stated, takes_point, takes_ray, lacks_point, lacks_ray, lacks_numbers, lacks_part, cut_code, node_code, end_tree_code, place_code, code_in, end_code, first_claim, first_named, cert_of, due_after};
 
-use crate::cert::{Cert, CertNode, Claim};
+use crate::cert::{Cert, CertNode, Claim, NamedCut};
 use crate::line::Statement;
 use frac128::Frac;
 use lp_model::{List, Name};
@@ -16,6 +16,7 @@ pub(crate) struct Reading {
     pub(crate) claim: Option<Claim>,
     pub(crate) point: Option<List<(Name, Frac)>>,
     pub(crate) ray: Option<List<(Name, Frac)>>,
+    pub(crate) cuts: List<NamedCut>,
     pub(crate) nodes: List<CertNode>,
     /// How many trees are still due: one more than there are lines at most.
     pub(crate) due: u128,
@@ -66,12 +67,15 @@ impl Reading {
         ensures stated { held result ≡ stated [] }
         ensures kept { IsReadable result }
     {
+        let cuts = List::new(alloc);
+        let nodes = List::new(alloc);
         Reading {
             count: 0,
             claim: None,
             point: None,
             ray: None,
-            nodes: List::new(alloc),
+            cuts,
+            nodes,
             due: 1,
             ended: false,
         }
@@ -150,6 +154,19 @@ impl Reading {
         }
     }
 
+    /// The code of a cut by what stands before it.
+    fn cut_code(&self) -> Option<u8>
+        ensures { result ≡ cut_code (held self.now) }
+    {
+        if self.lacks_part() || self.takes_ray() {
+            Some(6)
+        } else if self.nodes.as_slice().is_empty() {
+            None
+        } else {
+            Some(6)
+        }
+    }
+
     /// The code of a node by what stands before it.
     fn node_code(&self) -> Option<u8>
         ensures { result ≡ node_code (held self.now) }
@@ -171,6 +188,7 @@ impl Reading {
             Statement::Claims(_) if self.claim.is_none() => None,
             Statement::Point(_) if self.claim.is_some() && self.lacks_point() => None,
             Statement::Ray(_) if !self.lacks_point() && self.lacks_ray() => None,
+            Statement::Cut(_) => self.cut_code(),
             Statement::Node(_) => self.node_code(),
             Statement::End => self.end_place_code(),
             _ => Some(6),
@@ -230,7 +248,7 @@ impl Reading {
         requires few { self.old.count < 2 ^ 64 }
         ensures stated { IfOk result (λ _. held self.new ≡ record (held self.old) { nodes = self.old.nodes ++ node ∷ [] }) }
         ensures nodes { IfOk result (λ _. self.new.nodes ≡ self.old.nodes ++ node ∷ []) }
-        ensures parts { IfOk result (λ _. (self.new.claim ≡ self.old.claim) × (self.new.point ≡ self.old.point) × (self.new.ray ≡ self.old.ray) × (self.new.ended ≡ self.old.ended)) }
+        ensures parts { IfOk result (λ _. (self.new.claim ≡ self.old.claim) × (self.new.point ≡ self.old.point) × (self.new.ray ≡ self.old.ray) × (self.new.cuts ≡ self.old.cuts) × (self.new.ended ≡ self.old.ended)) }
     {
         let due = due_behind(self.due, &node);
         self.nodes.push(node)?;
@@ -254,6 +272,7 @@ impl Reading {
             Statement::Node(node) => self.add_node(node)?,
             Statement::End => self.ended = true,
             Statement::Ray(ray) => self.ray = Some(ray),
+            Statement::Cut(cut) => self.cuts.push(cut)?,
             Statement::Header | Statement::Foreign => {}
         }
         Ok(())
@@ -269,7 +288,7 @@ impl Reading {
         self.parts(alloc)
     }
 
-    /// The claim, the point, the ray and the nodes, as far as they are there.
+    /// The claim, the point, the ray, the cuts and the nodes, as far as they are there.
     fn parts(self, alloc: Global) -> Cert
         ensures { result ≡ cert_of (held self) }
     {
@@ -277,6 +296,7 @@ impl Reading {
             claim,
             point,
             ray,
+            cuts,
             nodes,
             ..
         } = self;
@@ -287,6 +307,7 @@ impl Reading {
             claim,
             point,
             ray,
+            cuts,
             nodes,
         }
     }

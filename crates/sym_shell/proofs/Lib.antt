@@ -5,6 +5,7 @@ pub mod KindLemmas
 pub mod CauseLemmas
 pub mod CertLemmas
 pub mod WriteLemmas
+pub mod CheckLemmas
 pub mod RunLemmas
 pub mod ShownWords
 pub mod ShownBack

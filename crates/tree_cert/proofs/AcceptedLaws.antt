@@ -38,8 +38,9 @@ use Rattle.cert_check.specs.Places.{place_among}
 use Rattle.lp_model.specs.Edits.{Named, only_row_names}
 use Rattle.lp_model.specs.Answers.{IsFeasibilityAnswer}
 use Rattle.lp_model.specs.Rays.{IsRayJudged}
+use Rattle.cert_check.specs.Cuts.{formulation_by, IsCutJudged, AreCutsJudged}
 use Rattle.cert_check.specs.Verdict.{IsNumberJudged, IsFarkasJudged, IsNodeJudged, IsPointJudged, IsFeasibleJudged, IsDirectionJudged, IsClaimJudged, visits, AreVisits, IsVisitJudged, IsVerdict}
-use Rattle.cert_text.specs.Whole.{IsNarrowNode, HasNoPoint, HasNoRay, AreOneTree, HasTree, IsCertificate}
+use Rattle.cert_text.specs.Whole.{IsNarrowNode, HasNoPoint, HasNoRay, HasNoCuts, AreOneTree, HasTree, IsCertificate}
 use Rattle.cert_check.proofs.PlaceLemmas.{rows_differ}
 use Rattle.tree_cert.specs.Certificates.{claim_of, point_numbers, IsReason, IsTreeOf, IsCertificateOf, unbounded_certificate}
 use Rattle.lp_model.specs.Lawful.{column_name}
@@ -117,7 +118,7 @@ module _ (M : Program) (lawful_model : IsLawfulModel M) where
 
   module _ (t : Option ℚ) (claim : Claim) (for : IsClaimFor M t claim) where
     abbrev P : (Path × CertNode) → Type 0
-    P p = IsVisitJudged M claim p Passes
+    P p = IsVisitJudged (without_cuts M) claim p Passes
 
     leaf-node : (path : Path) (kept : LeafData) (n : CertNode) → HasLists (without_cuts M) kept → IsJudgedLeaf (without_cuts M) t path kept → kept.state ≡ IsClosed → IsReason M path kept n → All P ((path, n) ∷ [])
     leaf-node path kept n lists judged closed reason = all_cons P (path, n) [] (leaf-passes t claim for path kept n lists judged closed reason) (all_none P)
@@ -186,6 +187,10 @@ no_ray-claimed : (M : Program) (best : Option Point) → HasNoRay (claim_of M be
 no_ray-claimed M None = refl
 no_ray-claimed M (Some x) = refl
 
+no_cuts-claimed : (M : Program) (best : Option Point) → HasNoCuts (claim_of M best) []
+no_cuts-claimed M None = tt
+no_cuts-claimed M (Some x) = tt
+
 tree-claimed : (M : Program) (best : Option Point) (nodes : List CertNode) → AreOneTree nodes → HasTree (claim_of M best) nodes
 tree-claimed M None nodes t = t
 tree-claimed M (Some x) nodes t = t
@@ -201,6 +206,7 @@ module _ (S : PlainSearch) (cert : Cert) (sound : IsSound S) (of : IsCertificate
     narrow = subst (All IsNarrowNode) of.nodes (narrow-tree S.model [] S.tree.root of.tree sound.tree.narrow of.like);
     point = subst (λ T. T) (λ i. HasNoPoint (sym of.claim i) (sym of.point i)) (none-claimed S.model of.incumbent);
     ray = subst (λ T. T) (λ i. HasNoRay (sym of.claim i) (sym of.ray i)) (no_ray-claimed S.model of.incumbent);
+    cuts = subst (λ T. T) (λ i. HasNoCuts (sym of.claim i) (sym of.cuts i)) (no_cuts-claimed S.model of.incumbent);
   }
 
   pub is_accepted : IsLawfulModel S.model → HasNoOpenLeaf S → IsVerdict S.model cert (Accepted cert.claim)
@@ -209,8 +215,11 @@ module _ (S : PlainSearch) (cert : Cert) (sound : IsSound S) (of : IsCertificate
     are = subst (λ claim. AreVisits S.model claim cert.nodes (visits S.model [] of.tree)) (sym of.claim) (visits-claimed S.model of.incumbent cert.nodes of.tree of.nodes);
     is = (
       refl,
-      subst (λ T. T) (λ i. IsClaimJudged S.model (sym of.claim i) (sym of.point i) cert.ray Passes) (claim-passes S of.incumbent cert.ray sound lawful of.best),
-      tree-passes S.model lawful (target S.model S.points) cert.claim (subst (IsClaimFor S.model (target S.model S.points)) (sym of.claim) (claim_for S of.incumbent of.best)) [] S.tree.root of.tree sound.tree.lawful sound.tree.lists sound.judged closed of.like,
+      inl (
+        subst (λ T. T) (λ i. IsClaimJudged S.model (sym of.claim i) (sym of.point i) cert.ray Passes) (claim-passes S of.incumbent cert.ray sound lawful of.best),
+        subst (λ cuts. AreCutsJudged S.model cuts Passes) (sym of.cuts) (all_none (λ cut. IsCutJudged S.model cut Passes)),
+      ),
+      subst (λ cuts. All (λ p. IsVisitJudged (formulation_by S.model cuts) cert.claim p Passes) (visits S.model [] of.tree)) (sym of.cuts) (tree-passes S.model lawful (target S.model S.points) cert.claim (subst (IsClaimFor S.model (target S.model S.points)) (sym of.claim) (claim_for S of.incumbent of.best)) [] S.tree.root of.tree sound.tree.lawful sound.tree.lists sound.judged closed of.like),
     );
   }
 
@@ -218,7 +227,7 @@ module _ (S : PlainSearch) (cert : Cert) (sound : IsSound S) (of : IsCertificate
 
 module _ (M : Program) (x d : Point) where
   pub unbounded-whole : IsCertificate (unbounded_certificate M x d)
-  unbounded-whole = record { tree = refl; narrow = all_none IsNarrowNode; point = tt; ray = tt }
+  unbounded-whole = record { tree = refl; narrow = all_none IsNarrowNode; point = tt; ray = tt; cuts = refl }
 
   -- the written point and ray are read as they were, and so they pass
   pub unbounded-accepted : IsLawfulModel M → IsFeasibilityAnswer M x (Ok true) → IsRayJudged M d (Ok true) → IsVerdict M (unbounded_certificate M x d) (Accepted Unbounded)
@@ -228,9 +237,12 @@ module _ (M : Program) (x d : Point) where
     is = (
       refl,
       inl (
-        inl (numbers_named M x lawful.columns_distinct, subst (λ y. IsFeasibleJudged M y Passes) (sym (numbers_read M x lawful.columns_distinct feasible.0.shape)) feasible),
-        inl (numbers_named M d lawful.columns_distinct, subst (λ y. IsDirectionJudged M y Passes) (sym (numbers_read M d lawful.columns_distinct ray.0.shape)) ray),
+        inl (
+          inl (numbers_named M x lawful.columns_distinct, subst (λ y. IsFeasibleJudged M y Passes) (sym (numbers_read M x lawful.columns_distinct feasible.0.shape)) feasible),
+          inl (numbers_named M d lawful.columns_distinct, subst (λ y. IsDirectionJudged M y Passes) (sym (numbers_read M d lawful.columns_distinct ray.0.shape)) ray),
+        ),
+        all_none (λ cut. IsCutJudged M cut Passes),
       ),
-      all_none (λ p. IsVisitJudged M Unbounded p Passes),
+      all_none (λ p. IsVisitJudged (without_cuts M) Unbounded p Passes),
     );
   }

@@ -7,6 +7,7 @@ use Rattle.std.proofs.lemmas.List.Elements.{All-nil, All-cons, All-head, All-app
 use Rattle.lp_model.specs.Edits.{Named}
 use Rattle.cert_text.specs.declared.cert.Claim.{Claim}
 use Rattle.cert_text.specs.declared.cert.Claim.TheVariants.{Optimal, Infeasible, Unbounded}
+use Rattle.cert_text.specs.declared.cert.NamedCut.{NamedCut}
 use Rattle.cert_text.specs.declared.cert.CertNode.{CertNode}
 use Rattle.cert_text.specs.declared.cert.Cert.{Cert}
 use Rattle.cert_text.specs.declared.line.Statement.{Statement}
@@ -17,10 +18,10 @@ use Rattle.text_lines.proofs.CleanLemmas.{line_bytes-clean}
 use Rattle.cert_text.specs.Lines.{line_says}
 use Rattle.cert_text.specs.Reading.{after}
 use Rattle.cert_text.specs.Text.{StatedCertificate, stated, due_after, is_whole_tree, are_none, takes_point, takes_ray, lacks_point, lacks_numbers, lacks_part, place_code, code_in, code_at, AreClean, or_no_end, end_code, first_claim, first_named, cert_of, MeantCertificate}
-use Rattle.cert_text.specs.Whole.{TakesAll, IsNarrowNode, HasNoPoint, HasNoRay, AreOneTree, HasTree, IsCertificate}
+use Rattle.cert_text.specs.Whole.{TakesAll, IsNarrowNode, HasNoPoint, HasNoRay, HasNoCuts, AreOneTree, HasTree, IsCertificate}
 use Rattle.cert_text.proofs.DueLemmas.{takes-more, whole_tree}
 use Rattle.cert_text.proofs.TextLemmas.{taken_more}
-use Rattle.tree_cert.specs.CertText.{HasNodeWords, HasCertWords, cert_text}
+use Rattle.tree_cert.specs.CertText.{HasCutWords, HasNodeWords, HasCertWords, cert_text}
 use Rattle.tree_cert.specs.Printed.{HasFractions, HasClaimRoom, HasPointRoom, HasRayRoom, HasNodeRoom, HasCertRoom}
 use Rattle.tree_cert.proofs.SaidLaws.{GoodNamed, GoodNode, Good, line-good}
 use Rattle.tree_cert.proofs.PrintedLaws.{printed_states}
@@ -30,23 +31,24 @@ nil_right [] = refl
 nil_right (x ∷ l) = ap (λ m. x ∷ m) (nil_right l)
 
 -- parts stand only behind a claim that has them
-abbrev AreBehind : List Claim → List Named → List Named → List CertNode → Type 0
-AreBehind [] points rays nodes = (points ≡ []) × ((rays ≡ []) × (nodes ≡ []))
-AreBehind (Optimal v ∷ claims) points rays nodes = rays ≡ []
-AreBehind (Infeasible ∷ claims) points rays nodes = (points ≡ []) × (rays ≡ [])
-AreBehind (Unbounded ∷ claims) points rays nodes = nodes ≡ []
+abbrev AreBehind : List Claim → List Named → List Named → List NamedCut → List CertNode → Type 0
+AreBehind [] points rays cuts nodes = (points ≡ []) × ((rays ≡ []) × ((cuts ≡ []) × (nodes ≡ [])))
+AreBehind (Optimal v ∷ claims) points rays cuts nodes = rays ≡ []
+AreBehind (Infeasible ∷ claims) points rays cuts nodes = (points ≡ []) × (rays ≡ [])
+AreBehind (Unbounded ∷ claims) points rays cuts nodes = (cuts ≡ []) × (nodes ≡ [])
 
-record Keeps (claims : List Claim) (points rays : List Named) (nodes : List CertNode) (ended : Bool) : Type 0 where
+record Keeps (claims : List Claim) (points rays : List Named) (cuts : List NamedCut) (nodes : List CertNode) (ended : Bool) : Type 0 where
   takes : TakesAll 1 nodes
   nodes_good : All GoodNode nodes
   claims_room : All HasClaimRoom claims
   points_good : All GoodNamed points
   rays_good : All GoodNamed rays
-  behind : AreBehind claims points rays nodes
+  cuts_good : All HasCutWords cuts
+  behind : AreBehind claims points rays cuts nodes
   whole : ended ≡ true → takes_ray claims ≡ false → due_after 1 nodes ≡ 0
 
 abbrev KeepsIn : StatedCertificate → Type 0
-KeepsIn s = Keeps s.claims s.points s.rays s.nodes s.ended
+KeepsIn s = Keeps s.claims s.points s.rays s.cuts s.nodes s.ended
 
 one : {A : Type 0} (P : A → Type 0) (x : A) → P x → All P (x ∷ [])
 one P x here = All-cons P x [] here (All-nil P)
@@ -73,6 +75,9 @@ some_due (suc n) e = omega arith
 abbrev node_test : Bool → Bool → Option ℕ
 node_test a b = if a then Some 6 else if b then Some 7 else None
 
+abbrev cut_test : Bool → Bool → Option ℕ
+cut_test a b = if a then Some 6 else if b then None else Some 6
+
 abbrev end_test : Bool → Bool → Bool → Bool → Option ℕ
 end_test a r n w = if a then Some 6 else if r then None else if n then Some 6 else if w then None else Some 7
 
@@ -87,6 +92,10 @@ node_clean true b e = absurd cc
 node_clean false true e = absurd cc
 node_clean false false e = (refl, refl)
 
+cut_clean : (a b : Bool) → cut_test a b ≡ None → a ≡ false
+cut_clean true b e = absurd cc
+cut_clean false b e = refl
+
 end_clean : (a r n w : Bool) → end_test a r n w ≡ None → r ≡ false → w ≡ true
 end_clean true r n w e no_ray = absurd cc
 end_clean false true n w e no_ray = absurd cc
@@ -95,33 +104,33 @@ end_clean false false false true e no_ray = refl
 end_clean false false false false e no_ray = absurd cc
 
 -- a point without a code stands behind a claim that has one
-point_clean : (s : StatedCertificate) (named : Named) → place_code s (says.Point named) ≡ None → AreBehind s.claims s.points s.rays s.nodes → AreBehind s.claims (s.points ++ named ∷ []) s.rays s.nodes
+point_clean : (s : StatedCertificate) (named : Named) → place_code s (says.Point named) ≡ None → AreBehind s.claims s.points s.rays s.cuts s.nodes → AreBehind s.claims (s.points ++ named ∷ []) s.rays s.cuts s.nodes
 point_clean s named = by s.claims (are_none s.points)
   where
-    by : (claims : List Claim) (b : Bool) → point_test (not (are_none claims) && (takes_point claims && b)) ≡ None → AreBehind claims s.points s.rays s.nodes → AreBehind claims (s.points ++ named ∷ []) s.rays s.nodes
+    by : (claims : List Claim) (b : Bool) → point_test (not (are_none claims) && (takes_point claims && b)) ≡ None → AreBehind claims s.points s.rays s.cuts s.nodes → AreBehind claims (s.points ++ named ∷ []) s.rays s.cuts s.nodes
     by [] b e h = absurd cc
     by (Optimal v ∷ claims) b e h = h
     by (Infeasible ∷ claims) b e h = absurd cc
     by (Unbounded ∷ claims) b e h = h
 
 -- so does a ray
-ray_clean : (s : StatedCertificate) (named : Named) → place_code s (says.Ray named) ≡ None → AreBehind s.claims s.points s.rays s.nodes → AreBehind s.claims s.points (s.rays ++ named ∷ []) s.nodes
+ray_clean : (s : StatedCertificate) (named : Named) → place_code s (says.Ray named) ≡ None → AreBehind s.claims s.points s.rays s.cuts s.nodes → AreBehind s.claims s.points (s.rays ++ named ∷ []) s.cuts s.nodes
 ray_clean s named = by s.claims (lacks_point s) (are_none s.rays)
   where
-    by : (claims : List Claim) (a b : Bool) → point_test (not a && (takes_ray claims && b)) ≡ None → AreBehind claims s.points s.rays s.nodes → AreBehind claims s.points (s.rays ++ named ∷ []) s.nodes
+    by : (claims : List Claim) (a b : Bool) → point_test (not a && (takes_ray claims && b)) ≡ None → AreBehind claims s.points s.rays s.cuts s.nodes → AreBehind claims s.points (s.rays ++ named ∷ []) s.cuts s.nodes
     by claims true b e h = absurd cc
     by [] false b e h = absurd cc
     by (Optimal v ∷ claims) false b e h = absurd cc
     by (Infeasible ∷ claims) false b e h = absurd cc
     by (Unbounded ∷ claims) false b e h = h
 
--- and a node
-rooted-more : (claims : List Claim) (lacks : Bool) (points rays : List Named) (nodes more : List CertNode) → ((are_none claims || lacks) || takes_ray claims) ≡ false → AreBehind claims points rays nodes → AreBehind claims points rays more
-rooted-more [] lacks points rays nodes more e h = absurd cc
-rooted-more (Optimal v ∷ claims) lacks points rays nodes more e h = h
-rooted-more (Infeasible ∷ claims) lacks points rays nodes more e h = h
-rooted-more (Unbounded ∷ claims) true points rays nodes more e h = absurd cc
-rooted-more (Unbounded ∷ claims) false points rays nodes more e h = absurd cc
+-- and nodes and cuts
+rooted-more : (claims : List Claim) (lacks : Bool) (points rays : List Named) (cuts more_cuts : List NamedCut) (nodes more : List CertNode) → ((are_none claims || lacks) || takes_ray claims) ≡ false → AreBehind claims points rays cuts nodes → AreBehind claims points rays more_cuts more
+rooted-more [] lacks points rays cuts more_cuts nodes more e h = absurd cc
+rooted-more (Optimal v ∷ claims) lacks points rays cuts more_cuts nodes more e h = h
+rooted-more (Infeasible ∷ claims) lacks points rays cuts more_cuts nodes more e h = h
+rooted-more (Unbounded ∷ claims) true points rays cuts more_cuts nodes more e h = absurd cc
+rooted-more (Unbounded ∷ claims) false points rays cuts more_cuts nodes more e h = absurd cc
 
 -- ---- one more line
 
@@ -129,17 +138,17 @@ same_ended : (b : Bool) → (b || false) ≡ b
 same_ended true = refl
 same_ended false = refl
 
-unchanged : (s : StatedCertificate) → KeepsIn s → Keeps (s.claims ++ []) (s.points ++ []) (s.rays ++ []) (s.nodes ++ []) (s.ended || false)
+unchanged : (s : StatedCertificate) → KeepsIn s → Keeps (s.claims ++ []) (s.points ++ []) (s.rays ++ []) (s.cuts ++ []) (s.nodes ++ []) (s.ended || false)
 unchanged s k =
-    subst (λ T. T) (λ i. Keeps (sym (nil_right s.claims) i) (sym (nil_right s.points) i) (sym (nil_right s.rays) i) (sym (nil_right s.nodes) i) (sym (same_ended s.ended) i)) k
+    subst (λ T. T) (λ i. Keeps (sym (nil_right s.claims) i) (sym (nil_right s.points) i) (sym (nil_right s.rays) i) (sym (nil_right s.cuts) i) (sym (nil_right s.nodes) i) (sym (same_ended s.ended) i)) k
 
-behind-more : (claims : List Claim) (points rays : List Named) (nodes : List CertNode) (claim : Claim) → AreBehind claims points rays nodes → AreBehind (claims ++ claim ∷ []) points rays nodes
-behind-more [] points rays nodes (Optimal v) h = h.1.0
-behind-more [] points rays nodes Infeasible h = (h.0, h.1.0)
-behind-more [] points rays nodes Unbounded h = h.1.1
-behind-more (Optimal v ∷ claims) points rays nodes claim h = h
-behind-more (Infeasible ∷ claims) points rays nodes claim h = h
-behind-more (Unbounded ∷ claims) points rays nodes claim h = h
+behind-more : (claims : List Claim) (points rays : List Named) (cuts : List NamedCut) (nodes : List CertNode) (claim : Claim) → AreBehind claims points rays cuts nodes → AreBehind (claims ++ claim ∷ []) points rays cuts nodes
+behind-more [] points rays cuts nodes (Optimal v) h = h.1.0
+behind-more [] points rays cuts nodes Infeasible h = (h.0, h.1.0)
+behind-more [] points rays cuts nodes Unbounded h = h.1.1
+behind-more (Optimal v ∷ claims) points rays cuts nodes claim h = h
+behind-more (Infeasible ∷ claims) points rays cuts nodes claim h = h
+behind-more (Unbounded ∷ claims) points rays cuts nodes claim h = h
 
 keeps_more : (s : StatedCertificate) (said : Result Statement ℕ) → KeepsIn s → Good said → code_in s said ≡ None → KeepsIn (after s said)
 keeps_more s (Err code) k good clean = absurd (err_code (s.count == 0) s.ended code clean)
@@ -147,57 +156,75 @@ keeps_more s (Ok says.Header) k good clean = unchanged s k
 keeps_more s (Ok says.Foreign) k good clean = unchanged s k
 keeps_more s (Ok (says.Claims claim)) k good clean =
     let c = clean_code (s.count == 0) s.ended (place_code s (says.Claims claim)) clean in
-    subst (λ T. T) (λ i. Keeps (s.claims ++ claim ∷ []) (sym (nil_right s.points) i) (sym (nil_right s.rays) i) (sym (nil_right s.nodes) i) (sym (same_ended s.ended) i)) (record {
+    subst (λ T. T) (λ i. Keeps (s.claims ++ claim ∷ []) (sym (nil_right s.points) i) (sym (nil_right s.rays) i) (sym (nil_right s.cuts) i) (sym (nil_right s.nodes) i) (sym (same_ended s.ended) i)) (record {
       takes = k.takes;
       nodes_good = k.nodes_good;
       claims_room = All-append HasClaimRoom s.claims (claim ∷ []) k.claims_room (one HasClaimRoom claim good);
       points_good = k.points_good;
       rays_good = k.rays_good;
-      behind = behind-more s.claims s.points s.rays s.nodes claim k.behind;
+      cuts_good = k.cuts_good;
+      behind = behind-more s.claims s.points s.rays s.cuts s.nodes claim k.behind;
       whole = λ e _. let f : true ≡ false = sym e ∙ c.0 in absurd cc;
     })
 keeps_more s (Ok (says.Point named)) k good clean =
-    subst (λ T. T) (λ i. Keeps (sym (nil_right s.claims) i) (s.points ++ named ∷ []) (sym (nil_right s.rays) i) (sym (nil_right s.nodes) i) (sym (same_ended s.ended) i)) (record {
+    subst (λ T. T) (λ i. Keeps (sym (nil_right s.claims) i) (s.points ++ named ∷ []) (sym (nil_right s.rays) i) (sym (nil_right s.cuts) i) (sym (nil_right s.nodes) i) (sym (same_ended s.ended) i)) (record {
       takes = k.takes;
       nodes_good = k.nodes_good;
       claims_room = k.claims_room;
       points_good = All-append GoodNamed s.points (named ∷ []) k.points_good (one GoodNamed named good);
       rays_good = k.rays_good;
+      cuts_good = k.cuts_good;
       behind = point_clean s named (clean_code (s.count == 0) s.ended (place_code s (says.Point named)) clean).1 k.behind;
       whole = k.whole;
     })
 keeps_more s (Ok (says.Ray named)) k good clean =
-    subst (λ T. T) (λ i. Keeps (sym (nil_right s.claims) i) (sym (nil_right s.points) i) (s.rays ++ named ∷ []) (sym (nil_right s.nodes) i) (sym (same_ended s.ended) i)) (record {
+    subst (λ T. T) (λ i. Keeps (sym (nil_right s.claims) i) (sym (nil_right s.points) i) (s.rays ++ named ∷ []) (sym (nil_right s.cuts) i) (sym (nil_right s.nodes) i) (sym (same_ended s.ended) i)) (record {
       takes = k.takes;
       nodes_good = k.nodes_good;
       claims_room = k.claims_room;
       points_good = k.points_good;
       rays_good = All-append GoodNamed s.rays (named ∷ []) k.rays_good (one GoodNamed named good);
+      cuts_good = k.cuts_good;
       behind = ray_clean s named (clean_code (s.count == 0) s.ended (place_code s (says.Ray named)) clean).1 k.behind;
+      whole = k.whole;
+    })
+keeps_more s (Ok (says.Cut cut)) k good clean =
+    let c = clean_code (s.count == 0) s.ended (place_code s (says.Cut cut)) clean in
+    let test = cut_clean (lacks_part s || takes_ray s.claims) (are_none s.nodes) c.1 in
+    subst (λ T. T) (λ i. Keeps (sym (nil_right s.claims) i) (sym (nil_right s.points) i) (sym (nil_right s.rays) i) (s.cuts ++ cut ∷ []) (sym (nil_right s.nodes) i) (sym (same_ended s.ended) i)) (record {
+      takes = k.takes;
+      nodes_good = k.nodes_good;
+      claims_room = k.claims_room;
+      points_good = k.points_good;
+      rays_good = k.rays_good;
+      cuts_good = All-append HasCutWords s.cuts (cut ∷ []) k.cuts_good (one HasCutWords cut good);
+      behind = rooted-more s.claims (lacks_numbers s) s.points s.rays s.cuts (s.cuts ++ cut ∷ []) s.nodes s.nodes test k.behind;
       whole = k.whole;
     })
 keeps_more s (Ok (says.Node n)) k good clean =
     let c = clean_code (s.count == 0) s.ended (place_code s (says.Node n)) clean in
     let tests = node_clean (lacks_part s || takes_ray s.claims) (is_whole_tree s.nodes) c.1 in
     let due = some_due (due_after 1 s.nodes) tests.1 in
-    subst (λ T. T) (λ i. Keeps (sym (nil_right s.claims) i) (sym (nil_right s.points) i) (sym (nil_right s.rays) i) (s.nodes ++ n ∷ []) (sym (same_ended s.ended) i)) (record {
+    subst (λ T. T) (λ i. Keeps (sym (nil_right s.claims) i) (sym (nil_right s.points) i) (sym (nil_right s.rays) i) (sym (nil_right s.cuts) i) (s.nodes ++ n ∷ []) (sym (same_ended s.ended) i)) (record {
       takes = takes-more 1 s.nodes n k.takes due;
       nodes_good = All-append GoodNode s.nodes (n ∷ []) k.nodes_good (one GoodNode n good);
       claims_room = k.claims_room;
       points_good = k.points_good;
       rays_good = k.rays_good;
-      behind = rooted-more s.claims (lacks_numbers s) s.points s.rays s.nodes (s.nodes ++ n ∷ []) tests.0 k.behind;
+      cuts_good = k.cuts_good;
+      behind = rooted-more s.claims (lacks_numbers s) s.points s.rays s.cuts s.cuts s.nodes (s.nodes ++ n ∷ []) tests.0 k.behind;
       whole = λ e _. let f : true ≡ false = sym e ∙ c.0 in absurd cc;
     })
 keeps_more s (Ok says.End) k good clean =
     let c = clean_code (s.count == 0) s.ended (place_code s says.End) clean in
     let done : takes_ray s.claims ≡ false → due_after 1 s.nodes ≡ 0 = λ no_ray. (Decides-eqb (due_after 1 s.nodes) 0).0 (end_clean (lacks_part s) (takes_ray s.claims) (are_none s.nodes) (is_whole_tree s.nodes) c.1 no_ray) in
-    subst (λ T. T) (λ i. Keeps (sym (nil_right s.claims) i) (sym (nil_right s.points) i) (sym (nil_right s.rays) i) (sym (nil_right s.nodes) i) (s.ended || true)) (record {
+    subst (λ T. T) (λ i. Keeps (sym (nil_right s.claims) i) (sym (nil_right s.points) i) (sym (nil_right s.rays) i) (sym (nil_right s.cuts) i) (sym (nil_right s.nodes) i) (s.ended || true)) (record {
       takes = k.takes;
       nodes_good = k.nodes_good;
       claims_room = k.claims_room;
       points_good = k.points_good;
       rays_good = k.rays_good;
+      cuts_good = k.cuts_good;
       behind = k.behind;
       whole = λ e no_ray. done no_ray;
     })
@@ -210,7 +237,8 @@ keeps_none = record {
   claims_room = All-nil HasClaimRoom;
   points_good = All-nil GoodNamed;
   rays_good = All-nil GoodNamed;
-  behind = (refl, (refl, refl));
+  cuts_good = All-nil HasCutWords;
+  behind = (refl, (refl, (refl, refl)));
   whole = λ e _. let f : false ≡ true = e in absurd cc;
 }
 
@@ -238,27 +266,33 @@ ended_is s e = by (s.count == 0) s.ended (or_no_end (place_code s says.End)) e
     by false true x e = refl
     by false false x e = absurd cc
 
-module _ (points rays : List Named) (nodes : List CertNode) where
-  no_point : (claims : List Claim) → AreBehind claims points rays nodes → HasNoPoint (first_claim claims) (first_named points)
+module _ (points rays : List Named) (cuts : List NamedCut) (nodes : List CertNode) where
+  no_point : (claims : List Claim) → AreBehind claims points rays cuts nodes → HasNoPoint (first_claim claims) (first_named points)
   no_point [] h = ap first_named h.0
   no_point (Optimal v ∷ claims) h = tt
   no_point (Infeasible ∷ claims) h = ap first_named h.0
   no_point (Unbounded ∷ claims) h = tt
 
-  no_ray : (claims : List Claim) → AreBehind claims points rays nodes → HasNoRay (first_claim claims) (first_named rays)
+  no_ray : (claims : List Claim) → AreBehind claims points rays cuts nodes → HasNoRay (first_claim claims) (first_named rays)
   no_ray [] h = ap first_named h.1.0
   no_ray (Optimal v ∷ claims) h = ap first_named h
   no_ray (Infeasible ∷ claims) h = ap first_named h.1
   no_ray (Unbounded ∷ claims) h = tt
 
+  no_cuts : (claims : List Claim) → AreBehind claims points rays cuts nodes → HasNoCuts (first_claim claims) cuts
+  no_cuts [] h = tt
+  no_cuts (Optimal v ∷ claims) h = tt
+  no_cuts (Infeasible ∷ claims) h = tt
+  no_cuts (Unbounded ∷ claims) h = h.0
+
   one_tree : TakesAll 1 nodes → due_after 1 nodes ≡ 0 → AreOneTree nodes
   one_tree takes done = let t = whole_tree nodes takes done in record { tree = t.0; nodes_are = t.1 }
 
-  has_tree : (claims : List Claim) → AreBehind claims points rays nodes → TakesAll 1 nodes → (takes_ray claims ≡ false → due_after 1 nodes ≡ 0) → HasTree (first_claim claims) nodes
+  has_tree : (claims : List Claim) → AreBehind claims points rays cuts nodes → TakesAll 1 nodes → (takes_ray claims ≡ false → due_after 1 nodes ≡ 0) → HasTree (first_claim claims) nodes
   has_tree [] h takes done = one_tree takes (done refl)
   has_tree (Optimal v ∷ claims) h takes done = one_tree takes (done refl)
   has_tree (Infeasible ∷ claims) h takes done = one_tree takes (done refl)
-  has_tree (Unbounded ∷ claims) h takes done = h
+  has_tree (Unbounded ∷ claims) h takes done = h.1
 
 claim_room : (claims : List Claim) → All HasClaimRoom claims → HasClaimRoom (first_claim claims)
 claim_room [] all = tt
@@ -292,12 +326,13 @@ whole_by s k ended =
     let ray = point_good s.rays k.rays_good in
     record {
       certificate = record {
-        tree = has_tree s.points s.rays s.nodes s.claims k.behind k.takes (k.whole (ended_is s ended));
+        tree = has_tree s.points s.rays s.cuts s.nodes s.claims k.behind k.takes (k.whole (ended_is s ended));
         narrow = all_weaker GoodNode IsNarrowNode (λ n g. g.narrow) s.nodes k.nodes_good;
-        point = no_point s.points s.rays s.nodes s.claims k.behind;
-        ray = no_ray s.points s.rays s.nodes s.claims k.behind;
+        point = no_point s.points s.rays s.cuts s.nodes s.claims k.behind;
+        ray = no_ray s.points s.rays s.cuts s.nodes s.claims k.behind;
+        cuts = no_cuts s.points s.rays s.cuts s.nodes s.claims k.behind;
       };
-      words = record { point = point.words; ray = ray.words; nodes = all_weaker GoodNode HasNodeWords (λ n g. g.words) s.nodes k.nodes_good };
+      words = record { point = point.words; ray = ray.words; cuts = k.cuts_good; nodes = all_weaker GoodNode HasNodeWords (λ n g. g.words) s.nodes k.nodes_good };
       room = record { claim = claim_room s.claims k.claims_room; point = point_room (first_claim s.claims) (first_named s.points) point.room; ray = ray_room (first_claim s.claims) (first_named s.rays) ray.room; nodes = all_weaker GoodNode HasNodeRoom (λ n g. g.room) s.nodes k.nodes_good };
     }
 

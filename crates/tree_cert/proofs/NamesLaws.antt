@@ -25,7 +25,7 @@ use Rattle.cert_text.specs.Tree.{Bound as CertBound, Farkas as CertFarkas, Empty
 use Rattle.tree_cert.specs.Certificates.{activity_name, named_mult, row_mults, nonzero_numbers, point_numbers, IsReason, IsTreeOf, IsCertificateOf, unbounded_certificate}
 use Rattle.lp_model.specs.Lawful.{column_name}
 use Rattle.text_lines.specs.Words.{IsWord}
-use Rattle.tree_cert.specs.CertText.{HasNameWords, IsMultWord, HasNodeWords, HasCertWords, HasWordNames}
+use Rattle.tree_cert.specs.CertText.{HasNameWords, IsMultWord, HasCutWords, HasNodeWords, HasCertWords, HasWordNames}
 use Rattle.tree_cert.proofs.NameLaws.{element-get}
 
 abbrev Worded : List ℕ × ℚ → Type 0
@@ -84,8 +84,9 @@ pub certificate_words : (S : PlainSearch) (cert : Cert) → IsSound S → IsCert
 certificate_words S cert sound of plain = record {
   point = subst HasNameWords (sym of.point) (point-words S.model of.incumbent plain);
   ray = subst HasNameWords (sym of.ray) (All-nil Worded);
+  cuts = subst (All HasCutWords) (sym of.cuts) (All-nil HasCutWords);
   nodes = subst (All HasNodeWords) of.nodes (tree-words S.model plain [] S.tree.root of.tree sound.tree.lawful sound.tree.lists of.like);
 }
 
 pub unbounded_words : (M : Program) (x d : Point) → HasWordNames M → HasCertWords (unbounded_certificate M x d)
-unbounded_words M x d plain = record { point = numbers-words M.cols x plain.columns; ray = numbers-words M.cols d plain.columns; nodes = All-nil HasNodeWords }
+unbounded_words M x d plain = record { point = numbers-words M.cols x plain.columns; ray = numbers-words M.cols d plain.columns; cuts = All-nil HasCutWords; nodes = All-nil HasNodeWords }

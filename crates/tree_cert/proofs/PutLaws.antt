@@ -1,13 +1,14 @@
 -- One item further: what was put so far, and what is to be put of the items that are left, is what is to be put of all.
 use Rattle.std.proofs.Common.{◌≡◌, ℕ, ◌+◌, ◌<◌, ◌≤◌, List, [], ◌∷◌, ◌++◌, length, take, drop, get_or, map, refl, sym, ap, subst, ◌∙◌, append_assoc}
-use Rattle.std.specs.Prelude.{All, codes}
+use Rattle.std.specs.Prelude.{Bool, All, codes}
 use Rattle.rational.specs.Rational.{ℚ}
 use Rattle.frac128.specs.Printing.{printed}
 use Rattle.lp_model.specs.Edits.{Named}
 use Rattle.cert_text.specs.declared.cert.CertMult.{CertMult}
+use Rattle.cert_text.specs.declared.cert.NamedCut.{NamedCut}
 use Rattle.cert_text.specs.declared.cert.CertNode.{CertNode}
 use Rattle.cert_text.specs.declared.cert.Cert.{Cert}
-use Rattle.tree_cert.specs.CertText.{named_words, mult_words, all_mult_words, claim_words, node_words, point_lines, ray_lines, line_text, lines_text, cert_text}
+use Rattle.tree_cert.specs.CertText.{named_words, mult_words, all_mult_words, literal_word, literal_words, cut_words, claim_words, node_words, point_lines, ray_lines, line_text, lines_text, cert_text}
 use Rattle.text_lines.specs.Words.{spaced, Words}
 use Rattle.std.proofs.lemmas.List.{drop_more, drop_all, take_all}
 use Rattle.std.proofs.lemmas.List.Elements.{All-more}
@@ -49,9 +50,24 @@ named_step e named = spaced_append (e.0 ∷ printed e.1 ∷ []) (named_words nam
 pub mult_step : (m : CertMult) (mults : List CertMult) → spaced (all_mult_words (m ∷ mults)) ≡ spaced (mult_words m) ++ spaced (all_mult_words mults)
 mult_step m mults = spaced_append (mult_words m) (all_mult_words mults)
 
+pub literal_step : (l : List ℕ × Bool) (literals : List (List ℕ × Bool)) → spaced (literal_words (l ∷ literals)) ≡ spaced (literal_word l ∷ []) ++ spaced (literal_words literals)
+literal_step l literals = spaced_append (literal_word l ∷ []) (literal_words literals)
+
+-- a word of a sign and further bytes, put piece by piece
+pub signed_put : (old bytes a b c : List ℕ) (sign : ℕ) → a ≡ old ++ 32 ∷ [] → b ≡ a ++ sign ∷ [] → c ≡ b ++ bytes → c ≡ old ++ spaced ((sign ∷ bytes) ∷ [])
+signed_put old bytes a b c sign first second third =
+    third
+    ∙ ap (λ l. l ++ bytes) (second ∙ ap (λ l. l ++ sign ∷ []) first)
+    ∙ append_assoc (old ++ 32 ∷ []) (sign ∷ []) bytes
+    ∙ append_assoc old (32 ∷ []) (sign ∷ bytes)
+    ∙ ap (λ l. old ++ 32 ∷ sign ∷ l) (sym (nil_right bytes))
+
 -- words behind words
 pub words_put : (a b : Words) (old one new : List ℕ) → one ≡ old ++ spaced a → new ≡ one ++ spaced b → new ≡ old ++ spaced (a ++ b)
 words_put a b old one new first second = second ∙ ap (λ l. l ++ spaced b) first ∙ append_assoc old (spaced a) (spaced b) ∙ ap (λ l. old ++ l) (sym (spaced_append a b))
+
+pub cut_step : (cut : NamedCut) (cuts : List NamedCut) → lines_text (map cut_words (cut ∷ cuts)) ≡ (line_text (cut_words cut) ++ 10 ∷ []) ++ lines_text (map cut_words cuts)
+cut_step cut cuts = sym (append_assoc (line_text (cut_words cut)) (10 ∷ []) (lines_text (map cut_words cuts)))
 
 pub line_step : (n : CertNode) (nodes : List CertNode) → lines_text (map node_words (n ∷ nodes)) ≡ (line_text (node_words n) ++ 10 ∷ []) ++ lines_text (map node_words nodes)
 line_step n nodes = sym (append_assoc (line_text (node_words n)) (10 ∷ []) (lines_text (map node_words nodes)))
@@ -66,25 +82,36 @@ named_line_put old word words a b c first second third =
     ∙ ap (λ l. l ++ 10 ∷ []) (second ∙ ap (λ l. l ++ spaced words) first ∙ append_assoc old word (spaced words))
     ∙ append_assoc old (word ++ spaced words) (10 ∷ [])
 
+-- a line of a word, two further words, and more words
+pub three_put : (old word first second : List ℕ) (words : Words) (a b c d : List ℕ) → a ≡ old ++ word → b ≡ a ++ spaced (first ∷ []) → c ≡ b ++ spaced (second ∷ []) → d ≡ c ++ spaced words → d ≡ old ++ line_text (word ∷ first ∷ second ∷ words)
+three_put old word first second words a b c d begun one two last =
+    words_put (first ∷ second ∷ []) words a c d (words_put (first ∷ []) (second ∷ []) a b c one two) last
+    ∙ ap (λ l. l ++ spaced (first ∷ second ∷ words)) begun
+    ∙ append_assoc old word (spaced (first ∷ second ∷ words))
+
 -- the parts of a certificate's text one after the other
-pub text_parts : (cert : Cert) (a b c d r e f : List ℕ) → a ≡ codes "cert 1\n" → b ≡ a ++ line_text (claim_words cert.claim) → c ≡ b ++ 10 ∷ [] → d ≡ c ++ lines_text (point_lines cert.claim cert.point) →
-    r ≡ d ++ lines_text (ray_lines cert.claim cert.ray) → e ≡ r ++ lines_text (map node_words cert.nodes) → f ≡ e ++ codes "end\n" → f ≡ cert_text cert
+pub text_parts : (cert : Cert) (a b c d r k e f : List ℕ) → a ≡ codes "cert 1\n" → b ≡ a ++ line_text (claim_words cert.claim) → c ≡ b ++ 10 ∷ [] → d ≡ c ++ lines_text (point_lines cert.claim cert.point) →
+    r ≡ d ++ lines_text (ray_lines cert.claim cert.ray) → k ≡ r ++ lines_text (map cut_words cert.cuts) → e ≡ k ++ lines_text (map node_words cert.nodes) → f ≡ e ++ codes "end\n" → f ≡ cert_text cert
 unfolding cert_text
-text_parts cert a b c d r e f first second third fourth fifth sixth last =
+text_parts cert a b c d r k e f first second third fourth fifth sixth seventh last =
     let claim = line_text (claim_words cert.claim) in
     let points = lines_text (point_lines cert.claim cert.point) in
     let rays = lines_text (ray_lines cert.claim cert.ray) in
+    let cuts = lines_text (map cut_words cert.cuts) in
     let nodes = lines_text (map node_words cert.nodes) in
     let ended = codes "end\n" in
     let behind_nodes = map node_words cert.nodes ++ (codes "end" ∷ []) ∷ [] in
+    let behind_cuts = map cut_words cert.cuts ++ behind_nodes in
     last
-    ∙ ap (λ l. l ++ ended) (sixth ∙ ap (λ l. l ++ nodes) (fifth ∙ ap (λ l. l ++ rays) (fourth ∙ ap (λ l. l ++ points) (third ∙ ap (λ l. l ++ 10 ∷ []) (second ∙ ap (λ l. l ++ claim) first)))))
-    ∙ append_assoc ((((codes "cert 1\n" ++ claim) ++ 10 ∷ []) ++ points) ++ rays) nodes ended
-    ∙ append_assoc (((codes "cert 1\n" ++ claim) ++ 10 ∷ []) ++ points) rays (nodes ++ ended)
-    ∙ append_assoc ((codes "cert 1\n" ++ claim) ++ 10 ∷ []) points (rays ++ (nodes ++ ended))
-    ∙ append_assoc (codes "cert 1\n" ++ claim) (10 ∷ []) (points ++ (rays ++ (nodes ++ ended)))
-    ∙ append_assoc (codes "cert 1\n") claim (10 ∷ (points ++ (rays ++ (nodes ++ ended))))
+    ∙ ap (λ l. l ++ ended) (seventh ∙ ap (λ l. l ++ nodes) (sixth ∙ ap (λ l. l ++ cuts) (fifth ∙ ap (λ l. l ++ rays) (fourth ∙ ap (λ l. l ++ points) (third ∙ ap (λ l. l ++ 10 ∷ []) (second ∙ ap (λ l. l ++ claim) first))))))
+    ∙ append_assoc (((((codes "cert 1\n" ++ claim) ++ 10 ∷ []) ++ points) ++ rays) ++ cuts) nodes ended
+    ∙ append_assoc ((((codes "cert 1\n" ++ claim) ++ 10 ∷ []) ++ points) ++ rays) cuts (nodes ++ ended)
+    ∙ append_assoc (((codes "cert 1\n" ++ claim) ++ 10 ∷ []) ++ points) rays (cuts ++ (nodes ++ ended))
+    ∙ append_assoc ((codes "cert 1\n" ++ claim) ++ 10 ∷ []) points (rays ++ (cuts ++ (nodes ++ ended)))
+    ∙ append_assoc (codes "cert 1\n" ++ claim) (10 ∷ []) (points ++ (rays ++ (cuts ++ (nodes ++ ended))))
+    ∙ append_assoc (codes "cert 1\n") claim (10 ∷ (points ++ (rays ++ (cuts ++ (nodes ++ ended)))))
     ∙ ap (λ l. codes "cert 1\n" ++ (claim ++ 10 ∷ l))
-    (ap (λ l. points ++ (rays ++ l)) (sym (lines_append (map node_words cert.nodes) ((codes "end" ∷ []) ∷ [])))
-    ∙ ap (λ l. points ++ l) (sym (lines_append (ray_lines cert.claim cert.ray) behind_nodes))
-    ∙ sym (lines_append (point_lines cert.claim cert.point) (ray_lines cert.claim cert.ray ++ behind_nodes)))
+    (ap (λ l. points ++ (rays ++ (cuts ++ l))) (sym (lines_append (map node_words cert.nodes) ((codes "end" ∷ []) ∷ [])))
+    ∙ ap (λ l. points ++ (rays ++ l)) (sym (lines_append (map cut_words cert.cuts) behind_nodes))
+    ∙ ap (λ l. points ++ l) (sym (lines_append (ray_lines cert.claim cert.ray) behind_cuts))
+    ∙ sym (lines_append (point_lines cert.claim cert.point) (ray_lines cert.claim cert.ray ++ behind_cuts)))

@@ -1,30 +1,35 @@
 -- What a line of a text says has names that are words, and numbers that have room.
-use Rattle.std.proofs.Common.{◌≡◌, ℕ, ◌-◌, ◌^◌, Bool, true, false, List, [], ◌∷◌, refl, sym, ◌∙◌, arith, if◌then◌else◌}
-use Rattle.std.specs.Prelude.{All, codes, bytes_eq, Option, Some, None, Result, Ok, Err, ℤ, pos, ◌+ℤ◌}
+use Rattle.std.proofs.Common.{◌≡◌, ℕ, ◌-◌, ◌^◌, ◌<◌, Bool, true, false, List, [], ◌∷◌, refl, sym, ◌∙◌, arith, if◌then◌else◌}
+use Rattle.std.specs.Prelude.{All, codes, bytes_eq, ◌==◌, nat_lt, Option, Some, None, Result, Ok, Err, ℤ, pos, ◌+ℤ◌}
+use Rattle.std.specs.Option.{option_map}
 use Rattle.std.specs.Ordering.{int_eq}
-use Rattle.std.proofs.lemmas.Bool.Decides.{Decides-int_eq}
+use Rattle.std.proofs.lemmas.Bool.Decides.{nat_tests, Decides-int_eq}
 use Rattle.std.proofs.lemmas.Int.{ints}
 use Rattle.std.proofs.lemmas.List.Elements.{All-nil, All-cons, All-head, All-tail}
 use Rattle.rational.specs.Rational.{ℚ}
 use Rattle.frac128.specs.Range.{Fits, IsNarrow}
 use Rattle.frac_text.specs.declared.parsing.NumFault.{NumFault}
+use Rattle.frac_text.specs.Spelling.{value_of}
 use Rattle.lp_model.specs.Edits.{Named}
+use Rattle.lp_model.specs.Sides.{side_of_word}
+use Rattle.lp_model.specs.declared.types.Side.{Side}
 use Rattle.cert_text.specs.declared.cert.Claim.TheVariants.{Infeasible, Unbounded}
 use Rattle.cert_text.specs.declared.cert.CertMult.{CertMult}
-use Rattle.cert_text.specs.declared.cert.CertMult.TheVariants.{Row}
 use Rattle.cert_text.specs.declared.cert.CertNode.{CertNode}
 use Rattle.cert_text.specs.declared.cert.CertNode.TheVariants as node
 use Rattle.cert_text.specs.declared.line.LineWord.{LineWord}
 use Rattle.cert_text.specs.declared.line.LineWord.TheVariants as word
 use Rattle.cert_text.specs.declared.line.Statement.{Statement}
 use Rattle.cert_text.specs.declared.line.Statement.TheVariants as says
-use Rattle.text_lines.specs.Lines.{HasNoNewline}
-use Rattle.text_lines.specs.Words.{words_of, IsWord}
+use Rattle.text_lines.specs.Lines.{is_newline, HasNoNewline}
+use Rattle.text_lines.specs.Words.{is_blank, words_of, IsWord}
 use Rattle.text_lines.proofs.CleanLemmas.{words-are}
-use Rattle.cert_text.specs.Lines.{begins_blank, ends_blank, with_named, beside, named_in, row_mult, with_mult, rows_in, cert_says, claimed, claim_says, as_point, as_ray, is_whole, split_at, split_says, as_leaf, empty_says, leaf_says, end_says, word_of, word_says, known_says, words_say, line_says}
+use Rattle.cert_text.specs.CutLines.{literal_in, with_literal, literals_in, cut_by, cut_line_in}
+use Rattle.cert_text.specs.Mults.{are_plain_digits, number_of_cut, row_mult, cut_mult, mult_in, with_mult, mults_in}
+use Rattle.cert_text.specs.Lines.{begins_blank, ends_blank, with_named, beside, named_in, cert_says, claimed, claim_says, as_point, as_ray, as_cut, is_whole, split_at, split_says, as_leaf, empty_says, leaf_says, end_says, word_of, word_says, known_says, words_say, line_says}
 use Rattle.frac_text.specs.Parsing.{spelled_number}
 use Rattle.cert_text.specs.Whole.{IsNarrowNode}
-use Rattle.tree_cert.specs.CertText.{HasNameWords, IsMultWord, HasNodeWords}
+use Rattle.tree_cert.specs.CertText.{HasNameWords, IsMultWord, HasCutWords, HasNodeWords}
 use Rattle.tree_cert.specs.Printed.{HasFractions, MultFits, HasClaimRoom, HasNodeRoom}
 use Rattle.tree_cert.proofs.FitLaws.{FitsOk, number-fits}
 
@@ -44,6 +49,7 @@ GoodStatement (says.Point named) = GoodNamed named
 GoodStatement (says.Node n) = GoodNode n
 GoodStatement says.End = Unit {0}
 GoodStatement (says.Ray named) = GoodNamed named
+GoodStatement (says.Cut cut) = HasCutWords cut
 GoodStatement says.Foreign = Unit {0}
 
 abbrev pub Good : Result Statement ℕ → Type 0
@@ -87,24 +93,113 @@ abbrev GoodRows : Result (List CertMult) ℕ → Type 0
 GoodRows (Ok mults) = GoodMults mults
 GoodRows (Err code) = Unit {0}
 
-with_mult-good : (name : List ℕ) (r : Result ℚ NumFault) (rest : Result (List CertMult) ℕ) → IsWord name → FitsOk r → GoodRows rest → GoodRows (with_mult (row_mult name r) rest)
-with_mult-good name (Ok x) (Ok mults) w fits good = record { words = All-cons IsMultWord (Row name x) mults w good.words; room = All-cons MultFits (Row name x) mults fits good.room }
-with_mult-good name (Ok x) (Err code) w fits good = tt
-with_mult-good name (Err fault) (Ok mults) w fits good = tt
-with_mult-good name (Err fault) (Err code) w fits good = tt
+abbrev GoodMult : Result CertMult ℕ → Type 0
+GoodMult (Ok m) = IsMultWord m × MultFits m
+GoodMult (Err code) = Unit {0}
 
-rows-good : (words : List (List ℕ)) → All IsWord words → GoodRows (rows_in words)
-rows-good [] all = record { words = All-nil IsMultWord; room = All-nil MultFits }
-rows-good (a ∷ []) all = tt
-rows-good (a ∷ b ∷ []) all = tt
-rows-good (key ∷ name ∷ number ∷ more) all =
-    let rest = All-tail IsWord key (name ∷ number ∷ more) all in
-    let last = All-tail IsWord number more (All-tail IsWord name (number ∷ more) rest) in
-    by (bytes_eq key (codes "row")) (with_mult-good name (spelled_number number) (rows_in more) (All-head IsWord name (number ∷ more) rest) (number-fits number) (rows-good more last))
+with_mult-good : (r : Result CertMult ℕ) (rest : Result (List CertMult) ℕ) → GoodMult r → GoodRows rest → GoodRows (with_mult r rest)
+with_mult-good (Ok m) (Ok mults) here good = record { words = All-cons IsMultWord m mults here.0 good.words; room = All-cons MultFits m mults here.1 good.room }
+with_mult-good (Ok m) (Err code) here good = tt
+with_mult-good (Err fault) (Ok mults) here good = tt
+with_mult-good (Err fault) (Err code) here good = tt
+
+row-good : (name : List ℕ) (r : Result ℚ NumFault) → IsWord name → FitsOk r → GoodMult (row_mult name r)
+row-good name (Ok v) w fits = (w, fits)
+row-good name (Err fault) w fits = tt
+
+abbrev HasBits : Result ℕ ℕ → Type 0
+HasBits (Ok k) = k < 2 ^ 64
+HasBits (Err code) = Unit {0}
+
+number-good : (word : List ℕ) → HasBits (number_of_cut word)
+number-good word = by (are_plain_digits word) (nat_lt (value_of word) (2 ^ 64)) refl
   where
-    by : (b : Bool) → GoodRows (with_mult (row_mult name (spelled_number number)) (rows_in more)) → GoodRows (if b then with_mult (row_mult name (spelled_number number)) (rows_in more) else Err 3)
-    by true good = good
-    by false good = tt
+    below : (a b : ℕ) → nat_lt a b ≡ true → a < b
+    below a b e = grind (arith, nat_tests)
+
+    by : (a b : Bool) → nat_lt (value_of word) (2 ^ 64) ≡ b → HasBits (if a then (if b then Ok (value_of word) else Err 5) else Err 4)
+    by true true e = below (value_of word) (2 ^ 64) e
+    by true false e = tt
+    by false b e = tt
+
+cut_mult-good : (k : Result ℕ ℕ) (r : Result ℚ NumFault) → HasBits k → FitsOk r → GoodMult (cut_mult k r)
+cut_mult-good (Ok k) (Ok v) few fits = (tt, (fits, few))
+cut_mult-good (Ok k) (Err fault) few fits = tt
+cut_mult-good (Err code) (Ok v) few fits = tt
+cut_mult-good (Err code) (Err fault) few fits = tt
+
+mult-good : (key word number : List ℕ) → IsWord word → GoodMult (mult_in key word number)
+mult-good key word number w =
+    by (bytes_eq key (codes "row")) (bytes_eq key (codes "cut")) (row-good word (spelled_number number) w (number-fits number)) (cut_mult-good (number_of_cut word) (spelled_number number) (number-good word) (number-fits number))
+  where
+    by : (a b : Bool) → GoodMult (row_mult word (spelled_number number)) → GoodMult (cut_mult (number_of_cut word) (spelled_number number)) →
+        GoodMult (if a then row_mult word (spelled_number number) else if b then cut_mult (number_of_cut word) (spelled_number number) else Err 3)
+    by true b first second = first
+    by false true first second = second
+    by false false first second = tt
+
+mults-good : (words : List (List ℕ)) → All IsWord words → GoodRows (mults_in words)
+mults-good [] all = record { words = All-nil IsMultWord; room = All-nil MultFits }
+mults-good (a ∷ []) all = tt
+mults-good (a ∷ b ∷ []) all = tt
+mults-good (key ∷ word ∷ number ∷ more) all =
+    let rest = All-tail IsWord key (word ∷ number ∷ more) all in
+    let last = All-tail IsWord number more (All-tail IsWord word (number ∷ more) rest) in
+    with_mult-good (mult_in key word number) (mults_in more) (mult-good key word number (All-head IsWord word (number ∷ more) rest)) (mults-good more last)
+
+-- ---- cuts
+
+abbrev WordLiteral : List ℕ × Bool → Type 0
+WordLiteral l = IsWord l.0
+
+abbrev GoodLiteral : Option (List ℕ × Bool) → Type 0
+GoodLiteral (Some l) = WordLiteral l
+GoodLiteral None = Unit {0}
+
+abbrev GoodLiterals : Result (List (List ℕ × Bool)) ℕ → Type 0
+GoodLiterals (Ok literals) = All WordLiteral literals
+GoodLiterals (Err code) = Unit {0}
+
+-- what stands behind the first byte of a word of two bytes or more is a word
+behind_sign : (sign byte : ℕ) (name : List ℕ) → IsWord (sign ∷ byte ∷ name) → IsWord (byte ∷ name)
+behind_sign sign byte name w = record {
+  some = omega arith;
+  one_line = All-tail (λ b. is_newline b ≡ false) sign (byte ∷ name) w.one_line;
+  one_word = All-tail (λ b. is_blank b ≡ false) sign (byte ∷ name) w.one_word;
+}
+
+literal-good : (word : List ℕ) → IsWord word → GoodLiteral (literal_in word)
+literal-good [] w = tt
+literal-good (sign ∷ []) w = tt
+literal-good (sign ∷ byte ∷ name) w = by (sign == 43) (sign == 45)
+  where
+    by : (a b : Bool) → GoodLiteral (option_map (λ plus. (byte ∷ name, plus)) (if a then Some true else if b then Some false else None))
+    by true b = behind_sign sign byte name w
+    by false true = behind_sign sign byte name w
+    by false false = tt
+
+with_literal-good : (l : Option (List ℕ × Bool)) (rest : Result (List (List ℕ × Bool)) ℕ) → GoodLiteral l → GoodLiterals rest → GoodLiterals (with_literal l rest)
+with_literal-good (Some l) (Ok literals) here good = All-cons WordLiteral l literals here good
+with_literal-good (Some l) (Err code) here good = tt
+with_literal-good None (Ok literals) here good = tt
+with_literal-good None (Err code) here good = tt
+
+literals-good : (words : List (List ℕ)) → All IsWord words → GoodLiterals (literals_in words)
+literals-good [] all = All-nil WordLiteral
+literals-good (word ∷ words) all = with_literal-good (literal_in word) (literals_in words) (literal-good word (All-head IsWord word words all)) (literals-good words (All-tail IsWord word words all))
+
+cut_by-good : (row : List ℕ) (s : Option Side) (r : Result (List (List ℕ × Bool)) ℕ) → IsWord row → GoodLiterals r → Good (as_cut (cut_by row s r))
+cut_by-good row None (Ok literals) w good = tt
+cut_by-good row None (Err code) w good = tt
+cut_by-good row (Some s) (Err code) w good = tt
+cut_by-good row (Some s) (Ok []) w good = tt
+cut_by-good row (Some s) (Ok (l ∷ literals)) w good = record { row = w; literals = good; some = omega arith }
+
+cut-good : (words : List (List ℕ)) → All IsWord words → Good (as_cut (cut_line_in words))
+cut-good [] all = tt
+cut-good (row ∷ []) all = tt
+cut-good (row ∷ side ∷ literals) all =
+    cut_by-good row (side_of_word side) (literals_in literals) (All-head IsWord row (side ∷ literals) all) (literals-good literals (All-tail IsWord side literals (All-tail IsWord row (side ∷ literals) all)))
 
 -- ---- statements
 
@@ -175,11 +270,11 @@ empty-good (a ∷ more) = tt
 leaf-good : (words : List (List ℕ)) → All IsWord words → Good (leaf_says words)
 leaf-good [] all = tt
 leaf-good (kind ∷ words) all =
-    let rows = rows-good words (All-tail IsWord kind words all) in
-    by (bytes_eq kind (codes "bound")) (bytes_eq kind (codes "farkas")) (bytes_eq kind (codes "empty")) (bound-good (rows_in words) rows) (farkas-good (rows_in words) rows) (empty-good words)
+    let mults = mults-good words (All-tail IsWord kind words all) in
+    by (bytes_eq kind (codes "bound")) (bytes_eq kind (codes "farkas")) (bytes_eq kind (codes "empty")) (bound-good (mults_in words) mults) (farkas-good (mults_in words) mults) (empty-good words)
   where
-    by : (a b c : Bool) → Good (as_leaf node.Bound (rows_in words)) → Good (as_leaf node.Farkas (rows_in words)) → Good (empty_says words) →
-        Good (if a then as_leaf node.Bound (rows_in words) else if b then as_leaf node.Farkas (rows_in words) else if c then empty_says words else Err 3)
+    by : (a b c : Bool) → Good (as_leaf node.Bound (mults_in words)) → Good (as_leaf node.Farkas (mults_in words)) → Good (empty_says words) →
+        Good (if a then as_leaf node.Bound (mults_in words) else if b then as_leaf node.Farkas (mults_in words) else if c then empty_says words else Err 3)
     by true b c first second third = first
     by false true c first second third = second
     by false false true first second third = third
@@ -201,6 +296,7 @@ word-good word.Split words all = split_says-good words all
 word-good word.Leaf words all = leaf-good words all
 word-good word.End words all = end-good words
 word-good word.Ray words all = ray-good (named_in words) (named-good words all)
+word-good word.Cut words all = cut-good words all
 word-good word.Foreign words all = tt
 
 known-good : (known : Option LineWord) (blank : Bool) (words : List (List ℕ)) → All IsWord words → Good (known_says known blank words)

@@ -1,8 +1,9 @@
 -- Words: what is printed with a blank between words and a newline behind lines is cut where it was joined.
-use Rattle.std.proofs.Common.{◌≡◌, ℕ, suc, ◌+◌, ◌-◌, ◌%◌, ◌^◌, ◌<◌, ◌≤◌, Bool, true, false, ◌&&◌, List, [], ◌∷◌, ◌++◌, length, get_or, map, refl, sym, ap, subst, ◌∙◌, arith, length-append, if◌then◌else◌}
-use Rattle.std.specs.Prelude.{All, not, pos, negsuc, unsigned_abs, ◌==◌, nat_le}
+use Rattle.std.proofs.Common.{◌≡◌, ℕ, suc, ◌+◌, ◌-◌, ◌/◌, ◌%◌, ◌^◌, ◌<◌, ◌≤◌, Bool, true, false, ◌&&◌, List, [], ◌∷◌, ◌++◌, length, get_or, map, refl, sym, ap, subst, ◌∙◌, arith, length-append, if◌then◌else◌}
+use Rattle.std.specs.Prelude.{All, Ok, not, pos, negsuc, unsigned_abs, ◌==◌, nat_le}
 use Rattle.std.specs.List.{list_all, filter, slice_split}
 use Rattle.std.specs.Fmt.{decimal, signed_decimal}
+use Rattle.std.proofs.lemmas.Bool.{false_from_ne_true}
 use Rattle.std.proofs.lemmas.Bool.Decides.{nat_tests, Decides-eqb}
 use Rattle.std.proofs.lemmas.Fmt.{decimal_by_steps_wide}
 use Rattle.std.proofs.lemmas.List.Elements.{All-nil, All-cons, All-head, All-tail, All-append}
@@ -12,6 +13,11 @@ use Rattle.rational.specs.Rational.{ℚ, den, IsWhole}
 use Rattle.frac128.specs.Range.{Fits, IsNarrow}
 use Rattle.frac128.specs.Printing.{printed}
 use Rattle.frac128.proofs.Printed.{printed-whole, printed-fraction}
+use Rattle.frac_text.specs.Spelling.{is_digit, value_of}
+use Rattle.frac_text.proofs.Cuts.{both, all_joined}
+use Rattle.frac_text.proofs.DigitTerms.{value_of-last}
+use Rattle.cert_text.specs.Mults.{are_plain_digits, number_of_cut}
+use Rattle.cert_text.proofs.MultLemmas.{number-some}
 use Rattle.text_lines.specs.Lines.{Line, is_newline, HasNoNewline, lines_of, lines_of_pieces, line_bytes}
 use Rattle.text_lines.specs.Words.{is_blank, HasNoBlank, is_piece, words_of, IsWord, spaced, Words}
 use Rattle.text_lines.proofs.LineLemmas.{bytes-last}
@@ -55,13 +61,50 @@ word-append a b h one_line one_word = record {
   one_word = All-append (λ byte. is_blank byte ≡ false) a b h.one_word one_word;
 }
 
-decimal_word : (n : ℕ) → n < 10 ^ 64 → IsWord (decimal n)
+pub decimal_word : (n : ℕ) → n < 10 ^ 64 → IsWord (decimal n)
 decimal_word n h = decimal_by_steps_wide (λ m ds. IsWord ds) (λ m l. plain_word ((48 + m) ∷ []) (digit_plain m l)) more n h
   where
     more : (m : ℕ) (ds : List ℕ) → 10 ≤ m → IsWord ds → IsWord (ds ++ ((48 + m % 10) ∷ []))
     more m ds l w = let last = plain_word ((48 + m % 10) ∷ []) (digit_plain (m % 10) (omega arith)) in word-append ds ((48 + m % 10) ∷ []) w last.one_line last.one_word
 
-word-cons : (byte : ℕ) (w : List ℕ) → is_newline byte ≡ false → is_blank byte ≡ false → IsWord w → IsWord (byte ∷ w)
+-- ---- numbers of cuts
+
+-- decimal digits without a leading zero, and their number
+record IsPlainNumber (n : ℕ) (ds : List ℕ) : Type 0 where
+  plain : are_plain_digits ds ≡ true
+  value : value_of ds ≡ n
+
+digit_test : (n : ℕ) → n < 10 → is_digit (48 + n) ≡ true
+digit_test n h = grind (arith, nat_tests)
+
+no_zero : (byte : ℕ) → ¬ (byte ≡ 48) → not (byte == 48) ≡ true
+no_zero byte h = ap not (false_from_ne_true (byte == 48) (λ t. h ((Decides-eqb byte 48).0 t)))
+
+plain-more : (ds : List ℕ) (digit : ℕ) → are_plain_digits ds ≡ true → ¬ (value_of ds ≡ 0) → is_digit digit ≡ true → are_plain_digits (ds ++ digit ∷ []) ≡ true
+plain-more [] digit plain some h = absurd (let f : false ≡ true = plain in cc)
+plain-more (byte ∷ []) digit plain some h =
+    let apart : ¬ (byte ≡ 48) = λ e. some (omega (arith, e)) in
+    (λ i. no_zero byte apart i && (plain i && (h i && true)))
+plain-more (byte ∷ next ∷ more) digit plain some h =
+    let parts = both (not (byte == 48)) (list_all is_digit (byte ∷ next ∷ more)) plain in
+    (λ i. parts.0 i && all_joined is_digit (byte ∷ next ∷ more) (digit ∷ []) parts.1 (ap (λ (b : Bool). b && true) h) i)
+
+decimal_plain : (n : ℕ) → n < 10 ^ 64 → IsPlainNumber n (decimal n)
+decimal_plain n h = decimal_by_steps_wide IsPlainNumber one more n h
+  where
+    one : (m : ℕ) → m < 10 → IsPlainNumber m ((48 + m) ∷ [])
+    one m l = record { plain = digit_test m l; value = omega arith }
+
+    more : (m : ℕ) (ds : List ℕ) → 10 ≤ m → IsPlainNumber (m / 10) ds → IsPlainNumber m (ds ++ ((48 + m % 10) ∷ []))
+    more m ds l is = record {
+      plain = plain-more ds (48 + m % 10) is.plain (λ e. let v = is.value in omega (arith, l, e, v)) (digit_test (m % 10) (omega arith));
+      value = value_of-last ds (48 + m % 10) ∙ (let v = is.value in omega arith);
+    }
+
+pub cut_number : (k : ℕ) → k < 2 ^ 64 → number_of_cut (decimal k) ≡ Ok k
+cut_number k few = let is = decimal_plain k (omega (arith, few)) in sym (number-some (decimal k) is.plain k (sym is.value) few)
+
+pub word-cons : (byte : ℕ) (w : List ℕ) → is_newline byte ≡ false → is_blank byte ≡ false → IsWord w → IsWord (byte ∷ w)
 word-cons byte w p q h = record {
   some = omega arith;
   one_line = All-cons (λ b. is_newline b ≡ false) byte w p h.one_line;

@@ -1,14 +1,17 @@
 -- The text of a certificate: its lines, each of words with one blank between them and a newline behind it.
-use Rattle.std.specs.Prelude.{ℕ, List, [], ◌∷◌, ◌++◌, map, codes, All}
+use Rattle.std.specs.Prelude.{ℕ, ◌<◌, Bool, true, false, List, [], ◌∷◌, ◌++◌, map, length, codes, All}
 use Rattle.std.specs.Fmt.{decimal, signed_decimal}
 use Rattle.frac128.specs.Printing.{printed}
 use Rattle.lp_model.specs.Program.{Program}
 use Rattle.lp_model.specs.Edits.{Named}
+use Rattle.lp_model.specs.declared.types.Side.{Side}
+use Rattle.lp_model.specs.declared.types.Side.TheVariants.{Lo, Hi}
 use Rattle.lp_model.specs.Lawful.{column_names}
 use Rattle.cert_text.specs.declared.cert.Claim.{Claim}
 use Rattle.cert_text.specs.declared.cert.Claim.TheVariants.{Optimal, Infeasible, Unbounded}
 use Rattle.cert_text.specs.declared.cert.CertMult.{CertMult}
 use Rattle.cert_text.specs.declared.cert.CertMult.TheVariants.{Row, Cut}
+use Rattle.cert_text.specs.declared.cert.NamedCut.{NamedCut}
 use Rattle.cert_text.specs.declared.cert.CertNode.{CertNode}
 use Rattle.cert_text.specs.declared.cert.CertNode.TheVariants.{Split, Bound, Farkas, Empty}
 use Rattle.cert_text.specs.declared.cert.Cert.{Cert}
@@ -30,6 +33,25 @@ mult_words (Cut k v) = codes "cut" ∷ decimal k ∷ printed v ∷ []
 abbrev pub all_mult_words : List CertMult → Words
 all_mult_words [] = []
 all_mult_words (m ∷ mults) = mult_words m ++ all_mult_words mults
+
+abbrev pub sign_of : Bool → ℕ
+sign_of true = 43
+sign_of false = 45
+
+-- `+NAME` or `-NAME`
+abbrev pub literal_word : List ℕ × Bool → List ℕ
+literal_word l = sign_of l.1 ∷ l.0
+
+abbrev pub literal_words : List (List ℕ × Bool) → Words
+literal_words literals = map literal_word literals
+
+abbrev pub side_word : Side → List ℕ
+side_word Lo = codes "lo"
+side_word Hi = codes "hi"
+
+-- `cut ROW hi LIT..` or `cut ROW lo LIT..`
+abbrev pub cut_words : NamedCut → Words
+cut_words cut = codes "cut" ∷ cut.row ∷ side_word cut.side ∷ literal_words cut.literals
 
 abbrev pub claim_words : Claim → Words
 claim_words (Optimal v) = codes "claim" ∷ codes "optimal" ∷ printed v ∷ []
@@ -57,7 +79,7 @@ ray_lines Unbounded named = (codes "ray" ∷ named_words named) ∷ []
 abbrev pub cert_lines : Cert → List Words
 cert_lines c =
     (codes "cert" ∷ codes "1" ∷ []) ∷ claim_words c.claim
-    ∷ (point_lines c.claim c.point ++ (ray_lines c.claim c.ray ++ (map node_words c.nodes ++ (codes "end" ∷ []) ∷ [])))
+    ∷ (point_lines c.claim c.point ++ (ray_lines c.claim c.ray ++ (map cut_words c.cuts ++ (map node_words c.nodes ++ (codes "end" ∷ []) ∷ []))))
 
 -- ---- bytes
 
@@ -78,10 +100,15 @@ cert_text c = lines_text (cert_lines c)
 abbrev pub HasNameWords : Named → Type 0
 HasNameWords named = All (λ e. IsWord e.0) named
 
--- a multiplier is of a row whose name is a word: the line of a leaf says none of a cut
 abbrev pub IsMultWord : CertMult → Type 0
 IsMultWord (Row name v) = IsWord name
-IsMultWord (Cut k v) = ⊥
+IsMultWord (Cut k v) = Unit {0}
+
+-- a cut's names are words, and it has a literal
+pub record HasCutWords (cut : NamedCut) : Type 0 where
+  pub row : IsWord cut.row
+  pub literals : All (λ l. IsWord l.0) cut.literals
+  pub some : 0 < length cut.literals
 
 abbrev pub HasNodeWords : CertNode → Type 0
 HasNodeWords (Split col v) = IsWord col
@@ -89,10 +116,11 @@ HasNodeWords (Bound mults) = All IsMultWord mults
 HasNodeWords (Farkas mults) = All IsMultWord mults
 HasNodeWords Empty = Unit {0}
 
--- each name in the certificate is a word, and its multipliers are of rows
+-- each name in the certificate is a word, and each of its cuts has a literal
 pub record HasCertWords (cert : Cert) : Type 0 where
   pub point : HasNameWords cert.point
   pub ray : HasNameWords cert.ray
+  pub cuts : All HasCutWords cert.cuts
   pub nodes : All HasNodeWords cert.nodes
 
 -- each name of a column or a row of the model is a word

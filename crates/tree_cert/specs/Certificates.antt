@@ -1,6 +1,6 @@
 -- The certificate of a search that is finished, exactly, and that of a model with a ray.
---     IsCertificateOf S cert     its claim and its point are the incumbent's, and its tree is the search's tree, split by
---                                split and leaf by leaf, with names in the place of places
+--     IsCertificateOf S cert     its claim and its point are the incumbent's, it has no cuts, and its tree is the search's
+--                                tree, split by split and leaf by leaf, with names in the place of places
 --     unbounded_certificate M x d  the model is unbounded, by the point x and the ray d
 use Rattle.std.specs.Prelude.{◌≡◌, ℕ, if◌then◌else◌, List, [], ◌∷◌, map, Option, Some, None}
 use Rattle.rational.specs.Rational.{ℚ}
@@ -95,10 +95,11 @@ pub record IsCertificateOf (S : PlainSearch) (cert : Cert) : Type 0 where
   pub claim : cert.claim ≡ claim_of S.model incumbent
   pub point : cert.point ≡ point_numbers S.model incumbent
   pub ray : cert.ray ≡ []
+  pub cuts : cert.cuts ≡ []
   pub tree : CertTree
   pub nodes : certificate_nodes tree ≡ cert.nodes
   pub like : IsTreeOf S.model [] S.tree.root tree
 
 -- the numbers of the point and of the ray that are not 0, and no nodes
 abbrev pub unbounded_certificate : Program → Point → Point → Cert
-unbounded_certificate M x d = record { claim = Unbounded; point = nonzero_numbers M.cols x; ray = nonzero_numbers M.cols d; nodes = [] }
+unbounded_certificate M x d = record { claim = Unbounded; point = nonzero_numbers M.cols x; ray = nonzero_numbers M.cols d; cuts = []; nodes = [] }

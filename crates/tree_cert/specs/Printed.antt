@@ -1,5 +1,6 @@
--- The numbers in a certificate are those that a fraction has room for, as they are in each that the program holds.
-use Rattle.std.specs.Prelude.{All}
+-- The numbers in a certificate are those that a fraction has room for, as they are in each that the program holds, and those
+-- of cuts have 64 bits.
+use Rattle.std.specs.Prelude.{◌<◌, ◌^◌, All}
 use Rattle.frac128.specs.Range.{Fits}
 use Rattle.lp_model.specs.Edits.{Named}
 use Rattle.cert_text.specs.declared.cert.Claim.{Claim}
@@ -32,7 +33,7 @@ HasRayRoom Unbounded named = HasFractions named
 
 abbrev pub MultFits : CertMult → Type 0
 MultFits (Row name v) = Fits v
-MultFits (Cut k v) = Fits v
+MultFits (Cut k v) = Fits v × (k < 2 ^ 64)
 
 abbrev pub HasNodeRoom : CertNode → Type 0
 HasNodeRoom (Split col v) = Unit {0}

@@ -19,7 +19,8 @@
 //! Public contract: `certificate` is exactly this of a finished search (`IsCertificateOf` in specs/Certificates), and
 //! `check` accepts it for the search's model: no step lacks room, since each leaf was closed by the same steps.
 //! `print_cert` writes a text that states the certificate, where its names are words (specs/CertText); they are where the
-//! model's are (`names_law`, `unbounded_names_law`), and in what some text states (`print_law`). So `read_cert` reads back what was printed.
+//! model's are (`names_law`, `unbounded_names_law`), and in what some text states (`print_law`), cuts among it. So `read_cert`
+//! reads back what was printed. The certificate of a search has no cuts.
 //!
 //! The walk keeps the path to a node and no stack of its own, and memory is linear in the tree.
 //!

@@ -1,18 +1,18 @@
 // The text of a certificate.
-ghost use Rattle.std.specs.Prelude.{◌≡◌, ◌++◌, ◌∷◌, [], map, codes, IfOk, OnOk, All};
+ghost use Rattle.std.specs.Prelude.{◌≡◌, ◌<◌, ◌^◌, ◌++◌, ◌∷◌, [], map, codes, IfOk, OnOk, All};
 ghost use Rattle.std.specs.Fmt.{decimal, signed_decimal};
 ghost use Rattle.frac128.specs.Range.{Fits};
 ghost use Rattle.frac128.specs.Printing.{printed};
 ghost use Rattle.cert_text.specs.Text.{MeantCertificate};
 ghost use Rattle.cert_text.specs.Whole.{IsCertificate};
-ghost use Rattle.tree_cert.specs.CertText.{named_words, mult_words, all_mult_words, claim_words, node_words, point_lines, ray_lines, line_text, lines_text, cert_text, HasCertWords};
+ghost use Rattle.tree_cert.specs.CertText.{named_words, mult_words, all_mult_words, sign_of, literal_word, literal_words, side_word, cut_words, claim_words, node_words, point_lines, ray_lines, line_text, lines_text, cert_text, HasCertWords};
 ghost use Rattle.text_lines.specs.Words.{spaced};
 ghost use Rattle.tree_cert.specs.Printed.{HasFractions, MultFits, HasNodeRoom, HasClaimRoom, HasPointRoom, HasRayRoom};
 
-use cert_text::{Cert, CertMult, CertNode, Claim};
+use cert_text::{Cert, CertMult, CertNode, Claim, NamedCut};
 use frac128::Frac;
 use itoa::Buffer;
-use lp_model::Name;
+use lp_model::{Name, Side};
 use std::alloc::{AllocError, Global};
 
 /// One more word of a line.
@@ -68,7 +68,7 @@ fn put_row(text: &mut Vec<u8>, name: &Name, number: &Frac) -> Result<(), AllocEr
 /// `cut K V`.
 fn put_cut(text: &mut Vec<u8>, cut: u64, number: &Frac) -> Result<(), AllocError>
     ensures text { IfOk result (λ _. text.new.items ≡ text.old.items ++ spaced (codes "cut" ∷ decimal cut ∷ printed number.now ∷ [])) }
-    ensures room { IfOk result (λ _. Fits number.now) }
+    ensures room { IfOk result (λ _. Fits number.now × (cut < 2 ^ 64)) }
 {
     let mut buffer = Buffer::new();
     put_word(text, b"cut")?;
@@ -95,6 +95,63 @@ fn put_mults(text: &mut Vec<u8>, mults: &[CertMult]) -> Result<(), AllocError>
 {
     for mult in mults {
         put_mult(text, mult)?;
+    }
+    Ok(())
+}
+
+fn sign(plus: bool) -> u8
+    ensures { result ≡ sign_of plus }
+{
+    if plus { b'+' } else { b'-' }
+}
+
+/// `+NAME` or `-NAME` as one more word.
+fn put_literal(text: &mut Vec<u8>, name: &Name, plus: bool) -> Result<(), AllocError>
+    ensures { IfOk result (λ _. text.new.items ≡ text.old.items ++ spaced (literal_word (name.now, plus) ∷ [])) }
+{
+    text.push(b' ')?;
+    text.push(sign(plus))?;
+    text.extend_from_slice(name.as_slice())?;
+    Ok(())
+}
+
+/// `+NAME` or `-NAME` for each.
+fn put_literals(text: &mut Vec<u8>, literals: &[(Name, bool)]) -> Result<(), AllocError>
+    ensures { IfOk result (λ _. text.new.items ≡ text.old.items ++ spaced (literal_words literals.now)) }
+{
+    for (name, plus) in literals {
+        put_literal(text, name, *plus)?;
+    }
+    Ok(())
+}
+
+fn side_word(side: Side) -> &'static [u8]
+    ensures { result.now ≡ side_word side }
+{
+    match side {
+        Side::Lo => b"lo",
+        Side::Hi => b"hi",
+    }
+}
+
+/// A cut's line.
+fn put_cut_line(text: &mut Vec<u8>, cut: &NamedCut) -> Result<(), AllocError>
+    ensures { IfOk result (λ _. text.new.items ≡ text.old.items ++ line_text (cut_words cut.now)) }
+{
+    text.extend_from_slice(b"cut")?;
+    put_word(text, cut.row.as_slice())?;
+    put_word(text, side_word(cut.side))?;
+    put_literals(text, cut.literals.as_slice())?;
+    Ok(())
+}
+
+/// The cuts' lines.
+fn put_cuts(text: &mut Vec<u8>, cuts: &[NamedCut]) -> Result<(), AllocError>
+    ensures { IfOk result (λ _. text.new.items ≡ text.old.items ++ lines_text (map cut_words cuts.now)) }
+{
+    for cut in cuts {
+        put_cut_line(text, cut)?;
+        text.push(b'\n')?;
     }
     Ok(())
 }
@@ -202,6 +259,7 @@ pub fn print_cert(alloc: Global, cert: &Cert) -> Result<Vec<u8>, AllocError>
     text.push(b'\n')?;
     put_point(&mut text, cert)?;
     put_ray(&mut text, cert)?;
+    put_cuts(&mut text, cert.cuts.as_slice())?;
     put_nodes(&mut text, cert.nodes.as_slice())?;
     text.extend_from_slice(b"end\n")?;
     Ok(text)

@@ -64,10 +64,12 @@ pub fn certificate(alloc: Global, search: &Search) -> Result<Cert, AllocError>
     let point = point(alloc, search)?;
     let nodes = nodes(alloc, search)?;
     let ray = List::new(alloc);
+    let cuts = List::new(alloc);
     Ok(Cert {
         claim,
         point,
         ray,
+        cuts,
         nodes,
     })
 }
@@ -88,11 +90,13 @@ pub fn unbounded_certificate(
     let _lawful = model.rows();
     let point = nonzero_numbers(alloc, model, point)?;
     let ray = nonzero_numbers(alloc, model, ray)?;
+    let cuts = List::new(alloc);
     let nodes = List::new(alloc);
     Ok(Cert {
         claim: Claim::Unbounded,
         point,
         ray,
+        cuts,
         nodes,
     })
 }

@@ -1,6 +1,7 @@
 use Rattle.std.proofs.Common.{◌∙◌, ◌+◌, refl, sym, subst, arith}
 use Rattle.cert_check.specs.declared.verdict.Judgement.TheVariants.{Passes, Breaks, NoRoom}
 use Rattle.lp_model.specs.Regions.{AreNarrow}
+use Rattle.lp_model.specs.Formulations.{formulation}
 use Rattle.cert_check.specs.Walk.{IsPlacedJudged}
 use Rattle.cert_check.specs.Tight.{path_of_trail}
 use Rattle.cert_check.proofs.SameRegion.{judged-same}
@@ -13,7 +14,7 @@ loop-index-init c = record {
   trail = c.restart.ensures.trail;
   deep = omega (arith, c.restart.ensures.depth);
   room = c.restart.ensures.room;
-  goes = λ tree walked. subst (Goes c.args.model.now c.args.claim.now tree 0) (sym c.restart.ensures.path) (goes_first c.args.model.now c.args.claim.now tree);
+  goes = λ tree walked. subst (Goes (formulation c.args.model.now c.args.cuts.now) c.args.claim.now tree 0) (sym c.restart.ensures.path) (goes_first (formulation c.args.model.now c.args.cuts.now) c.args.claim.now tree);
 }
 
 pub judge-requires-clause-narrow : goal.judge-requires-clause-narrow
@@ -21,39 +22,39 @@ judge-requires-clause-narrow c =
     let t = c.requires.tree in
     let trail = c.loop-index.trail in
     subst AreNarrow (sym c.region.ensures.region)
-    (trail-narrow trail c.loop-index.invariant.trail (goes_narrow c.args.model.now c.args.claim.now t.0 c.loop-index.index (path_of_trail trail) (c.loop-index.invariant.goes t.0 t.1)))
+    (trail-narrow trail c.loop-index.invariant.trail (goes_narrow (formulation c.args.model.now c.args.cuts.now) c.args.claim.now t.0 c.loop-index.index (path_of_trail trail) (c.loop-index.invariant.goes t.0 t.1)))
 
 pub judge-requires-clause-placed : goal.judge-requires-clause-placed
 judge-requires-clause-placed c =
     let t = c.requires.tree in
-    place_here c.args.model.now t.0 c.args.nodes.now t.1 c.loop-index.index c.loop-index-test.true c.index-nodes-index.result c.index-nodes-index.is
+    place_here (formulation c.args.model.now c.args.cuts.now) t.0 c.args.nodes.now t.1 c.loop-index.index c.loop-index-test.true c.index-nodes-index.result c.index-nodes-index.is
 
 pub step_on-requires-clause-turns : goal.step_on-requires-clause-turns
 step_on-requires-clause-turns c =
     let t = c.requires.tree in
-    goes_turns c.args.model.now c.args.claim.now t.0 c.loop-index.index (path_of_trail c.loop-index.trail) (c.loop-index.invariant.goes t.0 t.1)
+    goes_turns (formulation c.args.model.now c.args.cuts.now) c.args.claim.now t.0 c.loop-index.index (path_of_trail c.loop-index.trail) (c.loop-index.invariant.goes t.0 t.1)
 
 pub returns-in-Breaks-clause-verdict : goal.returns-in-Breaks-clause-verdict
 returns-in-Breaks-clause-verdict c = λ tree walked.
-    let M = c.args.model.now in
+    let F = formulation c.args.model.now c.args.cuts.now in
     let claim = c.args.claim.now in
     let trail = c.loop-index.trail in
     let node = c.index-nodes-index.result in
     let j = Breaks c.in-Breaks.why in
     let same = trail-bounds trail c.loop-index.invariant.trail in
-    let judged = judged-same M _ (path_of_trail trail) same claim node j (subst (λ R. IsPlacedJudged M claim R node j) c.region.ensures.region c.in-Breaks.ensures) in
-    goes_wrong M claim tree c.args.nodes.now walked c.loop-index.index (path_of_trail trail) c.loop-index-test.true (c.loop-index.invariant.goes tree walked) node j c.index-nodes-index.is judged
+    let judged = judged-same F _ (path_of_trail trail) same claim node j (subst (λ R. IsPlacedJudged F claim R node j) c.region.ensures.region c.in-Breaks.ensures) in
+    goes_wrong F claim tree c.args.nodes.now walked c.loop-index.index (path_of_trail trail) c.loop-index-test.true (c.loop-index.invariant.goes tree walked) node j c.index-nodes-index.is judged
 
 pub returns-in-NoRoom-clause-verdict : goal.returns-in-NoRoom-clause-verdict
 returns-in-NoRoom-clause-verdict c = λ tree walked.
-    let M = c.args.model.now in
+    let F = formulation c.args.model.now c.args.cuts.now in
     let claim = c.args.claim.now in
     let trail = c.loop-index.trail in
     let node = c.index-nodes-index.result in
     let j = NoRoom c.in-NoRoom.step in
     let same = trail-bounds trail c.loop-index.invariant.trail in
-    let judged = judged-same M _ (path_of_trail trail) same claim node j (subst (λ R. IsPlacedJudged M claim R node j) c.region.ensures.region c.in-NoRoom.ensures) in
-    goes_wrong M claim tree c.args.nodes.now walked c.loop-index.index (path_of_trail trail) c.loop-index-test.true (c.loop-index.invariant.goes tree walked) node j c.index-nodes-index.is judged
+    let judged = judged-same F _ (path_of_trail trail) same claim node j (subst (λ R. IsPlacedJudged F claim R node j) c.region.ensures.region c.in-NoRoom.ensures) in
+    goes_wrong F claim tree c.args.nodes.now walked c.loop-index.index (path_of_trail trail) c.loop-index-test.true (c.loop-index.invariant.goes tree walked) node j c.index-nodes-index.is judged
 
 pub loop-index-preserved : goal.loop-index-preserved
 loop-index-preserved c = record {
@@ -61,18 +62,18 @@ loop-index-preserved c = record {
   deep = omega (arith, c.step_on.ensures.within, c.loop-index.invariant.deep);
   room = c.step_on.ensures.room ∙ c.loop-index.invariant.room;
   goes = λ tree walked.
-      let M = c.args.model.now in
+      let F = formulation c.args.model.now c.args.cuts.now in
       let claim = c.args.claim.now in
       let trail = c.loop-index.trail in
       let node = c.index-nodes-index.result in
       let same = trail-bounds trail c.loop-index.invariant.trail in
-      let judged = judged-same M _ (path_of_trail trail) same claim node Passes (subst (λ R. IsPlacedJudged M claim R node Passes) c.region.ensures.region c.in-Passes.ensures) in
-      subst (Goes M claim tree (c.loop-index.index + 1)) (sym c.step_on.ensures.path)
-      (goes_next M claim tree c.args.nodes.now walked c.loop-index.index (path_of_trail trail) c.loop-index-test.true (c.loop-index.invariant.goes tree walked) node c.index-nodes-index.is judged);
+      let judged = judged-same F _ (path_of_trail trail) same claim node Passes (subst (λ R. IsPlacedJudged F claim R node Passes) c.region.ensures.region c.in-Passes.ensures) in
+      subst (Goes F claim tree (c.loop-index.index + 1)) (sym c.step_on.ensures.path)
+      (goes_next F claim tree c.args.nodes.now walked c.loop-index.index (path_of_trail trail) c.loop-index-test.true (c.loop-index.invariant.goes tree walked) node c.index-nodes-index.is judged);
 }
 
 pub returns-clause-verdict : goal.returns-clause-verdict
 returns-clause-verdict c = λ tree walked. (
   refl,
-  goes_all c.args.model.now c.args.claim.now tree c.args.nodes.now c.loop-index.index (path_of_trail c.loop-index.trail) walked (omega (arith, c.loop-index-test.false)) (c.loop-index.invariant.goes tree walked),
+  goes_all (formulation c.args.model.now c.args.cuts.now) c.args.claim.now tree c.args.nodes.now c.loop-index.index (path_of_trail c.loop-index.trail) walked (omega (arith, c.loop-index-test.false)) (c.loop-index.invariant.goes tree walked),
 )

@@ -1,5 +1,6 @@
 use Rattle.std.proofs.Common.{◌≤◌, ◌≡◌}
 use Rattle.cert_text.specs.Tree.{CertTree}
+use Rattle.lp_model.specs.Formulations.{formulation}
 use Rattle.cert_check.specs.Walk.{IsWalked}
 use Rattle.cert_check.specs.Tight.{IsTrail, path_of_trail, room}
 use Rattle.cert_check.proofs.VerdictSteps.{Goes}
@@ -10,5 +11,5 @@ invariant-loop-index l = record {
   trail : IsTrail l.trail;
   deep : l.trail.depth ≤ l.index;
   room : room l.trail ≡ room l.fn.trail;
-  goes : (tree : CertTree) → IsWalked l.model tree l.nodes → Goes l.model l.claim tree l.index (path_of_trail l.trail);
+  goes : (tree : CertTree) → IsWalked (formulation l.model l.cuts) tree l.nodes → Goes (formulation l.model l.cuts) l.claim tree l.index (path_of_trail l.trail);
 }

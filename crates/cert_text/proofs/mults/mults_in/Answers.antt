@@ -1,28 +1,29 @@
 use Rattle.std.proofs.Common.{map, [], ap, sym, ◌∙◌, arith, Bor, List, ℕ}
 use Rattle.std.proofs.lemmas.Grind.{common_steps}
-use Rattle.cert_text.specs.Lines.{rows_in}
+use Rattle.cert_text.specs.Mults.{mults_in}
 use Rattle.cert_text.specs.Reading.{joined_items}
-use Rattle.cert_text.proofs.NamedLemmas.{joined-nothing, joined-form, rows_in-short, rows_in-first}
-use Rattle.cert_text.proofs.named.rows_in.Goals as goal
+use Rattle.cert_text.proofs.NamedLemmas.{joined-nothing, joined-form}
+use Rattle.cert_text.proofs.MultLemmas.{mults_in-short, mults_in-first}
+use Rattle.cert_text.proofs.mults.mults_in.Goals as goal
 
 abbrev some_word : Bor (List ℕ)
 some_word = record { ref_ptr = (0, 0); now = [] }
 
 pub loop-rest-init : goal.loop-rest-init
 loop-rest-init c =
-    let said = rows_in (map (λ word. word.now) c.args.words.now) in
+    let said = mults_in (map (λ word. word.now) c.args.words.now) in
     joined-nothing said ∙ (λ i. joined_items (sym c.new-gathered.ensures.least i) (sym c.new-gathered.ensures.items i) said)
 
 pub loop-rest-preserved : goal.loop-rest-preserved
 loop-rest-preserved c =
     let g = c.loop-rest.gathered in
     c.loop-rest.invariant
-    ∙ ap (joined_items g.least g.items) (rows_in-first c.loop-rest.rest.now some_word some_word some_word c.in-len3-up.len_at_least (grind (arith, common_steps)))
-    ∙ c.in_ok-add_row.ensures _
+    ∙ ap (joined_items g.least g.items) (mults_in-first c.loop-rest.rest.now some_word some_word some_word c.in-len3-up.len_at_least)
+    ∙ c.in_ok-add_mult.ensures _
 
 pub returns-else-is_empty : goal.returns-else-is_empty
 returns-else-is_empty c =
     let g = c.loop-rest.gathered in
     c.loop-rest.invariant
-    ∙ ap (joined_items g.least g.items) (rows_in-short c.loop-rest.rest.now (grind (arith, common_steps)) (grind (arith, common_steps)))
+    ∙ ap (joined_items g.least g.items) (mults_in-short c.loop-rest.rest.now (grind (arith, common_steps)) (grind (arith, common_steps)))
     ∙ joined-form g.least g.items g.high
