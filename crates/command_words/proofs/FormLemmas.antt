@@ -8,7 +8,9 @@ use Rattle.command_words.specs.declared.words.CommandName.{CommandName}
 use Rattle.command_words.specs.declared.words.CommandName.TheVariants as name
 use Rattle.command_words.specs.declared.words.Beginning.{Beginning}
 use Rattle.command_words.specs.declared.words.Beginning.TheVariants as beginning
-use Rattle.command_words.specs.Asks.{Asks, Load, Cert, Write, Misused, no_limit, with_number, load_asks, one_limit_asks, two_limits_asks, both_limits_asks, search_asks, begun_asks, cert_asks, write_asks, quit_asks, command_asks, asks_of, NamesFile}
+use Rattle.command_words.specs.declared.words.Content.{Content}
+use Rattle.command_words.specs.declared.words.Content.TheVariants as content
+use Rattle.command_words.specs.Asks.{Asks, Load, Misused, no_limit, with_number, load_asks, one_limit_asks, two_limits_asks, both_limits_asks, search_asks, begun_asks, filed_asks, file_asks, quit_asks, known_asks, command_asks, asks_of, NamesFile}
 
 abbrev nows : List (Bor (List ℕ)) → List (List ℕ)
 nows words = map (λ word. word.now) words
@@ -97,36 +99,35 @@ module _ (asks : ℕ → ℕ → Asks) (named : (n m : ℕ) → NamesFile (asks 
   search_asks-named (key ∷ number ∷ other ∷ more ∷ []) = both_limits-named key number other more
   search_asks-named (key ∷ number ∷ other ∷ more ∷ another ∷ rest) = tt
 
-cert_asks-named : (arguments : List (List ℕ)) → NamesFile (cert_asks arguments)
-cert_asks-named [] = tt
-cert_asks-named (file ∷ []) = by (is_file_name file) refl
-  where
-    by : (b : Bool) → is_file_name file ≡ b → NamesFile (if b then Cert file else Misused)
-    by true e = e
-    by false e = tt
-cert_asks-named (file ∷ other ∷ more) = tt
+filed-named : (what : Content) (file : List ℕ) → is_file_name file ≡ true → NamesFile (filed_asks what file)
+filed-named content.Certificate file e = e
+filed-named content.Model file e = e
 
-write_asks-named : (arguments : List (List ℕ)) → NamesFile (write_asks arguments)
-write_asks-named [] = tt
-write_asks-named (file ∷ []) = by (is_file_name file) refl
+file_asks-named : (what : Content) (arguments : List (List ℕ)) → NamesFile (file_asks what arguments)
+file_asks-named what [] = tt
+file_asks-named what (file ∷ []) = by (is_file_name file) refl
   where
-    by : (b : Bool) → is_file_name file ≡ b → NamesFile (if b then Write file else Misused)
-    by true e = e
+    by : (b : Bool) → is_file_name file ≡ b → NamesFile (if b then filed_asks what file else Misused)
+    by true e = filed-named what file e
     by false e = tt
-write_asks-named (file ∷ other ∷ more) = tt
+file_asks-named what (file ∷ other ∷ more) = tt
 
 quit_asks-named : (arguments : List (List ℕ)) → NamesFile (quit_asks arguments)
 quit_asks-named [] = tt
 quit_asks-named (word ∷ more) = tt
 
+known_asks-named : (c : CommandName) (arguments : List (List ℕ)) → NamesFile (known_asks c arguments)
+known_asks-named name.Load arguments = load_asks-named arguments
+known_asks-named name.Solve arguments = search_asks-named (begun_asks beginning.Anew) (begun-named beginning.Anew) arguments
+known_asks-named name.Warm arguments = search_asks-named (begun_asks beginning.Kept) (begun-named beginning.Kept) arguments
+known_asks-named name.Edit arguments = tt
+known_asks-named (name.Bound which numbers) arguments = tt
+known_asks-named name.Cert arguments = file_asks-named content.Certificate arguments
+known_asks-named name.Write arguments = file_asks-named content.Model arguments
+known_asks-named name.Quit arguments = quit_asks-named arguments
+
 command_asks-named : (c : Option CommandName) (word : List ℕ) (arguments : List (List ℕ)) → NamesFile (command_asks c word arguments)
-command_asks-named (Some name.Load) word arguments = load_asks-named arguments
-command_asks-named (Some name.Solve) word arguments = search_asks-named (begun_asks beginning.Anew) (begun-named beginning.Anew) arguments
-command_asks-named (Some name.Warm) word arguments = search_asks-named (begun_asks beginning.Kept) (begun-named beginning.Kept) arguments
-command_asks-named (Some name.Edit) word arguments = tt
-command_asks-named (Some name.Cert) word arguments = cert_asks-named arguments
-command_asks-named (Some name.Write) word arguments = write_asks-named arguments
-command_asks-named (Some name.Quit) word arguments = quit_asks-named arguments
+command_asks-named (Some command) word arguments = known_asks-named command arguments
 command_asks-named None word arguments = tt
 
 asks_of-named : (words : List (List ℕ)) → NamesFile (asks_of words)

@@ -2,10 +2,14 @@
 use Rattle.std.specs.Prelude.{◌≡◌, true, ℕ, ◌-◌, ◌^◌, ◌&&◌, List, [], ◌∷◌, map, codes, if◌then◌else◌, Option, Some, None}
 use Rattle.std.specs.Str.{bytes_eq}
 use Rattle.command_words.specs.Names.{command_of, is_file_name, whole_number_of}
+use Rattle.command_words.specs.declared.words.OptimumBound.{OptimumBound}
+use Rattle.command_words.specs.declared.words.NewNumbers.{NewNumbers}
 use Rattle.command_words.specs.declared.words.CommandName.{CommandName}
 use Rattle.command_words.specs.declared.words.CommandName.TheVariants as name
 use Rattle.command_words.specs.declared.words.Beginning.{Beginning}
 use Rattle.command_words.specs.declared.words.Beginning.TheVariants as beginning
+use Rattle.command_words.specs.declared.words.Content.{Content}
+use Rattle.command_words.specs.declared.words.Content.TheVariants as content
 use Rattle.command_words.specs.declared.words.Asked.{Asked}
 use Rattle.command_words.specs.declared.words.Asked.TheVariants as asked
 
@@ -18,6 +22,8 @@ pub data Asks : Type 0 where
   Warm : (nodes pivots : ℕ) → Asks
   -- an edit of the model that is present, as these words behind `edit` say it
   Edit : (words : List (List ℕ)) → Asks
+  -- a bound on the best value that the model has with other sides or costs, which these words behind the command say
+  Bound : (which : OptimumBound) (numbers : NewNumbers) (words : List (List ℕ)) → Asks
   -- the certificate of the answer that is held, as this file
   Cert : (file : List ℕ) → Asks
   -- the model that is present, as this file
@@ -85,29 +91,43 @@ solve_asks arguments = search_asks (begun_asks beginning.Anew) arguments
 abbrev pub warm_asks : List (List ℕ) → Asks
 warm_asks arguments = search_asks (begun_asks beginning.Kept) arguments
 
--- `cert F`
-abbrev pub cert_asks : List (List ℕ) → Asks
-cert_asks (file ∷ []) = if is_file_name file then Cert file else Misused
-cert_asks arguments = Misused
+-- ---- files that are written
 
--- `write F`
+-- what is asked with the file that is to hold this
+abbrev pub filed_asks : Content → List ℕ → Asks
+filed_asks content.Certificate file = Cert file
+filed_asks content.Model file = Write file
+
+-- one file name
+abbrev pub file_asks : Content → List (List ℕ) → Asks
+file_asks what (file ∷ []) = if is_file_name file then filed_asks what file else Misused
+file_asks what arguments = Misused
+
+-- `cert F` and `write F`
+abbrev pub cert_asks : List (List ℕ) → Asks
+cert_asks arguments = file_asks content.Certificate arguments
+
 abbrev pub write_asks : List (List ℕ) → Asks
-write_asks (file ∷ []) = if is_file_name file then Write file else Misused
-write_asks arguments = Misused
+write_asks arguments = file_asks content.Model arguments
 
 -- `quit`
 abbrev pub quit_asks : List (List ℕ) → Asks
 quit_asks [] = Quit
 quit_asks arguments = Misused
 
+-- by the command that is named
+abbrev pub known_asks : CommandName → List (List ℕ) → Asks
+known_asks name.Load arguments = load_asks arguments
+known_asks name.Solve arguments = solve_asks arguments
+known_asks name.Warm arguments = warm_asks arguments
+known_asks name.Edit arguments = Edit arguments
+known_asks (name.Bound which numbers) arguments = Bound which numbers arguments
+known_asks name.Cert arguments = cert_asks arguments
+known_asks name.Write arguments = write_asks arguments
+known_asks name.Quit arguments = quit_asks arguments
+
 abbrev pub command_asks : Option CommandName → List ℕ → List (List ℕ) → Asks
-command_asks (Some name.Load) word arguments = load_asks arguments
-command_asks (Some name.Solve) word arguments = solve_asks arguments
-command_asks (Some name.Warm) word arguments = warm_asks arguments
-command_asks (Some name.Edit) word arguments = Edit arguments
-command_asks (Some name.Cert) word arguments = cert_asks arguments
-command_asks (Some name.Write) word arguments = write_asks arguments
-command_asks (Some name.Quit) word arguments = quit_asks arguments
+command_asks (Some command) word arguments = known_asks command arguments
 command_asks None word arguments = Unknown word
 
 -- what the words ask for; there is at least one
@@ -121,6 +141,7 @@ asks_shown (asked.Load file intupper) = Load file.now intupper
 asks_shown (asked.Solve nodes pivots) = Solve nodes pivots
 asks_shown (asked.Warm nodes pivots) = Warm nodes pivots
 asks_shown (asked.Edit words) = Edit (map (λ word. word.now) words.now)
+asks_shown (asked.Bound which numbers words) = Bound which numbers (map (λ word. word.now) words.now)
 asks_shown (asked.Cert file) = Cert file.now
 asks_shown (asked.Write file) = Write file.now
 asks_shown asked.Quit = Quit
@@ -134,6 +155,7 @@ NamesFile (Load file intupper) = is_file_name file ≡ true
 NamesFile (Solve nodes pivots) = Unit {0}
 NamesFile (Warm nodes pivots) = Unit {0}
 NamesFile (Edit words) = Unit {0}
+NamesFile (Bound which numbers words) = Unit {0}
 NamesFile (Cert file) = is_file_name file ≡ true
 NamesFile (Write file) = is_file_name file ≡ true
 NamesFile Quit = Unit {0}

@@ -10,6 +10,8 @@
 //! solve pivots N         one that may make N simplex steps in each relaxation; both options may stand, in any order
 //! warm                   the search that is kept goes on, with the same options
 //! edit ..                an edit of the model; `edit_words` reads the words behind it
+//! lbrhs .., lbobj ..     a lower bound with other sides or costs; `edit_words` reads these words too
+//! ubrhs .., ubobj ..     an upper bound
 //! cert F                 the certificate of the held answer, as file F
 //! write F                the model that is present, as file F
 //! quit                   the end of the script
@@ -26,4 +28,6 @@
 
 mod words;
 
-pub use words::{Asked, CommandName, file_name, is_file_name_word, read_words};
+pub use words::{
+    Asked, CommandName, NewNumbers, OptimumBound, file_name, is_file_name_word, read_words,
+};

@@ -1,11 +1,29 @@
 // What the words of a line ask for.
 ghost use Rattle.std.specs.Prelude.{◌≡◌, true, map, [], ◌∷◌};
 ghost use Rattle.std.specs.List.{list_all};
-ghost use Rattle.command_words.specs.Names.{command_of, begins_name, is_file_name, is_name_byte, whole_number_of};
-ghost use Rattle.command_words.specs.Asks.{no_limit, with_number, asks_of, asks_shown, load_asks, one_limit_asks, two_limits_asks, both_limits_asks, search_asks, begun_asks, solve_asks, warm_asks, cert_asks, write_asks, quit_asks, NamesFile};
+ghost use Rattle.command_words.specs.Names.{command_of, begins_name, is_file_name_byte, is_file_name, whole_number_of};
+ghost use Rattle.command_words.specs.Asks.{no_limit, with_number, asks_of, asks_shown, load_asks, one_limit_asks, two_limits_asks, both_limits_asks, search_asks, begun_asks, solve_asks, warm_asks, filed_asks, file_asks, cert_asks, write_asks, quit_asks, known_asks, NamesFile};
 
 /// A limit that isn't named.
 const UNLIMITED: u64 = u64::MAX;
+
+/// Which bound on a model's best value, in least form.
+#[derive(Clone, Copy, Debug, PartialEq, Eq)]
+pub enum OptimumBound {
+    /// A lower one, from the tree that is kept.
+    Lower,
+    /// An upper one, from the points that are kept.
+    Upper,
+}
+
+/// Which numbers of the model become others.
+#[derive(Clone, Copy, Debug, PartialEq, Eq)]
+pub enum NewNumbers {
+    /// Sides of rows.
+    Sides,
+    /// Costs of columns.
+    Costs,
+}
 
 /// The commands that there are.
 #[derive(Clone, Copy, Debug, PartialEq, Eq)]
@@ -14,6 +32,7 @@ pub enum CommandName {
     Solve,
     Warm,
     Edit,
+    Bound(OptimumBound, NewNumbers),
     Cert,
     Write,
     Quit,
@@ -26,6 +45,15 @@ enum Beginning {
     Anew,
     /// At the search that is kept.
     Kept,
+}
+
+/// What a file is to hold.
+#[derive(Clone, Copy, Debug, PartialEq, Eq)]
+enum Content {
+    /// The certificate of the answer that is held.
+    Certificate,
+    /// The model that is present.
+    Model,
 }
 
 /// What the words of a line ask for.
@@ -49,6 +77,12 @@ pub enum Asked<'a> {
     },
     /// An edit of the model that is present, as these words behind `edit` say it.
     Edit {
+        words: &'a [&'a [u8]],
+    },
+    /// A bound on the best value that the model has with other sides or costs, which these words behind the command say.
+    Bound {
+        which: OptimumBound,
+        numbers: NewNumbers,
         words: &'a [&'a [u8]],
     },
     /// The certificate of the answer that is held, as a file.
@@ -85,6 +119,14 @@ fn command_named(word: &[u8]) -> Option<CommandName>
         Some(CommandName::Warm)
     } else if word == b"edit".as_slice() {
         Some(CommandName::Edit)
+    } else if word == b"lbrhs".as_slice() {
+        Some(CommandName::Bound(OptimumBound::Lower, NewNumbers::Sides))
+    } else if word == b"lbobj".as_slice() {
+        Some(CommandName::Bound(OptimumBound::Lower, NewNumbers::Costs))
+    } else if word == b"ubrhs".as_slice() {
+        Some(CommandName::Bound(OptimumBound::Upper, NewNumbers::Sides))
+    } else if word == b"ubobj".as_slice() {
+        Some(CommandName::Bound(OptimumBound::Upper, NewNumbers::Costs))
     } else if word == b"cert".as_slice() {
         Some(CommandName::Cert)
     } else if word == b"write".as_slice() {
@@ -97,7 +139,7 @@ fn command_named(word: &[u8]) -> Option<CommandName>
 }
 
 fn is_letter_digit_or_mark(byte: u8) -> bool
-    ensures { result ≡ is_name_byte byte }
+    ensures { result ≡ is_file_name_byte byte }
 {
     matches!(byte, b'a'..=b'z' | b'A'..=b'Z' | b'0'..=b'9' | b'.' | b'_' | b'-')
 }
@@ -112,7 +154,7 @@ fn begins_as_name(word: &[u8]) -> bool
 }
 
 fn has_name_bytes(word: &[u8]) -> bool
-    ensures { result ≡ list_all is_name_byte word.now }
+    ensures { result ≡ list_all is_file_name_byte word.now }
 {
     word.iter().all(|byte| is_letter_digit_or_mark(*byte))
 }
@@ -308,14 +350,34 @@ fn warm_asked<'a>(arguments: &[&'a [u8]]) -> Asked<'a>
     limited_search(Beginning::Kept, arguments)
 }
 
-/// What `cert F` asks for.
-fn named_cert(file: &[u8]) -> Asked<'_>
-    ensures { asks_shown result ≡ cert_asks (file.now ∷ []) }
+/// A file that is to hold this.
+fn filed_asked(content: Content, file: &[u8]) -> Asked<'_>
+    ensures { asks_shown result ≡ filed_asks content file.now }
+{
+    match content {
+        Content::Certificate => Asked::Cert { file },
+        Content::Model => Asked::Write { file },
+    }
+}
+
+/// What `cert F` and `write F` ask for, with this word as F.
+fn named_file(content: Content, file: &[u8]) -> Asked<'_>
+    ensures { asks_shown result ≡ file_asks content (file.now ∷ []) }
 {
     if is_file_name_word(file) {
-        Asked::Cert { file }
+        filed_asked(content, file)
     } else {
         Asked::Misused
+    }
+}
+
+/// What `cert` or `write` with these further words asks for.
+fn file_asked<'a>(content: Content, arguments: &[&'a [u8]]) -> Asked<'a>
+    ensures { asks_shown result ≡ file_asks content (map (λ word. word.now) arguments.now) }
+{
+    match arguments {
+        [file] => named_file(content, file),
+        _ => Asked::Misused,
     }
 }
 
@@ -323,31 +385,14 @@ fn named_cert(file: &[u8]) -> Asked<'_>
 fn cert_asked<'a>(arguments: &[&'a [u8]]) -> Asked<'a>
     ensures { asks_shown result ≡ cert_asks (map (λ word. word.now) arguments.now) }
 {
-    match arguments {
-        [file] => named_cert(file),
-        _ => Asked::Misused,
-    }
-}
-
-/// What `write F` asks for.
-fn named_write(file: &[u8]) -> Asked<'_>
-    ensures { asks_shown result ≡ write_asks (file.now ∷ []) }
-{
-    if is_file_name_word(file) {
-        Asked::Write { file }
-    } else {
-        Asked::Misused
-    }
+    file_asked(Content::Certificate, arguments)
 }
 
 /// What `write` with these further words asks for.
 fn write_asked<'a>(arguments: &[&'a [u8]]) -> Asked<'a>
     ensures { asks_shown result ≡ write_asks (map (λ word. word.now) arguments.now) }
 {
-    match arguments {
-        [file] => named_write(file),
-        _ => Asked::Misused,
-    }
+    file_asked(Content::Model, arguments)
 }
 
 /// What `quit` with these further words asks for.
@@ -360,6 +405,26 @@ fn quit_asked<'a>(arguments: &[&'a [u8]]) -> Asked<'a>
     }
 }
 
+/// What this command with these further words asks for.
+fn command_asked<'a>(command: CommandName, arguments: &'a [&'a [u8]]) -> Asked<'a>
+    ensures { asks_shown result ≡ known_asks command (map (λ word. word.now) arguments.now) }
+{
+    match command {
+        CommandName::Load => load_asked(arguments),
+        CommandName::Solve => solve_asked(arguments),
+        CommandName::Warm => warm_asked(arguments),
+        CommandName::Edit => Asked::Edit { words: arguments },
+        CommandName::Bound(which, numbers) => Asked::Bound {
+            which,
+            numbers,
+            words: arguments,
+        },
+        CommandName::Cert => cert_asked(arguments),
+        CommandName::Write => write_asked(arguments),
+        CommandName::Quit => quit_asked(arguments),
+    }
+}
+
 /// What the words of a line ask for. A line that is answered has a word.
 pub fn read_words<'a>(words: &'a [&'a [u8]]) -> Asked<'a>
     ensures asked { asks_shown result ≡ asks_of (map (λ word. word.now) words.now) }
@@ -369,13 +434,7 @@ pub fn read_words<'a>(words: &'a [&'a [u8]]) -> Asked<'a>
         return Asked::Misused;
     };
     match command_named(word) {
-        Some(CommandName::Load) => load_asked(arguments),
-        Some(CommandName::Solve) => solve_asked(arguments),
-        Some(CommandName::Warm) => warm_asked(arguments),
-        Some(CommandName::Edit) => Asked::Edit { words: arguments },
-        Some(CommandName::Cert) => cert_asked(arguments),
-        Some(CommandName::Write) => write_asked(arguments),
-        Some(CommandName::Quit) => quit_asked(arguments),
+        Some(command) => command_asked(command, arguments),
         None => Asked::Unknown { word },
     }
 }

@@ -1,9 +1,10 @@
--- Names with numbers that were read one after the other are those that the words are.
-use Rattle.std.proofs.Common.{◌≡◌, ℕ, ◌-◌, ◌≤◌, ◌<◌, List, [], ◌∷◌, ◌++◌, length, get_or, take, drop, arith, refl, sym, ap, ◌∙◌, append_assoc, Bor, Some, None}
+-- Names with numbers that were read one after the other are those that the words are; and those behind a command of bounds.
+use Rattle.std.proofs.Common.{◌≡◌, ℕ, ◌-◌, ◌≤◌, ◌<◌, Bool, true, false, List, [], ◌∷◌, ◌++◌, length, get_or, take, drop, arith, refl, sym, ap, ◌∙◌, append_assoc, Bor, Some, None, if◌then◌else◌}
 use Rattle.std.proofs.lemmas.List.{append-nil}
 use Rattle.rational.specs.Rational.{ℚ}
 use Rattle.lp_model.specs.Edits.{Named}
-use Rattle.edit_words.specs.EditWords.{EntriesAsk, AreRead, AreMisused, HasNoNumber, number_in, with_first, entries_of}
+use Rattle.edit_words.specs.Forms.{are_distinct}
+use Rattle.edit_words.specs.EditWords.{EntriesAsk, AreRead, AreMisused, HasNoNumber, number_in, with_first, entries_of, pairs_asks}
 use Rattle.edit_words.proofs.FormLemmas.{nows, some_word, first_two}
 
 -- those that were read, and those behind them
@@ -52,3 +53,20 @@ entries_none read words h is =
     let word : List ℕ = (get_or words 1 some_word).now in
     let rest : EntriesAsk = entries_of (nows (take (length words - 2) (drop 2 words))) in
     ap (behind read) (entries_first words h) ∙ ap (λ o. behind read (with_first name word o rest)) is
+
+-- ---- the words behind a command of bounds
+
+pub no_pairs : (words : List (Bor (List ℕ))) → length words ≡ 0 → pairs_asks (nows words) ≡ AreMisused
+unfolding pairs_asks
+no_pairs [] none = refl
+no_pairs (a ∷ more) none = absurd (omega arith)
+
+pub named_twice : (words : List (Bor (List ℕ))) → are_distinct (nows words) ≡ false → pairs_asks (nows words) ≡ AreMisused
+unfolding pairs_asks
+named_twice [] twice = refl
+named_twice (a ∷ more) twice = ap (λ (b : Bool). if b then entries_of (nows (a ∷ more)) else AreMisused) twice
+
+pub distinct_pairs : (words : List (Bor (List ℕ))) → ¬ (length words ≡ 0) → are_distinct (nows words) ≡ true → pairs_asks (nows words) ≡ entries_of (nows words)
+unfolding pairs_asks
+distinct_pairs [] some distinct = absurd (some refl)
+distinct_pairs (a ∷ more) some distinct = ap (λ (b : Bool). if b then entries_of (nows (a ∷ more)) else AreMisused) distinct

@@ -5,7 +5,7 @@ use Rattle.std.proofs.lemmas.Grind.{common_steps}
 use Rattle.edit_words.specs.declared.kinds.EditKind.{EditKind}
 use Rattle.edit_words.specs.declared.forms.Slot.{Slot}
 use Rattle.edit_words.specs.Forms.{is_named, are_distinct, fits}
-use Rattle.edit_words.specs.EditWords.{Misused, kind_of, formed_asks, edit_asks}
+use Rattle.edit_words.specs.EditWords.{Misused, edit_kind_of, formed_asks, edit_asks}
 
 abbrev pub nows : List (Bor (List ℕ)) → List (List ℕ)
 nows words = map (λ word. word.now) words
@@ -50,7 +50,7 @@ first_six (a ∷ b ∷ c ∷ e ∷ f ∷ g ∷ more) h = (λ i. a.now ∷ b.now 
 
 -- ---- the word behind `edit`
 
-pub edit_asks-first : (words : List (Bor (List ℕ))) (k : Option EditKind) → 1 ≤ length words → k ≡ kind_of (get_or words 0 some_word).now
+pub edit_asks-first : (words : List (Bor (List ℕ))) (k : Option EditKind) → 1 ≤ length words → k ≡ edit_kind_of (get_or words 0 some_word).now
     → edit_asks (nows words) ≡ formed_asks k (nows (take (length words - 1) (drop 1 words)))
 unfolding edit_asks
 edit_asks-first [] k h e = absurd (omega arith)

@@ -1,3 +1,4 @@
 pub mod FormLemmas
 pub mod EntryLemmas
 pub mod NameLemmas
+pub mod PairLemmas

@@ -4,12 +4,14 @@ use Rattle.std.specs.Prelude.{codes}
 use Rattle.std.specs.Str.{bytes_eq}
 use Rattle.rational.specs.Rational.{ℚ}
 use Rattle.lp_model.specs.Edits.{Named}
-use Rattle.lp_model.specs.declared.types.Edit.TheVariants.{SetCost, SetCost2, SetRow, SetColBounds, AddCol, AddRow, ReplaceRow}
+use Rattle.lp_model.specs.declared.types.Edit.TheVariants.{SetCost, SetCost2, SetRow, SetColBounds, AddCol}
+use Rattle.text_lines.specs.Words.{Words}
 use Rattle.edit_words.specs.declared.kinds.EditKind.{EditKind}
 use Rattle.edit_words.specs.declared.kinds.EditKind.TheVariants as kind
-use Rattle.edit_words.specs.Forms.{Words, is_new_name, fits}
+use Rattle.edit_words.specs.declared.asked.RowPlace.TheVariants.{Last, Same}
+use Rattle.edit_words.specs.Forms.{is_new_name, fits}
 use Rattle.edit_words.specs.NewNames.{BringsName, IsNewName}
-use Rattle.edit_words.specs.EditWords.{EditAsks, Edits, Misused, NoNumber, EntriesAsk, AreRead, AreMisused, HasNoNumber, number_in, side_in, lower_in, upper_in, entries_of, with_read, with_entries, is_int_word, sides_edit, cost_asks, cost2_asks, row_asks, bounds_asks, kind_asks, addcol_asks, delcol_asks, addrow_asks, delrow_asks, replacerow_asks, kind_of, slots_of, has_pairs, meaning, formed_asks, edit_asks}
+use Rattle.edit_words.specs.EditWords.{EditAsks, Edits, Misused, NoNumber, EntriesAsk, AreRead, AreMisused, HasNoNumber, number_in, side_in, lower_in, upper_in, entries_of, with_read, with_entries, is_int_word, sides_edit, cost_asks, cost2_asks, row_asks, bounds_asks, kind_asks, addcol_asks, delcol_asks, delrow_asks, whole_row_edit, whole_row_asks, edit_kind_of, slots_of, has_pairs, meaning, formed_asks, edit_asks}
 
 -- an edit that is asked for brings such a name
 abbrev pub IsNamedNew : EditAsks → Type 0
@@ -74,14 +76,14 @@ delrow-named [] = tt
 delrow-named (row ∷ []) = tt
 delrow-named (a ∷ b ∷ more) = tt
 
-replacerow-named : (words : Words) → IsNamedNew (replacerow_asks words)
+replacerow-named : (words : Words) → IsNamedNew (whole_row_asks Same words)
 replacerow-named [] = tt
 replacerow-named (a ∷ []) = tt
 replacerow-named (a ∷ b ∷ []) = tt
 replacerow-named (row ∷ lo ∷ hi ∷ rest) =
-    read-named lo (side_in lo) (λ l. with_read hi (side_in hi) (λ h. with_entries (entries_of rest) (λ named. Edits (ReplaceRow row l h named)))) (λ l.
-    read-named hi (side_in hi) (λ h. with_entries (entries_of rest) (λ named. Edits (ReplaceRow row l h named))) (λ h.
-    entries-named (entries_of rest) (λ named. Edits (ReplaceRow row l h named)) (λ named. tt)))
+    read-named lo (side_in lo) (λ l. with_read hi (side_in hi) (λ h. with_entries (entries_of rest) (λ named. Edits (whole_row_edit Same row l h named)))) (λ l.
+    read-named hi (side_in hi) (λ h. with_entries (entries_of rest) (λ named. Edits (whole_row_edit Same row l h named))) (λ h.
+    entries-named (entries_of rest) (λ named. Edits (whole_row_edit Same row l h named)) (λ named. tt)))
 
 -- ---- where a new name stands in the form
 
@@ -89,16 +91,16 @@ left : (a b : Bool) → a && b ≡ true → a ≡ true
 left true b h = refl
 left false b h = h
 
-addrow-named : (words : Words) → fits (slots_of kind.AddRow) (has_pairs kind.AddRow) words ≡ true → IsNamedNew (addrow_asks words)
+addrow-named : (words : Words) → fits (slots_of kind.AddRow) (has_pairs kind.AddRow) words ≡ true → IsNamedNew (whole_row_asks Last words)
 unfolding fits
 addrow-named [] fit = tt
 addrow-named (a ∷ []) fit = tt
 addrow-named (a ∷ b ∷ []) fit = tt
 addrow-named (name ∷ lo ∷ hi ∷ rest) fit =
     let new : IsNewName name = left (is_new_name name) _ fit in
-    read-named lo (side_in lo) (λ l. with_read hi (side_in hi) (λ h. with_entries (entries_of rest) (λ named. Edits (AddRow name l h named)))) (λ l.
-    read-named hi (side_in hi) (λ h. with_entries (entries_of rest) (λ named. Edits (AddRow name l h named))) (λ h.
-    entries-named (entries_of rest) (λ named. Edits (AddRow name l h named)) (λ named. new)))
+    read-named lo (side_in lo) (λ l. with_read hi (side_in hi) (λ h. with_entries (entries_of rest) (λ named. Edits (whole_row_edit Last name l h named)))) (λ l.
+    read-named hi (side_in hi) (λ h. with_entries (entries_of rest) (λ named. Edits (whole_row_edit Last name l h named))) (λ h.
+    entries-named (entries_of rest) (λ named. Edits (whole_row_edit Last name l h named)) (λ named. new)))
 
 addcol-named : (words : Words) → fits (slots_of kind.AddCol) (has_pairs kind.AddCol) words ≡ true → IsNamedNew (addcol_asks words)
 unfolding fits
@@ -141,4 +143,4 @@ formed-named (Some k) words = by (fits (slots_of k) (has_pairs k) words) refl
 pub asked-named : (words : Words) → IsNamedNew (edit_asks words)
 unfolding edit_asks
 asked-named [] = tt
-asked-named (word ∷ words) = formed-named (kind_of word) words
+asked-named (word ∷ words) = formed-named (edit_kind_of word) words

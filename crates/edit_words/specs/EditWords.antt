@@ -1,18 +1,25 @@
--- What the words behind `edit` ask for: an edit, or which fault they have.
+-- What the words behind `edit`, and behind a command of bounds, ask for, or which fault they have.
 --     edit_asks words     words of none of the forms are misused; else the first word in a number's place that is none there is told
-use Rattle.std.specs.Prelude.{◌≡◌, ℕ, ◌^◌, Bool, true, false, List, [], ◌∷◌, pos, codes, if◌then◌else◌, Option, Some, None, Result, Ok, Err}
+--     pairs_asks words    the same of names with numbers alone
+use Rattle.std.specs.Prelude.{◌≡◌, ℕ, Bool, true, false, List, [], ◌∷◌, map, codes, if◌then◌else◌, Option, Some, None, Result, Ok, Err}
 use Rattle.std.specs.Str.{bytes_eq}
-use Rattle.rational.specs.Rational.{ℚ, int, neg_ℚ, rational_le}
+use Rattle.rational.specs.Rational.{ℚ}
 use Rattle.frac_text.specs.Parsing.{spelled_number}
+use Rattle.frac_text.specs.Sides.{side_of}
 use Rattle.frac_text.specs.declared.parsing.NumFault.{NumFault}
+use Rattle.frac_text.specs.declared.numeral.Side.{Side}
+use Rattle.frac_text.specs.declared.numeral.Side.TheVariants.{Above, Between, Below}
+use Rattle.text_lines.specs.Words.{Words}
 use Rattle.lp_model.specs.Edits.{Named}
 use Rattle.lp_model.specs.declared.types.Edit.{Edit}
 use Rattle.lp_model.specs.declared.types.Edit.TheVariants.{SetCost, SetCost2, SetRow, SetColBounds, SetKind, AddCol, DelCol, AddRow, DelRow, ReplaceRow}
-use Rattle.edit_words.specs.Forms.{Words, fits}
+use Rattle.edit_words.specs.Forms.{are_distinct, fits}
 use Rattle.edit_words.specs.declared.forms.Slot.{Slot}
 use Rattle.edit_words.specs.declared.forms.Slot.TheVariants as slot
 use Rattle.edit_words.specs.declared.kinds.EditKind.{EditKind}
 use Rattle.edit_words.specs.declared.kinds.EditKind.TheVariants as kind
+use Rattle.edit_words.specs.declared.asked.RowPlace.{RowPlace}
+use Rattle.edit_words.specs.declared.asked.RowPlace.TheVariants.{Last, Same}
 use Rattle.edit_words.specs.declared.asked.EditAsked.{EditAsked}
 use Rattle.edit_words.specs.declared.asked.EditAsked.TheVariants as asked
 use Rattle.edit_words.specs.declared.entries.Entries.{Entries}
@@ -27,8 +34,8 @@ pub data EditAsks : Type 0 where
 
 -- ---- the kinds of edits, and their forms
 
-abbrev pub kind_of : List ℕ → Option EditKind
-kind_of word =
+abbrev pub edit_kind_of : List ℕ → Option EditKind
+edit_kind_of word =
     if bytes_eq word (codes "cost") then Some kind.Cost
     else if bytes_eq word (codes "cost2") then Some kind.Cost2
     else if bytes_eq word (codes "row") then Some kind.Row
@@ -79,24 +86,30 @@ number_in word = number_read (spelled_number word)
 abbrev pub is_none_word : List ℕ → Bool
 is_none_word word = bytes_eq word (codes "none")
 
--- beyond it a bound is none
-abbrev pub far : ℚ
-far = int (pos (10 ^ 20))
-
 abbrev pub side_read : Option ℚ → Option (Option ℚ)
 side_read None = None
 side_read (Some x) = Some (Some x)
 
+-- a bound at 10^20 or more on its own side of 0 is none, and on the other side no number
+abbrev pub lower_at : Side → ℚ → Option (Option ℚ)
+lower_at Below x = Some None
+lower_at Above x = None
+lower_at Between x = Some (Some x)
+
+abbrev pub upper_at : Side → ℚ → Option (Option ℚ)
+upper_at Above x = Some None
+upper_at Below x = None
+upper_at Between x = Some (Some x)
+
 abbrev pub lower_read : Option ℚ → Option (Option ℚ)
 lower_read None = None
-lower_read (Some x) = if rational_le x (neg_ℚ far) then Some None else if rational_le far x then None else Some (Some x)
+lower_read (Some x) = lower_at (side_of x) x
 
 abbrev pub upper_read : Option ℚ → Option (Option ℚ)
 upper_read None = None
-upper_read (Some x) = if rational_le far x then Some None else if rational_le x (neg_ℚ far) then None else Some (Some x)
+upper_read (Some x) = upper_at (side_of x) x
 
--- a side of a row, and a lower and an upper bound: `none` is none, and a bound is none far beyond 0 on its own side, and no number far
--- beyond it on the other
+-- a side of a row, and a lower and an upper bound; `none` is none
 unfoldable pub side_in : List ℕ → Option (Option ℚ)
 side_in word = if is_none_word word then Some None else side_read (number_in word)
 
@@ -125,6 +138,14 @@ unfoldable pub entries_of : Words → EntriesAsk
 entries_of [] = AreRead []
 entries_of (name ∷ []) = AreMisused
 entries_of (name ∷ word ∷ rest) = with_first name word (number_in word) (entries_of rest)
+
+abbrev pub names_in : Named → List (List ℕ)
+names_in named = map (λ e. e.0) named
+
+-- the words behind a command of bounds: one name with a number at least, each name once
+unfoldable pub pairs_asks : Words → EntriesAsk
+pairs_asks [] = AreMisused
+pairs_asks (word ∷ words) = if are_distinct (word ∷ words) then entries_of (word ∷ words) else AreMisused
 
 -- ---- edits, from what their words say
 
@@ -180,17 +201,20 @@ abbrev pub delcol_asks : Words → EditAsks
 delcol_asks (col ∷ []) = Edits (DelCol col)
 delcol_asks words = Misused
 
-abbrev pub addrow_asks : Words → EditAsks
-addrow_asks (name ∷ lo ∷ hi ∷ rest) = with_read lo (side_in lo) (λ l. with_read hi (side_in hi) (λ h. with_entries (entries_of rest) (λ named. Edits (AddRow name l h named))))
-addrow_asks words = Misused
-
 abbrev pub delrow_asks : Words → EditAsks
 delrow_asks (row ∷ []) = Edits (DelRow row)
 delrow_asks words = Misused
 
-abbrev pub replacerow_asks : Words → EditAsks
-replacerow_asks (row ∷ lo ∷ hi ∷ rest) = with_read lo (side_in lo) (λ l. with_read hi (side_in hi) (λ h. with_entries (entries_of rest) (λ named. Edits (ReplaceRow row l h named))))
-replacerow_asks words = Misused
+-- a row with its sides and entries, where it goes
+abbrev pub whole_row_edit : RowPlace → List ℕ → Option ℚ → Option ℚ → Named → Edit
+whole_row_edit Last row lo hi named = AddRow row lo hi named
+whole_row_edit Same row lo hi named = ReplaceRow row lo hi named
+
+-- `addrow` and `replacerow`
+abbrev pub whole_row_asks : RowPlace → Words → EditAsks
+whole_row_asks place (row ∷ lo ∷ hi ∷ rest) =
+    with_read lo (side_in lo) (λ l. with_read hi (side_in hi) (λ h. with_entries (entries_of rest) (λ named. Edits (whole_row_edit place row l h named))))
+whole_row_asks place words = Misused
 
 -- ---- what is asked
 
@@ -203,9 +227,9 @@ meaning kind.Bounds words = bounds_asks words
 meaning kind.Kind words = kind_asks words
 meaning kind.AddCol words = addcol_asks words
 meaning kind.DelCol words = delcol_asks words
-meaning kind.AddRow words = addrow_asks words
+meaning kind.AddRow words = whole_row_asks Last words
 meaning kind.DelRow words = delrow_asks words
-meaning kind.ReplaceRow words = replacerow_asks words
+meaning kind.ReplaceRow words = whole_row_asks Same words
 
 abbrev pub formed_asks : Option EditKind → Words → EditAsks
 formed_asks None words = Misused
@@ -214,7 +238,7 @@ formed_asks (Some k) words = if fits (slots_of k) (has_pairs k) words then meani
 -- the words behind `edit`
 unfoldable pub edit_asks : Words → EditAsks
 edit_asks [] = Misused
-edit_asks (word ∷ words) = formed_asks (kind_of word) words
+edit_asks (word ∷ words) = formed_asks (edit_kind_of word) words
 
 -- what an answer of the reader of words stands for; want of memory may come in any case
 abbrev pub IsAskedOf : EditAsks → EditAsked → Type 0

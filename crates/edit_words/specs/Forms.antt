@@ -3,11 +3,9 @@
 use Rattle.std.specs.Prelude.{ℕ, Bool, true, false, not, ◌&&◌, ◌||◌, List, [], ◌∷◌, length, nat_le, codes}
 use Rattle.std.specs.List.{list_all}
 use Rattle.std.specs.Str.{bytes_eq}
+use Rattle.text_lines.specs.Words.{Words}
 use Rattle.edit_words.specs.declared.forms.Slot.{Slot}
 use Rattle.edit_words.specs.declared.forms.Slot.TheVariants.{Kind, Sides, Known, New, Number, NumberOrNone, Lower, Upper}
-
-abbrev pub Words : Type 0
-Words = List (List ℕ)
 
 -- the bytes from `!` to `~`
 abbrev pub is_name_byte : ℕ → Bool

@@ -1,12 +1,13 @@
 // The ten edits, as words say them.
 ghost use Rattle.std.specs.Prelude.{◌≡◌, ◌∷◌, [], map, Some};
-ghost use Rattle.edit_words.specs.EditWords.{is_int_word, sides_edit, cost_asks, cost2_asks, row_asks, bounds_asks, kind_asks, addcol_asks, delcol_asks, addrow_asks, delrow_asks, replacerow_asks, meaning, formed_asks, edit_asks, IsAskedOf};
+ghost use Rattle.edit_words.specs.EditWords.{is_int_word, sides_edit, cost_asks, cost2_asks, row_asks, bounds_asks, kind_asks, addcol_asks, delcol_asks, delrow_asks, whole_row_edit, whole_row_asks, meaning, formed_asks, edit_asks, IsAskedOf};
 
 use crate::entries::{Entries, entries_in};
 use crate::forms::fits;
 use crate::kinds::EditKind;
 use crate::numbers::{lower_in, number_in, side_in, upper_in};
-use lp_model::{Bound, Edit, Name};
+use frac128::Frac;
+use lp_model::{Bound, Edit, List, Name};
 use std::alloc::{AllocError, Global};
 
 /// What the words behind `edit` ask for.
@@ -20,6 +21,15 @@ pub enum EditAsked<'a> {
     NoNumber { word: &'a [u8] },
     /// There is no memory for the edit.
     Memory,
+}
+
+/// Where a row goes.
+#[derive(Clone, Copy, Debug, PartialEq, Eq)]
+enum RowPlace {
+    /// Behind the others.
+    Last,
+    /// In the place of the row of its name.
+    Same,
 }
 
 fn is_int_word(word: &[u8]) -> bool
@@ -186,47 +196,42 @@ fn addcol_edit<'a>(
     }
 }
 
-/// A last row.
-fn addrow_edit<'a>(
-    alloc: Global,
-    name: &[u8],
-    low: &'a [u8],
-    high: &'a [u8],
-    rest: &[&'a [u8]],
-) -> EditAsked<'a>
-    ensures { IsAskedOf (addrow_asks (name.now ∷ low.now ∷ high.now ∷ map (λ word. word.now) rest.now)) result }
+/// A row where it goes.
+fn whole_row_edit(
+    place: RowPlace,
+    row: Name,
+    lo: Bound,
+    hi: Bound,
+    entries: List<(Name, Frac)>,
+) -> Edit
+    ensures { result ≡ whole_row_edit place row lo hi entries }
 {
-    let Some(lo) = side_in(low) else {
-        return EditAsked::NoNumber { word: low };
-    };
-    let Some(hi) = side_in(high) else {
-        return EditAsked::NoNumber { word: high };
-    };
-    match entries_in(alloc, rest) {
-        Entries::Misused => EditAsked::Misused,
-        Entries::NoNumber { word } => EditAsked::NoNumber { word },
-        Entries::Memory => EditAsked::Memory,
-        Entries::Read(entries) => match Name::from_slice(alloc, name) {
-            Ok(name) => EditAsked::Edits(Edit::AddRow {
-                name,
-                lo,
-                hi,
-                entries,
-            }),
-            Err(AllocError) => EditAsked::Memory,
+    match place {
+        RowPlace::Last => Edit::AddRow {
+            name: row,
+            lo,
+            hi,
+            entries,
+        },
+        RowPlace::Same => Edit::ReplaceRow {
+            row,
+            lo,
+            hi,
+            entries,
         },
     }
 }
 
-/// Another row in the place of one.
-fn replacerow_edit<'a>(
+/// A row with its sides and entries.
+fn whole_row<'a>(
     alloc: Global,
+    place: RowPlace,
     row: &[u8],
     low: &'a [u8],
     high: &'a [u8],
     rest: &[&'a [u8]],
 ) -> EditAsked<'a>
-    ensures { IsAskedOf (replacerow_asks (row.now ∷ low.now ∷ high.now ∷ map (λ word. word.now) rest.now)) result }
+    ensures { IsAskedOf (whole_row_asks place (row.now ∷ low.now ∷ high.now ∷ map (λ word. word.now) rest.now)) result }
 {
     let Some(lo) = side_in(low) else {
         return EditAsked::NoNumber { word: low };
@@ -239,12 +244,7 @@ fn replacerow_edit<'a>(
         Entries::NoNumber { word } => EditAsked::NoNumber { word },
         Entries::Memory => EditAsked::Memory,
         Entries::Read(entries) => match Name::from_slice(alloc, row) {
-            Ok(row) => EditAsked::Edits(Edit::ReplaceRow {
-                row,
-                lo,
-                hi,
-                entries,
-            }),
+            Ok(row) => EditAsked::Edits(whole_row_edit(place, row, lo, hi, entries)),
             Err(AllocError) => EditAsked::Memory,
         },
     }
@@ -317,15 +317,6 @@ fn delcol_asked<'a>(alloc: Global, words: &[&'a [u8]]) -> EditAsked<'a>
     }
 }
 
-fn addrow_asked<'a>(alloc: Global, words: &[&'a [u8]]) -> EditAsked<'a>
-    ensures { IsAskedOf (addrow_asks (map (λ word. word.now) words.now)) result }
-{
-    match words {
-        [name, low, high, rest @ ..] => addrow_edit(alloc, name, low, high, rest),
-        _ => EditAsked::Misused,
-    }
-}
-
 fn delrow_asked<'a>(alloc: Global, words: &[&'a [u8]]) -> EditAsked<'a>
     ensures { IsAskedOf (delrow_asks (map (λ word. word.now) words.now)) result }
 {
@@ -335,11 +326,11 @@ fn delrow_asked<'a>(alloc: Global, words: &[&'a [u8]]) -> EditAsked<'a>
     }
 }
 
-fn replacerow_asked<'a>(alloc: Global, words: &[&'a [u8]]) -> EditAsked<'a>
-    ensures { IsAskedOf (replacerow_asks (map (λ word. word.now) words.now)) result }
+fn whole_row_asked<'a>(alloc: Global, place: RowPlace, words: &[&'a [u8]]) -> EditAsked<'a>
+    ensures { IsAskedOf (whole_row_asks place (map (λ word. word.now) words.now)) result }
 {
     match words {
-        [row, low, high, rest @ ..] => replacerow_edit(alloc, row, low, high, rest),
+        [row, low, high, rest @ ..] => whole_row(alloc, place, row, low, high, rest),
         _ => EditAsked::Misused,
     }
 }
@@ -356,9 +347,9 @@ fn asked_of<'a>(alloc: Global, kind: EditKind, words: &[&'a [u8]]) -> EditAsked<
         EditKind::Kind => kind_asked(alloc, words),
         EditKind::AddCol => addcol_asked(alloc, words),
         EditKind::DelCol => delcol_asked(alloc, words),
-        EditKind::AddRow => addrow_asked(alloc, words),
+        EditKind::AddRow => whole_row_asked(alloc, RowPlace::Last, words),
         EditKind::DelRow => delrow_asked(alloc, words),
-        EditKind::ReplaceRow => replacerow_asked(alloc, words),
+        EditKind::ReplaceRow => whole_row_asked(alloc, RowPlace::Same, words),
     }
 }
 

@@ -1,7 +1,8 @@
 // Names with numbers.
 ghost use Rattle.std.specs.Prelude.{◌≡◌, ◌∷◌, ◌++◌, [], map, IfOk};
-ghost use Rattle.edit_words.specs.EditWords.{entries_of, IsEntriesOf};
+ghost use Rattle.edit_words.specs.EditWords.{entries_of, pairs_asks, IsEntriesOf};
 
+use crate::forms::are_distinct;
 use crate::numbers::number_in;
 use frac128::Frac;
 use lp_model::{List, Name};
@@ -9,10 +10,14 @@ use std::alloc::{AllocError, Global};
 
 /// Names with numbers, or why they are none.
 #[derive(Drop)]
-pub(crate) enum Entries<'a> {
+pub enum Entries<'a> {
+    /// These names with their numbers.
     Read(List<(Name, Frac)>),
+    /// The words are no names with numbers.
     Misused,
+    /// This word, in a number's place, is none.
     NoNumber { word: &'a [u8] },
+    /// There is no memory for them.
     Memory,
 }
 
@@ -50,4 +55,15 @@ pub(crate) fn entries_in<'a>(alloc: Global, words: &[&'a [u8]]) -> Entries<'a>
     } else {
         Entries::Misused
     }
+}
+
+/// What the words behind a command of bounds ask for: names with numbers, one at least, and each name once.
+#[tactic(auto, using(crate::proofs::EntryLemmas::no_pairs, crate::proofs::EntryLemmas::named_twice, crate::proofs::EntryLemmas::distinct_pairs))]
+pub fn read_pairs<'a>(alloc: Global, words: &[&'a [u8]]) -> Entries<'a>
+    ensures { IsEntriesOf (pairs_asks (map (λ word. word.now) words.now)) result }
+{
+    if words.is_empty() || !are_distinct(words) {
+        return Entries::Misused;
+    }
+    entries_in(alloc, words)
 }

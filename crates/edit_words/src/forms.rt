@@ -73,7 +73,7 @@ fn is_named(name: &[u8], pairs: &[&[u8]]) -> bool
 
 /// Whether the words are names with numbers, each name once.
 #[tactic(auto, unfolding(crate::specs::Forms::are_distinct), using(crate::proofs::FormLemmas::are_distinct_one, crate::proofs::FormLemmas::are_distinct_first))]
-fn are_distinct(words: &[&[u8]]) -> bool
+pub(crate) fn are_distinct(words: &[&[u8]]) -> bool
     ensures { result ≡ are_distinct (map (λ word. word.now) words.now) }
 {
     match words {

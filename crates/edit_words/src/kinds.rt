@@ -1,6 +1,6 @@
 // What an edit changes, and the form of its words.
 ghost use Rattle.std.specs.Prelude.{◌≡◌};
-ghost use Rattle.edit_words.specs.EditWords.{kind_of, slots_of, has_pairs};
+ghost use Rattle.edit_words.specs.EditWords.{edit_kind_of, slots_of, has_pairs};
 
 use crate::forms::Slot;
 
@@ -22,7 +22,7 @@ pub(crate) enum EditKind {
 impl EditKind {
     /// The kind that a word names.
     pub(crate) fn of(word: &[u8]) -> Option<EditKind>
-        ensures { result ≡ kind_of word.now }
+        ensures { result ≡ edit_kind_of word.now }
     {
         if word == b"cost".as_slice() {
             Some(EditKind::Cost)

@@ -1,4 +1,4 @@
-//! What the words behind `edit` ask for.
+//! What the words behind `edit`, and behind a command of bounds, ask for.
 //!
 //! ```text
 //! cost COL V, cost2 COL V                              another cost
@@ -14,8 +14,10 @@
 //! A form is data: a slot for each word, and whether names with numbers follow (specs/Forms). A bound of 10^20 and more in
 //! magnitude on its own side is none; on the other side it is no number.
 //!
-//! Contract in one sentence: `read_edit` answers exactly the edit that the words ask for, or the first of their faults: none of the
-//! forms, then the first word in a number's place that is none there.
+//! The commands of bounds, `lbrhs`, `lbobj`, `ubrhs` and `ubobj`, are followed by names with numbers alone: `NAME V [NAME V]..`.
+//!
+//! Contract in one sentence: `read_edit` answers exactly the edit that the words ask for, and `read_pairs` the names with numbers, or
+//! the first of their faults: none of the forms, then the first word in a number's place that is none there.
 //!
 //! Below stand `frac_text`, which says what a number is, and `lp_model`, which has the edits. Above stands `sym_shell`.
 #![tactic(auto)]
@@ -27,3 +29,4 @@ mod kinds;
 mod numbers;
 
 pub use asked::{EditAsked, read_edit};
+pub use entries::{Entries, read_pairs};

@@ -7,11 +7,12 @@
 #![tactic(auto)]
 
 mod answers;
-mod stage;
+mod environment;
 
-use crate::stage::Calls;
+use crate::environment::Environment;
+use model_calls::Calls;
 use std::process::ExitCode;
 
 fn main(rt: HostRuntime) -> ExitCode {
-    row_texts::run_rows::<Calls>(&rt)
+    row_texts::run_rows::<Calls<Environment>>(&rt)
 }

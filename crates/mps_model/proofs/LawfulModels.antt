@@ -1,6 +1,6 @@
 -- The model that the lists of a whole text mean is lawful: its rows have ranges, its columns two bounds and entries that rise,
 -- its names differ, and no limit is passed.
-use Rattle.std.proofs.Common.{◌≡◌, ◌≢◌, ℕ, zero, suc, ◌+◌, ◌<◌, ◌≤◌, Bool, true, false, ◌&&◌, ◌||◌, not, List, [], ◌∷◌, ◌++◌, map, length, get_or, refl, sym, ◌∙◌, ap, subst, arith, pos, length-append, inl, inr, Contains}
+use Rattle.std.proofs.Common.{◌≡◌, ◌≢◌, ℕ, zero, suc, ◌+◌, ◌<◌, ◌≤◌, Bool, true, false, ◌&&◌, ◌||◌, not, List, [], ◌∷◌, ◌++◌, map, length, refl, sym, ◌∙◌, ap, subst, arith, pos, length-append, Contains}
 use Rattle.std.specs.Prelude.{Option, None, Some, if◌then◌else◌, codes, bytes_eq, All, IsTrue, IsSome, is_some, sum_by}
 use Rattle.std.specs.List.{list_all}
 use Rattle.std.proofs.lemmas.Bool.{and_parts, or_left, or_right, or_parts, or_from, true≢false, false_from_ne_true}

@@ -8,7 +8,7 @@ use Rattle.std.proofs.lemmas.Bool.Decides.{nat_tests}
 use Rattle.std.proofs.lemmas.Bool.Decides.{Decides-and}
 use Rattle.rational.specs.Rational.{ℚ, int, neg_ℚ, ◌+ℚ◌, ◌-ℚ◌, ◌≤ℚ◌, rational_le}
 use Rattle.rational.proofs.Comparison.{rational_le-decides}
-use Rattle.rational.proofs.RationalOrder.{≤ℚ_refl, ≤ℚ_of_<ℚ, <ℚ_from_not, linear}
+use Rattle.rational.proofs.RationalOrder.{≤ℚ_of_<ℚ, <ℚ_from_not, linear}
 use Rattle.rational.proofs.RationalRing.{reads_ℚ}
 use Rattle.frac128.specs.Range.{Fits, SumFits}
 use Rattle.lp_model.specs.Lawful.{AreNear, IsRange}

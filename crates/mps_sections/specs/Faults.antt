@@ -151,18 +151,22 @@ column_tests s e =
     ∷ (7, is_long_name (word 0 e) || has_long (column_pairs e))
     ∷ (pair_tests s (column_pairs e) ++ place_tests s (word 0 e) (column_pairs e))
 
--- ---- RHS
+-- ---- RHS and RANGES
 
-abbrev pub rhs_tests : StatedModel → Entry → List Test
-rhs_tests s e =
+-- a line by itself, and the rows and numbers of its pairs
+abbrev pub set_tests : StatedModel → Entry → List Test
+set_tests s e =
     -- the number of fields
     (6, not (has_count e 2 5))
     ∷ (7, has_long (set_pairs e))
-    ∷ (pair_tests s (set_pairs e)
-    -- one row twice in RHS
-    ++ (22, has_twice (set_pairs e) || has_again s.sides (set_pairs e)) ∷ [])
+    ∷ pair_tests s (set_pairs e)
 
--- ---- RANGES
+abbrev pub rhs_tests : StatedModel → Entry → List Test
+rhs_tests s e =
+    set_tests s e
+    -- one row twice in RHS
+    ++ (22, has_twice (set_pairs e) || has_again s.sides (set_pairs e))
+    ∷ []
 
 -- a number of RANGES stands beside a row of some pairs already
 abbrev pub is_ranged_again : List RangeLine → List Pair → Bool
@@ -177,15 +181,12 @@ has_free_row s found = list_any (λ p. is_free_row s p.row) found
 
 abbrev pub range_tests : StatedModel → Entry → List Test
 range_tests s e =
-    -- the number of fields
-    (6, not (has_count e 2 5))
-    ∷ (7, has_long (set_pairs e))
-    ∷ (pair_tests s (set_pairs e)
+    set_tests s e
     -- one row twice in RANGES
     ++ (22, has_twice (set_pairs e) || is_ranged_again s.ranges (set_pairs e))
     -- a row of type N
     ∷ (23, has_free_row s (set_pairs e))
-    ∷ [])
+    ∷ []
 
 -- ---- BOUNDS
 

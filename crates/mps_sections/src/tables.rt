@@ -5,7 +5,7 @@ ghost use Rattle.mps_text.specs.Reading.{entry_of_record};
 ghost use Rattle.mps_fields.specs.Words.{word, is_marker, bars, section_rank, is_rows, is_columns, is_name_section, is_sense_section, line_kind as kind_of_line};
 ghost use Rattle.mps_sections.specs.Statements.{StatedModel, stated, sections_in, coefficients_in, read_pair, stated_sense};
 ghost use Rattle.mps_fields.specs.Fields.{has_count as has_fields, column_pairs as pairs_in_column, set_pairs as pairs_behind_set, bound_column as column_of_bound, bound_field, has_unknown_sense as is_without_sense, has_not_number, has_too_wide};
-ghost use Rattle.mps_sections.specs.Faults.{least, has_sense, most_fields, tests_of, section_tests, sense_tests, row_tests, marker_tests, column_tests, rhs_tests, range_tests, bound_tests, place_tests, pair_tests, has_unknown, is_late, lacks_section, code_in};
+ghost use Rattle.mps_sections.specs.Faults.{least, has_sense, most_fields, tests_of, section_tests, sense_tests, row_tests, marker_tests, column_tests, set_tests, rhs_tests, range_tests, bound_tests, place_tests, pair_tests, has_unknown, is_late, lacks_section, code_in};
 
 use crate::columns::Columns;
 use crate::names::{copied, count_coefficients};
@@ -295,9 +295,10 @@ impl Tables {
         self.fault_of_place(name, pairs)
     }
 
-    fn fault_of_rhs(&self, entry: &Record, pairs: &Pairs) -> Option<u8>
+    /// The least fault of a line of RHS or RANGES by itself and by the rows and numbers of its pairs.
+    fn fault_of_set(&self, entry: &Record, pairs: &Pairs) -> Option<u8>
         requires { pairs_shown pairs.now ≡ pairs_behind_set (entry_of_record entry.now) }
-        ensures { result ≡ least (rhs_tests (held self.now) (entry_of_record entry.now)) }
+        ensures { result ≡ least (set_tests (held self.now) (entry_of_record entry.now)) }
     {
         if !has_count(entry, 2, 5) {
             return Some(6);
@@ -305,7 +306,14 @@ impl Tables {
         if pairs.has_long() {
             return Some(7);
         }
-        let fault = self.fault_of_pairs(pairs);
+        self.fault_of_pairs(pairs)
+    }
+
+    fn fault_of_rhs(&self, entry: &Record, pairs: &Pairs) -> Option<u8>
+        requires { pairs_shown pairs.now ≡ pairs_behind_set (entry_of_record entry.now) }
+        ensures { result ≡ least (rhs_tests (held self.now) (entry_of_record entry.now)) }
+    {
+        let fault = self.fault_of_set(entry, pairs);
         if fault.is_some() {
             return fault;
         }
@@ -319,13 +327,7 @@ impl Tables {
         requires { pairs_shown pairs.now ≡ pairs_behind_set (entry_of_record entry.now) }
         ensures { result ≡ least (range_tests (held self.now) (entry_of_record entry.now)) }
     {
-        if !has_count(entry, 2, 5) {
-            return Some(6);
-        }
-        if pairs.has_long() {
-            return Some(7);
-        }
-        let fault = self.fault_of_pairs(pairs);
+        let fault = self.fault_of_set(entry, pairs);
         if fault.is_some() {
             return fault;
         }

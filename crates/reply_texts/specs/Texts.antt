@@ -10,7 +10,8 @@ use Rattle.lp_model.specs.declared.answers.StopWhy.{StopWhy}
 use Rattle.lp_model.specs.declared.answers.StopWhy.TheVariants as stop
 use Rattle.lp_model.specs.declared.answers.Answer.{Answer}
 use Rattle.lp_model.specs.declared.answers.Answer.TheVariants.{Optimal, Infeasible, Unbounded, Stopped, Memory}
-use Rattle.reply_texts.specs.Places.{block_text, step_line}
+use Rattle.lp_model.specs.declared.types.WideStep.{WideStep}
+use Rattle.reply_texts.specs.Places.{block_text, step_line, step_text}
 
 abbrev pub ok_text : List ℕ
 ok_text = codes "ok\n"
@@ -117,6 +118,20 @@ stopped_text M stop.Nodes n bound best = stopped_nodes_text n bound best
 stopped_text M stop.Tree n bound best = stopped_tree_text n bound best
 stopped_text M (stop.Pivots place) n bound best = stopped_pivots_text M n bound best place
 stopped_text M (stop.Wide at_) n bound best = stopped_wide_text M n bound best at_
+
+-- ---- bounds with other sides or costs
+
+-- the bound, or that none is known
+abbrev pub bound_text : Option ℚ → List ℕ
+bound_text bound = codes "bound " ++ number_or_none bound ++ codes "\n"
+
+-- no point is feasible
+abbrev pub no_point_text : List ℕ
+no_point_text = codes "bound infeasible\n"
+
+-- the leaf, from 1 in preorder, and the step that has no room
+abbrev pub wide_bound_text : Program → ℕ → WideStep → List ℕ
+wide_bound_text M leaf at_ = codes "bound wide " ++ decimal leaf ++ codes " " ++ step_text M at_ ++ codes "\n"
 
 -- ---- answers
 

@@ -98,7 +98,10 @@ fn write_unbounded(reply: &mut Vec<u8>, placed: u64) -> Result<(), AllocError>
     Ok(())
 }
 
-fn write_number_or_none(reply: &mut Vec<u8>, number: &Option<Frac>) -> Result<(), AllocError>
+pub(crate) fn write_number_or_none(
+    reply: &mut Vec<u8>,
+    number: &Option<Frac>,
+) -> Result<(), AllocError>
     ensures { IfOk result (λ _. reply.new.items ≡ reply.old.items ++ number_or_none number.now) }
 {
     match number {

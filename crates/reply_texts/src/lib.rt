@@ -1,4 +1,4 @@
-//! The bytes of replies: names, steps of arithmetic, where a search stopped, answers and refusals.
+//! The bytes of replies: names, steps of arithmetic, where a search stopped, answers, bounds and refusals.
 //!
 //! Each definition in specs/ is a text; each function writes one behind what a reply has already. Names and numbers are
 //! written as a model has them, one blank between words, a newline behind each line.
@@ -11,11 +11,13 @@
 
 mod answers;
 mod blocks;
+mod bounds;
 mod names;
 mod refusals;
 mod steps;
 
 pub use answers::{answer_has_room, write_answer};
+pub use bounds::{write_bound, write_wide_bound};
 pub use refusals::{
     write_bounds, write_faulty_certificate, write_faulty_model, write_limit, write_no_number,
     write_sides, write_taken, write_unknown, write_unknown_name,

@@ -7,3 +7,4 @@ pub mod Solves
 pub mod Enough
 pub mod Warm
 pub mod Editing
+pub mod Bounds

@@ -1,7 +1,10 @@
 // The environment: a model, its search, and the answer that is held.
 ghost use Rattle.std.specs.Prelude.{◌≡◌, OnOk, OnErr, IfOk, IfErr, IfSome};
 ghost use Rattle.std.specs.Option.{option_copied};
+ghost use Rattle.dual_bounds.specs.NewNumbers.{with_new_sides, with_new_costs, AreNewSides, AreNewCosts, ArePresentSides, ArePresentCosts};
+ghost use Rattle.dual_bounds.specs.Laws.{IsTrueLowerBound, IsTrueUpperBound, IsExactLower, IsExactUpper};
 ghost use Rattle.sym_env.specs.Env.{no_model, model_of, Holds};
+ghost use Rattle.sym_env.specs.Bounds.{IsLowerAnswer, IsUpperAnswer};
 ghost use Rattle.sym_env.specs.Certificates.{IsCertAnswer};
 ghost use Rattle.sym_env.specs.Editing.{EditsEnv};
 ghost use Rattle.sym_env.specs.Enough.{IsEnough, IsKeptEnough};
@@ -15,7 +18,9 @@ use crate::held::Held;
 use crate::limits::Limits;
 use crate::solving::{Solution, solve};
 use crate::warming::warm;
-use lp_model::{Answer, Edit, Model, Point};
+use dual_bounds::{LowerBound, UpperBound, lb_new_obj, lb_new_rhs, ub_new_obj, ub_new_rhs};
+use frac128::Frac;
+use lp_model::{Answer, ColId, Edit, Model, Point, RowId};
 use model_edits::EditFault;
 use std::alloc::{AllocError, Global};
 use std::mem;
@@ -186,6 +191,66 @@ impl Env {
             }
             Err(fault) => Err(EnvFault::Edit(fault)),
         }
+    }
+
+    /// What the kept tree proves of the model's optimum if the sides of the named rows become these numbers, without solving: no
+    /// feasible point of that model has a lower value in least form. Each named row has one side, or two equal ones. Right after
+    /// an optimum it is the optimum's value, where the numbers are those that there are. All stays as it is.
+    pub fn lb_new_rhs(&self, sides: &[(RowId, Frac)]) -> Result<LowerBound, EnvFault>
+        requires { IfSome self.now.search (λ S. AreNewSides S.model sides.now) }
+        ensures bound { IsLowerAnswer self.now.search (λ M. with_new_sides M sides.now) result }
+        ensures true_bound { IfOk result (λ bound. IfSome self.now.search (λ S. IsTrueLowerBound (with_new_sides S.model sides.now) bound)) }
+        ensures complete { IfOk result (λ bound. IfSome self.now.search (λ S. ArePresentSides S.model sides.now → IsExactLower S bound)) }
+    {
+        let Some(search) = &self.search else {
+            return Err(EnvFault::NoModel);
+        };
+        let bound = lb_new_rhs(self.alloc, search, sides)?;
+        Ok(bound)
+    }
+
+    /// The same if the costs of the named columns in objective 1 become these numbers, in the model's own sense.
+    pub fn lb_new_obj(&self, costs: &[(ColId, Frac)]) -> Result<LowerBound, EnvFault>
+        requires { IfSome self.now.search (λ S. AreNewCosts S.model costs.now) }
+        ensures bound { IsLowerAnswer self.now.search (λ M. with_new_costs M costs.now) result }
+        ensures true_bound { IfOk result (λ bound. IfSome self.now.search (λ S. IsTrueLowerBound (with_new_costs S.model costs.now) bound)) }
+        ensures complete { IfOk result (λ bound. IfSome self.now.search (λ S. ArePresentCosts S.model costs.now → IsExactLower S bound)) }
+    {
+        let Some(search) = &self.search else {
+            return Err(EnvFault::NoModel);
+        };
+        let bound = lb_new_obj(self.alloc, search, costs)?;
+        Ok(bound)
+    }
+
+    /// The least value of the kept points, in least form, that are feasible in the model whose named rows have these numbers for
+    /// their sides. Each named row has one side, or two equal ones. All stays as it is.
+    pub fn ub_new_rhs(&self, sides: &[(RowId, Frac)]) -> Result<UpperBound, EnvFault>
+        requires { IfSome self.now.search (λ S. AreNewSides S.model sides.now) }
+        ensures bound { IsUpperAnswer self.now.search (λ M. with_new_sides M sides.now) result }
+        ensures true_bound { IfOk result (λ bound. IfSome self.now.search (λ S. IsTrueUpperBound (with_new_sides S.model sides.now) bound)) }
+        ensures complete { IfOk result (λ bound. IfSome self.now.search (λ S. ArePresentSides S.model sides.now → IsExactUpper S bound)) }
+    {
+        let Some(search) = &self.search else {
+            return Err(EnvFault::NoModel);
+        };
+        let bound = ub_new_rhs(self.alloc, search, sides)?;
+        Ok(bound)
+    }
+
+    /// The least value of the kept points, in least form, in the model whose named columns have these costs in objective 1, in the
+    /// model's own sense.
+    pub fn ub_new_obj(&self, costs: &[(ColId, Frac)]) -> Result<UpperBound, EnvFault>
+        requires { IfSome self.now.search (λ S. AreNewCosts S.model costs.now) }
+        ensures bound { IsUpperAnswer self.now.search (λ M. with_new_costs M costs.now) result }
+        ensures true_bound { IfOk result (λ bound. IfSome self.now.search (λ S. IsTrueUpperBound (with_new_costs S.model costs.now) bound)) }
+        ensures complete { IfOk result (λ bound. IfSome self.now.search (λ S. ArePresentCosts S.model costs.now → IsExactUpper S bound)) }
+    {
+        let Some(search) = &self.search else {
+            return Err(EnvFault::NoModel);
+        };
+        let bound = ub_new_obj(self.alloc, search, costs)?;
+        Ok(bound)
     }
 
     /// The text of the certificate of the answer that is held.

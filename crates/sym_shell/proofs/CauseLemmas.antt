@@ -1,13 +1,18 @@
 -- Each reply has its exact cause.
-use Rattle.std.proofs.Common.{◌≡◌, ◌≢◌, ℕ, List, [], ◌++◌, refl, sym, subst, ap, inl, inr, ◌∙◌, Option, Some, None, Err}
-use Rattle.std.specs.Prelude.{codes, decimal, IsSome}
+use Rattle.std.proofs.Common.{◌≡◌, ◌≢◌, ◌⊎◌, ℕ, List, [], ◌++◌, refl, sym, subst, ap, inl, inr, ◌∙◌, Option, Some, None, Err}
+use Rattle.std.specs.Prelude.{All, Contains, codes, decimal, IsSome}
 use Rattle.std.specs.Option.{option_map}
 use Rattle.rational.specs.Rational.{ℚ}
 use Rattle.frac128.specs.Printing.{printed}
-use Rattle.lp_model.specs.Program.{Program, value}
+use Rattle.lp_model.specs.Edits.{Named}
+use Rattle.lp_model.specs.Program.{Program, Point, value, in_least_form}
 use Rattle.lp_model.specs.declared.answers.Answer.{Answer}
 use Rattle.lp_model.specs.declared.answers.Answer.TheVariants.{Memory}
 use Rattle.lp_model.specs.declared.types.Edit.{Edit as ModelEdit}
+use Rattle.dual_bounds.specs.declared.answers.LowerBound.{LowerBound}
+use Rattle.dual_bounds.specs.declared.answers.LowerBound.TheVariants as lower
+use Rattle.dual_bounds.specs.declared.answers.UpperBound.{UpperBound}
+use Rattle.dual_bounds.specs.declared.answers.UpperBound.TheVariants as upper
 use Rattle.model_edits.specs.Faults.{EditBad}
 use Rattle.model_edits.specs.declared.faults.EditFault.{EditFault}
 use Rattle.model_edits.specs.declared.faults.EditFault.TheVariants as edit_fault
@@ -19,11 +24,14 @@ use Rattle.sym_env.specs.declared.held.Held.{Held}
 use Rattle.sym_env.specs.declared.held.Held.TheVariants.{Nothing, Finished}
 use Rattle.sym_env.specs.declared.held.Held.TheVariants.{Unbounded as Beside}
 use Rattle.sym_env.specs.declared.limits.Limits.{Limits}
-use Rattle.command_words.specs.Asks.{Asks, Load, Solve, Warm, Edit, Cert, Write, Quit, Unknown, Misused, NoNumber, asks_of}
-use Rattle.edit_words.specs.EditWords.{EditAsks, Edits, edit_asks}
+use Rattle.command_words.specs.Asks.{Asks, Load, Solve, Warm, Edit, Bound, Cert, Write, Quit, Unknown, Misused, NoNumber, asks_of}
+use Rattle.command_words.specs.declared.words.OptimumBound.{OptimumBound}
+use Rattle.command_words.specs.declared.words.OptimumBound.TheVariants.{Lower, Upper}
+use Rattle.command_words.specs.declared.words.NewNumbers.{NewNumbers}
+use Rattle.edit_words.specs.EditWords.{EditAsks, Edits, edit_asks, EntriesAsk, AreRead, AreMisused, HasNoNumber, names_in, pairs_asks}
 use Rattle.edit_words.specs.EditWords as says
-use Rattle.reply_texts.specs.Places.{block_text, step_line}
-use Rattle.reply_texts.specs.Texts.{ok_text, memory_text, column_lines, known_text}
+use Rattle.reply_texts.specs.Places.{block_text, step_line, step_text}
+use Rattle.reply_texts.specs.Texts.{ok_text, memory_text, column_lines, known_text, bound_text}
 use Rattle.sym_shell.specs.State.{ShellState}
 use Rattle.sym_shell.specs.Load.{LoadStep, ReadsFile, refusal_text}
 use Rattle.sym_shell.specs.Showing.{Finding, TellsBy, ShowsOptimumBy, ShowsEmptinessBy, ShowsNoEndBy, ShowsNodeStopBy, ShowsTreeStopBy, ShowsPivotStopBy, ShowsWideStopBy, AnswersBy, Optimum, Emptiness, NoEnd, NodeStop, TreeStop, PivotStop, WideStop, Wanting, EndsBy}
@@ -31,13 +39,15 @@ use Rattle.sym_shell.specs.Solve.{limits_of, HasFewNodes, RepliesToSolve, SolveS
 use Rattle.sym_shell.specs.Warming.{WentOn, IsTooSmall, RepliesToWarm, WarmStep}
 use Rattle.sym_shell.specs.Editing.{edit_fault_text, AnswersEdit, RepliesToEdit, RepliesToWords, EditStep}
 use Rattle.sym_shell.specs.Editing as editing
+use Rattle.sym_shell.specs.Bounding.{names_for, HasOneNumber, HaveOneNumber, IsLowerTold, IsUpperTold, TellsBound, AnswersBound, IsAtOptimum, RepliesToNumbers, RepliesToPairs, BoundStep}
+use Rattle.sym_shell.specs.Bounding as bounding
 use Rattle.sym_shell.specs.Shown.{point_shown}
 use Rattle.sym_shell.specs.Certify.{IsHeldText, Writes, Written, TooLong, Failed, Certifies, CertStep}
 use Rattle.sym_shell.specs.Certify as certify
 use Rattle.sym_shell.specs.Writing.{IsWrittenModel, WritesModel, WriteStep}
 use Rattle.sym_shell.specs.Step.{AnswersTo, Step}
-use Rattle.sym_shell.specs.Kinds.{Kind, Optimal, Infeasible, Unbounded, StoppedNodes, StoppedTree, StoppedPivots, StoppedWide, Done, UnknownCommand, WrongArguments, NoModel, UnknownName, TakenName, WrongNumber, OverLimit, NoBounds, BadSides, NoAnswer, StoreFailed, FileTooLong, FaultyText, WantsMemory, Is, IsError}
-use Rattle.sym_shell.specs.Causes.{OfSearch, Searched, SaysEdit, NeedsModel, CauseOf, HasCauses}
+use Rattle.sym_shell.specs.Kinds.{Kind, Optimal, Infeasible, Unbounded, StoppedNodes, StoppedTree, StoppedPivots, StoppedWide, BoundShown, Done, UnknownCommand, WrongArguments, NoModel, UnknownName, TakenName, WrongNumber, OverLimit, NoBounds, BadSides, NoAnswer, StoreFailed, FileTooLong, FaultyText, WantsMemory, Is, IsError}
+use Rattle.sym_shell.specs.Causes.{OfSearch, Searched, BoundRead, SaysEdit, SaysNumbers, NeedsModel, CauseOf, HasCauses}
 use Rattle.sym_shell.specs.declared.reading.Refusal.{Refusal}
 use Rattle.sym_shell.specs.declared.reading.Refusal.TheVariants as refusal
 use Rattle.sym_shell.proofs.KindLemmas.{one_kind}
@@ -128,7 +138,7 @@ module _ (old : ShellState) (words : List (List ℕ)) (reply : List ℕ) (new : 
   faulty_cause behind e S asked reads present (edit_fault.NoSuch name) bad told = record {
     kind = UnknownName;
     is = (codes "unknown " ++ name ++ codes "\n", told);
-    cause = (name, record { behind = behind; edit = e; search = S; asked = asked; reads = reads; present = present; is = (bad, told) });
+    cause = (name, inl (record { behind = behind; edit = e; search = S; asked = asked; reads = reads; present = present; is = (bad, told) }));
   }
   faulty_cause behind e S asked reads present (edit_fault.Duplicate name) bad told = record {
     kind = TakenName;
@@ -148,7 +158,7 @@ module _ (old : ShellState) (words : List (List ℕ)) (reply : List ℕ) (new : 
   faulty_cause behind e S asked reads present (edit_fault.Ranged name) bad told = record {
     kind = BadSides;
     is = (codes "sides " ++ name ++ codes "\n", told);
-    cause = (name, record { behind = behind; edit = e; search = S; asked = asked; reads = reads; present = present; is = (bad, told) });
+    cause = (name, inl (record { behind = behind; edit = e; search = S; asked = asked; reads = reads; present = present; is = (bad, told) }));
   }
   faulty_cause behind e S asked reads present edit_fault.Memory bad told = wants told
 
@@ -177,11 +187,72 @@ module _ (old : ShellState) (words : List (List ℕ)) (reply : List ℕ) (new : 
   words_cause : (behind : List (List ℕ)) → asks_of words ≡ Edit behind → (asks : EditAsks) → edit_asks behind ≡ asks → RepliesToWords asks old.env reply new.env → HasCause old words reply new
   words_cause behind asked (Edits e) reads h = edited_cause behind e asked reads h
   words_cause behind asked says.Misused reads h = elim h.answer [
-    | inl told ↦ record { kind = WrongArguments; is = (codes "arguments\n", told); cause = inr (record { behind = behind; asks = asked; reads = reads; told = told }) }
+    | inl told ↦ record { kind = WrongArguments; is = (codes "arguments\n", told); cause = inr (inl (record { behind = behind; asks = asked; reads = reads; told = told })) }
     | inr told ↦ wants told
   ]
   words_cause behind asked (says.NoNumber word) reads h = elim h.answer [
-    | inl told ↦ record { kind = WrongNumber; is = (codes "number " ++ word ++ codes "\n", told); cause = (word, inr (record { behind = behind; asks = asked; reads = reads; told = told })) }
+    | inl told ↦ record { kind = WrongNumber; is = (codes "number " ++ word ++ codes "\n", told); cause = (word, inr (inl (record { behind = behind; asks = asked; reads = reads; told = told }))) }
+    | inr told ↦ wants told
+  ]
+
+  -- ---- a bound
+
+  -- the reply begins as each of this kind does
+  lower_shown : (M : Program) (bound : LowerBound) → IsLowerTold M bound reply → Is BoundShown reply
+  lower_shown M (lower.Value v) told = (printed (in_least_form M.sense v) ++ codes "\n", told.told)
+  lower_shown M lower.NoValue told = (codes "none\n", told)
+  lower_shown M lower.Infeasible told = (codes "infeasible\n", told)
+  lower_shown M (lower.Wide leaf at_) told = (codes "wide " ++ decimal leaf ++ codes " " ++ step_text M at_ ++ codes "\n", told)
+
+  upper_shown : (M : Program) (bound : UpperBound) → IsUpperTold M bound reply → Is BoundShown reply
+  upper_shown M (upper.Value v) told = (printed (in_least_form M.sense v) ++ codes "\n", told.told)
+  upper_shown M upper.NoValue told = (codes "none\n", told)
+
+  bound_shown : (which : OptimumBound) (S : PlainSearch) (M : Program) → TellsBound which S M reply → Is BoundShown reply
+  bound_shown Lower S M tells = lower_shown S.model tells.bound tells.told
+  bound_shown Upper S M tells = upper_shown S.model tells.bound tells.told
+
+  numbers_cause : (which : OptimumBound) (numbers : NewNumbers) (behind : List (List ℕ)) (named : Named) → asks_of words ≡ Bound which numbers behind → pairs_asks behind ≡ AreRead named → RepliesToNumbers which numbers old.env.search named reply
+      → HasCause old words reply new
+  numbers_cause which numbers behind named asked reads h = by old.env.search refl h
+    where
+      needs : NeedsModel (asks_of words)
+      needs = subst NeedsModel (sym asked) (subst SaysNumbers (sym reads) tt)
+
+      shown : (S : PlainSearch) → old.env.search ≡ Some S → AnswersBound which numbers S named reply → HasCause old words reply new
+      shown S present (bounding.Unknown name first told) = record {
+        kind = UnknownName;
+        is = (codes "unknown " ++ name ++ codes "\n", told);
+        cause = (name, inr (record { which = which; numbers = numbers; behind = behind; named = named; search = S; asked = asked; reads = reads; present = present; is = (first, told) }));
+      }
+      shown S present (bounding.TwoSided name sides there first told) = record {
+        kind = BadSides;
+        is = (codes "sides " ++ name ++ codes "\n", told);
+        cause = (name, inr (record { which = which; numbers = numbers; behind = behind; named = named; search = S; asked = asked; reads = reads; present = present; is = (sides, there, first, told) }));
+      }
+      shown S present (bounding.Told there one tells exact) = record {
+        kind = BoundShown;
+        is = bound_shown which S (bounding.asked_model numbers S.model named) tells;
+        cause = record { which = which; numbers = numbers; behind = behind; named = named; search = S; asked = asked; reads = reads; present = present; is = (there, one, tells) };
+      }
+      shown S present (bounding.Wanting told) = wants told
+
+      by : (search : Option PlainSearch) → old.env.search ≡ search → RepliesToNumbers which numbers search named reply → HasCause old words reply new
+      by None none h = elim h [
+        | inl told ↦ record { kind = NoModel; is = (codes "no model\n", told); cause = (needs, told, none) }
+        | inr told ↦ wants told
+      ]
+      by (Some S) present h = shown S present h
+
+  pairs_cause : (which : OptimumBound) (numbers : NewNumbers) (behind : List (List ℕ)) → asks_of words ≡ Bound which numbers behind → (asks : EntriesAsk) → pairs_asks behind ≡ asks → RepliesToPairs which numbers asks old.env reply
+      → HasCause old words reply new
+  pairs_cause which numbers behind asked (AreRead named) reads h = numbers_cause which numbers behind named asked reads h
+  pairs_cause which numbers behind asked AreMisused reads h = elim h [
+    | inl told ↦ record { kind = WrongArguments; is = (codes "arguments\n", told); cause = inr (inr (record { which = which; numbers = numbers; behind = behind; asks = asked; reads = reads; told = told })) }
+    | inr told ↦ wants told
+  ]
+  pairs_cause which numbers behind asked (HasNoNumber word) reads h = elim h [
+    | inl told ↦ record { kind = WrongNumber; is = (codes "number " ++ word ++ codes "\n", told); cause = (word, inr (inr (record { which = which; numbers = numbers; behind = behind; asks = asked; reads = reads; told = told }))) }
     | inr told ↦ wants told
   ]
 
@@ -256,6 +327,7 @@ module _ (old : ShellState) (words : List (List ℕ)) (reply : List ℕ) (new : 
   asked_cause (Solve nodes pivots) asked h = solve_cause nodes pivots asked h
   asked_cause (Warm nodes pivots) asked h = warm_cause nodes pivots asked h
   asked_cause (Edit behind) asked h = words_cause behind asked (edit_asks behind) refl h.answer
+  asked_cause (Bound which numbers behind) asked h = pairs_cause which numbers behind asked (pairs_asks behind) refl h.answer
   asked_cause (Cert file) asked h = cert_cause file asked h
   asked_cause (Write file) asked h = write_cause file asked h
   asked_cause Quit asked h = record { kind = Done; is = ([], h.answer); cause = inr (inr (inr (inr (asked, h.unchanged)))) }
@@ -302,6 +374,24 @@ module _ (old : ShellState) (words : List (List ℕ)) (reply : List ℕ) (new : 
       let l : Limits = limits_of nodes pivots in
       finishes (WentOn S l) (WentOn S l Memory) (IsKeptEnough S l) (IsTooSmall S l) S.model l enough (warmed S nodes pivots h asked present).0
 
+  bound_step : (which : OptimumBound) (numbers : NewNumbers) (behind : List (List ℕ)) → AnswersTo (asks_of words) old reply new → asks_of words ≡ Bound which numbers behind → BoundStep old which numbers (pairs_asks behind) reply new
+  bound_step which numbers behind h asked = subst (λ a. AnswersTo a old reply new) asked h
+
+  at_optimum : (which : OptimumBound) (numbers : NewNumbers) (S : PlainSearch) (named : Named) (x : Point) → IsAtOptimum numbers S named x → AnswersBound which numbers S named reply → (reply ≡ bound_text (Some (value S.model 1 x))) ⊎ (reply ≡ memory_text)
+  at_optimum which numbers S named x stands (bounding.Unknown name first told) =
+      absurd (first.unknown (subst (Contains (names_for numbers S.model)) (sym first.is) (stands.there first.place name first.within)))
+  at_optimum which numbers S named x stands (bounding.TwoSided name sides there first told) =
+      let one : All (HasOneNumber S.model) (names_in named) = subst (λ n. HaveOneNumber n S.model named) sides stands.one in
+      absurd (first.differ (subst (HasOneNumber S.model) (sym first.is) (one first.place name first.within)))
+  at_optimum which numbers S named x stands (bounding.Told there one tells exact) = inl (exact stands.present stands.closed x stands.best)
+  at_optimum which numbers S named x stands (bounding.Wanting told) = inr told
+
+  exacts : AnswersTo (asks_of words) old reply new → (x : Point) (asked : BoundRead old words (λ which numbers S named. IsAtOptimum numbers S named x)) → (reply ≡ bound_text (Some (value asked.search.model 1 x))) ⊎ (reply ≡ memory_text)
+  exacts h x asked =
+      let step : BoundStep old asked.which asked.numbers (pairs_asks asked.behind) reply new = bound_step asked.which asked.numbers asked.behind h asked.asked in
+      let read : RepliesToNumbers asked.which asked.numbers old.env.search asked.named reply = subst (λ a. RepliesToPairs asked.which asked.numbers a old.env reply) asked.reads step.answer in
+      at_optimum asked.which asked.numbers asked.search asked.named x asked.is (subst (λ m. RepliesToNumbers asked.which asked.numbers m asked.named reply) asked.present read)
+
   -- ---- what stays
 
   told_model : (Found : Finding) (M : Program) → ((a : Answer) (T : PlainSearch) → Found a T → T.model ≡ M) → (answer : Answer) (held : Held) → TellsBy Found M answer held reply new.env → model_of new.env ≡ Some M
@@ -347,6 +437,7 @@ module _ (old : ShellState) (words : List (List ℕ)) (reply : List ℕ) (new : 
   keeps (Solve nodes pivots) h other = solve_keeps (limits_of nodes pivots) old.env.search refl h.answer
   keeps (Warm nodes pivots) h other = warm_keeps (limits_of nodes pivots) old.env.search refl h.answer
   keeps (Edit behind) h other = words_keep (edit_asks behind) h.answer (λ done. absurd (other done)) (λ same. ap model_of same)
+  keeps (Bound which numbers behind) h other = ap (λ (s : ShellState). model_of s.env) h.unchanged
   keeps (Cert file) h other = ap model_of h.env
   keeps (Write file) h other = ap model_of h.env
   keeps Quit h other = ap (λ (s : ShellState). model_of s.env) h.unchanged
@@ -375,6 +466,7 @@ module _ (old : ShellState) (words : List (List ℕ)) (reply : List ℕ) (new : 
   holds (Solve nodes pivots) h k error is = solve_holds (limits_of nodes pivots) k error is old.env.search h.answer
   holds (Warm nodes pivots) h k error is = warm_holds (limits_of nodes pivots) k error is old.env.search h.answer
   holds (Edit behind) h k error is = words_keep (edit_asks behind) h.answer (λ done. not_error k Done error is ([], done) (λ e. e)) (λ same. same)
+  holds (Bound which numbers behind) h k error is = ap (λ (s : ShellState). s.env) h.unchanged
   holds (Cert file) h k error is = h.env
   holds (Write file) h k error is = h.env
   holds Quit h k error is = ap (λ (s : ShellState). s.env) h.unchanged
@@ -390,6 +482,7 @@ module _ (old : ShellState) (words : List (List ℕ)) (reply : List ℕ) (new : 
   waits (Solve nodes pivots) h wanting other another = absurd (other nodes pivots refl)
   waits (Warm nodes pivots) h wanting other another = absurd (another nodes pivots refl)
   waits (Edit behind) h wanting other another = words_keep (edit_asks behind) h.answer (λ done. not_done wanting done) (λ same. same)
+  waits (Bound which numbers behind) h wanting other another = ap (λ (s : ShellState). s.env) h.unchanged
   waits (Cert file) h wanting other another = h.env
   waits (Write file) h wanting other another = h.env
   waits Quit h wanting other another = ap (λ (s : ShellState). s.env) h.unchanged
@@ -408,6 +501,8 @@ step-causes old words reply new h =
       complete = λ S nodes pivots asked present enough. completes old words reply new S nodes pivots h asked present enough;
       complete_warm = λ S nodes pivots asked present enough. completes_warm old words reply new S nodes pivots h asked present enough;
       again = λ S nodes pivots asked present. (warmed old words reply new S nodes pivots h asked present).1;
+      exact = λ x asked. exacts old words reply new h x asked;
+      bounds = λ which numbers behind asked. (bound_step old words reply new which numbers behind h asked).unchanged;
       kept = λ other. keeps old words reply new (asks_of words) h other;
       refused = λ k error is. holds old words reply new (asks_of words) h k error is;
       wanted = λ wanting other another. waits old words reply new (asks_of words) h wanting other another;

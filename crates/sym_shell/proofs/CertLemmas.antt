@@ -1,15 +1,10 @@
 -- The certificate of a model whose names are words of a line.
-use Rattle.std.proofs.Common.{◌≡◌, ℕ, ◌≤◌, true, false, List, [], ◌∷◌, ◌++◌, map, refl, subst, sym, ap, ◌∙◌, Option, Some, None, Ok, Err, Result}
+use Rattle.std.proofs.Common.{◌≡◌, ℕ, ◌≤◌, true, false, List, [], ◌++◌, refl, subst, sym, ap, ◌∙◌, Option, Some, None, Ok, Err, Result}
 use Rattle.std.specs.Prelude.{IfSome, OnOk, OnErr, Vec, is_ok, is_err, if◌then◌else◌}
 use Rattle.std.specs.declared.alloc.Global.{Global}
-use Rattle.std.specs.List.{All}
 use Rattle.std.specs.Option.{option_map}
-use Rattle.std.proofs.lemmas.List.Elements.{All-nil, All-cons, All-head, All-tail}
 use Rattle.lp_model.specs.Program.{Program, Point}
-use Rattle.lp_model.specs.declared.types.Col.{Col}
-use Rattle.lp_model.specs.declared.types.Row.{Row}
-use Rattle.text_lines.specs.Words.{IsWord}
-use Rattle.mps_model.specs.PlainNames.{HasPlainNames, HasPlainRows}
+use Rattle.word_names.specs.WordNames.{HasWordNames}
 use Rattle.tree_edit.specs.Sound.{PlainSearch}
 use Rattle.cert_check.specs.Laws.{AcceptedLaw, VerdictLaw, IsTrueClaim}
 use Rattle.cert_check.specs.Verdict.{IsVerdict}
@@ -18,7 +13,6 @@ use Rattle.cert_text.specs.declared.cert.Claim.{Claim}
 use Rattle.cert_text.specs.declared.cert.Cert.{Cert}
 use Rattle.cert_check.specs.declared.verdict.Verdict.{Verdict}
 use Rattle.cert_check.specs.declared.verdict.Verdict.TheVariants.{Accepted}
-use Rattle.tree_cert.specs.CertText.{HasWordNames}
 use Rattle.sym_io.specs.Faults.{Rose}
 use Rattle.sym_io.specs.Files.{Files, KeepsOthers, Sets, Puts}
 use Rattle.sym_io.specs.declared.traits.Failed.{Failed as SinkFault}
@@ -29,18 +23,6 @@ use Rattle.sym_env.specs.declared.held.Held.{Held}
 use Rattle.sym_env.specs.declared.held.Held.TheVariants.{Nothing, Finished, Unbounded}
 use Rattle.sym_shell.specs.State.{shell_state, HasWords}
 use Rattle.sym_shell.specs.Certify.{IsReadCertificate, IsReadUnbounded, IsHeldText, Writes, Written, TooLong, Failed, Wanting, Certifies, CertStep}
-
-column-words : (cs : List Col) → All (λ c. IsWord c.name) cs → All IsWord (map (λ (c : Col). c.name) cs)
-column-words [] h = All-nil IsWord
-column-words (c ∷ cs) h =
-    All-cons IsWord c.name (map (λ (c : Col). c.name) cs) (All-head (λ (c : Col). IsWord c.name) c cs h) (column-words cs (All-tail (λ (c : Col). IsWord c.name) c cs h))
-
-row-words : (rs : List Row) → All (λ r. IsWord r.name) rs → All IsWord (map (λ (r : Row). r.name) rs)
-row-words [] h = All-nil IsWord
-row-words (r ∷ rs) h = All-cons IsWord r.name (map (λ (r : Row). r.name) rs) (All-head (λ (r : Row). IsWord r.name) r rs h) (row-words rs (All-tail (λ (r : Row). IsWord r.name) r rs h))
-
-word-names : (M : Program) → HasPlainNames M → HasPlainRows M → HasWordNames M
-word-names M columns rows = record { columns = column-words M.cols columns; rows = row-words M.rows rows }
 
 -- an accepted claim is true
 pub true_claim : (M : Program) (cert : Cert) (verdict : Verdict) → VerdictLaw → AcceptedLaw → IsCertificate cert → IsVerdict M cert verdict → (claim : Claim) → verdict ≡ Accepted claim → IsTrueClaim M claim
@@ -70,11 +52,11 @@ writes-as P Q name files faults reply files' faults' f (TooLong text is long kep
 writes-as P Q name files faults reply files' faults' f (Failed text is short rose kept told) = Failed text (f text is) short rose kept told
 writes-as P Q name files faults reply files' faults' f (Wanting kept told) = Wanting kept told
 
-read-certificate : (S : PlainSearch) (text : List ℕ) → HasPlainNames S.model → HasPlainRows S.model → IsCertificateText S text → IsReadCertificate S text
-read-certificate S text plain rows is = record { is = is; stated = is.stated (word-names S.model plain rows) }
+read-certificate : (S : PlainSearch) (text : List ℕ) → HasWordNames S.model → IsCertificateText S text → IsReadCertificate S text
+read-certificate S text names is = record { is = is; stated = is.stated names }
 
-read-unbounded : (S : PlainSearch) (ray : Point) (text : List ℕ) → HasPlainNames S.model → HasPlainRows S.model → IsUnboundedText S ray text → IsReadUnbounded S ray text
-read-unbounded S ray text plain rows is = record { is = is; stated = is.text_is.stated (word-names S.model plain rows) }
+read-unbounded : (S : PlainSearch) (ray : Point) (text : List ℕ) → HasWordNames S.model → IsUnboundedText S ray text → IsReadUnbounded S ray text
+read-unbounded S ray text names is = record { is = is; stated = is.text_is.stated names }
 
 -- ---- the answer that is held
 
@@ -90,8 +72,8 @@ module _ (env : PlainEnv) (words : HasWords env) (files files' : Option Files) (
       → Writes (λ written. written ≡ bytes) name files faults reply files' faults' → CertStep (shell_state env files faults) name reply (shell_state env files' faults')
   cert-written r text bytes is answer same later writes = step later (by env.search env.held words (subst (IsCertAnswer env.search env.held) is answer))
     where
-      by : (search : Option PlainSearch) (held : Held) → IfSome (option_map (λ (S : PlainSearch). S.model) search) (λ M. HasPlainNames M × HasPlainRows M) → IsCertAnswer search held (Ok text) → Told search held
+      by : (search : Option PlainSearch) (held : Held) → IfSome (option_map (λ (S : PlainSearch). S.model) search) HasWordNames → IsCertAnswer search held (Ok text) → Told search held
       by None held w h = absurd (cc)
       by (Some S) Nothing w h = absurd (cc)
-      by (Some S) Finished w h = writes-as (λ written. written ≡ bytes) (IsHeldText S Finished) name files faults reply files' faults' (λ t e. subst (IsReadCertificate S) (sym (e ∙ same)) (read-certificate S text.items w.0 w.1 h)) writes
-      by (Some S) (Unbounded ray) w h = writes-as (λ written. written ≡ bytes) (IsHeldText S (Unbounded ray)) name files faults reply files' faults' (λ t e. subst (IsReadUnbounded S ray) (sym (e ∙ same)) (read-unbounded S ray text.items w.0 w.1 h)) writes
+      by (Some S) Finished w h = writes-as (λ written. written ≡ bytes) (IsHeldText S Finished) name files faults reply files' faults' (λ t e. subst (IsReadCertificate S) (sym (e ∙ same)) (read-certificate S text.items w h)) writes
+      by (Some S) (Unbounded ray) w h = writes-as (λ written. written ≡ bytes) (IsHeldText S (Unbounded ray)) name files faults reply files' faults' (λ t e. subst (IsReadUnbounded S ray) (sym (e ∙ same)) (read-unbounded S ray text.items w h)) writes

@@ -15,7 +15,7 @@ use Rattle.lp_model.specs.declared.types.Row.{Row}
 use Rattle.lp_model.specs.declared.types.Edit.{Edit}
 use Rattle.lp_model.specs.declared.types.Edit.TheVariants.{SetCost, SetCost2, SetRow, SetColBounds, SetKind, AddCol, DelCol, AddRow, DelRow, ReplaceRow}
 use Rattle.lp_model.proofs.ChangedLaws.{All-without_at}
-use Rattle.mps_model.specs.PlainNames.{HasPlainNames, HasPlainRows}
+use Rattle.word_names.specs.WordNames.{HasWordNames}
 use Rattle.model_edits.specs.Faults.{IsEditFault}
 use Rattle.model_edits.specs.declared.faults.EditFault.{EditFault}
 use Rattle.tree_edit.specs.Sound.{PlainSearch}
@@ -73,7 +73,7 @@ kept-at name f same (a ∷ as_) zero all =
 kept-at name f same (a ∷ as_) (suc k) all =
     All-cons (λ a. IsWord (name a)) a (changed_at f as_ k) (All-head (λ a. IsWord (name a)) a as_ all) (kept-at name f same as_ k (All-tail (λ a. IsWord (name a)) a as_ all))
 
-named-columns : (M : Program) (e : Edit) → HasPlainNames M → BringsName IsNewName e → HasPlainNames (edited M e)
+named-columns : (M : Program) (e : Edit) → All (λ c. IsWord c.name) M.cols → BringsName IsNewName e → All (λ c. IsWord c.name) (edited M e).cols
 named-columns M (SetCost col v) all new = kept-at (λ (c : Col). c.name) (λ (c : Col). record c { cost = v }) (λ c. refl) M.cols (col_place M col) all
 named-columns M (SetCost2 col v) all new = kept-at (λ (c : Col). c.name) (λ (c : Col). record c { cost2 = v }) (λ c. refl) M.cols (col_place M col) all
 named-columns M (SetRow row lo hi) all new = all
@@ -86,7 +86,7 @@ named-columns M (AddRow name lo hi named) all new = All-map (λ (c : Col). IsWor
 named-columns M (DelRow row) all new = All-map (λ (c : Col). IsWord c.name) (λ (c : Col). without_entry (row_place M row) c) M.cols all
 named-columns M (ReplaceRow row lo hi named) all new = All-map (λ (c : Col). IsWord c.name) (λ (c : Col). replaced_entry (row_place M row) (number_beside c.name named) c) M.cols all
 
-named-rows : (M : Program) (e : Edit) → HasPlainRows M → BringsName IsNewName e → HasPlainRows (edited M e)
+named-rows : (M : Program) (e : Edit) → All (λ r. IsWord r.name) M.rows → BringsName IsNewName e → All (λ r. IsWord r.name) (edited M e).rows
 named-rows M (SetCost col v) all new = all
 named-rows M (SetCost2 col v) all new = all
 named-rows M (SetRow row lo hi) all new = kept-at (λ (r : Row). r.name) (with_sides lo hi) (λ r. refl) M.rows (row_place M row) all
@@ -107,9 +107,9 @@ module _ (old new : PlainEnv) (e : Edit) (r : Result (Unit {0}) EnvFault) (edits
       by : (search : Option PlainSearch) → old.search ≡ search → (r : Result (Unit {0}) EnvFault) → EditsEnv search e old r new → HasWords new
       by None none r h = subst HasWords (sym h.1) words
       by (Some S) some (Ok done) h =
-          let names = subst (λ (m : Option Program). IfSome m (λ N. HasPlainNames N × HasPlainRows N)) (ap (option_map (λ (S : PlainSearch). S.model)) some) words in
+          let names = subst (λ (m : Option Program). IfSome m HasWordNames) (ap (option_map (λ (S : PlainSearch). S.model)) some) words in
           let model : model_of new ≡ Some (edited S.model e) = ap model_of h.env_is ∙ ap Some h.follows.model in
-          subst (λ (m : Option Program). IfSome m (λ N. HasPlainNames N × HasPlainRows N)) (sym model) (named-columns S.model e names.0 brings, named-rows S.model e names.1 brings)
+          subst (λ (m : Option Program). IfSome m HasWordNames) (sym model) (record { columns = named-columns S.model e names.columns brings; rows = named-rows S.model e names.rows brings })
       by (Some S) some (Err f) h = subst HasWords (sym h.kept) words
 
   -- an edit that was made

@@ -1,7 +1,7 @@
 -- A reply is of one kind: its first bytes tell which.
 use Rattle.std.proofs.Common.{◌≡◌, ℕ, ◌+◌, ◌*◌, List, ◌++◌, get_or, refl, sym, ap, ◌∙◌, if◌then◌else◌}
 use Rattle.std.specs.Prelude.{nat_eq}
-use Rattle.sym_shell.specs.Kinds.{Kind, Optimal, Infeasible, Unbounded, StoppedNodes, StoppedTree, StoppedPivots, StoppedWide, Done, UnknownCommand, WrongArguments, NoModel, UnknownName, TakenName, WrongNumber, OverLimit, NoBounds, BadSides, NoAnswer, StoreFailed, FileTooLong, FaultyText, WantsMemory, front_of, Is}
+use Rattle.sym_shell.specs.Kinds.{Kind, Optimal, Infeasible, Unbounded, StoppedNodes, StoppedTree, StoppedPivots, StoppedWide, BoundShown, Done, UnknownCommand, WrongArguments, NoModel, UnknownName, TakenName, WrongNumber, OverLimit, NoBounds, BadSides, NoAnswer, StoreFailed, FileTooLong, FaultyText, WantsMemory, front_of, Is}
 
 -- by the two digits of an error
 error_kind : ℕ → Kind
@@ -31,6 +31,7 @@ kind_by first second digits ninth =
     else if nat_eq first 105 then Infeasible
     else if nat_eq first 117 then Unbounded
     else if nat_eq first 115 then stop_kind ninth
+    else if nat_eq first 98 then BoundShown
     else error_kind digits
 
 kind_of : List ℕ → Kind
@@ -45,6 +46,7 @@ kind_of-front StoppedNodes rest = refl
 kind_of-front StoppedTree rest = refl
 kind_of-front StoppedPivots rest = refl
 kind_of-front StoppedWide rest = refl
+kind_of-front BoundShown rest = refl
 kind_of-front Done rest = refl
 kind_of-front UnknownCommand rest = refl
 kind_of-front WrongArguments rest = refl

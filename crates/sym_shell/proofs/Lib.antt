@@ -5,6 +5,8 @@ pub mod KindLemmas
 pub mod CauseLemmas
 pub mod CertLemmas
 pub mod WriteLemmas
+pub mod PlacingLemmas
+pub mod BoundLemmas
 pub mod CheckLemmas
 pub mod RunLemmas
 pub mod ShownWords

@@ -9,13 +9,13 @@ use Rattle.lp_model.specs.Rays.{IsUnbounded}
 use Rattle.lp_model.specs.declared.answers.StopWhy.TheVariants.{Nodes, Tree, Pivots, Wide}
 use Rattle.lp_model.specs.declared.answers.Answer.{Answer}
 use Rattle.lp_model.specs.declared.answers.Answer.TheVariants.{Optimal, Infeasible, Unbounded, Stopped, Memory}
-use Rattle.mps_model.specs.PlainNames.{HasPlainNames, HasPlainRows}
+use Rattle.word_names.specs.WordNames.{HasWordNames}
 use Rattle.search_counting.specs.Work.{cap_of}
 use Rattle.tree_edit.specs.Points.{IsIncumbent}
 use Rattle.tree_edit.specs.Sound.{PlainSearch}
 use Rattle.sym_env.specs.Enough.{IsEnough, IsKeptEnough}
 use Rattle.sym_env.specs.Env.{PlainEnv, model_of}
-use Rattle.sym_env.specs.Solves.{Solved, SolvesModel, WantsRoot, HasRayFor, held_by, IsOldest, SolvesIn}
+use Rattle.sym_env.specs.Solves.{Solved, SolvesModel, HasRayFor, held_by, IsOldest, SolvesIn}
 use Rattle.sym_env.specs.Solves as solving
 use Rattle.sym_env.specs.Truth.{IsCount, IsTrueBy, IsTrueAnswer, IsTrueOfKept, HasEnded}
 use Rattle.sym_env.specs.Warm.{WarmsIn, WarmsEnv}
@@ -59,7 +59,7 @@ no-end Found M l n new T (Some d) unbounded count solved has is = record {
   count = count;
 }
 
-module _ (Found : Finding) (Left : PlainSearch → Type 0) (Enough Small : Type 0) (M : Program) (l : Limits) (lawful : IsLawful M) (plain : HasPlainNames M) where
+module _ (Found : Finding) (Left : PlainSearch → Type 0) (Enough Small : Type 0) (M : Program) (l : Limits) (lawful : IsLawful M) (plain : HasWordNames M) where
   answers : (answer : Answer) (new : PlainEnv) → AnswerHasRoom answer → IsTrueBy Small M l answer → (Enough → HasEnded answer) → Has Found Left M l answer new → AnswersBy Found Left Enough Small M l (answer_text M answer) new
   answers (Optimal v x n) new room is complete s =
       let text : List ℕ = optimal_text M x n in
@@ -206,10 +206,10 @@ has-model : (Found : Finding) (Left : PlainSearch → Type 0) (M : Program) (l :
 has-model Found Left M l answer new s = ap model_of s.env_is ∙ ap Some s.model
 
 model-words : (old new : PlainEnv) (S : PlainSearch) → old.search ≡ Some S → model_of new ≡ Some S.model → HasWords old → HasWords new
-model-words old new S some same words = subst (λ (m : Option Program). IfSome m (λ N. HasPlainNames N × HasPlainRows N)) (ap (option_map (λ (S : PlainSearch). S.model)) some ∙ sym same) words
+model-words old new S some same words = subst (λ (m : Option Program). IfSome m HasWordNames) (ap (option_map (λ (S : PlainSearch). S.model)) some ∙ sym same) words
 
-plain-names : (new : PlainEnv) (M : Program) → model_of new ≡ Some M → HasWords new → HasPlainNames M
-plain-names new M is words = (subst (λ (m : Option Program). IfSome m (λ N. HasPlainNames N × HasPlainRows N)) is words).0
+plain-names : (new : PlainEnv) (M : Program) → model_of new ≡ Some M → HasWords new → HasWordNames M
+plain-names new M is words = subst (λ (m : Option Program). IfSome m HasWordNames) is words
 
 -- ---- with what the environment's call says
 
@@ -235,7 +235,7 @@ module _ (nodes pivots : ℕ) (l : Limits) (is : l ≡ limits_of nodes pivots) (
           let has = solves-has l S answer new h in
           let stays : model_of new ≡ Some S.model = has-model (Solved S.model l) (SolvesModel S.model l S Memory) S.model l answer new has in
           let same : S.model ≡ M = cc in
-          let plain : HasPlainNames S.model = plain-names new S.model stays (model-words old new S some stays words) in
+          let plain : HasWordNames S.model = plain-names new S.model stays (model-words old new S some stays words) in
           subst (λ N. AnswersSolve S l (answer_text N answer) new) same
           (answers (Solved S.model l) (SolvesModel S.model l S Memory) (IsEnough S.model l) (HasFewNodes S.model l) S.model l (subst IsLawful (sym same) lawful) plain answer new room (true-small S.model l (few-nodes nodes pivots l is) answer t) e has)
 
@@ -266,7 +266,7 @@ module _ (nodes pivots : ℕ) (l : Limits) (is : l ≡ limits_of nodes pivots) (
           let has = warms-has l S answer new h in
           let stays : model_of new ≡ Some S.model = has-model (WentOn S l) (WentOn S l Memory) S.model l answer new has in
           let same : S.model ≡ M = cc in
-          let plain : HasPlainNames S.model = plain-names new S.model stays (model-words old new S some stays words) in
+          let plain : HasWordNames S.model = plain-names new S.model stays (model-words old new S some stays words) in
           let again : TellsAgain S (answer_text S.model answer) = λ none. (answer, ((h.again none).0, refl)) in
           subst (λ N. AnswersWarm S l (answer_text N answer) new × TellsAgain S (answer_text N answer)) same
           (answers (WentOn S l) (WentOn S l Memory) (IsKeptEnough S l) (IsTooSmall S l) S.model l (subst IsLawful (sym same) lawful) plain answer new room t e has, again)

@@ -15,7 +15,7 @@ use Rattle.frac_text.proofs.PrintedReads.{reading_of-printed}
 use Rattle.lp_model.specs.Program.{Program, Point, value}
 use Rattle.lp_model.specs.Lawful.{column_names}
 use Rattle.lp_model.specs.declared.types.Col.{Col}
-use Rattle.mps_model.specs.PlainNames.{HasPlainNames}
+use Rattle.word_names.specs.WordNames.{HasWordNames}
 use Rattle.script_session.specs.Request.{Command}
 use Rattle.text_lines.specs.Words.{words_of, IsWord}
 use Rattle.reply_texts.specs.Texts.{column_line, column_lines, value_line, optimal_text}
@@ -99,13 +99,13 @@ end_shown : lines_shown (codes "end\n") ≡ last_lines
 unfolding lines_shown words_of last_lines
 end_shown = refl
 
-optimum_shown : (M : Program) (x : Point) (n : ℕ) → n < 2 ^ 64 → HasPlainNames M → All Fits x → Fits (value M 1 x)
+optimum_shown : (M : Program) (x : Point) (n : ℕ) → n < 2 ^ 64 → HasWordNames M → All Fits x → Fits (value M 1 x)
     → lines_shown (optimal_text M x n) ≡ first_words (value M 1 x) n ∷ told M.cols x ++ last_lines
 optimum_shown M x n small p f g =
     let front = value_line (value M 1 x) n in
     ap lines_shown (append_assoc front (column_lines M.cols x) (codes "end\n"))
     ∙ written_first (printed (value M 1 x)) (decimal n) (column_lines M.cols x ++ codes "end\n") (printed-plain (value M 1 x) g) (decimal-plain n small)
-    ∙ ap (λ lines. first_words (value M 1 x) n ∷ lines) (columns_shown M.cols x (codes "end\n") p f ∙ ap (λ lines. told M.cols x ++ lines) end_shown)
+    ∙ ap (λ lines. first_words (value M 1 x) n ∷ lines) (columns_shown M.cols x (codes "end\n") p.columns f ∙ ap (λ lines. told M.cols x ++ lines) end_shown)
 
 -- ---- the number of a name among lines
 
@@ -182,14 +182,14 @@ no_number name = refl
 
 -- ---- the point and the value
 
-pub point-shown : (M : Program) (x : Point) (n : ℕ) → n < 2 ^ 64 → length x ≡ length M.cols → HasPlainNames M → AllPairs (λ a b. a ≢ b) (column_names M) → All Fits x → Fits (value M 1 x)
+pub point-shown : (M : Program) (x : Point) (n : ℕ) → n < 2 ^ 64 → length x ≡ length M.cols → HasWordNames M → AllPairs (λ a b. a ≢ b) (column_names M) → All Fits x → Fits (value M 1 x)
     → point_shown M (optimal_text M x n) ≡ x
 unfolding point_shown
 point-shown M x n small shape p distinct f g =
     ap (λ (lines : List Command). map (λ c. number_among c.name lines) M.cols) (optimum_shown M x n small p f g)
     ∙ numbers_back M.cols x last_lines shape distinct f no_number
 
-pub value-shown : (M : Program) (x : Point) (n : ℕ) → n < 2 ^ 64 → length x ≡ length M.cols → HasPlainNames M → AllPairs (λ a b. a ≢ b) (column_names M) → All Fits x → Fits (value M 1 x)
+pub value-shown : (M : Program) (x : Point) (n : ℕ) → n < 2 ^ 64 → length x ≡ length M.cols → HasWordNames M → AllPairs (λ a b. a ≢ b) (column_names M) → All Fits x → Fits (value M 1 x)
     → value_shown (optimal_text M x n) ≡ Some (value M 1 x)
 unfolding value_shown
 value-shown M x n small shape p distinct f g = ap (number_in_word 1) (optimum_shown M x n small p f g) ∙ ap number_in (reading_of-printed (value M 1 x) g)

@@ -7,7 +7,7 @@ use Rattle.edit_words.specs.EditWords.{EditAsks}
 use Rattle.sym_io.specs.Files.{Files}
 use Rattle.lp_model.specs.Program.{Program}
 use Rattle.mps_model.specs.Faults.{MeantModel}
-use Rattle.mps_model.specs.PlainNames.{HasPlainNames, HasPlainRows}
+use Rattle.word_names.specs.WordNames.{HasWordNames}
 use Rattle.tree_edit.specs.Sound.{PlainSearch}
 use Rattle.sym_env.specs.Env.{PlainEnv, Holds}
 use Rattle.sym_env.specs.declared.limits.Limits.{Limits}
@@ -87,9 +87,9 @@ pub wants-step : (old new : PlainEnv) (files files' : Option Files) (faults faul
     → LoadStep (shell_state old files faults) name intupper memory_text (shell_state new files' faults')
 wants-step old new files files' faults faults' name intupper kept later same = record { files = kept; later = later; answer = inr (record { refusal = refusal.Memory; told = refl; cause = tt; kept = same }) }
 
-pub holds-words : (M : Program) (env : PlainEnv) → HasPlainNames M → HasPlainRows M → Holds M env → HasWords env
-holds-words M env plain rows h = subst (λ (m : Option Program). IfSome m (λ N. HasPlainNames N × HasPlainRows N)) (sym (ap (option_map (λ (S : PlainSearch). S.model)) h.search_is ∙ ap Some h.fresh.model)) (plain, rows)
+pub holds-words : (M : Program) (env : PlainEnv) → HasWordNames M → Holds M env → HasWords env
+holds-words M env names h = subst (λ (m : Option Program). IfSome m HasWordNames) (sym (ap (option_map (λ (S : PlainSearch). S.model)) h.search_is ∙ ap Some h.fresh.model)) names
 
-pub load-words : (old new : PlainEnv) (M : Program) (reply : List ℕ) → HasPlainNames M → HasPlainRows M → HasWords old → ((reply ≡ ok_text) × Holds M new) ⊎ ((reply ≡ memory_text) × (new ≡ old)) → HasWords new
-load-words old new M reply plain rows words (inl h) = holds-words M new plain rows h.1
-load-words old new M reply plain rows words (inr h) = subst HasWords (sym h.1) words
+pub load-words : (old new : PlainEnv) (M : Program) (reply : List ℕ) → HasWordNames M → HasWords old → ((reply ≡ ok_text) × Holds M new) ⊎ ((reply ≡ memory_text) × (new ≡ old)) → HasWords new
+load-words old new M reply names words (inl h) = holds-words M new names h.1
+load-words old new M reply names words (inr h) = subst HasWords (sym h.1) words

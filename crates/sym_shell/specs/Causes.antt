@@ -4,9 +4,10 @@ use Rattle.std.specs.Prelude.{◌≡◌, ◌≢◌, ◌⊎◌, ℕ, ◌<◌, ◌
 use Rattle.sym_io.specs.Faults.{Rose}
 use Rattle.sym_io.specs.Files.{Sets}
 use Rattle.sym_io.specs.declared.traits.TheConstants.{MAX_FILE_LENGTH}
-use Rattle.lp_model.specs.Program.{Program}
+use Rattle.lp_model.specs.Edits.{Named}
+use Rattle.lp_model.specs.Program.{Program, Point, value}
 use Rattle.lp_model.specs.declared.types.Edit.{Edit as ModelEdit}
-use Rattle.model_edits.specs.Faults.{EditBad}
+use Rattle.model_edits.specs.Faults.{EditBad, IsFirstUnknown}
 use Rattle.model_edits.specs.declared.faults.EditFault.{EditFault}
 use Rattle.model_edits.specs.declared.faults.EditFault.TheVariants.{NoSuch, Duplicate, Limit, IntegerUnbounded, Ranged}
 use Rattle.tree_edit.specs.Sound.{PlainSearch}
@@ -16,20 +17,24 @@ use Rattle.sym_env.specs.Env.{model_of}
 use Rattle.sym_env.specs.Solves.{Solved}
 use Rattle.sym_env.specs.declared.held.Held.TheVariants.{Nothing}
 use Rattle.sym_env.specs.declared.limits.Limits.{Limits}
-use Rattle.command_words.specs.Asks.{Asks, Load, Solve, Warm, Edit, Cert, Write, Quit, Unknown, Misused, NoNumber, asks_of}
-use Rattle.edit_words.specs.EditWords.{EditAsks, Edits, edit_asks}
+use Rattle.command_words.specs.Asks.{Asks, Load, Solve, Warm, Edit, Bound, Cert, Write, Quit, Unknown, Misused, NoNumber, asks_of}
+use Rattle.command_words.specs.declared.words.OptimumBound.{OptimumBound}
+use Rattle.command_words.specs.declared.words.NewNumbers.{NewNumbers}
+use Rattle.command_words.specs.declared.words.NewNumbers.TheVariants.{Sides}
+use Rattle.edit_words.specs.EditWords.{EditAsks, Edits, edit_asks, EntriesAsk, AreRead, AreMisused, HasNoNumber, names_in, pairs_asks}
 use Rattle.edit_words.specs.EditWords as says
-use Rattle.reply_texts.specs.Texts.{ok_text, unknown_text, arguments_text, no_model_text, no_answer_text, number_text, store_text, file_too_long_text, mps_text, memory_text}
+use Rattle.reply_texts.specs.Texts.{ok_text, unknown_text, arguments_text, no_model_text, no_answer_text, number_text, unknown_name_text, sides_text, store_text, file_too_long_text, mps_text, bound_text, memory_text}
 use Rattle.sym_shell.specs.State.{ShellState}
 use Rattle.sym_shell.specs.Load.{HasText, IsMissing, IsTooLong, IsFaulty, Loads}
 use Rattle.sym_shell.specs.Showing.{Finding, ShowsOptimumBy, ShowsEmptinessBy, ShowsNoEndBy, ShowsNodeStopBy, ShowsTreeStopBy, ShowsPivotStopBy, ShowsWideStopBy, EndsBy}
 use Rattle.sym_shell.specs.Solve.{limits_of, HasFewNodes}
 use Rattle.sym_shell.specs.Warming.{WentOn, IsTooSmall, TellsAgain}
 use Rattle.sym_shell.specs.Editing.{edit_fault_text}
+use Rattle.sym_shell.specs.Bounding.{names_for, AreThere, IsFirstTwoSided, HaveOneNumber, asked_model, TellsBound, IsAtOptimum}
 use Rattle.sym_shell.specs.Certify.{IsHeldText}
 use Rattle.sym_shell.specs.Writing.{IsWrittenModel}
 use Rattle.sym_shell.specs.Step.{Step}
-use Rattle.sym_shell.specs.Kinds.{Kind, Optimal, Infeasible, Unbounded, StoppedNodes, StoppedTree, StoppedPivots, StoppedWide, Done, UnknownCommand, WrongArguments, NoModel, UnknownName, TakenName, WrongNumber, OverLimit, NoBounds, BadSides, NoAnswer, StoreFailed, FileTooLong, FaultyText, WantsMemory, Is, IsError}
+use Rattle.sym_shell.specs.Kinds.{Kind, Optimal, Infeasible, Unbounded, StoppedNodes, StoppedTree, StoppedPivots, StoppedWide, BoundShown, Done, UnknownCommand, WrongArguments, NoModel, UnknownName, TakenName, WrongNumber, OverLimit, NoBounds, BadSides, NoAnswer, StoreFailed, FileTooLong, FaultyText, WantsMemory, Is, IsError}
 
 -- a search that is asked for so, may go so far and finds the search that the environment has, and P of both
 pub record SearchAsked (asks : ℕ → ℕ → Asks) (old : ShellState) (words : List (List ℕ)) (P : PlainSearch → Limits → Type 0) : Type 0 where
@@ -97,11 +102,39 @@ pub record EditMisread (words : List (List ℕ)) (reply : List ℕ) (asked : Edi
   pub reads : edit_asks behind ≡ asked
   pub told : reply ≡ text
 
+-- a bound with numbers that its words say, where there is a model, and P of which bound, of which numbers become others, of the search that the
+-- environment has and of the names with their numbers
+pub record BoundRead (old : ShellState) (words : List (List ℕ)) (P : OptimumBound → NewNumbers → PlainSearch → Named → Type 0) : Type 0 where
+  pub which : OptimumBound
+  pub numbers : NewNumbers
+  pub behind : List (List ℕ)
+  pub named : Named
+  pub search : PlainSearch
+  pub asked : asks_of words ≡ Bound which numbers behind
+  pub reads : pairs_asks behind ≡ AreRead named
+  pub present : old.env.search ≡ Some search
+  pub is : P which numbers search named
+
+-- the words behind a command of bounds ask for this, and the reply is this line
+pub record BoundMisread (words : List (List ℕ)) (reply : List ℕ) (asked : EntriesAsk) (text : List ℕ) : Type 0 where
+  pub which : OptimumBound
+  pub numbers : NewNumbers
+  pub behind : List (List ℕ)
+  pub asks : asks_of words ≡ Bound which numbers behind
+  pub reads : pairs_asks behind ≡ asked
+  pub told : reply ≡ text
+
 -- words behind `edit` that say an edit
 abbrev pub SaysEdit : EditAsks → Type 0
 SaysEdit (Edits e) = Unit {0}
 SaysEdit says.Misused = ⊥
 SaysEdit (says.NoNumber word) = ⊥
+
+-- words behind a command of bounds that are names with numbers
+abbrev pub SaysNumbers : EntriesAsk → Type 0
+SaysNumbers (AreRead named) = Unit {0}
+SaysNumbers AreMisused = ⊥
+SaysNumbers (HasNoNumber word) = ⊥
 
 -- a command that needs a model
 abbrev pub NeedsModel : Asks → Type 0
@@ -109,6 +142,7 @@ NeedsModel (Load file intupper) = ⊥
 NeedsModel (Solve nodes pivots) = Unit {0}
 NeedsModel (Warm nodes pivots) = Unit {0}
 NeedsModel (Edit behind) = SaysEdit (edit_asks behind)
+NeedsModel (Bound which numbers behind) = SaysNumbers (pairs_asks behind)
 NeedsModel (Cert file) = Unit {0}
 NeedsModel (Write file) = Unit {0}
 NeedsModel Quit = ⊥
@@ -133,6 +167,10 @@ CauseOf StoppedNodes old words reply new = Searched old words (λ Found Enough S
 CauseOf StoppedTree old words reply new = Searched old words (λ Found Enough Small M l. ShowsTreeStopBy Found Enough Small M l reply new.env)
 CauseOf StoppedPivots old words reply new = Searched old words (λ Found Enough Small M l. ShowsPivotStopBy Found Enough M l reply new.env)
 CauseOf StoppedWide old words reply new = Searched old words (λ Found Enough Small M l. ShowsWideStopBy Found Enough M l reply new.env)
+-- the bound that the kept tree, or the kept points, give of the model with the numbers that the line names: no feasible point of it is better
+-- than a lower one, and some feasible point has an upper one
+CauseOf BoundShown old words reply new = BoundRead old words (λ which numbers S named.
+    AreThere numbers S.model named × HaveOneNumber numbers S.model named × TellsBound which S (asked_model numbers S.model named) reply)
 -- The model that the file's text means is present from now on; or the file has a text that states a certificate which is
 -- accepted for the model that is present, or the canonical text of that model; or the model that was present is edited, the search
 -- follows, and no answer is held; or the script ends.
@@ -143,15 +181,20 @@ CauseOf Done old words reply new =
     ⊎ EditRead old words (λ S e. EditsTo S e new.env)
     ⊎ ((asks_of words ≡ Quit) × (new ≡ old))
 CauseOf UnknownCommand old words reply new = (word : List ℕ) × Refused words reply (Unknown word) (unknown_text word)
-CauseOf WrongArguments old words reply new = Refused words reply Misused arguments_text ⊎ EditMisread words reply says.Misused arguments_text
-CauseOf WrongNumber old words reply new = (word : List ℕ) × (Refused words reply (NoNumber word) (number_text word) ⊎ EditMisread words reply (says.NoNumber word) (number_text word))
+CauseOf WrongArguments old words reply new = Refused words reply Misused arguments_text ⊎ EditMisread words reply says.Misused arguments_text ⊎ BoundMisread words reply AreMisused arguments_text
+CauseOf WrongNumber old words reply new =
+    (word : List ℕ) × (Refused words reply (NoNumber word) (number_text word) ⊎ EditMisread words reply (says.NoNumber word) (number_text word) ⊎ BoundMisread words reply (HasNoNumber word) (number_text word))
 CauseOf NoModel old words reply new = NeedsModel (asks_of words) × (reply ≡ no_model_text) × (old.env.search ≡ None)
--- the first fault of an edit
-CauseOf UnknownName old words reply new = (name : List ℕ) × EditFaulty old words reply (NoSuch name)
+-- the first fault of an edit, or of a line that asks for a bound
+CauseOf UnknownName old words reply new =
+    (name : List ℕ) × (EditFaulty old words reply (NoSuch name)
+    ⊎ BoundRead old words (λ which numbers S named. IsFirstUnknown (names_for numbers S.model) (names_in named) name × (reply ≡ unknown_name_text name)))
 CauseOf TakenName old words reply new = (name : List ℕ) × EditFaulty old words reply (Duplicate name)
 CauseOf OverLimit old words reply new = (n : ℕ) × EditFaulty old words reply (Limit n)
 CauseOf NoBounds old words reply new = (name : List ℕ) × EditFaulty old words reply (IntegerUnbounded name)
-CauseOf BadSides old words reply new = (name : List ℕ) × EditFaulty old words reply (Ranged name)
+CauseOf BadSides old words reply new =
+    (name : List ℕ) × (EditFaulty old words reply (Ranged name)
+    ⊎ BoundRead old words (λ which numbers S named. (numbers ≡ Sides) × AreThere numbers S.model named × IsFirstTwoSided S.model (names_in named) name × (reply ≡ sides_text name)))
 CauseOf NoAnswer old words reply new = (file : List ℕ) × (Refused words reply (Cert file) no_answer_text × (IsSome old.env.search × (old.env.held ≡ Nothing)))
 CauseOf StoreFailed old words reply new =
     Loaded words (λ file intupper. (reply ≡ store_text) × (Rose old.faults new.faults ⊎ IsMissing old.files file))
@@ -178,6 +221,10 @@ pub record HasCauses (old : ShellState) (words : List (List ℕ)) (reply : List 
       → EndsBy (WentOn S (limits_of nodes pivots)) S.model (limits_of nodes pivots) reply new.env
   -- `warm` after a search that closed every leaf places no result
   pub again : (S : PlainSearch) (nodes pivots : ℕ) → asks_of words ≡ Warm nodes pivots → old.env.search ≡ Some S → TellsAgain S reply
+  -- a bound at the sides, or at the costs, that stand is the best value, right after a search has found it and closed every leaf
+  pub exact : (x : Point) (asked : BoundRead old words (λ which numbers S named. IsAtOptimum numbers S named x)) → (reply ≡ bound_text (Some (value asked.search.model 1 x))) ⊎ (reply ≡ memory_text)
+  -- a command of bounds changes nothing
+  pub bounds : (which : OptimumBound) (numbers : NewNumbers) (behind : List (List ℕ)) → asks_of words ≡ Bound which numbers behind → new ≡ old
   -- every reply but `ok` leaves the model
   pub kept : reply ≢ ok_text → model_of new.env ≡ model_of old.env
   -- an error, but for want of memory, leaves the environment; and so does that, but in `solve` and `warm`

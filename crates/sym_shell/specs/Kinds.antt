@@ -9,6 +9,7 @@ pub data Kind : Type 0 where
   StoppedTree : Kind
   StoppedPivots : Kind
   StoppedWide : Kind
+  BoundShown : Kind
   Done : Kind
   UnknownCommand : Kind
   WrongArguments : Kind
@@ -33,6 +34,7 @@ front_of StoppedNodes = codes "stopped nodes "
 front_of StoppedTree = codes "stopped tree "
 front_of StoppedPivots = codes "stopped pivots "
 front_of StoppedWide = codes "stopped wide "
+front_of BoundShown = codes "bound "
 front_of Done = codes "ok\n"
 front_of UnknownCommand = codes "error 02 "
 front_of WrongArguments = codes "error 03 "
@@ -62,6 +64,7 @@ IsError StoppedNodes = ⊥
 IsError StoppedTree = ⊥
 IsError StoppedPivots = ⊥
 IsError StoppedWide = ⊥
+IsError BoundShown = ⊥
 IsError Done = ⊥
 IsError UnknownCommand = Unit {0}
 IsError WrongArguments = Unit {0}

@@ -6,6 +6,8 @@ pub mod Showing
 pub mod Solve
 pub mod Warming
 pub mod Editing
+pub mod Bounding
+pub mod Placing
 pub mod Certify
 pub mod Writing
 pub mod Refusals

@@ -1,7 +1,7 @@
 -- The state that a script's commands change: the environment, and what the store tells.
 use Rattle.std.specs.Prelude.{ℕ, Option, IfSome}
 use Rattle.sym_io.specs.Files.{Files}
-use Rattle.mps_model.specs.PlainNames.{HasPlainNames, HasPlainRows}
+use Rattle.word_names.specs.WordNames.{HasWordNames}
 use Rattle.sym_env.specs.Env.{PlainEnv, model_of}
 
 pub record ShellState : Type 0 where
@@ -14,4 +14,4 @@ shell_state env files faults = record { env = env; files = files; faults = fault
 
 -- each name of the model is a word of a line
 abbrev pub HasWords : PlainEnv → Type 0
-HasWords env = IfSome (model_of env) (λ M. HasPlainNames M × HasPlainRows M)
+HasWords env = IfSome (model_of env) HasWordNames

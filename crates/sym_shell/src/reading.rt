@@ -1,7 +1,7 @@
 // Reading a file's model from a store.
 ghost use Rattle.std.specs.Prelude.{◌≡◌, ◌≤◌, true, IfOk};
 ghost use Rattle.command_words.specs.Names.{is_file_name};
-ghost use Rattle.mps_model.specs.PlainNames.{HasPlainNames, HasPlainRows};
+ghost use Rattle.word_names.specs.WordNames.{HasWordNames};
 ghost use Rattle.sym_shell.specs.Load.{ReadsFile};
 
 use command_words::file_name;
@@ -60,8 +60,7 @@ pub(crate) fn read_model<S: Store>(
 ) -> Result<Model, Refusal>
     requires { is_file_name name.now ≡ true }
     ensures answer { ReadsFile (S.files store.old) name.now intupper (S.faults store.old) (S.faults store.new) result }
-    ensures plain { IfOk result (λ m. HasPlainNames m) }
-    ensures plain_rows { IfOk result (λ m. HasPlainRows m) }
+    ensures words { IfOk result (λ m. HasWordNames m) }
     ensures kept { S.files store.new ≡ S.files store.old }
     ensures later { S.faults store.old ≤ S.faults store.new }
 {

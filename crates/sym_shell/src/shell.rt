@@ -1,8 +1,8 @@
 // The machine behind the script: the environment, and what a command does to it.
 ghost use Rattle.std.specs.Prelude.{◌≡◌, ◌≤◌, ◌⊎◌, true, [], OnOk, OnErr, ℕ, List, map};
-ghost use Rattle.edit_words.specs.EditWords.{edit_asks};
+ghost use Rattle.edit_words.specs.EditWords.{edit_asks, pairs_asks};
 ghost use Rattle.edit_words.specs.NewNames.{BringsName, IsNewName};
-ghost use Rattle.mps_model.specs.PlainNames.{HasPlainNames, HasPlainRows};
+ghost use Rattle.word_names.specs.WordNames.{HasWordNames};
 ghost use Rattle.command_words.specs.Names.{is_file_name};
 ghost use Rattle.command_words.specs.Asks.{asks_shown, NamesFile};
 ghost use Rattle.sym_env.specs.Env.{no_model, Holds};
@@ -12,15 +12,17 @@ ghost use Rattle.sym_shell.specs.Load.{LoadStep};
 ghost use Rattle.sym_shell.specs.Solve.{limits_of, RepliesToSolve};
 ghost use Rattle.sym_shell.specs.Warming.{RepliesToWarm};
 ghost use Rattle.sym_shell.specs.Editing.{RepliesToEdit, RepliesToWords};
+ghost use Rattle.sym_shell.specs.Bounding.{RepliesToPairs};
 ghost use Rattle.sym_shell.specs.Certify.{CertStep};
 ghost use Rattle.sym_shell.specs.Writing.{WriteStep};
 ghost use Rattle.sym_shell.specs.Step.{AnswersTo};
 ghost use Rattle.sym_shell.specs.Shell.{is_quit};
 
+use crate::bounding::bound_by_words;
 use crate::filing::{write_file, write_model};
 use crate::reading::read_model;
 use crate::refusing::{write_refusal, write_refused_edit};
-use command_words::{Asked, read_words};
+use command_words::{Asked, NewNumbers, OptimumBound, read_words};
 use edit_words::{EditAsked, read_edit};
 use lp_model::{Edit, Model};
 use reply_texts::{answer_has_room, write_answer, write_no_number, write_unknown};
@@ -75,8 +77,7 @@ impl Shell {
 
     /// Replaces the model, and tells whether there was memory for it.
     fn keep(&mut self, model: Model, reply: &mut Vec<u8>) -> Result<(), AllocError>
-        requires plain { HasPlainNames model }
-        requires plain_rows { HasPlainRows model }
+        requires words { HasWordNames model }
         requires empty { reply.old.items ≡ [] }
         ensures kept { OnOk result (((reply.new.items ≡ ok_text) × Holds model self.new) ⊎ ((reply.new.items ≡ memory_text) × (self.new ≡ self.old))) }
         ensures unfinished { OnErr result (self.new ≡ self.old) }
@@ -192,6 +193,21 @@ impl Shell {
         }
     }
 
+    /// Tells a bound on the best value with the sides, or the costs, that the words say. Nothing changes.
+    fn bound(
+        &self,
+        alloc: Global,
+        which: OptimumBound,
+        numbers: NewNumbers,
+        words: &[&[u8]],
+        reply: &mut Vec<u8>,
+    ) -> Result<(), AllocError>
+        requires { reply.old.items ≡ [] }
+        ensures { OnOk result (RepliesToPairs which numbers (pairs_asks (map (λ word. word.now) words.now)) self.now reply.new.items) }
+    {
+        bound_by_words(alloc, &self.env, which, numbers, words, reply)
+    }
+
     /// Writes the certificate of the answer that is held to a file.
     fn cert<S: Store>(
         &self,
@@ -262,6 +278,11 @@ impl Shell {
             Asked::Solve { nodes, pivots } => self.solve(nodes, pivots, reply),
             Asked::Warm { nodes, pivots } => self.warm(nodes, pivots, reply),
             Asked::Edit { words } => self.edit(alloc, words, reply),
+            Asked::Bound {
+                which,
+                numbers,
+                words,
+            } => self.bound(alloc, which, numbers, words, reply),
             Asked::Cert { file } => self.cert(store, file, reply),
             Asked::Write { file } => self.write(alloc, store, file, reply),
             Asked::Quit => reply.extend_from_slice(b"ok\n"),

@@ -28,7 +28,7 @@ use Rattle.lp_model.specs.Lawful.{column_name}
 
 -- ---- lists
 
-pub element-get : {A B : Type 0} (d : B) (f : A → B) (xs : List A) (k : ℕ) → get_or (map f xs) k d ≡ of_element d f xs k
+element-get : {A B : Type 0} (d : B) (f : A → B) (xs : List A) (k : ℕ) → get_or (map f xs) k d ≡ of_element d f xs k
 element-get d f [] zero = refl
 element-get d f [] (suc k) = refl
 element-get d f (x ∷ xs) zero = refl

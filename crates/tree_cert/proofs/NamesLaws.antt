@@ -1,11 +1,11 @@
 -- The names in the certificate of a search are words where the model's are.
 use Rattle.std.proofs.Common.{ℕ, ◌<◌, Bool, true, false, List, [], ◌∷◌, ◌++◌, length, map, sym, subst, arith, if◌then◌else◌}
-use Rattle.std.specs.Prelude.{All, Option, Some, None}
-use Rattle.std.proofs.lemmas.List.{length-map}
+use Rattle.std.specs.Prelude.{zero, suc, All, Option, Some, None}
 use Rattle.std.proofs.lemmas.List.Elements.{All-nil, All-cons, All-head, All-tail, All-append}
 use Rattle.rational.specs.Rational.{ℚ}
 use Rattle.lp_model.specs.Program.{Program, Point}
 use Rattle.lp_model.specs.Edits.{is_zero}
+use Rattle.lp_model.specs.Elements.{of_element}
 use Rattle.lp_model.specs.Regions.{Path}
 use Rattle.lp_model.specs.Formulations.{without_cuts}
 use Rattle.lp_model.specs.declared.types.Col.{Col}
@@ -25,18 +25,24 @@ use Rattle.cert_text.specs.Tree.{Bound as CertBound, Farkas as CertFarkas, Empty
 use Rattle.tree_cert.specs.Certificates.{activity_name, named_mult, row_mults, nonzero_numbers, point_numbers, IsReason, IsTreeOf, IsCertificateOf, unbounded_certificate}
 use Rattle.lp_model.specs.Lawful.{column_name}
 use Rattle.text_lines.specs.Words.{IsWord}
-use Rattle.tree_cert.specs.CertText.{HasNameWords, IsMultWord, HasCutWords, HasNodeWords, HasCertWords, HasWordNames}
-use Rattle.tree_cert.proofs.NameLaws.{element-get}
+use Rattle.word_names.specs.WordNames.{HasWordNames}
+use Rattle.tree_cert.specs.CertText.{HasNameWords, IsMultWord, HasCutWords, HasNodeWords, HasCertWords}
 
 abbrev Worded : List ℕ × ℚ → Type 0
 Worded e = IsWord e.0
 
+-- the name of an element
+element-word : {A : Type 0} (name : A → List ℕ) (xs : List A) (k : ℕ) → All (λ a. IsWord (name a)) xs → k < length xs → IsWord (of_element [] name xs k)
+element-word name [] k all below = absurd (omega arith)
+element-word name (x ∷ xs) zero all below = All-head (λ a. IsWord (name a)) x xs all
+element-word name (x ∷ xs) (suc k) all below = let h : k < length xs = omega arith in element-word name xs k (All-tail (λ a. IsWord (name a)) x xs all) h
+
 module _ (M : Program) (plain : HasWordNames M) where
   column-word : (j : ℕ) → j < length M.cols → IsWord (column_name M j)
-  column-word j there = subst IsWord (element-get [] (λ c. c.name) M.cols j) (plain.columns j [] (let l = length-map M.cols (λ c. c.name) in omega (arith, l, there)))
+  column-word j there = element-word (λ c. c.name) M.cols j plain.columns there
 
   row-word : (m : Var) → IsActivityThere (without_cuts M) m → IsWord (activity_name M m)
-  row-word (Row row) there = subst IsWord (element-get [] (λ r. r.name) M.rows row.0) (plain.rows row.0 [] (let l = length-map M.rows (λ r. r.name) in omega (arith, l, there)))
+  row-word (Row row) there = element-word (λ r. r.name) M.rows row.0 plain.rows there
   row-word (ColVar col) there = absurd there
   row-word (Cut cut) there = let h : cut.0 < 0 = there in absurd (omega arith)
 
@@ -67,10 +73,10 @@ module _ (M : Program) (plain : HasWordNames M) where
       All-cons HasNodeWords (node.Split col w) (certificate_nodes first ++ certificate_nodes second) (subst IsWord (sym like.0) (column-word j lawful.0.0))
       (All-append HasNodeWords (certificate_nodes first) (certificate_nodes second) (tree-words (left_path path j v) left first lawful.1.0 lists.1.0 like.1.1.0) (tree-words (right_path path j v) right second lawful.1.1 lists.1.1 like.1.1.1))
 
-numbers-words : (cols : List Col) (x : Point) → All IsWord (map (λ c. c.name) cols) → HasNameWords (nonzero_numbers cols x)
+numbers-words : (cols : List Col) (x : Point) → All (λ c. IsWord c.name) cols → HasNameWords (nonzero_numbers cols x)
 numbers-words [] x plain = All-nil Worded
 numbers-words (c ∷ cols) [] plain = All-nil Worded
-numbers-words (c ∷ cols) (v ∷ x) plain = by (is_zero v) (All-head IsWord c.name (map (λ c. c.name) cols) plain) (numbers-words cols x (All-tail IsWord c.name (map (λ c. c.name) cols) plain))
+numbers-words (c ∷ cols) (v ∷ x) plain = by (is_zero v) (All-head (λ (b : Col). IsWord b.name) c cols plain) (numbers-words cols x (All-tail (λ (b : Col). IsWord b.name) c cols plain))
   where
     by : (b : Bool) → IsWord c.name → HasNameWords (nonzero_numbers cols x) → HasNameWords (if b then nonzero_numbers cols x else (c.name, v) ∷ nonzero_numbers cols x)
     by true here rest = rest

@@ -1,6 +1,6 @@
 -- Words: what is printed with a blank between words and a newline behind lines is cut where it was joined.
 use Rattle.std.proofs.Common.{◌≡◌, ℕ, suc, ◌+◌, ◌-◌, ◌/◌, ◌%◌, ◌^◌, ◌<◌, ◌≤◌, Bool, true, false, ◌&&◌, List, [], ◌∷◌, ◌++◌, length, get_or, map, refl, sym, ap, subst, ◌∙◌, arith, length-append, if◌then◌else◌}
-use Rattle.std.specs.Prelude.{All, Ok, not, pos, negsuc, unsigned_abs, ◌==◌, nat_le}
+use Rattle.std.specs.Prelude.{All, Ok, not, pos, negsuc, ◌==◌}
 use Rattle.std.specs.List.{list_all, filter, slice_split}
 use Rattle.std.specs.Fmt.{decimal, signed_decimal}
 use Rattle.std.proofs.lemmas.Bool.{false_from_ne_true}

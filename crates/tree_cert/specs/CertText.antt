@@ -2,11 +2,10 @@
 use Rattle.std.specs.Prelude.{ℕ, ◌<◌, Bool, true, false, List, [], ◌∷◌, ◌++◌, map, length, codes, All}
 use Rattle.std.specs.Fmt.{decimal, signed_decimal}
 use Rattle.frac128.specs.Printing.{printed}
-use Rattle.lp_model.specs.Program.{Program}
 use Rattle.lp_model.specs.Edits.{Named}
 use Rattle.lp_model.specs.declared.types.Side.{Side}
 use Rattle.lp_model.specs.declared.types.Side.TheVariants.{Lo, Hi}
-use Rattle.lp_model.specs.Lawful.{column_names}
+pub use Rattle.word_names.specs.WordNames.{HasWordNames}
 use Rattle.cert_text.specs.declared.cert.Claim.{Claim}
 use Rattle.cert_text.specs.declared.cert.Claim.TheVariants.{Optimal, Infeasible, Unbounded}
 use Rattle.cert_text.specs.declared.cert.CertMult.{CertMult}
@@ -15,7 +14,6 @@ use Rattle.cert_text.specs.declared.cert.NamedCut.{NamedCut}
 use Rattle.cert_text.specs.declared.cert.CertNode.{CertNode}
 use Rattle.cert_text.specs.declared.cert.CertNode.TheVariants.{Split, Bound, Farkas, Empty}
 use Rattle.cert_text.specs.declared.cert.Cert.{Cert}
-use Rattle.lp_model.specs.Edits.{only_row_names}
 use Rattle.text_lines.specs.Words.{IsWord, Words, spaced}
 
 -- ---- words
@@ -122,8 +120,3 @@ pub record HasCertWords (cert : Cert) : Type 0 where
   pub ray : HasNameWords cert.ray
   pub cuts : All HasCutWords cert.cuts
   pub nodes : All HasNodeWords cert.nodes
-
--- each name of a column or a row of the model is a word
-pub record HasWordNames (M : Program) : Type 0 where
-  pub columns : All IsWord (column_names M)
-  pub rows : All IsWord (only_row_names M)

@@ -1,11 +1,12 @@
 -- What a certificate's printed text says.
 use Rattle.std.specs.Prelude.{List, ℕ}
 use Rattle.lp_model.specs.Program.{Program, Point}
+use Rattle.word_names.specs.WordNames.{HasWordNames}
 use Rattle.tree_edit.specs.Sound.{PlainSearch, IsSound}
 use Rattle.cert_text.specs.declared.cert.Cert.{Cert}
 use Rattle.cert_text.specs.Text.{MeantCertificate}
 use Rattle.tree_cert.specs.Certificates.{IsCertificateOf, unbounded_certificate}
-use Rattle.tree_cert.specs.CertText.{cert_text, HasCertWords, HasWordNames}
+use Rattle.tree_cert.specs.CertText.{cert_text, HasCertWords}
 
 -- what some text states is stated by its printed text
 abbrev pub PrintLaw : Type 0

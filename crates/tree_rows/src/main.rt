@@ -8,15 +8,16 @@
 //! The proof says that the program is safe and ends, whatever the files are. What the calls are to answer comes from outside.
 #![tactic(auto)]
 
+mod begun;
 mod searches;
 mod solving;
-mod stage;
 mod told;
 mod trees;
 
-use crate::stage::Calls;
+use crate::begun::Begun;
+use model_calls::Calls;
 use std::process::ExitCode;
 
 fn main(rt: HostRuntime) -> ExitCode {
-    row_texts::run_rows::<Calls>(&rt)
+    row_texts::run_rows::<Calls<Begun>>(&rt)
 }

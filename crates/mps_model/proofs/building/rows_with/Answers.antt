@@ -1,15 +1,14 @@
 use Rattle.std.proofs.Common.{◌≡◌, ◌<◌, ◌+◌, ◌≤◌, ◌++◌, ◌∷◌, [], List, ℕ, true, map, length, take, get_or, ap, sym, subst, refl, ◌∙◌, arith}
-use Rattle.std.specs.Prelude.{All, Option, Some, IfSome}
+use Rattle.std.specs.Prelude.{All, Option, IfSome}
 use Rattle.std.proofs.lemmas.List.{take_more, take_all}
 use Rattle.std.proofs.lemmas.List.Elements.{All-append, All-cons, All-nil}
 use Rattle.rational.specs.Rational.{ℚ}
 use Rattle.lp_model.specs.Lawful.{IsRange}
 use Rattle.lp_model.specs.declared.types.Row.{Row}
-use Rattle.mps_sections.specs.Statements.{stated_row_names}
 use Rattle.mps_sections.specs.declared.statements.RowLine.{RowLine}
 use Rattle.mps_sections.specs.declared.statements.RangeLine.{RangeLine}
 use Rattle.mps_model.specs.Ranges.{has_room}
-use Rattle.mps_model.specs.Meaning.{row_number_beside, row_numbers_beside, range_beside, row_with, row_of}
+use Rattle.mps_model.specs.Meaning.{row_number_beside, range_beside, row_with, row_of}
 use Rattle.mps_model.proofs.BesideSteps.{beside_row, mapped_more}
 use Rattle.mps_model.proofs.RangeSteps.{row_named-at, room_beside}
 use Rattle.mps_model.proofs.building.rows_with.Goals as goal

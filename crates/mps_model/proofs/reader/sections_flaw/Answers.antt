@@ -1,5 +1,5 @@
 use Rattle.std.proofs.Common.{◌≡◌, refl, ap, sym, ◌∙◌, List}
-use Rattle.std.specs.Prelude.{Option, None, Some}
+use Rattle.std.specs.Prelude.{Option, None}
 use Rattle.mps_text.specs.Text.{Flaw}
 use Rattle.mps_sections.specs.declared.statements.RangeLine.{RangeLine}
 use Rattle.mps_model.specs.Faults.{range_flaw, column_flaw, flaw_or}

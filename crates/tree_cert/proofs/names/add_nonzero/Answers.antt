@@ -1,4 +1,4 @@
-use Rattle.std.proofs.Common.{ap, sym, ◌∙◌, [], ◌∷◌, ◌++◌, ◌≡◌, Bool, true, false, rules, if◌then◌else◌, List, ℕ}
+use Rattle.std.proofs.Common.{ap, sym, ◌∙◌, [], ◌∷◌, ◌++◌, ◌≡◌, Bool, true, false, rules, if◌then◌else◌}
 use Rattle.lp_model.specs.Edits.{Named}
 use Rattle.tree_cert.proofs.NameLaws.{is_zero_by}
 use Rattle.tree_cert.proofs.names.add_nonzero.Goals as goal

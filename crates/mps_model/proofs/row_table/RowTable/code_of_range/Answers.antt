@@ -1,5 +1,5 @@
-use Rattle.std.proofs.Common.{◌≡◌, ◌∙◌, List, ap, sym, subst, refl, get_or}
-use Rattle.std.specs.Prelude.{None, Some, Option, ℕ}
+use Rattle.std.proofs.Common.{◌∙◌, List, ap, sym, subst, refl, get_or}
+use Rattle.std.specs.Prelude.{None, Some}
 use Rattle.mps_sections.specs.Limits.{AreNamesApart}
 use Rattle.mps_sections.specs.declared.statements.RowLine.{RowLine}
 use Rattle.mps_model.proofs.PlaceFacts.{found_as}

@@ -1,4 +1,4 @@
-use Rattle.std.proofs.Common.{◌≡◌, ◌∙◌, ap, sym, subst, length}
+use Rattle.std.proofs.Common.{◌∙◌, ap, sym, subst, length}
 use Rattle.std.proofs.lemmas.List.{length-map}
 use Rattle.mps_sections.specs.declared.statements.RowLine.{RowLine}
 use Rattle.mps_sections.specs.Statements.{stated_row_names}

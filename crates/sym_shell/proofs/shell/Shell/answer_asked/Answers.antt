@@ -1,9 +1,10 @@
 use Rattle.std.proofs.Common.{ap, refl, inr}
 use Rattle.std.specs.Prelude.{map}
-use Rattle.command_words.specs.Asks.{Load, Edit, Cert, Write, Quit, Unknown, Misused, NoNumber, asks_shown}
-use Rattle.edit_words.specs.EditWords.{edit_asks}
+use Rattle.command_words.specs.Asks.{Load, Edit, Bound, Cert, Write, Quit, Unknown, Misused, NoNumber, asks_shown}
+use Rattle.edit_words.specs.EditWords.{edit_asks, pairs_asks}
 use Rattle.sym_shell.specs.State.{shell_state}
 use Rattle.reply_texts.specs.Texts.{ok_text, memory_text}
+use Rattle.sym_shell.proofs.BoundLemmas.{pairs-untold}
 use Rattle.sym_shell.proofs.StepLemmas.{unfinished, always, on_err, some-solve-step, some-warm-step, edit-step}
 use Rattle.sym_shell.proofs.shell.Shell.answer_asked.Goals as goal
 
@@ -28,6 +29,13 @@ returns-in-Edit-clause-unfinished g c =
     let words = map (λ word. word.now) c.in-Edit.words.now in
     unfinished c.edit.result (Edit words) (asks_shown c.args.asked) (shell_state c.args.self.now files faults) (shell_state c.edit.new.self files faults) memory_text (ap asks_shown c.in-Edit.is)
     (on_err c.edit.result (edit-step c.args.self.now c.edit.new.self files faults (edit_asks words) memory_text) c.edit.ensures.unfinished)
+
+pub returns-in-Bound-clause-unfinished : goal.returns-in-Bound-clause-unfinished
+returns-in-Bound-clause-unfinished g c =
+    let old = shell_state c.args.self.now (g.S.Store.files c.args.store.now) (g.S.Store.faults c.args.store.now) in
+    let words = map (λ word. word.now) c.in-Bound.words.now in
+    unfinished c.bound.result (Bound c.in-Bound.which c.in-Bound.numbers words) (asks_shown c.args.asked) old old memory_text (ap asks_shown c.in-Bound.is)
+    (always c.bound.result (record { unchanged = refl; answer = pairs-untold c.in-Bound.which c.in-Bound.numbers (pairs_asks words) c.args.self.now }))
 
 pub returns-in-Cert-clause-unfinished : goal.returns-in-Cert-clause-unfinished
 returns-in-Cert-clause-unfinished g c =

@@ -1,0 +1,89 @@
+-- What the bounds prove of the feasible points: the region of each such point is a leaf's, and each leaf closes against the bound.
+use Rattle.std.specs.Prelude.{◌≡◌, ℕ, ◌<◌, IsTrue, List, [], ◌∷◌, length, All, Option, Some, None, ℤ}
+use Rattle.std.proofs.Common.{refl, sym, ap, subst, ◌∙◌}
+use Rattle.rational.specs.Rational.{ℚ}
+use Rattle.lp_model.specs.Program.{Program, Point, is_integer, IsFeasible}
+use Rattle.lp_model.specs.Regions.{Path, InRegion}
+use Rattle.lp_model.specs.Formulations.{Formulation, without_cuts, IsValid}
+use Rattle.lp_model.specs.declared.types.RowId.{RowId}
+use Rattle.lp_model.specs.declared.types.ColId.{ColId}
+use Rattle.lp_model.proofs.FormulationLemmas.{valid-without_cuts}
+use Rattle.branch_tree.specs.Tree.{Tree, Leaf, Split, EachSplit, SplitsLawfully, EachLeaf}
+use Rattle.branch_tree.specs.Plain.{Plain}
+use Rattle.branch_tree.specs.Leaves.{region_leaves}
+use Rattle.branch_tree.specs.Numbered.{NumberedTree}
+use Rattle.branch_tree.proofs.TreeLemmas.{point_in_one_leaf, leaf_with_both}
+use Rattle.leaf_judging.specs.Closing.{ClosesBy}
+use Rattle.tree_edit.specs.Points.{IsKeepable, target}
+use Rattle.tree_edit.specs.Laws.{IsNoBetter}
+use Rattle.tree_edit.specs.Sound.{PlainSearch, IsSound}
+use Rattle.tree_edit.proofs.ClosedTree.{number-bound}
+use Rattle.tree_edit.proofs.EditedPoints.{keepable-all}
+use Rattle.tree_edit.proofs.TakenLemmas.{least_is}
+use Rattle.dual_bounds.specs.declared.answers.LowerBound.{LowerBound}
+use Rattle.dual_bounds.specs.declared.answers.LowerBound.TheVariants.{Value, NoValue, Infeasible, Wide}
+use Rattle.dual_bounds.specs.declared.answers.UpperBound.{UpperBound}
+use Rattle.dual_bounds.specs.NewNumbers.{with_new_sides, with_new_costs}
+use Rattle.dual_bounds.specs.TreeBounds.{IsTreeBound, IsPointBound, upper_bound}
+use Rattle.dual_bounds.specs.Laws.{IsTrueLowerBound, IsTrueUpperBound, TreeBoundLaw, PointBoundLaw, NewSidesLaw, NewCostsLaw}
+use Rattle.dual_bounds.proofs.ModelLemmas.{costs-integer}
+use Rattle.dual_bounds.proofs.NumberLists.{AllClose, BoundCloses, bound-closes}
+use Rattle.dual_bounds.proofs.WalkLemmas.{LeafCloses, leaf-listed, leaves-close}
+
+-- ---- lower bounds
+
+-- where each leaf closes, no feasible point is better
+closed-tree : (F : Formulation) (t : Option ℚ) (u : Plain) → IsValid F → SplitsLawfully F.model u → EachLeaf (λ p l. ClosesBy F t p l.kept) [] u → (y : Point) → IsFeasible F.model y → IsNoBetter F.model t y
+closed-tree F t u valid lawful each y feasible =
+    let one = point_in_one_leaf F.model u y lawful feasible in
+    let both = leaf_with_both (λ path l. InRegion path y) (λ path l. ClosesBy F t path l.kept) [] u each one in
+    let closes = both.1.1.1 in
+    number-bound F valid y feasible both.0 both.1.1.0 t both.1.0.kept.mult both.1.0.kept.farkas closes.0 closes.1.0 closes.1.1
+
+pub tree-bound : TreeBoundLaw
+tree-bound F u bound valid lawful h = by bound (bound-closes F.model h.numbers bound h.rounded)
+  where
+    each : (t : Option ℚ) → AllClose F.model t h.numbers → (y : Point) → IsFeasible F.model y → IsNoBetter F.model t y
+    each t closes = closed-tree F t u valid lawful (leaf-listed (LeafCloses F t) [] u (leaves-close F t (region_leaves [] u) h.numbers h.numbers_are closes))
+
+    by : (b : LowerBound) → BoundCloses F.model h.numbers b → IsTrueLowerBound F.model b
+    by (Value r) closes = each (Some r) closes
+    by NoValue closes = tt
+    by Infeasible closes = each None closes
+    by (Wide leaf step) closes = tt
+
+-- ---- upper bounds
+
+pub point-bound : PointBoundLaw
+point-bound M points bound h = subst (IsTrueUpperBound M) (sym h.is) (by h.feasible (keepable-all M points h.feasible h.feasible_are))
+  where
+    by : (ys : List Point) → All (IsKeepable M) ys → IsTrueUpperBound M (upper_bound (target M ys))
+    by [] all = tt
+    by (y ∷ ys) all =
+        let (z, (keepable, (is, least))) = least_is M (IsKeepable M) y ys all in
+        subst (λ t. IsTrueUpperBound M (upper_bound t)) (sym is) (z, (keepable.feasible.0, refl))
+
+-- ---- other sides and costs: the splits stay on integer columns
+
+each_split-weaker : {S L : Type 0} (P Q : ℕ → ℤ → Type 0) → ((j : ℕ) (v : ℤ) → P j v → Q j v) → (t : Tree S L) → EachSplit P t → EachSplit Q t
+each_split-weaker P Q w (Leaf kept) h = tt
+each_split-weaker P Q w (Split kept j v left right) h = (w j v h.0, (each_split-weaker P Q w left h.1.0, each_split-weaker P Q w right h.1.1))
+
+pub new-sides : NewSidesLaw
+new-sides S sides bound sound h =
+    tree-bound (without_cuts (with_new_sides S.model sides)) S.tree.root bound (valid-without_cuts (with_new_sides S.model sides)) sound.tree.lawful h
+
+pub new-costs : NewCostsLaw
+new-costs S costs bound sound h =
+    let M = with_new_costs S.model costs in
+    let lawful : SplitsLawfully M S.tree.root =
+    each_split-weaker (λ j v. (j < length S.model.cols) × IsTrue (is_integer S.model j)) (λ j v. (j < length M.cols) × IsTrue (is_integer M j)) (λ j v k. costs-integer S.model costs j k) S.tree.root sound.tree.lawful in
+    tree-bound (without_cuts M) S.tree.root bound (valid-without_cuts M) lawful h
+
+-- ---- what the calls compute is said of the search
+
+pub tree-bound-of : (made M : Program) (T U : NumberedTree) (bound : LowerBound) → made ≡ M → T ≡ U → IsTreeBound (without_cuts made) T.root bound → IsTreeBound (without_cuts M) U.root bound
+tree-bound-of made M T U bound m t h = subst (λ P. P) (λ i. IsTreeBound (without_cuts (m i)) (t i).root bound) h
+
+pub point-bound-of : (made M : Program) (xs ys : List Point) (bound : UpperBound) → made ≡ M → xs ≡ ys → IsPointBound made xs bound → IsPointBound M ys bound
+point-bound-of made M xs ys bound m p h = subst (λ P. P) (λ i. IsPointBound (m i) (p i) bound) h

@@ -1,0 +1,9 @@
+mod ChangedLists
+mod RangeLemmas
+mod ModelLemmas
+mod NumberLists
+mod WalkLemmas
+mod PointLemmas
+mod BoundLemmas
+mod ExactLemmas
+mod OneBound

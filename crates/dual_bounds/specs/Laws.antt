@@ -1,0 +1,74 @@
+-- What the bounds prove, and that after a finished search they are the optimum.
+use Rattle.std.specs.Prelude.{◌≡◌, ℕ, List, Some}
+use Rattle.rational.specs.Rational.{ℚ, ◌≤ℚ◌}
+use Rattle.lp_model.specs.Program.{Program, Point, least_value, IsFeasible, IsEmpty}
+use Rattle.lp_model.specs.Formulations.{Formulation, without_cuts, IsValid}
+use Rattle.lp_model.specs.declared.types.RowId.{RowId}
+use Rattle.lp_model.specs.declared.types.ColId.{ColId}
+use Rattle.branch_tree.specs.Tree.{SplitsLawfully}
+use Rattle.branch_tree.specs.Plain.{Plain}
+use Rattle.tree_edit.specs.Points.{IsIncumbent}
+use Rattle.tree_edit.specs.Sound.{PlainSearch, formulation_of, IsSound}
+use Rattle.tree_edit.specs.Laws.{HasNoOpenLeaf}
+use Rattle.dual_bounds.specs.NewNumbers.{with_new_sides, with_new_costs, ArePresentSides, ArePresentCosts}
+use Rattle.dual_bounds.specs.TreeBounds.{IsTreeBound, IsPointBound}
+use Rattle.dual_bounds.specs.declared.answers.LowerBound.{LowerBound}
+use Rattle.dual_bounds.specs.declared.answers.LowerBound.TheVariants as lower
+use Rattle.dual_bounds.specs.declared.answers.UpperBound.{UpperBound}
+use Rattle.dual_bounds.specs.declared.answers.UpperBound.TheVariants as upper
+
+-- no feasible point has a value below the bound, and there is none where it says so
+abbrev pub IsTrueLowerBound : Program → LowerBound → Type 0
+IsTrueLowerBound M (lower.Value v) = (x : Point) → IsFeasible M x → v ≤ℚ least_value M 1 x
+IsTrueLowerBound M lower.NoValue = Unit {0}
+IsTrueLowerBound M lower.Infeasible = IsEmpty M
+IsTrueLowerBound M (lower.Wide leaf step) = Unit {0}
+
+-- a feasible point has the value
+abbrev pub IsTrueUpperBound : Program → UpperBound → Type 0
+IsTrueUpperBound M (upper.Value v) = (x : Point) × (IsFeasible M x × (v ≡ least_value M 1 x))
+IsTrueUpperBound M upper.NoValue = Unit {0}
+
+-- of any tree whose splits are on integer columns of the model, where no feasible point breaks a cut that counts
+abbrev pub TreeBoundLaw : Type 0
+TreeBoundLaw = (F : Formulation) (t : Plain) (bound : LowerBound) → IsValid F → SplitsLawfully F.model t → IsTreeBound F t bound → IsTrueLowerBound F.model bound
+
+abbrev pub PointBoundLaw : Type 0
+PointBoundLaw = (M : Program) (points : List Point) (bound : UpperBound) → IsPointBound M points bound → IsTrueUpperBound M bound
+
+-- the tree of a search proves its bound of the search's model with other sides, and with other costs
+abbrev pub NewSidesLaw : Type 0
+NewSidesLaw =
+    (S : PlainSearch) (sides : List (RowId × ℚ)) (bound : LowerBound) → IsSound S
+    → IsTreeBound (without_cuts (with_new_sides S.model sides)) S.tree.root bound → IsTrueLowerBound (with_new_sides S.model sides) bound
+
+abbrev pub NewCostsLaw : Type 0
+NewCostsLaw =
+    (S : PlainSearch) (costs : List (ColId × ℚ)) (bound : LowerBound) → IsSound S
+    → IsTreeBound (without_cuts (with_new_costs S.model costs)) S.tree.root bound → IsTrueLowerBound (with_new_costs S.model costs) bound
+
+-- a model with the sides, and with the costs, that it has is itself
+abbrev pub PresentSidesLaw : Type 0
+PresentSidesLaw = (M : Program) (sides : List (RowId × ℚ)) → ArePresentSides M sides → with_new_sides M sides ≡ M
+
+abbrev pub PresentCostsLaw : Type 0
+PresentCostsLaw = (M : Program) (costs : List (ColId × ℚ)) → ArePresentCosts M costs → with_new_costs M costs ≡ M
+
+-- where no leaf is open, the bound is the value of the incumbent, which is the optimum
+abbrev pub IsExactLower : PlainSearch → LowerBound → Type 0
+IsExactLower S bound = HasNoOpenLeaf S → (x : Point) → IsIncumbent S.model S.points (Some x) → bound ≡ lower.Value (least_value S.model 1 x)
+
+abbrev pub IsExactUpper : PlainSearch → UpperBound → Type 0
+IsExactUpper S bound = HasNoOpenLeaf S → (x : Point) → IsIncumbent S.model S.points (Some x) → bound ≡ upper.Value (least_value S.model 1 x)
+
+-- so are both bounds of a search at its own model
+abbrev pub ExactLaw : Type 0
+ExactLaw =
+    (S : PlainSearch) → IsSound S
+    → ((bound : LowerBound) → IsTreeBound (formulation_of S) S.tree.root bound → IsExactLower S bound) × ((bound : UpperBound) → IsPointBound S.model S.points bound → IsExactUpper S bound)
+
+-- two bounds of one question are one
+abbrev pub OneBoundLaw : Type 0
+OneBoundLaw =
+    ((F : Formulation) (t : Plain) (a b : LowerBound) → IsTreeBound F t a → IsTreeBound F t b → a ≡ b)
+    × ((M : Program) (points : List Point) (a b : UpperBound) → IsPointBound M points a → IsPointBound M points b → a ≡ b)

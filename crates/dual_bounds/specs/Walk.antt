@@ -1,0 +1,24 @@
+-- What a walk over the leaves of a tree, and over kept points, makes.
+use Rattle.std.specs.Prelude.{◌≡◌, [], ◌∷◌, ◌++◌, List, Option}
+use Rattle.rational.specs.Rational.{ℚ}
+use Rattle.lp_model.specs.Program.{Program, Point}
+use Rattle.lp_model.specs.Formulations.{without_cuts}
+use Rattle.branch_tree.specs.declared.node.RegionLeaf.{RegionLeaf}
+use Rattle.leaf_judging.specs.declared.closing.LeafNumber.{LeafNumber}
+use Rattle.leaf_judging.specs.Closing.{IsNumber}
+use Rattle.tree_edit.specs.Points.{target}
+use Rattle.tree_edit.specs.Edited.{AreKeepable}
+use Rattle.dual_bounds.specs.declared.walk.Listing.{Listing}
+
+-- the leaf's number goes behind the others
+pub record ListsLeaf (old : Listing) (l : RegionLeaf) (new : Listing) : Type 0 where
+  pub same : new.model.now ≡ old.model.now
+  pub number : LeafNumber
+  pub number_is : IsNumber (without_cuts old.model.now) l.region l.kept.mult l.kept.farkas number
+  pub numbers_are : new.numbers.items ≡ old.numbers.items ++ number ∷ []
+
+-- the least value of those of the points that are feasible
+pub record IsLeastFeasible (M : Program) (points : List Point) (least : Option ℚ) : Type 0 where
+  pub feasible : List Point
+  pub feasible_are : AreKeepable M points feasible
+  pub is : least ≡ target M feasible

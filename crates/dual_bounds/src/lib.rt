@@ -1,0 +1,38 @@
+//! Bounds of the optimum for sides and costs that have not come yet, from a tree that is kept, without solving.
+//!
+//! The leaves of a tree cover the feasible points of each model with the columns that it is split on. So whatever sides and
+//! costs a model M' has, with `number` as in `leaf_judging`,
+//!
+//! ```text
+//! optimum of M' >= the least number(leaf, M') of the leaves that are not set aside       rounded up where the objective is whole
+//! optimum of M' <= the least value of the kept points that are feasible in M'
+//! ```
+//!
+//! in least form, and M' has no feasible point where each leaf is set aside. A leaf that has no number at M', since a side or a
+//! bound is missing or a step of arithmetic has no room, leaves nothing to say: the first such leaf is told. (T. K. Ralphs,
+//! M. Güzelsoy, The SYMPHONY Callable Library for Mixed Integer Programming, 2005; the manual's `sym_get_lb_for_new_rhs`,
+//! `sym_get_ub_for_new_rhs` and `sym_get_ub_for_new_obj`.)
+//!
+//! Public contract: the calls answer exactly these bounds (`IsTreeBound`, `IsPointBound` in specs/TreeBounds) at the model with
+//! the new numbers (specs/NewNumbers), and leave the search as it is. No feasible point is below a lower bound, some feasible
+//! point has an upper one, and after a finished search both are its optimum at the numbers that there are (specs/Laws).
+//!
+//! A lower bound costs what it costs to judge the tree once, and takes memory for one number a leaf. Below stand the searches
+//! (`tree_edit`) and the numbers of leaves (`leaf_judging`); above stands the environment.
+#![tactic(auto)]
+
+mod answers;
+mod bounds;
+mod laws;
+mod new_numbers;
+mod numbers;
+mod points;
+mod walk;
+
+pub use answers::{LowerBound, UpperBound};
+pub use bounds::{lb_new_obj, lb_new_rhs, ub_new_obj, ub_new_rhs};
+pub use laws::{
+    exact_law, new_costs_law, new_sides_law, one_bound_law, point_bound_law, present_costs_law,
+    present_sides_law, tree_bound_law,
+};
+pub use new_numbers::has_equal_sides;

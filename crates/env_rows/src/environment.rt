@@ -1,0 +1,165 @@
+// The environment of a row, and what its calls are answered.
+use crate::answers::push_answer;
+use anyhow::{Result, bail};
+use lp_model::{Answer, Edit, Model};
+use model_calls::{Callee, take_number};
+use model_texts::{Words, edit_of, push_edit_fault};
+use std::alloc::Global;
+use sym_env::{Env, EnvFault, Limits};
+
+/// The environment, which answers the calls.
+#[derive(Drop)]
+pub struct Environment {
+    alloc: Global,
+    env: Env,
+}
+
+/// The limits that the words name; one that isn't named is the greatest.
+fn limits_in(words: &mut Words) -> Result<Limits> {
+    let mut limits = Limits {
+        nodes: u64::MAX,
+        pivots: u64::MAX,
+        tree: 1_000_000,
+    };
+    for _ in 0..words.most() {
+        if words.is_done() {
+            break;
+        }
+        let key = words.next("limit")?;
+        let number = take_number(words)?;
+        match key.as_str() {
+            "nodes" => limits.nodes = number,
+            "pivots" => limits.pivots = number,
+            "tree" => limits.tree = number,
+            _ => bail!("no limit: `{key}`"),
+        }
+    }
+    words.end()?;
+    Ok(limits)
+}
+
+fn push_fault(got: &mut String, fault: &EnvFault) -> Result<()> {
+    match fault {
+        EnvFault::NoModel => got.push_str("no model")?,
+        EnvFault::NoAnswer => got.push_str("no answer")?,
+        EnvFault::Edit(fault) => push_edit_fault(got, fault)?,
+        EnvFault::Memory => got.push_str("no memory")?,
+    }
+    Ok(())
+}
+
+/// The limits that a line says.
+fn limits_of(alloc: Global, line: &str) -> Result<Limits> {
+    let mut words = Words::new(alloc, line)?;
+    limits_in(&mut words)
+}
+
+/// The edit that a line says.
+fn edit_in(alloc: Global, line: &str) -> Result<Edit> {
+    let mut words = Words::new(alloc, line)?;
+    edit_of(alloc, &mut words)
+}
+
+/// Writes the fault of an edit, if it has one.
+fn push_edited(got: &mut String, edited: &Result<(), EnvFault>) -> Result<()> {
+    match edited {
+        Ok(()) => Ok(()),
+        Err(fault) => push_fault(got, fault),
+    }
+}
+
+/// How many bytes a certificate's text has.
+fn push_length(got: &mut String, cert: &Result<Vec<u8>, EnvFault>) -> Result<()> {
+    match cert {
+        Ok(text) => write!(got, "{} bytes", text.len())?,
+        Err(fault) => push_fault(got, fault)?,
+    }
+    Ok(())
+}
+
+impl Environment {
+    /// Writes what was found of the model that is loaded.
+    fn push_found(&self, got: &mut String, found: &Result<Answer, EnvFault>) -> Result<()> {
+        match found {
+            Ok(answer) => {
+                let Some(model) = self.env.model() else {
+                    bail!("an answer, and no model");
+                };
+                push_answer(got, model, answer)
+            }
+            Err(fault) => push_fault(got, fault),
+        }
+    }
+
+    fn solve(&mut self, line: &str, got: &mut String) -> Result<()> {
+        let limits = limits_of(self.alloc, line)?;
+        let found = self.env.solve(&limits);
+        let pushed = self.push_found(got, &found);
+        drop(found);
+        pushed
+    }
+
+    fn warm(&mut self, line: &str, got: &mut String) -> Result<()> {
+        let limits = limits_of(self.alloc, line)?;
+        let found = self.env.warm_solve(&limits);
+        let pushed = self.push_found(got, &found);
+        drop(found);
+        pushed
+    }
+
+    fn edit(&mut self, line: &str, got: &mut String) -> Result<()> {
+        let edit = edit_in(self.alloc, line)?;
+        let edited = self.env.edit(edit);
+        let pushed = push_edited(got, &edited);
+        drop(edited);
+        pushed
+    }
+
+    /// How many bytes the certificate's text has.
+    fn cert(&self, got: &mut String) -> Result<()> {
+        let cert = self.env.cert();
+        let pushed = push_length(got, &cert);
+        drop(cert);
+        pushed
+    }
+
+    /// How many columns the model has.
+    fn columns(&self, got: &mut String) -> Result<()> {
+        match self.env.model() {
+            Some(model) => write!(got, "{}", model.cols().len())?,
+            None => got.push_str("no model")?,
+        }
+        Ok(())
+    }
+}
+
+impl Callee for Environment {
+    fn new(alloc: Global) -> Result<Self> {
+        Ok(Environment {
+            alloc,
+            env: Env::new(alloc),
+        })
+    }
+
+    fn takes_model(word: &str) -> bool {
+        word == "load"
+    }
+
+    fn begin(&mut self, model: Model) -> Result<()> {
+        if self.env.load(model).is_err() {
+            bail!("no memory");
+        }
+        Ok(())
+    }
+
+    fn call(&mut self, word: &str, line: &str, got: &mut String) -> Result<()> {
+        match word {
+            "solve" => self.solve(line, got),
+            "warm" => self.warm(line, got),
+            "edit" => self.edit(line, got),
+            "cert" => self.cert(got),
+            "columns" => self.columns(got),
+            _ => bail!("no call: `{word}`"),
+        }
+    }
+}

@@ -1,0 +1,37 @@
+use Rattle.std.proofs.Common.{◌≡◌, ◌∙◌, List, ap, subst, sym}
+use Rattle.rational.specs.Rational.{ℚ}
+use Rattle.lp_model.specs.Program.{Program}
+use Rattle.lp_model.specs.declared.types.ColId.{ColId}
+use Rattle.dual_bounds.specs.NewNumbers.{with_new_costs, AreNewCosts, ArePresentCosts}
+use Rattle.command_words.specs.declared.words.NewNumbers.TheVariants.{Costs}
+use Rattle.sym_shell.specs.Bounding.{placed_cols}
+use Rattle.sym_shell.specs.Placing.{unplaced_text}
+use Rattle.sym_shell.proofs.BoundLemmas.{alone, numbers-told, unplaced-told}
+use Rattle.sym_shell.proofs.PlacingLemmas.{new-costs}
+use Rattle.sym_shell.proofs.StepLemmas.{on_ok, on_ok_if}
+use Rattle.sym_shell.proofs.bounding.bound_by_costs.Goals as goal
+
+pub bound_with_costs-requires-clause-costs : goal.bound_with_costs-requires-clause-costs
+bound_with_costs-requires-clause-costs c =
+    let h = c.in-Ok.ensures in
+    subst (AreNewCosts c.args.model.now) (sym (c.as_slice.ensures ∙ h.1)) (new-costs c.args.model.now c.args.named.now c.requires.distinct h.0)
+
+pub returns-in-Ok : goal.returns-in-Ok
+returns-in-Ok c =
+    let h = c.in-Ok.ensures in
+    let named = c.args.named.now in
+    let costs : List (ColId × ℚ) = c.as_slice.result.now in
+    let same : (N : Program) → N ≡ c.args.model.now → costs ≡ placed_cols N named = λ N e. c.as_slice.ensures ∙ h.1 ∙ ap (λ (O : Program). placed_cols O named) (sym e) in
+    on_ok c.bound_with_costs.result
+    (numbers-told c.args.env.now c.args.model.now c.requires.model c.args.which Costs named c.bound_with_costs.new.reply.items (λ N. with_new_costs N costs) (λ N. ArePresentCosts N costs) h.0 tt
+    (λ N e. ap (with_new_costs N) (same N e)) (λ N e standing. subst (ArePresentCosts N) (sym (same N e)) standing))
+    c.bound_with_costs.ensures
+
+pub returns-in-Err : goal.returns-in-Err
+returns-in-Err c =
+    let named = c.args.named.now in
+    let u = c.in-Err.unplaced in
+    on_ok_if c.write_unplaced.result
+    (λ is. unplaced-told c.args.env.now c.args.model.now c.requires.model c.args.which Costs named c.write_unplaced.new.reply.items u c.in-Err.ensures
+    (alone c.args.reply.now.items c.write_unplaced.new.reply.items (unplaced_text named u) c.requires.empty is))
+    c.write_unplaced.ensures

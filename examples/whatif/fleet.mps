@@ -1,0 +1,22 @@
+* A haulier moves an order with hired vehicles: a van takes 3 tons, a truck 8, a lorry 13. Each needs one of nine drivers.
+NAME FLEET
+ROWS
+ N COST
+ G TONS
+ L DRIVERS
+COLUMNS
+ M 'MARKER' 'INTORG'
+ VAN COST 12 TONS 3
+ VAN DRIVERS 1
+ TRUCK COST 27 TONS 8
+ TRUCK DRIVERS 1
+ LORRY COST 41 TONS 13
+ LORRY DRIVERS 1
+ M 'MARKER' 'INTEND'
+RHS
+ TONS 44 DRIVERS 9
+BOUNDS
+ UP VAN 6
+ UP TRUCK 5
+ UP LORRY 3
+ENDATA
