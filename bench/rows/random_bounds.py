@@ -6,7 +6,7 @@
 and the line `ok random-bounds.rows: NAME` of each goes into `crates/script_rows/stdout`.
 
 It shares nothing with the solver: its search is that of `random_searches.py` beside it, and a bound is worked out as docs/MANUAL.md says,
-leaf by leaf in Python's fractions. Each row asks for bounds before any search, after a search that may have stopped, and after one
+leaf by leaf in Python's fractions, with the cuts that derive at the changed model. Each row asks for bounds before any search, after a search that may have stopped, and after one
 that went to its end; every third model is one whose objective is made large. Each bound is held against a search of the changed model:
 no lower one is above its best value, and no upper one below.
 """
@@ -44,14 +44,19 @@ def leaves(leaf):
 
 
 def lower_bound(search, model):
-    """The least number of the leaves at the model, but for those that have no point there; or what stands in its place."""
-    numbers = []
+    """The least number of the leaves at the model, but for those that have no point there; or what stands in its place.
+
+    A cut of the search that doesn't derive at the model is left out, whatever multiplier it has.
+    """
+    form, numbers = model.with_cuts(search.cuts), []
+    dead = {model.own_rows + k for k, cut in enumerate(search.cuts) if not model.holds(cut)}
+    counting = lambda multipliers: {place: y for place, y in multipliers.items() if place not in dead}
     for leaf in leaves(search.root):
         if model.is_empty(leaf.path):
             continue
-        if leaf.farkas and (model.proved(leaf.path, leaf.farkas, costs=False) or 0) > 0:
+        if leaf.farkas and (form.proved(leaf.path, counting(leaf.farkas), costs=False) or 0) > 0:
             continue
-        numbers.append(model.proved(leaf.path, leaf.multipliers))
+        numbers.append(form.proved(leaf.path, counting(leaf.multipliers)))
     if not numbers:
         return "infeasible"
     if None in numbers:

@@ -7,7 +7,8 @@ and the line `ok random.rows: NAME` of each goes into `crates/script_rows/stdout
 
 It shares nothing with the solver. It searches by the rules of docs/MANUAL.md and docs/DEFINITIONS.md in Python's fractions, which
 have no width, with tables made anew by plain elimination and in the plainest way throughout. Where it answers it looks whether
-the answer is right: a leaf's number is the value of its relaxation, and each closed leaf is closed by its own number.
+the answer is right: a leaf's number is the value of its relaxation, and each closed leaf is closed by its own number. Of each cut
+it looks whether a point that it knows to be feasible breaks it.
 
 Each row solves a model to the end and with three limits, in any order, wants each stop with its block, writes the certificate of
 an answer that is held, wants it byte for byte, and has the program check it.
@@ -19,6 +20,7 @@ from random import Random
 
 ALL = 2**64 - 1
 MOST_RESULTS = 60
+ROUNDS, MOST_COVERS, MOST_CUTS = 5, 20, 200
 
 
 class Column:
@@ -26,18 +28,89 @@ class Column:
         self.name, self.integer, self.low, self.high, self.cost, self.entries = name, integer, low, high, cost, entries
 
 
-class Model:
-    """Columns, rows as (name, low, high), and the objective's constant."""
+class Cut:
+    """A cover of a row's side (1 its lower one, 2 its upper one): literals (place, is it the column itself)."""
 
-    def __init__(self, columns, rows, constant):
+    def __init__(self, row, side, literals):
+        self.row, self.side, self.literals = row, side, literals
+        self.high = Fraction(len(literals) - 1 - sum(1 for _, plus in literals if not plus))
+        self.entries = {place: Fraction(1 if plus else -1) for place, plus in literals}
+
+    def is_row_of(self, other):
+        return self.entries == other.entries and self.high == other.high
+
+    def sum_at(self, point):
+        return sum(point[place] if plus else 1 - point[place] for place, plus in self.literals)
+
+    def words(self, model):
+        literals = (("+" if plus else "-") + model.columns[place].name for place, plus in self.literals)
+        return " ".join([model.rows[self.row][0], "hi" if self.side == 2 else "lo", *literals])
+
+
+class Model:
+    """Columns, rows as (name, low, high), and the objective's constant. The last rows may be those of cuts."""
+
+    def __init__(self, columns, rows, constant, cuts=0):
         self.columns, self.rows, self.constant = columns, rows, constant
         self.size = len(columns) + len(rows)
+        self.own_rows = len(rows) - cuts
 
     def word(self, variable):
-        columns = len(self.columns)
-        if variable < columns:
+        place = variable - len(self.columns)
+        if place < 0:
             return f"col {self.columns[variable].name}"
-        return f"row {self.rows[variable - columns][0]}"
+        return f"row {self.rows[place][0]}" if place < self.own_rows else f"cut {place - self.own_rows + 1}"
+
+    def with_cuts(self, cuts):
+        columns = []
+        for place, c in enumerate(self.columns):
+            more = {len(self.rows) + k: cut.entries[place] for k, cut in enumerate(cuts) if place in cut.entries}
+            columns.append(Column(c.name, c.integer, c.low, c.high, c.cost, c.entries | more))
+        return Model(columns, self.rows + [(None, None, cut.high) for cut in cuts], self.constant, len(cuts))
+
+    def holds(self, cut):
+        """Does the side of the row forbid that the literals are 1 all together?"""
+        chosen, total = dict(cut.literals), Fraction(0)
+        sign = 1 if cut.side == 2 else -1
+        for place, column in enumerate(self.columns):
+            entry = sign * column.entries.get(cut.row, Fraction(0))
+            if place in chosen:
+                total += entry if chosen[place] else 0
+            elif entry != 0:
+                least = column.low if entry > 0 else column.high
+                if least is None:
+                    return False
+                total += entry * least
+        return bool(chosen) and total > sign * self.rows[cut.row][cut.side]
+
+    def covers(self, point):
+        """The greedy covers that a point breaks: of each row, and its upper side before the lower one."""
+        found = []
+        for row in range(self.own_rows):
+            for side in (2, 1):
+                if self.rows[row][side] is None or len(found) == MOST_COVERS:
+                    continue
+                gaps, is_plus = [], {}
+                for place, column in enumerate(self.columns):
+                    entry = column.entries.get(row, Fraction(0)) * (1 if side == 2 else -1)
+                    if entry != 0 and column.integer and (column.low, column.high) == (0, 1):
+                        is_plus[place] = entry > 0
+                        gaps.append((1 - point[place] if entry > 0 else point[place], place))
+                cover = lambda places: Cut(row, side, [(place, is_plus[place]) for place in sorted(places)])
+                taken = []
+                for _, place in sorted(gaps):
+                    if self.holds(cover(taken)):
+                        break
+                    taken.append(place)
+                if not self.holds(cover(taken)):
+                    continue
+                for place in list(taken):
+                    rest = [other for other in taken if other != place]
+                    if self.holds(cover(rest)):
+                        taken = rest
+                if cover(taken).sum_at(point) > len(taken) - 1:
+                    found.append(cover(taken))
+        return found
 
     def value(self, point):
         return self.constant + sum(column.cost * x for column, x in zip(self.columns, point))
@@ -281,6 +354,7 @@ class Leaf:
 class Search:
     def __init__(self, model, nodes=ALL, pivots=ALL):
         self.model, self.nodes, self.pivots = model, nodes, pivots
+        self.cuts, self.form = [], model
         self.root = Leaf((), {}, ([], []))
         self.leaves, self.points, self.placed = [self.root], [], 0
 
@@ -291,9 +365,9 @@ class Search:
         model = self.model
         if model.is_empty(leaf.path):
             return True
-        if leaf.farkas and (model.proved(leaf.path, leaf.farkas, costs=False) or 0) > 0:
+        if leaf.farkas and (self.form.proved(leaf.path, leaf.farkas, costs=False) or 0) > 0:
             return True
-        return self.is_no_better(model.proved(leaf.path, leaf.multipliers))
+        return self.is_no_better(self.form.proved(leaf.path, leaf.multipliers))
 
     def is_no_better(self, number):
         least = self.least()
@@ -307,24 +381,25 @@ class Search:
 
     def next(self):
         """The open leaf with the least number, and of equals the oldest; one without a number comes first."""
-        numbered = [(self.model.proved(leaf.path, leaf.multipliers), leaf) for leaf in self.leaves if leaf.is_open]
+        numbered = [(self.form.proved(leaf.path, leaf.multipliers), leaf) for leaf in self.leaves if leaf.is_open]
         without = [leaf for number, leaf in numbered if number is None]
         return without[0] if without else min(numbered, key=lambda pair: pair[0], default=(None, None))[1]
 
     def known(self):
         leaf = self.next()
-        number = self.model.proved(leaf.path, leaf.multipliers)
+        number = self.form.proved(leaf.path, leaf.multipliers)
         if number is not None and self.model.is_whole():
             number = ceil(number)
         told = lambda x: "none" if x is None else x
         return f"{self.placed} bound {told(number)} best {told(self.least())}"
 
-    def stop_in_moves(self, path, basis):
+    def stop_in_moves(self, path, basis, cuts=()):
         place = " ray"
         if path is not None:
             place = "".join(f" {'<=' if up else '>='} {self.model.columns[at].name} {v}" for at, up, v in path)
-        lists = ["".join(f" {self.model.word(v)}" for v in variables) for variables in basis]
-        block = [f"path{place}", f"basis{lists[0]}", f"high{lists[1]}", "end"]
+        lists = ["".join(f" {self.form.word(v)}" for v in variables) for variables in basis]
+        block = [f"cut {k} {cut.words(self.model)}" for k, cut in enumerate(cuts, 1)]
+        block += [f"path{place}", f"basis{lists[0]}", f"high{lists[1]}", "end"]
         raise Stop([f"stopped pivots {self.known()}", *block])
 
     def direction(self, own_costs):
@@ -353,25 +428,35 @@ class Search:
         return ray, basis
 
     def work(self, leaf, ray, first):
-        """Places the result of a leaf."""
-        model = self.model
-        state = State(Relaxation(model, leaf.path, own_costs=ray is None))
-        if not (state.bring_in(leaf.basis[0]) and state.stand(leaf.basis[1])):
-            assert state.bring_in(first[0]) and state.stand(first[1])
-        end = state.solve(self.pivots)
-        if end == "pivots":
-            self.stop_in_moves(leaf.path, state.lists())
+        """Places the result of a leaf, after rounds with new cuts."""
+        model, begin, made = self.model, leaf.basis, 0
+        while True:
+            activities = [model.size + k for k in range(len(self.cuts))]
+            state = State(Relaxation(self.form, leaf.path, own_costs=ray is None))
+            if not (state.bring_in(begin[0]) and state.stand(begin[1])):
+                assert state.bring_in(first[0] + activities) and state.stand(first[1])
+            end = state.solve(self.pivots)
+            if end == "pivots":
+                self.stop_in_moves(leaf.path, state.lists(), self.cuts)
+            if end != "optimal":
+                break
+            point = state.point()
+            split = next((j for j, c in enumerate(model.columns) if c.integer and point[j].denominator != 1), None)
+            if split is None or made == ROUNDS or not self.add_covers(point):
+                break
+            basic, high = state.lists()
+            begin = basic + [model.size + k for k in range(len(activities), len(self.cuts))], high
+            made += 1
         self.placed += 1
         leaf.multipliers, leaf.basis = state.multipliers(), state.lists()
         if end != "optimal":
             leaf.farkas = end
-            assert model.proved(leaf.path, end, costs=False) > 0
+            assert self.form.proved(leaf.path, end, costs=False) > 0
             leaf.is_open = False
             return
-        point = state.point()
-        assert ray is not None or model.proved(leaf.path, leaf.multipliers) == model.value(point)
-        split = next((j for j, c in enumerate(model.columns) if c.integer and point[j].denominator != 1), None)
+        assert ray is not None or self.form.proved(leaf.path, leaf.multipliers) == model.value(point)
         if split is None:
+            assert all(cut.sum_at(point) <= len(cut.literals) - 1 for cut in self.cuts)
             if ray is not None:
                 assert model.is_feasible(point)
                 lines = [" ".join([word, *model.numbers(x)]) for word, x in [("point", point), ("ray", ray)]]
@@ -383,6 +468,15 @@ class Search:
             leaf.is_open = False
         else:
             self.split(leaf, split, floor(point[split]))
+
+    def add_covers(self, point):
+        """Adds the covers whose row isn't there, and answers whether there was one."""
+        before = len(self.cuts)
+        for cover in self.model.covers(point):
+            if len(self.cuts) < MOST_CUTS and not any(cover.is_row_of(cut) for cut in self.cuts):
+                self.cuts.append(cover)
+        self.form = self.model.with_cuts(self.cuts)
+        return len(self.cuts) > before
 
     def split(self, leaf, place, at):
         changes = [(place, True, Fraction(at)), (place, False, Fraction(at + 1))]
@@ -404,30 +498,43 @@ class Search:
         except Stop as stop:
             return stop.lines, stop.certificate
         if not self.points:
-            return [f"infeasible nodes {self.placed}"], ["cert 1", "claim infeasible", *self.told(self.root), "end"]
+            return [f"infeasible nodes {self.placed}"], ["cert 1", "claim infeasible", *self.told_tree(), "end"]
         best = min(self.points, key=self.model.value)
         numbers = self.model.numbers(best)
         lines = [f"optimal {self.least()} nodes {self.placed}", *(f"x {number}" for number in numbers), "end"]
         claim = ["cert 1", f"claim optimal {self.least()}", " ".join(["point", *numbers])]
-        return lines, [*claim, *self.told(self.root), "end"]
+        return lines, [*claim, *self.told_tree(), "end"]
 
-    def told(self, leaf):
+    def told_tree(self):
+        """The cuts that a leaf's line names, and the nodes."""
+        named = {i for leaf in self.leaves for i in self.reason(leaf)[1] if i >= self.model.own_rows}
+        used = [k for k in range(len(self.cuts)) if self.model.own_rows + k in named]
+        return [f"cut {self.cuts[k].words(self.model)}" for k in used] + self.told(self.root, used)
+
+    def reason(self, leaf):
+        if self.model.is_empty(leaf.path):
+            return "leaf empty", {}
+        return ("leaf farkas", leaf.farkas) if leaf.farkas else ("leaf bound", leaf.multipliers)
+
+    def told(self, leaf, used):
         if leaf.children:
             place, at = leaf.changed
             lines = [f"split {self.model.columns[place].name} {at}"]
-            return lines + self.told(leaf.children[0]) + self.told(leaf.children[1])
-        if self.model.is_empty(leaf.path):
-            return ["leaf empty"]
-        word, multipliers = ("farkas", leaf.farkas) if leaf.farkas else ("bound", leaf.multipliers)
-        return [f"leaf {word}" + "".join(f" row {self.model.rows[i][0]} {y}" for i, y in multipliers.items())]
+            return lines + self.told(leaf.children[0], used) + self.told(leaf.children[1], used)
+        word, multipliers = self.reason(leaf)
+        for i, y in multipliers.items():
+            word += f" row {self.model.rows[i][0]} {y}" if i < self.model.own_rows else f" cut {used.index(i - self.model.own_rows) + 1} {y}"
+        return [word]
 
 
 def draw_number(random, size, denominators):
     return Fraction(random.randint(-size, size), random.choice(denominators))
 
 
-def draw_column(random, name, integer, is_often_free):
+def draw_column(random, name, integer, is_often_free, is_choice):
     """A column without cost and entries, the lines of its bounds, and a number within them, or near them."""
+    if is_choice:
+        return Column(name, True, Fraction(0), Fraction(1), None, {}), [f"BV {name}"], random.randint(0, 1)
     if integer:
         low = random.randint(-3, 2)
         high = low + random.choice([0, 1, 1, 1, 2, 2, 2, 3, 3, 3] if random.random() < 0.98 else [-1])
@@ -452,11 +559,13 @@ def draw_model(random):
     """A model, and the lines of its file."""
     size, denominators = random.choice([(3, [1]), (9, [1]), (9, [1, 1, 1, 2, 3])])
     share_of_integers, is_often_free = random.choice([0, 0.5, 0.5, 1, 1]), random.choice([True, False, False])
+    share_of_choices = random.choice([0, 0, 0.9, 1])
     share_of_entries = random.choice([0.5, 0.9])
     rows = [(f"R{i}", random.choice("LLGGE")) for i in range(random.choice([0, 1, 1, 2, 2, 3, 3, 4]))]
     columns, near, data, bounds = [], [], [], []
-    for j in range(random.choice([0, 1, 2, 2, 3, 3, 4, 5])):
-        drawn = draw_column(random, f"X{j}", random.random() < share_of_integers, is_often_free)
+    for j in range(random.choice([4, 5, 6]) if share_of_choices else random.choice([0, 1, 2, 2, 3, 3, 4, 5])):
+        is_choice = random.random() < share_of_choices
+        drawn = draw_column(random, f"X{j}", is_choice or random.random() < share_of_integers, is_often_free, is_choice)
         column = drawn[0]
         bounds += drawn[1]
         near.append(drawn[2])

@@ -2,7 +2,7 @@
 use Rattle.std.specs.Prelude.{◌≡◌, ◌≢◌, pos, ℕ, ◌+◌, ◌<◌, get_or, set, None}
 use Rattle.std.proofs.Common.{sym, ap, ap₂, subst, ◌∙◌}
 use Rattle.std.proofs.lemmas.List.{length-set}
-use Rattle.lp_model.specs.Program.{coefficient}
+use Rattle.row_tableau.specs.Activities.{activity_coefficient}
 use Rattle.rational.specs.Rational.{ℚ, int, ◌+ℚ◌, ◌*ℚ◌}
 use Rattle.checked_sum.proofs.SumLaws.{sum_below-same}
 use Rattle.bases.specs.declared.stand.Stand.{Stand}
@@ -20,11 +20,11 @@ module _ (p : Relaxation) (c : ℕ → ℚ) (d e : Table) (a : Agree p.columns p
 -- the same relaxation and costs with the tableau that stands after it
 module _ (s after : Held) (shape : HasShape s) (row : ℕ) (side : Stand) (place : ℕ) (move : IsMove s after row side place) where
   abbrev pub made : Held
-  made = record { model = s.model; low = s.low; high = s.high; cost = s.cost; tilt = s.tilt; order = s.order; tableau = after.tableau; stands = set s.stands place side }
+  made = record { form = s.form; low = s.low; high = s.high; cost = s.cost; tilt = s.tilt; order = s.order; tableau = after.tableau; stands = set s.stands place side }
 
   pub made_is : made ≡ after
   made_is = λ i. record {
-    model = sym move.model i;
+    form = sym move.form i;
     low = sym move.low i;
     high = sym move.high i;
     cost = sym move.cost i;
@@ -38,7 +38,7 @@ module _ (s after : Held) (shape : HasShape s) (row : ℕ) (side : Stand) (place
   made_relaxation = λ i. record {
     columns = sym move.columns i;
     activities = sym move.activities i;
-    coefficient = coefficient s.model;
+    coefficient = activity_coefficient s.form;
     low = λ v. get_or s.low v None;
     high = λ v. get_or s.high v None;
     cost = λ v. get_or s.cost v (int (pos 0));

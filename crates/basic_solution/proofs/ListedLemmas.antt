@@ -3,7 +3,7 @@ use Rattle.std.specs.Prelude.{◌≡◌, ℕ, ◌+◌, ◌<◌, ltb, if◌then�
 use Rattle.std.specs.Option.{IsSomeAnd}
 use Rattle.std.proofs.Common.{refl, sym, ap, subst, ◌∙◌, inr}
 use Rattle.rational.specs.Rational.{int}
-use Rattle.lp_model.specs.Program.{coefficient}
+use Rattle.row_tableau.specs.Activities.{activity_coefficient}
 use Rattle.lp_model.specs.declared.types.Var.{Var}
 use Rattle.lp_model.specs.declared.types.Var.TheVariants.{Col, Row, Cut}
 use Rattle.lp_model.specs.declared.types.Basis.{Basis}
@@ -26,11 +26,11 @@ use Rattle.basic_solution.specs.ListedStates.{IsStandBy, StandBy, StandsAsListed
 module _ (s t : Held) (keeps : Keeps s t) where
   -- the state after, of the lists before
   abbrev pub held_on : Held
-  held_on = record { model = s.model; low = s.low; high = s.high; cost = s.cost; tilt = s.tilt; order = s.order; tableau = t.tableau; stands = t.stands }
+  held_on = record { form = s.form; low = s.low; high = s.high; cost = s.cost; tilt = s.tilt; order = s.order; tableau = t.tableau; stands = t.stands }
 
   pub held_on_is : held_on ≡ t
   held_on_is = λ i. record {
-    model = sym keeps.model i;
+    form = sym keeps.form i;
     low = sym keeps.low i;
     high = sym keeps.high i;
     cost = sym keeps.cost i;
@@ -44,7 +44,7 @@ module _ (s t : Held) (keeps : Keeps s t) where
   held_relaxation = λ i. record {
     columns = sym keeps.columns i;
     activities = sym keeps.activities i;
-    coefficient = coefficient s.model;
+    coefficient = activity_coefficient s.form;
     low = λ v. get_or s.low v None;
     high = λ v. get_or s.high v None;
     cost = λ v. get_or s.cost v (int (pos 0));
@@ -75,7 +75,7 @@ module _ (s t : Held) (keeps : Keeps s t) where
 
   pub keeps_of : (relax : Relax) → IsOf relax s → IsOf relax t
   keeps_of relax is = subst (IsOf relax) held_on_is (record {
-    model = is.model;
+    form = is.form;
     tableau = keeps.basis (relaxation_of relax) is.tableau;
     rows = keeps.rows ∙ is.rows;
     low = λ v w. is.low v (back v w);
@@ -87,7 +87,7 @@ module _ (s t : Held) (keeps : Keeps s t) where
 
 pub keeps_restood : (s t : Held) → IsRestood s t → Keeps s t
 keeps_restood s t e = subst (Keeps s) (sym e) (record {
-  model = refl;
+  form = refl;
   low = refl;
   high = refl;
   cost = refl;
@@ -101,7 +101,7 @@ keeps_restood s t e = subst (Keeps s) (sym e) (record {
 
 pub keeps_trans : (s t u : Held) → Keeps s t → Keeps t u → Keeps s u
 keeps_trans s t u a b = record {
-  model = b.model ∙ a.model;
+  form = b.form ∙ a.form;
   low = b.low ∙ a.low;
   high = b.high ∙ a.high;
   cost = b.cost ∙ a.cost;

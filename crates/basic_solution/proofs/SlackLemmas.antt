@@ -7,7 +7,8 @@ use Rattle.rational.specs.Rational.{ℚ, int, ◌+ℚ◌, ◌*ℚ◌}
 use Rattle.rational.proofs.RationalRing.{ring, reads_ℚ}
 use Rattle.checked_sum.specs.Sums.{sum_below}
 use Rattle.checked_sum.proofs.SumLaws.{sum_below-same}
-use Rattle.lp_model.specs.Program.{Program, coefficient, cost, in_least_form}
+use Rattle.lp_model.specs.Program.{cost, in_least_form}
+use Rattle.lp_model.specs.Formulations.{Formulation}
 use Rattle.lp_model.specs.Regions.{Path}
 use Rattle.bases.specs.declared.stand.Stand.{Stand}
 use Rattle.bases.specs.declared.stand.Stand.TheVariants.{Low, High, Free}
@@ -23,7 +24,8 @@ use Rattle.bases.proofs.ReducedCosts.{reduced_alone-nonbasic}
 use Rattle.row_tableau.specs.declared.relax.Relax.{Relax}
 use Rattle.row_tableau.specs.declared.relax.RelaxKind.{RelaxKind}
 use Rattle.row_tableau.specs.declared.relax.RelaxKind.TheVariants.{Plain, CostsZero, Directions}
-use Rattle.row_tableau.specs.Relaxations.{plain, of_kind, relaxation_of}
+use Rattle.row_tableau.specs.Activities.{activity_count, activity_coefficient}
+use Rattle.row_tableau.specs.Relaxations.{form_of, plain, of_kind, relaxation_of}
 use Rattle.row_tableau.specs.Dense.{IsTableauOf}
 use Rattle.basic_solution.specs.Held.{Held, HasShape, IsSided, IsLawfulHeld, relaxation, parts, state, table, variables, own_cost}
 use Rattle.basic_solution.specs.Tilts.{tilt_of, order_of, tilted_cost, parts_of, KeepsFree}
@@ -46,28 +48,28 @@ kind_activities CostsZero p = refl
 kind_activities Directions p = refl
 
 -- the activities have no costs
-activity_free : (kind : RelaxKind) (M : Program) (path : Path) (i : ℕ) → (of_kind kind (plain M path)).cost (length M.cols + i) ≡ int (pos 0)
-activity_free Plain M path i = ap (λ b. if b then in_least_form M.sense (cost M 1 (length M.cols + i)) else int (pos 0)) (le-ltb (length M.cols + i) (length M.cols) (omega arith))
-activity_free CostsZero M path i = refl
-activity_free Directions M path i = ap (λ b. if b then in_least_form M.sense (cost M 1 (length M.cols + i)) else int (pos 0)) (le-ltb (length M.cols + i) (length M.cols) (omega arith))
+activity_free : (kind : RelaxKind) (F : Formulation) (path : Path) (i : ℕ) → (of_kind kind (plain F path)).cost (length F.model.cols + i) ≡ int (pos 0)
+activity_free Plain F path i = ap (λ b. if b then in_least_form F.model.sense (cost F.model 1 (length F.model.cols + i)) else int (pos 0)) (le-ltb (length F.model.cols + i) (length F.model.cols) (omega arith))
+activity_free CostsZero F path i = refl
+activity_free Directions F path i = ap (λ b. if b then in_least_form F.model.sense (cost F.model 1 (length F.model.cols + i)) else int (pos 0)) (le-ltb (length F.model.cols + i) (length F.model.cols) (omega arith))
 
 -- ---- a state of a relaxation
 
 module _ (relax : Relax) (s : Held) (is : IsOf relax s) where
-  abbrev M : Program
-  M = relax.model.now
+  abbrev F : Formulation
+  F = form_of relax
 
-  pub columns_is : s.tableau.columns ≡ length M.cols
-  columns_is = is.tableau.columns ∙ kind_columns relax.kind (plain M relax.region.now)
+  pub columns_is : s.tableau.columns ≡ length F.model.cols
+  columns_is = is.tableau.columns ∙ kind_columns relax.kind (plain F relax.region.now)
 
-  pub activities_is : s.tableau.activities ≡ length M.rows
-  activities_is = is.tableau.activities ∙ kind_activities relax.kind (plain M relax.region.now)
+  pub activities_is : s.tableau.activities ≡ activity_count F
+  activities_is = is.tableau.activities ∙ kind_activities relax.kind (plain F relax.region.now)
 
-  pub count_is : variables s ≡ length M.cols + length M.rows
+  pub count_is : variables s ≡ length F.model.cols + activity_count F
   count_is = λ i. columns_is i + activities_is i
 
   abbrev tilt : ℕ → Stand
-  tilt = tilt_of relax.kind M
+  tilt = tilt_of relax.kind F
 
   tilt_same : (own v : ℕ) → v < variables s → own_cost s own v ≡ tilted_cost tilt own v
   tilt_same own v w = ⊎_elim
@@ -76,11 +78,11 @@ module _ (relax : Relax) (s : Held) (is : IsOf relax s) where
       (cases_eq v own)
 
   -- its perturbed costs are the relaxation's
-  pub parts_same : (q v : ℕ) → v < variables s → parts s q v ≡ parts_of relax.kind M relax.region.now q v
+  pub parts_same : (q v : ℕ) → v < variables s → parts s q v ≡ parts_of relax.kind F relax.region.now q v
   parts_same zero v w = is.cost v w
   parts_same (suc q) v w =
       ap (λ o. if ltb q (length o) then own_cost s (get_or o q 0) v else int (pos 0)) is.order
-      ∙ ap (λ x. if ltb q (length (order_of relax.kind M)) then x else int (pos 0)) (tilt_same (get_or (order_of relax.kind M) q 0) v w)
+      ∙ ap (λ x. if ltb q (length (order_of relax.kind F)) then x else int (pos 0)) (tilt_same (get_or (order_of relax.kind F) q 0) v w)
 
   module _ (shape : HasShape s) where
     -- a variable with a side is there
@@ -89,13 +91,13 @@ module _ (relax : Relax) (s : Held) (is : IsOf relax s) where
         (λ past. absurd (some (get_or_past s.low v None (let e = shape.low_length in omega (arith, e, past)), get_or_past s.high v None (let e = shape.high_length in omega (arith, e, past)))))
         (cases_lt v (variables s))
 
-    pub separates_state : KeepsFree M relax.region.now → Separates (relaxation s) (parts s)
+    pub separates_state : KeepsFree F.model relax.region.now → Separates (relaxation s) (parts s)
     separates_state keeps = separated (relaxation s) (parts s) s.order (λ v. get_or s.tilt v Free) (λ q w v. sym (part_is s q w v)) has
       where
         has : (v : ℕ) → ¬ (IsFree (relaxation s) v) → Lists s.order v × (¬ (get_or s.tilt v Free ≡ Free))
         has v some =
             let w = sided_there v some in
-            let t = tilted M relax.region.now keeps relax.kind v (subst (λ n. v < n) count_is w) (λ free. some (is.low v w ∙ free.0, is.high v w ∙ free.1)) in
+            let t = tilted F relax.region.now keeps relax.kind v (subst (λ n. v < n) count_is w) (λ free. some (is.low v w ∙ free.0, is.high v w ∙ free.1)) in
             (subst (λ o. Lists o v) (sym is.order) t.0, λ e. t.1 (sym (is.tilt v w) ∙ e))
 
 -- ---- where places stand
@@ -138,7 +140,7 @@ restood_sided s stands size sided = record {
 
 pub restood_of : (relax : Relax) (s t : Held) → IsRestood s t → IsOf relax s → IsOf relax t
 restood_of relax s t e is =
-    subst (IsOf relax) (sym e) (record { model = is.model; tableau = is.tableau; rows = is.rows; low = is.low; high = is.high; cost = is.cost; tilt = is.tilt; order = is.order })
+    subst (IsOf relax) (sym e) (record { form = is.form; tableau = is.tableau; rows = is.rows; low = is.low; high = is.high; cost = is.cost; tilt = is.tilt; order = is.order })
 
 -- ---- the slack state
 
@@ -150,10 +152,10 @@ module _ (relax : Relax) (s : Held) (at : IsSlackState relax s) where
   abbrev path : Path
   path = relax.region.now
 
-  abbrev N : Program
-  N = relax.model.now
+  abbrev N : Formulation
+  N = form_of relax
 
-  pub sided_slack : HasShape s → KeepsFree N path → IsSided s
+  pub sided_slack : HasShape s → KeepsFree N.model path → IsSided s
   sided_slack shape keeps = record {
     shape = shape;
     separates = separates_state relax s at.is shape keeps;
@@ -178,13 +180,13 @@ module _ (relax : Relax) (s : Held) (at : IsSlackState relax s) where
 
   -- the parts of its reduced costs are those of the relaxation
   reduced_slack : (k q : ℕ) → k < s.tableau.columns
-      → reduced_parts (relaxation s) (parts s) (table s) k q ≡ parts_of relax.kind N path q k +ℚ sum_below (length N.rows) (λ i. parts_of relax.kind N path q (length N.cols + i) *ℚ coefficient N i k)
+      → reduced_parts (relaxation s) (parts s) (table s) k q ≡ parts_of relax.kind N path q k +ℚ sum_below (activity_count N) (λ i. parts_of relax.kind N path q (length N.model.cols + i) *ℚ activity_coefficient N i k)
   reduced_slack k q w =
       sym (reduced_agree (relaxation s) (parts s q) (slack_table (relaxation s)) (table s) at.slack k w)
       ∙ ap₂ ◌+ℚ◌ (parts_same relax s at.is q k (omega (arith, w)))
-      (sum_below-same s.tableau.activities _ (λ i. parts_of relax.kind N path q (s.tableau.columns + i) *ℚ coefficient N i k)
-      (λ i v. ap₂ ◌*ℚ◌ (parts_same relax s at.is q (s.tableau.columns + i) (omega (arith, v))) (ap (λ m. coefficient m i k) at.is.model))
-      ∙ (λ j. sum_below (activities_is relax s at.is j) (λ i. parts_of relax.kind N path q (columns_is relax s at.is j + i) *ℚ coefficient N i k)))
+      (sum_below-same s.tableau.activities _ (λ i. parts_of relax.kind N path q (s.tableau.columns + i) *ℚ activity_coefficient N i k)
+      (λ i v. ap₂ ◌*ℚ◌ (parts_same relax s at.is q (s.tableau.columns + i) (omega (arith, v))) (ap (λ m. activity_coefficient m i k) at.is.form))
+      ∙ (λ j. sum_below (activities_is relax s at.is j) (λ i. parts_of relax.kind N path q (columns_is relax s at.is j + i) *ℚ activity_coefficient N i k)))
 
   pub nonbasic_slack : (k : ℕ) → k < s.tableau.columns → (table s).nonbasic k ≡ k
   nonbasic_slack k w = at.slack.nonbasic k w
@@ -224,13 +226,13 @@ module _ (relax : Relax) (kind : relax.kind ≡ Directions) (s : Held) (at : IsS
 
   low_there : IsSome ((relaxation s).low ((table s).nonbasic k))
   low_there = subst IsSome
-      (sym (low_slack relax s at k w ∙ ap (λ d. (of_kind d (plain relax.model.now relax.region.now)).low k) kind))
-      (direction_some (ltb k (length relax.model.now.cols)) _ ((plain relax.model.now relax.region.now).low k) column)
+      (sym (low_slack relax s at k w ∙ ap (λ d. (of_kind d (plain (form_of relax) relax.region.now)).low k) kind))
+      (direction_some (ltb k (length relax.model.now.cols)) _ ((plain (form_of relax) relax.region.now).low k) column)
 
   high_there : IsSome ((relaxation s).high ((table s).nonbasic k))
   high_there = subst IsSome
-      (sym (high_slack relax s at k w ∙ ap (λ d. (of_kind d (plain relax.model.now relax.region.now)).high k) kind))
-      (direction_some (ltb k (length relax.model.now.cols)) _ ((plain relax.model.now relax.region.now).high k) column)
+      (sym (high_slack relax s at k w ∙ ap (λ d. (of_kind d (plain (form_of relax) relax.region.now)).high k) kind))
+      (direction_some (ltb k (length relax.model.now.cols)) _ ((plain (form_of relax) relax.region.now).high k) column)
 
   -- each column has both sides, and is asked for one
   pub never_misplaced : ¬ (IsMisplaced s k)
@@ -243,24 +245,24 @@ module _ (relax : Relax) (kind : relax.kind ≡ Directions) (s : Held) (at : IsS
 
 -- ---- from the lists that were read off a relaxation
 
-module _ (relax : Relax) (s : Held) (model : s.model ≡ relax.model.now)
-    (columns : s.tableau.columns ≡ length relax.model.now.cols) (activities : s.tableau.activities ≡ length relax.model.now.rows) (rows : s.tableau.rows ≡ length relax.model.now.rows)
-    (tableau : IsTableauOf (relaxation_of relax) s.tableau) (slack : Agree (length relax.model.now.cols) (length relax.model.now.rows) (table s) (slack_table (plain relax.model.now relax.region.now)))
-    (low_length : length s.low ≡ length relax.model.now.cols + length relax.model.now.rows) (low : (v : ℕ) → v < length relax.model.now.cols + length relax.model.now.rows → get_or s.low v None ≡ (relaxation_of relax).low v)
-    (high_length : length s.high ≡ length relax.model.now.cols + length relax.model.now.rows) (high : (v : ℕ) → v < length relax.model.now.cols + length relax.model.now.rows → get_or s.high v None ≡ (relaxation_of relax).high v)
-    (cost_length : length s.cost ≡ length relax.model.now.cols + length relax.model.now.rows) (costs : (v : ℕ) → v < length relax.model.now.cols + length relax.model.now.rows → get_or s.cost v (int (pos 0)) ≡ (relaxation_of relax).cost v)
-    (tilt_length : length s.tilt ≡ length relax.model.now.cols + length relax.model.now.rows) (tilts : (v : ℕ) → v < length relax.model.now.cols + length relax.model.now.rows → get_or s.tilt v Free ≡ tilt_of relax.kind relax.model.now v)
-    (order : s.order ≡ order_of relax.kind relax.model.now) (stands_length : length s.stands ≡ length relax.model.now.cols) where
-  same_count : variables s ≡ length relax.model.now.cols + length relax.model.now.rows
+module _ (relax : Relax) (s : Held) (form : s.form ≡ form_of relax)
+    (columns : s.tableau.columns ≡ length relax.model.now.cols) (activities : s.tableau.activities ≡ activity_count (form_of relax)) (rows : s.tableau.rows ≡ length relax.model.now.rows)
+    (tableau : IsTableauOf (relaxation_of relax) s.tableau) (slack : Agree (length relax.model.now.cols) (activity_count (form_of relax)) (table s) (slack_table (plain (form_of relax) relax.region.now)))
+    (low_length : length s.low ≡ length relax.model.now.cols + activity_count (form_of relax)) (low : (v : ℕ) → v < length relax.model.now.cols + activity_count (form_of relax) → get_or s.low v None ≡ (relaxation_of relax).low v)
+    (high_length : length s.high ≡ length relax.model.now.cols + activity_count (form_of relax)) (high : (v : ℕ) → v < length relax.model.now.cols + activity_count (form_of relax) → get_or s.high v None ≡ (relaxation_of relax).high v)
+    (cost_length : length s.cost ≡ length relax.model.now.cols + activity_count (form_of relax)) (costs : (v : ℕ) → v < length relax.model.now.cols + activity_count (form_of relax) → get_or s.cost v (int (pos 0)) ≡ (relaxation_of relax).cost v)
+    (tilt_length : length s.tilt ≡ length relax.model.now.cols + activity_count (form_of relax)) (tilts : (v : ℕ) → v < length relax.model.now.cols + activity_count (form_of relax) → get_or s.tilt v Free ≡ tilt_of relax.kind (form_of relax) v)
+    (order : s.order ≡ order_of relax.kind (form_of relax)) (stands_length : length s.stands ≡ length relax.model.now.cols) where
+  same_count : variables s ≡ length relax.model.now.cols + activity_count (form_of relax)
   same_count = λ i. columns i + activities i
 
-  there : (v : ℕ) → v < variables s → v < length relax.model.now.cols + length relax.model.now.rows
+  there : (v : ℕ) → v < variables s → v < length relax.model.now.cols + activity_count (form_of relax)
   there v q = subst (λ n. v < n) same_count q
 
   pub slack_state : IsSlackState relax s
   slack_state = record {
     is = record {
-      model = model;
+      form = form;
       tableau = tableau;
       rows = rows;
       low = λ v q. low v (there v q);
@@ -272,7 +274,7 @@ module _ (relax : Relax) (s : Held) (model : s.model ≡ relax.model.now)
     slack = record {
       basic = λ i q. slack.basic i (subst (λ n. i < n) activities q) ∙ ap (λ n. n + i) (sym columns);
       nonbasic = λ k q. slack.nonbasic k (subst (λ n. k < n) columns q);
-      entry = λ i k p q. slack.entry i k (subst (λ n. i < n) activities p) (subst (λ n. k < n) columns q) ∙ ap (λ m. coefficient m i k) (sym model);
+      entry = λ i k p q. slack.entry i k (subst (λ n. i < n) activities p) (subst (λ n. k < n) columns q) ∙ ap (λ m. activity_coefficient m i k) (sym form);
     };
   }
 
@@ -282,7 +284,7 @@ module _ (relax : Relax) (s : Held) (model : s.model ≡ relax.model.now)
     high_length = high_length ∙ sym same_count;
     cost_length = cost_length ∙ sym same_count;
     tilt_length = tilt_length ∙ sym same_count;
-    order_there = λ q w. subst (λ n. get_or s.order q 0 < n) (sym same_count) (listed_there relax.model.now relax.region.now relax.kind (get_or s.order q 0) (subst (λ o. Lists o (get_or s.order q 0)) order (q, w, refl)));
+    order_there = λ q w. subst (λ n. get_or s.order q 0 < n) (sym same_count) (listed_there (form_of relax) relax.region.now relax.kind (get_or s.order q 0) (subst (λ o. Lists o (get_or s.order q 0)) order (q, w, refl)));
     stands_length = stands_length ∙ sym columns;
   }
 

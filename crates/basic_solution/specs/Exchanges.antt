@@ -6,7 +6,7 @@ use Rattle.basic_solution.specs.Held.{Held, table}
 
 -- the variable of the row leaves for the side and that of the place enters: all else stays
 pub record IsMove (s after : Held) (row : ℕ) (side : Stand) (place : ℕ) : Type 0 where
-  pub model : after.model ≡ s.model
+  pub form : after.form ≡ s.form
   pub low : after.low ≡ s.low
   pub high : after.high ≡ s.high
   pub cost : after.cost ≡ s.cost

@@ -1,7 +1,8 @@
 -- What a contract sees of a state: a relaxation, the parts of its costs, a table, and where the nonbasic variables stand.
 use Rattle.std.specs.Prelude.{◌≡◌, ℕ, zero, suc, ◌+◌, ◌<◌, ltb, ◌==◌, if◌then◌else◌, List, length, get_or, pos, Option, None}
 use Rattle.rational.specs.Rational.{ℚ, int}
-use Rattle.lp_model.specs.Program.{Program, coefficient}
+use Rattle.lp_model.specs.Formulations.{Formulation}
+use Rattle.row_tableau.specs.Activities.{activity_coefficient}
 use Rattle.bases.specs.Relaxation.{Relaxation, Table}
 use Rattle.bases.specs.declared.stand.Stand.{Stand}
 use Rattle.bases.specs.declared.stand.Stand.TheVariants.{Free}
@@ -12,7 +13,7 @@ use Rattle.row_tableau.specs.Dense.{Dense, table_of}
 
 -- sides, costs and tilts by variable, and the variables that have a tilt in the order of the parts
 pub record Held : Type 0 where
-  pub model : Program
+  pub form : Formulation
   pub low : List (Option ℚ)
   pub high : List (Option ℚ)
   pub cost : List ℚ
@@ -28,12 +29,12 @@ table s = table_of s.tableau
 abbrev pub variables : Held → ℕ
 variables s = s.tableau.columns + s.tableau.activities
 
--- the model's coefficients, with the sides and the costs
+-- the coefficients of rows and cuts, with the sides and the costs
 abbrev pub relaxation : Held → Relaxation
 relaxation s = record {
   columns = s.tableau.columns;
   activities = s.tableau.activities;
-  coefficient = coefficient s.model;
+  coefficient = activity_coefficient s.form;
   low = λ v. get_or s.low v None;
   high = λ v. get_or s.high v None;
   cost = λ v. get_or s.cost v (int (pos 0));

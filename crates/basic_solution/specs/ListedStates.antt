@@ -41,7 +41,7 @@ pub record IsLawfulBasis (relax : Relax) (list : Basis) : Type 0 where
 
 -- the same but for the tableau, which is of the same relaxations, and for where the nonbasic variables stand
 pub record Keeps (s after : Held) : Type 0 where
-  pub model : after.model ≡ s.model
+  pub form : after.form ≡ s.form
   pub low : after.low ≡ s.low
   pub high : after.high ≡ s.high
   pub cost : after.cost ≡ s.cost

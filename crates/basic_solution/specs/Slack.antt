@@ -6,21 +6,21 @@ use Rattle.bases.specs.declared.stand.Stand.TheVariants.{Low, High, Free}
 use Rattle.bases.specs.Relaxation.{Agree, slack_table}
 use Rattle.bases.specs.States.{LawfulAt, reduced_parts}
 use Rattle.row_tableau.specs.declared.relax.Relax.{Relax}
-use Rattle.row_tableau.specs.Relaxations.{relaxation_of}
+use Rattle.row_tableau.specs.Relaxations.{form_of, relaxation_of}
 use Rattle.row_tableau.specs.Dense.{IsTableauOf}
 use Rattle.basic_solution.specs.Held.{Held, IsLawfulHeld, relaxation, parts, table, variables}
 use Rattle.basic_solution.specs.Tilts.{tilt_of, order_of}
 
 -- the tableau is one of the relaxation, and sides, costs, tilts and the order of the parts are the relaxation's
 pub record IsOf (relax : Relax) (s : Held) : Type 0 where
-  pub model : s.model ≡ relax.model.now
+  pub form : s.form ≡ form_of relax
   pub tableau : IsTableauOf (relaxation_of relax) s.tableau
   pub rows : s.tableau.rows ≡ length relax.model.now.rows
   pub low : (v : ℕ) → v < variables s → (relaxation s).low v ≡ (relaxation_of relax).low v
   pub high : (v : ℕ) → v < variables s → (relaxation s).high v ≡ (relaxation_of relax).high v
   pub cost : (v : ℕ) → v < variables s → (relaxation s).cost v ≡ (relaxation_of relax).cost v
-  pub tilt : (v : ℕ) → v < variables s → get_or s.tilt v Free ≡ tilt_of relax.kind relax.model.now v
-  pub order : s.order ≡ order_of relax.kind relax.model.now
+  pub tilt : (v : ℕ) → v < variables s → get_or s.tilt v Free ≡ tilt_of relax.kind (form_of relax) v
+  pub order : s.order ≡ order_of relax.kind (form_of relax)
 
 -- and the table is that of the slack basis
 pub record IsSlackState (relax : Relax) (s : Held) : Type 0 where

@@ -3,7 +3,9 @@ use Rattle.std.specs.Prelude.{◌≡◌, ℕ, ◌+◌, ◌<◌, zero, suc, pos, 
 use Rattle.std.specs.List.{range_with_len}
 use Rattle.rational.specs.Rational.{ℚ, int}
 use Rattle.bases.specs.States.{sign}
-use Rattle.lp_model.specs.Program.{Program, lower, upper, low_side, high_side}
+use Rattle.lp_model.specs.Program.{Program, lower, upper}
+use Rattle.lp_model.specs.Formulations.{Formulation}
+use Rattle.row_tableau.specs.Activities.{activity_count, activity_low, activity_high}
 use Rattle.lp_model.specs.Regions.{Path, region_low, region_high}
 use Rattle.bases.specs.declared.stand.Stand.{Stand}
 use Rattle.bases.specs.declared.stand.Stand.TheVariants.{Low, High, Free}
@@ -12,11 +14,11 @@ use Rattle.row_tableau.specs.declared.relax.RelaxKind.TheVariants.{Plain, CostsZ
 use Rattle.row_tableau.specs.Relaxations.{by_variable, plain, of_kind}
 
 -- the sides that a variable has in the model, whatever the region
-abbrev pub model_low : Program → ℕ → Option ℚ
-model_low M = by_variable (length M.cols) (lower M) (low_side M)
+abbrev pub model_low : Formulation → ℕ → Option ℚ
+model_low F = by_variable (length F.model.cols) (lower F.model) (activity_low F)
 
-abbrev pub model_high : Program → ℕ → Option ℚ
-model_high M = by_variable (length M.cols) (upper M) (high_side M)
+abbrev pub model_high : Formulation → ℕ → Option ℚ
+model_high F = by_variable (length F.model.cols) (upper F.model) (activity_high F)
 
 -- the low side where there is one, else the high one, else what is given
 abbrev pub stand_by_sides : Stand → Option ℚ → Option ℚ → Stand
@@ -31,30 +33,30 @@ free_tilt CostsZero columns v = Free
 free_tilt Directions columns v = if ltb v columns then Low else Free
 
 -- how a variable's cost is tilted: up where it has a low side in the model, down where it has a high side alone
-abbrev pub tilt_of : RelaxKind → Program → ℕ → Stand
-tilt_of kind M v = stand_by_sides (free_tilt kind (length M.cols) v) (model_low M v) (model_high M v)
+abbrev pub tilt_of : RelaxKind → Formulation → ℕ → Stand
+tilt_of kind F v = stand_by_sides (free_tilt kind (length F.model.cols) v) (model_low F v) (model_high F v)
 
 abbrev pub has_side : Option ℚ → Option ℚ → Bool
 has_side (Some x) high = true
 has_side None (Some x) = true
 has_side None None = false
 
-abbrev pub is_sided : Program → ℕ → Bool
-is_sided M v = has_side (model_low M v) (model_high M v)
+abbrev pub is_sided : Formulation → ℕ → Bool
+is_sided F v = has_side (model_low F v) (model_high F v)
 
 -- the variables that have a side in the model, rising
-abbrev pub sided : Program → List ℕ
-sided M = filter (is_sided M) (range_with_len 0 (length M.cols + length M.rows))
+abbrev pub sided : Formulation → List ℕ
+sided F = filter (is_sided F) (range_with_len 0 (length F.model.cols + activity_count F))
 
 -- the columns that have none, rising
-abbrev pub unsided : Program → List ℕ
-unsided M = filter (λ v. not (is_sided M v)) (range_with_len 0 (length M.cols))
+abbrev pub unsided : Formulation → List ℕ
+unsided F = filter (λ v. not (is_sided F v)) (range_with_len 0 (length F.model.cols))
 
 -- the variables that have a part, in the order of the parts: those with sides, and in the directions then the columns without
-abbrev pub order_of : RelaxKind → Program → List ℕ
-order_of Plain M = sided M
-order_of CostsZero M = sided M
-order_of Directions M = sided M ++ unsided M
+abbrev pub order_of : RelaxKind → Formulation → List ℕ
+order_of Plain F = sided F
+order_of CostsZero F = sided F
+order_of Directions F = sided F ++ unsided F
 
 -- a column that has no side in the model has none in the region
 abbrev pub KeepsFree : Program → Path → Type 0
@@ -65,6 +67,6 @@ abbrev pub tilted_cost : (ℕ → Stand) → ℕ → ℕ → ℚ
 tilted_cost tilt own v = if v == own then sign (tilt own) else int (pos 0)
 
 -- the perturbed costs: the costs, and then for each variable of the order a part in which it alone has a cost
-abbrev pub parts_of : RelaxKind → Program → Path → ℕ → ℕ → ℚ
-parts_of kind M path zero v = (of_kind kind (plain M path)).cost v
-parts_of kind M path (suc q) v = if ltb q (length (order_of kind M)) then tilted_cost (tilt_of kind M) (get_or (order_of kind M) q 0) v else int (pos 0)
+abbrev pub parts_of : RelaxKind → Formulation → Path → ℕ → ℕ → ℚ
+parts_of kind F path zero v = (of_kind kind (plain F path)).cost v
+parts_of kind F path (suc q) v = if ltb q (length (order_of kind F)) then tilted_cost (tilt_of kind F) (get_or (order_of kind F) q 0) v else int (pos 0)

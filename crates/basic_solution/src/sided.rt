@@ -8,7 +8,7 @@ ghost use Rattle.basic_solution.specs.Held.{IsSided, table, variables};
 
 use bases::Stand;
 use frac128::Frac;
-use lp_model::{Bound, Model, Var};
+use lp_model::{Bound, CutRow, Model, Var};
 use row_tableau::{Position, Tableau};
 
 /// The table of a basis of a relaxation, and where its nonbasic variables stand, by place: lawful or not. Sides, costs and
@@ -17,6 +17,7 @@ use row_tableau::{Position, Tableau};
 #[derive(Drop)]
 pub struct SidedBasis<'a> {
     pub(crate) model: &'a Model,
+    pub(crate) cuts: &'a [CutRow],
     pub(crate) low: Vec<Bound>,
     pub(crate) high: Vec<Bound>,
     pub(crate) cost: Vec<Frac>,
@@ -31,9 +32,11 @@ impl<'a> std::marker::Model for SidedBasis<'a> {
 
     ghost Value = { Held };
 
-    ghost view = { λ s. record { model = s.model.now; low = s.low.items; high = s.high.items; cost = s.cost.items; tilt = s.tilt.items; order = s.order.items; tableau = s.tableau; stands = s.stands.items } };
+    ghost use Rattle.lp_model.specs.Formulations.{formulation};
 
-    ghost invariant = { λ s. IsSided (record { model = s.model.now; low = s.low.items; high = s.high.items; cost = s.cost.items; tilt = s.tilt.items; order = s.order.items; tableau = s.tableau; stands = s.stands.items }) };
+    ghost view = { λ s. record { form = formulation s.model.now s.cuts.now; low = s.low.items; high = s.high.items; cost = s.cost.items; tilt = s.tilt.items; order = s.order.items; tableau = s.tableau; stands = s.stands.items } };
+
+    ghost invariant = { λ s. IsSided (record { form = formulation s.model.now s.cuts.now; low = s.low.items; high = s.high.items; cost = s.cost.items; tilt = s.tilt.items; order = s.order.items; tableau = s.tableau; stands = s.stands.items }) };
 }
 
 impl SidedBasis<'_> {

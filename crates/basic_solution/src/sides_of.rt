@@ -2,7 +2,8 @@
 ghost use Rattle.std.specs.Prelude.{◌≡◌, ◌<◌, ◌+◌, ℕ, length, get_or, pos, IfOk, None};
 ghost use Rattle.rational.specs.Rational.{int};
 ghost use Rattle.lp_model.specs.Regions.{AreNarrow};
-ghost use Rattle.row_tableau.specs.Relaxations.{plain, relaxation_of};
+ghost use Rattle.row_tableau.specs.Activities.{activity_count, activity_low, activity_high};
+ghost use Rattle.row_tableau.specs.Relaxations.{HasFewCuts, form_of, plain, relaxation_of};
 ghost use Rattle.bases.specs.Directions.{direction_side};
 
 use frac128::Frac;
@@ -12,29 +13,29 @@ use std::alloc::{AllocError, Global};
 
 /// The low side that a variable has in the model's relaxation.
 fn plain_low(relax: &Relax<'_>, variable: usize) -> Bound
-    requires within { variable < length relax.now.model.now.cols + length relax.now.model.now.rows }
+    requires within { variable < length relax.now.model.now.cols + activity_count (form_of relax.now) }
     requires narrow { AreNarrow relax.now.region.now }
-    ensures { result ≡ (plain relax.now.model.now relax.now.region.now).low variable }
+    ensures { result ≡ (plain (form_of relax.now) relax.now.region.now).low variable }
 {
     let columns = relax.model.cols().len();
     if variable < columns {
         relax.model.region_low(relax.region, variable)
     } else {
-        relax.model.rows()[variable - columns].lo
+        relax.activity_low(variable - columns)
     }
 }
 
 /// The high side that a variable has in the model's relaxation.
 fn plain_high(relax: &Relax<'_>, variable: usize) -> Bound
-    requires within { variable < length relax.now.model.now.cols + length relax.now.model.now.rows }
+    requires within { variable < length relax.now.model.now.cols + activity_count (form_of relax.now) }
     requires narrow { AreNarrow relax.now.region.now }
-    ensures { result ≡ (plain relax.now.model.now relax.now.region.now).high variable }
+    ensures { result ≡ (plain (form_of relax.now) relax.now.region.now).high variable }
 {
     let columns = relax.model.cols().len();
     if variable < columns {
         relax.model.region_high(relax.region, variable)
     } else {
-        relax.model.rows()[variable - columns].hi
+        relax.activity_high(variable - columns)
     }
 }
 
@@ -51,7 +52,7 @@ fn direction_side(is_column: bool, bound: i64, side: &Bound) -> Bound
 
 /// The low side of a variable.
 pub fn low_of(relax: &Relax<'_>, variable: usize) -> Bound
-    requires within { variable < length relax.now.model.now.cols + length relax.now.model.now.rows }
+    requires within { variable < length relax.now.model.now.cols + activity_count (form_of relax.now) }
     requires narrow { AreNarrow relax.now.region.now }
     ensures { result ≡ (relaxation_of relax.now).low variable }
 {
@@ -65,7 +66,7 @@ pub fn low_of(relax: &Relax<'_>, variable: usize) -> Bound
 
 /// The high side of a variable.
 pub fn high_of(relax: &Relax<'_>, variable: usize) -> Bound
-    requires within { variable < length relax.now.model.now.cols + length relax.now.model.now.rows }
+    requires within { variable < length relax.now.model.now.cols + activity_count (form_of relax.now) }
     requires narrow { AreNarrow relax.now.region.now }
     ensures { result ≡ (relaxation_of relax.now).high variable }
 {
@@ -79,11 +80,12 @@ pub fn high_of(relax: &Relax<'_>, variable: usize) -> Bound
 
 /// The low sides of all variables.
 pub fn lows(alloc: Global, relax: &Relax<'_>) -> Result<Vec<Bound>, AllocError>
-    requires { AreNarrow relax.now.region.now }
-    ensures length { IfOk result (λ v. length v.items ≡ length relax.now.model.now.cols + length relax.now.model.now.rows) }
-    ensures items { IfOk result (λ v. (u : ℕ) → u < length relax.now.model.now.cols + length relax.now.model.now.rows → get_or v.items u None ≡ (relaxation_of relax.now).low u) }
+    requires narrow { AreNarrow relax.now.region.now }
+    requires few { HasFewCuts relax.now }
+    ensures length { IfOk result (λ v. length v.items ≡ length relax.now.model.now.cols + activity_count (form_of relax.now)) }
+    ensures items { IfOk result (λ v. (u : ℕ) → u < length relax.now.model.now.cols + activity_count (form_of relax.now) → get_or v.items u None ≡ (relaxation_of relax.now).low u) }
 {
-    let variables = relax.model.cols().len() + relax.model.rows().len();
+    let variables = relax.variables();
     let mut list = Vec::new(alloc);
     for variable in 0..variables {
         list.push(low_of(relax, variable))?;
@@ -93,11 +95,12 @@ pub fn lows(alloc: Global, relax: &Relax<'_>) -> Result<Vec<Bound>, AllocError>
 
 /// The high sides of all variables.
 pub fn highs(alloc: Global, relax: &Relax<'_>) -> Result<Vec<Bound>, AllocError>
-    requires { AreNarrow relax.now.region.now }
-    ensures length { IfOk result (λ v. length v.items ≡ length relax.now.model.now.cols + length relax.now.model.now.rows) }
-    ensures items { IfOk result (λ v. (u : ℕ) → u < length relax.now.model.now.cols + length relax.now.model.now.rows → get_or v.items u None ≡ (relaxation_of relax.now).high u) }
+    requires narrow { AreNarrow relax.now.region.now }
+    requires few { HasFewCuts relax.now }
+    ensures length { IfOk result (λ v. length v.items ≡ length relax.now.model.now.cols + activity_count (form_of relax.now)) }
+    ensures items { IfOk result (λ v. (u : ℕ) → u < length relax.now.model.now.cols + activity_count (form_of relax.now) → get_or v.items u None ≡ (relaxation_of relax.now).high u) }
 {
-    let variables = relax.model.cols().len() + relax.model.rows().len();
+    let variables = relax.variables();
     let mut list = Vec::new(alloc);
     for variable in 0..variables {
         list.push(high_of(relax, variable))?;
@@ -107,7 +110,7 @@ pub fn highs(alloc: Global, relax: &Relax<'_>) -> Result<Vec<Bound>, AllocError>
 
 /// The cost that a variable has in the model's relaxation.
 fn plain_cost(relax: &Relax<'_>, variable: usize) -> Frac
-    ensures { result ≡ (plain relax.now.model.now relax.now.region.now).cost variable }
+    ensures { result ≡ (plain (form_of relax.now) relax.now.region.now).cost variable }
 {
     if variable < relax.model.cols().len() {
         relax
@@ -132,10 +135,11 @@ pub fn cost_of(relax: &Relax<'_>, variable: usize) -> Frac
 
 /// The costs of all variables.
 pub fn costs(alloc: Global, relax: &Relax<'_>) -> Result<Vec<Frac>, AllocError>
-    ensures length { IfOk result (λ v. length v.items ≡ length relax.now.model.now.cols + length relax.now.model.now.rows) }
-    ensures items { IfOk result (λ v. (u : ℕ) → u < length relax.now.model.now.cols + length relax.now.model.now.rows → get_or v.items u (int (pos 0)) ≡ (relaxation_of relax.now).cost u) }
+    requires few { HasFewCuts relax.now }
+    ensures length { IfOk result (λ v. length v.items ≡ length relax.now.model.now.cols + activity_count (form_of relax.now)) }
+    ensures items { IfOk result (λ v. (u : ℕ) → u < length relax.now.model.now.cols + activity_count (form_of relax.now) → get_or v.items u (int (pos 0)) ≡ (relaxation_of relax.now).cost u) }
 {
-    let variables = relax.model.cols().len() + relax.model.rows().len();
+    let variables = relax.variables();
     let mut list = Vec::new(alloc);
     for variable in 0..variables {
         list.push(cost_of(relax, variable))?;

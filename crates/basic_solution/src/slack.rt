@@ -4,6 +4,7 @@ ghost use Rattle.lp_model.specs.Regions.{AreNarrow};
 ghost use Rattle.bases.specs.declared.stand.Stand.TheVariants.{Free};
 ghost use Rattle.bases.specs.Relaxation.{reduced_cost};
 ghost use Rattle.row_tableau.specs.declared.relax.RelaxKind.TheVariants.{Directions};
+ghost use Rattle.row_tableau.specs.Relaxations.{HasFewCuts};
 ghost use Rattle.basic_solution.specs.Held.{relaxation, table};
 ghost use Rattle.basic_solution.specs.Tilts.{KeepsFree};
 ghost use Rattle.basic_solution.specs.Slack.{IsSlackState, IsSlackAnswer, IsPlaced, IsMisplaced, IsStandAnswer, IsRestood};
@@ -30,6 +31,7 @@ impl<'a> SidedBasis<'a> {
     /// The slack basis of a relaxation, with no variable at a side.
     pub fn slack(alloc: Global, relax: &Relax<'a>) -> Result<SidedBasis<'a>, AllocError>
         requires narrow { AreNarrow relax.now.region.now }
+        requires few { HasFewCuts relax.now }
         requires sides { KeepsFree relax.now.model.now relax.now.region.now }
         ensures { IfOk result (IsSlackState relax.now) }
     {
@@ -42,6 +44,7 @@ impl<'a> SidedBasis<'a> {
         let tableau = Tableau::slack_start(alloc, relax)?;
         Ok(SidedBasis {
             model: relax.model,
+            cuts: relax.cuts,
             low,
             high,
             cost,
@@ -90,6 +93,7 @@ impl<'a> SidedBasis<'a> {
         relax: &Relax<'a>,
     ) -> Result<Option<SidedBasis<'a>>, AllocError>
         requires narrow { AreNarrow relax.now.region.now }
+        requires few { HasFewCuts relax.now }
         requires sides { KeepsFree relax.now.model.now relax.now.region.now }
         ensures answer { IfOk result (IsSlackAnswer relax.now) }
         ensures directions { IfOk result (λ basis. relax.now.kind ≡ Directions → IsSome basis) }

@@ -1,36 +1,38 @@
 // How costs are tilted, by the sides that variables have in the model.
 ghost use Rattle.std.specs.Prelude.{◌≡◌, ◌<◌, ◌+◌, ◌++◌, ℕ, length, get_or, IfOk};
 ghost use Rattle.bases.specs.declared.stand.Stand.TheVariants.{Free};
+ghost use Rattle.row_tableau.specs.Activities.{activity_count};
+ghost use Rattle.row_tableau.specs.Relaxations.{HasFewCuts, form_of};
 ghost use Rattle.basic_solution.specs.Tilts.{model_low, model_high, stand_by_sides, free_tilt, tilt_of, has_side, is_sided, sided, unsided, order_of};
 
 use bases::Stand;
-use lp_model::{Bound, Model};
+use lp_model::Bound;
 use row_tableau::{Relax, RelaxKind};
 use std::alloc::{AllocError, Global};
 
 /// The low side that a variable has in the model.
-fn model_low(model: &Model, variable: usize) -> Bound
-    requires { variable < length model.now.cols + length model.now.rows }
-    ensures { result ≡ model_low model.now variable }
+fn model_low(relax: &Relax<'_>, variable: usize) -> Bound
+    requires { variable < length relax.now.model.now.cols + activity_count (form_of relax.now) }
+    ensures { result ≡ model_low (form_of relax.now) variable }
 {
-    let columns = model.cols().len();
+    let columns = relax.model.cols().len();
     if variable < columns {
-        model.cols()[variable].lo
+        relax.model.cols()[variable].lo
     } else {
-        model.rows()[variable - columns].lo
+        relax.activity_low(variable - columns)
     }
 }
 
 /// The high side that a variable has in the model.
-fn model_high(model: &Model, variable: usize) -> Bound
-    requires { variable < length model.now.cols + length model.now.rows }
-    ensures { result ≡ model_high model.now variable }
+fn model_high(relax: &Relax<'_>, variable: usize) -> Bound
+    requires { variable < length relax.now.model.now.cols + activity_count (form_of relax.now) }
+    ensures { result ≡ model_high (form_of relax.now) variable }
 {
-    let columns = model.cols().len();
+    let columns = relax.model.cols().len();
     if variable < columns {
-        model.cols()[variable].up
+        relax.model.cols()[variable].up
     } else {
-        model.rows()[variable - columns].hi
+        relax.activity_high(variable - columns)
     }
 }
 
@@ -64,22 +66,23 @@ fn free_tilt(relax: &Relax<'_>, variable: usize) -> Stand
 
 /// The tilt of a variable.
 fn tilt_of(relax: &Relax<'_>, variable: usize) -> Stand
-    requires { variable < length relax.now.model.now.cols + length relax.now.model.now.rows }
-    ensures { result ≡ tilt_of relax.now.kind relax.now.model.now variable }
+    requires { variable < length relax.now.model.now.cols + activity_count (form_of relax.now) }
+    ensures { result ≡ tilt_of relax.now.kind (form_of relax.now) variable }
 {
     stand_by_sides(
         free_tilt(relax, variable),
-        &model_low(relax.model, variable),
-        &model_high(relax.model, variable),
+        &model_low(relax, variable),
+        &model_high(relax, variable),
     )
 }
 
 /// The tilts of all variables.
 pub fn tilts(alloc: Global, relax: &Relax<'_>) -> Result<Vec<Stand>, AllocError>
-    ensures length { IfOk result (λ v. length v.items ≡ length relax.now.model.now.cols + length relax.now.model.now.rows) }
-    ensures items { IfOk result (λ v. (u : ℕ) → u < length relax.now.model.now.cols + length relax.now.model.now.rows → get_or v.items u Free ≡ tilt_of relax.now.kind relax.now.model.now u) }
+    requires few { HasFewCuts relax.now }
+    ensures length { IfOk result (λ v. length v.items ≡ length relax.now.model.now.cols + activity_count (form_of relax.now)) }
+    ensures items { IfOk result (λ v. (u : ℕ) → u < length relax.now.model.now.cols + activity_count (form_of relax.now) → get_or v.items u Free ≡ tilt_of relax.now.kind (form_of relax.now) u) }
 {
-    let variables = relax.model.cols().len() + relax.model.rows().len();
+    let variables = relax.variables();
     let mut list = Vec::new(alloc);
     for variable in 0..variables {
         list.push(tilt_of(relax, variable))?;
@@ -99,21 +102,22 @@ fn has_side(low: &Bound, high: &Bound) -> bool
 }
 
 /// Whether a variable has a side in the model.
-pub fn is_sided(model: &Model, variable: usize) -> bool
-    requires { variable < length model.now.cols + length model.now.rows }
-    ensures { result ≡ is_sided model.now variable }
+pub fn is_sided(relax: &Relax<'_>, variable: usize) -> bool
+    requires { variable < length relax.now.model.now.cols + activity_count (form_of relax.now) }
+    ensures { result ≡ is_sided (form_of relax.now) variable }
 {
-    has_side(&model_low(model, variable), &model_high(model, variable))
+    has_side(&model_low(relax, variable), &model_high(relax, variable))
 }
 
 /// The variables that have a side in the model, rising.
-fn sided(alloc: Global, model: &Model) -> Result<Vec<usize>, AllocError>
-    ensures { IfOk result (λ v. v.items ≡ sided model.now) }
+fn sided(alloc: Global, relax: &Relax<'_>) -> Result<Vec<usize>, AllocError>
+    requires few { HasFewCuts relax.now }
+    ensures { IfOk result (λ v. v.items ≡ sided (form_of relax.now)) }
 {
-    let variables = model.cols().len() + model.rows().len();
+    let variables = relax.variables();
     let mut list = Vec::new(alloc);
     for variable in 0..variables {
-        if is_sided(model, variable) {
+        if is_sided(relax, variable) {
             list.push(variable)?;
         }
     }
@@ -121,12 +125,12 @@ fn sided(alloc: Global, model: &Model) -> Result<Vec<usize>, AllocError>
 }
 
 /// The list, and behind it the columns that have no side in the model, rising.
-fn with_unsided(list: Vec<usize>, model: &Model) -> Result<Vec<usize>, AllocError>
-    ensures { IfOk result (λ v. v.items ≡ list.items ++ unsided model.now) }
+fn with_unsided(list: Vec<usize>, relax: &Relax<'_>) -> Result<Vec<usize>, AllocError>
+    ensures { IfOk result (λ v. v.items ≡ list.items ++ unsided (form_of relax.now)) }
 {
     let mut list = list;
-    for column in 0..model.cols().len() {
-        if !is_sided(model, column) {
+    for column in 0..relax.model.cols().len() {
+        if !is_sided(relax, column) {
             list.push(column)?;
         }
     }
@@ -135,12 +139,13 @@ fn with_unsided(list: Vec<usize>, model: &Model) -> Result<Vec<usize>, AllocErro
 
 /// The variables that have a part, in the order of the parts.
 pub fn order(alloc: Global, relax: &Relax<'_>) -> Result<Vec<usize>, AllocError>
-    ensures { IfOk result (λ v. v.items ≡ order_of relax.now.kind relax.now.model.now) }
+    requires few { HasFewCuts relax.now }
+    ensures { IfOk result (λ v. v.items ≡ order_of relax.now.kind (form_of relax.now)) }
 {
-    let list = sided(alloc, relax.model)?;
+    let list = sided(alloc, relax)?;
     match relax.kind {
         RelaxKind::Plain => Ok(list),
         RelaxKind::CostsZero => Ok(list),
-        RelaxKind::Directions => with_unsided(list, relax.model),
+        RelaxKind::Directions => with_unsided(list, relax),
     }
 }

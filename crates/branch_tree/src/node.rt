@@ -41,6 +41,18 @@ pub enum Node {
     },
 }
 
+/// One node of a tree, without its children and without an id.
+#[derive(Drop)]
+pub enum NodeData {
+    Split {
+        col: ColId,
+        v: i128,
+        mult: Mult,
+        basis: Basis,
+    },
+    Leaf(LeafData),
+}
+
 /// A leaf beside the bound changes on the way to it: what contracts see of one that is visited.
 #[derive(Drop)]
 pub struct RegionLeaf {

@@ -10,7 +10,7 @@ use Rattle.command_words.specs.declared.words.Beginning.{Beginning}
 use Rattle.command_words.specs.declared.words.Beginning.TheVariants as beginning
 use Rattle.command_words.specs.declared.words.Content.{Content}
 use Rattle.command_words.specs.declared.words.Content.TheVariants as content
-use Rattle.command_words.specs.Asks.{Asks, Load, Misused, no_limit, with_number, load_asks, one_limit_asks, two_limits_asks, both_limits_asks, search_asks, begun_asks, filed_asks, file_asks, quit_asks, known_asks, command_asks, asks_of, NamesFile}
+use Rattle.command_words.specs.Asks.{Asks, Load, Trim, Restore, Misused, no_limit, with_number, load_asks, restore_asks, trim_asks, one_limit_asks, two_limits_asks, both_limits_asks, search_asks, begun_asks, filed_asks, file_asks, quit_asks, known_asks, command_asks, asks_of, NamesFile}
 
 abbrev nows : List (Bor (List ℕ)) → List (List ℕ)
 nows words = map (λ word. word.now) words
@@ -43,6 +43,12 @@ search_asks-other asks (a ∷ b ∷ []) h k l = absurd (k refl)
 search_asks-other asks (a ∷ b ∷ c ∷ []) h k l = refl
 search_asks-other asks (a ∷ b ∷ c ∷ d ∷ []) h k l = absurd (l refl)
 search_asks-other asks (a ∷ b ∷ c ∷ d ∷ e ∷ more) h k l = refl
+
+pub trim_asks-other : (words : List (Bor (List ℕ))) → ¬ (length words ≡ 0) → ¬ (length words ≡ 2) → Misused ≡ trim_asks (nows words)
+trim_asks-other [] h k = absurd (h refl)
+trim_asks-other (a ∷ []) h k = refl
+trim_asks-other (a ∷ b ∷ []) h k = absurd (k refl)
+trim_asks-other (a ∷ b ∷ c ∷ more) h k = refl
 
 -- ---- a file that is asked for has a file name
 
@@ -102,6 +108,7 @@ module _ (asks : ℕ → ℕ → Asks) (named : (n m : ℕ) → NamesFile (asks 
 filed-named : (what : Content) (file : List ℕ) → is_file_name file ≡ true → NamesFile (filed_asks what file)
 filed-named content.Certificate file e = e
 filed-named content.Model file e = e
+filed-named content.Search file e = e
 
 file_asks-named : (what : Content) (arguments : List (List ℕ)) → NamesFile (file_asks what arguments)
 file_asks-named what [] = tt
@@ -112,6 +119,25 @@ file_asks-named what (file ∷ []) = by (is_file_name file) refl
     by false e = tt
 file_asks-named what (file ∷ other ∷ more) = tt
 
+restore_asks-named : (arguments : List (List ℕ)) → NamesFile (restore_asks arguments)
+restore_asks-named [] = tt
+restore_asks-named (file ∷ []) = by (is_file_name file) refl
+  where
+    by : (b : Bool) → is_file_name file ≡ b → NamesFile (if b then Restore file else Misused)
+    by true e = e
+    by false e = tt
+restore_asks-named (file ∷ other ∷ more) = tt
+
+trim_asks-named : (arguments : List (List ℕ)) → NamesFile (trim_asks arguments)
+trim_asks-named [] = tt
+trim_asks-named (key ∷ []) = tt
+trim_asks-named (key ∷ number ∷ []) = by (bytes_eq key (codes "depth"))
+  where
+    by : (b : Bool) → NamesFile (if b then with_number number (whole_number_of number) Trim else Misused)
+    by true = with_number-named number (whole_number_of number) Trim (λ k. tt)
+    by false = tt
+trim_asks-named (key ∷ number ∷ other ∷ more) = tt
+
 quit_asks-named : (arguments : List (List ℕ)) → NamesFile (quit_asks arguments)
 quit_asks-named [] = tt
 quit_asks-named (word ∷ more) = tt
@@ -121,6 +147,9 @@ known_asks-named name.Load arguments = load_asks-named arguments
 known_asks-named name.Solve arguments = search_asks-named (begun_asks beginning.Anew) (begun-named beginning.Anew) arguments
 known_asks-named name.Warm arguments = search_asks-named (begun_asks beginning.Kept) (begun-named beginning.Kept) arguments
 known_asks-named name.Edit arguments = tt
+known_asks-named name.Trim arguments = trim_asks-named arguments
+known_asks-named name.Save arguments = file_asks-named content.Search arguments
+known_asks-named name.Restore arguments = restore_asks-named arguments
 known_asks-named (name.Bound which numbers) arguments = tt
 known_asks-named name.Cert arguments = file_asks-named content.Certificate arguments
 known_asks-named name.Write arguments = file_asks-named content.Model arguments

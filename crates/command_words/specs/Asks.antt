@@ -22,6 +22,12 @@ pub data Asks : Type 0 where
   Warm : (nodes pivots : ℕ) → Asks
   -- an edit of the model that is present, as these words behind `edit` say it
   Edit : (words : List (List ℕ)) → Asks
+  -- each split of the tree at this depth, the root being at 0, as one leaf
+  Trim : (depth : ℕ) → Asks
+  -- the search that is kept, as this file
+  Save : (file : List ℕ) → Asks
+  -- the search of this file
+  Restore : (file : List ℕ) → Asks
   -- a bound on the best value that the model has with other sides or costs, which these words behind the command say
   Bound : (which : OptimumBound) (numbers : NewNumbers) (words : List (List ℕ)) → Asks
   -- the certificate of the answer that is held, as this file
@@ -97,6 +103,7 @@ warm_asks arguments = search_asks (begun_asks beginning.Kept) arguments
 abbrev pub filed_asks : Content → List ℕ → Asks
 filed_asks content.Certificate file = Cert file
 filed_asks content.Model file = Write file
+filed_asks content.Search file = Save file
 
 -- one file name
 abbrev pub file_asks : Content → List (List ℕ) → Asks
@@ -110,6 +117,23 @@ cert_asks arguments = file_asks content.Certificate arguments
 abbrev pub write_asks : List (List ℕ) → Asks
 write_asks arguments = file_asks content.Model arguments
 
+-- `save F`
+abbrev pub save_asks : List (List ℕ) → Asks
+save_asks arguments = file_asks content.Search arguments
+
+-- ---- the search that is kept
+
+-- `restore F`
+abbrev pub restore_asks : List (List ℕ) → Asks
+restore_asks (file ∷ []) = if is_file_name file then Restore file else Misused
+restore_asks arguments = Misused
+
+-- `trim` and `trim depth D`
+abbrev pub trim_asks : List (List ℕ) → Asks
+trim_asks [] = Trim 0
+trim_asks (key ∷ number ∷ []) = if bytes_eq key (codes "depth") then with_number number (whole_number_of number) Trim else Misused
+trim_asks arguments = Misused
+
 -- `quit`
 abbrev pub quit_asks : List (List ℕ) → Asks
 quit_asks [] = Quit
@@ -121,6 +145,9 @@ known_asks name.Load arguments = load_asks arguments
 known_asks name.Solve arguments = solve_asks arguments
 known_asks name.Warm arguments = warm_asks arguments
 known_asks name.Edit arguments = Edit arguments
+known_asks name.Trim arguments = trim_asks arguments
+known_asks name.Save arguments = save_asks arguments
+known_asks name.Restore arguments = restore_asks arguments
 known_asks (name.Bound which numbers) arguments = Bound which numbers arguments
 known_asks name.Cert arguments = cert_asks arguments
 known_asks name.Write arguments = write_asks arguments
@@ -141,6 +168,9 @@ asks_shown (asked.Load file intupper) = Load file.now intupper
 asks_shown (asked.Solve nodes pivots) = Solve nodes pivots
 asks_shown (asked.Warm nodes pivots) = Warm nodes pivots
 asks_shown (asked.Edit words) = Edit (map (λ word. word.now) words.now)
+asks_shown (asked.Trim depth) = Trim depth
+asks_shown (asked.Save file) = Save file.now
+asks_shown (asked.Restore file) = Restore file.now
 asks_shown (asked.Bound which numbers words) = Bound which numbers (map (λ word. word.now) words.now)
 asks_shown (asked.Cert file) = Cert file.now
 asks_shown (asked.Write file) = Write file.now
@@ -155,6 +185,9 @@ NamesFile (Load file intupper) = is_file_name file ≡ true
 NamesFile (Solve nodes pivots) = Unit {0}
 NamesFile (Warm nodes pivots) = Unit {0}
 NamesFile (Edit words) = Unit {0}
+NamesFile (Trim depth) = Unit {0}
+NamesFile (Save file) = is_file_name file ≡ true
+NamesFile (Restore file) = is_file_name file ≡ true
 NamesFile (Bound which numbers words) = Unit {0}
 NamesFile (Cert file) = is_file_name file ≡ true
 NamesFile (Write file) = is_file_name file ≡ true

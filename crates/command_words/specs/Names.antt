@@ -6,7 +6,7 @@ use Rattle.std.specs.Str.Parse.{digits_value}
 use Rattle.command_words.specs.declared.words.OptimumBound.TheVariants.{Lower, Upper}
 use Rattle.command_words.specs.declared.words.NewNumbers.TheVariants.{Sides, Costs}
 use Rattle.command_words.specs.declared.words.CommandName.{CommandName}
-use Rattle.command_words.specs.declared.words.CommandName.TheVariants.{Load, Solve, Warm, Edit, Bound, Cert, Write, Quit}
+use Rattle.command_words.specs.declared.words.CommandName.TheVariants.{Load, Solve, Warm, Edit, Trim, Save, Restore, Bound, Cert, Write, Quit}
 
 -- the command that a first word names
 abbrev pub command_of : List ℕ → Option CommandName
@@ -15,6 +15,9 @@ command_of word =
     else if bytes_eq word (codes "solve") then Some Solve
     else if bytes_eq word (codes "warm") then Some Warm
     else if bytes_eq word (codes "edit") then Some Edit
+    else if bytes_eq word (codes "trim") then Some Trim
+    else if bytes_eq word (codes "save") then Some Save
+    else if bytes_eq word (codes "restore") then Some Restore
     else if bytes_eq word (codes "lbrhs") then Some (Bound Lower Sides)
     else if bytes_eq word (codes "lbobj") then Some (Bound Lower Costs)
     else if bytes_eq word (codes "ubrhs") then Some (Bound Upper Sides)

@@ -10,6 +10,10 @@
 //! solve pivots N         one that may make N simplex steps in each relaxation; both options may stand, in any order
 //! warm                   the search that is kept goes on, with the same options
 //! edit ..                an edit of the model; `edit_words` reads the words behind it
+//! trim                   the tree is cut down to its root
+//! trim depth D           each split at depth D, the root being at 0, becomes one leaf
+//! save F                 the search that is kept, as file F
+//! restore F              the search of file F
 //! lbrhs .., lbobj ..     a lower bound with other sides or costs; `edit_words` reads these words too
 //! ubrhs .., ubobj ..     an upper bound
 //! cert F                 the certificate of the held answer, as file F
@@ -17,7 +21,7 @@
 //! quit                   the end of the script
 //! ```
 //!
-//! F is a file name: 1 to 255 letters, digits, `.`, `_` and `-`, not beginning with `.` or `-`. N is a whole number of 64
+//! F is a file name: 1 to 255 letters, digits, `.`, `_` and `-`, not beginning with `.` or `-`. N and D are whole numbers of 64
 //! bits, in decimal digits without a sign or a leading zero. Words are compared byte for byte.
 //!
 //! Contract in one sentence: `read_words` answers exactly what the words ask for, or the first of their faults: no command,

@@ -2,7 +2,7 @@
 ghost use Rattle.std.specs.Prelude.{◌≡◌, true, map, [], ◌∷◌};
 ghost use Rattle.std.specs.List.{list_all};
 ghost use Rattle.command_words.specs.Names.{command_of, begins_name, is_file_name_byte, is_file_name, whole_number_of};
-ghost use Rattle.command_words.specs.Asks.{no_limit, with_number, asks_of, asks_shown, load_asks, one_limit_asks, two_limits_asks, both_limits_asks, search_asks, begun_asks, solve_asks, warm_asks, filed_asks, file_asks, cert_asks, write_asks, quit_asks, known_asks, NamesFile};
+ghost use Rattle.command_words.specs.Asks.{Trim, no_limit, with_number, asks_of, asks_shown, load_asks, restore_asks, trim_asks, one_limit_asks, two_limits_asks, both_limits_asks, search_asks, begun_asks, solve_asks, warm_asks, filed_asks, file_asks, save_asks, cert_asks, write_asks, quit_asks, known_asks, NamesFile};
 
 /// A limit that isn't named.
 const UNLIMITED: u64 = u64::MAX;
@@ -32,6 +32,9 @@ pub enum CommandName {
     Solve,
     Warm,
     Edit,
+    Trim,
+    Save,
+    Restore,
     Bound(OptimumBound, NewNumbers),
     Cert,
     Write,
@@ -54,6 +57,8 @@ enum Content {
     Certificate,
     /// The model that is present.
     Model,
+    /// The search that is kept.
+    Search,
 }
 
 /// What the words of a line ask for.
@@ -78,6 +83,18 @@ pub enum Asked<'a> {
     /// An edit of the model that is present, as these words behind `edit` say it.
     Edit {
         words: &'a [&'a [u8]],
+    },
+    /// Each split of the tree at this depth, the root being at 0, is to become one leaf.
+    Trim {
+        depth: u64,
+    },
+    /// The search that is kept, as a file.
+    Save {
+        file: &'a [u8],
+    },
+    /// The search of a file.
+    Restore {
+        file: &'a [u8],
     },
     /// A bound on the best value that the model has with other sides or costs, which these words behind the command say.
     Bound {
@@ -119,6 +136,12 @@ fn command_named(word: &[u8]) -> Option<CommandName>
         Some(CommandName::Warm)
     } else if word == b"edit".as_slice() {
         Some(CommandName::Edit)
+    } else if word == b"trim".as_slice() {
+        Some(CommandName::Trim)
+    } else if word == b"save".as_slice() {
+        Some(CommandName::Save)
+    } else if word == b"restore".as_slice() {
+        Some(CommandName::Restore)
     } else if word == b"lbrhs".as_slice() {
         Some(CommandName::Bound(OptimumBound::Lower, NewNumbers::Sides))
     } else if word == b"lbobj".as_slice() {
@@ -357,10 +380,11 @@ fn filed_asked(content: Content, file: &[u8]) -> Asked<'_>
     match content {
         Content::Certificate => Asked::Cert { file },
         Content::Model => Asked::Write { file },
+        Content::Search => Asked::Save { file },
     }
 }
 
-/// What `cert F` and `write F` ask for, with this word as F.
+/// What `cert F`, `write F` and `save F` ask for, with this word as F.
 fn named_file(content: Content, file: &[u8]) -> Asked<'_>
     ensures { asks_shown result ≡ file_asks content (file.now ∷ []) }
 {
@@ -371,7 +395,7 @@ fn named_file(content: Content, file: &[u8]) -> Asked<'_>
     }
 }
 
-/// What `cert` or `write` with these further words asks for.
+/// What `cert`, `write` or `save` with these further words asks for.
 fn file_asked<'a>(content: Content, arguments: &[&'a [u8]]) -> Asked<'a>
     ensures { asks_shown result ≡ file_asks content (map (λ word. word.now) arguments.now) }
 {
@@ -395,6 +419,66 @@ fn write_asked<'a>(arguments: &[&'a [u8]]) -> Asked<'a>
     file_asked(Content::Model, arguments)
 }
 
+/// What `save` with these further words asks for.
+fn save_asked<'a>(arguments: &[&'a [u8]]) -> Asked<'a>
+    ensures { asks_shown result ≡ save_asks (map (λ word. word.now) arguments.now) }
+{
+    file_asked(Content::Search, arguments)
+}
+
+/// What `restore F` asks for, with this word as F.
+fn named_restore(file: &[u8]) -> Asked<'_>
+    ensures { asks_shown result ≡ restore_asks (file.now ∷ []) }
+{
+    if is_file_name_word(file) {
+        Asked::Restore { file }
+    } else {
+        Asked::Misused
+    }
+}
+
+/// What `restore` with these further words asks for.
+fn restore_asked<'a>(arguments: &[&'a [u8]]) -> Asked<'a>
+    ensures { asks_shown result ≡ restore_asks (map (λ word. word.now) arguments.now) }
+{
+    match arguments {
+        [file] => named_restore(file),
+        _ => Asked::Misused,
+    }
+}
+
+/// What `depth D` asks for behind `trim`, with this word as D.
+fn depth_named(number: &[u8]) -> Asked<'_>
+    ensures { asks_shown result ≡ with_number number.now (whole_number_of number.now) Trim }
+{
+    match whole_number(number) {
+        Some(depth) => Asked::Trim { depth },
+        None => Asked::NoNumber { word: number },
+    }
+}
+
+/// What `trim` with an option asks for.
+fn deep_trim<'a>(key: &[u8], number: &'a [u8]) -> Asked<'a>
+    ensures { asks_shown result ≡ trim_asks (key.now ∷ number.now ∷ []) }
+{
+    if key == b"depth".as_slice() {
+        depth_named(number)
+    } else {
+        Asked::Misused
+    }
+}
+
+/// What `trim` with these further words asks for.
+fn trim_asked<'a>(arguments: &[&'a [u8]]) -> Asked<'a>
+    ensures { asks_shown result ≡ trim_asks (map (λ word. word.now) arguments.now) }
+{
+    match arguments {
+        [] => Asked::Trim { depth: 0 },
+        [key, number] => deep_trim(key, number),
+        _ => Asked::Misused,
+    }
+}
+
 /// What `quit` with these further words asks for.
 fn quit_asked<'a>(arguments: &[&'a [u8]]) -> Asked<'a>
     ensures { asks_shown result ≡ quit_asks (map (λ word. word.now) arguments.now) }
@@ -414,6 +498,9 @@ fn command_asked<'a>(command: CommandName, arguments: &'a [&'a [u8]]) -> Asked<'
         CommandName::Solve => solve_asked(arguments),
         CommandName::Warm => warm_asked(arguments),
         CommandName::Edit => Asked::Edit { words: arguments },
+        CommandName::Trim => trim_asked(arguments),
+        CommandName::Save => save_asked(arguments),
+        CommandName::Restore => restore_asked(arguments),
         CommandName::Bound(which, numbers) => Asked::Bound {
             which,
             numbers,

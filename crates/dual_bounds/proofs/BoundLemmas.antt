@@ -1,13 +1,11 @@
 -- What the bounds prove of the feasible points: the region of each such point is a leaf's, and each leaf closes against the bound.
 use Rattle.std.specs.Prelude.{◌≡◌, ℕ, ◌<◌, IsTrue, List, [], ◌∷◌, length, All, Option, Some, None, ℤ}
-use Rattle.std.proofs.Common.{refl, sym, ap, subst, ◌∙◌}
+use Rattle.std.proofs.Common.{refl, sym, subst}
 use Rattle.rational.specs.Rational.{ℚ}
 use Rattle.lp_model.specs.Program.{Program, Point, is_integer, IsFeasible}
-use Rattle.lp_model.specs.Regions.{Path, InRegion}
-use Rattle.lp_model.specs.Formulations.{Formulation, without_cuts, IsValid}
-use Rattle.lp_model.specs.declared.types.RowId.{RowId}
-use Rattle.lp_model.specs.declared.types.ColId.{ColId}
-use Rattle.lp_model.proofs.FormulationLemmas.{valid-without_cuts}
+use Rattle.lp_model.specs.Regions.{InRegion}
+use Rattle.lp_model.specs.Formulations.{Formulation, formulation, IsValid}
+use Rattle.lp_model.specs.declared.types.CutRow.{CutRow}
 use Rattle.branch_tree.specs.Tree.{Tree, Leaf, Split, EachSplit, SplitsLawfully, EachLeaf}
 use Rattle.branch_tree.specs.Plain.{Plain}
 use Rattle.branch_tree.specs.Leaves.{region_leaves}
@@ -16,7 +14,6 @@ use Rattle.branch_tree.proofs.TreeLemmas.{point_in_one_leaf, leaf_with_both}
 use Rattle.leaf_judging.specs.Closing.{ClosesBy}
 use Rattle.tree_edit.specs.Points.{IsKeepable, target}
 use Rattle.tree_edit.specs.Laws.{IsNoBetter}
-use Rattle.tree_edit.specs.Sound.{PlainSearch, IsSound}
 use Rattle.tree_edit.proofs.ClosedTree.{number-bound}
 use Rattle.tree_edit.proofs.EditedPoints.{keepable-all}
 use Rattle.tree_edit.proofs.TakenLemmas.{least_is}
@@ -24,8 +21,9 @@ use Rattle.dual_bounds.specs.declared.answers.LowerBound.{LowerBound}
 use Rattle.dual_bounds.specs.declared.answers.LowerBound.TheVariants.{Value, NoValue, Infeasible, Wide}
 use Rattle.dual_bounds.specs.declared.answers.UpperBound.{UpperBound}
 use Rattle.dual_bounds.specs.NewNumbers.{with_new_sides, with_new_costs}
-use Rattle.dual_bounds.specs.TreeBounds.{IsTreeBound, IsPointBound, upper_bound}
+use Rattle.dual_bounds.specs.TreeBounds.{IsTreeBoundAt, IsPointBound, upper_bound}
 use Rattle.dual_bounds.specs.Laws.{IsTrueLowerBound, IsTrueUpperBound, TreeBoundLaw, PointBoundLaw, NewSidesLaw, NewCostsLaw}
+use Rattle.dual_bounds.proofs.CutLemmas.{pool-valid}
 use Rattle.dual_bounds.proofs.ModelLemmas.{costs-integer}
 use Rattle.dual_bounds.proofs.NumberLists.{AllClose, BoundCloses, bound-closes}
 use Rattle.dual_bounds.proofs.WalkLemmas.{LeafCloses, leaf-listed, leaves-close}
@@ -71,19 +69,20 @@ each_split-weaker P Q w (Split kept j v left right) h = (w j v h.0, (each_split-
 
 pub new-sides : NewSidesLaw
 new-sides S sides bound sound h =
-    tree-bound (without_cuts (with_new_sides S.model sides)) S.tree.root bound (valid-without_cuts (with_new_sides S.model sides)) sound.tree.lawful h
+    let M = with_new_sides S.model sides in
+    tree-bound (formulation M h.again) S.tree.root bound (pool-valid M h.again h.derived.pool) sound.tree.lawful h.is
 
 pub new-costs : NewCostsLaw
 new-costs S costs bound sound h =
     let M = with_new_costs S.model costs in
     let lawful : SplitsLawfully M S.tree.root =
     each_split-weaker (λ j v. (j < length S.model.cols) × IsTrue (is_integer S.model j)) (λ j v. (j < length M.cols) × IsTrue (is_integer M j)) (λ j v k. costs-integer S.model costs j k) S.tree.root sound.tree.lawful in
-    tree-bound (without_cuts M) S.tree.root bound (valid-without_cuts M) lawful h
+    tree-bound (formulation M h.again) S.tree.root bound (pool-valid M h.again h.derived.pool) lawful h.is
 
 -- ---- what the calls compute is said of the search
 
-pub tree-bound-of : (made M : Program) (T U : NumberedTree) (bound : LowerBound) → made ≡ M → T ≡ U → IsTreeBound (without_cuts made) T.root bound → IsTreeBound (without_cuts M) U.root bound
-tree-bound-of made M T U bound m t h = subst (λ P. P) (λ i. IsTreeBound (without_cuts (m i)) (t i).root bound) h
+pub tree-bound-of : (made M : Program) (cs ds : List CutRow) (T U : NumberedTree) (bound : LowerBound) → made ≡ M → cs ≡ ds → T ≡ U → IsTreeBoundAt made cs T.root bound → IsTreeBoundAt M ds U.root bound
+tree-bound-of made M cs ds T U bound m c t h = subst (λ P. P) (λ i. IsTreeBoundAt (m i) (c i) (t i).root bound) h
 
 pub point-bound-of : (made M : Program) (xs ys : List Point) (bound : UpperBound) → made ≡ M → xs ≡ ys → IsPointBound made xs bound → IsPointBound M ys bound
 point-bound-of made M xs ys bound m p h = subst (λ P. P) (λ i. IsPointBound (m i) (p i) bound) h

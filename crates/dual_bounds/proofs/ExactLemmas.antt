@@ -1,13 +1,13 @@
 -- Where no leaf of a sound search is open, both bounds at its own model are the value of its incumbent: each leaf closes against
 -- it, so no number is below it but by rounding; and no bound is past it.
 use Rattle.std.specs.Prelude.{◌≡◌, List, [], All, Option, Some, None, unwrap_or}
-use Rattle.std.proofs.Common.{refl, sym, ap, subst, ◌∙◌, inl, inr}
+use Rattle.std.proofs.Common.{ap, subst, ◌∙◌, inl, inr}
 use Rattle.std.proofs.lemmas.List.Elements.{All-get_or}
 use Rattle.rational.specs.Rational.{ℚ, int, ceil}
 use Rattle.rational.proofs.RationalOrder.{≤ℚ_antisymm}
 use Rattle.lp_model.specs.Program.{Point, least_value, IsFeasible}
-use Rattle.lp_model.specs.Formulations.{without_cuts}
-use Rattle.lp_model.proofs.FormulationLemmas.{valid-without_cuts}
+use Rattle.lp_model.specs.Formulations.{formulation}
+use Rattle.lp_model.specs.declared.types.CutRow.{CutRow}
 use Rattle.branch_tree.specs.Tree.{EachLeaf}
 use Rattle.branch_tree.specs.Leaves.{region_leaves}
 use Rattle.branch_tree.specs.declared.node.LeafState.TheVariants.{IsClosed}
@@ -15,15 +15,16 @@ use Rattle.leaf_judging.specs.Closing.{NumberCloses, ClosesBy, StateSays, IsJudg
 use Rattle.tree_edit.specs.Points.{IsKeepable, target, IsIncumbent, IsIncumbentAt}
 use Rattle.tree_edit.specs.Laws.{HasNoOpenLeaf}
 use Rattle.tree_edit.specs.Sound.{PlainSearch, formulation_of, IsSound}
-use Rattle.tree_edit.proofs.ClosedTree.{each_both}
+use Rattle.tree_edit.proofs.ClosedTree.{each_both, valid-sound}
 use Rattle.tree_edit.proofs.SoundLemmas.{each-weaker}
 use Rattle.tree_edit.proofs.PointLemmas.{target-at}
 use Rattle.dual_bounds.specs.declared.answers.LowerBound.{LowerBound}
 use Rattle.dual_bounds.specs.declared.answers.LowerBound.TheVariants as lower
 use Rattle.dual_bounds.specs.declared.answers.UpperBound.{UpperBound}
 use Rattle.dual_bounds.specs.declared.answers.UpperBound.TheVariants as upper
-use Rattle.dual_bounds.specs.TreeBounds.{deciding_bound, least_of_numbers, value_or_infeasible, IsRoundedBound, IsTreeBound, upper_bound, IsPointBound}
+use Rattle.dual_bounds.specs.TreeBounds.{least_of_numbers, value_or_infeasible, IsRoundedBound, IsTreeBound, IsTreeBoundAt, upper_bound, IsPointBound}
 use Rattle.dual_bounds.specs.Laws.{IsTrueLowerBound, ExactLaw}
+use Rattle.dual_bounds.proofs.CutLemmas.{derived-same}
 use Rattle.dual_bounds.proofs.NumberLists.{AllClose, LeastCloses, closes-undecided, closes-least, closes-ceil, closes-plain}
 use Rattle.dual_bounds.proofs.WalkLemmas.{LeafCloses, list-leaved, numbers-close}
 use Rattle.dual_bounds.proofs.PointLemmas.{keepable-same}
@@ -55,7 +56,7 @@ module _ (S : PlainSearch) (sound : IsSound S) (closed : HasNoOpenLeaf S) (x : P
 
     -- the bound is not past it
     under : IsTrueLowerBound S.model bound
-    under = tree-bound (formulation_of S) S.tree.root bound (valid-without_cuts S.model) sound.tree.lawful h
+    under = tree-bound (formulation_of S) S.tree.root bound (valid-sound S sound) sound.tree.lawful h
 
     rounded : IsRoundedBound S.model (value_or_infeasible (least_of_numbers h.numbers)) bound
     rounded = subst (λ d. IsRoundedBound S.model (unwrap_or d (value_or_infeasible (least_of_numbers h.numbers))) bound) (closes-undecided S.model (least_value S.model 1 x) 0 h.numbers all-close) h.rounded
@@ -77,5 +78,12 @@ module _ (S : PlainSearch) (sound : IsSound S) (closed : HasNoOpenLeaf S) (x : P
       let same : h.feasible ≡ S.points = keepable-same S.model S.points h.feasible sound.points h.feasible_are in
       h.is ∙ ap (λ ys. upper_bound (target S.model ys)) same ∙ ap upper_bound target-is
 
+-- derived again at the search's own model its cuts are themselves
+own-bound : (S : PlainSearch) → IsSound S → (bound : LowerBound) → IsTreeBoundAt S.model S.cuts S.tree.root bound → IsTreeBound (formulation_of S) S.tree.root bound
+own-bound S sound bound h = subst (λ (cuts : List CutRow). IsTreeBound (formulation S.model cuts) S.tree.root bound) (derived-same S.model S.cuts h.again sound.pool h.derived) h.is
+
 pub exact : ExactLaw
-exact S sound = ((λ bound h closed x best. exact-lower S sound closed x best bound h), (λ bound h closed x best. exact-upper S sound closed x best bound h))
+exact S sound = (
+  (λ bound h closed x best. exact-lower S sound closed x best bound (own-bound S sound bound h)),
+  (λ bound h closed x best. exact-upper S sound closed x best bound h),
+)

@@ -1,5 +1,6 @@
 mod ChangedLists
 mod RangeLemmas
+mod CutLemmas
 mod ModelLemmas
 mod NumberLists
 mod WalkLemmas

@@ -12,7 +12,7 @@ use Rattle.lp_model.specs.declared.types.RowId.{RowId}
 use Rattle.lp_model.specs.declared.types.Row.{Row}
 use Rattle.lp_model.specs.declared.types.ColId.{ColId}
 use Rattle.lp_model.specs.declared.types.Col.{Col}
-use Rattle.dual_bounds.specs.NewNumbers.{changed_all, with_side, with_cost, row_index, col_index, with_new_sides, with_new_costs, AreNewSides, AreNewCosts, IsSideNow, ArePresentSides, ArePresentCosts}
+use Rattle.dual_bounds.specs.NewNumbers.{changed_all, with_side, with_cost, row_index, col_index, with_new_sides, with_new_costs, AreNewSides, AreNewCosts, IsSideNow}
 use Rattle.dual_bounds.specs.Laws.{PresentSidesLaw, PresentCostsLaw}
 use Rattle.dual_bounds.proofs.ChangedLists.{All-unmap, length-changed_all, map-changed_all, sum_by-changed_all, of_element-changed_all, All-changed_all, changed_all-same}
 use Rattle.dual_bounds.proofs.RangeLemmas.{row-ranged}

@@ -13,7 +13,7 @@ use Rattle.lp_model.specs.Program.{Program, HasWholeObjective}
 use Rattle.leaf_dual.specs.declared.dual.LagValue.TheVariants.{Minus, Num}
 use Rattle.leaf_judging.specs.declared.closing.LeafNumber.{LeafNumber}
 use Rattle.leaf_judging.specs.declared.closing.LeafNumber.TheVariants.{Empty, Lag, Wide as WideNumber}
-use Rattle.leaf_judging.specs.Closing.{ReachesIn, NumberCloses}
+use Rattle.leaf_judging.specs.Closing.{NumberCloses}
 use Rattle.leaf_judging.specs.Choosing.{finite_number}
 use Rattle.tree_edit.specs.Points.{lesser}
 use Rattle.tree_edit.proofs.ClosedTree.{IsBelow}

@@ -1,15 +1,17 @@
--- A leaf has one number, so a tree has one bound; and some points have one least value of those that are feasible.
+-- A leaf has one number, so a tree has one bound, with the cuts as they are and with each derived again; and some points have one least value of those that are feasible.
 use Rattle.std.specs.Prelude.{◌≡◌, List, [], ◌∷◌, Ok, Err, Result}
 use Rattle.std.proofs.Common.{refl, sym, ap, subst, ◌∙◌, inl, inr}
 use Rattle.lp_model.specs.Program.{Program, Point}
 use Rattle.lp_model.specs.Regions.{Path}
-use Rattle.lp_model.specs.Formulations.{Formulation}
+use Rattle.lp_model.specs.Formulations.{Formulation, formulation}
+use Rattle.lp_model.specs.declared.types.CutRow.{CutRow}
 use Rattle.lp_model.specs.declared.types.WideStep.{WideStep}
 use Rattle.leaf_dual.specs.Dual.{Multipliers}
 use Rattle.leaf_dual.specs.declared.dual.LagValue.{LagValue}
 use Rattle.leaf_dual.proofs.WeakDuality.{lag_answer-is}
 use Rattle.leaf_dual.proofs.OneAnswer.{lag_one}
 use Rattle.branch_tree.specs.Leaves.{region_leaves}
+use Rattle.branch_tree.specs.Plain.{Plain}
 use Rattle.branch_tree.specs.declared.node.RegionLeaf.{RegionLeaf}
 use Rattle.leaf_judging.specs.declared.closing.LeafNumber.{LeafNumber}
 use Rattle.leaf_judging.specs.declared.closing.LeafNumber.TheVariants.{Empty, Lag, Wide as WideNumber}
@@ -18,8 +20,9 @@ use Rattle.tree_edit.specs.Points.{target}
 use Rattle.tree_edit.specs.Edited.{AreKeepable}
 use Rattle.dual_bounds.specs.declared.answers.LowerBound.{LowerBound}
 use Rattle.dual_bounds.specs.declared.answers.LowerBound.TheVariants.{Value, NoValue, Infeasible, Wide}
-use Rattle.dual_bounds.specs.TreeBounds.{AreLeafNumbers, bound_of_numbers, IsRoundedBound, upper_bound}
+use Rattle.dual_bounds.specs.TreeBounds.{AreLeafNumbers, bound_of_numbers, IsRoundedBound, IsTreeBound, IsTreeBoundAt, upper_bound}
 use Rattle.dual_bounds.specs.Laws.{OneBoundLaw}
+use Rattle.dual_bounds.proofs.CutLemmas.{derived-one}
 
 -- ---- numbers
 
@@ -69,10 +72,19 @@ keepable-one M (x ∷ xs) ys zs (inr h) (inr k) = h.1.1.0 ∙ ap (λ l. x ∷ l)
 
 -- ---- bounds
 
+tree-one : (F : Formulation) (t : Plain) (a b : LowerBound) → IsTreeBound F t a → IsTreeBound F t b → a ≡ b
+tree-one F t a b h k =
+    let same = numbers-one F (region_leaves [] t) h.numbers k.numbers h.numbers_are k.numbers_are in
+    rounded-one F.model (bound_of_numbers k.numbers) a b (subst (λ ns. IsRoundedBound F.model (bound_of_numbers ns) a) same h.rounded) k.rounded
+
+at-one : (M : Program) (cuts : List CutRow) (t : Plain) (a b : LowerBound) → IsTreeBoundAt M cuts t a → IsTreeBoundAt M cuts t b → a ≡ b
+at-one M cuts t a b h k =
+    let same = derived-one M cuts h.again k.again h.derived k.derived in
+    tree-one (formulation M k.again) t a b (subst (λ (again : List CutRow). IsTreeBound (formulation M again) t a) same h.is) k.is
+
 pub one-bound : OneBoundLaw
 one-bound = (
-  (λ F t a b h k.
-      let same = numbers-one F (region_leaves [] t) h.numbers k.numbers h.numbers_are k.numbers_are in
-      rounded-one F.model (bound_of_numbers k.numbers) a b (subst (λ ns. IsRoundedBound F.model (bound_of_numbers ns) a) same h.rounded) k.rounded),
+  tree-one,
+  at-one,
   (λ M points a b h k. h.is ∙ ap (λ ys. upper_bound (target M ys)) (keepable-one M points h.feasible k.feasible h.feasible_are k.feasible_are) ∙ sym k.is),
 )

@@ -1,12 +1,13 @@
 -- A walk over the leaves of a tree lists their numbers, and what these say is said of the leaves.
-use Rattle.std.specs.Prelude.{◌≡◌, List, [], ◌∷◌, ◌++◌, Option, ℤ, ℕ}
-use Rattle.std.specs.List.{AllZip, AllByRecursion}
-use Rattle.std.proofs.Common.{refl, sym, subst, ◌∙◌, append_assoc}
+use Rattle.std.specs.Prelude.{◌≡◌, List, [], ◌∷◌, ◌++◌, Option}
+use Rattle.std.specs.List.{AllByRecursion}
+use Rattle.std.proofs.Common.{sym, subst, ◌∙◌, append_assoc}
 use Rattle.std.proofs.lemmas.List.{append-nil}
 use Rattle.rational.specs.Rational.{ℚ}
 use Rattle.lp_model.specs.Program.{Program}
 use Rattle.lp_model.specs.Regions.{Path}
-use Rattle.lp_model.specs.Formulations.{Formulation, without_cuts}
+use Rattle.lp_model.specs.Formulations.{Formulation, formulation}
+use Rattle.lp_model.specs.declared.types.CutRow.{CutRow}
 use Rattle.branch_tree.specs.Tree.{Leaf, Split, left_path, right_path, EachLeaf}
 use Rattle.branch_tree.specs.Plain.{Plain}
 use Rattle.branch_tree.specs.Leaves.{region_leaf, region_leaves}
@@ -23,18 +24,21 @@ use Rattle.dual_bounds.proofs.NumberLists.{AllClose}
 
 -- ---- the walk
 
-module _ (M : Program) where
+module _ (M : Program) (cuts : List CutRow) where
   abbrev HasNumber : RegionLeaf → LeafNumber → Type 0
-  HasNumber l n = IsNumber (without_cuts M) l.region l.kept.mult l.kept.farkas n
+  HasNumber l n = IsNumber (formulation M cuts) l.region l.kept.mult l.kept.farkas n
 
   abbrev AreListed : List RegionLeaf → Listing → Type 0
-  AreListed done listing = (listing.model.now ≡ M) × AreLeafNumbers (without_cuts M) done listing.numbers.items
+  AreListed done listing = (listing.model.now ≡ M) × (listing.pool.now ≡ cuts) × AreLeafNumbers (formulation M cuts) done listing.numbers.items
 
   -- one leaf more
   listed-one : (done : List RegionLeaf) (l : RegionLeaf) (old new : Listing) → AreListed done old → ListsLeaf old l new → AreListed (done ++ l ∷ []) new
   listed-one done l old new listed step =
-      let is : HasNumber l step.number = subst (λ N. IsNumber (without_cuts N) l.region l.kept.mult l.kept.farkas step.number) listed.0 step.number_is in
-      (step.same ∙ listed.0, subst (λ (numbers : List LeafNumber). AreLeafNumbers (without_cuts M) (done ++ l ∷ []) numbers) (sym step.numbers_are) (zipped-push HasNumber done old.numbers.items l step.number listed.1 is))
+      let is : HasNumber l step.number = subst (λ P. P) (λ i. IsNumber (formulation (listed.0 i) (listed.1 i)) l.region l.kept.mult l.kept.farkas step.number) step.number_is in (
+        step.same ∙ listed.0,
+        step.same_cuts ∙ listed.1,
+        subst (λ (numbers : List LeafNumber). AreLeafNumbers (formulation M cuts) (done ++ l ∷ []) numbers) (sym step.numbers_are) (zipped-push HasNumber done old.numbers.items l step.number listed.2 is),
+      )
 
   listed-all : (done more : List RegionLeaf) (old new : Listing) → AreListed done old → Visits ListsLeaf more old new → AreListed (done ++ more) new
   listed-all done [] old new listed walk = subst (λ ls. AreListed ls new) (sym (append-nil done)) (subst (AreListed done) (sym walk) listed)
@@ -42,9 +46,10 @@ module _ (M : Program) where
       subst (λ ls. AreListed ls new) (append_assoc done (l ∷ []) more)
       (listed-all (done ++ l ∷ []) more walk.0 new (listed-one done l old walk.0 listed walk.1.0) walk.1.1)
 
-  pub listed-tree : (t : Plain) (old new : Listing) → old.model.now ≡ M → old.numbers.items ≡ [] → Visits ListsLeaf (region_leaves [] t) old new → AreLeafNumbers (without_cuts M) (region_leaves [] t) new.numbers.items
-  listed-tree t old new is none walk =
-      (listed-all [] (region_leaves [] t) old new (is, subst (λ (numbers : List LeafNumber). AreLeafNumbers (without_cuts M) [] numbers) (sym none) tt) walk).1
+  pub listed-tree : (t : Plain) (old new : Listing) → old.model.now ≡ M → old.pool.now ≡ cuts → old.numbers.items ≡ [] → Visits ListsLeaf (region_leaves [] t) old new
+      → AreLeafNumbers (formulation M cuts) (region_leaves [] t) new.numbers.items
+  listed-tree t old new is pool_is none walk =
+      (listed-all [] (region_leaves [] t) old new (is, pool_is, subst (λ (numbers : List LeafNumber). AreLeafNumbers (formulation M cuts) [] numbers) (sym none) tt) walk).2
 
 -- ---- leaves and lists
 

@@ -1,17 +1,18 @@
 -- What the bounds prove, and that after a finished search they are the optimum.
-use Rattle.std.specs.Prelude.{◌≡◌, ℕ, List, Some}
+use Rattle.std.specs.Prelude.{◌≡◌, List, Some}
 use Rattle.rational.specs.Rational.{ℚ, ◌≤ℚ◌}
 use Rattle.lp_model.specs.Program.{Program, Point, least_value, IsFeasible, IsEmpty}
-use Rattle.lp_model.specs.Formulations.{Formulation, without_cuts, IsValid}
+use Rattle.lp_model.specs.Formulations.{Formulation, IsValid}
 use Rattle.lp_model.specs.declared.types.RowId.{RowId}
 use Rattle.lp_model.specs.declared.types.ColId.{ColId}
+use Rattle.lp_model.specs.declared.types.CutRow.{CutRow}
 use Rattle.branch_tree.specs.Tree.{SplitsLawfully}
 use Rattle.branch_tree.specs.Plain.{Plain}
 use Rattle.tree_edit.specs.Points.{IsIncumbent}
-use Rattle.tree_edit.specs.Sound.{PlainSearch, formulation_of, IsSound}
+use Rattle.tree_edit.specs.Sound.{PlainSearch, IsSound}
 use Rattle.tree_edit.specs.Laws.{HasNoOpenLeaf}
 use Rattle.dual_bounds.specs.NewNumbers.{with_new_sides, with_new_costs, ArePresentSides, ArePresentCosts}
-use Rattle.dual_bounds.specs.TreeBounds.{IsTreeBound, IsPointBound}
+use Rattle.dual_bounds.specs.TreeBounds.{IsTreeBound, IsTreeBoundAt, IsPointBound}
 use Rattle.dual_bounds.specs.declared.answers.LowerBound.{LowerBound}
 use Rattle.dual_bounds.specs.declared.answers.LowerBound.TheVariants as lower
 use Rattle.dual_bounds.specs.declared.answers.UpperBound.{UpperBound}
@@ -36,16 +37,16 @@ TreeBoundLaw = (F : Formulation) (t : Plain) (bound : LowerBound) → IsValid F 
 abbrev pub PointBoundLaw : Type 0
 PointBoundLaw = (M : Program) (points : List Point) (bound : UpperBound) → IsPointBound M points bound → IsTrueUpperBound M bound
 
--- the tree of a search proves its bound of the search's model with other sides, and with other costs
+-- the tree and the cuts of a search prove their bound of the search's model with other sides, and with other costs
 abbrev pub NewSidesLaw : Type 0
 NewSidesLaw =
     (S : PlainSearch) (sides : List (RowId × ℚ)) (bound : LowerBound) → IsSound S
-    → IsTreeBound (without_cuts (with_new_sides S.model sides)) S.tree.root bound → IsTrueLowerBound (with_new_sides S.model sides) bound
+    → IsTreeBoundAt (with_new_sides S.model sides) S.cuts S.tree.root bound → IsTrueLowerBound (with_new_sides S.model sides) bound
 
 abbrev pub NewCostsLaw : Type 0
 NewCostsLaw =
     (S : PlainSearch) (costs : List (ColId × ℚ)) (bound : LowerBound) → IsSound S
-    → IsTreeBound (without_cuts (with_new_costs S.model costs)) S.tree.root bound → IsTrueLowerBound (with_new_costs S.model costs) bound
+    → IsTreeBoundAt (with_new_costs S.model costs) S.cuts S.tree.root bound → IsTrueLowerBound (with_new_costs S.model costs) bound
 
 -- a model with the sides, and with the costs, that it has is itself
 abbrev pub PresentSidesLaw : Type 0
@@ -65,10 +66,11 @@ IsExactUpper S bound = HasNoOpenLeaf S → (x : Point) → IsIncumbent S.model S
 abbrev pub ExactLaw : Type 0
 ExactLaw =
     (S : PlainSearch) → IsSound S
-    → ((bound : LowerBound) → IsTreeBound (formulation_of S) S.tree.root bound → IsExactLower S bound) × ((bound : UpperBound) → IsPointBound S.model S.points bound → IsExactUpper S bound)
+    → ((bound : LowerBound) → IsTreeBoundAt S.model S.cuts S.tree.root bound → IsExactLower S bound) × ((bound : UpperBound) → IsPointBound S.model S.points bound → IsExactUpper S bound)
 
 -- two bounds of one question are one
 abbrev pub OneBoundLaw : Type 0
 OneBoundLaw =
     ((F : Formulation) (t : Plain) (a b : LowerBound) → IsTreeBound F t a → IsTreeBound F t b → a ≡ b)
+    × ((M : Program) (cuts : List CutRow) (t : Plain) (a b : LowerBound) → IsTreeBoundAt M cuts t a → IsTreeBoundAt M cuts t b → a ≡ b)
     × ((M : Program) (points : List Point) (a b : UpperBound) → IsPointBound M points a → IsPointBound M points b → a ≡ b)

@@ -1,6 +1,7 @@
 -- The bound that a tree proves of a model, whatever model it was grown for, and the best of some points at a model.
 --     bound_of_numbers numbers         what the numbers of a tree's leaves prove together
 --     IsTreeBound F t bound            that of the tree t at the formulation F, rounded up where the objective is whole
+--     IsTreeBoundAt M cuts t bound     that at the model M with each of the cuts derived again there
 --     IsPointBound M points bound      the least value of the points that are feasible in M
 -- (T. K. Ralphs, M. Güzelsoy, The SYMPHONY Callable Library for Mixed Integer Programming, 2005.) Bounds are in least form.
 use Rattle.std.specs.Prelude.{◌≡◌, ◌⊎◌, ℕ, ◌+◌, List, [], ◌∷◌, Option, Some, None, unwrap_or}
@@ -8,12 +9,15 @@ use Rattle.std.specs.List.{AllZip}
 use Rattle.std.specs.Option.{option_or}
 use Rattle.rational.specs.Rational.{ℚ, int, ceil}
 use Rattle.lp_model.specs.Program.{Program, Point, HasWholeObjective}
-use Rattle.lp_model.specs.Formulations.{Formulation}
+use Rattle.lp_model.specs.Formulations.{Formulation, formulation}
+use Rattle.lp_model.specs.declared.types.CutRow.{CutRow}
+use Rattle.cover_cuts.specs.Cuts.{IsPoolOf}
 use Rattle.leaf_dual.specs.declared.dual.LagValue.{LagValue}
 use Rattle.leaf_dual.specs.declared.dual.LagValue.TheVariants.{Minus, Num}
 use Rattle.branch_tree.specs.Plain.{Plain}
 use Rattle.branch_tree.specs.Leaves.{region_leaves}
 use Rattle.branch_tree.specs.declared.node.RegionLeaf.{RegionLeaf}
+use Rattle.kept_cuts.specs.Kept.{derivations_of}
 use Rattle.leaf_judging.specs.declared.closing.LeafNumber.{LeafNumber}
 use Rattle.leaf_judging.specs.declared.closing.LeafNumber.TheVariants.{Empty, Lag, Wide as WideNumber}
 use Rattle.leaf_judging.specs.Closing.{IsNumber}
@@ -80,6 +84,17 @@ pub record IsTreeBound (F : Formulation) (t : Plain) (bound : LowerBound) : Type
   pub numbers : List LeafNumber
   pub numbers_are : AreLeafNumbers F (region_leaves [] t) numbers
   pub rounded : IsRoundedBound F.model (bound_of_numbers numbers) bound
+
+-- the same cuts, each derived again at M: it counts exactly where it derives there with room for each step
+pub record AreDerivedAgain (M : Program) (cuts again : List CutRow) : Type 0 where
+  pub derivations : derivations_of again ≡ derivations_of cuts
+  pub pool : IsPoolOf M again
+
+-- a cut that does not derive at M counts as 0, whatever it was at the model that the tree was grown for
+pub record IsTreeBoundAt (M : Program) (cuts : List CutRow) (t : Plain) (bound : LowerBound) : Type 0 where
+  pub again : List CutRow
+  pub derived : AreDerivedAgain M cuts again
+  pub is : IsTreeBound (formulation M again) t bound
 
 abbrev pub upper_bound : Option ℚ → UpperBound
 upper_bound None = upper.NoValue

@@ -1,8 +1,7 @@
 // The calls: bounds of a search's model with other sides, or with other costs.
 ghost use Rattle.std.specs.Prelude.{IfOk};
-ghost use Rattle.lp_model.specs.Formulations.{without_cuts};
 ghost use Rattle.dual_bounds.specs.NewNumbers.{with_new_sides, with_new_costs, AreNewSides, AreNewCosts, ArePresentSides, ArePresentCosts};
-ghost use Rattle.dual_bounds.specs.TreeBounds.{IsTreeBound, IsPointBound};
+ghost use Rattle.dual_bounds.specs.TreeBounds.{IsTreeBoundAt, IsPointBound};
 ghost use Rattle.dual_bounds.specs.Laws.{IsTrueLowerBound, IsTrueUpperBound, IsExactLower, IsExactUpper};
 
 use crate::answers::{LowerBound, UpperBound};
@@ -15,7 +14,8 @@ use std::alloc::{AllocError, Global};
 use tree_edit::Search;
 
 /// A lower bound of the search's model with these numbers for the sides of the named rows, each of which has one side, or two
-/// equal ones. It is in least form. Where no leaf is open, that at the sides that there are is the optimum.
+/// equal ones. Each cut of the search counts exactly where it derives with them. It is in least form. Where no leaf is open, that
+/// at the sides that there are is the optimum.
 ///
 /// # Errors
 ///
@@ -26,12 +26,12 @@ pub fn lb_new_rhs(
     sides: &[(RowId, Frac)],
 ) -> Result<LowerBound, AllocError>
     requires { AreNewSides search.now.model sides.now }
-    ensures bound { IfOk result (λ bound. IsTreeBound (without_cuts (with_new_sides search.now.model sides.now)) search.now.tree.root bound) }
+    ensures bound { IfOk result (λ bound. IsTreeBoundAt (with_new_sides search.now.model sides.now) search.now.cuts search.now.tree.root bound) }
     ensures true_bound { IfOk result (λ bound. IsTrueLowerBound (with_new_sides search.now.model sides.now) bound) }
     ensures exact { IfOk result (λ bound. ArePresentSides search.now.model sides.now → IsExactLower search.now bound) }
 {
     let changed = model_with_sides(alloc, search.model(), sides)?;
-    let bound = tree_bound(alloc, &changed, search.tree())?;
+    let bound = tree_bound(alloc, &changed, search.pool(), search.tree())?;
     Ok(bound)
 }
 
@@ -47,12 +47,12 @@ pub fn lb_new_obj(
     costs: &[(ColId, Frac)],
 ) -> Result<LowerBound, AllocError>
     requires { AreNewCosts search.now.model costs.now }
-    ensures bound { IfOk result (λ bound. IsTreeBound (without_cuts (with_new_costs search.now.model costs.now)) search.now.tree.root bound) }
+    ensures bound { IfOk result (λ bound. IsTreeBoundAt (with_new_costs search.now.model costs.now) search.now.cuts search.now.tree.root bound) }
     ensures true_bound { IfOk result (λ bound. IsTrueLowerBound (with_new_costs search.now.model costs.now) bound) }
     ensures exact { IfOk result (λ bound. ArePresentCosts search.now.model costs.now → IsExactLower search.now bound) }
 {
     let changed = model_with_costs(alloc, search.model(), costs)?;
-    let bound = tree_bound(alloc, &changed, search.tree())?;
+    let bound = tree_bound(alloc, &changed, search.pool(), search.tree())?;
     Ok(bound)
 }
 

@@ -8,21 +8,24 @@
 //! optimum of M' <= the least value of the kept points that are feasible in M'
 //! ```
 //!
-//! in least form, and M' has no feasible point where each leaf is set aside. A leaf that has no number at M', since a side or a
-//! bound is missing or a step of arithmetic has no room, leaves nothing to say: the first such leaf is told. (T. K. Ralphs,
-//! M. Güzelsoy, The SYMPHONY Callable Library for Mixed Integer Programming, 2005; the manual's `sym_get_lb_for_new_rhs`,
-//! `sym_get_ub_for_new_rhs` and `sym_get_ub_for_new_obj`.)
+//! in least form, and M' has no feasible point where each leaf is set aside. The multipliers are of rows and of the search's cuts;
+//! each cut is derived again at M', as by an edit, and one that does not derive there counts as 0. A leaf that has no number at
+//! M', since a side or a bound is missing or a step of arithmetic has no room, leaves nothing to say: the first such leaf is told.
+//! (T. K. Ralphs, M. Güzelsoy, The SYMPHONY Callable Library for Mixed Integer Programming, 2005; the manual's
+//! `sym_get_lb_for_new_rhs`, `sym_get_ub_for_new_rhs` and `sym_get_ub_for_new_obj`.)
 //!
-//! Public contract: the calls answer exactly these bounds (`IsTreeBound`, `IsPointBound` in specs/TreeBounds) at the model with
+//! Public contract: the calls answer exactly these bounds (`IsTreeBoundAt`, `IsPointBound` in specs/TreeBounds) at the model with
 //! the new numbers (specs/NewNumbers), and leave the search as it is. No feasible point is below a lower bound, some feasible
 //! point has an upper one, and after a finished search both are its optimum at the numbers that there are (specs/Laws).
 //!
-//! A lower bound costs what it costs to judge the tree once, and takes memory for one number a leaf. Below stand the searches
-//! (`tree_edit`) and the numbers of leaves (`leaf_judging`); above stands the environment.
+//! A lower bound costs what it costs to derive the cuts and to judge the tree once, and takes memory for the cuts and for one
+//! number a leaf. Below stand the searches (`tree_edit`), the numbers of leaves (`leaf_judging`) and the cuts of a model
+//! (`kept_cuts`, `cover_cuts`); above stands the environment.
 #![tactic(auto)]
 
 mod answers;
 mod bounds;
+mod cuts;
 mod laws;
 mod new_numbers;
 mod numbers;

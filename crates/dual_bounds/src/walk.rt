@@ -1,22 +1,25 @@
 // A walk over the leaves of a tree, which lists their numbers at a model.
 ghost use Rattle.std.specs.Prelude.{IfOk, OnOk};
 ghost use Rattle.lp_model.specs.Regions.{AreNarrow};
-ghost use Rattle.lp_model.specs.Formulations.{without_cuts};
+ghost use Rattle.lp_model.specs.Formulations.{formulation};
 ghost use Rattle.branch_tree.specs.Tree.{HasNarrowSplits};
-ghost use Rattle.dual_bounds.specs.TreeBounds.{IsTreeBound};
+ghost use Rattle.dual_bounds.specs.TreeBounds.{IsTreeBound, IsTreeBoundAt};
 
 use crate::answers::LowerBound;
+use crate::cuts::derived_again;
 use crate::numbers::proved_bound;
 use branch_tree::{LeafData, LeafVisitor, Tree};
+use cover_cuts::CutPool;
 use leaf_dual::LagValue;
 use leaf_judging::{LeafNumber, number_of};
 use lp_model::{BoundChange, Model};
 use std::alloc::{AllocError, Global};
 
-/// The numbers of leaves at a model, one by one.
+/// The numbers of leaves at a model with its cuts, one by one.
 #[derive(Drop)]
 pub(crate) struct Listing<'a> {
     pub(crate) model: &'a Model,
+    pub(crate) pool: &'a CutPool,
     pub(crate) numbers: Vec<LeafNumber>,
 }
 
@@ -35,7 +38,7 @@ impl Listing<'_> {
     {
         // without this name the proof isn't told the type of the number's value
         let _named = LagValue::Minus;
-        let number = number_of(self.model, path, &kept.mult, &kept.farkas);
+        let number = number_of(self.model, self.pool, path, &kept.mult, &kept.farkas);
         self.numbers.push(number)?;
         Ok(())
     }
@@ -51,19 +54,36 @@ impl LeafVisitor for Listing<'_> {
     }
 }
 
-/// What a tree proves of a model.
-pub(crate) fn tree_bound(
+/// What a tree proves of a model with its cuts.
+fn bound_with_cuts(
     alloc: Global,
     model: &Model,
+    pool: &CutPool,
     tree: &Tree,
 ) -> Result<LowerBound, AllocError>
     requires { HasNarrowSplits tree.now.root }
-    ensures { IfOk result (λ bound. IsTreeBound (without_cuts model.now) tree.now.root bound) }
+    ensures { IfOk result (λ bound. IsTreeBound (formulation model.now pool.now) tree.now.root bound) }
 {
     let mut listing = Listing {
         model,
+        pool,
         numbers: Vec::new(alloc),
     };
     tree.visit_leaves(&mut listing)?;
     Ok(proved_bound(model, &listing.numbers))
+}
+
+/// What a tree proves of a model, with each cut of a pool derived again there.
+pub(crate) fn tree_bound(
+    alloc: Global,
+    model: &Model,
+    pool: &CutPool,
+    tree: &Tree,
+) -> Result<LowerBound, AllocError>
+    requires { HasNarrowSplits tree.now.root }
+    ensures { IfOk result (λ bound. IsTreeBoundAt model.now pool.now tree.now.root bound) }
+{
+    let again = derived_again(alloc, model, pool)?;
+    let bound = bound_with_cuts(alloc, model, &again, tree)?;
+    Ok(bound)
 }

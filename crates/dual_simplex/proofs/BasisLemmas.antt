@@ -4,7 +4,8 @@ use Rattle.std.specs.Option.{option_map}
 use Rattle.std.proofs.Common.{refl, sym, ap, subst, ◌∙◌, arith, ⊎_elim}
 use Rattle.std.proofs.lemmas.Bool.{cases_lt, false≢true}
 use Rattle.rational.specs.Rational.{ℚ, int, ceil, floor}
-use Rattle.lp_model.specs.Program.{Program, lower, upper, low_side, high_side, is_integer}
+use Rattle.lp_model.specs.Program.{Program, lower, upper, is_integer}
+use Rattle.lp_model.specs.Formulations.{Formulation, without_cuts}
 use Rattle.lp_model.specs.Regions.{Path, region_low, region_high}
 use Rattle.lp_model.specs.declared.types.Basis.{Basis}
 use Rattle.lp_model.specs.declared.types.Var.{Var}
@@ -17,7 +18,8 @@ use Rattle.bases.specs.Directions.{stand_number}
 use Rattle.bases.proofs.BringIn.{basic_within, nonbasic_within, all_found}
 use Rattle.row_tableau.specs.declared.relax.Relax.{Relax}
 use Rattle.row_tableau.specs.declared.relax.RelaxKind.TheVariants.{Plain}
-use Rattle.row_tableau.specs.Relaxations.{plain, of_kind, relaxation_of}
+use Rattle.row_tableau.specs.Activities.{activity_count, activity_low, activity_high}
+use Rattle.row_tableau.specs.Relaxations.{form_of, plain, of_kind, relaxation_of}
 use Rattle.row_tableau.specs.Variables.{numbers}
 use Rattle.basic_solution.specs.Held.{Held, IsLawfulHeld, relaxation, state, table}
 use Rattle.row_tableau.specs.Dense.{IsTableauOf}
@@ -77,7 +79,7 @@ module _ (s : Held) (arranged : IsArranged (relaxation s) (table s)) (basis : Ba
       (λ i w. lists.basic.all ((table s).basic i) (basic_within (relaxation s) (table s) arranged i w) (i, w, refl))
 
   -- where a variable is listed high it stands so
-  high_stands : (k : ℕ) → k < s.tableau.columns → Lists (numbers s.tableau basis.high) ((table s).nonbasic k) → get_or s.stands k Free ≡ High
+  pub high_stands : (k : ℕ) → k < s.tableau.columns → Lists (numbers s.tableau basis.high) ((table s).nonbasic k) → get_or s.stands k Free ≡ High
   high_stands k w (t, within, is) =
       let h = lists.high.holds t within in
       let same : h.0 ≡ k = arranged.nonbasic_once h.0 k h.1.0 w (h.1.1.0 ∙ sym is) in
@@ -120,48 +122,48 @@ not_there None h = refl
 gone_there : (o : Option ℚ) → o ≡ None → ¬ There o
 gone_there o e (x, f) = cc
 
-module _ (M : Program) where
+module _ (F : Formulation) where
   abbrev root : Relaxation
-  root = plain M []
+  root = plain F []
 
-  low_back : (v : ℕ) → There (root.low v) → There (model_low M v)
+  low_back : (v : ℕ) → There (root.low v) → There (model_low F v)
   low_back v h = ⊎_elim
-      (λ w. subst There (sym (by_column (length M.cols) (lower M) (low_side M) v w)) (either_back (is_integer M v) (λ l. int (ceil l)) (lower M v) (subst There (by_column (length M.cols) (region_low M []) (low_side M) v w) h)))
-      (λ w. subst There (sym (by_activity (length M.cols) (lower M) (low_side M) v w)) (subst There (by_activity (length M.cols) (region_low M []) (low_side M) v w) h))
-      (cases_lt v (length M.cols))
+      (λ w. subst There (sym (by_column (length F.model.cols) (lower F.model) (activity_low F) v w)) (either_back (is_integer F.model v) (λ l. int (ceil l)) (lower F.model v) (subst There (by_column (length F.model.cols) (region_low F.model []) (activity_low F) v w) h)))
+      (λ w. subst There (sym (by_activity (length F.model.cols) (lower F.model) (activity_low F) v w)) (subst There (by_activity (length F.model.cols) (region_low F.model []) (activity_low F) v w) h))
+      (cases_lt v (length F.model.cols))
 
-  high_back : (v : ℕ) → There (root.high v) → There (model_high M v)
+  high_back : (v : ℕ) → There (root.high v) → There (model_high F v)
   high_back v h = ⊎_elim
-      (λ w. subst There (sym (by_column (length M.cols) (upper M) (high_side M) v w)) (either_back (is_integer M v) (λ l. int (floor l)) (upper M v) (subst There (by_column (length M.cols) (region_high M []) (high_side M) v w) h)))
-      (λ w. subst There (sym (by_activity (length M.cols) (upper M) (high_side M) v w)) (subst There (by_activity (length M.cols) (region_high M []) (high_side M) v w) h))
-      (cases_lt v (length M.cols))
+      (λ w. subst There (sym (by_column (length F.model.cols) (upper F.model) (activity_high F) v w)) (either_back (is_integer F.model v) (λ l. int (floor l)) (upper F.model v) (subst There (by_column (length F.model.cols) (region_high F.model []) (activity_high F) v w) h)))
+      (λ w. subst There (sym (by_activity (length F.model.cols) (upper F.model) (activity_high F) v w)) (subst There (by_activity (length F.model.cols) (region_high F.model []) (activity_high F) v w) h))
+      (cases_lt v (length F.model.cols))
 
-  module _ (path : Path) (keeps : KeepsFree M path) where
-    unsided_root : (v : ℕ) → IsFree root v → is_sided M v ≡ false
+  module _ (path : Path) (keeps : KeepsFree F.model path) where
+    unsided_root : (v : ℕ) → IsFree root v → is_sided F v ≡ false
     unsided_root v free =
-        let lo = not_there (model_low M v) (λ h. gone_there (root.low v) free.0 (low_there M [] v h)) in
-        let hi = not_there (model_high M v) (λ h. gone_there (root.high v) free.1 (high_there M [] v h)) in
+        let lo = not_there (model_low F v) (λ h. gone_there (root.low v) free.0 (low_there F [] v h)) in
+        let hi = not_there (model_high F v) (λ h. gone_there (root.high v) free.1 (high_there F [] v h)) in
         subst (λ X. X) (λ i. has_side (sym lo i) (sym hi i) ≡ false) refl
 
     -- a side stays in the region
-    can_region : (v : ℕ) (stand : Stand) → CanStand stand (root.low v) (root.high v) → CanStand stand ((plain M path).low v) ((plain M path).high v)
-    can_region v Low h = there_some ((plain M path).low v) (low_there M path v (low_back v (some_there (root.low v) h)))
-    can_region v High h = there_some ((plain M path).high v) (high_there M path v (high_back v (some_there (root.high v) h)))
-    can_region v Free h = free_in_region M path keeps v (unsided_root v h)
+    can_region : (v : ℕ) (stand : Stand) → CanStand stand (root.low v) (root.high v) → CanStand stand ((plain F path).low v) ((plain F path).high v)
+    can_region v Low h = there_some ((plain F path).low v) (low_there F path v (low_back v (some_there (root.low v) h)))
+    can_region v High h = there_some ((plain F path).high v) (high_there F path v (high_back v (some_there (root.high v) h)))
+    can_region v Free h = free_in_region F path keeps v (unsided_root v h)
 
     abbrev restood_in : State → State
-    restood_in st = record { table = st.table; stand = st.stand; at = λ k. stand_number (st.stand k) ((plain M path).low (st.table.nonbasic k)) ((plain M path).high (st.table.nonbasic k)) }
+    restood_in st = record { table = st.table; stand = st.stand; at = λ k. stand_number (st.stand k) ((plain F path).low (st.table.nonbasic k)) ((plain F path).high (st.table.nonbasic k)) }
 
-    pub can_there : (st : State) → IsGood root (parts_of Plain M []) st → (k : ℕ) → k < length M.cols → CanStand (st.stand k) ((plain M path).low (st.table.nonbasic k)) ((plain M path).high (st.table.nonbasic k))
+    pub can_there : (st : State) → IsGood root (parts_of Plain F []) st → (k : ℕ) → k < length F.model.cols → CanStand (st.stand k) ((plain F path).low (st.table.nonbasic k)) ((plain F path).high (st.table.nonbasic k))
     can_there st good k w = can_region (st.table.nonbasic k) (st.stand k) (can_of root (st.table.nonbasic k) (st.stand k) (st.at k) (good.lawful.stands k w))
 
     -- and a good state is one of the region
-    pub good_in : (st : State) → IsGood root (parts_of Plain M []) st → IsGood (plain M path) (parts_of Plain M path) (restood_in st)
+    pub good_in : (st : State) → IsGood root (parts_of Plain F []) st → IsGood (plain F path) (parts_of Plain F path) (restood_in st)
     good_in st good = record {
       table = record { holds = good.table.holds; suffices = good.table.suffices };
       arranged = record { basic_once = good.arranged.basic_once; nonbasic_once = good.arranged.nonbasic_once; apart = good.arranged.apart; sums = good.arranged.sums };
       lawful = record {
-        stands = λ k w. stands_of (plain M path) (st.table.nonbasic k) (st.stand k) (can_there st good k w);
+        stands = λ k w. stands_of (plain F path) (st.table.nonbasic k) (st.stand k) (can_there st good k w);
         lawful = good.lawful.lawful;
       };
     }
@@ -169,38 +171,38 @@ module _ (M : Program) where
 -- ---- the slack basis
 
 -- two states of relaxations of one model number the variables alike
-numbers_alike : (a b : Relax) (s t : Held) → IsOf a s → IsOf b t → a.model.now ≡ b.model.now → (list : List Var) → numbers s.tableau list ≡ numbers t.tableau list
+numbers_alike : (a b : Relax) (s t : Held) → IsOf a s → IsOf b t → form_of a ≡ form_of b → (list : List Var) → numbers s.tableau list ≡ numbers t.tableau list
 numbers_alike a b s t s_is t_is same list = numbers_same s.tableau t.tableau
-    (columns_is a s s_is ∙ ap (λ M. length M.cols) same ∙ sym (columns_is b t t_is))
-    (s_is.rows ∙ ap (λ M. length M.rows) same ∙ sym t_is.rows)
-    (activities_is a s s_is ∙ ap (λ M. length M.rows) same ∙ sym (activities_is b t t_is))
+    (columns_is a s s_is ∙ ap (λ F. length F.model.cols) same ∙ sym (columns_is b t t_is))
+    (s_is.rows ∙ ap (λ F. length F.model.rows) same ∙ sym t_is.rows)
+    (activities_is a s s_is ∙ ap activity_count same ∙ sym (activities_is b t t_is))
     list
 
-module _ (M : Program) (start : Relax) (s : Held) (is : IsOf start s) (model : start.model.now ≡ M) (kind : start.kind ≡ Plain) (region : start.region.now ≡ []) (kept : IsLawfulHeld s) (basis : Basis) (lists : IsBasisOf s basis) where
-  good_root : IsGood (plain M []) (parts_of Plain M []) (state s)
-  good_root = subst (λ X. X) (λ i. IsGood (of_kind (kind i) (plain (model i) (region i))) (parts_of (kind i) (model i) (region i)) (state s)) (good_of start s is kept)
+module _ (F : Formulation) (start : Relax) (s : Held) (is : IsOf start s) (form : form_of start ≡ F) (kind : start.kind ≡ Plain) (region : start.region.now ≡ []) (kept : IsLawfulHeld s) (basis : Basis) (lists : IsBasisOf s basis) where
+  good_root : IsGood (plain F []) (parts_of Plain F []) (state s)
+  good_root = subst (λ X. X) (λ i. IsGood (of_kind (kind i) (plain (form i) (region i))) (parts_of (kind i) (form i) (region i)) (state s)) (good_of start s is kept)
 
-  columns_here : s.tableau.columns ≡ length M.cols
-  columns_here = columns_is start s is ∙ ap (λ N. length N.cols) model
+  columns_here : s.tableau.columns ≡ length F.model.cols
+  columns_here = columns_is start s is ∙ ap (λ N. length N.model.cols) form
 
-  activities_here : s.tableau.activities ≡ length M.rows
-  activities_here = activities_is start s is ∙ ap (λ N. length N.rows) model
+  activities_here : s.tableau.activities ≡ activity_count F
+  activities_here = activities_is start s is ∙ ap activity_count form
 
-  module _ (relax : Relax) (same : relax.model.now ≡ M) (plain_kind : relax.kind ≡ Plain) (keeps : KeepsFree M relax.region.now) where
+  module _ (relax : Relax) (same : form_of relax ≡ F) (plain_kind : relax.kind ≡ Plain) (keeps : KeepsFree F.model relax.region.now) where
     abbrev path : Path
     path = relax.region.now
 
     abbrev there_state : State
-    there_state = restood_in M path keeps (state s)
+    there_state = restood_in F path keeps (state s)
 
-    relaxation_is : plain M path ≡ relaxation_of relax
+    relaxation_is : plain F path ≡ relaxation_of relax
     relaxation_is = λ i. of_kind (sym plain_kind i) (plain (sym same i) path)
 
-    good_there : IsGood (relaxation_of relax) (parts_of relax.kind relax.model.now path) there_state
-    good_there = subst (λ X. X) (λ i. IsGood (relaxation_is i) (parts_of (sym plain_kind i) (sym same i) path) there_state) (good_in M path keeps (state s) good_root)
+    good_there : IsGood (relaxation_of relax) (parts_of relax.kind (form_of relax) path) there_state
+    good_there = subst (λ X. X) (λ i. IsGood (relaxation_is i) (parts_of (sym plain_kind i) (sym same i) path) there_state) (good_in F path keeps (state s) good_root)
 
     alike : (t : Held) → IsOf relax t → (list : List Var) → numbers s.tableau list ≡ numbers t.tableau list
-    alike t t_is list = numbers_alike start relax s t is t_is (model ∙ sym same) list
+    alike t t_is list = numbers_alike start relax s t is t_is (form ∙ sym same) list
 
     stands_there : StandsAt relax basis there_state
     stands_there = record {
@@ -208,10 +210,10 @@ module _ (M : Program) (start : Relax) (s : Held) (is : IsOf start s) (model : s
           (λ i. IsNamedBy ((activities_here ∙ ap (λ p. p.activities) relaxation_is) i) (alike t t_is basis.basic i) (table s))
           (lists_named s kept.good.arranged basis lists);
       stands = λ t t_is k w.
-          let here : k < length M.cols = subst (λ n. k < n) (ap (λ p. p.columns) (sym relaxation_is)) w in
+          let here : k < length F.model.cols = subst (λ n. k < n) (ap (λ p. p.columns) (sym relaxation_is)) w in
           subst (λ X. X)
           (λ i. IsStandBy (relaxation_is i) (alike t t_is basis.high i) ((table s).nonbasic k) (get_or s.stands k Free))
-          (lists_stand s kept.good.arranged basis lists (plain M path) k (subst (λ n. k < n) (sym columns_here) here) (can_there M path keeps (state s) good_root k here));
+          (lists_stand s kept.good.arranged basis lists (plain F path) k (subst (λ n. k < n) (sym columns_here) here) (can_there F path keeps (state s) good_root k here));
     }
 
     pub slack_lawful : IsLawfulBasis relax basis
@@ -225,16 +227,16 @@ lawful_slack M root s basis slack root_is kept lists = record {
   slack = slack;
   kept = kept;
   lists = lists;
-  lawful = λ relax same plain_kind keeps. slack_lawful M root s slack.is root_is.model root_is.kind root_is.region kept basis lists relax same plain_kind keeps;
+  lawful = λ relax same plain_kind keeps. slack_lawful (without_cuts M) root s slack.is root_is.form root_is.kind root_is.region kept basis lists relax same plain_kind keeps;
 }
 
 -- a model has one relaxation in the whole region
 pub same_root : (M : Program) (a b : Relax) → IsRootOf M a → IsRootOf M b → (s : Held) → IsSlackState a s → IsSlackState b s
 same_root M a b a_is b_is s at = record {
   is = record {
-    model = at.is.model ∙ m;
+    form = at.is.form ∙ m;
     tableau = subst (λ p. IsTableauOf p s.tableau) relaxations at.is.tableau;
-    rows = at.is.rows ∙ ap (λ N. length N.rows) m;
+    rows = at.is.rows ∙ ap (λ F. length F.model.rows) m;
     low = λ v w. at.is.low v w ∙ ap (λ p. p.low v) relaxations;
     high = λ v w. at.is.high v w ∙ ap (λ p. p.high v) relaxations;
     cost = λ v w. at.is.cost v w ∙ ap (λ p. p.cost v) relaxations;
@@ -244,8 +246,8 @@ same_root M a b a_is b_is s at = record {
   slack = at.slack;
 }
   where
-    m : a.model.now ≡ b.model.now
-    m = a_is.model ∙ sym b_is.model
+    m : form_of a ≡ form_of b
+    m = a_is.form ∙ sym b_is.form
 
     k : a.kind ≡ b.kind
     k = a_is.kind ∙ sym b_is.kind

@@ -8,7 +8,8 @@ use Rattle.std.proofs.lemmas.List.{length-append, get_or_append_left}
 use Rattle.rational.specs.Rational.{ℚ, int, ceil, floor, max_ℚ, min_ℚ, ◌<ℚ◌}
 use Rattle.rational.proofs.RationalRing.{reads_ℚ}
 use Rattle.rational.proofs.RationalOrder.{zero-<ℚ-one, <ℚ_trans, <ℚ_irrefl, linear_strict}
-use Rattle.lp_model.specs.Program.{Program, lower, upper, low_side, high_side, is_integer}
+use Rattle.lp_model.specs.Program.{lower, upper, is_integer}
+use Rattle.lp_model.specs.Formulations.{Formulation}
 use Rattle.lp_model.specs.Regions.{Path, low_after, high_after, low_along, high_along, region_low, region_high}
 use Rattle.lp_model.specs.declared.types.Side.{Side}
 use Rattle.lp_model.specs.declared.types.Side.TheVariants.{Lo, Hi}
@@ -18,6 +19,7 @@ use Rattle.bases.specs.States.{sign}
 use Rattle.bases.specs.Directions.{Continues}
 use Rattle.bases.proofs.SumBelowLaws.{if_same, if_other}
 use Rattle.row_tableau.specs.declared.relax.RelaxKind.TheVariants.{Plain, Directions}
+use Rattle.row_tableau.specs.Activities.{activity_count, activity_low, activity_high}
 use Rattle.row_tableau.specs.Relaxations.{plain}
 use Rattle.basic_solution.specs.Tilts.{model_low, model_high, stand_by_sides, free_tilt, tilt_of, has_side, is_sided, sided, unsided, tilted_cost, parts_of}
 use Rattle.basic_solution.proofs.OrderLemmas.{filter_from}
@@ -57,20 +59,20 @@ mapped : (f : ℚ → ℚ) (o : Option ℚ) → There o → There (option_map f 
 mapped f (Some x) h = (f x, refl)
 mapped f None (x, e) = absurd cc
 
-module _ (M : Program) (path : Path) where
-  pub low_there : (v : ℕ) → There (model_low M v) → There ((plain M path).low v)
+module _ (F : Formulation) (path : Path) where
+  pub low_there : (v : ℕ) → There (model_low F v) → There ((plain F path).low v)
   low_there v h = ⊎_elim
-      (λ w. subst There (sym (by_column (length M.cols) (region_low M path) (low_side M) v w)) (let g = subst There (by_column (length M.cols) (lower M) (low_side M) v w) h in
-      low_stays path v (if is_integer M v then option_map (λ l. int (ceil l)) (lower M v) else lower M v) (either (is_integer M v) (option_map (λ l. int (ceil l)) (lower M v)) (lower M v) (mapped (λ l. int (ceil l)) (lower M v) g) g)))
-      (λ w. subst There (sym (by_activity (length M.cols) (region_low M path) (low_side M) v w)) (subst There (by_activity (length M.cols) (lower M) (low_side M) v w) h))
-      (cases_lt v (length M.cols))
+      (λ w. subst There (sym (by_column (length F.model.cols) (region_low F.model path) (activity_low F) v w)) (let g = subst There (by_column (length F.model.cols) (lower F.model) (activity_low F) v w) h in
+      low_stays path v (if is_integer F.model v then option_map (λ l. int (ceil l)) (lower F.model v) else lower F.model v) (either (is_integer F.model v) (option_map (λ l. int (ceil l)) (lower F.model v)) (lower F.model v) (mapped (λ l. int (ceil l)) (lower F.model v) g) g)))
+      (λ w. subst There (sym (by_activity (length F.model.cols) (region_low F.model path) (activity_low F) v w)) (subst There (by_activity (length F.model.cols) (lower F.model) (activity_low F) v w) h))
+      (cases_lt v (length F.model.cols))
 
-  pub high_there : (v : ℕ) → There (model_high M v) → There ((plain M path).high v)
+  pub high_there : (v : ℕ) → There (model_high F v) → There ((plain F path).high v)
   high_there v h = ⊎_elim
-      (λ w. subst There (sym (by_column (length M.cols) (region_high M path) (high_side M) v w)) (let g = subst There (by_column (length M.cols) (upper M) (high_side M) v w) h in
-      high_stays path v (if is_integer M v then option_map (λ l. int (floor l)) (upper M v) else upper M v) (either (is_integer M v) (option_map (λ l. int (floor l)) (upper M v)) (upper M v) (mapped (λ l. int (floor l)) (upper M v) g) g)))
-      (λ w. subst There (sym (by_activity (length M.cols) (region_high M path) (high_side M) v w)) (subst There (by_activity (length M.cols) (upper M) (high_side M) v w) h))
-      (cases_lt v (length M.cols))
+      (λ w. subst There (sym (by_column (length F.model.cols) (region_high F.model path) (activity_high F) v w)) (let g = subst There (by_column (length F.model.cols) (upper F.model) (activity_high F) v w) h in
+      high_stays path v (if is_integer F.model v then option_map (λ l. int (floor l)) (upper F.model v) else upper F.model v) (either (is_integer F.model v) (option_map (λ l. int (floor l)) (upper F.model v)) (upper F.model v) (mapped (λ l. int (floor l)) (upper F.model v) g) g)))
+      (λ w. subst There (sym (by_activity (length F.model.cols) (region_high F.model path) (activity_high F) v w)) (subst There (by_activity (length F.model.cols) (upper F.model) (activity_high F) v w) h))
+      (cases_lt v (length F.model.cols))
 
 -- ---- signs of tilts
 
@@ -95,59 +97,59 @@ sided_tilt a b None None t = absurd cc
 
 -- ---- the directions' parts go on
 
-module _ (M : Program) (path : Path) where
+module _ (F : Formulation) (path : Path) where
   abbrev short : ℕ → ℕ → ℚ
-  short = parts_of Plain M path
+  short = parts_of Plain F path
 
   abbrev long : ℕ → ℕ → ℚ
-  long = parts_of Directions M path
+  long = parts_of Directions F path
 
-  short_is : (q v : ℕ) → q < length (sided M) → short (suc q) v ≡ tilted_cost (tilt_of Plain M) (get_or (sided M) q 0) v
-  short_is q v w = ap (λ b. if b then tilted_cost (tilt_of Plain M) (get_or (sided M) q 0) v else int (pos 0)) (lt-ltb q (length (sided M)) w)
+  short_is : (q v : ℕ) → q < length (sided F) → short (suc q) v ≡ tilted_cost (tilt_of Plain F) (get_or (sided F) q 0) v
+  short_is q v w = ap (λ b. if b then tilted_cost (tilt_of Plain F) (get_or (sided F) q 0) v else int (pos 0)) (lt-ltb q (length (sided F)) w)
 
-  short_over : (q v : ℕ) → suc (length (sided M)) ≤ q → short q v ≡ int (pos 0)
+  short_over : (q v : ℕ) → suc (length (sided F)) ≤ q → short q v ≡ int (pos 0)
   short_over zero v w = absurd (omega (arith, w))
-  short_over (suc q) v w = ap (λ b. if b then tilted_cost (tilt_of Plain M) (get_or (sided M) q 0) v else int (pos 0)) (le-ltb q (length (sided M)) (omega (arith, w)))
+  short_over (suc q) v w = ap (λ b. if b then tilted_cost (tilt_of Plain F) (get_or (sided F) q 0) v else int (pos 0)) (le-ltb q (length (sided F)) (omega (arith, w)))
 
-  long_is : (q v : ℕ) → q < length (sided M) → long (suc q) v ≡ tilted_cost (tilt_of Directions M) (get_or (sided M) q 0) v
+  long_is : (q v : ℕ) → q < length (sided F) → long (suc q) v ≡ tilted_cost (tilt_of Directions F) (get_or (sided F) q 0) v
   long_is q v w =
-      ap (λ b. if b then tilted_cost (tilt_of Directions M) (get_or (sided M ++ unsided M) q 0) v else int (pos 0))
-      (lt-ltb q (length (sided M ++ unsided M)) (let e = length-append (sided M) (unsided M) in omega (arith, e, w)))
-      ∙ ap (λ u. tilted_cost (tilt_of Directions M) u v) (get_or_append_left (sided M) (unsided M) 0 q w)
+      ap (λ b. if b then tilted_cost (tilt_of Directions F) (get_or (sided F ++ unsided F) q 0) v else int (pos 0))
+      (lt-ltb q (length (sided F ++ unsided F)) (let e = length-append (sided F) (unsided F) in omega (arith, e, w)))
+      ∙ ap (λ u. tilted_cost (tilt_of Directions F) u v) (get_or_append_left (sided F) (unsided F) 0 q w)
 
-  tilt_here : (q : ℕ) → q < length (sided M) → tilt_of Directions M (get_or (sided M) q 0) ≡ tilt_of Plain M (get_or (sided M) q 0)
+  tilt_here : (q : ℕ) → q < length (sided F) → tilt_of Directions F (get_or (sided F) q 0) ≡ tilt_of Plain F (get_or (sided F) q 0)
   tilt_here q w =
-      let u = get_or (sided M) q 0 in
-      sided_tilt (free_tilt Directions (length M.cols) u) Free (model_low M u) (model_high M u) (filter_from (is_sided M) (range_with_len 0 (length M.cols + length M.rows)) u (q, w, refl)).1
+      let u = get_or (sided F) q 0 in
+      sided_tilt (free_tilt Directions (length F.model.cols) u) Free (model_low F u) (model_high F u) (filter_from (is_sided F) (range_with_len 0 (length F.model.cols + activity_count F)) u (q, w, refl)).1
 
-  same_part : (q v : ℕ) → q < suc (length (sided M)) → long q v ≡ short q v
+  same_part : (q v : ℕ) → q < suc (length (sided F)) → long q v ≡ short q v
   same_part zero v w = refl
   same_part (suc q) v w =
-      let less : q < length (sided M) = omega (arith, w) in
-      long_is q v less ∙ ap (λ t. if v == get_or (sided M) q 0 then sign t else int (pos 0)) (tilt_here q less) ∙ sym (short_is q v less)
+      let less : q < length (sided F) = omega (arith, w) in
+      long_is q v less ∙ ap (λ t. if v == get_or (sided F) q 0 then sign t else int (pos 0)) (tilt_here q less) ∙ sym (short_is q v less)
 
   -- a part that is not 0 is the sign of the variable's own tilt
-  part_sign : (q v : ℕ) → (P : ℚ → Type 0) → ¬ P (int (pos 0)) → P (short (suc q) v) → P (sign (tilt_of Plain M v))
+  part_sign : (q v : ℕ) → (P : ℚ → Type 0) → ¬ P (int (pos 0)) → P (short (suc q) v) → P (sign (tilt_of Plain F v))
   part_sign q v P none h = ⊎_elim
       (λ w. ⊎_elim
-      (λ e. subst (λ u. P (sign (tilt_of Plain M u))) (sym e) (subst P (if_same (get_or (sided M) q 0) (sign (tilt_of Plain M (get_or (sided M) q 0))) (int (pos 0)))
-      (subst (λ u. P (tilted_cost (tilt_of Plain M) (get_or (sided M) q 0) u)) e (subst P (short_is q v w) h))))
-      (λ other. absurd (none (subst P (if_other v (get_or (sided M) q 0) (sign (tilt_of Plain M (get_or (sided M) q 0))) (int (pos 0)) other) (subst P (short_is q v w) h))))
-      (cases_eq v (get_or (sided M) q 0)))
+      (λ e. subst (λ u. P (sign (tilt_of Plain F u))) (sym e) (subst P (if_same (get_or (sided F) q 0) (sign (tilt_of Plain F (get_or (sided F) q 0))) (int (pos 0)))
+      (subst (λ u. P (tilted_cost (tilt_of Plain F) (get_or (sided F) q 0) u)) e (subst P (short_is q v w) h))))
+      (λ other. absurd (none (subst P (if_other v (get_or (sided F) q 0) (sign (tilt_of Plain F (get_or (sided F) q 0))) (int (pos 0)) other) (subst P (short_is q v w) h))))
+      (cases_eq v (get_or (sided F) q 0)))
       (λ past. absurd (none (subst P (short_over (suc q) v (omega (arith, past))) h)))
-      (cases_lt q (length (sided M)))
+      (cases_lt q (length (sided F)))
 
-  lower_part : (q v : ℕ) → 0 < q → int (pos 0) <ℚ short q v → (plain M path).low v ≢ None
+  lower_part : (q v : ℕ) → 0 < q → int (pos 0) <ℚ short q v → (plain F path).low v ≢ None
   lower_part zero v w h = absurd (omega (arith, w))
-  lower_part (suc q) v w h = gone ((plain M path).low v) (low_there M path v (positive_low (model_low M v) (model_high M v) (part_sign q v (λ x. int (pos 0) <ℚ x) (λ g. <ℚ_irrefl g) h)))
+  lower_part (suc q) v w h = gone ((plain F path).low v) (low_there F path v (positive_low (model_low F v) (model_high F v) (part_sign q v (λ x. int (pos 0) <ℚ x) (λ g. <ℚ_irrefl g) h)))
 
-  upper_part : (q v : ℕ) → 0 < q → short q v <ℚ int (pos 0) → (plain M path).high v ≢ None
+  upper_part : (q v : ℕ) → 0 < q → short q v <ℚ int (pos 0) → (plain F path).high v ≢ None
   upper_part zero v w h = absurd (omega (arith, w))
-  upper_part (suc q) v w h = gone ((plain M path).high v) (high_there M path v (negative_high (model_low M v) (model_high M v) (part_sign q v (λ x. x <ℚ int (pos 0)) (λ g. <ℚ_irrefl g) h)))
+  upper_part (suc q) v w h = gone ((plain F path).high v) (high_there F path v (negative_high (model_low F v) (model_high F v) (part_sign q v (λ x. x <ℚ int (pos 0)) (λ g. <ℚ_irrefl g) h)))
 
-  pub continues : Continues (plain M path) short long
+  pub continues : Continues (plain F path) short long
   continues = record {
-    ends = suc (length (sided M));
+    ends = suc (length (sided F));
     some = omega arith;
     same = same_part;
     over = short_over;

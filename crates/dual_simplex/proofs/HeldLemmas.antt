@@ -5,7 +5,7 @@ use Rattle.std.proofs.lemmas.Bool.{cases_lt}
 use Rattle.std.proofs.lemmas.Nat.{div-add-mod'}
 use Rattle.std.proofs.Math.Nat.{div-lt_iff_lt-mul, mod-lt}
 use Rattle.rational.specs.Rational.{int}
-use Rattle.lp_model.specs.Program.{coefficient}
+use Rattle.row_tableau.specs.Activities.{activity_coefficient}
 use Rattle.bases.specs.declared.stand.Stand.TheVariants.{Free}
 use Rattle.bases.specs.Relaxation.{Agree}
 use Rattle.bases.specs.States.{sign}
@@ -60,14 +60,14 @@ module _ (relax : Relax) (s t : Held) (s_is : IsOf relax s) (t_is : IsOf relax t
   order_is : s.order ≡ t.order
   order_is = s_is.order ∙ sym t_is.order
 
-  model_is : s.model ≡ t.model
-  model_is = s_is.model ∙ sym t_is.model
+  form_is : s.form ≡ t.form
+  form_is = s_is.form ∙ sym t_is.form
 
   pub relaxation_is : relaxation s ≡ relaxation t
   relaxation_is = λ i. record {
     columns = columns_are i;
     activities = activities_are i;
-    coefficient = coefficient (model_is i);
+    coefficient = activity_coefficient (form_is i);
     low = λ v. get_or (lows_are i) v None;
     high = λ v. get_or (highs_are i) v None;
     cost = λ v. get_or (costs_are i) v (int (pos 0));
@@ -81,7 +81,7 @@ module _ (relax : Relax) (s t : Held) (s_is : IsOf relax s) (t_is : IsOf relax t
   held_is : s.tableau ≡ t.tableau → ((k : ℕ) → k < s.tableau.columns → get_or s.stands k Free ≡ get_or t.stands k Free) → s ≡ t
   held_is tableau stands =
       let stands_are : s.stands ≡ t.stands = same_list Free s.stands t.stands (s_shape.stands_length ∙ columns_are ∙ sym t_shape.stands_length) (λ k q. stands k (subst (λ n. k < n) s_shape.stands_length q)) in
-      λ i. record { model = model_is i; low = lows_are i; high = highs_are i; cost = costs_are i; tilt = tilts_are i; order = order_is i; tableau = tableau i; stands = stands_are i }
+      λ i. record { form = form_is i; low = lows_are i; high = highs_are i; cost = costs_are i; tilt = tilts_are i; order = order_is i; tableau = tableau i; stands = stands_are i }
 
 -- ---- tableaus
 

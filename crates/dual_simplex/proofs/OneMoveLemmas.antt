@@ -221,7 +221,7 @@ module _ (s : Held) (sided : IsSided s) (uncrossed : HasNoCrossedSides (relaxati
       (subst (λ X. X) (λ i. Agree (sym x.move.columns i) (sym x.move.activities i) (table a) (table b)) agree) in
       let stands : a.stands ≡ b.stands = x.move.stands ∙ (λ i. set s.stands (place i) (one.side_is i)) ∙ sym y.move.stands in
       λ i. record {
-        model = (x.move.model ∙ sym y.move.model) i;
+        form = (x.move.form ∙ sym y.move.form) i;
         low = (x.move.low ∙ sym y.move.low) i;
         high = (x.move.high ∙ sym y.move.high) i;
         cost = (x.move.cost ∙ sym y.move.cost) i;

@@ -3,7 +3,7 @@ use Rattle.std.specs.Prelude.{◌≡◌, ◌⊎◌, ℕ, ◌+◌, ◌<◌, Bool,
 use Rattle.std.specs.Option.{IsSomeAnd}
 use Rattle.std.proofs.Common.{refl, sym, ap, subst, ◌∙◌, inl, inr}
 use Rattle.std.proofs.lemmas.Bool.{cases_order}
-use Rattle.lp_model.specs.Program.{coefficient}
+use Rattle.row_tableau.specs.Activities.{activity_coefficient}
 use Rattle.lp_model.specs.WideSteps.{TablePlace, Pivot, Point, Cost, RatioCost, Ratio, table_place}
 use Rattle.lp_model.specs.declared.types.Basis.{Basis}
 use Rattle.lp_model.specs.declared.types.Var.{Var}
@@ -250,11 +250,11 @@ err_once e f r h g = cc
 slack_agree : (relax : Relax) (x y : Held) → IsSlackState relax x → IsSlackState relax y → Agree (relaxation_of relax).columns (relaxation_of relax).activities (table x) (table y)
 slack_agree relax x y a b =
     let columns : x.tableau.columns ≡ y.tableau.columns = a.is.tableau.columns ∙ sym b.is.tableau.columns in
-    let model : x.model ≡ y.model = a.is.model ∙ sym b.is.model in
+    let form : x.form ≡ y.form = a.is.form ∙ sym b.is.form in
     record {
       basic = λ i q. a.slack.basic i (subst (λ n. i < n) (sym a.is.tableau.activities) q) ∙ ap (λ n. n + i) columns ∙ sym (b.slack.basic i (subst (λ n. i < n) (sym b.is.tableau.activities) q));
       nonbasic = λ k q. a.slack.nonbasic k (subst (λ n. k < n) (sym a.is.tableau.columns) q) ∙ sym (b.slack.nonbasic k (subst (λ n. k < n) (sym b.is.tableau.columns) q));
-      entry = λ i k q w. a.slack.entry i k (subst (λ n. i < n) (sym a.is.tableau.activities) q) (subst (λ n. k < n) (sym a.is.tableau.columns) w) ∙ ap (λ M. coefficient M i k) model
+      entry = λ i k q w. a.slack.entry i k (subst (λ n. i < n) (sym a.is.tableau.activities) q) (subst (λ n. k < n) (sym a.is.tableau.columns) w) ∙ ap (λ F. activity_coefficient F i k) form
           ∙ sym (b.slack.entry i k (subst (λ n. i < n) (sym b.is.tableau.activities) q) (subst (λ n. k < n) (sym b.is.tableau.columns) w));
     }
 

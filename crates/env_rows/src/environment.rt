@@ -6,12 +6,15 @@ use model_calls::{Callee, take_number};
 use model_texts::{Words, edit_of, push_edit_fault};
 use std::alloc::Global;
 use sym_env::{Env, EnvFault, Limits};
+use warm_values::WarmFault;
 
 /// The environment, which answers the calls.
 #[derive(Drop)]
 pub struct Environment {
     alloc: Global,
     env: Env,
+    /// The text that was saved last, or is given.
+    saved: Vec<u8>,
 }
 
 /// The limits that the words name; one that isn't named is the greatest.
@@ -38,11 +41,34 @@ fn limits_in(words: &mut Words) -> Result<Limits> {
     Ok(limits)
 }
 
+/// Writes bytes, which are to be UTF-8.
+fn push_bytes(got: &mut String, bytes: &[u8]) -> Result<()> {
+    let Ok(text) = str::from_utf8(bytes) else {
+        bail!("no text");
+    };
+    got.push_str(text)?;
+    Ok(())
+}
+
+/// Writes the place and the code of a fault of a text.
+fn push_warm_fault(got: &mut String, fault: &WarmFault) -> Result<()> {
+    match fault {
+        WarmFault::Bad { place, code } => {
+            got.push_str("place ")?;
+            push_bytes(got, place.as_slice())?;
+            write!(got, " code {code}")?;
+        }
+        WarmFault::Memory => got.push_str("no memory")?,
+    }
+    Ok(())
+}
+
 fn push_fault(got: &mut String, fault: &EnvFault) -> Result<()> {
     match fault {
         EnvFault::NoModel => got.push_str("no model")?,
         EnvFault::NoAnswer => got.push_str("no answer")?,
         EnvFault::Edit(fault) => push_edit_fault(got, fault)?,
+        EnvFault::Warm(fault) => push_warm_fault(got, fault)?,
         EnvFault::Memory => got.push_str("no memory")?,
     }
     Ok(())
@@ -66,6 +92,14 @@ fn push_edited(got: &mut String, edited: &Result<(), EnvFault>) -> Result<()> {
         Ok(()) => Ok(()),
         Err(fault) => push_fault(got, fault),
     }
+}
+
+/// The depth that a line says.
+fn depth_of(alloc: Global, line: &str) -> Result<u64> {
+    let mut words = Words::new(alloc, line)?;
+    let depth = take_number(&mut words)?;
+    words.end()?;
+    Ok(depth)
 }
 
 /// How many bytes a certificate's text has.
@@ -115,6 +149,41 @@ impl Environment {
         pushed
     }
 
+    /// Cuts the tree down at the depth that a line says.
+    fn trim(&mut self, line: &str, got: &mut String) -> Result<()> {
+        let depth = depth_of(self.alloc, line)?;
+        let trimmed = self.env.trim(depth);
+        let pushed = push_edited(got, &trimmed);
+        drop(trimmed);
+        pushed
+    }
+
+    /// Saves the search, and notes its text.
+    fn save(&mut self, got: &mut String) -> Result<()> {
+        match self.env.save() {
+            Ok(text) => {
+                self.saved = text;
+                Ok(())
+            }
+            Err(fault) => push_fault(got, &fault),
+        }
+    }
+
+    /// Takes the text that is given.
+    fn file(&mut self, line: &str) -> Result<()> {
+        self.saved.clear();
+        self.saved.extend_from_slice(line.trim().as_bytes())?;
+        Ok(())
+    }
+
+    /// Restores the search of the text that was saved last, or is given.
+    fn restore(&mut self, got: &mut String) -> Result<()> {
+        let restored = self.env.restore(&self.saved);
+        let pushed = push_edited(got, &restored);
+        drop(restored);
+        pushed
+    }
+
     /// How many bytes the certificate's text has.
     fn cert(&self, got: &mut String) -> Result<()> {
         let cert = self.env.cert();
@@ -138,6 +207,7 @@ impl Callee for Environment {
         Ok(Environment {
             alloc,
             env: Env::new(alloc),
+            saved: Vec::new(alloc),
         })
     }
 
@@ -157,6 +227,11 @@ impl Callee for Environment {
             "solve" => self.solve(line, got),
             "warm" => self.warm(line, got),
             "edit" => self.edit(line, got),
+            "trim" => self.trim(line, got),
+            "save" => self.save(got),
+            "file" => self.file(line),
+            "saved" => push_bytes(got, &self.saved),
+            "restore" => self.restore(got),
             "cert" => self.cert(got),
             "columns" => self.columns(got),
             _ => bail!("no call: `{word}`"),

@@ -1,13 +1,14 @@
 -- What the numbers prove of the points of a region, where no feasible point breaks a cut that counts; and that an answer is
 -- the number, and the only one.
-use Rattle.std.specs.Prelude.{◌≡◌, Bool, IsTrue, Result, Ok}
+use Rattle.std.specs.Prelude.{◌↔◌, ◌≡◌, Bool, IsTrue, Result, Ok, ◌++◌, ◌∷◌, [], ℕ, length, All}
 use Rattle.rational.specs.Rational.{ℚ, ◌≤ℚ◌}
 use Rattle.lp_model.specs.Program.{Point, least_value, IsFeasible, HasWholeObjective}
 use Rattle.lp_model.specs.Regions.{Path, InRegion}
-use Rattle.lp_model.specs.Formulations.{Formulation, IsValid}
+use Rattle.lp_model.specs.declared.types.CutRow.{CutRow}
+use Rattle.lp_model.specs.Formulations.{Formulation, IsValid, formulation}
 use Rattle.lp_model.specs.declared.types.WideStep.{WideStep}
 use Rattle.leaf_dual.specs.declared.dual.LagValue.{LagValue}
-use Rattle.leaf_dual.specs.Dual.{Multipliers, lag, farkas, IsLowerBound, IsPositiveNumber, Reaches}
+use Rattle.leaf_dual.specs.Dual.{Multipliers, lag, farkas, IsLowerBound, IsPositiveNumber, Reaches, is_cut}
 use Rattle.leaf_dual.specs.Answers.{IsLagAnswer, IsFarkasAnswer}
 
 -- `lag` is no higher than the least form's value of any feasible point in the region
@@ -28,6 +29,16 @@ ClosesLaw =
 abbrev pub AnswerLaw : Type 0
 AnswerLaw =
     (F : Formulation) (path : Path) (mult : Multipliers) (v : LagValue) → (IsLagAnswer F path mult (Ok v) → v ≡ lag F path mult) × (IsFarkasAnswer F path mult (Ok v) → v ≡ farkas F path mult)
+
+-- no multiplier is of cut k
+abbrev pub NamesNoCut : Multipliers → ℕ → Type 0
+NamesNoCut mult k = All (λ m. ¬ IsTrue (is_cut m.0 k)) mult
+
+-- a further cut that no multiplier is of leaves the answers, to the first step without room
+abbrev pub FurtherCutLaw : Type 0
+FurtherCutLaw =
+    (F : Formulation) (c : CutRow) (path : Path) (mult : Multipliers) → NamesNoCut mult (length F.cuts) → (r : Result LagValue WideStep) →
+    (IsLagAnswer F path mult r ↔ IsLagAnswer (formulation F.model (F.cuts ++ c ∷ [])) path mult r) × (IsFarkasAnswer F path mult r ↔ IsFarkasAnswer (formulation F.model (F.cuts ++ c ∷ [])) path mult r)
 
 -- two answers of one question are one
 abbrev pub OneAnswerLaw : Type 0

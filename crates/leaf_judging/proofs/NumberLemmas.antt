@@ -6,8 +6,9 @@ use Rattle.std.specs.Ordering.{MatchOrdering, nat_cmp, is_eq}
 use Rattle.std.proofs.Common.{refl, sym, subst, ◌∙◌, arith, inl, inr}
 use Rattle.std.proofs.lemmas.Cmp.{ranked}
 use Rattle.lp_model.specs.Program.{Program}
+use Rattle.lp_model.specs.declared.types.CutRow.{CutRow}
 use Rattle.lp_model.specs.Regions.{Path}
-use Rattle.lp_model.specs.Formulations.{Formulation, without_cuts}
+use Rattle.lp_model.specs.Formulations.{Formulation, formulation}
 use Rattle.branch_tree.specs.Tree.{Leaf, Split, left_path, right_path, EachLeaf}
 use Rattle.branch_tree.specs.Plain.{SplitKept, LeafKept, Plain, leaves_with}
 use Rattle.branch_tree.specs.Leaves.{region_leaves, leaf_count, with_state, with_states}
@@ -65,23 +66,26 @@ module _ (F : Formulation) where
     each-kept a b (right_path path j v) right (λ i some. same i (omega (arith, some))) h.1,
   )
 
-module _ (M : Program) where
+module _ (M : Program) (cuts : List CutRow) where
   -- a walk over leaves with ids of their own puts down the number of each, and touches no other id
-  pub numbered : (path : Path) (t : Plain) (old new : Numbering) → old.model.now ≡ M → ((i : ℕ) → leaves_with i t ≤ 1) → Visits NumbersLeaf (region_leaves path t) old new
-      → (new.model.now ≡ M) × (EachLeaf (HasKept (without_cuts M) new.numbers) path t × ((i : ℕ) → leaves_with i t ≡ 0 → kept_number new.numbers i ≡ kept_number old.numbers i))
-  numbered path (Leaf l) old new is one walk =
+  pub numbered : (path : Path) (t : Plain) (old new : Numbering) → old.model.now ≡ M → old.pool.now ≡ cuts → ((i : ℕ) → leaves_with i t ≤ 1) → Visits NumbersLeaf (region_leaves path t) old new
+      → (new.model.now ≡ M) × ((new.pool.now ≡ cuts) × (EachLeaf (HasKept (formulation M cuts) new.numbers) path t × ((i : ℕ) → leaves_with i t ≡ 0 → kept_number new.numbers i ≡ kept_number old.numbers i)))
+  numbered path (Leaf l) old new is cuts_are one walk =
       let step = walk.1.0 in
-      let number_is = subst (λ N. IsNumber (without_cuts N) path l.kept.mult l.kept.farkas step.number) is step.number_is in
-      subst (λ (x : Numbering). (x.model.now ≡ M) × (EachLeaf {S = SplitKept} (HasKept (without_cuts M) x.numbers) path (Leaf l) × ((i : ℕ) → leaves_with i (Leaf l) ≡ 0 → kept_number x.numbers i ≡ kept_number old.numbers i))) (sym walk.1.1)
-      (step.same ∙ is, ((step.number, (step.puts.0, number_is)), λ i none. step.puts.1 i (is-other l i none)))
-  numbered path (Split kept j v left right) old new is one walk =
+      let number_is : IsNumber (formulation M cuts) path l.kept.mult l.kept.farkas step.number = subst (λ P. P) (λ i. IsNumber (formulation (is i) (cuts_are i)) path l.kept.mult l.kept.farkas step.number) step.number_is in
+      subst (λ (x : Numbering). (x.model.now ≡ M) × ((x.pool.now ≡ cuts) × (EachLeaf {S = SplitKept} (HasKept (formulation M cuts) x.numbers) path (Leaf l) × ((i : ℕ) → leaves_with i (Leaf l) ≡ 0 → kept_number x.numbers i ≡ kept_number old.numbers i)))) (sym walk.1.1)
+      (step.same ∙ is, (step.same_cuts ∙ cuts_are, ((step.number, (step.puts.0, number_is)), λ i none. step.puts.1 i (is-other l i none))))
+  numbered path (Split kept j v left right) old new is cuts_are one walk =
       let both = visits_both NumbersLeaf path kept j v left right old new walk in
       let mid = both.0 in
-      let first = numbered (left_path path j v) left old mid is (λ i. omega (arith, one i)) both.1.0 in
-      let second = numbered (right_path path j v) right mid new first.0 (λ i. omega (arith, one i)) both.1.1 in (
+      let first = numbered (left_path path j v) left old mid is cuts_are (λ i. omega (arith, one i)) both.1.0 in
+      let second = numbered (right_path path j v) right mid new first.0 first.1.0 (λ i. omega (arith, one i)) both.1.1 in (
         second.0,
         (
-          (each-kept (without_cuts M) mid.numbers new.numbers (left_path path j v) left (λ i some. second.1.1 i (omega (arith, one i, some))) first.1.0, second.1.0),
-          λ i none. second.1.1 i (omega (arith, none)) ∙ first.1.1 i (omega (arith, none)),
+          second.1.0,
+          (
+            (each-kept (formulation M cuts) mid.numbers new.numbers (left_path path j v) left (λ i some. second.1.1.1 i (omega (arith, one i, some))) first.1.1.0, second.1.1.0),
+            λ i none. second.1.1.1 i (omega (arith, none)) ∙ first.1.1.1 i (omega (arith, none)),
+          ),
         ),
       )

@@ -3,7 +3,7 @@ use Rattle.std.specs.Prelude.{◌≡◌, ◌≢◌, ℕ, [], ◌∷◌, ◌++◌
 use Rattle.std.specs.BTreeMap.{get}
 use Rattle.std.specs.Ordering.{nat_cmp}
 use Rattle.lp_model.specs.Regions.{Path}
-use Rattle.lp_model.specs.Formulations.{Formulation, without_cuts}
+use Rattle.lp_model.specs.Formulations.{Formulation, formulation}
 use Rattle.branch_tree.specs.Tree.{EachLeaf}
 use Rattle.branch_tree.specs.Plain.{LeafKept, Plain}
 use Rattle.branch_tree.specs.declared.node.LeafState.{LeafState}
@@ -53,8 +53,9 @@ AreNumbersOf F t numbers = EachLeaf (HasKept F numbers) [] t
 -- its number is put down
 pub record NumbersLeaf (old : Numbering) (l : RegionLeaf) (new : Numbering) : Type 0 where
   pub same : new.model.now ≡ old.model.now
+  pub same_cuts : new.pool.now ≡ old.pool.now
   pub number : LeafNumber
-  pub number_is : IsNumber (without_cuts old.model.now) l.region l.kept.mult l.kept.farkas number
+  pub number_is : IsNumber (formulation old.model.now old.pool.now) l.region l.kept.mult l.kept.farkas number
   pub puts : PutsNumber old.numbers l.id number new.numbers
 
 -- its state by the number that is kept goes behind the others, and it goes into the queue where it is open

@@ -1,10 +1,11 @@
 // The number of a leaf, and whether it closes.
 ghost use Rattle.std.specs.Prelude.{◌↔◌, IsTrue};
 ghost use Rattle.lp_model.specs.Regions.{AreNarrow};
-ghost use Rattle.lp_model.specs.Formulations.{without_cuts};
+ghost use Rattle.lp_model.specs.Formulations.{formulation};
 ghost use Rattle.leaf_judging.specs.Closing.{IsRefuted, IsSetAside, IsNumber, NumberCloses, StateSays};
 
 use branch_tree::LeafState;
+use cover_cuts::CutPool;
 use frac128::Frac;
 use leaf_dual::{LagValue, closes, path_farkas, path_lag};
 use lp_model::{BoundChange, Model, Mult, WideStep};
@@ -21,36 +22,42 @@ pub enum LeafNumber {
 }
 
 /// Whether there are Farkas multipliers, and their number is above 0.
-fn is_refuted(model: &Model, path: &[BoundChange], mult: &Mult) -> bool
+fn is_refuted(model: &Model, pool: &CutPool, path: &[BoundChange], mult: &Mult) -> bool
     requires { AreNarrow path.now }
-    ensures { IsTrue result ↔ IsRefuted (without_cuts model.now) path.now mult.now }
+    ensures { IsTrue result ↔ IsRefuted (formulation model.now pool.now) path.now mult.now }
 {
     if mult.as_slice().is_empty() {
         return false;
     }
-    match path_farkas(model, &[], path, mult.as_slice()) {
+    match path_farkas(model, pool.rows(), path, mult.as_slice()) {
         Ok(value) => value.is_positive(),
         Err(_) => false,
     }
 }
 
 /// Whether the region is seen to have no feasible point.
-fn is_set_aside(model: &Model, path: &[BoundChange], farkas: &Mult) -> bool
+fn is_set_aside(model: &Model, pool: &CutPool, path: &[BoundChange], farkas: &Mult) -> bool
     requires { AreNarrow path.now }
-    ensures { IsTrue result ↔ IsSetAside (without_cuts model.now) path.now farkas.now }
+    ensures { IsTrue result ↔ IsSetAside (formulation model.now pool.now) path.now farkas.now }
 {
-    model.is_empty_region(path) || is_refuted(model, path, farkas)
+    model.is_empty_region(path) || is_refuted(model, pool, path, farkas)
 }
 
-/// What the multipliers and the Farkas multipliers say of a region.
-pub fn number_of(model: &Model, path: &[BoundChange], mult: &Mult, farkas: &Mult) -> LeafNumber
+/// What the multipliers and the Farkas multipliers of rows and cuts say of a region. Those of a cut that does not count are 0.
+pub fn number_of(
+    model: &Model,
+    pool: &CutPool,
+    path: &[BoundChange],
+    mult: &Mult,
+    farkas: &Mult,
+) -> LeafNumber
     requires { AreNarrow path.now }
-    ensures { IsNumber (without_cuts model.now) path.now mult.now farkas.now result }
+    ensures { IsNumber (formulation model.now pool.now) path.now mult.now farkas.now result }
 {
-    if is_set_aside(model, path, farkas) {
+    if is_set_aside(model, pool, path, farkas) {
         return LeafNumber::Empty;
     }
-    match path_lag(model, &[], path, mult.as_slice()) {
+    match path_lag(model, pool.rows(), path, mult.as_slice()) {
         Ok(value) => LeafNumber::Lag(value),
         Err(step) => LeafNumber::Wide(step),
     }

@@ -1,7 +1,8 @@
 // Leaves judged, all of a tree: each leaf's number once, and its state by that number as often as the target changes.
-ghost use Rattle.std.specs.Prelude.{IfOk, OnOk, OnErr, ◌≡◌};
+ghost use Rattle.std.specs.Prelude.{IfOk, OnOk, OnErr, ◌≡◌, List};
 ghost use Rattle.lp_model.specs.Regions.{AreNarrow};
-ghost use Rattle.lp_model.specs.Formulations.{without_cuts};
+ghost use Rattle.lp_model.specs.Formulations.{formulation};
+ghost use Rattle.lp_model.specs.declared.types.CutRow.{CutRow};
 ghost use Rattle.branch_tree.specs.Tree.{HasNarrowSplits};
 ghost use Rattle.branch_tree.specs.Leaves.{with_states};
 ghost use Rattle.leaf_judging.specs.Judged.{AreStates, JudgesAll};
@@ -13,14 +14,16 @@ use crate::closing::{number_of, state_by};
 use crate::numbers::LeafNumbers;
 use crate::queue::LeafQueue;
 use branch_tree::{LeafData, LeafState, LeafVisitor, Tree};
+use cover_cuts::CutPool;
 use frac128::Frac;
 use lp_model::{BoundChange, Model};
 use std::alloc::{AllocError, Global};
 
-/// Numbers of a model's leaves, put down one by one.
+/// Numbers of the leaves of a model with its cuts, put down one by one.
 #[derive(Drop)]
 pub(crate) struct Numbering<'a> {
     pub(crate) model: &'a Model,
+    pub(crate) pool: &'a CutPool,
     pub(crate) numbers: LeafNumbers,
 }
 
@@ -37,7 +40,7 @@ impl Numbering<'_> {
         requires { AreNarrow path.now }
         ensures { OnOk result (NumbersLeaf self.old (record { id = id; region = path.now; kept = kept.now }) self.new) }
     {
-        let number = number_of(self.model, path, &kept.mult, &kept.farkas);
+        let number = number_of(self.model, self.pool, path, &kept.mult, &kept.farkas);
         self.numbers.put(id, &number)
     }
 }
@@ -53,12 +56,18 @@ impl LeafVisitor for Numbering<'_> {
 }
 
 /// The number of each leaf of a tree.
-fn numbers_of(alloc: Global, model: &Model, tree: &Tree) -> Result<LeafNumbers, AllocError>
+fn numbers_of(
+    alloc: Global,
+    model: &Model,
+    pool: &CutPool,
+    tree: &Tree,
+) -> Result<LeafNumbers, AllocError>
     requires { HasNarrowSplits tree.now.root }
-    ensures { IfOk result (λ numbers. AreNumbersOf (without_cuts model.now) tree.now.root numbers) }
+    ensures { IfOk result (λ numbers. AreNumbersOf (formulation model.now pool.now) tree.now.root numbers) }
 {
     let mut numbering = Numbering {
         model,
+        pool,
         numbers: LeafNumbers::new(alloc),
     };
     tree.visit_leaves(&mut numbering)?;
@@ -119,7 +128,7 @@ pub struct Marks {
 }
 
 /// The leaves of a tree, judged by the numbers that are kept of them against a target: numbers are compared, and none is
-/// computed.
+/// computed, so the answer is with the cuts that the numbers are with.
 pub fn judge_again(
     alloc: Global,
     model: &Model,
@@ -128,9 +137,8 @@ pub fn judge_again(
     numbers: &LeafNumbers,
 ) -> Result<Marks, AllocError>
     requires narrow { HasNarrowSplits tree.now.root }
-    requires numbers { AreNumbersOf (without_cuts model.now) tree.now.root numbers.now }
-    ensures states { IfOk result (λ m. AreStates (without_cuts model.now) target.now tree.now.root m.states.items) }
-    ensures queue { IfOk result (λ m. IsQueueOf (without_cuts model.now) (with_states m.states.items tree.now.root) m.queue) }
+    ensures states { IfOk result (λ m. (cuts : List CutRow) → AreNumbersOf (formulation model.now cuts) tree.now.root numbers.now → AreStates (formulation model.now cuts) target.now tree.now.root m.states.items) }
+    ensures queue { IfOk result (λ m. (cuts : List CutRow) → AreNumbersOf (formulation model.now cuts) tree.now.root numbers.now → IsQueueOf (formulation model.now cuts) (with_states m.states.items tree.now.root) m.queue) }
 {
     let mut marking = Marking {
         against: Against {
@@ -166,15 +174,16 @@ pub struct Judged {
 pub fn judge_tree(
     alloc: Global,
     model: &Model,
+    pool: &CutPool,
     target: &Option<Frac>,
     tree: &Tree,
 ) -> Result<Judged, AllocError>
     requires { HasNarrowSplits tree.now.root }
-    ensures states { IfOk result (λ j. AreStates (without_cuts model.now) target.now tree.now.root j.states.items) }
-    ensures numbers { IfOk result (λ j. AreNumbersOf (without_cuts model.now) tree.now.root j.index.numbers) }
-    ensures queue { IfOk result (λ j. IsQueueOf (without_cuts model.now) (with_states j.states.items tree.now.root) j.index.queue) }
+    ensures states { IfOk result (λ j. AreStates (formulation model.now pool.now) target.now tree.now.root j.states.items) }
+    ensures numbers { IfOk result (λ j. AreNumbersOf (formulation model.now pool.now) tree.now.root j.index.numbers) }
+    ensures queue { IfOk result (λ j. IsQueueOf (formulation model.now pool.now) (with_states j.states.items tree.now.root) j.index.queue) }
 {
-    let numbers = numbers_of(alloc, model, tree)?;
+    let numbers = numbers_of(alloc, model, pool, tree)?;
     let Marks { states, queue } = judge_again(alloc, model, target, tree, &numbers)?;
     Ok(Judged {
         states,
@@ -186,16 +195,17 @@ pub fn judge_tree(
 pub fn judge_all(
     alloc: Global,
     model: &Model,
+    pool: &CutPool,
     target: &Option<Frac>,
     tree: &mut Tree,
 ) -> Result<LeafIndex, AllocError>
     requires { HasNarrowSplits tree.old.root }
-    ensures judged { OnOk result (JudgesAll (without_cuts model.now) target.now tree.old tree.new) }
-    ensures numbers { IfOk result (λ index. AreNumbersOf (without_cuts model.now) tree.new.root index.numbers) }
-    ensures queue { IfOk result (λ index. IsQueueOf (without_cuts model.now) tree.new.root index.queue) }
+    ensures judged { OnOk result (JudgesAll (formulation model.now pool.now) target.now tree.old tree.new) }
+    ensures numbers { IfOk result (λ index. AreNumbersOf (formulation model.now pool.now) tree.new.root index.numbers) }
+    ensures queue { IfOk result (λ index. IsQueueOf (formulation model.now pool.now) tree.new.root index.queue) }
     ensures kept { OnErr result (tree.new ≡ tree.old) }
 {
-    let judged = judge_tree(alloc, model, target, tree)?;
+    let judged = judge_tree(alloc, model, pool, target, tree)?;
     tree.set_states(&judged.states);
     Ok(judged.index)
 }

@@ -1,6 +1,7 @@
 //! Leaves judged: their numbers, whether they close, and which is worked first.
 //!
-//! A leaf has a region, multipliers and Farkas multipliers. With `lag` and `farkas` as in `leaf_dual`, and t the least value
+//! A leaf has a region, multipliers and Farkas multipliers of rows and of the cuts of a pool, of which those that do not
+//! derive count as 0. With `lag` and `farkas` as in `leaf_dual`, and t the least value
 //! (least form) of the known points, its number is
 //!
 //! ```text
@@ -15,10 +16,11 @@
 //! closes, the number of each, and the queue of the open ones in the order in which they are worked: the least number first,
 //! a leaf without one before all, of equals the least id (specs/Closing, Judged, Choosing, Queued, Numbers). The tree may be
 //! any that is handed in, so that a caller can judge the tree after a change before it makes the change. A number depends on
-//! the model, the region and the multipliers alone, so it is kept under the leaf's id, and for another target `judge_again`
+//! the model, its cuts, the region and the multipliers alone, so it is kept under the leaf's id, and for another target `judge_again`
 //! compares the numbers that are kept, and computes none. What is taken grows as the tree does.
 //!
-//! Below stand the trees (`branch_tree`), the numbers of multipliers (`leaf_dual`) and the models (`lp_model`). Above stands
+//! Below stand the trees (`branch_tree`), the numbers of multipliers (`leaf_dual`), the pools of cuts (`cover_cuts`) and the
+//! models (`lp_model`). Above stands
 //! the search, which keeps numbers and queue beside its tree.
 #![tactic(auto)]
 

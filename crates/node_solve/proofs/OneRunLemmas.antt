@@ -2,14 +2,14 @@
 use Rattle.std.specs.Prelude.{◌≡◌, ℕ, zero, suc, ◌<◌, length}
 use Rattle.std.proofs.Common.{sym, ap, subst, ◌∙◌, arith, inl, inr, ⊎_elim}
 use Rattle.std.proofs.lemmas.Bool.{cases_eq}
-use Rattle.lp_model.specs.Program.{Program}
+use Rattle.lp_model.specs.Formulations.{Formulation}
 use Rattle.lp_model.specs.Regions.{Path}
 use Rattle.lp_model.specs.declared.types.Basis.{Basis}
 use Rattle.lp_model.specs.declared.types.WideStep.{WideStep}
 use Rattle.bases.specs.Relaxation.{HasNoCrossedSides}
 use Rattle.bases.specs.Bases.{IsNonsingular}
 use Rattle.row_tableau.specs.declared.relax.Relax.{Relax}
-use Rattle.row_tableau.specs.Relaxations.{plain, of_kind, relaxation_of}
+use Rattle.row_tableau.specs.Relaxations.{form_of, plain, of_kind, relaxation_of}
 use Rattle.row_tableau.specs.Dense.{IsTableauOf}
 use Rattle.row_tableau.specs.Variables.{numbers}
 use Rattle.basic_solution.specs.Held.{Held, IsLawfulHeld, relaxation}
@@ -28,23 +28,23 @@ use Rattle.node_solve.specs.Runs.{IsPlainOf, IsSimplexRun}
 
 -- ---- relaxations that say the same
 
-module _ (M : Program) (path : Path) (r t : Relax) (r_is : IsPlainOf M path r) (t_is : IsPlainOf M path t) where
-  model_is : r.model.now ≡ t.model.now
-  model_is = r_is.model ∙ sym t_is.model
+module _ (F : Formulation) (path : Path) (r t : Relax) (r_is : IsPlainOf F path r) (t_is : IsPlainOf F path t) where
+  forms_are : form_of r ≡ form_of t
+  forms_are = r_is.form ∙ sym t_is.form
 
   relaxation_is : relaxation_of r ≡ relaxation_of t
-  relaxation_is = λ i. of_kind ((r_is.kind ∙ sym t_is.kind) i) (plain (model_is i) ((r_is.region ∙ sym t_is.region) i))
+  relaxation_is = λ i. of_kind ((r_is.kind ∙ sym t_is.kind) i) (plain (forms_are i) ((r_is.region ∙ sym t_is.region) i))
 
   of_other : (s : Held) → IsOf r s → IsOf t s
   of_other s is = record {
-    model = is.model ∙ model_is;
+    form = is.form ∙ forms_are;
     tableau = subst (λ p. IsTableauOf p s.tableau) relaxation_is is.tableau;
-    rows = is.rows ∙ ap (λ N. length N.rows) model_is;
+    rows = is.rows ∙ ap (λ (G : Formulation). length G.model.rows) forms_are;
     low = λ v w. is.low v w ∙ ap (λ p. p.low v) relaxation_is;
     high = λ v w. is.high v w ∙ ap (λ p. p.high v) relaxation_is;
     cost = λ v w. is.cost v w ∙ ap (λ p. p.cost v) relaxation_is;
-    tilt = λ v w. is.tilt v w ∙ (λ i. tilt_of ((r_is.kind ∙ sym t_is.kind) i) (model_is i) v);
-    order = is.order ∙ (λ i. order_of ((r_is.kind ∙ sym t_is.kind) i) (model_is i));
+    tilt = λ v w. is.tilt v w ∙ (λ i. tilt_of ((r_is.kind ∙ sym t_is.kind) i) (forms_are i) v);
+    order = is.order ∙ (λ i. order_of ((r_is.kind ∙ sym t_is.kind) i) (forms_are i));
   }
 
   slack_other : (s : Held) → IsSlackState r s → IsSlackState t s
@@ -53,31 +53,31 @@ module _ (M : Program) (path : Path) (r t : Relax) (r_is : IsPlainOf M path r) (
   reached_other : (s : Held) → IsReached r s → IsReached t s
   reached_other s at = record { is = of_other s at.is; sided = at.sided; full = at.full }
 
-module _ (M : Program) (path : Path) (r t : Relax) (r_is : IsPlainOf M path r) (t_is : IsPlainOf M path t) where
+module _ (F : Formulation) (path : Path) (r t : Relax) (r_is : IsPlainOf F path r) (t_is : IsPlainOf F path t) where
   lawful_other : (list : Basis) → IsLawfulBasis r list → IsLawfulBasis t list
   lawful_other list lawful = record {
-    basis = λ s is. subst (λ p. IsNonsingular p (numbers s.tableau list.basic)) (relaxation_is M path r t r_is t_is) (lawful.basis s (of_other M path t r t_is r_is s is));
-    lawful = λ s sided is at. lawful.lawful s sided (of_other M path t r t_is r_is s is) at;
+    basis = λ s is. subst (λ p. IsNonsingular p (numbers s.tableau list.basic)) (relaxation_is F path r t r_is t_is) (lawful.basis s (of_other F path t r t_is r_is s is));
+    lawful = λ s sided is at. lawful.lawful s sided (of_other F path t r t_is r_is s is) at;
   }
 
-module _ (M : Program) (path : Path) (r t : Relax) (r_is : IsPlainOf M path r) (t_is : IsPlainOf M path t) (list first : Basis) where
+module _ (F : Formulation) (path : Path) (r t : Relax) (r_is : IsPlainOf F path r) (t_is : IsPlainOf F path t) (list first : Basis) where
   behind_other : (slack mid : Held) → IsLeftBehind r list slack mid → IsLeftBehind t list slack mid
-  behind_other slack mid h = record { unlawful = λ lawful. h.unlawful (lawful_other M path t r t_is r_is list lawful); reached = reached_other M path r t r_is t_is mid h.reached; way = h.way; left = h.left }
+  behind_other slack mid h = record { unlawful = λ lawful. h.unlawful (lawful_other F path t r t_is r_is list lawful); reached = reached_other F path r t r_is t_is mid h.reached; way = h.way; left = h.left }
 
   started_other : (s : Held) → IsStarted r list first s → IsStarted t list first s
   started_other s a = record {
     slack = a.slack;
-    slack_is = slack_other M path r t r_is t_is a.slack a.slack_is;
-    reached = reached_other M path r t r_is t_is s a.reached;
+    slack_is = slack_other F path r t r_is t_is a.slack a.slack_is;
+    reached = reached_other F path r t r_is t_is s a.reached;
     at = ⊎_elim inl (λ h. inr (h.0, (behind_other a.slack h.0 h.1.0, h.1.1))) a.at;
   }
 
   pub wide_start_other : (step : WideStep) (basis : Basis) → IsWideStart r list first step basis → IsWideStart t list first step basis
   wide_start_other step basis a = record {
     slack = a.slack;
-    slack_is = slack_other M path r t r_is t_is a.slack a.slack_is;
+    slack_is = slack_other F path r t r_is t_is a.slack a.slack_is;
     state = a.state;
-    reached = reached_other M path r t r_is t_is a.state a.reached;
+    reached = reached_other F path r t r_is t_is a.state a.reached;
     basis_is = a.basis_is;
     at = ⊎_elim inl (λ h. inr (h.0, (behind_other a.slack h.0 h.1.0, h.1.1))) a.at;
   }
@@ -116,12 +116,12 @@ goes_on n (suc m) t b less (l, (moves, move)) = ⊎_elim
 
 -- ---- runs
 
-module _ (M : Program) (path : Path) (list first : Basis) (ordered : HasNoCrossedSides (plain M path)) where
+module _ (F : Formulation) (path : Path) (list first : Basis) (ordered : HasNoCrossedSides (plain F path)) where
   abbrev Run : ℕ → Held → Type 0
-  Run n s = IsSimplexRun M path list first n s
+  Run n s = IsSimplexRun F path list first n s
 
-  plain_ordered : (r : Relax) → IsPlainOf M path r → HasNoCrossedSides (relaxation_of r)
-  plain_ordered r is = subst HasNoCrossedSides (λ i. of_kind (sym is.kind i) (plain (sym is.model i) (sym is.region i))) ordered
+  plain_ordered : (r : Relax) → IsPlainOf F path r → HasNoCrossedSides (relaxation_of r)
+  plain_ordered r is = subst HasNoCrossedSides (λ i. of_kind (sym is.kind i) (plain (sym is.form i) (sym is.region i))) ordered
 
   pub run_kept : (n : ℕ) (s : Held) → Run n s → IsLawfulHeld s
   run_kept n s a = moved_kept n a.began s a.kept a.moves
@@ -130,7 +130,7 @@ module _ (M : Program) (path : Path) (list first : Basis) (ordered : HasNoCrosse
   run_uncrossed n s a = uncrossed_at a.relax (plain_ordered a.relax a.relax_is) s (of_after a.relax n a.began s a.moves a.started.reached.is) (run_kept n s a)
 
   began_one : (n m : ℕ) (s t : Held) → (a : Run n s) → (b : Run m t) → a.began ≡ b.began
-  began_one n m s t a b = started_one a.relax list first a.began b.began a.started (started_other M path b.relax a.relax b.relax_is a.relax_is list first b.began b.started)
+  began_one n m s t a b = started_one a.relax list first a.began b.began a.started (started_other F path b.relax a.relax b.relax_is a.relax_is list first b.began b.started)
 
   moves_alike : (n : ℕ) (s t : Held) (a : Run n s) (began : Held) → a.began ≡ began → Moves n began t → s ≡ t
   moves_alike n s t a began same moves =

@@ -7,7 +7,7 @@ use Rattle.checked_sum.specs.Steps.{IsFirstWide}
 use Rattle.checked_sum.proofs.AnswerLaws.{first_wide_unique}
 use Rattle.lp_model.specs.Program.{Program, Point, coordinate, constant, cost, value, coefficient, least_value}
 use Rattle.lp_model.specs.Regions.{Path}
-use Rattle.lp_model.specs.Formulations.{without_cuts}
+use Rattle.lp_model.specs.Formulations.{Formulation}
 use Rattle.lp_model.specs.Answers.{IsFeasibilityAnswer, IsValueAnswer, IsFirstWideRow, activity_step, value_step}
 use Rattle.lp_model.specs.declared.types.WideStep.{WideStep}
 use Rattle.leaf_dual.specs.Dual.{Multipliers}
@@ -52,38 +52,38 @@ module _ (M : Program) (x : Point) where
 -- ---- numbers
 
 -- where Farkas multipliers refute the region their number has room
-pub refuted_fits : (M : Program) (path : Path) (weights : Multipliers) (step : WideStep) → IsRefuted (without_cuts M) path weights → ¬ IsFarkasAnswer (without_cuts M) path weights (Err step)
-refuted_fits M path [] step refuted wide = refuted
-refuted_fits M path (m ∷ ms) step (v, (answer, _)) wide = ok_not_err v step (Ok v) refl (farkas_one (without_cuts M) path (m ∷ ms) (Ok v) (Err step) answer wide)
+pub refuted_fits : (F : Formulation) (path : Path) (weights : Multipliers) (step : WideStep) → IsRefuted F path weights → ¬ IsFarkasAnswer F path weights (Err step)
+refuted_fits F path [] step refuted wide = refuted
+refuted_fits F path (m ∷ ms) step (v, (answer, _)) wide = ok_not_err v step (Ok v) refl (farkas_one F path (m ∷ ms) (Ok v) (Err step) answer wide)
 
-pub one_farkas_step : (M : Program) (path : Path) (weights : Multipliers) (a b : WideStep) → IsFarkasAnswer (without_cuts M) path weights (Err a) → IsFarkasAnswer (without_cuts M) path weights (Err b) → a ≡ b
-one_farkas_step M path weights a b first second = err_is a b (Err a) refl (farkas_one (without_cuts M) path weights (Err a) (Err b) first second)
+pub one_farkas_step : (F : Formulation) (path : Path) (weights : Multipliers) (a b : WideStep) → IsFarkasAnswer F path weights (Err a) → IsFarkasAnswer F path weights (Err b) → a ≡ b
+one_farkas_step F path weights a b first second = err_is a b (Err a) refl (farkas_one F path weights (Err a) (Err b) first second)
 
 -- ---- an optimum
 
-module _ (M : Program) (path : Path) (x : Point) (mult : Multipliers) where
+module _ (F : Formulation) (path : Path) (x : Point) (mult : Multipliers) where
   abbrev Number : LagValue
-  Number = Num (least_value M 1 x)
+  Number = Num (least_value F.model 1 x)
 
-  lag_fits : (step : WideStep) → IsLagAnswer (without_cuts M) path mult (Ok Number) → ¬ IsLagAnswer (without_cuts M) path mult (Err step)
-  lag_fits step number wide = ok_not_err Number step (Ok Number) refl (lag_one (without_cuts M) path mult (Ok Number) (Err step) number wide)
+  lag_fits : (step : WideStep) → IsLagAnswer F path mult (Ok Number) → ¬ IsLagAnswer F path mult (Err step)
+  lag_fits step number wide = ok_not_err Number step (Ok Number) refl (lag_one F path mult (Ok Number) (Err step) number wide)
 
   -- where a fractional point has a number, no step lacks room
-  pub fractional_fits : (step : WideStep) → IsLagAnswer (without_cuts M) path mult (Ok Number) → ¬ IsWholeAt M x → ¬ IsWideAtOptimum M path x mult step
+  pub fractional_fits : (step : WideStep) → IsLagAnswer F path mult (Ok Number) → ¬ IsWholeAt F.model x → ¬ IsWideAtOptimum F path x mult step
   fractional_fits step number not (inl lag) = lag_fits step number lag
   fractional_fits step number not (inr (_, (whole, _))) = not whole
 
   -- nor where a point can be kept
-  pub keepable_fits : (step : WideStep) → IsLagAnswer (without_cuts M) path mult (Ok Number) → IsKeepable M x → ¬ IsWideAtOptimum M path x mult step
+  pub keepable_fits : (step : WideStep) → IsLagAnswer F path mult (Ok Number) → IsKeepable F.model x → ¬ IsWideAtOptimum F path x mult step
   keepable_fits step number keep (inl lag) = lag_fits step number lag
-  keepable_fits step number keep (inr (_, (_, inl test))) = test_fits M x step keep.feasible test
-  keepable_fits step number keep (inr (_, (_, inr (_, wide)))) = value_fits M x step (value M 1 x) keep.value wide
+  keepable_fits step number keep (inr (_, (_, inl test))) = test_fits F.model x step keep.feasible test
+  keepable_fits step number keep (inr (_, (_, inr (_, wide)))) = value_fits F.model x step (value F.model 1 x) keep.value wide
 
-  pub one_optimum_step : (a b : WideStep) → IsWideAtOptimum M path x mult a → IsWideAtOptimum M path x mult b → a ≡ b
-  one_optimum_step a b (inl lag) (inl also) = err_is a b (Err a) refl (lag_one (without_cuts M) path mult (Err a) (Err b) lag also)
+  pub one_optimum_step : (a b : WideStep) → IsWideAtOptimum F path x mult a → IsWideAtOptimum F path x mult b → a ≡ b
+  one_optimum_step a b (inl lag) (inl also) = err_is a b (Err a) refl (lag_one F path mult (Err a) (Err b) lag also)
   one_optimum_step a b (inl lag) (inr (number, _)) = absurd (lag_fits a number lag)
   one_optimum_step a b (inr (number, _)) (inl lag) = absurd (lag_fits b number lag)
-  one_optimum_step a b (inr (_, (_, inl test))) (inr (_, (_, inl also))) = one_test M x a b test also
-  one_optimum_step a b (inr (_, (_, inl test))) (inr (_, (_, inr (good, _)))) = absurd (test_fits M x a good test)
-  one_optimum_step a b (inr (_, (_, inr (good, _)))) (inr (_, (_, inl test))) = absurd (test_fits M x b good test)
-  one_optimum_step a b (inr (_, (_, inr (_, wide)))) (inr (_, (_, inr (_, also)))) = one_value_step M x a b wide also
+  one_optimum_step a b (inr (_, (_, inl test))) (inr (_, (_, inl also))) = one_test F.model x a b test also
+  one_optimum_step a b (inr (_, (_, inl test))) (inr (_, (_, inr (good, _)))) = absurd (test_fits F.model x a good test)
+  one_optimum_step a b (inr (_, (_, inr (good, _)))) (inr (_, (_, inl test))) = absurd (test_fits F.model x b good test)
+  one_optimum_step a b (inr (_, (_, inr (_, wide)))) (inr (_, (_, inr (_, also)))) = one_value_step F.model x a b wide also

@@ -8,6 +8,7 @@ ghost use Rattle.row_tableau.specs.Variables.{numbers};
 use basic_solution::is_sided;
 use dual_simplex::LpState;
 use lp_model::{List, Model, Var};
+use row_tableau::{Relax, RelaxKind};
 use std::alloc::{AllocError, Global};
 
 /// Whether a variable is not basic and stands at the high side that it has in the model.
@@ -16,7 +17,13 @@ fn is_model_high(model: &Model, state: &LpState<'_>, variable: usize) -> bool
     requires variable { variable < variables state.now }
     ensures { IsTrue result ↔ IsModelHigh model.now state.now variable }
 {
-    state.stands_high(variable) && is_sided(model, variable)
+    let root = Relax {
+        model,
+        cuts: &[],
+        region: &[],
+        kind: RelaxKind::Plain,
+    };
+    state.stands_high(variable) && is_sided(&root, variable)
 }
 
 /// The variables that are not basic and stand at the high side that they have in the model, rising.

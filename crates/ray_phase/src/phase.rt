@@ -79,6 +79,7 @@ fn directions<'a>(alloc: Global, model: &'a Model) -> Result<LpState<'a>, AllocE
 {
     let relax = Relax {
         model,
+        cuts: &[],
         region: &[],
         kind: RelaxKind::Directions,
     };

@@ -1,4 +1,7 @@
 // The commands of a row: what they have said so far, and what they ask.
+ghost use Rattle.std.specs.Prelude.{◌≡◌, []};
+ghost use Rattle.row_tableau.specs.Relaxations.{HasFewCuts};
+
 use crate::leaves::work_on;
 use crate::rays::ray_of;
 use crate::solving::{go_on, solve};
@@ -110,9 +113,13 @@ fn push_list(text: &mut String, model: &Model, word: &str, lp: &Lp) -> Result<()
 }
 
 impl Relaxations {
-    fn relax(&self) -> Relax<'_> {
+    fn relax(&self) -> Relax<'_>
+        ensures none { result.cuts.now ≡ [] }
+        ensures few { HasFewCuts result }
+    {
         Relax {
             model: &self.model,
+            cuts: &[],
             region: self.region.as_slice(),
             kind: self.kind,
         }

@@ -5,10 +5,11 @@ use crate::regions::is_lawful_region;
 use crate::steps::push_step;
 use anyhow::{Result, bail, ensure};
 use branch_tree::{Job, NodeResult};
+use cover_cuts::CutPool;
 use leaf_dual::{LagValue, lag};
 use lp_model::{ColId, Model, Mult, Point, Var};
 use model_texts::{is_narrow_region, push_multipliers, push_point, push_variable};
-use node_solve::{Worked, first_in_law, work};
+use node_solve::{Worked, work};
 use row_tableau::{Relax, RelaxKind};
 use std::alloc::Global;
 
@@ -41,6 +42,7 @@ fn push_bound(text: &mut String, model: &Model, job: &Job, mult: &Mult) -> Resul
 fn relax_of<'a>(model: &'a Model, job: &'a Job) -> Relax<'a> {
     Relax {
         model,
+        cuts: &[],
         region: job.region.as_slice(),
         kind: RelaxKind::Plain,
     }
@@ -102,15 +104,15 @@ fn push_result(text: &mut String, model: &Model, job: &Job, placed: &NodeResult)
 
 fn push_worked(text: &mut String, model: &Model, job: &Job, worked: &Worked) -> Result<()> {
     match worked {
-        Worked::Done(placed) => push_result(text, model, job, placed)?,
+        Worked::Done(placed, _) => push_result(text, model, job, placed)?,
         Worked::Pivots { .. } => text.push_str("pivots\n")?,
-        Worked::Wide(at) => push_step(text, model, at.step)?,
+        Worked::Wide(at, _) => push_step(text, model, at.step)?,
         Worked::Memory => bail!("no memory"),
     }
     Ok(())
 }
 
-/// Works a leaf, and writes what that came to.
+/// Works a leaf without cuts, and writes what that came to.
 pub fn work_on(
     alloc: Global,
     model: &Model,
@@ -131,9 +133,8 @@ pub fn work_on(
         text.push_str("empty region\n")?;
         return Ok(());
     }
-    first_in_law();
-    let _lawful = model.cols();
-    let worked = work(alloc, model, job, &first, pivots);
+    let pool = CutPool::new(alloc);
+    let worked = work(alloc, model, &pool, job, &first, 0, pivots);
     drop(first);
     let pushed = push_worked(text, model, job, &worked);
     drop(worked);

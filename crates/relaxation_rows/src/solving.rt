@@ -1,4 +1,6 @@
 // Walks, steps and solutions of a relaxation.
+ghost use Rattle.std.specs.Prelude.{◌≡◌, []};
+
 use crate::judging::{judge_farkas, judge_multipliers, judge_point, push_value};
 use crate::starting::begin;
 use crate::steps::push_step;
@@ -96,7 +98,9 @@ pub fn go_on(
     command: &str,
     limit: u64,
     text: &mut String,
-) -> Result<()> {
+) -> Result<()>
+    requires { relax.now.cuts.now ≡ [] }
+{
     let Some(mut state) = begin(alloc, relax, list, text)? else {
         return Ok(());
     };
@@ -137,7 +141,9 @@ pub fn solve(
     list: &Option<Basis>,
     limit: u64,
     text: &mut String,
-) -> Result<Option<Lp>> {
+) -> Result<Option<Lp>>
+    requires { relax.now.cuts.now ≡ [] }
+{
     let Some(mut state) = begin(alloc, relax, list, text)? else {
         return Ok(None);
     };

@@ -1,5 +1,5 @@
 // The state that a relaxation begins at.
-ghost use Rattle.std.specs.Prelude.{◌≡◌};
+ghost use Rattle.std.specs.Prelude.{◌≡◌, []};
 ghost use Rattle.lp_model.specs.Regions.{AreNarrow};
 ghost use Rattle.bases.specs.Relaxation.{HasNoCrossedSides};
 ghost use Rattle.row_tableau.specs.Relaxations.{relaxation_of};
@@ -17,6 +17,7 @@ use std::alloc::Global;
 
 /// The slack state, or the line `no state`.
 fn slack<'a>(alloc: Global, relax: &Relax<'a>, text: &mut String) -> Result<Option<LpState<'a>>>
+    requires none { relax.now.cuts.now ≡ [] }
     requires narrow { AreNarrow relax.now.region.now }
     requires free { KeepsFree relax.now.model.now relax.now.region.now }
     requires ordered { HasNoCrossedSides (relaxation_of relax.now) }
@@ -39,6 +40,7 @@ fn at_list<'a>(
     text: &mut String,
 ) -> Result<Option<LpState<'a>>>
     requires plain { relax.now.kind ≡ Plain }
+    requires none { relax.now.cuts.now ≡ [] }
     requires narrow { AreNarrow relax.now.region.now }
     requires free { KeepsFree relax.now.model.now relax.now.region.now }
     requires ordered { HasNoCrossedSides (relaxation_of relax.now) }
@@ -65,7 +67,9 @@ pub fn begin<'a>(
     relax: &Relax<'a>,
     list: &Option<Basis>,
     text: &mut String,
-) -> Result<Option<LpState<'a>>> {
+) -> Result<Option<LpState<'a>>>
+    requires { relax.now.cuts.now ≡ [] }
+{
     ensure!(
         is_lawful_region(relax.model, relax.region),
         "a region of a column that is not integer"

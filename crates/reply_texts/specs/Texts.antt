@@ -59,6 +59,10 @@ file_too_long_text = codes "error 21 file too long\n"
 abbrev pub mps_text : ℕ → ℕ → List ℕ
 mps_text line code = codes "error 30 mps line " ++ decimal line ++ codes " code " ++ decimal code ++ codes "\n"
 
+-- the place of the fault in a text that states no search, and its code
+abbrev pub warm_text : List ℕ → ℕ → List ℕ
+warm_text place code = codes "error 31 warm place " ++ place ++ codes " code " ++ decimal code ++ codes "\n"
+
 abbrev pub memory_text : List ℕ
 memory_text = codes "error 90 memory\n"
 

@@ -19,7 +19,7 @@ mod steps;
 pub use answers::{answer_has_room, write_answer};
 pub use bounds::{write_bound, write_wide_bound};
 pub use refusals::{
-    write_bounds, write_faulty_certificate, write_faulty_model, write_limit, write_no_number,
-    write_sides, write_taken, write_unknown, write_unknown_name,
+    write_bounds, write_faulty_certificate, write_faulty_model, write_faulty_search, write_limit,
+    write_no_number, write_sides, write_taken, write_unknown, write_unknown_name,
 };
 pub use steps::write_step;

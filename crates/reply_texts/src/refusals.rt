@@ -1,6 +1,6 @@
 // The bytes of the refusals.
 ghost use Rattle.std.specs.Prelude.{◌≡◌, ◌++◌, IfOk};
-ghost use Rattle.reply_texts.specs.Texts.{unknown_text, unknown_name_text, taken_text, limit_text, bounds_text, sides_text, number_text, mps_text, cert_fault_text};
+ghost use Rattle.reply_texts.specs.Texts.{unknown_text, unknown_name_text, taken_text, limit_text, bounds_text, sides_text, number_text, mps_text, warm_text, cert_fault_text};
 
 use std::alloc::AllocError;
 
@@ -31,6 +31,19 @@ pub fn write_faulty_model(reply: &mut Vec<u8>, line: u64, code: u8) -> Result<()
     let mut digits = itoa::Buffer::new();
     reply.extend_from_slice(b"error 30 mps line ")?;
     reply.extend_from_slice(digits.format(line).as_bytes())?;
+    reply.extend_from_slice(b" code ")?;
+    reply.extend_from_slice(digits.format(code).as_bytes())?;
+    reply.extend_from_slice(b"\n")?;
+    Ok(())
+}
+
+/// The place of the first fault of a text that states no search, and the fault's code.
+pub fn write_faulty_search(reply: &mut Vec<u8>, place: &[u8], code: u8) -> Result<(), AllocError>
+    ensures { IfOk result (λ _. reply.new.items ≡ reply.old.items ++ warm_text place.now code) }
+{
+    let mut digits = itoa::Buffer::new();
+    reply.extend_from_slice(b"error 31 warm place ")?;
+    reply.extend_from_slice(place)?;
     reply.extend_from_slice(b" code ")?;
     reply.extend_from_slice(digits.format(code).as_bytes())?;
     reply.extend_from_slice(b"\n")?;

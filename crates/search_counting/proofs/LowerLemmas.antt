@@ -32,7 +32,7 @@ use Rattle.tree_edit.specs.Points.{IsKeepable, target}
 use Rattle.tree_edit.specs.Checks.{IsFrom, IsUnder, IsSplitAllowed}
 use Rattle.tree_edit.specs.Sound.{PlainSearch, formulation_of, IsSound}
 use Rattle.tree_edit.specs.Calls.{IsLeafAt}
-use Rattle.tree_edit.specs.Placing.{TakesResult, Takes, TakesPoint, split_node, tree_with_split, closed_data}
+use Rattle.tree_edit.specs.Placing.{TakesResult, Takes, TakesPoint, search_with_leaf, split_node, tree_with_split, search_with_split, closed_data}
 use Rattle.tree_edit.proofs.TakenLemmas.{old_closes}
 use Rattle.tree_edit.proofs.SoundLemmas.{each-weaker}
 use Rattle.tree_edit.proofs.OpenLemmas.{leaf_at}
@@ -142,7 +142,7 @@ module _ (S : PlainSearch) (sound : IsSound S) (numbered : IsNumbered S.tree) (l
   module _ (S' : PlainSearch) where
     -- ---- closed
 
-    closed : (shut : LeafData) → shut.state ≡ IsClosed → S' ≡ record { model = S.model; tree = with_leaf S.tree id shut; points = S.points } → Lowers S S'
+    closed : (shut : LeafData) → shut.state ≡ IsClosed → S' ≡ search_with_leaf S id shut → Lowers S S'
     closed shut state is =
         let leaf : Plain = Leaf (record { id = id; kept = shut }) in
         let none : (f : ℕ → ℕ) → sum_open f S.model path leaf ≡ 0 = λ f. ap (λ s. if_open f s (points S.model path)) state in
@@ -159,7 +159,7 @@ module _ (S : PlainSearch) (sound : IsSound S) (numbered : IsNumbered S.tree) (l
 
     -- ---- closed with a point
 
-    closed_with_point : (x : Point) (shut : LeafData) → shut.state ≡ IsClosed → (mid : PlainSearch) → IsKeepable S.model x → TakesPoint S x mid → S' ≡ record { model = mid.model; tree = with_leaf mid.tree id shut; points = mid.points } → Lowers S S'
+    closed_with_point : (x : Point) (shut : LeafData) → shut.state ≡ IsClosed → (mid : PlainSearch) → IsKeepable S.model x → TakesPoint S x mid → S' ≡ search_with_leaf mid id shut → Lowers S S'
     closed_with_point x shut state mid keepable takes is =
         let states : List LeafState = takes.tree.states in
         let tree_is : mid.tree ≡ with_leaf_states S.tree states = takes.tree.tree in
@@ -169,7 +169,7 @@ module _ (S : PlainSearch) (sound : IsSound S) (numbered : IsNumbered S.tree) (l
         let leaf : Plain = Leaf (record { id = id; kept = shut }) in
         let none : (f : ℕ → ℕ) → sum_open f S.model path leaf ≡ 0 = λ f. ap (λ s. if_open f s (points S.model path)) state in
         let less : (f : ℕ → ℕ) (d : ℕ) → sum_open f S.model path leaf + d ≤ f (points S.model path) → sum_open f S.model [] (replaced id leaf (with_states states S.tree.root)) + d ≤ sum_open f S.model [] S.tree.root = λ f d here.
-        sum-changed f S.model (target S.model S.points) (target S.model mid.points) (old_closes S.model S.points x sound.points keepable mid.points takes.points) id leaf d [] S.tree.root states one sound.judged again (less_there f d leaf here) in
+        sum-changed f S.model S.cuts (target S.model S.points) (target S.model mid.points) (old_closes S.model S.points x sound.points keepable mid.points takes.points) id leaf d [] S.tree.root states one sound.judged again (less_there f d leaf here) in
         let work_less : work S.model [] (replaced id leaf (with_states states S.tree.root)) + 1 ≤ work S.model [] S.tree.root =
         less (λ n. 2 * n - 1) 1 (let some : 1 ≤ points S.model path = some_points in let z = none (λ n. 2 * n - 1) in omega (arith, some, z)) in
         let room : IsRoomy S → HasRoomFor (splits S.model [] (with_leaf (with_leaf_states S.tree states) id shut).root) (with_leaf (with_leaf_states S.tree states) id shut) =
@@ -186,7 +186,7 @@ module _ (S : PlainSearch) (sound : IsSound S) (numbered : IsNumbered S.tree) (l
 
     -- ---- split
 
-    split : (j : ℕ) (v : ℤ) (mult : Multipliers) (basis : Basis) (left right : LeafData) → IsSplitAllowed S.model path j v → S' ≡ record { model = S.model; tree = tree_with_split S.tree id j v mult basis left right; points = S.points } → Lowers S S'
+    split : (j : ℕ) (v : ℤ) (mult : Multipliers) (basis : Basis) (left right : LeafData) → IsSplitAllowed S.model path j v → S' ≡ search_with_split S id j v mult basis left right → Lowers S S'
     split j v mult basis left right allowed is =
         let node : Plain = split_node S.tree.last id j v mult basis left right in
         subst (Lowers S) (sym is)

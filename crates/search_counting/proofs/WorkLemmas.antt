@@ -7,7 +7,8 @@ use Rattle.rational.specs.Rational.{ℚ}
 use Rattle.lp_model.specs.Program.{Program}
 use Rattle.lp_model.specs.Lawful.{IsLawful}
 use Rattle.lp_model.specs.Regions.{Path}
-use Rattle.lp_model.specs.Formulations.{without_cuts}
+use Rattle.lp_model.specs.Formulations.{formulation}
+use Rattle.lp_model.specs.declared.types.CutRow.{CutRow}
 use Rattle.leaf_dual.specs.Dual.{Multipliers}
 use Rattle.branch_tree.specs.Tree.{Leaf, Split, left_path, right_path, EachLeaf}
 use Rattle.branch_tree.specs.Plain.{Plain, LeafKept, leaves_with, one_if_same, leaf_below, replaced}
@@ -55,18 +56,18 @@ module _ (f : ℕ → ℕ) (M : Program) (id : ℕ) (new : Plain) (d : ℕ) wher
 
 -- ---- leaves judged again
 
-module _ (f : ℕ → ℕ) (M : Program) (t t' : Option ℚ) (closer : (n : LeafNumber) → NumberCloses M t n → NumberCloses M t' n) where
+module _ (f : ℕ → ℕ) (M : Program) (cuts : List CutRow) (t t' : Option ℚ) (closer : (n : LeafNumber) → NumberCloses M t n → NumberCloses M t' n) where
   -- a leaf that was closed stays closed
-  judged-le : (path : Path) (mult farkas : Multipliers) (s s' : LeafState) (n : ℕ) → IsJudged (without_cuts M) t path mult farkas s → IsJudged (without_cuts M) t' path mult farkas s' → if_open f s' n ≤ if_open f s n
+  judged-le : (path : Path) (mult farkas : Multipliers) (s s' : LeafState) (n : ℕ) → IsJudged (formulation M cuts) t path mult farkas s → IsJudged (formulation M cuts) t' path mult farkas s' → if_open f s' n ≤ if_open f s n
   judged-le path mult farkas s s' n old new = by s s' old.says new.says
     where
       by : (s s' : LeafState) → StateSays s (NumberCloses M t old.number) → StateSays s' (NumberCloses M t' new.number) → if_open f s' n ≤ if_open f s n
       by IsOpen IsOpen h k = omega arith
       by IsOpen IsClosed h k = omega arith
       by IsClosed IsClosed h k = omega arith
-      by IsClosed IsOpen h k = absurd (k (closes_same (without_cuts M) path mult farkas t' new.number old.number new.number_is old.number_is (closer old.number h)))
+      by IsClosed IsOpen h k = absurd (k (closes_same (formulation M cuts) path mult farkas t' new.number old.number new.number_is old.number_is (closer old.number h)))
 
-  sum-states : (path : Path) (u : Plain) (states : List LeafState) → EachLeaf (λ p l. IsJudgedLeaf (without_cuts M) t p l.kept) path u → EachLeaf (λ p l. IsJudgedLeaf (without_cuts M) t' p l.kept) path (with_states states u)
+  sum-states : (path : Path) (u : Plain) (states : List LeafState) → EachLeaf (λ p l. IsJudgedLeaf (formulation M cuts) t p l.kept) path u → EachLeaf (λ p l. IsJudgedLeaf (formulation M cuts) t' p l.kept) path (with_states states u)
       → sum_open f M path (with_states states u) ≤ sum_open f M path u
   sum-states path (Leaf l) [] old new = omega arith
   sum-states path (Leaf l) (s ∷ states) old new = judged-le path l.kept.mult l.kept.farkas l.kept.state s (points M path) old new
@@ -77,7 +78,7 @@ module _ (f : ℕ → ℕ) (M : Program) (t t' : Option ℚ) (closer : (n : Leaf
 
   module _ (id : ℕ) (new : Plain) (d : ℕ) where
     -- and the leaf with the id replaced, in the place of which there is d less
-    pub sum-changed : (path : Path) (u : Plain) (states : List LeafState) → leaves_with id u ≡ 1 → EachLeaf (λ p l. IsJudgedLeaf (without_cuts M) t p l.kept) path u → EachLeaf (λ p l. IsJudgedLeaf (without_cuts M) t' p l.kept) path (with_states states u)
+    pub sum-changed : (path : Path) (u : Plain) (states : List LeafState) → leaves_with id u ≡ 1 → EachLeaf (λ p l. IsJudgedLeaf (formulation M cuts) t p l.kept) path u → EachLeaf (λ p l. IsJudgedLeaf (formulation M cuts) t' p l.kept) path (with_states states u)
         → EachLeaf (λ p l. l.id ≡ id → sum_open f M p new + d ≤ if_open f l.kept.state (points M p)) path u → sum_open f M path (replaced id new (with_states states u)) + d ≤ sum_open f M path u
     sum-changed path (Leaf l) states one old again less = by states
       where

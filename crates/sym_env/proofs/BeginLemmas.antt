@@ -1,16 +1,14 @@
 -- The lists at which relaxations can begin, and the ray beside which they are worked.
-use Rattle.std.proofs.Common.{◌≡◌, ◌⊎◌, ℕ, ◌<◌, [], ◌∷◌, sym, ap, subst, ◌∙◌, pos, inl, inr}
+use Rattle.std.proofs.Common.{◌≡◌, ℕ, ◌<◌, [], ◌∷◌, ap, subst, ◌∙◌, pos, inl, inr}
 use Rattle.std.specs.Prelude.{length, true, None, Ok, refl}
-use Rattle.rational.specs.Rational.{ℚ, int, ◌*ℚ◌, ◌<ℚ◌, neg_ℚ}
+use Rattle.rational.specs.Rational.{ℚ, int, ◌*ℚ◌, ◌<ℚ◌}
 use Rattle.rational.proofs.RationalOrder.{<ℚ_irrefl}
 use Rattle.rational.proofs.RationalRing.{ring, reads_ℚ}
 use Rattle.checked_sum.specs.Sums.{sum_below}
 use Rattle.checked_sum.proofs.SumLaws.{sum_below-zero, sum_below-same}
 use Rattle.lp_model.specs.Program.{Program, Point, coordinate, cost, in_least_form}
-use Rattle.lp_model.specs.Lawful.{IsLawful}
 use Rattle.lp_model.specs.Laws.{SamePointsLaw}
 use Rattle.lp_model.specs.Rays.{IsRay, IsRayJudged, direction_cost, without_costs}
-use Rattle.lp_model.specs.Regions.{Path}
 use Rattle.lp_model.specs.declared.types.Basis.{Basis}
 use Rattle.lp_model.specs.declared.answers.StopWhy.{StopWhy}
 use Rattle.lp_model.specs.declared.answers.StopWhy.TheVariants as stop
@@ -18,10 +16,9 @@ use Rattle.lp_model.specs.declared.types.Sense.{Sense}
 use Rattle.lp_model.specs.declared.types.Sense.TheVariants.{Min, Max}
 use Rattle.tree_edit.specs.Sound.{PlainSearch}
 use Rattle.ray_phase.specs.Answers.{IsDualBasis, IsRayAnswer}
-use Rattle.ray_phase.specs.Laws.{FirstLaw}
+use Rattle.dual_simplex.specs.SlackBases.{IsRootBasis}
+use Rattle.ray_phase.specs.Laws.{RootBasisLaw}
 use Rattle.ray_phase.specs.declared.phase.RayAnswer.TheVariants as ray
-use Rattle.node_solve.specs.Laws.{FirstInLaw}
-use Rattle.node_solve.specs.Runs.{NamesIntegers, IsFirstOf}
 use Rattle.tree_search.specs.Steps.{IsBesideRay, IsFirstFor}
 use Rattle.tree_search.specs.declared.searching.Ways.TheVariants.{Own}
 use Rattle.sym_env.specs.Beginnings.{BeginsWith, BeginsBeside, HasNoSlackBasis, FindsRay, IsRayStop, StopsBefore}
@@ -35,12 +32,12 @@ is_ray M pivots d h = h.1.1.1.1.1.1.1.0
 pub judged_ray : (M : Program) (pivots : ℕ) (d : Point) → IsRayAnswer M pivots (ray.Ray d) → IsRayJudged M d (Ok true)
 judged_ray M pivots d h = h.1.1.1.1.1.1.1
 
-pub first-own : FirstLaw → FirstInLaw → (S : PlainSearch) (pivots : ℕ) (first : Basis) → IsLawful S.model → BeginsWith S.model pivots Own first → IsFirstFor Own S first
-first-own f g S pivots first lawful (inl slack) = λ path names. g S.model lawful path names first slack.lawful
-first-own f g S pivots first lawful (inr dual) = λ path names. g S.model lawful path names first (f S.model first (dual_basis S.model pivots first dual.1))
+pub first-own : RootBasisLaw → (S : PlainSearch) (pivots : ℕ) (first : Basis) → BeginsWith S.model pivots Own first → IsFirstFor Own S first
+first-own f S pivots first (inl slack) = f S.model first (inr slack)
+first-own f S pivots first (inr dual) = f S.model first (inl (dual_basis S.model pivots first dual.1))
 
-pub first-beside : FirstLaw → FirstInLaw → (M Z : Program) (pivots : ℕ) (first : Basis) → IsLawful Z → BeginsBeside M pivots Z first → (path : Path) → NamesIntegers Z path → IsFirstOf Z path first
-first-beside f g M Z pivots first lawful begins = λ path names. g Z lawful path names first (f Z first (dual_basis Z pivots first begins.basis))
+pub first-beside : RootBasisLaw → (M Z : Program) (pivots : ℕ) (first : Basis) → BeginsBeside M pivots Z first → IsRootBasis Z first
+first-beside f M Z pivots first begins = f Z first (inl (dual_basis Z pivots first begins.basis))
 
 pub beside-ray : (S : PlainSearch) (pivots : ℕ) (Z : Program) (first : Basis) → S.points ≡ [] → BeginsBeside S.model pivots Z first → IsBesideRay S Z
 beside-ray S pivots Z first none begins = record {

@@ -1,9 +1,10 @@
 -- A search with enough of all goes to the end.
 use Rattle.std.specs.Prelude.{◌*◌, ◌-◌, max}
-use Rattle.std.proofs.Common.{◌≡◌, ◌⊎◌, ℕ, ◌+◌, ◌<◌, ◌≤◌, ◌^◌, sym, subst, inl, inr, arith}
-use Rattle.lp_model.specs.Program.{Program, Point}
+use Rattle.std.proofs.Common.{◌≡◌, ◌⊎◌, ℕ, ◌+◌, ◌<◌, ◌≤◌, ◌^◌, List, sym, subst, inl, inr, arith}
+use Rattle.lp_model.specs.Program.{Program}
 use Rattle.lp_model.specs.Rays.{without_costs}
 use Rattle.lp_model.specs.declared.types.Basis.{Basis}
+use Rattle.lp_model.specs.declared.types.CutRow.{CutRow}
 use Rattle.lp_model.specs.declared.answers.StopWhy.{StopWhy}
 use Rattle.lp_model.specs.declared.answers.StopWhy.TheVariants as stop
 use Rattle.lp_model.specs.declared.answers.Answer.{Answer}
@@ -11,14 +12,13 @@ use Rattle.lp_model.specs.declared.answers.Answer.TheVariants.{Optimal, Infeasib
 use Rattle.branch_tree.specs.Tree.{node_count, split_count}
 use Rattle.tree_edit.specs.Calls.{IsFresh, search_with_limit}
 use Rattle.tree_edit.specs.Sound.{PlainSearch}
-use Rattle.ray_phase.specs.Answers.{IsRayAnswer}
 use Rattle.ray_phase.specs.Laws.{NoRayFoundLaw}
 use Rattle.search_counting.specs.Laws.{RoomyLaw}
 use Rattle.search_counting.specs.Work.{whole_points}
 use Rattle.tree_search.specs.Causes.{IsAtEnd}
 use Rattle.tree_search.specs.Causes as search
 use Rattle.tree_search.specs.Room.{HasMoves, HasRoomAt, HasRoomForValues}
-use Rattle.tree_search.specs.Search.{IsAnswerAtEnd, IsStoppedAnswer}
+use Rattle.tree_search.specs.Search.{IsAnswerAtEnd}
 use Rattle.tree_search.specs.declared.searching.Ended.{Ended}
 use Rattle.tree_search.specs.declared.searching.Ended.TheVariants as ended
 use Rattle.tree_search.specs.declared.searching.Ways.{Ways}
@@ -31,30 +31,30 @@ use Rattle.sym_env.proofs.BeginLemmas.{dual_basis, is_ray}
 
 -- ---- the search
 
-pub enough-for : NoRayFoundLaw → (S : PlainSearch) (nodes pivots : ℕ) (ways : Ways) (first : Basis) → BeginsWith S.model pivots ways first → IsEnoughFrom S nodes pivots → search.IsEnoughForSearch S ways nodes pivots
-enough-for none S nodes pivots Own first (inl slack) e =
-    let own : AreRelaxationsEnough S.model pivots = e.own (λ d. none S.model first d (inr slack)) in
+pub enough-for : NoRayFoundLaw → (S : PlainSearch) (pool : List CutRow) (nodes pivots : ℕ) (ways : Ways) (first : Basis) → BeginsWith S.model pivots ways first → IsEnoughFrom S pool nodes pivots → search.IsEnoughForSearch S pool ways nodes pivots
+enough-for none S pool nodes pivots Own first (inl slack) e =
+    let own : AreRelaxationsEnough S.model pool pivots = e.own (λ d. none S.model first d (inr slack)) in
     record { results = e.results; room = e.room; moves = own.moves; steps = own.steps; values = tt }
-enough-for none S nodes pivots Own first (inr dual) e =
-    let own : AreRelaxationsEnough S.model pivots = e.own (λ d. none S.model first d (inl (dual_basis S.model pivots first dual.1))) in
+enough-for none S pool nodes pivots Own first (inr dual) e =
+    let own : AreRelaxationsEnough S.model pool pivots = e.own (λ d. none S.model first d (inl (dual_basis S.model pivots first dual.1))) in
     record { results = e.results; room = e.room; moves = own.moves; steps = own.steps; values = tt }
-enough-for none S nodes pivots (Rays Z) first beside e =
-    let b : IsEnoughBeside S.model pivots = e.beside beside.has_ray.0 (is_ray S.model pivots beside.has_ray.0 beside.has_ray.1) in
+enough-for none S pool nodes pivots (Rays Z) first beside e =
+    let b : IsEnoughBeside S.model pool pivots = e.beside beside.has_ray.0 (is_ray S.model pivots beside.has_ray.0 beside.has_ray.1) in
     record {
       results = e.results;
       room = e.room;
-      moves = subst (λ N. HasMoves N pivots) (sym beside.costless) b.relaxations.moves;
-      steps = subst HasRoomAt (sym beside.costless) b.relaxations.steps;
-      values = subst (λ N. HasRoomForValues N S.model) (sym beside.costless) b.values;
+      moves = subst (λ N. HasMoves N pool pivots) (sym beside.costless) b.relaxations.moves;
+      steps = subst (λ N. HasRoomAt N pool) (sym beside.costless) b.relaxations.steps;
+      values = subst (λ N. HasRoomForValues N pool S.model) (sym beside.costless) b.values;
     }
 
 -- what is enough for a solve is enough from its fresh root
-pub from-fresh : RoomyLaw → (l : Limits) (S : PlainSearch) → IsFresh S.model l.tree S → IsEnough S.model l → IsEnoughFrom S l.nodes l.pivots
-from-fresh law l S begins e = record { results = e.results; room = law S.model l.tree S begins e.tree e.few; ray_phase = e.ray_phase; own = e.own; beside = e.beside }
+pub from-fresh : RoomyLaw → (l : Limits) (S : PlainSearch) (pool : List CutRow) → IsFresh S.model l.tree S → IsEnough S.model pool l → IsEnoughFrom S pool l.nodes l.pivots
+from-fresh law l S pool begins e = record { results = e.results; room = law S.model l.tree S begins e.tree e.few; ray_phase = e.ray_phase; own = e.own; beside = e.beside }
 
 -- and what is enough to go on, from the kept tree with the limit on its nodes
-pub from-kept : (l : Limits) (S : PlainSearch) → IsKeptEnough S l → IsEnoughFrom (search_with_limit S l.tree) l.nodes l.pivots
-from-kept l S e = record {
+pub from-kept : (l : Limits) (S : PlainSearch) (pool : List CutRow) → IsKeptEnough S pool l → IsEnoughFrom (search_with_limit S l.tree) pool l.nodes l.pivots
+from-kept l S pool e = record {
   results = e.results;
   room = record {
     nodes = nodes_fit (node_count S.tree.root) (whole_points S.model) e.nodes;
@@ -96,8 +96,8 @@ ray-goes_on M pivots (stop.Pivots place) e h =
     absurd (omega arith)
 ray-goes_on M pivots (stop.Wide at_) e h = e.steps h.0 h.1.1.0 h.1.1.1.0 h.1.0 h.1.1.1.1.1.0 at_.step h.1.1.1.1.1.1.1.0
 
-pub goes-on : (S : PlainSearch) (nodes pivots : ℕ) (why : StopWhy) → IsEnoughFrom S nodes pivots → StopsBefore S.model pivots why → ⊥
-goes-on S nodes pivots why e s = by s.stop
+pub goes-on : (S : PlainSearch) (pool : List CutRow) (nodes pivots : ℕ) (why : StopWhy) → IsEnoughFrom S pool nodes pivots → StopsBefore S.model pivots why → ⊥
+goes-on S pool nodes pivots why e s = by s.stop
   where
     by : IsRayStop S.model pivots why ⊎ (FindsRay S.model pivots × IsRayStop (without_costs S.model) pivots why) → ⊥
     by (inl h) = ray-goes_on S.model pivots why (e.ray_phase s.none) h

@@ -1,5 +1,5 @@
 -- What was done in a search, put together.
-use Rattle.std.proofs.Common.{◌≡◌, ◌⊎◌, ℕ, refl}
+use Rattle.std.proofs.Common.{refl, ◌∙◌}
 use Rattle.lp_model.specs.declared.types.Basis.{Basis}
 use Rattle.lp_model.specs.declared.answers.Answer.{Answer}
 use Rattle.lp_model.specs.declared.answers.Answer.TheVariants.{Memory}
@@ -13,7 +13,8 @@ use Rattle.tree_search.specs.Search.{Finds, GivesUp, IsAnswerAtEnd, IsStoppedAns
 use Rattle.tree_search.specs.Steps.{HasOpenLeaf}
 use Rattle.tree_search.specs.declared.searching.Searched.{Searched}
 use Rattle.tree_search.specs.declared.searching.Ways.{Ways}
-use Rattle.tree_search.proofs.ExtendLemmas.{extends-self}
+use Rattle.tree_search.proofs.ExtendLemmas.{extends-self, extends-on, extends-added}
+use Rattle.tree_search.proofs.KeepLemmas.{added-model}
 use Rattle.sym_env.specs.Beginnings.{BeginsWith, StopsBefore}
 use Rattle.sym_env.specs.Enough.{IsEnoughFrom}
 use Rattle.sym_env.specs.Solves.{StopsFirst, Searches, WantsBefore, WantsWithin, Solved}
@@ -24,7 +25,12 @@ use Rattle.sym_env.proofs.EnoughLemmas.{enough-for, at-end, goes-on}
 
 module _ (l : Limits) (S : PlainSearch) (sound : IsSound S) where
   pub gave-up : (ways : Ways) (first : Basis) → BeginsWith S.model l.pivots ways first → (T : PlainSearch) → GivesUp ways first l.nodes l.pivots S T → Went l S Memory T
-  gave-up ways first b T gives = record { sound = sound; course = WantsWithin ways first b gives refl; model = gives.goes.model; extends = gives.goes.extends }
+  gave-up ways first b T gives = record {
+    sound = sound;
+    course = WantsWithin ways first b gives refl;
+    model = added-model gives.mid gives.adds.0 T gives.adds.1 ∙ gives.goes.model;
+    extends = extends-on S.tree.root gives.mid.tree.root T.tree.root gives.goes.extends (extends-added gives.adds.0 gives.mid T gives.adds.1);
+  }
 
   pub searched-so : (ways : Ways) (first : Basis) → BeginsWith S.model l.pivots ways first → HasOpenLeaf S → (T : PlainSearch) (searched : Searched) (answer : Answer) → Finds ways first l.nodes l.pivots S T searched
       → IsAnswerAtEnd T searched.ended searched.placed answer → Went l S answer T
@@ -41,9 +47,9 @@ module _ (l : Limits) (S : PlainSearch) (sound : IsSound S) where
   fresh-solved begins answer T went = record { fresh = S; begins = begins; sound = sound; course = went.course; model = went.model }
 
 pub searched-whole : NoRayFoundLaw → (l : Limits) (S : PlainSearch) (ways : Ways) (first : Basis) → BeginsWith S.model l.pivots ways first → (T : PlainSearch) (searched : Searched) (answer : Answer)
-    → (search.IsEnoughForSearch S ways l.nodes l.pivots → IsAtEnd searched.ended) → IsAnswerAtEnd T searched.ended searched.placed answer → IsEnoughFrom S l.nodes l.pivots → HasEnded answer
+    → (search.IsEnoughForSearch S T.cuts ways l.nodes l.pivots → IsAtEnd searched.ended) → IsAnswerAtEnd T searched.ended searched.placed answer → IsEnoughFrom S T.cuts l.nodes l.pivots → HasEnded answer
 searched-whole none l S ways first b T searched answer complete told enough =
-    at-end T searched.ended searched.placed answer (complete (enough-for none S l.nodes l.pivots ways first b enough)) told
+    at-end T searched.ended searched.placed answer (complete (enough-for none S T.cuts l.nodes l.pivots ways first b enough)) told
 
-pub stopped-never : (l : Limits) (S : PlainSearch) (why : StopWhy) → StopsBefore S.model l.pivots why → (answer : Answer) → IsEnoughFrom S l.nodes l.pivots → HasEnded answer
-stopped-never l S why stops answer enough = absurd (goes-on S l.nodes l.pivots why enough stops)
+pub stopped-never : (l : Limits) (S : PlainSearch) (why : StopWhy) → StopsBefore S.model l.pivots why → (answer : Answer) → IsEnoughFrom S S.cuts l.nodes l.pivots → HasEnded answer
+stopped-never l S why stops answer enough = absurd (goes-on S S.cuts l.nodes l.pivots why enough stops)

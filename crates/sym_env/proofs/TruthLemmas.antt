@@ -1,11 +1,11 @@
 -- What a search answers is true of its model, whether it begins with a fresh root or goes on.
-use Rattle.std.proofs.Common.{◌≡◌, ◌⊎◌, ℕ, zero, suc, ◌+◌, ◌<◌, ◌≤◌, ◌^◌, List, [], ◌∷◌, ◌++◌, length, map, take, drop, sym, ap, subst, refl, ◌∙◌, inl, inr, arith, Option, Some, None, Ok}
+use Rattle.std.proofs.Common.{◌≡◌, ◌⊎◌, ℕ, suc, ◌+◌, ◌<◌, ◌≤◌, List, [], ◌∷◌, ◌++◌, length, map, take, drop, sym, ap, subst, refl, ◌∙◌, inl, inr, arith, Option, Some, None, Ok}
 use Rattle.std.specs.Prelude.{true, ◌-◌, All}
 use Rattle.std.specs.List.{remove}
 use Rattle.std.proofs.lemmas.List.{length-map, length-take, length-drop, length-append}
 use Rattle.std.proofs.lemmas.List.Elements.{All-head}
 use Rattle.rational.specs.Rational.{ℚ}
-use Rattle.lp_model.specs.Program.{Program, Point, IsFeasible, IsOptimum, IsEmpty, value, least_value}
+use Rattle.lp_model.specs.Program.{Program, Point, IsOptimum, IsEmpty, value, least_value}
 use Rattle.lp_model.specs.Lawful.{IsLawful}
 use Rattle.lp_model.specs.Rays.{without_costs, IsRayJudged, IsUnbounded}
 use Rattle.lp_model.proofs.UnboundedLemmas.{unbounded}
@@ -34,14 +34,14 @@ use Rattle.search_counting.proofs.RoomLemmas.{room-fewer}
 use Rattle.tree_search.specs.Bounds.{IsBoundOf}
 use Rattle.tree_search.specs.Causes.{HasCause}
 use Rattle.tree_search.specs.Laws.{StopBoundLaw}
-use Rattle.tree_search.specs.Search.{IsAfter, StopsFor, FindsPoint, Ends, IsLeft, IsValueFound, StopsWith, IsAnswerAtEnd, IsFinishedAnswer, IsStoppedAnswer}
-use Rattle.tree_search.specs.Steps.{HasOpenLeaf, IsNextJob, Goes, StopsAtNext, StepAtNext, ValueAtNext}
+use Rattle.tree_search.specs.Search.{StopsFor, FindsPoint, Ends, IsLeft, IsValueFound, IsAnswerAtEnd, IsFinishedAnswer, IsStoppedAnswer}
+use Rattle.tree_search.specs.Steps.{HasOpenLeaf, IsNextJob, Goes, StepAtNext, ValueAtNext}
 use Rattle.tree_search.specs.declared.searching.Ended.{Ended}
 use Rattle.tree_search.specs.declared.searching.Ended.TheVariants as ended
 use Rattle.tree_search.specs.declared.searching.Ways.{Ways}
 use Rattle.sym_env.specs.Beginnings.{IsRayStop, StopsBefore}
 use Rattle.sym_env.specs.Env.{PlainEnv, HasPointAndRay, IsHeld}
-use Rattle.sym_env.specs.Solves.{Course, NothingOpen, StopsFirst, Searches, WantsBefore, WantsWithin, Solved, SolvesModel, SaysUnbounded, HasRayFor, held_by, IsOldest, SolvesEnv}
+use Rattle.sym_env.specs.Solves.{Course, NothingOpen, StopsFirst, Searches, WantsBefore, WantsWithin, SolvesModel, SaysUnbounded, HasRayFor, held_by, IsOldest, SolvesEnv}
 use Rattle.sym_env.specs.Truth.{IsCount, IsBound, IsFoundValue, IsEarlyBy, IsTrueBy, IsSmallTree, IsTrueAnswer, IsTrueOfKept}
 use Rattle.sym_env.specs.Warm.{Resumes, BesidePoint, GoesOn, Warms, Still, SomeOpen}
 use Rattle.sym_env.specs.declared.held.Held.{Held}
@@ -93,13 +93,13 @@ module _ (laws : Laws) (l : Limits) (fresh : PlainSearch) (lawful : IsLawful fre
       let one = laws.left fresh h.0 h.1.0 h.1.1.kept sound lawful h.1.1.leaf h.1.1.state in
       omega arith
 
-  early : (S : PlainSearch) (ways : Ways) (first : Basis) (why : StopWhy) (n : ℕ) → StopsFor ways first l.nodes l.pivots n fresh S why → HasCause fresh ways first l.nodes l.pivots (ended.Stopped why) → IsEarlyBy Small fresh.model l why n
+  early : (S : PlainSearch) (ways : Ways) (first : Basis) (why : StopWhy) (n : ℕ) → StopsFor ways first l.nodes l.pivots n fresh S why → HasCause fresh S.cuts ways first l.nodes l.pivots (ended.Stopped why) → IsEarlyBy Small fresh.model l why n
   early S ways first stop.Nodes n ends cause =
       let most = at_most in
       let all = ends.all in
       (all, omega arith)
   early S ways first stop.Tree n ends cause =
-      (ends.below_limit, (below_cap n ends.mid ways first ends.goes ends.here.1.job ends.here.1.works.next, small cause))
+      (ends.below_limit, (below_cap n ends.mid ways first ends.goes ends.here.job ends.here.works.next, small cause))
   early S ways first (stop.Pivots place) n ends cause =
       let below = ends.below_limit in
       (omega arith, below_cap n ends.mid ways first ends.goes ends.here.job ends.here.works.next)
@@ -124,7 +124,7 @@ module _ (laws : Laws) (l : Limits) (fresh : PlainSearch) (lawful : IsLawful fre
   )
   stopped S why n Memory same is told = tt
 
-  searched : (S : PlainSearch) (ways : Ways) (first : Basis) (e : Ended) (n : ℕ) (answer : Answer) → S.model ≡ fresh.model → Ends ways first l.nodes l.pivots n fresh S e → HasCause fresh ways first l.nodes l.pivots e
+  searched : (S : PlainSearch) (ways : Ways) (first : Basis) (e : Ended) (n : ℕ) (answer : Answer) → S.model ≡ fresh.model → Ends ways first l.nodes l.pivots n fresh S e → HasCause fresh S.cuts ways first l.nodes l.pivots e
       → n ≤ l.nodes → n ≤ cap_of fresh.model → IsAnswerAtEnd S e n answer → IsTrueBy Small fresh.model l answer
   searched S ways first ended.Finished n (Optimal v x m) same ends cause limit cap told =
       ((subst (λ N. IsOptimum N x) same told.0.optimum, told.0.value ∙ ap (λ N. value N 1 x) same), count n m told.1 limit cap)
@@ -256,7 +256,7 @@ points-some ways first nodes pivots n old new finds =
     let here = finds.after.here in
     let kept = here.keeps.takes.result_is.2 in
     let mid = kept.0 in
-    let adds : 0 < length mid.points = adds-some finds.after.mid.model finds.after.mid.points here.point mid.points kept.1.0.points in
+    let adds : 0 < length mid.points = adds-some here.keeps.mid.model here.keeps.mid.points here.point mid.points kept.1.0.points in
     subst (λ (S : PlainSearch). 0 < length S.points) (sym kept.1.1.1.1) adds
 
 abbrev pub IsFinishedKind : Answer → Type 0

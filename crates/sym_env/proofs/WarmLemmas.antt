@@ -1,6 +1,6 @@
 -- What a search that goes on answers, and what is held of it; and what an edit does to an environment.
 use Rattle.std.specs.Prelude.{true}
-use Rattle.std.proofs.Common.{◌≡◌, ◌⊎◌, ℕ, ◌<◌, List, [], ◌∷◌, length, sym, ap, subst, refl, ◌∙◌, inl, inr, arith, Option, Some, None, Result, Ok, Err}
+use Rattle.std.proofs.Common.{◌≡◌, ℕ, ◌<◌, List, [], ◌∷◌, length, sym, ap, subst, refl, inl, inr, arith, Option, Some, None, Ok, Err}
 use Rattle.lp_model.specs.Program.{Program, Point}
 use Rattle.lp_model.specs.Edits.{EditFits}
 use Rattle.lp_model.specs.Rays.{IsRayJudged}
@@ -11,7 +11,6 @@ use Rattle.lp_model.specs.declared.answers.Answer.{Answer}
 use Rattle.lp_model.specs.declared.answers.Answer.TheVariants.{Optimal, Infeasible, Unbounded, Stopped, Memory}
 use Rattle.model_edits.specs.Faults.{IsEditFault}
 use Rattle.model_edits.specs.declared.faults.EditFault.{EditFault}
-use Rattle.ray_phase.specs.Answers.{IsRayAnswer}
 use Rattle.ray_phase.specs.declared.phase.RayAnswer.TheVariants as phase
 use Rattle.tree_edit.specs.Calls.{search_with_limit}
 use Rattle.tree_edit.specs.Edited.{Follows}
@@ -19,8 +18,7 @@ use Rattle.tree_edit.specs.Laws.{HasNoOpenLeaf}
 use Rattle.tree_edit.specs.Points.{target}
 use Rattle.tree_edit.specs.Sound.{PlainSearch}
 use Rattle.tree_search.specs.Extends.{Extends}
-use Rattle.tree_search.specs.Search.{IsFinishedAnswer, IsStoppedAnswer}
-use Rattle.tree_search.specs.Steps.{HasOpenLeaf}
+use Rattle.tree_search.specs.Search.{IsFinishedAnswer}
 use Rattle.tree_search.specs.declared.searching.Ended.TheVariants as ended
 use Rattle.tree_search.specs.declared.searching.Ways.TheVariants.{Own}
 use Rattle.sym_env.specs.Beginnings.{HasNoSlackBasis, BeginsWith, IsRayStop, StopsBefore}

@@ -1,10 +1,11 @@
 -- What an environment holds: a model with its search, and which answer of that search is held.
-use Rattle.std.specs.Prelude.{◌≡◌, ◌<◌, length, true, refl, Option, Some, None, Ok}
+use Rattle.std.specs.Prelude.{◌≡◌, ◌<◌, List, [], length, true, refl, Option, Some, None, Ok}
 use Rattle.std.specs.Option.{option_map}
 use Rattle.std.specs.Coded.{Coded, code_by, coded×, coded_list, coded_option}
 use Rattle.frac128.specs.contracts.frac.Frac.{the_row as frac_row}
 use Rattle.lp_model.specs.Program.{Program, Point}
 use Rattle.lp_model.specs.Rays.{IsRayJudged}
+use Rattle.lp_model.specs.declared.types.CutRow.{CutRow}
 use Rattle.tree_edit.specs.Laws.{HasNoOpenLeaf}
 use Rattle.tree_edit.specs.Sound.{PlainSearch}
 use Rattle.tree_edit.specs.SearchCode.{search_code}
@@ -22,6 +23,11 @@ no_model = record { search = None; held = Nothing }
 
 abbrev pub model_of : PlainEnv → Option Program
 model_of env = option_map (λ S. S.model) env.search
+
+-- the cuts that the search keeps
+abbrev pub pool_in : Option PlainSearch → List CutRow
+pool_in None = []
+pool_in (Some S) = S.cuts
 
 -- the search keeps a point, and the direction is judged a ray of its model, each step having room
 pub record HasPointAndRay (S : PlainSearch) (direction : Point) : Type 0 where

@@ -8,3 +8,5 @@ pub mod Enough
 pub mod Warm
 pub mod Editing
 pub mod Bounds
+pub mod Saving
+pub mod Laws

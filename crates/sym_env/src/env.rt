@@ -3,15 +3,19 @@ ghost use Rattle.std.specs.Prelude.{◌≡◌, OnOk, OnErr, IfOk, IfErr, IfSome}
 ghost use Rattle.std.specs.Option.{option_copied};
 ghost use Rattle.dual_bounds.specs.NewNumbers.{with_new_sides, with_new_costs, AreNewSides, AreNewCosts, ArePresentSides, ArePresentCosts};
 ghost use Rattle.dual_bounds.specs.Laws.{IsTrueLowerBound, IsTrueUpperBound, IsExactLower, IsExactUpper};
-ghost use Rattle.sym_env.specs.Env.{no_model, model_of, Holds};
+ghost use Rattle.search_saving.specs.Saved.{saved_data};
+ghost use Rattle.warm_json.specs.Writable.{IsWritable};
+ghost use Rattle.warm_values.specs.declared.fault.WarmFault.TheVariants.{Memory as TextMemory};
+ghost use Rattle.sym_env.specs.Env.{no_model, model_of, pool_in, Holds};
 ghost use Rattle.sym_env.specs.Bounds.{IsLowerAnswer, IsUpperAnswer};
 ghost use Rattle.sym_env.specs.Certificates.{IsCertAnswer};
 ghost use Rattle.sym_env.specs.Editing.{EditsEnv};
+ghost use Rattle.sym_env.specs.Saving.{IsSaveAnswer, RestoresEnv, TrimsEnv};
 ghost use Rattle.sym_env.specs.Enough.{IsEnough, IsKeptEnough};
 ghost use Rattle.sym_env.specs.Solves.{held_beside, held_by, SolvesEnv};
 ghost use Rattle.sym_env.specs.Truth.{IsTrueAnswer, IsTrueOfKept, HasEnded};
 ghost use Rattle.sym_env.specs.Warm.{WarmsEnv};
-ghost use Rattle.sym_env.specs.declared.env.EnvFault.TheVariants.{Memory};
+ghost use Rattle.sym_env.specs.declared.env.EnvFault.TheVariants.{Memory, Warm};
 
 use crate::certificates::{certificate_text, unbounded_text};
 use crate::held::Held;
@@ -22,10 +26,12 @@ use dual_bounds::{LowerBound, UpperBound, lb_new_obj, lb_new_rhs, ub_new_obj, ub
 use frac128::Frac;
 use lp_model::{Answer, ColId, Edit, Model, Point, RowId};
 use model_edits::EditFault;
+use search_file::{search_in, text_of};
 use std::alloc::{AllocError, Global};
 use std::mem;
 use thiserror::Error;
 use tree_edit::Search;
+use warm_values::WarmFault;
 
 /// Why a call is refused.
 #[derive(Debug, Drop, Error)]
@@ -39,6 +45,9 @@ pub enum EnvFault {
     /// The edit is refused.
     #[error("the edit is refused")]
     Edit(EditFault),
+    /// The text states no search.
+    #[error("the text states no search")]
+    Warm(WarmFault),
     /// There is no memory.
     #[error("there is no memory")]
     Memory,
@@ -142,7 +151,7 @@ impl Env {
     pub fn solve(&mut self, limits: &Limits) -> Result<Answer, EnvFault>
         ensures solves { SolvesEnv self.old.search limits.now self.old result self.new }
         ensures true_answer { IfOk result (λ answer. IfSome self.old.search (λ S. IsTrueAnswer S.model limits.now answer)) }
-        ensures complete { IfOk result (λ answer. IfSome self.old.search (λ S. IsEnough S.model limits.now → HasEnded answer)) }
+        ensures complete { IfOk result (λ answer. IfSome self.old.search (λ S. IsEnough S.model (pool_in self.new.search) limits.now → HasEnded answer)) }
     {
         let Some(search) = &mut self.search else {
             return Err(EnvFault::NoModel);
@@ -161,7 +170,7 @@ impl Env {
     pub fn warm_solve(&mut self, limits: &Limits) -> Result<Answer, EnvFault>
         ensures warms { WarmsEnv self.old.search limits.now self.old result self.new }
         ensures true_answer { IfOk result (λ answer. IfSome self.old.search (λ S. IsTrueOfKept S limits.now answer)) }
-        ensures complete { IfOk result (λ answer. IfSome self.old.search (λ S. IsKeptEnough S limits.now → HasEnded answer)) }
+        ensures complete { IfOk result (λ answer. IfSome self.old.search (λ S. IsKeptEnough S (pool_in self.new.search) limits.now → HasEnded answer)) }
     {
         let Some(search) = &mut self.search else {
             return Err(EnvFault::NoModel);
@@ -190,6 +199,55 @@ impl Env {
                 Ok(())
             }
             Err(fault) => Err(EnvFault::Edit(fault)),
+        }
+    }
+
+    /// Makes each split at a depth (the root is at 0), with all that is below it, one leaf with the split's multipliers and basis,
+    /// which is judged. No answer is held from then on. Where there is no memory all is as before.
+    pub fn trim(&mut self, depth: u64) -> Result<(), EnvFault>
+        ensures trims { TrimsEnv self.old.search depth self.old result self.new }
+    {
+        let Some(search) = &mut self.search else {
+            return Err(EnvFault::NoModel);
+        };
+        match search.trim(depth) {
+            Ok(()) => {
+                let dropped = mem::replace(&mut self.held, Held::Nothing);
+                drop(dropped);
+                Ok(())
+            }
+            Err(AllocError) => Err(EnvFault::Memory),
+        }
+    }
+
+    /// The text of the search: its model, cuts, points and nodes. `restore` takes it. Where a name of the model can't be told, or a
+    /// list of a node is not in order, it is not answered, but its first fault is.
+    pub fn save(&self) -> Result<Vec<u8>, EnvFault>
+        ensures saves { IsSaveAnswer self.now.search result }
+        ensures writable { IfSome self.now.search (λ S. IsWritable (saved_data S) → IfErr result (λ fault. fault ≡ Warm TextMemory)) }
+    {
+        let Some(search) = &self.search else {
+            return Err(EnvFault::NoModel);
+        };
+        match text_of(self.alloc, search) {
+            Ok(text) => Ok(text),
+            Err(fault) => Err(EnvFault::Warm(fault)),
+        }
+    }
+
+    /// Replaces model and search by those that the text states, and no answer is held. Whatever the text is, the search is sound: cuts
+    /// are derived, points are tested and leaves are judged at the stated model. The memory of the new search is taken before the old
+    /// one goes; after a fault of the text, and where there is no memory, all is as before.
+    pub fn restore(&mut self, text: &[u8]) -> Result<(), EnvFault>
+        ensures restores { RestoresEnv text.now self.old result self.new }
+    {
+        match search_in(self.alloc, text) {
+            Ok(search) => {
+                drop(self.search.replace(search));
+                self.held = Held::Nothing;
+                Ok(())
+            }
+            Err(fault) => Err(EnvFault::Warm(fault)),
         }
     }
 

@@ -1,6 +1,5 @@
 // A search from its beginning to what it shows: from a fresh root, or from the tree and the points that are kept.
-ghost use Rattle.std.specs.Prelude.{◌≡◌, ◌<◌, length, []};
-ghost use Rattle.lp_model.specs.Lawful.{IsLawful};
+ghost use Rattle.std.specs.Prelude.{◌≡◌, []};
 ghost use Rattle.tree_edit.specs.Calls.{IsFresh};
 ghost use Rattle.tree_search.specs.Steps.{HasOpenLeaf, IsWayFor, IsFirstFor, IsRayWay};
 ghost use Rattle.tree_search.specs.declared.searching.Ways.TheVariants.{Own};
@@ -13,8 +12,7 @@ ghost use Rattle.sym_env.specs.Warm.{Went};
 use crate::beginnings::{Beginning, find_beginning};
 use crate::limits::Limits;
 use lp_model::{Answer, Basis, Model, Point};
-use node_solve::first_in_law;
-use ray_phase::{first_law, no_ray_law};
+use ray_phase::{no_ray_law, root_law};
 use search_counting::{cap_law, left_law, roomy_law, too_few_nodes_law};
 use std::alloc::{AllocError, Global};
 use tree_edit::{Search, empty_law};
@@ -41,7 +39,7 @@ fn search_with(
     requires first { IsFirstFor ways.now search.old first.now }
     ensures went { Went limits.now search.old result search.new }
     ensures beside { SaysUnbounded result → IsRayWay ways.now }
-    ensures complete { IsEnoughFrom search.old limits.now.nodes limits.now.pivots → HasEnded result }
+    ensures complete { IsEnoughFrom search.old search.new.cuts limits.now.nodes limits.now.pivots → HasEnded result }
 {
     let _sound = search.points();
     no_ray_law();
@@ -62,11 +60,9 @@ pub(crate) fn search_own(
     requires begins { BeginsWith search.old.model limits.now.pivots Own first.now }
     ensures went { Went limits.now search.old result search.new }
     ensures bounded { ¬ SaysUnbounded result }
-    ensures complete { IsEnoughFrom search.old limits.now.nodes limits.now.pivots → HasEnded result }
+    ensures complete { IsEnoughFrom search.old search.new.cuts limits.now.nodes limits.now.pivots → HasEnded result }
 {
-    first_law();
-    first_in_law();
-    let _lawful = search.model().cols();
+    root_law();
     search_with(alloc, search, &Ways::Own, first, limits)
 }
 
@@ -82,11 +78,9 @@ fn search_beside_ray(
     requires none { search.old.points ≡ [] }
     requires begins { BeginsBeside search.old.model limits.now.pivots costless.now first.now }
     ensures went { Went limits.now search.old result search.new }
-    ensures complete { IsEnoughFrom search.old limits.now.nodes limits.now.pivots → HasEnded result }
+    ensures complete { IsEnoughFrom search.old search.new.cuts limits.now.nodes limits.now.pivots → HasEnded result }
 {
-    first_law();
-    first_in_law();
-    let _lawful = costless.cols();
+    root_law();
     search_with(alloc, search, &Ways::Rays(costless), first, limits)
 }
 
@@ -96,7 +90,7 @@ pub(crate) fn search_without_point(alloc: Global, search: &mut Search, limits: &
     requires none { search.old.points ≡ [] }
     ensures went { Went limits.now search.old result.answer search.new }
     ensures ray { HasRayFor search.old.model limits.now.pivots result.answer result.ray }
-    ensures complete { IsEnoughFrom search.old limits.now.nodes limits.now.pivots → HasEnded result.answer }
+    ensures complete { IsEnoughFrom search.old search.new.cuts limits.now.nodes limits.now.pivots → HasEnded result.answer }
 {
     let _sound = search.points();
     match find_beginning(alloc, search.model(), limits.pivots) {
@@ -127,7 +121,7 @@ fn solve_fresh(alloc: Global, search: &mut Search, limits: &Limits) -> Solution
     requires { IsFresh search.old.model limits.now.tree search.old }
     ensures solved { Solved search.old.model limits.now result.answer search.new }
     ensures ray { HasRayFor search.old.model limits.now.pivots result.answer result.ray }
-    ensures complete { IsEnough search.old.model limits.now → HasEnded result.answer }
+    ensures complete { IsEnough search.old.model search.new.cuts limits.now → HasEnded result.answer }
 {
     let _sound = search.points();
     let _numbered = search.tree().nodes();
@@ -145,7 +139,7 @@ fn solve_fresh(alloc: Global, search: &mut Search, limits: &Limits) -> Solution
 fn solve_again(alloc: Global, search: &mut Search, limits: &Limits) -> Solution
     ensures solves { SolvesModel search.old.model limits.now search.old result.answer search.new }
     ensures ray { HasRayFor search.old.model limits.now.pivots result.answer result.ray }
-    ensures complete { IsEnough search.old.model limits.now → HasEnded result.answer }
+    ensures complete { IsEnough search.old.model search.new.cuts limits.now → HasEnded result.answer }
 {
     search.set_limit(limits.tree);
     match search.restart() {
@@ -161,7 +155,7 @@ fn solve_again(alloc: Global, search: &mut Search, limits: &Limits) -> Solution
 pub(crate) fn solve(alloc: Global, search: &mut Search, limits: &Limits) -> Solution
     ensures solves { SolvesModel search.old.model limits.now search.old result.answer search.new }
     ensures ray { HasRayFor search.old.model limits.now.pivots result.answer result.ray }
-    ensures complete { IsEnough search.old.model limits.now → HasEnded result.answer }
+    ensures complete { IsEnough search.old.model search.new.cuts limits.now → HasEnded result.answer }
     ensures true_answer { IsTrueAnswer search.old.model limits.now result.answer }
 {
     let _lawful = search.model().cols();

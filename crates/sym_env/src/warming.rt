@@ -29,7 +29,7 @@ fn resume_by_ray_phase(alloc: Global, search: &mut Search, limits: &Limits) -> S
     ensures model { search.new.model ≡ search.old.model }
     ensures extends { Extends search.old.tree.root search.new.tree.root }
     ensures ray { HasRayFor search.old.model limits.now.pivots result.answer result.ray }
-    ensures complete { IsEnoughFrom search.old limits.now.nodes limits.now.pivots → HasEnded result.answer }
+    ensures complete { IsEnoughFrom search.old search.new.cuts limits.now.nodes limits.now.pivots → HasEnded result.answer }
 {
     let _sound = search.points();
     match ray(alloc, search.model(), limits.pivots) {
@@ -64,7 +64,7 @@ fn resume_with_point(alloc: Global, search: &mut Search, limits: &Limits) -> Sol
     ensures model { search.new.model ≡ search.old.model }
     ensures extends { Extends search.old.tree.root search.new.tree.root }
     ensures ray { HasRayFor search.old.model limits.now.pivots result.answer result.ray }
-    ensures complete { IsEnoughFrom search.old limits.now.nodes limits.now.pivots → HasEnded result.answer }
+    ensures complete { IsEnoughFrom search.old search.new.cuts limits.now.nodes limits.now.pivots → HasEnded result.answer }
 {
     let _sound = search.points();
     match slack_basis(alloc, search.model()) {
@@ -87,7 +87,7 @@ fn resume(alloc: Global, search: &mut Search, limits: &Limits) -> Solution
     ensures model { search.new.model ≡ search.old.model }
     ensures extends { Extends search.old.tree.root search.new.tree.root }
     ensures ray { HasRayFor search.old.model limits.now.pivots result.answer result.ray }
-    ensures complete { IsEnoughFrom search.old limits.now.nodes limits.now.pivots → HasEnded result.answer }
+    ensures complete { IsEnoughFrom search.old search.new.cuts limits.now.nodes limits.now.pivots → HasEnded result.answer }
 {
     match search.target() {
         Some(_) => resume_with_point(alloc, search, limits),
@@ -101,7 +101,7 @@ fn warm_limited(alloc: Global, search: &mut Search, limits: &Limits) -> Solution
     ensures model { search.new.model ≡ search.old.model }
     ensures extends { Extends search.old.tree.root search.new.tree.root }
     ensures ray { HasRayFor search.old.model limits.now.pivots result.answer result.ray }
-    ensures complete { IsEnoughFrom search.old limits.now.nodes limits.now.pivots → HasEnded result.answer }
+    ensures complete { IsEnoughFrom search.old search.new.cuts limits.now.nodes limits.now.pivots → HasEnded result.answer }
 {
     let _numbered = search.tree().nodes();
     match search.next_leaf() {
@@ -119,7 +119,7 @@ pub(crate) fn warm(alloc: Global, search: &mut Search, limits: &Limits) -> Solut
     ensures model { search.new.model ≡ search.old.model }
     ensures extends { Extends search.old.tree.root search.new.tree.root }
     ensures ray { HasRayFor search.old.model limits.now.pivots result.answer result.ray }
-    ensures complete { IsKeptEnough search.old limits.now → HasEnded result.answer }
+    ensures complete { IsKeptEnough search.old search.new.cuts limits.now → HasEnded result.answer }
     ensures true_answer { IsTrueOfKept search.old limits.now result.answer }
 {
     let _lawful = search.model().cols();

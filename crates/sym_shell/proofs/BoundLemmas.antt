@@ -1,6 +1,6 @@
 -- What the reply to a command of bounds shows.
-use Rattle.std.proofs.Common.{◌≡◌, ◌⊎◌, ℕ, ◌<◌, arith, List, [], ◌∷◌, ◌++◌, refl, subst, sym, ap, ◌∙◌, inl, inr, Option, Some, None, Ok, Err, Result}
-use Rattle.std.specs.Prelude.{IfOk, IfSome, Contains, All, codes, length}
+use Rattle.std.proofs.Common.{◌≡◌, ℕ, arith, List, [], ◌∷◌, ◌++◌, refl, subst, sym, ap, ◌∙◌, inl, inr, Option, Some, None, Ok, Err, Result}
+use Rattle.std.specs.Prelude.{IfOk, IfSome, codes}
 use Rattle.std.specs.Option.{option_map}
 use Rattle.rational.specs.Rational.{ℚ}
 use Rattle.frac128.specs.Range.{Fits}
@@ -8,15 +8,11 @@ use Rattle.frac128.specs.Printing.{printed}
 use Rattle.frac_text.proofs.PrintedReads.{reading_of-printed}
 use Rattle.text_lines.specs.Words.{IsWord}
 use Rattle.lp_model.specs.Edits.{Named}
-use Rattle.lp_model.specs.Formulations.{without_cuts}
-use Rattle.lp_model.specs.Program.{Program, Point, value, least_value, in_least_form}
+use Rattle.lp_model.specs.Program.{Program, value, least_value, in_least_form}
 use Rattle.model_edits.specs.Faults.{IsFirstUnknown}
-use Rattle.tree_edit.specs.Laws.{HasNoOpenLeaf}
-use Rattle.tree_edit.specs.Points.{IsIncumbent}
 use Rattle.tree_edit.specs.Sound.{PlainSearch}
 use Rattle.tree_search.proofs.SearchLemmas.{least_again}
 use Rattle.dual_bounds.specs.Laws.{IsTrueLowerBound, IsTrueUpperBound}
-use Rattle.dual_bounds.specs.TreeBounds.{IsTreeBound, IsPointBound}
 use Rattle.dual_bounds.specs.declared.answers.LowerBound.{LowerBound}
 use Rattle.dual_bounds.specs.declared.answers.LowerBound.TheVariants as lower
 use Rattle.dual_bounds.specs.declared.answers.UpperBound.{UpperBound}
@@ -29,7 +25,7 @@ use Rattle.command_words.specs.declared.words.OptimumBound.TheVariants.{Lower, U
 use Rattle.command_words.specs.declared.words.NewNumbers.{NewNumbers}
 use Rattle.edit_words.specs.EditWords.{EntriesAsk, AreRead, AreMisused, HasNoNumber, names_in}
 use Rattle.reply_texts.specs.Texts.{bound_text, memory_text}
-use Rattle.sym_shell.specs.Bounding.{asked_model, names_for, AreThere, ArePresent, IsFirstTwoSided, HaveOneNumber, ShowsNumber, IsLowerTold, IsUpperTold, TellsBound, AnswersBound, Unknown, TwoSided, Told, Wanting, RepliesToNumbers, RepliesToPairs}
+use Rattle.sym_shell.specs.Bounding.{asked_model, names_for, AreThere, ArePresent, IsFirstTwoSided, HaveOneNumber, ShowsNumber, IsLowerTold, IsUpperTold, TellsBound, Unknown, TwoSided, Told, Wanting, RepliesToNumbers, RepliesToPairs}
 use Rattle.sym_shell.specs.Placing.{name_at, IsUnplaced, IsOnLine, unplaced_text, IsLowerReply, IsUpperReply, IsBestValue, IsBoundReply}
 use Rattle.sym_shell.specs.Shown.{number_in, number_in_word, lines_shown, value_shown}
 use Rattle.sym_shell.specs.declared.placing.Unplaced.{Unplaced}

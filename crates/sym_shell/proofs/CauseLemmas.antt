@@ -17,14 +17,15 @@ use Rattle.model_edits.specs.Faults.{EditBad}
 use Rattle.model_edits.specs.declared.faults.EditFault.{EditFault}
 use Rattle.model_edits.specs.declared.faults.EditFault.TheVariants as edit_fault
 use Rattle.tree_edit.specs.Sound.{PlainSearch}
+use Rattle.search_file.specs.Files.{IsTextOf}
 use Rattle.sym_env.specs.Enough.{IsEnough, IsKeptEnough}
-use Rattle.sym_env.specs.Env.{model_of}
+use Rattle.sym_env.specs.Env.{model_of, pool_in}
 use Rattle.sym_env.specs.Solves.{Solved, SolvesModel}
 use Rattle.sym_env.specs.declared.held.Held.{Held}
 use Rattle.sym_env.specs.declared.held.Held.TheVariants.{Nothing, Finished}
 use Rattle.sym_env.specs.declared.held.Held.TheVariants.{Unbounded as Beside}
 use Rattle.sym_env.specs.declared.limits.Limits.{Limits}
-use Rattle.command_words.specs.Asks.{Asks, Load, Solve, Warm, Edit, Bound, Cert, Write, Quit, Unknown, Misused, NoNumber, asks_of}
+use Rattle.command_words.specs.Asks.{Asks, Load, Solve, Warm, Edit, Trim, Save, Restore, Bound, Cert, Write, Quit, Unknown, Misused, NoNumber, asks_of}
 use Rattle.command_words.specs.declared.words.OptimumBound.{OptimumBound}
 use Rattle.command_words.specs.declared.words.OptimumBound.TheVariants.{Lower, Upper}
 use Rattle.command_words.specs.declared.words.NewNumbers.{NewNumbers}
@@ -37,7 +38,7 @@ use Rattle.sym_shell.specs.Load.{LoadStep, ReadsFile, refusal_text}
 use Rattle.sym_shell.specs.Showing.{Finding, TellsBy, ShowsOptimumBy, ShowsEmptinessBy, ShowsNoEndBy, ShowsNodeStopBy, ShowsTreeStopBy, ShowsPivotStopBy, ShowsWideStopBy, AnswersBy, Optimum, Emptiness, NoEnd, NodeStop, TreeStop, PivotStop, WideStop, Wanting, EndsBy}
 use Rattle.sym_shell.specs.Solve.{limits_of, HasFewNodes, RepliesToSolve, SolveStep}
 use Rattle.sym_shell.specs.Warming.{WentOn, IsTooSmall, RepliesToWarm, WarmStep}
-use Rattle.sym_shell.specs.Editing.{edit_fault_text, AnswersEdit, RepliesToEdit, RepliesToWords, EditStep}
+use Rattle.sym_shell.specs.Editing.{edit_fault_text, AnswersEdit, RepliesToEdit, RepliesToWords}
 use Rattle.sym_shell.specs.Editing as editing
 use Rattle.sym_shell.specs.Bounding.{names_for, HasOneNumber, HaveOneNumber, IsLowerTold, IsUpperTold, TellsBound, AnswersBound, IsAtOptimum, RepliesToNumbers, RepliesToPairs, BoundStep}
 use Rattle.sym_shell.specs.Bounding as bounding
@@ -45,8 +46,10 @@ use Rattle.sym_shell.specs.Shown.{point_shown}
 use Rattle.sym_shell.specs.Certify.{IsHeldText, Writes, Written, TooLong, Failed, Certifies, CertStep}
 use Rattle.sym_shell.specs.Certify as certify
 use Rattle.sym_shell.specs.Writing.{IsWrittenModel, WritesModel, WriteStep}
+use Rattle.sym_shell.specs.Saving.{AnswersTrim, RepliesToTrim, TrimStep, AnswersSave, RepliesToSave, SaveStep, RefusesFile, RestoreStep}
+use Rattle.sym_shell.specs.Saving as saving
 use Rattle.sym_shell.specs.Step.{AnswersTo, Step}
-use Rattle.sym_shell.specs.Kinds.{Kind, Optimal, Infeasible, Unbounded, StoppedNodes, StoppedTree, StoppedPivots, StoppedWide, BoundShown, Done, UnknownCommand, WrongArguments, NoModel, UnknownName, TakenName, WrongNumber, OverLimit, NoBounds, BadSides, NoAnswer, StoreFailed, FileTooLong, FaultyText, WantsMemory, Is, IsError}
+use Rattle.sym_shell.specs.Kinds.{Kind, Optimal, Infeasible, Unbounded, StoppedNodes, StoppedTree, StoppedPivots, StoppedWide, BoundShown, Done, UnknownCommand, WrongArguments, NoModel, UnknownName, TakenName, WrongNumber, OverLimit, NoBounds, BadSides, NoAnswer, StoreFailed, FileTooLong, FaultyText, FaultySearch, WantsMemory, Is, IsError}
 use Rattle.sym_shell.specs.Causes.{OfSearch, Searched, BoundRead, SaysEdit, SaysNumbers, NeedsModel, CauseOf, HasCauses}
 use Rattle.sym_shell.specs.declared.reading.Refusal.{Refusal}
 use Rattle.sym_shell.specs.declared.reading.Refusal.TheVariants as refusal
@@ -97,7 +100,7 @@ module _ (old : ShellState) (words : List (List ℕ)) (reply : List ℕ) (new : 
   shown_kind Found Left Enough Small M l (Wanting s) = (WantsMemory, ((codes "memory\n", s.told), λ e. e))
 
   -- what a search shows has its cause, by the command that asked for it
-  shows_cause : (Found : Finding) (Left : PlainSearch → Type 0) (Enough Small : Type 0) (M : Program) (l : Limits) → ((P : OfSearch) → P Found Enough Small M l → Searched old words P) → AnswersBy Found Left Enough Small M l reply new.env → HasCause old words reply new
+  shows_cause : (Found : Finding) (Left : PlainSearch → Type 0) (Enough Small : Type 0) (M : Program) (l : Limits) → ((P : OfSearch) → P Found Enough Small M l → Searched old words new P) → AnswersBy Found Left Enough Small M l reply new.env → HasCause old words reply new
   unfolding shown_kind
   shows_cause Found Left Enough Small M l asked (Optimum s) = record { kind = Optimal; is = (shown_kind Found Left Enough Small M l (Optimum s)).1.0; cause = asked (λ F E T N k. ShowsOptimumBy F N k reply new.env) s }
   shows_cause Found Left Enough Small M l asked (Emptiness s) = record { kind = Infeasible; is = (shown_kind Found Left Enough Small M l (Emptiness s)).1.0; cause = asked (λ F E T N k. ShowsEmptinessBy F N k reply new.env) s }
@@ -113,7 +116,7 @@ module _ (old : ShellState) (words : List (List ℕ)) (reply : List ℕ) (new : 
     where
       by : (search : Option PlainSearch) → old.env.search ≡ search → RepliesToSolve old.env search (limits_of nodes pivots) reply new.env → HasCause old words reply new
       by (Some S) present s =
-          shows_cause (Solved S.model (limits_of nodes pivots)) (SolvesModel S.model (limits_of nodes pivots) S Memory) (IsEnough S.model (limits_of nodes pivots)) (HasFewNodes S.model (limits_of nodes pivots)) S.model (limits_of nodes pivots)
+          shows_cause (Solved S.model (limits_of nodes pivots)) (SolvesModel S.model (limits_of nodes pivots) S Memory) (IsEnough S.model (pool_in new.env.search) (limits_of nodes pivots)) (HasFewNodes S.model (limits_of nodes pivots)) S.model (limits_of nodes pivots)
           (λ P is. inl (record { nodes = nodes; pivots = pivots; search = S; asked = asked; present = present; is = is })) s
       by None none s = elim s.0 [
         | inl e ↦ record { kind = NoModel; is = (codes "no model\n", e); cause = (subst NeedsModel (sym asked) tt, e, none) }
@@ -125,7 +128,7 @@ module _ (old : ShellState) (words : List (List ℕ)) (reply : List ℕ) (new : 
     where
       by : (search : Option PlainSearch) → old.env.search ≡ search → RepliesToWarm old.env search (limits_of nodes pivots) reply new.env → HasCause old words reply new
       by (Some S) present s =
-          shows_cause (WentOn S (limits_of nodes pivots)) (WentOn S (limits_of nodes pivots) Memory) (IsKeptEnough S (limits_of nodes pivots)) (IsTooSmall S (limits_of nodes pivots)) S.model (limits_of nodes pivots)
+          shows_cause (WentOn S (limits_of nodes pivots)) (WentOn S (limits_of nodes pivots) Memory) (IsKeptEnough S (pool_in new.env.search) (limits_of nodes pivots)) (IsTooSmall S (limits_of nodes pivots)) S.model (limits_of nodes pivots)
           (λ P is. inr (record { nodes = nodes; pivots = pivots; search = S; asked = asked; present = present; is = is })) s.0
       by None none s = elim s.0 [
         | inl e ↦ record { kind = NoModel; is = (codes "no model\n", e); cause = (subst NeedsModel (sym asked) tt, e, none) }
@@ -298,12 +301,12 @@ module _ (old : ShellState) (words : List (List ℕ)) (reply : List ℕ) (new : 
   model_cause file M asked present (TooLong text is long kept told) = record {
     kind = FileTooLong;
     is = (codes "file too long\n", told);
-    cause = inr (inr (record { file = file; model = M; asked = asked; present = present; is = (told, (text, (is, long))) }));
+    cause = inr (inr (inl (record { file = file; model = M; asked = asked; present = present; is = (told, (text, (is, long))) })));
   }
   model_cause file M asked present (Failed text is short rose kept told) = record {
     kind = StoreFailed;
     is = (codes "store\n", told);
-    cause = inr (inr (record { file = file; model = M; asked = asked; present = present; is = (told, (text, (is, short, rose))) }));
+    cause = inr (inr (inl (record { file = file; model = M; asked = asked; present = present; is = (told, (text, (is, short, rose))) })));
   }
   model_cause file M asked present (certify.Wanting kept told) = wants told
 
@@ -322,15 +325,87 @@ module _ (old : ShellState) (words : List (List ℕ)) (reply : List ℕ) (new : 
       ]
       by (Some M) present w = model_cause file M asked present w
 
+  -- ---- the search that is kept
+
+  trim_cause : (depth : ℕ) → asks_of words ≡ Trim depth → TrimStep old depth reply new → HasCause old words reply new
+  trim_cause depth asked h = by old.env.search refl h.answer
+    where
+      shown : (S : PlainSearch) → old.env.search ≡ Some S → AnswersTrim S depth old.env reply new.env → HasCause old words reply new
+      shown S present (saving.Trimmed told trims) = record { kind = Done; is = ([], told); cause = inr (inr (inr (inr (inl (record { depth = depth; search = S; asked = asked; present = present; is = trims }))))) }
+      shown S present (saving.Untrimmed told kept) = wants told
+
+      by : (search : Option PlainSearch) → old.env.search ≡ search → RepliesToTrim search depth old.env reply new.env → HasCause old words reply new
+      by None none h = elim h.answer [
+        | inl told ↦ record { kind = NoModel; is = (codes "no model\n", told); cause = (subst NeedsModel (sym asked) tt, told, none) }
+        | inr told ↦ wants told
+      ]
+      by (Some S) present h = shown S present h
+
+  filed_cause : (file : List ℕ) (S : PlainSearch) → asks_of words ≡ Save file → old.env.search ≡ Some S → Writes (IsTextOf S) file old.files old.faults reply new.files new.faults → HasCause old words reply new
+  filed_cause file S asked present (Written text is short sets told) = record {
+    kind = Done;
+    is = ([], told);
+    cause = inr (inr (inr (inr (inr (inl (record { file = file; search = S; asked = asked; present = present; is = (text, (is, short, sets)) }))))));
+  }
+  filed_cause file S asked present (TooLong text is long kept told) = record {
+    kind = FileTooLong;
+    is = (codes "file too long\n", told);
+    cause = inr (inr (inr (inl (record { file = file; search = S; asked = asked; present = present; is = (told, (text, (is, long))) }))));
+  }
+  filed_cause file S asked present (Failed text is short rose kept told) = record {
+    kind = StoreFailed;
+    is = (codes "store\n", told);
+    cause = inr (inr (inr (inl (record { file = file; search = S; asked = asked; present = present; is = (told, (text, (is, short, rose))) }))));
+  }
+  filed_cause file S asked present (certify.Wanting kept told) = wants told
+
+  save_cause : (file : List ℕ) → asks_of words ≡ Save file → SaveStep old file reply new → HasCause old words reply new
+  save_cause file asked h = by old.env.search refl h.answer
+    where
+      shown : (S : PlainSearch) → old.env.search ≡ Some S → AnswersSave S old file reply new → HasCause old words reply new
+      shown S present (saving.Filed writes) = filed_cause file S asked present writes
+      shown S present (saving.Untold place code bad told kept) = record {
+        kind = FaultySearch;
+        is = (codes "warm place " ++ place ++ codes " code " ++ decimal code ++ codes "\n", told);
+        cause = (place, (code, (told, inr (record { file = file; search = S; asked = asked; present = present; is = bad }))));
+      }
+
+      by : (search : Option PlainSearch) → old.env.search ≡ search → RepliesToSave search old file reply new → HasCause old words reply new
+      by None none t = elim t.told [
+        | inl told ↦ record { kind = NoModel; is = (codes "no model\n", told); cause = (subst NeedsModel (sym asked) tt, told, none) }
+        | inr told ↦ wants told
+      ]
+      by (Some S) present h = shown S present h
+
+  restore_cause : (file : List ℕ) → asks_of words ≡ Restore file → RestoreStep old file reply new → HasCause old words reply new
+  restore_cause file asked h =
+      elim h.answer [
+        | inl restores ↦ record { kind = Done; is = ([], restores.ok); cause = inr (inr (inr (inr (inr (inr (inl (record { file = file; asked = asked; is = restores }))))))) }
+        | inr refused ↦ by refused.1
+      ]
+    where
+      by : RefusesFile old file reply new → HasCause old words reply new
+      by (saving.NoFile cause told) = record { kind = StoreFailed; is = (codes "store\n", told); cause = inr (inr (inr (inr (record { file = file; asked = asked; is = (told, cause) })))) }
+      by (saving.LongFile cause told) = record { kind = FileTooLong; is = (codes "file too long\n", told); cause = inr (inr (inr (inr (record { file = file; asked = asked; is = (told, cause) })))) }
+      by (saving.NoSearch place code bad told) = record {
+        kind = FaultySearch;
+        is = (codes "warm place " ++ place ++ codes " code " ++ decimal code ++ codes "\n", told);
+        cause = (place, (code, (told, inl (record { file = file; asked = asked; is = bad }))));
+      }
+      by (saving.Unread told) = wants told
+
   asked_cause : (a : Asks) → asks_of words ≡ a → AnswersTo a old reply new → HasCause old words reply new
   asked_cause (Load file intupper) asked h = load_cause file intupper asked h
   asked_cause (Solve nodes pivots) asked h = solve_cause nodes pivots asked h
   asked_cause (Warm nodes pivots) asked h = warm_cause nodes pivots asked h
   asked_cause (Edit behind) asked h = words_cause behind asked (edit_asks behind) refl h.answer
+  asked_cause (Trim depth) asked h = trim_cause depth asked h
+  asked_cause (Save file) asked h = save_cause file asked h
+  asked_cause (Restore file) asked h = restore_cause file asked h
   asked_cause (Bound which numbers behind) asked h = pairs_cause which numbers behind asked (pairs_asks behind) refl h.answer
   asked_cause (Cert file) asked h = cert_cause file asked h
   asked_cause (Write file) asked h = write_cause file asked h
-  asked_cause Quit asked h = record { kind = Done; is = ([], h.answer); cause = inr (inr (inr (inr (asked, h.unchanged)))) }
+  asked_cause Quit asked h = record { kind = Done; is = ([], h.answer); cause = inr (inr (inr (inr (inr (inr (inr (asked, h.unchanged))))))) }
   asked_cause (Unknown word) asked h = elim h.answer [
     | inl e ↦ record { kind = UnknownCommand; is = (codes "unknown command " ++ word ++ codes "\n", e); cause = (word, record { asks = asked; told = e }) }
     | inr e ↦ wants e
@@ -355,12 +430,12 @@ module _ (old : ShellState) (words : List (List ℕ)) (reply : List ℕ) (new : 
   finishes Found Left Enough Small M l enough (WideStop s) = absurd (s.stop.short enough)
   finishes Found Left Enough Small M l enough (Wanting s) = inr (inr (inr s.told))
 
-  completes : (S : PlainSearch) (nodes pivots : ℕ) → AnswersTo (asks_of words) old reply new → asks_of words ≡ Solve nodes pivots → old.env.search ≡ Some S → IsEnough S.model (limits_of nodes pivots)
+  completes : (S : PlainSearch) (nodes pivots : ℕ) → AnswersTo (asks_of words) old reply new → asks_of words ≡ Solve nodes pivots → old.env.search ≡ Some S → IsEnough S.model (pool_in new.env.search) (limits_of nodes pivots)
       → EndsBy (Solved S.model (limits_of nodes pivots)) S.model (limits_of nodes pivots) reply new.env
   completes S nodes pivots h asked present enough =
       let l : Limits = limits_of nodes pivots in
       let step : SolveStep old l reply new = subst (λ a. AnswersTo a old reply new) asked h in
-      finishes (Solved S.model l) (SolvesModel S.model l S Memory) (IsEnough S.model l) (HasFewNodes S.model l) S.model l enough (subst (λ m. RepliesToSolve old.env m l reply new.env) present step.answer)
+      finishes (Solved S.model l) (SolvesModel S.model l S Memory) (IsEnough S.model (pool_in new.env.search) l) (HasFewNodes S.model l) S.model l enough (subst (λ m. RepliesToSolve old.env m l reply new.env) present step.answer)
 
   warmed : (S : PlainSearch) (nodes pivots : ℕ) → AnswersTo (asks_of words) old reply new → asks_of words ≡ Warm nodes pivots → old.env.search ≡ Some S → RepliesToWarm old.env (Some S) (limits_of nodes pivots) reply new.env
   warmed S nodes pivots h asked present =
@@ -368,11 +443,11 @@ module _ (old : ShellState) (words : List (List ℕ)) (reply : List ℕ) (new : 
       let step : WarmStep old l reply new = subst (λ a. AnswersTo a old reply new) asked h in
       subst (λ m. RepliesToWarm old.env m l reply new.env) present step.answer
 
-  completes_warm : (S : PlainSearch) (nodes pivots : ℕ) → AnswersTo (asks_of words) old reply new → asks_of words ≡ Warm nodes pivots → old.env.search ≡ Some S → IsKeptEnough S (limits_of nodes pivots)
+  completes_warm : (S : PlainSearch) (nodes pivots : ℕ) → AnswersTo (asks_of words) old reply new → asks_of words ≡ Warm nodes pivots → old.env.search ≡ Some S → IsKeptEnough S (pool_in new.env.search) (limits_of nodes pivots)
       → EndsBy (WentOn S (limits_of nodes pivots)) S.model (limits_of nodes pivots) reply new.env
   completes_warm S nodes pivots h asked present enough =
       let l : Limits = limits_of nodes pivots in
-      finishes (WentOn S l) (WentOn S l Memory) (IsKeptEnough S l) (IsTooSmall S l) S.model l enough (warmed S nodes pivots h asked present).0
+      finishes (WentOn S l) (WentOn S l Memory) (IsKeptEnough S (pool_in new.env.search) l) (IsTooSmall S l) S.model l enough (warmed S nodes pivots h asked present).0
 
   bound_step : (which : OptimumBound) (numbers : NewNumbers) (behind : List (List ℕ)) → AnswersTo (asks_of words) old reply new → asks_of words ≡ Bound which numbers behind → BoundStep old which numbers (pairs_asks behind) reply new
   bound_step which numbers behind h asked = subst (λ a. AnswersTo a old reply new) asked h
@@ -411,13 +486,13 @@ module _ (old : ShellState) (words : List (List ℕ)) (reply : List ℕ) (new : 
   solve_keeps : (l : Limits) (search : Option PlainSearch) → old.env.search ≡ search → RepliesToSolve old.env search l reply new.env → model_of new.env ≡ model_of old.env
   solve_keeps l None none h = ap model_of h.1
   solve_keeps l (Some S) present h =
-      shown_model (Solved S.model l) (SolvesModel S.model l S Memory) (IsEnough S.model l) (HasFewNodes S.model l) S.model l (λ a T s. s.model) (λ T s. solves-model l S Memory T s) h
+      shown_model (Solved S.model l) (SolvesModel S.model l S Memory) (IsEnough S.model (pool_in new.env.search) l) (HasFewNodes S.model l) S.model l (λ a T s. s.model) (λ T s. solves-model l S Memory T s) h
       ∙ sym (ap (option_map (λ (S : PlainSearch). S.model)) present)
 
   warm_keeps : (l : Limits) (search : Option PlainSearch) → old.env.search ≡ search → RepliesToWarm old.env search l reply new.env → model_of new.env ≡ model_of old.env
   warm_keeps l None none h = ap model_of h.1
   warm_keeps l (Some S) present h =
-      shown_model (WentOn S l) (WentOn S l Memory) (IsKeptEnough S l) (IsTooSmall S l) S.model l (λ a T s. s.model) (λ T s. s.model) h.0
+      shown_model (WentOn S l) (WentOn S l Memory) (IsKeptEnough S (pool_in new.env.search) l) (IsTooSmall S l) S.model l (λ a T s. s.model) (λ T s. s.model) h.0
       ∙ sym (ap (option_map (λ (S : PlainSearch). S.model)) present)
 
   -- an edit that was not made leaves the environment
@@ -432,11 +507,20 @@ module _ (old : ShellState) (words : List (List ℕ)) (reply : List ℕ) (new : 
   words_keep says.Misused h ok kept = kept h.unchanged
   words_keep (says.NoNumber word) h ok kept = kept h.unchanged
 
+  -- a trim that was not made leaves the environment
+  trim_keeps : {P : Type 0} (depth : ℕ) (search : Option PlainSearch) → RepliesToTrim search depth old.env reply new.env → (reply ≡ ok_text → P) → (new.env ≡ old.env → P) → P
+  trim_keeps depth None h ok kept = kept h.unchanged
+  trim_keeps depth (Some S) (saving.Trimmed told trims) ok kept = ok told
+  trim_keeps depth (Some S) (saving.Untrimmed told same) ok kept = kept same
+
   keeps : (a : Asks) → AnswersTo a old reply new → reply ≢ ok_text → model_of new.env ≡ model_of old.env
   keeps (Load file intupper) h other = elim h.answer [ inl loads ↦ absurd (other loads.ok) | inr refused ↦ ap model_of refused.kept ]
   keeps (Solve nodes pivots) h other = solve_keeps (limits_of nodes pivots) old.env.search refl h.answer
   keeps (Warm nodes pivots) h other = warm_keeps (limits_of nodes pivots) old.env.search refl h.answer
   keeps (Edit behind) h other = words_keep (edit_asks behind) h.answer (λ done. absurd (other done)) (λ same. ap model_of same)
+  keeps (Trim depth) h other = trim_keeps depth old.env.search h.answer (λ done. absurd (other done)) (λ same. ap model_of same)
+  keeps (Save file) h other = ap model_of h.env
+  keeps (Restore file) h other = elim h.answer [ inl restores ↦ absurd (other restores.ok) | inr refused ↦ ap model_of refused.0 ]
   keeps (Bound which numbers behind) h other = ap (λ (s : ShellState). model_of s.env) h.unchanged
   keeps (Cert file) h other = ap model_of h.env
   keeps (Write file) h other = ap model_of h.env
@@ -452,13 +536,13 @@ module _ (old : ShellState) (words : List (List ℕ)) (reply : List ℕ) (new : 
   solve_holds : (l : Limits) (k : Kind) → IsError k → Is k reply → (search : Option PlainSearch) → RepliesToSolve old.env search l reply new.env → new.env ≡ old.env
   solve_holds l k error is None h = h.1
   solve_holds l k error is (Some S) h =
-      let shown = shown_kind (Solved S.model l) (SolvesModel S.model l S Memory) (IsEnough S.model l) (HasFewNodes S.model l) S.model l h in
+      let shown = shown_kind (Solved S.model l) (SolvesModel S.model l S Memory) (IsEnough S.model (pool_in new.env.search) l) (HasFewNodes S.model l) S.model l h in
       not_error k shown.0 error is shown.1.0 shown.1.1
 
   warm_holds : (l : Limits) (k : Kind) → IsError k → Is k reply → (search : Option PlainSearch) → RepliesToWarm old.env search l reply new.env → new.env ≡ old.env
   warm_holds l k error is None h = h.1
   warm_holds l k error is (Some S) h =
-      let shown = shown_kind (WentOn S l) (WentOn S l Memory) (IsKeptEnough S l) (IsTooSmall S l) S.model l h.0 in
+      let shown = shown_kind (WentOn S l) (WentOn S l Memory) (IsKeptEnough S (pool_in new.env.search) l) (IsTooSmall S l) S.model l h.0 in
       not_error k shown.0 error is shown.1.0 shown.1.1
 
   holds : (a : Asks) → AnswersTo a old reply new → (k : Kind) → IsError k → Is k reply → new.env ≡ old.env
@@ -466,6 +550,9 @@ module _ (old : ShellState) (words : List (List ℕ)) (reply : List ℕ) (new : 
   holds (Solve nodes pivots) h k error is = solve_holds (limits_of nodes pivots) k error is old.env.search h.answer
   holds (Warm nodes pivots) h k error is = warm_holds (limits_of nodes pivots) k error is old.env.search h.answer
   holds (Edit behind) h k error is = words_keep (edit_asks behind) h.answer (λ done. not_error k Done error is ([], done) (λ e. e)) (λ same. same)
+  holds (Trim depth) h k error is = trim_keeps depth old.env.search h.answer (λ done. not_error k Done error is ([], done) (λ e. e)) (λ same. same)
+  holds (Save file) h k error is = h.env
+  holds (Restore file) h k error is = elim h.answer [ inl restores ↦ not_error k Done error is ([], restores.ok) (λ e. e) | inr refused ↦ refused.0 ]
   holds (Bound which numbers behind) h k error is = ap (λ (s : ShellState). s.env) h.unchanged
   holds (Cert file) h k error is = h.env
   holds (Write file) h k error is = h.env
@@ -482,6 +569,9 @@ module _ (old : ShellState) (words : List (List ℕ)) (reply : List ℕ) (new : 
   waits (Solve nodes pivots) h wanting other another = absurd (other nodes pivots refl)
   waits (Warm nodes pivots) h wanting other another = absurd (another nodes pivots refl)
   waits (Edit behind) h wanting other another = words_keep (edit_asks behind) h.answer (λ done. not_done wanting done) (λ same. same)
+  waits (Trim depth) h wanting other another = trim_keeps depth old.env.search h.answer (λ done. not_done wanting done) (λ same. same)
+  waits (Save file) h wanting other another = h.env
+  waits (Restore file) h wanting other another = elim h.answer [ inl restores ↦ not_done wanting restores.ok | inr refused ↦ refused.0 ]
   waits (Bound which numbers behind) h wanting other another = ap (λ (s : ShellState). s.env) h.unchanged
   waits (Cert file) h wanting other another = h.env
   waits (Write file) h wanting other another = h.env

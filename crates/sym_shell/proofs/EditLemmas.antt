@@ -30,7 +30,8 @@ use Rattle.sym_shell.specs.State.{HasWords}
 use Rattle.edit_words.specs.EditWords.{EditAsks, Edits}
 use Rattle.edit_words.specs.EditWords as says
 use Rattle.sym_shell.specs.Unchanged.{IsRefused}
-use Rattle.sym_shell.specs.Editing.{edit_fault_text, refused_edit_text, AnswersEdit, Edited, Faulty, Wanting, RepliesToEdit, RepliesToWords}
+use Rattle.sym_shell.specs.EnvFaults.{env_fault_text}
+use Rattle.sym_shell.specs.Editing.{edit_fault_text, AnswersEdit, Edited, Faulty, Wanting, RepliesToEdit, RepliesToWords}
 
 -- ---- a new name is a word
 
@@ -121,15 +122,15 @@ module _ (old new : PlainEnv) (e : Edit) (r : Result (Unit {0}) EnvFault) (edits
       by (Some S) h = Edited told h
 
   -- one that was refused
-  pub refused : (f : EnvFault) (reply : List ℕ) → r ≡ Err f → reply ≡ refused_edit_text f → RepliesToEdit old.search e old reply new
+  pub refused : (f : EnvFault) (reply : List ℕ) → r ≡ Err f → reply ≡ env_fault_text f → RepliesToEdit old.search e old reply new
   refused f reply is told = by old.search (subst (λ o. EditsEnv old.search e old o new) is edits)
     where
       caused : (S : PlainSearch) (bad : EditFault) → f ≡ fault.Edit bad → new ≡ old → IsEditFault S.model e bad → AnswersEdit S e old reply new
-      caused S bad same kept (inl memory) = Wanting (told ∙ ap refused_edit_text same ∙ ap edit_fault_text memory) kept
-      caused S bad same kept (inr wrong) = Faulty bad wrong (told ∙ ap refused_edit_text same) kept
+      caused S bad same kept (inl memory) = Wanting (told ∙ ap env_fault_text same ∙ ap edit_fault_text memory) kept
+      caused S bad same kept (inr wrong) = Faulty bad wrong (told ∙ ap env_fault_text same) kept
 
       none-there : f ≡ fault.NoModel → new ≡ old → IsRefused old no_model_text reply new
-      none-there none kept = record { unchanged = kept; answer = inl (told ∙ ap refused_edit_text none) }
+      none-there none kept = record { unchanged = kept; answer = inl (told ∙ ap env_fault_text none) }
 
       by : (search : Option PlainSearch) → EditsEnv search e old (Err f) new → RepliesToEdit search e old reply new
       by None h = let none : Err f ≡ Err fault.NoModel = h.0 in none-there (cc) h.1

@@ -1,7 +1,7 @@
 -- A reply is of one kind: its first bytes tell which.
 use Rattle.std.proofs.Common.{◌≡◌, ℕ, ◌+◌, ◌*◌, List, ◌++◌, get_or, refl, sym, ap, ◌∙◌, if◌then◌else◌}
 use Rattle.std.specs.Prelude.{nat_eq}
-use Rattle.sym_shell.specs.Kinds.{Kind, Optimal, Infeasible, Unbounded, StoppedNodes, StoppedTree, StoppedPivots, StoppedWide, BoundShown, Done, UnknownCommand, WrongArguments, NoModel, UnknownName, TakenName, WrongNumber, OverLimit, NoBounds, BadSides, NoAnswer, StoreFailed, FileTooLong, FaultyText, WantsMemory, front_of, Is}
+use Rattle.sym_shell.specs.Kinds.{Kind, Optimal, Infeasible, Unbounded, StoppedNodes, StoppedTree, StoppedPivots, StoppedWide, BoundShown, Done, UnknownCommand, WrongArguments, NoModel, UnknownName, TakenName, WrongNumber, OverLimit, NoBounds, BadSides, NoAnswer, StoreFailed, FileTooLong, FaultyText, FaultySearch, WantsMemory, front_of, Is}
 
 -- by the two digits of an error
 error_kind : ℕ → Kind
@@ -19,6 +19,7 @@ error_kind n =
     else if nat_eq n 548 then StoreFailed
     else if nat_eq n 549 then FileTooLong
     else if nat_eq n 558 then FaultyText
+    else if nat_eq n 559 then FaultySearch
     else WantsMemory
 
 stop_kind : ℕ → Kind
@@ -61,6 +62,7 @@ kind_of-front NoAnswer rest = refl
 kind_of-front StoreFailed rest = refl
 kind_of-front FileTooLong rest = refl
 kind_of-front FaultyText rest = refl
+kind_of-front FaultySearch rest = refl
 kind_of-front WantsMemory rest = refl
 
 pub one_kind : (k l : Kind) (reply : List ℕ) → Is k reply → Is l reply → k ≡ l

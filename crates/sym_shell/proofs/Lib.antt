@@ -11,3 +11,4 @@ pub mod CheckLemmas
 pub mod RunLemmas
 pub mod ShownWords
 pub mod ShownBack
+pub mod SavingLemmas

@@ -14,7 +14,7 @@ use Rattle.search_counting.specs.Work.{cap_of}
 use Rattle.tree_edit.specs.Points.{IsIncumbent}
 use Rattle.tree_edit.specs.Sound.{PlainSearch}
 use Rattle.sym_env.specs.Enough.{IsEnough, IsKeptEnough}
-use Rattle.sym_env.specs.Env.{PlainEnv, model_of}
+use Rattle.sym_env.specs.Env.{PlainEnv, model_of, pool_in}
 use Rattle.sym_env.specs.Solves.{Solved, SolvesModel, HasRayFor, held_by, IsOldest, SolvesIn}
 use Rattle.sym_env.specs.Solves as solving
 use Rattle.sym_env.specs.Truth.{IsCount, IsTrueBy, IsTrueAnswer, IsTrueOfKept, HasEnded}
@@ -221,14 +221,14 @@ few-nodes : (nodes pivots : ℕ) (l : Limits) → l ≡ limits_of nodes pivots �
 few-nodes nodes pivots l is = subst (λ (k : Limits). k.tree ≤ 2 ^ 63) (sym is) (omega arith)
 
 module _ (nodes pivots : ℕ) (l : Limits) (is : l ≡ limits_of nodes pivots) (old new : PlainEnv) (r : Result Answer EnvFault) (solves : solving.SolvesEnv old.search l old r new) (words : HasWords old)
-    (holds : IfOk r (λ a. IfSome old.search (λ S. IsTrueAnswer S.model l a))) (complete : IfOk r (λ a. IfSome old.search (λ S. IsEnough S.model l → HasEnded a))) where
+    (holds : IfOk r (λ a. IfSome old.search (λ S. IsTrueAnswer S.model l a))) (complete : IfOk r (λ a. IfSome old.search (λ S. IsEnough S.model (pool_in new.search) l → HasEnded a))) where
   pub shows : (answer : Answer) (M : Program) → r ≡ Ok answer → model_of new ≡ Some M → IsLawful M → AnswerHasRoom answer → RepliesToSolve old old.search (limits_of nodes pivots) (answer_text M answer) new
   shows answer M ok present lawful room =
       subst (λ k. RepliesToSolve old old.search k (answer_text M answer) new) is
       (by old.search refl (subst (λ o. solving.SolvesEnv old.search l old o new) ok solves) (subst (λ o. IfOk o (λ a. IfSome old.search (λ S. IsTrueAnswer S.model l a))) ok holds)
-      (subst (λ o. IfOk o (λ a. IfSome old.search (λ S. IsEnough S.model l → HasEnded a))) ok complete))
+      (subst (λ o. IfOk o (λ a. IfSome old.search (λ S. IsEnough S.model (pool_in new.search) l → HasEnded a))) ok complete))
     where
-      by : (search : Option PlainSearch) → old.search ≡ search → solving.SolvesEnv search l old (Ok answer) new → IfSome search (λ S. IsTrueAnswer S.model l answer) → IfSome search (λ S. IsEnough S.model l → HasEnded answer)
+      by : (search : Option PlainSearch) → old.search ≡ search → solving.SolvesEnv search l old (Ok answer) new → IfSome search (λ S. IsTrueAnswer S.model l answer) → IfSome search (λ S. IsEnough S.model (pool_in new.search) l → HasEnded answer)
           → RepliesToSolve old search l (answer_text M answer) new
       by None none h t e = let clash = h.0 in absurd (cc)
       by (Some S) some h t e =
@@ -237,7 +237,7 @@ module _ (nodes pivots : ℕ) (l : Limits) (is : l ≡ limits_of nodes pivots) (
           let same : S.model ≡ M = cc in
           let plain : HasWordNames S.model = plain-names new S.model stays (model-words old new S some stays words) in
           subst (λ N. AnswersSolve S l (answer_text N answer) new) same
-          (answers (Solved S.model l) (SolvesModel S.model l S Memory) (IsEnough S.model l) (HasFewNodes S.model l) S.model l (subst IsLawful (sym same) lawful) plain answer new room (true-small S.model l (few-nodes nodes pivots l is) answer t) e has)
+          (answers (Solved S.model l) (SolvesModel S.model l S Memory) (IsEnough S.model (pool_in new.search) l) (HasFewNodes S.model l) S.model l (subst IsLawful (sym same) lawful) plain answer new room (true-small S.model l (few-nodes nodes pivots l is) answer t) e has)
 
   pub tells : {E : Type 0} (answer : Answer) (M : Program) → r ≡ Ok answer → model_of new ≡ Some M → IsLawful M → AnswerHasRoom answer → (written : Result (Unit {0}) E) (before after : List ℕ)
       → before ≡ [] → IfOk written (λ _. after ≡ before ++ answer_text M answer) → OnOk written (RepliesToSolve old old.search (limits_of nodes pivots) after new)
@@ -252,14 +252,14 @@ module _ (nodes pivots : ℕ) (l : Limits) (is : l ≡ limits_of nodes pivots) (
       by (Some S) h = absurd h
 
 module _ (nodes pivots : ℕ) (l : Limits) (is : l ≡ limits_of nodes pivots) (old new : PlainEnv) (r : Result Answer EnvFault) (warms : WarmsEnv old.search l old r new) (words : HasWords old)
-    (holds : IfOk r (λ a. IfSome old.search (λ S. IsTrueOfKept S l a))) (complete : IfOk r (λ a. IfSome old.search (λ S. IsKeptEnough S l → HasEnded a))) where
+    (holds : IfOk r (λ a. IfSome old.search (λ S. IsTrueOfKept S l a))) (complete : IfOk r (λ a. IfSome old.search (λ S. IsKeptEnough S (pool_in new.search) l → HasEnded a))) where
   pub warm-shows : (answer : Answer) (M : Program) → r ≡ Ok answer → model_of new ≡ Some M → IsLawful M → AnswerHasRoom answer → RepliesToWarm old old.search (limits_of nodes pivots) (answer_text M answer) new
   warm-shows answer M ok present lawful room =
       subst (λ k. RepliesToWarm old old.search k (answer_text M answer) new) is
       (by old.search refl (subst (λ o. WarmsEnv old.search l old o new) ok warms) (subst (λ o. IfOk o (λ a. IfSome old.search (λ S. IsTrueOfKept S l a))) ok holds)
-      (subst (λ o. IfOk o (λ a. IfSome old.search (λ S. IsKeptEnough S l → HasEnded a))) ok complete))
+      (subst (λ o. IfOk o (λ a. IfSome old.search (λ S. IsKeptEnough S (pool_in new.search) l → HasEnded a))) ok complete))
     where
-      by : (search : Option PlainSearch) → old.search ≡ search → WarmsEnv search l old (Ok answer) new → IfSome search (λ S. IsTrueOfKept S l answer) → IfSome search (λ S. IsKeptEnough S l → HasEnded answer)
+      by : (search : Option PlainSearch) → old.search ≡ search → WarmsEnv search l old (Ok answer) new → IfSome search (λ S. IsTrueOfKept S l answer) → IfSome search (λ S. IsKeptEnough S (pool_in new.search) l → HasEnded answer)
           → RepliesToWarm old search l (answer_text M answer) new
       by None none h t e = let clash = h.0 in absurd (cc)
       by (Some S) some h t e =
@@ -269,7 +269,7 @@ module _ (nodes pivots : ℕ) (l : Limits) (is : l ≡ limits_of nodes pivots) (
           let plain : HasWordNames S.model = plain-names new S.model stays (model-words old new S some stays words) in
           let again : TellsAgain S (answer_text S.model answer) = λ none. (answer, ((h.again none).0, refl)) in
           subst (λ N. AnswersWarm S l (answer_text N answer) new × TellsAgain S (answer_text N answer)) same
-          (answers (WentOn S l) (WentOn S l Memory) (IsKeptEnough S l) (IsTooSmall S l) S.model l (subst IsLawful (sym same) lawful) plain answer new room t e has, again)
+          (answers (WentOn S l) (WentOn S l Memory) (IsKeptEnough S (pool_in new.search) l) (IsTooSmall S l) S.model l (subst IsLawful (sym same) lawful) plain answer new room t e has, again)
 
   pub warm-tells : {E : Type 0} (answer : Answer) (M : Program) → r ≡ Ok answer → model_of new ≡ Some M → IsLawful M → AnswerHasRoom answer → (written : Result (Unit {0}) E) (before after : List ℕ)
       → before ≡ [] → IfOk written (λ _. after ≡ before ++ answer_text M answer) → OnOk written (RepliesToWarm old old.search (limits_of nodes pivots) after new)

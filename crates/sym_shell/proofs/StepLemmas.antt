@@ -17,6 +17,7 @@ use Rattle.sym_shell.specs.Load.{HasText, LoadStep}
 use Rattle.sym_shell.specs.Solve.{limits_of, RepliesToSolve, SolveStep}
 use Rattle.sym_shell.specs.Warming.{RepliesToWarm, WarmStep}
 use Rattle.sym_shell.specs.Editing.{RepliesToWords, EditStep}
+use Rattle.sym_shell.specs.Saving.{RepliesToTrim, TrimStep}
 use Rattle.sym_shell.specs.Step.{AnswersTo, Step}
 use Rattle.sym_shell.specs.declared.reading.Refusal.TheVariants as refusal
 
@@ -68,6 +69,9 @@ some-warm-step (Err f) asks nodes pivots old new files faults e h =
 
 pub edit-step : (old new : PlainEnv) (files : Option Files) (faults : ℕ) (asks : EditAsks) (reply : List ℕ) → RepliesToWords asks old reply new → EditStep (shell_state old files faults) asks reply (shell_state new files faults)
 edit-step old new files faults asks reply edits = record { files = refl; faults = refl; answer = edits }
+
+pub trim-step : (old new : PlainEnv) (files : Option Files) (faults : ℕ) (depth : ℕ) (reply : List ℕ) → RepliesToTrim old.search depth old reply new → TrimStep (shell_state old files faults) depth reply (shell_state new files faults)
+trim-step old new files faults depth reply trims = record { files = refl; faults = refl; answer = trims }
 
 -- ---- a model that is loaded
 

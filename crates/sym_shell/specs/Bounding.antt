@@ -1,10 +1,9 @@
 -- What `lbrhs`, `lbobj`, `ubrhs` and `ubobj` may be answered: a bound on the best value that the model would have with other sides, or with
 -- other costs, from the tree or from the points that are kept. Nothing is solved, and nothing changes.
 --     asked_model numbers M named     the model with the numbers beside the names: for the sides of rows, or as the costs of columns
-use Rattle.std.specs.Prelude.{◌≡◌, ◌⊎◌, ℕ, ◌<◌, List, map, length, get_or, take, All, Contains, Option, Some, None, Result, Ok, Err}
+use Rattle.std.specs.Prelude.{◌≡◌, ◌⊎◌, ℕ, ◌<◌, List, map, length, get_or, take, All, Contains, Option, Some, None}
 use Rattle.rational.specs.Rational.{ℚ}
 use Rattle.lp_model.specs.Edits.{Named, place_in, row_place, only_row_names}
-use Rattle.lp_model.specs.Formulations.{without_cuts}
 use Rattle.lp_model.specs.Lawful.{column_names}
 use Rattle.lp_model.specs.Program.{Program, Point, value, low_side, high_side, in_least_form}
 use Rattle.lp_model.specs.declared.types.RowId.{RowId}
@@ -15,7 +14,7 @@ use Rattle.tree_edit.specs.Points.{IsIncumbent}
 use Rattle.tree_edit.specs.Sound.{PlainSearch}
 use Rattle.dual_bounds.specs.Laws.{IsTrueLowerBound, IsTrueUpperBound}
 use Rattle.dual_bounds.specs.NewNumbers.{with_new_sides, with_new_costs, HasEqualSides, ArePresentSides, ArePresentCosts}
-use Rattle.dual_bounds.specs.TreeBounds.{IsTreeBound, IsPointBound}
+use Rattle.dual_bounds.specs.TreeBounds.{IsTreeBoundAt, IsPointBound}
 use Rattle.dual_bounds.specs.declared.answers.LowerBound.{LowerBound}
 use Rattle.dual_bounds.specs.declared.answers.LowerBound.TheVariants as lower
 use Rattle.dual_bounds.specs.declared.answers.UpperBound.{UpperBound}
@@ -102,11 +101,11 @@ abbrev pub IsUpperTold : Program → UpperBound → List ℕ → Type 0
 IsUpperTold M (upper.Value v) reply = ShowsNumber (in_least_form M.sense v) reply
 IsUpperTold M upper.NoValue reply = reply ≡ bound_text None
 
--- The reply is the bound of the kept tree at the model M, with its exact cause. No feasible point of M has a lower value in least form than the
--- bound's, and M has none where the reply says so.
+-- The reply is the bound of the kept tree at the model M, each kept cut derived again there, with its exact cause. No feasible point of M has a
+-- lower value in least form than the bound's, and M has none where the reply says so.
 pub record TellsLower (S : PlainSearch) (M : Program) (reply : List ℕ) : Type 0 where
   pub bound : LowerBound
-  pub is : IsTreeBound (without_cuts M) S.tree.root bound
+  pub is : IsTreeBoundAt M S.cuts S.tree.root bound
   pub holds : IsTrueLowerBound M bound
   pub told : IsLowerTold S.model bound reply
 

@@ -7,8 +7,6 @@ use Rattle.model_edits.specs.declared.faults.EditFault.TheVariants.{NoSuch, Dupl
 use Rattle.tree_edit.specs.Sound.{PlainSearch}
 use Rattle.sym_env.specs.Env.{PlainEnv}
 use Rattle.sym_env.specs.Editing.{EditsTo}
-use Rattle.sym_env.specs.declared.env.EnvFault.{EnvFault}
-use Rattle.sym_env.specs.declared.env.EnvFault.TheVariants as fault
 use Rattle.edit_words.specs.EditWords.{EditAsks, Edits, Misused, NoNumber}
 use Rattle.reply_texts.specs.Texts.{ok_text, arguments_text, no_model_text, number_text, unknown_name_text, taken_text, limit_text, bounds_text, sides_text, memory_text}
 use Rattle.sym_shell.specs.State.{ShellState}
@@ -22,13 +20,6 @@ edit_fault_text (Limit n) = limit_text n
 edit_fault_text (IntegerUnbounded name) = bounds_text name
 edit_fault_text (Ranged name) = sides_text name
 edit_fault_text Memory = memory_text
-
--- the line of each refusal of an edit; the environment refuses none of them for want of an answer
-abbrev pub refused_edit_text : EnvFault → List ℕ
-refused_edit_text fault.NoModel = no_model_text
-refused_edit_text (fault.Edit f) = edit_fault_text f
-refused_edit_text fault.NoAnswer = memory_text
-refused_edit_text fault.Memory = memory_text
 
 -- The edit was made, so that the search follows it and no answer is held; or it has this fault as its first; or there was no memory.
 -- Where it was not made the environment stays.

@@ -6,10 +6,12 @@ pub mod Showing
 pub mod Solve
 pub mod Warming
 pub mod Editing
+pub mod EnvFaults
 pub mod Bounding
 pub mod Placing
 pub mod Certify
 pub mod Writing
+pub mod Saving
 pub mod Refusals
 pub mod Step
 pub mod Kinds

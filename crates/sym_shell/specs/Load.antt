@@ -1,5 +1,6 @@
 -- What `load` may answer, and the model that it leaves.
-use Rattle.std.specs.Prelude.{◌≡◌, ◌⊎◌, ℕ, ◌<◌, ◌≤◌, List, length, Option, Some, None, IfSome, IsSomeAnd, Result, Ok, Err}
+use Rattle.std.specs.Prelude.{◌≡◌, ◌⊎◌, ℕ, ◌<◌, ◌≤◌, List, length, Vec, Option, Some, None, IfSome, IsSomeAnd, Result, Ok, Err}
+use Rattle.std.specs.declared.alloc.Global.{Global}
 use Rattle.sym_io.specs.Faults.{Rose}
 use Rattle.sym_io.specs.Files.{Files, file}
 use Rattle.sym_io.specs.declared.traits.TheConstants.{MAX_FILE_LENGTH}
@@ -39,6 +40,14 @@ ReadsFile files name intupper before after (Err refusal.Store) = Rose before aft
 ReadsFile files name intupper before after (Err refusal.FileTooLong) = IsTooLong files name
 ReadsFile files name intupper before after (Err (refusal.Faulty line code)) = HasText files name (IsFaulty intupper line code)
 ReadsFile files name intupper before after (Err refusal.Memory) = Unit {0}
+
+-- the causes of each answer to reading a file
+abbrev pub ReadsText : Option Files → List ℕ → ℕ → ℕ → Result (Vec ℕ Global) Refusal → Type 0
+ReadsText files name before after (Ok bytes) = HasText files name (λ text. text ≡ bytes.items)
+ReadsText files name before after (Err refusal.Store) = Rose before after ⊎ IsMissing files name
+ReadsText files name before after (Err refusal.FileTooLong) = IsTooLong files name
+ReadsText files name before after (Err (refusal.Faulty line code)) = ⊥
+ReadsText files name before after (Err refusal.Memory) = Unit {0}
 
 abbrev pub refusal_text : Refusal → List ℕ
 refusal_text refusal.Store = store_text

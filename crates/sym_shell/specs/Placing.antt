@@ -1,7 +1,7 @@
 -- How the names of a line become places, and how a bound is told: of calls that only this crate makes.
 use Rattle.std.specs.Prelude.{◌≡◌, ◌⊎◌, ℕ, ◌<◌, List, [], length, get_or, take, All, Contains, Option, Some, None, Result, Ok, Err}
 use Rattle.rational.specs.Rational.{ℚ}
-use Rattle.lp_model.specs.Edits.{Named, only_row_names}
+use Rattle.lp_model.specs.Edits.{Named}
 use Rattle.lp_model.specs.Elements.{of_element}
 use Rattle.lp_model.specs.Program.{Program, Point, value}
 use Rattle.lp_model.specs.declared.types.Row.{Row}

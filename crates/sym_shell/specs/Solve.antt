@@ -5,7 +5,7 @@ use Rattle.lp_model.specs.declared.answers.Answer.TheVariants.{Memory}
 use Rattle.search_counting.specs.Work.{cap_of}
 use Rattle.tree_edit.specs.Sound.{PlainSearch}
 use Rattle.sym_env.specs.Enough.{IsEnough}
-use Rattle.sym_env.specs.Env.{PlainEnv}
+use Rattle.sym_env.specs.Env.{PlainEnv, pool_in}
 use Rattle.sym_env.specs.Solves.{Solved, SolvesModel}
 use Rattle.sym_env.specs.declared.limits.Limits.{Limits}
 use Rattle.reply_texts.specs.Texts.{no_model_text, memory_text}
@@ -26,7 +26,7 @@ ShowsOptimum M l reply env = ShowsOptimumBy (Solved M l) M l reply env
 
 -- what a search from a fresh root may be answered; where there is no memory the search has the results that were placed, or is the old one
 abbrev pub AnswersSolve : PlainSearch → Limits → List ℕ → PlainEnv → Type 0
-AnswersSolve S l reply env = AnswersBy (Solved S.model l) (SolvesModel S.model l S Memory) (IsEnough S.model l) (HasFewNodes S.model l) S.model l reply env
+AnswersSolve S l reply env = AnswersBy (Solved S.model l) (SolvesModel S.model l S Memory) (IsEnough S.model (pool_in env.search) l) (HasFewNodes S.model l) S.model l reply env
 
 -- of the environment's search, if there is one
 abbrev pub RepliesToSolve : PlainEnv → Option PlainSearch → Limits → List ℕ → PlainEnv → Type 0

@@ -9,7 +9,7 @@ use Rattle.tree_edit.specs.Laws.{HasNoOpenLeaf}
 use Rattle.tree_edit.specs.Sound.{PlainSearch}
 use Rattle.tree_search.specs.Extends.{Extends}
 use Rattle.sym_env.specs.Enough.{IsKeptEnough}
-use Rattle.sym_env.specs.Env.{PlainEnv}
+use Rattle.sym_env.specs.Env.{PlainEnv, pool_in}
 use Rattle.sym_env.specs.Warm.{Warms, PlacesNone}
 use Rattle.sym_env.specs.declared.limits.Limits.{Limits}
 use Rattle.reply_texts.specs.Texts.{answer_text, no_model_text, memory_text}
@@ -28,7 +28,7 @@ IsTooSmall S l = ¬ HasRoomFor (whole_points S.model - 1) (with_limit S.tree l.t
 
 -- what a search that goes on may be answered; where there is no memory it has the results that were placed
 abbrev pub AnswersWarm : PlainSearch → Limits → List ℕ → PlainEnv → Type 0
-AnswersWarm S l reply env = AnswersBy (WentOn S l) (WentOn S l Memory) (IsKeptEnough S l) (IsTooSmall S l) S.model l reply env
+AnswersWarm S l reply env = AnswersBy (WentOn S l) (WentOn S l Memory) (IsKeptEnough S (pool_in env.search) l) (IsTooSmall S l) S.model l reply env
 
 -- after a search that closed every leaf nothing is placed: the reply is the text of an answer without a result, or memory was wanting
 abbrev pub TellsAgain : PlainSearch → List ℕ → Type 0

@@ -1,8 +1,8 @@
-// Reading a file's model from a store.
+// Reading files from a store.
 ghost use Rattle.std.specs.Prelude.{◌≡◌, ◌≤◌, true, IfOk};
 ghost use Rattle.command_words.specs.Names.{is_file_name};
 ghost use Rattle.word_names.specs.WordNames.{HasWordNames};
-ghost use Rattle.sym_shell.specs.Load.{ReadsFile};
+ghost use Rattle.sym_shell.specs.Load.{ReadsFile, ReadsText};
 
 use command_words::file_name;
 use lp_model::Model;
@@ -48,6 +48,21 @@ impl From<MpsFault> for Refusal {
             MpsFault::Memory => Refusal::Memory,
         }
     }
+}
+
+/// The bytes of the named file.
+pub(crate) fn read_text<S: Store>(
+    alloc: Global,
+    store: &mut S,
+    name: &[u8],
+) -> Result<Vec<u8>, Refusal>
+    requires { is_file_name name.now ≡ true }
+    ensures answer { ReadsText (S.files store.old) name.now (S.faults store.old) (S.faults store.new) result }
+    ensures kept { S.files store.new ≡ S.files store.old }
+    ensures later { S.faults store.old ≤ S.faults store.new }
+{
+    let text = store.get(alloc, file_name(name))?;
+    Ok(text)
 }
 
 /// The model of the named file, whose names are words of a reply. An integer column without an upper bound has `intupper`, if

@@ -1,17 +1,20 @@
 // The reply where a file is refused.
 ghost use Rattle.std.specs.Prelude.{◌≡◌, ◌++◌, IfOk};
 ghost use Rattle.sym_shell.specs.Checking.{cert_refusal_text};
-ghost use Rattle.sym_shell.specs.Editing.{edit_fault_text, refused_edit_text};
+ghost use Rattle.sym_env.specs.declared.env.EnvFault.TheVariants.{Warm};
+ghost use Rattle.sym_shell.specs.Editing.{edit_fault_text};
+ghost use Rattle.sym_shell.specs.EnvFaults.{env_fault_text};
 ghost use Rattle.sym_shell.specs.Load.{refusal_text};
 
 use crate::reading::Refusal;
 use model_edits::EditFault;
 use reply_texts::{
-    write_bounds, write_faulty_certificate, write_faulty_model, write_limit, write_sides,
-    write_taken, write_unknown_name,
+    write_bounds, write_faulty_certificate, write_faulty_model, write_faulty_search, write_limit,
+    write_sides, write_taken, write_unknown_name,
 };
 use std::alloc::AllocError;
 use sym_env::EnvFault;
+use warm_values::WarmFault;
 
 /// Why a file's model is refused.
 pub(crate) fn write_refusal(reply: &mut Vec<u8>, refusal: Refusal) -> Result<(), AllocError>
@@ -51,14 +54,25 @@ fn write_edit_fault(reply: &mut Vec<u8>, fault: EditFault) -> Result<(), AllocEr
     }
 }
 
-/// Why an edit is refused: its fault, or that no model is loaded.
-pub(crate) fn write_refused_edit(reply: &mut Vec<u8>, fault: EnvFault) -> Result<(), AllocError>
-    ensures { IfOk result (λ _. reply.new.items ≡ reply.old.items ++ refused_edit_text fault) }
+/// Why a text states no search.
+fn write_warm_fault(reply: &mut Vec<u8>, fault: WarmFault) -> Result<(), AllocError>
+    ensures { IfOk result (λ _. reply.new.items ≡ reply.old.items ++ env_fault_text (Warm fault)) }
+{
+    match fault {
+        WarmFault::Bad { place, code } => write_faulty_search(reply, place.as_slice(), code),
+        WarmFault::Memory => reply.extend_from_slice(b"error 90 memory\n"),
+    }
+}
+
+/// Why a call of the environment is refused.
+pub(crate) fn write_env_fault(reply: &mut Vec<u8>, fault: EnvFault) -> Result<(), AllocError>
+    ensures { IfOk result (λ _. reply.new.items ≡ reply.old.items ++ env_fault_text fault) }
 {
     match fault {
         EnvFault::NoModel => reply.extend_from_slice(b"error 04 no model\n"),
+        EnvFault::NoAnswer => reply.extend_from_slice(b"error 13 no finished answer\n"),
         EnvFault::Edit(fault) => write_edit_fault(reply, fault),
-        EnvFault::NoAnswer => reply.extend_from_slice(b"error 90 memory\n"),
+        EnvFault::Warm(fault) => write_warm_fault(reply, fault),
         EnvFault::Memory => reply.extend_from_slice(b"error 90 memory\n"),
     }
 }

@@ -12,6 +12,7 @@ ghost use Rattle.sym_shell.specs.Load.{LoadStep};
 ghost use Rattle.sym_shell.specs.Solve.{limits_of, RepliesToSolve};
 ghost use Rattle.sym_shell.specs.Warming.{RepliesToWarm};
 ghost use Rattle.sym_shell.specs.Editing.{RepliesToEdit, RepliesToWords};
+ghost use Rattle.sym_shell.specs.Saving.{RepliesToTrim, SaveStep, TakesText, RestoreStep};
 ghost use Rattle.sym_shell.specs.Bounding.{RepliesToPairs};
 ghost use Rattle.sym_shell.specs.Certify.{CertStep};
 ghost use Rattle.sym_shell.specs.Writing.{WriteStep};
@@ -20,8 +21,8 @@ ghost use Rattle.sym_shell.specs.Shell.{is_quit};
 
 use crate::bounding::bound_by_words;
 use crate::filing::{write_file, write_model};
-use crate::reading::read_model;
-use crate::refusing::{write_refusal, write_refused_edit};
+use crate::reading::{read_model, read_text};
+use crate::refusing::{write_env_fault, write_refusal};
 use command_words::{Asked, NewNumbers, OptimumBound, read_words};
 use edit_words::{EditAsked, read_edit};
 use lp_model::{Edit, Model};
@@ -169,7 +170,7 @@ impl Shell {
             Ok(()) => Ok(()),
             Err(fault) => {
                 reply.clear();
-                write_refused_edit(reply, fault)
+                write_env_fault(reply, fault)
             }
         }
     }
@@ -190,6 +191,81 @@ impl Shell {
             EditAsked::Misused => reply.extend_from_slice(b"error 03 arguments\n"),
             EditAsked::NoNumber { word } => write_no_number(reply, word),
             EditAsked::Memory => reply.extend_from_slice(b"error 90 memory\n"),
+        }
+    }
+
+    /// Cuts the tree down at a depth. The reply's memory is taken first, so that all stays where there is none.
+    fn trim(&mut self, depth: u64, reply: &mut Vec<u8>) -> Result<(), AllocError>
+        requires { reply.old.items ≡ [] }
+        ensures answered { OnOk result (RepliesToTrim self.old.search depth self.old reply.new.items self.new) }
+        ensures unfinished { OnErr result (RepliesToTrim self.old.search depth self.old memory_text self.new) }
+    {
+        reply.extend_from_slice(b"ok\n")?;
+        match self.env.trim(depth) {
+            Ok(()) => Ok(()),
+            Err(fault) => {
+                reply.clear();
+                write_env_fault(reply, fault)
+            }
+        }
+    }
+
+    /// Writes the search that is kept to a file.
+    fn save<S: Store>(
+        &self,
+        store: &mut S,
+        name: &[u8],
+        reply: &mut Vec<u8>,
+    ) -> Result<(), AllocError>
+        requires name { is_file_name name.now ≡ true }
+        requires empty { reply.old.items ≡ [] }
+        ensures answered { OnOk result (SaveStep (shell_state self.now (S.files store.old) (S.faults store.old)) name.now reply.new.items
+            (shell_state self.now (S.files store.new) (S.faults store.new))) }
+        ensures unfinished { OnErr result (SaveStep (shell_state self.now (S.files store.old) (S.faults store.old)) name.now memory_text
+            (shell_state self.now (S.files store.new) (S.faults store.new))) }
+        ensures store_later { S.faults store.old ≤ S.faults store.new }
+    {
+        match self.env.save() {
+            Ok(text) => write_file(store, name, &text, reply),
+            Err(fault) => write_env_fault(reply, fault),
+        }
+    }
+
+    /// Takes the search that a text states. The reply's memory is taken first, so that all stays where there is none.
+    fn take_text(&mut self, text: &[u8], reply: &mut Vec<u8>) -> Result<(), AllocError>
+        requires { reply.old.items ≡ [] }
+        ensures answered { OnOk result (TakesText text.now self.old reply.new.items self.new) }
+        ensures unfinished { OnErr result (self.new ≡ self.old) }
+    {
+        reply.extend_from_slice(b"ok\n")?;
+        match self.env.restore(text) {
+            Ok(()) => Ok(()),
+            Err(fault) => {
+                reply.clear();
+                write_env_fault(reply, fault)
+            }
+        }
+    }
+
+    /// Replaces model and search by those of the named file.
+    fn restore<S: Store>(
+        &mut self,
+        alloc: Global,
+        store: &mut S,
+        name: &[u8],
+        reply: &mut Vec<u8>,
+    ) -> Result<(), AllocError>
+        requires name { is_file_name name.now ≡ true }
+        requires empty { reply.old.items ≡ [] }
+        ensures answered { OnOk result (RestoreStep (shell_state self.old (S.files store.old) (S.faults store.old)) name.now reply.new.items
+            (shell_state self.new (S.files store.new) (S.faults store.new))) }
+        ensures unfinished { OnErr result (RestoreStep (shell_state self.old (S.files store.old) (S.faults store.old)) name.now memory_text
+            (shell_state self.new (S.files store.new) (S.faults store.new))) }
+        ensures store_later { S.faults store.old ≤ S.faults store.new }
+    {
+        match read_text(alloc, store, name) {
+            Ok(text) => self.take_text(&text, reply),
+            Err(unread) => write_refusal(reply, unread),
         }
     }
 
@@ -228,6 +304,10 @@ impl Shell {
             Err(EnvFault::NoModel) => reply.extend_from_slice(b"error 04 no model\n"),
             Err(EnvFault::NoAnswer) => reply.extend_from_slice(b"error 13 no finished answer\n"),
             Err(EnvFault::Edit(fault)) => {
+                drop(fault);
+                reply.extend_from_slice(b"error 90 memory\n")
+            }
+            Err(EnvFault::Warm(fault)) => {
                 drop(fault);
                 reply.extend_from_slice(b"error 90 memory\n")
             }
@@ -278,6 +358,9 @@ impl Shell {
             Asked::Solve { nodes, pivots } => self.solve(nodes, pivots, reply),
             Asked::Warm { nodes, pivots } => self.warm(nodes, pivots, reply),
             Asked::Edit { words } => self.edit(alloc, words, reply),
+            Asked::Trim { depth } => self.trim(depth, reply),
+            Asked::Save { file } => self.save(store, file, reply),
+            Asked::Restore { file } => self.restore(alloc, store, file, reply),
             Asked::Bound {
                 which,
                 numbers,

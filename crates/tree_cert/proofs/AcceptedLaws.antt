@@ -1,6 +1,6 @@
 -- The certificate of a finished search passes: its point is kept, and each of its leaves is judged closed by the very
 -- numbers that the certificate gives.
-use Rattle.std.proofs.Common.{◌≡◌, ◌≢◌, ℕ, List, [], ◌∷◌, ◌++◌, length, refl, sym, ap, subst, ◌∙◌, inl, inr}
+use Rattle.std.proofs.Common.{◌≡◌, ◌≢◌, ℕ, ◌<◌, List, [], ◌∷◌, ◌++◌, length, get_or, refl, sym, ap, subst, ◌∙◌, inl, inr}
 use Rattle.std.specs.Prelude.{All, AllPairs, IsTrue, true, Option, Some, None, Ok}
 use Rattle.std.proofs.lemmas.List.Elements.{All-append}
 use Rattle.std.proofs.lemmas.List.Elements.{All-get_or}
@@ -11,7 +11,9 @@ use Rattle.rational.proofs.RationalRing.{ring, reads_ℚ}
 use Rattle.lp_model.specs.declared.types.Sense.{Sense}
 use Rattle.lp_model.specs.declared.types.Sense.TheVariants.{Min, Max}
 use Rattle.lp_model.specs.Regions.{Path, IsEmptyRegion}
-use Rattle.lp_model.specs.Formulations.{without_cuts}
+use Rattle.lp_model.specs.Formulations.{Formulation, formulation, without_cuts}
+use Rattle.lp_model.specs.Cuts.{is_live}
+use Rattle.lp_model.specs.declared.types.CutRow.{CutRow}
 use Rattle.leaf_dual.specs.Dual.{Multipliers}
 use Rattle.branch_tree.specs.Tree.{Leaf, Split, left_path, right_path, SplitsLawfully, HasNarrowSplits, EachLeaf}
 use Rattle.branch_tree.specs.Plain.{Plain}
@@ -21,12 +23,14 @@ use Rattle.leaf_judging.specs.declared.closing.LeafNumber.{LeafNumber}
 use Rattle.leaf_judging.specs.declared.closing.LeafNumber.TheVariants as number
 use Rattle.leaf_judging.specs.Closing.{IsRefuted, IsNumber, NumberCloses, StateSays, IsJudgedLeaf}
 use Rattle.tree_edit.specs.Laws.{HasNoOpenLeaf}
-use Rattle.tree_edit.specs.Lists.{HasLists, HasNodeLists}
+use Rattle.tree_edit.specs.Lists.{AreMultipliers, HasLists, HasNodeLists}
 use Rattle.tree_edit.specs.Points.{IsKeepable, target, IsIncumbent, IsIncumbentAt}
-use Rattle.tree_edit.specs.Sound.{PlainSearch, IsSound}
+use Rattle.tree_edit.specs.Sound.{PlainSearch, formulation_of, IsSound}
 use Rattle.tree_edit.proofs.PointLemmas.{target-at}
 use Rattle.cert_text.specs.declared.cert.Claim.{Claim}
 use Rattle.cert_text.specs.declared.cert.Claim.TheVariants.{Optimal, Infeasible, Unbounded}
+use Rattle.cert_text.specs.declared.cert.CertMult.{CertMult}
+use Rattle.cert_text.specs.declared.cert.NamedCut.{NamedCut}
 use Rattle.cert_text.specs.declared.cert.CertNode.{CertNode}
 use Rattle.cert_text.specs.declared.cert.CertNode.TheVariants as node
 use Rattle.cert_text.specs.declared.cert.Cert.{Cert}
@@ -38,13 +42,19 @@ use Rattle.cert_check.specs.Places.{place_among}
 use Rattle.lp_model.specs.Edits.{Named, only_row_names}
 use Rattle.lp_model.specs.Answers.{IsFeasibilityAnswer}
 use Rattle.lp_model.specs.Rays.{IsRayJudged}
-use Rattle.cert_check.specs.Cuts.{formulation_by, IsCutJudged, AreCutsJudged}
+use Rattle.cert_check.specs.Cuts.{rows_of, formulation_by, IsCutJudged, AreCutsJudged}
+use Rattle.cert_check.specs.Mults.{AreMults}
 use Rattle.cert_check.specs.Verdict.{IsNumberJudged, IsFarkasJudged, IsNodeJudged, IsPointJudged, IsFeasibleJudged, IsDirectionJudged, IsClaimJudged, visits, AreVisits, IsVisitJudged, IsVerdict}
 use Rattle.cert_text.specs.Whole.{IsNarrowNode, HasNoPoint, HasNoRay, HasNoCuts, AreOneTree, HasTree, IsCertificate}
 use Rattle.cert_check.proofs.PlaceLemmas.{rows_differ}
-use Rattle.tree_cert.specs.Certificates.{claim_of, point_numbers, IsReason, IsTreeOf, IsCertificateOf, unbounded_certificate}
+use Rattle.tree_cert.specs.Certificates.{claim_of, point_numbers, IsReason, IsTreeOf, IsProofOf, IsCertificateOf, unbounded_certificate}
+use Rattle.tree_cert.specs.Cuts.{named_cuts, used_number, mults_named, node_mults, IsOfFirst}
+use Rattle.tree_cert.specs.Marked.{NodeNamesFirst}
 use Rattle.lp_model.specs.Lawful.{column_name}
-use Rattle.tree_cert.proofs.NameLaws.{all_cons, all_none, column_place, column_there, rows_read, rows_named, numbers_named, numbers_read}
+use Rattle.tree_cert.proofs.NameLaws.{all_cons, all_none, all_first, all_rest, column_place, column_there, numbers_named, numbers_read}
+use Rattle.tree_cert.proofs.MultLaws.{all_split, renamed, mults_read, mults_are}
+use Rattle.tree_cert.proofs.ChosenLaws.{lag_chosen, farkas_chosen}
+use Rattle.tree_cert.proofs.CutNames.{used_pass, used_size, used_rows}
 
 -- ---- values
 
@@ -78,88 +88,112 @@ claim_none M points (Some x) e (k, at) = absurd (let f : None ≡ Some (least_va
 
 -- ---- leaves
 
-module _ (M : Program) (lawful_model : IsLawfulModel M) where
-  rows_once : AllPairs (λ a b. a ≢ b) (only_row_names M)
-  rows_once = rows_differ M lawful_model.rows_distinct
+-- over the cuts that are used, which stand for those of the certificate
+module _ (F : Formulation) (lawful_model : IsLawfulModel F.model) (used : List ℕ) (rising : AllPairs (λ a b. a < b) used) (live : All (λ k. IsTrue (is_live F.cuts k)) used)
+    (chosen : List CutRow) (size : length chosen ≡ length used) (are : (k : ℕ) (d : CutRow) → k < length used → get_or F.cuts (get_or used k 0) d ≡ get_or chosen k d) where
+  abbrev G : Formulation
+  G = formulation F.model chosen
 
-  refuted-passes : (path : Path) (mult : Multipliers) → IsRefuted (without_cuts M) path mult → IsFarkasJudged (without_cuts M) path mult Passes
-  refuted-passes path [] h = absurd h
-  refuted-passes path (m ∷ mult) h = h
+  rows_once : AllPairs (λ a b. a ≢ b) (only_row_names F.model)
+  rows_once = rows_differ F.model lawful_model.rows_distinct
 
-  number-passes : (t : Option ℚ) (claim : Claim) → IsClaimFor M t claim → (path : Path) (kept : LeafData) (n : LeafNumber) → IsNumber (without_cuts M) path kept.mult kept.farkas n → NumberCloses M t n →
-      (¬ IsEmptyRegion M path) → (¬ IsRefuted (without_cuts M) path kept.farkas) → IsNumberJudged (without_cuts M) claim path kept.mult Passes
-  number-passes t claim for path kept number.Empty is closes some stands =
+  -- its numbers are those of cuts that are used
+  abbrev Within : List CertMult → Type 0
+  Within mults = All (IsOfFirst (length used)) mults
+
+  mults-stand : (list : Multipliers) → AreMultipliers F list → Within (mults_named F (used_number used) list) → AreMults F.model (length chosen) (mults_named F (used_number used) list)
+  mults-stand list lists within = subst (λ n. AreMults F.model n (mults_named F (used_number used) list)) (sym size) (mults_are F rows_once used list lists within)
+
+  refuted-passes : (path : Path) (list : Multipliers) → Within (mults_named F (used_number used) list) → IsRefuted F path list → IsFarkasJudged G path (renamed F used list) Passes
+  refuted-passes path [] within h = absurd h
+  refuted-passes path (m ∷ list) within (v, (answer, positive)) = (v, (farkas_chosen F used rising live chosen size are (m ∷ list) within path v answer, positive))
+
+  number-passes : (t : Option ℚ) (claim : Claim) → IsClaimFor F.model t claim → (path : Path) (kept : LeafData) → Within (mults_named F (used_number used) kept.mult) → (n : LeafNumber) → IsNumber F path kept.mult kept.farkas n → NumberCloses F.model t n →
+      (¬ IsEmptyRegion F.model path) → (¬ IsRefuted F path kept.farkas) → IsNumberJudged G claim path (renamed F used kept.mult) Passes
+  number-passes t claim for path kept within number.Empty is closes some stands =
       absurd (
       elim is [
         | inl empty ↦ some empty
         | inr refuted ↦ stands refuted
       ]
       )
-  number-passes t (Optimal v) for path kept (number.Lag q) is closes some stands = (q, (is.1, subst (λ u. NumberCloses M u (number.Lag q)) for closes))
-  number-passes t Infeasible for path kept (number.Lag q) is closes some stands = absurd (subst (λ u. NumberCloses M u (number.Lag q)) for closes)
-  number-passes t Unbounded for path kept (number.Lag q) is closes some stands = absurd for
-  number-passes t claim for path kept (number.Wide step) is closes some stands = absurd closes
+  number-passes t (Optimal v) for path kept within (number.Lag q) is closes some stands =
+      (q, (lag_chosen F used rising live chosen size are kept.mult within path q is.1, subst (λ u. NumberCloses F.model u (number.Lag q)) for closes))
+  number-passes t Infeasible for path kept within (number.Lag q) is closes some stands = absurd (subst (λ u. NumberCloses F.model u (number.Lag q)) for closes)
+  number-passes t Unbounded for path kept within (number.Lag q) is closes some stands = absurd for
+  number-passes t claim for path kept within (number.Wide step) is closes some stands = absurd closes
 
-  leaf-passes : (t : Option ℚ) (claim : Claim) → IsClaimFor M t claim → (path : Path) (kept : LeafData) (n : CertNode) → HasLists (without_cuts M) kept → IsJudgedLeaf (without_cuts M) t path kept → kept.state ≡ IsClosed → IsReason M path kept n → IsNodeJudged (without_cuts M) claim path n Passes
-  leaf-passes t claim for path kept (node.Split col w) lists judged closed reason = absurd reason
-  leaf-passes t claim for path kept node.Empty lists judged closed reason = reason
-  leaf-passes t claim for path kept (node.Farkas mults) lists judged closed reason =
-      subst (λ ms. IsNodeJudged (without_cuts M) claim path (node.Farkas ms) Passes) (sym reason.1.1)
-      (inl (rows_named M rows_once kept.farkas lists.farkas, subst (λ mult. IsFarkasJudged (without_cuts M) path mult Passes) (sym (rows_read M rows_once kept.farkas lists.farkas.each)) (refuted-passes path kept.farkas reason.1.0)))
-  leaf-passes t claim for path kept (node.Bound mults) lists judged closed reason =
-      let closes = subst (λ s. StateSays s (NumberCloses M t judged.number)) closed judged.says in
-      subst (λ ms. IsNodeJudged (without_cuts M) claim path (node.Bound ms) Passes) (sym reason.1.1)
+  leaf-passes : (t : Option ℚ) (claim : Claim) → IsClaimFor F.model t claim → (path : Path) (kept : LeafData) (n : CertNode) → Within (node_mults n) → HasLists F kept → IsJudgedLeaf F t path kept → kept.state ≡ IsClosed → IsReason F (used_number used) path kept n → IsNodeJudged G claim path n Passes
+  leaf-passes t claim for path kept (node.Split col w) within lists judged closed reason = absurd reason
+  leaf-passes t claim for path kept node.Empty within lists judged closed reason = reason
+  leaf-passes t claim for path kept (node.Farkas mults) within lists judged closed reason =
+      let inside : Within (mults_named F (used_number used) kept.farkas) = subst Within reason.1.1 within in
+      subst (λ ms. IsNodeJudged G claim path (node.Farkas ms) Passes) (sym reason.1.1)
       (inl (
-        rows_named M rows_once kept.mult lists.mult,
-        subst (λ mult. IsNumberJudged (without_cuts M) claim path mult Passes) (sym (rows_read M rows_once kept.mult lists.mult.each)) (number-passes t claim for path kept judged.number judged.number_is closes reason.0 reason.1.0),
+        mults-stand kept.farkas lists.farkas inside,
+        subst (λ list. IsFarkasJudged G path list Passes) (sym (mults_read F rows_once used kept.farkas lists.farkas.each)) (refuted-passes path kept.farkas inside reason.1.0),
+      ))
+  leaf-passes t claim for path kept (node.Bound mults) within lists judged closed reason =
+      let inside : Within (mults_named F (used_number used) kept.mult) = subst Within reason.1.1 within in
+      let closes = subst (λ s. StateSays s (NumberCloses F.model t judged.number)) closed judged.says in
+      subst (λ ms. IsNodeJudged G claim path (node.Bound ms) Passes) (sym reason.1.1)
+      (inl (
+        mults-stand kept.mult lists.mult inside,
+        subst (λ list. IsNumberJudged G claim path list Passes) (sym (mults_read F rows_once used kept.mult lists.mult.each)) (number-passes t claim for path kept inside judged.number judged.number_is closes reason.0 reason.1.0),
       ))
 
   -- ---- the tree
 
-  module _ (t : Option ℚ) (claim : Claim) (for : IsClaimFor M t claim) where
+  module _ (t : Option ℚ) (claim : Claim) (for : IsClaimFor F.model t claim) where
     abbrev P : (Path × CertNode) → Type 0
-    P p = IsVisitJudged (without_cuts M) claim p Passes
+    P p = IsVisitJudged G claim p Passes
 
-    leaf-node : (path : Path) (kept : LeafData) (n : CertNode) → HasLists (without_cuts M) kept → IsJudgedLeaf (without_cuts M) t path kept → kept.state ≡ IsClosed → IsReason M path kept n → All P ((path, n) ∷ [])
-    leaf-node path kept n lists judged closed reason = all_cons P (path, n) [] (leaf-passes t claim for path kept n lists judged closed reason) (all_none P)
+    leaf-node : (path : Path) (kept : LeafData) (n : CertNode) → Within (node_mults n) → HasLists F kept → IsJudgedLeaf F t path kept → kept.state ≡ IsClosed → IsReason F (used_number used) path kept n → All P ((path, n) ∷ [])
+    leaf-node path kept n within lists judged closed reason = all_cons P (path, n) [] (leaf-passes t claim for path kept n within lists judged closed reason) (all_none P)
 
-    pub tree-passes : (path : Path) (s : Plain) (tree : CertTree) → SplitsLawfully M s → HasNodeLists (without_cuts M) s → EachLeaf (λ p l. IsJudgedLeaf (without_cuts M) t p l.kept) path s → EachLeaf (λ p l. l.kept.state ≡ IsClosed) path s → IsTreeOf M path s tree → All P (visits M path tree)
-    tree-passes path (Leaf l) (CertBound mults) lawful lists judged closed like = leaf-node path l.kept (node.Bound mults) lists judged closed like
-    tree-passes path (Leaf l) (CertFarkas mults) lawful lists judged closed like = leaf-node path l.kept (node.Farkas mults) lists judged closed like
-    tree-passes path (Leaf l) CertEmpty lawful lists judged closed like = leaf-node path l.kept node.Empty lists judged closed like
-    tree-passes path (Leaf l) (CertSplit col w first second) lawful lists judged closed like = absurd like
-    tree-passes path (Split kept j v left right) (CertBound mults) lawful lists judged closed like = absurd like
-    tree-passes path (Split kept j v left right) (CertFarkas mults) lawful lists judged closed like = absurd like
-    tree-passes path (Split kept j v left right) CertEmpty lawful lists judged closed like = absurd like
-    tree-passes path (Split kept j v left right) (CertSplit col w first second) lawful lists judged closed like =
-        subst (λ name. All P (visits M path (CertSplit name w first second))) (sym like.0)
-        (subst (λ u. All P (visits M path (CertSplit (column_name M j) u first second))) (sym like.1.0)
-        (all_cons P (path, node.Split (column_name M j) v) (below (place_among (column_names M) (column_name M j)))
-        (inl (column_there M columns_once j lawful.0.0, subst (λ k. IsTrue (is_integer M k)) (sym place) lawful.0.1))
+    pub tree-passes : (path : Path) (s : Plain) (tree : CertTree) → All (λ c. Within (node_mults c)) (certificate_nodes tree) → SplitsLawfully F.model s → HasNodeLists F s → EachLeaf (λ p l. IsJudgedLeaf F t p l.kept) path s → EachLeaf (λ p l. l.kept.state ≡ IsClosed) path s
+        → IsTreeOf F (used_number used) path s tree → All P (visits F.model path tree)
+    tree-passes path (Leaf l) (CertBound mults) within lawful lists judged closed like = leaf-node path l.kept (node.Bound mults) (all_first (λ c. Within (node_mults c)) (node.Bound mults) [] within) lists judged closed like
+    tree-passes path (Leaf l) (CertFarkas mults) within lawful lists judged closed like = leaf-node path l.kept (node.Farkas mults) (all_first (λ c. Within (node_mults c)) (node.Farkas mults) [] within) lists judged closed like
+    tree-passes path (Leaf l) CertEmpty within lawful lists judged closed like = leaf-node path l.kept node.Empty (all_none (IsOfFirst (length used))) lists judged closed like
+    tree-passes path (Leaf l) (CertSplit col w first second) within lawful lists judged closed like = absurd like
+    tree-passes path (Split kept j v left right) (CertBound mults) within lawful lists judged closed like = absurd like
+    tree-passes path (Split kept j v left right) (CertFarkas mults) within lawful lists judged closed like = absurd like
+    tree-passes path (Split kept j v left right) CertEmpty within lawful lists judged closed like = absurd like
+    tree-passes path (Split kept j v left right) (CertSplit col w first second) within lawful lists judged closed like =
+        subst (λ name. All P (visits F.model path (CertSplit name w first second))) (sym like.0)
+        (subst (λ u. All P (visits F.model path (CertSplit (column_name F.model j) u first second))) (sym like.1.0)
+        (all_cons P (path, node.Split (column_name F.model j) v) (below (place_among (column_names F.model) (column_name F.model j)))
+        (inl (column_there F.model columns_once j lawful.0.0, subst (λ k. IsTrue (is_integer F.model k)) (sym place) lawful.0.1))
         (subst (λ k. All P (below k)) (sym place)
-        (All-append P (visits M (left_path path j v) first) (visits M (right_path path j v) second) (tree-passes (left_path path j v) left first lawful.1.0 lists.1.0 judged.0 closed.0 like.1.1.0)
-        (tree-passes (right_path path j v) right second lawful.1.1 lists.1.1 judged.1 closed.1 like.1.1.1)))))
+        (All-append P (visits F.model (left_path path j v) first) (visits F.model (right_path path j v) second) (tree-passes (left_path path j v) left first parts.0 lawful.1.0 lists.1.0 judged.0 closed.0 like.1.1.0)
+        (tree-passes (right_path path j v) right second parts.1 lawful.1.1 lists.1.1 judged.1 closed.1 like.1.1.1)))))
       where
-        columns_once : AllPairs (λ a b. a ≢ b) (column_names M)
+        columns_once : AllPairs (λ a b. a ≢ b) (column_names F.model)
         columns_once = lawful_model.columns_distinct
 
         below : ℕ → List (Path × CertNode)
-        below k = visits M (left_path path k v) first ++ visits M (right_path path k v) second
+        below k = visits F.model (left_path path k v) first ++ visits F.model (right_path path k v) second
 
-        place : place_among (column_names M) (column_name M j) ≡ j
-        place = column_place M columns_once j lawful.0.0
+        place : place_among (column_names F.model) (column_name F.model j) ≡ j
+        place = column_place F.model columns_once j lawful.0.0
 
-narrow-tree : (M : Program) (path : Path) (s : Plain) (tree : CertTree) → HasNarrowSplits s → IsTreeOf M path s tree → All IsNarrowNode (certificate_nodes tree)
-narrow-tree M path (Leaf l) (CertBound mults) narrow like = all_cons IsNarrowNode (node.Bound mults) [] tt (all_none IsNarrowNode)
-narrow-tree M path (Leaf l) (CertFarkas mults) narrow like = all_cons IsNarrowNode (node.Farkas mults) [] tt (all_none IsNarrowNode)
-narrow-tree M path (Leaf l) CertEmpty narrow like = all_cons IsNarrowNode node.Empty [] tt (all_none IsNarrowNode)
-narrow-tree M path (Leaf l) (CertSplit col w first second) narrow like = absurd like
-narrow-tree M path (Split kept j v left right) (CertBound mults) narrow like = absurd like
-narrow-tree M path (Split kept j v left right) (CertFarkas mults) narrow like = absurd like
-narrow-tree M path (Split kept j v left right) CertEmpty narrow like = absurd like
-narrow-tree M path (Split kept j v left right) (CertSplit col w first second) narrow like =
+        parts : All (λ c. Within (node_mults c)) (certificate_nodes first) × All (λ c. Within (node_mults c)) (certificate_nodes second)
+        parts =
+            all_split (λ c. Within (node_mults c)) (certificate_nodes first) (certificate_nodes second)
+            (all_rest (λ c. Within (node_mults c)) (node.Split col w) (certificate_nodes first ++ certificate_nodes second) within)
+
+narrow-tree : (F : Formulation) (number : ℕ → ℕ) (path : Path) (s : Plain) (tree : CertTree) → HasNarrowSplits s → IsTreeOf F number path s tree → All IsNarrowNode (certificate_nodes tree)
+narrow-tree F number path (Leaf l) (CertBound mults) narrow like = all_cons IsNarrowNode (node.Bound mults) [] tt (all_none IsNarrowNode)
+narrow-tree F number path (Leaf l) (CertFarkas mults) narrow like = all_cons IsNarrowNode (node.Farkas mults) [] tt (all_none IsNarrowNode)
+narrow-tree F number path (Leaf l) CertEmpty narrow like = all_cons IsNarrowNode node.Empty [] tt (all_none IsNarrowNode)
+narrow-tree F number path (Leaf l) (CertSplit col w first second) narrow like = absurd like
+narrow-tree F number path (Split kept j v left right) (CertBound mults) narrow like = absurd like
+narrow-tree F number path (Split kept j v left right) (CertFarkas mults) narrow like = absurd like
+narrow-tree F number path (Split kept j v left right) CertEmpty narrow like = absurd like
+narrow-tree F number path (Split kept j v left right) (CertSplit col w first second) narrow like =
     all_cons IsNarrowNode (node.Split col w) (certificate_nodes first ++ certificate_nodes second) (subst (λ u. IsNarrowNode (node.Split col u)) (sym like.1.0) narrow.0)
-    (All-append IsNarrowNode (certificate_nodes first) (certificate_nodes second) (narrow-tree M (left_path path j v) left first narrow.1.0 like.1.1.0) (narrow-tree M (right_path path j v) right second narrow.1.1 like.1.1.1))
+    (All-append IsNarrowNode (certificate_nodes first) (certificate_nodes second) (narrow-tree F number (left_path path j v) left first narrow.1.0 like.1.1.0) (narrow-tree F number (right_path path j v) right second narrow.1.1 like.1.1.1))
 
 -- ---- points and certificates
 
@@ -187,9 +221,9 @@ no_ray-claimed : (M : Program) (best : Option Point) → HasNoRay (claim_of M be
 no_ray-claimed M None = refl
 no_ray-claimed M (Some x) = refl
 
-no_cuts-claimed : (M : Program) (best : Option Point) → HasNoCuts (claim_of M best) []
-no_cuts-claimed M None = tt
-no_cuts-claimed M (Some x) = tt
+cuts-claimed : (M : Program) (best : Option Point) (cuts : List NamedCut) → HasNoCuts (claim_of M best) cuts
+cuts-claimed M None cuts = tt
+cuts-claimed M (Some x) cuts = tt
 
 tree-claimed : (M : Program) (best : Option Point) (nodes : List CertNode) → AreOneTree nodes → HasTree (claim_of M best) nodes
 tree-claimed M None nodes t = t
@@ -200,26 +234,36 @@ visits-claimed M None nodes t are = record { tree = t; nodes_are = are; are = re
 visits-claimed M (Some x) nodes t are = record { tree = t; nodes_are = are; are = refl }
 
 module _ (S : PlainSearch) (cert : Cert) (sound : IsSound S) (of : IsCertificateOf S cert) where
+  abbrev proof : IsProofOf S cert.cuts cert.nodes
+  proof = of.proof
+
   pub is_certificate : IsCertificate cert
   is_certificate = record {
-    tree = subst (λ claim. HasTree claim cert.nodes) (sym of.claim) (tree-claimed S.model of.incumbent cert.nodes (record { tree = of.tree; nodes_are = of.nodes }));
-    narrow = subst (All IsNarrowNode) of.nodes (narrow-tree S.model [] S.tree.root of.tree sound.tree.narrow of.like);
+    tree = subst (λ claim. HasTree claim cert.nodes) (sym of.claim) (tree-claimed S.model of.incumbent cert.nodes (record { tree = proof.tree; nodes_are = proof.nodes_are }));
+    narrow = subst (All IsNarrowNode) proof.nodes_are (narrow-tree (formulation_of S) (used_number proof.used) [] S.tree.root proof.tree sound.tree.narrow proof.like);
     point = subst (λ T. T) (λ i. HasNoPoint (sym of.claim i) (sym of.point i)) (none-claimed S.model of.incumbent);
     ray = subst (λ T. T) (λ i. HasNoRay (sym of.claim i) (sym of.ray i)) (no_ray-claimed S.model of.incumbent);
-    cuts = subst (λ T. T) (λ i. HasNoCuts (sym of.claim i) (sym of.cuts i)) (no_cuts-claimed S.model of.incumbent);
+    cuts = subst (λ claim. HasNoCuts claim cert.cuts) (sym of.claim) (cuts-claimed S.model of.incumbent cert.cuts);
   }
+
+  nodes_pass : IsLawfulModel S.model → HasNoOpenLeaf S → All (λ p. IsVisitJudged (formulation_by S.model (named_cuts S.model S.cuts proof.used)) cert.claim p Passes) (visits S.model [] proof.tree)
+  nodes_pass lawful closed =
+      let cuts : List NamedCut = named_cuts S.model S.cuts proof.used in
+      tree-passes (formulation_of S) lawful proof.used proof.rising proof.live (rows_of S.model cuts) (used_size S.model lawful S.cuts sound.pool proof.used) (used_rows S.model lawful S.cuts sound.pool proof.used proof.live)
+      (target S.model S.points) cert.claim (subst (IsClaimFor S.model (target S.model S.points)) (sym of.claim) (claim_for S of.incumbent of.best)) [] S.tree.root proof.tree
+      (subst (All (NodeNamesFirst (length proof.used))) (sym proof.nodes_are) proof.named.within) sound.tree.lawful sound.tree.lists sound.judged closed proof.like
 
   pub is_accepted : IsLawfulModel S.model → HasNoOpenLeaf S → IsVerdict S.model cert (Accepted cert.claim)
   is_accepted lawful closed = record {
-    visited = visits S.model [] of.tree;
-    are = subst (λ claim. AreVisits S.model claim cert.nodes (visits S.model [] of.tree)) (sym of.claim) (visits-claimed S.model of.incumbent cert.nodes of.tree of.nodes);
+    visited = visits S.model [] proof.tree;
+    are = subst (λ claim. AreVisits S.model claim cert.nodes (visits S.model [] proof.tree)) (sym of.claim) (visits-claimed S.model of.incumbent cert.nodes proof.tree proof.nodes_are);
     is = (
       refl,
       inl (
         subst (λ T. T) (λ i. IsClaimJudged S.model (sym of.claim i) (sym of.point i) cert.ray Passes) (claim-passes S of.incumbent cert.ray sound lawful of.best),
-        subst (λ cuts. AreCutsJudged S.model cuts Passes) (sym of.cuts) (all_none (λ cut. IsCutJudged S.model cut Passes)),
+        subst (λ cuts. AreCutsJudged S.model cuts Passes) (sym proof.cuts_are) (used_pass S.model lawful S.cuts sound.pool proof.used proof.live),
       ),
-      subst (λ cuts. All (λ p. IsVisitJudged (formulation_by S.model cuts) cert.claim p Passes) (visits S.model [] of.tree)) (sym of.cuts) (tree-passes S.model lawful (target S.model S.points) cert.claim (subst (IsClaimFor S.model (target S.model S.points)) (sym of.claim) (claim_for S of.incumbent of.best)) [] S.tree.root of.tree sound.tree.lawful sound.tree.lists sound.judged closed of.like),
+      subst (λ cuts. All (λ p. IsVisitJudged (formulation_by S.model cuts) cert.claim p Passes) (visits S.model [] proof.tree)) (sym proof.cuts_are) (nodes_pass lawful closed),
     );
   }
 

@@ -1,5 +1,9 @@
 pub mod TreeWalk
 pub mod NameLaws
+pub mod MultLaws
+pub mod ChosenLaws
+pub mod CutNames
+pub mod UsedLaws
 pub mod AcceptedLaws
 pub mod WordLaws
 pub mod StatedLaws

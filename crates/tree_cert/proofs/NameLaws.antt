@@ -4,31 +4,25 @@ use Rattle.std.specs.Prelude.{All, AllPairs, Contains, bytes_eq, pos}
 use Rattle.std.proofs.lemmas.List.{length-map, drop_more, drop_all, get_or_default}
 use Rattle.std.proofs.lemmas.Slice.Eq.{bytes_eq-Decides}
 use Rattle.std.proofs.lemmas.Bool.{false_from_ne_true}
-use Rattle.std.proofs.lemmas.List.Kept.{AllPairs-cons}
 use Rattle.rational.specs.Rational.{ℚ, int}
 use Rattle.rational.proofs.Comparison.{eq_by_cmp-decides}
 use Rattle.lp_model.specs.Program.{Program, Point}
 use Rattle.lp_model.specs.Elements.{of_element}
 use Rattle.lp_model.specs.Lawful.{column_names}
 use Rattle.lp_model.specs.Edits.{Named, number_beside, is_zero}
-use Rattle.lp_model.specs.Formulations.{without_cuts}
 use Rattle.lp_model.proofs.NameLemmas.{get_or-map}
 use Rattle.lp_model.specs.declared.types.Col.{Col}
 use Rattle.lp_model.specs.declared.types.Var.{Var}
-use Rattle.lp_model.specs.declared.types.Var.TheVariants.{Row, Col as ColVar, Cut}
 use Rattle.leaf_dual.specs.Dual.{Multipliers}
-use Rattle.tree_edit.specs.Lists.{IsActivityThere, AreMultipliers}
 use Rattle.cert_check.specs.Places.{place_among}
-use Rattle.lp_model.specs.Edits.{only_row_names}
-use Rattle.cert_check.specs.Mults.{IsMultiplierThere, Differ, AreMults, mults_of}
 use Rattle.cert_check.specs.Accepted.{AreNames, point_of}
 use Rattle.cert_check.proofs.PairLemmas.{place_is}
-use Rattle.tree_cert.specs.Certificates.{activity_name, named_mult, row_mults, unless_zero, nonzero_numbers}
+use Rattle.tree_cert.specs.Certificates.{unless_zero, nonzero_numbers}
 use Rattle.lp_model.specs.Lawful.{column_name}
 
 -- ---- lists
 
-element-get : {A B : Type 0} (d : B) (f : A → B) (xs : List A) (k : ℕ) → get_or (map f xs) k d ≡ of_element d f xs k
+pub element-get : {A B : Type 0} (d : B) (f : A → B) (xs : List A) (k : ℕ) → get_or (map f xs) k d ≡ of_element d f xs k
 element-get d f [] zero = refl
 element-get d f [] (suc k) = refl
 element-get d f (x ∷ xs) zero = refl
@@ -65,7 +59,7 @@ module _ {A : Type 0} where
   pub once_rest : (x : A) (xs : List A) → AllPairs (λ a b. a ≢ b) (x ∷ xs) → AllPairs (λ a b. a ≢ b) xs
   once_rest x xs once i j d early late = once (suc i) (suc j) d (omega (arith, early)) (omega (arith, late))
 
-contains_at : (names : List (List ℕ)) (k : ℕ) (name : List ℕ) → k < length names → get_or names k [] ≡ name → Contains names name
+pub contains_at : (names : List (List ℕ)) (k : ℕ) (name : List ℕ) → k < length names → get_or names k [] ≡ name → Contains names name
 contains_at names k name below is = (k, below, same)
   where
     same : get_or names k name ≡ name
@@ -90,66 +84,6 @@ module _ (M : Program) (once : AllPairs (λ a b. a ≢ b) (column_names M)) (j :
 
   pub column_there : Contains (column_names M) (column_name M j)
   column_there = contains_at (column_names M) j (column_name M j) column_within (element-get [] (λ c. c.name) M.cols j)
-
--- ---- rows
-
-module _ (M : Program) (once : AllPairs (λ a b. a ≢ b) (only_row_names M)) where
-  row_within : (k : ℕ) → k < length M.rows → k < length (only_row_names M)
-  row_within k there = let l = length-map M.rows (λ r. r.name) in omega (arith, l, there)
-
-  row_is : (k : ℕ) → get_or (only_row_names M) k [] ≡ of_element [] (λ r. r.name) M.rows k
-  row_is k = element-get [] (λ r. r.name) M.rows k
-
-  read_back : (m : Var × ℚ) → IsActivityThere (without_cuts M) m.0 → (Row (record { 0 = place_among (only_row_names M) (activity_name M m.0) }), m.1) ≡ m
-  read_back (Row row, y) there = ap (λ k. (Row (record { 0 = k }), y)) (sym (place_is (only_row_names M) (activity_name M (Row row)) row.0 once (row_within row.0 there) (row_is row.0)))
-  read_back (ColVar col, y) there = absurd there
-  read_back (Cut cut, y) there = let h : cut.0 < 0 = there in absurd (omega arith)
-
-  -- multipliers that are written by the names of their rows are read as they were
-  pub rows_read : (mult : Multipliers) → All (IsActivityThere (without_cuts M)) (map (λ (m : Var × ℚ). m.0) mult) → mults_of M (row_mults M mult) ≡ mult
-  rows_read [] there = refl
-  rows_read (m ∷ mult) there =
-      (λ i. read_back m (all_first (IsActivityThere (without_cuts M)) m.0 (map (λ (m : Var × ℚ). m.0) mult) there) i
-      ∷ rows_read mult (all_rest (IsActivityThere (without_cuts M)) m.0 (map (λ (m : Var × ℚ). m.0) mult) there) i)
-
-  there_row : (m : Var) → IsActivityThere (without_cuts M) m → Contains (only_row_names M) (activity_name M m)
-  there_row (Row row) there = contains_at (only_row_names M) row.0 (activity_name M (Row row)) (row_within row.0 there) (row_is row.0)
-  there_row (ColVar col) there = absurd there
-  there_row (Cut cut) there = let h : cut.0 < 0 = there in absurd (omega arith)
-
-  same_row : (a b : Var) → IsActivityThere (without_cuts M) a → IsActivityThere (without_cuts M) b → activity_name M a ≡ activity_name M b → a ≡ b
-  same_row (Row r) (Row s) first second same =
-      ap (λ k. Row (record { 0 = k }))
-      (place_is (only_row_names M) (activity_name M (Row r)) r.0 once (row_within r.0 first) (row_is r.0)
-      ∙ ap (place_among (only_row_names M)) same
-      ∙ sym (place_is (only_row_names M) (activity_name M (Row s)) s.0 once (row_within s.0 second) (row_is s.0)))
-  same_row (Row r) (ColVar col) first second same = absurd second
-  same_row (Row r) (Cut cut) first second same = let h : cut.0 < 0 = second in absurd (omega arith)
-  same_row (ColVar col) b first second same = absurd first
-  same_row (Cut cut) b first second same = let h : cut.0 < 0 = first in absurd (omega arith)
-
-  rows_there : (mult : Multipliers) → All (IsActivityThere (without_cuts M)) (map (λ (m : Var × ℚ). m.0) mult) → All (IsMultiplierThere M 0) (row_mults M mult)
-  rows_there [] there = all_none (IsMultiplierThere M 0)
-  rows_there (m ∷ mult) there =
-      all_cons (IsMultiplierThere M 0) (named_mult M m) (row_mults M mult) (there_row m.0 (all_first (IsActivityThere (without_cuts M)) m.0 (map (λ (m : Var × ℚ). m.0) mult) there))
-      (rows_there mult (all_rest (IsActivityThere (without_cuts M)) m.0 (map (λ (m : Var × ℚ). m.0) mult) there))
-
-  differ_from : (a : Var × ℚ) → IsActivityThere (without_cuts M) a.0 → (mult : Multipliers) → All (IsActivityThere (without_cuts M)) (map (λ (m : Var × ℚ). m.0) mult) → All (λ b. a.0 ≢ b) (map (λ (m : Var × ℚ). m.0) mult) → All (Differ (named_mult M a)) (row_mults M mult)
-  differ_from a here [] there differ = all_none (Differ (named_mult M a))
-  differ_from a here (m ∷ mult) there differ =
-      all_cons (Differ (named_mult M a)) (named_mult M m) (row_mults M mult)
-      (λ same. all_first (λ b. a.0 ≢ b) m.0 (map (λ (m : Var × ℚ). m.0) mult) differ (same_row a.0 m.0 here (all_first (IsActivityThere (without_cuts M)) m.0 (map (λ (m : Var × ℚ). m.0) mult) there) same))
-      (differ_from a here mult (all_rest (IsActivityThere (without_cuts M)) m.0 (map (λ (m : Var × ℚ). m.0) mult) there) (all_rest (λ b. a.0 ≢ b) m.0 (map (λ (m : Var × ℚ). m.0) mult) differ))
-
-  rows_once : (mult : Multipliers) → All (IsActivityThere (without_cuts M)) (map (λ (m : Var × ℚ). m.0) mult) → AllPairs (λ a b. a ≢ b) (map (λ (m : Var × ℚ). m.0) mult) → AllPairs Differ (row_mults M mult)
-  rows_once [] there differ = λ i j d early late. absurd (omega (arith, late))
-  rows_once (m ∷ mult) there differ =
-      AllPairs-cons Differ (named_mult M m) (row_mults M mult)
-      (differ_from m (all_first (IsActivityThere (without_cuts M)) m.0 (map (λ (m : Var × ℚ). m.0) mult) there) mult (all_rest (IsActivityThere (without_cuts M)) m.0 (map (λ (m : Var × ℚ). m.0) mult) there) (once_first m.0 (map (λ (m : Var × ℚ). m.0) mult) differ))
-      (rows_once mult (all_rest (IsActivityThere (without_cuts M)) m.0 (map (λ (m : Var × ℚ). m.0) mult) there) (once_rest m.0 (map (λ (m : Var × ℚ). m.0) mult) differ))
-
-  pub rows_named : (mult : Multipliers) → AreMultipliers (without_cuts M) mult → AreMults M 0 (row_mults M mult)
-  rows_named mult h = record { there = rows_there mult h.each; once = rows_once mult h.each h.once }
 
 -- ---- points
 

@@ -6,8 +6,9 @@
 //! ```text
 //! a split on column j at v      split NAME v             NAME is column j's
 //! a closed leaf                 leaf empty               some column has no number between its bounds in the region
-//!                               leaf farkas [row NAME y] else, the leaf's Farkas multipliers, where their number is above 0
-//!                               leaf bound [row NAME y]  else, the leaf's multipliers
+//!                               leaf farkas [row NAME y | cut K y]   else, the leaf's Farkas multipliers, where their number is above 0
+//!                               leaf bound [row NAME y | cut K y]    else, the leaf's multipliers
+//! a cut that a line names       cut ROW hi [+NAME | -NAME]   one that counts, by its derivation; K is its number among these lines
 //! the best kept point x         claim optimal V          V is its value, in the model's own sense
 //!                               point [NAME x]           its numbers that are not 0, in the order of the columns
 //! no kept point                 claim infeasible
@@ -20,7 +21,7 @@
 //! `check` accepts it for the search's model: no step lacks room, since each leaf was closed by the same steps.
 //! `print_cert` writes a text that states the certificate, where its names are words (specs/CertText); they are where the
 //! model's are (`names_law`, `unbounded_names_law`), and in what some text states (`print_law`), cuts among it. So `read_cert`
-//! reads back what was printed. The certificate of a search has no cuts.
+//! reads back what was printed. A cut that does not count is left out, and so is its multiplier.
 //!
 //! The walk keeps the path to a node and no stack of its own, and memory is linear in the tree.
 //!
@@ -33,6 +34,7 @@ mod names;
 mod printing;
 // (certificates of whole searches are tried where they are written and checked,
 // in `script_rows`)
+mod used;
 mod walk;
 mod writing;
 

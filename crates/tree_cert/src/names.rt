@@ -1,14 +1,17 @@
-// Numbers beside the names of rows and columns.
-ghost use Rattle.std.specs.Prelude.{◌≡◌, ◌<◌, ◌++◌, [], length, IfOk};
-ghost use Rattle.lp_model.specs.Formulations.{without_cuts};
+// Numbers beside the names of rows and columns, and cuts by names.
+ghost use Rattle.std.specs.Prelude.{◌≡◌, suc, ◌<◌, ◌++◌, [], length, map, All, IfOk};
+ghost use Rattle.lp_model.specs.Formulations.{formulation};
 ghost use Rattle.tree_edit.specs.Lists.{IsActivityThere, AreMultipliers};
-ghost use Rattle.tree_cert.specs.Certificates.{activity_name, row_mults, unless_zero, nonzero_numbers};
-ghost use Rattle.lp_model.specs.Lawful.{column_name};
-ghost use Rattle.lp_model.specs.declared.types.Var.TheVariants.{Row};
+ghost use Rattle.tree_cert.specs.Certificates.{unless_zero, nonzero_numbers};
+ghost use Rattle.tree_cert.specs.Cuts.{named_literal, named_cut, derivation_at, named_cuts, cut_named, mult_named, mults_named};
+ghost use Rattle.tree_cert.specs.Marked.{IsDerivationThere};
+ghost use Rattle.lp_model.specs.Lawful.{row_name, column_name};
 
-use cert_text::CertMult;
+use cert_text::{CertMult, NamedCut};
 use frac128::Frac;
-use lp_model::{Col, ColId, List, Model, Name, Point, RowId, Var};
+use lp_model::{
+    Col, ColId, CutId, CutRow, Derivation, List, Literal, Model, Name, Point, RowId, Var,
+};
 use std::alloc::{AllocError, Global};
 
 /// The name of a column.
@@ -21,40 +24,120 @@ pub(crate) fn column_name(alloc: Global, model: &Model, col: ColId) -> Result<Na
 }
 
 /// The name of a row.
-fn name_of_row(alloc: Global, model: &Model, row: RowId) -> Result<Name, AllocError>
+fn row_name(alloc: Global, model: &Model, row: RowId) -> Result<Name, AllocError>
     requires { row.0 < length model.now.rows }
-    ensures { IfOk result (λ name. name ≡ activity_name model.now (Row row)) }
+    ensures { IfOk result (λ name. name ≡ row_name model.now row.0) }
 {
     let found = &model.rows()[row.0 as usize];
     Name::from_slice(alloc, found.name.as_slice())
 }
 
-/// The name of the row that a multiplier is for. Multipliers are those of rows.
-fn row_name(alloc: Global, model: &Model, var: Var) -> Result<Name, AllocError>
-    requires { IsActivityThere (without_cuts model.now) var }
-    ensures { IfOk result (λ name. name ≡ activity_name model.now var) }
+/// A multiplier of a cut by its place, from 1, if it counts.
+fn add_cut(
+    mults: &mut List<CertMult>,
+    cuts: &[CutRow],
+    cut: CutId,
+    number: Frac,
+) -> Result<(), AllocError>
+    requires { cut.0 < length cuts.now }
+    ensures { IfOk result (λ _. mults.new ≡ mults.old ++ cut_named cuts.now suc cut.0 number) }
+{
+    let live = cuts[cut.0 as usize].live;
+    if !live {
+        return Ok(());
+    }
+    mults.push(CertMult::Cut(u64::from(cut.0) + 1, number))?;
+    Ok(())
+}
+
+/// A multiplier, of a row by its name and of a cut that counts by its place, from 1.
+fn add_mult(
+    alloc: Global,
+    mults: &mut List<CertMult>,
+    model: &Model,
+    cuts: &[CutRow],
+    var: Var,
+    number: Frac,
+) -> Result<(), AllocError>
+    requires { IsActivityThere (formulation model.now cuts.now) var }
+    ensures { IfOk result (λ _. mults.new ≡ mults.old ++ mult_named (formulation model.now cuts.now) suc var number) }
 {
     match var {
-        Var::Row(row) => name_of_row(alloc, model, row),
-        _ => Ok(Name::new(alloc)),
+        Var::Row(row) => {
+            let name = row_name(alloc, model, row)?;
+            mults.push(CertMult::Row(name, number))?;
+            Ok(())
+        }
+        Var::Cut(cut) => add_cut(mults, cuts, cut, number),
+        Var::Col(_) => Ok(()),
     }
 }
 
-/// Multipliers by the names of their rows.
-pub(crate) fn row_mults(
+/// Multipliers, of rows by their names and of the cuts that count by their places, from 1.
+pub(crate) fn mults_named(
     alloc: Global,
     model: &Model,
+    cuts: &[CutRow],
     mult: &[(Var, Frac)],
 ) -> Result<List<CertMult>, AllocError>
-    requires { AreMultipliers (without_cuts model.now) mult.now }
-    ensures { IfOk result (λ mults. mults ≡ row_mults model.now mult.now) }
+    requires { AreMultipliers (formulation model.now cuts.now) mult.now }
+    ensures { IfOk result (λ mults. mults ≡ mults_named (formulation model.now cuts.now) suc mult.now) }
 {
     let mut mults = List::new(alloc);
     for (var, number) in mult {
-        let name = row_name(alloc, model, *var)?;
-        mults.push(CertMult::Row(name, *number))?;
+        add_mult(alloc, &mut mults, model, cuts, *var, *number)?;
     }
     Ok(mults)
+}
+
+/// Literals by the names of their columns.
+fn named_literals(
+    alloc: Global,
+    model: &Model,
+    literals: &[Literal],
+) -> Result<List<(Name, bool)>, AllocError>
+    requires { All (λ l. l.col.0 < length model.now.cols) literals.now }
+    ensures { IfOk result (λ named. named ≡ map (named_literal model.now) literals.now) }
+{
+    let mut named = List::new(alloc);
+    for literal in literals {
+        let name = column_name(alloc, model, literal.col)?;
+        named.push((name, literal.plus))?;
+    }
+    Ok(named)
+}
+
+/// A derivation by names.
+fn named_cut(alloc: Global, model: &Model, from: &Derivation) -> Result<NamedCut, AllocError>
+    requires { IsDerivationThere model.now from.now }
+    ensures { IfOk result (λ cut. cut ≡ named_cut model.now from.now) }
+{
+    let row = row_name(alloc, model, from.row)?;
+    let literals = named_literals(alloc, model, from.literals.as_slice())?;
+    Ok(NamedCut {
+        row,
+        side: from.side,
+        literals,
+    })
+}
+
+/// The cuts at these places of a pool, by names.
+pub(crate) fn named_cuts(
+    alloc: Global,
+    model: &Model,
+    cuts: &[CutRow],
+    used: &[usize],
+) -> Result<List<NamedCut>, AllocError>
+    requires within { All (λ k. k < length cuts.now) used.now }
+    requires there { All (λ k. IsDerivationThere model.now (derivation_at cuts.now k)) used.now }
+    ensures { IfOk result (λ named. named ≡ named_cuts model.now cuts.now used.now) }
+{
+    let mut named = List::new(alloc);
+    for index in 0..used.len() {
+        let cut = named_cut(alloc, model, &cuts[used[index]].from)?;
+        named.push(cut)?;
+    }
+    Ok(named)
 }
 
 /// A number beside the name of its column, where it is not 0.

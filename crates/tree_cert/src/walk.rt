@@ -1,7 +1,9 @@
 // The walk through the nodes of a tree.
-ghost use Rattle.std.specs.Prelude.{◌≡◌, ◌<◌, ◌+ℤ◌, ◌++◌, ◌∷◌, [], pos, length, IfOk};
+ghost use Rattle.std.specs.Prelude.{◌≡◌, suc, ◌<◌, ◌+ℤ◌, ◌++◌, ◌∷◌, [], pos, length, IfOk};
 ghost use Rattle.frac128.specs.Range.{IsNarrow};
 ghost use Rattle.lp_model.specs.Regions.{at_least};
+ghost use Rattle.lp_model.specs.Formulations.{formulation};
+ghost use Rattle.leaf_dual.specs.Dual.{HavePlaces};
 ghost use Rattle.cert_check.specs.Walk.{after_leaf};
 ghost use Rattle.tree_cert.specs.Walked.{path_after, IsNodeOf, AreNodesOf, IsFit, AreFit, HasTurns};
 
@@ -9,7 +11,7 @@ use crate::leaf::leaf_node;
 use crate::names::column_name;
 use branch_tree::Node;
 use cert_text::CertNode;
-use lp_model::{BoundChange, List, Model, Side};
+use lp_model::{BoundChange, CutRow, List, Model, Side};
 use std::alloc::{AllocError, Global};
 
 /// The change to the second child of a split, whose first child is that of the change.
@@ -51,39 +53,43 @@ fn step_on(path: &mut Vec<BoundChange>, node: &Node) -> Result<(), AllocError>
     }
 }
 
-/// The certificate's node for a node with this path.
+/// The certificate's node for a node with this path. It names the cuts that count by their places, from 1.
 fn cert_node(
     alloc: Global,
     model: &Model,
+    cuts: &[CutRow],
     path: &[BoundChange],
     node: &Node,
 ) -> Result<CertNode, AllocError>
     requires turns { HasTurns path.now }
-    requires fit { IsFit model.now node.now }
-    ensures { IfOk result (λ c. IsNodeOf model.now path.now node.now c) }
+    requires places { HavePlaces cuts.now }
+    requires fit { IsFit (formulation model.now cuts.now) node.now }
+    ensures { IfOk result (λ c. IsNodeOf (formulation model.now cuts.now) suc path.now node.now c) }
 {
     match node {
         Node::Split { col, v, .. } => Ok(CertNode::Split {
             col: column_name(alloc, model, *col)?,
             v: *v,
         }),
-        Node::Leaf { kept, .. } => leaf_node(alloc, model, path, kept),
+        Node::Leaf { kept, .. } => leaf_node(alloc, model, cuts, path, kept),
     }
 }
 
-/// The certificate's nodes for the nodes of a tree in preorder.
+/// The certificate's nodes for the nodes of a tree in preorder. They name the cuts that count by their places, from 1.
 pub(crate) fn cert_nodes(
     alloc: Global,
     model: &Model,
+    cuts: &[CutRow],
     nodes: &[Node],
 ) -> Result<List<CertNode>, AllocError>
-    requires { AreFit model.now nodes.now }
-    ensures { IfOk result (λ certs. AreNodesOf model.now [] nodes.now certs) }
+    requires places { HavePlaces cuts.now }
+    requires fit { AreFit (formulation model.now cuts.now) nodes.now }
+    ensures { IfOk result (λ certs. AreNodesOf (formulation model.now cuts.now) suc [] nodes.now certs) }
 {
     let mut path = Vec::new(alloc);
     let mut certs = List::new(alloc);
     for node in nodes {
-        let cert = cert_node(alloc, model, &path, node)?;
+        let cert = cert_node(alloc, model, cuts, &path, node)?;
         certs.push(cert)?;
         step_on(&mut path, node)?;
     }

@@ -1,21 +1,22 @@
 // The certificate of a finished search, and that of a model with a ray.
-ghost use Rattle.std.specs.Prelude.{◌≡◌, true, IfOk, length, Option, Ok};
+ghost use Rattle.std.specs.Prelude.{◌≡◌, suc, true, IfOk, length, Option, Ok};
 ghost use Rattle.lp_model.specs.Program.{Point};
 ghost use Rattle.lp_model.specs.Answers.{IsFeasibilityAnswer};
 ghost use Rattle.lp_model.specs.Rays.{IsRayJudged};
 ghost use Rattle.tree_edit.specs.Laws.{HasNoOpenLeaf};
-ghost use Rattle.tree_edit.specs.Sound.{IsSound};
+ghost use Rattle.tree_edit.specs.Sound.{IsSound, formulation_of};
 ghost use Rattle.tree_edit.specs.Points.{IsIncumbent};
 ghost use Rattle.cert_check.specs.Verdict.{IsVerdict};
 ghost use Rattle.cert_text.specs.Whole.{IsCertificate};
 ghost use Rattle.cert_text.specs.declared.cert.Claim.TheVariants.{Unbounded};
 ghost use Rattle.cert_check.specs.declared.verdict.Verdict.TheVariants.{Accepted};
 ghost use Rattle.tree_cert.specs.Walked.{AreOfTree};
-ghost use Rattle.tree_cert.specs.Certificates.{claim_of, point_numbers, IsCertificateOf, unbounded_certificate};
+ghost use Rattle.tree_cert.specs.Certificates.{claim_of, point_numbers, IsProofOf, IsCertificateOf, unbounded_certificate};
 
-use crate::names::nonzero_numbers;
+use crate::names::{named_cuts, nonzero_numbers};
+use crate::used::{renumbered_nodes, used_by};
 use crate::walk::cert_nodes;
-use cert_text::{Cert, CertNode, Claim};
+use cert_text::{Cert, CertNode, Claim, NamedCut};
 use frac128::Frac;
 use lp_model::{List, Model, Name, Point};
 use std::alloc::{AllocError, Global};
@@ -42,13 +43,33 @@ fn point(alloc: Global, search: &Search) -> Result<List<(Name, Frac)>, AllocErro
     }
 }
 
-/// The nodes of the search's tree.
-fn nodes(alloc: Global, search: &Search) -> Result<List<CertNode>, AllocError>
-    ensures { IfOk result (λ certs. AreOfTree search.now.model search.now.tree.root certs) }
+/// The nodes of the search's tree. They name the cuts that count by their places, from 1.
+fn placed_nodes(alloc: Global, search: &Search) -> Result<List<CertNode>, AllocError>
+    ensures { IfOk result (λ certs. AreOfTree (formulation_of search.now) suc search.now.tree.root certs) }
 {
     let nodes = search.tree().preorder()?;
-    let certs = cert_nodes(alloc, search.model(), &nodes)?;
+    let certs = cert_nodes(alloc, search.model(), search.pool().rows(), &nodes)?;
     Ok(certs)
+}
+
+/// The cuts and the nodes of a certificate.
+#[derive(Drop)]
+struct Reasoning {
+    cuts: List<NamedCut>,
+    nodes: List<CertNode>,
+}
+
+/// The search's tree, and of its cuts that count those that a leaf's line names.
+fn proof(alloc: Global, search: &Search) -> Result<Reasoning, AllocError>
+    ensures { IfOk result (λ proof. IsProofOf search.now proof.cuts proof.nodes) }
+{
+    let _sound = search.points();
+    let pool = search.pool().rows();
+    let placed = placed_nodes(alloc, search)?;
+    let used = used_by(alloc, pool.len(), placed.as_slice())?;
+    let nodes = renumbered_nodes(alloc, &used.counts, placed.as_slice())?;
+    let cuts = named_cuts(alloc, search.model(), pool, &used.places)?;
+    Ok(Reasoning { cuts, nodes })
 }
 
 /// The certificate of a search without an open leaf. `check` accepts it for the search's model.
@@ -62,9 +83,9 @@ pub fn certificate(alloc: Global, search: &Search) -> Result<Cert, AllocError>
     let _lawful = search.model().rows();
     let claim = claim(search);
     let point = point(alloc, search)?;
-    let nodes = nodes(alloc, search)?;
+    let found = proof(alloc, search)?;
     let ray = List::new(alloc);
-    let cuts = List::new(alloc);
+    let Reasoning { cuts, nodes } = found;
     Ok(Cert {
         claim,
         point,

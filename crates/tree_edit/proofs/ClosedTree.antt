@@ -10,7 +10,7 @@ use Rattle.lp_model.specs.Program.{Program, Point, least_value, IsFeasible, IsOp
 use Rattle.lp_model.specs.Regions.{Path, InRegion}
 use Rattle.lp_model.specs.Formulations.{Formulation, IsValid}
 use Rattle.lp_model.proofs.RegionLemmas.{empty_region}
-use Rattle.lp_model.proofs.FormulationLemmas.{valid-without_cuts}
+use Rattle.cover_cuts.proofs.CutLaws.{pool-met, pool-terms}
 use Rattle.leaf_dual.specs.Dual.{Multipliers}
 use Rattle.leaf_dual.specs.declared.dual.LagValue.TheVariants.{Num}
 use Rattle.leaf_dual.proofs.WeakDuality.{lag_answer-bound, farkas_answer-none, closes-bound}
@@ -77,6 +77,10 @@ no_better-above : (M : Program) (b : ℚ) (t : Option ℚ) (y : Point) → IsBel
 no_better-above M b None y h k = absurd k
 no_better-above M b (Some t) y h k = ≤ℚ_trans h k
 
+-- each feasible point meets the cuts of a sound search that count
+pub valid-sound : (S : PlainSearch) → IsSound S → IsValid (formulation_of S)
+valid-sound S sound = record { terms = pool-terms S.model S.cuts sound.pool; met = λ x feasible. pool-met S.model x feasible S.cuts sound.pool }
+
 -- ---- the tree
 
 pub each_both : {S L : Type 0} (P Q : Path → L → Type 0) (path : Path) (t : Tree S L) → EachLeaf P path t → EachLeaf Q path t → EachLeaf (λ p l. P p l × Q p l) path t
@@ -90,7 +94,7 @@ module _ (S : PlainSearch) (sound : IsSound S) where
       let one = point_in_one_leaf S.model S.tree.root y sound.tree.lawful feasible in
       let both = leaf_with_both (λ path l. InRegion path y) (λ path l. IsJudgedLeaf (formulation_of S) (target S.model S.points) path l.kept × (l.kept.state ≡ IsClosed)) [] S.tree.root
       (each_both (λ path l. IsJudgedLeaf (formulation_of S) (target S.model S.points) path l.kept) (λ path l. l.kept.state ≡ IsClosed) [] S.tree.root sound.judged closed) one in
-      judged-bound (formulation_of S) (valid-without_cuts S.model) y feasible both.0 both.1.1.0 (target S.model S.points) both.1.0.kept both.1.1.1.0 both.1.1.1.1
+      judged-bound (formulation_of S) (valid-sound S sound) y feasible both.0 both.1.1.0 (target S.model S.points) both.1.0.kept both.1.1.1.0 both.1.1.1.1
 
 pub sound-empty : (S : PlainSearch) → IsSound S → HasNoOpenLeaf S → S.points ≡ [] → IsEmpty S.model
 sound-empty S sound closed none y feasible =
@@ -118,5 +122,5 @@ sound-bound S b sound below y feasible =
   where
     by : (path : Path) (l : LeafKept) (s : LeafState) → l.kept.state ≡ s → InRegion path y → IsJudgedLeaf (formulation_of S) (target S.model S.points) path l.kept → (l.kept.state ≡ IsOpen → IsBelowLeaf (formulation_of S) b path l) →
         (b ≤ℚ least_value S.model 1 y) ⊎ IsNoBetter S.model (target S.model S.points) y
-    by path l IsOpen e inside judged h = inl (below-bound (formulation_of S) (valid-without_cuts S.model) y feasible path inside b l (h e))
-    by path l IsClosed e inside judged h = inr (judged-bound (formulation_of S) (valid-without_cuts S.model) y feasible path inside (target S.model S.points) l.kept judged e)
+    by path l IsOpen e inside judged h = inl (below-bound (formulation_of S) (valid-sound S sound) y feasible path inside b l (h e))
+    by path l IsClosed e inside judged h = inr (judged-bound (formulation_of S) (valid-sound S sound) y feasible path inside (target S.model S.points) l.kept judged e)

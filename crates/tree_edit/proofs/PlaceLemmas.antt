@@ -1,9 +1,8 @@
 -- The open leaf of a result, and what its answer means for the whole search.
 use Rattle.std.specs.Prelude.{◌≡◌, ℕ, [], Option, Some, None, IfOk, Result, Ok, Err, MatchOption}
 use Rattle.std.proofs.Common.{subst, sym, arith}
-use Rattle.lp_model.specs.Program.{Program}
 use Rattle.lp_model.specs.Regions.{Path, AreNarrow}
-use Rattle.lp_model.specs.Formulations.{without_cuts}
+use Rattle.lp_model.specs.Formulations.{Formulation}
 use Rattle.branch_tree.specs.Tree.{Leaf, Split, left_path, right_path, EachLeaf}
 use Rattle.branch_tree.specs.Plain.{Plain, leaf_below, leaves_with, data_of, path_of}
 use Rattle.branch_tree.specs.Changes.{HasLeaf}
@@ -23,9 +22,9 @@ use Rattle.tree_edit.proofs.QueuedLemmas.{leaf_of_data}
 
 -- ---- the leaf
 
-each-lists : (M : Program) (path : Path) (t : Plain) → HasNodeLists (without_cuts M) t → EachLeaf (λ p l. HasLists (without_cuts M) l.kept) path t
-each-lists M path (Leaf l) h = h
-each-lists M path (Split kept j v left right) h = (each-lists M (left_path path j v) left h.1.0, each-lists M (right_path path j v) right h.1.1)
+pub each-lists : (F : Formulation) (path : Path) (t : Plain) → HasNodeLists F t → EachLeaf (λ p l. HasLists F l.kept) path t
+each-lists F path (Leaf l) h = h
+each-lists F path (Split kept j v left right) h = (each-lists F (left_path path j v) left h.1.0, each-lists F (right_path path j v) right h.1.1)
 
 pub some_same : {A : Type 0} (a b : A) → Some a ≡ Some b → a ≡ b
 some_same a b h = cc
@@ -33,7 +32,7 @@ some_same a b h = cc
 pub lists-found : (S : PlainSearch) (id : ℕ) (kept : LeafData) → IsSound S → data_of id S.tree.root ≡ Some kept → HasLists (formulation_of S) kept
 lists-found S id kept sound found =
     let l = leaf_of_data (leaf_below id [] S.tree.root) kept found in
-    subst (HasLists (formulation_of S)) l.1.1 (each-found (λ p k. HasLists (formulation_of S) k.kept) id [] S.tree.root l.0 (each-lists S.model [] S.tree.root sound.tree.lists) l.1.0).0
+    subst (HasLists (formulation_of S)) l.1.1 (each-found (λ p k. HasLists (formulation_of S) k.kept) id [] S.tree.root l.0 (each-lists (formulation_of S) [] S.tree.root sound.tree.lists) l.1.0).0
 
 pub narrow-found : (S : PlainSearch) (id : ℕ) (path : Path) → IsSound S → path_of id S.tree.root ≡ Some path → AreNarrow path
 narrow-found S id path sound at = path-found AreNarrow id S.tree.root path (narrow_paths [] S.tree.root sound.tree.narrow tt) at

@@ -5,7 +5,7 @@ use Rattle.std.proofs.Common.{refl, sym, subst, ◌∙◌, arith, inl, inr}
 use Rattle.rational.specs.Rational.{ℚ}
 use Rattle.lp_model.specs.Program.{Program}
 use Rattle.lp_model.specs.Regions.{Path}
-use Rattle.lp_model.specs.Formulations.{Formulation, without_cuts}
+use Rattle.lp_model.specs.Formulations.{Formulation}
 use Rattle.branch_tree.specs.Tree.{Tree, Leaf, Split, left_path, right_path, EachLeaf}
 use Rattle.branch_tree.specs.Plain.{LeafKept, Plain, one_if_same, leaves_with, path_below, replaced}
 use Rattle.branch_tree.specs.Leaves.{leaf_count, with_state, with_states}
@@ -105,23 +105,23 @@ replaced-with : (P : Path → LeafKept → Type 0) (id : ℕ) (at : Path) (new :
 replaced-with P id at new path (Leaf l) h n = leaf_case (λ r k. EachLeaf P path r) id new l (λ e. subst (λ p. EachLeaf P p new) (sym (h.1 e)) n) (λ e. h.0)
 replaced-with P id at new path (Split kept j v left right) h n = (replaced-with P id at new (left_path path j v) left h.0 n, replaced-with P id at new (right_path path j v) right h.1 n)
 
-module _ (M : Program) where
-  lists-states : (states : List LeafState) (t : Plain) → HasNodeLists (without_cuts M) t → HasNodeLists (without_cuts M) (with_states states t)
+module _ (F : Formulation) where
+  lists-states : (states : List LeafState) (t : Plain) → HasNodeLists F t → HasNodeLists F (with_states states t)
   lists-states [] (Leaf l) h = h
   lists-states (s ∷ states) (Leaf l) h = record { mult = h.mult; farkas = h.farkas; basis = h.basis }
   lists-states [] (Split kept j v left right) h = (h.0, (lists-states [] left h.1.0, lists-states (drop (leaf_count left) []) right h.1.1))
   lists-states (s ∷ states) (Split kept j v left right) h = (h.0, (lists-states (s ∷ states) left h.1.0, lists-states (drop (leaf_count left) (s ∷ states)) right h.1.1))
 
-  pub tree-states : (states : List LeafState) (t : Plain) → IsSoundTree (without_cuts M) t → IsSoundTree (without_cuts M) (with_states states t)
+  pub tree-states : (states : List LeafState) (t : Plain) → IsSoundTree F t → IsSoundTree F (with_states states t)
   tree-states states t h = record { lawful = each_split-states _ states t h.lawful; narrow = each_split-states _ states t h.narrow; lists = lists-states states t h.lists }
 
   -- ---- another tree in a leaf's place
 
-  lists-replaced : (id : ℕ) (new : Plain) → HasNodeLists (without_cuts M) new → (t : Plain) → HasNodeLists (without_cuts M) t → HasNodeLists (without_cuts M) (replaced id new t)
-  lists-replaced id new n (Leaf l) h = leaf_case (λ r k. HasNodeLists (without_cuts M) r) id new l (λ e. n) (λ e. h)
+  lists-replaced : (id : ℕ) (new : Plain) → HasNodeLists F new → (t : Plain) → HasNodeLists F t → HasNodeLists F (replaced id new t)
+  lists-replaced id new n (Leaf l) h = leaf_case (λ r k. HasNodeLists F r) id new l (λ e. n) (λ e. h)
   lists-replaced id new n (Split kept j v left right) h = (h.0, (lists-replaced id new n left h.1.0, lists-replaced id new n right h.1.1))
 
-  pub tree-replaced : (id : ℕ) (new t : Plain) → IsSoundTree (without_cuts M) new → IsSoundTree (without_cuts M) t → IsSoundTree (without_cuts M) (replaced id new t)
+  pub tree-replaced : (id : ℕ) (new t : Plain) → IsSoundTree F new → IsSoundTree F t → IsSoundTree F (replaced id new t)
   tree-replaced id new t n h = record {
     lawful = each_split-replaced id new _ n.lawful t h.lawful;
     narrow = each_split-replaced id new _ n.narrow t h.narrow;
@@ -137,8 +137,10 @@ pub sound-with_leaf : (S : PlainSearch) (id : ℕ) (path : Path) (kept : LeafDat
 sound-with_leaf S id path kept sound at lists judged =
     let new : Plain = Leaf (record { id = id; kept = kept }) in
     record {
-      tree = tree-replaced S.model id new S.tree.root (record { lawful = tt; narrow = tt; lists = lists }) sound.tree;
+      tree = tree-replaced (formulation_of S) id new S.tree.root (record { lawful = tt; narrow = tt; lists = lists }) sound.tree;
       judged = judged-replaced (formulation_of S) (target S.model S.points) id path new S.tree.root at judged sound.judged;
       points = sound.points;
       few = sound.few;
+      pool = sound.pool;
+      few_cuts = sound.few_cuts;
     }

@@ -6,7 +6,7 @@ use Rattle.rational.specs.Rational.{ℚ}
 use Rattle.frac128.specs.Range.{IsNarrow, largest}
 use Rattle.lp_model.specs.Program.{Program}
 use Rattle.lp_model.specs.Regions.{Path, AreNarrow, at_most, at_least}
-use Rattle.lp_model.specs.Formulations.{without_cuts}
+use Rattle.lp_model.specs.Formulations.{Formulation}
 use Rattle.lp_model.specs.declared.types.BoundChange.{BoundChange}
 use Rattle.lp_model.specs.declared.types.Basis.{Basis}
 use Rattle.leaf_dual.specs.Dual.{Multipliers}
@@ -98,13 +98,13 @@ module _ (T : NumberedTree) (n : IsNumbered T) (id j : ℕ) (v : ℤ) (mult : Mu
 
 -- ---- soundness
 
-no_multipliers : (M : Program) → AreMultipliers (without_cuts M) []
-no_multipliers M = record { each = λ k d below. absurd (omega arith); once = λ i j d before below. absurd (omega arith) }
+no_multipliers : (F : Formulation) → AreMultipliers F []
+no_multipliers F = record { each = λ k d below. absurd (omega arith); once = λ i j d before below. absurd (omega arith) }
 
 child-lists : (S : PlainSearch) (path : Path) (mult : Multipliers) (basis : Basis) (leaf : LeafData) → AreMultipliers (formulation_of S) mult → IsBasis (formulation_of S) basis → IsChild S path mult basis leaf → HasLists (formulation_of S) leaf
 child-lists S path mult basis leaf m b child = record {
   mult = subst (AreMultipliers (formulation_of S)) (sym child.mult_is) m;
-  farkas = subst (AreMultipliers (formulation_of S)) (sym child.farkas_is) (no_multipliers S.model);
+  farkas = subst (AreMultipliers (formulation_of S)) (sym child.farkas_is) (no_multipliers (formulation_of S));
   basis = subst (IsBasis (formulation_of S)) (sym child.basis_is) b;
 }
 
@@ -121,7 +121,7 @@ kept-split S values numbers more queue new id path j v mult basis left right kep
     let lists_right = child-lists S (right_path path j v) mult basis right split.mult_is split.basis_is is_right in
     record {
       sound = record {
-        tree = tree-replaced S.model id node S.tree.root
+        tree = tree-replaced (formulation_of S) id node S.tree.root
             (record {
               lawful = ((split.allowed.there, split.allowed.integer), (tt, tt));
               narrow = (narrow-at v low high, (tt, tt));
@@ -131,6 +131,8 @@ kept-split S values numbers more queue new id path j v mult basis left right kep
         judged = judged-replaced (formulation_of S) (target S.model S.points) id path node S.tree.root at (is_left.judged, is_right.judged) kept.sound.judged;
         points = kept.sound.points;
         few = kept.sound.few;
+        pool = kept.sound.pool;
+        few_cuts = kept.sound.few_cuts;
       };
       values_are = kept.values_are;
       numbers_are = numbered;

@@ -15,14 +15,15 @@ use Rattle.leaf_judging.specs.Judged.{JudgesAll}
 use Rattle.leaf_judging.specs.Choosing.{AreClosed, IsFirstCandidate}
 use Rattle.tree_edit.specs.Sound.{PlainSearch, formulation_of}
 
--- one leaf with id 1, judged, and no point
+-- one leaf with id 1, judged, no cut and no point
 pub record IsFresh (M : Program) (limit : ℕ) (S : PlainSearch) : Type 0 where
   pub model : S.model ≡ M
+  pub cuts : S.cuts ≡ []
   pub tree : JudgesAll (without_cuts M) None (first_tree limit) S.tree
   pub points : S.points ≡ []
 
 abbrev pub search_with_limit : PlainSearch → ℕ → PlainSearch
-search_with_limit S n = record { model = S.model; tree = with_limit S.tree n; points = S.points }
+search_with_limit S n = record S { tree = with_limit S.tree n }
 
 -- the leaf with the id has this path and these data
 pub record IsLeafAt (t : Plain) (id : ℕ) (path : Path) (kept : LeafData) : Type 0 where

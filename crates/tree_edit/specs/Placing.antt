@@ -77,6 +77,7 @@ pub record JoinsPoint (S : PlainSearch) (x : Point) (joined : Joined) : Type 0 w
 -- x is kept, and all leaves are judged against the least value
 pub record TakesPoint (old : PlainSearch) (x : Point) (new : PlainSearch) : Type 0 where
   pub model : new.model ≡ old.model
+  pub cuts : new.cuts ≡ old.cuts
   pub points : AddsPoint old.model old.points x new.points
   pub tree : JudgesAll (formulation_of old) (target old.model new.points) old.tree new.tree
 
@@ -96,7 +97,7 @@ pub record HasLeafAt (T : NumberedTree) (id : ℕ) (path : Path) : Type 0 where
   pub at : IsAt id path T.root
 
 abbrev pub search_with_leaf : PlainSearch → ℕ → LeafData → PlainSearch
-search_with_leaf S id kept = record { model = S.model; tree = with_leaf S.tree id kept; points = S.points }
+search_with_leaf S id kept = record S { tree = with_leaf S.tree id kept }
 
 -- ---- answers, where a leaf with this path is open
 
@@ -172,7 +173,7 @@ abbrev pub tree_with_split : NumberedTree → ℕ → ℕ → ℤ → Multiplier
 tree_with_split T id j v mult basis left right = record { root = replaced id (split_node T.last id j v mult basis left right) T.root; last = T.last + 2; limit = T.limit }
 
 abbrev pub search_with_split : PlainSearch → ℕ → ℕ → ℤ → Multipliers → Basis → LeafData → LeafData → PlainSearch
-search_with_split S id j v mult basis left right = record { model = S.model; tree = tree_with_split S.tree id j v mult basis left right; points = S.points }
+search_with_split S id j v mult basis left right = record S { tree = tree_with_split S.tree id j v mult basis left right }
 
 -- the parts of a split fit
 pub record IsSplitSound (F : Formulation) (path : Path) (j : ℕ) (v : ℤ) (mult : Multipliers) (basis : Basis) : Type 0 where

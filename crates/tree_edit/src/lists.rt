@@ -1,9 +1,10 @@
 // Lists of variables that are there, each once.
-ghost use Rattle.std.specs.Prelude.{◌≡◌, ◌≢◌, ◌↔◌, IsTrue, All, AllPairs, Contains, IfOk, map};
-ghost use Rattle.lp_model.specs.Formulations.{without_cuts};
+ghost use Rattle.std.specs.Prelude.{◌≡◌, ◌≢◌, ◌↔◌, IsTrue, All, AllPairs, Contains, IfOk, length, map};
+ghost use Rattle.lp_model.specs.Formulations.{formulation};
 ghost use Rattle.tree_edit.specs.Lists.{IsThere, IsActivityThere, NamesOnce, AreMultipliers, IsBasis, HasLists};
 
 use branch_tree::LeafData;
+use cover_cuts::CutPool;
 use frac128::Frac;
 use lp_model::{Basis, Model, Mult, Var};
 use std::alloc::{AllocError, Global};
@@ -44,34 +45,41 @@ fn is_once(vars: &[Var]) -> bool
     true
 }
 
-/// Whether the row is there.
-fn is_row_there(model: &Model, var: &Var) -> bool
-    ensures { IsTrue result ↔ IsActivityThere (without_cuts model.now) var.now }
+/// How many cuts there are.
+fn cut_count(pool: &CutPool) -> usize
+    ensures { result ≡ length pool.now }
+{
+    pool.rows().len()
+}
+
+/// Whether the row or the cut is there.
+fn is_row_there(model: &Model, pool: &CutPool, var: &Var) -> bool
+    ensures { IsTrue result ↔ IsActivityThere (formulation model.now pool.now) var.now }
 {
     match var {
         Var::Col(_) => false,
         Var::Row(row) => (row.0 as usize) < model.rows().len(),
-        Var::Cut(_) => false,
+        Var::Cut(cut) => (cut.0 as usize) < cut_count(pool),
     }
 }
 
 /// Whether the variable is there.
-fn is_there(model: &Model, var: &Var) -> bool
-    ensures { IsTrue result ↔ IsThere (without_cuts model.now) var.now }
+fn is_there(model: &Model, pool: &CutPool, var: &Var) -> bool
+    ensures { IsTrue result ↔ IsThere (formulation model.now pool.now) var.now }
 {
     match var {
         Var::Col(col) => (col.0 as usize) < model.cols().len(),
         Var::Row(row) => (row.0 as usize) < model.rows().len(),
-        Var::Cut(_) => false,
+        Var::Cut(cut) => (cut.0 as usize) < cut_count(pool),
     }
 }
 
-/// Whether all of them are rows that are there.
-fn are_rows(model: &Model, vars: &[Var]) -> bool
-    ensures { IsTrue result ↔ All (IsActivityThere (without_cuts model.now)) vars.now }
+/// Whether all of them are rows and cuts that are there.
+fn are_rows(model: &Model, pool: &CutPool, vars: &[Var]) -> bool
+    ensures { IsTrue result ↔ All (IsActivityThere (formulation model.now pool.now)) vars.now }
 {
     for var in vars {
-        if !is_row_there(model, var) {
+        if !is_row_there(model, pool, var) {
             return false;
         }
     }
@@ -79,11 +87,11 @@ fn are_rows(model: &Model, vars: &[Var]) -> bool
 }
 
 /// Whether all of them are there.
-fn are_there(model: &Model, vars: &[Var]) -> bool
-    ensures { IsTrue result ↔ All (IsThere (without_cuts model.now)) vars.now }
+fn are_there(model: &Model, pool: &CutPool, vars: &[Var]) -> bool
+    ensures { IsTrue result ↔ All (IsThere (formulation model.now pool.now)) vars.now }
 {
     for var in vars {
-        if !is_there(model, var) {
+        if !is_there(model, pool, var) {
             return false;
         }
     }
@@ -101,44 +109,55 @@ fn vars_of(alloc: Global, mult: &[(Var, Frac)]) -> Result<Vec<Var>, AllocError>
     Ok(vars)
 }
 
-/// Whether all of them are rows that are there, each once.
-fn are_rows_once(model: &Model, vars: &[Var]) -> bool
-    ensures { IsTrue result ↔ NamesOnce (IsActivityThere (without_cuts model.now)) vars.now }
+/// Whether all of them are rows and cuts that are there, each once.
+fn are_rows_once(model: &Model, pool: &CutPool, vars: &[Var]) -> bool
+    ensures { IsTrue result ↔ NamesOnce (IsActivityThere (formulation model.now pool.now)) vars.now }
 {
-    are_rows(model, vars) && is_once(vars)
+    are_rows(model, pool, vars) && is_once(vars)
 }
 
-/// Whether the multipliers are of rows that are there, each once.
-pub(crate) fn are_multipliers(alloc: Global, model: &Model, mult: &Mult) -> Result<bool, AllocError>
-    ensures { IfOk result (λ are. IsTrue are ↔ AreMultipliers (without_cuts model.now) mult.now) }
+/// Whether the multipliers are of rows and cuts that are there, each once.
+pub(crate) fn are_multipliers(
+    alloc: Global,
+    model: &Model,
+    pool: &CutPool,
+    mult: &Mult,
+) -> Result<bool, AllocError>
+    ensures { IfOk result (λ are. IsTrue are ↔ AreMultipliers (formulation model.now pool.now) mult.now) }
 {
     let vars = vars_of(alloc, mult.as_slice())?;
-    Ok(are_rows_once(model, &vars))
+    Ok(are_rows_once(model, pool, &vars))
 }
 
 /// Whether the variables are there, each once.
-fn names_once(model: &Model, vars: &[Var]) -> bool
-    ensures { IsTrue result ↔ NamesOnce (IsThere (without_cuts model.now)) vars.now }
+fn names_once(model: &Model, pool: &CutPool, vars: &[Var]) -> bool
+    ensures { IsTrue result ↔ NamesOnce (IsThere (formulation model.now pool.now)) vars.now }
 {
-    are_there(model, vars) && is_once(vars)
+    are_there(model, pool, vars) && is_once(vars)
 }
 
 /// Whether both lists of the basis name what is there, each once.
-pub(crate) fn is_basis(model: &Model, basis: &Basis) -> bool
-    ensures { IsTrue result ↔ IsBasis (without_cuts model.now) basis.now }
+pub(crate) fn is_basis(model: &Model, pool: &CutPool, basis: &Basis) -> bool
+    ensures { IsTrue result ↔ IsBasis (formulation model.now pool.now) basis.now }
 {
-    names_once(model, basis.basic.as_slice()) && names_once(model, basis.high.as_slice())
+    names_once(model, pool, basis.basic.as_slice())
+        && names_once(model, pool, basis.high.as_slice())
 }
 
 /// Whether each list of a leaf's data names what is there, each once.
-pub(crate) fn has_lists(alloc: Global, model: &Model, kept: &LeafData) -> Result<bool, AllocError>
-    ensures { IfOk result (λ has. IsTrue has ↔ HasLists (without_cuts model.now) kept.now) }
+pub(crate) fn has_lists(
+    alloc: Global,
+    model: &Model,
+    pool: &CutPool,
+    kept: &LeafData,
+) -> Result<bool, AllocError>
+    ensures { IfOk result (λ has. IsTrue has ↔ HasLists (formulation model.now pool.now) kept.now) }
 {
-    if !are_multipliers(alloc, model, &kept.mult)? {
+    if !are_multipliers(alloc, model, pool, &kept.mult)? {
         return Ok(false);
     }
-    if !are_multipliers(alloc, model, &kept.farkas)? {
+    if !are_multipliers(alloc, model, pool, &kept.farkas)? {
         return Ok(false);
     }
-    Ok(is_basis(model, &kept.basis))
+    Ok(is_basis(model, pool, &kept.basis))
 }

@@ -2,7 +2,7 @@
 // a call of `drop`, since its parts, let go one by one on each way out, make a long proof.
 ghost use Rattle.std.specs.Prelude.{◌≡◌, ◌↔◌, IsTrue, IfOk, OnOk, OnErr, MatchOption, MatchBool};
 ghost use Rattle.lp_model.specs.Regions.{AreNarrow};
-ghost use Rattle.lp_model.specs.Formulations.{without_cuts};
+ghost use Rattle.lp_model.specs.Formulations.{formulation};
 ghost use Rattle.branch_tree.specs.declared.node.LeafState.TheVariants.{IsOpen, IsClosed};
 ghost use Rattle.branch_tree.specs.declared.node.NodeResult.TheVariants.{PointAndClose, Keep};
 ghost use Rattle.leaf_judging.specs.Closing.{IsNumber, IsJudgedLeaf, ClosesBy};
@@ -19,6 +19,7 @@ use crate::points::{Joined, is_same_value, join_value, take_out};
 use crate::search::Search;
 use crate::splitting::Split;
 use branch_tree::{LeafData, LeafState, NodeResult};
+use cover_cuts::CutPool;
 use frac128::Frac;
 use leaf_judging::{Candidate, LeafNumber, judge_again, number_closes, number_of, rank};
 use lp_model::{Basis, Model, Mult, Point, Region};
@@ -142,10 +143,17 @@ impl Search {
         ensures taken { IfOk result (λ taken. TakesClose self.old id region.now kept self.new taken) }
         ensures kept { OnErr result (self.new ≡ self.old) }
     {
-        match has_lists(self.alloc, &self.model, &kept) {
+        match has_lists(self.alloc, &self.model, &self.pool, &kept) {
             Ok(true) => {
-                let number = number_of(&self.model, region.as_slice(), &kept.mult, &kept.farkas);
-                if closes_by(&self.model, &self.target(), region, &kept, &number) {
+                let number = number_of(
+                    &self.model,
+                    &self.pool,
+                    region.as_slice(),
+                    &kept.mult,
+                    &kept.farkas,
+                );
+                let target = self.target();
+                if closes_by(&self.model, &self.pool, &target, region, &kept, &number) {
                     self.put_closed(id, region, kept, &number);
                     Ok(Taken::Closed)
                 } else {
@@ -212,8 +220,21 @@ impl Search {
         ensures taken { IfOk result (λ taken. TakesPointClose self.old id region.now point kept self.new taken) }
         ensures kept { OnErr result (self.new ≡ self.old) }
     {
-        let number = number_of(&self.model, region.as_slice(), &kept.mult, &kept.farkas);
-        if closes_by(&self.model, &joined.target, region, &kept, &number) {
+        let number = number_of(
+            &self.model,
+            &self.pool,
+            region.as_slice(),
+            &kept.mult,
+            &kept.farkas,
+        );
+        if closes_by(
+            &self.model,
+            &self.pool,
+            &joined.target,
+            region,
+            &kept,
+            &number,
+        ) {
             self.put_joined_close(id, region, point, joined, kept, &number)
         } else {
             drop(point);
@@ -239,7 +260,7 @@ impl Search {
         ensures taken { IfOk result (λ taken. TakesPointClose self.old id region.now point kept self.new taken) }
         ensures kept { OnErr result (self.new ≡ self.old) }
     {
-        match has_lists(self.alloc, &self.model, &kept) {
+        match has_lists(self.alloc, &self.model, &self.pool, &kept) {
             Ok(true) => self.place_listed_close(id, region, point, joined, kept),
             Ok(false) => {
                 drop(point);
@@ -308,7 +329,7 @@ impl Search {
         ensures taken { IfOk result (λ taken. TakesKeep self.old id region.now kept self.new taken) }
         ensures kept { OnErr result (self.new ≡ self.old) }
     {
-        if !is_basis(&self.model, &kept.basis) {
+        if !is_basis(&self.model, &self.pool, &kept.basis) {
             return Ok(Taken::Refused);
         }
         self.put_judged(id, region, kept);
@@ -332,7 +353,7 @@ impl Search {
         ensures taken { IfOk result (λ taken. TakesPointKeep self.old id region.now point kept self.new taken) }
         ensures kept { OnErr result (self.new ≡ self.old) }
     {
-        if !is_basis(&self.model, &kept.basis) {
+        if !is_basis(&self.model, &self.pool, &kept.basis) {
             drop(point);
             drop(joined);
             drop(kept);
@@ -525,13 +546,14 @@ impl Search {
 /// Whether a leaf of a region with these data, whose number this is, closes against the target.
 fn closes_by(
     model: &Model,
+    pool: &CutPool,
     target: &Option<Frac>,
     region: &Region,
     kept: &LeafData,
     number: &LeafNumber,
 ) -> bool
-    requires { IsNumber (without_cuts model.now) region.now kept.now.mult kept.now.farkas number.now }
-    ensures { IsTrue result ↔ ClosesBy (without_cuts model.now) target.now region.now kept.now }
+    requires { IsNumber (formulation model.now pool.now) region.now kept.now.mult kept.now.farkas number.now }
+    ensures { IsTrue result ↔ ClosesBy (formulation model.now pool.now) target.now region.now kept.now }
 {
     number_closes(model, target, number)
 }

@@ -1,5 +1,7 @@
-// A search: a model, a tree and the kept points.
-ghost use Rattle.std.specs.Prelude.{◌≡◌, None, IfOk, OnErr, length};
+// A search: a model, its cuts, a tree and the kept points.
+ghost use Rattle.std.specs.Prelude.{◌≡◌, ◌⊎◌, None, IfOk, IfErr, OnOk, OnErr, length};
+ghost use Rattle.cover_cuts.specs.declared.pool.PoolFault.TheVariants.{Full, Memory};
+ghost use Rattle.tree_edit.specs.Pool.{AddsCut};
 ghost use Rattle.std.specs.Option.{option_copied};
 ghost use Rattle.lp_model.specs.Formulations.{without_cuts};
 ghost use Rattle.branch_tree.specs.Leaves.{open_count};
@@ -13,19 +15,22 @@ ghost use Rattle.tree_edit.specs.Calls.{IsNext, IsFresh, search_with_limit, IsLe
 
 use crate::points::oldest_least;
 use branch_tree::Tree;
+use cover_cuts::{CutPool, PoolFault};
 use frac128::Frac;
 use leaf_judging::{LeafIndex, LeafNumber, LeafNumbers, LeafQueue, judge_all};
-use lp_model::{Model, Point};
+use lp_model::{CutId, Derivation, Model, Point};
 use std::alloc::{AllocError, Global};
 
 /// How many nodes a new search may have.
 const NODE_LIMIT: u64 = 1_000_000;
 
-/// A search by branching: a model, a tree whose leaves are judged, and the feasible points that were kept, oldest first.
+/// A search by branching: a model, its cuts, a tree whose leaves are judged, and the feasible points that were kept, oldest
+/// first.
 /// Contracts see a `PlainSearch`, and each search is sound (`IsSound`).
 #[derive(Drop)]
 pub struct Search {
     pub(crate) model: Model,
+    pub(crate) pool: CutPool,
     pub(crate) tree: Tree,
     pub(crate) points: Vec<Point>,
     pub(crate) values: Vec<Frac>,
@@ -43,9 +48,9 @@ impl std::marker::Model for Search {
 
     ghost coded = { search_code };
 
-    ghost view = { λ s. record { model = s.model; tree = s.tree; points = s.points.items } };
+    ghost view = { λ s. record { model = s.model; cuts = s.pool; tree = s.tree; points = s.points.items } };
 
-    ghost invariant = { λ s. IsIndexed (record { model = s.model; tree = s.tree; points = s.points.items }) s.values.items s.numbers s.queue };
+    ghost invariant = { λ s. IsIndexed (record { model = s.model; cuts = s.pool; tree = s.tree; points = s.points.items }) s.values.items s.numbers s.queue };
 }
 
 /// A tree of one leaf, which is judged where there is no point, and what is kept of its leaf.
@@ -55,7 +60,8 @@ fn judged_tree(alloc: Global, model: &Model, limit: u64) -> Result<(Tree, LeafIn
     ensures queue { IfOk result (λ both. IsQueueOf (without_cuts model.now) both.0.root both.1.queue) }
 {
     let mut tree = Tree::new(alloc, limit)?;
-    match judge_all(alloc, model, &None, &mut tree) {
+    let none = CutPool::new(alloc);
+    match judge_all(alloc, model, &none, &None, &mut tree) {
         Ok(index) => Ok((tree, index)),
         Err(error) => {
             drop(tree);
@@ -65,13 +71,14 @@ fn judged_tree(alloc: Global, model: &Model, limit: u64) -> Result<(Tree, LeafIn
 }
 
 impl Search {
-    /// A search with one leaf, which is judged, and no point. There will be at most 1,000,000 nodes.
+    /// A search with one leaf, which is judged, no cut and no point. There will be at most 1,000,000 nodes.
     pub fn new(alloc: Global, model: Model) -> Result<Search, AllocError>
         ensures { IfOk result (λ s. IsFresh model 1000000 s) }
     {
         match judged_tree(alloc, &model, NODE_LIMIT) {
             Ok((tree, index)) => Ok(Search {
                 model,
+                pool: CutPool::new(alloc),
                 tree,
                 points: Vec::new(alloc),
                 values: Vec::new(alloc),
@@ -86,12 +93,13 @@ impl Search {
         }
     }
 
-    /// Begins again with the same model and limit. Where there is no memory nothing has changed.
+    /// Begins again with the same model and limit, no cut and no point. Where there is no memory nothing has changed.
     pub fn restart(&mut self) -> Result<(), AllocError>
         ensures fresh { IfOk result (λ _. IsFresh self.old.model self.old.tree.limit self.new) }
         ensures kept { OnErr result (self.new ≡ self.old) }
     {
         let (tree, index) = judged_tree(self.alloc, &self.model, self.tree.limit())?;
+        self.pool = CutPool::new(self.alloc);
         self.tree = tree;
         self.points = Vec::new(self.alloc);
         self.values = Vec::new(self.alloc);
@@ -120,6 +128,25 @@ impl Search {
         ensures { result.now ≡ self.now.model }
     {
         &self.model
+    }
+
+    /// The cuts of the search, in the order in which they came, those among them that do not count at its model.
+    pub fn pool(&self) -> &CutPool
+        ensures pool { result.now ≡ self.now.cuts }
+        ensures sound { IsSound self.now }
+    {
+        &self.pool
+    }
+
+    /// One more cut at the end of the pool, and its place. No list names it, so each leaf keeps its number and its state.
+    /// Refused where 10,000 stand; then, and for want of memory, nothing has changed.
+    pub fn add_cut(&mut self, derivation: Derivation) -> Result<CutId, PoolFault>
+        ensures place { IfOk result (λ id. id.0 ≡ length self.old.cuts) }
+        ensures added { OnOk result (AddsCut self.old derivation self.new) }
+        ensures kept { OnErr result (self.new ≡ self.old) }
+        ensures fault { IfErr result (λ f. (f ≡ Memory) ⊎ ((f ≡ Full) × (length self.old.cuts ≡ 10000))) }
+    {
+        self.pool.add(&self.model, derivation)
     }
 
     /// The kept points, oldest first.

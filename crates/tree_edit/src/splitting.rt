@@ -102,7 +102,7 @@ impl Search {
         let mult = mult.copy(self.alloc)?;
         let basis = basis.copy(self.alloc)?;
         let farkas = List::new(self.alloc);
-        let number = number_of(&self.model, path.as_slice(), &mult, &farkas);
+        let number = number_of(&self.model, &self.pool, path.as_slice(), &mult, &farkas);
         let state = state_by(&self.model, &self.target(), &number);
         Ok(Child {
             kept: LeafData {
@@ -183,10 +183,10 @@ impl Search {
         if !is_split_allowed(&self.model, region, split.col, split.v) {
             return Ok(false);
         }
-        if !are_multipliers(self.alloc, &self.model, &split.mult)? {
+        if !are_multipliers(self.alloc, &self.model, &self.pool, &split.mult)? {
             return Ok(false);
         }
-        Ok(is_basis(&self.model, &split.basis))
+        Ok(is_basis(&self.model, &self.pool, &split.basis))
     }
 
     /// The children of a split that fits, each judged.

@@ -11,7 +11,9 @@ use lp_model::{Model, Point};
 use model_calls::{has_section, numbers_of, push_answer, push_step, section, take_number};
 use model_texts::{Words, edit_of, point_of, push_point};
 use search_counting::cap;
-use std::alloc::Global;
+use search_saving::{data_of, search_of};
+use std::alloc::{AllocError, Global};
+use std::mem::replace;
 use tree_edit::{Search, Taken};
 
 /// Makes a call of a search by the words behind it, and writes its answer.
@@ -27,6 +29,8 @@ fn answer(
         "solve" => solve(alloc, search, words, got)?,
         "limit" => search.set_limit(take_number(words)?),
         "restart" => search.restart()?,
+        "trim" => search.trim(take_number(words)?)?,
+        "again" => again(alloc, search)?,
         _ => read(search, word, words, got)?,
     }
     Ok(())
@@ -46,6 +50,20 @@ pub fn call(
     let mut words = Words::new(alloc, line)?;
     answer(alloc, search, word, &mut words, got)?;
     words.end()
+}
+
+/// Goes over to the search that is made of the data of this one.
+fn again(alloc: Global, search: &mut Search) -> Result<()> {
+    let made = made_again(alloc, search)?;
+    drop(replace(search, made));
+    Ok(())
+}
+
+/// The search that is made of the data of another.
+fn made_again(alloc: Global, search: &Search) -> Result<Search, AllocError> {
+    let _sound = search.points();
+    let stated = data_of(alloc, search)?;
+    search_of(alloc, stated)
 }
 
 /// Makes a call that changes nothing.

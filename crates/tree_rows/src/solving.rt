@@ -10,6 +10,7 @@ use frac128::Frac;
 use lp_model::{Answer, Basis, Model, Region, StopWhy};
 use model_calls::{push_step, take_number};
 use model_texts::{Words, push_basis, push_point};
+use ray_phase::root_law;
 use std::alloc::Global;
 use tree_edit::Search;
 use tree_search::{Ways, answer_of, search_on};
@@ -38,7 +39,7 @@ pub fn solve(
         u64::MAX
     };
     let first = first_basis(alloc, search.model())?;
-    let _lawful = search.model().cols();
+    root_law();
     let searched = search_on(alloc, search, &Ways::Own, &first, nodes, pivots)?;
     drop(first);
     let answer = answer_of(alloc, search, searched);

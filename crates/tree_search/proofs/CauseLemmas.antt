@@ -1,7 +1,10 @@
 -- Why a search stops, as seen from its start; and where there is enough it goes to the end.
-use Rattle.std.specs.Prelude.{◌≡◌, ◌⊎◌, ℕ, ◌+◌, ◌-◌, ◌^◌, ◌<◌, ◌≤◌, ℤ, Some, None, Result, Ok, Err, IfOk}
+use Rattle.std.specs.Prelude.{◌≡◌, ◌⊎◌, ℕ, zero, suc, Bool, true, false, if◌then◌else◌, List, [], ◌∷◌, length, Option, ◌+◌, ◌-◌, ◌^◌, ◌<◌, ◌≤◌, ℤ, Some, None, Result, Ok, Err, IfOk}
 use Rattle.std.proofs.Common.{refl, sym, subst, ap, ◌∙◌, inl, inr, arith}
-use Rattle.lp_model.specs.Program.{Program}
+use Rattle.lp_model.specs.Program.{Program, Point}
+use Rattle.lp_model.specs.Formulations.{Formulation, formulation}
+use Rattle.lp_model.specs.declared.types.CutRow.{CutRow}
+use Rattle.lp_model.specs.declared.types.Derivation.{Derivation}
 use Rattle.lp_model.specs.Answers.{IsValueAnswer}
 use Rattle.lp_model.specs.Lawful.{IsLawful}
 use Rattle.lp_model.specs.Regions.{Path}
@@ -15,22 +18,33 @@ use Rattle.lp_model.specs.declared.answers.StopWhy.TheVariants as why
 use Rattle.leaf_dual.specs.Dual.{Multipliers}
 use Rattle.branch_tree.specs.Changes.{HasRoom}
 use Rattle.branch_tree.specs.declared.node.Job.{Job}
-use Rattle.branch_tree.specs.declared.node.NodeResult.TheVariants.{Split, PointAndClose}
-use Rattle.tree_edit.specs.Checks.{IsSplitAllowed}
+use Rattle.branch_tree.specs.declared.node.NodeResult.TheVariants.{Split as SplitAt, PointAndClose}
+use Rattle.tree_edit.specs.Lists.{IsBasis}
+use Rattle.kept_cuts.specs.Kept.{derivations_of}
 use Rattle.tree_edit.specs.Sound.{PlainSearch, IsSound}
 use Rattle.search_counting.specs.Work.{whole_points, cap_of, HasRoomFor, work_of, splits_of, IsRoomy}
 use Rattle.search_counting.proofs.CapLemmas.{work-cap, splits-cap}
 use Rattle.search_counting.proofs.LowerLemmas.{has-room}
 use Rattle.search_counting.proofs.RoomLemmas.{room-fewer}
 use Rattle.search_counting.proofs.WorkLemmas.{open-work}
-use Rattle.node_solve.specs.Works.{IsWorked}
+use Rattle.basic_solution.specs.Lists.{IsBasisOf}
+use Rattle.node_solve.specs.Works.{IsRunWide}
+use Rattle.node_solve.specs.Rounds.{Round, MakesRounds, EndsRounds, IsWorked}
+use Rattle.node_solve.specs.Places.{live_cuts, live_places, basis_in_relaxation, basis_in_pool, with_cut_variables}
+use Rattle.node_solve.specs.Laws.{AreAt}
+use Rattle.node_solve.proofs.AddedLemmas.{more-cuts}
+use Rattle.node_solve.proofs.EndLemmas.{state_of}
+use Rattle.node_solve.proofs.ListLemmas.{basis_there}
+use Rattle.node_solve.proofs.LiveLemmas.{live-few, live-at}
+use Rattle.node_solve.proofs.PoolLemmas.{basis-back}
+use Rattle.node_solve.proofs.TakenLemmas.{IsPointIn, done_point}
 use Rattle.node_solve.specs.declared.working.Worked.{Worked}
 use Rattle.node_solve.specs.declared.working.Worked.TheVariants.{Done, Pivots, Wide}
 use Rattle.basic_solution.specs.Held.{Held, IsLawfulHeld}
 use Rattle.dual_simplex.proofs.SolveLemmas.{of_after}
-use Rattle.tree_search.specs.Steps.{worked_model, IsWayFor, HasOpenLeaf, WorksNext, Goes, KeepsOpen, FullAtNext, PivotsAtNext, StepAtNext, ValueAtNext, PointAtNext, StopsAtNext, IsRayWay}
-use Rattle.tree_search.specs.Room.{IsWorkedRegion, HasMoves, HasRoomAt}
-use Rattle.tree_search.specs.Causes.{IsPivotCause, IsStepCause, IsWideValueBy, IsCause, HasCause, IsAtEnd, HasOwnValues, IsEnoughForSearch}
+use Rattle.tree_search.specs.Steps.{work_next, kept_basis, worked_model, IsWayFor, HasOpenLeaf, WorksNext, Goes, KeepsOpen, FullAtNext, PivotsAtNext, StepAtNext, ValueAtNext, PointAtNext, StopsAtNext, IsRayWay}
+use Rattle.tree_search.specs.Room.{AreAmong, IsSelection, IsWorkedRegion, HasMoves, HasRoomAt}
+use Rattle.tree_search.specs.Causes.{IsPivotCause, IsStepCause, IsWideValue, IsWideValueBy, IsCause, HasCause, IsAtEnd, HasOwnValues, IsEnoughForSearch}
 use Rattle.tree_search.specs.Extends.{Extends}
 use Rattle.tree_search.specs.Search.{IsAfter, IsAtLimit, StopsFor, FindsPoint, FinishesSearch, Ends, IsLeft, Finds, GivesUp}
 use Rattle.tree_search.specs.declared.searching.Ways.{Ways}
@@ -41,8 +55,8 @@ use Rattle.tree_search.specs.declared.searching.Searched.{Searched}
 use Rattle.tree_search.specs.declared.stepping.Limits.{Limits}
 use Rattle.tree_search.specs.Stepping.{Comes}
 use Rattle.tree_search.proofs.JobLemmas.{IsWorkedBy, worked-by, worked-region, job-region}
-use Rattle.tree_search.proofs.KeepLemmas.{keeps-model}
-use Rattle.tree_search.proofs.PlacedLemmas.{split-there}
+use Rattle.tree_search.proofs.KeepLemmas.{added-model, keeps-model, keeps-cuts}
+use Rattle.tree_search.proofs.PlacedLemmas.{round-cuts, round-places, result-there, split-there}
 use Rattle.tree_search.proofs.StepRoomLemmas.{lawful-after, all-stand, run-room}
 
 -- ---- results that were placed
@@ -72,91 +86,166 @@ module _ (ways : Ways) (first : Basis) (pivots : ℕ) (old : PlainSearch) (sound
 next-left : (ways : Ways) (first : Basis) (pivots : ℕ) (S : PlainSearch) (job : Job) (worked : Worked) → WorksNext ways first pivots S job worked → HasOpenLeaf S
 next-left ways first pivots S job worked works = (job.id, (job.region, record { kept = works.next.job_is.kept; leaf = works.next.job_is.leaf; state = works.next.job_is.state }))
 
--- ---- causes
+-- ---- the cuts of a relaxation are some of the pool's
+
+among-later : (cuts : List CutRow) (c : CutRow) (pool : List CutRow) → AreAmong cuts pool → AreAmong cuts (c ∷ pool)
+among-later [] c pool h = tt
+among-later (d ∷ cuts) c pool h = inr h
+
+among-live : (n : ℕ) (pool : List CutRow) → AreAmong (live_cuts n pool) pool
+among-live zero pool = tt
+among-live (suc n) [] = tt
+among-live (suc n) (c ∷ pool) = by c.live (among-live n pool) (among-live (suc n) pool)
+  where
+    by : (t : Bool) → AreAmong (live_cuts n pool) pool → AreAmong (live_cuts (suc n) pool) pool → AreAmong (if t then c ∷ live_cuts n pool else live_cuts (suc n) pool) (c ∷ pool)
+    by true h k = inl (refl, h)
+    by false h k = among-later (live_cuts (suc n) pool) c pool k
+
+selection-of : (M : Program) (cuts pool : List CutRow) → cuts ≡ live_cuts 200 pool → IsSelection M pool (formulation M cuts)
+selection-of M cuts pool same =
+    let few = live-few 200 pool in
+    let count : length cuts ≡ length (live_cuts 200 pool) = ap length same in
+    record { model = refl; cuts = subst (λ l. AreAmong l pool) (sym same) (among-live 200 pool); few = omega (arith, few, count) }
+
+run-weaker : (F : Formulation) (path : Path) (list first : Basis) (limit : ℕ) (P Q : Held → Type 0) → ((s : Held) → P s → Q s) → (basis : Basis) (step : WideStep) → IsRunWide F path list first limit P basis step → IsRunWide F path list first limit Q basis step
+run-weaker F path list first limit P Q w basis step (inl h) = inl h
+run-weaker F path list first limit P Q w basis step (inr (n, (s, (run, (inl walking, is))))) = inr (n, (s, (run, (inl walking, is))))
+run-weaker F path list first limit P Q w basis step (inr (n, (s, (run, (inr (allowed, (last, wide)), is))))) = inr (n, (s, (run, (inr (allowed, (w s last, wide)), is))))
+
+-- ---- causes, at the search where it stops
+
+module _ (ways : Ways) (first : Basis) (pivots : ℕ) (mid : PlainSearch) (sound_mid : IsSound mid) (by_mid : IsWorkedBy ways mid.model) where
+  abbrev Y : Program
+  Y = worked_model ways mid.model
+
+  region-mid : (job : Job) (worked : Worked) → WorksNext ways first pivots mid job worked → IsWorkedRegion Y job.region
+  region-mid job worked works = worked-region ways mid.model job.region by_mid (job-region mid sound_mid job works.next.job_is)
+
+  -- the cuts of the last round, in the search after it
+  cuts-new : (job : Job) (found : List Derivation) (point : Option Point) (basis : Basis) (new : PlainSearch) → (keeps : KeepsOpen mid job found point basis new) → (made : ℕ) (r : Round) → MakesRounds (work_next ways first pivots mid job) made r → found ≡ r.added → r.cuts ≡ live_cuts 200 new.cuts
+  cuts-new job found point basis new keeps made r makes same =
+      round-cuts ways first pivots mid by_mid job found keeps.mid keeps.adds made r makes same ∙ ap (live_cuts 200) (sym (keeps-cuts mid job found point basis new keeps))
+
+  places-new : (job : Job) (found : List Derivation) (point : Option Point) (basis : Basis) (new : PlainSearch) → (keeps : KeepsOpen mid job found point basis new) → (made : ℕ) (r : Round) → MakesRounds (work_next ways first pivots mid job) made r → found ≡ r.added → r.places ≡ live_places 200 0 new.cuts
+  places-new job found point basis new keeps made r makes same =
+      round-places ways first pivots mid by_mid job found keeps.mid keeps.adds made r makes same ∙ ap (live_places 200 0) (sym (keeps-cuts mid job found point basis new keeps))
+
+  pivots-at : (new : PlainSearch) (place : PivotPlace) → PivotsAtNext ways first pivots mid new place → IsPivotCause Y new.cuts first pivots place
+  pivots-at new place here = by here.works.worked_is
+    where
+      by : IsWorked (work_next ways first pivots mid here.job) (Pivots place.basis here.found) → IsPivotCause Y new.cuts first pivots place
+      by (made, (r, (makes, d))) =
+          let cuts = cuts-new here.job here.found.items None (kept_basis new place.basis) new here.keeps made r makes d.found_are in
+          record {
+            form = formulation Y r.cuts;
+            selection = selection-of Y r.cuts new.cuts cuts;
+            cuts_are = here.cuts_are ∙ ap derivations_of (sym cuts);
+            path = here.job.region;
+            path_is = here.path_is;
+            region = region-mid here.job (Pivots place.basis here.found) here.works;
+            list = r.list;
+            state = d.state;
+            run = d.run;
+            out = d.leaving;
+            basis_is = d.basis_is;
+          }
+
+  step-at : (new : PlainSearch) (at : WideAt) → StepAtNext ways first pivots mid new at → IsStepCause ways mid.model new.cuts first pivots at
+  step-at new at here = by here.works.worked_is
+    where
+      by : IsWorked (work_next ways first pivots mid here.job) (Wide at here.found) → IsStepCause ways mid.model new.cuts first pivots at
+      by (made, (r, (makes, (leaf, (wide, found_are))))) =
+          let cuts = cuts-new here.job here.found.items None (kept_basis new at.basis) new here.keeps made r makes found_are in
+          record {
+            path = here.job.region;
+            path_is = leaf.path_is;
+            region = region-mid here.job (Wide at here.found) here.works;
+            form = formulation Y r.cuts;
+            selection = selection-of Y r.cuts new.cuts cuts;
+            cuts_are = leaf.cuts_are;
+            list = r.list;
+            wide = inl (run-weaker (formulation Y r.cuts) here.job.region r.list (with_cut_variables first 0 (length r.cuts)) pivots (EndsRounds (work_next ways first pivots mid here.job) made r) (λ s. Unit {0}) (λ s last. tt) at.basis at.step wide);
+          }
+
+  value-at : (new : PlainSearch) (at : WideAt) → ValueAtNext ways first pivots mid new at → IsStepCause ways mid.model new.cuts first pivots at
+  value-at new at here = by (done_point (work_next ways first pivots mid here.job) here.point here.mult here.basis here.found here.works.worked_is)
+    where
+      by : (p : IsPointIn (work_next ways first pivots mid here.job) here.point) × ((here.basis ≡ basis_in_pool p.round.places p.basis) × (here.found.items ≡ p.round.added)) → IsStepCause ways mid.model new.cuts first pivots at
+      by (p, (basis, added)) =
+          let cuts = cuts-new here.job here.found.items None here.basis new here.keeps p.made p.round p.makes added in
+          let places = places-new here.job here.found.items None here.basis new here.keeps p.made p.round p.makes added in
+          let stands : AreAt new.cuts p.round.cuts p.round.places = subst (λ X. X) (λ i. AreAt new.cuts (sym cuts i) (sym places i)) (live-at 200 new.cuts) in
+          let is = state_of (work_next ways first pivots mid here.job) p.round p.moves p.state p.run in
+          let lists : IsBasis (formulation Y p.round.cuts) p.basis = basis_there (formulation Y p.round.cuts) here.job.region p.state is p.basis p.found.basis_is in
+          let own : at.basis ≡ p.basis =
+          here.basis_is ∙ (λ i. basis_in_relaxation (sym places i) (basis i)) ∙ basis-back Y new.cuts p.round.cuts p.round.places stands p.basis lists in
+          record {
+            path = here.job.region;
+            path_is = here.path_is;
+            region = region-mid here.job (Done (PointAndClose here.point here.mult here.basis) here.found) here.works;
+            form = formulation Y p.round.cuts;
+            selection = selection-of Y p.round.cuts new.cuts cuts;
+            cuts_are = here.cuts_are ∙ ap derivations_of (sym cuts);
+            list = p.round.list;
+            wide = inr (value ways here.rays (record {
+              moves = p.moves;
+              state = p.state;
+              run = p.run;
+              few = p.allowed.within;
+              basis_is = subst (IsBasisOf p.state) (sym own) p.found.basis_is;
+              point = here.point;
+              point_is = p.found.optimum.point;
+              wide = here.wide;
+            }));
+          }
+        where
+          value : (w : Ways) → IsRayWay w → IsWideValue (formulation Y p.round.cuts) mid.model here.job.region p.round.list first pivots at.basis at.step → IsWideValueBy w (formulation Y p.round.cuts) mid.model here.job.region p.round.list first pivots at.basis at.step
+          value Own rays h = absurd rays
+          value (Rays Z) rays h = h
+
+  -- a leaf that can be split has room where all splits have
+  full-at : IsLawful mid.model → (new : PlainSearch) → FullAtNext ways first pivots mid new → ¬ IsRoomy mid
+  full-at lawful new here roomy =
+      let is = here.works.next.job_is in
+      let result = SplitAt here.col here.v here.mult here.basis in
+      let there = result-there ways first pivots mid by_mid here.job here.found.items new here.adds lawful result here.found refl here.works.worked_is in
+      let room : HasRoom mid.tree =
+      has-room mid here.job.id here.job.region is.kept here.col.0 here.v sound_mid lawful is.leaf is.state (split-there ways mid.model by_mid new.cuts here.job.target here.job.region here.col here.v here.mult here.basis there) roomy in
+      here.full (subst HasRoom (sym (ap (λ (X : PlainSearch). X.tree) (more-cuts here.found.items mid new here.adds).now)) room)
+
+-- ---- causes, from the start
 
 module _ (ways : Ways) (first : Basis) (nodes pivots : ℕ) (old : PlainSearch) (sound : IsSound old) (lawful : IsLawful old.model) (way : IsWayFor old ways) where
   abbrev Z : Program
   Z = worked_model ways old.model
 
-  by : IsWorkedBy ways old.model
-  by = worked-by old ways way
+  by-old : IsWorkedBy ways old.model
+  by-old = worked-by old ways way
 
-  module _ (n : ℕ) (mid : PlainSearch) (goes : Goes ways first pivots n old mid) (job : Job) where
-    works-old : (worked : Worked) → WorksNext ways first pivots mid job worked → IsWorked Z job first pivots worked
-    works-old worked works = subst (λ M. IsWorked (worked_model ways M) job first pivots worked) goes.model works.worked_is
+  module _ (n : ℕ) (mid : PlainSearch) (goes : Goes ways first pivots n old mid) where
+    by-mid : IsWorkedBy ways mid.model
+    by-mid = subst (IsWorkedBy ways) (sym goes.model) by-old
 
-    region-old : (worked : Worked) → WorksNext ways first pivots mid job worked → IsWorkedRegion Z job.region
-    region-old worked works = worked-region ways old.model job.region by (subst (λ M. IsWorkedRegion M job.region) goes.model (job-region mid goes.sound job works.next.job_is))
+    tree-cause : (new : PlainSearch) → FullAtNext ways first pivots mid new → ¬ IsRoomy old
+    tree-cause new full roomy = full-at ways first pivots mid goes.sound by-mid (subst IsLawful (sym goes.model) lawful) new full (goes.room roomy)
 
-    -- a leaf that can be split has room where all splits have
-    split-room : (col : ColId) (v : ℤ) (mult : Multipliers) (basis : Basis) → WorksNext ways first pivots mid job (Done (Split col v mult basis)) → IsRoomy mid → HasRoom mid.tree
-    split-room col v mult basis works =
-        let is = works.next.job_is in
-        has-room mid job.id job.region is.kept col.0 v goes.sound (subst IsLawful (sym goes.model) lawful) is.leaf is.state
-        (subst (λ M. IsSplitAllowed M job.region col.0 v) (sym goes.model) (split-there ways old.model by lawful job first pivots col v mult basis (works-old (Done (Split col v mult basis)) works)))
+    pivots-cause : (new : PlainSearch) (place : PivotPlace) → PivotsAtNext ways first pivots mid new place → IsPivotCause Z new.cuts first pivots place
+    pivots-cause new place here = subst (λ M. IsPivotCause (worked_model ways M) new.cuts first pivots place) goes.model (pivots-at ways first pivots mid goes.sound by-mid new place here)
 
-  tree-cause : (n : ℕ) (mid : PlainSearch) → Goes ways first pivots n old mid → FullAtNext ways first pivots mid → ¬ IsRoomy old
-  tree-cause n mid goes full roomy = full.full (split-room n mid goes full.job full.col full.v full.mult full.basis full.works (goes.room roomy))
+    step-cause : (new : PlainSearch) (at : WideAt) → StepAtNext ways first pivots mid new at ⊎ ValueAtNext ways first pivots mid new at → IsStepCause ways old.model new.cuts first pivots at
+    step-cause new at (inl here) = subst (λ M. IsStepCause ways M new.cuts first pivots at) goes.model (step-at ways first pivots mid goes.sound by-mid new at here)
+    step-cause new at (inr here) = subst (λ M. IsStepCause ways M new.cuts first pivots at) goes.model (value-at ways first pivots mid goes.sound by-mid new at here)
 
-  pivots-cause : (n : ℕ) (mid new : PlainSearch) (place : PivotPlace) → Goes ways first pivots n old mid → PivotsAtNext ways first pivots mid new place → IsPivotCause Z first pivots place
-  pivots-cause n mid new place goes here =
-      let worked = works-old n mid goes here.job (Pivots place.basis) here.works in
-      record {
-        path = here.job.region;
-        path_is = here.path_is;
-        region = region-old n mid goes here.job (Pivots place.basis) here.works;
-        list = here.job.basis;
-        state = worked.0;
-        run = worked.1.0;
-        out = worked.1.1.0;
-        basis_is = worked.1.1.1;
-      }
-
-  step-cause : (n : ℕ) (mid new : PlainSearch) (at : WideAt) → Goes ways first pivots n old mid → StepAtNext ways first pivots mid new at → IsStepCause ways old.model first pivots at
-  step-cause n mid new at goes here =
-      let worked = works-old n mid goes here.job (Wide at) here.works in
-      record {
-        path = here.job.region;
-        path_is = worked.0.path_is;
-        region = region-old n mid goes here.job (Wide at) here.works;
-        list = here.job.basis;
-        wide = inl worked.1;
-      }
-
-  value-cause : (n : ℕ) (mid new : PlainSearch) (at : WideAt) → Goes ways first pivots n old mid → ValueAtNext ways first pivots mid new at → IsStepCause ways old.model first pivots at
-  value-cause n mid new at goes here =
-      let result = Done (PointAndClose here.point here.mult at.basis) in
-      record {
-        path = here.job.region;
-        path_is = here.path_is;
-        region = region-old n mid goes here.job result here.works;
-        list = here.job.basis;
-        wide = inr (wide ways here.rays (works-old n mid goes here.job result here.works));
-      }
-    where
-      wide : (w : Ways) → IsRayWay w → IsWorked (worked_model w old.model) here.job first pivots (Done (PointAndClose here.point here.mult at.basis)) → IsWideValueBy w old.model here.job.region here.job.basis first pivots at.basis at.step
-      wide Own rays worked = absurd rays
-      wide (Rays Y) rays (m, (s, (run, (few, done)))) = record {
-        moves = m;
-        state = s;
-        run = run;
-        few = few.within;
-        basis_is = done.0.basis_is;
-        point = here.point;
-        point_is = done.0.optimum.point;
-        wide = subst (λ M. IsValueAnswer M 1 here.point (Err at.step)) goes.model here.wide;
-      }
-
-  stop-cause : (n : ℕ) (new : PlainSearch) (w : StopWhy) → HasOpenLeaf new → StopsFor ways first nodes pivots n old new w → IsCause old ways first nodes pivots w
+  stop-cause : (n : ℕ) (new : PlainSearch) (w : StopWhy) → HasOpenLeaf new → StopsFor ways first nodes pivots n old new w → IsCause old new.cuts ways first nodes pivots w
   stop-cause n new why.Nodes left h =
       let less : n + 1 ≤ work_of old = left-less ways first pivots old sound lawful n new h.goes left in
       let all : n ≡ nodes = h.all in
       omega (arith, less, all)
-  stop-cause n new why.Tree left h = tree-cause n h.mid h.goes h.here.1
-  stop-cause n new (why.Pivots place) left h = pivots-cause n h.mid new place h.goes h.here
-  stop-cause n new (why.Wide at) left h = elim h.here [ inl step ↦ step-cause n h.mid new at h.goes step | inr value ↦ value-cause n h.mid new at h.goes value ]
+  stop-cause n new why.Tree left h = tree-cause n h.mid h.goes new h.here
+  stop-cause n new (why.Pivots place) left h = pivots-cause n h.mid h.goes new place h.here
+  stop-cause n new (why.Wide at) left h = step-cause n h.mid h.goes new at h.here
 
-  has-cause : (n : ℕ) (new : PlainSearch) (e : Ended) → IsLeft new e → Ends ways first nodes pivots n old new e → HasCause old ways first nodes pivots e
+  has-cause : (n : ℕ) (new : PlainSearch) (e : Ended) → IsLeft new e → Ends ways first nodes pivots n old new e → HasCause old new.cuts ways first nodes pivots e
   has-cause n new Finished left h = tt
   has-cause n new Unbounded left h = tt
   has-cause n new (Stopped w) left h = stop-cause n new w left h
@@ -169,7 +258,7 @@ module _ (ways : Ways) (first : Basis) (nodes pivots : ℕ) (old : PlainSearch) 
   ends-cap : (n : ℕ) (new : PlainSearch) (e : Ended) → Ends ways first nodes pivots n old new e → n ≤ cap_of old.model
   ends-cap n new Finished h = goes-cap ways first pivots old sound lawful n new h.goes
   ends-cap n new Unbounded h =
-      let most : h.before + 1 ≤ cap_of old.model = next-most h.before h.after.mid h.after.here.job (Done (PointAndClose h.after.here.point h.after.here.mult h.after.here.basis)) h.after.goes h.after.here.works in
+      let most : h.before + 1 ≤ cap_of old.model = next-most h.before h.after.mid h.after.here.job (Done (PointAndClose h.after.here.point h.after.here.mult h.after.here.basis) h.after.here.found) h.after.goes h.after.here.works in
       let is : n ≡ h.before + 1 = h.counted in
       omega (arith, most, is)
   ends-cap n new (Stopped why.Nodes) h = goes-cap ways first pivots old sound lawful n new h.goes
@@ -179,14 +268,14 @@ module _ (ways : Ways) (first : Basis) (nodes pivots : ℕ) (old : PlainSearch) 
 
   next-model : (mid new : PlainSearch) (w : StopWhy) → StopsAtNext ways first pivots mid new w → new.model ≡ mid.model
   next-model mid new why.Nodes h = absurd h
-  next-model mid new why.Tree h = ap (λ (T : PlainSearch). T.model) h.0
-  next-model mid new (why.Pivots place) h = keeps-model mid h.job None place.basis new h.keeps
-  next-model mid new (why.Wide at) (inl h) = keeps-model mid h.job None at.basis new h.keeps
-  next-model mid new (why.Wide at) (inr h) = keeps-model mid h.job None at.basis new h.keeps
+  next-model mid new why.Tree h = added-model mid h.found.items new h.adds
+  next-model mid new (why.Pivots place) h = keeps-model mid h.job h.found.items None (kept_basis new place.basis) new h.keeps
+  next-model mid new (why.Wide at) (inl h) = keeps-model mid h.job h.found.items None (kept_basis new at.basis) new h.keeps
+  next-model mid new (why.Wide at) (inr h) = keeps-model mid h.job h.found.items None h.basis new h.keeps
 
   ends-model : (n : ℕ) (new : PlainSearch) (e : Ended) → Ends ways first nodes pivots n old new e → new.model ≡ old.model
   ends-model n new Finished h = h.goes.model
-  ends-model n new Unbounded h = keeps-model h.after.mid h.after.here.job (Some h.after.here.point) h.after.here.basis new h.after.here.keeps ∙ h.after.goes.model
+  ends-model n new Unbounded h = keeps-model h.after.mid h.after.here.job h.after.here.found.items (Some h.after.here.point) h.after.here.basis new h.after.here.keeps ∙ h.after.goes.model
   ends-model n new (Stopped why.Nodes) h = h.goes.model
   ends-model n new (Stopped why.Tree) h = next-model h.mid new why.Tree h.here ∙ h.goes.model
   ends-model n new (Stopped (why.Pivots place)) h = next-model h.mid new (why.Pivots place) h.here ∙ h.goes.model
@@ -205,15 +294,16 @@ module _ (ways : Ways) (first : Basis) (nodes pivots : ℕ) (old : PlainSearch) 
 
   -- ---- searches that go to the end
 
-  module _ (enough : IsEnoughForSearch old ways nodes pivots) where
-    no-value : (w : Ways) → HasOwnValues w old.model → (path : Path) → IsWorkedRegion (worked_model w old.model) path → (list : Basis) (basis : Basis) (step : WideStep) → ¬ IsWideValueBy w old.model path list first pivots basis step
-    no-value Own h path region list basis step wide = wide
-    no-value (Rays Y) h path region list basis step wide =
+  module _ (pool : List CutRow) (enough : IsEnoughForSearch old pool ways nodes pivots) where
+    no-value : (w : Ways) → HasOwnValues w pool old.model → (F : Formulation) → IsSelection (worked_model w old.model) pool F → (path : Path) → IsWorkedRegion (worked_model w old.model) path → (list : Basis) (basis : Basis) (step : WideStep)
+        → ¬ IsWideValueBy w F old.model path list first pivots basis step
+    no-value Own h F selection path region list basis step wide = wide
+    no-value (Rays Y) h F selection path region list basis step wide =
         let run = wide.run in
-        h path region run.relax run.relax_is wide.state (of_after run.relax wide.moves run.began wide.state run.moves run.started.reached.is)
+        h F selection path region run.relax run.relax_is wide.state (of_after run.relax wide.moves run.began wide.state run.moves run.started.reached.is)
         (all-stand wide.state (lawful-after wide.moves run.began wide.state run.kept run.moves)) wide.point wide.point_is step wide.wide
 
-    no-cause : (w : StopWhy) → ¬ IsCause old ways first nodes pivots w
+    no-cause : (w : StopWhy) → ¬ IsCause old pool ways first nodes pivots w
     no-cause why.Nodes below =
         let cap : work_of old ≤ cap_of old.model = work-cap old.model old.tree.root lawful sound.tree.lawful in
         let within : cap_of old.model ≤ nodes = enough.results in
@@ -224,20 +314,21 @@ module _ (ways : Ways) (first : Basis) (nodes pivots : ℕ) (old : PlainSearch) 
     no-cause why.Tree unroomy = unroomy (room-fewer old.tree (whole_points old.model - 1) (splits_of old) (splits-cap old.model old.tree.root lawful sound.tree.lawful) enough.room)
     no-cause (why.Pivots place) cause =
         let run = cause.run in
-        let less : pivots < pivots = enough.moves cause.path cause.region run.relax run.relax_is run.began run.started.reached.is run.kept pivots cause.state run.moves in
+        let less : pivots < pivots = enough.moves cause.form cause.selection cause.path cause.region run.relax run.relax_is run.began run.started.reached.is run.kept pivots cause.state run.moves in
         omega (arith, less)
     no-cause (why.Wide at) cause = elim cause.wide [
-      | inl wide ↦ run-room Z enough.steps cause.path cause.region cause.list first pivots at.basis at.step wide
-      | inr wide ↦ no-value ways enough.values cause.path cause.region cause.list at.basis at.step wide
+      | inl wide ↦ run-room Z pool enough.steps cause.form cause.selection cause.path cause.region cause.list (with_cut_variables first 0 (length cause.form.cuts)) pivots (λ s. Unit {0}) at.basis at.step wide
+      | inr wide ↦ no-value ways enough.values cause.form cause.selection cause.path cause.region cause.list at.basis at.step wide
     ]
 
-    pub at-end : (new : PlainSearch) (searched : Searched) → Finds ways first nodes pivots old new searched → IsAtEnd searched.ended
-    at-end new searched h = ended searched.ended h.cause
+  module _ (new : PlainSearch) (enough : IsEnoughForSearch old new.cuts ways nodes pivots) where
+    pub at-end : (searched : Searched) → Finds ways first nodes pivots old new searched → IsAtEnd searched.ended
+    at-end searched h = ended searched.ended h.cause
       where
-        ended : (e : Ended) → HasCause old ways first nodes pivots e → IsAtEnd e
+        ended : (e : Ended) → HasCause old new.cuts ways first nodes pivots e → IsAtEnd e
         ended Finished cause = tt
         ended Unbounded cause = tt
-        ended (Stopped w) cause = no-cause w cause
+        ended (Stopped w) cause = no-cause new.cuts enough w cause
 
 -- ---- what is answered
 
@@ -249,6 +340,6 @@ module _ (limits : Limits) (nodes : ℕ) (old : PlainSearch) (sound : IsSound ol
   found (Ok searched) h = from-comes searched h
   found (Err e) h = tt
 
-  pub complete : {E : Type 0} (r : Result Searched E) → IfOk r (λ searched. Comes limits nodes old new searched) → IfOk r (λ searched. IsEnoughForSearch old limits.ways nodes limits.pivots → IsAtEnd searched.ended)
-  complete (Ok searched) h = λ enough. at-end limits.ways limits.first.now nodes limits.pivots old sound lawful way enough new searched (from-comes searched h)
+  pub complete : {E : Type 0} (r : Result Searched E) → IfOk r (λ searched. Comes limits nodes old new searched) → IfOk r (λ searched. IsEnoughForSearch old new.cuts limits.ways nodes limits.pivots → IsAtEnd searched.ended)
+  complete (Ok searched) h = λ enough. at-end limits.ways limits.first.now nodes limits.pivots old sound lawful way new enough searched (from-comes searched h)
   complete (Err e) h = tt

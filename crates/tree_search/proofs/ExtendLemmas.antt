@@ -1,11 +1,13 @@
--- A result changes the tree in the place of its open leaf alone: a leaf that is closed stays so.
-use Rattle.std.specs.Prelude.{◌≡◌, ℕ, ℤ, List, [], ◌∷◌, drop, Option, Some, None}
+-- A result changes the tree in the place of its open leaf alone: a leaf that is closed stays so. Cuts that are added leave the tree.
+use Rattle.std.specs.Prelude.{◌≡◌, ℕ, ℤ, List, [], ◌∷◌, ◌++◌, drop, All, Option, Some, None}
 use Rattle.std.proofs.Common.{refl, sym, subst, ap, ◌∙◌, inl, inr}
 use Rattle.rational.specs.Rational.{ℚ}
-use Rattle.lp_model.specs.Program.{Program, Point}
-use Rattle.lp_model.specs.Formulations.{without_cuts}
+use Rattle.lp_model.specs.Program.{Point}
+use Rattle.lp_model.specs.Formulations.{Formulation, formulation}
 use Rattle.lp_model.specs.Regions.{Path}
 use Rattle.lp_model.specs.declared.types.Basis.{Basis}
+use Rattle.lp_model.specs.declared.types.CutRow.{CutRow}
+use Rattle.lp_model.specs.declared.types.Derivation.{Derivation}
 use Rattle.lp_model.specs.declared.answers.StopWhy.{StopWhy}
 use Rattle.lp_model.specs.declared.answers.StopWhy.TheVariants as why
 use Rattle.leaf_dual.specs.Dual.{Multipliers}
@@ -23,17 +25,22 @@ use Rattle.branch_tree.specs.declared.node.NodeResult.TheVariants.{Close, Split 
 use Rattle.branch_tree.proofs.CountLemmas.{leaf_case}
 use Rattle.leaf_judging.specs.declared.closing.LeafNumber.{LeafNumber}
 use Rattle.leaf_judging.specs.Closing.{NumberCloses, StateSays, IsJudged, IsJudgedLeaf}
+use Rattle.leaf_judging.specs.Judged.{AreJudged}
 use Rattle.leaf_judging.proofs.JudgeLemmas.{closes_same}
 use Rattle.tree_edit.specs.declared.placing.Taken.{Taken}
 use Rattle.tree_edit.specs.declared.placing.Taken.TheVariants.{Stale, Refused, Reopened, Full, Closed, Split as SplitTaken, Kept}
 use Rattle.tree_edit.specs.Calls.{IsLeafAt}
+use Rattle.tree_edit.specs.Lists.{HasNodeLists}
 use Rattle.tree_edit.specs.Points.{target, IsKeepable}
-use Rattle.tree_edit.specs.Sound.{PlainSearch, IsSound}
+use Rattle.tree_edit.specs.Pool.{search_with_cut, AddsCuts}
+use Rattle.tree_edit.specs.Sound.{PlainSearch, formulation_of, IsSound}
 use Rattle.tree_edit.specs.Placing.{TakesPoint, TakesClose, TakesSplit, TakesPointClose, TakesKeep, TakesPointKeep, TakesResult, TakesOpen, Takes, search_with_leaf, split_node, closed_data, with_basis}
+use Rattle.tree_edit.proofs.FurtherCut.{lists-more, judged-more, each-more}
 use Rattle.tree_edit.proofs.SoundLemmas.{each-weaker}
 use Rattle.tree_edit.proofs.TakenLemmas.{old_closes}
 use Rattle.search_counting.proofs.LeafLemmas.{once, at_leaf}
-use Rattle.tree_search.specs.Steps.{KeepsOpen, Places, StopsAtNext}
+use Rattle.node_solve.proofs.AddedLemmas.{more-cuts}
+use Rattle.tree_search.specs.Steps.{kept_basis, KeepsOpen, Places, StopsAtNext}
 use Rattle.tree_search.specs.Extends.{root_id, Extends}
 use Rattle.tree_search.specs.declared.searching.Ways.{Ways}
 
@@ -70,19 +77,19 @@ module _ (id : ℕ) (new : Plain) (root : root_id new ≡ id) where
 
   -- ---- and the leaves judged again
 
-  module _ (M : Program) (t t' : Option ℚ) (closer : (n : LeafNumber) → NumberCloses M t n → NumberCloses M t' n) where
+  module _ (F : Formulation) (t t' : Option ℚ) (closer : (n : LeafNumber) → NumberCloses F.model t n → NumberCloses F.model t' n) where
     -- a leaf that was closed stays closed
-    leaf-again : (path : Path) (l : LeafKept) (s : LeafState) → IsJudgedLeaf (without_cuts M) t path l.kept → IsJudged (without_cuts M) t' path l.kept.mult l.kept.farkas s
+    leaf-again : (path : Path) (l : LeafKept) (s : LeafState) → IsJudgedLeaf F t path l.kept → IsJudged F t' path l.kept.mult l.kept.farkas s
         → Extends (Leaf l) (Leaf (record { id = l.id; kept = with_state s l.kept }))
     leaf-again path l s old now = by l.kept.state s refl old.says now.says
       where
-        by : (o s : LeafState) → l.kept.state ≡ o → StateSays o (NumberCloses M t old.number) → StateSays s (NumberCloses M t' now.number)
+        by : (o s : LeafState) → l.kept.state ≡ o → StateSays o (NumberCloses F.model t old.number) → StateSays s (NumberCloses F.model t' now.number)
             → Extends (Leaf l) (Leaf (record { id = l.id; kept = with_state s l.kept }))
         by IsOpen s e h k = inl (e, refl)
         by IsClosed IsClosed e h k = inr (λ i. Leaf (record { id = l.id; kept = record { state = sym e i; mult = l.kept.mult; farkas = l.kept.farkas; basis = l.kept.basis } }))
-        by IsClosed IsOpen e h k = absurd (k (closes_same (without_cuts M) path l.kept.mult l.kept.farkas t' now.number old.number now.number_is old.number_is (closer old.number h)))
+        by IsClosed IsOpen e h k = absurd (k (closes_same F path l.kept.mult l.kept.farkas t' now.number old.number now.number_is old.number_is (closer old.number h)))
 
-    extends-changed : (path : Path) (u : Plain) (states : List LeafState) → EachLeaf (λ p l. IsJudgedLeaf (without_cuts M) t p l.kept) path u → EachLeaf (λ p l. IsJudgedLeaf (without_cuts M) t' p l.kept) path (with_states states u)
+    extends-changed : (path : Path) (u : Plain) (states : List LeafState) → EachLeaf (λ p l. IsJudgedLeaf F t p l.kept) path u → EachLeaf (λ p l. IsJudgedLeaf F t' p l.kept) path (with_states states u)
         → EachLeaf (λ p l. l.id ≡ id → l.kept.state ≡ IsOpen) path u → Extends u (replaced id new (with_states states u))
     extends-changed path (Leaf l) [] old again is_open = leaf-put l is_open
     extends-changed path (Leaf l) (s ∷ states) old again is_open =
@@ -95,9 +102,42 @@ module _ (id : ℕ) (new : Plain) (root : root_id new ≡ id) where
       extends-changed (right_path path j v) right (drop (leaf_count left) states) old.1 again.1 is_open.1,
     )
 
+-- ---- what a result is placed against
+
+-- lists that name what is there, leaves that are judged by them, and points that may be kept
+record CanTake (S : PlainSearch) : Type 0 where
+  pub lists : HasNodeLists (formulation_of S) S.tree.root
+  pub judged : AreJudged (formulation_of S) (target S.model S.points) S.tree.root
+  pub points : All (IsKeepable S.model) S.points
+
+can-take : (S : PlainSearch) → IsSound S → CanTake S
+can-take S sound = record { lists = sound.tree.lists; judged = sound.judged; points = sound.points }
+
+can-take-cut : (S : PlainSearch) (c : CutRow) → CanTake S → CanTake (search_with_cut S c)
+can-take-cut S c h =
+    let F : Formulation = formulation_of S in
+    let best : Option ℚ = target S.model S.points in
+    record {
+      lists = lists-more F c S.tree.root h.lists;
+      judged = each-more F c (λ p l. IsJudgedLeaf F best p l.kept) (λ p l. IsJudgedLeaf (formulation S.model (S.cuts ++ c ∷ [])) best p l.kept) (judged-more F c best) S.tree.root h.lists h.judged;
+      points = h.points;
+    }
+
+can-take-cuts : (ds : List Derivation) (S T : PlainSearch) → AddsCuts S ds T → CanTake S → CanTake T
+can-take-cuts [] S T e h = subst CanTake (sym e) h
+can-take-cuts (d ∷ ds) S T (mid, (add, rest)) h = can-take-cuts ds mid T rest (subst CanTake (sym add.new_is) (can-take-cut S add.cut h))
+
+-- ---- cuts that are added
+
+tree-after : (ds : List Derivation) (S T : PlainSearch) → AddsCuts S ds T → T.tree ≡ S.tree
+tree-after ds S T adds = ap (λ (X : PlainSearch). X.tree) (more-cuts ds S T adds).now
+
+pub extends-added : (ds : List Derivation) (S T : PlainSearch) → AddsCuts S ds T → Extends S.tree.root T.tree.root
+extends-added ds S T adds = subst (λ (N : NumberedTree). Extends S.tree.root N.root) (sym (tree-after ds S T adds)) (extends-self S.tree.root)
+
 -- ---- a result for an open leaf
 
-module _ (S : PlainSearch) (sound : IsSound S) (numbered : IsNumbered S.tree) (id : ℕ) (path : Path) (kept : LeafData) (at : IsLeafAt S.tree.root id path kept) (is_open : kept.state ≡ IsOpen) (new : PlainSearch) where
+module _ (S : PlainSearch) (placed : CanTake S) (numbered : IsNumbered S.tree) (id : ℕ) (path : Path) (kept : LeafData) (at : IsLeafAt S.tree.root id path kept) (is_open : kept.state ≡ IsOpen) (new : PlainSearch) where
   abbrev Extended : PlainSearch → Type 0
   Extended T = Extends S.tree.root T.tree.root
 
@@ -119,12 +159,12 @@ module _ (S : PlainSearch) (sound : IsSound S) (numbered : IsNumbered S.tree) (i
       let states : List LeafState = takes.tree.states in
       let tree_is : mid.tree ≡ with_leaf_states S.tree states = takes.tree.tree in
       let root_is : mid.tree.root ≡ with_states states S.tree.root = ap (λ (T : NumberedTree). T.root) tree_is in
-      let again : EachLeaf (λ p l. IsJudgedLeaf (without_cuts S.model) (target S.model mid.points) p l.kept) [] (with_states states S.tree.root) =
-      subst (λ t. EachLeaf (λ p l. IsJudgedLeaf (without_cuts S.model) (target S.model mid.points) p l.kept) [] t) root_is takes.tree.judged in
+      let again : EachLeaf (λ p l. IsJudgedLeaf (formulation_of S) (target S.model mid.points) p l.kept) [] (with_states states S.tree.root) =
+      subst (λ t. EachLeaf (λ p l. IsJudgedLeaf (formulation_of S) (target S.model mid.points) p l.kept) [] t) root_is takes.tree.judged in
       let leaf : Plain = Leaf (record { id = id; kept = shut }) in
       subst Extended (sym is)
       (subst (λ t. Extends S.tree.root (replaced id leaf t)) (sym root_is)
-      (extends-changed id leaf refl S.model (target S.model S.points) (target S.model mid.points) (old_closes S.model S.points x sound.points keepable mid.points takes.points) [] S.tree.root states sound.judged again open-there))
+      (extends-changed id leaf refl (formulation_of S) (target S.model S.points) (target S.model mid.points) (old_closes S.model S.points x placed.points keepable mid.points takes.points) [] S.tree.root states placed.judged again open-there))
 
   by-close : (shut : LeafData) (taken : Taken) → TakesClose S id path shut new taken → Extended new
   by-close shut Stale h = absurd h
@@ -178,9 +218,9 @@ module _ (S : PlainSearch) (sound : IsSound S) (numbered : IsNumbered S.tree) (i
   by-result (Keep None basis) taken h = by-keep (with_basis kept basis) taken h
   by-result (Keep (Some point) basis) taken h = by-point_keep point (with_basis kept basis) taken h
 
-module _ (S : PlainSearch) (sound : IsSound S) (numbered : IsNumbered S.tree) where
+module _ (S : PlainSearch) (placed : CanTake S) (numbered : IsNumbered S.tree) where
   extends-opened : (id : ℕ) (done : NodeResult) (new : PlainSearch) (taken : Taken) → TakesOpen S id done new taken → Extends S.tree.root new.tree.root
-  extends-opened id done new taken h = by-result S sound numbered id h.path h.kept h.leaf h.state new done taken h.result_is
+  extends-opened id done new taken h = by-result S placed numbered id h.path h.kept h.leaf h.state new done taken h.result_is
 
   -- whatever is answered
   extends-taken : (id : ℕ) (done : NodeResult) (new : PlainSearch) (taken : Taken) → Takes S id done new taken → Extends S.tree.root new.tree.root
@@ -192,17 +232,33 @@ module _ (S : PlainSearch) (sound : IsSound S) (numbered : IsNumbered S.tree) wh
   extends-taken id done new SplitTaken h = extends-opened id done new SplitTaken h
   extends-taken id done new Kept h = extends-opened id done new Kept h
 
+module _ (S : PlainSearch) (sound : IsSound S) (numbered : IsNumbered S.tree) where
+  -- ---- once the cuts were added
+
+  module _ (found : List Derivation) (mid : PlainSearch) (adds : AddsCuts S found mid) where
+    can_take_mid : CanTake mid
+    can_take_mid = can-take-cuts found S mid adds (can-take S sound)
+
+    numbered_mid : IsNumbered mid.tree
+    numbered_mid = subst IsNumbered (sym (tree-after found S mid adds)) numbered
+
+    extends-then : (new : PlainSearch) → Extends mid.tree.root new.tree.root → Extends S.tree.root new.tree.root
+    extends-then new h = subst (λ (N : NumberedTree). Extends N.root new.tree.root) (tree-after found S mid adds) h
+
   pub extends-placed : (ways : Ways) (first : Basis) (pivots : ℕ) (new : PlainSearch) → Places ways first pivots S new → Extends S.tree.root new.tree.root
-  extends-placed ways first pivots new h = extends-taken h.job.id h.result new h.taken h.takes
+  extends-placed ways first pivots new h =
+      let found : List Derivation = h.found.items in
+      extends-then found h.mid h.adds new (extends-taken h.mid (can_take_mid found h.mid h.adds) (numbered_mid found h.mid h.adds) h.job.id h.result new h.taken h.takes)
 
   -- ---- a leaf that keeps a basis
 
-  pub extends-kept : (job : Job) (point : Option Point) (basis : Basis) (new : PlainSearch) → KeepsOpen S job point basis new → Extends S.tree.root new.tree.root
-  extends-kept job point basis new h = extends-opened job.id (Keep point basis) new Kept h.takes
+  pub extends-kept : (job : Job) (found : List Derivation) (point : Option Point) (basis : Basis) (new : PlainSearch) → KeepsOpen S job found point basis new → Extends S.tree.root new.tree.root
+  extends-kept job found point basis new h =
+      extends-then found h.mid h.adds new (extends-opened h.mid (can_take_mid found h.mid h.adds) (numbered_mid found h.mid h.adds) job.id (Keep point basis) new Kept h.takes)
 
   pub extends-stopped : (ways : Ways) (first : Basis) (pivots : ℕ) (new : PlainSearch) (w : StopWhy) → StopsAtNext ways first pivots S new w → Extends S.tree.root new.tree.root
   extends-stopped ways first pivots new why.Nodes h = absurd h
-  extends-stopped ways first pivots new why.Tree h = subst (λ (T : PlainSearch). Extends S.tree.root T.tree.root) (sym h.0) (extends-self S.tree.root)
-  extends-stopped ways first pivots new (why.Pivots place) h = extends-kept h.job None place.basis new h.keeps
-  extends-stopped ways first pivots new (why.Wide at_) (inl h) = extends-kept h.job None at_.basis new h.keeps
-  extends-stopped ways first pivots new (why.Wide at_) (inr h) = extends-kept h.job None at_.basis new h.keeps
+  extends-stopped ways first pivots new why.Tree h = extends-added h.found.items S new h.adds
+  extends-stopped ways first pivots new (why.Pivots place) h = extends-kept h.job h.found.items None (kept_basis new place.basis) new h.keeps
+  extends-stopped ways first pivots new (why.Wide at_) (inl h) = extends-kept h.job h.found.items None (kept_basis new at_.basis) new h.keeps
+  extends-stopped ways first pivots new (why.Wide at_) (inr h) = extends-kept h.job h.found.items None h.basis new h.keeps

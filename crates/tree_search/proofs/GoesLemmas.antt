@@ -1,16 +1,18 @@
 -- A search step by step: what was placed so far, and where it ends or stops.
-use Rattle.std.specs.Prelude.{◌≡◌, ◌⊎◌, ℕ, suc, ◌+◌, ◌<◌, ◌≤◌, Some}
+use Rattle.std.specs.Prelude.{◌≡◌, ◌⊎◌, ℕ, suc, ◌+◌, ◌<◌, ◌≤◌, List, Some}
 use Rattle.std.proofs.Common.{refl, sym, subst, ◌∙◌, inl, inr, arith}
 use Rattle.lp_model.specs.Rays.{IsUnbounded}
 use Rattle.lp_model.specs.declared.types.Basis.{Basis}
+use Rattle.lp_model.specs.declared.types.Derivation.{Derivation}
 use Rattle.lp_model.specs.declared.answers.StopWhy.{StopWhy}
 use Rattle.lp_model.specs.declared.answers.StopWhy.TheVariants as why
 use Rattle.branch_tree.specs.Numbered.{IsNumbered}
 use Rattle.tree_edit.specs.Laws.{HasNoOpenLeaf}
+use Rattle.tree_edit.specs.Pool.{AddsCuts, AddsAny}
 use Rattle.tree_edit.specs.Sound.{PlainSearch, IsSound}
 use Rattle.search_counting.specs.Work.{work_of, IsRoomy, Lowers}
 use Rattle.tree_search.specs.Steps.{HasOpenLeaf, WorksNext, Places, PlacesMany, Goes, PointAtNext, StopsAtNext}
-use Rattle.tree_search.specs.Search.{StopsFor, IsLeft}
+use Rattle.tree_search.specs.Search.{StopsFor, IsLeft, GivesUp}
 use Rattle.tree_search.specs.Stepping.{IsReady, Steps, Comes}
 use Rattle.tree_search.specs.Extends.{Extends}
 use Rattle.tree_search.specs.declared.searching.Ways.{Ways}
@@ -18,9 +20,14 @@ use Rattle.tree_search.specs.declared.searching.Ended.TheVariants.{Finished, Unb
 use Rattle.tree_search.specs.declared.searching.Searched.{Searched}
 use Rattle.tree_search.specs.declared.stepping.Limits.{Limits}
 use Rattle.tree_search.specs.declared.stepping.Stepped.TheVariants as stepped
+use Rattle.node_solve.proofs.AddedLemmas.{more-cuts}
 use Rattle.tree_search.proofs.PointLemmas.{point-unbounded}
 use Rattle.tree_search.proofs.ReadyLemmas.{ready-after}
 use Rattle.tree_search.proofs.ExtendLemmas.{extends-self, extends-on, extends-placed, extends-kept, extends-stopped}
+
+-- further cuts leave the open leaves
+open-added : (S : PlainSearch) (ds : List Derivation) (T : PlainSearch) → AddsCuts S ds T → HasOpenLeaf S → HasOpenLeaf T
+open-added S ds T adds (id, (path, h)) = subst HasOpenLeaf (sym (more-cuts ds S T adds).now) (id, (path, record { kept = h.kept; leaf = h.leaf; state = h.state }))
 
 -- what holds after n results
 pub record IsUnderway (limits : Limits) (nodes n : ℕ) (old S : PlainSearch) : Type 0 where
@@ -39,6 +46,10 @@ module _ (limits : Limits) (nodes : ℕ) (old : PlainSearch) where
   module _ (n : ℕ) (S : PlainSearch) (h : IsUnderway limits nodes n old S) where
     pub goes : IsSound S → Goes limits.ways limits.first.now limits.pivots n old S
     goes sound = record { model = h.model; placed = h.placed; extends = h.extends; work = h.work; room = h.room; sound = sound }
+
+    -- without memory in the next step
+    pub gives-up : (T : PlainSearch) → IsSound S → AddsAny S T → GivesUp limits.ways limits.first.now nodes limits.pivots old T
+    gives-up T sound adds = record { placed = n; within_limit = h.limit; mid = S; goes = goes sound; adds = adds }
 
     below : (n ≡ nodes → ⊥) → n < nodes
     below other = let most : n ≤ nodes = h.limit in omega (arith, most, other)
@@ -74,15 +85,15 @@ module _ (limits : Limits) (nodes : ℕ) (old : PlainSearch) where
         before = n;
         counted = refl;
         after = record { mid = S; goes = goes sound; below_limit = below other; here = here };
-        unbounded = subst IsUnbounded h.model (point-unbounded limits.ways S here.rays h.ready.ways here.job limits.first.now limits.pivots here.point here.mult here.basis here.works.worked_is);
+        unbounded = subst IsUnbounded h.model (point-unbounded limits.ways S here.rays h.ready.ways here.job limits.first.now limits.pivots here.point here.mult here.basis here.found here.works.worked_is);
       };
       left = (here.job.id, (here.job.region, here.keeps.stays));
-      extends = extends-on old.tree.root S.tree.root T.tree.root h.extends (extends-kept S sound numbered here.job (Some here.point) here.basis T here.keeps);
+      extends = extends-on old.tree.root S.tree.root T.tree.root h.extends (extends-kept S sound numbered here.job here.found.items (Some here.point) here.basis T here.keeps);
     }
 
     stop-left : (T : PlainSearch) (w : StopWhy) → HasOpenLeaf S → StopsAtNext limits.ways limits.first.now limits.pivots S T w → HasOpenLeaf T
     stop-left T why.Nodes left here = absurd here
-    stop-left T why.Tree left here = subst HasOpenLeaf (sym here.0) left
+    stop-left T why.Tree left here = open-added S here.found.items T here.adds left
     stop-left T (why.Pivots place) left here = (here.job.id, (here.job.region, here.keeps.stays))
     stop-left T (why.Wide at) left (inl here) = (here.job.id, (here.job.region, here.keeps.stays))
     stop-left T (why.Wide at) left (inr here) = (here.job.id, (here.job.region, here.keeps.stays))

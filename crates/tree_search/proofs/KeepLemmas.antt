@@ -1,15 +1,17 @@
 -- A basis that is kept by an open leaf, alone or with a point: it is taken, and the leaf stays open.
-use Rattle.std.specs.Prelude.{◌≡◌, ℕ, ◌<◌, ◌≤◌, Bool, true, if◌then◌else◌, nat_eq, [], ◌∷◌, Option, Some, None, Ok, MatchOption}
+use Rattle.std.specs.Prelude.{◌≡◌, ℕ, ◌<◌, ◌≤◌, Bool, true, if◌then◌else◌, nat_eq, ◌+◌, ◌++◌, length, map, List, [], ◌∷◌, Option, Some, None, Ok, MatchOption}
 use Rattle.std.specs.Option.{option_map}
-use Rattle.std.proofs.Common.{refl, sym, subst, ap, ◌∙◌, inl, inr, arith}
+use Rattle.std.proofs.Common.{refl, sym, subst, ap, ◌∙◌, inl, inr, arith, length-append}
 use Rattle.std.proofs.lemmas.Bool.Decides.{eqb_tells}
+use Rattle.std.proofs.lemmas.List.{length-map}
 use Rattle.rational.specs.Rational.{ℚ}
 use Rattle.lp_model.specs.Program.{Program, Point, IsFeasible}
-use Rattle.lp_model.specs.Formulations.{Formulation, without_cuts}
+use Rattle.lp_model.specs.Formulations.{Formulation, formulation}
 use Rattle.lp_model.specs.Rays.{IsRay}
 use Rattle.lp_model.specs.Regions.{Path, InRegion}
 use Rattle.lp_model.specs.declared.types.Basis.{Basis}
-use Rattle.lp_model.proofs.FormulationLemmas.{valid-without_cuts}
+use Rattle.lp_model.specs.declared.types.CutRow.{CutRow}
+use Rattle.lp_model.specs.declared.types.Derivation.{Derivation}
 use Rattle.leaf_dual.specs.Dual.{Multipliers}
 use Rattle.leaf_dual.specs.Answers.{IsLagAnswer}
 use Rattle.leaf_dual.specs.declared.dual.LagValue.TheVariants.{Minus, Num}
@@ -38,12 +40,14 @@ use Rattle.tree_edit.specs.Jobs.{IsJobOf}
 use Rattle.tree_edit.specs.Lists.{IsBasis}
 use Rattle.tree_edit.specs.Placing.{IsAt, PutsJudged, TakesPoint, TakesOpen, Takes, with_basis, search_with_leaf}
 use Rattle.tree_edit.specs.Points.{IsKeepable, target}
+use Rattle.tree_edit.specs.Pool.{AddsCut, AddsCuts}
 use Rattle.tree_edit.specs.Sound.{PlainSearch, formulation_of, IsSound}
-use Rattle.tree_edit.proofs.ClosedTree.{set_aside-none}
+use Rattle.tree_edit.proofs.ClosedTree.{set_aside-none, valid-sound}
 use Rattle.tree_edit.proofs.SoundLemmas.{is_at, is_at-states}
 use Rattle.tree_edit.proofs.OpenLemmas.{leaf_at, open-judged}
 use Rattle.search_counting.proofs.LeafLemmas.{once, some_is}
 use Rattle.node_solve.specs.Runs.{NamesIntegers}
+use Rattle.node_solve.proofs.AddedLemmas.{more-cuts}
 use Rattle.tree_search.specs.Steps.{KeepsOpen}
 use Rattle.tree_search.proofs.RayLemmas.{ray-open}
 
@@ -96,11 +100,11 @@ module _ (S : PlainSearch) (sound : IsSound S) (numbered : IsNumbered S.tree) (j
       state = open_is;
     }
 
-    pub keep-open : TakesOpen S job.id (Keep None basis) S' Kept → KeepsOpen S job None basis S'
+    pub keep-open : TakesOpen S job.id (Keep None basis) S' Kept → KeepsOpen S job [] None basis S'
     keep-open h =
         let state : LeafState = h.result_is.1.0 in
         let same : h.kept.state ≡ state = judged_same (formulation_of S) (target S.model S.points) h.path h.kept (with_state state (with_basis h.kept basis)) refl refl (open-judged S sound job.id h.path h.kept h.leaf) h.result_is.1.1.0 in
-        record { takes = h; stays = open_with S h.path (with_basis h.kept basis) state one at (sym same ∙ h.state) h.result_is.1.1.1 }
+        record { mid = S; adds = refl; takes = h; stays = open_with S h.path (with_basis h.kept basis) state one at (sym same ∙ h.state) h.result_is.1.1.1 }
 
     -- ---- with a point beside a ray
 
@@ -115,27 +119,29 @@ module _ (S : PlainSearch) (sound : IsSound S) (numbered : IsNumbered S.tree) (j
       point-taken Kept h = refl
 
       module _ (d : Point) (ray : IsRay S.model d) (names : NamesIntegers S.model job.region) (inside : InRegion job.region x) where
-        never : (mult farkas : Multipliers) (t : Option ℚ) (n : LeafNumber) → IsNumber (without_cuts S.model) job.region mult farkas n → ¬ NumberCloses S.model t n
-        never mult farkas t Empty is_number closes = set_aside-none (without_cuts S.model) (valid-without_cuts S.model) x keepable.feasible.0 job.region inside farkas is_number
+        never : (mult farkas : Multipliers) (t : Option ℚ) (n : LeafNumber) → IsNumber (formulation_of S) job.region mult farkas n → ¬ NumberCloses S.model t n
+        never mult farkas t Empty is_number closes = set_aside-none (formulation_of S) (valid-sound S sound) x keepable.feasible.0 job.region inside farkas is_number
         never mult farkas None (Lag v) is_number closes = closes
         never mult farkas (Some t) (Lag Minus) is_number closes = elim closes [ inl h ↦ h | inr h ↦ h.1 ]
-        never mult farkas (Some t) (Lag (Num q)) is_number closes = ray-open S.model d ray x keepable.feasible.0 job.region names inside mult q is_number.1
+        never mult farkas (Some t) (Lag (Num q)) is_number closes = ray-open (formulation_of S) (valid-sound S sound) d ray x keepable.feasible.0 job.region names inside mult q is_number.1
         never mult farkas t (Wide step) is_number closes = closes
 
-        stays_open : (mult farkas : Multipliers) (t : Option ℚ) (state : LeafState) → IsJudged (without_cuts S.model) t job.region mult farkas state → state ≡ IsOpen
+        stays_open : (mult farkas : Multipliers) (t : Option ℚ) (state : LeafState) → IsJudged (formulation_of S) t job.region mult farkas state → state ≡ IsOpen
         stays_open mult farkas t IsOpen judged = refl
         stays_open mult farkas t IsClosed judged = absurd (never mult farkas t judged.number judged.number_is judged.says)
 
-        pub point-open : TakesOpen S job.id (Keep (Some x) basis) S' Kept → KeepsOpen S job (Some x) basis S'
+        pub point-open : TakesOpen S job.id (Keep (Some x) basis) S' Kept → KeepsOpen S job [] (Some x) basis S'
         point-open h =
             let mid : PlainSearch = h.result_is.2.0 in
             let takes : TakesPoint S x mid = h.result_is.2.1.0 in
             let puts = h.result_is.2.1.1 in
             let state : LeafState = puts.0 in
             let root_is : mid.tree.root ≡ with_states takes.tree.states S.tree.root = ap (λ (T : NumberedTree). T.root) takes.tree.tree in
-            let judged : IsJudged (without_cuts S.model) (target mid.model mid.points) job.region h.kept.mult h.kept.farkas state =
-            subst (λ P. P) (λ i. IsJudged (without_cuts (takes.model i)) (target mid.model mid.points) (same_path h.path h.kept h.leaf i) h.kept.mult h.kept.farkas state) puts.1.0 in
+            let judged : IsJudged (formulation_of S) (target mid.model mid.points) job.region h.kept.mult h.kept.farkas state =
+            subst (λ P. P) (λ i. IsJudged (formulation (takes.model i) (takes.cuts i)) (target mid.model mid.points) (same_path h.path h.kept h.leaf i) h.kept.mult h.kept.farkas state) puts.1.0 in
             record {
+              mid = S;
+              adds = refl;
               takes = h;
               stays = open_with mid h.path (with_basis h.kept basis) state
                   (ap (leaves_with job.id) root_is ∙ leaves_with-states job.id takes.tree.states S.tree.root ∙ one)
@@ -143,8 +149,46 @@ module _ (S : PlainSearch) (sound : IsSound S) (numbered : IsNumbered S.tree) (j
                   (stays_open h.kept.mult h.kept.farkas (target mid.model mid.points) state judged) puts.1.1;
             }
 
+-- ---- the cuts that were added first
+
+pub job-after : (begin : PlainSearch) (ds : List Derivation) (S : PlainSearch) → AddsCuts begin ds S → (id : ℕ) (job : Job) → IsJobOf begin id job → IsJobOf S id job
+job-after begin ds S adds id job is =
+    let m = more-cuts ds begin S adds in
+    subst (λ (X : PlainSearch). IsJobOf X id job) (sym m.now)
+    (record { id_is = is.id_is; kept = is.kept; leaf = is.leaf; state = is.state; mult_is = is.mult_is; basis_is = is.basis_is; target_is = is.target_is })
+
+pub keeps-after : (begin : PlainSearch) (ds : List Derivation) (S : PlainSearch) → AddsCuts begin ds S → (job : Job) (point : Option Point) (basis : Basis) (S' : PlainSearch) → KeepsOpen S job [] point basis S' → KeepsOpen begin job ds point basis S'
+keeps-after begin ds S adds job point basis S' h = record { mid = S; adds = adds; takes = subst (λ (X : PlainSearch). TakesOpen X job.id (Keep point basis) S' Kept) h.adds h.takes; stays = h.stays }
+
+-- one more
+pub adds-next : (ds : List Derivation) (d : Derivation) (S T U : PlainSearch) → AddsCuts S ds T → AddsCut T d U → AddsCuts S (ds ++ d ∷ []) U
+adds-next [] d S T U e one = (U, (subst (λ (X : PlainSearch). AddsCut X d U) e one, refl))
+adds-next (x ∷ ds) d S T U (mid, (first, rest)) one = (mid, (first, adds-next ds d mid T U rest one))
+
+pub added-count : (S : PlainSearch) (ds : List Derivation) (T : PlainSearch) → AddsCuts S ds T → length T.cuts ≡ length S.cuts + length ds
+added-count S ds T adds =
+    let m = more-cuts ds S T adds in
+    let now : length T.cuts ≡ length (S.cuts ++ m.new) = ap (λ (X : PlainSearch). length X.cuts) m.now in
+    let parts = length-append S.cuts m.new in
+    let named = length-map m.new (λ (c : CutRow). c.from) in
+    let same : length (map (λ (c : CutRow). c.from) m.new) ≡ length ds = ap length m.from in
+    omega (arith, now, parts, named, same)
+
 -- ---- the model stays
 
-pub keeps-model : (S : PlainSearch) (job : Job) (point : Option Point) (basis : Basis) (S' : PlainSearch) → KeepsOpen S job point basis S' → S'.model ≡ S.model
-keeps-model S job None basis S' h = ap (λ (T : PlainSearch). T.model) h.takes.result_is.1.1.1
-keeps-model S job (Some x) basis S' h = ap (λ (T : PlainSearch). T.model) h.takes.result_is.2.1.1.1.1 ∙ h.takes.result_is.2.1.0.model
+pub added-model : (S : PlainSearch) (ds : List Derivation) (T : PlainSearch) → AddsCuts S ds T → T.model ≡ S.model
+added-model S ds T adds = ap (λ (X : PlainSearch). X.model) (more-cuts ds S T adds).now
+
+takes-model : (S : PlainSearch) (job : Job) (point : Option Point) (basis : Basis) (S' : PlainSearch) → TakesOpen S job.id (Keep point basis) S' Kept → S'.model ≡ S.model
+takes-model S job None basis S' h = ap (λ (T : PlainSearch). T.model) h.result_is.1.1.1
+takes-model S job (Some x) basis S' h = ap (λ (T : PlainSearch). T.model) h.result_is.2.1.1.1.1 ∙ h.result_is.2.1.0.model
+
+pub keeps-model : (S : PlainSearch) (job : Job) (found : List Derivation) (point : Option Point) (basis : Basis) (S' : PlainSearch) → KeepsOpen S job found point basis S' → S'.model ≡ S.model
+keeps-model S job found point basis S' h = takes-model h.mid job point basis S' h.takes ∙ added-model S found h.mid h.adds
+
+takes-cuts : (S : PlainSearch) (job : Job) (point : Option Point) (basis : Basis) (S' : PlainSearch) → TakesOpen S job.id (Keep point basis) S' Kept → S'.cuts ≡ S.cuts
+takes-cuts S job None basis S' h = ap (λ (T : PlainSearch). T.cuts) h.result_is.1.1.1
+takes-cuts S job (Some x) basis S' h = ap (λ (T : PlainSearch). T.cuts) h.result_is.2.1.1.1.1 ∙ h.result_is.2.1.0.cuts
+
+pub keeps-cuts : (S : PlainSearch) (job : Job) (found : List Derivation) (point : Option Point) (basis : Basis) (S' : PlainSearch) → (h : KeepsOpen S job found point basis S') → S'.cuts ≡ h.mid.cuts
+keeps-cuts S job found point basis S' h = takes-cuts h.mid job point basis S' h.takes

@@ -1,9 +1,9 @@
 -- The first point beside a ray: it may be kept, and its leaf stays open.
-use Rattle.std.specs.Prelude.{◌≡◌, ℕ, Some, Ok}
-use Rattle.std.proofs.Common.{subst}
+use Rattle.std.specs.Prelude.{◌≡◌, ℕ, ◌++◌, Some, Ok}
+use Rattle.std.proofs.Common.{refl, sym, ap, subst}
 use Rattle.lp_model.specs.Program.{Program, Point, value, IsFeasible}
 use Rattle.lp_model.specs.Answers.{IsValueAnswer}
-use Rattle.lp_model.specs.Formulations.{without_cuts}
+use Rattle.lp_model.specs.Lawful.{IsLawful}
 use Rattle.lp_model.specs.Rays.{IsRay, IsUnbounded, without_costs}
 use Rattle.lp_model.specs.Regions.{InRegion}
 use Rattle.lp_model.specs.declared.types.Basis.{Basis}
@@ -16,20 +16,24 @@ use Rattle.branch_tree.specs.declared.node.NodeResult.TheVariants.{PointAndClose
 use Rattle.tree_edit.specs.declared.placing.Taken.{Taken}
 use Rattle.tree_edit.specs.declared.placing.Taken.TheVariants.{Kept}
 use Rattle.tree_edit.specs.Placing.{Takes, TakesOpen}
+use Rattle.tree_edit.specs.Jobs.{IsJobOf}
 use Rattle.tree_edit.specs.Lists.{IsBasis}
 use Rattle.tree_edit.specs.Points.{IsKeepable}
-use Rattle.tree_edit.specs.Sound.{PlainSearch, IsSound}
-use Rattle.node_solve.specs.Works.{IsWorked}
+use Rattle.tree_edit.specs.Pool.{AddsCuts}
+use Rattle.tree_edit.specs.Sound.{PlainSearch, formulation_of, IsSound}
+use Rattle.node_solve.specs.Rounds.{IsWorked}
 use Rattle.node_solve.specs.declared.working.Worked.TheVariants.{Done}
-use Rattle.tree_search.specs.Steps.{worked_model, IsWayFor, IsRayWay, KeepsOpen, PointAtNext}
+use Rattle.node_solve.proofs.AddedLemmas.{more-cuts}
+use Rattle.node_solve.proofs.TakenLemmas.{IsPointIn, done_point}
+use Rattle.tree_search.specs.Steps.{FoundCuts, work_next, worked_model, IsWayFor, IsRayWay, KeepsOpen, PointAtNext}
 use Rattle.tree_search.specs.Room.{IsWorkedRegion}
 use Rattle.tree_search.specs.Stepping.{IsReady, WorksBy}
 use Rattle.tree_search.specs.declared.searching.Ways.{Ways}
 use Rattle.tree_search.specs.declared.searching.Ways.TheVariants.{Own, Rays}
 use Rattle.tree_search.specs.declared.stepping.Limits.{Limits}
-use Rattle.tree_search.proofs.JobLemmas.{worked-by, job-region, region-same}
-use Rattle.tree_search.proofs.KeepLemmas.{point-taken, point-open}
-use Rattle.tree_search.proofs.PlacedLemmas.{point-basis, point-inside, point-keepable}
+use Rattle.tree_search.proofs.JobLemmas.{IsWorkedBy, worked-by, job-region, region-same}
+use Rattle.tree_search.proofs.KeepLemmas.{job-after, keeps-after, point-taken, point-open}
+use Rattle.tree_search.proofs.PlacedLemmas.{point-basis, point-inside}
 use Rattle.tree_search.proofs.SameLemmas.{keepable-same}
 
 -- a point of the work beside a ray: what is asked of it in the search's own model, and the ray
@@ -39,46 +43,73 @@ record IsRayPoint (S : PlainSearch) (job : Job) (x : Point) : Type 0 where
   direction : Point
   ray : IsRay S.model direction
 
-ray-point : (ways : Ways) (S : PlainSearch) → IsSound S → IsRayWay ways → IsWayFor S ways → (job : Job) → IsWorkedRegion S.model job.region → (first : Basis) (limit : ℕ) (x : Point) (mult : Multipliers) (basis : Basis) → IsWorked (worked_model ways S.model) job first limit (Done (PointAndClose x mult basis))
-    → IsValueAnswer S.model 1 x (Ok (value S.model 1 x)) → IsRayPoint S job x
-ray-point Own S sound rays way job region first limit x mult basis worked v = absurd rays
-ray-point (Rays Z) S sound rays way job region first limit x mult basis worked v =
-    let here = subst (λ M. IsWorked M job first limit (Done (PointAndClose x mult basis))) way.worked worked in
-    record {
-      keepable = keepable-same S.model x (point-keepable (without_costs S.model) job first limit x mult basis here) v;
-      inside = point-inside (without_costs S.model) job first limit (region-same S.model job.region region).names x mult basis here;
-      direction = way.direction;
-      ray = way.ray;
+ray-point : (ways : Ways) (S : PlainSearch) → IsRayWay ways → IsWayFor S ways → (job : Job) → IsWorkedRegion S.model job.region → (first : Basis) (pivots : ℕ) (x : Point) → IsPointIn (work_next ways first pivots S job) x → IsValueAnswer S.model 1 x (Ok (value S.model 1 x)) → IsRayPoint S job x
+ray-point Own S rays way job region first pivots x p v = absurd rays
+ray-point (Rays Z) S rays way job region first pivots x p v = record {
+  keepable = keepable-same S.model x (subst (λ M. IsKeepable M x) way.worked p.keepable) v;
+  inside = point-inside (work_next (Rays Z) first pivots S job) (subst (λ M. IsWorkedRegion M job.region) (sym way.worked) (region-same S.model job.region region)).names x p;
+  direction = way.direction;
+  ray = way.ray;
+}
+
+module _ (limits : Limits) (begin : PlainSearch) (job : Job) (x : Point) (mult : Multipliers) (basis : Basis) (vec : FoundCuts) (works : WorksBy limits begin job (Done (PointAndClose x mult basis) vec))
+    (S : PlainSearch) (adds : AddsCuts begin vec.items S) (sound : IsSound S) (numbered : IsNumbered S.tree) (lawful : IsLawful S.model) (rays : IsRayWay limits.ways) (ready : IsReady limits S) where
+  model-then : S.model ≡ begin.model
+  model-then = ap (λ (X : PlainSearch). X.model) (more-cuts vec.items begin S adds).now
+
+  way-then : IsWayFor begin limits.ways
+  way-then = by limits.ways ready.ways
+    where
+      m : S ≡ record begin { cuts = begin.cuts ++ (more-cuts vec.items begin S adds).new }
+      m = (more-cuts vec.items begin S adds).now
+
+      by : (ways : Ways) → IsWayFor S ways → IsWayFor begin ways
+      by Own h = tt
+      by (Rays Z) h =
+          let back = subst (λ (X : PlainSearch). IsWayFor X (Rays Z)) m h in
+          record { worked = back.worked; direction = back.direction; ray = back.ray; none = back.none }
+
+  job-now : IsJobOf S job.id job
+  job-now = job-after begin vec.items S adds job.id job works.next.job_is
+
+  region-now : IsWorkedRegion S.model job.region
+  region-now = job-region S sound job job-now
+
+  pub there : IsBasis (formulation_of S) basis
+  there =
+      point-basis limits.ways limits.first.now limits.pivots begin (subst (IsWorkedBy limits.ways) model-then (worked-by S limits.ways ready.ways)) job vec.items S adds
+      (subst IsLawful model-then lawful) x mult basis vec refl works.worked_is
+
+  module _ (v : IsValueAnswer S.model 1 x (Ok (value S.model 1 x))) (S' : PlainSearch) where
+    point : IsRayPoint begin job x
+    point =
+        ray-point limits.ways begin rays way-then job (subst (λ M. IsWorkedRegion M job.region) model-then region-now) limits.first.now limits.pivots x
+        (done_point (work_next limits.ways limits.first.now limits.pivots begin job) x mult basis vec works.worked_is).0
+        (subst (λ M. IsValueAnswer M 1 x (Ok (value M 1 x))) model-then v)
+
+    keepable-now : IsKeepable S.model x
+    keepable-now = subst (λ M. IsKeepable M x) (sym model-then) point.keepable
+
+    pub ray_point-taken : (taken : Taken) → Takes S job.id (Keep (Some x) basis) S' taken → taken ≡ Kept
+    ray_point-taken taken takes = point-taken S sound numbered job job-now S' basis there x keepable-now taken takes
+
+    pub ray_point-next : TakesOpen S job.id (Keep (Some x) basis) S' Kept → PointAtNext limits.ways limits.first.now limits.pivots begin S'
+    ray_point-next takes = record {
+      rays = rays;
+      job = job;
+      point = x;
+      mult = mult;
+      basis = basis;
+      found = vec;
+      works = works;
+      keeps =
+          keeps-after begin vec.items S adds job (Some x) basis S'
+          (point-open S sound numbered job job-now S' basis there x keepable-now point.direction (subst (λ M. IsRay M point.direction) (sym model-then) point.ray) region-now.names point.inside takes);
     }
 
-module _ (limits : Limits) (S : PlainSearch) (sound : IsSound S) (numbered : IsNumbered S.tree) (rays : IsRayWay limits.ways) (ready : IsReady limits S) (job : Job) (x : Point) (mult : Multipliers) (basis : Basis) (works : WorksBy limits S job (Done (PointAndClose x mult basis)))
-    (v : IsValueAnswer S.model 1 x (Ok (value S.model 1 x))) (S' : PlainSearch) where
-  region : IsWorkedRegion S.model job.region
-  region = job-region S sound job works.next.job_is
-
-  point : IsRayPoint S job x
-  point = ray-point limits.ways S sound rays ready.ways job region limits.first.now limits.pivots x mult basis works.worked_is v
-
-  there : IsBasis (without_cuts S.model) basis
-  there = point-basis limits.ways S.model (worked-by S limits.ways ready.ways) job limits.first.now limits.pivots x mult basis works.worked_is
-
-  pub ray_point-taken : (taken : Taken) → Takes S job.id (Keep (Some x) basis) S' taken → taken ≡ Kept
-  ray_point-taken taken takes = point-taken S sound numbered job works.next.job_is S' basis there x point.keepable taken takes
-
-  pub ray_point-next : TakesOpen S job.id (Keep (Some x) basis) S' Kept → PointAtNext limits.ways limits.first.now limits.pivots S S'
-  ray_point-next takes = record {
-    rays = rays;
-    job = job;
-    point = x;
-    mult = mult;
-    basis = basis;
-    works = works;
-    keeps = point-open S sound numbered job works.next.job_is S' basis there x point.keepable point.direction point.ray region.names point.inside takes;
-  }
-
 -- the model is unbounded then
-pub point-unbounded : (ways : Ways) (S : PlainSearch) → IsRayWay ways → IsWayFor S ways → (job : Job) (first : Basis) (limit : ℕ) (x : Point) (mult : Multipliers) (basis : Basis) → IsWorked (worked_model ways S.model) job first limit (Done (PointAndClose x mult basis)) → IsUnbounded S.model
-point-unbounded Own S rays way job first limit x mult basis worked = absurd rays
-point-unbounded (Rays Z) S rays way job first limit x mult basis worked =
-    let keepable = point-keepable Z.now job first limit x mult basis worked in
+pub point-unbounded : (ways : Ways) (S : PlainSearch) → IsRayWay ways → IsWayFor S ways → (job : Job) (first : Basis) (pivots : ℕ) (x : Point) (mult : Multipliers) (basis : Basis) (vec : FoundCuts) → IsWorked (work_next ways first pivots S job) (Done (PointAndClose x mult basis) vec) → IsUnbounded S.model
+point-unbounded Own S rays way job first pivots x mult basis vec worked = absurd rays
+point-unbounded (Rays Z) S rays way job first pivots x mult basis vec worked =
+    let keepable = (done_point (work_next (Rays Z) first pivots S job) x mult basis vec worked).0.keepable in
     unbounded S.model x way.direction (((same_points S.model).feasible x).0 (subst (λ M. IsFeasible M x) way.worked keepable.feasible.0)) way.ray

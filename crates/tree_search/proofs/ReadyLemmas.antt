@@ -1,18 +1,20 @@
 -- After a result was placed the search can be worked on as before.
-use Rattle.std.specs.Prelude.{◌≡◌, ℕ, []}
+use Rattle.std.specs.Prelude.{◌≡◌, ℕ, List, []}
 use Rattle.std.proofs.Common.{refl, sym, subst, ap, ◌∙◌}
 use Rattle.lp_model.specs.Program.{Program, Point}
 use Rattle.lp_model.specs.Rays.{IsRay, without_costs}
-use Rattle.lp_model.specs.Regions.{Path}
 use Rattle.lp_model.specs.declared.types.Basis.{Basis}
+use Rattle.lp_model.specs.declared.types.Derivation.{Derivation}
 use Rattle.branch_tree.specs.declared.node.NodeResult.{NodeResult}
 use Rattle.branch_tree.specs.declared.node.NodeResult.TheVariants.{Close, Split as SplitAt, PointAndClose, Keep}
 use Rattle.tree_edit.specs.declared.placing.Taken.{Taken}
 use Rattle.tree_edit.specs.declared.placing.Taken.TheVariants.{Stale, Refused, Reopened, Full, Closed, Split, Kept}
 use Rattle.tree_edit.specs.Placing.{Takes}
+use Rattle.tree_edit.specs.Pool.{AddsCuts}
 use Rattle.tree_edit.specs.Sound.{PlainSearch}
 use Rattle.search_counting.specs.Laws.{IsEffective}
-use Rattle.node_solve.specs.Runs.{NamesIntegers, IsFirstOf}
+use Rattle.dual_simplex.specs.SlackBases.{IsRootBasis}
+use Rattle.node_solve.proofs.AddedLemmas.{more-cuts}
 use Rattle.tree_search.specs.Steps.{worked_model, IsWayFor, IsFirstFor, IsPlacedBy, Places}
 use Rattle.tree_search.specs.Stepping.{IsReady}
 use Rattle.tree_search.specs.declared.searching.Ways.{Ways}
@@ -45,11 +47,23 @@ way-after (Rays Z) first pivots S S' model places h = record {
   worked = h.worked ∙ ap without_costs (sym model);
   direction = h.direction;
   ray = subst (λ M. IsRay M h.direction) (sym model) h.ray;
-  none = points-same S places.job.id S' Z places.result places.by places.taken places.effective places.takes ∙ h.none;
+  none = points-same places.mid places.job.id S' Z places.result places.by places.taken places.effective places.takes ∙ ap (λ (X : PlainSearch). X.points) (more-cuts places.found.items S places.mid places.adds).now ∙ h.none;
 }
 
 pub ready-after : (limits : Limits) (S S' : PlainSearch) → IsReady limits S → S'.model ≡ S.model → Places limits.ways limits.first.now limits.pivots S S' → IsReady limits S'
 ready-after limits S S' ready model places = record {
   ways = way-after limits.ways limits.first.now limits.pivots S S' model places ready.ways;
-  first = subst (λ M. (path : Path) → NamesIntegers (worked_model limits.ways M) path → IsFirstOf (worked_model limits.ways M) path limits.first.now) (sym model) ready.first;
+  first = subst (λ M. IsRootBasis (worked_model limits.ways M) limits.first.now) (sym model) ready.first;
+}
+
+-- nor do further cuts change that
+way-added : (ways : Ways) (S : PlainSearch) (ds : List Derivation) (T : PlainSearch) → AddsCuts S ds T → IsWayFor S ways → IsWayFor T ways
+way-added Own S ds T adds h = tt
+way-added (Rays Z) S ds T adds h =
+    subst (λ (X : PlainSearch). IsWayFor X (Rays Z)) (sym (more-cuts ds S T adds).now) (record { worked = h.worked; direction = h.direction; ray = h.ray; none = h.none })
+
+pub ready-added : (limits : Limits) (S : PlainSearch) (ds : List Derivation) (T : PlainSearch) → AddsCuts S ds T → IsReady limits S → IsReady limits T
+ready-added limits S ds T adds ready = record {
+  ways = way-added limits.ways S ds T adds ready.ways;
+  first = subst (λ M. IsRootBasis (worked_model limits.ways M) limits.first.now) (sym (ap (λ (X : PlainSearch). X.model) (more-cuts ds S T adds).now)) ready.first;
 }

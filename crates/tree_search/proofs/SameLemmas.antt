@@ -6,7 +6,8 @@ use Rattle.checked_sum.specs.Sums.{sum_below}
 use Rattle.checked_sum.specs.Steps.{AllFit, StepFitsAt}
 use Rattle.lp_model.specs.Program.{Program, Point, coordinate, value, low_side, high_side, Within}
 use Rattle.lp_model.specs.Answers.{RowFits, RowPasses, RowsPass, IsValueAnswer, IsFeasibilityAnswer}
-use Rattle.lp_model.specs.Formulations.{without_cuts, cut_coefficient}
+use Rattle.lp_model.specs.Formulations.{formulation, cut_coefficient}
+use Rattle.lp_model.specs.declared.types.CutRow.{CutRow}
 use Rattle.lp_model.specs.Rays.{without_costs}
 use Rattle.lp_model.specs.Regions.{Path}
 use Rattle.lp_model.specs.declared.types.Basis.{Basis}
@@ -25,30 +26,6 @@ use Rattle.tree_edit.specs.Points.{IsKeepable}
 module _ (M : Program) where
   abbrev Z : Program
   Z = without_costs M
-
-  -- ---- lists
-
-  there-same : (v : Var) → IsThere (without_cuts Z) v → IsThere (without_cuts M) v
-  there-same (Col col) h = subst (λ n. col.0 < n) (same_points M).count h
-  there-same (Row row) h = h
-  there-same (Cut cut) h = h
-
-  activity-same : (v : Var) → IsActivityThere (without_cuts Z) v → IsActivityThere (without_cuts M) v
-  activity-same (Col col) h = h
-  activity-same (Row row) h = h
-  activity-same (Cut cut) h = h
-
-  names-weaker : (P Q : Var → Type 0) → ((v : Var) → P v → Q v) → (vars : List Var) → NamesOnce P vars → NamesOnce Q vars
-  names-weaker P Q w vars h = record { each = λ k d below. w _ (h.each k d below); once = h.once }
-
-  pub multipliers-same : (mult : Multipliers) → AreMultipliers (without_cuts Z) mult → AreMultipliers (without_cuts M) mult
-  multipliers-same mult h = names-weaker (IsActivityThere (without_cuts Z)) (IsActivityThere (without_cuts M)) activity-same _ h
-
-  pub basis-same : (basis : Basis) → IsBasis (without_cuts Z) basis → IsBasis (without_cuts M) basis
-  basis-same basis h = record {
-    basic = names-weaker (IsThere (without_cuts Z)) (IsThere (without_cuts M)) there-same basis.basic h.basic;
-    high = names-weaker (IsThere (without_cuts Z)) (IsThere (without_cuts M)) there-same basis.high h.high;
-  }
 
   -- ---- splits
 
@@ -75,54 +52,80 @@ module _ (M : Program) where
     value = v;
   }
 
+-- with the same cuts
+module _ (M : Program) (cuts : List CutRow) where
+  -- ---- lists
+
+  there-same : (v : Var) → IsThere (formulation (Z M) cuts) v → IsThere (formulation M cuts) v
+  there-same (Col col) h = subst (λ n. col.0 < n) (same_points M).count h
+  there-same (Row row) h = h
+  there-same (Cut cut) h = h
+
+  activity-same : (v : Var) → IsActivityThere (formulation (Z M) cuts) v → IsActivityThere (formulation M cuts) v
+  activity-same (Col col) h = h
+  activity-same (Row row) h = h
+  activity-same (Cut cut) h = h
+
+  names-weaker : (P Q : Var → Type 0) → ((v : Var) → P v → Q v) → (vars : List Var) → NamesOnce P vars → NamesOnce Q vars
+  names-weaker P Q w vars h = record { each = λ k d below. w _ (h.each k d below); once = h.once }
+
+  pub multipliers-same : (mult : Multipliers) → AreMultipliers (formulation (Z M) cuts) mult → AreMultipliers (formulation M cuts) mult
+  multipliers-same mult h = names-weaker (IsActivityThere (formulation (Z M) cuts)) (IsActivityThere (formulation M cuts)) activity-same _ h
+
+  pub basis-same : (basis : Basis) → IsBasis (formulation (Z M) cuts) basis → IsBasis (formulation M cuts) basis
+  basis-same basis h = record {
+    basic = names-weaker (IsThere (formulation (Z M) cuts)) (IsThere (formulation M cuts)) there-same basis.basic h.basic;
+    high = names-weaker (IsThere (formulation (Z M) cuts)) (IsThere (formulation M cuts)) there-same basis.high h.high;
+  }
+
   -- ---- Farkas numbers
 
   module _ (path : Path) (y z c : ℕ → ℚ) where
-    left_is : (b : ℕ → ℚ) (j : ℕ) → left_by_rows Z y b j ≡ left_by_rows M y b j
+    left_is : (b : ℕ → ℚ) (j : ℕ) → left_by_rows (Z M) y b j ≡ left_by_rows M y b j
     left_is b j t = b j -ℚ sum_below (length M.rows) (λ i. y i *ℚ (same_points M).coefficients i j t)
 
-    reduced_is : (j : ℕ) → column_reduced_cost (without_cuts Z) y z c j ≡ column_reduced_cost (without_cuts M) y z c j
-    reduced_is j = left_is (left_by_cuts [] z c) j
+    reduced_is : (j : ℕ) → column_reduced_cost (formulation (Z M) cuts) y z c j ≡ column_reduced_cost (formulation M cuts) y z c j
+    reduced_is j = left_is (left_by_cuts cuts z c) j
 
-    side_is : (j : ℕ) → column_side (without_cuts Z) path y z c j ≡ column_side (without_cuts M) path y z c j
+    side_is : (j : ℕ) → column_side (formulation (Z M) cuts) path y z c j ≡ column_side (formulation M cuts) path y z c j
     side_is j t = needed_side (reduced_is j t) ((same_points M).region_lows path j t) ((same_points M).region_highs path j t)
 
-    row_entries : (j : ℕ) → RowEntriesFit Z y c j ≡ RowEntriesFit M y c j
+    row_entries : (j : ℕ) → RowEntriesFit (Z M) y c j ≡ RowEntriesFit M y c j
     row_entries j t = AllFit (c j) (λ i. neg_ℚ (y i)) (λ i. (same_points M).coefficients i j t) (length M.rows)
 
-    cut_entries : (j : ℕ) → CutEntriesFit (without_cuts Z) y z c j ≡ CutEntriesFit (without_cuts M) y z c j
-    cut_entries j t = AllFit (left_is c j t) (λ k. neg_ℚ (z k)) (λ k. cut_coefficient [] k j) 0
+    cut_entries : (j : ℕ) → CutEntriesFit (formulation (Z M) cuts) y z c j ≡ CutEntriesFit (formulation M cuts) y z c j
+    cut_entries j t = AllFit (left_is c j t) (λ k. neg_ℚ (z k)) (λ k. cut_coefficient cuts k j) (length cuts)
 
-    entries-to : (j : ℕ) → EntriesFit (without_cuts Z) y z c j → EntriesFit (without_cuts M) y z c j
+    entries-to : (j : ℕ) → EntriesFit (formulation (Z M) cuts) y z c j → EntriesFit (formulation M cuts) y z c j
     entries-to j h = record { of_rows = subst (λ P. P) (row_entries j) h.of_rows; of_cuts = subst (λ P. P) (cut_entries j) h.of_cuts }
 
-    entries-back : (j : ℕ) → EntriesFit (without_cuts M) y z c j → EntriesFit (without_cuts Z) y z c j
+    entries-back : (j : ℕ) → EntriesFit (formulation M cuts) y z c j → EntriesFit (formulation (Z M) cuts) y z c j
     entries-back j h = record { of_rows = subst (λ P. P) (sym (row_entries j)) h.of_rows; of_cuts = subst (λ P. P) (sym (cut_entries j)) h.of_cuts }
 
-    lacks-back : LacksSide (without_cuts M) path y z c → LacksSide (without_cuts Z) path y z c
+    lacks-back : LacksSide (formulation M cuts) path y z c → LacksSide (formulation (Z M) cuts) path y z c
     lacks-back (inl row) = inl row
     lacks-back (inr (inl cut)) = inr (inl cut)
     lacks-back (inr (inr (j, (below, (entries, none))))) = inr (inr (j, (subst (λ n. j < n) (sym (same_points M).count) below, (entries-back j entries, side_is j ∙ none))))
 
-    term_is : (start : ℚ) (j : ℕ) → ColumnTermFits (without_cuts Z) path y z c start j ≡ ColumnTermFits (without_cuts M) path y z c start j
+    term_is : (start : ℚ) (j : ℕ) → ColumnTermFits (formulation (Z M) cuts) path y z c start j ≡ ColumnTermFits (formulation M cuts) path y z c start j
     term_is start j t = StepFitsAt start (λ k. reduced_is k t) (λ k. side_number (side_is k t)) j
 
-    column-to : (start : ℚ) (j : ℕ) → ColumnFits (without_cuts Z) path y z c start j → ColumnFits (without_cuts M) path y z c start j
+    column-to : (start : ℚ) (j : ℕ) → ColumnFits (formulation (Z M) cuts) path y z c start j → ColumnFits (formulation M cuts) path y z c start j
     column-to start j h = record { entries = entries-to j h.entries; term = subst (λ P. P) (term_is start j) h.term }
 
-    number_is : (c₀ : ℚ) → dual_number (without_cuts Z) path y z c₀ c ≡ dual_number (without_cuts M) path y z c₀ c
-    number_is c₀ t = plus (plus (plus (Num c₀) (rows_number M y)) (cuts_number [] z)) (total_below ((same_points M).count t) (λ j. times (reduced_is j t) (side_is j t)))
+    number_is : (c₀ : ℚ) → dual_number (formulation (Z M) cuts) path y z c₀ c ≡ dual_number (formulation M cuts) path y z c₀ c
+    number_is c₀ t = plus (plus (plus (Num c₀) (rows_number M y)) (cuts_number cuts z)) (total_below ((same_points M).count t) (λ j. times (reduced_is j t) (side_is j t)))
 
-    number-same : (c₀ q : ℚ) → IsDualAnswer (without_cuts Z) path y z c₀ c (Ok (Num q)) → IsDualAnswer (without_cuts M) path y z c₀ c (Ok (Num q))
-    number-same c₀ q (lacks, rows, cuts, columns, is) = (
+    number-same : (c₀ q : ℚ) → IsDualAnswer (formulation (Z M) cuts) path y z c₀ c (Ok (Num q)) → IsDualAnswer (formulation M cuts) path y z c₀ c (Ok (Num q))
+    number-same c₀ q (lacks, rows, added, columns, is) = (
       (λ k. lacks (lacks-back k)),
       rows,
-      cuts,
-      (λ j below. column-to (cuts_total (without_cuts Z) y z c₀) j (columns j (subst (λ n. j < n) (sym (same_points M).count) below))),
+      added,
+      (λ j below. column-to (cuts_total (formulation (Z M) cuts) y z c₀) j (columns j (subst (λ n. j < n) (sym (same_points M).count) below))),
       is ∙ number_is c₀,
     )
 
-  pub refuted-same : (path : Path) (farkas : Multipliers) → IsRefuted (without_cuts Z) path farkas → IsRefuted (without_cuts M) path farkas
+  pub refuted-same : (path : Path) (farkas : Multipliers) → IsRefuted (formulation (Z M) cuts) path farkas → IsRefuted (formulation M cuts) path farkas
   refuted-same path [] h = h
   refuted-same path (m ∷ ms) (Minus, h) = absurd h.1
-  refuted-same path (m ∷ ms) (Num q, h) = (Num q, (number-same path (multiplier (m ∷ ms)) (cut_weight [] (m ∷ ms)) (λ j. int (pos 0)) (int (pos 0)) q h.0, h.1))
+  refuted-same path (m ∷ ms) (Num q, h) = (Num q, (number-same path (multiplier (m ∷ ms)) (cut_weight cuts (m ∷ ms)) (λ j. int (pos 0)) (int (pos 0)) q h.0, h.1))

@@ -1,8 +1,10 @@
 -- A step without room that a run makes is one at a basis of its relaxation.
-use Rattle.std.specs.Prelude.{◌≡◌, ◌⊎◌, ℕ, zero, suc, ◌+◌, ◌≤◌, ◌<◌, Option, Some, None, Err}
+use Rattle.std.specs.Prelude.{◌≡◌, ◌⊎◌, ℕ, zero, suc, ◌+◌, ◌≤◌, ◌<◌, List, Option, Some, None, Err}
 use Rattle.std.specs.Option.{IsSomeAnd}
 use Rattle.std.proofs.Common.{refl, sym, subst, inl, inr}
 use Rattle.lp_model.specs.Program.{Program, Point}
+use Rattle.lp_model.specs.Formulations.{Formulation}
+use Rattle.lp_model.specs.declared.types.CutRow.{CutRow}
 use Rattle.lp_model.specs.Regions.{Path}
 use Rattle.lp_model.specs.WideSteps.{TablePlace, Pivot, Point as PointPlace, Cost, RatioCost, Ratio, table_place}
 use Rattle.lp_model.specs.declared.types.Basis.{Basis}
@@ -22,7 +24,7 @@ use Rattle.dual_simplex.proofs.MoveLemmas.{kept_after}
 use Rattle.dual_simplex.proofs.SolveLemmas.{of_after}
 use Rattle.node_solve.specs.Runs.{IsPlainOf, IsSimplexRun}
 use Rattle.node_solve.specs.Works.{IsWideAtEnd, IsRunWide}
-use Rattle.tree_search.specs.Room.{IsWorkedRegion, AllStand, IsTableStep, IsStepAt, HasRoomAt}
+use Rattle.tree_search.specs.Room.{IsSelection, IsWorkedRegion, AllStand, IsTableStep, IsStepAt, HasRoomAt}
 
 some-weaker : {A : Type 0} (P Q : A → Type 0) → ((a : A) → P a → Q a) → (o : Option A) → IsSomeAnd o P → IsSomeAnd o Q
 some-weaker P Q w None h = h
@@ -116,22 +118,22 @@ state-step n limit s stand step (inl leaving) = some-weaker (IsValuePlace s leav
 state-step n limit s stand step (inr (inl move)) = move-step s step move.1
 state-step n limit s stand step (inr (inr end)) = cost-step s end.1.wide.0 step end.1.wide.1.1
 
-end-step : (M : Program) (path : Path) (s : Held) → AllStand s → (step : WideStep) → IsWideAtEnd M path s step → IsStepAt M path s step
-end-step M path s stand step (inl (x, (mult, (optimum, inl lag)))) = inr (stand, inl (inl (mult, (optimum.mult, lag))))
-end-step M path s stand step (inl (x, (mult, (optimum, inr (number, (whole, inl test)))))) = inr (stand, inr (x, (optimum.point, inl test)))
-end-step M path s stand step (inl (x, (mult, (optimum, inr (number, (whole, inr value)))))) = inr (stand, inr (x, (optimum.point, inr value.1)))
-end-step M path s stand step (inr (farkas, (mult, (infeasible, wide)))) =
+end-step : (F : Formulation) (path : Path) (s : Held) → AllStand s → (step : WideStep) → IsWideAtEnd F path s step → IsStepAt F path s step
+end-step F path s stand step (inl (x, (mult, (optimum, inl lag)))) = inr (stand, inl (inl (mult, (optimum.mult, lag))))
+end-step F path s stand step (inl (x, (mult, (optimum, inr (number, (whole, inl test)))))) = inr (stand, inr (x, (optimum.point, inl test)))
+end-step F path s stand step (inl (x, (mult, (optimum, inr (number, (whole, inr value)))))) = inr (stand, inr (x, (optimum.point, inr value.1)))
+end-step F path s stand step (inr (farkas, (mult, (infeasible, wide)))) =
     let blocked = infeasible.blocked in
     inr (stand, inl (inr (blocked.row, (blocked.side, (record { within = blocked.out.within; out = blocked.out.out; none = blocked.none }, (farkas, (infeasible.farkas, wide)))))))
 
 -- ---- a run
 
-pub run-room : (M : Program) → HasRoomAt M → (path : Path) → IsWorkedRegion M path → (list first : Basis) (limit : ℕ) (basis : Basis) (step : WideStep) → ¬ IsRunWide M path list first limit basis step
-run-room M room path region list first limit basis step (inl (relax, (is, wide))) = room path region relax is wide.state wide.reached.is step (inl (start-step relax list first step basis wide))
-run-room M room path region list first limit basis step (inr (n, (s, (run, (here, basis_is))))) =
+pub run-room : (M : Program) (pool : List CutRow) → HasRoomAt M pool → (F : Formulation) → IsSelection M pool F → (path : Path) → IsWorkedRegion M path → (list first : Basis) (limit : ℕ) (Last : Held → Type 0) (basis : Basis) (step : WideStep) → ¬ IsRunWide F path list first limit Last basis step
+run-room M pool room F selection path region list first limit Last basis step (inl (relax, (is, wide))) = room F selection path region relax is wide.state wide.reached.is step (inl (start-step relax list first step basis wide))
+run-room M pool room F selection path region list first limit Last basis step (inr (n, (s, (run, (here, basis_is))))) =
     let lawful : IsLawfulHeld s = lawful-after n run.began s run.kept run.moves in
-    room path region run.relax run.relax_is s (of_after run.relax n run.began s run.moves run.started.reached.is) step
+    room F selection path region run.relax run.relax_is s (of_after run.relax n run.began s run.moves run.started.reached.is) step
     (elim here [
       | inl walking ↦ inl (state-step n limit s (all-stand s lawful) step walking.1)
-      | inr ending ↦ end-step M path s (all-stand s lawful) step ending.1
+      | inr ending ↦ end-step F path s (all-stand s lawful) step ending.1.1
     ])

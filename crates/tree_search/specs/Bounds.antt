@@ -5,14 +5,14 @@ use Rattle.rational.specs.Rational.{ℚ, int, ceil, ◌≤ℚ◌}
 use Rattle.lp_model.specs.Program.{Program, Point, IsFeasible, HasWholeObjective, least_value, in_least_form}
 use Rattle.leaf_dual.specs.declared.dual.LagValue.TheVariants.{Minus, Num}
 use Rattle.lp_model.specs.Regions.{Path}
-use Rattle.lp_model.specs.Formulations.{without_cuts}
+use Rattle.lp_model.specs.Formulations.{Formulation}
 use Rattle.lp_model.specs.declared.types.WideStep.{WideStep}
 use Rattle.leaf_dual.specs.Dual.{Multipliers}
 use Rattle.leaf_dual.specs.Answers.{IsLagAnswer}
 use Rattle.leaf_dual.specs.declared.dual.LagValue.{LagValue}
 use Rattle.branch_tree.specs.declared.node.LeafData.{LeafData}
 use Rattle.tree_edit.specs.Calls.{IsLeafAt, IsNext}
-use Rattle.tree_edit.specs.Sound.{PlainSearch}
+use Rattle.tree_edit.specs.Sound.{PlainSearch, formulation_of}
 
 -- r is q, rounded up where the objective is whole
 abbrev pub IsRounded : Program → ℚ → ℚ → Type 0
@@ -25,10 +25,10 @@ IsRoundedAnswer M (Ok (Num q)) None = ⊥
 IsRoundedAnswer M (Ok Minus) least = least ≡ None
 IsRoundedAnswer M (Err step) least = least ≡ None
 
-pub record IsRoundedLag (M : Program) (path : Path) (mult : Multipliers) (least : Option ℚ) : Type 0 where
+pub record IsRoundedLag (F : Formulation) (path : Path) (mult : Multipliers) (least : Option ℚ) : Type 0 where
   pub answer : Result LagValue WideStep
-  pub answer_is : IsLagAnswer (without_cuts M) path mult answer
-  pub least_is : IsRoundedAnswer M answer least
+  pub answer_is : IsLagAnswer F path mult answer
+  pub least_is : IsRoundedAnswer F.model answer least
 
 -- that of the open leaf with the least number; one without a number goes before all
 pub record IsLeastNumber (S : PlainSearch) (least : Option ℚ) : Type 0 where
@@ -37,7 +37,7 @@ pub record IsLeastNumber (S : PlainSearch) (least : Option ℚ) : Type 0 where
   pub path : Path
   pub kept : LeafData
   pub leaf : IsLeafAt S.tree.root id path kept
-  pub number : IsRoundedLag S.model path kept.mult least
+  pub number : IsRoundedLag (formulation_of S) path kept.mult least
 
 -- no feasible point is better than the number
 abbrev pub IsUnbeaten : Program → Option ℚ → Type 0

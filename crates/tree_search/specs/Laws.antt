@@ -1,8 +1,8 @@
 -- What the bound of a search that stopped says of its model, and why a leaf stays open beside a ray.
 use Rattle.std.specs.Prelude.{Some, Ok}
 use Rattle.rational.specs.Rational.{ℚ, ◌≤ℚ◌}
-use Rattle.lp_model.specs.Program.{Program, Point, IsFeasible, least_value, in_least_form}
-use Rattle.lp_model.specs.Formulations.{without_cuts}
+use Rattle.lp_model.specs.Program.{Point, IsFeasible, least_value, in_least_form}
+use Rattle.lp_model.specs.Formulations.{Formulation, IsValid}
 use Rattle.lp_model.specs.Rays.{IsRay}
 use Rattle.lp_model.specs.Regions.{Path, InRegion}
 use Rattle.leaf_dual.specs.Dual.{Multipliers}
@@ -20,4 +20,4 @@ StopBoundLaw =
 -- beside a ray no multipliers have a number that bounds a region with a feasible point
 abbrev pub OpenLaw : Type 0
 OpenLaw =
-    (M : Program) (d : Point) → IsRay M d → (x : Point) → IsFeasible M x → (path : Path) → NamesIntegers M path → InRegion path x → (mult : Multipliers) (q : ℚ) → ¬ IsLagAnswer (without_cuts M) path mult (Ok (Num q))
+    (F : Formulation) → IsValid F → (d : Point) → IsRay F.model d → (x : Point) → IsFeasible F.model x → (path : Path) → NamesIntegers F.model path → InRegion path x → (mult : Multipliers) (q : ℚ) → ¬ IsLagAnswer F path mult (Ok (Num q))

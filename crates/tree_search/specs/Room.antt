@@ -1,12 +1,14 @@
--- What the relaxations of a model ask for, whatever their order: moves, and room for each step.
+-- What the relaxations of a model with at most 200 cuts of a pool ask for, whatever their order: moves, and room for each step.
 --     IsWorkedRegion M path     a region of integer columns that is not seen to be empty
---     HasMoves M limit          no run of its relaxations has as many moves as the limit
---     HasRoomAt M               no step at any basis of its relaxations is without room
-use Rattle.std.specs.Prelude.{◌≡◌, ◌⊎◌, ℕ, ◌+◌, ◌<◌, get_or, Err, true}
+--     IsSelection F pool        a model with at most 200 cuts of the pool, in its order
+--     HasMoves M pool limit     no run of its relaxations has as many moves as the limit
+--     HasRoomAt M pool          no step at any basis of its relaxations is without room
+use Rattle.std.specs.Prelude.{◌≡◌, ◌⊎◌, ℕ, ◌+◌, ◌<◌, ◌≤◌, List, [], ◌∷◌, length, get_or, Err, true}
 use Rattle.std.specs.Option.{IsSomeAnd}
 use Rattle.lp_model.specs.Program.{Program, Point}
 use Rattle.lp_model.specs.Answers.{IsFeasibilityAnswer, IsValueAnswer}
-use Rattle.lp_model.specs.Formulations.{without_cuts}
+use Rattle.lp_model.specs.Formulations.{Formulation}
+use Rattle.lp_model.specs.declared.types.CutRow.{CutRow}
 use Rattle.lp_model.specs.Regions.{Path, AreNarrow, IsEmptyRegion}
 use Rattle.lp_model.specs.WideSteps.{TablePlace, Pivot, Point as PointPlace, Cost, RatioCost, Ratio, table_place}
 use Rattle.lp_model.specs.declared.types.WideStep.{WideStep}
@@ -31,11 +33,22 @@ pub record IsWorkedRegion (M : Program) (path : Path) : Type 0 where
   pub narrow : AreNarrow path
   pub some : ¬ IsEmptyRegion M path
 
+-- some cuts of a list, in its order
+abbrev pub AreAmong : List CutRow → List CutRow → Type 0
+AreAmong [] pool = Unit {0}
+AreAmong (c ∷ cuts) [] = ⊥
+AreAmong (c ∷ cuts) (d ∷ pool) = ((c ≡ d) × AreAmong cuts pool) ⊎ AreAmong (c ∷ cuts) pool
+
+pub record IsSelection (M : Program) (pool : List CutRow) (F : Formulation) : Type 0 where
+  pub model : F.model ≡ M
+  pub cuts : AreAmong F.cuts pool
+  pub few : length F.cuts ≤ 200
+
 -- ---- moves
 
-abbrev pub HasMoves : Program → ℕ → Type 0
-HasMoves M limit =
-    (path : Path) → IsWorkedRegion M path → (relax : Relax) → IsPlainOf M path relax → (s : Held) → IsOf relax s → IsLawfulHeld s → (n : ℕ) (after : Held) → Moves n s after → n < limit
+abbrev pub HasMoves : Program → List CutRow → ℕ → Type 0
+HasMoves M pool limit =
+    (F : Formulation) → IsSelection M pool F → (path : Path) → IsWorkedRegion M path → (relax : Relax) → IsPlainOf F path relax → (s : Held) → IsOf relax s → IsLawfulHeld s → (n : ℕ) (after : Held) → Moves n s after → n < limit
 
 -- ---- steps
 
@@ -58,23 +71,23 @@ pub record IsStuckAt (s : Held) (row : ℕ) (side : Stand) : Type 0 where
   pub none : (k : ℕ) → k < s.tableau.columns → ¬ (May s row side k)
 
 -- the step is one of the number of the multipliers at the basis, or of that of Farkas multipliers there
-abbrev pub IsNumberStep : Program → Path → Held → WideStep → Type 0
-IsNumberStep M path s step =
-    ((mult : Multipliers) × (AreListedMultipliers s (multipliers (relaxation s) (table s) (relaxation s).cost) mult × IsLagAnswer (without_cuts M) path mult (Err step)))
-    ⊎ ((row : ℕ) × ((side : Stand) × (IsStuckAt s row side × ((farkas : Multipliers) × (AreListedMultipliers s (farkas_weights (relaxation s) (state s) row side) farkas × IsFarkasAnswer (without_cuts M) path farkas (Err step))))))
+abbrev pub IsNumberStep : Formulation → Path → Held → WideStep → Type 0
+IsNumberStep F path s step =
+    ((mult : Multipliers) × (AreListedMultipliers s (multipliers (relaxation s) (table s) (relaxation s).cost) mult × IsLagAnswer F path mult (Err step)))
+    ⊎ ((row : ℕ) × ((side : Stand) × (IsStuckAt s row side × ((farkas : Multipliers) × (AreListedMultipliers s (farkas_weights (relaxation s) (state s) row side) farkas × IsFarkasAnswer F path farkas (Err step))))))
 
 -- the step is one of the test of the point at the basis, or of its value
 abbrev pub IsPointStep : Program → Held → WideStep → Type 0
 IsPointStep M s step = (x : Point) × (IsPointOfHeld s x × (IsFeasibilityAnswer M x (Err step) ⊎ IsValueAnswer M 1 x (Err step)))
 
 -- the step is one of the relaxation at the basis of the state, and has no room
-abbrev pub IsStepAt : Program → Path → Held → WideStep → Type 0
-IsStepAt M path s step = IsSomeAnd (table_place step) (IsTableStep s) ⊎ (AllStand s × (IsNumberStep M path s step ⊎ IsPointStep M s step))
+abbrev pub IsStepAt : Formulation → Path → Held → WideStep → Type 0
+IsStepAt F path s step = IsSomeAnd (table_place step) (IsTableStep s) ⊎ (AllStand s × (IsNumberStep F path s step ⊎ IsPointStep F.model s step))
 
-abbrev pub HasRoomAt : Program → Type 0
-HasRoomAt M = (path : Path) → IsWorkedRegion M path → (relax : Relax) → IsPlainOf M path relax → (s : Held) → IsOf relax s → (step : WideStep) → ¬ IsStepAt M path s step
+abbrev pub HasRoomAt : Program → List CutRow → Type 0
+HasRoomAt M pool = (F : Formulation) → IsSelection M pool F → (path : Path) → IsWorkedRegion M path → (relax : Relax) → IsPlainOf F path relax → (s : Held) → IsOf relax s → (step : WideStep) → ¬ IsStepAt F path s step
 
 -- no value of M at a point of a basis of Z's relaxations has a step without room
-abbrev pub HasRoomForValues : Program → Program → Type 0
-HasRoomForValues Z M =
-    (path : Path) → IsWorkedRegion Z path → (relax : Relax) → IsPlainOf Z path relax → (s : Held) → IsOf relax s → AllStand s → (x : Point) → IsPointOfHeld s x → (step : WideStep) → ¬ IsValueAnswer M 1 x (Err step)
+abbrev pub HasRoomForValues : Program → List CutRow → Program → Type 0
+HasRoomForValues Z pool M =
+    (F : Formulation) → IsSelection Z pool F → (path : Path) → IsWorkedRegion Z path → (relax : Relax) → IsPlainOf F path relax → (s : Held) → IsOf relax s → AllStand s → (x : Point) → IsPointOfHeld s x → (step : WideStep) → ¬ IsValueAnswer M 1 x (Err step)

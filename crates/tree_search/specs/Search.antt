@@ -14,6 +14,7 @@ use Rattle.tree_edit.specs.Points.{target, IsIncumbent}
 use Rattle.tree_edit.specs.Calls.{IsOpenLeaf}
 use Rattle.tree_edit.specs.Laws.{HasNoOpenLeaf, IsNoBetter}
 use Rattle.tree_edit.specs.Sound.{PlainSearch}
+use Rattle.tree_edit.specs.Pool.{AddsAny}
 use Rattle.search_counting.specs.Work.{cap_of}
 use Rattle.tree_search.specs.Bounds.{IsBoundOf}
 use Rattle.tree_search.specs.Steps.{HasOpenLeaf, Goes, PointAtNext, StopsAtNext}
@@ -76,13 +77,15 @@ pub record Finds (ways : Ways) (first : Basis) (nodes pivots : ℕ) (old new : P
   pub ends : Ends ways first nodes pivots searched.placed old new searched.ended
   pub left : IsLeft new searched.ended
   pub extends : Extends old.tree.root new.tree.root
-  pub cause : HasCause old ways first nodes pivots searched.ended
+  pub cause : HasCause old new.cuts ways first nodes pivots searched.ended
 
--- without memory: results were placed, no more than the limit allows, and the search can go on
+-- without memory: results were placed, no more than the limit allows, and maybe further cuts were added; the search can go on
 pub record GivesUp (ways : Ways) (first : Basis) (nodes pivots : ℕ) (old new : PlainSearch) : Type 0 where
   pub placed : ℕ
   pub within_limit : placed ≤ nodes
-  pub goes : Goes ways first pivots placed old new
+  pub mid : PlainSearch
+  pub goes : Goes ways first pivots placed old mid
+  pub adds : AddsAny mid new
 
 -- ---- what an end shows
 

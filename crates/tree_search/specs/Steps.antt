@@ -1,10 +1,10 @@
--- How a search goes: the leaf that goes first is worked, and its result placed.
+-- How a search goes: the leaf that goes first is worked, the cuts that were found are added, and the result is placed.
 --     IsNextJob S job                              the job of the open leaf that goes first
 --     WorksNext ways first pivots S job worked     its relaxation is worked, and this comes of it
 --     Places ways first pivots S S'                a result of the work closed the leaf or split it
 --     Goes ways first pivots n S S'                n results, one after the other
 --     PointAtNext, StopsAtNext                     the leaf that goes first has a point beside a ray; no result is placed there
-use Rattle.std.specs.Prelude.{◌≡◌, ◌⊎◌, ℕ, zero, suc, ◌+◌, ◌≤◌, ℤ, [], Option, Some, None, Err}
+use Rattle.std.specs.Prelude.{◌≡◌, ◌⊎◌, ℕ, zero, suc, ◌+◌, ◌≤◌, ℤ, List, [], Option, Some, None, Err}
 use Rattle.lp_model.specs.Program.{Program, Point}
 use Rattle.lp_model.specs.Answers.{IsValueAnswer}
 use Rattle.lp_model.specs.Regions.{Path}
@@ -28,8 +28,15 @@ use Rattle.tree_edit.specs.Calls.{IsOpenLeaf, IsNext}
 use Rattle.tree_edit.specs.Jobs.{IsJobOf}
 use Rattle.search_counting.specs.Work.{work_of, IsRoomy}
 use Rattle.search_counting.specs.Laws.{IsEffective}
-use Rattle.node_solve.specs.Runs.{NamesIntegers, IsFirstOf}
-use Rattle.node_solve.specs.Works.{IsWorked}
+use Rattle.dual_simplex.specs.SlackBases.{IsRootBasis}
+use Rattle.node_solve.specs.Rounds.{Work, IsWorked}
+use Rattle.node_solve.specs.Places.{live_cuts, live_places, basis_in_relaxation, basis_in_pool}
+use Rattle.lp_model.specs.declared.types.CutRow.{CutRow}
+use Rattle.lp_model.specs.declared.types.Derivation.{Derivation}
+use Rattle.std.specs.declared.alloc.Global.{Global}
+use Rattle.std.specs.declared.vec.Vec.{Vec}
+use Rattle.kept_cuts.specs.Kept.{derivations_of}
+use Rattle.tree_edit.specs.Pool.{AddsCuts}
 use Rattle.node_solve.specs.declared.working.Worked.{Worked}
 use Rattle.node_solve.specs.declared.working.Worked.TheVariants.{Done, Pivots, Wide}
 use Rattle.tree_search.specs.Extends.{Extends}
@@ -54,9 +61,9 @@ abbrev pub IsWayFor : PlainSearch → Ways → Type 0
 IsWayFor S Own = Unit {0}
 IsWayFor S (Rays Z) = IsBesideRay S Z.now
 
--- each relaxation in a region of integer columns can begin at the list
+-- a start of a relaxation of the model that is worked can fall back to the list
 abbrev pub IsFirstFor : Ways → PlainSearch → Basis → Type 0
-IsFirstFor ways S first = (path : Path) → NamesIntegers (worked_model ways S.model) path → IsFirstOf (worked_model ways S.model) path first
+IsFirstFor ways S first = IsRootBasis (worked_model ways S.model) first
 
 -- ---- open leaves
 
@@ -70,10 +77,25 @@ pub record IsNextJob (S : PlainSearch) (job : Job) : Type 0 where
 
 -- ---- one result
 
+-- the cuts that the work found, as its answer holds them
+abbrev pub FoundCuts : Type 0
+FoundCuts = Vec Derivation Global
+
+-- how many rounds the work on a leaf makes
+abbrev pub round_limit : ℕ
+round_limit = 5
+
+abbrev pub work_next : Ways → Basis → ℕ → PlainSearch → Job → Work
+work_next ways first pivots S job = record { model = worked_model ways S.model; pool = S.cuts; job = job; first = first; rounds = round_limit; pivots = pivots }
+
+-- the basis of a relaxation by the names of the search's pool; the relaxation has the first 200 cuts that count
+abbrev pub kept_basis : PlainSearch → Basis → Basis
+kept_basis S basis = basis_in_pool (live_places 200 0 S.cuts) basis
+
 -- the leaf that goes first was worked, and this came of it
 pub record WorksNext (ways : Ways) (first : Basis) (pivots : ℕ) (S : PlainSearch) (job : Job) (worked : Worked) : Type 0 where
   pub next : IsNextJob S job
-  pub worked_is : IsWorked (worked_model ways S.model) job first pivots worked
+  pub worked_is : IsWorked (work_next ways first pivots S job) worked
 
 -- beside a ray a point does not close its leaf
 abbrev pub IsPlacedBy : Ways → NodeResult → Type 0
@@ -87,10 +109,13 @@ IsPlacedBy (Rays Z) (Keep point basis) = ⊥
 pub record Places (ways : Ways) (first : Basis) (pivots : ℕ) (old new : PlainSearch) : Type 0 where
   pub job : Job
   pub result : NodeResult
-  pub works : WorksNext ways first pivots old job (Done result)
+  pub found : FoundCuts
+  pub works : WorksNext ways first pivots old job (Done result found)
   pub by : IsPlacedBy ways result
+  pub mid : PlainSearch
+  pub adds : AddsCuts old found.items mid
   pub taken : Taken
-  pub takes : Takes old job.id result new taken
+  pub takes : Takes mid job.id result new taken
   pub effective : IsEffective taken
 
 -- so many results, one after the other
@@ -109,36 +134,42 @@ pub record Goes (ways : Ways) (first : Basis) (pivots n : ℕ) (old new : PlainS
 
 -- ---- a leaf that stays open
 
--- the open leaf of the job gets the basis, and a point is kept, if there is one; the leaf stays open
-pub record KeepsOpen (old : PlainSearch) (job : Job) (point : Option Point) (basis : Basis) (new : PlainSearch) : Type 0 where
-  pub takes : TakesOpen old job.id (Keep point basis) new Kept
+-- the cuts are added, the open leaf of the job gets the basis, and a point is kept, if there is one; the leaf stays open
+pub record KeepsOpen (old : PlainSearch) (job : Job) (found : List Derivation) (point : Option Point) (basis : Basis) (new : PlainSearch) : Type 0 where
+  pub mid : PlainSearch
+  pub adds : AddsCuts old found mid
+  pub takes : TakesOpen mid job.id (Keep point basis) new Kept
   pub stays : IsOpenLeaf new job.id job.region
 
 -- ---- why no result is placed
 
--- a leaf is to be split, and the tree is full
-pub record FullAtNext (ways : Ways) (first : Basis) (pivots : ℕ) (S : PlainSearch) : Type 0 where
+-- a leaf is to be split, and the tree is full; the cuts are added
+pub record FullAtNext (ways : Ways) (first : Basis) (pivots : ℕ) (S new : PlainSearch) : Type 0 where
   pub job : Job
   pub col : ColId
   pub v : ℤ
   pub mult : Multipliers
   pub basis : Basis
-  pub works : WorksNext ways first pivots S job (Done (Split col v mult basis))
-  pub full : ¬ HasRoom S.tree
+  pub found : FoundCuts
+  pub works : WorksNext ways first pivots S job (Done (Split col v mult basis) found)
+  pub adds : AddsCuts S found.items new
+  pub full : ¬ HasRoom new.tree
 
 -- the leaf's relaxation had as many moves as the limit allows: the leaf keeps the basis
 pub record PivotsAtNext (ways : Ways) (first : Basis) (pivots : ℕ) (old new : PlainSearch) (place : PivotPlace) : Type 0 where
   pub job : Job
-  pub works : WorksNext ways first pivots old job (Pivots place.basis)
+  pub found : FoundCuts
+  pub works : WorksNext ways first pivots old job (Pivots place.basis found)
   pub path_is : place.path ≡ Some job.region
-  pub cuts_are : place.cuts ≡ []
-  pub keeps : KeepsOpen old job None place.basis new
+  pub cuts_are : place.cuts ≡ derivations_of (live_cuts 200 new.cuts)
+  pub keeps : KeepsOpen old job found.items None (kept_basis new place.basis) new
 
 -- a step of the work on the leaf has no room: the leaf keeps the basis
 pub record StepAtNext (ways : Ways) (first : Basis) (pivots : ℕ) (old new : PlainSearch) (at : WideAt) : Type 0 where
   pub job : Job
-  pub works : WorksNext ways first pivots old job (Wide at)
-  pub keeps : KeepsOpen old job None at.basis new
+  pub found : FoundCuts
+  pub works : WorksNext ways first pivots old job (Wide at found)
+  pub keeps : KeepsOpen old job found.items None (kept_basis new at.basis) new
 
 abbrev pub IsRayWay : Ways → Type 0
 IsRayWay Own = ⊥
@@ -150,11 +181,14 @@ pub record ValueAtNext (ways : Ways) (first : Basis) (pivots : ℕ) (old new : P
   pub job : Job
   pub point : Point
   pub mult : Multipliers
-  pub works : WorksNext ways first pivots old job (Done (PointAndClose point mult at.basis))
+  pub basis : Basis
+  pub found : FoundCuts
+  pub works : WorksNext ways first pivots old job (Done (PointAndClose point mult basis) found)
   pub wide : IsValueAnswer old.model 1 point (Err at.step)
   pub path_is : at.path ≡ Some job.region
-  pub cuts_are : at.cuts ≡ []
-  pub keeps : KeepsOpen old job None at.basis new
+  pub cuts_are : at.cuts ≡ derivations_of (live_cuts 200 new.cuts)
+  pub basis_is : at.basis ≡ basis_in_relaxation (live_places 200 0 new.cuts) basis
+  pub keeps : KeepsOpen old job found.items None basis new
 
 -- beside a ray the leaf has a point: it is kept with the basis, and the leaf stays open
 pub record PointAtNext (ways : Ways) (first : Basis) (pivots : ℕ) (old new : PlainSearch) : Type 0 where
@@ -163,11 +197,12 @@ pub record PointAtNext (ways : Ways) (first : Basis) (pivots : ℕ) (old new : P
   pub point : Point
   pub mult : Multipliers
   pub basis : Basis
-  pub works : WorksNext ways first pivots old job (Done (PointAndClose point mult basis))
-  pub keeps : KeepsOpen old job (Some point) basis new
+  pub found : FoundCuts
+  pub works : WorksNext ways first pivots old job (Done (PointAndClose point mult basis) found)
+  pub keeps : KeepsOpen old job found.items (Some point) basis new
 
 abbrev pub StopsAtNext : Ways → Basis → ℕ → PlainSearch → PlainSearch → StopWhy → Type 0
 StopsAtNext ways first pivots old new why.Nodes = ⊥
-StopsAtNext ways first pivots old new why.Tree = (new ≡ old) × FullAtNext ways first pivots old
+StopsAtNext ways first pivots old new why.Tree = FullAtNext ways first pivots old new
 StopsAtNext ways first pivots old new (why.Pivots place) = PivotsAtNext ways first pivots old new place
 StopsAtNext ways first pivots old new (why.Wide at) = StepAtNext ways first pivots old new at ⊎ ValueAtNext ways first pivots old new at

@@ -1,8 +1,8 @@
 //! The search of a model over a tree of regions, whose leaves are worked by their relaxations.
 //!
 //! Until no leaf is open, the open leaf with the least number is handed out and worked (`node_solve`): a whole point, a
-//! split at a fractional number, or multipliers that close it. The result is placed in the search, which judges it again
-//! (`tree_edit`). The search stops where it has placed as many results as the limit allows, where the tree has no room for
+//! split at a fractional number, or multipliers that close it, after at most five rounds of cuts. The cuts that were found go
+//! into the search's pool, and then the result is placed in the search, which judges it again (`tree_edit`). The search stops where it has placed as many results as the limit allows, where the tree has no room for
 //! a split, where a relaxation has as many moves as its limit allows, and where a step of arithmetic has no room; in the
 //! last two the leaf keeps the basis that was reached.
 //!

@@ -94,7 +94,7 @@ pub fn search_on(
     requires ways { IsWayFor search.old ways.now }
     requires first { IsFirstFor ways.now search.old first.now }
     ensures found { IfOk result (λ searched. Finds ways.now first.now nodes pivots search.old search.new searched) }
-    ensures complete { IfOk result (λ searched. IsEnoughForSearch search.old ways.now nodes pivots → IsAtEnd searched.ended) }
+    ensures complete { IfOk result (λ searched. IsEnoughForSearch search.old search.new.cuts ways.now nodes pivots → IsAtEnd searched.ended) }
     ensures unfinished { OnErr result (GivesUp ways.now first.now nodes pivots search.old search.new) }
 {
     known(search);

@@ -1,22 +1,29 @@
 // One step of a search: the leaf that goes first is worked, and what comes of it is placed.
-ghost use Rattle.std.specs.Prelude.{◌≡◌, IfOk, OnOk, OnErr, Some, None};
+ghost use Rattle.std.specs.Prelude.{◌≡◌, ◌<◌, ◌≤◌, ◌+◌, [], length, IfOk, OnOk, OnErr, Some, None};
 ghost use Rattle.lp_model.specs.Lawful.{IsLawful};
 ghost use Rattle.branch_tree.specs.Numbered.{IsNumbered};
 ghost use Rattle.branch_tree.specs.declared.node.NodeResult.TheVariants.{PointAndClose};
 ghost use Rattle.tree_edit.specs.Calls.{IsNext};
 ghost use Rattle.tree_edit.specs.Jobs.{IsJobOf};
 ghost use Rattle.tree_edit.specs.Lists.{IsBasis};
-ghost use Rattle.tree_edit.specs.Sound.{IsSound, formulation_of};
+ghost use Rattle.tree_edit.specs.Sound.{PlainSearch, IsSound, formulation_of};
+ghost use Rattle.kept_cuts.specs.Kept.{derivations_of};
+ghost use Rattle.tree_edit.specs.Pool.{AddsCut, AddsCuts, AddsSome, AddsAny};
+ghost use Rattle.node_solve.specs.Places.{live_cuts, live_places, basis_in_relaxation};
 ghost use Rattle.node_solve.specs.declared.working.Worked.TheVariants.{Done, Pivots, Wide};
-ghost use Rattle.tree_search.specs.Steps.{IsNextJob, KeepsOpen, IsPlacedBy, IsRayWay};
+ghost use Rattle.tree_search.specs.Steps.{FoundCuts, kept_basis, IsNextJob, KeepsOpen, IsPlacedBy, IsRayWay};
 ghost use Rattle.tree_search.specs.Stepping.{IsReady, Steps, WorksBy};
 
 use crate::searching::Ways;
 use branch_tree::{Job, NodeResult};
-use lp_model::{Basis, List, Mult, PivotPlace, Point, StopWhy, WideAt};
-use node_solve::{Worked, work};
+use cover_cuts::PoolFault;
+use lp_model::{Basis, CutRow, Derivation, List, Mult, PivotPlace, Point, StopWhy, WideAt};
+use node_solve::{LiveCuts, Worked, basis_in_pool, basis_in_relaxation, work};
 use std::alloc::{AllocError, Global};
 use tree_edit::{Search, Taken};
+
+/// How many rounds of cuts the work on a leaf makes.
+const ROUNDS: u8 = 5;
 
 /// What each leaf is worked by.
 #[derive(Clone, Copy, Drop)]
@@ -68,27 +75,90 @@ fn work_on(alloc: Global, search: &Search, limits: &Limits<'_>, job: &Job) -> Wo
 {
     known(search);
     match limits.ways {
-        Ways::Own => work(alloc, search.model(), job, limits.first, limits.pivots),
-        Ways::Rays(model) => work(alloc, model, job, limits.first, limits.pivots),
+        Ways::Own => work(
+            alloc,
+            search.model(),
+            search.pool(),
+            job,
+            limits.first,
+            ROUNDS,
+            limits.pivots,
+        ),
+        Ways::Rays(model) => work(
+            alloc,
+            model,
+            search.pool(),
+            job,
+            limits.first,
+            ROUNDS,
+            limits.pivots,
+        ),
     }
 }
 
-/// Gives the leaf of the job the basis. It stays open.
+/// An equal derivation.
+fn copy_derivation(from: &Derivation) -> Result<Derivation, AllocError>
+    ensures { IfOk result (λ own. own ≡ from.now) }
+{
+    from.clone()
+}
+
+/// The derivations of cuts.
+fn derivations(alloc: Global, cuts: &[CutRow]) -> Result<List<Derivation>, AllocError>
+    ensures { IfOk result (λ ds. ds ≡ derivations_of cuts.now) }
+{
+    let mut list = List::new(alloc);
+    for cut in cuts {
+        list.push(copy_derivation(&cut.from)?)?;
+    }
+    Ok(list)
+}
+
+/// Adds a cut that was found. There is room in the pool.
+fn add_cut(search: &mut Search, from: Derivation) -> Result<(), AllocError>
+    requires { length search.old.cuts < 10000 }
+    ensures adds { OnOk result (AddsCut search.old from search.new) }
+    ensures kept { OnErr result (search.new ≡ search.old) }
+{
+    match search.add_cut(from) {
+        Ok(_) => Ok(()),
+        Err(PoolFault::Full) => unreachable!(),
+        Err(PoolFault::Memory) => Err(AllocError),
+    }
+}
+
+/// Adds the cuts that were found, in order. Where there is no memory the first of them stay.
+fn add_cuts(search: &mut Search, found: &[Derivation]) -> Result<(), AllocError>
+    requires { length search.old.cuts + length found.now ≤ 10000 }
+    ensures adds { OnOk result (AddsCuts search.old found.now search.new) }
+    ensures some { OnErr result (AddsSome search.old found.now search.new) }
+{
+    for from in found {
+        let own = copy_derivation(from)?;
+        add_cut(search, own)?;
+    }
+    Ok(())
+}
+
+/// Gives the leaf of the job the basis of its relaxation, which has the first 200 cuts that count. The leaf stays open.
 fn keep_basis(
     alloc: Global,
     search: &mut Search,
     job: &Job,
     basis: &Basis,
-) -> Result<(), AllocError>
+) -> Result<List<Derivation>, AllocError>
     requires job { IsJobOf search.old job.now.id job.now }
-    requires basis { IsBasis (formulation_of search.old) basis.now }
-    ensures keeps { OnOk result (KeepsOpen search.old job.now None basis.now search.new) }
+    requires basis { IsBasis (formulation_of search.old) (kept_basis search.old basis.now) }
+    ensures keeps { OnOk result (KeepsOpen search.old job.now [] None (kept_basis search.old basis.now) search.new) }
+    ensures cuts { IfOk result (λ cuts. cuts ≡ derivations_of (live_cuts 200 search.old.cuts)) }
     ensures kept { OnErr result (search.new ≡ search.old) }
 {
-    let basis = basis.copy(alloc)?;
+    let live = LiveCuts::new(alloc, search.pool())?;
+    let cuts = derivations(alloc, &live.cuts)?;
+    let basis = basis_in_pool(alloc, &live.places, basis)?;
     known(search);
     match search.place(job.id, NodeResult::Keep { point: None, basis })? {
-        Taken::Kept => Ok(()),
+        Taken::Kept => Ok(cuts),
         _ => unreachable!(),
     }
 }
@@ -102,14 +172,14 @@ fn stop_by_pivots(
     basis: Basis,
 ) -> Result<Stepped, AllocError>
     requires ready { IsReady limits.now search.old }
-    requires works { WorksBy limits.now search.old job (Pivots basis) }
-    ensures steps { IfOk result (λ stepped. Steps limits.now search.old search.new stepped) }
+    requires works { (begin : PlainSearch) × ((found : FoundCuts) × (WorksBy limits.now begin job (Pivots basis found) × AddsCuts begin found.items search.old)) }
+    ensures steps { IfOk result (λ stepped. (begin : PlainSearch) (found : FoundCuts) → WorksBy limits.now begin job (Pivots basis found) → AddsCuts begin found.items search.old → Steps limits.now begin search.new stepped) }
     ensures kept { OnErr result (search.new ≡ search.old) }
 {
-    keep_basis(alloc, search, &job, &basis)?;
+    let cuts = keep_basis(alloc, search, &job, &basis)?;
     Ok(Stepped::Stopped(StopWhy::Pivots(PivotPlace {
         path: Some(job.region),
-        cuts: List::new(alloc),
+        cuts,
         basis,
     })))
 }
@@ -123,8 +193,8 @@ fn stop_by_step(
     at: WideAt,
 ) -> Result<Stepped, AllocError>
     requires ready { IsReady limits.now search.old }
-    requires works { WorksBy limits.now search.old job (Wide at) }
-    ensures steps { IfOk result (λ stepped. Steps limits.now search.old search.new stepped) }
+    requires works { (begin : PlainSearch) × ((found : FoundCuts) × (WorksBy limits.now begin job (Wide at found) × AddsCuts begin found.items search.old)) }
+    ensures steps { IfOk result (λ stepped. (begin : PlainSearch) (found : FoundCuts) → WorksBy limits.now begin job (Wide at found) → AddsCuts begin found.items search.old → Steps limits.now begin search.new stepped) }
     ensures kept { OnErr result (search.new ≡ search.old) }
 {
     keep_basis(alloc, search, &job, &at.basis)?;
@@ -139,9 +209,9 @@ fn place_result(
     done: NodeResult,
 ) -> Result<Stepped, AllocError>
     requires ready { IsReady limits.now search.old }
-    requires works { WorksBy limits.now search.old job.now (Done done) }
+    requires works { (begin : PlainSearch) × ((found : FoundCuts) × (WorksBy limits.now begin job.now (Done done found) × AddsCuts begin found.items search.old)) }
     requires by { IsPlacedBy limits.now.ways done }
-    ensures steps { IfOk result (λ stepped. Steps limits.now search.old search.new stepped) }
+    ensures steps { IfOk result (λ stepped. (begin : PlainSearch) (found : FoundCuts) → WorksBy limits.now begin job.now (Done done found) → AddsCuts begin found.items search.old → Steps limits.now begin search.new stepped) }
     ensures kept { OnErr result (search.new ≡ search.old) }
 {
     known(search);
@@ -149,6 +219,14 @@ fn place_result(
         Taken::Full => Ok(Stepped::Stopped(StopWhy::Tree)),
         _ => Ok(Stepped::Placed),
     }
+}
+
+/// A basis that is kept, in the leaf's relaxation, which has the first 200 cuts that count.
+fn relaxation_basis(alloc: Global, search: &Search, basis: &Basis) -> Result<Basis, AllocError>
+    ensures { IfOk result (λ own. own ≡ basis_in_relaxation (live_places 200 0 search.now.cuts) basis.now) }
+{
+    let live = LiveCuts::new(alloc, search.pool())?;
+    basis_in_relaxation(alloc, &live.places, basis)
 }
 
 /// Keeps the first point that is found beside a ray, if its value in the search's own model has room for each step.
@@ -163,22 +241,25 @@ fn keep_point(
 ) -> Result<Stepped, AllocError>
     requires rays { IsRayWay limits.now.ways }
     requires ready { IsReady limits.now search.old }
-    requires works { WorksBy limits.now search.old job (Done (PointAndClose point mult basis)) }
-    ensures steps { IfOk result (λ stepped. Steps limits.now search.old search.new stepped) }
+    requires works { (begin : PlainSearch) × ((found : FoundCuts) × (WorksBy limits.now begin job (Done (PointAndClose point mult basis) found) × AddsCuts begin found.items search.old)) }
+    ensures steps { IfOk result (λ stepped. (begin : PlainSearch) (found : FoundCuts) → WorksBy limits.now begin job (Done (PointAndClose point mult basis) found) → AddsCuts begin found.items search.old → Steps limits.now begin search.new stepped) }
     ensures kept { OnErr result (search.new ≡ search.old) }
 {
+    known(search);
+    drop(mult);
     match search.model().value(1, &point) {
         Err(step) => {
-            keep_basis(alloc, search, &job, &basis)?;
+            drop(point);
+            let basis = relaxation_basis(alloc, search, &basis)?;
+            let cuts = keep_basis(alloc, search, &job, &basis)?;
             Ok(Stepped::Stopped(StopWhy::Wide(WideAt {
                 path: Some(job.region),
-                cuts: List::new(alloc),
+                cuts,
                 basis,
                 step,
             })))
         }
         Ok(_) => {
-            known(search);
             let kept = NodeResult::Keep {
                 point: Some(point),
                 basis,
@@ -201,45 +282,15 @@ fn place_beside_ray(
 ) -> Result<Stepped, AllocError>
     requires rays { IsRayWay limits.now.ways }
     requires ready { IsReady limits.now search.old }
-    requires works { WorksBy limits.now search.old job (Done done) }
-    ensures steps { IfOk result (λ stepped. Steps limits.now search.old search.new stepped) }
+    requires works { (begin : PlainSearch) × ((found : FoundCuts) × (WorksBy limits.now begin job (Done done found) × AddsCuts begin found.items search.old)) }
+    ensures steps { IfOk result (λ stepped. (begin : PlainSearch) (found : FoundCuts) → WorksBy limits.now begin job (Done done found) → AddsCuts begin found.items search.old → Steps limits.now begin search.new stepped) }
     ensures kept { OnErr result (search.new ≡ search.old) }
 {
     match done {
         NodeResult::PointAndClose { point, mult, basis } => {
             keep_point(alloc, search, limits, job, point, mult, basis)
         }
-        NodeResult::Close {
-            mult,
-            farkas,
-            basis,
-        } => place_result(
-            search,
-            limits,
-            &job,
-            NodeResult::Close {
-                mult,
-                farkas,
-                basis,
-            },
-        ),
-        NodeResult::Split {
-            col,
-            v,
-            mult,
-            basis,
-        } => place_result(
-            search,
-            limits,
-            &job,
-            NodeResult::Split {
-                col,
-                v,
-                mult,
-                basis,
-            },
-        ),
-        NodeResult::Keep { .. } => unreachable!(),
+        other => place_result(search, limits, &job, other),
     }
 }
 
@@ -252,8 +303,8 @@ fn place_done(
     done: NodeResult,
 ) -> Result<Stepped, AllocError>
     requires ready { IsReady limits.now search.old }
-    requires works { WorksBy limits.now search.old job (Done done) }
-    ensures steps { IfOk result (λ stepped. Steps limits.now search.old search.new stepped) }
+    requires works { (begin : PlainSearch) × ((found : FoundCuts) × (WorksBy limits.now begin job (Done done found) × AddsCuts begin found.items search.old)) }
+    ensures steps { IfOk result (λ stepped. (begin : PlainSearch) (found : FoundCuts) → WorksBy limits.now begin job (Done done found) → AddsCuts begin found.items search.old → Steps limits.now begin search.new stepped) }
     ensures kept { OnErr result (search.new ≡ search.old) }
 {
     match limits.ways {
@@ -272,13 +323,23 @@ pub(crate) fn step(
     requires ready { IsReady limits.now search.old }
     requires next { IsNext search.old (Some id) }
     ensures steps { IfOk result (λ stepped. Steps limits.now search.old search.new stepped) }
-    ensures kept { OnErr result (search.new ≡ search.old) }
+    ensures some { OnErr result (AddsAny search.old search.new) }
 {
+    known(search);
     let job = next_job(search, id)?;
     match work_on(alloc, search, limits, &job) {
         Worked::Memory => Err(AllocError),
-        Worked::Pivots { basis } => stop_by_pivots(alloc, search, limits, job, basis),
-        Worked::Wide(at) => stop_by_step(alloc, search, limits, job, at),
-        Worked::Done(done) => place_done(alloc, search, limits, job, done),
+        Worked::Pivots { basis, found } => {
+            add_cuts(search, &found)?;
+            stop_by_pivots(alloc, search, limits, job, basis)
+        }
+        Worked::Wide(at, found) => {
+            add_cuts(search, &found)?;
+            stop_by_step(alloc, search, limits, job, at)
+        }
+        Worked::Done(done, found) => {
+            add_cuts(search, &found)?;
+            place_done(alloc, search, limits, job, done)
+        }
     }
 }

@@ -1,4 +1,5 @@
 use Rattle.std.proofs.Common.{◌∙◌, sym, ap}
+use Rattle.row_tableau.specs.Relaxations.{form_of}
 use Rattle.basic_solution.specs.Tilts.{is_sided}
 use Rattle.basic_solution.proofs.OrderLemmas.{filter_kept, filter_left}
 use Rattle.basic_solution.proofs.tilts.sided.Goals as goal
@@ -6,13 +7,13 @@ use Rattle.basic_solution.proofs.tilts.sided.Goals.{then-is_sided+in_ok-push, el
 
 pub loop-variable-preserved : goal.loop-variable-preserved
 loop-variable-preserved c =
-    let M = c.args.model.now in
+    let F = form_of c.args.relax.now in
     let v = c.loop-variable.variable in
     let inv = c.loop-variable.invariant in
     record {
       items = elim c.if-is_sided.branch [
-        | then-is_sided+in_ok-push w ↦ ap (λ l. l.items) w.list-is ∙ w.in_ok-push.ensures.items ∙ filter_kept (is_sided M) v c.loop-variable.list.items inv.items (sym c.is_sided.ensures ∙ w.if-is_sided.true)
-        | else-is_sided w ↦ ap (λ l. l.items) w.list-is ∙ filter_left (is_sided M) v c.loop-variable.list.items inv.items (sym c.is_sided.ensures ∙ w.if-is_sided.false)
+        | then-is_sided+in_ok-push w ↦ ap (λ l. l.items) w.list-is ∙ w.in_ok-push.ensures.items ∙ filter_kept (is_sided F) v c.loop-variable.list.items inv.items (sym c.is_sided.ensures ∙ w.if-is_sided.true)
+        | else-is_sided w ↦ ap (λ l. l.items) w.list-is ∙ filter_left (is_sided F) v c.loop-variable.list.items inv.items (sym c.is_sided.ensures ∙ w.if-is_sided.false)
       ];
       variables = inv.variables;
     }

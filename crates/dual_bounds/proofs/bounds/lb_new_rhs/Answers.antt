@@ -1,10 +1,8 @@
 use Rattle.std.proofs.Common.{◌≡◌, sym, subst, ap, ◌∙◌}
 use Rattle.lp_model.specs.Program.{Program}
-use Rattle.lp_model.specs.Formulations.{without_cuts}
 use Rattle.branch_tree.specs.Tree.{HasNarrowSplits}
 use Rattle.branch_tree.specs.Numbered.{NumberedTree}
 use Rattle.dual_bounds.specs.NewNumbers.{with_new_sides, AreNewSides}
-use Rattle.dual_bounds.specs.TreeBounds.{IsTreeBound}
 use Rattle.dual_bounds.proofs.ModelLemmas.{sides-present}
 use Rattle.dual_bounds.proofs.BoundLemmas.{tree-bound-of, new-sides}
 use Rattle.dual_bounds.proofs.ExactLemmas.{exact}
@@ -20,14 +18,14 @@ pub returns-clause-bound : goal.returns-clause-bound
 returns-clause-bound c =
     let S = c.args.search.now in
     let made : c.in_ok-changed.changed ≡ with_new_sides S.model c.args.sides.now = c.in_ok-changed.ensures ∙ ap (λ (M : Program). with_new_sides M c.args.sides.now) c.model.ensures in
-    tree-bound-of c.in_ok-changed.changed (with_new_sides S.model c.args.sides.now) c.tree.result.now S.tree c.in_ok-bound.bound made c.tree.ensures.tree c.in_ok-bound.ensures
+    tree-bound-of c.in_ok-changed.changed (with_new_sides S.model c.args.sides.now) c.pool.result.now S.cuts c.tree.result.now S.tree c.in_ok-bound.bound made c.pool.ensures.pool c.tree.ensures.tree c.in_ok-bound.ensures
 
 pub returns-clause-true_bound : goal.returns-clause-true_bound
 returns-clause-true_bound c =
     let S = c.args.search.now in
     let made : c.in_ok-changed.changed ≡ with_new_sides S.model c.args.sides.now = c.in_ok-changed.ensures ∙ ap (λ (M : Program). with_new_sides M c.args.sides.now) c.model.ensures in
     new-sides S c.args.sides.now c.in_ok-bound.bound c.tree.ensures.sound
-    (tree-bound-of c.in_ok-changed.changed (with_new_sides S.model c.args.sides.now) c.tree.result.now S.tree c.in_ok-bound.bound made c.tree.ensures.tree c.in_ok-bound.ensures)
+    (tree-bound-of c.in_ok-changed.changed (with_new_sides S.model c.args.sides.now) c.pool.result.now S.cuts c.tree.result.now S.tree c.in_ok-bound.bound made c.pool.ensures.pool c.tree.ensures.tree c.in_ok-bound.ensures)
 
 pub returns-clause-exact : goal.returns-clause-exact
 returns-clause-exact c =
@@ -35,4 +33,4 @@ returns-clause-exact c =
     let made : c.in_ok-changed.changed ≡ with_new_sides S.model c.args.sides.now = c.in_ok-changed.ensures ∙ ap (λ (M : Program). with_new_sides M c.args.sides.now) c.model.ensures in
     λ present.
     (exact S c.tree.ensures.sound).0 c.in_ok-bound.bound
-    (tree-bound-of c.in_ok-changed.changed S.model c.tree.result.now S.tree c.in_ok-bound.bound (made ∙ sides-present S.model c.args.sides.now present) c.tree.ensures.tree c.in_ok-bound.ensures)
+    (tree-bound-of c.in_ok-changed.changed S.model c.pool.result.now S.cuts c.tree.result.now S.tree c.in_ok-bound.bound (made ∙ sides-present S.model c.args.sides.now present) c.pool.ensures.pool c.tree.ensures.tree c.in_ok-bound.ensures)

@@ -1,7 +1,6 @@
 use Rattle.std.proofs.Common.{◌≡◌, sym, subst, ap, ◌∙◌}
 use Rattle.lp_model.specs.Program.{Program}
 use Rattle.dual_bounds.specs.NewNumbers.{with_new_costs, AreNewCosts}
-use Rattle.dual_bounds.specs.TreeBounds.{IsPointBound}
 use Rattle.dual_bounds.proofs.ModelLemmas.{costs-present}
 use Rattle.dual_bounds.proofs.BoundLemmas.{point-bound-of, point-bound}
 use Rattle.dual_bounds.proofs.ExactLemmas.{exact}

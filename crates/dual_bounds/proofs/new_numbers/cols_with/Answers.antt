@@ -1,9 +1,8 @@
-use Rattle.std.proofs.Common.{◌<◌, List, length, sym, subst, ap, ◌∙◌}
+use Rattle.std.proofs.Common.{◌<◌, List, length, sym, subst, ◌∙◌}
 use Rattle.std.specs.Prelude.{All}
 use Rattle.rational.specs.Rational.{ℚ}
 use Rattle.lp_model.specs.declared.types.ColId.{ColId}
 use Rattle.lp_model.specs.declared.types.Col.{Col}
-use Rattle.dual_bounds.specs.NewNumbers.{changed_all, with_cost, col_index}
 use Rattle.dual_bounds.proofs.new_numbers.cols_with.Goals as goal
 
 pub set_costs-requires : goal.set_costs-requires

@@ -1,9 +1,8 @@
-use Rattle.std.proofs.Common.{◌<◌, List, length, sym, subst, ap, ◌∙◌}
+use Rattle.std.proofs.Common.{◌<◌, List, length, sym, subst, ◌∙◌}
 use Rattle.std.specs.Prelude.{All}
 use Rattle.rational.specs.Rational.{ℚ}
 use Rattle.lp_model.specs.declared.types.RowId.{RowId}
 use Rattle.lp_model.specs.declared.types.Row.{Row}
-use Rattle.dual_bounds.specs.NewNumbers.{changed_all, with_side, row_index}
 use Rattle.dual_bounds.proofs.new_numbers.rows_with.Goals as goal
 
 pub set_sides-requires : goal.set_sides-requires

@@ -2,4 +2,4 @@ use Rattle.dual_simplex.proofs.OneStateLemmas.{separates_of}
 use Rattle.dual_simplex.proofs.laws.parts_law.Goals as goal
 
 pub returns : goal.returns
-returns c = λ kind M path keeps. separates_of M path kind keeps
+returns c = λ kind F path keeps. separates_of F path kind keeps

@@ -1,25 +1,29 @@
-use Rattle.std.proofs.Common.{◌≡◌, ap, length, ◌∙◌, sym, subst, true, false, eqb}
+use Rattle.std.proofs.Common.{◌≡◌, ap, length, List, ◌∙◌, sym, subst, true, false, eqb, arith}
 use Rattle.std.specs.Prelude.{Ok, Err}
-use Rattle.lp_model.specs.Formulations.{without_cuts}
+use Rattle.lp_model.specs.Formulations.{formulation}
+use Rattle.lp_model.specs.declared.types.CutRow.{CutRow}
 use Rattle.leaf_dual.specs.Dual.{Multipliers}
 use Rattle.leaf_dual.specs.Answers.{IsFarkasAnswer}
 use Rattle.leaf_judging.proofs.JudgeLemmas.{refuted-ok, refuted-wide}
 use Rattle.leaf_judging.proofs.closing.is_refuted.Goals as goal
 
+pub path_farkas-requires-clause-places : goal.path_farkas-requires-clause-places
+path_farkas-requires-clause-places c = let same = ap length c.rows.ensures.rows in omega (arith, same, c.rows.ensures.few)
+
 pub returns-in-Ok : goal.returns-in-Ok
 returns-in-Ok c =
-    let F = without_cuts c.args.model.now in
+    let F = formulation c.args.model.now c.args.pool.now in
     let path = c.args.path.now in
     let mult = c.args.mult.now in
-    let answer = subst (λ (ms : Multipliers). IsFarkasAnswer F path ms (Ok c.in-Ok.value)) c.as_slice-2.ensures c.in-Ok.ensures in
+    let answer = subst (λ (ms : Multipliers). IsFarkasAnswer F path ms (Ok c.in-Ok.value)) c.as_slice-2.ensures (subst (λ (cuts : List CutRow). IsFarkasAnswer (formulation c.args.model.now cuts) path c.as_slice-2.result.now (Ok c.in-Ok.value)) c.rows.ensures.rows c.in-Ok.ensures) in
     refuted-ok F path mult
     (λ none. let f : false ≡ true = sym c.if-is_empty.false ∙ c.is_empty.ensures ∙ ap (λ n. eqb n 0) (ap length (c.as_slice.ensures ∙ none)) in cc)
     c.in-Ok.value answer c.is_positive.result c.is_positive.ensures
 
 pub returns-in-Err : goal.returns-in-Err
 returns-in-Err c =
-    let F = without_cuts c.args.model.now in
+    let F = formulation c.args.model.now c.args.pool.now in
     let path = c.args.path.now in
     let mult = c.args.mult.now in
-    let answer = subst (λ (ms : Multipliers). IsFarkasAnswer F path ms (Err c.in-Err.field-0)) c.as_slice-2.ensures c.in-Err.ensures in
+    let answer = subst (λ (ms : Multipliers). IsFarkasAnswer F path ms (Err c.in-Err.field-0)) c.as_slice-2.ensures (subst (λ (cuts : List CutRow). IsFarkasAnswer (formulation c.args.model.now cuts) path c.as_slice-2.result.now (Err c.in-Err.field-0)) c.rows.ensures.rows c.in-Err.ensures) in
     ((λ h. cc), (λ h. absurd (refuted-wide F path mult c.in-Err.field-0 answer h)))

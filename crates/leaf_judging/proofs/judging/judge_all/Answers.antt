@@ -1,5 +1,5 @@
 use Rattle.std.proofs.Common.{◌≤◌, List, length, sym, subst}
-use Rattle.lp_model.specs.Formulations.{without_cuts}
+use Rattle.lp_model.specs.Formulations.{formulation}
 use Rattle.branch_tree.specs.Leaves.{leaf_count, with_states}
 use Rattle.branch_tree.specs.Numbered.{NumberedTree}
 use Rattle.branch_tree.specs.declared.node.LeafState.{LeafState}
@@ -15,7 +15,7 @@ set_states-requires c =
 
 pub returns-clause-judged : goal.returns-clause-judged
 returns-clause-judged c =
-    let F = without_cuts c.args.model.now in
+    let F = formulation c.args.model.now c.args.pool.now in
     let t = c.args.target.now in
     record {
       states = c.deref.result.now;
@@ -26,14 +26,14 @@ returns-clause-judged c =
 
 pub returns-clause-numbers : goal.returns-clause-numbers
 returns-clause-numbers c =
-    let F = without_cuts c.args.model.now in
+    let F = formulation c.args.model.now c.args.pool.now in
     let numbers = c.in_ok-judged.judged.index.numbers in
     subst (λ (T : NumberedTree). AreNumbersOf F T.root numbers) (sym c.set_states.ensures)
     (numbers-states F numbers c.deref.result.now c.args.tree.now.root c.in_ok-judged.ensures.numbers)
 
 pub returns-clause-queue : goal.returns-clause-queue
 returns-clause-queue c =
-    let F = without_cuts c.args.model.now in
+    let F = formulation c.args.model.now c.args.pool.now in
     let queue = c.in_ok-judged.judged.index.queue in
     subst (λ (T : NumberedTree). IsQueueOf F T.root queue) (sym c.set_states.ensures)
     (subst (λ (ss : List LeafState). IsQueueOf F (with_states ss c.args.tree.now.root) queue) (sym c.deref.ensures.value) c.in_ok-judged.ensures.queue)

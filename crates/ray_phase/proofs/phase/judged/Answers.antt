@@ -4,11 +4,11 @@ use Rattle.rational.specs.Rational.{int, ◌<ℚ◌}
 use Rattle.rational.proofs.RationalOrder.{≤ℚ_from_not}
 use Rattle.lp_model.specs.Rays.{direction_cost, IsRayJudged}
 use Rattle.lp_model.proofs.RayLemmas.{judged_rightly}
-use Rattle.ray_phase.proofs.DirectionLemmas.{count_is, model_ray, lawful_basis, optimum_of, wide_end}
+use Rattle.ray_phase.proofs.DirectionLemmas.{count_rows, model_ray, lawful_basis, optimum_of, wide_end}
 use Rattle.ray_phase.proofs.phase.judged.Goals as goal
 
 pub high_variables-requires : goal.high_variables-requires
-high_variables-requires c = count_is c.args.model.now c.args.state.now c.requires.directions
+high_variables-requires c = count_rows c.args.model.now c.args.state.now c.requires.directions
 
 pub returns-in-Err : goal.returns-in-Err
 returns-in-Err c =

@@ -2,5 +2,4 @@ use Rattle.sym_env.proofs.BeginLemmas.{first-beside}
 use Rattle.sym_env.proofs.solving.search_beside_ray.Goals as goal
 
 pub search_with-requires-clause-first : goal.search_with-requires-clause-first
-search_with-requires-clause-first c =
-    first-beside c.first_law.ensures c.first_in_law.ensures c.args.search.now.model c.args.costless.now c.args.limits.now.pivots c.args.first.now c.cols-lawful.ensures.lawful c.requires.begins
+search_with-requires-clause-first c = first-beside c.root_law.ensures c.args.search.now.model c.args.costless.now c.args.limits.now.pivots c.args.first.now c.requires.begins

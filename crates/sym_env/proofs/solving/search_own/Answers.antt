@@ -1,11 +1,8 @@
-use Rattle.std.proofs.Common.{subst}
-use Rattle.lp_model.specs.Lawful.{IsLawful}
 use Rattle.sym_env.proofs.BeginLemmas.{first-own}
 use Rattle.sym_env.proofs.solving.search_own.Goals as goal
 
 pub search_with-requires-clause-first : goal.search_with-requires-clause-first
-search_with-requires-clause-first c =
-    first-own c.first_law.ensures c.first_in_law.ensures c.args.search.now c.args.limits.now.pivots c.args.first.now (subst IsLawful c.model.ensures c.cols-lawful.ensures.lawful) c.requires.begins
+search_with-requires-clause-first c = first-own c.root_law.ensures c.args.search.now c.args.limits.now.pivots c.args.first.now c.requires.begins
 
 pub returns-clause-bounded : goal.returns-clause-bounded
 returns-clause-bounded c = c.search_with.ensures.beside

@@ -1,4 +1,4 @@
-use Rattle.std.specs.Prelude.{◌≡◌, IfOk, OnErr}
+use Rattle.std.specs.Prelude.{IfOk, OnErr}
 use Rattle.std.proofs.Common.{subst}
 use Rattle.tree_search.specs.Causes.{IsAtEnd}
 use Rattle.tree_search.specs.Causes as search
@@ -28,7 +28,7 @@ pub returns-in-Ok-clause-complete : goal.returns-in-Ok-clause-complete
 returns-in-Ok-clause-complete c =
     let S = c.args.search.now in
     let l = c.args.limits.now in
-    let whole = subst (λ r. IfOk r (λ searched. search.IsEnoughForSearch S c.args.ways.now l.nodes l.pivots → IsAtEnd searched.ended)) c.in-Ok.is c.search_on.ensures.complete in
+    let whole = subst (λ r. IfOk r (λ searched. search.IsEnoughForSearch S c.search_on.new.search.cuts c.args.ways.now l.nodes l.pivots → IsAtEnd searched.ended)) c.in-Ok.is c.search_on.ensures.complete in
     searched-whole c.no_ray_law.ensures l S c.args.ways.now c.args.first.now c.requires.begins c.search_on.new.search c.in-Ok.searched c.answer_of.result whole c.answer_of.ensures
 
 pub returns-in-Ok-clause-beside : goal.returns-in-Ok-clause-beside

@@ -20,4 +20,4 @@ returns-in-Some-clause-solved c =
     fresh-solved c.args.limits.now c.args.search.now c.points-sound.ensures.sound c.requires c.search_without_point.result.answer c.search_without_point.new.search c.search_without_point.ensures.went
 
 pub returns-in-Some-clause-complete : goal.returns-in-Some-clause-complete
-returns-in-Some-clause-complete c = λ enough. c.search_without_point.ensures.complete (from-fresh c.roomy_law.ensures c.args.limits.now c.args.search.now c.requires enough)
+returns-in-Some-clause-complete c = λ enough. c.search_without_point.ensures.complete (from-fresh c.roomy_law.ensures c.args.limits.now c.args.search.now c.search_without_point.new.search.cuts c.requires enough)

@@ -1,12 +1,9 @@
-use Rattle.std.specs.Prelude.{◌≡◌}
 use Rattle.std.proofs.Common.{subst, sym, refl, inr}
 use Rattle.ray_phase.specs.Answers.{IsRayAnswer}
 use Rattle.ray_phase.specs.declared.phase.RayAnswer.TheVariants as phase
 use Rattle.lp_model.specs.declared.answers.StopWhy.TheVariants as stop
-use Rattle.tree_search.specs.Search.{IsStoppedAnswer}
-use Rattle.tree_search.specs.Steps.{HasOpenLeaf}
 use Rattle.tree_search.proofs.ExtendLemmas.{extends-self}
-use Rattle.sym_env.specs.Beginnings.{HasNoSlackBasis, IsRayStop}
+use Rattle.sym_env.specs.Beginnings.{IsRayStop}
 use Rattle.sym_env.specs.Warm.{BesidePoint}
 use Rattle.sym_env.proofs.BeginLemmas.{stop-pivots}
 use Rattle.sym_env.proofs.SolveLemmas.{wants-first, stopped-first, stopped-never}

@@ -1,7 +1,5 @@
-use Rattle.std.specs.Prelude.{◌≡◌}
-use Rattle.std.proofs.Common.{ap, subst, sym, ◌∙◌}
+use Rattle.std.proofs.Common.{ap, subst, ◌∙◌}
 use Rattle.lp_model.specs.Lawful.{IsLawful}
-use Rattle.lp_model.specs.Program.{Program}
 use Rattle.tree_edit.specs.Sound.{PlainSearch, IsSound}
 use Rattle.tree_search.specs.Extends.{Extends}
 use Rattle.sym_env.specs.Enough.{IsEnoughFrom}
@@ -28,7 +26,7 @@ returns-clause-ray c = subst (λ (S : PlainSearch). HasRayFor S.model c.args.lim
 pub returns-clause-complete : goal.returns-clause-complete
 returns-clause-complete c = λ enough.
     let l = c.args.limits.now in
-    subst (λ S. IsEnoughFrom S l.nodes l.pivots → HasEnded c.warm_limited.result.answer) c.set_limit.ensures c.warm_limited.ensures.complete (from-kept l c.args.search.now enough)
+    subst (λ S. IsEnoughFrom S c.warm_limited.new.search.cuts l.nodes l.pivots → HasEnded c.warm_limited.result.answer) c.set_limit.ensures c.warm_limited.ensures.complete (from-kept l c.args.search.now c.warm_limited.new.search.cuts enough)
 
 pub returns-clause-true_answer : goal.returns-clause-true_answer
 returns-clause-true_answer c =

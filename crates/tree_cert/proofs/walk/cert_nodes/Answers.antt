@@ -1,22 +1,23 @@
-use Rattle.std.proofs.Common.{subst, sym, arith}
+use Rattle.std.proofs.Common.{suc, subst, sym, arith}
+use Rattle.lp_model.specs.Formulations.{Formulation, formulation}
 use Rattle.tree_cert.specs.Walked.{HasTurns, IsNodeOf}
 use Rattle.tree_cert.proofs.TreeWalk.{turns-after, fit_here, fit_next, made_next, made_all}
 use Rattle.tree_cert.proofs.walk.cert_nodes.Goals as goal
 
 pub loop-node-preserved : goal.loop-node-preserved
 loop-node-preserved c =
-    let M = c.args.model.now in
+    let F : Formulation = formulation c.args.model.now c.args.cuts.now in
     let nodes = c.args.nodes.now in
     let k = c.loop-node.node-index in
     let n = c.node-item.result in
     let path = c.loop-node.path.items in
     record {
-      turns = subst HasTurns (sym c.in_ok-step_on.ensures) (turns-after M path n (fit_here M nodes k n c.loop-node-test.true c.node-item.is c.loop-node.invariant.fit) c.loop-node.invariant.turns);
-      fit = fit_next M nodes k n c.loop-node-test.true c.node-item.is c.loop-node.invariant.fit;
+      turns = subst HasTurns (sym c.in_ok-step_on.ensures) (turns-after F path n (fit_here F nodes k n c.loop-node-test.true c.node-item.is c.loop-node.invariant.fit) c.loop-node.invariant.turns);
+      fit = fit_next F nodes k n c.loop-node-test.true c.node-item.is c.loop-node.invariant.fit;
       made =
-          made_next M nodes k n c.loop-node-test.true c.node-item.is path c.step_on.new.path.items c.in_ok-cert.cert c.loop-node.certs c.push.new.self
-          (subst (λ p. IsNodeOf M p n c.in_ok-cert.cert) c.deref.ensures.value c.in_ok-cert.ensures) c.in_ok-step_on.ensures c.in_ok-push.ensures.pushed c.loop-node.invariant.made;
+          made_next F nodes k n c.loop-node-test.true c.node-item.is suc path c.step_on.new.path.items c.in_ok-cert.cert c.loop-node.certs c.push.new.self
+          (subst (λ p. IsNodeOf F suc p n c.in_ok-cert.cert) c.deref.ensures.value c.in_ok-cert.ensures) c.in_ok-step_on.ensures c.in_ok-push.ensures.pushed c.loop-node.invariant.made;
     }
 
 pub returns : goal.returns
-returns c = made_all c.args.model.now c.args.nodes.now c.loop-node.node-index c.loop-node.path.items c.loop-node.certs (omega arith) c.loop-node.invariant.made
+returns c = made_all (formulation c.args.model.now c.args.cuts.now) suc c.args.nodes.now c.loop-node.node-index c.loop-node.path.items c.loop-node.certs (omega arith) c.loop-node.invariant.made

@@ -1,4 +1,5 @@
-use Rattle.std.proofs.Common.{List, [], ◌++◌, drop}
+use Rattle.std.proofs.Common.{suc, List, [], ◌++◌, drop}
+use Rattle.lp_model.specs.Formulations.{formulation}
 use Rattle.cert_text.specs.declared.cert.CertNode.{CertNode}
 use Rattle.tree_cert.specs.Walked.{AreNodesOf, AreFit, HasTurns}
 use Rattle.tree_cert.proofs.walk.cert_nodes.Given as goal
@@ -6,6 +7,6 @@ use Rattle.tree_cert.proofs.walk.cert_nodes.Given as goal
 abbrev pub invariant-loop-node : goal.invariant-loop-node
 invariant-loop-node l = record {
   turns : HasTurns l.path.items;
-  fit : AreFit l.model (drop l.node-index l.nodes);
-  made : (rest : List CertNode) → AreNodesOf l.model l.path.items (drop l.node-index l.nodes) rest → AreNodesOf l.model [] l.nodes (l.certs ++ rest);
+  fit : AreFit (formulation l.model l.cuts) (drop l.node-index l.nodes);
+  made : (rest : List CertNode) → AreNodesOf (formulation l.model l.cuts) suc l.path.items (drop l.node-index l.nodes) rest → AreNodesOf (formulation l.model l.cuts) suc [] l.nodes (l.certs ++ rest);
 }

@@ -1,8 +1,10 @@
 use Rattle.std.specs.Prelude.{◌≡◌, ◌<◌, ◌≤◌, ◌+◌}
 use Rattle.std.proofs.Common.{subst, arith}
+use Rattle.tree_search.specs.Search.{GivesUp}
 use Rattle.tree_search.specs.Stepping.{Steps}
-use Rattle.tree_search.proofs.GoesLemmas.{begins, goes, goes-on, at-limit, finishes, finds-point, stops}
+use Rattle.tree_search.proofs.GoesLemmas.{begins, gives-up, goes-on, at-limit, finishes, finds-point, stops}
 use Rattle.tree_search.proofs.StepLemmas.{next-open_leaf, no-leaf_open}
+use Rattle.tree_search.proofs.StopLemmas.{on_err}
 use Rattle.tree_search.proofs.searching.go_on.Goals as goal
 
 pub loop-id-init : goal.loop-id-init
@@ -31,3 +33,9 @@ returns-in-Stopped-clause-comes c =
 pub returns-clause-comes : goal.returns-clause-comes
 returns-clause-comes c =
     finishes c.args.limits.now c.args.nodes c.args.search.now c.loop-id.placed c.loop-id.search c.loop-id.invariant c.known-2.ensures.sound (no-leaf_open c.loop-id.search c.in_default.ensures)
+
+pub returns-in_err-step-clause-unfinished : goal.returns-in_err-step-clause-unfinished
+returns-in_err-step-clause-unfinished c =
+    let limits = c.args.limits.now in
+    on_err c.from_residual.result (GivesUp limits.ways limits.first.now c.args.nodes limits.pivots c.args.search.now c.step.new.search)
+    (gives-up limits c.args.nodes c.args.search.now c.loop-id.placed c.loop-id.search c.loop-id.invariant c.step.new.search c.known.ensures.sound c.in_err-step.ensures.some)

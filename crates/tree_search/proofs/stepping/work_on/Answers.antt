@@ -1,7 +1,8 @@
 use Rattle.std.specs.Prelude.{◌≡◌}
-use Rattle.std.proofs.Common.{ap, sym, ◌∙◌}
+use Rattle.std.proofs.Common.{ap, sym, subst, ◌∙◌}
+use Rattle.cover_cuts.specs.Cuts.{IsPoolOf}
 use Rattle.tree_search.specs.Steps.{worked_model}
-use Rattle.tree_search.proofs.PlacedLemmas.{next-region, next-first, next-works}
+use Rattle.tree_search.proofs.PlacedLemmas.{next-region, next-first, next-pool, next-works}
 use Rattle.tree_search.proofs.stepping.work_on.Goals as goal
 
 pub work-requires-clause-narrow : goal.work-requires-clause-narrow
@@ -24,10 +25,16 @@ work-requires-clause-first c =
     let S = c.args.search.now in
     next-first c.args.limits.now S c.known.ensures.sound c.requires.ready c.args.job.now c.requires.next c.model.result.now (c.model.ensures ∙ sym (ap (λ w. worked_model w S.model) c.in-Own.is))
 
+pub work-requires-clause-pool : goal.work-requires-clause-pool
+work-requires-clause-pool c =
+    let S = c.args.search.now in
+    subst (IsPoolOf c.model.result.now) (sym c.pool.ensures.pool)
+    (next-pool c.args.limits.now S c.known.ensures.sound c.requires.ready c.args.job.now c.requires.next c.model.result.now (c.model.ensures ∙ sym (ap (λ w. worked_model w S.model) c.in-Own.is)))
+
 pub returns-in-Own : goal.returns-in-Own
 returns-in-Own c =
     let S = c.args.search.now in
-    next-works c.args.limits.now S c.known.ensures.sound c.requires.ready c.args.job.now c.requires.next c.model.result.now (c.model.ensures ∙ sym (ap (λ w. worked_model w S.model) c.in-Own.is)) c.work.result c.work.ensures.worked
+    next-works c.args.limits.now S c.known.ensures.sound c.requires.ready c.args.job.now c.requires.next c.model.result.now (c.model.ensures ∙ sym (ap (λ w. worked_model w S.model) c.in-Own.is)) c.pool.result.now c.pool.ensures.pool c.work.result c.work.ensures.worked
 
 pub work-requires-in-Rays-clause-narrow : goal.work-requires-in-Rays-clause-narrow
 work-requires-in-Rays-clause-narrow c =
@@ -49,7 +56,13 @@ work-requires-in-Rays-clause-first c =
     let S = c.args.search.now in
     next-first c.args.limits.now S c.known.ensures.sound c.requires.ready c.args.job.now c.requires.next c.in-Rays.model.now (sym (ap (λ w. worked_model w S.model) c.in-Rays.is))
 
+pub work-requires-in-Rays-clause-pool : goal.work-requires-in-Rays-clause-pool
+work-requires-in-Rays-clause-pool c =
+    let S = c.args.search.now in
+    subst (IsPoolOf c.in-Rays.model.now) (sym c.pool-in-Rays.ensures.pool)
+    (next-pool c.args.limits.now S c.known.ensures.sound c.requires.ready c.args.job.now c.requires.next c.in-Rays.model.now (sym (ap (λ w. worked_model w S.model) c.in-Rays.is)))
+
 pub returns-in-Rays : goal.returns-in-Rays
 returns-in-Rays c =
     let S = c.args.search.now in
-    next-works c.args.limits.now S c.known.ensures.sound c.requires.ready c.args.job.now c.requires.next c.in-Rays.model.now (sym (ap (λ w. worked_model w S.model) c.in-Rays.is)) c.work-in-Rays.result c.work-in-Rays.ensures.worked
+    next-works c.args.limits.now S c.known.ensures.sound c.requires.ready c.args.job.now c.requires.next c.in-Rays.model.now (sym (ap (λ w. worked_model w S.model) c.in-Rays.is)) c.pool-in-Rays.result.now c.pool-in-Rays.ensures.pool c.work-in-Rays.result c.work-in-Rays.ensures.worked

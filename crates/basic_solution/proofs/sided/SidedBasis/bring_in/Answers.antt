@@ -1,4 +1,5 @@
 use Rattle.std.proofs.Common.{◌∙◌, refl, sym, subst, Ok}
+use Rattle.lp_model.specs.Formulations.{formulation}
 use Rattle.basic_solution.specs.Held.{Held}
 use Rattle.basic_solution.specs.ListedStates.{Keeps, IsBroughtTo}
 use Rattle.basic_solution.proofs.ListedLemmas.{sided_on, brought, brought_wide}
@@ -8,10 +9,10 @@ use Rattle.basic_solution.proofs.sided.SidedBasis.bring_in.Goals.{in-Ok, in-Err}
 pub invariant_of-self : goal.invariant_of-self
 invariant_of-self c =
     let i = c.self.inside in
-    let s : Held = record { model = i.model.now; low = i.low.items; high = i.high.items; cost = i.cost.items; tilt = i.tilt.items; order = i.order.items; tableau = i.tableau; stands = i.stands.items } in
-    let t : Held = record { model = i.model.now; low = i.low.items; high = i.high.items; cost = i.cost.items; tilt = i.tilt.items; order = i.order.items; tableau = c.bring_in.new.self; stands = i.stands.items } in
+    let s : Held = record { form = formulation i.model.now i.cuts.now; low = i.low.items; high = i.high.items; cost = i.cost.items; tilt = i.tilt.items; order = i.order.items; tableau = i.tableau; stands = i.stands.items } in
+    let t : Held = record { form = formulation i.model.now i.cuts.now; low = i.low.items; high = i.high.items; cost = i.cost.items; tilt = i.tilt.items; order = i.order.items; tableau = c.bring_in.new.self; stands = i.stands.items } in
     let keeps : Keeps s t = record {
-      model = refl;
+      form = refl;
       low = refl;
       high = refl;
       cost = refl;
@@ -27,10 +28,10 @@ invariant_of-self c =
 pub returns-clause-answer : goal.returns-clause-answer
 returns-clause-answer c =
     let i = c.self.inside in
-    let s : Held = record { model = i.model.now; low = i.low.items; high = i.high.items; cost = i.cost.items; tilt = i.tilt.items; order = i.order.items; tableau = i.tableau; stands = i.stands.items } in
-    let t : Held = record { model = i.model.now; low = i.low.items; high = i.high.items; cost = i.cost.items; tilt = i.tilt.items; order = i.order.items; tableau = c.bring_in.new.self; stands = i.stands.items } in
+    let s : Held = record { form = formulation i.model.now i.cuts.now; low = i.low.items; high = i.high.items; cost = i.cost.items; tilt = i.tilt.items; order = i.order.items; tableau = i.tableau; stands = i.stands.items } in
+    let t : Held = record { form = formulation i.model.now i.cuts.now; low = i.low.items; high = i.high.items; cost = i.cost.items; tilt = i.tilt.items; order = i.order.items; tableau = c.bring_in.new.self; stands = i.stands.items } in
     let keeps : Keeps s t = record {
-      model = refl;
+      form = refl;
       low = refl;
       high = refl;
       cost = refl;

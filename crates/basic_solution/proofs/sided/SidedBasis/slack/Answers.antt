@@ -1,4 +1,5 @@
 use Rattle.std.proofs.Common.{◌∙◌, refl, ap, length}
+use Rattle.row_tableau.specs.Relaxations.{form_of}
 use Rattle.basic_solution.specs.Held.{Held}
 use Rattle.basic_solution.proofs.SlackLemmas.{slack_sided, slack_state}
 use Rattle.basic_solution.proofs.sided.SidedBasis.slack.Goals as goal
@@ -6,9 +7,8 @@ use Rattle.basic_solution.proofs.sided.SidedBasis.slack.Goals as goal
 pub invariant_of-result : goal.invariant_of-result
 invariant_of-result c =
     let relax = c.args.relax.now in
-    let M = relax.model.now in
     let s : Held = record {
-      model = M;
+      form = form_of relax;
       low = c.in_ok-low.low.items;
       high = c.in_ok-high.high.items;
       cost = c.in_ok-cost.cost.items;
@@ -25,9 +25,8 @@ invariant_of-result c =
 pub returns : goal.returns
 returns c =
     let relax = c.args.relax.now in
-    let M = relax.model.now in
     let s : Held = record {
-      model = M;
+      form = form_of relax;
       low = c.in_ok-low.low.items;
       high = c.in_ok-high.high.items;
       cost = c.in_ok-cost.cost.items;

@@ -7,4 +7,4 @@ on_ok (Ok a) f h = f h
 on_ok (Err e) f h = h
 
 pub returns : goal.returns
-returns c = on_ok c.put.result (λ puts. record { same = refl; number = c.number_of-number.result; number_is = c.number_of-number.ensures; puts = puts }) c.put.ensures.put
+returns c = on_ok c.put.result (λ puts. record { same = refl; same_cuts = refl; number = c.number_of-number.result; number_is = c.number_of-number.ensures; puts = puts }) c.put.ensures.put

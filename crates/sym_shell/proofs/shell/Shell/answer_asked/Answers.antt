@@ -1,11 +1,11 @@
 use Rattle.std.proofs.Common.{ap, refl, inr}
 use Rattle.std.specs.Prelude.{map}
-use Rattle.command_words.specs.Asks.{Load, Edit, Bound, Cert, Write, Quit, Unknown, Misused, NoNumber, asks_shown}
+use Rattle.command_words.specs.Asks.{Load, Edit, Trim, Save, Restore, Bound, Cert, Write, Quit, Unknown, Misused, NoNumber, asks_shown}
 use Rattle.edit_words.specs.EditWords.{edit_asks, pairs_asks}
 use Rattle.sym_shell.specs.State.{shell_state}
 use Rattle.reply_texts.specs.Texts.{ok_text, memory_text}
 use Rattle.sym_shell.proofs.BoundLemmas.{pairs-untold}
-use Rattle.sym_shell.proofs.StepLemmas.{unfinished, always, on_err, some-solve-step, some-warm-step, edit-step}
+use Rattle.sym_shell.proofs.StepLemmas.{unfinished, always, on_err, some-solve-step, some-warm-step, edit-step, trim-step}
 use Rattle.sym_shell.proofs.shell.Shell.answer_asked.Goals as goal
 
 pub returns-in-Load-clause-unfinished : goal.returns-in-Load-clause-unfinished
@@ -29,6 +29,25 @@ returns-in-Edit-clause-unfinished g c =
     let words = map (λ word. word.now) c.in-Edit.words.now in
     unfinished c.edit.result (Edit words) (asks_shown c.args.asked) (shell_state c.args.self.now files faults) (shell_state c.edit.new.self files faults) memory_text (ap asks_shown c.in-Edit.is)
     (on_err c.edit.result (edit-step c.args.self.now c.edit.new.self files faults (edit_asks words) memory_text) c.edit.ensures.unfinished)
+
+pub returns-in-Trim-clause-unfinished : goal.returns-in-Trim-clause-unfinished
+returns-in-Trim-clause-unfinished g c =
+    let files = g.S.Store.files c.args.store.now in
+    let faults = g.S.Store.faults c.args.store.now in
+    unfinished c.trim.result (Trim c.in-Trim.depth) (asks_shown c.args.asked) (shell_state c.args.self.now files faults) (shell_state c.trim.new.self files faults) memory_text (ap asks_shown c.in-Trim.is)
+    (on_err c.trim.result (trim-step c.args.self.now c.trim.new.self files faults c.in-Trim.depth memory_text) c.trim.ensures.unfinished)
+
+pub returns-in-Save-clause-unfinished : goal.returns-in-Save-clause-unfinished
+returns-in-Save-clause-unfinished g c =
+    let old = (shell_state c.args.self.now (g.S.Store.files c.args.store.now) (g.S.Store.faults c.args.store.now)) in
+    let new = shell_state c.args.self.now (g.S.Store.files c.save.new.store) (g.S.Store.faults c.save.new.store) in
+    unfinished c.save.result (Save c.in-Save.file.now) (asks_shown c.args.asked) old new memory_text (ap asks_shown c.in-Save.is) c.save.ensures.unfinished
+
+pub returns-in-Restore-clause-unfinished : goal.returns-in-Restore-clause-unfinished
+returns-in-Restore-clause-unfinished g c =
+    let old = (shell_state c.args.self.now (g.S.Store.files c.args.store.now) (g.S.Store.faults c.args.store.now)) in
+    let new = shell_state (c.restore.new.self) (g.S.Store.files c.restore.new.store) (g.S.Store.faults c.restore.new.store) in
+    unfinished c.restore.result (Restore c.in-Restore.file.now) (asks_shown c.args.asked) old new memory_text (ap asks_shown c.in-Restore.is) c.restore.ensures.unfinished
 
 pub returns-in-Bound-clause-unfinished : goal.returns-in-Bound-clause-unfinished
 returns-in-Bound-clause-unfinished g c =

@@ -3,7 +3,8 @@ use Rattle.std.specs.Prelude.{Vec}
 use Rattle.std.specs.declared.alloc.Global.{Global}
 use Rattle.reply_texts.specs.Texts.{ok_text}
 use Rattle.sym_env.specs.Env.{PlainEnv}
-use Rattle.sym_shell.specs.Editing.{RepliesToEdit, refused_edit_text}
+use Rattle.sym_shell.specs.Editing.{RepliesToEdit}
+use Rattle.sym_shell.specs.EnvFaults.{env_fault_text}
 use Rattle.sym_shell.proofs.EditLemmas.{edits-words, made, refused, ok-told}
 use Rattle.sym_shell.proofs.StepLemmas.{on_ok_if}
 use Rattle.sym_shell.proofs.shell.Shell.change.Goals as goal
@@ -25,8 +26,8 @@ returns-clause-answered c =
       | in-Err w ↦
           let old = c.self.inside.env in
           subst (λ r. OnOk r (RepliesToEdit old.search c.args.edit old c.match-edit.reply.items c.edit.new.self)) (sym w.result-is)
-          (on_ok_if w.write_refused_edit.result
+          (on_ok_if w.write_env_fault.result
           (λ e. refused c.self.inside.env c.edit.new.self c.args.edit c.edit.result c.edit.ensures.edits w.in-Err.fault c.match-edit.reply.items w.in-Err.is
-          (ap (λ (v : Vec ℕ Global). v.items) w.reply-is ∙ e ∙ ap (λ t. t ++ refused_edit_text w.in-Err.fault) w.clear.ensures.items))
-          w.write_refused_edit.ensures)
+          (ap (λ (v : Vec ℕ Global). v.items) w.reply-is ∙ e ∙ ap (λ t. t ++ env_fault_text w.in-Err.fault) w.clear.ensures.items))
+          w.write_env_fault.ensures)
     ])

@@ -8,7 +8,7 @@ use Rattle.tree_edit.proofs.search.Search.join.Goals as goal
 pub returns : goal.returns
 returns c =
     let i = c.self.inside in
-    let S : PlainSearch = record { model = i.model; tree = i.tree; points = i.points.items } in
+    let S : PlainSearch = record { model = i.model; cuts = i.pool; tree = i.tree; points = i.points.items } in
     let j = c.in_ok-joined.joined in
     let joins = subst (λ (vs : List ℚ). Joins vs c.in-Some.value j) c.deref.ensures.value c.in_ok-joined.ensures in
     subst (λ (T : PlainSearch). JoinsPoint T c.args.point.now j) c.self.view_is

@@ -13,7 +13,7 @@ use Rattle.tree_edit.proofs.search.Search.open_region.Goals as goal
 pub returns : goal.returns
 returns c =
     let i = c.self.inside in
-    let S : PlainSearch = record { model = i.model; tree = i.tree; points = i.points.items } in
+    let S : PlainSearch = record { model = i.model; cuts = i.pool; tree = i.tree; points = i.points.items } in
     let kept : LeafData = c.in-Some.leaf.now in
     let is_open : kept.state ≡ IsOpen = MatchBool-at_false _ _ c.if-is_closed.false c.is_closed.ensures in
     let data_is : data_of c.args.id S.tree.root ≡ Some kept = sym c.in-Some.ensures.data in

@@ -12,5 +12,5 @@ put_closed-requires-clause-judged c =
     let S : PlainSearch = c.args.self.now in
     let path = c.args.region.now in
     let kept = c.args.kept in
-    let closes = subst (λ (R : PlainSearch). ClosesBy (formulation_of R) c.target.result path kept) c.self.view_is (c.closes_by.ensures.0 c.if-closes_by.true) in
-    judged-closed (formulation_of S) (target S.model S.points) path kept (subst (λ (t : Option ℚ). ClosesBy (formulation_of S) t path kept) c.target.ensures closes) c.requires.closed
+    let closes = subst (λ (R : PlainSearch). ClosesBy (formulation_of R) c.target-target.result path kept) c.self.view_is (c.closes_by.ensures.0 c.if-closes_by.true) in
+    judged-closed (formulation_of S) (target S.model S.points) path kept (subst (λ (t : Option ℚ). ClosesBy (formulation_of S) t path kept) c.target-target.ensures closes) c.requires.closed

@@ -18,7 +18,7 @@ place_basis-requires-clause-leaf c = c.requires.open.leaf
 pub place_basis-requires-clause-own : goal.place_basis-requires-clause-own
 place_basis-requires-clause-own c =
     let i = c.self.inside in
-    let S : PlainSearch = record { model = i.model; tree = i.tree; points = i.points.items } in
+    let S : PlainSearch = record { model = i.model; cuts = i.pool; tree = i.tree; points = i.points.items } in
     let kept : LeafData = c.in-Some.leaf.now in
     let data_is : data_of c.args.id S.tree.root ≡ Some kept = sym c.in-Some.ensures.data in
     let own : HasMultipliers c.args.id kept S.tree.root = own-multipliers c.args.id S.tree.root kept c.in-Some.ensures.found data_is in
@@ -27,7 +27,7 @@ place_basis-requires-clause-own c =
 pub place_basis-requires-clause-mult : goal.place_basis-requires-clause-mult
 place_basis-requires-clause-mult c =
     let i = c.self.inside in
-    let S : PlainSearch = record { model = i.model; tree = i.tree; points = i.points.items } in
+    let S : PlainSearch = record { model = i.model; cuts = i.pool; tree = i.tree; points = i.points.items } in
     let kept : LeafData = c.in-Some.leaf.now in
     let data_is : data_of c.args.id S.tree.root ≡ Some kept = sym c.in-Some.ensures.data in
     let lists : HasLists (formulation_of S) kept = lists-found S c.args.id kept c.self.invariant.sound data_is in
@@ -36,7 +36,7 @@ place_basis-requires-clause-mult c =
 pub place_basis-requires-clause-farkas : goal.place_basis-requires-clause-farkas
 place_basis-requires-clause-farkas c =
     let i = c.self.inside in
-    let S : PlainSearch = record { model = i.model; tree = i.tree; points = i.points.items } in
+    let S : PlainSearch = record { model = i.model; cuts = i.pool; tree = i.tree; points = i.points.items } in
     let kept : LeafData = c.in-Some.leaf.now in
     let data_is : data_of c.args.id S.tree.root ≡ Some kept = sym c.in-Some.ensures.data in
     let lists : HasLists (formulation_of S) kept = lists-found S c.args.id kept c.self.invariant.sound data_is in
@@ -45,7 +45,7 @@ place_basis-requires-clause-farkas c =
 pub returns-in-Ok-clause-taken : goal.returns-in-Ok-clause-taken
 returns-in-Ok-clause-taken c =
     let i = c.self.inside in
-    let S : PlainSearch = record { model = i.model; tree = i.tree; points = i.points.items } in
+    let S : PlainSearch = record { model = i.model; cuts = i.pool; tree = i.tree; points = i.points.items } in
     let o = c.requires.open.is_open in
     let kept : LeafData = c.in-Some.leaf.now in
     let data_is : data_of c.args.id c.args.self.now.tree.root ≡ Some kept = subst (λ (R : PlainSearch). data_of c.args.id R.tree.root ≡ Some kept) c.self.view_is (sym c.in-Some.ensures.data) in

@@ -12,13 +12,13 @@ use Rattle.tree_edit.proofs.SoundLemmas.{sound-with_leaf}
 use Rattle.tree_edit.proofs.QueueChanges.{queue-closed}
 use Rattle.tree_edit.proofs.SameNumbers.{kept-there, numbers-put}
 use Rattle.tree_edit.proofs.search.Search.put_closed.Goals as goal
-use Rattle.lp_model.specs.Formulations.{without_cuts}
+use Rattle.lp_model.specs.Formulations.{formulation}
 
 pub set-requires : goal.set-requires
 set-requires c =
     let i = c.self.inside in
     let has : HasLeaf i.tree c.args.id = subst (λ (T : PlainSearch). HasLeaf T.tree c.args.id) (sym c.self.view_is) c.requires.leaf.has in
-    kept-there (without_cuts i.model) i.numbers c.args.id [] i.tree.root c.self.invariant.numbers_are (omega (arith, has))
+    kept-there (formulation i.model i.pool) i.numbers c.args.id [] i.tree.root c.self.invariant.numbers_are (omega (arith, has))
 
 pub set_leaf-requires : goal.set_leaf-requires
 set_leaf-requires c = subst (λ (T : PlainSearch). HasLeaf T.tree c.args.id) (sym c.self.view_is) c.requires.leaf.has
@@ -29,14 +29,14 @@ invariant_of-self c =
     let id = c.args.id in
     let kept = c.args.kept in
     let path = c.args.region.now in
-    let S : PlainSearch = record { model = i.model; tree = i.tree; points = i.points.items } in
+    let S : PlainSearch = record { model = i.model; cuts = i.pool; tree = i.tree; points = i.points.items } in
     let at : IsAt id path S.tree.root = subst (λ (T : PlainSearch). IsAt id path T.tree.root) (sym c.self.view_is) c.requires.leaf.at in
     let number : IsNumber (formulation_of S) path kept.mult kept.farkas c.args.number.now = subst (λ (T : PlainSearch). IsNumber (formulation_of T) path kept.mult kept.farkas c.args.number.now) (sym c.self.view_is) c.requires.number in
     let lists : HasLists (formulation_of S) kept = subst (λ (T : PlainSearch). HasLists (formulation_of T) kept) (sym c.self.view_is) c.requires.lists in
     let judged : IsJudgedLeaf (formulation_of S) (target S.model S.points) path kept = subst (λ (T : PlainSearch). IsJudgedLeaf (formulation_of T) (target T.model T.points) path kept) (sym c.self.view_is) c.requires.judged in
     let r = c.rank_of-rank.result in
     let ranked : HasRank (formulation_of S) S.tree.root (record { rank = r; id = id }) = subst (λ (T : PlainSearch). HasRank (formulation_of T) T.tree.root (record { rank = r; id = id })) (sym c.self.view_is) c.rank_of-rank.ensures in
-    subst (λ (T : NumberedTree). IsIndexed (record { model = i.model; tree = T; points = i.points.items }) i.values.items c.set.new.self c.remove.new.self) (sym c.set_leaf.ensures)
+    subst (λ (T : NumberedTree). IsIndexed (record { model = i.model; cuts = i.pool; tree = T; points = i.points.items }) i.values.items c.set.new.self c.remove.new.self) (sym c.set_leaf.ensures)
     (record {
       sound = sound-with_leaf S id path kept c.self.invariant.sound at lists judged;
       values_are = c.self.invariant.values_are;

@@ -16,7 +16,7 @@ put_own-requires-clause-own c = subst (λ (d : LeafData). HasMultipliers c.args.
 pub put_own-requires-clause-state : goal.put_own-requires-clause-state
 put_own-requires-clause-state c =
     let i = c.self.inside in
-    let S : PlainSearch = record { model = i.model; tree = i.tree; points = i.points.items } in
+    let S : PlainSearch = record { model = i.model; cuts = i.pool; tree = i.tree; points = i.points.items } in
     let found : LeafData = c.in-Some.leaf.now in
     let data_is : data_of c.args.id S.tree.root ≡ Some found = sym c.in-Some.ensures.data in
     let state : HasState c.args.id found.state S.tree.root = own-state c.args.id S.tree.root found c.in-Some.ensures.found data_is in
@@ -25,7 +25,7 @@ put_own-requires-clause-state c =
 pub put_own-requires-clause-judged : goal.put_own-requires-clause-judged
 put_own-requires-clause-judged c =
     let i = c.self.inside in
-    let S : PlainSearch = record { model = i.model; tree = i.tree; points = i.points.items } in
+    let S : PlainSearch = record { model = i.model; cuts = i.pool; tree = i.tree; points = i.points.items } in
     let id = c.args.id in
     let path = c.args.region.now in
     let kept = c.args.kept in
@@ -40,7 +40,7 @@ put_own-requires-clause-judged c =
 pub returns : goal.returns
 returns c =
     let i = c.self.inside in
-    let S : PlainSearch = record { model = i.model; tree = i.tree; points = i.points.items } in
+    let S : PlainSearch = record { model = i.model; cuts = i.pool; tree = i.tree; points = i.points.items } in
     let id = c.args.id in
     let path = c.args.region.now in
     let kept = c.args.kept in

@@ -22,13 +22,13 @@ invariant_of-self c =
     let id = c.args.id in
     let kept = c.args.kept in
     let path = c.args.region.now in
-    let S : PlainSearch = record { model = i.model; tree = i.tree; points = i.points.items } in
+    let S : PlainSearch = record { model = i.model; cuts = i.pool; tree = i.tree; points = i.points.items } in
     let at : IsAt id path S.tree.root = subst (λ (T : PlainSearch). IsAt id path T.tree.root) (sym c.self.view_is) c.requires.leaf.at in
     let own : HasMultipliers id kept S.tree.root = subst (λ (T : PlainSearch). HasMultipliers id kept T.tree.root) (sym c.self.view_is) c.requires.own in
     let state : HasState id kept.state S.tree.root = subst (λ (T : PlainSearch). HasState id kept.state T.tree.root) (sym c.self.view_is) c.requires.state in
     let lists : HasLists (formulation_of S) kept = subst (λ (T : PlainSearch). HasLists (formulation_of T) kept) (sym c.self.view_is) c.requires.lists in
     let judged : IsJudgedLeaf (formulation_of S) (target S.model S.points) path kept = subst (λ (T : PlainSearch). IsJudgedLeaf (formulation_of T) (target T.model T.points) path kept) (sym c.self.view_is) c.requires.judged in
-    subst (λ (T : NumberedTree). IsIndexed (record { model = i.model; tree = T; points = i.points.items }) i.values.items i.numbers i.queue) (sym c.set_leaf.ensures)
+    subst (λ (T : NumberedTree). IsIndexed (record { model = i.model; cuts = i.pool; tree = T; points = i.points.items }) i.values.items i.numbers i.queue) (sym c.set_leaf.ensures)
     (record {
       sound = sound-with_leaf S id path kept c.self.invariant.sound at lists judged;
       values_are = c.self.invariant.values_are;

@@ -3,10 +3,10 @@ use Rattle.leaf_judging.specs.Queued.{HasRank}
 use Rattle.tree_edit.specs.Sound.{PlainSearch, formulation_of}
 use Rattle.tree_edit.proofs.SameNumbers.{kept-rank}
 use Rattle.tree_edit.proofs.search.Search.rank_of.Goals as goal
-use Rattle.lp_model.specs.Formulations.{without_cuts}
+use Rattle.lp_model.specs.Formulations.{formulation}
 
 pub returns : goal.returns
 returns c =
     let i = c.self.inside in
     subst (λ (S : PlainSearch). HasRank (formulation_of S) S.tree.root (record { rank = c.rank.result; id = c.args.id })) c.self.view_is
-    (kept-rank (without_cuts i.model) i.tree.root i.numbers c.args.id c.number_or_minus.result c.rank.result c.self.invariant.numbers_are c.number_or_minus.ensures c.rank.ensures)
+    (kept-rank (formulation i.model i.pool) i.tree.root i.numbers c.args.id c.number_or_minus.result c.rank.result c.self.invariant.numbers_are c.number_or_minus.ensures c.rank.ensures)

@@ -1,6 +1,6 @@
 use Rattle.std.proofs.Common.{◌≡◌, ◌∙◌, ℕ, ◌+◌, ◌≤ℤ◌, ◌<ℤ◌, pos, neg_ℤ, sym, ap, subst, arith}
 use Rattle.frac128.specs.Range.{largest}
-use Rattle.lp_model.specs.Formulations.{without_cuts}
+use Rattle.lp_model.specs.Formulations.{formulation}
 use Rattle.branch_tree.specs.Tree.{left_path, right_path}
 use Rattle.branch_tree.specs.Plain.{replaced}
 use Rattle.branch_tree.specs.Numbered.{NumberedTree, IsNumbered}
@@ -28,7 +28,7 @@ add_both-requires c =
     let left = c.args.left.kept in
     let n : IsNumbered T = c.nodes-numbered.ensures.numbered in
     let one : c.as_candidate-first.result ≡ candidate_of left.state c.rank-left_rank.result (T.last + 1) = c.as_candidate-first.ensures ∙ ap (λ (p : ℕ × ℕ). candidate_of left.state c.rank-left_rank.result p.0) c.in-Some.ensures.1 in
-    new-candidate (without_cuts i.model) T n i.queue c.self.invariant.queue_is (T.last + 1) (omega arith) left.state c.rank-left_rank.result c.as_candidate-first.result one
+    new-candidate (formulation i.model i.pool) T n i.queue c.self.invariant.queue_is (T.last + 1) (omega arith) left.state c.rank-left_rank.result c.as_candidate-first.result one
 
 pub split_tree-requires-clause-has : goal.split_tree-requires-clause-has
 split_tree-requires-clause-has c = subst (λ (R : PlainSearch). HasLeaf R.tree c.args.id) (sym c.self.view_is) c.requires.leaf.has
@@ -45,7 +45,7 @@ invariant_of-self-in-Err c =
     record {
       sound = kept.sound;
       values_are = kept.values_are;
-      numbers_are = numbers-fresh (without_cuts i.model) T.root i.numbers kept.numbers_are (T.last + 1) (T.last + 2) (omega (arith, n.given (T.last + 1) (omega arith))) (omega (arith, n.given (T.last + 2) (omega arith))) c.put_both.new.self others;
+      numbers_are = numbers-fresh (formulation i.model i.pool) T.root i.numbers kept.numbers_are (T.last + 1) (T.last + 2) (omega (arith, n.given (T.last + 1) (omega arith))) (omega (arith, n.given (T.last + 2) (omega arith))) c.put_both.new.self others;
       queue_is = kept.queue_is;
     }
 
@@ -61,14 +61,14 @@ invariant_of-self-in-Err-add_both c =
     record {
       sound = kept.sound;
       values_are = kept.values_are;
-      numbers_are = numbers-fresh (without_cuts i.model) T.root i.numbers kept.numbers_are (T.last + 1) (T.last + 2) (omega (arith, n.given (T.last + 1) (omega arith))) (omega (arith, n.given (T.last + 2) (omega arith))) c.put_both.new.self others;
-      queue_is = queue-same (without_cuts i.model) T.root i.queue c.add_both.new.self kept.queue_is c.in-Err-add_both.ensures.kept;
+      numbers_are = numbers-fresh (formulation i.model i.pool) T.root i.numbers kept.numbers_are (T.last + 1) (T.last + 2) (omega (arith, n.given (T.last + 1) (omega arith))) (omega (arith, n.given (T.last + 2) (omega arith))) c.put_both.new.self others;
+      queue_is = queue-same (formulation i.model i.pool) T.root i.queue c.add_both.new.self kept.queue_is c.in-Err-add_both.ensures.kept;
     }
 
 pub invariant_of-self-in-Err-split_tree : goal.invariant_of-self-in-Err-split_tree
 invariant_of-self-in-Err-split_tree c =
     let i = c.self.inside in
-    let S : PlainSearch = record { model = i.model; tree = i.tree; points = i.points.items } in
+    let S : PlainSearch = record { model = i.model; cuts = i.pool; tree = i.tree; points = i.points.items } in
     let T : NumberedTree = i.tree in
     let left = c.args.left.kept in
     let right = c.args.right.kept in
@@ -81,18 +81,18 @@ invariant_of-self-in-Err-split_tree c =
     let others : KeepsOtherTwo i.numbers (T.last + 1) (T.last + 2) c.put_both.new.self = subst (λ P. P) (λ k. KeepsOtherTwo i.numbers (first k) (second k) c.put_both.new.self) c.put_both.ensures.others in
     let queue : IsQueueOf (formulation_of S) T.root c.take_back.new.self =
     split-undone (formulation_of S) T n i.queue c.add_both.new.self c.take_back.new.self left right c.rank-left_rank.result c.rank-right_rank.result c.as_candidate-first.result c.as_candidate-second.result kept.queue_is one two c.in-Ok-add_both.ensures.added c.take_back.ensures in
-    subst (λ (U : NumberedTree). IsIndexed (record { model = i.model; tree = U; points = i.points.items }) i.values.items c.put_both.new.self c.take_back.new.self) (sym c.in-Err-split_tree.ensures.kept)
+    subst (λ (U : NumberedTree). IsIndexed (record { model = i.model; cuts = i.pool; tree = U; points = i.points.items }) i.values.items c.put_both.new.self c.take_back.new.self) (sym c.in-Err-split_tree.ensures.kept)
     (record {
       sound = kept.sound;
       values_are = kept.values_are;
-      numbers_are = numbers-fresh (without_cuts i.model) T.root i.numbers kept.numbers_are (T.last + 1) (T.last + 2) (omega (arith, n.given (T.last + 1) (omega arith))) (omega (arith, n.given (T.last + 2) (omega arith))) c.put_both.new.self others;
+      numbers_are = numbers-fresh (formulation i.model i.pool) T.root i.numbers kept.numbers_are (T.last + 1) (T.last + 2) (omega (arith, n.given (T.last + 1) (omega arith))) (omega (arith, n.given (T.last + 2) (omega arith))) c.put_both.new.self others;
       queue_is = queue;
     })
 
 pub invariant_of-self : goal.invariant_of-self
 invariant_of-self c =
     let i = c.self.inside in
-    let S : PlainSearch = record { model = i.model; tree = i.tree; points = i.points.items } in
+    let S : PlainSearch = record { model = i.model; cuts = i.pool; tree = i.tree; points = i.points.items } in
     let T : NumberedTree = i.tree in
     let left = c.args.left.kept in
     let right = c.args.right.kept in
@@ -125,7 +125,7 @@ invariant_of-self c =
     let queue : IsQueueOf (formulation_of S) (replaced c.args.id (split_node T.last c.args.id j v mult basis left right) T.root) c.remove.new.self =
     split-queue (formulation_of S) T n i.queue c.add_both.new.self c.remove.new.self left right c.rank-left_rank.result c.rank-right_rank.result c.as_candidate-first.result c.as_candidate-second.result c.self.invariant.queue_is one two c.in-Ok-add_both.ensures.added
     r c.args.id path j v mult basis has at ranked c.remove.ensures (c.args.left.number, (is_left.number, c.rank-left_rank.ensures)) (c.args.right.number, (is_right.number, c.rank-right_rank.ensures)) in
-    subst (λ (U : NumberedTree). IsIndexed (record { model = i.model; tree = U; points = i.points.items }) i.values.items c.remove-in-Ok-split_tree.new.self c.remove.new.self) (sym split)
+    subst (λ (U : NumberedTree). IsIndexed (record { model = i.model; cuts = i.pool; tree = U; points = i.points.items }) i.values.items c.remove-in-Ok-split_tree.new.self c.remove.new.self) (sym split)
     (kept-split S i.values.items i.numbers c.remove-in-Ok-split_tree.new.self i.queue c.remove.new.self c.args.id path j v mult basis left right c.self.invariant at fit low high is_left.kept is_right.kept numbers queue)
 
 pub returns-in-Ok-split_tree-clause-taken : goal.returns-in-Ok-split_tree-clause-taken
@@ -150,7 +150,7 @@ returns-in-Ok-split_tree-clause-taken c =
             c.requires.left.kept,
             (
               c.requires.right.kept,
-              ap (λ (U : NumberedTree). let R : PlainSearch = record { model = i.model; tree = U; points = i.points.items } in R) split
+              ap (λ (U : NumberedTree). let R : PlainSearch = record { model = i.model; cuts = i.pool; tree = U; points = i.points.items } in R) split
                   ∙ ap (λ (R : PlainSearch). search_with_split R c.args.id j v mult basis left right) c.self.view_is,
             ),
           ),

@@ -2,13 +2,15 @@ use Rattle.std.proofs.Common.{◌≡◌, ◌∙◌, ◌≤◌, length, map, sym,
 use Rattle.std.specs.Prelude.{Result, Ok, Err, OnOk}
 use Rattle.std.proofs.lemmas.List.{length-map}
 use Rattle.lp_model.specs.Edits.{edited, EditFits}
-use Rattle.lp_model.specs.Formulations.{without_cuts}
+use Rattle.lp_model.specs.Formulations.{formulation}
 use Rattle.leaf_judging.specs.Judged.{JudgesAll}
 use Rattle.tree_edit.specs.Points.{target}
 use Rattle.tree_edit.specs.Sound.{PlainSearch, IsSoundTree}
+use Rattle.branch_tree.specs.Following.{after_edit}
+use Rattle.kept_cuts.specs.Kept.{derivations_of, gone_with, IsPoolAfter}
 use Rattle.tree_edit.specs.Edited.{point_after, AreKeepable, HasParts, Follows}
 use Rattle.tree_edit.proofs.EditedPoints.{keepable-all, keepable-few}
-use Rattle.tree_edit.proofs.FollowSound.{follow-sound}
+use Rattle.tree_edit.proofs.GoneCuts.{follow-sound}
 use Rattle.tree_edit.proofs.search.Search.take_edited.Goals as goal
 
 pub take_parts-requires-clause-tree : goal.take_parts-requires-clause-tree
@@ -17,8 +19,14 @@ take_parts-requires-clause-tree c =
     let e = c.args.edit.now in
     let fits : EditFits i.model e = subst (λ (R : PlainSearch). EditFits R.model e) (sym c.self.view_is) c.requires.fits in
     let new : c.args.model ≡ edited i.model e = c.requires.edited ∙ ap (λ (R : PlainSearch). edited R.model e) (sym c.self.view_is) in
-    let follows = follow-sound i.model e i.tree fits c.self.invariant.sound.tree in
-    subst (λ P. P) (λ j. IsSoundTree (without_cuts (sym new j)) (sym c.in-Ok.ensures j).root) follows
+    let after = c.in-Ok.ensures.pool in
+    let tree : c.in-Ok.tree ≡ after_edit i.tree i.model (gone_with i.model e i.pool) e = c.in-Ok.ensures.tree ∙ ap (λ (R : PlainSearch). after_edit R.tree R.model (gone_with R.model e R.cuts) e) (sym c.self.view_is) in
+    let pool : IsPoolAfter i.model e i.pool c.args.model c.in-Ok.pool = subst (λ (R : PlainSearch). IsPoolAfter R.model e R.cuts c.args.model c.in-Ok.pool) (sym c.self.view_is) after in
+    let follows = follow-sound i.model e i.pool c.in-Ok.pool i.tree fits pool.derivations c.self.invariant.sound.tree in
+    subst (λ P. P) (λ j. IsSoundTree (formulation (sym new j) c.in-Ok.pool) (sym tree j).root) follows
+
+pub take_parts-requires-clause-pool : goal.take_parts-requires-clause-pool
+take_parts-requires-clause-pool c = c.in-Ok.ensures.pool.pool
 
 pub take_parts-requires-clause-points : goal.take_parts-requires-clause-points
 take_parts-requires-clause-points c =
@@ -41,14 +49,17 @@ pub returns-in-Ok-kept_points-clause-follows : goal.returns-in-Ok-kept_points-cl
 returns-in-Ok-kept_points-clause-follows c =
     let i = c.self.inside in
     let e = c.args.edit.now in
-    let S : PlainSearch = record { model = i.model; tree = i.tree; points = i.points.items } in
+    let S : PlainSearch = record { model = i.model; cuts = i.pool; tree = i.tree; points = i.points.items } in
     let new : PlainSearch = c.take_parts.new.self in
     let kept = c.in-Ok-kept_points in
     let model : c.args.model ≡ edited i.model e = c.requires.edited ∙ ap (λ (R : PlainSearch). edited R.model e) (sym c.self.view_is) in
-    let follows : HasParts c.args.model c.in-Ok.tree kept.kept.points.items new → Follows c.args.self.now e new = λ parts.
+    let after : IsPoolAfter i.model e i.pool c.args.model c.in-Ok.pool = subst (λ (R : PlainSearch). IsPoolAfter R.model e R.cuts c.args.model c.in-Ok.pool) (sym c.self.view_is) c.in-Ok.ensures.pool in
+    let tree : c.in-Ok.tree ≡ after_edit i.tree i.model (gone_with i.model e i.pool) e = c.in-Ok.ensures.tree ∙ ap (λ (R : PlainSearch). after_edit R.tree R.model (gone_with R.model e R.cuts) e) (sym c.self.view_is) in
+    let follows : HasParts c.args.model c.in-Ok.pool c.in-Ok.tree kept.kept.points.items new → Follows c.args.self.now e new = λ parts.
     subst (λ (R : PlainSearch). Follows R e new) c.self.view_is (record {
       model = parts.model ∙ model;
+      cuts = ap derivations_of parts.cuts_are ∙ after.derivations;
       points = subst (λ P. P) (λ j. AreKeepable (sym parts.model j) (map (point_after i.model e) (c.deref.ensures.value j)) (sym parts.points_are j)) kept.ensures.keepable;
-      tree = subst (λ P. P) (λ j. JudgesAll (without_cuts (sym parts.model j)) (target (sym parts.model j) (sym parts.points_are j)) (c.in-Ok.ensures j) new.tree) parts.tree;
+      tree = subst (λ P. P) (λ j. JudgesAll (formulation (sym parts.model j) (sym parts.cuts_are j)) (target (sym parts.model j) (sym parts.points_are j)) (tree j) new.tree) parts.tree;
     }) in
     on_ok c.take_parts.result follows c.take_parts.ensures.parts

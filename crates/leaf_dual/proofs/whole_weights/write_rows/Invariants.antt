@@ -1,0 +1,7 @@
+use Rattle.std.proofs.Common.{drop, ◌-◌}
+use Rattle.leaf_dual.specs.Dual.{multiplier}
+use Rattle.leaf_dual.specs.Wholes.{AreNumbersOver}
+use Rattle.leaf_dual.proofs.whole_weights.write_rows.Given as goal
+
+abbrev pub invariant-loop-behind : goal.invariant-loop-behind
+invariant-loop-behind l = AreNumbersOver l.denominator (multiplier (drop (l.count - l.behind) l.mult)) l.numbers

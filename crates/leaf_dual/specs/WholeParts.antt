@@ -1,0 +1,9 @@
+-- A leaf in whole numbers: those of its rows' multipliers and its cuts' weights over one denominator.
+use Rattle.leaf_dual.specs.declared.whole_leaf.WholeLeaf.{WholeLeaf}
+use Rattle.leaf_dual.specs.Parts.{weights, cut_weights}
+use Rattle.leaf_dual.specs.Wholes.{IsDenominator, AreNumbersOver}
+
+pub record IsWholeLeaf (whole : WholeLeaf) : Type 0 where
+  pub denominator : IsDenominator whole.denominator
+  pub rows : AreNumbersOver whole.denominator (weights whole.leaf) whole.rows.now
+  pub cuts : AreNumbersOver whole.denominator (cut_weights whole.leaf) whole.cuts.now

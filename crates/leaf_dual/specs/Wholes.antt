@@ -1,0 +1,47 @@
+-- Whole numbers over one denominator: sums of products of them that have room, step by step.
+use Rattle.std.specs.Prelude.{◌≡◌, ◌^◌, ◌<◌, ◌≤◌, ℕ, Bool, true, false, if◌then◌else◌, ◌<ℤ◌, ◌*ℤ◌, ℤ, pos, unsigned_abs, List, length, get_or}
+use Rattle.rational.specs.Rational.{ℚ, ◌*ℚ◌}
+use Rattle.frac128.specs.LowestTerms.{quotient_of}
+use Rattle.lp_model.specs.Cuts.{is_live}
+use Rattle.lp_model.specs.declared.types.CutRow.{CutRow}
+use Rattle.lp_model.specs.declared.types.Var.{Var}
+use Rattle.leaf_dual.specs.Dual.{is_row_variable, is_cut}
+
+-- a number whose product with another such number has room
+abbrev pub IsFactor : ℤ → Type 0
+IsFactor n = unsigned_abs n < 2 ^ 62
+
+-- a total to which a product of two such numbers can be added
+abbrev pub HasRoomForProduct : ℤ → Type 0
+HasRoomForProduct total = unsigned_abs total ≤ 2 ^ 126
+
+pub record IsDenominator (d : ℤ) : Type 0 where
+  pub positive : pos 0 <ℤ d
+  pub factor : IsFactor d
+
+-- the product of a and x is that of f and n, over the denominator
+pub record IsTermOver (d : ℤ) (a x : ℚ) (f n : ℤ) : Type 0 where
+  pub factor : IsFactor f
+  pub number : IsFactor n
+  pub product : a *ℚ x ≡ quotient_of (f *ℤ n) d
+
+abbrev pub number_at : List ℤ → ℕ → ℤ
+number_at numbers k = get_or numbers k (pos 0)
+
+-- the numbers are the first values of f, over the denominator
+abbrev pub AreNumbersOver : ℤ → (ℕ → ℚ) → List ℤ → Type 0
+AreNumbersOver d f numbers = (k : ℕ) → k < length numbers → IsFactor (number_at numbers k) × (quotient_of (number_at numbers k) d ≡ f k)
+
+-- ---- the numbers of multipliers, each written at its place
+
+-- the number at a place is the multiplier's where it is written, and else stays
+abbrev pub IsWrittenWhere : Bool → ℤ → ℚ → ℤ → ℤ → Type 0
+IsWrittenWhere true d number old new = IsFactor new × (quotient_of new d ≡ number)
+IsWrittenWhere false d number old new = new ≡ old
+
+abbrev pub IsRowWritten : ℤ → Var → ℚ → List ℤ → List ℤ → ℕ → Type 0
+IsRowWritten d name number old new k = IsWrittenWhere (is_row_variable name k) d number (number_at old k) (number_at new k)
+
+-- a cut that does not count has none
+abbrev pub IsCutWritten : ℤ → List CutRow → Var → ℚ → List ℤ → List ℤ → ℕ → Type 0
+IsCutWritten d cuts name number old new k = IsWrittenWhere (if is_live cuts k then is_cut name k else false) d number (number_at old k) (number_at new k)

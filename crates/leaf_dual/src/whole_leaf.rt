@@ -1,0 +1,336 @@
+// A leaf's number in whole numbers over one denominator, with one greatest common divisor at its end.
+ghost use Rattle.std.specs.Prelude.{◌≡◌, ◌≢◌, ◌<◌, ◌<ℤ◌, ℕ, ℤ, pos, length, None, Ok, IfSome};
+ghost use Rattle.rational.specs.Rational.{neg_ℚ};
+ghost use Rattle.frac128.specs.LowestTerms.{quotient_of};
+ghost use Rattle.lp_model.specs.Regions.{AreNarrow, region_low, region_high};
+ghost use Rattle.lp_model.specs.Sides.{needed_side, side_number};
+ghost use Rattle.lp_model.specs.Formulations.{cut_coefficient};
+ghost use Rattle.leaf_dual.specs.declared.dual.LagValue.TheVariants.{Num};
+ghost use Rattle.leaf_dual.specs.Dual.{HavePlaces, row_side, cut_side, column_side};
+ghost use Rattle.leaf_dual.specs.Answers.{row_number, cut_number, LacksRowSide, LacksCutSide, IsDualAnswer};
+ghost use Rattle.leaf_dual.specs.Parts.{leaf_formulation, leaf_constant, costs, weights, cut_weights, entry_row, entry_number, IsRowsTotal, IsCutsTotal, IsCostAnswer, IsColumnAnswer, IsColumnsTotal};
+ghost use Rattle.leaf_dual.specs.Wholes.{IsFactor, HasRoomForProduct, IsTermOver, number_at};
+ghost use Rattle.leaf_dual.specs.WholeParts.{IsWholeLeaf};
+
+use crate::leaf::Leaf;
+use crate::terms::cut_coefficient;
+use crate::whole_numbers::{factor, factor_over, whole_factor};
+use crate::whole_total::{WholeTerm, WholeTerms, fraction_over, whole_total, with_product};
+use frac128::Frac;
+use lp_model::{Bound, RowId};
+
+/// A leaf, with the numbers of its rows' multipliers and of its cuts' weights over a denominator.
+#[derive(Clone, Copy, Drop)]
+pub struct WholeLeaf<'a> {
+    pub leaf: Leaf<'a>,
+    pub denominator: i64,
+    pub rows: &'a [i64],
+    pub cuts: &'a [i64],
+}
+
+/// The number at a place, if there is one.
+#[inline]
+fn weight_at(numbers: &[i64], place: usize) -> Option<i64>
+    ensures within { IfSome result (λ n. place < length numbers.now) }
+    ensures value { IfSome result (λ n. n ≡ number_at numbers.now place) }
+{
+    if place < numbers.len() {
+        Some(numbers[place])
+    } else {
+        None
+    }
+}
+
+/// The side that a number over any denominator takes of two.
+#[inline]
+fn whole_side(weight: i64, lo: &Bound, hi: &Bound) -> Bound
+    ensures { (d : ℤ) → pos 0 <ℤ d → result ≡ needed_side (quotient_of weight d) lo.now hi.now }
+{
+    if weight > 0 {
+        return *lo;
+    }
+    if weight < 0 {
+        return *hi;
+    }
+    Some(Frac::whole(0))
+}
+
+/// The product of a number over any denominator and a side, where that is there, whole and a factor.
+#[inline]
+fn side_term(weight: i64, side: &Bound) -> Option<WholeTerm>
+    requires { IsFactor weight }
+    ensures value { IfSome result (λ t. (d : ℤ) → pos 0 <ℤ d → IsTermOver d (quotient_of weight d) (side_number side.now) t.factor t.number) }
+    ensures there { IfSome result (λ t. side.now ≢ None) }
+{
+    match side {
+        None => None,
+        Some(bound) => {
+            let number = whole_factor(bound)?;
+            Some(WholeTerm {
+                factor: weight,
+                number,
+            })
+        }
+    }
+}
+
+/// What a weight over any denominator takes away of a cost by a coefficient, where that is whole and a factor.
+#[inline]
+fn taken_term(weight: i64, coefficient: &Frac) -> Option<WholeTerm>
+    requires { IsFactor weight }
+    ensures { IfSome result (λ t. (d : ℤ) → pos 0 <ℤ d → IsTermOver d (neg_ℚ (quotient_of weight d)) coefficient.now t.factor t.number) }
+{
+    if weight == 0 {
+        return Some(WholeTerm {
+            factor: 0,
+            number: 0,
+        });
+    }
+    let number = whole_factor(coefficient)?;
+    Some(WholeTerm {
+        factor: -weight,
+        number,
+    })
+}
+
+/// The terms of the rows.
+#[derive(Drop)]
+struct RowNumbers<'a> {
+    whole: WholeLeaf<'a>,
+}
+
+impl WholeTerms for RowNumbers<'_> {
+    ghost count = { λ t. length t.whole.leaf.model.now.rows };
+
+    ghost factor = { λ t i. weights t.whole.leaf i };
+
+    ghost number = { λ t i. row_number t.whole.leaf.model.now (weights t.whole.leaf) i };
+
+    ghost denominator = { λ t. t.whole.denominator };
+
+    ghost is_lawful = { λ t. IsWholeLeaf t.whole };
+
+    ghost holds = { λ t i. row_side t.whole.leaf.model.now (weights t.whole.leaf) i ≢ None };
+
+    fn count(&self) -> usize {
+        self.whole.leaf.model.rows().len()
+    }
+
+    fn term(&self, index: usize) -> Option<WholeTerm> {
+        let weight = weight_at(self.whole.rows, index)?;
+        let sides = &self.whole.leaf.model.rows()[index];
+        let side = whole_side(weight, &sides.lo, &sides.hi);
+        side_term(weight, &side)
+    }
+}
+
+/// The terms of the cuts.
+#[derive(Drop)]
+struct CutNumbers<'a> {
+    whole: WholeLeaf<'a>,
+}
+
+impl WholeTerms for CutNumbers<'_> {
+    ghost count = { λ t. length t.whole.leaf.cuts.now };
+
+    ghost factor = { λ t k. cut_weights t.whole.leaf k };
+
+    ghost number = { λ t k. cut_number t.whole.leaf.cuts.now (cut_weights t.whole.leaf) k };
+
+    ghost denominator = { λ t. t.whole.denominator };
+
+    ghost is_lawful = { λ t. IsWholeLeaf t.whole };
+
+    ghost holds = { λ t k. cut_side t.whole.leaf.cuts.now (cut_weights t.whole.leaf) k ≢ None };
+
+    fn count(&self) -> usize {
+        self.whole.leaf.cuts.len()
+    }
+
+    fn term(&self, index: usize) -> Option<WholeTerm> {
+        let weight = weight_at(self.whole.cuts, index)?;
+        let high = Some(self.whole.leaf.cuts[index].hi);
+        let side = whole_side(weight, &None, &high);
+        side_term(weight, &side)
+    }
+}
+
+/// The terms of what the rows leave of a column's cost, over its entries.
+#[derive(Drop)]
+struct EntryNumbers<'a> {
+    whole: WholeLeaf<'a>,
+    entries: &'a [(RowId, Frac)],
+}
+
+impl WholeTerms for EntryNumbers<'_> {
+    ghost count = { λ t. length t.entries.now };
+
+    ghost factor = { λ t k. neg_ℚ (weights t.whole.leaf (entry_row t.entries.now k)) };
+
+    ghost number = { λ t k. entry_number t.entries.now k };
+
+    ghost denominator = { λ t. t.whole.denominator };
+
+    ghost is_lawful = { λ t. IsWholeLeaf t.whole };
+
+    ghost holds = { λ t k. Unit {0} };
+
+    fn count(&self) -> usize {
+        self.entries.len()
+    }
+
+    fn term(&self, index: usize) -> Option<WholeTerm> {
+        let entry = &self.entries[index];
+        let weight = weight_at(self.whole.rows, entry.0.0 as usize)?;
+        taken_term(weight, &entry.1)
+    }
+}
+
+/// The terms of what the cuts take of a column's cost.
+#[derive(Drop)]
+struct CutEntryNumbers<'a> {
+    whole: WholeLeaf<'a>,
+    col: usize,
+}
+
+impl WholeTerms for CutEntryNumbers<'_> {
+    ghost count = { λ t. length t.whole.leaf.cuts.now };
+
+    ghost factor = { λ t k. neg_ℚ (cut_weights t.whole.leaf k) };
+
+    ghost number = { λ t k. cut_coefficient t.whole.leaf.cuts.now k t.col };
+
+    ghost denominator = { λ t. t.whole.denominator };
+
+    ghost is_lawful = { λ t. IsWholeLeaf t.whole };
+
+    ghost holds = { λ t k. Unit {0} };
+
+    fn count(&self) -> usize {
+        self.whole.leaf.cuts.len()
+    }
+
+    fn term(&self, index: usize) -> Option<WholeTerm> {
+        let weight = weight_at(self.whole.cuts, index)?;
+        // a cut without a weight is not looked through
+        if weight == 0 {
+            return Some(WholeTerm {
+                factor: 0,
+                number: 0,
+            });
+        }
+        taken_term(
+            weight,
+            &cut_coefficient(self.whole.leaf.cuts, index, self.col),
+        )
+    }
+}
+
+impl WholeLeaf<'_> {
+    /// The constant and the terms of the rows, over the denominator, where they can be had in whole numbers and each side is
+    /// there. None says nothing.
+    fn rows_total(&self) -> Option<i128>
+        requires { IsWholeLeaf self.now }
+        ensures room { IfSome result (λ total. HasRoomForProduct total) }
+        ensures total { IfSome result (λ total. IsRowsTotal self.now.leaf.model.now (weights self.now.leaf) (leaf_constant self.now.leaf) (Ok (quotient_of total self.now.denominator))) }
+        ensures sides { IfSome result (λ total. ¬ LacksRowSide self.now.leaf.model.now (weights self.now.leaf)) }
+    {
+        let start = factor_over(&self.leaf.constant(), self.denominator)?;
+        whole_total(i128::from(start), &RowNumbers { whole: *self })
+    }
+
+    /// The total with the terms of the cuts, as `rows_total`.
+    fn cuts_total(&self, start: i128) -> Option<i128>
+        requires whole { IsWholeLeaf self.now }
+        requires start { HasRoomForProduct start }
+        ensures room { IfSome result (λ total. HasRoomForProduct total) }
+        ensures total { IfSome result (λ total. IsCutsTotal self.now.leaf.cuts.now (cut_weights self.now.leaf) (quotient_of start self.now.denominator) (Ok (quotient_of total self.now.denominator))) }
+        ensures sides { IfSome result (λ total. ¬ LacksCutSide self.now.leaf.cuts.now (cut_weights self.now.leaf)) }
+    {
+        whole_total(start, &CutNumbers { whole: *self })
+    }
+
+    /// What is left of a column's cost, over the denominator, where it can be had in whole numbers. None says nothing.
+    fn cost_left(&self, col: usize) -> Option<i64>
+        requires whole { IsWholeLeaf self.now }
+        requires within { col < length self.now.leaf.model.now.cols }
+        ensures factor { IfSome result (λ n. IsFactor n) }
+        ensures left { IfSome result (λ n. IsCostAnswer self.now.leaf.model.now self.now.leaf.cuts.now (weights self.now.leaf) (cut_weights self.now.leaf) (costs self.now.leaf) col (Ok (quotient_of n self.now.denominator))) }
+    {
+        let entries = self.leaf.model.cols()[col].rows.as_slice();
+        let start = factor_over(&self.leaf.cost(col), self.denominator)?;
+        let by_rows = whole_total(
+            i128::from(start),
+            &EntryNumbers {
+                whole: *self,
+                entries,
+            },
+        )?;
+        let by_cuts = whole_total(by_rows, &CutEntryNumbers { whole: *self, col })?;
+        factor(by_cuts)
+    }
+
+    /// The bound of a column that what is left of its cost takes. One bound alone is asked of the region, and none where nothing
+    /// is left.
+    fn column_side(&self, reduced: i64, col: usize) -> Bound
+        requires within { col < length self.now.leaf.model.now.cols }
+        requires narrow { AreNarrow self.now.leaf.region.now }
+        ensures { (d : ℤ) → pos 0 <ℤ d → result ≡ needed_side (quotient_of reduced d) (region_low self.now.leaf.model.now self.now.leaf.region.now col) (region_high self.now.leaf.model.now self.now.leaf.region.now col) }
+    {
+        if reduced > 0 {
+            return self.leaf.model.region_low(self.leaf.region, col);
+        }
+        if reduced < 0 {
+            return self.leaf.model.region_high(self.leaf.region, col);
+        }
+        Some(Frac::whole(0))
+    }
+
+    /// The total with a column's term, over the denominator, where that can be had in whole numbers and the column's bound is
+    /// there. None says nothing.
+    fn with_column(&self, total: i128, col: usize) -> Option<i128>
+        requires whole { IsWholeLeaf self.now }
+        requires total { HasRoomForProduct total }
+        requires within { col < length self.now.leaf.model.now.cols }
+        requires narrow { AreNarrow self.now.leaf.region.now }
+        ensures room { IfSome result (λ next. HasRoomForProduct next) }
+        ensures column { IfSome result (λ next. IsColumnAnswer self.now.leaf.model.now self.now.leaf.cuts.now self.now.leaf.region.now (weights self.now.leaf) (cut_weights self.now.leaf) (costs self.now.leaf) (quotient_of total self.now.denominator) col (Ok (quotient_of next self.now.denominator))) }
+        ensures side { IfSome result (λ next. column_side (leaf_formulation self.now.leaf) self.now.leaf.region.now (weights self.now.leaf) (cut_weights self.now.leaf) (costs self.now.leaf) col ≢ None) }
+    {
+        let reduced = self.cost_left(col)?;
+        let side = self.column_side(reduced, col);
+        let term = side_term(reduced, &side)?;
+        with_product(total, term.factor, term.number)
+    }
+
+    /// The total with the terms of all columns, as `with_column`.
+    fn columns_total(&self, start: i128) -> Option<i128>
+        requires whole { IsWholeLeaf self.now }
+        requires start { HasRoomForProduct start }
+        requires narrow { AreNarrow self.now.leaf.region.now }
+        ensures room { IfSome result (λ total. HasRoomForProduct total) }
+        ensures total { IfSome result (λ total. IsColumnsTotal self.now.leaf.model.now self.now.leaf.cuts.now self.now.leaf.region.now (weights self.now.leaf) (cut_weights self.now.leaf) (costs self.now.leaf) (quotient_of start self.now.denominator) (Ok (quotient_of total self.now.denominator))) }
+        ensures sides { IfSome result (λ total. (j : ℕ) → j < length self.now.leaf.model.now.cols → column_side (leaf_formulation self.now.leaf) self.now.leaf.region.now (weights self.now.leaf) (cut_weights self.now.leaf) (costs self.now.leaf) j ≢ None) }
+    {
+        let mut total = start;
+        for col in 0..self.leaf.model.cols().len() {
+            match self.with_column(total, col) {
+                None => return None,
+                Some(next) => total = next,
+            }
+        }
+        Some(total)
+    }
+
+    /// The leaf's number, where it can be had in whole numbers. Then each step has room. None says nothing.
+    pub fn number(&self) -> Option<Frac>
+        requires whole { IsWholeLeaf self.now }
+        requires narrow { AreNarrow self.now.leaf.region.now }
+        ensures { IfSome result (λ v. IsDualAnswer (leaf_formulation self.now.leaf) self.now.leaf.region.now (weights self.now.leaf) (cut_weights self.now.leaf) (leaf_constant self.now.leaf) (costs self.now.leaf) (Ok (Num v))) }
+    {
+        let rows = self.rows_total()?;
+        let cuts = self.cuts_total(rows)?;
+        let total = self.columns_total(cuts)?;
+        Some(fraction_over(total, self.denominator))
+    }
+}

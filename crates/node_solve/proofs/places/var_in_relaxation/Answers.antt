@@ -1,0 +1,9 @@
+use Rattle.std.proofs.Common.{◌≤◌, sym, subst, arith, length}
+use Rattle.node_solve.proofs.PoolLemmas.{index-within}
+use Rattle.node_solve.proofs.places.var_in_relaxation.Goals as goal
+
+pub overflow_cast-result : goal.overflow_cast-result
+overflow_cast-result c =
+    let within : c.index_among.result ≤ length c.args.places.now = subst (λ n. n ≤ length c.args.places.now) (sym c.index_among.ensures) (index-within _ c.args.places.now) in
+    let few = c.requires in
+    omega (arith, within, few)

@@ -1,0 +1,18 @@
+use Rattle.std.specs.Prelude.{List, take}
+use Rattle.std.proofs.Common.{sym, subst}
+use Rattle.lp_model.specs.declared.types.Derivation.{Derivation}
+use Rattle.kept_cuts.proofs.KeptLemmas.{take-next}
+use Rattle.node_solve.specs.Rounds.{AddsAll}
+use Rattle.node_solve.specs.RoundCode.{task_work, round_of}
+use Rattle.node_solve.proofs.RoundLemmas.{adds-more}
+use Rattle.node_solve.proofs.rounds.Task.add_all.Goals as goal
+
+pub loop-cover-preserved : goal.loop-cover-preserved
+loop-cover-preserved c =
+    let W = task_work c.args.self.now in
+    let i = c.loop-cover.cover-index in
+    let cover = c.cover-item.result in (
+      subst (λ (l : List Derivation). AddsAll W (round_of c.args.round.now) l (round_of c.add_one.new.round)) (sym (take-next c.args.covers.now i cover c.loop-cover-test.true c.cover-item.is))
+          (adds-more W (take i c.args.covers.now) cover (round_of c.args.round.now) (round_of c.loop-cover.round) (round_of c.add_one.new.round) c.loop-cover.invariant.0 c.in_ok-add_one.ensures.adds),
+      c.in_ok-add_one.ensures.kept,
+    )

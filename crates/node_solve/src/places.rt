@@ -1,0 +1,245 @@
+// The cuts of a relaxation beside those of a pool, and the lists that name them.
+ghost use Rattle.std.specs.Prelude.{◌≡◌, ◌≤◌, ◌+◌, ◌-◌, ◌++◌, ◌∷◌, [], length, map, get_or, IfOk};
+ghost use Rattle.kept_cuts.specs.Places.{index_among};
+ghost use Rattle.node_solve.specs.Places.{live_cuts, live_places, ArePoolPlaces, var_in_relaxation, var_in_pool, basis_in_relaxation, basis_in_pool, mult_in_pool, result_in_pool, with_cut_variables};
+
+use branch_tree::NodeResult;
+use cover_cuts::CutPool;
+use frac128::Frac;
+use lp_model::{Basis, CutId, CutRow, Derivation, List, Mult, Var};
+use std::alloc::{AllocError, Global};
+
+/// How many cuts a relaxation may have.
+pub(crate) const CUT_LIMIT: usize = 200;
+
+/// An equal cut.
+fn copy_cut(cut: &CutRow) -> Result<CutRow, AllocError>
+    ensures { IfOk result (λ c. c ≡ cut.now) }
+{
+    cut.clone()
+}
+
+/// An equal derivation.
+pub(crate) fn copy_derivation(from: &Derivation) -> Result<Derivation, AllocError>
+    ensures { IfOk result (λ d. d ≡ from.now) }
+{
+    from.clone()
+}
+
+/// Notes a cut and its place, where it counts and there is room.
+fn note(
+    cuts: &mut Vec<CutRow>,
+    places: &mut Vec<usize>,
+    cut: &CutRow,
+    place: usize,
+) -> Result<(), AllocError>
+    ensures cuts { IfOk result (λ _. cuts.new.items ≡ cuts.old.items ++ live_cuts (200 - length cuts.old.items) (cut.now ∷ [])) }
+    ensures places { IfOk result (λ _. places.new.items ≡ places.old.items ++ live_places (200 - length cuts.old.items) place (cut.now ∷ [])) }
+{
+    let count = cuts.len();
+    if count >= CUT_LIMIT {
+        return Ok(());
+    }
+    if !cut.live {
+        return Ok(());
+    }
+    let noted = copy_cut(cut)?;
+    cuts.push(noted)?;
+    places.push(place)?;
+    Ok(())
+}
+
+/// The first cuts of a pool that count, and their places. A relaxation has these.
+#[derive(Drop)]
+pub struct LiveCuts {
+    pub cuts: Vec<CutRow>,
+    pub places: Vec<usize>,
+}
+
+impl LiveCuts {
+    /// The first 200 cuts that count, fewer where there are no more.
+    pub fn new(alloc: Global, pool: &CutPool) -> Result<LiveCuts, AllocError>
+        ensures cuts { IfOk result (λ live. live.cuts.items ≡ live_cuts 200 pool.now) }
+        ensures places { IfOk result (λ live. live.places.items ≡ live_places 200 0 pool.now) }
+        ensures few { length pool.now ≤ 10000 }
+    {
+        let rows = pool.rows();
+        let mut cuts = Vec::new(alloc);
+        let mut places = Vec::new(alloc);
+        for place in 0..rows.len() {
+            note(&mut cuts, &mut places, &rows[place], place)?;
+        }
+        Ok(LiveCuts { cuts, places })
+    }
+}
+
+/// Where a place stands among others, past the last where it does not.
+fn index_among(place: usize, places: &[usize]) -> usize
+    ensures { result ≡ index_among place places.now }
+{
+    for index in 0..places.len() {
+        if places[index] == place {
+            return index;
+        }
+    }
+    places.len()
+}
+
+/// A variable of a pool, in the relaxation whose cuts have these places.
+fn var_in_relaxation(places: &[usize], var: &Var) -> Var
+    requires { length places.now ≤ 200 }
+    ensures { result ≡ var_in_relaxation places.now var.now }
+{
+    match var {
+        Var::Col(col) => Var::Col(*col),
+        Var::Row(row) => Var::Row(*row),
+        Var::Cut(cut) => Var::Cut(CutId(index_among(cut.0 as usize, places) as u32)),
+    }
+}
+
+/// The place of a cut of the relaxation, 0 past the end.
+fn place_at(places: &[usize], cut: u32) -> usize
+    ensures { result ≡ get_or places.now cut 0 }
+{
+    match places.get(cut as usize) {
+        Some(place) => *place,
+        None => 0,
+    }
+}
+
+/// A variable of the relaxation whose cuts have these places, in the pool.
+fn var_in_pool(places: &[usize], var: &Var) -> Var
+    requires { ArePoolPlaces places.now }
+    ensures { result ≡ var_in_pool places.now var.now }
+{
+    match var {
+        Var::Col(col) => Var::Col(*col),
+        Var::Row(row) => Var::Row(*row),
+        Var::Cut(cut) => Var::Cut(CutId(place_at(places, cut.0) as u32)),
+    }
+}
+
+/// The variables of a pool, in the relaxation.
+fn vars_in_relaxation(
+    alloc: Global,
+    places: &[usize],
+    vars: &[Var],
+) -> Result<List<Var>, AllocError>
+    requires { length places.now ≤ 200 }
+    ensures { IfOk result (λ vs. vs ≡ map (var_in_relaxation places.now) vars.now) }
+{
+    let mut named = List::new(alloc);
+    for var in vars {
+        named.push(var_in_relaxation(places, var))?;
+    }
+    Ok(named)
+}
+
+/// The variables of the relaxation, in the pool.
+fn vars_in_pool(alloc: Global, places: &[usize], vars: &[Var]) -> Result<List<Var>, AllocError>
+    requires { ArePoolPlaces places.now }
+    ensures { IfOk result (λ vs. vs ≡ map (var_in_pool places.now) vars.now) }
+{
+    let mut named = List::new(alloc);
+    for var in vars {
+        named.push(var_in_pool(places, var))?;
+    }
+    Ok(named)
+}
+
+/// A basis that a leaf keeps, in the relaxation.
+pub fn basis_in_relaxation(
+    alloc: Global,
+    places: &[usize],
+    basis: &Basis,
+) -> Result<Basis, AllocError>
+    requires { length places.now ≤ 200 }
+    ensures { IfOk result (λ b. b ≡ basis_in_relaxation places.now basis.now) }
+{
+    Ok(Basis {
+        basic: vars_in_relaxation(alloc, places, basis.basic.as_slice())?,
+        high: vars_in_relaxation(alloc, places, basis.high.as_slice())?,
+    })
+}
+
+/// A basis of the relaxation as a leaf keeps it.
+pub fn basis_in_pool(alloc: Global, places: &[usize], basis: &Basis) -> Result<Basis, AllocError>
+    requires { ArePoolPlaces places.now }
+    ensures { IfOk result (λ b. b ≡ basis_in_pool places.now basis.now) }
+{
+    Ok(Basis {
+        basic: vars_in_pool(alloc, places, basis.basic.as_slice())?,
+        high: vars_in_pool(alloc, places, basis.high.as_slice())?,
+    })
+}
+
+/// Multipliers of the relaxation as a leaf keeps them.
+fn mult_in_pool(alloc: Global, places: &[usize], mult: &[(Var, Frac)]) -> Result<Mult, AllocError>
+    requires { ArePoolPlaces places.now }
+    ensures { IfOk result (λ m. m ≡ mult_in_pool places.now mult.now) }
+{
+    let mut named = List::new(alloc);
+    for (var, number) in mult {
+        named.push((var_in_pool(places, var), *number))?;
+    }
+    Ok(named)
+}
+
+/// A result of the relaxation as it is placed.
+pub(crate) fn result_in_pool(
+    alloc: Global,
+    places: &[usize],
+    own: NodeResult,
+) -> Result<NodeResult, AllocError>
+    requires { ArePoolPlaces places.now }
+    ensures { IfOk result (λ placed. placed ≡ result_in_pool places.now own) }
+{
+    match own {
+        NodeResult::Close {
+            mult,
+            farkas,
+            basis,
+        } => Ok(NodeResult::Close {
+            mult: mult_in_pool(alloc, places, mult.as_slice())?,
+            farkas: mult_in_pool(alloc, places, farkas.as_slice())?,
+            basis: basis_in_pool(alloc, places, &basis)?,
+        }),
+        NodeResult::Split {
+            col,
+            v,
+            mult,
+            basis,
+        } => Ok(NodeResult::Split {
+            col,
+            v,
+            mult: mult_in_pool(alloc, places, mult.as_slice())?,
+            basis: basis_in_pool(alloc, places, &basis)?,
+        }),
+        NodeResult::PointAndClose { point, mult, basis } => Ok(NodeResult::PointAndClose {
+            mult: mult_in_pool(alloc, places, mult.as_slice())?,
+            basis: basis_in_pool(alloc, places, &basis)?,
+            point,
+        }),
+        NodeResult::Keep { point, basis } => Ok(NodeResult::Keep {
+            basis: basis_in_pool(alloc, places, &basis)?,
+            point,
+        }),
+    }
+}
+
+/// A copy of the basis with the activities of so many cuts, from the one at a place on, basic besides.
+pub(crate) fn with_cut_variables(
+    alloc: Global,
+    basis: &Basis,
+    from: usize,
+    count: usize,
+) -> Result<Basis, AllocError>
+    requires { from + count ≤ 200 }
+    ensures { IfOk result (λ b. b ≡ with_cut_variables basis.now from count) }
+{
+    let mut with = basis.copy(alloc)?;
+    for index in 0..count {
+        with.basic.push(Var::Cut(CutId((from + index) as u32)))?;
+    }
+    Ok(with)
+}

@@ -1,0 +1,31 @@
+use Rattle.std.proofs.Common.{◌≡◌, ◌≢◌, ◌<◌, ◌*◌, ◌+◌, ◌∙◌, sym, ap, subst, length, get_or, pos, ℕ}
+use Rattle.std.proofs.lemmas.List.{with_items_is}
+use Rattle.rational.specs.Rational.{int}
+use Rattle.lp_model.specs.Program.{coefficient, entry_of}
+use Rattle.lp_model.proofs.ElementLemmas.{of_element-read}
+use Rattle.row_tableau.proofs.ColumnLemmas.{columns_written, columns_zero}
+use Rattle.row_tableau.proofs.slack.row_coefficients.Goals as goal
+
+pub loop-col-preserved : goal.loop-col-preserved
+loop-col-preserved c =
+    let M = c.args.model.now in
+    let n = length c.args.model.now.cols in
+    let m = c.args.activities in
+    let col = c.loop-col.col in
+    let next = c.write_column.new.list in
+    let kept : length c.write_column.new.list ≡ c.loop-col.list.len = c.write_column.auto.list ∙ c.deref_mut.ensures.len in
+    let same = with_items_is c.loop-col.list c.write_column.new.list kept in
+    let columns_are : length c.cols-columns.result.now ≡ n = ap length c.cols-columns.ensures.items in
+    let col_within : col < n = subst (λ k. col < k) columns_are c.loop-col-test.true in
+    let entries_are : (i : ℕ) → entry_of i c.as_slice.result.now ≡ coefficient M i col =
+    λ i. ap (entry_of i) c.as_slice.ensures ∙ ap (λ x. entry_of i x.rows) (sym c.index-cols-col.is) ∙ of_element-read (int (pos 0)) (λ x. entry_of i x.rows) M.cols c.cols.result.now col c.index-cols-col.result c.cols.ensures.items col_within c.index-cols-col.is in
+    let here : (i : ℕ) → i < m → get_or next (i * n + col) (int (pos 0)) ≡ coefficient M i col =
+    λ i q. subst (λ a. get_or next (i * a + col) (int (pos 0)) ≡ coefficient M i col) columns_are (c.write_column.ensures.written i q ∙ entries_are i) in
+    let others : (i k : ℕ) → i < m → k < n → k ≢ col → get_or next (i * n + k) (int (pos 0)) ≡ get_or c.loop-col.list.items (i * n + k) (int (pos 0)) =
+    λ i k p q other. subst (λ a. get_or next (i * a + k) (int (pos 0)) ≡ get_or c.loop-col.list.items (i * a + k) (int (pos 0))) columns_are
+    (c.write_column.ensures.others i k p (subst (λ a. k < a) (sym columns_are) q) other ∙ ap (λ xs. get_or xs (i * length c.cols-columns.result.now + k) (int (pos 0))) c.deref_mut.ensures.value) in
+    record {
+      size = ap length same ∙ kept ∙ c.loop-col.list.ok.0 ∙ c.loop-col.invariant.size;
+      written = columns_written M m n col col_within c.loop-col.list.items next _ same here others c.loop-col.invariant.written;
+      zeros = columns_zero M m n col col_within c.loop-col.list.items next _ same here others c.loop-col.invariant.zeros;
+    }

@@ -1,0 +1,36 @@
+* A bakery plans each day's trays. A tray takes flour (kilograms), hours of the oven and hours of a baker, and brings a gain.
+* Of bread some is promised: at least four trays of the two kinds together.
+NAME BAKERY
+OBJSENSE
+ MAX
+ROWS
+ N GAIN
+ L FLOUR
+ L OVEN
+ L BAKER
+ G BREAD
+COLUMNS
+ M 'MARKER' 'INTORG'
+ RYE GAIN 14 FLOUR 6
+ RYE OVEN 1.5 BAKER 0.5
+ RYE BREAD 1
+ WHEAT GAIN 12 FLOUR 5
+ WHEAT OVEN 1 BAKER 0.5
+ WHEAT BREAD 1
+ ROLLS GAIN 17 FLOUR 4
+ ROLLS OVEN 0.75 BAKER 1.5
+ PIES GAIN 23 FLOUR 3
+ PIES OVEN 1.25 BAKER 2.5
+ CAKES GAIN 31 FLOUR 4
+ CAKES OVEN 2 BAKER 3
+ M 'MARKER' 'INTEND'
+RHS
+ FLOUR 48 OVEN 12
+ BAKER 14 BREAD 4
+BOUNDS
+ UP RYE 6
+ UP WHEAT 6
+ UP ROLLS 5
+ UP PIES 5
+ UP CAKES 4
+ENDATA

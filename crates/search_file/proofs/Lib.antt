@@ -1,0 +1,5 @@
+pub mod NumberFits
+pub mod StatedLists
+pub mod StatedNodes
+pub mod RestorableLaws
+pub mod OwnText

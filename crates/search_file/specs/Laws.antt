@@ -1,0 +1,15 @@
+-- What holds of texts of searches.
+use Rattle.std.specs.Prelude.{◌≡◌, ℕ, false, List}
+use Rattle.search_data.specs.declared.data.SearchData.{SearchData}
+use Rattle.tree_edit.specs.Laws.{HasNoOpenLeaf}
+use Rattle.tree_edit.specs.Sound.{PlainSearch, IsSound}
+use Rattle.search_saving.specs.Saved.{saved_data, IsRestorable}
+use Rattle.warm_file.specs.Searches.{States}
+use Rattle.search_file.specs.Files.{IsTextOf, IsStatedBy}
+
+-- a search can be made of whatever a text states; and a search that is found in its own text has the data that it had, so it has no
+-- open leaf where it had none
+pub record FileLaw : Type 0 where
+  pub restorable : (text : List ℕ) (s : SearchData) → States text s → IsRestorable s
+  pub again : (S new : PlainSearch) (text : List ℕ) → IsSound S → IsSound new → S.model.wide ≡ false → IsTextOf S text → IsStatedBy text new → saved_data new ≡ saved_data S
+  pub closed : (S new : PlainSearch) (text : List ℕ) → IsSound S → IsSound new → S.model.wide ≡ false → IsTextOf S text → IsStatedBy text new → HasNoOpenLeaf S → HasNoOpenLeaf new

@@ -1,0 +1,4 @@
+pub mod LawfulLemmas
+pub mod PoolLemmas
+pub mod TreeLemmas
+pub mod SavedLaws

@@ -1,0 +1,28 @@
+//! Searches given away as data, and made of it again.
+//!
+//! The data of a search is its model, the derivations of its cuts, its points, and its nodes in preorder with their lists and
+//! states (`data_of`). Of data that comes from elsewhere nothing is believed but that its lists name what is there:
+//!
+//! ```text
+//! cut        counts exactly where it derives at the stated model
+//! point      stays exactly where it is feasible, and no step of its test or its value lacks room
+//! split      one that is not on an integer column is one leaf, with its multipliers and its basis
+//! leaf       is judged by its lists, whatever state is stated
+//! ```
+//!
+//! Public contract: `search_of` answers the search that is stated so (`Restores` in specs/Saved), which is sound by its type, and
+//! whose answers are true of its model whatever the tree was; `data_of` answers the data of a search, and a search that is made of
+//! its own data has the same data again (`saved_law`), so each leaf is open or closed as it was.
+//!
+//! Below stand the search (`tree_edit`), pools of cuts (`cover_cuts`) and trees (`branch_tree`); above stand the environment and
+//! the file of a search.
+#![tactic(auto)]
+
+mod lawful;
+mod laws;
+mod restoring;
+mod saving;
+
+pub use laws::saved_law;
+pub use restoring::search_of;
+pub use saving::data_of;

@@ -1,0 +1,323 @@
+-- What the replies to `trim`, `save` and `restore` tell, and the names of the model that they leave.
+use Rattle.std.proofs.Common.{◌≡◌, ◌⊎◌, ℕ, ◌≤◌, arith, Bool, true, false, ◌&&◌, if◌then◌else◌, List, [], ◌∷◌, ◌++◌, map, refl, subst, sym, ap, ◌∙◌, inl, inr, Option, Some, None, Ok, Err, Result}
+use Rattle.std.specs.Prelude.{IfSome, Vec, length, not, nat_lt, nat_le, codes, is_some, All}
+use Rattle.std.specs.declared.alloc.Global.{Global}
+use Rattle.std.specs.List.{list_all}
+use Rattle.std.specs.Option.{option_map}
+use Rattle.std.proofs.lemmas.Bool.Decides.{nat_tests}
+use Rattle.std.proofs.lemmas.List.Elements.{All-nil, All-cons, All-push}
+use Rattle.text_lines.specs.Lines.{is_newline}
+use Rattle.text_lines.specs.Words.{is_blank, IsWord}
+use Rattle.lp_model.specs.Program.{Program}
+use Rattle.rational.specs.Rational.{ℚ}
+use Rattle.lp_model.specs.declared.types.Col.{Col}
+use Rattle.lp_model.specs.declared.types.Derivation.{Derivation}
+use Rattle.lp_model.specs.declared.types.Sense.{Sense}
+use Rattle.branch_tree.specs.declared.node.NodeData.{NodeData}
+use Rattle.lp_model.specs.declared.types.Row.{Row}
+use Rattle.word_names.specs.WordNames.{HasWordNames}
+use Rattle.serde_json.specs.Data.{Data}
+use Rattle.serde_json.specs.Find.{as_object}
+use Rattle.search_data.specs.Trees.{is_one_tree}
+use Rattle.search_data.specs.declared.data.SearchData.{SearchData}
+use Rattle.sym_io.specs.Files.{Files}
+use Rattle.tree_edit.specs.Sound.{PlainSearch}
+use Rattle.search_file.specs.Files.{IsTextOf}
+use Rattle.warm_values.specs.Values.{text_in, truth_of, member, at_most_items}
+use Rattle.warm_values.specs.Faults.{fault, at_key}
+use Rattle.warm_values.specs.Numbers.{side_of, number_of, bound_of}
+use Rattle.warm_values.specs.declared.fault.WarmFault.TheVariants as warm
+use Rattle.warm_values.proofs.Inversions.{next-ok, key-ok, test-ok, member-ok, list-keeps, at_most-ok}
+use Rattle.warm_file.specs.Models.{is_visible, is_lawful_name, is_among, name_of, row_in, row_of, col_in, col_of, room_behind, entries_of, is_bounded, costed_of, bounded_of, sense_of, rows_of, cols_of, program_of, lists_of, model_of as read_model}
+use Rattle.warm_file.specs.Ranges.{are_sides}
+use Rattle.warm_file.specs.Searches.{search_in, search_of, whole_search, cuts_of, points_of, nodes_of, counts, tree_of, States, IsFault}
+use Rattle.sym_env.specs.Env.{PlainEnv, model_of as model_in}
+use Rattle.sym_env.specs.Saving.{IsSaveAnswer, RestoresTo, RestoresEnv, TrimsEnv}
+use Rattle.sym_env.specs.declared.env.EnvFault.{EnvFault}
+use Rattle.sym_env.specs.declared.env.EnvFault.TheVariants as env_fault
+use Rattle.reply_texts.specs.Texts.{ok_text, no_model_text, memory_text}
+use Rattle.sym_shell.specs.State.{shell_state, HasWords}
+use Rattle.sym_shell.specs.EnvFaults.{env_fault_text}
+use Rattle.sym_shell.specs.declared.reading.Refusal.{Refusal}
+use Rattle.sym_shell.specs.declared.reading.Refusal.TheVariants as refusal
+use Rattle.sym_shell.specs.Load.{HasText, ReadsText, refusal_text}
+use Rattle.sym_shell.specs.Certify.{Writes}
+use Rattle.sym_shell.specs.Certify as certify
+use Rattle.sym_shell.specs.Saving.{Trimmed, Untrimmed, RepliesToTrim, Filed, Untold, RepliesToSave, SaveStep, TakesText, Taken, Faulty, Wanting, RestoresFile, RefusesFile, NoFile, LongFile, NoSearch, Unread, RestoreStep}
+use Rattle.sym_shell.proofs.CertLemmas.{writes-as}
+
+-- ---- a tree that is cut down
+
+same-model : (old new : PlainEnv) (S T : PlainSearch) → old.search ≡ Some S → new.search ≡ Some T → T.model ≡ S.model → HasWords old → HasWords new
+same-model old new S T there made same words =
+    let first : model_in old ≡ Some S.model = ap (option_map (λ (R : PlainSearch). R.model)) there in
+    let second : model_in new ≡ Some S.model = ap (option_map (λ (R : PlainSearch). R.model)) made ∙ ap Some same in
+    subst (λ (m : Option Program). IfSome m HasWordNames) (first ∙ sym second) words
+
+module _ (old new : PlainEnv) (depth : ℕ) (r : Result (Unit {0}) EnvFault) (trims : TrimsEnv old.search depth old r new) where
+  pub trims-words : HasWords old → HasWords new
+  trims-words words = by old.search refl r trims
+    where
+      by : (search : Option PlainSearch) → old.search ≡ search → (r : Result (Unit {0}) EnvFault) → TrimsEnv search depth old r new → HasWords new
+      by None none r h = subst HasWords (sym h.1) words
+      by (Some S) some (Ok done) h = same-model old new S h.search some (ap (λ (e : PlainEnv). e.search) h.env_is) h.trims.model words
+      by (Some S) some (Err f) h = subst HasWords (sym h.1) words
+
+  pub trim-made : (done : Unit {0}) (reply : List ℕ) → r ≡ Ok done → reply ≡ ok_text → RepliesToTrim old.search depth old reply new
+  trim-made done reply is told = by old.search (subst (λ o. TrimsEnv old.search depth old o new) is trims)
+    where
+      by : (search : Option PlainSearch) → TrimsEnv search depth old (Ok done) new → RepliesToTrim search depth old reply new
+      by None h = let clash = h.0 in absurd (cc)
+      by (Some S) h = Trimmed told h
+
+  pub trim-refused : (f : EnvFault) (reply : List ℕ) → r ≡ Err f → reply ≡ env_fault_text f → RepliesToTrim old.search depth old reply new
+  trim-refused f reply is told = by old.search (subst (λ o. TrimsEnv old.search depth old o new) is trims)
+    where
+      none-there : f ≡ env_fault.NoModel → reply ≡ no_model_text
+      none-there none = told ∙ ap env_fault_text none
+
+      by : (search : Option PlainSearch) → TrimsEnv search depth old (Err f) new → RepliesToTrim search depth old reply new
+      by None h = let none : Err f ≡ Err env_fault.NoModel = h.0 in record { unchanged = h.1; answer = inl (none-there (cc)) }
+      by (Some S) h = Untrimmed (told ∙ ap env_fault_text h.0) h.1
+
+  pub trim-wanting : (f : EnvFault) → r ≡ Err f → RepliesToTrim old.search depth old memory_text new
+  trim-wanting f is = by old.search (subst (λ o. TrimsEnv old.search depth old o new) is trims)
+    where
+      by : (search : Option PlainSearch) → TrimsEnv search depth old (Err f) new → RepliesToTrim search depth old memory_text new
+      by None h = record { unchanged = h.1; answer = inr refl }
+      by (Some S) h = Untrimmed refl h.1
+
+-- a trim that was not tried
+pub untrimmed : (env : PlainEnv) (depth : ℕ) → RepliesToTrim env.search depth env memory_text env
+untrimmed env depth = by env.search
+  where
+    by : (search : Option PlainSearch) → RepliesToTrim search depth env memory_text env
+    by None = record { unchanged = refl; answer = inr refl }
+    by (Some S) = Untrimmed refl refl
+
+-- ---- a search that is saved
+
+module _ (env : PlainEnv) (files files' : Option Files) (faults faults' : ℕ) (name reply : List ℕ) where
+  pub save-written : (r : Result (Vec ℕ Global) EnvFault) (text : Vec ℕ Global) (bytes : List ℕ) → r ≡ Ok text → IsSaveAnswer env.search r → bytes ≡ text.items → faults ≤ faults'
+      → Writes (λ written. written ≡ bytes) name files faults reply files' faults' → SaveStep (shell_state env files faults) name reply (shell_state env files' faults')
+  save-written r text bytes is answer same later writes = record { env = refl; later = later; answer = by env.search (subst (IsSaveAnswer env.search) is answer) }
+    where
+      by : (search : Option PlainSearch) → IsSaveAnswer search (Ok text) → RepliesToSave search (shell_state env files faults) name reply (shell_state env files' faults')
+      by None h = absurd (cc)
+      by (Some S) h = Filed (writes-as (λ written. written ≡ bytes) (IsTextOf S) name files faults reply files' faults' (λ t e. subst (IsTextOf S) (sym (e ∙ same)) h) writes)
+
+module _ (env : PlainEnv) (files : Option Files) (faults : ℕ) (name reply : List ℕ) where
+  pub save-refused : (r : Result (Vec ℕ Global) EnvFault) (f : EnvFault) → r ≡ Err f → IsSaveAnswer env.search r → (reply ≡ env_fault_text f) ⊎ (reply ≡ memory_text) → SaveStep (shell_state env files faults) name reply (shell_state env files faults)
+  save-refused r f is answer told = record { env = refl; later = omega arith; answer = by env.search f told (subst (IsSaveAnswer env.search) is answer) }
+    where
+      by : (search : Option PlainSearch) (f : EnvFault) → (reply ≡ env_fault_text f) ⊎ (reply ≡ memory_text) → IsSaveAnswer search (Err f) → RepliesToSave search (shell_state env files faults) name reply (shell_state env files faults)
+      by None env_fault.NoModel t h = record { files = refl; told = t }
+      by None env_fault.NoAnswer t h = absurd (cc)
+      by None (env_fault.Edit bad) t h = absurd (cc)
+      by None (env_fault.Warm bad) t h = absurd (cc)
+      by None env_fault.Memory t h = absurd (cc)
+      by (Some S) env_fault.NoModel t h = absurd h
+      by (Some S) env_fault.NoAnswer t h = absurd h
+      by (Some S) (env_fault.Edit bad) t h = absurd h
+      by (Some S) (env_fault.Warm (warm.Bad place code)) (inl t) h = Untold place code h t refl
+      by (Some S) (env_fault.Warm (warm.Bad place code)) (inr t) h = Filed (certify.Wanting (inl refl) t)
+      by (Some S) (env_fault.Warm warm.Memory) (inl t) h = Filed (certify.Wanting (inl refl) t)
+      by (Some S) (env_fault.Warm warm.Memory) (inr t) h = Filed (certify.Wanting (inl refl) t)
+      by (Some S) env_fault.Memory t h = absurd h
+
+-- ---- the names that a text states are words
+
+left : (a b : Bool) → a && b ≡ true → a ≡ true
+left true b h = refl
+left false b h = h
+
+right : (a b : Bool) → a && b ≡ true → b ≡ true
+right true b h = h
+right false b h = absurd (cc)
+
+no_newline : (byte : ℕ) → is_visible byte ≡ true → is_newline byte ≡ false
+no_newline byte h = grind (arith, nat_tests)
+
+no_blank : (byte : ℕ) → is_visible byte ≡ true → is_blank byte ≡ false
+no_blank byte h = grind (arith, nat_tests)
+
+each : (P : ℕ → Type 0) → ((byte : ℕ) → is_visible byte ≡ true → P byte) → (word : List ℕ) → list_all is_visible word ≡ true → All P word
+each P f [] h = All-nil P
+each P f (byte ∷ word) h = All-cons P byte word (f byte (left (is_visible byte) (list_all is_visible word) h)) (each P f word (right (is_visible byte) (list_all is_visible word) h))
+
+lawful-word : (name : List ℕ) → is_lawful_name name ≡ true → IsWord name
+lawful-word name h =
+    let sized : nat_lt 0 (length name) && nat_le (length name) 255 ≡ true = left (nat_lt 0 (length name) && nat_le (length name) 255) (list_all is_visible name) h in
+    let some : nat_lt 0 (length name) ≡ true = left (nat_lt 0 (length name)) (nat_le (length name) 255) sized in
+    let bytes : list_all is_visible name ≡ true = right (nat_lt 0 (length name) && nat_le (length name) 255) (list_all is_visible name) h in
+    record {
+      some = grind (arith, nat_tests);
+      one_line = each (λ byte. is_newline byte ≡ false) no_newline name bytes;
+      one_word = each (λ byte. is_blank byte ≡ false) no_blank name bytes;
+    }
+
+name-word : (taken : List (List ℕ)) (d : Data) (name : List ℕ) → name_of taken d ≡ Ok name → IsWord name
+unfolding name_of
+name-word taken d name e =
+    let n = next-ok (text_in d) (λ text. if is_lawful_name text && not (is_among text taken) then Ok text else fault 9) name e in
+    let t = test-ok (is_lawful_name n.0 && not (is_among n.0 taken)) (Ok n.0) 9 name n.1.1 in
+    let same : n.0 ≡ name = let h = t.1 in cc in
+    subst IsWord same (lawful-word n.0 (left (is_lawful_name n.0) (not (is_among n.0 taken)) t.0))
+
+row-word : (obj obj2 : List ℕ) (before : List Row) (d : Data) (r : Row) → row_of obj obj2 before d ≡ Ok r → IsWord r.name
+unfolding row_of
+row-word obj obj2 before d r e =
+    let taken = obj ∷ obj2 ∷ map (λ (s : Row). s.name) before in
+    let o = test-ok (is_some (as_object d)) (row_in obj obj2 before d) 3 r e in
+    let name = next-ok (member (codes "name") (name_of taken) d) _ r o.1 in
+    let lo = next-ok (member (codes "lo") side_of d) _ r name.1.1 in
+    let hi = next-ok (member (codes "hi") side_of d) _ r lo.1.1 in
+    let made : Row = record { name = name.0; lo = lo.0; hi = hi.0 } in
+    let t = test-ok (are_sides lo.0 hi.0) (Ok made) 11 r hi.1.1 in
+    let same : made ≡ r = let h = t.1 in cc in
+    let v = member-ok (codes "name") (name_of taken) d name.0 name.1.0 in
+    subst (λ (q : Row). IsWord q.name) same (name-word taken v.0 name.0 v.1)
+
+costed-name : (rows room : ℕ) (name : List ℕ) (integer : Bool) (lo up : Option ℚ) (d : Data) (c : Col) → costed_of rows room name integer lo up d ≡ Ok c → c.name ≡ name
+unfolding costed_of
+costed-name rows room name integer lo up d c e =
+    let cost = next-ok (member (codes "cost") number_of d) _ c e in
+    let cost2 = next-ok (member (codes "cost2") number_of d) _ c cost.1.1 in
+    let entries = next-ok (member (codes "rows") (entries_of rows room) d) _ c cost2.1.1 in
+    let made : Col = record { name = name; int = integer; lo = lo; up = up; cost = cost.0; cost2 = cost2.0; rows = entries.0 } in
+    let same : made ≡ c = let h = entries.1.1 in cc in
+    ap (λ (k : Col). k.name) (sym same)
+
+bounded-name : (rows room : ℕ) (name : List ℕ) (integer : Bool) (d : Data) (c : Col) → bounded_of rows room name integer d ≡ Ok c → c.name ≡ name
+unfolding bounded_of
+bounded-name rows room name integer d c e =
+    let lo = next-ok (member (codes "lo") bound_of d) _ c e in
+    let up = next-ok (member (codes "up") bound_of d) _ c lo.1.1 in
+    let t = test-ok (is_bounded integer lo.0 up.0) (costed_of rows room name integer lo.0 up.0 d) 11 c up.1.1 in
+    costed-name rows room name integer lo.0 up.0 d c t.1
+
+col-word : (rows : ℕ) (before : List Col) (d : Data) (c : Col) → col_of rows before d ≡ Ok c → IsWord c.name
+unfolding col_of
+col-word rows before d c e =
+    let taken = map (λ (k : Col). k.name) before in
+    let o = test-ok (is_some (as_object d)) (col_in rows before d) 3 c e in
+    let name = next-ok (member (codes "name") (name_of taken) d) _ c o.1 in
+    let integer = next-ok (member (codes "int") truth_of d) _ c name.1.1 in
+    let v = member-ok (codes "name") (name_of taken) d name.0 name.1.0 in
+    subst IsWord (sym (bounded-name rows (room_behind before) name.0 integer.0 d c integer.1.1)) (name-word taken v.0 name.0 v.1)
+
+rows-words : (obj obj2 : List ℕ) (d : Data) (rows : List Row) → rows_of obj obj2 d ≡ Ok rows → All (λ (r : Row). IsWord r.name) rows
+unfolding rows_of
+rows-words obj obj2 d rows e =
+    list-keeps (at_most_items 500 (row_of obj obj2)) (All (λ (r : Row). IsWord r.name))
+    (λ before w r p said. All-push (λ (q : Row). IsWord q.name) before r p (row-word obj obj2 before w r (at_most-ok 500 (row_of obj obj2) before w r said).1))
+    d rows (All-nil (λ (r : Row). IsWord r.name)) e
+
+cols-words : (n : ℕ) (d : Data) (cols : List Col) → cols_of n d ≡ Ok cols → All (λ (c : Col). IsWord c.name) cols
+unfolding cols_of
+cols-words n d cols e =
+    list-keeps (at_most_items 1000 (col_of n)) (All (λ (c : Col). IsWord c.name))
+    (λ before w c p said. All-push (λ (k : Col). IsWord k.name) before c p (col-word n before w c (at_most-ok 1000 (col_of n) before w c said).1))
+    d cols (All-nil (λ (c : Col). IsWord c.name)) e
+
+lists-words : (sense : Sense) (obj obj2 : List ℕ) (consts : List ℚ) (d : Data) (M : Program) → lists_of sense obj obj2 consts d ≡ Ok M → HasWordNames M
+unfolding lists_of
+lists-words sense obj obj2 consts d M e =
+    let rows = next-ok (member (codes "rows") (rows_of obj obj2) d) _ M e in
+    let cols = next-ok (member (codes "cols") (cols_of (length rows.0)) d) _ M rows.1.1 in
+    let made : Program = record { sense = sense; obj = obj; obj2 = obj2; consts = consts; rows = rows.0; cols = cols.0; wide = false } in
+    let same : made ≡ M = let h = cols.1.1 in cc in
+    let r = member-ok (codes "rows") (rows_of obj obj2) d rows.0 rows.1.0 in
+    let c = member-ok (codes "cols") (cols_of (length rows.0)) d cols.0 cols.1.0 in
+    subst HasWordNames same (record { columns = cols-words (length rows.0) c.0 cols.0 c.1; rows = rows-words obj obj2 r.0 rows.0 r.1 })
+
+model-words : (d : Data) (M : Program) → read_model d ≡ Ok M → HasWordNames M
+unfolding read_model program_of
+model-words d M e =
+    let o = test-ok (is_some (as_object d)) _ 3 M e in
+    let sense = next-ok (member (codes "sense") sense_of d) _ M o.1 in
+    let obj = next-ok (member (codes "obj") (name_of []) d) _ M sense.1.1 in
+    let obj2 = next-ok (member (codes "obj2") (name_of (obj.0 ∷ [])) d) _ M obj.1.1 in
+    let first = next-ok (member (codes "const") number_of d) _ M obj2.1.1 in
+    let second = next-ok (member (codes "const2") number_of d) _ M first.1.1 in
+    lists-words sense.0 obj.0 obj2.0 (first.0 ∷ second.0 ∷ []) d M second.1.1
+
+whole-model : (M : Program) (cuts : List Derivation) (points : List (List ℚ)) (nodes : List NodeData) (s : SearchData) → whole_search M cuts points nodes ≡ Ok s → s.model ≡ M
+whole-model M cuts points nodes s e = by (is_one_tree nodes) e
+  where
+    by : (b : Bool) → (if b then Ok (record { model = M; cuts = cuts; points = points; nodes = nodes }) else at_key (codes "nodes") (fault 12)) ≡ Ok s → s.model ≡ M
+    by true h = let made : SearchData = record { model = M; cuts = cuts; points = points; nodes = nodes } in let same : made ≡ s = cc in ap (λ (t : SearchData). t.model) (sym same)
+    by false h = let none = key-ok (codes "nodes") (fault {A = SearchData} 12) s h in absurd (cc)
+
+stated-words : (d : Data) (s : SearchData) → search_of d ≡ Ok s → HasWordNames s.model
+unfolding search_of tree_of
+stated-words d s e =
+    let o = test-ok (is_some (as_object d)) (search_in d) 3 s e in
+    let version = next-ok _ _ s o.1 in
+    let model = next-ok (member (codes "model") read_model d) _ s version.1.1 in
+    let M = model.0 in
+    let cuts = next-ok (member (codes "cuts") (cuts_of (length M.rows) (length M.cols)) d) _ s model.1.1 in
+    let points = next-ok (member (codes "points") (points_of (length M.cols)) d) _ s cuts.1.1 in
+    let nodes = next-ok (member (codes "nodes") (nodes_of (counts M cuts.0)) d) _ s points.1.1 in
+    let v = member-ok (codes "model") read_model d M model.1.0 in
+    subst HasWordNames (sym (whole-model M cuts.0 points.0 nodes.0 s nodes.1.1)) (model-words v.0 M v.1)
+
+-- ---- a search that is restored
+
+restored-words : (text : List ℕ) (env : PlainEnv) → RestoresTo text env → HasWords env
+restored-words text env h =
+    let names = stated-words h.stated.states.value h.stated.stated h.stated.states.stated in
+    let model : model_in env ≡ Some h.stated.stated.model = ap model_in h.env_is ∙ ap Some h.stated.restores.model in
+    subst (λ (m : Option Program). IfSome m HasWordNames) (sym model) names
+
+module _ (text : List ℕ) (old new : PlainEnv) (r : Result (Unit {0}) EnvFault) (restores : RestoresEnv text old r new) where
+  pub restores-words : HasWords old → HasWords new
+  restores-words words = by r restores
+    where
+      by : (r : Result (Unit {0}) EnvFault) → RestoresEnv text old r new → HasWords new
+      by (Ok done) h = restored-words text new h
+      by (Err f) h = subst HasWords (sym h.0) words
+
+  pub restore-made : (done : Unit {0}) (reply : List ℕ) → r ≡ Ok done → reply ≡ ok_text → TakesText text old reply new
+  restore-made done reply is told = Taken told (subst (λ o. RestoresEnv text old o new) is restores)
+
+  pub restore-refused : (f : EnvFault) (reply : List ℕ) → r ≡ Err f → reply ≡ env_fault_text f → TakesText text old reply new
+  restore-refused f reply is told = by f told (subst (λ o. RestoresEnv text old o new) is restores)
+    where
+      by : (f : EnvFault) → reply ≡ env_fault_text f → RestoresEnv text old (Err f) new → TakesText text old reply new
+      by env_fault.NoModel t h = absurd h.1
+      by env_fault.NoAnswer t h = absurd h.1
+      by (env_fault.Edit bad) t h = absurd h.1
+      by (env_fault.Warm (warm.Bad place code)) t h = Faulty place code h.1 t h.0
+      by (env_fault.Warm warm.Memory) t h = Wanting t h.0
+      by env_fault.Memory t h = absurd h.1
+
+  pub restore-kept : (f : EnvFault) → r ≡ Err f → new ≡ old
+  restore-kept f is = (subst (λ o. RestoresEnv text old o new) is restores).0
+
+module _ (old new : PlainEnv) (files files' : Option Files) (faults faults' : ℕ) (name reply : List ℕ) (kept : files' ≡ files) (later : faults ≤ faults') where
+  -- the file was read, and its text answered so
+  pub text-step : (bytes : List ℕ) (text : Vec ℕ Global) → bytes ≡ text.items → HasText files name (λ t. t ≡ text.items) → TakesText bytes old reply new → RestoreStep (shell_state old files faults) name reply (shell_state new files' faults')
+  text-step bytes text same read takes = record { files = kept; later = later; answer = by takes }
+    where
+      held : (P : List ℕ → Type 0) → P bytes → HasText files name P
+      held P is = record { text = read.text; held = read.held; short = read.short; is = subst P (same ∙ sym read.is) is }
+
+      by : TakesText bytes old reply new → RestoresFile (shell_state old files faults) name reply (shell_state new files' faults') ⊎ ((new ≡ old) × RefusesFile (shell_state old files faults) name reply (shell_state new files' faults'))
+      by (Taken told restores) = inl (record { ok = told; read = held (λ t. RestoresTo t new) restores })
+      by (Faulty place code bad told same_env) = inr (same_env, NoSearch place code (held (λ t. IsFault t place code) bad) told)
+      by (Wanting told same_env) = inr (same_env, Unread told)
+
+  -- memory was wanting to tell
+  pub untold-step : new ≡ old → reply ≡ memory_text → RestoreStep (shell_state old files faults) name reply (shell_state new files' faults')
+  untold-step same told = record { files = kept; later = later; answer = inr (same, Unread told) }
+
+  -- the file was not read
+  pub unread-step : (r : Refusal) → ReadsText files name faults faults' (Err r) → new ≡ old → reply ≡ refusal_text r → RestoreStep (shell_state old files faults) name reply (shell_state new files' faults')
+  unread-step r cause same told = record { files = kept; later = later; answer = inr (same, by r cause told) }
+    where
+      by : (r : Refusal) → ReadsText files name faults faults' (Err r) → reply ≡ refusal_text r → RefusesFile (shell_state old files faults) name reply (shell_state new files' faults')
+      by refusal.Store cause t = NoFile cause t
+      by refusal.FileTooLong cause t = LongFile cause t
+      by (refusal.Faulty line code) cause t = absurd cause
+      by refusal.Memory cause t = Unread t

@@ -1,0 +1,23 @@
+use Rattle.std.specs.Prelude.{◌≡◌, suc, [], ◌∷◌, ◌++◌, IfOk}
+use Rattle.std.proofs.Common.{sym, ap, subst, ◌∙◌, append-nil}
+use Rattle.lp_model.specs.Formulations.{Formulation, formulation}
+use Rattle.cert_text.specs.declared.cert.CertMult.TheVariants.{Row}
+use Rattle.tree_cert.specs.Cuts.{mult_named}
+use Rattle.tree_cert.proofs.names.add_mult.Goals as goal
+
+pub returns-in_ok-push-in-Row : goal.returns-in_ok-push-in-Row
+returns-in_ok-push-in-Row c =
+    let F : Formulation = formulation c.args.model.now c.args.cuts.now in
+    c.in_ok-push-in-Row.ensures.pushed
+    ∙ ap (λ n. c.args.mults.now ++ Row n c.args.number ∷ []) c.in_ok-name-in-Row.ensures
+    ∙ ap (λ x. c.args.mults.now ++ mult_named F suc x c.args.number) (sym c.in-Row.is)
+
+pub returns-in-Cut : goal.returns-in-Cut
+returns-in-Cut c =
+    let F : Formulation = formulation c.args.model.now c.args.cuts.now in
+    subst (λ x. IfOk c.add_cut.result (λ _. c.add_cut.new.mults ≡ c.args.mults.now ++ mult_named F suc x c.args.number)) (sym c.in-Cut.is) c.add_cut.ensures
+
+pub returns-in-Col : goal.returns-in-Col
+returns-in-Col c =
+    let F : Formulation = formulation c.args.model.now c.args.cuts.now in
+    sym (append-nil c.args.mults.now) ∙ ap (λ x. c.args.mults.now ++ mult_named F suc x c.args.number) (sym c.in-Col.is)

@@ -1,0 +1,6 @@
+use Rattle.std.proofs.Common.{◌≡◌, map, take}
+use Rattle.tree_cert.specs.Marked.{renumbered}
+use Rattle.tree_cert.proofs.used.renumbered_mults.Given as goal
+
+abbrev pub invariant-loop-mult : goal.invariant-loop-mult
+invariant-loop-mult l = l.list ≡ map (renumbered l.counts) (take l.mult-index l.mults)

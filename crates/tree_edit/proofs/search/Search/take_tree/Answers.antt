@@ -1,0 +1,28 @@
+use Rattle.std.proofs.Common.{◌≡◌, ◌∙◌, refl, sym, subst, ap, Option}
+use Rattle.rational.specs.Rational.{ℚ}
+use Rattle.leaf_judging.specs.Judged.{JudgesAll}
+use Rattle.tree_edit.specs.Points.{target}
+use Rattle.tree_edit.specs.Sound.{PlainSearch, IsSoundTree, formulation_of}
+use Rattle.tree_edit.specs.Trimmed.{TakesTree}
+use Rattle.tree_edit.proofs.TrimLemmas.{kept-tree}
+use Rattle.tree_edit.proofs.search.Search.take_tree.Goals as goal
+
+pub invariant_of-self : goal.invariant_of-self
+invariant_of-self c =
+    let i = c.self.inside in
+    let S : PlainSearch = record { model = i.model; cuts = i.pool; tree = i.tree; points = i.points.items } in
+    let T = c.args.tree in
+    let sound : IsSoundTree (formulation_of S) T.root = subst (λ (R : PlainSearch). IsSoundTree (formulation_of R) T.root) (sym c.self.view_is) c.requires in
+    let best : c.target-target.result ≡ target S.model S.points = c.target-target.ensures ∙ ap (λ (R : PlainSearch). target R.model R.points) (sym c.self.view_is) in
+    let judges : JudgesAll (formulation_of S) (target S.model S.points) T c.judge_all.new.tree = subst (λ (t : Option ℚ). JudgesAll (formulation_of S) t T c.judge_all.new.tree) best c.in-Ok.ensures.judged in
+    kept-tree S i.values.items i.numbers c.in-Ok.index.numbers i.queue c.in-Ok.index.queue T c.judge_all.new.tree c.self.invariant sound judges c.in-Ok.ensures.numbers c.in-Ok.ensures.queue
+
+pub returns-in-Ok-clause-taken : goal.returns-in-Ok-clause-taken
+returns-in-Ok-clause-taken c =
+    let i = c.self.inside in
+    let S : PlainSearch = record { model = i.model; cuts = i.pool; tree = i.tree; points = i.points.items } in
+    let T = c.args.tree in
+    let best : c.target-target.result ≡ target S.model S.points = c.target-target.ensures ∙ ap (λ (R : PlainSearch). target R.model R.points) (sym c.self.view_is) in
+    let judges : JudgesAll (formulation_of S) (target S.model S.points) T c.judge_all.new.tree = subst (λ (t : Option ℚ). JudgesAll (formulation_of S) t T c.judge_all.new.tree) best c.in-Ok.ensures.judged in
+    subst (λ (R : PlainSearch). TakesTree R T (record { model = i.model; cuts = i.pool; tree = c.judge_all.new.tree; points = i.points.items })) c.self.view_is
+    (record { model = refl; cuts = refl; points = refl; tree = judges })

@@ -1,0 +1,99 @@
+// A search made of its parts.
+ghost use Rattle.std.specs.Prelude.{◌≡◌, ◌≤◌, All, length, map, IfOk};
+ghost use Rattle.lp_model.specs.Program.{least_value};
+ghost use Rattle.lp_model.specs.Formulations.{formulation};
+ghost use Rattle.cover_cuts.specs.Cuts.{IsPoolOf};
+ghost use Rattle.tree_edit.specs.Points.{IsKeepable};
+ghost use Rattle.tree_edit.specs.Sound.{IsSoundTree};
+ghost use Rattle.tree_edit.specs.Edited.{AreValued, HasParts};
+ghost use Rattle.tree_edit.specs.Parts.{IsOfParts};
+
+use crate::editing::KeptPoints;
+use crate::points::least_of;
+use crate::search::Search;
+use branch_tree::Tree;
+use cover_cuts::CutPool;
+use leaf_judging::judge_all;
+use lp_model::{List, Model, Point};
+use std::alloc::{AllocError, Global};
+
+/// Copies of the points that may be kept, with their values in least form.
+fn keepable_points(alloc: Global, model: &Model, points: &[Point]) -> Result<KeptPoints, AllocError>
+    ensures { IfOk result (λ k. AreValued model.now points.now k.points.items k.values.items) }
+{
+    let mut kept = KeptPoints {
+        points: Vec::new(alloc),
+        values: Vec::new(alloc),
+    };
+    for point in points {
+        let copy = List::from_slice(alloc, point.as_slice())?;
+        kept.add(model, copy)?;
+    }
+    Ok(kept)
+}
+
+/// A search of these parts, the leaves of which are judged.
+fn with_kept(
+    alloc: Global,
+    model: Model,
+    pool: CutPool,
+    tree: Tree,
+    kept: KeptPoints,
+) -> Result<Search, AllocError>
+    requires pool { IsPoolOf model pool }
+    requires tree { IsSoundTree (formulation model pool) tree.root }
+    requires points { All (IsKeepable model) kept.points.items }
+    requires few { length kept.points.items ≤ 100 }
+    requires values { kept.values.items ≡ map (least_value model 1) kept.points.items }
+    ensures { IfOk result (λ s. HasParts model pool tree kept.points.items s) }
+{
+    let mut tree = tree;
+    let target = least_of(&kept.values);
+    let _few = pool.rows();
+    match judge_all(alloc, &model, &pool, &target, &mut tree) {
+        Ok(index) => Ok(Search {
+            model,
+            pool,
+            tree,
+            points: kept.points,
+            values: kept.values,
+            numbers: index.numbers,
+            queue: index.queue,
+            alloc,
+        }),
+        Err(error) => {
+            drop(model);
+            drop(pool);
+            drop(tree);
+            drop(kept);
+            Err(error)
+        }
+    }
+}
+
+impl Search {
+    /// A search of a model with its cuts, a tree whose leaves are judged, and those of the points, at most 100, that may be kept:
+    /// they are feasible, and no step of their test or their value lacks room.
+    pub fn of_parts(
+        alloc: Global,
+        model: Model,
+        pool: CutPool,
+        tree: Tree,
+        points: &[Point],
+    ) -> Result<Search, AllocError>
+        requires pool { IsPoolOf model pool }
+        requires tree { IsSoundTree (formulation model pool) tree.root }
+        requires few { length points.now ≤ 100 }
+        ensures { IfOk result (λ s. IsOfParts model pool tree points.now s) }
+    {
+        match keepable_points(alloc, &model, points) {
+            Ok(kept) => with_kept(alloc, model, pool, tree, kept),
+            Err(error) => {
+                drop(model);
+                drop(pool);
+                drop(tree);
+                Err(error)
+            }
+        }
+    }
+}

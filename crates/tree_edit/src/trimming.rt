@@ -1,0 +1,44 @@
+// A search whose tree is cut down. All that takes memory comes before the first change.
+ghost use Rattle.std.specs.Prelude.{◌≡◌, OnOk, OnErr};
+ghost use Rattle.tree_edit.specs.Sound.{IsSoundTree, formulation_of};
+ghost use Rattle.tree_edit.specs.Trimmed.{TakesTree, Trims};
+
+use crate::search::Search;
+use branch_tree::Tree;
+use leaf_judging::judge_all;
+use std::alloc::AllocError;
+
+impl Search {
+    /// Takes another tree of the same model, the leaves of which are judged.
+    fn take_tree(&mut self, tree: Tree) -> Result<(), AllocError>
+        requires { IsSoundTree (formulation_of self.old) tree.root }
+        ensures taken { OnOk result (TakesTree self.old tree self.new) }
+        ensures kept { OnErr result (self.new ≡ self.old) }
+    {
+        let mut tree = tree;
+        let target = self.target();
+        match judge_all(self.alloc, &self.model, &self.pool, &target, &mut tree) {
+            Ok(index) => {
+                self.tree = tree;
+                self.numbers = index.numbers;
+                self.queue = index.queue;
+                Ok(())
+            }
+            Err(error) => {
+                drop(tree);
+                Err(error)
+            }
+        }
+    }
+
+    /// Makes each split at a depth (the root is at 0), with all that is below it, one leaf with the split's multipliers and basis,
+    /// which is judged. Model, cuts and points stay. Where there is no memory nothing has changed.
+    pub fn trim(&mut self, depth: u64) -> Result<(), AllocError>
+        ensures trims { OnOk result (Trims self.old depth self.new) }
+        ensures kept { OnErr result (self.new ≡ self.old) }
+    {
+        let mut tree = self.tree.copy()?;
+        tree.trim_depth(depth);
+        self.take_tree(tree)
+    }
+}

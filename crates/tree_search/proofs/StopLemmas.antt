@@ -1,0 +1,113 @@
+-- Why no result is placed, where the cuts that were found are in the pool; and what a step comes to from the search before them.
+use Rattle.std.specs.Prelude.{◌≡◌, List, [], take, Option, Some, None, Result, Ok, Err, IfOk, OnErr}
+use Rattle.std.proofs.Common.{refl, sym, ap, subst, ◌∙◌, inl, inr}
+use Rattle.lp_model.specs.Program.{Point}
+use Rattle.lp_model.specs.Answers.{IsValueAnswer}
+use Rattle.lp_model.specs.declared.types.Basis.{Basis}
+use Rattle.lp_model.specs.declared.answers.PivotPlace.{PivotPlace}
+use Rattle.lp_model.specs.declared.answers.WideAt.{WideAt}
+use Rattle.lp_model.specs.declared.answers.StopWhy.TheVariants as why
+use Rattle.lp_model.specs.declared.types.Derivation.{Derivation}
+use Rattle.leaf_dual.specs.Dual.{Multipliers}
+use Rattle.branch_tree.specs.declared.node.Job.{Job}
+use Rattle.branch_tree.specs.declared.node.NodeResult.{NodeResult}
+use Rattle.branch_tree.specs.declared.node.NodeResult.TheVariants.{Close, Split as SplitAt, PointAndClose, Keep}
+use Rattle.tree_edit.specs.Pool.{AddsCuts, AddsSome, AddsAny}
+use Rattle.tree_edit.specs.Sound.{PlainSearch}
+use Rattle.kept_cuts.specs.Kept.{derivations_of}
+use Rattle.node_solve.specs.Places.{live_cuts, live_places, basis_in_relaxation, basis_in_pool}
+use Rattle.node_solve.specs.declared.working.Worked.{Worked}
+use Rattle.node_solve.specs.declared.working.Worked.TheVariants.{Done, Pivots, Wide}
+use Rattle.tree_search.specs.Steps.{FoundCuts, kept_basis, IsRayWay, IsPlacedBy, KeepsOpen}
+use Rattle.tree_search.specs.Stepping.{WorksBy, Steps}
+use Rattle.tree_search.specs.declared.stepping.Limits.{Limits}
+use Rattle.tree_search.specs.declared.searching.Ways.{Ways}
+use Rattle.tree_search.specs.declared.searching.Ways.TheVariants.{Own, Rays}
+use Rattle.tree_search.specs.declared.stepping.Stepped.{Stepped}
+use Rattle.tree_search.specs.declared.stepping.Stepped.TheVariants as stepped
+use Rattle.tree_search.proofs.KeepLemmas.{keeps-after, keeps-cuts, added-model}
+
+module _ (limits : Limits) (begin : PlainSearch) (job : Job) (vec : FoundCuts) (S : PlainSearch) (adds : AddsCuts begin vec.items S) (T : PlainSearch) where
+  -- the pool stays
+  cuts-stay : (basis : Basis) → KeepsOpen S job [] None basis T → T.cuts ≡ S.cuts
+  cuts-stay basis keeps = keeps-cuts S job [] None basis T keeps ∙ ap (λ (X : PlainSearch). X.cuts) keeps.adds
+
+  pub stop-pivots : (place : PivotPlace) → WorksBy limits begin job (Pivots place.basis vec) → place.path ≡ Some job.region → place.cuts ≡ derivations_of (live_cuts 200 S.cuts) → KeepsOpen S job [] None (kept_basis S place.basis) T
+      → Steps limits begin T (stepped.Stopped (why.Pivots place))
+  stop-pivots place works path cuts keeps =
+      let same : S.cuts ≡ T.cuts = sym (cuts-stay (kept_basis S place.basis) keeps) in
+      record {
+        job = job;
+        found = vec;
+        works = works;
+        path_is = path;
+        cuts_are = cuts ∙ ap (λ l. derivations_of (live_cuts 200 l)) same;
+        keeps = subst (λ l. KeepsOpen begin job vec.items None (basis_in_pool (live_places 200 0 l) place.basis) T) same (keeps-after begin vec.items S adds job None (kept_basis S place.basis) T keeps);
+      }
+
+  pub stop-step : (at : WideAt) → WorksBy limits begin job (Wide at vec) → KeepsOpen S job [] None (kept_basis S at.basis) T → Steps limits begin T (stepped.Stopped (why.Wide at))
+  stop-step at works keeps =
+      let same : S.cuts ≡ T.cuts = sym (cuts-stay (kept_basis S at.basis) keeps) in
+      inl (record {
+        job = job;
+        found = vec;
+        works = works;
+        keeps = subst (λ l. KeepsOpen begin job vec.items None (basis_in_pool (live_places 200 0 l) at.basis) T) same (keeps-after begin vec.items S adds job None (kept_basis S at.basis) T keeps);
+      })
+
+  pub stop-value : IsRayWay limits.ways → (x : Point) (mult : Multipliers) (basis : Basis) (at : WideAt) → WorksBy limits begin job (Done (PointAndClose x mult basis) vec) → IsValueAnswer S.model 1 x (Err at.step) → at.path ≡ Some job.region
+      → at.cuts ≡ derivations_of (live_cuts 200 S.cuts) → at.basis ≡ basis_in_relaxation (live_places 200 0 S.cuts) basis → kept_basis S at.basis ≡ basis → KeepsOpen S job [] None (kept_basis S at.basis) T → Steps limits begin T (stepped.Stopped (why.Wide at))
+  stop-value rays x mult basis at works wide path cuts basis_is back keeps =
+      let same : S.cuts ≡ T.cuts = sym (cuts-stay (kept_basis S at.basis) keeps) in
+      inr (record {
+        rays = rays;
+        job = job;
+        point = x;
+        mult = mult;
+        basis = basis;
+        found = vec;
+        works = works;
+        wide = subst (λ M. IsValueAnswer M 1 x (Err at.step)) (added-model begin vec.items S adds) wide;
+        path_is = path;
+        cuts_are = cuts ∙ ap (λ l. derivations_of (live_cuts 200 l)) same;
+        basis_is = basis_is ∙ ap (λ l. basis_in_relaxation (live_places 200 0 l) basis) same;
+        keeps = keeps-after begin vec.items S adds job None basis T (subst (λ b. KeepsOpen S job [] None b T) back keeps);
+      })
+
+-- ---- a result that is matched
+
+-- beside a ray the work places what is not a point
+pub other-placed : (ways : Ways) (done : NodeResult) → ((x : Point) (mult : Multipliers) (basis : Basis) → done ≡ PointAndClose x mult basis → ⊥) → ((point : Option Point) (basis : Basis) → done ≡ Keep point basis → ⊥) → IsPlacedBy ways done
+other-placed Own done no_point no_keep = tt
+other-placed (Rays Z) (Close mult farkas basis) no_point no_keep = tt
+other-placed (Rays Z) (SplitAt col v mult basis) no_point no_keep = tt
+other-placed (Rays Z) (PointAndClose x mult basis) no_point no_keep = absurd (no_point x mult basis refl)
+other-placed (Rays Z) (Keep point basis) no_point no_keep = absurd (no_keep point basis refl)
+
+module _ (limits : Limits) (job : Job) (S T : PlainSearch) (a b : NodeResult) (same : a ≡ b) where
+  pub works-same : (begin : PlainSearch) × ((found : FoundCuts) × (WorksBy limits begin job (Done a found) × AddsCuts begin found.items S)) → (begin : PlainSearch) × ((found : FoundCuts) × (WorksBy limits begin job (Done b found) × AddsCuts begin found.items S))
+  works-same (begin, (found, (works, adds))) = (begin, (found, (subst (λ r. WorksBy limits begin job (Done r found)) same works, adds)))
+
+  pub steps-same : {E : Type 0} (result : Result Stepped E) → IfOk result (λ s. (begin : PlainSearch) (found : FoundCuts) → WorksBy limits begin job (Done b found) → AddsCuts begin found.items S → Steps limits begin T s)
+      → IfOk result (λ s. (begin : PlainSearch) (found : FoundCuts) → WorksBy limits begin job (Done a found) → AddsCuts begin found.items S → Steps limits begin T s)
+  steps-same (Ok s) h = λ begin found works adds. h begin found (subst (λ r. WorksBy limits begin job (Done r found)) same works) adds
+  steps-same (Err e) h = tt
+
+-- ---- a step, from the search that was worked
+
+-- whatever a call that failed answers
+pub on_err : {A E : Type 0} (result : Result A E) (P : Type 0) → P → OnErr result P
+on_err (Ok a) P h = tt
+on_err (Err e) P h = h
+
+pub some-any : (S : PlainSearch) (ds : List Derivation) (T : PlainSearch) → AddsSome S ds T → AddsAny S T
+some-any S ds T (n, adds) = (take n ds, adds)
+
+module _ (limits : Limits) (job : Job) (of : FoundCuts → Worked) (begin : PlainSearch) (vec : FoundCuts) (works : WorksBy limits begin job (of vec)) (S : PlainSearch) (adds : AddsCuts begin vec.items S) (T : PlainSearch) where
+  pub step-since : {E : Type 0} (result : Result Stepped E) → IfOk result (λ s. (from : PlainSearch) (found : FoundCuts) → WorksBy limits from job (of found) → AddsCuts from found.items S → Steps limits from T s) → IfOk result (λ s. Steps limits begin T s)
+  step-since (Ok s) h = h begin vec works adds
+  step-since (Err e) h = tt
+
+pub any-since : {A E : Type 0} (begin : PlainSearch) (ds : List Derivation) (S T : PlainSearch) → AddsCuts begin ds S → (result : Result A E) → OnErr result (T ≡ S) → OnErr result (AddsAny begin T)
+any-since begin ds S T adds (Ok a) h = tt
+any-since begin ds S T adds (Err e) h = (ds, subst (AddsCuts begin ds) (sym h) adds)

@@ -1,0 +1,10 @@
+use Rattle.std.proofs.Common.{◌≡◌, ◌∙◌, sym, inl, inr, arith}
+use Rattle.cover_cuts.specs.declared.pool.PoolFault.{PoolFault}
+use Rattle.cover_cuts.specs.declared.pool.PoolFault.TheVariants.{Full, Memory}
+use Rattle.tree_search.proofs.stepping.add_cut.Goals as goal
+
+pub unreachable-requires : goal.unreachable-requires
+unreachable-requires c = elim c.in-Err-Full.ensures.fault [
+  | inl memory ↦ let apart : ◌≡◌ {A = PoolFault} Full Memory = sym c.in-Err-Full.field-0-is ∙ memory in cc
+  | inr full ↦ absurd (omega (arith, full.1, c.requires))
+]

@@ -1,0 +1,20 @@
+use Rattle.std.proofs.Common.{subst}
+use Rattle.node_solve.specs.declared.working.Worked.TheVariants.{Done}
+use Rattle.tree_search.specs.Steps.{work_next}
+use Rattle.tree_search.specs.Stepping.{WorksBy}
+use Rattle.tree_search.proofs.FoundLemmas.{never-keeps}
+use Rattle.tree_search.proofs.StopLemmas.{other-placed, works-same, steps-same}
+use Rattle.tree_search.proofs.stepping.place_beside_ray.Goals as goal
+
+pub keep_point-requires-clause-works : goal.keep_point-requires-clause-works
+keep_point-requires-clause-works c = works-same c.args.limits.now c.args.job c.args.search.now c.args.search.now c.args.done _ c.in-PointAndClose.is c.requires.works
+
+pub returns-in-PointAndClose-clause-steps : goal.returns-in-PointAndClose-clause-steps
+returns-in-PointAndClose-clause-steps c = steps-same c.args.limits.now c.args.job c.args.search.now c.keep_point.new.search c.args.done _ c.in-PointAndClose.is c.keep_point.result c.keep_point.ensures.steps
+
+pub place_result-requires-clause-by : goal.place_result-requires-clause-by
+place_result-requires-clause-by c =
+    let limits = c.args.limits.now in
+    let (begin, (found, (works, adds))) = c.requires.works in
+    other-placed limits.ways c.args.done c.in_default.not-PointAndClose
+    (λ point basis e. never-keeps (work_next limits.ways limits.first.now limits.pivots begin c.args.job) point basis found (subst (λ d. WorksBy limits begin c.args.job (Done d found)) e works).worked_is)
