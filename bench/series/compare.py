@@ -4,14 +4,13 @@
 
 PROGRAM is a built `symphony`. For each of SERIES random knapsack models with some rows (20 columns of 0 or 1, 5 rows) it writes 50 edits of
 one kind (sides, costs, bounds, kinds, rows, columns), each followed by a search: in one script by `warm`, in the other by `solve`. It
-tells, for each kind, the results placed and the seconds of both, and stops where two values differ.
+tells, for each kind, the results placed and the seconds of processor time of both, and stops where two values differ.
 """
 import os
 import random
 import subprocess
 import sys
 import tempfile
-import time
 
 COLUMNS, ROWS, EDITS = 20, 5, 50
 
@@ -49,9 +48,10 @@ def edits(kind, random_, halves):
 
 
 def run(program, folder, lines):
-    begun = time.time()
+    begun = os.times()
     text = subprocess.run([program, "run"], input="\n".join(lines) + "\n", capture_output=True, text=True, cwd=folder).stdout
-    seconds = time.time() - begun
+    ended = os.times()
+    seconds = ended.children_user + ended.children_system - begun.children_user - begun.children_system
     firsts = [line.split() for line in text.split("\n") if line.startswith(("optimal", "infeasible", "unbounded", "stopped", "error"))]
     return firsts, seconds
 

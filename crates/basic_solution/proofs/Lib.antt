@@ -1,4 +1,5 @@
 pub mod PointLemmas
+pub mod RowTotalLemmas
 pub mod SideLemmas
 pub mod PartLemmas
 pub mod ExchangeLemmas

@@ -1,8 +1,8 @@
 -- Sums over all variables at a state are sums over rows or places.
-use Rattle.std.specs.Prelude.{◌≡◌, ℕ, ◌<◌, [], ◌∷◌, pos, Result, Ok, Err, if◌then◌else◌, ◌==◌}
+use Rattle.std.specs.Prelude.{◌≡◌, ℕ, ℤ, ◌<◌, ◌<ℤ◌, [], ◌∷◌, pos, Result, Ok, Err, if◌then◌else◌, ◌==◌}
 use Rattle.std.proofs.Common.{refl, sym, ap, ap₂, subst, ◌∙◌}
 use Rattle.rational.specs.Rational.{ℚ, int, ◌+ℚ◌, ◌*ℚ◌, neg_ℚ}
-use Rattle.rational.proofs.RationalRing.{ring, reads_ℚ}
+use Rattle.rational.proofs.RationalRing.{ring, reads_ℚ, *ℚ_comm}
 use Rattle.checked_sum.specs.Sums.{sum_below}
 use Rattle.checked_sum.specs.Steps.{AllFit, IsFirstWide, IsCheckedSum}
 use Rattle.checked_sum.proofs.SumLaws.{sum_below-same}
@@ -11,9 +11,17 @@ use Rattle.bases.specs.States.{basic_value}
 use Rattle.bases.specs.Steps.{nothing, at_nonbasic, at_basic}
 use Rattle.bases.proofs.SumBelowLaws.{sum_below-zero, if_same, if_other}
 use Rattle.bases.proofs.Arranged.{assigned-basic, assigned-nonbasic}
+use Rattle.row_tableau.specs.WholeSums.{IsWholeTerm}
+use Rattle.row_tableau.proofs.WholeSumLemmas.{term_of_nothing}
 use Rattle.basic_solution.specs.Held.{Held, IsSided, relaxation, state, table, variables}
 use Rattle.basic_solution.specs.Numbers.{ValueFits, CostsFit, IsValueNamed, IsCostNamed, IsBasicValueAnswer, IsReducedCostAnswer, IsNumberAnswer, IsMultiplierAnswer}
 use Rattle.lp_model.specs.declared.types.WideStep.{WideStep}
+
+-- a variable without a cost makes no step
+pub without_cost : (a x : ℚ) (d : ℤ) → pos 0 <ℤ d → a ≡ int (pos 0) → IsWholeTerm d a x (pos 0) (pos 0)
+without_cost a x d h none =
+    let turned = term_of_nothing x a d h none in
+    record { factor_short = turned.factor_short; number_short = turned.number_short; product = *ℚ_comm a x ∙ turned.product }
 
 module _ (s : Held) (sided : IsSided s) where
   abbrev arranged : IsArranged (relaxation s) (table s)

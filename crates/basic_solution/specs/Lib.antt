@@ -1,6 +1,7 @@
 pub mod Held
 pub mod Breach
 pub mod Numbers
+pub mod RowTotals
 pub mod Exchanges
 pub mod Tilts
 pub mod Slack

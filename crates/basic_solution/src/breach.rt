@@ -4,6 +4,7 @@ ghost use Rattle.basic_solution.specs.Numbers.{IsRowBreach};
 
 use crate::sided::SidedBasis;
 use crate::sides::breach;
+use crate::total_sides::total_breach;
 use bases::Stand;
 use lp_model::WideStep;
 
@@ -14,9 +15,15 @@ impl SidedBasis<'_> {
         ensures { IsRowBreach self.now row result }
     {
         let variable = self.tableau.basic(row);
+        let low = &self.low[variable];
+        let high = &self.high[variable];
+        let denominator = self.tableau.denominator();
+        if let Some(total) = self.row_total(row, denominator) {
+            return Ok(total_breach(low, high, total, denominator));
+        }
         match self.basic_value(row) {
             Err(step) => Err(step),
-            Ok(value) => Ok(breach(&self.low[variable], &self.high[variable], &value)),
+            Ok(value) => Ok(breach(low, high, &value)),
         }
     }
 }

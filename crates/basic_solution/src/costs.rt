@@ -84,13 +84,20 @@ impl SidedBasis<'_> {
         requires positive { pos 0 <ℤ denominator }
         ensures { IfSome result (λ t. IsWholeTerm denominator ((relaxation self.now).cost variable) (at_basic (relaxation self.now) (table self.now) (λ i. (table self.now).entry i place) variable) t.factor t.number) }
     {
+        let cost = self.cost_of(variable);
+        if cost.is_zero() {
+            return Some(WholeTerm {
+                factor: 0,
+                number: 0,
+            });
+        }
         match self.tableau.find(variable) {
             Position::Place(_) => Some(WholeTerm {
                 factor: 0,
                 number: 0,
             }),
             Position::Row(row) => {
-                let number = whole_number(&self.cost_of(variable))?;
+                let number = whole_number(&cost)?;
                 let factor = self.tableau.number_over(row, place, denominator)?;
                 Some(WholeTerm { factor, number })
             }

@@ -31,11 +31,13 @@ mod lists;
 mod numbers;
 mod parts;
 mod point;
+mod row_totals;
 mod sided;
 mod sides;
 mod sides_of;
 mod slack;
 mod tilts;
+mod total_sides;
 
 pub use sided::SidedBasis;
 pub use sides::signed;

@@ -5,6 +5,7 @@ ghost use Rattle.bases.specs.Directions.{stand_number};
 ghost use Rattle.row_tableau.specs.WholeSums.{IsWholeTerm};
 ghost use Rattle.basic_solution.specs.Held.{relaxation, state, table, variables};
 
+use crate::row_totals::quotient;
 use crate::sided::SidedBasis;
 use bases::Stand;
 use checked_sum::{Terms, checked_sum};
@@ -131,8 +132,12 @@ impl SidedBasis<'_> {
         requires { row < self.now.tableau.activities }
         ensures { IsBasicValueAnswer self.now row result }
     {
+        let denominator = self.tableau.denominator();
+        if let Some(total) = self.row_total(row, denominator) {
+            return Ok(quotient(total, denominator));
+        }
         let terms = PointTerms { state: self, row };
-        if let Some(value) = whole_sum(0, self.tableau.denominator(), &terms) {
+        if let Some(value) = whole_sum(0, denominator, &terms) {
             return Ok(value);
         }
         match checked_sum(&Frac::whole(0), &terms) {

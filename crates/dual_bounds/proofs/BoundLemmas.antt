@@ -12,11 +12,11 @@ use Rattle.branch_tree.specs.Leaves.{region_leaves}
 use Rattle.branch_tree.specs.Numbered.{NumberedTree}
 use Rattle.branch_tree.proofs.TreeLemmas.{point_in_one_leaf, leaf_with_both}
 use Rattle.leaf_judging.specs.Closing.{ClosesBy}
-use Rattle.tree_edit.specs.Points.{IsKeepable, target}
-use Rattle.tree_edit.specs.Laws.{IsNoBetter}
-use Rattle.tree_edit.proofs.ClosedTree.{number-bound}
-use Rattle.tree_edit.proofs.EditedPoints.{keepable-all}
-use Rattle.tree_edit.proofs.TakenLemmas.{least_is}
+use Rattle.search_parts.specs.Points.{IsKeepable, target}
+use Rattle.sound_searches.specs.Laws.{IsNoBetter}
+use Rattle.sound_searches.proofs.ClosedTree.{number-bound}
+use Rattle.search_parts.proofs.KeepableLemmas.{keepable-all}
+use Rattle.sound_searches.proofs.TakenLemmas.{least_is}
 use Rattle.dual_bounds.specs.declared.answers.LowerBound.{LowerBound}
 use Rattle.dual_bounds.specs.declared.answers.LowerBound.TheVariants.{Value, NoValue, Infeasible, Wide}
 use Rattle.dual_bounds.specs.declared.answers.UpperBound.{UpperBound}

@@ -12,12 +12,12 @@ use Rattle.branch_tree.specs.Tree.{EachLeaf}
 use Rattle.branch_tree.specs.Leaves.{region_leaves}
 use Rattle.branch_tree.specs.declared.node.LeafState.TheVariants.{IsClosed}
 use Rattle.leaf_judging.specs.Closing.{NumberCloses, ClosesBy, StateSays, IsJudgedLeaf}
-use Rattle.tree_edit.specs.Points.{IsKeepable, target, IsIncumbent, IsIncumbentAt}
-use Rattle.tree_edit.specs.Laws.{HasNoOpenLeaf}
-use Rattle.tree_edit.specs.Sound.{PlainSearch, formulation_of, IsSound}
-use Rattle.tree_edit.proofs.ClosedTree.{each_both, valid-sound}
-use Rattle.tree_edit.proofs.SoundLemmas.{each-weaker}
-use Rattle.tree_edit.proofs.PointLemmas.{target-at}
+use Rattle.search_parts.specs.Points.{IsKeepable, target, IsIncumbent, IsIncumbentAt}
+use Rattle.sound_searches.specs.Laws.{HasNoOpenLeaf}
+use Rattle.sound_searches.specs.Sound.{PlainSearch, formulation_of, IsSound}
+use Rattle.sound_searches.proofs.ClosedTree.{each_both, valid-sound}
+use Rattle.sound_searches.proofs.SoundLemmas.{each-weaker}
+use Rattle.search_parts.proofs.PointLemmas.{target-at}
 use Rattle.dual_bounds.specs.declared.answers.LowerBound.{LowerBound}
 use Rattle.dual_bounds.specs.declared.answers.LowerBound.TheVariants as lower
 use Rattle.dual_bounds.specs.declared.answers.UpperBound.{UpperBound}

@@ -15,8 +15,8 @@ use Rattle.leaf_judging.specs.declared.closing.LeafNumber.{LeafNumber}
 use Rattle.leaf_judging.specs.declared.closing.LeafNumber.TheVariants.{Empty, Lag, Wide as WideNumber}
 use Rattle.leaf_judging.specs.Closing.{NumberCloses}
 use Rattle.leaf_judging.specs.Choosing.{finite_number}
-use Rattle.tree_edit.specs.Points.{lesser}
-use Rattle.tree_edit.proofs.ClosedTree.{IsBelow}
+use Rattle.search_parts.specs.Points.{lesser}
+use Rattle.search_parts.proofs.PointLemmas.{IsBelow}
 use Rattle.dual_bounds.specs.declared.answers.LowerBound.{LowerBound}
 use Rattle.dual_bounds.specs.declared.answers.LowerBound.TheVariants.{Value, NoValue, Infeasible, Wide}
 use Rattle.dual_bounds.specs.TreeBounds.{decided_by, deciding_bound, least_of_two, least_of_numbers, value_or_infeasible, bound_of_numbers, IsRoundedBound}

@@ -16,8 +16,8 @@ use Rattle.branch_tree.specs.declared.node.RegionLeaf.{RegionLeaf}
 use Rattle.leaf_judging.specs.declared.closing.LeafNumber.{LeafNumber}
 use Rattle.leaf_judging.specs.declared.closing.LeafNumber.TheVariants.{Empty, Lag, Wide as WideNumber}
 use Rattle.leaf_judging.specs.Closing.{IsNumber}
-use Rattle.tree_edit.specs.Points.{target}
-use Rattle.tree_edit.specs.Edited.{AreKeepable}
+use Rattle.search_parts.specs.Points.{target}
+use Rattle.search_parts.specs.EditedPoints.{AreKeepable}
 use Rattle.dual_bounds.specs.declared.answers.LowerBound.{LowerBound}
 use Rattle.dual_bounds.specs.declared.answers.LowerBound.TheVariants.{Value, NoValue, Infeasible, Wide}
 use Rattle.dual_bounds.specs.TreeBounds.{AreLeafNumbers, bound_of_numbers, IsRoundedBound, IsTreeBound, IsTreeBoundAt, upper_bound}

@@ -5,9 +5,9 @@ use Rattle.std.proofs.Common.{refl, sym, ap, ◌∙◌, inl, inr}
 use Rattle.std.proofs.lemmas.List.Elements.{All-head, All-tail}
 use Rattle.rational.specs.Rational.{ℚ}
 use Rattle.lp_model.specs.Program.{Program, Point, least_value}
-use Rattle.tree_edit.specs.Points.{IsKeepable, lesser, target}
-use Rattle.tree_edit.specs.Edited.{AreKeepable, AreValued}
-use Rattle.tree_edit.proofs.EditedPoints.{valued-more}
+use Rattle.search_parts.specs.Points.{IsKeepable, lesser, target}
+use Rattle.search_parts.specs.EditedPoints.{AreKeepable, AreValued}
+use Rattle.search_parts.proofs.KeepableLemmas.{valued-more}
 use Rattle.dual_bounds.specs.TreeBounds.{least_of_two}
 use Rattle.dual_bounds.specs.Walk.{IsLeastFeasible}
 use Rattle.dual_bounds.proofs.NumberLists.{least-none, least-assoc}

@@ -8,9 +8,9 @@ use Rattle.lp_model.specs.declared.types.ColId.{ColId}
 use Rattle.lp_model.specs.declared.types.CutRow.{CutRow}
 use Rattle.branch_tree.specs.Tree.{SplitsLawfully}
 use Rattle.branch_tree.specs.Plain.{Plain}
-use Rattle.tree_edit.specs.Points.{IsIncumbent}
-use Rattle.tree_edit.specs.Sound.{PlainSearch, IsSound}
-use Rattle.tree_edit.specs.Laws.{HasNoOpenLeaf}
+use Rattle.search_parts.specs.Points.{IsIncumbent}
+use Rattle.sound_searches.specs.Sound.{PlainSearch, IsSound}
+use Rattle.sound_searches.specs.Laws.{HasNoOpenLeaf}
 use Rattle.dual_bounds.specs.NewNumbers.{with_new_sides, with_new_costs, ArePresentSides, ArePresentCosts}
 use Rattle.dual_bounds.specs.TreeBounds.{IsTreeBound, IsTreeBoundAt, IsPointBound}
 use Rattle.dual_bounds.specs.declared.answers.LowerBound.{LowerBound}

@@ -22,8 +22,8 @@ use Rattle.leaf_judging.specs.declared.closing.LeafNumber.{LeafNumber}
 use Rattle.leaf_judging.specs.declared.closing.LeafNumber.TheVariants.{Empty, Lag, Wide as WideNumber}
 use Rattle.leaf_judging.specs.Closing.{IsNumber}
 use Rattle.leaf_judging.specs.Choosing.{finite_number}
-use Rattle.tree_edit.specs.Points.{lesser, target}
-use Rattle.tree_edit.specs.Edited.{AreKeepable}
+use Rattle.search_parts.specs.Points.{lesser, target}
+use Rattle.search_parts.specs.EditedPoints.{AreKeepable}
 use Rattle.dual_bounds.specs.declared.answers.LowerBound.{LowerBound}
 use Rattle.dual_bounds.specs.declared.answers.LowerBound.TheVariants.{Value, NoValue, Infeasible, Wide}
 use Rattle.dual_bounds.specs.declared.answers.UpperBound.{UpperBound}

@@ -6,8 +6,8 @@ use Rattle.lp_model.specs.Formulations.{formulation}
 use Rattle.branch_tree.specs.declared.node.RegionLeaf.{RegionLeaf}
 use Rattle.leaf_judging.specs.declared.closing.LeafNumber.{LeafNumber}
 use Rattle.leaf_judging.specs.Closing.{IsNumber}
-use Rattle.tree_edit.specs.Points.{target}
-use Rattle.tree_edit.specs.Edited.{AreKeepable}
+use Rattle.search_parts.specs.Points.{target}
+use Rattle.search_parts.specs.EditedPoints.{AreKeepable}
 use Rattle.dual_bounds.specs.declared.walk.Listing.{Listing}
 
 -- the leaf's number goes behind the others

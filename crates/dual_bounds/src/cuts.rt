@@ -3,16 +3,9 @@ ghost use Rattle.std.specs.Prelude.{◌≡◌, IfOk};
 ghost use Rattle.dual_bounds.specs.TreeBounds.{AreDerivedAgain};
 
 use cover_cuts::CutPool;
-use kept_cuts::add_derivation;
-use lp_model::{Derivation, Model};
+use kept_cuts::{add_derivation, copy_derivation};
+use lp_model::Model;
 use std::alloc::{AllocError, Global};
-
-/// An equal derivation.
-fn copy_derivation(from: &Derivation) -> Result<Derivation, AllocError>
-    ensures { IfOk result (λ d. d ≡ from.now) }
-{
-    from.clone()
-}
 
 /// The cuts of a pool, each derived again at a model.
 pub(crate) fn derived_again(

@@ -1,6 +1,6 @@
 // What the numbers of leaves prove together.
 ghost use Rattle.std.specs.Prelude.{◌≡◌};
-ghost use Rattle.tree_edit.specs.Points.{lesser};
+ghost use Rattle.search_parts.specs.Points.{lesser};
 ghost use Rattle.dual_bounds.specs.TreeBounds.{no_value, decided_by, deciding_bound, least_of_two, least_of_numbers, value_or_infeasible, bound_of_numbers, IsRoundedBound};
 ghost use Rattle.dual_bounds.specs.declared.answers.LowerBound.TheVariants.{Value};
 

@@ -1,7 +1,7 @@
 // The kept points at a model.
 ghost use Rattle.std.specs.Prelude.{◌≡◌, MatchOption};
 ghost use Rattle.lp_model.specs.Program.{least_value};
-ghost use Rattle.tree_edit.specs.Points.{IsKeepable};
+ghost use Rattle.search_parts.specs.Points.{IsKeepable};
 ghost use Rattle.dual_bounds.specs.TreeBounds.{upper_bound, IsPointBound};
 ghost use Rattle.dual_bounds.specs.Walk.{IsLeastFeasible};
 

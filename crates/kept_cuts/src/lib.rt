@@ -10,6 +10,8 @@
 //! Below stand pools of cuts (`cover_cuts`), trees (`branch_tree`) and models (`lp_model`). Above stands the search.
 #![tactic(auto)]
 
+mod copies;
 mod pool;
 
+pub use copies::{copy_derivation, derivations};
 pub use pool::{add_derivation, gone_with, pool_after};

@@ -12,10 +12,10 @@ use Rattle.cover_cuts.specs.Cuts.{IsCutOf, cover_terms, cover_high}
 use Rattle.cover_cuts.specs.Answers.{DerivesWithRoom}
 use Rattle.branch_tree.specs.declared.node.LeafData.{LeafData}
 use Rattle.leaf_judging.specs.Closing.{IsSetAside}
-use Rattle.tree_edit.specs.Lists.{HasLists}
-use Rattle.tree_edit.specs.Sound.{PlainSearch, formulation_of}
-use Rattle.tree_edit.specs.Pool.{search_with_cut, AddsCuts}
-use Rattle.tree_edit.proofs.FurtherCut.{mult-more, basis-more, aside-less}
+use Rattle.search_parts.specs.Lists.{HasLists}
+use Rattle.sound_searches.specs.Sound.{PlainSearch, formulation_of}
+use Rattle.sound_searches.specs.Pool.{search_with_cut, AddsCuts}
+use Rattle.sound_searches.proofs.FurtherCut.{mult-more, basis-more, aside-less}
 use Rattle.node_solve.specs.Laws.{AreLive, LastCutsLaw}
 use Rattle.node_solve.specs.Places.{live_cuts, live_places}
 use Rattle.node_solve.specs.Rounds.{Work, Round, first_round, round_with, AddsOne, AddsAll, MakesRound, MakesRounds, new_cuts}

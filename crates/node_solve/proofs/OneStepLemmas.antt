@@ -16,7 +16,7 @@ use Rattle.leaf_dual.specs.declared.dual.LagValue.{LagValue}
 use Rattle.leaf_dual.specs.declared.dual.LagValue.TheVariants.{Num}
 use Rattle.leaf_dual.proofs.OneAnswer.{lag_one, farkas_one}
 use Rattle.leaf_judging.specs.Closing.{IsRefuted}
-use Rattle.tree_edit.specs.Points.{IsKeepable}
+use Rattle.search_parts.specs.Points.{IsKeepable}
 use Rattle.node_solve.specs.Works.{IsWholeAt, IsWideAtOptimum}
 use Rattle.node_solve.proofs.EndLemmas.{ok_not_err, err_is}
 

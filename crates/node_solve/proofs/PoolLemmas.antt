@@ -20,7 +20,7 @@ use Rattle.leaf_dual.proofs.CutLemmas.{weight-live}
 use Rattle.leaf_dual.proofs.LikeCuts.{IsLike, lacks-like, number_answer-like}
 use Rattle.leaf_dual.proofs.ChosenCuts.{like-chosen, like-back}
 use Rattle.leaf_judging.specs.Closing.{IsRefuted}
-use Rattle.tree_edit.specs.Lists.{IsThere, IsActivityThere, NamesOnce, AreMultipliers, IsBasis}
+use Rattle.search_parts.specs.Lists.{IsThere, IsActivityThere, NamesOnce, AreMultipliers, IsBasis}
 use Rattle.node_solve.specs.Laws.{AreLive, AreAt, PoolNumberLaw}
 use Rattle.kept_cuts.specs.Places.{index_among}
 use Rattle.node_solve.specs.Places.{var_in_relaxation, var_in_pool, basis_in_relaxation, basis_in_pool, mult_in_pool}

@@ -1,12 +1,13 @@
 // The cuts of a relaxation beside those of a pool, and the lists that name them.
 ghost use Rattle.std.specs.Prelude.{◌≡◌, ◌≤◌, ◌+◌, ◌-◌, ◌++◌, ◌∷◌, [], length, map, get_or, IfOk};
+ghost use Rattle.branch_tree.specs.declared.node.NodeResult.TheVariants.{Close, Split, PointAndClose, Keep};
 ghost use Rattle.kept_cuts.specs.Places.{index_among};
 ghost use Rattle.node_solve.specs.Places.{live_cuts, live_places, ArePoolPlaces, var_in_relaxation, var_in_pool, basis_in_relaxation, basis_in_pool, mult_in_pool, result_in_pool, with_cut_variables};
 
 use branch_tree::NodeResult;
 use cover_cuts::CutPool;
 use frac128::Frac;
-use lp_model::{Basis, CutId, CutRow, Derivation, List, Mult, Var};
+use lp_model::{Basis, ColId, CutId, CutRow, List, Mult, Point, Var};
 use std::alloc::{AllocError, Global};
 
 /// How many cuts a relaxation may have.
@@ -17,13 +18,6 @@ fn copy_cut(cut: &CutRow) -> Result<CutRow, AllocError>
     ensures { IfOk result (λ c. c ≡ cut.now) }
 {
     cut.clone()
-}
-
-/// An equal derivation.
-pub(crate) fn copy_derivation(from: &Derivation) -> Result<Derivation, AllocError>
-    ensures { IfOk result (λ d. d ≡ from.now) }
-{
-    from.clone()
 }
 
 /// Notes a cut and its place, where it counts and there is room.
@@ -185,6 +179,113 @@ fn mult_in_pool(alloc: Global, places: &[usize], mult: &[(Var, Frac)]) -> Result
     Ok(named)
 }
 
+/// Multipliers and a basis of the relaxation as a leaf keeps them.
+fn lists_in_pool(
+    alloc: Global,
+    places: &[usize],
+    mult: &[(Var, Frac)],
+    basis: &Basis,
+) -> Result<(Mult, Basis), AllocError>
+    requires { ArePoolPlaces places.now }
+    ensures mult { IfOk result (λ both. both.0 ≡ mult_in_pool places.now mult.now) }
+    ensures basis { IfOk result (λ both. both.1 ≡ basis_in_pool places.now basis.now) }
+{
+    let named = mult_in_pool(alloc, places, mult)?;
+    match basis_in_pool(alloc, places, basis) {
+        Ok(basis) => Ok((named, basis)),
+        Err(error) => {
+            drop(named);
+            Err(error)
+        }
+    }
+}
+
+/// What closes a leaf, as it is placed.
+fn close_in_pool(
+    alloc: Global,
+    places: &[usize],
+    mult: &[(Var, Frac)],
+    farkas: &[(Var, Frac)],
+    basis: &Basis,
+) -> Result<NodeResult, AllocError>
+    requires { ArePoolPlaces places.now }
+    ensures { IfOk result (λ placed. placed ≡ Close (mult_in_pool places.now mult.now) (mult_in_pool places.now farkas.now) (basis_in_pool places.now basis.now)) }
+{
+    let (mult, basis) = lists_in_pool(alloc, places, mult, basis)?;
+    match mult_in_pool(alloc, places, farkas) {
+        Ok(farkas) => Ok(NodeResult::Close {
+            mult,
+            farkas,
+            basis,
+        }),
+        Err(error) => {
+            drop(mult);
+            drop(basis);
+            Err(error)
+        }
+    }
+}
+
+/// What splits a leaf, as it is placed.
+fn split_in_pool(
+    alloc: Global,
+    places: &[usize],
+    col: ColId,
+    v: i128,
+    mult: &[(Var, Frac)],
+    basis: &Basis,
+) -> Result<NodeResult, AllocError>
+    requires { ArePoolPlaces places.now }
+    ensures { IfOk result (λ placed. placed ≡ Split col v (mult_in_pool places.now mult.now) (basis_in_pool places.now basis.now)) }
+{
+    let (mult, basis) = lists_in_pool(alloc, places, mult, basis)?;
+    Ok(NodeResult::Split {
+        col,
+        v,
+        mult,
+        basis,
+    })
+}
+
+/// A point that closes a leaf, as it is placed.
+fn point_in_pool(
+    alloc: Global,
+    places: &[usize],
+    point: Point,
+    mult: &[(Var, Frac)],
+    basis: &Basis,
+) -> Result<NodeResult, AllocError>
+    requires { ArePoolPlaces places.now }
+    ensures { IfOk result (λ placed. placed ≡ PointAndClose point (mult_in_pool places.now mult.now) (basis_in_pool places.now basis.now)) }
+{
+    match lists_in_pool(alloc, places, mult, basis) {
+        Ok((mult, basis)) => Ok(NodeResult::PointAndClose { point, mult, basis }),
+        Err(error) => {
+            drop(point);
+            Err(error)
+        }
+    }
+}
+
+/// What leaves a leaf open, as it is placed.
+fn keep_in_pool(
+    alloc: Global,
+    places: &[usize],
+    point: Option<Point>,
+    basis: &Basis,
+) -> Result<NodeResult, AllocError>
+    requires { ArePoolPlaces places.now }
+    ensures { IfOk result (λ placed. placed ≡ Keep point (basis_in_pool places.now basis.now)) }
+{
+    match basis_in_pool(alloc, places, basis) {
+        Ok(basis) => Ok(NodeResult::Keep { point, basis }),
+        Err(error) => {
+            drop(point);
+            Err(error)
+        }
+    }
+}
+
 /// A result of the relaxation as it is placed.
 pub(crate) fn result_in_pool(
     alloc: Global,
@@ -199,31 +300,35 @@ pub(crate) fn result_in_pool(
             mult,
             farkas,
             basis,
-        } => Ok(NodeResult::Close {
-            mult: mult_in_pool(alloc, places, mult.as_slice())?,
-            farkas: mult_in_pool(alloc, places, farkas.as_slice())?,
-            basis: basis_in_pool(alloc, places, &basis)?,
-        }),
+        } => {
+            let placed = close_in_pool(alloc, places, mult.as_slice(), farkas.as_slice(), &basis);
+            drop(mult);
+            drop(farkas);
+            drop(basis);
+            placed
+        }
         NodeResult::Split {
             col,
             v,
             mult,
             basis,
-        } => Ok(NodeResult::Split {
-            col,
-            v,
-            mult: mult_in_pool(alloc, places, mult.as_slice())?,
-            basis: basis_in_pool(alloc, places, &basis)?,
-        }),
-        NodeResult::PointAndClose { point, mult, basis } => Ok(NodeResult::PointAndClose {
-            mult: mult_in_pool(alloc, places, mult.as_slice())?,
-            basis: basis_in_pool(alloc, places, &basis)?,
-            point,
-        }),
-        NodeResult::Keep { point, basis } => Ok(NodeResult::Keep {
-            basis: basis_in_pool(alloc, places, &basis)?,
-            point,
-        }),
+        } => {
+            let placed = split_in_pool(alloc, places, col, v, mult.as_slice(), &basis);
+            drop(mult);
+            drop(basis);
+            placed
+        }
+        NodeResult::PointAndClose { point, mult, basis } => {
+            let placed = point_in_pool(alloc, places, point, mult.as_slice(), &basis);
+            drop(mult);
+            drop(basis);
+            placed
+        }
+        NodeResult::Keep { point, basis } => {
+            let placed = keep_in_pool(alloc, places, point, &basis);
+            drop(basis);
+            placed
+        }
     }
 }
 

@@ -4,15 +4,14 @@ ghost use Rattle.cover_cuts.specs.Cuts.{IsPoolOf};
 ghost use Rattle.node_solve.specs.Rounds.{HasRowOf, IsAddable, AddsOne, AddsAll, AddsCovers, MayGoOn, IsSolvedIn, IsNextAnswer, first_round, first_in};
 ghost use Rattle.node_solve.specs.RoundCode.{task_work, round_of, unstarted, IsKeptRound, IsTask};
 
-use crate::places::{
-    CUT_LIMIT, LiveCuts, basis_in_relaxation, copy_derivation, with_cut_variables,
-};
+use crate::places::{CUT_LIMIT, LiveCuts, basis_in_relaxation, with_cut_variables};
 use crate::points::first_fractional;
 use branch_tree::Job;
 use cover_cuts::{CutPool, cut_row};
 use cut_find::separate;
 use dual_simplex::{Lp, LpState, StartFault};
 use frac128::Frac;
+use kept_cuts::copy_derivation;
 use lp_model::{Basis, ColId, CutRow, Derivation, Model, Mult, Point, WideStep};
 use row_tableau::{Relax, RelaxKind};
 use std::alloc::{AllocError, Global};
@@ -104,7 +103,9 @@ impl Task<'_> {
             Ok(state) => state,
             Err(fault) => return unstarted(fault),
         };
-        match state.solve(alloc, self.pivots) {
+        let end = state.solve(alloc, self.pivots);
+        drop(state);
+        match end {
             Err(_) => Solved::Memory,
             Ok(Lp::Pivots { basis }) => Solved::Pivots { basis },
             Ok(Lp::Wide { step, basis }) => Solved::Wide { step, basis },

@@ -6,5 +6,5 @@
 use std::process::ExitCode;
 
 fn main(rt: HostRuntime) -> ExitCode {
-    sym_program::run(&rt)
+    sym_shell::run_program(&rt)
 }

@@ -8,8 +8,8 @@ use Rattle.branch_tree.specs.Leaves.{with_states}
 use Rattle.branch_tree.specs.Changes.{first_tree, with_leaf_states}
 use Rattle.branch_tree.proofs.CountLemmas.{nodes-splits}
 use Rattle.branch_tree.proofs.StateLemmas.{split_count-states}
-use Rattle.tree_edit.specs.Calls.{IsFresh}
-use Rattle.tree_edit.specs.Sound.{PlainSearch, IsSound}
+use Rattle.sound_searches.specs.Calls.{IsFresh}
+use Rattle.sound_searches.specs.Sound.{PlainSearch, IsSound}
 use Rattle.search_counting.specs.Work.{whole_points, cap_of, HasRoomFor, splits_of, IsRoomy}
 use Rattle.search_counting.proofs.RoomLemmas.{room-fewer}
 use Rattle.search_counting.proofs.CapLemmas.{splits-cap}

@@ -10,10 +10,10 @@ use Rattle.branch_tree.specs.Numbered.{NumberedTree, IsNumbered}
 use Rattle.branch_tree.specs.declared.node.LeafData.{LeafData}
 use Rattle.branch_tree.specs.declared.node.LeafState.TheVariants.{IsOpen}
 use Rattle.branch_tree.proofs.LeafLemmas.{leaf_below-split, leaf_below-found, leaf_below-none}
-use Rattle.tree_edit.specs.Sound.{PlainSearch, IsSound}
-use Rattle.tree_edit.specs.Calls.{IsLeafAt}
-use Rattle.tree_edit.proofs.SoundLemmas.{each-weaker}
-use Rattle.tree_edit.proofs.OpenLemmas.{open-not_aside}
+use Rattle.sound_searches.specs.Sound.{PlainSearch, IsSound}
+use Rattle.sound_searches.specs.Calls.{IsLeafAt}
+use Rattle.sound_searches.proofs.SoundLemmas.{each-weaker}
+use Rattle.sound_searches.proofs.OpenLemmas.{open-not_aside}
 
 pub once : (T : NumberedTree) → IsNumbered T → (id : ℕ) → leaves_with id T.root ≤ 1
 once T n id = let h = n.distinct id in omega (arith, h)

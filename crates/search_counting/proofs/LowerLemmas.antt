@@ -25,17 +25,17 @@ use Rattle.branch_tree.specs.declared.node.NodeResult.TheVariants.{Close, Split 
 use Rattle.branch_tree.proofs.LeafLemmas.{leaf_below-found}
 use Rattle.branch_tree.proofs.IdLemmas.{splits-replaced_leaf, splits-replaced_split}
 use Rattle.branch_tree.proofs.StateLemmas.{split_count-states}
-use Rattle.tree_edit.specs.declared.placing.Taken.{Taken}
-use Rattle.tree_edit.specs.declared.placing.Taken.TheVariants.{Stale, Refused, Reopened, Full, Closed, Split, Kept}
+use Rattle.sound_searches.specs.declared.taken.Taken.{Taken}
+use Rattle.sound_searches.specs.declared.taken.Taken.TheVariants.{Stale, Refused, Reopened, Full, Closed, Split, Kept}
 use Rattle.leaf_judging.specs.Closing.{IsJudgedLeaf}
-use Rattle.tree_edit.specs.Points.{IsKeepable, target}
-use Rattle.tree_edit.specs.Checks.{IsFrom, IsUnder, IsSplitAllowed}
-use Rattle.tree_edit.specs.Sound.{PlainSearch, formulation_of, IsSound}
-use Rattle.tree_edit.specs.Calls.{IsLeafAt}
-use Rattle.tree_edit.specs.Placing.{TakesResult, Takes, TakesPoint, search_with_leaf, split_node, tree_with_split, search_with_split, closed_data}
-use Rattle.tree_edit.proofs.TakenLemmas.{old_closes}
-use Rattle.tree_edit.proofs.SoundLemmas.{each-weaker}
-use Rattle.tree_edit.proofs.OpenLemmas.{leaf_at}
+use Rattle.search_parts.specs.Points.{IsKeepable, target}
+use Rattle.search_parts.specs.Checks.{IsFrom, IsUnder, IsSplitAllowed}
+use Rattle.sound_searches.specs.Sound.{PlainSearch, formulation_of, IsSound}
+use Rattle.sound_searches.specs.Calls.{IsLeafAt}
+use Rattle.sound_searches.specs.Placing.{TakesResult, Takes, TakesPoint, search_with_leaf, split_node, tree_with_split, search_with_split, closed_data}
+use Rattle.sound_searches.proofs.TakenLemmas.{old_closes}
+use Rattle.sound_searches.proofs.SoundLemmas.{each-weaker}
+use Rattle.sound_searches.proofs.OpenLemmas.{leaf_at}
 use Rattle.search_counting.specs.Points.{points}
 use Rattle.search_counting.specs.Work.{if_open, sum_open, work, splits, HasRoomFor, splits_of, IsRoomy, Lowers}
 use Rattle.search_counting.specs.Laws.{IsEffective}

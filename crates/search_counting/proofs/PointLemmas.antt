@@ -15,7 +15,7 @@ use Rattle.lp_model.specs.Lawful.{IsLawful}
 use Rattle.lp_model.specs.Regions.{Path, tighter_low, tighter_high, low_after, high_after, low_along, high_along, region_low, region_high, IsCrossed, IsEmptyRegion, at_most, at_least}
 use Rattle.lp_model.specs.declared.types.BoundChange.{BoundChange}
 use Rattle.branch_tree.specs.Tree.{left_path, right_path}
-use Rattle.tree_edit.specs.Checks.{IsFrom, IsUnder}
+use Rattle.search_parts.specs.Checks.{IsFrom, IsUnder}
 use Rattle.search_counting.specs.Points.{whole_numbers_from, numbers_within, product_below, column_points, points}
 use Rattle.lp_model.proofs.WithinRegionLemmas.{IsWholeBound}
 use Rattle.search_counting.proofs.RegionLemmas.{ceil-int, floor-int, region_low-whole, region_high-whole}

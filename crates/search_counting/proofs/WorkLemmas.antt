@@ -21,13 +21,13 @@ use Rattle.branch_tree.proofs.IdLemmas.{no_leaf}
 use Rattle.branch_tree.proofs.StateLemmas.{leaves_with-states}
 use Rattle.leaf_judging.specs.declared.closing.LeafNumber.{LeafNumber}
 use Rattle.leaf_judging.specs.Closing.{NumberCloses, StateSays, IsJudged, IsJudgedLeaf}
-use Rattle.tree_edit.specs.Sound.{PlainSearch, IsSound}
-use Rattle.tree_edit.specs.Calls.{IsLeafAt}
+use Rattle.sound_searches.specs.Sound.{PlainSearch, IsSound}
+use Rattle.sound_searches.specs.Calls.{IsLeafAt}
 use Rattle.leaf_judging.proofs.JudgeLemmas.{closes_same}
 use Rattle.search_counting.specs.Points.{points}
 use Rattle.search_counting.specs.Work.{if_open, sum_open, work_of}
 use Rattle.search_counting.proofs.PointLemmas.{points-some}
-use Rattle.tree_edit.proofs.OpenLemmas.{leaf_at}
+use Rattle.sound_searches.proofs.OpenLemmas.{leaf_at}
 use Rattle.search_counting.proofs.LeafLemmas.{some_is, open-found}
 
 -- ---- a leaf replaced

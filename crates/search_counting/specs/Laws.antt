@@ -10,12 +10,12 @@ use Rattle.branch_tree.specs.Changes.{HasRoom}
 use Rattle.branch_tree.specs.declared.node.LeafData.{LeafData}
 use Rattle.branch_tree.specs.declared.node.LeafState.TheVariants.{IsOpen}
 use Rattle.branch_tree.specs.declared.node.NodeResult.{NodeResult}
-use Rattle.tree_edit.specs.declared.placing.Taken.{Taken}
-use Rattle.tree_edit.specs.declared.placing.Taken.TheVariants.{Stale, Refused, Reopened, Full, Closed, Split, Kept}
-use Rattle.tree_edit.specs.Checks.{IsSplitAllowed}
-use Rattle.tree_edit.specs.Calls.{IsFresh, IsLeafAt}
-use Rattle.tree_edit.specs.Placing.{Takes}
-use Rattle.tree_edit.specs.Sound.{PlainSearch, IsSound}
+use Rattle.sound_searches.specs.declared.taken.Taken.{Taken}
+use Rattle.sound_searches.specs.declared.taken.Taken.TheVariants.{Stale, Refused, Reopened, Full, Closed, Split, Kept}
+use Rattle.search_parts.specs.Checks.{IsSplitAllowed}
+use Rattle.sound_searches.specs.Calls.{IsFresh, IsLeafAt}
+use Rattle.sound_searches.specs.Placing.{Takes}
+use Rattle.sound_searches.specs.Sound.{PlainSearch, IsSound}
 use Rattle.search_counting.specs.Points.{points}
 use Rattle.search_counting.specs.Work.{whole_points, cap_of, work, splits, work_of, IsRoomy, Lowers, HasRoomFor}
 

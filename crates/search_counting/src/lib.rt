@@ -14,7 +14,7 @@
 //! (`lowers_law`), that an open leaf has something left (`left_law`), and that a tree with room for all splits never refuses
 //! one (`room_law`).
 //!
-//! Below stand the searches (`tree_edit`); above stands the driver, whose loop ends by these numbers.
+//! Below stands what a search is (`sound_searches`); above stands the driver, whose loop ends by these numbers.
 #![tactic(auto)]
 
 mod counting;

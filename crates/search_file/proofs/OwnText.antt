@@ -10,8 +10,8 @@ use Rattle.lp_model.specs.Program.{Point}
 use Rattle.branch_tree.specs.declared.node.NodeData.{NodeData}
 use Rattle.branch_tree.specs.declared.node.NodeData.TheVariants.{Split, Leaf}
 use Rattle.search_data.specs.declared.data.SearchData.{SearchData}
-use Rattle.tree_edit.specs.Points.{IsKeepable}
-use Rattle.tree_edit.specs.Sound.{PlainSearch, IsSound}
+use Rattle.search_parts.specs.Points.{IsKeepable}
+use Rattle.sound_searches.specs.Sound.{PlainSearch, IsSound}
 use Rattle.search_saving.specs.Saved.{saved_data, stated_formulation, IsRestorableNode}
 use Rattle.search_saving.proofs.SavedLaws.{saved}
 use Rattle.warm_values.specs.declared.fault.WarmFault.{WarmFault}

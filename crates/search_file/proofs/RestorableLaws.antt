@@ -21,8 +21,8 @@ use Rattle.search_data.specs.Trees.{is_one_tree}
 use Rattle.search_data.proofs.TreeLaws.{one_tree-decides}
 use Rattle.serde_json.specs.Data.{Data}
 use Rattle.serde_json.specs.Find.{as_object}
-use Rattle.tree_edit.specs.Lists.{IsThere, IsActivityThere, NamesOnce, AreMultipliers, IsBasis}
-use Rattle.tree_edit.specs.Sound.{PlainSearch}
+use Rattle.search_parts.specs.Lists.{IsThere, IsActivityThere, NamesOnce, AreMultipliers, IsBasis}
+use Rattle.sound_searches.specs.Sound.{PlainSearch}
 use Rattle.search_saving.specs.Saved.{saved_data, uncounted, IsRestorableNode, IsRestorable, Restores}
 use Rattle.search_saving.proofs.SavedLaws.{saved}
 use Rattle.warm_values.specs.Faults.{fault, at_key}

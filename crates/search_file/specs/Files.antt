@@ -7,7 +7,7 @@ use Rattle.std.specs.Prelude.{◌≡◌, ℕ, List, Vec, false, Result, Ok, Err}
 use Rattle.std.specs.declared.alloc.Global.{Global}
 use Rattle.serde_json.specs.Written.{compact_text}
 use Rattle.search_data.specs.declared.data.SearchData.{SearchData}
-use Rattle.tree_edit.specs.Sound.{PlainSearch}
+use Rattle.sound_searches.specs.Sound.{PlainSearch}
 use Rattle.search_saving.specs.Saved.{saved_data, Restores}
 use Rattle.warm_values.specs.declared.fault.WarmFault.{WarmFault}
 use Rattle.warm_values.specs.declared.fault.WarmFault.TheVariants.{Bad, Memory}

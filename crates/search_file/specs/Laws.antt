@@ -1,8 +1,8 @@
 -- What holds of texts of searches.
 use Rattle.std.specs.Prelude.{◌≡◌, ℕ, false, List}
 use Rattle.search_data.specs.declared.data.SearchData.{SearchData}
-use Rattle.tree_edit.specs.Laws.{HasNoOpenLeaf}
-use Rattle.tree_edit.specs.Sound.{PlainSearch, IsSound}
+use Rattle.sound_searches.specs.Laws.{HasNoOpenLeaf}
+use Rattle.sound_searches.specs.Sound.{PlainSearch, IsSound}
 use Rattle.search_saving.specs.Saved.{saved_data, IsRestorable}
 use Rattle.warm_file.specs.Searches.{States}
 use Rattle.search_file.specs.Files.{IsTextOf, IsStatedBy}

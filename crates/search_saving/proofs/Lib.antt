@@ -1,3 +1,4 @@
+pub mod DepthLemmas
 pub mod LawfulLemmas
 pub mod PoolLemmas
 pub mod TreeLemmas

@@ -26,10 +26,10 @@ use Rattle.kept_cuts.specs.Kept.{derivations_of}
 use Rattle.leaf_judging.specs.Closing.{IsJudgedLeaf}
 use Rattle.leaf_judging.proofs.JudgeLemmas.{judged_same}
 use Rattle.leaf_judging.specs.Judged.{AreJudged, JudgesAll}
-use Rattle.tree_edit.specs.Points.{IsKeepable, target}
-use Rattle.tree_edit.specs.Sound.{PlainSearch, IsSound, IsSoundTree, formulation_of}
-use Rattle.tree_edit.specs.Edited.{AreKeepable}
-use Rattle.tree_edit.specs.Laws.{HasNoOpenLeaf}
+use Rattle.search_parts.specs.Points.{IsKeepable, target}
+use Rattle.sound_searches.specs.Sound.{PlainSearch, IsSound, IsSoundTree, formulation_of}
+use Rattle.search_parts.specs.EditedPoints.{AreKeepable}
+use Rattle.sound_searches.specs.Laws.{HasNoOpenLeaf}
 use Rattle.search_saving.specs.Lawful.{lawful_tree}
 use Rattle.search_saving.specs.Saved.{saved_data, uncounted, IsRestorableNode, IsRestorable, Restores}
 use Rattle.search_saving.specs.Laws.{SavedLaw}

@@ -20,8 +20,8 @@ use Rattle.branch_tree.specs.Preorder.{DataTree, data_nodes, numbered_from, HasN
 use Rattle.branch_tree.specs.declared.node.NodeData.{NodeData}
 use Rattle.branch_tree.specs.declared.node.NodeData.TheVariants.{Split as SplitNode, Leaf as LeafNode}
 use Rattle.branch_tree.proofs.PreorderLemmas.{apart, each_split-numbered}
-use Rattle.tree_edit.specs.Lists.{IsThere, IsActivityThere, NamesOnce, AreMultipliers, IsBasis, HasNodeLists}
-use Rattle.tree_edit.specs.Sound.{IsSoundTree}
+use Rattle.search_parts.specs.Lists.{IsThere, IsActivityThere, NamesOnce, AreMultipliers, IsBasis, HasNodeLists}
+use Rattle.sound_searches.specs.Sound.{IsSoundTree}
 use Rattle.search_saving.specs.Lawful.{lawful_tree}
 use Rattle.search_saving.specs.Saved.{uncounted, IsRestorableNode, IsPoolFrom}
 use Rattle.search_saving.proofs.LawfulLemmas.{all-lawful, lawful-splits}

@@ -1,7 +1,7 @@
 -- What holds of every search that is saved and made again.
 use Rattle.std.specs.Prelude.{◌≡◌}
-use Rattle.tree_edit.specs.Laws.{HasNoOpenLeaf}
-use Rattle.tree_edit.specs.Sound.{PlainSearch, IsSound}
+use Rattle.sound_searches.specs.Laws.{HasNoOpenLeaf}
+use Rattle.sound_searches.specs.Sound.{PlainSearch, IsSound}
 use Rattle.search_saving.specs.Saved.{saved_data, IsRestorable, Restores}
 
 -- a search can be made of its data again; what is made has the same data, so each leaf the state that it had, and where no leaf was

@@ -22,10 +22,10 @@ use Rattle.branch_tree.specs.declared.node.NodeData.TheVariants.{Split, Leaf}
 use Rattle.kept_cuts.specs.Kept.{derivations_of}
 use Rattle.leaf_judging.specs.Judged.{JudgesAll}
 use Rattle.search_data.specs.declared.data.SearchData.{SearchData}
-use Rattle.tree_edit.specs.Points.{target}
-use Rattle.tree_edit.specs.Lists.{AreMultipliers, IsBasis, HasLists}
-use Rattle.tree_edit.specs.Sound.{PlainSearch, formulation_of}
-use Rattle.tree_edit.specs.Edited.{AreKeepable}
+use Rattle.search_parts.specs.Points.{target}
+use Rattle.search_parts.specs.Lists.{AreMultipliers, IsBasis, HasLists}
+use Rattle.sound_searches.specs.Sound.{PlainSearch, formulation_of}
+use Rattle.search_parts.specs.EditedPoints.{AreKeepable}
 use Rattle.search_saving.specs.Lawful.{lawful_tree}
 
 abbrev pub saved_data : PlainSearch → SearchData

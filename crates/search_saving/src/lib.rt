@@ -8,6 +8,7 @@
 //! point      stays exactly where it is feasible, and no step of its test or its value lacks room
 //! split      one that is not on an integer column is one leaf, with its multipliers and its basis
 //! leaf       is judged by its lists, whatever state is stated
+//! tree       with more than 4,000 splits one below the other is not made: that is want of memory
 //! ```
 //!
 //! Public contract: `search_of` answers the search that is stated so (`Restores` in specs/Saved), which is sound by its type, and
@@ -18,6 +19,7 @@
 //! the file of a search.
 #![tactic(auto)]
 
+mod depth;
 mod lawful;
 mod laws;
 mod restoring;

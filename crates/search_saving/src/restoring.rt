@@ -3,14 +3,15 @@
 ghost use Rattle.std.specs.Prelude.{◌≡◌, ◌≤◌, length, All, IfOk};
 ghost use Rattle.branch_tree.specs.Limits.{node_limit};
 ghost use Rattle.branch_tree.specs.Preorder.{DataTree, data_nodes, IsOneTree, numbered_tree, HasNodeBound};
+ghost use Rattle.search_saving.specs.Depth.{IsShallow};
 ghost use Rattle.search_saving.specs.Lawful.{lawful_tree};
 ghost use Rattle.search_saving.specs.Saved.{IsPoolFrom, IsRestorable, Restores};
 
+use crate::depth::is_deep;
 use crate::lawful::lawful_nodes;
-use crate::saving::derivation_copy;
 use branch_tree::{NodeData, Tree};
 use cover_cuts::CutPool;
-use kept_cuts::add_derivation;
+use kept_cuts::{add_derivation, copy_derivation};
 use lp_model::{Derivation, Model};
 use search_data::SearchData;
 use std::alloc::{AllocError, Global};
@@ -26,19 +27,25 @@ fn pool_of(alloc: Global, model: &Model, cuts: &[Derivation]) -> Result<CutPool,
 {
     let mut pool = CutPool::new(alloc);
     for cut in cuts {
-        let from = derivation_copy(cut)?;
+        let from = copy_derivation(cut)?;
         add_derivation(&mut pool, model, from)?;
     }
     Ok(pool)
 }
 
-/// The tree of nodes, in which each split that is not on an integer column is one open leaf.
+/// The tree of nodes, in which each split that is not on an integer column is one open leaf. One that is too deep counts as one for
+/// which there is no memory.
 fn tree_of(alloc: Global, model: &Model, nodes: &[NodeData]) -> Result<Tree, AllocError>
     requires whole { IsOneTree nodes.now }
     requires bounds { All HasNodeBound nodes.now }
-    ensures { IfOk result (λ tree. (t : DataTree) → data_nodes t ≡ nodes.now → tree ≡ numbered_tree node_limit (lawful_tree model.now t)) }
+    ensures tree { IfOk result (λ tree. (t : DataTree) → data_nodes t ≡ nodes.now → tree ≡ numbered_tree node_limit (lawful_tree model.now t)) }
+    ensures shallow { IfOk result (λ _. IsShallow model.now nodes.now) }
 {
     let kept = lawful_nodes(alloc, model, nodes)?;
+    let deep = is_deep(alloc, kept.as_slice())?;
+    if deep {
+        return Err(AllocError);
+    }
     Tree::from_preorder(alloc, NODE_LIMIT, kept)
 }
 
@@ -47,6 +54,7 @@ fn parts_of(alloc: Global, stated: &SearchData) -> Result<(CutPool, Tree), Alloc
     requires { IsRestorable stated.now }
     ensures pool { IfOk result (λ both. IsPoolFrom stated.now.model stated.now.cuts both.0) }
     ensures tree { IfOk result (λ both. (t : DataTree) → data_nodes t ≡ stated.now.nodes → both.1 ≡ numbered_tree node_limit (lawful_tree stated.now.model t)) }
+    ensures shallow { IfOk result (λ _. IsShallow stated.now.model stated.now.nodes) }
 {
     let pool = pool_of(alloc, &stated.model, stated.cuts.as_slice())?;
     let tree = tree_of(alloc, &stated.model, stated.nodes.as_slice())?;
@@ -55,10 +63,13 @@ fn parts_of(alloc: Global, stated: &SearchData) -> Result<(CutPool, Tree), Alloc
 
 /// A search of the stated model, with the stated cuts, those of the stated points that may be kept, and the stated tree, in which
 /// each split that is not on an integer column is one leaf. Its ids are 1, 2 and so on in preorder, and it may have 1,000,000 nodes.
-/// Cuts, points and leaves are judged at the model. Where there is no memory the data is let go.
+/// Cuts, points and leaves are judged at the model. A tree with more than 4,000 splits one below the other is not made: that is
+/// want of memory, since the calls that walk a tree go one call deeper a level and the machine's stack ends somewhere. Where there is
+/// no memory the data is let go.
 pub fn search_of(alloc: Global, stated: SearchData) -> Result<Search, AllocError>
     requires { IsRestorable stated }
-    ensures { IfOk result (λ s. Restores stated s) }
+    ensures restores { IfOk result (λ s. Restores stated s) }
+    ensures shallow { IfOk result (λ _. IsShallow stated.model stated.nodes) }
 {
     match parts_of(alloc, &stated) {
         Ok((pool, tree)) => {

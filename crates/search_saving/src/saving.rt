@@ -1,31 +1,12 @@
 // The data of a search.
 ghost use Rattle.std.specs.Prelude.{◌≡◌, IfOk};
-ghost use Rattle.kept_cuts.specs.Kept.{derivations_of};
 ghost use Rattle.search_saving.specs.Saved.{saved_data};
 
-use lp_model::{CutRow, Derivation, List, Point};
+use kept_cuts::derivations;
+use lp_model::{List, Point};
 use search_data::SearchData;
 use std::alloc::{AllocError, Global};
 use tree_edit::Search;
-
-/// An equal derivation.
-pub(crate) fn derivation_copy(from: &Derivation) -> Result<Derivation, AllocError>
-    ensures { IfOk result (λ d. d ≡ from.now) }
-{
-    from.clone()
-}
-
-/// Copies of the derivations of cuts.
-fn derivations(alloc: Global, cuts: &[CutRow]) -> Result<List<Derivation>, AllocError>
-    ensures { IfOk result (λ ds. ds ≡ derivations_of cuts.now) }
-{
-    let mut list = List::new(alloc);
-    for cut in cuts {
-        let from = derivation_copy(&cut.from)?;
-        list.push(from)?;
-    }
-    Ok(list)
-}
 
 /// Copies of points.
 fn copies(alloc: Global, points: &[Point]) -> Result<List<Point>, AllocError>

@@ -14,7 +14,7 @@ use Rattle.lp_model.specs.declared.answers.StopWhy.{StopWhy}
 use Rattle.lp_model.specs.declared.answers.StopWhy.TheVariants as stop
 use Rattle.lp_model.specs.declared.types.Sense.{Sense}
 use Rattle.lp_model.specs.declared.types.Sense.TheVariants.{Min, Max}
-use Rattle.tree_edit.specs.Sound.{PlainSearch}
+use Rattle.sound_searches.specs.Sound.{PlainSearch}
 use Rattle.ray_phase.specs.Answers.{IsDualBasis, IsRayAnswer}
 use Rattle.dual_simplex.specs.SlackBases.{IsRootBasis}
 use Rattle.ray_phase.specs.Laws.{RootBasisLaw}

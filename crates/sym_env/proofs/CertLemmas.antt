@@ -2,9 +2,9 @@
 use Rattle.std.proofs.Common.{◌≡◌, ℕ, ◌<◌, List, length, Some, None, Ok, Err, Result, sym, ap, subst, ◌∙◌, arith}
 use Rattle.lp_model.specs.Program.{Program, Point}
 use Rattle.cert_text.specs.declared.cert.Claim.TheVariants.{Unbounded}
-use Rattle.tree_edit.specs.Points.{IsIncumbent}
+use Rattle.search_parts.specs.Points.{IsIncumbent}
 use Rattle.std.specs.Prelude.{IfOk}
-use Rattle.tree_edit.specs.Sound.{PlainSearch, IsSound}
+use Rattle.sound_searches.specs.Sound.{PlainSearch, IsSound}
 use Rattle.cert_check.specs.Laws.{AcceptedLaw, VerdictLaw}
 use Rattle.cert_text.specs.Text.{MeantCertificate}
 use Rattle.cert_check.specs.Verdict.{IsVerdict}

@@ -10,8 +10,8 @@ use Rattle.lp_model.specs.declared.answers.StopWhy.TheVariants as stop
 use Rattle.lp_model.specs.declared.answers.Answer.{Answer}
 use Rattle.lp_model.specs.declared.answers.Answer.TheVariants.{Optimal, Infeasible, Unbounded, Stopped, Memory}
 use Rattle.branch_tree.specs.Tree.{node_count, split_count}
-use Rattle.tree_edit.specs.Calls.{IsFresh, search_with_limit}
-use Rattle.tree_edit.specs.Sound.{PlainSearch}
+use Rattle.sound_searches.specs.Calls.{IsFresh, search_with_limit}
+use Rattle.sound_searches.specs.Sound.{PlainSearch}
 use Rattle.ray_phase.specs.Laws.{NoRayFoundLaw}
 use Rattle.search_counting.specs.Laws.{RoomyLaw}
 use Rattle.search_counting.specs.Work.{whole_points}

@@ -3,9 +3,9 @@ use Rattle.std.specs.Prelude.{◌≡◌, ℕ, false, List, Vec, Option, Some, Re
 use Rattle.std.specs.declared.alloc.Global.{Global}
 use Rattle.std.proofs.Common.{refl, sym, ap, subst}
 use Rattle.lp_model.specs.declared.answers.Answer.{Answer}
-use Rattle.tree_edit.specs.Laws.{HasNoOpenLeaf}
-use Rattle.tree_edit.specs.Sound.{PlainSearch, IsSound}
-use Rattle.tree_edit.specs.Trimmed.{Trims}
+use Rattle.sound_searches.specs.Laws.{HasNoOpenLeaf}
+use Rattle.sound_searches.specs.Sound.{PlainSearch, IsSound}
+use Rattle.sound_searches.specs.Trimmed.{Trims}
 use Rattle.search_saving.specs.Saved.{saved_data}
 use Rattle.warm_json.specs.Writable.{IsWritable}
 use Rattle.search_file.specs.Files.{own_text, IsTextOf, IsTextAnswer, IsStatedBy, IsSearchFound}

@@ -4,8 +4,8 @@ use Rattle.lp_model.specs.declared.types.Basis.{Basis}
 use Rattle.lp_model.specs.declared.answers.Answer.{Answer}
 use Rattle.lp_model.specs.declared.answers.Answer.TheVariants.{Memory}
 use Rattle.lp_model.specs.declared.answers.StopWhy.{StopWhy}
-use Rattle.tree_edit.specs.Calls.{IsFresh}
-use Rattle.tree_edit.specs.Sound.{PlainSearch, IsSound}
+use Rattle.sound_searches.specs.Calls.{IsFresh}
+use Rattle.sound_searches.specs.Sound.{PlainSearch, IsSound}
 use Rattle.ray_phase.specs.Laws.{NoRayFoundLaw}
 use Rattle.tree_search.specs.Causes.{IsAtEnd}
 use Rattle.tree_search.specs.Causes as search

@@ -21,12 +21,12 @@ use Rattle.branch_tree.specs.declared.node.Job.{Job}
 use Rattle.branch_tree.specs.declared.node.LeafData.{LeafData}
 use Rattle.branch_tree.specs.declared.node.LeafState.TheVariants.{IsOpen, IsClosed}
 use Rattle.branch_tree.proofs.PathLaws.{each-found}
-use Rattle.tree_edit.specs.Calls.{IsFresh, search_with_limit}
-use Rattle.tree_edit.specs.Laws.{HasNoOpenLeaf, EmptyLaw}
-use Rattle.tree_edit.specs.Placing.{IsWorst, AddsPoint}
-use Rattle.tree_edit.specs.Points.{IsKeepable}
-use Rattle.tree_edit.specs.Sound.{PlainSearch, IsSound}
-use Rattle.tree_edit.proofs.OpenLemmas.{leaf_at}
+use Rattle.sound_searches.specs.Calls.{IsFresh, search_with_limit}
+use Rattle.sound_searches.specs.Laws.{HasNoOpenLeaf, EmptyLaw}
+use Rattle.search_parts.specs.Joining.{IsWorst, AddsPoint}
+use Rattle.search_parts.specs.Points.{IsKeepable}
+use Rattle.sound_searches.specs.Sound.{PlainSearch, IsSound}
+use Rattle.sound_searches.proofs.OpenLemmas.{leaf_at}
 use Rattle.search_counting.specs.Laws.{CapLaw, LeftLaw, TooFewNodesLaw}
 use Rattle.search_counting.specs.Work.{whole_points, cap_of, HasRoomFor, work_of, splits_of, IsRoomy}
 use Rattle.search_counting.proofs.CapLemmas.{splits-cap}

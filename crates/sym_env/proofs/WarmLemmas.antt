@@ -12,11 +12,11 @@ use Rattle.lp_model.specs.declared.answers.Answer.TheVariants.{Optimal, Infeasib
 use Rattle.model_edits.specs.Faults.{IsEditFault}
 use Rattle.model_edits.specs.declared.faults.EditFault.{EditFault}
 use Rattle.ray_phase.specs.declared.phase.RayAnswer.TheVariants as phase
-use Rattle.tree_edit.specs.Calls.{search_with_limit}
-use Rattle.tree_edit.specs.Edited.{Follows}
-use Rattle.tree_edit.specs.Laws.{HasNoOpenLeaf}
-use Rattle.tree_edit.specs.Points.{target}
-use Rattle.tree_edit.specs.Sound.{PlainSearch}
+use Rattle.sound_searches.specs.Calls.{search_with_limit}
+use Rattle.sound_searches.specs.Edited.{Follows}
+use Rattle.sound_searches.specs.Laws.{HasNoOpenLeaf}
+use Rattle.search_parts.specs.Points.{target}
+use Rattle.sound_searches.specs.Sound.{PlainSearch}
 use Rattle.tree_search.specs.Extends.{Extends}
 use Rattle.tree_search.specs.Search.{IsFinishedAnswer}
 use Rattle.tree_search.specs.declared.searching.Ended.TheVariants as ended

@@ -1,7 +1,7 @@
 -- What the calls answer that bound the present model with other sides or costs.
 use Rattle.std.specs.Prelude.{◌≡◌, Option, Some, None, Result, Ok, Err}
 use Rattle.lp_model.specs.Program.{Program}
-use Rattle.tree_edit.specs.Sound.{PlainSearch}
+use Rattle.sound_searches.specs.Sound.{PlainSearch}
 pub use Rattle.dual_bounds.specs.Laws.{IsExactLower, IsExactUpper}
 use Rattle.dual_bounds.specs.TreeBounds.{IsTreeBoundAt, IsPointBound}
 use Rattle.dual_bounds.specs.declared.answers.LowerBound.{LowerBound}

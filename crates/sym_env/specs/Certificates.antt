@@ -1,7 +1,7 @@
 -- What an environment's certificate is.
 use Rattle.std.specs.Prelude.{◌≡◌, ℕ, List, Vec, Option, Some, None, Result, Ok, Err}
 use Rattle.std.specs.declared.alloc.Global.{Global}
-use Rattle.tree_edit.specs.Sound.{PlainSearch}
+use Rattle.sound_searches.specs.Sound.{PlainSearch}
 use Rattle.cert_text.specs.Text.{MeantCertificate as States}
 use Rattle.cert_check.specs.Verdict.{IsVerdict}
 use Rattle.cert_check.specs.Laws.{IsTrueClaim}
@@ -9,7 +9,7 @@ use Rattle.cert_text.specs.declared.cert.Cert.{Cert}
 use Rattle.cert_check.specs.declared.verdict.Verdict.TheVariants.{Accepted}
 use Rattle.lp_model.specs.Program.{Program, Point}
 use Rattle.cert_text.specs.declared.cert.Claim.TheVariants as claim
-use Rattle.tree_edit.specs.Points.{IsIncumbent}
+use Rattle.search_parts.specs.Points.{IsIncumbent}
 use Rattle.tree_cert.specs.Certificates.{IsCertificateOf, unbounded_certificate}
 use Rattle.tree_cert.specs.CertText.{HasWordNames, cert_text}
 use Rattle.sym_env.specs.declared.held.Held.{Held}

@@ -4,8 +4,8 @@ use Rattle.lp_model.specs.Edits.{EditFits}
 use Rattle.lp_model.specs.declared.types.Edit.{Edit}
 use Rattle.model_edits.specs.Faults.{IsEditFault}
 use Rattle.model_edits.specs.declared.faults.EditFault.{EditFault}
-use Rattle.tree_edit.specs.Edited.{Follows}
-use Rattle.tree_edit.specs.Sound.{PlainSearch}
+use Rattle.sound_searches.specs.Edited.{Follows}
+use Rattle.sound_searches.specs.Sound.{PlainSearch}
 use Rattle.sym_env.specs.Env.{PlainEnv}
 use Rattle.sym_env.specs.declared.env.EnvFault.{EnvFault}
 use Rattle.sym_env.specs.declared.env.EnvFault.TheVariants as fault

@@ -8,7 +8,7 @@ use Rattle.basic_solution.specs.Held.{Held}
 use Rattle.dual_simplex.specs.Walks.{Moves}
 use Rattle.ray_phase.specs.Answers.{IsStart, IsWideAt}
 use Rattle.branch_tree.specs.Tree.{node_count, split_count}
-use Rattle.tree_edit.specs.Sound.{PlainSearch}
+use Rattle.sound_searches.specs.Sound.{PlainSearch}
 use Rattle.search_counting.specs.Work.{whole_points, cap_of, HasRoomFor}
 use Rattle.tree_search.specs.Room.{HasMoves, HasRoomAt, HasRoomForValues}
 use Rattle.sym_env.specs.Beginnings.{HasNoSlackBasis}

@@ -6,10 +6,10 @@ use Rattle.frac128.specs.contracts.frac.Frac.{the_row as frac_row}
 use Rattle.lp_model.specs.Program.{Program, Point}
 use Rattle.lp_model.specs.Rays.{IsRayJudged}
 use Rattle.lp_model.specs.declared.types.CutRow.{CutRow}
-use Rattle.tree_edit.specs.Laws.{HasNoOpenLeaf}
-use Rattle.tree_edit.specs.Sound.{PlainSearch}
-use Rattle.tree_edit.specs.SearchCode.{search_code}
-use Rattle.tree_edit.specs.Calls.{IsFresh}
+use Rattle.sound_searches.specs.Laws.{HasNoOpenLeaf}
+use Rattle.sound_searches.specs.Sound.{PlainSearch}
+use Rattle.sound_searches.specs.SearchCode.{search_code}
+use Rattle.sound_searches.specs.Calls.{IsFresh}
 use Rattle.sym_env.specs.declared.held.Held.{Held}
 use Rattle.sym_env.specs.declared.held.Held.TheVariants.{Nothing, Finished, Unbounded}
 

@@ -1,8 +1,8 @@
 -- What holds of a search that is saved, restored and gone on with.
 use Rattle.std.specs.Prelude.{◌≡◌, ℕ, false, List, Some, Ok}
 use Rattle.lp_model.specs.declared.answers.Answer.{Answer}
-use Rattle.tree_edit.specs.Laws.{HasNoOpenLeaf}
-use Rattle.tree_edit.specs.Sound.{PlainSearch, IsSound}
+use Rattle.sound_searches.specs.Laws.{HasNoOpenLeaf}
+use Rattle.sound_searches.specs.Sound.{PlainSearch, IsSound}
 use Rattle.search_file.specs.Files.{IsTextOf}
 use Rattle.sym_env.specs.Env.{PlainEnv}
 use Rattle.sym_env.specs.Saving.{RestoresTo}

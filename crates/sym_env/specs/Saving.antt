@@ -1,8 +1,8 @@
 -- What `save`, `restore` and `trim` do to an environment.
 use Rattle.std.specs.Prelude.{◌≡◌, ℕ, List, Vec, Option, Some, None, Result, Ok, Err}
 use Rattle.std.specs.declared.alloc.Global.{Global}
-use Rattle.tree_edit.specs.Sound.{PlainSearch}
-use Rattle.tree_edit.specs.Trimmed.{Trims}
+use Rattle.sound_searches.specs.Sound.{PlainSearch}
+use Rattle.sound_searches.specs.Trimmed.{Trims}
 use Rattle.search_file.specs.Files.{own_text, IsTextOf, IsStatedBy}
 use Rattle.warm_file.specs.Searches.{IsFault}
 use Rattle.warm_values.specs.declared.fault.WarmFault.TheVariants as warm

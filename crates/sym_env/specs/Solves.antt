@@ -9,10 +9,10 @@ use Rattle.lp_model.specs.declared.answers.Answer.{Answer}
 use Rattle.lp_model.specs.declared.answers.Answer.TheVariants.{Optimal, Infeasible, Unbounded, Stopped, Memory}
 use Rattle.ray_phase.specs.Answers.{IsRayAnswer}
 use Rattle.ray_phase.specs.declared.phase.RayAnswer.TheVariants as ray
-use Rattle.tree_edit.specs.Calls.{IsFresh, search_with_limit}
-use Rattle.tree_edit.specs.Laws.{HasNoOpenLeaf}
-use Rattle.tree_edit.specs.Points.{IsIncumbent}
-use Rattle.tree_edit.specs.Sound.{PlainSearch, IsSound}
+use Rattle.sound_searches.specs.Calls.{IsFresh, search_with_limit}
+use Rattle.sound_searches.specs.Laws.{HasNoOpenLeaf}
+use Rattle.search_parts.specs.Points.{IsIncumbent}
+use Rattle.sound_searches.specs.Sound.{PlainSearch, IsSound}
 use Rattle.tree_search.specs.Steps.{HasOpenLeaf}
 use Rattle.tree_search.specs.Search.{Finds, GivesUp, IsAnswerAtEnd, IsStoppedAnswer}
 use Rattle.tree_search.specs.declared.searching.Searched.{Searched}

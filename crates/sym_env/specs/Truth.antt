@@ -8,7 +8,7 @@ use Rattle.lp_model.specs.declared.answers.StopWhy.TheVariants.{Nodes, Tree, Piv
 use Rattle.lp_model.specs.declared.answers.Answer.{Answer}
 use Rattle.lp_model.specs.declared.answers.Answer.TheVariants.{Optimal, Infeasible, Unbounded, Stopped, Memory}
 use Rattle.branch_tree.specs.Changes.{with_limit}
-use Rattle.tree_edit.specs.Sound.{PlainSearch}
+use Rattle.sound_searches.specs.Sound.{PlainSearch}
 use Rattle.search_counting.specs.Work.{whole_points, cap_of, HasRoomFor}
 use Rattle.sym_env.specs.declared.limits.Limits.{Limits}
 

@@ -2,7 +2,7 @@
 ghost use Rattle.std.specs.Prelude.{◌<◌, length, true, IfOk, Ok};
 ghost use Rattle.lp_model.specs.Answers.{IsFeasibilityAnswer};
 ghost use Rattle.lp_model.specs.Rays.{IsRayJudged};
-ghost use Rattle.tree_edit.specs.Laws.{HasNoOpenLeaf};
+ghost use Rattle.sound_searches.specs.Laws.{HasNoOpenLeaf};
 ghost use Rattle.sym_env.specs.Certificates.{IsCertificateText, IsUnboundedTextBy, IsUnboundedText};
 
 use cert_check::{accepted_law, verdict_law};

@@ -237,7 +237,8 @@ impl Env {
 
     /// Replaces model and search by those that the text states, and no answer is held. Whatever the text is, the search is sound: cuts
     /// are derived, points are tested and leaves are judged at the stated model. The memory of the new search is taken before the old
-    /// one goes; after a fault of the text, and where there is no memory, all is as before.
+    /// one goes; after a fault of the text, and where there is no memory, all is as before. More than 4,000 splits one below the other
+    /// are want of memory.
     pub fn restore(&mut self, text: &[u8]) -> Result<(), EnvFault>
         ensures restores { RestoresEnv text.now self.old result self.new }
     {

@@ -1,6 +1,6 @@
 // A search from its beginning to what it shows: from a fresh root, or from the tree and the points that are kept.
 ghost use Rattle.std.specs.Prelude.{◌≡◌, []};
-ghost use Rattle.tree_edit.specs.Calls.{IsFresh};
+ghost use Rattle.sound_searches.specs.Calls.{IsFresh};
 ghost use Rattle.tree_search.specs.Steps.{HasOpenLeaf, IsWayFor, IsFirstFor, IsRayWay};
 ghost use Rattle.tree_search.specs.declared.searching.Ways.TheVariants.{Own};
 ghost use Rattle.sym_env.specs.Beginnings.{BeginsWith, BeginsBeside};
@@ -14,8 +14,9 @@ use crate::limits::Limits;
 use lp_model::{Answer, Basis, Model, Point};
 use ray_phase::{no_ray_law, root_law};
 use search_counting::{cap_law, left_law, roomy_law, too_few_nodes_law};
+use sound_searches::empty_law;
 use std::alloc::{AllocError, Global};
-use tree_edit::{Search, empty_law};
+use tree_edit::Search;
 use tree_search::{Ways, answer_of, search_on, stop_bound_law, stopped};
 
 /// What a search shows, and the ray beside which it was made, if there is one.

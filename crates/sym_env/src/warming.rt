@@ -1,6 +1,6 @@
 // A search that goes on from the tree and the points that are kept.
 ghost use Rattle.std.specs.Prelude.{◌≡◌, ◌<◌, length};
-ghost use Rattle.tree_edit.specs.Calls.{search_with_limit};
+ghost use Rattle.sound_searches.specs.Calls.{search_with_limit};
 ghost use Rattle.tree_search.specs.Steps.{HasOpenLeaf};
 ghost use Rattle.sym_env.specs.Beginnings.{HasNoSlackBasis};
 ghost use Rattle.sym_env.specs.Enough.{IsKeptEnough, IsEnoughFrom};
@@ -16,8 +16,9 @@ use dual_simplex::slack_basis;
 use lp_model::{Answer, StopWhy};
 use ray_phase::{RayAnswer, ray};
 use search_counting::{cap_law, left_law};
+use sound_searches::empty_law;
 use std::alloc::{AllocError, Global};
-use tree_edit::{Search, empty_law};
+use tree_edit::Search;
 use tree_search::{finished, stop_bound_law, stopped};
 
 /// Goes on where the slack state is not lawful and a point is kept: beside a ray the objective has no end.

@@ -10,7 +10,7 @@ use Rattle.text_lines.specs.Words.{IsWord}
 use Rattle.lp_model.specs.Edits.{Named}
 use Rattle.lp_model.specs.Program.{Program, value, least_value, in_least_form}
 use Rattle.model_edits.specs.Faults.{IsFirstUnknown}
-use Rattle.tree_edit.specs.Sound.{PlainSearch}
+use Rattle.sound_searches.specs.Sound.{PlainSearch}
 use Rattle.tree_search.proofs.SearchLemmas.{least_again}
 use Rattle.dual_bounds.specs.Laws.{IsTrueLowerBound, IsTrueUpperBound}
 use Rattle.dual_bounds.specs.declared.answers.LowerBound.{LowerBound}

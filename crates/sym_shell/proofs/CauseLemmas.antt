@@ -16,7 +16,7 @@ use Rattle.dual_bounds.specs.declared.answers.UpperBound.TheVariants as upper
 use Rattle.model_edits.specs.Faults.{EditBad}
 use Rattle.model_edits.specs.declared.faults.EditFault.{EditFault}
 use Rattle.model_edits.specs.declared.faults.EditFault.TheVariants as edit_fault
-use Rattle.tree_edit.specs.Sound.{PlainSearch}
+use Rattle.sound_searches.specs.Sound.{PlainSearch}
 use Rattle.search_file.specs.Files.{IsTextOf}
 use Rattle.sym_env.specs.Enough.{IsEnough, IsKeptEnough}
 use Rattle.sym_env.specs.Env.{model_of, pool_in}

@@ -5,7 +5,7 @@ use Rattle.std.specs.declared.alloc.Global.{Global}
 use Rattle.std.specs.Option.{option_map}
 use Rattle.lp_model.specs.Program.{Program, Point}
 use Rattle.word_names.specs.WordNames.{HasWordNames}
-use Rattle.tree_edit.specs.Sound.{PlainSearch}
+use Rattle.sound_searches.specs.Sound.{PlainSearch}
 use Rattle.cert_check.specs.Laws.{AcceptedLaw, VerdictLaw, IsTrueClaim}
 use Rattle.cert_check.specs.Verdict.{IsVerdict}
 use Rattle.cert_text.specs.Whole.{IsCertificate}

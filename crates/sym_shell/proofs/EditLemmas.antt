@@ -18,7 +18,7 @@ use Rattle.lp_model.proofs.ChangedLaws.{All-without_at}
 use Rattle.word_names.specs.WordNames.{HasWordNames}
 use Rattle.model_edits.specs.Faults.{IsEditFault}
 use Rattle.model_edits.specs.declared.faults.EditFault.{EditFault}
-use Rattle.tree_edit.specs.Sound.{PlainSearch}
+use Rattle.sound_searches.specs.Sound.{PlainSearch}
 use Rattle.sym_env.specs.Editing.{EditsEnv}
 use Rattle.sym_env.specs.Env.{PlainEnv, model_of}
 use Rattle.sym_env.specs.declared.env.EnvFault.{EnvFault}

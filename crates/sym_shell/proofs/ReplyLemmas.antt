@@ -11,8 +11,8 @@ use Rattle.lp_model.specs.declared.answers.Answer.{Answer}
 use Rattle.lp_model.specs.declared.answers.Answer.TheVariants.{Optimal, Infeasible, Unbounded, Stopped, Memory}
 use Rattle.word_names.specs.WordNames.{HasWordNames}
 use Rattle.search_counting.specs.Work.{cap_of}
-use Rattle.tree_edit.specs.Points.{IsIncumbent}
-use Rattle.tree_edit.specs.Sound.{PlainSearch}
+use Rattle.search_parts.specs.Points.{IsIncumbent}
+use Rattle.sound_searches.specs.Sound.{PlainSearch}
 use Rattle.sym_env.specs.Enough.{IsEnough, IsKeptEnough}
 use Rattle.sym_env.specs.Env.{PlainEnv, model_of, pool_in}
 use Rattle.sym_env.specs.Solves.{Solved, SolvesModel, HasRayFor, held_by, IsOldest, SolvesIn}

@@ -21,7 +21,7 @@ use Rattle.serde_json.specs.Find.{as_object}
 use Rattle.search_data.specs.Trees.{is_one_tree}
 use Rattle.search_data.specs.declared.data.SearchData.{SearchData}
 use Rattle.sym_io.specs.Files.{Files}
-use Rattle.tree_edit.specs.Sound.{PlainSearch}
+use Rattle.sound_searches.specs.Sound.{PlainSearch}
 use Rattle.search_file.specs.Files.{IsTextOf}
 use Rattle.warm_values.specs.Values.{text_in, truth_of, member, at_most_items}
 use Rattle.warm_values.specs.Faults.{fault, at_key}

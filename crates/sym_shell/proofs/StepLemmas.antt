@@ -8,7 +8,7 @@ use Rattle.sym_io.specs.Files.{Files}
 use Rattle.lp_model.specs.Program.{Program}
 use Rattle.mps_model.specs.Faults.{MeantModel}
 use Rattle.word_names.specs.WordNames.{HasWordNames}
-use Rattle.tree_edit.specs.Sound.{PlainSearch}
+use Rattle.sound_searches.specs.Sound.{PlainSearch}
 use Rattle.sym_env.specs.Env.{PlainEnv, Holds}
 use Rattle.sym_env.specs.declared.limits.Limits.{Limits}
 use Rattle.reply_texts.specs.Texts.{ok_text, memory_text}

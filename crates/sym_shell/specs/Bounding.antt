@@ -9,9 +9,9 @@ use Rattle.lp_model.specs.Program.{Program, Point, value, low_side, high_side, i
 use Rattle.lp_model.specs.declared.types.RowId.{RowId}
 use Rattle.lp_model.specs.declared.types.ColId.{ColId}
 use Rattle.model_edits.specs.Faults.{IsFirstUnknown}
-use Rattle.tree_edit.specs.Laws.{HasNoOpenLeaf}
-use Rattle.tree_edit.specs.Points.{IsIncumbent}
-use Rattle.tree_edit.specs.Sound.{PlainSearch}
+use Rattle.sound_searches.specs.Laws.{HasNoOpenLeaf}
+use Rattle.search_parts.specs.Points.{IsIncumbent}
+use Rattle.sound_searches.specs.Sound.{PlainSearch}
 use Rattle.dual_bounds.specs.Laws.{IsTrueLowerBound, IsTrueUpperBound}
 use Rattle.dual_bounds.specs.NewNumbers.{with_new_sides, with_new_costs, HasEqualSides, ArePresentSides, ArePresentCosts}
 use Rattle.dual_bounds.specs.TreeBounds.{IsTreeBoundAt, IsPointBound}

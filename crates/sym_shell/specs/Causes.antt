@@ -10,7 +10,7 @@ use Rattle.lp_model.specs.declared.types.Edit.{Edit as ModelEdit}
 use Rattle.model_edits.specs.Faults.{EditBad, IsFirstUnknown}
 use Rattle.model_edits.specs.declared.faults.EditFault.{EditFault}
 use Rattle.model_edits.specs.declared.faults.EditFault.TheVariants.{NoSuch, Duplicate, Limit, IntegerUnbounded, Ranged}
-use Rattle.tree_edit.specs.Sound.{PlainSearch}
+use Rattle.sound_searches.specs.Sound.{PlainSearch}
 use Rattle.search_file.specs.Files.{own_text, IsTextOf}
 use Rattle.warm_file.specs.Searches.{IsFault}
 use Rattle.sym_env.specs.Editing.{EditsTo}

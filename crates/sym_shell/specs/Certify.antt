@@ -3,7 +3,7 @@ use Rattle.std.specs.Prelude.{◌≡◌, ◌⊎◌, ℕ, ◌<◌, ◌≤◌, Lis
 use Rattle.sym_io.specs.Faults.{Rose}
 use Rattle.sym_io.specs.Files.{Files, KeepsOthers, Sets}
 use Rattle.sym_io.specs.declared.traits.TheConstants.{MAX_FILE_LENGTH}
-use Rattle.tree_edit.specs.Sound.{PlainSearch}
+use Rattle.sound_searches.specs.Sound.{PlainSearch}
 use Rattle.cert_text.specs.Text.{MeantCertificate as States}
 use Rattle.tree_cert.specs.Certificates.{unbounded_certificate}
 use Rattle.lp_model.specs.Program.{Point}

@@ -4,7 +4,7 @@ use Rattle.lp_model.specs.declared.types.Edit.{Edit}
 use Rattle.model_edits.specs.Faults.{EditBad}
 use Rattle.model_edits.specs.declared.faults.EditFault.{EditFault}
 use Rattle.model_edits.specs.declared.faults.EditFault.TheVariants.{NoSuch, Duplicate, Limit, IntegerUnbounded, Ranged, Memory}
-use Rattle.tree_edit.specs.Sound.{PlainSearch}
+use Rattle.sound_searches.specs.Sound.{PlainSearch}
 use Rattle.sym_env.specs.Env.{PlainEnv}
 use Rattle.sym_env.specs.Editing.{EditsTo}
 use Rattle.edit_words.specs.EditWords.{EditAsks, Edits, Misused, NoNumber}

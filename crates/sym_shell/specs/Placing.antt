@@ -8,9 +8,9 @@ use Rattle.lp_model.specs.declared.types.Row.{Row}
 use Rattle.lp_model.specs.declared.types.RowId.{RowId}
 use Rattle.lp_model.specs.declared.types.ColId.{ColId}
 use Rattle.model_edits.specs.Faults.{IsFirstUnknown}
-use Rattle.tree_edit.specs.Laws.{HasNoOpenLeaf}
-use Rattle.tree_edit.specs.Points.{IsIncumbent}
-use Rattle.tree_edit.specs.Sound.{PlainSearch}
+use Rattle.sound_searches.specs.Laws.{HasNoOpenLeaf}
+use Rattle.search_parts.specs.Points.{IsIncumbent}
+use Rattle.sound_searches.specs.Sound.{PlainSearch}
 use Rattle.dual_bounds.specs.NewNumbers.{HasEqualSides}
 use Rattle.dual_bounds.specs.declared.answers.LowerBound.{LowerBound}
 use Rattle.dual_bounds.specs.declared.answers.UpperBound.{UpperBound}

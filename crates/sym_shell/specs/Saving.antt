@@ -1,7 +1,7 @@
 -- What `trim`, `save F` and `restore F` may be answered, and what they leave.
 use Rattle.std.specs.Prelude.{◌≡◌, ◌⊎◌, ℕ, ◌≤◌, List, Option, Some, None}
 use Rattle.sym_io.specs.Faults.{Rose}
-use Rattle.tree_edit.specs.Sound.{PlainSearch}
+use Rattle.sound_searches.specs.Sound.{PlainSearch}
 use Rattle.search_file.specs.Files.{own_text, IsTextOf}
 use Rattle.warm_file.specs.Searches.{IsFault}
 use Rattle.sym_env.specs.Env.{PlainEnv}

@@ -16,8 +16,8 @@ use Rattle.lp_model.specs.declared.answers.Answer.TheVariants.{Optimal, Infeasib
 use Rattle.ray_phase.specs.Answers.{IsRayAnswer}
 use Rattle.ray_phase.specs.declared.phase.RayAnswer.TheVariants as phase
 use Rattle.search_counting.specs.Work.{cap_of}
-use Rattle.tree_edit.specs.Points.{IsIncumbent}
-use Rattle.tree_edit.specs.Sound.{PlainSearch}
+use Rattle.search_parts.specs.Points.{IsIncumbent}
+use Rattle.sound_searches.specs.Sound.{PlainSearch}
 use Rattle.sym_env.specs.Env.{PlainEnv}
 use Rattle.sym_env.specs.Truth.{IsCount, IsBound, IsFoundValue}
 use Rattle.sym_env.specs.declared.held.Held.{Held}

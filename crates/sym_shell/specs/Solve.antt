@@ -3,7 +3,7 @@ use Rattle.std.specs.Prelude.{◌≡◌, ◌⊎◌, ◌<◌, ℕ, List, Option, 
 use Rattle.lp_model.specs.Program.{Program}
 use Rattle.lp_model.specs.declared.answers.Answer.TheVariants.{Memory}
 use Rattle.search_counting.specs.Work.{cap_of}
-use Rattle.tree_edit.specs.Sound.{PlainSearch}
+use Rattle.sound_searches.specs.Sound.{PlainSearch}
 use Rattle.sym_env.specs.Enough.{IsEnough}
 use Rattle.sym_env.specs.Env.{PlainEnv, pool_in}
 use Rattle.sym_env.specs.Solves.{Solved, SolvesModel}

@@ -4,9 +4,9 @@ use Rattle.lp_model.specs.declared.answers.Answer.{Answer}
 use Rattle.lp_model.specs.declared.answers.Answer.TheVariants.{Memory}
 use Rattle.branch_tree.specs.Changes.{with_limit}
 use Rattle.search_counting.specs.Work.{whole_points, HasRoomFor}
-use Rattle.tree_edit.specs.Calls.{search_with_limit}
-use Rattle.tree_edit.specs.Laws.{HasNoOpenLeaf}
-use Rattle.tree_edit.specs.Sound.{PlainSearch}
+use Rattle.sound_searches.specs.Calls.{search_with_limit}
+use Rattle.sound_searches.specs.Laws.{HasNoOpenLeaf}
+use Rattle.sound_searches.specs.Sound.{PlainSearch}
 use Rattle.tree_search.specs.Extends.{Extends}
 use Rattle.sym_env.specs.Enough.{IsKeptEnough}
 use Rattle.sym_env.specs.Env.{PlainEnv, pool_in}

@@ -151,9 +151,15 @@ fn check_files<S: Store>(
     };
     let certificate = match read_certificate(alloc, store, cert) {
         Ok(certificate) => certificate,
-        Err(refusal) => return write_cert_refusal(reply, refusal),
+        Err(refusal) => {
+            drop(program);
+            return write_cert_refusal(reply, refusal);
+        }
     };
-    write_judged(alloc, reply, &program, &certificate)
+    let told = write_judged(alloc, reply, &program, &certificate);
+    drop(certificate);
+    drop(program);
+    told
 }
 
 /// What `check MODEL CERT` prints: the verdict on the certificate for the model, or the first fault of the names, of the

@@ -12,7 +12,8 @@
 //! certificate's file (`Checks`).
 //!
 //! Contract in one sentence: `run` writes the replies of one `Step` after the other, for all of the script's commands or,
-//! where something failed, for its first ones, or what a check says, and its status says which.
+//! where something failed, for its first ones, or what a check says, and its status says which. `run_program` calls it with the
+//! words of the command line and the real ends, and ends with its status.
 //!
 //! Below stand `program_words`, which says what the command line asks for; `script_session`, which reads the script and knows
 //! no command; `command_words`, which says what a line's words ask for, and `edit_words`, which reads edits and numbers beside names; `mps_model`, which reads
@@ -22,6 +23,7 @@
 
 mod bounding;
 mod checking;
+mod ends;
 mod filing;
 mod laws;
 mod placing;
@@ -29,8 +31,10 @@ mod program;
 mod reading;
 mod refusing;
 mod shell;
+mod words;
 
 pub use checking::check_text;
+pub use ends::run_program;
 pub use laws::told_law;
 pub use program::run;
 pub use reading::Refusal;

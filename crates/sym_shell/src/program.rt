@@ -23,7 +23,7 @@ const STATUS_USAGE: u8 = 2;
 
 const STATUS_SINK: u8 = 4;
 
-const STATUS_MEMORY: u8 = 5;
+pub(crate) const STATUS_MEMORY: u8 = 5;
 
 /// Runs the script with a fresh shell, and answers its status.
 fn run_commands<R: Source, W: Sink, S: Store>(

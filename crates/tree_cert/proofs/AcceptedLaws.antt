@@ -22,11 +22,11 @@ use Rattle.branch_tree.specs.declared.node.LeafData.{LeafData}
 use Rattle.leaf_judging.specs.declared.closing.LeafNumber.{LeafNumber}
 use Rattle.leaf_judging.specs.declared.closing.LeafNumber.TheVariants as number
 use Rattle.leaf_judging.specs.Closing.{IsRefuted, IsNumber, NumberCloses, StateSays, IsJudgedLeaf}
-use Rattle.tree_edit.specs.Laws.{HasNoOpenLeaf}
-use Rattle.tree_edit.specs.Lists.{AreMultipliers, HasLists, HasNodeLists}
-use Rattle.tree_edit.specs.Points.{IsKeepable, target, IsIncumbent, IsIncumbentAt}
-use Rattle.tree_edit.specs.Sound.{PlainSearch, formulation_of, IsSound}
-use Rattle.tree_edit.proofs.PointLemmas.{target-at}
+use Rattle.sound_searches.specs.Laws.{HasNoOpenLeaf}
+use Rattle.search_parts.specs.Lists.{AreMultipliers, HasLists, HasNodeLists}
+use Rattle.search_parts.specs.Points.{IsKeepable, target, IsIncumbent, IsIncumbentAt}
+use Rattle.sound_searches.specs.Sound.{PlainSearch, formulation_of, IsSound}
+use Rattle.search_parts.proofs.PointLemmas.{target-at}
 use Rattle.cert_text.specs.declared.cert.Claim.{Claim}
 use Rattle.cert_text.specs.declared.cert.Claim.TheVariants.{Optimal, Infeasible, Unbounded}
 use Rattle.cert_text.specs.declared.cert.CertMult.{CertMult}

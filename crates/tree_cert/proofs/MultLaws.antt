@@ -16,7 +16,7 @@ use Rattle.lp_model.specs.declared.types.Var.{Var}
 use Rattle.lp_model.specs.declared.types.Var.TheVariants.{Row, Col as ColVar, Cut}
 use Rattle.leaf_dual.specs.Dual.{Multipliers}
 use Rattle.kept_cuts.specs.Places.{index_among}
-use Rattle.tree_edit.specs.Lists.{IsActivityThere, AreMultipliers}
+use Rattle.search_parts.specs.Lists.{IsActivityThere, AreMultipliers}
 use Rattle.cert_text.specs.declared.cert.CertMult.{CertMult}
 use Rattle.cert_text.specs.declared.cert.CertMult.TheVariants as mult
 use Rattle.cert_check.specs.Places.{place_among}

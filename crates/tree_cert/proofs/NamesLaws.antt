@@ -22,8 +22,8 @@ use Rattle.leaf_dual.specs.Dual.{Multipliers}
 use Rattle.branch_tree.specs.Tree.{Leaf, Split, left_path, right_path, SplitsLawfully}
 use Rattle.branch_tree.specs.Plain.{Plain}
 use Rattle.branch_tree.specs.declared.node.LeafData.{LeafData}
-use Rattle.tree_edit.specs.Lists.{IsActivityThere, HasLists, HasNodeLists}
-use Rattle.tree_edit.specs.Sound.{PlainSearch, IsSound}
+use Rattle.search_parts.specs.Lists.{IsActivityThere, HasLists, HasNodeLists}
+use Rattle.sound_searches.specs.Sound.{PlainSearch, IsSound}
 use Rattle.cert_text.specs.declared.cert.CertMult.TheVariants as mult
 use Rattle.cert_text.specs.declared.cert.CertNode.{CertNode}
 use Rattle.cert_text.specs.declared.cert.CertNode.TheVariants as node

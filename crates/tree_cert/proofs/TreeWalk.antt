@@ -12,8 +12,8 @@ use Rattle.branch_tree.specs.Tree.{Leaf, Split, left_path, right_path, SplitsLaw
 use Rattle.branch_tree.specs.Plain.{Plain, preorder}
 use Rattle.branch_tree.specs.declared.node.Node.{Node}
 use Rattle.branch_tree.specs.declared.node.Node.TheVariants.{Leaf as LeafNode, Split as SplitNode}
-use Rattle.tree_edit.specs.Lists.{HasNodeLists}
-use Rattle.tree_edit.specs.Sound.{IsSoundTree}
+use Rattle.search_parts.specs.Lists.{HasNodeLists}
+use Rattle.sound_searches.specs.Sound.{IsSoundTree}
 use Rattle.cert_text.specs.declared.cert.CertNode.{CertNode}
 use Rattle.cert_text.specs.declared.cert.CertNode.TheVariants as cert
 use Rattle.cert_text.specs.Tree.{CertTree, certificate_nodes as cert_preorder}

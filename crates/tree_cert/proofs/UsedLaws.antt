@@ -19,7 +19,7 @@ use Rattle.leaf_dual.specs.Dual.{Multipliers}
 use Rattle.branch_tree.specs.Tree.{Leaf, Split, left_path, right_path}
 use Rattle.branch_tree.specs.Plain.{Plain}
 use Rattle.kept_cuts.specs.Places.{index_among}
-use Rattle.tree_edit.specs.Sound.{PlainSearch, formulation_of}
+use Rattle.sound_searches.specs.Sound.{PlainSearch, formulation_of}
 use Rattle.cert_text.specs.declared.cert.CertMult.{CertMult}
 use Rattle.cert_text.specs.declared.cert.CertMult.TheVariants as mult
 use Rattle.cert_text.specs.declared.cert.CertNode.{CertNode}

@@ -15,8 +15,8 @@ use Rattle.branch_tree.specs.Tree.{Leaf, Split, left_path, right_path}
 use Rattle.branch_tree.specs.Plain.{Plain}
 use Rattle.branch_tree.specs.declared.node.LeafData.{LeafData}
 use Rattle.leaf_judging.specs.Closing.{IsRefuted}
-use Rattle.tree_edit.specs.Points.{IsIncumbent}
-use Rattle.tree_edit.specs.Sound.{PlainSearch, formulation_of}
+use Rattle.search_parts.specs.Points.{IsIncumbent}
+use Rattle.sound_searches.specs.Sound.{PlainSearch, formulation_of}
 use Rattle.cert_text.specs.declared.cert.Claim.{Claim}
 use Rattle.cert_text.specs.declared.cert.Claim.TheVariants.{Optimal, Infeasible, Unbounded}
 use Rattle.cert_text.specs.declared.cert.NamedCut.{NamedCut}

@@ -2,7 +2,7 @@
 use Rattle.std.specs.Prelude.{List, ℕ}
 use Rattle.lp_model.specs.Program.{Program, Point}
 use Rattle.word_names.specs.WordNames.{HasWordNames}
-use Rattle.tree_edit.specs.Sound.{PlainSearch, IsSound}
+use Rattle.sound_searches.specs.Sound.{PlainSearch, IsSound}
 use Rattle.cert_text.specs.declared.cert.Cert.{Cert}
 use Rattle.cert_text.specs.Text.{MeantCertificate}
 use Rattle.tree_cert.specs.Certificates.{IsCertificateOf, unbounded_certificate}

@@ -6,7 +6,7 @@ use Rattle.lp_model.specs.Formulations.{Formulation}
 use Rattle.lp_model.specs.declared.types.Side.TheVariants.{Hi}
 use Rattle.branch_tree.specs.declared.node.Node.{Node}
 use Rattle.branch_tree.specs.declared.node.Node.TheVariants.{Leaf as LeafNode, Split as SplitNode}
-use Rattle.tree_edit.specs.Lists.{HasLists}
+use Rattle.search_parts.specs.Lists.{HasLists}
 use Rattle.cert_text.specs.declared.cert.CertNode.{CertNode}
 use Rattle.cert_text.specs.declared.cert.CertNode.TheVariants as cert
 use Rattle.cert_check.specs.Walk.{after_leaf}

@@ -1,7 +1,7 @@
 // Numbers beside the names of rows and columns, and cuts by names.
 ghost use Rattle.std.specs.Prelude.{◌≡◌, suc, ◌<◌, ◌++◌, [], length, map, All, IfOk};
 ghost use Rattle.lp_model.specs.Formulations.{formulation};
-ghost use Rattle.tree_edit.specs.Lists.{IsActivityThere, AreMultipliers};
+ghost use Rattle.search_parts.specs.Lists.{IsActivityThere, AreMultipliers};
 ghost use Rattle.tree_cert.specs.Certificates.{unless_zero, nonzero_numbers};
 ghost use Rattle.tree_cert.specs.Cuts.{named_literal, named_cut, derivation_at, named_cuts, cut_named, mult_named, mults_named};
 ghost use Rattle.tree_cert.specs.Marked.{IsDerivationThere};

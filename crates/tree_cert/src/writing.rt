@@ -3,9 +3,9 @@ ghost use Rattle.std.specs.Prelude.{◌≡◌, suc, true, IfOk, length, Option, 
 ghost use Rattle.lp_model.specs.Program.{Point};
 ghost use Rattle.lp_model.specs.Answers.{IsFeasibilityAnswer};
 ghost use Rattle.lp_model.specs.Rays.{IsRayJudged};
-ghost use Rattle.tree_edit.specs.Laws.{HasNoOpenLeaf};
-ghost use Rattle.tree_edit.specs.Sound.{IsSound, formulation_of};
-ghost use Rattle.tree_edit.specs.Points.{IsIncumbent};
+ghost use Rattle.sound_searches.specs.Laws.{HasNoOpenLeaf};
+ghost use Rattle.sound_searches.specs.Sound.{IsSound, formulation_of};
+ghost use Rattle.search_parts.specs.Points.{IsIncumbent};
 ghost use Rattle.cert_check.specs.Verdict.{IsVerdict};
 ghost use Rattle.cert_text.specs.Whole.{IsCertificate};
 ghost use Rattle.cert_text.specs.declared.cert.Claim.TheVariants.{Unbounded};

@@ -19,8 +19,8 @@ use Rattle.branch_tree.specs.Numbered.{NumberedTree}
 use Rattle.branch_tree.specs.Following.{gone_before, is_left, var_left, vars_left, mult_left, basis_left, branch_left, followed_edit, after_edit}
 use Rattle.branch_tree.proofs.FollowLemmas.{each_split-left}
 use Rattle.leaf_dual.specs.Dual.{Multipliers}
-use Rattle.tree_edit.specs.Lists.{IsThere, IsActivityThere, NamesOnce, AreMultipliers, IsBasis, HasNodeLists}
-use Rattle.tree_edit.specs.Sound.{IsSoundTree}
+use Rattle.search_parts.specs.Lists.{IsThere, IsActivityThere, NamesOnce, AreMultipliers, IsBasis, HasNodeLists}
+use Rattle.sound_searches.specs.Sound.{IsSoundTree}
 use Rattle.tree_edit.proofs.FollowSound.{pairs-map, follow-same}
 use Rattle.kept_cuts.specs.Kept.{gone_with, derivations_of, derivations_after}
 use Rattle.kept_cuts.proofs.Counted.{places-apart, place-there}

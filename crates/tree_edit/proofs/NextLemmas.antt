@@ -12,10 +12,10 @@ use Rattle.branch_tree.specs.declared.node.RegionLeaf.{RegionLeaf}
 use Rattle.leaf_judging.specs.declared.choosing.Candidate.{Candidate}
 use Rattle.leaf_judging.specs.declared.queue.LeafQueue.{LeafQueue}
 use Rattle.leaf_judging.specs.Choosing.{GoesFirst, IsCandidate, IsOneOf, GoesBeforeAll, AreClosed}
-use Rattle.tree_edit.specs.Calls.{IsNext}
-use Rattle.tree_edit.specs.Sound.{PlainSearch, formulation_of}
+use Rattle.sound_searches.specs.Calls.{IsNext}
+use Rattle.sound_searches.specs.Sound.{PlainSearch, formulation_of}
 use Rattle.leaf_judging.specs.Queued.{HasNone, IsFrontOf, SomeLeaf, IsQueued, IsQueueOf}
-use Rattle.tree_edit.proofs.SoundLemmas.{each-weaker}
+use Rattle.sound_searches.proofs.SoundLemmas.{each-weaker}
 
 two-parts : (path : Path) (kept : SplitKept) (j : ℕ) (v : ℤ) (left right : Plain) → region_leaves path (Split kept j v left right) ≡ region_leaves (left_path path j v) left ++ region_leaves (right_path path j v) right
 two-parts path kept j v left right = map-append region_leaf (leaves (left_path path j v) left) (leaves (right_path path j v) right)

@@ -19,10 +19,10 @@ use Rattle.leaf_judging.specs.declared.queue.LeafQueue.{LeafQueue}
 use Rattle.leaf_judging.specs.Closing.{IsNumber}
 use Rattle.leaf_judging.specs.Choosing.{IsCandidate}
 use Rattle.leaf_judging.specs.Queued.{Has, IsThat, AddsBoth, Removes, RemovesBoth, IsSameQueue, IsNew, SomeLeaf, IsQueued, IsQueueOf, IsRank, HasRank, HasMultipliers, HasState, IsChildCandidate, candidate_of}
-use Rattle.tree_edit.specs.Placing.{IsAt, split_node}
+use Rattle.sound_searches.specs.Placing.{IsAt, split_node}
 use Rattle.leaf_judging.proofs.JudgeLemmas.{rank_same}
-use Rattle.tree_edit.proofs.ClosedTree.{each_both}
-use Rattle.tree_edit.proofs.SoundLemmas.{each-weaker}
+use Rattle.sound_searches.proofs.ClosedTree.{each_both}
+use Rattle.sound_searches.proofs.SoundLemmas.{each-weaker}
 use Rattle.leaf_judging.proofs.QueueLemmas.{both-undone}
 use Rattle.leaf_judging.proofs.QueueLists.{child-candidate}
 use Rattle.tree_edit.proofs.QueuedLemmas.{some-put, some-id, each-changed, some-changed}

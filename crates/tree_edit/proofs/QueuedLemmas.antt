@@ -1,6 +1,6 @@
 -- The queue of a tree after one leaf is changed.
 use Rattle.std.specs.Prelude.{◌≡◌, ◌≢◌, ℕ, ◌<◌, Bool, true, false, [], Option, Some, None, nat_eq, if◌then◌else◌}
-use Rattle.std.specs.Option.{MatchOption, option_map, option_or}
+use Rattle.std.specs.Option.{MatchOption, option_or}
 use Rattle.std.proofs.Common.{refl, sym, subst, ap, ◌∙◌, arith, inl, inr}
 use Rattle.std.proofs.lemmas.Bool.{cases_lt}
 use Rattle.lp_model.specs.Regions.{Path}
@@ -10,7 +10,8 @@ use Rattle.branch_tree.specs.declared.node.LeafData.{LeafData}
 use Rattle.branch_tree.proofs.CountLemmas.{leaf_case, same_cases}
 use Rattle.branch_tree.proofs.LeafLemmas.{leaf_below-found, leaf_below-split}
 use Rattle.leaf_judging.specs.Queued.{SomeLeaf, HasMultipliers, HasState}
-use Rattle.tree_edit.proofs.SoundLemmas.{each-weaker}
+use Rattle.sound_searches.proofs.SoundLemmas.{each-weaker}
+use Rattle.sound_searches.proofs.PlaceLemmas.{leaf_of_data}
 
 -- ---- some leaf
 
@@ -92,10 +93,6 @@ module _ (id : ℕ) (found : Path × LeafKept) where
             in_left (omega arith) (e ∙ subst (λ z. option_or z (leaf_below id (right_path path j v) right) ≡ Some found) e g),
             found-none (right_path path j v) right (omega arith),
           )
-
-pub leaf_of_data : (o : Option (Path × LeafKept)) (kept : LeafData) → option_map (λ (l : Path × LeafKept). l.1.kept) o ≡ Some kept → (l : Path × LeafKept) × ((o ≡ Some l) × (l.1.kept ≡ kept))
-leaf_of_data None kept h = absurd (cc)
-leaf_of_data (Some l) kept h = (l, (refl, some_same l.1.kept kept h))
 
 -- each leaf with the id has the data that are found
 pub has-data : (id : ℕ) (t : Plain) (kept : LeafData) → leaves_with id t ≡ 1 → data_of id t ≡ Some kept → EachLeaf (λ p l. l.id ≡ id → l.kept ≡ kept) [] t

@@ -20,12 +20,13 @@ use Rattle.leaf_judging.specs.Judged.{AreJudged}
 use Rattle.leaf_judging.specs.Choosing.{finite_number}
 use Rattle.leaf_judging.specs.Queued.{IsRank, HasRank, HasMultipliers, HasState}
 use Rattle.leaf_judging.specs.Numbers.{kept_number, PutsNumber, KeepsOtherNumbers, KeepsOtherTwo, HasBoth, HasKept, AreNumbersOf}
-use Rattle.tree_edit.specs.Sound.{PlainSearch, formulation_of}
-use Rattle.tree_edit.specs.Calls.{IsLeafNumberAnswer}
-use Rattle.tree_edit.specs.Placing.{IsAt, split_node}
-use Rattle.tree_edit.proofs.ClosedTree.{each_both}
-use Rattle.tree_edit.proofs.SoundLemmas.{each-weaker, none_with}
-use Rattle.tree_edit.proofs.QueuedLemmas.{each-changed, leaf_of_data}
+use Rattle.sound_searches.specs.Sound.{PlainSearch, formulation_of}
+use Rattle.sound_searches.specs.Calls.{IsLeafNumberAnswer}
+use Rattle.sound_searches.specs.Placing.{IsAt, split_node}
+use Rattle.sound_searches.proofs.ClosedTree.{each_both}
+use Rattle.sound_searches.proofs.SoundLemmas.{each-weaker, none_with}
+use Rattle.tree_edit.proofs.QueuedLemmas.{each-changed}
+use Rattle.sound_searches.proofs.PlaceLemmas.{leaf_of_data}
 use Rattle.tree_edit.proofs.QueueChanges.{Own, owned}
 
 -- ---- what is kept

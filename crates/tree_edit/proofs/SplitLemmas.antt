@@ -17,16 +17,16 @@ use Rattle.branch_tree.specs.Changes.{HasLeaf, with_leaf, after_split}
 use Rattle.branch_tree.specs.declared.node.LeafData.{LeafData}
 use Rattle.branch_tree.proofs.CountLemmas.{leaf_case, same_cases, same_other}
 use Rattle.branch_tree.proofs.IdLemmas.{replaced-none}
-use Rattle.tree_edit.specs.Points.{target}
-use Rattle.tree_edit.specs.Lists.{HasLists, AreMultipliers, IsBasis}
-use Rattle.tree_edit.specs.Sound.{PlainSearch, formulation_of}
+use Rattle.search_parts.specs.Points.{target}
+use Rattle.search_parts.specs.Lists.{HasLists, AreMultipliers, IsBasis}
+use Rattle.sound_searches.specs.Sound.{PlainSearch, formulation_of}
 use Rattle.leaf_judging.specs.declared.numbers.LeafNumbers.{LeafNumbers}
 use Rattle.leaf_judging.specs.declared.queue.LeafQueue.{LeafQueue}
 use Rattle.leaf_judging.specs.Queued.{IsQueueOf}
 use Rattle.leaf_judging.specs.Numbers.{AreNumbersOf}
 use Rattle.tree_edit.specs.Indexed.{IsIndexed}
-use Rattle.tree_edit.specs.Placing.{IsAt, IsChild, IsSplitSound, split_node, tree_with_split, search_with_split}
-use Rattle.tree_edit.proofs.SoundLemmas.{tree-replaced, judged-replaced}
+use Rattle.sound_searches.specs.Placing.{IsAt, IsChild, IsSplitSound, split_node, tree_with_split, search_with_split}
+use Rattle.sound_searches.proofs.SoundLemmas.{tree-replaced, judged-replaced}
 
 -- ---- one change after another
 

@@ -15,11 +15,11 @@ use Rattle.leaf_judging.specs.declared.queue.LeafQueue.{LeafQueue}
 use Rattle.leaf_judging.specs.Judged.{JudgesAll}
 use Rattle.leaf_judging.specs.Numbers.{AreNumbersOf}
 use Rattle.leaf_judging.specs.Queued.{IsQueueOf}
-use Rattle.tree_edit.specs.Points.{target}
-use Rattle.tree_edit.specs.Lists.{IsActivityThere, HasNodeLists}
-use Rattle.tree_edit.specs.Sound.{PlainSearch, IsSoundTree, formulation_of}
+use Rattle.search_parts.specs.Points.{target}
+use Rattle.search_parts.specs.Lists.{IsActivityThere, HasNodeLists}
+use Rattle.sound_searches.specs.Sound.{PlainSearch, IsSoundTree, formulation_of}
 use Rattle.tree_edit.specs.Indexed.{IsIndexed}
-use Rattle.tree_edit.proofs.SoundLemmas.{tree-states}
+use Rattle.sound_searches.proofs.SoundLemmas.{tree-states}
 
 module _ (F : Formulation) where
   lists-trimmed : (depth last : ℕ) (t : Plain) → HasNodeLists F t → HasNodeLists F (trimmed depth last t)

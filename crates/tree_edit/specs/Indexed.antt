@@ -6,7 +6,7 @@ use Rattle.leaf_judging.specs.declared.numbers.LeafNumbers.{LeafNumbers}
 use Rattle.leaf_judging.specs.declared.queue.LeafQueue.{LeafQueue}
 use Rattle.leaf_judging.specs.Queued.{IsQueueOf}
 use Rattle.leaf_judging.specs.Numbers.{AreNumbersOf}
-use Rattle.tree_edit.specs.Sound.{PlainSearch, IsSound, formulation_of}
+use Rattle.sound_searches.specs.Sound.{PlainSearch, IsSound, formulation_of}
 
 -- the values of the points stand beside them, each leaf's number under its id, and the open leaves in the queue
 pub record IsIndexed (S : PlainSearch) (values : List ℚ) (numbers : LeafNumbers) (queue : LeafQueue) : Type 0 where

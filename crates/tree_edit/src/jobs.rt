@@ -1,7 +1,7 @@
 // What the work on a leaf begins from.
 ghost use Rattle.std.specs.Prelude.{◌≡◌, ◌↔◌, IsTrue, IfOk};
 ghost use Rattle.branch_tree.specs.declared.node.LeafState.TheVariants.{IsOpen};
-ghost use Rattle.tree_edit.specs.Jobs.{IsJobAnswer};
+ghost use Rattle.sound_searches.specs.Jobs.{IsJobAnswer};
 
 use crate::search::Search;
 use branch_tree::{Job, LeafState};

@@ -3,34 +3,18 @@ ghost use Rattle.std.specs.Prelude.{◌≡◌, ◌≤◌, All, length, map, IfOk
 ghost use Rattle.lp_model.specs.Program.{least_value};
 ghost use Rattle.lp_model.specs.Formulations.{formulation};
 ghost use Rattle.cover_cuts.specs.Cuts.{IsPoolOf};
-ghost use Rattle.tree_edit.specs.Points.{IsKeepable};
-ghost use Rattle.tree_edit.specs.Sound.{IsSoundTree};
-ghost use Rattle.tree_edit.specs.Edited.{AreValued, HasParts};
-ghost use Rattle.tree_edit.specs.Parts.{IsOfParts};
+ghost use Rattle.search_parts.specs.Points.{IsKeepable};
+ghost use Rattle.sound_searches.specs.Sound.{IsSoundTree};
+ghost use Rattle.sound_searches.specs.Edited.{HasParts};
+ghost use Rattle.sound_searches.specs.Parts.{IsOfParts};
 
-use crate::editing::KeptPoints;
-use crate::points::least_of;
 use crate::search::Search;
 use branch_tree::Tree;
 use cover_cuts::CutPool;
 use leaf_judging::judge_all;
-use lp_model::{List, Model, Point};
+use lp_model::{Model, Point};
+use search_parts::{KeptPoints, keepable_points, least_of};
 use std::alloc::{AllocError, Global};
-
-/// Copies of the points that may be kept, with their values in least form.
-fn keepable_points(alloc: Global, model: &Model, points: &[Point]) -> Result<KeptPoints, AllocError>
-    ensures { IfOk result (λ k. AreValued model.now points.now k.points.items k.values.items) }
-{
-    let mut kept = KeptPoints {
-        points: Vec::new(alloc),
-        values: Vec::new(alloc),
-    };
-    for point in points {
-        let copy = List::from_slice(alloc, point.as_slice())?;
-        kept.add(model, copy)?;
-    }
-    Ok(kept)
-}
 
 /// A search of these parts, the leaves of which are judged.
 fn with_kept(

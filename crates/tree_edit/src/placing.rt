@@ -6,16 +6,14 @@ ghost use Rattle.lp_model.specs.Formulations.{formulation};
 ghost use Rattle.branch_tree.specs.declared.node.LeafState.TheVariants.{IsOpen, IsClosed};
 ghost use Rattle.branch_tree.specs.declared.node.NodeResult.TheVariants.{PointAndClose, Keep};
 ghost use Rattle.leaf_judging.specs.Closing.{IsNumber, IsJudgedLeaf, ClosesBy};
-ghost use Rattle.tree_edit.specs.Points.{IsKeepable, target};
-ghost use Rattle.tree_edit.specs.Lists.{AreMultipliers, HasLists};
+ghost use Rattle.search_parts.specs.Points.{IsKeepable, target};
+ghost use Rattle.search_parts.specs.Lists.{AreMultipliers, HasLists};
 ghost use Rattle.branch_tree.specs.Leaves.{with_state};
 ghost use Rattle.leaf_judging.specs.Queued.{HasRank, HasMultipliers, HasState};
-ghost use Rattle.tree_edit.specs.Placing.{JoinsPoint, TakesPoint, HasLeafAt, search_with_leaf, TakesClose, TakesPointClose, PutsJudged, TakesKeep, TakesPointKeep, TakesBasis, IsStale, IsOpenPlace, Takes, closed_data, with_basis};
-ghost use Rattle.tree_edit.specs.Sound.{formulation_of};
+ghost use Rattle.tree_edit.specs.PlacingSteps.{JoinsPoint};
+ghost use Rattle.sound_searches.specs.Placing.{TakesPoint, HasLeafAt, search_with_leaf, TakesClose, TakesPointClose, PutsJudged, TakesKeep, TakesPointKeep, TakesBasis, IsStale, IsOpenPlace, Takes, closed_data, with_basis};
+ghost use Rattle.sound_searches.specs.Sound.{formulation_of};
 
-use crate::checks::keepable_value;
-use crate::lists::{has_lists, is_basis};
-use crate::points::{Joined, is_same_value, join_value, take_out};
 use crate::search::Search;
 use crate::splitting::Split;
 use branch_tree::{LeafData, LeafState, NodeResult};
@@ -23,26 +21,11 @@ use cover_cuts::CutPool;
 use frac128::Frac;
 use leaf_judging::{Candidate, LeafNumber, judge_again, number_closes, number_of, rank};
 use lp_model::{Basis, Model, Mult, Point, Region};
+use search_parts::{
+    Joined, has_lists, is_basis, is_same_value, join_value, keepable_value, take_out,
+};
+use sound_searches::Taken;
 use std::alloc::{AllocError, Global};
-
-/// What became of a result.
-#[derive(Clone, Copy, Debug, Drop)]
-pub enum Taken {
-    /// No open leaf has the id.
-    Stale,
-    /// A part of the result does not fit the model or the leaf.
-    Refused,
-    /// The leaf does not close by the result, and stays open.
-    Reopened,
-    /// There is no room for two more nodes.
-    Full,
-    /// The leaf is closed.
-    Closed,
-    /// The leaf is split.
-    Split,
-    /// The leaf stays, with the basis.
-    Kept,
-}
 
 impl Search {
     /// What the points' values come to with one more point, where it is feasible and no step lacks room.

@@ -1,24 +1,24 @@
 // A search: a model, its cuts, a tree and the kept points.
 ghost use Rattle.std.specs.Prelude.{◌≡◌, ◌⊎◌, None, IfOk, IfErr, OnOk, OnErr, length};
 ghost use Rattle.cover_cuts.specs.declared.pool.PoolFault.TheVariants.{Full, Memory};
-ghost use Rattle.tree_edit.specs.Pool.{AddsCut};
+ghost use Rattle.sound_searches.specs.Pool.{AddsCut};
 ghost use Rattle.std.specs.Option.{option_copied};
 ghost use Rattle.lp_model.specs.Formulations.{without_cuts};
 ghost use Rattle.branch_tree.specs.Leaves.{open_count};
 ghost use Rattle.branch_tree.specs.Changes.{first_tree};
-ghost use Rattle.tree_edit.specs.Points.{target, IsIncumbent};
-ghost use Rattle.tree_edit.specs.Sound.{IsSound};
+ghost use Rattle.search_parts.specs.Points.{target, IsIncumbent};
+ghost use Rattle.sound_searches.specs.Sound.{IsSound};
 ghost use Rattle.leaf_judging.specs.Judged.{JudgesAll};
 ghost use Rattle.leaf_judging.specs.Queued.{IsQueueOf};
 ghost use Rattle.leaf_judging.specs.Numbers.{AreNumbersOf};
-ghost use Rattle.tree_edit.specs.Calls.{IsNext, IsFresh, search_with_limit, IsLeafNumberAnswer};
+ghost use Rattle.sound_searches.specs.Calls.{IsNext, IsFresh, search_with_limit, IsLeafNumberAnswer};
 
-use crate::points::oldest_least;
 use branch_tree::Tree;
 use cover_cuts::{CutPool, PoolFault};
 use frac128::Frac;
 use leaf_judging::{LeafIndex, LeafNumber, LeafNumbers, LeafQueue, judge_all};
 use lp_model::{CutId, Derivation, Model, Point};
+use search_parts::oldest_least;
 use std::alloc::{AllocError, Global};
 
 /// How many nodes a new search may have.
@@ -40,9 +40,9 @@ pub struct Search {
 }
 
 impl std::marker::Model for Search {
-    ghost use Rattle.tree_edit.specs.Sound.{PlainSearch};
+    ghost use Rattle.sound_searches.specs.Sound.{PlainSearch};
     ghost use Rattle.tree_edit.specs.Indexed.{IsIndexed};
-    ghost use Rattle.tree_edit.specs.SearchCode.{search_code};
+    ghost use Rattle.sound_searches.specs.SearchCode.{search_code};
 
     ghost Value = { PlainSearch };
 

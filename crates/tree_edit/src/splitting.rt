@@ -5,16 +5,16 @@ ghost use Rattle.frac128.specs.Range.{largest};
 ghost use Rattle.branch_tree.specs.Tree.{left_path, right_path};
 ghost use Rattle.lp_model.specs.Regions.{AreNarrow, at_most, at_least};
 ghost use Rattle.branch_tree.specs.Changes.{HasLeaf, HasRoom};
-ghost use Rattle.tree_edit.specs.Placing.{HasLeafAt, IsNumberedChild, IsSplitSound, TakesSplit, tree_with_split};
-ghost use Rattle.tree_edit.specs.Sound.{formulation_of};
+ghost use Rattle.sound_searches.specs.Placing.{HasLeafAt, IsSplitSound, TakesSplit, tree_with_split};
+ghost use Rattle.tree_edit.specs.PlacingSteps.{IsNumberedChild};
+ghost use Rattle.sound_searches.specs.Sound.{formulation_of};
 
-use crate::checks::is_split_allowed;
-use crate::lists::{are_multipliers, is_basis};
-use crate::placing::Taken;
 use crate::search::Search;
 use branch_tree::{LeafData, Tree};
 use leaf_judging::{Candidate, LeafNumber, as_candidate, number_of, rank, state_by};
 use lp_model::{Basis, BoundChange, ColId, List, Mult, Region};
+use search_parts::{are_multipliers, is_basis, is_split_allowed};
+use sound_searches::Taken;
 use std::alloc::AllocError;
 
 /// A split of a leaf.

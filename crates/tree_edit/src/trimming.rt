@@ -1,7 +1,7 @@
 // A search whose tree is cut down. All that takes memory comes before the first change.
 ghost use Rattle.std.specs.Prelude.{◌≡◌, OnOk, OnErr};
-ghost use Rattle.tree_edit.specs.Sound.{IsSoundTree, formulation_of};
-ghost use Rattle.tree_edit.specs.Trimmed.{TakesTree, Trims};
+ghost use Rattle.sound_searches.specs.Sound.{IsSoundTree, formulation_of};
+ghost use Rattle.sound_searches.specs.Trimmed.{TakesTree, Trims};
 
 use crate::search::Search;
 use branch_tree::Tree;

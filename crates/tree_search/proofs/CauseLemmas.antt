@@ -19,9 +19,9 @@ use Rattle.leaf_dual.specs.Dual.{Multipliers}
 use Rattle.branch_tree.specs.Changes.{HasRoom}
 use Rattle.branch_tree.specs.declared.node.Job.{Job}
 use Rattle.branch_tree.specs.declared.node.NodeResult.TheVariants.{Split as SplitAt, PointAndClose}
-use Rattle.tree_edit.specs.Lists.{IsBasis}
+use Rattle.search_parts.specs.Lists.{IsBasis}
 use Rattle.kept_cuts.specs.Kept.{derivations_of}
-use Rattle.tree_edit.specs.Sound.{PlainSearch, IsSound}
+use Rattle.sound_searches.specs.Sound.{PlainSearch, IsSound}
 use Rattle.search_counting.specs.Work.{whole_points, cap_of, HasRoomFor, work_of, splits_of, IsRoomy}
 use Rattle.search_counting.proofs.CapLemmas.{work-cap, splits-cap}
 use Rattle.search_counting.proofs.LowerLemmas.{has-room}

@@ -27,17 +27,17 @@ use Rattle.leaf_judging.specs.declared.closing.LeafNumber.{LeafNumber}
 use Rattle.leaf_judging.specs.Closing.{NumberCloses, StateSays, IsJudged, IsJudgedLeaf}
 use Rattle.leaf_judging.specs.Judged.{AreJudged}
 use Rattle.leaf_judging.proofs.JudgeLemmas.{closes_same}
-use Rattle.tree_edit.specs.declared.placing.Taken.{Taken}
-use Rattle.tree_edit.specs.declared.placing.Taken.TheVariants.{Stale, Refused, Reopened, Full, Closed, Split as SplitTaken, Kept}
-use Rattle.tree_edit.specs.Calls.{IsLeafAt}
-use Rattle.tree_edit.specs.Lists.{HasNodeLists}
-use Rattle.tree_edit.specs.Points.{target, IsKeepable}
-use Rattle.tree_edit.specs.Pool.{search_with_cut, AddsCuts}
-use Rattle.tree_edit.specs.Sound.{PlainSearch, formulation_of, IsSound}
-use Rattle.tree_edit.specs.Placing.{TakesPoint, TakesClose, TakesSplit, TakesPointClose, TakesKeep, TakesPointKeep, TakesResult, TakesOpen, Takes, search_with_leaf, split_node, closed_data, with_basis}
-use Rattle.tree_edit.proofs.FurtherCut.{lists-more, judged-more, each-more}
-use Rattle.tree_edit.proofs.SoundLemmas.{each-weaker}
-use Rattle.tree_edit.proofs.TakenLemmas.{old_closes}
+use Rattle.sound_searches.specs.declared.taken.Taken.{Taken}
+use Rattle.sound_searches.specs.declared.taken.Taken.TheVariants.{Stale, Refused, Reopened, Full, Closed, Split as SplitTaken, Kept}
+use Rattle.sound_searches.specs.Calls.{IsLeafAt}
+use Rattle.search_parts.specs.Lists.{HasNodeLists}
+use Rattle.search_parts.specs.Points.{target, IsKeepable}
+use Rattle.sound_searches.specs.Pool.{search_with_cut, AddsCuts}
+use Rattle.sound_searches.specs.Sound.{PlainSearch, formulation_of, IsSound}
+use Rattle.sound_searches.specs.Placing.{TakesPoint, TakesClose, TakesSplit, TakesPointClose, TakesKeep, TakesPointKeep, TakesResult, TakesOpen, Takes, search_with_leaf, split_node, closed_data, with_basis}
+use Rattle.sound_searches.proofs.FurtherCut.{lists-more, judged-more, each-more}
+use Rattle.sound_searches.proofs.SoundLemmas.{each-weaker}
+use Rattle.sound_searches.proofs.TakenLemmas.{old_closes}
 use Rattle.search_counting.proofs.LeafLemmas.{once, at_leaf}
 use Rattle.node_solve.proofs.AddedLemmas.{more-cuts}
 use Rattle.tree_search.specs.Steps.{kept_basis, KeepsOpen, Places, StopsAtNext}

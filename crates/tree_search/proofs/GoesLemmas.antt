@@ -7,9 +7,9 @@ use Rattle.lp_model.specs.declared.types.Derivation.{Derivation}
 use Rattle.lp_model.specs.declared.answers.StopWhy.{StopWhy}
 use Rattle.lp_model.specs.declared.answers.StopWhy.TheVariants as why
 use Rattle.branch_tree.specs.Numbered.{IsNumbered}
-use Rattle.tree_edit.specs.Laws.{HasNoOpenLeaf}
-use Rattle.tree_edit.specs.Pool.{AddsCuts, AddsAny}
-use Rattle.tree_edit.specs.Sound.{PlainSearch, IsSound}
+use Rattle.sound_searches.specs.Laws.{HasNoOpenLeaf}
+use Rattle.sound_searches.specs.Pool.{AddsCuts, AddsAny}
+use Rattle.sound_searches.specs.Sound.{PlainSearch, IsSound}
 use Rattle.search_counting.specs.Work.{work_of, IsRoomy, Lowers}
 use Rattle.tree_search.specs.Steps.{HasOpenLeaf, WorksNext, Places, PlacesMany, Goes, PointAtNext, StopsAtNext}
 use Rattle.tree_search.specs.Search.{StopsFor, IsLeft, GivesUp}

@@ -9,9 +9,9 @@ use Rattle.lp_model.proofs.SamePointsLemmas.{same_points}
 use Rattle.branch_tree.specs.Tree.{Tree, Leaf, Split, left_path, right_path, EachLeaf, SplitsLawfully}
 use Rattle.branch_tree.specs.declared.node.Job.{Job}
 use Rattle.branch_tree.proofs.PathLaws.{path-found}
-use Rattle.tree_edit.specs.Jobs.{IsJobOf}
-use Rattle.tree_edit.specs.Sound.{PlainSearch, IsSound}
-use Rattle.tree_edit.proofs.PlaceLemmas.{narrow-found}
+use Rattle.sound_searches.specs.Jobs.{IsJobOf}
+use Rattle.sound_searches.specs.Sound.{PlainSearch, IsSound}
+use Rattle.sound_searches.proofs.PlaceLemmas.{narrow-found}
 use Rattle.search_counting.proofs.LeafLemmas.{open-found}
 use Rattle.node_solve.specs.Runs.{NamesIntegers}
 use Rattle.tree_search.specs.Steps.{worked_model, IsWayFor, IsBesideRay}

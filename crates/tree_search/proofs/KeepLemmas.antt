@@ -33,18 +33,18 @@ use Rattle.leaf_judging.specs.declared.closing.LeafNumber.{LeafNumber}
 use Rattle.leaf_judging.specs.declared.closing.LeafNumber.TheVariants.{Empty, Lag, Wide}
 use Rattle.leaf_judging.specs.Closing.{IsNumber, NumberCloses, StateSays, IsJudged}
 use Rattle.leaf_judging.proofs.JudgeLemmas.{judged_same}
-use Rattle.tree_edit.specs.declared.placing.Taken.{Taken}
-use Rattle.tree_edit.specs.declared.placing.Taken.TheVariants.{Stale, Refused, Reopened, Full, Closed, Split, Kept}
-use Rattle.tree_edit.specs.Calls.{IsLeafAt, IsOpenLeaf}
-use Rattle.tree_edit.specs.Jobs.{IsJobOf}
-use Rattle.tree_edit.specs.Lists.{IsBasis}
-use Rattle.tree_edit.specs.Placing.{IsAt, PutsJudged, TakesPoint, TakesOpen, Takes, with_basis, search_with_leaf}
-use Rattle.tree_edit.specs.Points.{IsKeepable, target}
-use Rattle.tree_edit.specs.Pool.{AddsCut, AddsCuts}
-use Rattle.tree_edit.specs.Sound.{PlainSearch, formulation_of, IsSound}
-use Rattle.tree_edit.proofs.ClosedTree.{set_aside-none, valid-sound}
-use Rattle.tree_edit.proofs.SoundLemmas.{is_at, is_at-states}
-use Rattle.tree_edit.proofs.OpenLemmas.{leaf_at, open-judged}
+use Rattle.sound_searches.specs.declared.taken.Taken.{Taken}
+use Rattle.sound_searches.specs.declared.taken.Taken.TheVariants.{Stale, Refused, Reopened, Full, Closed, Split, Kept}
+use Rattle.sound_searches.specs.Calls.{IsLeafAt, IsOpenLeaf}
+use Rattle.sound_searches.specs.Jobs.{IsJobOf}
+use Rattle.search_parts.specs.Lists.{IsBasis}
+use Rattle.sound_searches.specs.Placing.{IsAt, PutsJudged, TakesPoint, TakesOpen, Takes, with_basis, search_with_leaf}
+use Rattle.search_parts.specs.Points.{IsKeepable, target}
+use Rattle.sound_searches.specs.Pool.{AddsCut, AddsCuts}
+use Rattle.sound_searches.specs.Sound.{PlainSearch, formulation_of, IsSound}
+use Rattle.sound_searches.proofs.ClosedTree.{set_aside-none, valid-sound}
+use Rattle.sound_searches.proofs.SoundLemmas.{is_at, is_at-states}
+use Rattle.sound_searches.proofs.OpenLemmas.{leaf_at, open-judged}
 use Rattle.search_counting.proofs.LeafLemmas.{once, some_is}
 use Rattle.node_solve.specs.Runs.{NamesIntegers}
 use Rattle.node_solve.proofs.AddedLemmas.{more-cuts}

@@ -13,14 +13,14 @@ use Rattle.leaf_dual.specs.Dual.{Multipliers}
 use Rattle.branch_tree.specs.Numbered.{IsNumbered}
 use Rattle.branch_tree.specs.declared.node.Job.{Job}
 use Rattle.branch_tree.specs.declared.node.NodeResult.TheVariants.{PointAndClose, Keep}
-use Rattle.tree_edit.specs.declared.placing.Taken.{Taken}
-use Rattle.tree_edit.specs.declared.placing.Taken.TheVariants.{Kept}
-use Rattle.tree_edit.specs.Placing.{Takes, TakesOpen}
-use Rattle.tree_edit.specs.Jobs.{IsJobOf}
-use Rattle.tree_edit.specs.Lists.{IsBasis}
-use Rattle.tree_edit.specs.Points.{IsKeepable}
-use Rattle.tree_edit.specs.Pool.{AddsCuts}
-use Rattle.tree_edit.specs.Sound.{PlainSearch, formulation_of, IsSound}
+use Rattle.sound_searches.specs.declared.taken.Taken.{Taken}
+use Rattle.sound_searches.specs.declared.taken.Taken.TheVariants.{Kept}
+use Rattle.sound_searches.specs.Placing.{Takes, TakesOpen}
+use Rattle.sound_searches.specs.Jobs.{IsJobOf}
+use Rattle.search_parts.specs.Lists.{IsBasis}
+use Rattle.search_parts.specs.Points.{IsKeepable}
+use Rattle.sound_searches.specs.Pool.{AddsCuts}
+use Rattle.sound_searches.specs.Sound.{PlainSearch, formulation_of, IsSound}
 use Rattle.node_solve.specs.Rounds.{IsWorked}
 use Rattle.node_solve.specs.declared.working.Worked.TheVariants.{Done}
 use Rattle.node_solve.proofs.AddedLemmas.{more-cuts}

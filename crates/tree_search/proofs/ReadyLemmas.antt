@@ -7,11 +7,11 @@ use Rattle.lp_model.specs.declared.types.Basis.{Basis}
 use Rattle.lp_model.specs.declared.types.Derivation.{Derivation}
 use Rattle.branch_tree.specs.declared.node.NodeResult.{NodeResult}
 use Rattle.branch_tree.specs.declared.node.NodeResult.TheVariants.{Close, Split as SplitAt, PointAndClose, Keep}
-use Rattle.tree_edit.specs.declared.placing.Taken.{Taken}
-use Rattle.tree_edit.specs.declared.placing.Taken.TheVariants.{Stale, Refused, Reopened, Full, Closed, Split, Kept}
-use Rattle.tree_edit.specs.Placing.{Takes}
-use Rattle.tree_edit.specs.Pool.{AddsCuts}
-use Rattle.tree_edit.specs.Sound.{PlainSearch}
+use Rattle.sound_searches.specs.declared.taken.Taken.{Taken}
+use Rattle.sound_searches.specs.declared.taken.Taken.TheVariants.{Stale, Refused, Reopened, Full, Closed, Split, Kept}
+use Rattle.sound_searches.specs.Placing.{Takes}
+use Rattle.sound_searches.specs.Pool.{AddsCuts}
+use Rattle.sound_searches.specs.Sound.{PlainSearch}
 use Rattle.search_counting.specs.Laws.{IsEffective}
 use Rattle.dual_simplex.specs.SlackBases.{IsRootBasis}
 use Rattle.node_solve.proofs.AddedLemmas.{more-cuts}

@@ -19,9 +19,9 @@ use Rattle.leaf_dual.specs.Answers.{side_number, RowEntriesFit, CutEntriesFit, E
 use Rattle.leaf_dual.specs.declared.dual.LagValue.{LagValue}
 use Rattle.leaf_dual.specs.declared.dual.LagValue.TheVariants.{Minus, Num}
 use Rattle.leaf_judging.specs.Closing.{IsRefuted}
-use Rattle.tree_edit.specs.Checks.{IsFrom, IsUnder, IsSplitAllowed}
-use Rattle.tree_edit.specs.Lists.{IsThere, IsActivityThere, NamesOnce, AreMultipliers, IsBasis}
-use Rattle.tree_edit.specs.Points.{IsKeepable}
+use Rattle.search_parts.specs.Checks.{IsFrom, IsUnder, IsSplitAllowed}
+use Rattle.search_parts.specs.Lists.{IsThere, IsActivityThere, NamesOnce, AreMultipliers, IsBasis}
+use Rattle.search_parts.specs.Points.{IsKeepable}
 
 module _ (M : Program) where
   abbrev Z : Program

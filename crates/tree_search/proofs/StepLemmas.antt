@@ -16,14 +16,14 @@ use Rattle.branch_tree.specs.declared.node.LeafState.TheVariants.{IsOpen, IsClos
 use Rattle.branch_tree.proofs.PathLaws.{each-found}
 use Rattle.branch_tree.proofs.TreeLemmas.{each_leaf-leaves}
 use Rattle.leaf_judging.specs.Choosing.{IsOneOf, IsCandidate, AreClosed}
-use Rattle.tree_edit.specs.Sound.{PlainSearch, formulation_of}
-use Rattle.tree_edit.specs.Calls.{IsLeafAt, IsOpenLeaf, IsNext}
-use Rattle.tree_edit.specs.Jobs.{IsJobOf}
+use Rattle.sound_searches.specs.Sound.{PlainSearch, formulation_of}
+use Rattle.sound_searches.specs.Calls.{IsLeafAt, IsOpenLeaf, IsNext}
+use Rattle.sound_searches.specs.Jobs.{IsJobOf}
 use Rattle.tree_search.specs.Steps.{IsNextJob, HasOpenLeaf}
 use Rattle.branch_tree.specs.declared.node.Job.{Job}
-use Rattle.tree_edit.specs.Laws.{HasNoOpenLeaf}
-use Rattle.tree_edit.specs.Placing.{IsStale}
-use Rattle.tree_edit.proofs.OpenLemmas.{leaf_at}
+use Rattle.sound_searches.specs.Laws.{HasNoOpenLeaf}
+use Rattle.sound_searches.specs.Placing.{IsStale}
+use Rattle.sound_searches.proofs.OpenLemmas.{leaf_at}
 use Rattle.search_counting.proofs.LeafLemmas.{once, found_each}
 
 -- each of the leaves is the one with its id

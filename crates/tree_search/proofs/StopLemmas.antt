@@ -12,8 +12,8 @@ use Rattle.leaf_dual.specs.Dual.{Multipliers}
 use Rattle.branch_tree.specs.declared.node.Job.{Job}
 use Rattle.branch_tree.specs.declared.node.NodeResult.{NodeResult}
 use Rattle.branch_tree.specs.declared.node.NodeResult.TheVariants.{Close, Split as SplitAt, PointAndClose, Keep}
-use Rattle.tree_edit.specs.Pool.{AddsCuts, AddsSome, AddsAny}
-use Rattle.tree_edit.specs.Sound.{PlainSearch}
+use Rattle.sound_searches.specs.Pool.{AddsCuts, AddsSome, AddsAny}
+use Rattle.sound_searches.specs.Sound.{PlainSearch}
 use Rattle.kept_cuts.specs.Kept.{derivations_of}
 use Rattle.node_solve.specs.Places.{live_cuts, live_places, basis_in_relaxation, basis_in_pool}
 use Rattle.node_solve.specs.declared.working.Worked.{Worked}

@@ -11,8 +11,8 @@ use Rattle.leaf_dual.specs.Dual.{Multipliers}
 use Rattle.leaf_dual.specs.Answers.{IsLagAnswer}
 use Rattle.leaf_dual.specs.declared.dual.LagValue.{LagValue}
 use Rattle.branch_tree.specs.declared.node.LeafData.{LeafData}
-use Rattle.tree_edit.specs.Calls.{IsLeafAt, IsNext}
-use Rattle.tree_edit.specs.Sound.{PlainSearch, formulation_of}
+use Rattle.sound_searches.specs.Calls.{IsLeafAt, IsNext}
+use Rattle.sound_searches.specs.Sound.{PlainSearch, formulation_of}
 
 -- r is q, rounded up where the objective is whole
 abbrev pub IsRounded : Program → ℚ → ℚ → Type 0

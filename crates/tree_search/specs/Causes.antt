@@ -9,7 +9,7 @@ use Rattle.lp_model.specs.declared.answers.PivotPlace.{PivotPlace}
 use Rattle.lp_model.specs.declared.answers.WideAt.{WideAt}
 use Rattle.lp_model.specs.declared.answers.StopWhy.{StopWhy}
 use Rattle.lp_model.specs.declared.answers.StopWhy.TheVariants.{Nodes, Tree, Pivots, Wide}
-use Rattle.tree_edit.specs.Sound.{PlainSearch}
+use Rattle.sound_searches.specs.Sound.{PlainSearch}
 use Rattle.search_counting.specs.Work.{whole_points, cap_of, HasRoomFor, work_of, IsRoomy}
 use Rattle.basic_solution.specs.Held.{Held}
 use Rattle.dual_simplex.specs.Answers.{HasLeaving}

@@ -8,7 +8,7 @@ use Rattle.lp_model.specs.Regions.{Path, InRegion}
 use Rattle.leaf_dual.specs.Dual.{Multipliers}
 use Rattle.leaf_dual.specs.Answers.{IsLagAnswer}
 use Rattle.leaf_dual.specs.declared.dual.LagValue.TheVariants.{Num}
-use Rattle.tree_edit.specs.Sound.{PlainSearch}
+use Rattle.sound_searches.specs.Sound.{PlainSearch}
 use Rattle.node_solve.specs.Runs.{NamesIntegers}
 use Rattle.tree_search.specs.Bounds.{IsBoundOf}
 

@@ -10,11 +10,11 @@ use Rattle.lp_model.specs.declared.answers.StopWhy.{StopWhy}
 use Rattle.lp_model.specs.declared.answers.StopWhy.TheVariants as why
 use Rattle.lp_model.specs.declared.answers.Answer.{Answer}
 use Rattle.lp_model.specs.declared.answers.Answer.TheVariants as answer
-use Rattle.tree_edit.specs.Points.{target, IsIncumbent}
-use Rattle.tree_edit.specs.Calls.{IsOpenLeaf}
-use Rattle.tree_edit.specs.Laws.{HasNoOpenLeaf, IsNoBetter}
-use Rattle.tree_edit.specs.Sound.{PlainSearch}
-use Rattle.tree_edit.specs.Pool.{AddsAny}
+use Rattle.search_parts.specs.Points.{target, IsIncumbent}
+use Rattle.sound_searches.specs.Calls.{IsOpenLeaf}
+use Rattle.sound_searches.specs.Laws.{HasNoOpenLeaf, IsNoBetter}
+use Rattle.sound_searches.specs.Sound.{PlainSearch}
+use Rattle.sound_searches.specs.Pool.{AddsAny}
 use Rattle.search_counting.specs.Work.{cap_of}
 use Rattle.tree_search.specs.Bounds.{IsBoundOf}
 use Rattle.tree_search.specs.Steps.{HasOpenLeaf, Goes, PointAtNext, StopsAtNext}

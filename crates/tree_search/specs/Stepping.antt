@@ -1,6 +1,6 @@
 -- The steps of a search one by one, for the calls that make them.
 use Rattle.std.specs.Prelude.{ℕ, ◌≤◌}
-use Rattle.tree_edit.specs.Sound.{PlainSearch}
+use Rattle.sound_searches.specs.Sound.{PlainSearch}
 use Rattle.search_counting.specs.Work.{Lowers}
 use Rattle.branch_tree.specs.declared.node.Job.{Job}
 use Rattle.node_solve.specs.declared.working.Worked.{Worked}

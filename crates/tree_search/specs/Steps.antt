@@ -20,12 +20,12 @@ use Rattle.branch_tree.specs.Changes.{HasRoom}
 use Rattle.branch_tree.specs.declared.node.Job.{Job}
 use Rattle.branch_tree.specs.declared.node.NodeResult.{NodeResult}
 use Rattle.branch_tree.specs.declared.node.NodeResult.TheVariants.{Close, Split, PointAndClose, Keep}
-use Rattle.tree_edit.specs.declared.placing.Taken.{Taken}
-use Rattle.tree_edit.specs.declared.placing.Taken.TheVariants.{Kept}
-use Rattle.tree_edit.specs.Placing.{Takes, TakesOpen}
-use Rattle.tree_edit.specs.Sound.{PlainSearch, IsSound}
-use Rattle.tree_edit.specs.Calls.{IsOpenLeaf, IsNext}
-use Rattle.tree_edit.specs.Jobs.{IsJobOf}
+use Rattle.sound_searches.specs.declared.taken.Taken.{Taken}
+use Rattle.sound_searches.specs.declared.taken.Taken.TheVariants.{Kept}
+use Rattle.sound_searches.specs.Placing.{Takes, TakesOpen}
+use Rattle.sound_searches.specs.Sound.{PlainSearch, IsSound}
+use Rattle.sound_searches.specs.Calls.{IsOpenLeaf, IsNext}
+use Rattle.sound_searches.specs.Jobs.{IsJobOf}
 use Rattle.search_counting.specs.Work.{work_of, IsRoomy}
 use Rattle.search_counting.specs.Laws.{IsEffective}
 use Rattle.dual_simplex.specs.SlackBases.{IsRootBasis}
@@ -36,7 +36,7 @@ use Rattle.lp_model.specs.declared.types.Derivation.{Derivation}
 use Rattle.std.specs.declared.alloc.Global.{Global}
 use Rattle.std.specs.declared.vec.Vec.{Vec}
 use Rattle.kept_cuts.specs.Kept.{derivations_of}
-use Rattle.tree_edit.specs.Pool.{AddsCuts}
+use Rattle.sound_searches.specs.Pool.{AddsCuts}
 use Rattle.node_solve.specs.declared.working.Worked.{Worked}
 use Rattle.node_solve.specs.declared.working.Worked.TheVariants.{Done, Pivots, Wide}
 use Rattle.tree_search.specs.Extends.{Extends}

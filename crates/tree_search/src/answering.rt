@@ -1,6 +1,6 @@
 // What the end of a search shows.
 ghost use Rattle.std.specs.Prelude.{◌≡◌, IfOk};
-ghost use Rattle.tree_edit.specs.Laws.{HasNoOpenLeaf};
+ghost use Rattle.sound_searches.specs.Laws.{HasNoOpenLeaf};
 ghost use Rattle.tree_search.specs.Steps.{HasOpenLeaf};
 ghost use Rattle.tree_search.specs.Bounds.{IsBoundOf};
 ghost use Rattle.tree_search.specs.Search.{best_value, IsLeft, IsFinishedAnswer, IsStoppedAnswer, IsAnswerAtEnd};

@@ -1,14 +1,16 @@
 // One step of a search: the leaf that goes first is worked, and what comes of it is placed.
-ghost use Rattle.std.specs.Prelude.{◌≡◌, ◌<◌, ◌≤◌, ◌+◌, [], length, IfOk, OnOk, OnErr, Some, None};
+ghost use Rattle.std.specs.Prelude.{◌≡◌, ◌<◌, ◌≤◌, ◌+◌, [], length, IfOk, OnOk, OnErr, Some, None, Ok, Err};
+ghost use Rattle.lp_model.specs.Program.{value};
+ghost use Rattle.lp_model.specs.Answers.{IsValueAnswer};
 ghost use Rattle.lp_model.specs.Lawful.{IsLawful};
 ghost use Rattle.branch_tree.specs.Numbered.{IsNumbered};
 ghost use Rattle.branch_tree.specs.declared.node.NodeResult.TheVariants.{PointAndClose};
-ghost use Rattle.tree_edit.specs.Calls.{IsNext};
-ghost use Rattle.tree_edit.specs.Jobs.{IsJobOf};
-ghost use Rattle.tree_edit.specs.Lists.{IsBasis};
-ghost use Rattle.tree_edit.specs.Sound.{PlainSearch, IsSound, formulation_of};
+ghost use Rattle.sound_searches.specs.Calls.{IsNext};
+ghost use Rattle.sound_searches.specs.Jobs.{IsJobOf};
+ghost use Rattle.search_parts.specs.Lists.{IsBasis};
+ghost use Rattle.sound_searches.specs.Sound.{PlainSearch, IsSound, formulation_of};
 ghost use Rattle.kept_cuts.specs.Kept.{derivations_of};
-ghost use Rattle.tree_edit.specs.Pool.{AddsCut, AddsCuts, AddsSome, AddsAny};
+ghost use Rattle.sound_searches.specs.Pool.{AddsCut, AddsCuts, AddsSome, AddsAny};
 ghost use Rattle.node_solve.specs.Places.{live_cuts, live_places, basis_in_relaxation};
 ghost use Rattle.node_solve.specs.declared.working.Worked.TheVariants.{Done, Pivots, Wide};
 ghost use Rattle.tree_search.specs.Steps.{FoundCuts, kept_basis, IsNextJob, KeepsOpen, IsPlacedBy, IsRayWay};
@@ -17,7 +19,10 @@ ghost use Rattle.tree_search.specs.Stepping.{IsReady, Steps, WorksBy};
 use crate::searching::Ways;
 use branch_tree::{Job, NodeResult};
 use cover_cuts::PoolFault;
-use lp_model::{Basis, CutRow, Derivation, List, Mult, PivotPlace, Point, StopWhy, WideAt};
+use kept_cuts::{copy_derivation, derivations};
+use lp_model::{
+    Basis, CutRow, Derivation, List, Mult, PivotPlace, Point, StopWhy, WideAt, WideStep,
+};
 use node_solve::{LiveCuts, Worked, basis_in_pool, basis_in_relaxation, work};
 use std::alloc::{AllocError, Global};
 use tree_edit::{Search, Taken};
@@ -96,24 +101,6 @@ fn work_on(alloc: Global, search: &Search, limits: &Limits<'_>, job: &Job) -> Wo
     }
 }
 
-/// An equal derivation.
-fn copy_derivation(from: &Derivation) -> Result<Derivation, AllocError>
-    ensures { IfOk result (λ own. own ≡ from.now) }
-{
-    from.clone()
-}
-
-/// The derivations of cuts.
-fn derivations(alloc: Global, cuts: &[CutRow]) -> Result<List<Derivation>, AllocError>
-    ensures { IfOk result (λ ds. ds ≡ derivations_of cuts.now) }
-{
-    let mut list = List::new(alloc);
-    for cut in cuts {
-        list.push(copy_derivation(&cut.from)?)?;
-    }
-    Ok(list)
-}
-
 /// Adds a cut that was found. There is room in the pool.
 fn add_cut(search: &mut Search, from: Derivation) -> Result<(), AllocError>
     requires { length search.old.cuts < 10000 }
@@ -189,15 +176,15 @@ fn stop_by_step(
     alloc: Global,
     search: &mut Search,
     limits: &Limits<'_>,
-    job: Job,
+    job: &Job,
     at: WideAt,
 ) -> Result<Stepped, AllocError>
     requires ready { IsReady limits.now search.old }
-    requires works { (begin : PlainSearch) × ((found : FoundCuts) × (WorksBy limits.now begin job (Wide at found) × AddsCuts begin found.items search.old)) }
-    ensures steps { IfOk result (λ stepped. (begin : PlainSearch) (found : FoundCuts) → WorksBy limits.now begin job (Wide at found) → AddsCuts begin found.items search.old → Steps limits.now begin search.new stepped) }
+    requires works { (begin : PlainSearch) × ((found : FoundCuts) × (WorksBy limits.now begin job.now (Wide at found) × AddsCuts begin found.items search.old)) }
+    ensures steps { IfOk result (λ stepped. (begin : PlainSearch) (found : FoundCuts) → WorksBy limits.now begin job.now (Wide at found) → AddsCuts begin found.items search.old → Steps limits.now begin search.new stepped) }
     ensures kept { OnErr result (search.new ≡ search.old) }
 {
-    keep_basis(alloc, search, &job, &at.basis)?;
+    keep_basis(alloc, search, job, &at.basis)?;
     Ok(Stepped::Stopped(StopWhy::Wide(at)))
 }
 
@@ -229,6 +216,65 @@ fn relaxation_basis(alloc: Global, search: &Search, basis: &Basis) -> Result<Bas
     basis_in_relaxation(alloc, &live.places, basis)
 }
 
+/// Stops where a step of the value of a point that is found beside a ray has no room.
+fn stop_by_value(
+    alloc: Global,
+    search: &mut Search,
+    limits: &Limits<'_>,
+    job: Job,
+    point: Point,
+    mult: Mult,
+    basis: Basis,
+    step: WideStep,
+) -> Result<Stepped, AllocError>
+    requires rays { IsRayWay limits.now.ways }
+    requires ready { IsReady limits.now search.old }
+    requires works { (begin : PlainSearch) × ((found : FoundCuts) × (WorksBy limits.now begin job (Done (PointAndClose point mult basis) found) × AddsCuts begin found.items search.old)) }
+    requires value { IsValueAnswer search.old.model 1 point (Err step) }
+    ensures steps { IfOk result (λ stepped. (begin : PlainSearch) (found : FoundCuts) → WorksBy limits.now begin job (Done (PointAndClose point mult basis) found) → AddsCuts begin found.items search.old → Steps limits.now begin search.new stepped) }
+    ensures kept { OnErr result (search.new ≡ search.old) }
+{
+    known(search);
+    drop(point);
+    drop(mult);
+    let own = relaxation_basis(alloc, search, &basis)?;
+    let cuts = keep_basis(alloc, search, &job, &own)?;
+    Ok(Stepped::Stopped(StopWhy::Wide(WideAt {
+        path: Some(job.region),
+        cuts,
+        basis: own,
+        step,
+    })))
+}
+
+/// Keeps a point that is found beside a ray.
+fn keep_found(
+    search: &mut Search,
+    limits: &Limits<'_>,
+    job: &Job,
+    point: Point,
+    mult: Mult,
+    basis: Basis,
+) -> Result<Stepped, AllocError>
+    requires rays { IsRayWay limits.now.ways }
+    requires ready { IsReady limits.now search.old }
+    requires works { (begin : PlainSearch) × ((found : FoundCuts) × (WorksBy limits.now begin job.now (Done (PointAndClose point mult basis) found) × AddsCuts begin found.items search.old)) }
+    requires value { IsValueAnswer search.old.model 1 point (Ok (value search.old.model 1 point)) }
+    ensures steps { IfOk result (λ stepped. (begin : PlainSearch) (found : FoundCuts) → WorksBy limits.now begin job.now (Done (PointAndClose point mult basis) found) → AddsCuts begin found.items search.old → Steps limits.now begin search.new stepped) }
+    ensures kept { OnErr result (search.new ≡ search.old) }
+{
+    known(search);
+    drop(mult);
+    let kept = NodeResult::Keep {
+        point: Some(point),
+        basis,
+    };
+    match search.place(job.id, kept)? {
+        Taken::Kept => Ok(Stepped::Found),
+        _ => unreachable!(),
+    }
+}
+
 /// Keeps the first point that is found beside a ray, if its value in the search's own model has room for each step.
 fn keep_point(
     alloc: Global,
@@ -246,29 +292,9 @@ fn keep_point(
     ensures kept { OnErr result (search.new ≡ search.old) }
 {
     known(search);
-    drop(mult);
     match search.model().value(1, &point) {
-        Err(step) => {
-            drop(point);
-            let basis = relaxation_basis(alloc, search, &basis)?;
-            let cuts = keep_basis(alloc, search, &job, &basis)?;
-            Ok(Stepped::Stopped(StopWhy::Wide(WideAt {
-                path: Some(job.region),
-                cuts,
-                basis,
-                step,
-            })))
-        }
-        Ok(_) => {
-            let kept = NodeResult::Keep {
-                point: Some(point),
-                basis,
-            };
-            match search.place(job.id, kept)? {
-                Taken::Kept => Ok(Stepped::Found),
-                _ => unreachable!(),
-            }
-        }
+        Err(step) => stop_by_value(alloc, search, limits, job, point, mult, basis, step),
+        Ok(_) => keep_found(search, limits, &job, point, mult, basis),
     }
 }
 
@@ -313,6 +339,63 @@ fn place_done(
     }
 }
 
+/// Adds the cuts that were found, and stops where the relaxation had as many moves as the limit allows.
+fn after_pivots(
+    alloc: Global,
+    search: &mut Search,
+    limits: &Limits<'_>,
+    job: Job,
+    basis: Basis,
+    found: Vec<Derivation>,
+) -> Result<Stepped, AllocError>
+    requires ready { IsReady limits.now search.old }
+    requires works { WorksBy limits.now search.old job (Pivots basis found) }
+    ensures steps { IfOk result (λ stepped. Steps limits.now search.old search.new stepped) }
+    ensures some { OnErr result (AddsAny search.old search.new) }
+{
+    known(search);
+    add_cuts(search, &found)?;
+    stop_by_pivots(alloc, search, limits, job, basis)
+}
+
+/// Adds the cuts that were found, and stops where a step of the work has no room.
+fn after_step(
+    alloc: Global,
+    search: &mut Search,
+    limits: &Limits<'_>,
+    job: Job,
+    at: WideAt,
+    found: Vec<Derivation>,
+) -> Result<Stepped, AllocError>
+    requires ready { IsReady limits.now search.old }
+    requires works { WorksBy limits.now search.old job (Wide at found) }
+    ensures steps { IfOk result (λ stepped. Steps limits.now search.old search.new stepped) }
+    ensures some { OnErr result (AddsAny search.old search.new) }
+{
+    known(search);
+    add_cuts(search, &found)?;
+    stop_by_step(alloc, search, limits, &job, at)
+}
+
+/// Adds the cuts that were found, and places the result.
+fn after_result(
+    alloc: Global,
+    search: &mut Search,
+    limits: &Limits<'_>,
+    job: Job,
+    done: NodeResult,
+    found: Vec<Derivation>,
+) -> Result<Stepped, AllocError>
+    requires ready { IsReady limits.now search.old }
+    requires works { WorksBy limits.now search.old job (Done done found) }
+    ensures steps { IfOk result (λ stepped. Steps limits.now search.old search.new stepped) }
+    ensures some { OnErr result (AddsAny search.old search.new) }
+{
+    known(search);
+    add_cuts(search, &found)?;
+    place_done(alloc, search, limits, job, done)
+}
+
 /// Works the leaf that goes first, and places what comes of it.
 pub(crate) fn step(
     alloc: Global,
@@ -325,21 +408,14 @@ pub(crate) fn step(
     ensures steps { IfOk result (λ stepped. Steps limits.now search.old search.new stepped) }
     ensures some { OnErr result (AddsAny search.old search.new) }
 {
-    known(search);
     let job = next_job(search, id)?;
     match work_on(alloc, search, limits, &job) {
-        Worked::Memory => Err(AllocError),
-        Worked::Pivots { basis, found } => {
-            add_cuts(search, &found)?;
-            stop_by_pivots(alloc, search, limits, job, basis)
+        Worked::Memory => {
+            drop(job);
+            Err(AllocError)
         }
-        Worked::Wide(at, found) => {
-            add_cuts(search, &found)?;
-            stop_by_step(alloc, search, limits, job, at)
-        }
-        Worked::Done(done, found) => {
-            add_cuts(search, &found)?;
-            place_done(alloc, search, limits, job, done)
-        }
+        Worked::Pivots { basis, found } => after_pivots(alloc, search, limits, job, basis, found),
+        Worked::Wide(at, found) => after_step(alloc, search, limits, job, at, found),
+        Worked::Done(done, found) => after_result(alloc, search, limits, job, done, found),
     }
 }

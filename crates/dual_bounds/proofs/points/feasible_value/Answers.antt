@@ -1,4 +1,4 @@
-use Rattle.tree_edit.proofs.CheckLemmas.{wide-not_keepable}
+use Rattle.search_parts.proofs.CheckLemmas.{wide-not_keepable}
 use Rattle.dual_bounds.proofs.points.feasible_value.Goals as goal
 
 pub returns-in-Err : goal.returns-in-Err

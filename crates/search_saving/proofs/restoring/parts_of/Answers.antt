@@ -23,4 +23,7 @@ pub returns-clause-pool : goal.returns-clause-pool
 returns-clause-pool c = subst (λ (ds : List Derivation). IsPoolFrom c.args.stated.now.model ds c.in_ok-pool.pool) c.as_slice.ensures c.in_ok-pool.ensures
 
 pub returns-clause-tree : goal.returns-clause-tree
-returns-clause-tree c t is = c.in_ok-tree.ensures t (is ∙ sym c.as_slice-2.ensures)
+returns-clause-tree c t is = c.in_ok-tree.ensures.tree t (is ∙ sym c.as_slice-2.ensures)
+
+pub returns-clause-shallow : goal.returns-clause-shallow
+returns-clause-shallow c t is = c.in_ok-tree.ensures.shallow t (is ∙ sym c.as_slice-2.ensures)

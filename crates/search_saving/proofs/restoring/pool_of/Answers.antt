@@ -1,4 +1,4 @@
-use Rattle.std.proofs.Common.{arith, subst, take, List}
+use Rattle.std.proofs.Common.{arith, subst, List}
 use Rattle.std.proofs.lemmas.List.{take_all}
 use Rattle.lp_model.specs.declared.types.Derivation.{Derivation}
 use Rattle.search_saving.specs.Saved.{IsPoolFrom}

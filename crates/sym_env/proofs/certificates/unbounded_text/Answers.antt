@@ -5,7 +5,7 @@ use Rattle.std.proofs.Common.{sym, subst}
 use Rattle.lp_model.specs.Answers.{IsFeasibilityAnswer}
 use Rattle.lp_model.specs.Program.{Program}
 use Rattle.lp_model.specs.Rays.{IsRayJudged}
-use Rattle.tree_edit.specs.Points.{IsIncumbent}
+use Rattle.search_parts.specs.Points.{IsIncumbent}
 use Rattle.tree_cert.proofs.AcceptedLaws.{incumbent-keepable}
 use Rattle.sym_env.specs.Certificates.{IsUnboundedTextBy}
 use Rattle.sym_env.proofs.CertLemmas.{of-incumbent, some-incumbent}

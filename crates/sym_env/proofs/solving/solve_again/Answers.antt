@@ -1,7 +1,7 @@
 use Rattle.std.specs.Prelude.{◌≡◌}
 use Rattle.std.proofs.Common.{ap, subst, ◌∙◌}
 use Rattle.lp_model.specs.Program.{Program}
-use Rattle.tree_edit.specs.Sound.{PlainSearch}
+use Rattle.sound_searches.specs.Sound.{PlainSearch}
 use Rattle.sym_env.specs.Enough.{IsEnough}
 use Rattle.sym_env.specs.Solves.{HasRayFor}
 use Rattle.sym_env.specs.Truth.{HasEnded}

@@ -1,6 +1,6 @@
 use Rattle.std.specs.Prelude.{Some}
 use Rattle.std.proofs.Common.{subst}
-use Rattle.tree_edit.specs.Calls.{IsNext}
+use Rattle.sound_searches.specs.Calls.{IsNext}
 use Rattle.tree_search.proofs.StepLemmas.{next-open_leaf}
 use Rattle.branch_tree.specs.Numbered.{IsNumbered}
 use Rattle.sym_env.proofs.EnoughLemmas.{from-fresh}

@@ -1,6 +1,6 @@
 use Rattle.std.proofs.Common.{ap, subst, ◌∙◌}
 use Rattle.lp_model.specs.Lawful.{IsLawful}
-use Rattle.tree_edit.specs.Sound.{PlainSearch, IsSound}
+use Rattle.sound_searches.specs.Sound.{PlainSearch, IsSound}
 use Rattle.tree_search.specs.Extends.{Extends}
 use Rattle.sym_env.specs.Enough.{IsEnoughFrom}
 use Rattle.sym_env.specs.Solves.{HasRayFor}

@@ -1,7 +1,7 @@
 use Rattle.std.specs.Prelude.{Some, None}
 use Rattle.std.proofs.Common.{subst, refl}
 use Rattle.branch_tree.specs.Numbered.{IsNumbered}
-use Rattle.tree_edit.specs.Calls.{IsNext}
+use Rattle.sound_searches.specs.Calls.{IsNext}
 use Rattle.tree_search.proofs.ExtendLemmas.{extends-self}
 use Rattle.tree_search.proofs.StepLemmas.{next-open_leaf, no-leaf_open}
 use Rattle.sym_env.specs.Warm.{Still, SomeOpen}

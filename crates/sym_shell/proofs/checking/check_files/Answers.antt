@@ -14,6 +14,6 @@ returns-clause-answer g c =
     let files = g.S.Store.files c.args.store.now in
     let read = subst (λ name. HasText files name (λ text. MeantModel text None M)) c.as_bytes.ensures.value c.in-Ok.ensures.answer in
     let stated = subst (λ held. HasText held c.args.cert.now (λ text. States text cert)) c.read_model.ensures.kept c.in-Ok-read_certificate.ensures.answer in
-    IfOk-weaker c.write_judged.result _ _
-    (λ _ w. checks-judged files c.args.model.now c.args.cert.now _ _ M cert c.args.reply.now.items c.write_judged.new.reply.items read stated c.requires.empty w)
-    c.write_judged.ensures
+    IfOk-weaker c.write_judged-told.result _ _
+    (λ _ w. checks-judged files c.args.model.now c.args.cert.now _ _ M cert c.args.reply.now.items c.write_judged-told.new.reply.items read stated c.requires.empty w)
+    c.write_judged-told.ensures

@@ -2,7 +2,7 @@ use Rattle.std.proofs.Common.{◌≡◌, suc, ◌++◌, take, sym, ap, ◌∙◌
 use Rattle.std.proofs.lemmas.List.{take_all}
 use Rattle.lp_model.specs.Formulations.{Formulation, formulation}
 use Rattle.kept_cuts.proofs.KeptLemmas.{take-next}
-use Rattle.tree_edit.specs.Lists.{IsActivityThere}
+use Rattle.search_parts.specs.Lists.{IsActivityThere}
 use Rattle.tree_cert.specs.Cuts.{mult_named, mults_named}
 use Rattle.tree_cert.proofs.MultLaws.{mults-push}
 use Rattle.tree_cert.proofs.NameLaws.{there_here}

@@ -1,7 +1,7 @@
 use Rattle.std.proofs.Common.{◌≡◌, suc, ◌≤◌, [], length, ap, sym, subst, ◌∙◌, arith}
 use Rattle.lp_model.specs.Formulations.{Formulation, formulation}
 use Rattle.branch_tree.specs.Plain.{preorder}
-use Rattle.tree_edit.specs.Sound.{formulation_of}
+use Rattle.sound_searches.specs.Sound.{formulation_of}
 use Rattle.tree_cert.specs.Walked.{AreFit, AreNodesOf}
 use Rattle.tree_cert.proofs.TreeWalk.{sound-fit, of_tree}
 use Rattle.tree_cert.proofs.writing.placed_nodes.Goals as goal

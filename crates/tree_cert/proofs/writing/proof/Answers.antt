@@ -1,7 +1,7 @@
 use Rattle.std.proofs.Common.{◌≡◌, ◌≤◌, ◌<◌, false, length, map, ap, sym, subst, ◌∙◌, arith}
 use Rattle.std.specs.Prelude.{All, replicate}
 use Rattle.cert_text.specs.declared.cert.CertNode.{CertNode}
-use Rattle.tree_edit.specs.Sound.{formulation_of}
+use Rattle.sound_searches.specs.Sound.{formulation_of}
 use Rattle.tree_cert.specs.Certificates.{IsProofOf}
 use Rattle.tree_cert.specs.Cuts.{derivation_at, named_cuts}
 use Rattle.tree_cert.specs.Marked.{marks_in, NodeNamesFirst, places_of, counts_of, renumbered_node, IsDerivationThere}

@@ -1,6 +1,6 @@
 use Rattle.std.proofs.Common.{List, subst}
 use Rattle.rational.specs.Rational.{ℚ}
-use Rattle.tree_edit.specs.Placing.{IsLeastValue}
+use Rattle.search_parts.specs.Joining.{IsLeastValue}
 use Rattle.tree_edit.proofs.EditedSearch.{kept-parts, has-parts}
 use Rattle.tree_edit.proofs.parts.with_kept.Goals as goal
 

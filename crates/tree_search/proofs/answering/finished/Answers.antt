@@ -1,6 +1,6 @@
 use Rattle.std.specs.Prelude.{◌≡◌, Some}
 use Rattle.std.proofs.Common.{refl, subst, sym, ◌∙◌}
-use Rattle.tree_edit.proofs.ClosedTree.{sound-empty, sound-optimum}
+use Rattle.sound_searches.proofs.ClosedTree.{sound-empty, sound-optimum}
 use Rattle.tree_search.specs.Search.{FindsOptimum, best_value}
 use Rattle.tree_search.proofs.SearchLemmas.{value-best}
 use Rattle.tree_search.proofs.answering.finished.Goals as goal

@@ -2,8 +2,8 @@ use Rattle.std.specs.Prelude.{◌≡◌, Some}
 use Rattle.std.proofs.Common.{subst, sym, ap, ◌∙◌}
 use Rattle.branch_tree.specs.Plain.{path_of}
 use Rattle.branch_tree.specs.Numbered.{NumberedTree, IsNumbered}
-use Rattle.tree_edit.specs.Calls.{IsNext}
-use Rattle.tree_edit.proofs.PlaceLemmas.{narrow-found}
+use Rattle.sound_searches.specs.Calls.{IsNext}
+use Rattle.sound_searches.proofs.PlaceLemmas.{narrow-found}
 use Rattle.tree_search.proofs.StepLemmas.{next-none, next-there}
 use Rattle.tree_search.proofs.bounds.least_number.Goals as goal
 

@@ -3,7 +3,7 @@ use Rattle.std.proofs.Common.{sym, subst, arith}
 use Rattle.std.proofs.lemmas.List.{length-take-le, take_all}
 use Rattle.lp_model.specs.declared.types.Derivation.{Derivation}
 use Rattle.kept_cuts.proofs.KeptLemmas.{take-next}
-use Rattle.tree_edit.specs.Pool.{AddsCut, AddsCuts, AddsSome}
+use Rattle.sound_searches.specs.Pool.{AddsCut, AddsCuts, AddsSome}
 use Rattle.tree_search.proofs.KeepLemmas.{adds-next, added-count}
 use Rattle.tree_search.proofs.StopLemmas.{on_err}
 use Rattle.tree_search.proofs.stepping.add_cuts.Goals as goal

@@ -1,5 +1,5 @@
 use Rattle.std.proofs.Common.{take}
-use Rattle.tree_edit.specs.Pool.{AddsCuts}
+use Rattle.sound_searches.specs.Pool.{AddsCuts}
 use Rattle.tree_search.proofs.stepping.add_cuts.Given as goal
 
 abbrev pub invariant-loop-from : goal.invariant-loop-from

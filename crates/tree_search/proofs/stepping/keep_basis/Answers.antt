@@ -2,10 +2,10 @@ use Rattle.std.specs.Prelude.{◌≡◌, [], None}
 use Rattle.std.proofs.Common.{subst, sym, ap, ◌∙◌}
 use Rattle.branch_tree.specs.declared.node.NodeResult.TheVariants.{Keep}
 use Rattle.kept_cuts.specs.Kept.{derivations_of}
-use Rattle.tree_edit.specs.declared.placing.Taken.TheVariants.{Kept}
-use Rattle.tree_edit.specs.Lists.{IsBasis}
-use Rattle.tree_edit.specs.Placing.{Takes}
-use Rattle.tree_edit.specs.Sound.{formulation_of}
+use Rattle.sound_searches.specs.declared.taken.Taken.TheVariants.{Kept}
+use Rattle.search_parts.specs.Lists.{IsBasis}
+use Rattle.sound_searches.specs.Placing.{Takes}
+use Rattle.sound_searches.specs.Sound.{formulation_of}
 use Rattle.node_solve.specs.Places.{live_cuts, live_places, ArePoolPlaces, basis_in_pool}
 use Rattle.tree_search.specs.Steps.{kept_basis, KeepsOpen}
 use Rattle.tree_search.proofs.FoundLemmas.{places-within}

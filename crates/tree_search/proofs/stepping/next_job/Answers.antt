@@ -1,6 +1,6 @@
 use Rattle.std.specs.Prelude.{Some, None}
 use Rattle.std.proofs.Common.{subst}
-use Rattle.tree_edit.specs.Jobs.{IsJobAnswer}
+use Rattle.sound_searches.specs.Jobs.{IsJobAnswer}
 use Rattle.tree_search.proofs.StepLemmas.{next-job, next-not_stale}
 use Rattle.tree_search.proofs.stepping.next_job.Goals as goal
 

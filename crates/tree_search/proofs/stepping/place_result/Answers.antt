@@ -1,5 +1,5 @@
 use Rattle.std.proofs.Common.{subst}
-use Rattle.tree_edit.specs.Placing.{Takes}
+use Rattle.sound_searches.specs.Placing.{Takes}
 use Rattle.tree_search.proofs.PlacedLemmas.{placed-result, full-result}
 use Rattle.tree_search.proofs.stepping.place_result.Goals as goal
 

@@ -8,14 +8,14 @@ use Rattle.tree_search.proofs.stepping.stop_by_step.Goals as goal
 pub keep_basis-requires-clause-job : goal.keep_basis-requires-clause-job
 keep_basis-requires-clause-job c =
     let (begin, (found, (works, adds))) = c.requires.works in
-    job-after begin found.items c.args.search.now adds c.args.job.id c.args.job works.next.job_is
+    job-after begin found.items c.args.search.now adds c.args.job.now.id c.args.job.now works.next.job_is
 
 pub keep_basis-requires-clause-basis : goal.keep_basis-requires-clause-basis
 keep_basis-requires-clause-basis c =
     let limits = c.args.limits.now in
     let S = c.args.search.now in
     let (begin, (found, (works, adds))) = c.requires.works in
-    step-basis limits.ways limits.first.now limits.pivots begin (subst (IsWorkedBy limits.ways) (added-model begin found.items S adds) (worked-by S limits.ways c.requires.ready.ways)) c.args.job found.items S adds c.args.at found refl works.worked_is
+    step-basis limits.ways limits.first.now limits.pivots begin (subst (IsWorkedBy limits.ways) (added-model begin found.items S adds) (worked-by S limits.ways c.requires.ready.ways)) c.args.job.now found.items S adds c.args.at found refl works.worked_is
 
 pub returns-clause-steps : goal.returns-clause-steps
-returns-clause-steps c = λ begin found works adds. stop-step c.args.limits.now begin c.args.job found c.args.search.now adds c.keep_basis.new.search c.args.at works c.in_ok-keep_basis.ensures.keeps
+returns-clause-steps c = λ begin found works adds. stop-step c.args.limits.now begin c.args.job.now found c.args.search.now adds c.keep_basis.new.search c.args.at works c.in_ok-keep_basis.ensures.keeps

@@ -53,11 +53,11 @@ pub returns-in-Ok-Pivots : goal.returns-in-Ok-Pivots
 returns-in-Ok-Pivots c =
     let W = task_work c.args.self.now in
     let r = round_of c.args.round.now in
-    let solved = subst (λ o. IsSolved c.in-Ok.state c.args.self.now.pivots (Ok o) c.solve.new.self) c.in-Ok-Pivots.field-0-is c.in-Ok-Pivots.ensures.answer in
+    let solved = subst (λ o. IsSolved c.in-Ok.state c.args.self.now.pivots (Ok o) c.solve-end.new.self) c.in-Ok-Pivots.field-0-is c.in-Ok-Pivots.ensures.answer in
     record {
       moves = solved.0;
-      state = c.solve.new.self;
-      run = round_run W r _ c.args.first.now c.requires.first c.in-Ok.state c.in-Ok.ensures.started (plain_of (form_in W r) W.job.region _ (ap (formulation W.model) c.as_slice-cuts.ensures.value) c.as_slice-region.ensures refl) c.in-Ok.ensures.lawful solved.0 c.solve.new.self solved.1.1.0;
+      state = c.solve-end.new.self;
+      run = round_run W r _ c.args.first.now c.requires.first c.in-Ok.state c.in-Ok.ensures.started (plain_of (form_in W r) W.job.region _ (ap (formulation W.model) c.as_slice-cuts.ensures.value) c.as_slice-region.ensures refl) c.in-Ok.ensures.lawful solved.0 c.solve-end.new.self solved.1.1.0;
       holds = solved.1.1.1;
     }
 
@@ -65,31 +65,31 @@ pub returns-in-Ok-Wide : goal.returns-in-Ok-Wide
 returns-in-Ok-Wide c =
     let W = task_work c.args.self.now in
     let r = round_of c.args.round.now in
-    let solved = subst (λ o. IsSolved c.in-Ok.state c.args.self.now.pivots (Ok o) c.solve.new.self) c.in-Ok-Wide.field-0-is c.in-Ok-Wide.ensures.answer in
-    let run = round_run W r _ c.args.first.now c.requires.first c.in-Ok.state c.in-Ok.ensures.started (plain_of (form_in W r) W.job.region _ (ap (formulation W.model) c.as_slice-cuts.ensures.value) c.as_slice-region.ensures refl) c.in-Ok.ensures.lawful solved.0 c.solve.new.self solved.1.1.0 in
-    inr (solved.0, (c.solve.new.self, (run, (inl (solved.1.0, solved.1.1.1.0), solved.1.1.1.1))))
+    let solved = subst (λ o. IsSolved c.in-Ok.state c.args.self.now.pivots (Ok o) c.solve-end.new.self) c.in-Ok-Wide.field-0-is c.in-Ok-Wide.ensures.answer in
+    let run = round_run W r _ c.args.first.now c.requires.first c.in-Ok.state c.in-Ok.ensures.started (plain_of (form_in W r) W.job.region _ (ap (formulation W.model) c.as_slice-cuts.ensures.value) c.as_slice-region.ensures refl) c.in-Ok.ensures.lawful solved.0 c.solve-end.new.self solved.1.1.0 in
+    inr (solved.0, (c.solve-end.new.self, (run, (inl (solved.1.0, solved.1.1.1.0), solved.1.1.1.1))))
 
 pub returns-in-Ok-Optimal : goal.returns-in-Ok-Optimal
 returns-in-Ok-Optimal c =
     let W = task_work c.args.self.now in
     let r = round_of c.args.round.now in
-    let solved = subst (λ o. IsSolved c.in-Ok.state c.args.self.now.pivots (Ok o) c.solve.new.self) c.in-Ok-Optimal.field-0-is c.in-Ok-Optimal.ensures.answer in
+    let solved = subst (λ o. IsSolved c.in-Ok.state c.args.self.now.pivots (Ok o) c.solve-end.new.self) c.in-Ok-Optimal.field-0-is c.in-Ok-Optimal.ensures.answer in
     record {
       moves = solved.0;
-      state = c.solve.new.self;
-      run = round_run W r _ c.args.first.now c.requires.first c.in-Ok.state c.in-Ok.ensures.started (plain_of (form_in W r) W.job.region _ (ap (formulation W.model) c.as_slice-cuts.ensures.value) c.as_slice-region.ensures refl) c.in-Ok.ensures.lawful solved.0 c.solve.new.self solved.1.1.0;
-      holds = (optimum_allowed W.pivots solved.0 c.solve.new.self c.in-Ok-Optimal.point c.in-Ok-Optimal.mult solved.1.0 solved.1.1.1.0, solved.1.1.1);
+      state = c.solve-end.new.self;
+      run = round_run W r _ c.args.first.now c.requires.first c.in-Ok.state c.in-Ok.ensures.started (plain_of (form_in W r) W.job.region _ (ap (formulation W.model) c.as_slice-cuts.ensures.value) c.as_slice-region.ensures refl) c.in-Ok.ensures.lawful solved.0 c.solve-end.new.self solved.1.1.0;
+      holds = (optimum_allowed W.pivots solved.0 c.solve-end.new.self c.in-Ok-Optimal.point c.in-Ok-Optimal.mult solved.1.0 solved.1.1.1.0, solved.1.1.1);
     }
 
-pub returns : goal.returns
-returns c =
+pub returns-in-Ok-Infeasible : goal.returns-in-Ok-Infeasible
+returns-in-Ok-Infeasible c =
     let W = task_work c.args.self.now in
     let r = round_of c.args.round.now in
-    let solved = subst (λ o. IsSolved c.in-Ok.state c.args.self.now.pivots (Ok o) c.solve.new.self) c.in-Ok-Infeasible.field-0-is c.in-Ok-Infeasible.ensures.answer in
-    let allowed : IsAllowedBy W.pivots solved.0 c.solve.new.self = record { within = solved.1.0; further = λ row side out. solved.1.1.1.0 } in
+    let solved = subst (λ o. IsSolved c.in-Ok.state c.args.self.now.pivots (Ok o) c.solve-end.new.self) c.in-Ok-Infeasible.field-0-is c.in-Ok-Infeasible.ensures.answer in
+    let allowed : IsAllowedBy W.pivots solved.0 c.solve-end.new.self = record { within = solved.1.0; further = λ row side out. solved.1.1.1.0 } in
     record {
       moves = solved.0;
-      state = c.solve.new.self;
-      run = round_run W r _ c.args.first.now c.requires.first c.in-Ok.state c.in-Ok.ensures.started (plain_of (form_in W r) W.job.region _ (ap (formulation W.model) c.as_slice-cuts.ensures.value) c.as_slice-region.ensures refl) c.in-Ok.ensures.lawful solved.0 c.solve.new.self solved.1.1.0;
+      state = c.solve-end.new.self;
+      run = round_run W r _ c.args.first.now c.requires.first c.in-Ok.state c.in-Ok.ensures.started (plain_of (form_in W r) W.job.region _ (ap (formulation W.model) c.as_slice-cuts.ensures.value) c.as_slice-region.ensures refl) c.in-Ok.ensures.lawful solved.0 c.solve-end.new.self solved.1.1.0;
       holds = (allowed, solved.1.1.1.1);
     }

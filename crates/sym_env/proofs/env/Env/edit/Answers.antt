@@ -2,8 +2,8 @@ use Rattle.std.specs.Prelude.{◌≡◌, Some, OnOk, OnErr, IfErr}
 use Rattle.std.proofs.Common.{subst, sym, ap, ◌∙◌}
 use Rattle.lp_model.specs.Edits.{EditFits}
 use Rattle.model_edits.specs.Faults.{IsEditFault}
-use Rattle.tree_edit.specs.Edited.{Follows}
-use Rattle.tree_edit.specs.Sound.{PlainSearch}
+use Rattle.sound_searches.specs.Edited.{Follows}
+use Rattle.sound_searches.specs.Sound.{PlainSearch}
 use Rattle.sym_env.proofs.WarmLemmas.{edits-env, refuses-env}
 use Rattle.sym_env.proofs.env.Env.edit.Goals as goal
 

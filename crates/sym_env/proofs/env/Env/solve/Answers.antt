@@ -1,6 +1,6 @@
 use Rattle.std.specs.Prelude.{◌≡◌, Option, Some, IfSome}
 use Rattle.std.proofs.Common.{subst, sym, ◌∙◌}
-use Rattle.tree_edit.specs.Sound.{PlainSearch}
+use Rattle.sound_searches.specs.Sound.{PlainSearch}
 use Rattle.sym_env.specs.Enough.{IsEnough}
 use Rattle.sym_env.specs.Env.{IsHeld}
 use Rattle.sym_env.specs.Solves.{held_by}

@@ -1,7 +1,7 @@
 use Rattle.std.specs.Prelude.{◌≡◌, Option, Some, Ok, IfSome}
 use Rattle.std.proofs.Common.{subst, sym}
 use Rattle.lp_model.specs.Program.{Program}
-use Rattle.tree_edit.specs.Sound.{PlainSearch}
+use Rattle.sound_searches.specs.Sound.{PlainSearch}
 use Rattle.dual_bounds.specs.NewNumbers.{with_new_sides, AreNewSides, ArePresentSides}
 use Rattle.dual_bounds.specs.Laws.{IsTrueUpperBound, IsExactUpper}
 use Rattle.sym_env.specs.Bounds.{IsUpperAnswer}

@@ -1,7 +1,7 @@
 use Rattle.std.specs.Prelude.{◌≡◌, Option, Some, IfSome}
 use Rattle.std.proofs.Common.{subst, sym, ◌∙◌}
-use Rattle.tree_edit.specs.Calls.{search_with_limit}
-use Rattle.tree_edit.specs.Sound.{PlainSearch}
+use Rattle.sound_searches.specs.Calls.{search_with_limit}
+use Rattle.sound_searches.specs.Sound.{PlainSearch}
 use Rattle.sym_env.specs.Enough.{IsKeptEnough}
 use Rattle.sym_env.specs.Env.{IsHeld}
 use Rattle.sym_env.specs.Solves.{held_by}

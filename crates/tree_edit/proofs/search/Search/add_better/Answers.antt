@@ -7,12 +7,14 @@ use Rattle.branch_tree.specs.Changes.{with_leaf_states}
 use Rattle.branch_tree.specs.declared.node.LeafState.{LeafState}
 use Rattle.lp_model.specs.Program.{Point}
 use Rattle.leaf_judging.specs.Judged.{AreJudged, AreStates}
-use Rattle.tree_edit.specs.Sound.{PlainSearch, formulation_of}
+use Rattle.sound_searches.specs.Sound.{PlainSearch, formulation_of}
 use Rattle.leaf_judging.specs.Queued.{IsQueueOf}
 use Rattle.tree_edit.specs.Indexed.{IsIndexed}
-use Rattle.tree_edit.specs.Points.{target}
-use Rattle.tree_edit.specs.Placing.{JoinsPoint, TakesPoint, list_without}
-use Rattle.tree_edit.proofs.WorstLemmas.{kept-taken}
+use Rattle.search_parts.specs.Points.{target}
+use Rattle.tree_edit.specs.PlacingSteps.{JoinsPoint}
+use Rattle.sound_searches.specs.Placing.{TakesPoint}
+use Rattle.search_parts.specs.Joining.{list_without}
+use Rattle.tree_edit.proofs.PointTaken.{kept-taken}
 use Rattle.tree_edit.proofs.search.Search.add_better.Goals as goal
 
 pub set_states-requires : goal.set_states-requires

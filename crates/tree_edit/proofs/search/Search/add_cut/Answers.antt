@@ -1,8 +1,8 @@
 use Rattle.std.specs.Prelude.{OnOk}
 use Rattle.std.proofs.Common.{subst}
-use Rattle.tree_edit.specs.Sound.{PlainSearch}
-use Rattle.tree_edit.specs.Pool.{AddsCut}
-use Rattle.tree_edit.proofs.FurtherCut.{indexed-add, adds-cut}
+use Rattle.sound_searches.specs.Sound.{PlainSearch}
+use Rattle.sound_searches.specs.Pool.{AddsCut}
+use Rattle.tree_edit.proofs.CutAdded.{indexed-add, adds-cut}
 use Rattle.tree_edit.proofs.search.Search.add_cut.Goals as goal
 
 pub invariant_of-self : goal.invariant_of-self

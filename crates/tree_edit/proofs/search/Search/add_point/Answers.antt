@@ -1,10 +1,12 @@
 use Rattle.std.proofs.Common.{◌≡◌, ◌∙◌, ◌++◌, ◌∷◌, [], List, sym, subst, ap}
 use Rattle.lp_model.specs.Program.{Point}
-use Rattle.tree_edit.specs.Sound.{PlainSearch}
+use Rattle.sound_searches.specs.Sound.{PlainSearch}
 use Rattle.tree_edit.specs.Indexed.{IsIndexed}
-use Rattle.tree_edit.specs.Points.{target}
-use Rattle.tree_edit.specs.Placing.{JoinsPoint, TakesPoint, list_without}
-use Rattle.tree_edit.proofs.WorstLemmas.{kept-added, taken-added}
+use Rattle.search_parts.specs.Points.{target}
+use Rattle.tree_edit.specs.PlacingSteps.{JoinsPoint}
+use Rattle.sound_searches.specs.Placing.{TakesPoint}
+use Rattle.search_parts.specs.Joining.{list_without}
+use Rattle.tree_edit.proofs.PointTaken.{kept-added, taken-added}
 use Rattle.tree_edit.proofs.search.Search.add_point.Goals as goal
 
 pub invariant_of-self-2 : goal.invariant_of-self-2

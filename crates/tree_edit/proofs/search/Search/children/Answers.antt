@@ -2,8 +2,8 @@ use Rattle.tree_edit.proofs.SplitLemmas.{narrow-left, narrow-right}
 use Rattle.std.proofs.Common.{sym, subst, ◌++◌, ◌∷◌, []}
 use Rattle.lp_model.specs.Regions.{AreNarrow}
 use Rattle.lp_model.specs.declared.types.BoundChange.{BoundChange}
-use Rattle.tree_edit.specs.Sound.{PlainSearch}
-use Rattle.tree_edit.specs.Placing.{IsNumberedChild}
+use Rattle.sound_searches.specs.Sound.{PlainSearch}
+use Rattle.tree_edit.specs.PlacingSteps.{IsNumberedChild}
 use Rattle.tree_edit.proofs.search.Search.children.Goals as goal
 
 pub child-requires : goal.child-requires

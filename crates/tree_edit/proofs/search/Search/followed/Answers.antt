@@ -2,7 +2,7 @@ use Rattle.std.proofs.Common.{◌≡◌, ◌∙◌, List, subst, ap}
 use Rattle.lp_model.specs.declared.types.CutId.{CutId}
 use Rattle.branch_tree.specs.Following.{after_edit}
 use Rattle.kept_cuts.specs.Kept.{gone_with, IsPoolAfter}
-use Rattle.tree_edit.specs.Sound.{PlainSearch}
+use Rattle.sound_searches.specs.Sound.{PlainSearch}
 use Rattle.tree_edit.proofs.search.Search.followed.Goals as goal
 
 pub returns-clause-pool : goal.returns-clause-pool

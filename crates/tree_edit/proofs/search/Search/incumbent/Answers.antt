@@ -1,8 +1,8 @@
 use Rattle.std.proofs.Common.{List, subst}
 use Rattle.rational.specs.Rational.{ℚ}
-use Rattle.tree_edit.specs.Points.{IsOldestLeast, IsIncumbentAt}
-use Rattle.tree_edit.specs.Sound.{PlainSearch}
-use Rattle.tree_edit.proofs.PointLemmas.{incumbent-at}
+use Rattle.search_parts.specs.Points.{IsOldestLeast, IsIncumbentAt}
+use Rattle.sound_searches.specs.Sound.{PlainSearch}
+use Rattle.search_parts.proofs.PointLemmas.{incumbent-at}
 use Rattle.tree_edit.proofs.search.Search.incumbent.Goals as goal
 
 pub returns-in-Some : goal.returns-in-Some

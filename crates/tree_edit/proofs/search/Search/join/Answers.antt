@@ -1,8 +1,9 @@
 use Rattle.std.proofs.Common.{List, subst}
 use Rattle.rational.specs.Rational.{ℚ}
-use Rattle.tree_edit.specs.Sound.{PlainSearch}
-use Rattle.tree_edit.specs.Placing.{Joins, JoinsPoint}
-use Rattle.tree_edit.proofs.WorstLemmas.{joins-point}
+use Rattle.sound_searches.specs.Sound.{PlainSearch}
+use Rattle.search_parts.specs.Joining.{Joins}
+use Rattle.tree_edit.specs.PlacingSteps.{JoinsPoint}
+use Rattle.tree_edit.proofs.PointTaken.{joins-point}
 use Rattle.tree_edit.proofs.search.Search.join.Goals as goal
 
 pub returns : goal.returns

@@ -1,6 +1,6 @@
 use Rattle.std.proofs.Common.{rules, None, Some, subst}
-use Rattle.tree_edit.specs.Sound.{PlainSearch}
-use Rattle.tree_edit.specs.Calls.{IsNext}
+use Rattle.sound_searches.specs.Sound.{PlainSearch}
+use Rattle.sound_searches.specs.Calls.{IsNext}
 use Rattle.tree_edit.proofs.NextLemmas.{next-none, next-some}
 use Rattle.tree_edit.proofs.search.Search.next_leaf.Goals as goal
 

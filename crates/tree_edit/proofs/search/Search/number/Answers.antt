@@ -1,6 +1,6 @@
 use Rattle.std.proofs.Common.{sym, subst}
-use Rattle.tree_edit.specs.Sound.{PlainSearch}
-use Rattle.tree_edit.specs.Calls.{IsLeafNumberAnswer}
+use Rattle.sound_searches.specs.Sound.{PlainSearch}
+use Rattle.sound_searches.specs.Calls.{IsLeafNumberAnswer}
 use Rattle.tree_edit.proofs.SameNumbers.{number-found}
 use Rattle.tree_edit.proofs.search.Search.number.Goals as goal
 

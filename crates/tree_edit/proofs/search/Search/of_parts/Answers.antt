@@ -1,9 +1,9 @@
 use Rattle.std.proofs.Common.{arith}
 use Rattle.std.specs.Prelude.{Result, Ok, Err, IfOk}
-use Rattle.tree_edit.specs.Edited.{HasParts}
-use Rattle.tree_edit.specs.Parts.{IsOfParts}
-use Rattle.tree_edit.specs.Sound.{PlainSearch}
-use Rattle.tree_edit.proofs.EditedPoints.{keepable-all, keepable-few}
+use Rattle.sound_searches.specs.Edited.{HasParts}
+use Rattle.sound_searches.specs.Parts.{IsOfParts}
+use Rattle.sound_searches.specs.Sound.{PlainSearch}
+use Rattle.search_parts.proofs.KeepableLemmas.{keepable-all, keepable-few}
 use Rattle.tree_edit.proofs.search.Search.of_parts.Goals as goal
 
 pub with_kept-requires-clause-points : goal.with_kept-requires-clause-points

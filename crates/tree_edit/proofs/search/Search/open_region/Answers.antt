@@ -5,9 +5,9 @@ use Rattle.lp_model.specs.Regions.{Path}
 use Rattle.branch_tree.specs.Plain.{data_of}
 use Rattle.branch_tree.specs.declared.node.LeafData.{LeafData}
 use Rattle.branch_tree.specs.declared.node.LeafState.TheVariants.{IsOpen}
-use Rattle.tree_edit.specs.Sound.{PlainSearch}
-use Rattle.tree_edit.specs.Placing.{IsStale, IsOpenPlace}
-use Rattle.tree_edit.proofs.PlaceLemmas.{open-found}
+use Rattle.sound_searches.specs.Sound.{PlainSearch}
+use Rattle.sound_searches.specs.Placing.{IsStale, IsOpenPlace}
+use Rattle.sound_searches.proofs.PlaceLemmas.{open-found}
 use Rattle.tree_edit.proofs.search.Search.open_region.Goals as goal
 
 pub returns : goal.returns

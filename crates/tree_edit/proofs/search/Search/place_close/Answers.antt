@@ -2,8 +2,8 @@ use Rattle.std.specs.Prelude.{Option}
 use Rattle.std.proofs.Common.{subst}
 use Rattle.rational.specs.Rational.{ℚ}
 use Rattle.leaf_judging.specs.Closing.{ClosesBy}
-use Rattle.tree_edit.specs.Sound.{PlainSearch, formulation_of}
-use Rattle.tree_edit.specs.Points.{target}
+use Rattle.sound_searches.specs.Sound.{PlainSearch, formulation_of}
+use Rattle.search_parts.specs.Points.{target}
 use Rattle.tree_edit.proofs.CloseLemmas.{judged-closed}
 use Rattle.tree_edit.proofs.search.Search.place_close.Goals as goal
 

@@ -1,4 +1,4 @@
-use Rattle.tree_edit.proofs.WorstLemmas.{leaf-taken, own-taken}
+use Rattle.tree_edit.proofs.PointTaken.{leaf-taken, own-taken}
 use Rattle.tree_edit.proofs.search.Search.place_joined_keep.Goals as goal
 
 pub put_judged-requires-clause-leaf : goal.put_judged-requires-clause-leaf

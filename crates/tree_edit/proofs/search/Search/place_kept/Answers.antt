@@ -3,13 +3,13 @@ use Rattle.leaf_dual.specs.Dual.{Multipliers}
 use Rattle.branch_tree.specs.Plain.{data_of}
 use Rattle.branch_tree.specs.declared.node.LeafData.{LeafData}
 use Rattle.branch_tree.specs.declared.node.NodeResult.TheVariants.{Keep}
-use Rattle.tree_edit.specs.declared.placing.Taken.{Taken}
-use Rattle.tree_edit.specs.Lists.{AreMultipliers, HasLists}
-use Rattle.tree_edit.specs.Sound.{PlainSearch, formulation_of}
+use Rattle.sound_searches.specs.declared.taken.Taken.{Taken}
+use Rattle.search_parts.specs.Lists.{AreMultipliers, HasLists}
+use Rattle.sound_searches.specs.Sound.{PlainSearch, formulation_of}
 use Rattle.leaf_judging.specs.Queued.{HasMultipliers}
-use Rattle.tree_edit.specs.Placing.{TakesBasis, with_basis}
+use Rattle.sound_searches.specs.Placing.{TakesBasis, with_basis}
 use Rattle.tree_edit.proofs.QueuedLemmas.{own-multipliers}
-use Rattle.tree_edit.proofs.PlaceLemmas.{lists-found, takes_ok, some_same}
+use Rattle.sound_searches.proofs.PlaceLemmas.{lists-found, takes_ok, some_same}
 use Rattle.tree_edit.proofs.search.Search.place_kept.Goals as goal
 
 pub place_basis-requires-clause-leaf : goal.place_basis-requires-clause-leaf

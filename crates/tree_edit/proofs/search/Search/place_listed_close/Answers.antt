@@ -1,7 +1,7 @@
 use Rattle.std.proofs.Common.{refl, subst, IsTrue}
-use Rattle.tree_edit.specs.Sound.{PlainSearch, formulation_of}
+use Rattle.sound_searches.specs.Sound.{PlainSearch, formulation_of}
 use Rattle.leaf_judging.specs.Closing.{ClosesBy}
-use Rattle.tree_edit.proofs.WorstLemmas.{not-closes_with}
+use Rattle.tree_edit.proofs.PointTaken.{not-closes_with}
 use Rattle.tree_edit.proofs.search.Search.place_listed_close.Goals as goal
 
 pub returns-else-closes_by-clause-taken : goal.returns-else-closes_by-clause-taken

@@ -4,9 +4,9 @@ use Rattle.std.proofs.Common.{rules, ℤ, FitsSigned, to_z, of_z, ◌≡◌, sub
 use Rattle.std.specs.Prelude.{IfOk}
 use Rattle.branch_tree.specs.declared.node.LeafData.{LeafData}
 use Rattle.branch_tree.specs.declared.node.NodeResult.TheVariants.{Close, Split}
-use Rattle.tree_edit.specs.declared.placing.Taken.{Taken}
-use Rattle.tree_edit.specs.Placing.{TakesClose, TakesSplit}
-use Rattle.tree_edit.proofs.PlaceLemmas.{takes_ok}
+use Rattle.sound_searches.specs.declared.taken.Taken.{Taken}
+use Rattle.sound_searches.specs.Placing.{TakesClose, TakesSplit}
+use Rattle.sound_searches.proofs.PlaceLemmas.{takes_ok}
 use Rattle.tree_edit.proofs.search.Search.place_open.Goals as goal
 
 pub place_close-requires-clause-leaf : goal.place_close-requires-clause-leaf

@@ -2,10 +2,10 @@ use Rattle.std.proofs.Common.{◌≡◌, ◌∙◌, IfOk, Some, ap, sym, subst}
 use Rattle.branch_tree.specs.Plain.{data_of}
 use Rattle.branch_tree.specs.declared.node.LeafData.{LeafData}
 use Rattle.branch_tree.specs.declared.node.NodeResult.TheVariants.{PointAndClose}
-use Rattle.tree_edit.specs.declared.placing.Taken.{Taken}
-use Rattle.tree_edit.specs.Sound.{PlainSearch}
-use Rattle.tree_edit.specs.Placing.{TakesPointClose, closed_data}
-use Rattle.tree_edit.proofs.PlaceLemmas.{takes_ok, some_same}
+use Rattle.sound_searches.specs.declared.taken.Taken.{Taken}
+use Rattle.sound_searches.specs.Sound.{PlainSearch}
+use Rattle.sound_searches.specs.Placing.{TakesPointClose, closed_data}
+use Rattle.sound_searches.proofs.PlaceLemmas.{takes_ok, some_same}
 use Rattle.tree_edit.proofs.search.Search.place_point.Goals as goal
 
 pub place_point_close-requires-clause-leaf : goal.place_point_close-requires-clause-leaf

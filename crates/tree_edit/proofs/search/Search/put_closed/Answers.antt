@@ -1,14 +1,14 @@
 use Rattle.std.proofs.Common.{[], sym, subst, arith}
 use Rattle.branch_tree.specs.Numbered.{NumberedTree}
-use Rattle.tree_edit.specs.Sound.{PlainSearch, formulation_of}
+use Rattle.sound_searches.specs.Sound.{PlainSearch, formulation_of}
 use Rattle.leaf_judging.specs.Queued.{HasRank}
 use Rattle.tree_edit.specs.Indexed.{IsIndexed}
-use Rattle.tree_edit.specs.Placing.{IsAt}
+use Rattle.sound_searches.specs.Placing.{IsAt}
 use Rattle.branch_tree.specs.Changes.{HasLeaf}
 use Rattle.leaf_judging.specs.Closing.{IsNumber, IsJudgedLeaf}
-use Rattle.tree_edit.specs.Points.{target}
-use Rattle.tree_edit.specs.Lists.{HasLists}
-use Rattle.tree_edit.proofs.SoundLemmas.{sound-with_leaf}
+use Rattle.search_parts.specs.Points.{target}
+use Rattle.search_parts.specs.Lists.{HasLists}
+use Rattle.sound_searches.proofs.SoundLemmas.{sound-with_leaf}
 use Rattle.tree_edit.proofs.QueueChanges.{queue-closed}
 use Rattle.tree_edit.proofs.SameNumbers.{kept-there, numbers-put}
 use Rattle.tree_edit.proofs.search.Search.put_closed.Goals as goal

@@ -1,10 +1,10 @@
 use Rattle.std.proofs.Common.{sym, subst}
 use Rattle.leaf_judging.specs.Closing.{ClosesBy, IsNumber}
-use Rattle.tree_edit.specs.Lists.{HasLists}
-use Rattle.tree_edit.specs.Sound.{PlainSearch, formulation_of}
-use Rattle.tree_edit.specs.Points.{target}
+use Rattle.search_parts.specs.Lists.{HasLists}
+use Rattle.sound_searches.specs.Sound.{PlainSearch, formulation_of}
+use Rattle.search_parts.specs.Points.{target}
 use Rattle.tree_edit.proofs.CloseLemmas.{judged-closed}
-use Rattle.tree_edit.proofs.WorstLemmas.{leaf-taken}
+use Rattle.tree_edit.proofs.PointTaken.{leaf-taken}
 use Rattle.tree_edit.proofs.search.Search.put_joined_close.Goals as goal
 use Rattle.lp_model.specs.Formulations.{formulation}
 

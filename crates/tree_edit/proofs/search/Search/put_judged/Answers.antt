@@ -3,9 +3,9 @@ use Rattle.branch_tree.specs.Plain.{data_of}
 use Rattle.branch_tree.specs.declared.node.LeafData.{LeafData}
 use Rattle.leaf_judging.specs.Closing.{IsJudged, IsJudgedLeaf}
 use Rattle.leaf_judging.specs.Queued.{HasMultipliers, HasState}
-use Rattle.tree_edit.specs.Sound.{PlainSearch, formulation_of}
-use Rattle.tree_edit.specs.Points.{target}
-use Rattle.tree_edit.specs.Placing.{IsAt, search_with_leaf}
+use Rattle.sound_searches.specs.Sound.{PlainSearch, formulation_of}
+use Rattle.search_parts.specs.Points.{target}
+use Rattle.sound_searches.specs.Placing.{IsAt, search_with_leaf}
 use Rattle.tree_edit.proofs.QueuedLemmas.{own-state}
 use Rattle.tree_edit.proofs.SameNumbers.{own-judged}
 use Rattle.tree_edit.proofs.search.Search.put_judged.Goals as goal

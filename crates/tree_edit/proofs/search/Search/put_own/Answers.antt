@@ -3,12 +3,12 @@ use Rattle.branch_tree.specs.Numbered.{NumberedTree}
 use Rattle.branch_tree.specs.Changes.{HasLeaf}
 use Rattle.leaf_judging.specs.Closing.{IsJudgedLeaf}
 use Rattle.leaf_judging.specs.Queued.{HasMultipliers, HasState}
-use Rattle.tree_edit.specs.Sound.{PlainSearch, formulation_of}
+use Rattle.sound_searches.specs.Sound.{PlainSearch, formulation_of}
 use Rattle.tree_edit.specs.Indexed.{IsIndexed}
-use Rattle.tree_edit.specs.Placing.{IsAt}
-use Rattle.tree_edit.specs.Points.{target}
-use Rattle.tree_edit.specs.Lists.{HasLists}
-use Rattle.tree_edit.proofs.SoundLemmas.{sound-with_leaf}
+use Rattle.sound_searches.specs.Placing.{IsAt}
+use Rattle.search_parts.specs.Points.{target}
+use Rattle.search_parts.specs.Lists.{HasLists}
+use Rattle.sound_searches.proofs.SoundLemmas.{sound-with_leaf}
 use Rattle.tree_edit.proofs.QueueChanges.{queue-stays}
 use Rattle.tree_edit.proofs.SameNumbers.{numbers-stay}
 use Rattle.tree_edit.proofs.search.Search.put_own.Goals as goal

@@ -1,6 +1,6 @@
 use Rattle.std.proofs.Common.{subst}
 use Rattle.leaf_judging.specs.Queued.{HasRank}
-use Rattle.tree_edit.specs.Sound.{PlainSearch, formulation_of}
+use Rattle.sound_searches.specs.Sound.{PlainSearch, formulation_of}
 use Rattle.tree_edit.proofs.SameNumbers.{kept-rank}
 use Rattle.tree_edit.proofs.search.Search.rank_of.Goals as goal
 use Rattle.lp_model.specs.Formulations.{formulation}

@@ -7,9 +7,10 @@ use Rattle.branch_tree.specs.Numbered.{NumberedTree, IsNumbered}
 use Rattle.branch_tree.specs.Changes.{HasLeaf, HasRoom}
 use Rattle.leaf_judging.specs.Queued.{IsQueueOf, HasRank, candidate_of}
 use Rattle.leaf_judging.specs.Numbers.{HasBoth, KeepsOtherTwo, AreNumbersOf}
-use Rattle.tree_edit.specs.Sound.{PlainSearch, formulation_of}
+use Rattle.sound_searches.specs.Sound.{PlainSearch, formulation_of}
 use Rattle.tree_edit.specs.Indexed.{IsIndexed}
-use Rattle.tree_edit.specs.Placing.{IsAt, IsNumberedChild, IsSplitSound, tree_with_split, search_with_split, split_node}
+use Rattle.sound_searches.specs.Placing.{IsAt, IsSplitSound, tree_with_split, search_with_split, split_node}
+use Rattle.tree_edit.specs.PlacingSteps.{IsNumberedChild}
 use Rattle.tree_edit.proofs.SplitLemmas.{kept-split}
 use Rattle.tree_edit.proofs.QueueChanges.{queue-same, other-id, new-candidate, split-queue, split-undone}
 use Rattle.tree_edit.proofs.SameNumbers.{numbers-fresh, numbers-split}

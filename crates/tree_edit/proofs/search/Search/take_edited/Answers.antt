@@ -4,12 +4,13 @@ use Rattle.std.proofs.lemmas.List.{length-map}
 use Rattle.lp_model.specs.Edits.{edited, EditFits}
 use Rattle.lp_model.specs.Formulations.{formulation}
 use Rattle.leaf_judging.specs.Judged.{JudgesAll}
-use Rattle.tree_edit.specs.Points.{target}
-use Rattle.tree_edit.specs.Sound.{PlainSearch, IsSoundTree}
+use Rattle.search_parts.specs.Points.{target}
+use Rattle.sound_searches.specs.Sound.{PlainSearch, IsSoundTree}
 use Rattle.branch_tree.specs.Following.{after_edit}
 use Rattle.kept_cuts.specs.Kept.{derivations_of, gone_with, IsPoolAfter}
-use Rattle.tree_edit.specs.Edited.{point_after, AreKeepable, HasParts, Follows}
-use Rattle.tree_edit.proofs.EditedPoints.{keepable-all, keepable-few}
+use Rattle.search_parts.specs.EditedPoints.{point_after, AreKeepable}
+use Rattle.sound_searches.specs.Edited.{HasParts, Follows}
+use Rattle.search_parts.proofs.KeepableLemmas.{keepable-all, keepable-few}
 use Rattle.tree_edit.proofs.GoneCuts.{follow-sound}
 use Rattle.tree_edit.proofs.search.Search.take_edited.Goals as goal
 

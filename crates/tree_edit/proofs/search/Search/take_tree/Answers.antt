@@ -1,9 +1,9 @@
 use Rattle.std.proofs.Common.{◌≡◌, ◌∙◌, refl, sym, subst, ap, Option}
 use Rattle.rational.specs.Rational.{ℚ}
 use Rattle.leaf_judging.specs.Judged.{JudgesAll}
-use Rattle.tree_edit.specs.Points.{target}
-use Rattle.tree_edit.specs.Sound.{PlainSearch, IsSoundTree, formulation_of}
-use Rattle.tree_edit.specs.Trimmed.{TakesTree}
+use Rattle.search_parts.specs.Points.{target}
+use Rattle.sound_searches.specs.Sound.{PlainSearch, IsSoundTree, formulation_of}
+use Rattle.sound_searches.specs.Trimmed.{TakesTree}
 use Rattle.tree_edit.proofs.TrimLemmas.{kept-tree}
 use Rattle.tree_edit.proofs.search.Search.take_tree.Goals as goal
 

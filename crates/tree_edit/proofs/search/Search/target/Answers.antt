@@ -1,9 +1,9 @@
 use Rattle.std.proofs.Common.{◌≡◌, ◌∙◌, List, refl, subst, ap, pos}
 use Rattle.rational.specs.Rational.{ℚ, int}
 use Rattle.lp_model.proofs.ElementLemmas.{get_or-read}
-use Rattle.tree_edit.specs.Points.{IsOldestLeast, target, value_at}
-use Rattle.tree_edit.specs.Sound.{PlainSearch}
-use Rattle.tree_edit.proofs.PointLemmas.{target-value}
+use Rattle.search_parts.specs.Points.{IsOldestLeast, target, value_at}
+use Rattle.sound_searches.specs.Sound.{PlainSearch}
+use Rattle.search_parts.proofs.PointLemmas.{target-value}
 use Rattle.tree_edit.proofs.search.Search.target.Goals as goal
 
 pub returns-in-Some : goal.returns-in-Some

@@ -2,8 +2,8 @@ use Rattle.std.proofs.Common.{◌≡◌, ◌∙◌, sym, subst, ap}
 use Rattle.std.specs.Prelude.{OnOk}
 use Rattle.branch_tree.specs.Numbered.{NumberedTree}
 use Rattle.branch_tree.specs.Changes.{after_trim}
-use Rattle.tree_edit.specs.Sound.{PlainSearch, IsSoundTree, formulation_of}
-use Rattle.tree_edit.specs.Trimmed.{TakesTree}
+use Rattle.sound_searches.specs.Sound.{PlainSearch, IsSoundTree, formulation_of}
+use Rattle.sound_searches.specs.Trimmed.{TakesTree}
 use Rattle.tree_edit.proofs.TrimLemmas.{sound-trimmed}
 use Rattle.tree_edit.proofs.search.Search.trim.Goals as goal
 

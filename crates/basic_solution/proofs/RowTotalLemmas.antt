@@ -1,0 +1,138 @@
+-- Why each term of a value has room where its products are small: their sum over any of the variables is a number below 2 ^ 126 over the denominator.
+use Rattle.std.specs.Prelude.{◌≡◌, ℕ, zero, suc, ◌+◌, ◌-◌, ◌*◌, ◌<◌, ◌≤◌, ◌^◌, [], ◌∷◌, ℤ, pos, ◌<ℤ◌, ◌+ℤ◌, ◌*ℤ◌, unsigned_abs, true, IsTrue, ◌↔◌, int_lt}
+use Rattle.std.proofs.Common.{refl, sym, subst, ◌∙◌, ⊎_elim, arith}
+use Rattle.std.proofs.Math.Nat.{mul-le-mul_right}
+use Rattle.std.proofs.lemmas.Int.{ints, unsigned_abs-mul}
+use mathlib.Core.Path.{subst₂}
+use Rattle.rational.specs.Rational.{ℚ, int, ◌<ℚ◌}
+use Rattle.rational.proofs.IntegerRing.{ring_ℤ, reads_ℤ}
+use Rattle.rational.proofs.Lowest.{reduced-<ℚ}
+use Rattle.rational.proofs.RationalRing.{int_is, zero-+ℚ}
+use Rattle.frac128.specs.LowestTerms.{quotient_of}
+use Rattle.frac128.proofs.Terms.{denominator_is}
+use Rattle.checked_sum.specs.Steps.{AllFit, partial}
+use Rattle.checked_sum.proofs.StepLaws.{partial_none}
+use Rattle.bases.specs.States.{basic_value}
+use Rattle.bases.specs.Steps.{at_nonbasic}
+use Rattle.bases.proofs.OneTable.{covered}
+use Rattle.row_tableau.specs.WholeSteps.{IsShort}
+use Rattle.row_tableau.specs.WholeSums.{IsWholeTerm, HasMargin}
+use Rattle.row_tableau.proofs.ListedLemmas.{zero_over}
+use Rattle.row_tableau.proofs.WholeSumLemmas.{term_of_nothing, total_more, whole_fits_more}
+use Rattle.basic_solution.specs.Held.{Held, IsSided, relaxation, state, table, variables}
+use Rattle.basic_solution.specs.RowTotals.{IsSmallNumber, IsRowTotal}
+use Rattle.basic_solution.proofs.PointLemmas.{no_standing, own_standing, own_entry}
+
+-- some term is there
+abbrev pub HasSmallTerm : ℤ → ℚ → ℚ → Type 0
+HasSmallTerm d a x = (f : ℤ) × ((n : ℤ) × (IsWholeTerm d a x f n × IsSmallNumber n))
+
+no_term : (a x : ℚ) (d : ℤ) → pos 0 <ℤ d → x ≡ int (pos 0) → HasSmallTerm d a x
+no_term a x d h none = (pos 0, (pos 0, (term_of_nothing a x d h none, omega arith)))
+
+small_product : (f n : ℤ) → IsShort f → IsSmallNumber n → unsigned_abs (f *ℤ n) ≤ 2 ^ 93
+small_product f n h k =
+    let left : unsigned_abs f * unsigned_abs n ≤ 2 ^ 62 * unsigned_abs n = mul-le-mul_right (unsigned_abs n) (omega arith) in
+    rw unsigned_abs-mul (omega arith)
+
+-- one product more
+pub size_more : (total f n : ℤ) (k : ℕ) → IsShort f → IsSmallNumber n → unsigned_abs total ≤ k * 2 ^ 93 → unsigned_abs (total +ℤ f *ℤ n) ≤ (k + 1) * 2 ^ 93
+size_more total f n k h small size = more total (f *ℤ n) k (small_product f n h small) size
+  where
+    more : (a b : ℤ) (k : ℕ) → unsigned_abs b ≤ 2 ^ 93 → unsigned_abs a ≤ k * 2 ^ 93 → unsigned_abs (a +ℤ b) ≤ (k + 1) * 2 ^ 93
+    more a b k p q = omega (arith, ints)
+
+pub margin_of : (total : ℤ) (k : ℕ) → k < 2 ^ 32 → unsigned_abs total ≤ k * 2 ^ 93 → HasMargin total
+margin_of total k few size = omega (arith, few, size)
+
+-- the sum of the first k products, over the denominator
+module _ (a x : ℕ → ℚ) (d : ℤ) (h : pos 0 <ℤ d) (d_short : IsShort d) where
+  record AddsUp (k : ℕ) : Type 0 where
+    total : ℤ
+    size : unsigned_abs total ≤ k * 2 ^ 93
+    value : quotient_of total d ≡ partial (int (pos 0)) a x k
+    fits : AllFit (int (pos 0)) a x k
+
+  adds_none : AddsUp 0
+  adds_none = record {
+    total = pos 0;
+    size = omega arith;
+    value = zero_over d h ∙ partial_none (int (pos 0)) a x;
+    fits = λ j below. absurd (omega arith);
+  }
+
+  adds_more : (k : ℕ) → k + 1 < 2 ^ 32 → AddsUp k → (f n : ℤ) → IsWholeTerm d (a k) (x k) f n → IsSmallNumber n → AddsUp (k + 1)
+  adds_more k few before f n term small =
+      let next = before.total +ℤ f *ℤ n in
+      let size : unsigned_abs next ≤ (k + 1) * 2 ^ 93 = size_more before.total f n k term.factor_short small before.size in
+      let margin : HasMargin before.total = margin_of before.total k (omega (arith, few)) before.size in
+      let next_margin : HasMargin next = margin_of next (k + 1) few size in
+      record {
+        total = next;
+        size = size;
+        value = total_more (int (pos 0)) a x k d before.total h d_short margin f n term next refl next_margin before.value;
+        fits = whole_fits_more (int (pos 0)) a x k d before.total h d_short margin f n term next refl next_margin before.value before.fits;
+      }
+
+  adds_up : (k : ℕ) → k < 2 ^ 32 → ((j : ℕ) → j < k → HasSmallTerm d (a j) (x j)) → AddsUp k
+  adds_up zero few terms = adds_none
+  adds_up (suc k) few terms =
+      let here = terms k (omega arith) in
+      let longer : k + 1 ≡ suc k = omega arith in
+      subst AddsUp longer (adds_more k (omega (arith, few)) (adds_up k (omega (arith, few)) (λ j q. terms j (omega (arith, q)))) here.0 here.1.0 here.1.1.0 here.1.1.1)
+
+  pub all_fit : (k : ℕ) → k < 2 ^ 32 → ((j : ℕ) → j < k → HasSmallTerm d (a j) (x j)) → AllFit (int (pos 0)) a x k
+  all_fit k few terms = (adds_up k few terms).fits
+
+-- of the terms by variable each is that of a place, or makes no step
+module _ (s : Held) (sided : IsSided s) (few : variables s < 2 ^ 32) (row : ℕ) (d : ℤ) (h : pos 0 <ℤ d) (d_short : IsShort d)
+    (terms : (k : ℕ) → k < s.tableau.columns → HasSmallTerm d ((table s).entry row k) ((state s).at k)) where
+  by_variable : (v : ℕ) → v < variables s → HasSmallTerm d (at_nonbasic (relaxation s) (table s) ((table s).entry row) v) (at_nonbasic (relaxation s) (table s) (state s).at v)
+  by_variable v q =
+      ⊎_elim
+      (λ found. no_term _ _ d h (no_standing s sided v found.0 found.1 (sym found.2)))
+      (λ found. subst₂ (HasSmallTerm d) (sym (own_entry s sided row v found.0 found.1 (sym found.2))) (sym (own_standing s sided v found.0 found.1 (sym found.2))) (terms found.0 found.1))
+      (covered (relaxation s) (table s) sided.table.arranged v q)
+
+  pub total_of_row : (total : ℤ) → unsigned_abs total ≤ s.tableau.columns * 2 ^ 93 → quotient_of total d ≡ partial (int (pos 0)) ((table s).entry row) (state s).at s.tableau.columns → IsRowTotal s row d total
+  total_of_row total size value = record {
+    margin = margin_of total s.tableau.columns (omega (arith, few)) size;
+    fits = all_fit (at_nonbasic (relaxation s) (table s) ((table s).entry row)) (at_nonbasic (relaxation s) (table s) (state s).at) d h d_short (variables s) few by_variable;
+    value = value ∙ zero-+ℚ (basic_value (relaxation s) (state s) row);
+  }
+
+-- ---- a total over a denominator beside a whole number
+
+module _ (t d n : ℤ) (b : ℚ) (h : pos 0 <ℤ d) (is : b ≡ int n) where
+  over_one : b ≡ quotient_of n (pos 1)
+  over_one = is ∙ int_is n
+
+  by_one : (a : ℤ) → a *ℤ pos 1 ≡ a
+  by_one a = ring_ℤ (a ∷ []) (search reads_ℤ) (search reads_ℤ) tt
+
+  pub below_whole : (t <ℤ (n *ℤ d)) ↔ (quotient_of t d <ℚ b)
+  below_whole =
+      subst₂ (λ x y. (x <ℤ (n *ℤ y)) ↔ (quotient_of t d <ℚ b)) (by_one t) (denominator_is d h)
+      (subst (λ z. ((t *ℤ pos 1) <ℤ (n *ℤ pos (suc (unsigned_abs d - 1)))) ↔ (quotient_of t d <ℚ z)) (sym over_one) (reduced-<ℚ t n (unsigned_abs d - 1) 0))
+
+  pub above_whole : ((n *ℤ d) <ℤ t) ↔ (b <ℚ quotient_of t d)
+  above_whole =
+      subst₂ (λ x y. ((n *ℤ y) <ℤ x) ↔ (b <ℚ quotient_of t d)) (by_one t) (denominator_is d h)
+      (subst (λ z. ((n *ℤ pos (suc (unsigned_abs d - 1))) <ℤ (t *ℤ pos 1)) ↔ (z <ℚ quotient_of t d)) (sym over_one) (reduced-<ℚ n t 0 (unsigned_abs d - 1)))
+
+int_lt-decides : (m n : ℤ) → IsTrue (int_lt m n) ↔ (m <ℤ n)
+int_lt-decides m n = ((λ e. omega (arith, ints)), (λ h. let e : true ≡ int_lt m n = omega (arith, ints) in sym e))
+
+-- numbers that were read as t' and l
+module _ (t d n t' l : ℤ) (b : ℚ) (h : pos 0 <ℤ d) (is : b ≡ int n) (t_is : t' ≡ t) (l_is : l ≡ n *ℤ d) where
+  pub below_decided : IsTrue (int_lt t' l) ↔ (quotient_of t d <ℚ b)
+  below_decided = (
+    (λ e. (below_whole t d n b h is).0 (subst₂ (λ x y. x <ℤ y) t_is l_is ((int_lt-decides t' l).0 e))),
+    (λ k. (int_lt-decides t' l).1 (subst₂ (λ x y. x <ℤ y) (sym t_is) (sym l_is) ((below_whole t d n b h is).1 k))),
+  )
+
+  pub above_decided : IsTrue (int_lt l t') ↔ (b <ℚ quotient_of t d)
+  above_decided = (
+    (λ e. (above_whole t d n b h is).0 (subst₂ (λ x y. x <ℤ y) l_is t_is ((int_lt-decides l t').0 e))),
+    (λ k. (int_lt-decides l t').1 (subst₂ (λ x y. x <ℤ y) (sym l_is) (sym t_is) ((above_whole t d n b h is).1 k))),
+  )

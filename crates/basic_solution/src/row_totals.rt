@@ -1,0 +1,104 @@
+// The value of a basic variable times the denominator of the table, place by place.
+ghost use Rattle.std.specs.Prelude.{◌≡◌, ◌<◌, ◌<ℤ◌, ◌+ℤ◌, ◌*ℤ◌, pos, IfSome};
+ghost use Rattle.rational.specs.Rational.{int};
+ghost use Rattle.frac128.specs.LowestTerms.{quotient_of};
+ghost use Rattle.row_tableau.specs.WholeSteps.{IsShort};
+ghost use Rattle.row_tableau.specs.WholeSums.{HasMargin, IsWholeTerm};
+ghost use Rattle.basic_solution.specs.Held.{state, table};
+ghost use Rattle.basic_solution.specs.RowTotals.{IsSmallNumber, IsRowTotal};
+
+use crate::sided::SidedBasis;
+use frac128::Frac;
+use row_tableau::{WholeTerm, whole_number};
+
+/// Numbers below this leave room for a term of each variable, in any order: there are fewer than 2^32.
+const SMALL: i64 = 1 << 31;
+
+/// The number that a fraction is, if it is whole and small.
+#[inline]
+fn small_number(fraction: &Frac) -> Option<i64>
+    ensures small { IfSome result (λ n. IsSmallNumber n) }
+    ensures value { IfSome result (λ n. fraction.now ≡ int n) }
+{
+    let number = whole_number(fraction)?;
+    if -SMALL < number && number < SMALL {
+        Some(number)
+    } else {
+        None
+    }
+}
+
+/// The product of two short numbers.
+#[inline]
+pub fn product(first: i64, second: i64) -> i128
+    requires first { IsShort first }
+    requires second { IsShort second }
+    ensures { result ≡ first *ℤ second }
+{
+    i128::from(first) * i128::from(second)
+}
+
+/// The total with one more product.
+#[inline]
+fn with_product(total: i128, factor: i64, number: i64) -> i128
+    requires total { HasMargin total }
+    requires factor { IsShort factor }
+    requires number { IsShort number }
+    ensures { result ≡ total +ℤ factor *ℤ number }
+{
+    total + product(factor, number)
+}
+
+/// The total over the denominator.
+pub fn quotient(total: i128, denominator: i64) -> Frac
+    requires total { HasMargin total }
+    requires positive { pos 0 <ℤ denominator }
+    requires denominator { IsShort denominator }
+    ensures { result ≡ quotient_of total denominator }
+{
+    if total == 0 {
+        return Frac::whole(0);
+    }
+    Frac::new(total, i128::from(denominator)).unwrap()
+}
+
+impl SidedBasis<'_> {
+    /// The term of a place in the value of the basic variable of a row, as whole numbers over the denominator.
+    #[inline]
+    fn place_term(&self, row: usize, place: usize, denominator: i64) -> Option<WholeTerm>
+        requires row { row < self.now.tableau.activities }
+        requires place { place < self.now.tableau.columns }
+        requires positive { pos 0 <ℤ denominator }
+        ensures term { IfSome result (λ t. IsWholeTerm denominator ((table self.now).entry row place) ((state self.now).at place) t.factor t.number) }
+        ensures small { IfSome result (λ t. IsSmallNumber t.number) }
+    {
+        let number = small_number(&self.place_number(place))?;
+        if number == 0 {
+            return Some(WholeTerm {
+                factor: 0,
+                number: 0,
+            });
+        }
+        let factor = self.tableau.number_over(row, place, denominator)?;
+        Some(WholeTerm { factor, number })
+    }
+
+    /// The value of the basic variable of a row times the denominator, where all of its terms are products of whole numbers
+    /// over that, and those of the places are small: then each sum of them has room, in any order. None says nothing of the
+    /// value.
+    pub(crate) fn row_total(&self, row: usize, denominator: i64) -> Option<i128>
+        requires row { row < self.now.tableau.activities }
+        requires positive { pos 0 <ℤ denominator }
+        requires denominator { IsShort denominator }
+        ensures { IfSome result (λ total. IsRowTotal self.now row denominator total) }
+    {
+        let mut total: i128 = 0;
+        for place in 0..self.tableau.columns() {
+            match self.place_term(row, place, denominator) {
+                None => return None,
+                Some(term) => total = with_product(total, term.factor, term.number),
+            }
+        }
+        Some(total)
+    }
+}

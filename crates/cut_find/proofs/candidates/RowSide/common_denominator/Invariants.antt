@@ -1,0 +1,5 @@
+use Rattle.leaf_dual.specs.Wholes.{IsDenominator}
+use Rattle.cut_find.proofs.candidates.RowSide.common_denominator.Given as goal
+
+abbrev pub invariant-loop-entry : goal.invariant-loop-entry
+invariant-loop-entry l = IsDenominator l.denominator

@@ -1,0 +1,42 @@
+use Rattle.std.proofs.Common.{◌≡◌, ◌∙◌, sym, ap, ap₂, arith, ◌+◌, ◌≤◌, ◌^◌, ◌+ℤ◌, ◌*ℤ◌, unsigned_abs, Some, to_z, of_z, w64}
+use Rattle.std.specs.Int.{w128}
+use Rattle.std.proofs.lemmas.Int.{ints}
+use Rattle.rational.specs.Rational.{int}
+use Rattle.frac128.specs.LowestTerms.{quotient_of}
+use Rattle.lp_model.specs.Program.{lower, upper}
+use Rattle.lp_model.specs.Sides.{needed_side}
+use Rattle.cover_cuts.specs.Covers.{side_coefficient}
+use Rattle.leaf_dual.specs.Wholes.{IsFactor}
+use Rattle.leaf_dual.proofs.RoomLemmas.{factor_product}
+use Rattle.cut_find.proofs.SizeLemmas.{sums_more}
+use Rattle.cut_find.proofs.candidates.RowSide.with_column.Goals as goal
+
+pub returns : goal.returns
+returns c =
+    let self = c.args.self.now in
+    let M = self.model.now in
+    let j = c.args.col in
+    let d = c.args.denominator in
+    let w = c.args.weight in
+    let f = c.in_ok-bound.bound in
+    let w_factor : IsFactor w = c.requires.factor in
+    let f_factor : IsFactor f = c.in_ok-bound.ensures.factor in
+    let w_is : to_z w64 (of_z w64 w) ≡ w = omega (arith, ints, w_factor) in
+    let f_is : to_z w64 (of_z w64 f) ≡ f = omega (arith, ints, f_factor) in
+    let bound : needed_side (side_coefficient M self.row.0 self.side j) (lower M j) (upper M j) ≡ Some (int f) =
+    ap (λ q. needed_side q (lower M j) (upper M j)) (c.requires.weight ∙ ap (λ n. quotient_of n d) (sym w_is)) ∙ c.in_ok-bound.ensures.bound d c.requires.denominator.positive in
+    let made : c.wide_product-product.result ≡ w *ℤ f = c.wide_product-product.ensures ∙ ap₂ ◌*ℤ◌ w_is f_is in
+    let small : unsigned_abs (w *ℤ f) ≤ 2 ^ 124 = factor_product w f w_factor f_factor in
+    let product_is : to_z w128 (of_z w128 c.wide_product-product.result) ≡ w *ℤ f = omega (arith, ints, made, small) in
+    let sums = c.args.sums in
+    let base_within = c.requires.sums.base_within in
+    let room = c.requires.sums.room in
+    let base_is : to_z w128 (of_z w128 sums.base) ≡ sums.base = omega (arith, ints, base_within, room) in
+    let total : to_z w128 (of_z w128 (to_z w128 (of_z w128 sums.base) +ℤ to_z w128 (of_z w128 c.wide_product-product.result))) ≡ sums.base +ℤ w *ℤ f =
+    (let e : to_z w128 (of_z w128 (to_z w128 (of_z w128 sums.base) +ℤ to_z w128 (of_z w128 c.wide_product-product.result))) ≡ to_z w128 (of_z w128 sums.base) +ℤ to_z w128 (of_z w128 c.wide_product-product.result) = omega (arith, ints, base_is, product_is, base_within, room, small) in e)
+    ∙ ap₂ ◌+ℤ◌ base_is product_is in
+    let first : c.unsigned_abs.result ≡ unsigned_abs (w *ℤ f) = c.unsigned_abs.ensures.value ∙ ap unsigned_abs product_is in
+    let second : c.from.result ≡ unsigned_abs w = c.from.ensures ∙ c.unsigned_abs-2.ensures.value ∙ ap unsigned_abs w_is in
+    let size : sums.size + c.unsigned_abs.result + c.from.result ≡ sums.size + unsigned_abs (w *ℤ f) + unsigned_abs w = λ t. sums.size + first t + second t in
+    let within : sums.size + c.unsigned_abs.result + c.from.result ≤ 2 ^ 126 = let h = c.if-size-gt-MARGIN.false in omega (arith, h) in
+    sums_more M self.row.0 self.side d c.requires.denominator j c.requires.within sums _ c.requires.sums w f w_factor f_factor c.requires.weight bound total size within

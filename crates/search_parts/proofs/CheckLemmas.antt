@@ -1,0 +1,29 @@
+-- The checks of a result's parts.
+use Rattle.std.specs.Prelude.{◌≡◌, ◌↔◌, ℕ, ◌<◌, List, length, get_or, Err, false, ℤ, ◌≤ℤ◌, ◌<ℤ◌}
+use Rattle.std.proofs.Common.{sym, subst, ap, ◌∙◌, arith}
+use Rattle.std.proofs.lemmas.Int.{ints, by_lt_z}
+use Rattle.rational.specs.Rational.{ℚ, int, ceil, ◌<ℚ◌}
+use Rattle.rational.proofs.RationalOrder.{not_both_ℚ, <ℚ_from_not}
+use Rattle.rational.proofs.Rounding.{≤ℚ-int}
+use Rattle.lp_model.specs.Program.{Program, Point, is_integer}
+use Rattle.lp_model.specs.Answers.{IsFeasibilityAnswer}
+use Rattle.lp_model.specs.declared.types.Col.{Col}
+use Rattle.lp_model.specs.declared.types.WideStep.{WideStep}
+use Rattle.lp_model.proofs.ElementLemmas.{of_element-read}
+use Rattle.search_parts.specs.Points.{IsKeepable}
+
+pub wide-not_keepable : (M : Program) (x : Point) (step : WideStep) → IsFeasibilityAnswer M x (Err step) → ¬ IsKeepable M x
+wide-not_keepable M x step wide kept =
+    let row = wide.1.1.0 in
+    row.here.here ((kept.feasible.1 wide.0 row.within).fits wide.1.0 row.here.within)
+
+-- a whole number is below q exactly where it is below q's ceiling
+pub under-ceil : (q : ℚ) (v : ℤ) → (v <ℤ ceil q) ↔ (int v <ℚ q)
+under-ceil q v = (
+  (λ h. <ℚ_from_not (int v) q (λ at. let k : ceil q ≤ℤ v = (≤ℚ-int q v).0 at in absurd (omega (arith, ints)))),
+  (λ h. by_lt_z v (ceil q) (λ k. k) (λ k. not_both_ℚ ((≤ℚ-int q v).1 k) h)),
+)
+
+pub integer-read : (M : Program) (cols : List Col) (j : ℕ) (c : Col) → cols ≡ M.cols → j < length cols → c ≡ get_or cols j c → (get_or cols j c).int ≡ is_integer M j
+integer-read M cols j c are below is =
+    ap (λ (d : Col). d.int) (sym is) ∙ of_element-read false (λ (d : Col). d.int) M.cols cols j c are (subst (λ cs. j < length cs) are below) is

@@ -1,0 +1,6 @@
+pub mod PointLemmas
+pub mod WorstLemmas
+pub mod ListLemmas
+pub mod CheckLemmas
+pub mod KeepableLemmas
+pub mod NearestZero

@@ -1,0 +1,6 @@
+use Rattle.std.proofs.Common.{◌≢◌, ℕ, ◌<◌, get_or}
+use Rattle.lp_model.specs.declared.types.Var.{Var}
+use Rattle.search_parts.proofs.lists.is_once.Given as goal
+
+abbrev pub invariant-loop-place : goal.invariant-loop-place
+invariant-loop-place l = (j : ℕ) → j < l.place → (i : ℕ) (d : Var) → i < j → get_or l.vars i d ≢ get_or l.vars j d

@@ -1,0 +1,25 @@
+use Rattle.std.proofs.Common.{◌≡◌, ◌+◌, ◌<◌, refl, sym, subst, length, pos, IsTrue, arith}
+use Rattle.rational.specs.Rational.{int, ◌<ℚ◌}
+use Rattle.lp_model.proofs.ElementLemmas.{get_or-read}
+use Rattle.search_parts.specs.Points.{value_at}
+use Rattle.search_parts.specs.Joining.{IsOldestGreatestOf}
+use Rattle.search_parts.proofs.WorstLemmas.{worst-higher, worst-same}
+use Rattle.search_parts.proofs.points.oldest_greatest.Goals.{then-is_below, else-is_below}
+use Rattle.search_parts.proofs.points.oldest_greatest.Goals as goal
+
+pub loop-place-preserved : goal.loop-place-preserved
+loop-place-preserved c =
+    let values = c.args.values.now in
+    let n = c.loop-place.place in
+    let k = c.loop-place.worst in
+    let n_in : n < length values = omega arith in
+    let k_in : k < length values = omega (arith, c.loop-place.invariant.within) in
+    let at_n : c.index-values-place.result ≡ value_at values n = get_or-read (int (pos 0)) values values n c.index-values-place.result refl n_in c.index-values-place.is in
+    let at_k : c.index-values-worst.result ≡ value_at values k = get_or-read (int (pos 0)) values values k c.index-values-worst.result refl k_in c.index-values-worst.is in
+    elim c.if-is_below.branch [
+      | then-is_below w ↦ subst (IsOldestGreatestOf values (n + 1)) (sym w.worst-is)
+          (worst-higher values n k c.loop-place.invariant (subst (λ q. q <ℚ value_at values n) at_k (subst (λ q. c.index-values-worst.result <ℚ q) at_n (c.is_below.ensures.0 w.if-is_below.true))))
+      | else-is_below w ↦ subst (IsOldestGreatestOf values (n + 1)) (sym w.worst-is)
+          (worst-same values n k c.loop-place.invariant
+          (λ less. let t : IsTrue c.is_below.result = c.is_below.ensures.1 (subst (λ q. q <ℚ c.index-values-place.result) (sym at_k) (subst (λ q. value_at values k <ℚ q) (sym at_n) less)) in let f = w.if-is_below.false in cc))
+    ]

@@ -1,0 +1,163 @@
+// Lists of variables that are there, each once.
+ghost use Rattle.std.specs.Prelude.{◌≡◌, ◌≢◌, ◌↔◌, IsTrue, All, AllPairs, Contains, IfOk, length, map};
+ghost use Rattle.lp_model.specs.Formulations.{formulation};
+ghost use Rattle.search_parts.specs.Lists.{IsThere, IsActivityThere, NamesOnce, AreMultipliers, IsBasis, HasLists};
+
+use branch_tree::LeafData;
+use cover_cuts::CutPool;
+use frac128::Frac;
+use lp_model::{Basis, Model, Mult, Var};
+use std::alloc::{AllocError, Global};
+
+/// Whether the two are one variable.
+fn is_same(first: &Var, second: &Var) -> bool
+    ensures { IsTrue result ↔ (first.now ≡ second.now) }
+{
+    match (first, second) {
+        (Var::Col(a), Var::Col(b)) => a.0 == b.0,
+        (Var::Row(a), Var::Row(b)) => a.0 == b.0,
+        (Var::Cut(a), Var::Cut(b)) => a.0 == b.0,
+        _ => false,
+    }
+}
+
+/// Whether the variable is among these.
+fn is_named(vars: &[Var], var: &Var) -> bool
+    ensures { IsTrue result ↔ Contains vars.now var.now }
+{
+    for other in vars {
+        if is_same(other, var) {
+            return true;
+        }
+    }
+    false
+}
+
+/// Whether no variable is named twice.
+fn is_once(vars: &[Var]) -> bool
+    ensures { IsTrue result ↔ AllPairs (λ a b. a ≢ b) vars.now }
+{
+    for place in 0..vars.len() {
+        if is_named(&vars[..place], &vars[place]) {
+            return false;
+        }
+    }
+    true
+}
+
+/// How many cuts there are.
+fn cut_count(pool: &CutPool) -> usize
+    ensures { result ≡ length pool.now }
+{
+    pool.rows().len()
+}
+
+/// Whether the row or the cut is there.
+fn is_row_there(model: &Model, pool: &CutPool, var: &Var) -> bool
+    ensures { IsTrue result ↔ IsActivityThere (formulation model.now pool.now) var.now }
+{
+    match var {
+        Var::Col(_) => false,
+        Var::Row(row) => (row.0 as usize) < model.rows().len(),
+        Var::Cut(cut) => (cut.0 as usize) < cut_count(pool),
+    }
+}
+
+/// Whether the variable is there.
+fn is_there(model: &Model, pool: &CutPool, var: &Var) -> bool
+    ensures { IsTrue result ↔ IsThere (formulation model.now pool.now) var.now }
+{
+    match var {
+        Var::Col(col) => (col.0 as usize) < model.cols().len(),
+        Var::Row(row) => (row.0 as usize) < model.rows().len(),
+        Var::Cut(cut) => (cut.0 as usize) < cut_count(pool),
+    }
+}
+
+/// Whether all of them are rows and cuts that are there.
+fn are_rows(model: &Model, pool: &CutPool, vars: &[Var]) -> bool
+    ensures { IsTrue result ↔ All (IsActivityThere (formulation model.now pool.now)) vars.now }
+{
+    for var in vars {
+        if !is_row_there(model, pool, var) {
+            return false;
+        }
+    }
+    true
+}
+
+/// Whether all of them are there.
+fn are_there(model: &Model, pool: &CutPool, vars: &[Var]) -> bool
+    ensures { IsTrue result ↔ All (IsThere (formulation model.now pool.now)) vars.now }
+{
+    for var in vars {
+        if !is_there(model, pool, var) {
+            return false;
+        }
+    }
+    true
+}
+
+/// The variables of a list of multipliers.
+fn vars_of(alloc: Global, mult: &[(Var, Frac)]) -> Result<Vec<Var>, AllocError>
+    ensures { IfOk result (λ vars. vars.items ≡ map (λ m. m.0) mult.now) }
+{
+    let mut vars = Vec::new(alloc);
+    for (var, _) in mult {
+        vars.push(*var)?;
+    }
+    Ok(vars)
+}
+
+/// Whether all of them are rows and cuts that are there, each once.
+fn are_rows_once(model: &Model, pool: &CutPool, vars: &[Var]) -> bool
+    ensures { IsTrue result ↔ NamesOnce (IsActivityThere (formulation model.now pool.now)) vars.now }
+{
+    are_rows(model, pool, vars) && is_once(vars)
+}
+
+/// Whether the multipliers are of rows and cuts that are there, each once.
+pub fn are_multipliers(
+    alloc: Global,
+    model: &Model,
+    pool: &CutPool,
+    mult: &Mult,
+) -> Result<bool, AllocError>
+    ensures { IfOk result (λ are. IsTrue are ↔ AreMultipliers (formulation model.now pool.now) mult.now) }
+{
+    let vars = vars_of(alloc, mult.as_slice())?;
+    Ok(are_rows_once(model, pool, &vars))
+}
+
+/// Whether the variables are there, each once.
+fn names_once(model: &Model, pool: &CutPool, vars: &[Var]) -> bool
+    ensures { IsTrue result ↔ NamesOnce (IsThere (formulation model.now pool.now)) vars.now }
+{
+    are_there(model, pool, vars) && is_once(vars)
+}
+
+/// Whether both lists of the basis name what is there, each once.
+pub fn is_basis(model: &Model, pool: &CutPool, basis: &Basis) -> bool
+    ensures { IsTrue result ↔ IsBasis (formulation model.now pool.now) basis.now }
+{
+    names_once(model, pool, basis.basic.as_slice())
+        && names_once(model, pool, basis.high.as_slice())
+}
+
+/// Whether each list of a leaf's data names what is there, each once.
+pub fn has_lists(
+    alloc: Global,
+    model: &Model,
+    pool: &CutPool,
+    kept: &LeafData,
+) -> Result<bool, AllocError>
+    ensures { IfOk result (λ has. IsTrue has ↔ HasLists (formulation model.now pool.now) kept.now) }
+{
+    if !are_multipliers(alloc, model, pool, &kept.mult)? {
+        return Ok(false);
+    }
+    if !are_multipliers(alloc, model, pool, &kept.farkas)? {
+        return Ok(false);
+    }
+    Ok(is_basis(model, pool, &kept.basis))
+}

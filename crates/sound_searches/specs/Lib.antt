@@ -1,0 +1,11 @@
+pub mod Sound
+pub mod SearchCode
+pub mod Laws
+pub mod Calls
+pub mod Placing
+pub mod Others
+pub mod Jobs
+pub mod Pool
+pub mod Edited
+pub mod Parts
+pub mod Trimmed

@@ -1,7 +1,0 @@
-use Rattle.lp_model.specs.Formulations.{formulation}
-use Rattle.tree_edit.specs.Lists.{IsThere}
-use Rattle.tree_edit.proofs.ListLemmas.{HoldsBefore}
-use Rattle.tree_edit.proofs.lists.are_there.Given as goal
-
-abbrev pub invariant-loop-var : goal.invariant-loop-var
-invariant-loop-var l = HoldsBefore (IsThere (formulation l.model l.pool)) l.vars l.var-index

@@ -1,6 +1,0 @@
-use Rattle.std.proofs.Common.{◌≢◌}
-use Rattle.tree_edit.proofs.ListLemmas.{HoldsBefore}
-use Rattle.tree_edit.proofs.lists.is_named.Given as goal
-
-abbrev pub invariant-loop-other : goal.invariant-loop-other
-invariant-loop-other l = HoldsBefore (λ v. v ≢ l.var) l.vars l.other-index

@@ -1,6 +1,0 @@
-use Rattle.std.proofs.Common.{◌≢◌, ℕ, ◌<◌, get_or}
-use Rattle.lp_model.specs.declared.types.Var.{Var}
-use Rattle.tree_edit.proofs.lists.is_once.Given as goal
-
-abbrev pub invariant-loop-place : goal.invariant-loop-place
-invariant-loop-place l = (j : ℕ) → j < l.place → (i : ℕ) (d : Var) → i < j → get_or l.vars i d ≢ get_or l.vars j d

@@ -1,6 +1,0 @@
-use Rattle.std.proofs.Common.{take}
-use Rattle.tree_edit.specs.Edited.{AreValued}
-use Rattle.tree_edit.proofs.parts.keepable_points.Given as goal
-
-abbrev pub invariant-loop-point : goal.invariant-loop-point
-invariant-loop-point l = AreValued l.model (take l.point-index l.points) l.kept.points.items l.kept.values.items

@@ -1,5 +1,0 @@
-use Rattle.tree_edit.specs.Points.{IsOldestOf}
-use Rattle.tree_edit.proofs.points.oldest_least.Given as goal
-
-abbrev pub invariant-loop-place : goal.invariant-loop-place
-invariant-loop-place l = IsOldestOf l.values l.place l.best

@@ -1,0 +1,41 @@
+use Rattle.std.specs.Prelude.{◌≡◌, Some}
+use Rattle.std.proofs.Common.{refl, sym, ap, subst, ◌∙◌}
+use Rattle.lp_model.specs.Program.{value}
+use Rattle.node_solve.specs.Places.{live_places, basis_in_relaxation}
+use Rattle.search_parts.specs.Lists.{IsBasis}
+use Rattle.sound_searches.specs.Sound.{formulation_of}
+use Rattle.tree_search.specs.Steps.{kept_basis}
+use Rattle.tree_search.proofs.JobLemmas.{IsWorkedBy, worked-by}
+use Rattle.tree_search.proofs.KeepLemmas.{job-after, added-model}
+use Rattle.tree_search.proofs.PlacedLemmas.{point-back}
+use Rattle.tree_search.proofs.PointLemmas.{there}
+use Rattle.tree_search.proofs.StopLemmas.{stop-value}
+use Rattle.tree_search.proofs.stepping.stop_by_value.Goals as goal
+
+pub keep_basis-requires-clause-job : goal.keep_basis-requires-clause-job
+keep_basis-requires-clause-job c =
+    let (begin, (found, (works, adds))) = c.requires.works in
+    job-after begin found.items c.args.search.now adds c.args.job.id c.args.job works.next.job_is
+
+pub keep_basis-requires-clause-basis : goal.keep_basis-requires-clause-basis
+keep_basis-requires-clause-basis c =
+    let limits = c.args.limits.now in
+    let S = c.args.search.now in
+    let (begin, (found, (works, adds))) = c.requires.works in
+    let by = subst (IsWorkedBy limits.ways) (added-model begin found.items S adds) (worked-by S limits.ways c.requires.ready.ways) in
+    let back = point-back limits.ways limits.first.now limits.pivots begin by c.args.job found.items S adds c.args.point c.args.mult c.args.basis found refl works.worked_is in
+    let own : c.in_ok-own.own ≡ basis_in_relaxation (live_places 200 0 S.cuts) c.args.basis = c.in_ok-own.ensures in
+    subst (IsBasis (formulation_of S)) (sym (ap (kept_basis S) own ∙ back))
+    (there limits begin c.args.job c.args.point c.args.mult c.args.basis found works S adds c.known.ensures.sound c.known.ensures.numbered c.known.ensures.lawful c.requires.rays c.requires.ready)
+
+pub returns-clause-steps : goal.returns-clause-steps
+returns-clause-steps c =
+    λ begin found works adds.
+    let limits = c.args.limits.now in
+    let S = c.args.search.now in
+    let by = subst (IsWorkedBy limits.ways) (added-model begin found.items S adds) (worked-by S limits.ways c.requires.ready.ways) in
+    let back = point-back limits.ways limits.first.now limits.pivots begin by c.args.job found.items S adds c.args.point c.args.mult c.args.basis found refl works.worked_is in
+    let own : c.in_ok-own.own ≡ basis_in_relaxation (live_places 200 0 S.cuts) c.args.basis = c.in_ok-own.ensures in
+    stop-value limits begin c.args.job found S adds c.keep_basis.new.search c.requires.rays c.args.point c.args.mult c.args.basis
+    (record { path = Some c.args.job.region; cuts = c.in_ok-cuts.cuts; basis = c.in_ok-own.own; step = c.args.step })
+    works c.requires.value refl c.in_ok-cuts.ensures.cuts own (ap (kept_basis S) own ∙ back) c.in_ok-cuts.ensures.keeps
