@@ -1,12 +1,11 @@
 pub mod PointLemmas
 pub mod RowTotalLemmas
+pub mod TermLemmas
+pub mod CutTotalLemmas
 pub mod SideLemmas
 pub mod PartLemmas
 pub mod ExchangeLemmas
-pub mod SideListLemmas
 pub mod SignLemmas
-pub mod OrderLemmas
-pub mod TiltLemmas
 pub mod SlackLemmas
 pub mod ListLemmas
 pub mod AskedLemmas

@@ -19,7 +19,7 @@ use Rattle.row_tableau.specs.Variables.{variable_number, numbers}
 use Rattle.row_tableau.specs.Answers.{IsPivotPlace, IsProper, IsBroughtIn}
 use Rattle.basic_solution.specs.Held.{Held, IsSided, relaxation, parts, table, variables}
 use Rattle.basic_solution.specs.Slack.{IsOf, IsRestood}
-use Rattle.basic_solution.specs.ListedStates.{IsStandBy, StandBy, StandsAsListed, Keeps, IsExchangePlace, IsWideExchange, IsBroughtTo, IsLawfulAnswer, IsStoodAt, LeadsOn}
+use Rattle.basic_solution.specs.ListedStates.{IsStandBy, StandBy, StandsAsListed, StandsNowhere, Keeps, IsExchangePlace, IsWideExchange, IsBroughtTo, IsLawfulAnswer, IsStoodAt, LeadsOn}
 
 -- ---- the same relaxation
 
@@ -112,6 +112,9 @@ keeps_trans s t u a b = record {
   activities = b.activities ∙ a.activities;
   basis = λ p h. b.basis p (a.basis p h);
 }
+
+pub nowhere_on : (s t : Held) → t.tableau.columns ≡ s.tableau.columns → t.stands ≡ s.stands → StandsNowhere s → StandsNowhere t
+nowhere_on s t columns stands h = λ k w. subst (λ l. get_or l k Free ≡ Free) (sym stands) (h k (subst (λ n. k < n) columns w))
 
 -- ---- numbers of variables
 

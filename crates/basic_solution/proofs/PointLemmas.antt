@@ -11,8 +11,8 @@ use Rattle.bases.specs.States.{basic_value}
 use Rattle.bases.specs.Steps.{nothing, at_nonbasic, at_basic}
 use Rattle.bases.proofs.SumBelowLaws.{sum_below-zero, if_same, if_other}
 use Rattle.bases.proofs.Arranged.{assigned-basic, assigned-nonbasic}
-use Rattle.row_tableau.specs.WholeSums.{IsWholeTerm}
-use Rattle.row_tableau.proofs.WholeSumLemmas.{term_of_nothing}
+use Rattle.table_entries.specs.WholeSums.{IsWholeTerm}
+use Rattle.table_entries.proofs.WholeSumLemmas.{term_of_nothing}
 use Rattle.basic_solution.specs.Held.{Held, IsSided, relaxation, state, table, variables}
 use Rattle.basic_solution.specs.Numbers.{ValueFits, CostsFit, IsValueNamed, IsCostNamed, IsBasicValueAnswer, IsReducedCostAnswer, IsNumberAnswer, IsMultiplierAnswer}
 use Rattle.lp_model.specs.declared.types.WideStep.{WideStep}
@@ -67,7 +67,7 @@ module _ (s : Held) (sided : IsSided s) where
       ∙ ring (sum_below s.tableau.columns (λ k. f k *ℚ g k) ∷ []) (search reads_ℚ) tt
 
   -- and at the basic ones alone
-  sum_of_rows : (c b : ℕ → ℚ) → sum_below (variables s) (λ v. c v *ℚ at_basic (relaxation s) (table s) b v) ≡ sum_below s.tableau.activities (λ i. c ((table s).basic i) *ℚ b i)
+  pub sum_of_rows : (c b : ℕ → ℚ) → sum_below (variables s) (λ v. c v *ℚ at_basic (relaxation s) (table s) b v) ≡ sum_below s.tableau.activities (λ i. c ((table s).basic i) *ℚ b i)
   sum_of_rows c b =
       arranged.sums (λ v. c v *ℚ at_basic (relaxation s) (table s) b v)
       ∙ ap₂ ◌+ℚ◌

@@ -1,36 +1,35 @@
--- Why each term of a value has room where its products are small: their sum over any of the variables is a number below 2 ^ 126 over the denominator.
+-- Why each term of a value, or of a reduced cost, has room where its products are small: their sum over any of the variables is a number below 2 ^ 126 over the denominator.
 use Rattle.std.specs.Prelude.{◌≡◌, ℕ, zero, suc, ◌+◌, ◌-◌, ◌*◌, ◌<◌, ◌≤◌, ◌^◌, [], ◌∷◌, ℤ, pos, ◌<ℤ◌, ◌+ℤ◌, ◌*ℤ◌, unsigned_abs, true, IsTrue, ◌↔◌, int_lt}
-use Rattle.std.proofs.Common.{refl, sym, subst, ◌∙◌, ⊎_elim, arith}
+use Rattle.std.proofs.Common.{refl, sym, ap, subst, ◌∙◌, ⊎_elim, inl, arith}
 use Rattle.std.proofs.Math.Nat.{mul-le-mul_right}
+use Rattle.std.proofs.lemmas.Bool.{cases_lt}
 use Rattle.std.proofs.lemmas.Int.{ints, unsigned_abs-mul}
 use mathlib.Core.Path.{subst₂}
-use Rattle.rational.specs.Rational.{ℚ, int, ◌<ℚ◌}
+use Rattle.rational.specs.Rational.{ℚ, int, ◌+ℚ◌, ◌*ℚ◌, ◌<ℚ◌}
 use Rattle.rational.proofs.IntegerRing.{ring_ℤ, reads_ℤ}
 use Rattle.rational.proofs.Lowest.{reduced-<ℚ}
-use Rattle.rational.proofs.RationalRing.{int_is, zero-+ℚ}
+use Rattle.rational.proofs.RationalRing.{int_is, zero-+ℚ, ring, reads_ℚ}
 use Rattle.frac128.specs.LowestTerms.{quotient_of}
 use Rattle.frac128.proofs.Terms.{denominator_is}
+use Rattle.checked_sum.specs.Sums.{sum_below}
 use Rattle.checked_sum.specs.Steps.{AllFit, partial}
 use Rattle.checked_sum.proofs.StepLaws.{partial_none}
 use Rattle.bases.specs.States.{basic_value}
-use Rattle.bases.specs.Steps.{at_nonbasic}
+use Rattle.bases.specs.Steps.{at_nonbasic, at_basic}
+use Rattle.bases.proofs.Arranged.{sum_below-split}
 use Rattle.bases.proofs.OneTable.{covered}
-use Rattle.row_tableau.specs.WholeSteps.{IsShort}
-use Rattle.row_tableau.specs.WholeSums.{IsWholeTerm, HasMargin}
-use Rattle.row_tableau.proofs.ListedLemmas.{zero_over}
-use Rattle.row_tableau.proofs.WholeSumLemmas.{term_of_nothing, total_more, whole_fits_more}
+use Rattle.bases.proofs.SumBelowLaws.{sum_below-zero}
+use Rattle.table_entries.specs.WholeSteps.{IsShort}
+use Rattle.table_entries.specs.WholeSums.{IsWholeTerm, HasMargin}
+use Rattle.table_entries.proofs.WholeSumLemmas.{term_of_nothing, start_is, total_more, whole_fits_more}
 use Rattle.basic_solution.specs.Held.{Held, IsSided, relaxation, state, table, variables}
-use Rattle.basic_solution.specs.RowTotals.{IsSmallNumber, IsRowTotal}
-use Rattle.basic_solution.proofs.PointLemmas.{no_standing, own_standing, own_entry}
-
--- some term is there
-abbrev pub HasSmallTerm : ℤ → ℚ → ℚ → Type 0
-HasSmallTerm d a x = (f : ℤ) × ((n : ℤ) × (IsWholeTerm d a x f n × IsSmallNumber n))
+use Rattle.basic_solution.specs.RowTotals.{IsSmallNumber, HasSmallTerm, AreFreeFrom, IsRowTotal, IsCostTotal}
+use Rattle.basic_solution.proofs.PointLemmas.{no_standing, own_standing, own_entry, sum_of_rows}
 
 no_term : (a x : ℚ) (d : ℤ) → pos 0 <ℤ d → x ≡ int (pos 0) → HasSmallTerm d a x
 no_term a x d h none = (pos 0, (pos 0, (term_of_nothing a x d h none, omega arith)))
 
-small_product : (f n : ℤ) → IsShort f → IsSmallNumber n → unsigned_abs (f *ℤ n) ≤ 2 ^ 93
+pub small_product : (f n : ℤ) → IsShort f → IsSmallNumber n → unsigned_abs (f *ℤ n) ≤ 2 ^ 93
 small_product f n h k =
     let left : unsigned_abs f * unsigned_abs n ≤ 2 ^ 62 * unsigned_abs n = mul-le-mul_right (unsigned_abs n) (omega arith) in
     rw unsigned_abs-mul (omega arith)
@@ -42,36 +41,41 @@ size_more total f n k h small size = more total (f *ℤ n) k (small_product f n 
     more : (a b : ℤ) (k : ℕ) → unsigned_abs b ≤ 2 ^ 93 → unsigned_abs a ≤ k * 2 ^ 93 → unsigned_abs (a +ℤ b) ≤ (k + 1) * 2 ^ 93
     more a b k p q = omega (arith, ints)
 
-pub margin_of : (total : ℤ) (k : ℕ) → k < 2 ^ 32 → unsigned_abs total ≤ k * 2 ^ 93 → HasMargin total
+pub margin_of : (total : ℤ) (k : ℕ) → k < 2 ^ 33 → unsigned_abs total ≤ k * 2 ^ 93 → HasMargin total
 margin_of total k few size = omega (arith, few, size)
 
--- the sum of the first k products, over the denominator
-module _ (a x : ℕ → ℚ) (d : ℤ) (h : pos 0 <ℤ d) (d_short : IsShort d) where
+pub start_size : (n d : ℤ) → IsSmallNumber n → IsShort d → unsigned_abs (n *ℤ d) ≤ 2 ^ 93
+start_size n d small short =
+    let turned : d *ℤ n ≡ n *ℤ d = ring_ℤ (d ∷ n ∷ []) (search reads_ℤ) (search reads_ℤ) tt in
+    subst (λ t. unsigned_abs t ≤ 2 ^ 93) turned (small_product d n short small)
+
+-- the sum of the first k products from a start, over the denominator
+module _ (start : ℤ) (start_small : IsSmallNumber start) (a x : ℕ → ℚ) (d : ℤ) (h : pos 0 <ℤ d) (d_short : IsShort d) where
   record AddsUp (k : ℕ) : Type 0 where
     total : ℤ
-    size : unsigned_abs total ≤ k * 2 ^ 93
-    value : quotient_of total d ≡ partial (int (pos 0)) a x k
-    fits : AllFit (int (pos 0)) a x k
+    size : unsigned_abs total ≤ (k + 1) * 2 ^ 93
+    value : quotient_of total d ≡ partial (int start) a x k
+    fits : AllFit (int start) a x k
 
   adds_none : AddsUp 0
   adds_none = record {
-    total = pos 0;
-    size = omega arith;
-    value = zero_over d h ∙ partial_none (int (pos 0)) a x;
+    total = start *ℤ d;
+    size = let size = start_size start d start_small d_short in omega (arith, size);
+    value = start_is start d h ∙ partial_none (int start) a x;
     fits = λ j below. absurd (omega arith);
   }
 
   adds_more : (k : ℕ) → k + 1 < 2 ^ 32 → AddsUp k → (f n : ℤ) → IsWholeTerm d (a k) (x k) f n → IsSmallNumber n → AddsUp (k + 1)
   adds_more k few before f n term small =
       let next = before.total +ℤ f *ℤ n in
-      let size : unsigned_abs next ≤ (k + 1) * 2 ^ 93 = size_more before.total f n k term.factor_short small before.size in
-      let margin : HasMargin before.total = margin_of before.total k (omega (arith, few)) before.size in
-      let next_margin : HasMargin next = margin_of next (k + 1) few size in
+      let size : unsigned_abs next ≤ (k + 1 + 1) * 2 ^ 93 = size_more before.total f n (k + 1) term.factor_short small before.size in
+      let margin : HasMargin before.total = margin_of before.total (k + 1) (omega (arith, few)) before.size in
+      let next_margin : HasMargin next = margin_of next (k + 1 + 1) (omega (arith, few)) size in
       record {
         total = next;
         size = size;
-        value = total_more (int (pos 0)) a x k d before.total h d_short margin f n term next refl next_margin before.value;
-        fits = whole_fits_more (int (pos 0)) a x k d before.total h d_short margin f n term next refl next_margin before.value before.fits;
+        value = total_more (int start) a x k d before.total h d_short margin f n term next refl next_margin before.value;
+        fits = whole_fits_more (int start) a x k d before.total h d_short margin f n term next refl next_margin before.value before.fits;
       }
 
   adds_up : (k : ℕ) → k < 2 ^ 32 → ((j : ℕ) → j < k → HasSmallTerm d (a j) (x j)) → AddsUp k
@@ -81,7 +85,7 @@ module _ (a x : ℕ → ℚ) (d : ℤ) (h : pos 0 <ℤ d) (d_short : IsShort d) 
       let longer : k + 1 ≡ suc k = omega arith in
       subst AddsUp longer (adds_more k (omega (arith, few)) (adds_up k (omega (arith, few)) (λ j q. terms j (omega (arith, q)))) here.0 here.1.0 here.1.1.0 here.1.1.1)
 
-  pub all_fit : (k : ℕ) → k < 2 ^ 32 → ((j : ℕ) → j < k → HasSmallTerm d (a j) (x j)) → AllFit (int (pos 0)) a x k
+  pub all_fit : (k : ℕ) → k < 2 ^ 32 → ((j : ℕ) → j < k → HasSmallTerm d (a j) (x j)) → AllFit (int start) a x k
   all_fit k few terms = (adds_up k few terms).fits
 
 -- of the terms by variable each is that of a place, or makes no step
@@ -97,9 +101,47 @@ module _ (s : Held) (sided : IsSided s) (few : variables s < 2 ^ 32) (row : ℕ)
   pub total_of_row : (total : ℤ) → unsigned_abs total ≤ s.tableau.columns * 2 ^ 93 → quotient_of total d ≡ partial (int (pos 0)) ((table s).entry row) (state s).at s.tableau.columns → IsRowTotal s row d total
   total_of_row total size value = record {
     margin = margin_of total s.tableau.columns (omega (arith, few)) size;
-    fits = all_fit (at_nonbasic (relaxation s) (table s) ((table s).entry row)) (at_nonbasic (relaxation s) (table s) (state s).at) d h d_short (variables s) few by_variable;
+    fits = all_fit (pos 0) (omega arith) (at_nonbasic (relaxation s) (table s) ((table s).entry row)) (at_nonbasic (relaxation s) (table s) (state s).at) d h d_short (variables s) few by_variable;
     value = value ∙ zero-+ℚ (basic_value (relaxation s) (state s) row);
   }
+
+-- ---- a reduced cost likewise, from the cost of its place: behind the last variable that has a cost no term makes a step
+
+abbrev pub place_cost : Held → ℕ → ℚ
+place_cost s place = (relaxation s).cost ((table s).nonbasic place)
+
+-- the entry of a variable at the place, 0 where it is not basic
+abbrev pub saved : Held → ℕ → ℕ → ℚ
+saved s place v = at_basic (relaxation s) (table s) (λ i. (table s).entry i place) v
+
+module _ (start : ℚ) (a x : ℕ → ℚ) (end : ℕ) (none : (v : ℕ) → end ≤ v → a v ≡ int (pos 0)) where
+  free_fit : (n : ℕ) → AllFit start a x end → AllFit start a x n
+  free_fit n h k w = ⊎_elim (λ q. h k q) (λ q. inl (none k q)) (cases_lt k end)
+
+  nothing_more : (m : ℕ) → sum_below (end + m) (λ j. a j *ℚ x j) ≡ sum_below end (λ j. a j *ℚ x j)
+  nothing_more m =
+      sum_below-split end m (λ j. a j *ℚ x j)
+      ∙ ap (λ t. sum_below end (λ j. a j *ℚ x j) +ℚ t) (sum_below-zero m (λ i. a (end + i) *ℚ x (end + i))
+      (λ i w. ap (λ t. t *ℚ x (end + i)) (none (end + i) (omega arith)) ∙ ring (x (end + i) ∷ []) {y = int (pos 0)} (search reads_ℚ) tt))
+      ∙ ring (sum_below end (λ j. a j *ℚ x j) ∷ []) {y = sum_below end (λ j. a j *ℚ x j)} (search reads_ℚ) tt
+
+  free_value : (m : ℕ) → partial start a x end ≡ partial start a x (end + m)
+  free_value m = ap (λ t. start +ℚ t) (sym (nothing_more m))
+
+module _ (s : Held) (sided : IsSided s) (few : variables s < 2 ^ 32) (place : ℕ) (d : ℤ) (h : pos 0 <ℤ d) (d_short : IsShort d)
+    (start : ℤ) (start_small : IsSmallNumber start) (own : place_cost s place ≡ int start) (end : ℕ) (within : end ≤ variables s) (free : AreFreeFrom s.cost end)
+    (terms : (v : ℕ) → v < end → HasSmallTerm d ((relaxation s).cost v) (saved s place v)) where
+  pub total_of_place : (total : ℤ) → unsigned_abs total ≤ (end + 1) * 2 ^ 93 → quotient_of total d ≡ partial (place_cost s place) (relaxation s).cost (saved s place) end → IsCostTotal s place d total
+  total_of_place total size value =
+      let behind : end + (variables s - end) ≡ variables s = omega (arith, within) in
+      record {
+        margin = margin_of total (end + 1) (omega (arith, few, within)) size;
+        fits = subst (λ z. AllFit z (relaxation s).cost (saved s place) (variables s)) (sym own)
+            (free_fit (int start) (relaxation s).cost (saved s place) end free (variables s) (all_fit start start_small (relaxation s).cost (saved s place) d h d_short end (omega (arith, few, within)) terms));
+        value = value ∙ free_value (place_cost s place) (relaxation s).cost (saved s place) end free (variables s - end)
+            ∙ ap (partial (place_cost s place) (relaxation s).cost (saved s place)) behind
+            ∙ ap (λ t. place_cost s place +ℚ t) (sum_of_rows s sided (relaxation s).cost (λ i. (table s).entry i place));
+      }
 
 -- ---- a total over a denominator beside a whole number
 

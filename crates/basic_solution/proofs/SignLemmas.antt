@@ -1,33 +1,16 @@
 -- Which side a number with parts asks for.
-use Rattle.std.specs.Prelude.{◌≡◌, ◌≢◌, ℕ, zero, suc, ◌+◌, ◌<◌, [], ◌∷◌, pos, Option, Some, None, IsSome}
+use Rattle.std.specs.Prelude.{◌≡◌, ℕ, zero, suc, ◌+◌, ◌<◌, [], ◌∷◌, pos, Option, Some, None, IsSome}
 use Rattle.std.proofs.Common.{refl, sym, ap, subst, ◌∙◌, arith, below_more}
 use Rattle.std.proofs.lemmas.Bool.{false≢true}
-use Rattle.rational.specs.Rational.{ℚ, int, ◌*ℚ◌, neg_ℚ, ◌<ℚ◌}
+use Rattle.rational.specs.Rational.{ℚ, int, neg_ℚ, ◌<ℚ◌}
 use Rattle.rational.proofs.RationalRing.{ring, reads_ℚ}
-use Rattle.rational.proofs.RationalOrder.{zero-<ℚ-one, <ℚ_irrefl, ≤ℚ_from_not, ≤ℚ_antisymm, linear_strict}
+use Rattle.rational.proofs.RationalOrder.{≤ℚ_from_not, ≤ℚ_antisymm, linear_strict}
 use Rattle.bases.specs.declared.stand.Stand.{Stand}
 use Rattle.bases.specs.declared.stand.Stand.TheVariants.{Low, High, Free}
 use Rattle.bases.specs.Relaxation.{Relaxation}
-use Rattle.bases.specs.States.{IsPositive, LawfulAt, Standing, sign}
+use Rattle.bases.specs.States.{IsPositive, LawfulAt, Standing}
 use Rattle.bases.specs.Directions.{stand_number}
 use Rattle.basic_solution.specs.Slack.{CanStand}
-
-pub low_some : sign Low ≢ int (pos 0)
-low_some e = <ℚ_irrefl (subst (λ t. int (pos 0) <ℚ t) e zero-<ℚ-one)
-
-pub high_some : sign High ≢ int (pos 0)
-high_some e = <ℚ_irrefl (subst (λ t. int (pos 0) <ℚ t) (ring [] {y = sign High *ℚ sign High} (search reads_ℚ depth 9) tt ∙ ap (λ t. t *ℚ sign High) e ∙ ring [] (search reads_ℚ depth 9) tt) zero-<ℚ-one)
-
-pub sign_some : (stand : Stand) → ¬ (stand ≡ Free) → sign stand ≢ int (pos 0)
-sign_some Low some e = low_some e
-sign_some High some e = high_some e
-sign_some Free some e = some refl
-
-pub low_not_free : ¬ (Low ≡ Free)
-low_not_free e = low_some (ap sign e)
-
-pub high_not_free : ¬ (High ≡ Free)
-high_not_free e = high_some (ap sign e)
 
 -- ---- the first part that is not 0
 

@@ -28,12 +28,12 @@ use Rattle.row_tableau.specs.Activities.{activity_count, activity_coefficient}
 use Rattle.row_tableau.specs.Relaxations.{form_of, plain, of_kind, relaxation_of}
 use Rattle.row_tableau.specs.Dense.{IsTableauOf}
 use Rattle.basic_solution.specs.Held.{Held, HasShape, IsSided, IsLawfulHeld, relaxation, parts, state, table, variables, own_cost}
-use Rattle.basic_solution.specs.Tilts.{tilt_of, order_of, tilted_cost, parts_of, KeepsFree}
+use Rattle.row_tableau.specs.Tilts.{tilt_of, order_of, tilted_cost, parts_of, KeepsFree}
 use Rattle.basic_solution.specs.Slack.{IsOf, IsSlackState, CanStand, IsPlaced, IsMisplaced, IsRestood}
 use Rattle.basic_solution.proofs.SignLemmas.{stands_of, can_of}
 use Rattle.bases.proofs.Signs.{asked_once, asked_same}
-use Rattle.basic_solution.proofs.OrderLemmas.{separated}
-use Rattle.basic_solution.proofs.TiltLemmas.{tilted, listed_there}
+use Rattle.row_tableau.proofs.OrderLemmas.{separated}
+use Rattle.row_tableau.proofs.TiltLemmas.{tilted, listed_there}
 use Rattle.basic_solution.proofs.PartLemmas.{part_is}
 use Rattle.basic_solution.proofs.ExchangeLemmas.{reduced_agree}
 

@@ -2,8 +2,8 @@ pub mod Held
 pub mod Breach
 pub mod Numbers
 pub mod RowTotals
+pub mod CutTotals
 pub mod Exchanges
-pub mod Tilts
 pub mod Slack
 pub mod Lists
 pub mod ListedStates

@@ -1,17 +1,33 @@
--- The value of a basic variable times the denominator of the table.
-use Rattle.std.specs.Prelude.{◌≡◌, ℕ, ◌<◌, ◌^◌, ℤ, unsigned_abs}
+-- The value of a basic variable, and the reduced cost of a place, times the denominator of the table.
+use Rattle.std.specs.Prelude.{◌≡◌, ℕ, ◌<◌, ◌≤◌, ◌^◌, ℤ, unsigned_abs, List, get_or, pos}
+use Rattle.rational.specs.Rational.{ℚ, int}
 use Rattle.frac128.specs.LowestTerms.{quotient_of}
+use Rattle.bases.specs.Relaxation.{reduced_cost}
 use Rattle.bases.specs.States.{basic_value}
-use Rattle.row_tableau.specs.WholeSums.{HasMargin}
-use Rattle.basic_solution.specs.Held.{Held, relaxation, state, variables}
-use Rattle.basic_solution.specs.Numbers.{ValueFits}
+use Rattle.table_entries.specs.WholeSums.{IsWholeTerm, HasMargin}
+use Rattle.basic_solution.specs.Held.{Held, relaxation, state, table, variables}
+use Rattle.basic_solution.specs.Numbers.{ValueFits, CostsFit}
 
 -- a whole number so small that the products of 2 ^ 32 of them with short numbers leave room for their total
 abbrev pub IsSmallNumber : ℤ → Type 0
 IsSmallNumber n = unsigned_abs n < 2 ^ 31
+
+-- the product of the factor a and the number x is that of a short and a small number, over the denominator
+abbrev pub HasSmallTerm : ℤ → ℚ → ℚ → Type 0
+HasSmallTerm denominator a x = (f : ℤ) × ((n : ℤ) × (IsWholeTerm denominator a x f n × IsSmallNumber n))
 
 -- over the denominator the total is the value of the basic variable of the row, and each of its terms has room
 pub record IsRowTotal (s : Held) (row : ℕ) (denominator total : ℤ) : Type 0 where
   pub margin : HasMargin total
   pub fits : ValueFits s row (variables s)
   pub value : quotient_of total denominator ≡ basic_value (relaxation s) (state s) row
+
+-- from a place on the costs are 0
+abbrev pub AreFreeFrom : List ℚ → ℕ → Type 0
+AreFreeFrom costs end = (v : ℕ) → end ≤ v → get_or costs v (int (pos 0)) ≡ int (pos 0)
+
+-- over the denominator the total is the reduced cost of the place, and each of its terms has room
+pub record IsCostTotal (s : Held) (place : ℕ) (denominator total : ℤ) : Type 0 where
+  pub margin : HasMargin total
+  pub fits : CostsFit s place (variables s)
+  pub value : quotient_of total denominator ≡ reduced_cost (relaxation s) (table s) (relaxation s).cost place

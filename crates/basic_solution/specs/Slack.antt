@@ -9,7 +9,7 @@ use Rattle.row_tableau.specs.declared.relax.Relax.{Relax}
 use Rattle.row_tableau.specs.Relaxations.{form_of, relaxation_of}
 use Rattle.row_tableau.specs.Dense.{IsTableauOf}
 use Rattle.basic_solution.specs.Held.{Held, IsLawfulHeld, relaxation, parts, table, variables}
-use Rattle.basic_solution.specs.Tilts.{tilt_of, order_of}
+use Rattle.row_tableau.specs.Tilts.{tilt_of, order_of}
 
 -- the tableau is one of the relaxation, and sides, costs, tilts and the order of the parts are the relaxation's
 pub record IsOf (relax : Relax) (s : Held) : Type 0 where

@@ -2,15 +2,19 @@
 ghost use Rattle.std.specs.Prelude.{◌≡◌, ◌<◌, ◌<ℤ◌, pos, IfSome};
 ghost use Rattle.bases.specs.Relaxation.{reduced_cost};
 ghost use Rattle.bases.specs.Steps.{at_basic};
-ghost use Rattle.row_tableau.specs.WholeSums.{IsWholeTerm};
+ghost use Rattle.table_entries.specs.WholeSteps.{IsShort};
+ghost use Rattle.table_entries.specs.WholeSums.{IsWholeTerm};
 ghost use Rattle.basic_solution.specs.Held.{relaxation, table, variables};
 ghost use Rattle.basic_solution.specs.Numbers.{CostsFit, IsReducedCostAnswer};
+ghost use Rattle.basic_solution.specs.RowTotals.{IsSmallNumber, IsCostTotal};
 
+use crate::row_totals::{small_number, with_product};
 use crate::sided::SidedBasis;
 use checked_sum::{Terms, checked_sum};
 use frac128::Frac;
 use lp_model::WideStep;
-use row_tableau::{Position, WholeTerm, WholeTerms, whole_number, whole_sum};
+use row_tableau::Position;
+use table_entries::{WholeTerm, product, quotient};
 
 /// The terms of the reduced cost of a place, by variable: cost times entry of the basic ones.
 #[derive(Drop)]
@@ -40,29 +44,13 @@ impl Terms for CostTerms<'_, '_> {
     }
 }
 
-impl WholeTerms for CostTerms<'_, '_> {
-    ghost count = { λ t. variables t.state.now };
-
-    ghost factor = { λ t v. (relaxation t.state.now).cost v };
-
-    ghost number = { λ t v. at_basic (relaxation t.state.now) (table t.state.now) (λ i. (table t.state.now).entry i t.place) v };
-
-    fn count(&self) -> usize {
-        self.state.variables()
-    }
-
-    fn term(&self, index: usize, denominator: i64) -> Option<WholeTerm> {
-        self.state.cost_term(self.place, index, denominator)
-    }
-}
-
 impl SidedBasis<'_> {
     /// The cost of a variable.
     pub(crate) fn cost_of(&self, variable: usize) -> Frac
         requires { variable < variables self.now }
         ensures { result ≡ (relaxation self.now).cost variable }
     {
-        self.cost[variable]
+        self.cost.of(variable)
     }
 
     /// The entry of a basic variable at a place, 0 for another one.
@@ -77,31 +65,52 @@ impl SidedBasis<'_> {
         }
     }
 
-    /// The term of a variable in the reduced cost of a place, as whole numbers over the denominator.
-    fn cost_term(&self, place: usize, variable: usize, denominator: i64) -> Option<WholeTerm>
-        requires place { place < self.now.tableau.columns }
+    /// The term of a variable in the reduced cost of a place, as whole numbers over the denominator, where its cost is small.
+    #[inline]
+    fn cost_term(&self, variable: usize, place: usize, denominator: i64) -> Option<WholeTerm>
         requires variable { variable < variables self.now }
+        requires place { place < self.now.tableau.columns }
         requires positive { pos 0 <ℤ denominator }
-        ensures { IfSome result (λ t. IsWholeTerm denominator ((relaxation self.now).cost variable) (at_basic (relaxation self.now) (table self.now) (λ i. (table self.now).entry i place) variable) t.factor t.number) }
+        ensures term { IfSome result (λ t. IsWholeTerm denominator ((relaxation self.now).cost variable) (at_basic (relaxation self.now) (table self.now) (λ i. (table self.now).entry i place) variable) t.factor t.number) }
+        ensures small { IfSome result (λ t. IsSmallNumber t.number) }
     {
-        let cost = self.cost_of(variable);
-        if cost.is_zero() {
+        let number = small_number(&self.cost_of(variable))?;
+        if number == 0 {
             return Some(WholeTerm {
                 factor: 0,
                 number: 0,
             });
         }
         match self.tableau.find(variable) {
+            Position::Row(row) => {
+                let factor = self.tableau.number_over(row, place, denominator)?;
+                Some(WholeTerm { factor, number })
+            }
             Position::Place(_) => Some(WholeTerm {
                 factor: 0,
                 number: 0,
             }),
-            Position::Row(row) => {
-                let number = whole_number(&cost)?;
-                let factor = self.tableau.number_over(row, place, denominator)?;
-                Some(WholeTerm { factor, number })
+        }
+    }
+
+    /// The reduced cost of a place times the denominator, where the costs are small whole numbers and the entries numbers over
+    /// that: then each sum of its terms has room, in any order. None says nothing of the reduced cost.
+    pub fn cost_total(&self, place: usize, denominator: i64) -> Option<i128>
+        requires place { place < self.now.tableau.columns }
+        requires positive { pos 0 <ℤ denominator }
+        requires denominator { IsShort denominator }
+        ensures { IfSome result (λ total. IsCostTotal self.now place denominator total) }
+    {
+        let start = small_number(&self.cost_of(self.tableau.nonbasic(place)))?;
+        let _few = self.tableau.columns();
+        let mut total = product(start, denominator);
+        for variable in 0..self.cost.end() {
+            match self.cost_term(variable, place, denominator) {
+                None => return None,
+                Some(term) => total = with_product(total, term.factor, term.number),
             }
         }
+        Some(total)
     }
 
     /// The reduced cost of a place, where it can be had with one division. None says nothing of it.
@@ -109,9 +118,9 @@ impl SidedBasis<'_> {
         requires { place < self.now.tableau.columns }
         ensures { IfSome result (λ cost. CostsFit self.now place (variables self.now) × (cost ≡ reduced_cost (relaxation self.now) (table self.now) (relaxation self.now).cost place)) }
     {
-        let terms = CostTerms { state: self, place };
-        let start = whole_number(&self.cost_of(self.tableau.nonbasic(place)))?;
-        whole_sum(start, self.tableau.denominator(), &terms)
+        let denominator = self.tableau.denominator();
+        let total = self.cost_total(place, denominator)?;
+        Some(quotient(total, denominator))
     }
 
     /// The reduced cost of a place, or the first of its terms, in the order of the variables, that has no room.

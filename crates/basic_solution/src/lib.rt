@@ -1,8 +1,8 @@
-//! The relaxation of a model in a region, by its variables, and the basic solutions of it.
+//! The basic solutions of the relaxation of a model in a region, by its variables.
 //!
-//! A variable is a column or an activity. Each has sides and a cost (`sides_of`), and a tilt (`tilts`), which is a cost of
-//! its own in a part of its own: costs with such parts behind them are perturbed (A. Charnes, 1952). Parts are compared one
-//! after the other, so no two ratios tie and no reduced cost of a variable with a side is 0.
+//! A variable is a column or an activity. Each has sides, a cost and a tilt (`row_tableau`), which is a cost of its own in a
+//! part of its own: costs with such parts behind them are perturbed (A. Charnes, 1952). Parts are compared one after the
+//! other, so no two ratios tie and no reduced cost of a variable with a side is 0.
 //!
 //! A basis with sides (`SidedBasis`) is the table of a basis whose nonbasic variables stand at a side, or at 0 where they
 //! have none. With `at(k)` the number at which the variable of place k stands, it gives
@@ -25,20 +25,20 @@
 mod asked;
 mod breach;
 mod costs;
+mod cut_totals;
 mod exchange;
 mod listed;
 mod lists;
 mod numbers;
 mod parts;
 mod point;
+mod priced;
 mod row_totals;
 mod sided;
 mod sides;
-mod sides_of;
 mod slack;
-mod tilts;
 mod total_sides;
+mod written;
 
 pub use sided::SidedBasis;
 pub use sides::signed;
-pub use tilts::is_sided;

@@ -1,22 +1,21 @@
 // The value of a basic variable times the denominator of the table, place by place.
 ghost use Rattle.std.specs.Prelude.{◌≡◌, ◌<◌, ◌<ℤ◌, ◌+ℤ◌, ◌*ℤ◌, pos, IfSome};
 ghost use Rattle.rational.specs.Rational.{int};
-ghost use Rattle.frac128.specs.LowestTerms.{quotient_of};
-ghost use Rattle.row_tableau.specs.WholeSteps.{IsShort};
-ghost use Rattle.row_tableau.specs.WholeSums.{HasMargin, IsWholeTerm};
+ghost use Rattle.table_entries.specs.WholeSteps.{IsShort};
+ghost use Rattle.table_entries.specs.WholeSums.{HasMargin, IsWholeTerm};
 ghost use Rattle.basic_solution.specs.Held.{state, table};
 ghost use Rattle.basic_solution.specs.RowTotals.{IsSmallNumber, IsRowTotal};
 
 use crate::sided::SidedBasis;
 use frac128::Frac;
-use row_tableau::{WholeTerm, whole_number};
+use table_entries::{WholeTerm, product, whole_number};
 
 /// Numbers below this leave room for a term of each variable, in any order: there are fewer than 2^32.
 const SMALL: i64 = 1 << 31;
 
 /// The number that a fraction is, if it is whole and small.
 #[inline]
-fn small_number(fraction: &Frac) -> Option<i64>
+pub fn small_number(fraction: &Frac) -> Option<i64>
     ensures small { IfSome result (λ n. IsSmallNumber n) }
     ensures value { IfSome result (λ n. fraction.now ≡ int n) }
 {
@@ -28,38 +27,15 @@ fn small_number(fraction: &Frac) -> Option<i64>
     }
 }
 
-/// The product of two short numbers.
-#[inline]
-pub fn product(first: i64, second: i64) -> i128
-    requires first { IsShort first }
-    requires second { IsShort second }
-    ensures { result ≡ first *ℤ second }
-{
-    i128::from(first) * i128::from(second)
-}
-
 /// The total with one more product.
 #[inline]
-fn with_product(total: i128, factor: i64, number: i64) -> i128
+pub fn with_product(total: i128, factor: i64, number: i64) -> i128
     requires total { HasMargin total }
     requires factor { IsShort factor }
     requires number { IsShort number }
     ensures { result ≡ total +ℤ factor *ℤ number }
 {
     total + product(factor, number)
-}
-
-/// The total over the denominator.
-pub fn quotient(total: i128, denominator: i64) -> Frac
-    requires total { HasMargin total }
-    requires positive { pos 0 <ℤ denominator }
-    requires denominator { IsShort denominator }
-    ensures { result ≡ quotient_of total denominator }
-{
-    if total == 0 {
-        return Frac::whole(0);
-    }
-    Frac::new(total, i128::from(denominator)).unwrap()
 }
 
 impl SidedBasis<'_> {

@@ -1,11 +1,14 @@
 // A basis whose other variables stand at sides.
-ghost use Rattle.std.specs.Prelude.{◌≡◌, ◌<◌, get_or, length};
+ghost use Rattle.std.specs.Prelude.{◌≡◌, ◌<◌, ◌≤◌, ◌+◌, ◌<ℤ◌, get_or, length, pos, IfSome};
+ghost use Rattle.frac128.specs.LowestTerms.{quotient_of};
 ghost use Rattle.bases.specs.declared.stand.Stand.TheVariants.{Free};
 ghost use Rattle.row_tableau.specs.Answers.{IsPosition};
 ghost use Rattle.row_tableau.specs.Dense.{HasFullLists};
 ghost use Rattle.row_tableau.specs.Variables.{variable_number};
+ghost use Rattle.table_entries.specs.WholeSteps.{IsShort};
 ghost use Rattle.basic_solution.specs.Held.{IsSided, table, variables};
 
+use crate::priced::Costs;
 use bases::Stand;
 use frac128::Frac;
 use lp_model::{Bound, CutRow, Model, Var};
@@ -20,7 +23,7 @@ pub struct SidedBasis<'a> {
     pub(crate) cuts: &'a [CutRow],
     pub(crate) low: Vec<Bound>,
     pub(crate) high: Vec<Bound>,
-    pub(crate) cost: Vec<Frac>,
+    pub(crate) cost: Costs,
     pub(crate) tilt: Vec<Stand>,
     pub(crate) order: Vec<usize>,
     pub(crate) tableau: Tableau,
@@ -34,9 +37,9 @@ impl<'a> std::marker::Model for SidedBasis<'a> {
 
     ghost use Rattle.lp_model.specs.Formulations.{formulation};
 
-    ghost view = { λ s. record { form = formulation s.model.now s.cuts.now; low = s.low.items; high = s.high.items; cost = s.cost.items; tilt = s.tilt.items; order = s.order.items; tableau = s.tableau; stands = s.stands.items } };
+    ghost view = { λ s. record { form = formulation s.model.now s.cuts.now; low = s.low.items; high = s.high.items; cost = s.cost; tilt = s.tilt.items; order = s.order.items; tableau = s.tableau; stands = s.stands.items } };
 
-    ghost invariant = { λ s. IsSided (record { form = formulation s.model.now s.cuts.now; low = s.low.items; high = s.high.items; cost = s.cost.items; tilt = s.tilt.items; order = s.order.items; tableau = s.tableau; stands = s.stands.items }) };
+    ghost invariant = { λ s. IsSided (record { form = formulation s.model.now s.cuts.now; low = s.low.items; high = s.high.items; cost = s.cost; tilt = s.tilt.items; order = s.order.items; tableau = s.tableau; stands = s.stands.items }) };
 }
 
 impl SidedBasis<'_> {
@@ -47,6 +50,14 @@ impl SidedBasis<'_> {
         ensures full { HasFullLists self.now.tableau }
     {
         self.tableau.columns()
+    }
+
+    /// How many variables there are before the activities of cuts, which come last.
+    pub fn first_cut(&self) -> usize
+        ensures value { result ≡ self.now.tableau.columns + self.now.tableau.rows }
+        ensures within { result ≤ variables self.now }
+    {
+        self.tableau.columns() + self.tableau.rows()
     }
 
     /// How many variables there are.
@@ -97,6 +108,24 @@ impl SidedBasis<'_> {
         ensures { result ≡ (table self.now).entry row place }
     {
         self.tableau.entry(row, place)
+    }
+
+    /// The common denominator of the entries where they are kept as whole numbers, and else 1.
+    pub fn denominator(&self) -> i64
+        ensures positive { pos 0 <ℤ result }
+        ensures short { IsShort result }
+    {
+        self.tableau.denominator()
+    }
+
+    /// The entry of a row and a place, as a number over this denominator, if it is kept so.
+    pub fn number_over(&self, row: usize, place: usize, denominator: i64) -> Option<i64>
+        requires row { row < self.now.tableau.activities }
+        requires place { place < self.now.tableau.columns }
+        ensures short { IfSome result (λ n. IsShort n) }
+        ensures value { IfSome result (λ n. (table self.now).entry row place ≡ quotient_of n denominator) }
+    {
+        self.tableau.number_over(row, place, denominator)
     }
 
     /// Where the variable of a place stands.

@@ -6,13 +6,14 @@ ghost use Rattle.bases.specs.Relaxation.{reduced_cost};
 ghost use Rattle.row_tableau.specs.declared.relax.RelaxKind.TheVariants.{Directions};
 ghost use Rattle.row_tableau.specs.Relaxations.{HasFewCuts};
 ghost use Rattle.basic_solution.specs.Held.{relaxation, table};
-ghost use Rattle.basic_solution.specs.Tilts.{KeepsFree};
+ghost use Rattle.row_tableau.specs.Tilts.{KeepsFree};
 ghost use Rattle.basic_solution.specs.Slack.{IsSlackState, IsSlackAnswer, IsPlaced, IsMisplaced, IsStandAnswer, IsRestood};
 
+use crate::priced::Costs;
 use crate::sided::SidedBasis;
-use crate::sides_of::{costs, highs, lows};
-use crate::tilts::{order, tilts};
 use bases::Stand;
+use row_tableau::sides_of::{costs, highs, lows};
+use row_tableau::tilts::{order, tilts};
 use row_tableau::{Relax, Tableau};
 use std::alloc::{AllocError, Global};
 
@@ -28,8 +29,8 @@ fn all_free(alloc: Global, count: usize) -> Result<Vec<Stand>, AllocError>
 }
 
 impl<'a> SidedBasis<'a> {
-    /// The slack basis of a relaxation, with no variable at a side.
-    pub fn slack(alloc: Global, relax: &Relax<'a>) -> Result<SidedBasis<'a>, AllocError>
+    /// The slack basis of a relaxation, with no variable at a side. Rows of cuts may not be written.
+    fn slack_start(alloc: Global, relax: &Relax<'a>) -> Result<SidedBasis<'a>, AllocError>
         requires narrow { AreNarrow relax.now.region.now }
         requires few { HasFewCuts relax.now }
         requires sides { KeepsFree relax.now.model.now relax.now.region.now }
@@ -38,6 +39,7 @@ impl<'a> SidedBasis<'a> {
         let low = lows(alloc, relax)?;
         let high = highs(alloc, relax)?;
         let cost = costs(alloc, relax)?;
+        let priced = Costs::new(cost);
         let tilt = tilts(alloc, relax)?;
         let order = order(alloc, relax)?;
         let stands = all_free(alloc, relax.model.cols().len())?;
@@ -47,12 +49,24 @@ impl<'a> SidedBasis<'a> {
             cuts: relax.cuts,
             low,
             high,
-            cost,
+            cost: priced,
             tilt,
             order,
             tableau,
             stands,
         })
+    }
+
+    /// The slack basis of a relaxation, with no variable at a side.
+    pub fn slack(alloc: Global, relax: &Relax<'a>) -> Result<SidedBasis<'a>, AllocError>
+        requires narrow { AreNarrow relax.now.region.now }
+        requires few { HasFewCuts relax.now }
+        requires sides { KeepsFree relax.now.model.now relax.now.region.now }
+        ensures { IfOk result (IsSlackState relax.now) }
+    {
+        let mut basis = SidedBasis::slack_start(alloc, relax)?;
+        basis.write_for_costs();
+        Ok(basis)
     }
 
     /// Where the variable of a place stands by its cost, which is its reduced cost, if it can.

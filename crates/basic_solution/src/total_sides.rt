@@ -2,15 +2,14 @@
 ghost use Rattle.std.specs.Prelude.{◌≡◌, ◌↔◌, ◌<ℤ◌, pos, IsTrue};
 ghost use Rattle.rational.specs.Rational.{◌<ℚ◌};
 ghost use Rattle.frac128.specs.LowestTerms.{quotient_of};
-ghost use Rattle.row_tableau.specs.WholeSteps.{IsShort};
-ghost use Rattle.row_tableau.specs.WholeSums.{HasMargin};
+ghost use Rattle.table_entries.specs.WholeSteps.{IsShort};
+ghost use Rattle.table_entries.specs.WholeSums.{HasMargin};
 ghost use Rattle.basic_solution.specs.Breach.{IsBelowSide, IsAboveSide, IsBreach};
 
-use crate::row_totals::{product, quotient};
 use bases::Stand;
 use frac128::Frac;
 use lp_model::Bound;
-use row_tableau::whole_number;
+use table_entries::{product, quotient, whole_number};
 
 /// Whether the total over the denominator is below a number.
 fn is_quotient_below(total: i128, denominator: i64, bound: &Frac) -> bool

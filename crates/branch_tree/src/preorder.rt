@@ -53,9 +53,12 @@ fn join_last(alloc: Global, split: SplitNode, branches: &mut Vec<Branch>) -> Res
     ensures { IfOk result (λ _. stacked branches.new.items [] ≡ joined (record { id = split.id; mult = split.mult; basis = split.basis }) split.col.0 split.v (stacked branches.old.items [])) }
 {
     let Some(left) = branches.pop() else {
+        drop(split);
         return Ok(());
     };
     let Some(right) = branches.pop() else {
+        drop(split);
+        drop(left);
         return Ok(());
     };
     let branch = joined(alloc, Ok(split), Ok(left), Ok(right))?;

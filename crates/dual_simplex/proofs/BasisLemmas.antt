@@ -23,14 +23,14 @@ use Rattle.row_tableau.specs.Relaxations.{form_of, plain, of_kind, relaxation_of
 use Rattle.row_tableau.specs.Variables.{numbers}
 use Rattle.basic_solution.specs.Held.{Held, IsLawfulHeld, relaxation, state, table}
 use Rattle.row_tableau.specs.Dense.{IsTableauOf}
-use Rattle.basic_solution.specs.Tilts.{model_low, model_high, has_side, is_sided, tilt_of, order_of, parts_of, KeepsFree}
+use Rattle.row_tableau.specs.Tilts.{model_low, model_high, has_side, is_sided, tilt_of, order_of, parts_of, KeepsFree}
 use Rattle.basic_solution.specs.Slack.{IsOf, IsSlackState, CanStand}
 use Rattle.basic_solution.specs.Lists.{AreRising, IsBasisOf}
 use Rattle.basic_solution.specs.ListedStates.{IsStandBy, IsLawfulBasis}
 use Rattle.dual_simplex.specs.SlackBases.{IsRootOf, IsLawfulSlackBasis}
 use Rattle.dual_simplex.specs.Laws.{StandsAt}
 use Rattle.basic_solution.proofs.SignLemmas.{stands_of, can_of}
-use Rattle.basic_solution.proofs.TiltLemmas.{by_column, by_activity, free_in_region}
+use Rattle.row_tableau.proofs.TiltLemmas.{by_column, by_activity, free_in_region}
 use Rattle.basic_solution.proofs.SlackLemmas.{columns_is, activities_is}
 use Rattle.basic_solution.proofs.ListedLemmas.{numbers_same}
 use Rattle.dual_simplex.proofs.ContinueLemmas.{There, low_there, high_there}

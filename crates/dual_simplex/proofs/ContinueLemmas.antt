@@ -21,9 +21,9 @@ use Rattle.bases.proofs.SumBelowLaws.{if_same, if_other}
 use Rattle.row_tableau.specs.declared.relax.RelaxKind.TheVariants.{Plain, Directions}
 use Rattle.row_tableau.specs.Activities.{activity_count, activity_low, activity_high}
 use Rattle.row_tableau.specs.Relaxations.{plain}
-use Rattle.basic_solution.specs.Tilts.{model_low, model_high, stand_by_sides, free_tilt, tilt_of, has_side, is_sided, sided, unsided, tilted_cost, parts_of}
-use Rattle.basic_solution.proofs.OrderLemmas.{filter_from}
-use Rattle.basic_solution.proofs.TiltLemmas.{by_column, by_activity}
+use Rattle.row_tableau.specs.Tilts.{model_low, model_high, stand_by_sides, free_tilt, tilt_of, has_side, is_sided, sided, unsided, tilted_cost, parts_of}
+use Rattle.row_tableau.proofs.OrderLemmas.{filter_from}
+use Rattle.row_tableau.proofs.TiltLemmas.{by_column, by_activity}
 
 -- ---- a side of the model stays in every region
 

@@ -6,7 +6,7 @@ use Rattle.std.proofs.lemmas.Bool.Decides.{Decides-eqb}
 use Rattle.rational.specs.Rational.{ℚ, int, ceil, floor}
 use Rattle.lp_model.specs.Program.{Program, lower, upper, is_integer}
 use Rattle.lp_model.specs.Regions.{Path, low_along, high_along, low_after, high_after}
-use Rattle.basic_solution.specs.Tilts.{KeepsFree}
+use Rattle.row_tableau.specs.Tilts.{KeepsFree}
 use Rattle.dual_simplex.specs.Laws.{ChangesBounded}
 
 module _ (M : Program) (j : ℕ) (no_low : lower M j ≡ None) (no_high : upper M j ≡ None) where

@@ -6,12 +6,8 @@ use Rattle.lp_model.specs.declared.types.WideStep.{WideStep}
 use Rattle.bases.proofs.BringIn.{basic_within}
 use Rattle.basic_solution.specs.Held.{Held, IsSided, relaxation, table, variables}
 use Rattle.basic_solution.specs.Numbers.{ValueFits, IsInside}
-use Rattle.dual_simplex.specs.Answers.{IsVisited, IsLeaving}
+use Rattle.dual_simplex.specs.Answers.{AreInside, IsVisited, IsLeaving}
 use Rattle.dual_simplex.specs.declared.leaving.Leaving.{Leaving}
-
--- the variables before n that are basic have values with room, and are within their sides
-abbrev pub AreInside : Held → ℕ → Type 0
-AreInside s n = (v : ℕ) → v < n → (row : ℕ) → row < s.tableau.activities → (table s).basic row ≡ v → ValueFits s row (variables s) × IsInside s row
 
 pub inside_more : (s : Held) (v : ℕ) → AreInside s v → IsVisited s v (Ok None) → AreInside s (v + 1)
 inside_more s v before here = below_more (λ u. (row : ℕ) → row < s.tableau.activities → (table s).basic row ≡ u → ValueFits s row (variables s) × IsInside s row) v before here

@@ -1,5 +1,7 @@
 pub mod LpStates
 pub mod Answers
+pub mod WholeRatios
+pub mod BestPlaces
 pub mod Moves
 pub mod Walks
 pub mod Laws

@@ -12,7 +12,7 @@ use Rattle.lp_model.specs.declared.types.Basis.{Basis}
 use Rattle.row_tableau.specs.declared.relax.Relax.{Relax}
 use Rattle.row_tableau.specs.declared.relax.RelaxKind.TheVariants.{Plain}
 use Rattle.basic_solution.specs.Held.{Held, IsLawfulHeld}
-use Rattle.basic_solution.specs.Tilts.{parts_of, KeepsFree}
+use Rattle.row_tableau.specs.Tilts.{parts_of, KeepsFree}
 use Rattle.basic_solution.specs.Slack.{IsSlackState}
 use Rattle.basic_solution.specs.Lists.{IsBasisOf}
 use Rattle.basic_solution.specs.ListedStates.{IsLawfulBasis}

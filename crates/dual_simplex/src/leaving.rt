@@ -1,13 +1,19 @@
-// Which basic variable leaves.
-ghost use Rattle.std.specs.Prelude.{◌<◌};
+// Which basic variable leaves. Columns and rows come before cuts; where none of them is outside a side, the values of the cuts are
+// had by their terms.
+ghost use Rattle.std.specs.Prelude.{◌<◌, ◌≤◌, IfSome};
 ghost use Rattle.basic_solution.specs.Held.{variables};
-ghost use Rattle.dual_simplex.specs.Answers.{IsVisited, IsLeaving};
+ghost use Rattle.basic_solution.specs.Numbers.{IsRowBreach};
+ghost use Rattle.basic_solution.specs.CutTotals.{AreColumnTotals};
+ghost use Rattle.dual_simplex.specs.Answers.{AreInside, IsVisited, IsLeaving};
 
 use crate::state::LpState;
 use bases::Stand;
 use basic_solution::SidedBasis;
 use lp_model::WideStep;
 use row_tableau::Position;
+
+/// A table of more columns has no totals: values then go by rows. Models have at most 1,001 columns.
+const MOST_TOTALS: usize = 1024;
 
 /// The row of a basic variable that is outside a side, and that side.
 #[derive(Clone, Copy, Debug, Drop)]
@@ -16,9 +22,32 @@ pub struct Leaving {
     pub side: Stand,
 }
 
+/// The side that the basic variable of a row is outside of, if any, by the totals of the columns where there are such.
+fn breach_of(
+    state: &SidedBasis<'_>,
+    row: usize,
+    denominator: Option<i64>,
+    totals: &[i64],
+) -> Result<Option<Stand>, WideStep>
+    requires row { row < state.now.tableau.activities }
+    requires totals { IfSome denominator (λ d. AreColumnTotals state.now d totals.now) }
+    ensures { IsRowBreach state.now row result }
+{
+    match denominator {
+        Some(denominator) => state.cut_breach(row, denominator, totals),
+        None => state.row_breach(row),
+    }
+}
+
 /// The row of a variable and the side that it is outside of, where it is basic and outside one.
-fn visit(state: &SidedBasis<'_>, variable: usize) -> Result<Option<Leaving>, WideStep>
-    requires { variable < variables state.now }
+fn visit(
+    state: &SidedBasis<'_>,
+    variable: usize,
+    denominator: Option<i64>,
+    totals: &[i64],
+) -> Result<Option<Leaving>, WideStep>
+    requires variable { variable < variables state.now }
+    requires totals { IfSome denominator (λ d. AreColumnTotals state.now d totals.now) }
     ensures { IsVisited state.now variable result }
 {
     let _sided = state.columns();
@@ -26,11 +55,42 @@ fn visit(state: &SidedBasis<'_>, variable: usize) -> Result<Option<Leaving>, Wid
         Position::Place(_) => return Ok(None),
         Position::Row(row) => row,
     };
-    match state.row_breach(row) {
+    match breach_of(state, row, denominator, totals) {
         Err(step) => Err(step),
         Ok(None) => Ok(None),
         Ok(Some(side)) => Ok(Some(Leaving { row, side })),
     }
+}
+
+/// Writes the totals of the columns, where the cuts are so many that values by rows take longer.
+fn write_totals(state: &SidedBasis<'_>, cuts: usize, totals: &mut [i64]) -> Option<i64>
+    ensures { IfSome result (λ d. AreColumnTotals state.now d totals.new) }
+{
+    if state.columns() / 4 < cuts {
+        state.write_totals(totals)
+    } else {
+        None
+    }
+}
+
+/// The first basic cut that is outside a side, where no variable before the cuts is.
+fn first_cut_out(state: &SidedBasis<'_>, start: usize) -> Result<Option<Leaving>, WideStep>
+    requires start { start ≤ variables state.now }
+    requires inside { AreInside state.now start }
+    ensures { IsLeaving state.now result }
+{
+    let _sided = state.columns();
+    let end = state.variables();
+    let mut totals = [0_i64; MOST_TOTALS];
+    let denominator = write_totals(state, end - start, &mut totals);
+    for cut in start..end {
+        match visit(state, cut, denominator, &totals) {
+            Err(step) => return Err(step),
+            Ok(Some(leaving)) => return Ok(Some(leaving)),
+            Ok(None) => {}
+        }
+    }
+    Ok(None)
 }
 
 /// The first basic variable that is outside a side.
@@ -38,14 +98,15 @@ fn first_out(state: &SidedBasis<'_>) -> Result<Option<Leaving>, WideStep>
     ensures { IsLeaving state.now result }
 {
     let _sided = state.columns();
-    for variable in 0..state.variables() {
-        match visit(state, variable) {
+    let first_cut = state.first_cut();
+    for variable in 0..first_cut {
+        match visit(state, variable, None, &[]) {
             Err(step) => return Err(step),
             Ok(Some(leaving)) => return Ok(Some(leaving)),
             Ok(None) => {}
         }
     }
-    Ok(None)
+    first_cut_out(state, first_cut)
 }
 
 impl LpState<'_> {

@@ -30,7 +30,7 @@ impl LpState<'_> {
                 Ok(Step::Moved) => {}
             }
         }
-        match self.leaving() {
+        match self.next_leaving() {
             Err(step) => Err(step),
             Ok(None) => Ok(Walk::Optimal),
             Ok(Some(_)) => Ok(Walk::Pivots),

@@ -1,7 +1,7 @@
 -- From the loops of the test of a direction to what it answers, and what an answer tells.
-use Rattle.std.specs.Prelude.{◌≡◌, ℕ, ◌<◌, Bool, true, false, IsTrue, List, length, get_or, pos, None, Result, Ok, Err}
+use Rattle.std.specs.Prelude.{◌≡◌, ◌↔◌, ℕ, ◌<◌, Bool, true, false, IsTrue, List, length, get_or, pos, None, Result, Ok, Err}
 use Rattle.std.proofs.Common.{refl, sym, ap, subst, ◌∙◌, inl, inr, arith}
-use Rattle.std.proofs.lemmas.Bool.{cases_order}
+use Rattle.std.proofs.lemmas.Bool.{cases_order, false≢true}
 use Rattle.rational.specs.Rational.{ℚ, int, ◌*ℚ◌, ◌<ℚ◌}
 use Rattle.rational.proofs.RationalRing.{zero-+ℚ}
 use Rattle.checked_sum.specs.Sums.{sum_below}
@@ -137,3 +137,11 @@ module _ (M : Program) (d : Point) where
 
   pub judged_rightly : IsJudgedRightly M d
   judged_rightly = record { ray = λ h. h.0; none = no_ray; one = one }
+
+-- the sign of the cost decides at last
+pub cost_judged : (M : Program) (d : Point) (b : Bool) (v : ℚ) → length d ≡ length M.cols → ColumnsGoOn M d → RowsAreKept M d (length M.rows) → DirectionCostFits M d
+    → v ≡ direction_cost M d → (IsTrue b ↔ (v <ℚ int (pos 0))) → IsRayJudged M d (Ok b)
+cost_judged M d true v shape columns rows fits v_is b_is =
+    (record { shape = shape; columns = columns; rows = λ i w. (rows i w).goes_on; improves = subst (λ x. x <ℚ int (pos 0)) v_is (b_is.0 refl) }, (rows, fits))
+cost_judged M d false v shape columns rows fits v_is b_is =
+    inr (shape, inr (inr (record { columns = columns; rows = rows }, (fits, λ less. false≢true (b_is.1 (subst (λ x. x <ℚ int (pos 0)) (sym v_is) less))))))

@@ -1,11 +1,12 @@
 // The lines of a text, one after another, up to ENDATA or to the first fault.
-ghost use Rattle.std.specs.Prelude.{◌≡◌, IfOk, MatchResult};
+ghost use Rattle.std.specs.Prelude.{◌≡◌, [], Err, IfOk, MatchResult};
 ghost use Rattle.mps_text.specs.Reading.{entry_of_record};
 ghost use Rattle.mps_fields.specs.Words.{line_kind};
 ghost use Rattle.mps_fields.specs.Fields.{pairs_shown, pairs_on as pairs_of_kind};
 ghost use Rattle.mps_sections.specs.Faults.{code_in};
+ghost use Rattle.mps_sections.specs.Statements.{stated};
 ghost use Rattle.mps_sections.specs.Shown.{held};
-ghost use Rattle.mps_sections.specs.ReadingOf.{IsStopAt, IsEntryNoted, IsTablesReading, IsSectionsReading};
+ghost use Rattle.mps_sections.specs.ReadingOf.{IsStopAt, IsEntryNoted, IsWholeStated, IsTablesReading, IsSectionsReading};
 ghost use Rattle.mps_sections.specs.Limits.{StatesWithinLimits};
 
 use crate::statements::Sections;
@@ -62,29 +63,39 @@ fn read_line(alloc: Global, tables: &mut Tables, entry: &Record) -> Result<(), S
     }
 }
 
-/// What the lines of a text state, to ENDATA.
-fn tables_of(alloc: Global, text: &[u8]) -> Result<Tables, Stop>
-    ensures { IsTablesReading text.now result }
+/// Notes the lines of a text, to ENDATA, in tables that hold nothing.
+fn note_lines(alloc: Global, tables: &mut Tables, text: &[u8]) -> Result<(), Stop>
+    requires { held tables.old ≡ stated [] }
+    ensures { MatchResult result (λ _. IsWholeStated text.now (held tables.new)) (λ stop. IsTablesReading text.now (Err stop)) }
 {
     let mut lines = Lines::new(text);
-    let mut tables = Tables::new(alloc);
     while let Some(item) = lines.next() {
         match item {
-            Err(fault) => {
-                drop(tables);
-                return Err(Stop::Fault(fault));
-            }
+            Err(fault) => return Err(Stop::Fault(fault)),
             Ok(entry) => {
-                read_line(alloc, &mut tables, &entry)?;
+                read_line(alloc, tables, &entry)?;
                 if is_end(&entry) {
-                    return Ok(tables);
+                    return Ok(());
                 }
             }
         }
     }
     let line = lines.next_number();
-    drop(tables);
     Err(Stop::Fault(LineFault { line, code: 4 }))
+}
+
+/// What the lines of a text state, to ENDATA.
+fn tables_of(alloc: Global, text: &[u8]) -> Result<Tables, Stop>
+    ensures { IsTablesReading text.now result }
+{
+    let mut tables = Tables::new(alloc);
+    match note_lines(alloc, &mut tables, text) {
+        Ok(()) => Ok(tables),
+        Err(stop) => {
+            drop(tables);
+            Err(stop)
+        }
+    }
 }
 
 /// What the sections of a text state, to ENDATA, or its first fault.

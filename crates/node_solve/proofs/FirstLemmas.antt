@@ -42,13 +42,13 @@ use Rattle.row_tableau.specs.Variables.{variable_number, numbers}
 use Rattle.row_tableau.specs.Relaxations.{plain, of_kind, relaxation_of}
 use Rattle.row_tableau.proofs.CutLemmas.{row_low, row_high, rows_alone}
 use Rattle.basic_solution.specs.Held.{Held}
-use Rattle.basic_solution.specs.Tilts.{model_low, model_high, stand_by_sides, tilt_of, has_side, is_sided, sided, tilted_cost, parts_of, KeepsFree}
+use Rattle.row_tableau.specs.Tilts.{model_low, model_high, stand_by_sides, tilt_of, has_side, is_sided, sided, tilted_cost, parts_of, KeepsFree}
 use Rattle.basic_solution.specs.Slack.{IsOf, CanStand}
 use Rattle.basic_solution.specs.ListedStates.{IsStandBy, IsLawfulBasis}
-use Rattle.basic_solution.proofs.OrderLemmas.{filter_more}
+use Rattle.row_tableau.proofs.OrderLemmas.{filter_more}
 use Rattle.basic_solution.proofs.SlackLemmas.{columns_is, activities_is}
 use Rattle.basic_solution.proofs.SignLemmas.{stands_of, can_of}
-use Rattle.basic_solution.proofs.TiltLemmas.{by_column, by_activity, sided_listed, listed_there}
+use Rattle.row_tableau.proofs.TiltLemmas.{by_column, by_activity, sided_listed, listed_there}
 use Rattle.dual_simplex.specs.SlackBases.{no_entries, IsRootBasis}
 use Rattle.dual_simplex.proofs.BasisLemmas.{good_in}
 use Rattle.dual_simplex.proofs.ContinueLemmas.{There, low_there}

@@ -19,7 +19,7 @@ use Rattle.bases.proofs.Duality.{value-reduced}
 use Rattle.row_tableau.specs.Activities.{activity_count, activity_coefficient, activity_low, activity_high}
 use Rattle.row_tableau.specs.Relaxations.{plain}
 use Rattle.row_tableau.proofs.CutLemmas.{row_activity, row_low, row_high, cut_activity, rows_alone}
-use Rattle.basic_solution.proofs.TiltLemmas.{by_column, by_activity}
+use Rattle.row_tableau.proofs.TiltLemmas.{by_column, by_activity}
 
 module _ (M : Program) (cuts : List CutRow) (path : Path) where
   abbrev pub F₀ : Formulation

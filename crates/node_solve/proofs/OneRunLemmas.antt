@@ -14,7 +14,7 @@ use Rattle.row_tableau.specs.Dense.{IsTableauOf}
 use Rattle.row_tableau.specs.Variables.{numbers}
 use Rattle.basic_solution.specs.Held.{Held, IsLawfulHeld, relaxation}
 use Rattle.basic_solution.specs.Slack.{IsOf, IsSlackState}
-use Rattle.basic_solution.specs.Tilts.{tilt_of, order_of}
+use Rattle.row_tableau.specs.Tilts.{tilt_of, order_of}
 use Rattle.basic_solution.specs.ListedStates.{IsLawfulBasis}
 use Rattle.basic_solution.proofs.ExchangeLemmas.{sided_of}
 use Rattle.dual_simplex.specs.Starts.{IsReached, IsLeftBehind, IsStarted, IsWideStart}

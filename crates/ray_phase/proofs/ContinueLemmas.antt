@@ -21,9 +21,9 @@ use Rattle.bases.proofs.SumBelowLaws.{if_same, if_other}
 use Rattle.row_tableau.specs.declared.relax.RelaxKind.TheVariants.{Plain, Directions}
 use Rattle.row_tableau.specs.Activities.{activity_count, activity_low, activity_high}
 use Rattle.row_tableau.specs.Relaxations.{plain}
-use Rattle.basic_solution.specs.Tilts.{model_low, model_high, stand_by_sides, free_tilt, tilt_of, has_side, is_sided, sided, unsided, order_of, KeepsFree, tilted_cost, parts_of}
-use Rattle.basic_solution.proofs.TiltLemmas.{by_column, by_activity, tilted}
-use Rattle.basic_solution.proofs.OrderLemmas.{filter_from, separated}
+use Rattle.row_tableau.specs.Tilts.{model_low, model_high, stand_by_sides, free_tilt, tilt_of, has_side, is_sided, sided, unsided, order_of, KeepsFree, tilted_cost, parts_of}
+use Rattle.row_tableau.proofs.TiltLemmas.{by_column, by_activity, tilted}
+use Rattle.row_tableau.proofs.OrderLemmas.{filter_from, separated}
 use Rattle.dual_simplex.proofs.OneStateLemmas.{low_past, high_past}
 
 pub none_not_some : {x : ℚ} → ¬ (Some x ≡ None)

@@ -21,7 +21,7 @@ use Rattle.row_tableau.specs.Activities.{activity_count}
 use Rattle.row_tableau.specs.Variables.{numbers}
 use Rattle.row_tableau.proofs.CutLemmas.{rows_alone}
 use Rattle.basic_solution.specs.Held.{Held}
-use Rattle.basic_solution.specs.Tilts.{parts_of, KeepsFree}
+use Rattle.row_tableau.specs.Tilts.{parts_of, KeepsFree}
 use Rattle.basic_solution.specs.Slack.{IsOf, CanStand}
 use Rattle.basic_solution.specs.Lists.{AreRising}
 use Rattle.basic_solution.specs.ListedStates.{IsStandBy, IsLawfulBasis}

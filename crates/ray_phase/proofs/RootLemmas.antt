@@ -14,7 +14,7 @@ use Rattle.row_tableau.specs.Relaxations.{plain, of_kind}
 use Rattle.row_tableau.specs.Variables.{numbers}
 use Rattle.row_tableau.proofs.CutLemmas.{rows_alone}
 use Rattle.basic_solution.specs.Held.{Held, state, table}
-use Rattle.basic_solution.specs.Tilts.{parts_of}
+use Rattle.row_tableau.specs.Tilts.{parts_of}
 use Rattle.basic_solution.proofs.ListedLemmas.{numbers_same}
 use Rattle.basic_solution.proofs.SlackLemmas.{columns_is, activities_is}
 use Rattle.dual_simplex.specs.SlackBases.{IsLawfulSlackBasis, no_entries, IsRootBasis}

@@ -5,9 +5,9 @@ ghost use Rattle.basic_solution.specs.Lists.{AreRising};
 ghost use Rattle.ray_phase.specs.Answers.{IsModelHigh};
 ghost use Rattle.row_tableau.specs.Variables.{numbers};
 
-use basic_solution::is_sided;
 use dual_simplex::LpState;
 use lp_model::{List, Model, Var};
+use row_tableau::tilts::is_sided;
 use row_tableau::{Relax, RelaxKind};
 use std::alloc::{AllocError, Global};
 

@@ -6,7 +6,7 @@ use Rattle.lp_model.specs.declared.types.Basis.{Basis}
 use Rattle.row_tableau.specs.Relaxations.{form_of}
 use Rattle.row_tableau.specs.declared.relax.Relax.{Relax}
 use Rattle.row_tableau.specs.declared.relax.RelaxKind.TheVariants.{Plain}
-use Rattle.basic_solution.specs.Tilts.{KeepsFree}
+use Rattle.row_tableau.specs.Tilts.{KeepsFree}
 use Rattle.basic_solution.specs.ListedStates.{IsLawfulBasis}
 use Rattle.dual_simplex.specs.SlackBases.{IsRootBasis}
 

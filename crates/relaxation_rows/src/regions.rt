@@ -2,7 +2,7 @@
 ghost use Rattle.std.specs.Prelude.{◌≡◌, ◌<◌, length, IsTrue};
 ghost use Rattle.lp_model.specs.Program.{is_integer};
 ghost use Rattle.lp_model.specs.Regions.{AreNarrow};
-ghost use Rattle.basic_solution.specs.Tilts.{KeepsFree};
+ghost use Rattle.row_tableau.specs.Tilts.{KeepsFree};
 ghost use Rattle.node_solve.specs.Runs.{NamesIntegers};
 
 use lp_model::{BoundChange, Model};

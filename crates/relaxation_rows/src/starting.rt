@@ -4,7 +4,7 @@ ghost use Rattle.lp_model.specs.Regions.{AreNarrow};
 ghost use Rattle.bases.specs.Relaxation.{HasNoCrossedSides};
 ghost use Rattle.row_tableau.specs.Relaxations.{relaxation_of};
 ghost use Rattle.row_tableau.specs.declared.relax.RelaxKind.TheVariants.{Plain};
-ghost use Rattle.basic_solution.specs.Tilts.{KeepsFree};
+ghost use Rattle.row_tableau.specs.Tilts.{KeepsFree};
 
 use crate::firsts::first_basis;
 use crate::regions::is_lawful_region;

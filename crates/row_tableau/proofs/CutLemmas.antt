@@ -14,8 +14,8 @@ use Rattle.lp_model.specs.declared.types.ColId.{ColId}
 use Rattle.lp_model.specs.declared.types.RowId.{RowId}
 use Rattle.lp_model.proofs.ElementLemmas.{element, of_element-get, of_element-past}
 use Rattle.row_tableau.specs.Activities.{activity_count, activity_coefficient, activity_low, activity_high}
-use Rattle.row_tableau.proofs.PivotLemmas.{flat_within}
-use Rattle.row_tableau.proofs.RowLemmas.{rows_apart, other_test, same_test}
+use Rattle.table_entries.proofs.PivotLemmas.{flat_within}
+use Rattle.table_entries.proofs.RowLemmas.{rows_apart, other_test, same_test}
 use Rattle.row_tableau.proofs.ColumnLemmas.{places_apart}
 
 term_first : (k : ℕ) (e : ColId × ℚ) (rest : List (ColId × ℚ)) → e.0.0 ≡ k → e.1 ≡ term_of k (e ∷ rest)

@@ -1,9 +1,12 @@
 // The data of a search.
 ghost use Rattle.std.specs.Prelude.{◌≡◌, IfOk};
+ghost use Rattle.branch_tree.specs.Preorder.{data_nodes, without_ids};
+ghost use Rattle.kept_cuts.specs.Kept.{derivations_of};
 ghost use Rattle.search_saving.specs.Saved.{saved_data};
 
+use branch_tree::NodeData;
 use kept_cuts::derivations;
-use lp_model::{List, Point};
+use lp_model::{Derivation, List, Model, Point};
 use search_data::SearchData;
 use std::alloc::{AllocError, Global};
 use tree_edit::Search;
@@ -20,18 +23,45 @@ fn copies(alloc: Global, points: &[Point]) -> Result<List<Point>, AllocError>
     Ok(list)
 }
 
+/// The model of a search, and the derivations of its cuts.
+fn model_and_cuts(alloc: Global, search: &Search) -> Result<(Model, List<Derivation>), AllocError>
+    ensures model { IfOk result (λ both. both.0 ≡ search.now.model) }
+    ensures cuts { IfOk result (λ both. both.1 ≡ derivations_of search.now.cuts) }
+{
+    let model = search.model().copy()?;
+    let cuts = derivations(alloc, search.pool().rows())?;
+    Ok((model, cuts))
+}
+
+/// The points of a search, and its nodes in preorder with their states.
+fn points_and_nodes(
+    alloc: Global,
+    search: &Search,
+) -> Result<(List<Point>, List<NodeData>), AllocError>
+    ensures points { IfOk result (λ both. both.0 ≡ search.now.points) }
+    ensures nodes { IfOk result (λ both. both.1 ≡ data_nodes (without_ids search.now.tree.root)) }
+{
+    let points = copies(alloc, search.points())?;
+    let nodes = search.tree().data_nodes()?;
+    Ok((points, nodes))
+}
+
 /// The data of a search: its model, the derivations of its cuts, its points, and its nodes in preorder with their states.
 pub fn data_of(alloc: Global, search: &Search) -> Result<SearchData, AllocError>
     ensures { IfOk result (λ s. s ≡ saved_data search.now) }
 {
-    let model = search.model().copy()?;
-    let cuts = derivations(alloc, search.pool().rows())?;
-    let points = copies(alloc, search.points())?;
-    let nodes = search.tree().data_nodes()?;
-    Ok(SearchData {
-        model,
-        cuts,
-        points,
-        nodes,
-    })
+    let (model, cuts) = model_and_cuts(alloc, search)?;
+    match points_and_nodes(alloc, search) {
+        Ok((points, nodes)) => Ok(SearchData {
+            model,
+            cuts,
+            points,
+            nodes,
+        }),
+        Err(error) => {
+            drop(model);
+            drop(cuts);
+            Err(error)
+        }
+    }
 }

@@ -43,14 +43,27 @@ fn beside_ray(alloc: Global, model: &Model, pivots: u64, direction: Point) -> Be
 {
     same_points_law();
     let Ok(costless) = model.without_costs(alloc) else {
+        drop(direction);
         return Beginning::Memory;
     };
     match ray(alloc, &costless, pivots) {
-        RayAnswer::Memory => Beginning::Memory,
+        RayAnswer::Memory => {
+            drop(direction);
+            drop(costless);
+            Beginning::Memory
+        }
         RayAnswer::DualBasis(first) => Beginning::BesideRay(direction, costless, first),
         RayAnswer::Ray(_) => unreachable!(),
-        RayAnswer::Pivots { basis } => Beginning::Stopped(out_of_moves(alloc, basis)),
-        RayAnswer::Wide(at) => Beginning::Stopped(StopWhy::Wide(at)),
+        RayAnswer::Pivots { basis } => {
+            drop(direction);
+            drop(costless);
+            Beginning::Stopped(out_of_moves(alloc, basis))
+        }
+        RayAnswer::Wide(at) => {
+            drop(direction);
+            drop(costless);
+            Beginning::Stopped(StopWhy::Wide(at))
+        }
     }
 }
 

@@ -21,7 +21,7 @@ use branch_tree::{Job, NodeResult};
 use cover_cuts::PoolFault;
 use kept_cuts::{copy_derivation, derivations};
 use lp_model::{
-    Basis, CutRow, Derivation, List, Mult, PivotPlace, Point, StopWhy, WideAt, WideStep,
+    Basis, CutRow, Derivation, List, Mult, PivotPlace, Point, Region, StopWhy, WideAt, WideStep,
 };
 use node_solve::{LiveCuts, Worked, basis_in_pool, basis_in_relaxation, work};
 use std::alloc::{AllocError, Global};
@@ -150,6 +150,13 @@ fn keep_basis(
     }
 }
 
+/// The region of a job, of which the rest is let go.
+fn job_region(job: Job) -> Region
+    ensures { result ≡ job.region }
+{
+    job.region
+}
+
 /// Stops where the relaxation had as many moves as the limit allows.
 fn stop_by_pivots(
     alloc: Global,
@@ -165,7 +172,7 @@ fn stop_by_pivots(
 {
     let cuts = keep_basis(alloc, search, &job, &basis)?;
     Ok(Stepped::Stopped(StopWhy::Pivots(PivotPlace {
-        path: Some(job.region),
+        path: Some(job_region(job)),
         cuts,
         basis,
     })))
@@ -216,6 +223,15 @@ fn relaxation_basis(alloc: Global, search: &Search, basis: &Basis) -> Result<Bas
     basis_in_relaxation(alloc, &live.places, basis)
 }
 
+/// A basis that is let go, in the leaf's relaxation.
+fn into_relaxation(alloc: Global, search: &Search, basis: Basis) -> Result<Basis, AllocError>
+    ensures { IfOk result (λ own. own ≡ basis_in_relaxation (live_places 200 0 search.now.cuts) basis) }
+{
+    let own = relaxation_basis(alloc, search, &basis);
+    drop(basis);
+    own
+}
+
 /// Stops where a step of the value of a point that is found beside a ray has no room.
 fn stop_by_value(
     alloc: Global,
@@ -237,10 +253,10 @@ fn stop_by_value(
     known(search);
     drop(point);
     drop(mult);
-    let own = relaxation_basis(alloc, search, &basis)?;
+    let own = into_relaxation(alloc, search, basis)?;
     let cuts = keep_basis(alloc, search, &job, &own)?;
     Ok(Stepped::Stopped(StopWhy::Wide(WideAt {
-        path: Some(job.region),
+        path: Some(job_region(job)),
         cuts,
         basis: own,
         step,
@@ -354,8 +370,16 @@ fn after_pivots(
     ensures some { OnErr result (AddsAny search.old search.new) }
 {
     known(search);
-    add_cuts(search, &found)?;
-    stop_by_pivots(alloc, search, limits, job, basis)
+    let added = add_cuts(search, &found);
+    drop(found);
+    match added {
+        Ok(()) => stop_by_pivots(alloc, search, limits, job, basis),
+        Err(error) => {
+            drop(job);
+            drop(basis);
+            Err(error)
+        }
+    }
 }
 
 /// Adds the cuts that were found, and stops where a step of the work has no room.
@@ -373,8 +397,20 @@ fn after_step(
     ensures some { OnErr result (AddsAny search.old search.new) }
 {
     known(search);
-    add_cuts(search, &found)?;
-    stop_by_step(alloc, search, limits, &job, at)
+    let added = add_cuts(search, &found);
+    drop(found);
+    match added {
+        Ok(()) => {
+            let stepped = stop_by_step(alloc, search, limits, &job, at);
+            drop(job);
+            stepped
+        }
+        Err(error) => {
+            drop(job);
+            drop(at);
+            Err(error)
+        }
+    }
 }
 
 /// Adds the cuts that were found, and places the result.
@@ -392,8 +428,16 @@ fn after_result(
     ensures some { OnErr result (AddsAny search.old search.new) }
 {
     known(search);
-    add_cuts(search, &found)?;
-    place_done(alloc, search, limits, job, done)
+    let added = add_cuts(search, &found);
+    drop(found);
+    match added {
+        Ok(()) => place_done(alloc, search, limits, job, done),
+        Err(error) => {
+            drop(job);
+            drop(done);
+            Err(error)
+        }
+    }
 }
 
 /// Works the leaf that goes first, and places what comes of it.

@@ -3,7 +3,7 @@ use Rattle.std.specs.Int.{w128}
 use Rattle.std.proofs.lemmas.Int.{ints}
 use Rattle.rational.specs.Rational.{◌<ℚ◌}
 use Rattle.frac128.specs.LowestTerms.{quotient_of}
-use Rattle.row_tableau.specs.WholeSteps.{IsShort}
+use Rattle.table_entries.specs.WholeSteps.{IsShort}
 use Rattle.basic_solution.proofs.RowTotalLemmas.{below_decided}
 use Rattle.basic_solution.proofs.total_sides.is_quotient_below.Goals as goal
 

@@ -1,6 +1,6 @@
 use Rattle.std.proofs.Common.{Ok}
-use Rattle.dual_simplex.specs.Answers.{IsEntering}
+use Rattle.dual_simplex.specs.BestPlaces.{IsBestBelow}
 use Rattle.dual_simplex.proofs.entering.entering.Given as goal
 
 abbrev pub invariant-loop-place : goal.invariant-loop-place
-invariant-loop-place l = IsEntering l.state l.row l.side l.place (Ok l.found)
+invariant-loop-place l = IsBestBelow l.state l.row l.side l.place (Ok l.found)

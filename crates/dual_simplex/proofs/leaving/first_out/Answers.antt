@@ -1,7 +1,6 @@
-use Rattle.std.proofs.Common.{arith, ◌≤◌, subst, Ok}
+use Rattle.std.proofs.Common.{arith, subst, Ok}
 use Rattle.dual_simplex.specs.Answers.{IsVisited}
-use Rattle.basic_solution.specs.Held.{variables}
-use Rattle.dual_simplex.proofs.SideLemmas.{first_out, wide_out, inside_more, all_inside}
+use Rattle.dual_simplex.proofs.SideLemmas.{first_out, wide_out, inside_more}
 use Rattle.dual_simplex.proofs.leaving.first_out.Goals as goal
 
 pub returns-in-Ok-Some : goal.returns-in-Ok-Some
@@ -15,7 +14,5 @@ returns-in-Err c = wide_out c.args.state.now c.columns-sided.ensures.sided c.loo
 pub loop-variable-preserved : goal.loop-variable-preserved
 loop-variable-preserved c = inside_more c.args.state.now c.loop-variable.variable c.loop-variable.invariant (subst (λ o. IsVisited c.args.state.now c.loop-variable.variable (Ok o)) c.in-Ok-None.field-0-is c.in-Ok-None.ensures)
 
-pub returns : goal.returns
-returns c =
-    all_inside c.args.state.now c.columns-sided.ensures.sided c.loop-variable.variable
-    (let past = c.loop-variable-test.false in let e = c.variables-variable-end.ensures in let past_all : variables c.args.state.now ≤ c.loop-variable.variable = omega (arith, past, e) in past_all) c.loop-variable.invariant
+pub first_cut_out-requires-clause-inside : goal.first_cut_out-requires-clause-inside
+first_cut_out-requires-clause-inside c = λ v less. let past = c.loop-variable-test.false in c.loop-variable.invariant v (omega (arith, less, past))

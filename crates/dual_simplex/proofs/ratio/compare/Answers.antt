@@ -1,40 +1,25 @@
-use Rattle.std.proofs.Common.{◌∙◌, ◌<◌, ◌≤◌, ◌+◌, sym, arith, length}
+use Rattle.std.proofs.Common.{◌∙◌, ◌<◌, ◌+◌, sym, arith, length}
 use Rattle.std.proofs.lemmas.Bool.{false≢true}
-use Rattle.dual_simplex.proofs.RatioLemmas.{none_compared, all_compared, wide_first, wide_second, less_at, greater_at, same_more}
+use Rattle.dual_simplex.proofs.RatioLemmas.{none_compared, less_at, greater_at, same_more}
 use Rattle.dual_simplex.proofs.ratio.compare.Goals as goal
-
-pub loop-part-init : goal.loop-part-init
-loop-part-init c = none_compared c.args.state.now c.args.row c.args.side c.args.first c.args.second
-
-pub returns-in-Err : goal.returns-in-Err
-returns-in-Err c =
-    let within : c.loop-part.part < length c.args.state.now.order + 1 = let w = c.loop-part-test.true in let e = c.parts-part-end.ensures in omega (arith, w, e) in
-    wide_first c.args.state.now c.args.row c.args.side c.args.first c.args.second c.loop-part.part within c.loop-part.invariant c.in-Err.step c.in-Err.ensures
-
-pub returns-in-Err-ratio_part : goal.returns-in-Err-ratio_part
-returns-in-Err-ratio_part c =
-    let within : c.loop-part.part < length c.args.state.now.order + 1 = let w = c.loop-part-test.true in let e = c.parts-part-end.ensures in omega (arith, w, e) in
-    wide_second c.args.state.now c.args.row c.args.side c.args.first c.args.second c.loop-part.part within c.loop-part.invariant c.in-Ok.left c.in-Ok.ensures c.in-Err-ratio_part.step c.in-Err-ratio_part.ensures
 
 pub returns-then-is_below : goal.returns-then-is_below
 returns-then-is_below c =
-    let within : c.loop-part.part < length c.args.state.now.order + 1 = let w = c.loop-part-test.true in let e = c.parts-part-end.ensures in omega (arith, w, e) in
-    less_at c.args.state.now c.args.row c.args.side c.args.first c.args.second c.loop-part.part within c.loop-part.invariant c.in-Ok.left c.in-Ok.ensures c.in-Ok-ratio_part.right c.in-Ok-ratio_part.ensures
+    let now = c.args.state.now in
+    let within : 0 < length now.order + 1 = omega arith in
+    less_at now c.args.row c.args.side c.args.first c.args.second 0 within (none_compared now c.args.row c.args.side c.args.first c.args.second) c.args.left.now c.requires.left c.args.right.now c.requires.right
     (c.is_below.ensures.0 c.if-is_below.true)
 
 pub returns-then-is_below-2 : goal.returns-then-is_below-2
 returns-then-is_below-2 c =
-    let within : c.loop-part.part < length c.args.state.now.order + 1 = let w = c.loop-part-test.true in let e = c.parts-part-end.ensures in omega (arith, w, e) in
-    greater_at c.args.state.now c.args.row c.args.side c.args.first c.args.second c.loop-part.part within c.loop-part.invariant c.in-Ok.left c.in-Ok.ensures c.in-Ok-ratio_part.right c.in-Ok-ratio_part.ensures
-    (c.is_below-in-loop-part.ensures.0 c.if-is_below-2.true)
+    let now = c.args.state.now in
+    let within : 0 < length now.order + 1 = omega arith in
+    greater_at now c.args.row c.args.side c.args.first c.args.second 0 within (none_compared now c.args.row c.args.side c.args.first c.args.second) c.args.left.now c.requires.left c.args.right.now c.requires.right
+    (c.is_below-2.ensures.0 c.if-is_below-2.true)
 
-pub loop-part-preserved : goal.loop-part-preserved
-loop-part-preserved c =
-    let within : c.loop-part.part < length c.args.state.now.order + 1 = let w = c.loop-part-test.true in let e = c.parts-part-end.ensures in omega (arith, w, e) in
-    same_more c.args.state.now c.args.row c.args.side c.args.first c.args.second c.loop-part.part within c.loop-part.invariant c.in-Ok.left c.in-Ok.ensures c.in-Ok-ratio_part.right c.in-Ok-ratio_part.ensures
-    (λ h. false≢true (sym c.if-is_below.false ∙ c.is_below.ensures.1 h)) (λ h. false≢true (sym c.if-is_below-2.false ∙ c.is_below-in-loop-part.ensures.1 h))
-
-pub returns : goal.returns
-returns c =
-    all_compared c.args.state.now c.args.row c.args.side c.args.first c.args.second c.loop-part.part
-    (let past = c.loop-part-test.false in let e = c.parts-part-end.ensures in let beyond : length c.args.state.now.order + 1 ≤ c.loop-part.part = omega (arith, past, e) in beyond) c.loop-part.invariant
+pub compare_tilts-requires-clause-same : goal.compare_tilts-requires-clause-same
+compare_tilts-requires-clause-same c =
+    let now = c.args.state.now in
+    let within : 0 < length now.order + 1 = omega arith in
+    same_more now c.args.row c.args.side c.args.first c.args.second 0 within (none_compared now c.args.row c.args.side c.args.first c.args.second) c.args.left.now c.requires.left c.args.right.now c.requires.right
+    (λ h. false≢true (sym c.if-is_below.false ∙ c.is_below.ensures.1 h)) (λ h. false≢true (sym c.if-is_below-2.false ∙ c.is_below-2.ensures.1 h))

@@ -4,10 +4,14 @@ use Rattle.frac128.specs.Range.{Fits}
 use Rattle.bases.specs.Relaxation.{reduced_cost}
 use Rattle.bases.specs.States.{sign}
 use Rattle.basic_solution.specs.Held.{relaxation, table, parts}
+use Rattle.dual_simplex.proofs.RatioLemmas.{none_answer}
 use Rattle.dual_simplex.proofs.ratio.ratio_part.Goals as goal
 
 pub returns-in-Err : goal.returns-in-Err
 returns-in-Err c = inl c.in-Err.ensures
+
+pub returns-then-is_zero : goal.returns-then-is_zero
+returns-then-is_zero c = none_answer c.args.state.now c.args.row c.args.side c.args.place c.args.part c.in-Ok.reduced c.in-Ok.ensures (c.is_zero.ensures.0 c.if-is_zero.true)
 
 pub returns-in-Err-div : goal.returns-in-Err-div
 returns-in-Err-div c =

@@ -1,5 +1,5 @@
 use Rattle.std.specs.Prelude.{Some}
-use Rattle.std.proofs.Common.{refl, subst}
+use Rattle.std.proofs.Common.{refl, ap, subst}
 use Rattle.tree_search.proofs.JobLemmas.{IsWorkedBy, worked-by}
 use Rattle.tree_search.proofs.KeepLemmas.{job-after, added-model}
 use Rattle.tree_search.proofs.PlacedLemmas.{pivots-basis}
@@ -21,4 +21,4 @@ keep_basis-requires-clause-basis c =
 pub returns-clause-steps : goal.returns-clause-steps
 returns-clause-steps c =
     λ begin found works adds.
-    stop-pivots c.args.limits.now begin c.args.job found c.args.search.now adds c.keep_basis.new.search (record { path = Some c.args.job.region; cuts = c.in_ok-cuts.cuts; basis = c.args.basis }) works refl c.in_ok-cuts.ensures.cuts c.in_ok-cuts.ensures.keeps
+    stop-pivots c.args.limits.now begin c.args.job found c.args.search.now adds c.keep_basis.new.search (record { path = Some c.job_region.result; cuts = c.in_ok-cuts.cuts; basis = c.args.basis }) works (ap Some c.job_region.ensures) c.in_ok-cuts.ensures.cuts c.in_ok-cuts.ensures.keeps

@@ -37,5 +37,5 @@ returns-clause-steps c =
     let back = point-back limits.ways limits.first.now limits.pivots begin by c.args.job found.items S adds c.args.point c.args.mult c.args.basis found refl works.worked_is in
     let own : c.in_ok-own.own ≡ basis_in_relaxation (live_places 200 0 S.cuts) c.args.basis = c.in_ok-own.ensures in
     stop-value limits begin c.args.job found S adds c.keep_basis.new.search c.requires.rays c.args.point c.args.mult c.args.basis
-    (record { path = Some c.args.job.region; cuts = c.in_ok-cuts.cuts; basis = c.in_ok-own.own; step = c.args.step })
-    works c.requires.value refl c.in_ok-cuts.ensures.cuts own (ap (kept_basis S) own ∙ back) c.in_ok-cuts.ensures.keeps
+    (record { path = Some c.job_region.result; cuts = c.in_ok-cuts.cuts; basis = c.in_ok-own.own; step = c.args.step })
+    works c.requires.value (ap Some c.job_region.ensures) c.in_ok-cuts.ensures.cuts own (ap (kept_basis S) own ∙ back) c.in_ok-cuts.ensures.keeps

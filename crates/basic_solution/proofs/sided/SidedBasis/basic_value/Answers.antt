@@ -3,7 +3,7 @@ use Rattle.std.specs.Int.{w128}
 use Rattle.std.proofs.lemmas.Int.{ints}
 use Rattle.rational.specs.Rational.{int}
 use Rattle.frac128.specs.LowestTerms.{quotient_of}
-use Rattle.row_tableau.specs.WholeSums.{HasMargin}
+use Rattle.table_entries.specs.WholeSums.{HasMargin}
 use Rattle.row_tableau.specs.Dense.{table_of}
 use Rattle.row_tableau.specs.Variables.{variable_number}
 use Rattle.basic_solution.specs.Held.{IsSided}

@@ -9,8 +9,8 @@ use Rattle.basic_solution.proofs.sided.SidedBasis.bring_in.Goals.{in-Ok, in-Err}
 pub invariant_of-self : goal.invariant_of-self
 invariant_of-self c =
     let i = c.self.inside in
-    let s : Held = record { form = formulation i.model.now i.cuts.now; low = i.low.items; high = i.high.items; cost = i.cost.items; tilt = i.tilt.items; order = i.order.items; tableau = i.tableau; stands = i.stands.items } in
-    let t : Held = record { form = formulation i.model.now i.cuts.now; low = i.low.items; high = i.high.items; cost = i.cost.items; tilt = i.tilt.items; order = i.order.items; tableau = c.bring_in.new.self; stands = i.stands.items } in
+    let s : Held = record { form = formulation i.model.now i.cuts.now; low = i.low.items; high = i.high.items; cost = i.cost; tilt = i.tilt.items; order = i.order.items; tableau = i.tableau; stands = i.stands.items } in
+    let t : Held = record { form = formulation i.model.now i.cuts.now; low = i.low.items; high = i.high.items; cost = i.cost; tilt = i.tilt.items; order = i.order.items; tableau = c.bring_in.new.self; stands = i.stands.items } in
     let keeps : Keeps s t = record {
       form = refl;
       low = refl;
@@ -28,8 +28,8 @@ invariant_of-self c =
 pub returns-clause-answer : goal.returns-clause-answer
 returns-clause-answer c =
     let i = c.self.inside in
-    let s : Held = record { form = formulation i.model.now i.cuts.now; low = i.low.items; high = i.high.items; cost = i.cost.items; tilt = i.tilt.items; order = i.order.items; tableau = i.tableau; stands = i.stands.items } in
-    let t : Held = record { form = formulation i.model.now i.cuts.now; low = i.low.items; high = i.high.items; cost = i.cost.items; tilt = i.tilt.items; order = i.order.items; tableau = c.bring_in.new.self; stands = i.stands.items } in
+    let s : Held = record { form = formulation i.model.now i.cuts.now; low = i.low.items; high = i.high.items; cost = i.cost; tilt = i.tilt.items; order = i.order.items; tableau = i.tableau; stands = i.stands.items } in
+    let t : Held = record { form = formulation i.model.now i.cuts.now; low = i.low.items; high = i.high.items; cost = i.cost; tilt = i.tilt.items; order = i.order.items; tableau = c.bring_in.new.self; stands = i.stands.items } in
     let keeps : Keeps s t = record {
       form = refl;
       low = refl;

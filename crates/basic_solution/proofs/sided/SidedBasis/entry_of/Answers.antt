@@ -1,7 +1,7 @@
 use Rattle.std.proofs.Common.{◌≡◌, ◌∙◌, sym, subst, pos}
 use Rattle.rational.specs.Rational.{int}
 use Rattle.bases.specs.Steps.{at_nonbasic}
-use Rattle.row_tableau.specs.Dense.{dense_entry}
+use Rattle.table_entries.specs.FlatSteps.{dense_entry}
 use Rattle.basic_solution.specs.Held.{relaxation, table}
 use Rattle.basic_solution.proofs.PointLemmas.{no_entry, own_entry}
 use Rattle.basic_solution.proofs.sided.SidedBasis.entry_of.Goals as goal

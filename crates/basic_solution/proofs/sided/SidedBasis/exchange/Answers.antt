@@ -11,7 +11,7 @@ invariant_of-self c =
     let i = c.self.inside in
     let row = c.args.row in
     let place = c.args.place in
-    let before : Held = record { form = formulation i.model.now i.cuts.now; low = i.low.items; high = i.high.items; cost = i.cost.items; tilt = i.tilt.items; order = i.order.items; tableau = i.tableau; stands = i.stands.items } in
+    let before : Held = record { form = formulation i.model.now i.cuts.now; low = i.low.items; high = i.high.items; cost = i.cost; tilt = i.tilt.items; order = i.order.items; tableau = i.tableau; stands = i.stands.items } in
     sided_after before _ c.self.invariant row c.args.side place
     (subst (λ s. row < s.tableau.activities) (sym c.self.view_is) c.requires.row)
     (subst (λ s. place < s.tableau.columns) (sym c.self.view_is) c.requires.place)

@@ -2,9 +2,9 @@ use Rattle.std.proofs.Common.{refl, ◌≡◌, ◌∙◌, sym, ap, subst, arith,
 use Rattle.std.proofs.lemmas.Int.{ints}
 use Rattle.rational.specs.Rational.{int}
 use Rattle.frac128.specs.LowestTerms.{quotient_of}
-use Rattle.row_tableau.specs.Dense.{dense_entry}
-use Rattle.row_tableau.specs.WholeSteps.{IsShort}
-use Rattle.row_tableau.proofs.WholeSumLemmas.{term_of_factor, term_of_nothing}
+use Rattle.table_entries.specs.FlatSteps.{dense_entry}
+use Rattle.table_entries.specs.WholeSteps.{IsShort}
+use Rattle.table_entries.proofs.WholeSumLemmas.{term_of_factor, term_of_nothing}
 use Rattle.basic_solution.specs.Held.{table}
 use Rattle.basic_solution.specs.RowTotals.{IsSmallNumber}
 use Rattle.basic_solution.proofs.sided.SidedBasis.place_term.Goals as goal

@@ -3,9 +3,9 @@ use Rattle.std.proofs.lemmas.Int.{ints}
 use Rattle.rational.specs.Rational.{int}
 use Rattle.frac128.specs.LowestTerms.{quotient_of}
 use Rattle.bases.specs.Steps.{at_nonbasic}
-use Rattle.row_tableau.specs.Dense.{dense_entry}
-use Rattle.row_tableau.specs.WholeSteps.{IsShort}
-use Rattle.row_tableau.proofs.WholeSumLemmas.{term_of_factor, term_of_nothing}
+use Rattle.table_entries.specs.FlatSteps.{dense_entry}
+use Rattle.table_entries.specs.WholeSteps.{IsShort}
+use Rattle.table_entries.proofs.WholeSumLemmas.{term_of_factor, term_of_nothing}
 use Rattle.basic_solution.specs.Held.{relaxation, table, state}
 use Rattle.basic_solution.proofs.PointLemmas.{no_standing, own_standing, own_entry}
 use Rattle.basic_solution.proofs.sided.SidedBasis.point_term.Goals as goal

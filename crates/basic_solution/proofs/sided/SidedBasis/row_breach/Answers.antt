@@ -2,7 +2,7 @@ use Rattle.std.proofs.Common.{◌<◌, ◌≡◌, ◌∙◌, ap₂, sym, subst, 
 use Rattle.std.specs.Int.{w128}
 use Rattle.std.proofs.lemmas.Int.{ints}
 use Rattle.frac128.specs.LowestTerms.{quotient_of}
-use Rattle.row_tableau.specs.WholeSums.{HasMargin}
+use Rattle.table_entries.specs.WholeSums.{HasMargin}
 use Rattle.bases.specs.States.{basic_value}
 use Rattle.basic_solution.specs.Held.{relaxation, state, table}
 use Rattle.basic_solution.specs.Breach.{IsBreach}

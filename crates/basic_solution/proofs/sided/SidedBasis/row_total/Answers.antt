@@ -4,13 +4,13 @@ use Rattle.std.proofs.lemmas.Int.{ints}
 use Rattle.rational.specs.Rational.{int}
 use Rattle.checked_sum.specs.Steps.{partial}
 use Rattle.checked_sum.proofs.StepLaws.{partial_none}
-use Rattle.row_tableau.specs.WholeSteps.{IsShort}
-use Rattle.row_tableau.specs.WholeSums.{IsWholeTerm, HasMargin}
-use Rattle.row_tableau.proofs.ListedLemmas.{zero_over}
-use Rattle.row_tableau.proofs.WholeSumLemmas.{total_more}
+use Rattle.table_entries.specs.WholeSteps.{IsShort}
+use Rattle.table_entries.specs.WholeSums.{IsWholeTerm, HasMargin}
+use Rattle.table_entries.proofs.ListedLemmas.{zero_over}
+use Rattle.table_entries.proofs.WholeSumLemmas.{total_more}
 use Rattle.basic_solution.specs.Held.{IsSided, state, table, variables}
-use Rattle.basic_solution.specs.RowTotals.{IsSmallNumber, IsRowTotal}
-use Rattle.basic_solution.proofs.RowTotalLemmas.{HasSmallTerm, size_more, margin_of, total_of_row}
+use Rattle.basic_solution.specs.RowTotals.{IsSmallNumber, HasSmallTerm, IsRowTotal}
+use Rattle.basic_solution.proofs.RowTotalLemmas.{size_more, margin_of, total_of_row}
 use Rattle.basic_solution.proofs.sided.SidedBasis.row_total.Goals as goal
 
 pub loop-place-init : goal.loop-place-init

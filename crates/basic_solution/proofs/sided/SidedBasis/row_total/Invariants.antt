@@ -3,7 +3,7 @@ use Rattle.rational.specs.Rational.{int}
 use Rattle.frac128.specs.LowestTerms.{quotient_of}
 use Rattle.checked_sum.specs.Steps.{partial}
 use Rattle.basic_solution.specs.Held.{state, table}
-use Rattle.basic_solution.proofs.RowTotalLemmas.{HasSmallTerm}
+use Rattle.basic_solution.specs.RowTotals.{HasSmallTerm}
 use Rattle.basic_solution.proofs.sided.SidedBasis.row_total.Given as goal
 
 abbrev pub invariant-loop-place : goal.invariant-loop-place

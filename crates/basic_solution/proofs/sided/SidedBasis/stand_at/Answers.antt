@@ -1,10 +1,29 @@
-use Rattle.std.proofs.Common.{ap, subst, Ok, inl}
+use Rattle.std.proofs.Common.{refl, ap, subst, Ok, inl}
 use Rattle.row_tableau.specs.Dense.{Dense}
 use Rattle.row_tableau.specs.Variables.{numbers}
 use Rattle.row_tableau.specs.Answers.{IsLeftOff}
 use Rattle.basic_solution.specs.ListedStates.{StandBy, IsBroughtTo}
-use Rattle.basic_solution.proofs.ListedLemmas.{at_list, lawful_stood}
+use Rattle.basic_solution.proofs.ListedLemmas.{keeps_restood, keeps_trans, leads_restood, nowhere_on, at_list, lawful_stood}
 use Rattle.basic_solution.proofs.sided.SidedBasis.stand_at.Goals as goal
+
+pub returns-in-Err-clause-kept : goal.returns-in-Err-clause-kept
+returns-in-Err-clause-kept c =
+    keeps_trans c.args.self.now c.stand_nowhere.new.self c.bring_in.new.self (keeps_restood c.args.self.now c.stand_nowhere.new.self c.stand_nowhere.ensures.same) c.bring_in.ensures.kept
+
+pub returns-in-Err-clause-way : goal.returns-in-Err-clause-way
+returns-in-Err-clause-way c = leads_restood c.args.list.now c.args.self.now c.stand_nowhere.new.self c.bring_in.new.self c.bring_in.new.self c.stand_nowhere.ensures.same c.bring_in.ensures.way refl
+
+pub returns-in-Err-clause-answer : goal.returns-in-Err-clause-answer
+returns-in-Err-clause-answer c =
+    inl (nowhere_on c.stand_nowhere.new.self c.bring_in.new.self c.bring_in.ensures.kept.columns c.bring_in.ensures.stands c.stand_nowhere.ensures.nowhere, c.in-Err.ensures.answer)
+
+pub returns-in-Ok-false-clause-kept : goal.returns-in-Ok-false-clause-kept
+returns-in-Ok-false-clause-kept c =
+    keeps_trans c.args.self.now c.stand_nowhere.new.self c.bring_in.new.self (keeps_restood c.args.self.now c.stand_nowhere.new.self c.stand_nowhere.ensures.same) c.bring_in.ensures.kept
+
+pub returns-in-Ok-false-clause-way : goal.returns-in-Ok-false-clause-way
+returns-in-Ok-false-clause-way c =
+    leads_restood c.args.list.now c.args.self.now c.stand_nowhere.new.self c.bring_in.new.self c.bring_in.new.self c.stand_nowhere.ensures.same c.bring_in.ensures.way refl
 
 pub returns-in-Ok-false-clause-answer : goal.returns-in-Ok-false-clause-answer
 returns-in-Ok-false-clause-answer c =
@@ -13,6 +32,17 @@ returns-in-Ok-false-clause-answer c =
     inl
     (subst (λ (t : Dense). IsLeftOff t (numbers t list.basic) c.bring_in.new.self.tableau) same
     (subst (λ b. IsBroughtTo c.stand_nowhere.new.self list (Ok b) c.bring_in.new.self) c.in-Ok-false.field-0-test c.in-Ok-false.ensures.answer))
+
+pub returns-clause-kept : goal.returns-clause-kept
+returns-clause-kept c =
+    let reached = c.bring_in.new.self in
+    keeps_trans c.args.self.now reached c.stand_by.new.self
+    (keeps_trans c.args.self.now c.stand_nowhere.new.self reached (keeps_restood c.args.self.now c.stand_nowhere.new.self c.stand_nowhere.ensures.same) c.bring_in.ensures.kept)
+    (keeps_restood reached c.stand_by.new.self c.stand_by.ensures.same)
+
+pub returns-clause-way : goal.returns-clause-way
+returns-clause-way c =
+    leads_restood c.args.list.now c.args.self.now c.stand_nowhere.new.self c.bring_in.new.self c.stand_by.new.self c.stand_nowhere.ensures.same c.bring_in.ensures.way c.stand_by.ensures.same
 
 pub returns-clause-answer : goal.returns-clause-answer
 returns-clause-answer c =

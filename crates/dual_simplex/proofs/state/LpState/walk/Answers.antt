@@ -1,5 +1,5 @@
 use Rattle.std.proofs.Common.{refl, sym, subst, arith, ◌≡◌, Ok, Err, inl}
-use Rattle.dual_simplex.specs.Answers.{IsLeaving}
+use Rattle.dual_simplex.specs.Answers.{AreAllInside, HasLeaving, IsLeaving}
 use Rattle.dual_simplex.specs.Moves.{IsStepAnswer, IsBlocked}
 use Rattle.dual_simplex.specs.Walks.{Moves, IsWalkEnd}
 use Rattle.dual_simplex.specs.declared.walk.Walk.TheVariants.{Optimal}
@@ -38,15 +38,25 @@ returns-in-Ok-Infeasible c =
     let answer = subst (λ o. IsStepAnswer c.loop-move.self (Ok o) c.step.new.self) c.in-Ok-Infeasible.field-0-is c.in-Ok-Infeasible.ensures in
     (c.loop-move._move, (c.loop-move.auto._move-end, (subst (Moves c.loop-move._move c.args.self.now) (sym answer.1) c.loop-move.invariant, (c.loop-move-test.true, subst IsBlocked (sym answer.1) answer.0))))
 
-pub returns-in-Err-leaving : goal.returns-in-Err-leaving
-returns-in-Err-leaving c = (c.loop-move._move, (c.loop-move.auto._move-end, (c.loop-move.invariant, inl c.in-Err-leaving.ensures)))
+pub returns-in-Err-next_leaving : goal.returns-in-Err-next_leaving
+returns-in-Err-next_leaving c =
+    let kept = c.next_leaving.ensures.kept in
+    (c.loop-move._move, (c.loop-move.auto._move-end, (subst (Moves c.loop-move._move c.args.self.now) (sym kept) c.loop-move.invariant, inl (subst (λ s. IsLeaving s (Err c.in-Err-next_leaving.step)) (sym kept) c.in-Err-next_leaving.ensures.leaving))))
 
 pub returns-in-Ok-None : goal.returns-in-Ok-None
 returns-in-Ok-None c =
-    (c.loop-move._move, (c.loop-move.auto._move-end, (c.loop-move.invariant, subst (λ o. IsLeaving c.loop-move.self (Ok o)) c.in-Ok-None.field-0-is c.in-Ok-None.ensures)))
+    let kept = c.next_leaving.ensures.kept in
+    let all = subst (λ o. IsLeaving c.loop-move.self (Ok o)) c.in-Ok-None.field-0-is c.in-Ok-None.ensures.leaving in
+    (c.loop-move._move, (c.loop-move.auto._move-end, (subst (Moves c.loop-move._move c.args.self.now) (sym kept) c.loop-move.invariant, subst AreAllInside (sym kept) all)))
 
 pub returns-in-Ok-Some : goal.returns-in-Ok-Some
 returns-in-Ok-Some c =
-    let out = subst (λ o. IsLeaving c.loop-move.self (Ok o)) c.in-Ok-Some.field-0-is c.in-Ok-Some.ensures in
-    let all : c.loop-move._move ≡ c.args.pivot_limit = let past = c.loop-move-test.false in let within = c.loop-move.auto._move-end in omega (arith, past, within) in
-    (c.loop-move._move, (c.loop-move.auto._move-end, (c.loop-move.invariant, (all, leaving_of c.loop-move.self c.in-Ok-Some.field-0-0 out))))
+    let kept = c.next_leaving.ensures.kept in
+    let out = subst (λ o. IsLeaving c.loop-move.self (Ok o)) c.in-Ok-Some.field-0-is c.in-Ok-Some.ensures.leaving in
+    let all : c.loop-move._move ≡ c.args.pivot_limit = let past = c.loop-move-test.false in let within = c.loop-move.auto._move-end in omega (arith, past, within) in (
+      c.loop-move._move,
+      (
+        c.loop-move.auto._move-end,
+        (subst (Moves c.loop-move._move c.args.self.now) (sym kept) c.loop-move.invariant, (all, subst HasLeaving (sym kept) (leaving_of c.loop-move.self c.in-Ok-Some.field-0-0 out))),
+      ),
+    )

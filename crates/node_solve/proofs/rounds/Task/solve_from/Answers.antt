@@ -5,7 +5,7 @@ use Rattle.bases.specs.Relaxation.{HasNoCrossedSides}
 use Rattle.row_tableau.specs.declared.relax.RelaxKind.TheVariants.{Plain}
 use Rattle.row_tableau.specs.Relaxations.{plain}
 use Rattle.row_tableau.proofs.OrderedLemmas.{region_ordered}
-use Rattle.basic_solution.specs.Tilts.{KeepsFree}
+use Rattle.row_tableau.specs.Tilts.{KeepsFree}
 use Rattle.dual_simplex.specs.Solves.{IsSolved}
 use Rattle.dual_simplex.proofs.RegionSideLemmas.{keeps_free}
 use Rattle.node_solve.specs.Works.{IsAllowedBy}

@@ -1,0 +1,74 @@
+// First parts of ratios in whole numbers: where the reduced cost and the entry are numbers over the denominator of the table, that
+// cancels, and two of them are compared without a division.
+ghost use Rattle.std.specs.Prelude.{◌≡◌, ◌≢◌, ◌↔◌, ◌<◌, ◌-ℤ◌, pos, IsTrue, IfSome};
+ghost use Rattle.rational.specs.Rational.{int, ◌<ℚ◌};
+ghost use Rattle.frac128.specs.LowestTerms.{quotient_of};
+ghost use Rattle.table_entries.specs.WholeSteps.{IsShort, by_sign};
+ghost use Rattle.basic_solution.specs.Held.{table};
+ghost use Rattle.dual_simplex.specs.WholeRatios.{IsShortRatio, IsWholeRatio};
+
+use bases::Stand;
+use basic_solution::SidedBasis;
+use table_entries::{product, short_number};
+
+/// A number over another one that is above 0.
+#[derive(Clone, Copy, Drop)]
+pub struct WholeRatio {
+    pub top: i64,
+    pub bottom: i64,
+}
+
+/// The number with the sign of the entry.
+#[inline]
+fn by_sign(entry: i64, number: i64) -> i64
+    requires { IsShort number }
+    ensures { result ≡ by_sign entry number }
+{
+    if entry < 0 { -number } else { number }
+}
+
+/// The number with the other sign.
+#[inline]
+fn turned(number: i64) -> i64
+    requires { IsShort number }
+    ensures { result ≡ pos 0 -ℤ number }
+{
+    -number
+}
+
+/// The first part of the ratio of a place, where it can be had without a division. None says nothing of it.
+pub(crate) fn whole_ratio(
+    state: &SidedBasis<'_>,
+    row: usize,
+    side: Stand,
+    place: usize,
+) -> Option<WholeRatio>
+    requires row { row < state.now.tableau.activities }
+    requires place { place < state.now.tableau.columns }
+    requires some { (table state.now).entry row place ≢ int (pos 0) }
+    ensures { IfSome result (λ r. IsWholeRatio state.now row side place r.top r.bottom) }
+{
+    let denominator = state.denominator();
+    let entry = state.number_over(row, place, denominator)?;
+    let total = state.cost_total(place, denominator)?;
+    let cost = short_number(total)?;
+    let over = by_sign(entry, cost);
+    let bottom = by_sign(entry, entry);
+    match side {
+        Stand::Low => Some(WholeRatio { top: over, bottom }),
+        Stand::High => {
+            let top = turned(over);
+            Some(WholeRatio { top, bottom })
+        }
+        Stand::Free => None,
+    }
+}
+
+/// Whether a ratio is below another one.
+pub(crate) fn is_lesser(left: &WholeRatio, right: &WholeRatio) -> bool
+    requires left { IsShortRatio left.now.top left.now.bottom }
+    requires right { IsShortRatio right.now.top right.now.bottom }
+    ensures { IsTrue result ↔ (quotient_of left.now.top left.now.bottom <ℚ quotient_of right.now.top right.now.bottom) }
+{
+    product(left.top, right.bottom) < product(right.top, left.bottom)
+}

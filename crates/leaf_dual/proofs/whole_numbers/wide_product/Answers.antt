@@ -1,0 +1,18 @@
+use Rattle.std.proofs.Common.{FitsSigned, arith}
+use Rattle.std.specs.Prelude.{◌*ℤ◌}
+use Rattle.std.specs.Int.{w128}
+use Rattle.std.proofs.lemmas.Int.{to_z-of_z, ints}
+use Rattle.leaf_dual.proofs.RoomLemmas.{factor_product}
+use Rattle.leaf_dual.proofs.whole_numbers.wide_product.Goals as goal
+
+pub overflow_mul-result : goal.overflow_mul-result
+overflow_mul-result c =
+    let first_range = c.ranges.first in
+    let second_range = c.ranges.second in
+    let size = factor_product c.args.first c.args.second c.requires.first c.requires.second in
+    let first_is = simp to_z-of_z at c.from.ensures in
+    let second_is = simp to_z-of_z at c.from-2.ensures in
+    let first_wide : FitsSigned w128 c.args.first = omega (arith, ints) in
+    let second_wide : FitsSigned w128 c.args.second = omega (arith, ints) in
+    let product_fits : FitsSigned w128 (c.args.first *ℤ c.args.second) = omega (arith, ints) in
+    rw (first_is, second_is) (simp to_z-of_z product_fits)

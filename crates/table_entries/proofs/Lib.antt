@@ -1,0 +1,13 @@
+pub mod StepLemmas
+pub mod PivotLemmas
+pub mod WholeLemmas
+pub mod WholeListLemmas
+pub mod ListedLemmas
+pub mod WholeSumLemmas
+pub mod RowLemmas
+pub mod PartLemmas
+pub mod PartNumbers
+pub mod PartExchange
+pub mod PartRows
+pub mod PartLoopLemmas
+pub mod FilledLemmas

@@ -1,0 +1,201 @@
+-- The list of the entries, from the numbers over their denominator.
+use Rattle.std.specs.Prelude.{◌≡◌, ◌≢◌, ◌↔◌, ℕ, suc, ◌+◌, ◌-◌, ◌*◌, ◌/◌, ◌%◌, ◌<◌, ◌==◌, List, [], ◌∷◌, get_or, set, length, ◌<ℤ◌, ◌*ℤ◌, ℤ, pos, unsigned_abs, Bool, true, false, Result, Ok, Err, OkIff}
+use Rattle.std.specs.Result.{IsOk}
+use Rattle.std.proofs.Common.{refl, sym, ap, subst, subst₂, ◌∙◌, arith}
+use Rattle.std.proofs.Math.ListN.{get_or-map}
+use Rattle.std.proofs.lemmas.Nat.{div-mul-add, mod-mul-add}
+use Rattle.std.proofs.lemmas.List.{length-map, ext_get_or}
+use Rattle.std.proofs.lemmas.Int.{ints}
+use Rattle.std.proofs.lemmas.Result.{OkIff-at_ok}
+use Rattle.rational.specs.Rational.{ℚ, den, int, ◌/ℚ◌}
+use Rattle.rational.proofs.Lowest.{reduced-cross, cancel_ℤ}
+use Rattle.rational.proofs.RationalRing.{int_is}
+use Rattle.rational.proofs.IntegerRing.{ring_ℤ, reads_ℤ}
+use Rattle.rational.proofs.Integers.{int-num}
+use Rattle.frac128.specs.Range.{IsNarrow, Fits}
+use Rattle.frac128.specs.LowestTerms.{quotient_of}
+use Rattle.frac128.proofs.Terms.{same_quotient, quotient-/ℚ}
+use Rattle.frac128.proofs.SumTerms.{fits_of_narrow}
+use Rattle.bases.specs.Relaxation.{pivoted_entry}
+use Rattle.bases.specs.Steps.{PivotStepFits, EntryFits, step_value}
+use Rattle.table_entries.specs.FlatSteps.{dense_entry, FlatFits, flat_value}
+use Rattle.table_entries.specs.WholeSteps.{IsShort, IsWholeStep, magnitude, whole_number_at, is_unwritten, AreShort, AreWithin, AreWritten}
+use Rattle.table_entries.specs.Listed.{Listed, over, listed_costs, AreOver, IsListed, AreShortWhole, IsExchangedList, ArePartsExchanged}
+use Rattle.table_entries.proofs.WholeLemmas.{magnitude_positive, short_narrow}
+use Rattle.table_entries.proofs.PivotLemmas.{flat_within}
+use Rattle.table_entries.proofs.RowLemmas.{flat_fits, flat_written}
+use Rattle.table_entries.proofs.WholeListLemmas.{short_more}
+
+-- ---- one fraction
+
+division_is : (n d : ℤ) → pos 0 <ℤ d → int n /ℚ int d ≡ quotient_of n d
+division_is n d h = sym (quotient-/ℚ n d n d (λ e. omega (arith, ints)) h refl)
+
+division_fits : (n d : ℤ) → pos 0 <ℤ d → IsNarrow n → IsShort d → Fits (int n /ℚ int d)
+division_fits n d h n_narrow d_short = subst Fits (sym (division_is n d h)) (fits_of_narrow n d h n_narrow (short_narrow d d_short))
+
+ok_at : {A E : Type 0} {P : Type 0} (v : A) (r : Result A E) → OkIff r P v → P → IsOk r
+ok_at v (Ok x) h p = refl
+ok_at v (Err e) h p = absurd (h p)
+
+-- a number and a denominator that were read as n' and d'
+module _ {E : Type 0} (n d n' d' : ℤ) (n_is : n' ≡ n) (d_is : d' ≡ d) (h : pos 0 <ℤ d) (r : Result ℚ E) (made : OkIff r (Fits (int n' /ℚ int d')) (int n' /ℚ int d')) where
+  division_read : int n' /ℚ int d' ≡ int n /ℚ int d
+  division_read = λ j. int (n_is j) /ℚ int (d_is j)
+
+  pub quotient_made : IsNarrow n → IsShort d → IsOk r
+  quotient_made n_narrow d_short = ok_at (int n' /ℚ int d') r made (subst Fits (sym division_read) (division_fits n d h n_narrow d_short))
+
+  pub fraction_made : IsShort n → IsShort d → IsOk r
+  fraction_made n_short d_short = quotient_made (short_narrow n n_short) d_short
+
+  pub fraction_value : (x : ℚ) → r ≡ Ok x → x ≡ quotient_of n d
+  fraction_value x e = (OkIff-at_ok r (Fits (int n' /ℚ int d')) (int n' /ℚ int d') x made e).1 ∙ division_read ∙ division_is n d h
+
+pub whole_over_one : (n : ℤ) → int n ≡ quotient_of n (pos 1)
+whole_over_one n = int_is n
+
+-- ---- the list
+
+num_int : (n : ℤ) → (int n).num ≡ n
+unfolding int
+num_int n = refl
+
+pub zero_over : (d : ℤ) → pos 0 <ℤ d → quotient_of (pos 0) d ≡ int (pos 0)
+zero_over d h = same_quotient (pos 0) d (pos 0) (pos 1) h (omega (arith, ints)) (ring_ℤ (d ∷ []) (search reads_ℤ) (search reads_ℤ) tt) ∙ sym (int_is (pos 0))
+
+pub over_at : (d : ℤ) (ns : List ℤ) → pos 0 <ℤ d → (at : ℕ) → get_or (over d ns) at (int (pos 0)) ≡ quotient_of (whole_number_at ns at) d
+over_at d ns h at = subst (λ z. get_or (over d ns) at z ≡ quotient_of (whole_number_at ns at) d) (zero_over d h) (get_or-map (λ n. quotient_of n d) ns at (pos 0))
+
+pub not_zero_number : (d : ℤ) (ns : List ℤ) → pos 0 <ℤ d → (at : ℕ) → get_or (over d ns) at (int (pos 0)) ≢ int (pos 0) → whole_number_at ns at ≢ pos 0
+not_zero_number d ns h at some e = some (over_at d ns h at ∙ ap (λ n. quotient_of n d) e ∙ zero_over d h)
+
+none : (a b : ℤ) → pos 0 *ℤ a ≡ pos 0 *ℤ b
+none a b = ring_ℤ (a ∷ b ∷ []) (search reads_ℤ) (search reads_ℤ) tt
+
+pub zero_number : (n d : ℤ) → pos 0 <ℤ d → (n ≡ pos 0) ↔ (quotient_of n d ≡ int (pos 0))
+zero_number n d h = ((λ e. ap (λ m. quotient_of m d) e ∙ zero_over d h), back)
+  where
+    back : quotient_of n d ≡ int (pos 0) → n ≡ pos 0
+    back e =
+        let top : (quotient_of n d).num ≡ pos 0 = ap (λ x. x.num) e ∙ num_int (pos 0) in
+        cancel_ℤ n (pos 0) (den (quotient_of n d)) (omega arith)
+        (sym (reduced-cross n (unsigned_abs d - 1)) ∙ ap (λ t. t *ℤ pos (suc (unsigned_abs d - 1))) top ∙ none (pos (suc (unsigned_abs d - 1))) (pos (den (quotient_of n d))))
+
+-- the list that fractions are, and that numbers are
+pub listed_fractions : (b : Bool) (d : ℤ) (ns : List ℤ) (fs : List ℚ) → b ≡ false → listed_costs b d ns fs ≡ fs
+listed_fractions b d ns fs e = ap (λ x. listed_costs x d ns fs) e
+
+pub listed_numbers : (b : Bool) (d : ℤ) (ns : List ℤ) (fs : List ℚ) → b ≡ true → listed_costs b d ns fs ≡ over d ns
+listed_numbers b d ns fs e = ap (λ x. listed_costs x d ns fs) e
+
+-- ---- entries that are kept as whole numbers, by what a contract sees of them
+
+abbrev pub viewed : Bool → ℤ → List ℤ → List ℚ → Listed
+viewed is_whole d ns fs = record { is_whole = is_whole; list = listed_costs is_whole d ns fs; denominator = d; numbers = ns }
+
+module _ (is_whole : Bool) (d : ℤ) (ns : List ℤ) (fs : List ℚ) (v : Listed) (view_is : viewed is_whole d ns fs ≡ v) (whole : v.is_whole ≡ true) where
+  pub whole_form : is_whole ≡ true
+  whole_form = ap (λ w. w.is_whole) view_is ∙ whole
+
+  pub whole_list : v.list ≡ over d ns
+  whole_list = sym (ap (λ w. w.list) view_is) ∙ listed_numbers is_whole d ns fs whole_form
+
+  pub whole_numbers : v.numbers ≡ ns
+  whole_numbers = sym (ap (λ w. w.numbers) view_is)
+
+  pub whole_size : length ns ≡ length v.list
+  whole_size = sym (length-map ns (λ n. quotient_of n d)) ∙ sym (ap length whole_list)
+
+  pub whole_listed : AreOver d ns → IsListed v
+  whole_listed are = record {
+    are_over = subst (λ w. AreOver w.denominator w.numbers) view_is are;
+    list = subst (λ w. w.list ≡ over w.denominator w.numbers) view_is (listed_numbers is_whole d ns fs whole_form);
+  }
+
+pub set_over : (d : ℤ) (ns : List ℤ) (at : ℕ) (n : ℤ) → AreOver d ns → IsShort n → AreOver d (set ns at n)
+set_over d ns at n are short = record { positive = are.positive; denominator_short = are.denominator_short; short = short_more ns at n short are.short }
+
+-- ---- after an exchange
+
+module _ (m n r s : ℕ) (r_within : r < m) (s_within : s < n) (d : ℤ) (ns : List ℤ) (unwritten : List Bool) (next : List ℤ) (are : AreOver d ns) (size : length ns ≡ m * n) (kept : length next ≡ m * n)
+    (some : whole_number_at ns (r * n + s) ≢ pos 0) (next_short : AreShort next) (written : AreWritten n r s d ns unwritten next (m * n)) where
+  abbrev p : ℤ
+  p = whole_number_at ns (r * n + s)
+
+  pub over_after : AreOver (magnitude p) next
+  over_after = record {
+    positive = magnitude_positive p some;
+    denominator_short = are.short (r * n + s) (subst (λ k. r * n + s < k) (sym size) (flat_within n m r s r_within s_within));
+    short = next_short;
+  }
+
+  abbrev old_entry : ℕ → ℕ → ℚ
+  old_entry = dense_entry n (over d ns)
+
+  abbrev new_entry : ℕ → ℕ → ℚ
+  new_entry = dense_entry n (over (magnitude p) next)
+
+  read : (at : ℕ) → quotient_of (whole_number_at ns at) d ≡ get_or (over d ns) at (int (pos 0))
+  read at = sym (over_at d ns are.positive at)
+
+  whole_at : (i k : ℕ) → i < m → k < n → is_unwritten unwritten i ≡ false
+      → IsWholeStep (i == r) (k == s) d p (whole_number_at ns (r * n + k)) (whole_number_at ns (i * n + s)) (whole_number_at ns (i * n + k)) (whole_number_at next (i * n + k))
+  whole_at i k i_within k_within flag =
+      let row_is : (i * n + k) / n ≡ i = div-mul-add i n k k_within in
+      let place_is : (i * n + k) % n ≡ k = mod-mul-add i n k k_within in
+      subst (λ X. X) (λ j. IsWholeStep (row_is j == r) (place_is j == s) d p (whole_number_at ns (r * n + place_is j)) (whole_number_at ns (row_is j * n + s)) (whole_number_at ns (i * n + k)) (whole_number_at next (i * n + k)))
+      (written (i * n + k) (flat_within n m i k i_within k_within) (ap (is_unwritten unwritten) row_is ∙ flag))
+
+  part_entry : (i k : ℕ) → i < m → k < n → is_unwritten unwritten i ≡ false → new_entry i k ≡ pivoted_entry old_entry r s i k
+  part_entry i k i_within k_within flag =
+      over_at (magnitude p) next (magnitude_positive p some) (i * n + k) ∙ (whole_at i k i_within k_within flag).value
+      ∙ (λ j. step_value (i == r) (k == s) (read (r * n + s) j) (read (r * n + k) j) (read (i * n + s) j) (read (i * n + k) j))
+
+  part_fits : (i k : ℕ) → i < m → k < n → is_unwritten unwritten i ≡ false → EntryFits old_entry r s i k
+  part_fits i k i_within k_within flag =
+      subst (λ X. X) (λ j. PivotStepFits (i == r) (k == s) (read (r * n + s) j) (read (r * n + k) j) (read (i * n + s) j) (read (i * n + k) j)) (whole_at i k i_within k_within flag).fits
+
+  pub parts_exchanged : (limit : ℤ) (old new : Listed) → old.list ≡ over d ns → old.numbers ≡ ns → new.is_whole ≡ true → new.list ≡ over (magnitude p) next → new.denominator ≡ magnitude p → new.numbers ≡ next
+      → AreWithin m n unwritten limit next → ArePartsExchanged m n r s unwritten limit old new
+  parts_exchanged limit old new old_list old_numbers form new_list new_denominator new_numbers within = record {
+    whole = form;
+    listed = record {
+      are_over = subst₂ AreOver (sym new_denominator) (sym new_numbers) over_after;
+      list = new_list ∙ (λ j. over (sym new_denominator j) (sym new_numbers j));
+    };
+    entry = λ i k i_within k_within flag. subst₂ (λ xs ys. dense_entry n ys i k ≡ pivoted_entry (dense_entry n xs) r s i k) (sym old_list) (sym new_list) (part_entry i k i_within k_within flag);
+    fits = λ i k i_within k_within flag. subst (λ xs. EntryFits (dense_entry n xs) r s i k) (sym old_list) (part_fits i k i_within k_within flag);
+    within = subst (AreWithin m n unwritten limit) (sym new_numbers) within;
+    denominator = new_denominator ∙ ap (λ xs. magnitude (whole_number_at xs (r * n + s))) (sym old_numbers);
+    size = ap length new_list ∙ length-map next (λ x. quotient_of x (magnitude p)) ∙ kept ∙ sym size ∙ sym (length-map ns (λ x. quotient_of x d)) ∙ sym (ap length old_list);
+    numbers_size = ap length new_numbers ∙ kept ∙ sym size ∙ sym (ap length old_numbers);
+  }
+
+-- where no row is left out all entries are exchanged
+pub all_exchanged : (m n r s : ℕ) (unwritten : List Bool) (limit : ℤ) (old new : Listed) → ((i : ℕ) → is_unwritten unwritten i ≡ false) → length old.list ≡ m * n
+    → ArePartsExchanged m n r s unwritten limit old new → IsExchangedList n r s old.list new.list
+all_exchanged m n r s unwritten limit old new none size parts = record {
+  written = λ at q. flat_written n m r s old.list at (subst (λ k. at < k) size q) new.list (λ i k i_within k_within. parts.entry i k i_within k_within (none i));
+  fits = λ at q. flat_fits n m r s old.list at (subst (λ k. at < k) size q) (λ i k i_within k_within. parts.fits i k i_within k_within (none i));
+  size = parts.size;
+}
+
+-- `source` is what the entries were read from
+pub fractions_exchanged : (m n r s : ℕ) (source next old : List ℚ) → source ≡ old → length old ≡ m * n → length next ≡ length old
+    → ((at : ℕ) → at < m * n → get_or next at (int (pos 0)) ≡ flat_value n r s source at) → ((at : ℕ) → at < m * n → FlatFits n r s source at) → IsExchangedList n r s old next
+fractions_exchanged m n r s source next old is size kept written fits = record {
+  written = λ at q. subst (λ xs. get_or next at (int (pos 0)) ≡ flat_value n r s xs at) is (written at (subst (λ k. at < k) size q));
+  fits = λ at q. subst (λ xs. FlatFits n r s xs at) is (fits at (subst (λ k. at < k) size q));
+  size = kept;
+}
+
+pub fractions_written : (d : ℤ) (ns : List ℤ) (fs : List ℚ) → pos 0 <ℤ d → length fs ≡ length ns → ((at : ℕ) → at < length ns → get_or fs at (int (pos 0)) ≡ quotient_of (whole_number_at ns at) d) → fs ≡ over d ns
+fractions_written d ns fs h size written =
+    ext_get_or (int (pos 0)) fs (over d ns) (size ∙ sym (length-map ns (λ x. quotient_of x d))) (λ i q. written i (subst (λ k. i < k) size q) ∙ sym (over_at d ns h i))
+
+pub numerators_over : (ns : List ℤ) (fs : List ℚ) → length ns ≡ length fs → AreShortWhole fs → ((at : ℕ) → at < length fs → whole_number_at ns at ≡ (get_or fs at (int (pos 0))).num) → over (pos 1) ns ≡ fs
+numerators_over ns fs size whole items =
+    sym (fractions_written (pos 1) ns fs (omega (arith, ints)) (sym size) (λ at q.
+    let q' = subst (λ k. at < k) size q in
+    int-num (get_or fs at (int (pos 0))) (whole at q').whole ∙ int_is (get_or fs at (int (pos 0))).num ∙ ap (λ n. quotient_of n (pos 1)) (sym (items at q'))))

@@ -1,0 +1,27 @@
+use Rattle.std.proofs.Common.{ℕ, ◌≡◌, ◌<◌, ◌∙◌, sym, ap, subst, arith, get_or, length, false, pos, to_z, of_z, w64}
+use Rattle.std.proofs.lemmas.Int.{ints}
+use Rattle.std.proofs.lemmas.List.{get_or_default}
+use Rattle.std.proofs.lemmas.Option.{IfSome_then}
+use Rattle.rational.specs.Rational.{int}
+use Rattle.frac128.specs.LowestTerms.{quotient_of}
+use Rattle.table_entries.specs.FlatSteps.{dense_entry}
+use Rattle.table_entries.specs.WholeSteps.{is_unwritten}
+use Rattle.table_entries.specs.Parts.{Parts, filled}
+use Rattle.table_entries.proofs.FilledLemmas.{written_at}
+use Rattle.table_entries.proofs.parts.PartEntries.number_over.Goals as goal
+
+pub returns-clause-value : goal.returns-clause-value
+returns-clause-value c =
+    let self = c.self.inside in
+    let v : Parts = record { rows = self.rows; columns = self.columns; entries = self.entries; coefficients = self.coefficients.items; unwritten = self.unwritten.items; is_partial = self.is_partial; limit = self.limit } in
+    let row = c.args.row in
+    let place = c.args.place in
+    let slots = λ (j : ℕ). get_or c.args.slots.now j 0 in
+    let row_within : row < self.rows = subst (λ w. row < w.rows) (sym c.self.view_is) c.requires.row in
+    let place_within : place < self.columns = subst (λ w. place < w.columns) (sym c.self.view_is) c.requires.place in
+    let flag_within : row < length self.unwritten.items = (let e = c.self.invariant.flags in omega (arith, row_within, e)) in
+    let flag : is_unwritten self.unwritten.items row ≡ false = sym (get_or_default self.unwritten.items row c.index.result.now false flag_within) ∙ sym c.index.ensures ∙ c.if-index.false in
+    let entry_is : get_or self.entries.list c.flat_index.result (int (pos 0)) ≡ dense_entry c.args.self.now.columns (filled c.args.self.now slots) row place =
+    ap (λ x. get_or self.entries.list x (int (pos 0))) c.flat_index.ensures.value ∙ sym (written_at v slots row place row_within place_within flag) ∙ ap (λ w. dense_entry w.columns (filled w slots) row place) c.self.view_is in
+    let d_is : to_z w64 (of_z w64 c.args.denominator) ≡ c.args.denominator = let range = c.ranges.denominator in omega (arith, ints, range) in
+    IfSome_then c.number_over.result c.number_over.ensures.value (λ n h. sym entry_is ∙ h ∙ ap (quotient_of n) d_is)

@@ -1,0 +1,33 @@
+use Rattle.std.proofs.Common.{◌≡◌, ◌*◌, ◌+◌, ◌∙◌, sym, ap, subst, get_or, pos}
+use Rattle.rational.specs.Rational.{int}
+use Rattle.bases.specs.Relaxation.{pivoted_entry}
+use Rattle.bases.specs.Steps.{EntryFits}
+use Rattle.table_entries.specs.FlatSteps.{dense_entry}
+use Rattle.table_entries.proofs.RowLemmas.{all_rows, leaving_kept, rows_written}
+use Rattle.table_entries.proofs.rows.write_by_rows.Goals as goal
+use Rattle.table_entries.proofs.rows.write_by_rows.Goals.{then-at_row-row+in-Ok-write_row, else-at_row-row}
+
+pub loop-at_row-preserved : goal.loop-at_row-preserved
+loop-at_row-preserved c =
+    let n = c.args.columns in
+    let t = dense_entry n c.args.entries.now in
+    let i = c.loop-at_row.at_row in
+    elim c.if-at_row-row.branch [
+      | then-at_row-row+in-Ok-write_row w ↦ record {
+        leaving = λ k q. ap (λ xs. get_or xs (c.args.row * n + k) (int (pos 0))) w.next-is
+            ∙ leaving_kept n c.args.row c.args.place c.args.entries.now c.loop-at_row.next w.write_row.new.next i w.write_row.ensures.others w.if-at_row-row.true c.loop-at_row.invariant.leaving k q;
+        leaving_fits = c.loop-at_row.invariant.leaving_fits;
+        written = λ j k less q. ap (λ xs. get_or xs (j * n + k) (int (pos 0))) w.next-is
+            ∙ rows_written n c.args.row c.args.place c.args.entries.now c.loop-at_row.next w.write_row.new.next i w.write_row.ensures.others c.loop-at_row.invariant.written w.in-Ok-write_row.ensures.written j k less q;
+        fits = all_rows n c.args.row c.args.place c.args.entries.now c.loop-at_row.next c.loop-at_row.next i {P = EntryFits t c.args.row c.args.place} c.loop-at_row.invariant.fits w.in-Ok-write_row.ensures.fits;
+      }
+      | else-at_row-row w ↦ record {
+        leaving = λ k q. ap (λ xs. get_or xs (c.args.row * n + k) (int (pos 0))) w.next-is ∙ c.loop-at_row.invariant.leaving k q;
+        leaving_fits = c.loop-at_row.invariant.leaving_fits;
+        written = λ j k less q. ap (λ xs. get_or xs (j * n + k) (int (pos 0))) w.next-is
+            ∙ all_rows n c.args.row c.args.place c.args.entries.now c.loop-at_row.next c.loop-at_row.next i {P = λ j k. get_or c.loop-at_row.next (j * n + k) (int (pos 0)) ≡ pivoted_entry t c.args.row c.args.place j k} c.loop-at_row.invariant.written
+            (λ k q. subst (λ r. get_or c.loop-at_row.next (r * n + k) (int (pos 0)) ≡ pivoted_entry t c.args.row c.args.place r k) (sym w.if-at_row-row.false) (c.loop-at_row.invariant.leaving k q)) j k less q;
+        fits = all_rows n c.args.row c.args.place c.args.entries.now c.loop-at_row.next c.loop-at_row.next i {P = EntryFits t c.args.row c.args.place} c.loop-at_row.invariant.fits
+            (λ k q. subst (λ r. EntryFits t c.args.row c.args.place r k) (sym w.if-at_row-row.false) (c.loop-at_row.invariant.leaving_fits k q));
+      }
+    ]

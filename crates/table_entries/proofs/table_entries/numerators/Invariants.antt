@@ -1,0 +1,10 @@
+use Rattle.std.proofs.Common.{◌≡◌, ◌<◌, ℕ, length, get_or, pos}
+use Rattle.rational.specs.Rational.{int}
+use Rattle.table_entries.specs.WholeSteps.{whole_number_at}
+use Rattle.table_entries.proofs.table_entries.numerators.Given as goal
+
+abbrev pub invariant-loop-at : goal.invariant-loop-at
+invariant-loop-at l = record {
+  size : length l.numbers.items ≡ l.at;
+  items : (at : ℕ) → at < l.at → whole_number_at l.numbers.items at ≡ (get_or l.fractions at (int (pos 0))).num;
+}

@@ -1,0 +1,52 @@
+-- Entries that are whole numbers over one common denominator, and those after an exchange, whose denominator is the magnitude of the pivot's number.
+use Rattle.std.specs.Prelude.{◌≡◌, ℕ, ◌+◌, ◌*◌, ◌/◌, ◌%◌, ◌^◌, ◌<◌, ◌==◌, Bool, false, ℤ, pos, negsuc, neg_ℤ, ◌<ℤ◌, unsigned_abs, List, length, get_or}
+use Rattle.rational.specs.Rational.{ℚ}
+use Rattle.frac128.specs.LowestTerms.{quotient_of}
+use Rattle.bases.specs.Steps.{PivotStepFits, step_value}
+
+-- a whole number below 2 ^ 62
+abbrev pub IsShort : ℤ → Type 0
+IsShort n = unsigned_abs n < 2 ^ 62
+
+-- x is a short number over the denominator
+abbrev pub IsShortOver : ℤ → ℚ → Type 0
+IsShortOver denominator x = (n : ℤ) × (IsShort n × (x ≡ quotient_of n denominator))
+
+abbrev pub magnitude : ℤ → ℤ
+magnitude p = pos (unsigned_abs p)
+
+-- n with the sign of p
+abbrev pub by_sign : ℤ → ℤ → ℤ
+by_sign (pos p) n = n
+by_sign (negsuc p) n = neg_ℤ n
+
+-- n is the number of the entry after the exchange, each step to which has room
+pub record IsWholeStep (is_row is_place : Bool) (denominator pivot in_row in_place entry n : ℤ) : Type 0 where
+  pub short : IsShort n
+  pub value : quotient_of n (magnitude pivot) ≡ step_value is_row is_place (quotient_of pivot denominator) (quotient_of in_row denominator) (quotient_of in_place denominator) (quotient_of entry denominator)
+  pub fits : PivotStepFits is_row is_place (quotient_of pivot denominator) (quotient_of in_row denominator) (quotient_of in_place denominator) (quotient_of entry denominator)
+
+-- ---- numbers in a list, row by row
+
+abbrev pub whole_number_at : List ℤ → ℕ → ℤ
+whole_number_at numbers at = get_or numbers at (pos 0)
+
+-- n is the number after the exchange of row r and place s where `at` leads to
+abbrev pub WholeAt : ℕ → ℕ → ℕ → ℤ → List ℤ → ℤ → ℕ → Type 0
+WholeAt columns r s denominator numbers n at =
+    IsWholeStep (at / columns == r) (at % columns == s) denominator (whole_number_at numbers (r * columns + s)) (whole_number_at numbers (r * columns + at % columns)) (whole_number_at numbers (at / columns * columns + s)) (whole_number_at numbers at) n
+
+-- whether a row is not written, by a list of flags; behind the list rows are written
+abbrev pub is_unwritten : List Bool → ℕ → Bool
+is_unwritten unwritten i = get_or unwritten i false
+
+-- the first numbers of `next`, as many as `end`, where their rows are written
+abbrev pub AreWritten : ℕ → ℕ → ℕ → ℤ → List ℤ → List Bool → List ℤ → ℕ → Type 0
+AreWritten columns r s denominator numbers unwritten next end = (at : ℕ) → at < end → is_unwritten unwritten (at / columns) ≡ false → WholeAt columns r s denominator numbers (whole_number_at next at) at
+
+abbrev pub AreShort : List ℤ → Type 0
+AreShort numbers = (at : ℕ) → at < length numbers → IsShort (whole_number_at numbers at)
+
+-- the numbers of the rows that are written are below the limit
+abbrev pub AreWithin : ℕ → ℕ → List Bool → ℤ → List ℤ → Type 0
+AreWithin rows columns unwritten limit numbers = (i k : ℕ) → i < rows → k < columns → is_unwritten unwritten i ≡ false → magnitude (whole_number_at numbers (i * columns + k)) <ℤ limit

@@ -1,0 +1,324 @@
+// The entries of a table, as whole numbers over one denominator as long as those are short, and else as fractions.
+ghost use Rattle.std.specs.Prelude.{◌≡◌, ◌≢◌, ◌↔◌, ◌<◌, ◌+◌, ◌*◌, ◌^◌, ◌<ℤ◌, ℕ, true, false, length, get_or, set, pos, IsTrue, IfSome, OnOk, OnErr, IfErr, IfOk};
+ghost use Rattle.rational.specs.Rational.{int};
+ghost use Rattle.frac128.specs.LowestTerms.{quotient_of};
+ghost use Rattle.table_entries.specs.FlatSteps.{FlatFits};
+ghost use Rattle.table_entries.specs.WholeSteps.{IsShort, whole_number_at};
+ghost use Rattle.table_entries.specs.Listed.{Listed, listed_costs, over, AreOver, IsListed, IsStored, IsShortWhole, AreShortWhole, IsExchangedList, ArePartsExchanged};
+
+use crate::entries::{flat_index, write_exchanged};
+use crate::wholes::{LIMIT, are_within, write_wholes};
+use frac128::Frac;
+use std::alloc::{AllocError, Global};
+
+/// The entries of a table, row by row. While all are short whole numbers over one denominator, they are kept so: an
+/// exchange then divides without a greatest common divisor, and no step of it is without room. Where that ends, the
+/// entries are fractions from then on. Each list has a second one that takes the entries after an exchange, and the
+/// fractions' lists are there from the start, so an exchange takes no memory.
+#[derive(Debug, Drop)]
+pub struct TableEntries {
+    is_whole: bool,
+    denominator: i64,
+    numbers: Vec<i64>,
+    spare_numbers: Vec<i64>,
+    fractions: Vec<Frac>,
+    spare: Vec<Frac>,
+}
+
+impl std::marker::Model for TableEntries {
+    ghost Value = { Listed };
+
+    ghost view = { λ t. record { is_whole = t.is_whole; list = listed_costs t.is_whole t.denominator t.numbers.items t.fractions.items; denominator = t.denominator; numbers = t.numbers.items } };
+
+    ghost invariant = { λ t. IsStored t.is_whole t.denominator t.numbers.items t.spare_numbers.items t.fractions.items t.spare.items };
+}
+
+/// Whether the fraction is a short whole number.
+pub fn is_short_whole(fraction: &Frac) -> bool
+    ensures { IsTrue result → IsShortWhole fraction.now }
+{
+    let numerator = fraction.numerator();
+    fraction.is_whole() && i128::from(-LIMIT) < numerator && numerator < i128::from(LIMIT)
+}
+
+/// Whether all of the fractions are short whole numbers.
+fn are_short_whole(fractions: &[Frac]) -> bool
+    ensures { IsTrue result → AreShortWhole fractions.now }
+{
+    for at in 0..fractions.len() {
+        if !is_short_whole(&fractions[at]) {
+            return false;
+        }
+    }
+    true
+}
+
+/// The numbers that the fractions are.
+fn numerators(alloc: Global, fractions: &[Frac]) -> Result<Vec<i64>, AllocError>
+    requires { AreShortWhole fractions.now }
+    ensures length { IfOk result (λ v. length v.items ≡ length fractions.now) }
+    ensures items { IfOk result (λ v. (at : ℕ) → at < length fractions.now → whole_number_at v.items at ≡ (get_or fractions.now at (int (pos 0))).num) }
+{
+    let mut numbers = Vec::new(alloc);
+    for at in 0..fractions.len() {
+        numbers.push(fractions[at].numerator() as i64)?;
+    }
+    Ok(numbers)
+}
+
+/// Whether the number is 0.
+#[inline]
+pub fn is_nothing(number: i64) -> bool
+    ensures { IsTrue result ↔ number ≡ pos 0 }
+{
+    number == 0
+}
+
+/// The number over the denominator.
+pub fn fraction(number: i64, denominator: i64) -> Frac
+    requires number { IsShort number }
+    requires denominator { IsShort denominator }
+    requires positive { pos 0 <ℤ denominator }
+    ensures { result ≡ quotient_of number denominator }
+{
+    if number == 0 {
+        Frac::whole(0)
+    } else if denominator == 1 {
+        Frac::whole(number)
+    } else {
+        Frac::new(i128::from(number), i128::from(denominator)).unwrap()
+    }
+}
+
+/// Writes the numbers over the denominator into `next`, as fractions.
+fn write_fractions(denominator: i64, numbers: &[i64], next: &mut [Frac])
+    requires over { AreOver denominator numbers.now }
+    requires room { length next.old ≡ length numbers.now }
+    ensures { (at : ℕ) → at < length numbers.now → get_or next.new at (int (pos 0)) ≡ quotient_of (whole_number_at numbers.now at) denominator }
+{
+    for at in 0..numbers.len() {
+        next[at] = fraction(numbers[at], denominator);
+    }
+}
+
+impl TableEntries {
+    /// The entries that these fractions are.
+    pub fn new(alloc: Global, fractions: Vec<Frac>) -> Result<TableEntries, AllocError>
+        ensures list { IfOk result (λ t. t.list ≡ fractions.items) }
+        ensures denominator { IfOk result (λ t. t.denominator ≡ pos 1) }
+    {
+        let spare = Vec::from_slice(alloc, &fractions)?;
+        let is_whole = are_short_whole(&fractions);
+        let numbers = if is_whole {
+            numerators(alloc, &fractions)?
+        } else {
+            Vec::new(alloc)
+        };
+        let spare_numbers = Vec::from_slice(alloc, &numbers)?;
+        Ok(TableEntries {
+            is_whole,
+            denominator: 1,
+            numbers,
+            spare_numbers,
+            fractions,
+            spare,
+        })
+    }
+
+    /// The entry at an index of the list.
+    pub fn at(&self, at: usize) -> Frac
+        requires { at < length self.now.list }
+        ensures { result ≡ get_or self.now.list at (int (pos 0)) }
+    {
+        if self.is_whole {
+            fraction(self.numbers[at], self.denominator)
+        } else {
+            self.fractions[at]
+        }
+    }
+
+    /// Whether the entry at an index of the list is 0.
+    pub fn is_zero(&self, at: usize) -> bool
+        requires { at < length self.now.list }
+        ensures { IsTrue result ↔ get_or self.now.list at (int (pos 0)) ≡ int (pos 0) }
+    {
+        if self.is_whole {
+            is_nothing(self.numbers[at])
+        } else {
+            self.fractions[at].is_zero()
+        }
+    }
+
+    /// Whether the entries are kept as whole numbers over one denominator.
+    pub fn is_whole(&self) -> bool
+        ensures value { result ≡ self.now.is_whole }
+        ensures lawful { IsTrue result → IsListed self.now }
+    {
+        self.is_whole
+    }
+
+    /// The common denominator of the entries where they are kept as whole numbers, and else 1.
+    pub fn denominator(&self) -> i64
+        ensures positive { pos 0 <ℤ result }
+        ensures short { IsShort result }
+        ensures value { self.now.is_whole ≡ true → result ≡ self.now.denominator }
+    {
+        if self.is_whole { self.denominator } else { 1 }
+    }
+
+    /// The entry at an index of the list, as a number over this denominator, if it is kept so.
+    pub fn number_over(&self, at: usize, denominator: i64) -> Option<i64>
+        requires { at < length self.now.list }
+        ensures short { IfSome result (λ n. IsShort n) }
+        ensures value { IfSome result (λ n. get_or self.now.list at (int (pos 0)) ≡ quotient_of n denominator) }
+    {
+        if self.is_whole && self.denominator == denominator {
+            Some(self.numbers[at])
+        } else {
+            None
+        }
+    }
+
+    /// The number at an index of the list.
+    pub fn number(&self, at: usize) -> i64
+        requires whole { self.now.is_whole ≡ true }
+        requires within { at < length self.now.list }
+        ensures value { result ≡ whole_number_at self.now.numbers at }
+        ensures short { IsShort result }
+    {
+        self.numbers[at]
+    }
+
+    /// Writes a number at an index of the list.
+    pub fn write(&mut self, at: usize, number: i64)
+        requires whole { self.old.is_whole ≡ true }
+        requires short { IsShort number }
+        requires within { at < length self.old.list }
+        ensures numbers { self.new.numbers ≡ set self.old.numbers at number }
+        ensures denominator { self.new.denominator ≡ self.old.denominator }
+        ensures form { self.new.is_whole ≡ true }
+        ensures size { length self.new.list ≡ length self.old.list }
+        ensures listed { IsListed self.new }
+    {
+        self.numbers[at] = number;
+    }
+
+    /// Exchanges the rows that are written over a common denominator. False where that can't be done, or where a number
+    /// after it is not below the limit; then nothing changes.
+    pub fn exchange_part(
+        &mut self,
+        rows: usize,
+        columns: usize,
+        row: usize,
+        place: usize,
+        unwritten: &[bool],
+        limit: i64,
+    ) -> bool
+        requires whole { self.old.is_whole ≡ true }
+        requires row { row < rows }
+        requires place { place < columns }
+        requires room { rows * columns < 2 ^ 64 }
+        requires size { length self.old.list ≡ rows * columns }
+        requires some { get_or self.old.list (row * columns + place) (int (pos 0)) ≢ int (pos 0) }
+        requires positive { pos 0 <ℤ limit }
+        ensures done { IsTrue result → ArePartsExchanged rows columns row place unwritten.now limit self.old self.new }
+        ensures kept { result ≡ false → self.new ≡ self.old }
+    {
+        let pivot = self.numbers[flat_index(rows, columns, row, place)];
+        if !write_wholes(
+            rows,
+            columns,
+            row,
+            place,
+            self.denominator,
+            &self.numbers,
+            unwritten,
+            &mut self.spare_numbers,
+        ) {
+            return false;
+        }
+        if !are_within(limit, rows, columns, unwritten, &self.spare_numbers) {
+            return false;
+        }
+        std::mem::swap(&mut self.numbers, &mut self.spare_numbers);
+        self.denominator = pivot.abs();
+        true
+    }
+
+    /// Exchanges over a common denominator. False where that can't be done; then nothing changes.
+    fn exchange_wholes(&mut self, rows: usize, columns: usize, row: usize, place: usize) -> bool
+        requires whole { self.old.is_whole ≡ true }
+        requires row { row < rows }
+        requires place { place < columns }
+        requires room { rows * columns < 2 ^ 64 }
+        requires size { length self.old.list ≡ rows * columns }
+        requires some { get_or self.old.list (row * columns + place) (int (pos 0)) ≢ int (pos 0) }
+        ensures done { IsTrue result → IsExchangedList columns row place self.old.list self.new.list }
+        ensures kept { result ≡ false → self.new ≡ self.old }
+    {
+        self.exchange_part(rows, columns, row, place, &[], LIMIT)
+    }
+
+    /// Goes over to fractions.
+    fn go_over(&mut self)
+        requires { self.old.is_whole ≡ true }
+        ensures list { self.new.list ≡ self.old.list }
+        ensures form { self.new.is_whole ≡ false }
+    {
+        write_fractions(self.denominator, &self.numbers, &mut self.fractions);
+        self.is_whole = false;
+    }
+
+    /// Exchanges fractions, or finds the first entry whose step has no room; then nothing changes.
+    fn exchange_fractions(
+        &mut self,
+        rows: usize,
+        columns: usize,
+        row: usize,
+        place: usize,
+    ) -> Result<(), usize>
+        requires form { self.old.is_whole ≡ false }
+        requires row { row < rows }
+        requires place { place < columns }
+        requires size { length self.old.list ≡ rows * columns }
+        requires some { get_or self.old.list (row * columns + place) (int (pos 0)) ≢ int (pos 0) }
+        ensures done { OnOk result (IsExchangedList columns row place self.old.list self.new.list) }
+        ensures kept { OnErr result (self.new ≡ self.old) }
+        ensures within { IfErr result (λ e. e < rows * columns) }
+        ensures earlier { IfErr result (λ e. (at : ℕ) → at < e → FlatFits columns row place self.old.list at) }
+        ensures wide { IfErr result (λ e. ¬ (FlatFits columns row place self.old.list e)) }
+    {
+        write_exchanged(rows, columns, row, place, &self.fractions, &mut self.spare)?;
+        std::mem::swap(&mut self.fractions, &mut self.spare);
+        Ok(())
+    }
+
+    /// Exchanges a row and a place of so many rows and columns, or finds the first entry whose step has no room; then no
+    /// entry changes.
+    pub fn exchange(
+        &mut self,
+        rows: usize,
+        columns: usize,
+        row: usize,
+        place: usize,
+    ) -> Result<(), usize>
+        requires row { row < rows }
+        requires place { place < columns }
+        requires room { rows * columns < 2 ^ 64 }
+        requires size { length self.old.list ≡ rows * columns }
+        requires some { get_or self.old.list (row * columns + place) (int (pos 0)) ≢ int (pos 0) }
+        ensures done { OnOk result (IsExchangedList columns row place self.old.list self.new.list) }
+        ensures kept { OnErr result (self.new.list ≡ self.old.list) }
+        ensures within { IfErr result (λ e. e < rows * columns) }
+        ensures earlier { IfErr result (λ e. (at : ℕ) → at < e → FlatFits columns row place self.old.list at) }
+        ensures wide { IfErr result (λ e. ¬ (FlatFits columns row place self.old.list e)) }
+    {
+        if self.is_whole {
+            if self.exchange_wholes(rows, columns, row, place) {
+                return Ok(());
+            }
+            self.go_over();
+        }
+        self.exchange_fractions(rows, columns, row, place)
+    }
+}

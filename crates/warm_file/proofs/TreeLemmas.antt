@@ -1,0 +1,54 @@
+-- The points and the nodes are read first, and make a search with the model and the cuts.
+use Rattle.std.specs.Prelude.{◌≡◌, Bool, true, false, if◌then◌else◌, List, codes, Result, Ok, Err}
+use Rattle.std.proofs.Common.{refl, sym, subst, length}
+use Rattle.rational.specs.Rational.{ℚ}
+use Rattle.lp_model.specs.Program.{Program}
+use Rattle.lp_model.specs.declared.types.Derivation.{Derivation}
+use Rattle.branch_tree.specs.declared.node.NodeData.{NodeData}
+use Rattle.search_data.specs.Trees.{is_one_tree}
+use Rattle.search_data.specs.declared.data.SearchData.{SearchData}
+use Rattle.serde_json.specs.Data.{Data}
+use Rattle.warm_values.specs.Faults.{Fault, fault, behind, at_key, SaysFault}
+use Rattle.warm_values.specs.Values.{member}
+use Rattle.warm_values.specs.declared.fault.WarmFault.{WarmFault}
+use Rattle.warm_values.specs.declared.rising.Counts.{Counts}
+use Rattle.warm_values.proofs.Saying.{says-first, says-next}
+use Rattle.warm_file.specs.Searches.{points_of, nodes_of, counts, whole_search, one_tree_of, tree_of}
+
+abbrev Parts : Type 0
+Parts = List (List ℚ) × List NodeData
+
+abbrev one_tree : List (List ℚ) → List NodeData → Result Parts Fault
+one_tree points nodes = if is_one_tree nodes then Ok (points, nodes) else at_key (codes "nodes") (fault 12)
+
+module _ (M : Program) (cuts : List Derivation) where
+  abbrev with_parts : Parts → Result SearchData Fault
+  with_parts p = Ok (record { model = M; cuts = cuts; points = p.0; nodes = p.1 })
+
+  by_test : (points : List (List ℚ)) (nodes : List NodeData) (b : Bool)
+      → (if b then with_parts (points, nodes) else at_key (codes "nodes") (fault 12)) ≡ behind {A = Parts} {B = SearchData} (if b then Ok (points, nodes) else at_key (codes "nodes") (fault 12)) with_parts
+  unfolding behind at_key
+  by_test points nodes true = refl
+  by_test points nodes false = refl
+
+  by_parts : (p : Result (List (List ℚ)) Fault) (n : Result (List NodeData) Fault)
+      → behind p (λ points. behind n (λ nodes. whole_search M cuts points nodes)) ≡ behind (behind p (λ points. behind n (λ nodes. one_tree points nodes))) with_parts
+  unfolding behind
+  by_parts (Err f) n = refl
+  by_parts (Ok points) (Err f) = refl
+  by_parts (Ok points) (Ok nodes) = by_test points nodes (is_one_tree nodes)
+
+  tree_is : (d : Data) → tree_of M cuts d ≡ behind (one_tree_of (counts M cuts) d) with_parts
+  unfolding tree_of one_tree_of
+  tree_is d = by_parts (member (codes "points") (points_of (length M.cols)) d) (member (codes "nodes") (nodes_of (counts M cuts)) d)
+
+  pub tree-told : (d : Data) (n : Counts) (p : Parts) → n ≡ counts M cuts → one_tree_of n d ≡ Ok p → SaysFault (tree_of M cuts d) (Ok (record { model = M; cuts = cuts; points = p.0; nodes = p.1 }))
+  tree-told d n p n_is said =
+      let r : Result SearchData WarmFault = Ok (record { model = M; cuts = cuts; points = p.0; nodes = p.1 }) in
+      subst (λ (s : Result SearchData Fault). SaysFault s r) (sym (tree_is d))
+      (says-next (one_tree_of (counts M cuts) d) with_parts p r (subst (λ k. one_tree_of k d ≡ Ok p) n_is said) refl)
+
+  pub tree-fault : (d : Data) (n : Counts) (e : WarmFault) → n ≡ counts M cuts → SaysFault (one_tree_of n d) (Err e) → SaysFault (tree_of M cuts d) (Err e)
+  tree-fault d n e n_is said =
+      subst (λ (s : Result SearchData Fault). SaysFault s (Err e)) (sym (tree_is d))
+      (says-first (one_tree_of (counts M cuts) d) with_parts e (subst (λ k. SaysFault (one_tree_of k d) (Err e)) n_is said))
