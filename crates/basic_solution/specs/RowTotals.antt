@@ -1,5 +1,5 @@
 -- The value of a basic variable, and the reduced cost of a place, times the denominator of the table.
-use Rattle.std.specs.Prelude.{◌≡◌, ℕ, ◌<◌, ◌≤◌, ◌^◌, ℤ, unsigned_abs, List, get_or, pos}
+use Rattle.std.specs.Prelude.{◌≡◌, ℕ, ◌<◌, ◌≤◌, ◌^◌, ℤ, unsigned_abs, List, length, get_or, pos}
 use Rattle.rational.specs.Rational.{ℚ, int}
 use Rattle.frac128.specs.LowestTerms.{quotient_of}
 use Rattle.bases.specs.Relaxation.{reduced_cost}
@@ -11,6 +11,10 @@ use Rattle.basic_solution.specs.Numbers.{ValueFits, CostsFit}
 -- a whole number so small that the products of 2 ^ 32 of them with short numbers leave room for their total
 abbrev pub IsSmallNumber : ℤ → Type 0
 IsSmallNumber n = unsigned_abs n < 2 ^ 31
+
+-- each number of the list is a small whole number
+abbrev pub AreSmallNumbers : List ℚ → Type 0
+AreSmallNumbers xs = (at : ℕ) → at < length xs → (n : ℤ) × (IsSmallNumber n × (get_or xs at (int (pos 0)) ≡ int n))
 
 -- the product of the factor a and the number x is that of a short and a small number, over the denominator
 abbrev pub HasSmallTerm : ℤ → ℚ → ℚ → Type 0

@@ -1,5 +1,6 @@
 // Reduced costs.
 ghost use Rattle.std.specs.Prelude.{◌≡◌, ◌<◌, ◌<ℤ◌, pos, IfSome};
+ghost use Rattle.rational.specs.Rational.{int};
 ghost use Rattle.bases.specs.Relaxation.{reduced_cost};
 ghost use Rattle.bases.specs.Steps.{at_basic};
 ghost use Rattle.table_entries.specs.WholeSteps.{IsShort};
@@ -8,7 +9,7 @@ ghost use Rattle.basic_solution.specs.Held.{relaxation, table, variables};
 ghost use Rattle.basic_solution.specs.Numbers.{CostsFit, IsReducedCostAnswer};
 ghost use Rattle.basic_solution.specs.RowTotals.{IsSmallNumber, IsCostTotal};
 
-use crate::row_totals::{small_number, with_product};
+use crate::row_totals::with_product;
 use crate::sided::SidedBasis;
 use checked_sum::{Terms, checked_sum};
 use frac128::Frac;
@@ -53,6 +54,16 @@ impl SidedBasis<'_> {
         self.cost.of(variable)
     }
 
+    /// The number that the cost of a variable is, where all costs are small whole numbers.
+    #[inline]
+    fn small_cost(&self, variable: usize) -> Option<i64>
+        requires { variable < variables self.now }
+        ensures small { IfSome result (λ n. IsSmallNumber n) }
+        ensures value { IfSome result (λ n. (relaxation self.now).cost variable ≡ int n) }
+    {
+        self.cost.small_of(variable)
+    }
+
     /// The entry of a basic variable at a place, 0 for another one.
     pub(crate) fn saved_of(&self, place: usize, variable: usize) -> Frac
         requires place { place < self.now.tableau.columns }
@@ -74,15 +85,15 @@ impl SidedBasis<'_> {
         ensures term { IfSome result (λ t. IsWholeTerm denominator ((relaxation self.now).cost variable) (at_basic (relaxation self.now) (table self.now) (λ i. (table self.now).entry i place) variable) t.factor t.number) }
         ensures small { IfSome result (λ t. IsSmallNumber t.number) }
     {
-        let number = small_number(&self.cost_of(variable))?;
-        if number == 0 {
-            return Some(WholeTerm {
-                factor: 0,
-                number: 0,
-            });
-        }
         match self.tableau.find(variable) {
             Position::Row(row) => {
+                let number = self.small_cost(variable)?;
+                if number == 0 {
+                    return Some(WholeTerm {
+                        factor: 0,
+                        number: 0,
+                    });
+                }
                 let factor = self.tableau.number_over(row, place, denominator)?;
                 Some(WholeTerm { factor, number })
             }
@@ -101,7 +112,7 @@ impl SidedBasis<'_> {
         requires denominator { IsShort denominator }
         ensures { IfSome result (λ total. IsCostTotal self.now place denominator total) }
     {
-        let start = small_number(&self.cost_of(self.tableau.nonbasic(place)))?;
+        let start = self.small_cost(self.tableau.nonbasic(place))?;
         let _few = self.tableau.columns();
         let mut total = product(start, denominator);
         for variable in 0..self.cost.end() {

@@ -1,7 +1,7 @@
 // Costs by variable.
-ghost use Rattle.std.specs.Prelude.{◌≡◌, ◌<◌, ◌≤◌, ℕ, ℤ, length, get_or, pos, IsTrue};
+ghost use Rattle.std.specs.Prelude.{◌≡◌, ◌<◌, ◌≤◌, length, get_or, pos, IsTrue, IfSome};
 ghost use Rattle.rational.specs.Rational.{int};
-ghost use Rattle.basic_solution.specs.RowTotals.{IsSmallNumber, AreFreeFrom};
+ghost use Rattle.basic_solution.specs.RowTotals.{IsSmallNumber, AreSmallNumbers, AreFreeFrom};
 
 use crate::row_totals::small_number;
 use frac128::Frac;
@@ -24,7 +24,7 @@ fn priced(list: &[Frac]) -> usize
 
 /// Whether all of the fractions are small whole numbers.
 fn are_small(fractions: &[Frac]) -> bool
-    ensures { IsTrue result → (at : ℕ) → at < length fractions.now → (n : ℤ) × (IsSmallNumber n × (get_or fractions.now at (int (pos 0)) ≡ int n)) }
+    ensures { IsTrue result → AreSmallNumbers fractions.now }
 {
     for at in 0..fractions.len() {
         match small_number(&fractions[at]) {
@@ -36,23 +36,24 @@ fn are_small(fractions: &[Frac]) -> bool
 }
 
 /// The costs by variable, and how many variables there are up to the last one that has a cost: activities have none, so a sum
-/// over the costs need not go over rows and cuts.
+/// over the costs need not go over rows and cuts. Whether all are small whole numbers is told once, since each reduced cost asks.
 #[derive(Drop)]
 pub struct Costs {
     list: Vec<Frac>,
     end: usize,
+    is_small: bool,
 }
 
 impl std::marker::Model for Costs {
-    ghost use Rattle.std.specs.Prelude.{◌≤◌, List, length};
+    ghost use Rattle.std.specs.Prelude.{◌≤◌, List, length, IsTrue};
     ghost use Rattle.rational.specs.Rational.{ℚ};
-    ghost use Rattle.basic_solution.specs.RowTotals.{AreFreeFrom};
+    ghost use Rattle.basic_solution.specs.RowTotals.{AreFreeFrom, AreSmallNumbers};
 
     ghost Value = { List ℚ };
 
     ghost view = { λ c. c.list.items };
 
-    ghost invariant = { λ c. (c.end ≤ length c.list.items) × AreFreeFrom c.list.items c.end };
+    ghost invariant = { λ c. (c.end ≤ length c.list.items) × (AreFreeFrom c.list.items c.end × (IsTrue c.is_small → AreSmallNumbers c.list.items)) };
 }
 
 impl Costs {
@@ -61,7 +62,12 @@ impl Costs {
         ensures { result ≡ list.items }
     {
         let end = priced(&list);
-        Costs { list, end }
+        let is_small = are_small(&list);
+        Costs {
+            list,
+            end,
+            is_small,
+        }
     }
 
     /// The cost of a variable.
@@ -82,8 +88,22 @@ impl Costs {
 
     /// Whether all costs are small whole numbers.
     pub fn are_small(&self) -> bool
-        ensures { IsTrue result → (v : ℕ) → v < length self.now → (n : ℤ) × (IsSmallNumber n × (get_or self.now v (int (pos 0)) ≡ int n)) }
+        ensures { IsTrue result → AreSmallNumbers self.now }
     {
-        are_small(&self.list)
+        self.is_small
+    }
+
+    /// The number that the cost of a variable is, where all costs are small whole numbers.
+    #[inline]
+    pub fn small_of(&self, variable: usize) -> Option<i64>
+        requires { variable < length self.now }
+        ensures small { IfSome result (λ n. IsSmallNumber n) }
+        ensures value { IfSome result (λ n. get_or self.now variable (int (pos 0)) ≡ int n) }
+    {
+        if !self.is_small {
+            return None;
+        }
+        let cost = self.of(variable);
+        Some(cost.numerator() as i64)
     }
 }

@@ -8,10 +8,23 @@ ghost use Rattle.basic_solution.specs.RowTotals.{IsSmallNumber, IsRowTotal};
 
 use crate::sided::SidedBasis;
 use frac128::Frac;
-use table_entries::{WholeTerm, product, whole_number};
+use table_entries::{WholeTerm, product};
 
 /// Numbers below this leave room for a term of each variable, in any order: there are fewer than 2^32.
 const SMALL: i64 = 1 << 31;
+
+/// The number in 64 bits, if it is small.
+#[inline]
+fn small(number: i128) -> Option<i64>
+    ensures small { IfSome result (λ n. IsSmallNumber n) }
+    ensures value { IfSome result (λ n. n ≡ number) }
+{
+    if i128::from(-SMALL) < number && number < i128::from(SMALL) {
+        Some(number as i64)
+    } else {
+        None
+    }
+}
 
 /// The number that a fraction is, if it is whole and small.
 #[inline]
@@ -19,9 +32,9 @@ pub fn small_number(fraction: &Frac) -> Option<i64>
     ensures small { IfSome result (λ n. IsSmallNumber n) }
     ensures value { IfSome result (λ n. fraction.now ≡ int n) }
 {
-    let number = whole_number(fraction)?;
-    if -SMALL < number && number < SMALL {
-        Some(number)
+    fraction.has_room();
+    if fraction.is_whole() {
+        small(fraction.numerator())
     } else {
         None
     }

@@ -1,5 +1,5 @@
 // The slack state.
-ghost use Rattle.std.specs.Prelude.{◌≡◌, ◌<◌, ℕ, length, get_or, false, IsTrue, IfOk, IsSome};
+ghost use Rattle.std.specs.Prelude.{◌≡◌, ◌<◌, ℕ, get_or, false, IsTrue, IfOk, IsSome};
 ghost use Rattle.lp_model.specs.Regions.{AreNarrow};
 ghost use Rattle.bases.specs.declared.stand.Stand.TheVariants.{Free};
 ghost use Rattle.bases.specs.Relaxation.{reduced_cost};
@@ -17,17 +17,6 @@ use row_tableau::tilts::{order, tilts};
 use row_tableau::{Relax, Tableau};
 use std::alloc::{AllocError, Global};
 
-/// As many places without a side.
-fn all_free(alloc: Global, count: usize) -> Result<Vec<Stand>, AllocError>
-    ensures { IfOk result (λ v. length v.items ≡ count) }
-{
-    let mut list = Vec::new(alloc);
-    for _place in 0..count {
-        list.push(Stand::Free)?;
-    }
-    Ok(list)
-}
-
 impl<'a> SidedBasis<'a> {
     /// The slack basis of a relaxation, with no variable at a side. Rows of cuts may not be written.
     fn slack_start(alloc: Global, relax: &Relax<'a>) -> Result<SidedBasis<'a>, AllocError>
@@ -42,7 +31,7 @@ impl<'a> SidedBasis<'a> {
         let priced = Costs::new(cost);
         let tilt = tilts(alloc, relax)?;
         let order = order(alloc, relax)?;
-        let stands = all_free(alloc, relax.model.cols().len())?;
+        let stands = vec![in alloc; Stand::Free; relax.model.cols().len()]?;
         let tableau = Tableau::slack_start(alloc, relax)?;
         Ok(SidedBasis {
             model: relax.model,

@@ -1,5 +1,5 @@
 // The nodes of a branching tree, and what goes to and comes from the work on a leaf.
-ghost use Rattle.std.specs.Prelude.{◌≡◌, IfOk};
+ghost use Rattle.std.specs.Prelude.{◌≡◌, Ok, IfOk};
 ghost use Rattle.branch_tree.specs.Plain.{open_data};
 ghost use Rattle.branch_tree.specs.declared.node.TreeFault.TheVariants.{Memory};
 
@@ -9,7 +9,7 @@ use std::alloc::{AllocError, AllocFailed, Global};
 use thiserror::Error;
 
 /// Whether a leaf is still to be worked.
-#[derive(Clone, Copy, Debug, Drop)]
+#[derive(Clone, Copy, Drop)]
 pub enum LeafState {
     IsOpen,
     IsClosed,
@@ -146,10 +146,49 @@ pub(crate) fn open_data(alloc: Global, mult: Mult, basis: Basis) -> LeafData
 pub(crate) fn copy_data(alloc: Global, kept: &LeafData) -> Result<LeafData, AllocError>
     ensures { IfOk result (λ copy. copy ≡ kept.now) }
 {
+    let mult = kept.mult.copy(alloc);
+    let farkas = kept.farkas.copy(alloc);
+    let basis = kept.basis.copy(alloc);
+    data_of_lists(kept.state, mult, farkas, basis)
+}
+
+/// The data of a leaf with these lists, where there was memory for all three.
+pub(crate) fn data_of_lists(
+    state: LeafState,
+    mult: Result<Mult, AllocError>,
+    farkas: Result<Mult, AllocError>,
+    basis: Result<Basis, AllocError>,
+) -> Result<LeafData, AllocError>
+    ensures { IfOk result (λ k. (k.state ≡ state) × (mult ≡ Ok k.mult) × (farkas ≡ Ok k.farkas) × (basis ≡ Ok k.basis)) }
+{
+    let mult = match mult {
+        Ok(mult) => mult,
+        Err(error) => {
+            drop(farkas);
+            drop(basis);
+            return Err(error);
+        }
+    };
+    let farkas = match farkas {
+        Ok(farkas) => farkas,
+        Err(error) => {
+            drop(mult);
+            drop(basis);
+            return Err(error);
+        }
+    };
+    let basis = match basis {
+        Ok(basis) => basis,
+        Err(error) => {
+            drop(mult);
+            drop(farkas);
+            return Err(error);
+        }
+    };
     Ok(LeafData {
-        state: kept.state,
-        mult: kept.mult.copy(alloc)?,
-        farkas: kept.farkas.copy(alloc)?,
-        basis: kept.basis.copy(alloc)?,
+        state,
+        mult,
+        farkas,
+        basis,
     })
 }

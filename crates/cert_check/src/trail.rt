@@ -7,7 +7,7 @@ use lp_model::{BoundChange, ColId, Side};
 use std::alloc::{AllocError, Global};
 
 /// What a change replaced in a region, for the way back.
-#[derive(Clone, Copy, Debug, Drop)]
+#[derive(Clone, Copy, Drop)]
 pub(crate) struct Replaced {
     pub(crate) place: usize,
     pub(crate) was: BoundChange,

@@ -4,7 +4,7 @@ use cert_text::Claim;
 use lp_model::WideStep;
 
 /// What the judging of a point or of one node answers.
-#[derive(Clone, Copy, Debug, Drop)]
+#[derive(Clone, Copy, Drop)]
 pub enum Judgement {
     Passes,
     /// It does not hold, for this reason.
@@ -15,7 +15,7 @@ pub enum Judgement {
 
 /// Whether a certificate is accepted for a model. Nodes are counted from 1 in the order of the text, and node 0 is the
 /// point, the ray and the cuts.
-#[derive(Clone, Copy, Debug, Drop)]
+#[derive(Clone, Copy, Drop)]
 pub enum Verdict {
     /// This claim, the certificate's, is true.
     Accepted(Claim),

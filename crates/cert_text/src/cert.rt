@@ -4,7 +4,7 @@ use frac128::Frac;
 use lp_model::{List, Name, Side};
 
 /// What a certificate claims of a model.
-#[derive(Clone, Copy, Debug, Drop)]
+#[derive(Clone, Copy, Drop)]
 pub enum Claim {
     /// A feasible point has this value in objective 1, in the model's own sense, and none beats it.
     Optimal(Frac),

@@ -15,7 +15,7 @@ use std::alloc::{AllocError, Global};
 use text_lines::{is_blank_byte, words};
 
 /// The first words that there are.
-#[derive(Clone, Copy, Debug, PartialEq, Eq)]
+#[derive(Clone, Copy)]
 pub enum LineWord {
     Cert,
     Claim,
@@ -44,7 +44,7 @@ pub enum Statement {
 }
 
 /// Why a line says nothing.
-#[derive(Clone, Copy, Debug, Drop)]
+#[derive(Clone, Copy, Drop)]
 pub(crate) enum LineFault {
     /// The least code of its faults, 2 to 5.
     Code(u8),

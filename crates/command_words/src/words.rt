@@ -8,7 +8,7 @@ ghost use Rattle.command_words.specs.Asks.{Trim, no_limit, with_number, asks_of,
 const UNLIMITED: u64 = u64::MAX;
 
 /// Which bound on a model's best value, in least form.
-#[derive(Clone, Copy, Debug, PartialEq, Eq)]
+#[derive(Clone, Copy)]
 pub enum OptimumBound {
     /// A lower one, from the tree that is kept.
     Lower,
@@ -17,7 +17,7 @@ pub enum OptimumBound {
 }
 
 /// Which numbers of the model become others.
-#[derive(Clone, Copy, Debug, PartialEq, Eq)]
+#[derive(Clone, Copy)]
 pub enum NewNumbers {
     /// Sides of rows.
     Sides,
@@ -26,7 +26,7 @@ pub enum NewNumbers {
 }
 
 /// The commands that there are.
-#[derive(Clone, Copy, Debug, PartialEq, Eq)]
+#[derive(Clone, Copy)]
 pub enum CommandName {
     Load,
     Solve,
@@ -42,7 +42,7 @@ pub enum CommandName {
 }
 
 /// Where a search begins.
-#[derive(Clone, Copy, Debug, PartialEq, Eq)]
+#[derive(Clone, Copy)]
 enum Beginning {
     /// At a fresh root.
     Anew,
@@ -51,7 +51,7 @@ enum Beginning {
 }
 
 /// What a file is to hold.
-#[derive(Clone, Copy, Debug, PartialEq, Eq)]
+#[derive(Clone, Copy)]
 enum Content {
     /// The certificate of the answer that is held.
     Certificate,
@@ -62,7 +62,7 @@ enum Content {
 }
 
 /// What the words of a line ask for.
-#[derive(Clone, Copy, Debug)]
+#[derive(Clone, Copy)]
 pub enum Asked<'a> {
     /// The model of a file. An integer column without an upper bound has `intupper`, if that is named.
     Load {

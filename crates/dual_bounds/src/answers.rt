@@ -3,7 +3,7 @@ use frac128::Frac;
 use lp_model::WideStep;
 
 /// What a tree proves of all feasible points of a model.
-#[derive(Clone, Copy, Debug, Drop)]
+#[derive(Clone, Copy, Drop)]
 pub enum LowerBound {
     /// No feasible point has a value below this one, in least form and with the constant.
     Value(Frac),
@@ -17,7 +17,7 @@ pub enum LowerBound {
 }
 
 /// What the kept points prove of a model's optimum.
-#[derive(Clone, Copy, Debug, Drop)]
+#[derive(Clone, Copy, Drop)]
 pub enum UpperBound {
     /// Some feasible point has this value, in least form and with the constant.
     Value(Frac),

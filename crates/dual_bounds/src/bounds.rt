@@ -31,8 +31,16 @@ pub fn lb_new_rhs(
     ensures exact { IfOk result (λ bound. ArePresentSides search.now.model sides.now → IsExactLower search.now bound) }
 {
     let changed = model_with_sides(alloc, search.model(), sides)?;
-    let bound = tree_bound(alloc, &changed, search.pool(), search.tree())?;
-    Ok(bound)
+    match tree_bound(alloc, &changed, search.pool(), search.tree()) {
+        Ok(bound) => {
+            drop(changed);
+            Ok(bound)
+        }
+        Err(error) => {
+            drop(changed);
+            Err(error)
+        }
+    }
 }
 
 /// A lower bound of the search's model with these costs of the named columns in objective 1, which are in the model's own sense.
@@ -52,8 +60,16 @@ pub fn lb_new_obj(
     ensures exact { IfOk result (λ bound. ArePresentCosts search.now.model costs.now → IsExactLower search.now bound) }
 {
     let changed = model_with_costs(alloc, search.model(), costs)?;
-    let bound = tree_bound(alloc, &changed, search.pool(), search.tree())?;
-    Ok(bound)
+    match tree_bound(alloc, &changed, search.pool(), search.tree()) {
+        Ok(bound) => {
+            drop(changed);
+            Ok(bound)
+        }
+        Err(error) => {
+            drop(changed);
+            Err(error)
+        }
+    }
 }
 
 /// The least value, in least form, of the kept points that are feasible in the search's model with these numbers for the sides
@@ -73,7 +89,9 @@ pub fn ub_new_rhs(
     ensures exact { IfOk result (λ bound. ArePresentSides search.now.model sides.now → IsExactUpper search.now bound) }
 {
     let changed = model_with_sides(alloc, search.model(), sides)?;
-    Ok(point_bound(&changed, search.points()))
+    let bound = point_bound(&changed, search.points());
+    drop(changed);
+    Ok(bound)
 }
 
 /// The least value, in least form, of the kept points in the search's model with these costs of the named columns in objective
@@ -93,5 +111,7 @@ pub fn ub_new_obj(
     ensures exact { IfOk result (λ bound. ArePresentCosts search.now.model costs.now → IsExactUpper search.now bound) }
 {
     let changed = model_with_costs(alloc, search.model(), costs)?;
-    Ok(point_bound(&changed, search.points()))
+    let bound = point_bound(&changed, search.points());
+    drop(changed);
+    Ok(bound)
 }

@@ -80,7 +80,7 @@ module _ (s : Held) (row place : ℕ) (d number cost : ℤ) (d_positive : pos 0 
 
 -- ---- the order of two
 
-crossed : (a b c d : ℤ) → pos 0 <ℤ b → pos 0 <ℤ d → ((a *ℤ d) <ℤ (c *ℤ b)) ↔ (quotient_of a b <ℚ quotient_of c d)
+pub crossed : (a b c d : ℤ) → pos 0 <ℤ b → pos 0 <ℤ d → ((a *ℤ d) <ℤ (c *ℤ b)) ↔ (quotient_of a b <ℚ quotient_of c d)
 crossed a b c d b_positive d_positive =
     subst₂ (λ x y. ((a *ℤ x) <ℤ (c *ℤ y)) ↔ (quotient_of a b <ℚ quotient_of c d)) (denominator_is d d_positive) (denominator_is b b_positive) (reduced-<ℚ a c (unsigned_abs b - 1) (unsigned_abs d - 1))
 

@@ -16,7 +16,7 @@ use row_tableau::Position;
 const MOST_TOTALS: usize = 1024;
 
 /// The row of a basic variable that is outside a side, and that side.
-#[derive(Clone, Copy, Debug, Drop)]
+#[derive(Clone, Copy, Drop)]
 pub struct Leaving {
     pub row: usize,
     pub side: Stand,

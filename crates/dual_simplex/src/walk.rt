@@ -4,7 +4,7 @@ use crate::step::Step;
 use lp_model::WideStep;
 
 /// Where the steps ended.
-#[derive(Clone, Copy, Debug, PartialEq, Eq)]
+#[derive(Clone, Copy)]
 pub enum Walk {
     /// Each basic variable is within its sides.
     Optimal,

@@ -24,7 +24,7 @@ pub enum EditAsked<'a> {
 }
 
 /// Where a row goes.
-#[derive(Clone, Copy, Debug, PartialEq, Eq)]
+#[derive(Clone, Copy)]
 enum RowPlace {
     /// Behind the others.
     Last,

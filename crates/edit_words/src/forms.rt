@@ -4,7 +4,7 @@ ghost use Rattle.std.specs.List.{list_all};
 ghost use Rattle.edit_words.specs.Forms.{is_name_byte, is_new_name, fits_slot, fits_behind, fits, is_named, are_distinct};
 
 /// What may stand in a word's place.
-#[derive(Clone, Copy, Debug, PartialEq, Eq)]
+#[derive(Clone, Copy)]
 pub(crate) enum Slot {
     /// `int` or `cont`.
     Kind,

@@ -5,7 +5,7 @@ ghost use Rattle.edit_words.specs.EditWords.{edit_kind_of, slots_of, has_pairs};
 use crate::forms::Slot;
 
 /// What an edit changes, by its first word.
-#[derive(Clone, Copy, Debug, PartialEq, Eq)]
+#[derive(Clone, Copy)]
 pub(crate) enum EditKind {
     Cost,
     Cost2,

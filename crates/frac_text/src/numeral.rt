@@ -13,7 +13,7 @@ use crate::spelling::{DecimalParts, Parts, QuotientParts, parts_of};
 use frac128::Frac;
 
 /// Where a number stands that is too wide for a `Frac`.
-#[derive(Clone, Copy, Debug, PartialEq, Eq)]
+#[derive(Clone, Copy)]
 pub enum Side {
     /// At 10^20 or above.
     Above,
@@ -24,7 +24,7 @@ pub enum Side {
 }
 
 /// What bytes spell.
-#[derive(Clone, Copy, Debug, PartialEq, Eq)]
+#[derive(Clone, Copy)]
 pub enum Numeral {
     /// A number that has room.
     Number(Frac),

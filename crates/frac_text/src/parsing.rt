@@ -12,7 +12,7 @@ use frac128::{Frac, LARGEST};
 use thiserror::Error;
 
 /// Why bytes are read as no `Frac`.
-#[derive(Clone, Copy, Debug, PartialEq, Eq, Error)]
+#[derive(Clone, Copy, Debug, Error)]
 pub enum NumFault {
     /// They spell no number.
     #[error("no number is spelled")]
@@ -127,17 +127,26 @@ pub(crate) fn exponent(minus: bool, digits: &[u8]) -> Option<i128>
     if minus { Some(-value) } else { Some(value) }
 }
 
-/// The power of ten from the exponent, the digits behind the point and the zeros dropped, if it is -38 to 38.
-fn power(minus: bool, digits: &[u8], point: u64, dropped: u64) -> Option<i128>
-    requires { list_all is_digit digits.now ≡ true }
-    ensures { MatchOption result (38 < unsigned_abs (with_sign minus (value_of digits.now) -ℤ pos point +ℤ pos dropped)) (λ e. (e ≡ with_sign minus (value_of digits.now) -ℤ pos point +ℤ pos dropped) × (unsigned_abs e ≤ 38)) }
+/// An exponent, less one for each digit behind the point and one more for each zero dropped, if it is -38 to 38.
+fn moved_power(exponent: i128, point: u64, dropped: u64) -> Option<i128>
+    requires { unsigned_abs exponent ≤ 2 ^ 100 }
+    ensures { MatchOption result (38 < unsigned_abs (exponent -ℤ pos point +ℤ pos dropped)) (λ e. (e ≡ exponent -ℤ pos point +ℤ pos dropped) × (unsigned_abs e ≤ 38)) }
 {
-    let power = exponent(minus, digits)? - i128::from(point) + i128::from(dropped);
+    let power = exponent - i128::from(point) + i128::from(dropped);
     if power < -38 || power > 38 {
         None
     } else {
         Some(power)
     }
+}
+
+/// The power of ten from the exponent, the digits behind the point and the zeros dropped, if it is -38 to 38.
+fn power(minus: bool, digits: &[u8], point: u64, dropped: u64) -> Option<i128>
+    requires { list_all is_digit digits.now ≡ true }
+    ensures { MatchOption result (38 < unsigned_abs (with_sign minus (value_of digits.now) -ℤ pos point +ℤ pos dropped)) (λ e. (e ≡ with_sign minus (value_of digits.now) -ℤ pos point +ℤ pos dropped) × (unsigned_abs e ≤ 38)) }
+{
+    let exponent = exponent(minus, digits)?;
+    moved_power(exponent, point, dropped)
 }
 
 fn scaled(minus: bool, coefficient: u128, power: i128) -> Result<Frac, NumFault>

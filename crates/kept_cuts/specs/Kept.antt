@@ -1,7 +1,7 @@
 -- The cuts that an edit of the model leaves.
 --     derivations_after       the derivations that stay, by the places that they name once a row or a column is taken out
 --     gone_with M e cuts      the places of the cuts that go with an edit
---     IsPoolAfter             the cuts that stay, derived again at the edited model
+--     IsPoolAfter             the cuts that stay, as they derive at the edited model
 use Rattle.std.specs.Prelude.{◌≡◌, ◌⊎◌, ℕ, suc, Bool, true, false, if◌then◌else◌, not, nat_eq, List, [], ◌∷◌, ◌++◌, map, filter}
 use Rattle.std.specs.List.{list_any}
 use Rattle.lp_model.specs.Elements.{place_after}
@@ -59,7 +59,7 @@ gone_with M e cuts = gone_from M e 0 cuts
 
 -- ---- pools
 
--- the cut of the derivation stands last, derived again, where it stays
+-- the cut of the derivation stands last, as it derives then, where it stays
 abbrev pub KeepsCut : Program → Edit → Program → Derivation → List CutRow → List CutRow → Type 0
 KeepsCut M e N d cuts cuts' =
     ((goes_with M e d ≡ true) × (cuts' ≡ cuts))

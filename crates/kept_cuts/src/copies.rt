@@ -18,7 +18,8 @@ pub fn derivations(alloc: Global, cuts: &[CutRow]) -> Result<List<Derivation>, A
 {
     let mut list = List::new(alloc);
     for cut in cuts {
-        list.push(copy_derivation(&cut.from)?)?;
+        let copy = copy_derivation(&cut.from)?;
+        list.push(copy)?;
     }
     Ok(list)
 }

@@ -1,13 +1,15 @@
 // The cuts of a pool after an edit of the model.
 ghost use Rattle.std.specs.Prelude.{◌≡◌, ◌<◌, ◌++◌, ◌∷◌, [], length, map, IfOk};
-ghost use Rattle.lp_model.specs.Edits.{EditFits};
+ghost use Rattle.lp_model.specs.Elements.{place_after};
+ghost use Rattle.lp_model.specs.Edits.{EditFits, edited};
 ghost use Rattle.lp_model.specs.declared.types.CutRow.{CutRow};
-ghost use Rattle.cover_cuts.specs.Cuts.{IsCutOf};
+ghost use Rattle.cover_cuts.specs.Cuts.{IsCutOf, IsPoolOf};
 ghost use Rattle.kept_cuts.specs.Kept.{names_column, goes_with, literal_after, derivation_after, one_if, gone_with, KeepsCut, IsPoolAfter};
+ghost use Rattle.kept_cuts.specs.Spared.{spares};
 
 use branch_tree::{col_of, row_of};
 use cover_cuts::{CutPool, PoolFault};
-use lp_model::{ColId, CutId, Derivation, Edit, List, Literal, Model, RowId, place_after};
+use lp_model::{ColId, CutId, CutRow, Derivation, Edit, List, Literal, Model, RowId, place_after};
 use std::alloc::{AllocError, Global};
 
 /// Whether a literal is of the column.
@@ -29,6 +31,16 @@ fn goes_with(model: &Model, edit: &Edit, from: &Derivation) -> bool
     }
 }
 
+/// A literal once a column is taken out that it is not of.
+fn literal_after(gone: u32, literal: &Literal) -> Literal
+    ensures { result ≡ literal_after gone literal.now }
+{
+    Literal {
+        col: ColId(place_after(gone, literal.col.0)),
+        plus: literal.plus,
+    }
+}
+
 /// The literals once a column is taken out that none of them is of.
 fn literals_after(
     alloc: Global,
@@ -39,12 +51,33 @@ fn literals_after(
 {
     let mut after = List::new(alloc);
     for literal in literals {
-        after.push(Literal {
-            col: ColId(place_after(gone, literal.col.0)),
-            plus: literal.plus,
-        })?;
+        after.push(literal_after(gone, literal))?;
     }
     Ok(after)
+}
+
+/// The derivation once a row is taken out that it is not from.
+fn without_row(alloc: Global, from: &Derivation, gone: u32) -> Result<Derivation, AllocError>
+    ensures { IfOk result (λ d. d ≡ record { row = record { 0 = place_after gone from.now.row.0 }; side = from.now.side; literals = from.now.literals }) }
+{
+    let literals = from.literals.copy(alloc)?;
+    Ok(Derivation {
+        row: RowId(place_after(gone, from.row.0)),
+        side: from.side,
+        literals,
+    })
+}
+
+/// The derivation once a column is taken out that none of its literals is of.
+fn without_column(alloc: Global, from: &Derivation, gone: u32) -> Result<Derivation, AllocError>
+    ensures { IfOk result (λ d. d ≡ record { row = from.now.row; side = from.now.side; literals = map (literal_after gone) from.now.literals }) }
+{
+    let literals = literals_after(alloc, from.literals.as_slice(), gone)?;
+    Ok(Derivation {
+        row: from.row,
+        side: from.side,
+        literals,
+    })
 }
 
 /// The derivation of a cut that stays, by the places that it names after an edit.
@@ -58,16 +91,8 @@ fn derivation_after(
     ensures { IfOk result (λ d. d ≡ derivation_after model.now edit.now from.now) }
 {
     match edit {
-        Edit::DelRow { row } => Ok(Derivation {
-            row: RowId(place_after(row_of(model, row), from.row.0)),
-            side: from.side,
-            literals: from.literals.copy(alloc)?,
-        }),
-        Edit::DelCol { col } => Ok(Derivation {
-            row: from.row,
-            side: from.side,
-            literals: literals_after(alloc, from.literals.as_slice(), col_of(model, col))?,
-        }),
+        Edit::DelRow { row } => without_row(alloc, from, row_of(model, row)),
+        Edit::DelCol { col } => without_column(alloc, from, col_of(model, col)),
         _ => from.clone(),
     }
 }
@@ -136,7 +161,62 @@ fn keep(
     Ok(())
 }
 
-/// The cuts of a pool that stay after an edit of the old model, each derived again in the new one.
+/// Whether an edit leaves all that the derivation reads, and at most moves its row: a cost, another row, or a row that is new.
+fn spares(model: &Model, edit: &Edit, from: &Derivation) -> bool
+    requires { EditFits model.now edit.now }
+    ensures { result ≡ spares model.now edit.now from.now }
+{
+    match edit {
+        Edit::SetCost { .. } => true,
+        Edit::SetCost2 { .. } => true,
+        Edit::SetRow { row, .. } => from.row.0 != row_of(model, row),
+        Edit::DelRow { row } => from.row.0 != row_of(model, row),
+        Edit::AddRow { .. } => (from.row.0 as usize) < model.rows().len(),
+        _ => false,
+    }
+}
+
+/// The cut with another derivation in place of its own.
+fn with_derivation(alloc: Global, cut: &CutRow, from: Derivation) -> Result<CutRow, AllocError>
+    ensures from { IfOk result (λ c. c.from ≡ from) }
+    ensures terms { IfOk result (λ c. c.terms ≡ cut.now.terms) }
+    ensures high { IfOk result (λ c. c.hi ≡ cut.now.hi) }
+    ensures live { IfOk result (λ c. c.live ≡ cut.now.live) }
+{
+    Ok(CutRow {
+        from,
+        terms: cut.terms.copy(alloc)?,
+        hi: cut.hi,
+        live: cut.live,
+    })
+}
+
+/// Adds a cut of the old model that stays after an edit: as it stands where the edit spares it, and else derived again.
+fn keep_cut(
+    after: &mut CutPool,
+    alloc: Global,
+    old: &Model,
+    edit: &Edit,
+    new: &Model,
+    cut: &CutRow,
+) -> Result<(), AllocError>
+    requires fits { EditFits old.now edit.now }
+    requires edited { new.now ≡ edited old.now edit.now }
+    requires cut { IsCutOf old.now cut.now }
+    requires room { length after.old < 10000 }
+    ensures { IfOk result (λ _. KeepsCut old.now edit.now new.now cut.now.from after.old after.new) }
+{
+    if !spares(old, edit, &cut.from) {
+        return keep(after, alloc, old, edit, new, &cut.from);
+    }
+    let moved = derivation_after(alloc, old, edit, &cut.from)?;
+    let same = with_derivation(alloc, cut, moved)?;
+    after.add_cut_row(new, same)?;
+    Ok(())
+}
+
+/// The cuts of a pool of the old model that stay at the edited one. Those that the edit spares are taken over as they stand,
+/// the others are derived again.
 pub fn pool_after(
     alloc: Global,
     old: &Model,
@@ -144,13 +224,15 @@ pub fn pool_after(
     new: &Model,
     pool: &CutPool,
 ) -> Result<CutPool, AllocError>
-    requires { EditFits old.now edit.now }
+    requires fits { EditFits old.now edit.now }
+    requires edited { new.now ≡ edited old.now edit.now }
+    requires pool { IsPoolOf old.now pool.now }
     ensures { IfOk result (λ after. IsPoolAfter old.now edit.now pool.now new.now after) }
 {
     let mut after = CutPool::new(alloc);
     let cuts = pool.rows();
     for cut in cuts {
-        keep(&mut after, alloc, old, edit, new, &cut.from)?;
+        keep_cut(&mut after, alloc, old, edit, new, cut)?;
     }
     Ok(after)
 }

@@ -45,3 +45,13 @@ IsRowWritten d name number old new k = IsWrittenWhere (is_row_variable name k) d
 -- a cut that does not count has none
 abbrev pub IsCutWritten : ℤ → List CutRow → Var → ℚ → List ℤ → List ℤ → ℕ → Type 0
 IsCutWritten d cuts name number old new k = IsWrittenWhere (if is_live cuts k then is_cut name k else false) d number (number_at old k) (number_at new k)
+
+-- ---- numbers that are passed over
+
+-- the numbers from place k up to n are 0
+abbrev pub IsNextOf : List ℤ → ℕ → ℕ → Type 0
+IsNextOf numbers k n = (j : ℕ) → k ≤ j → j < n → (j < length numbers) × (number_at numbers j ≡ pos 0)
+
+-- for each of the first places up to where the numbers are 0
+abbrev pub AreNexts : List ℤ → List ℕ → ℕ → Type 0
+AreNexts numbers next count = (k : ℕ) → k < count → IsNextOf numbers k (get_or next k 0)

@@ -1,6 +1,7 @@
 // A leaf's number in whole numbers over one denominator, with one greatest common divisor at its end.
-ghost use Rattle.std.specs.Prelude.{◌≡◌, ◌≢◌, ◌<◌, ◌<ℤ◌, ℕ, ℤ, pos, length, None, Ok, IfSome};
-ghost use Rattle.rational.specs.Rational.{neg_ℚ};
+ghost use Rattle.std.specs.Prelude.{◌≡◌, ◌≢◌, ◌<◌, ◌≤◌, ◌<ℤ◌, ℕ, ℤ, List, pos, length, None, Ok, IfSome};
+ghost use Rattle.rational.specs.Rational.{int, neg_ℚ, ◌+ℚ◌, ◌*ℚ◌};
+ghost use Rattle.checked_sum.specs.Steps.{StepFits, AllFit, partial};
 ghost use Rattle.frac128.specs.LowestTerms.{quotient_of};
 ghost use Rattle.lp_model.specs.Regions.{AreNarrow, region_low, region_high};
 ghost use Rattle.lp_model.specs.Sides.{needed_side, side_number};
@@ -9,7 +10,7 @@ ghost use Rattle.leaf_dual.specs.declared.dual.LagValue.TheVariants.{Num};
 ghost use Rattle.leaf_dual.specs.Dual.{HavePlaces, row_side, cut_side, column_side};
 ghost use Rattle.leaf_dual.specs.Answers.{row_number, cut_number, LacksRowSide, LacksCutSide, IsDualAnswer};
 ghost use Rattle.leaf_dual.specs.Parts.{leaf_formulation, leaf_constant, costs, weights, cut_weights, entry_row, entry_number, IsRowsTotal, IsCutsTotal, IsCostAnswer, IsColumnAnswer, IsColumnsTotal};
-ghost use Rattle.leaf_dual.specs.Wholes.{IsFactor, HasRoomForProduct, IsTermOver, number_at};
+ghost use Rattle.leaf_dual.specs.Wholes.{IsFactor, HasRoomForProduct, IsTermOver, number_at, IsNextOf, AreNexts};
 ghost use Rattle.leaf_dual.specs.WholeParts.{IsWholeLeaf};
 
 use crate::leaf::Leaf;
@@ -19,13 +20,16 @@ use crate::whole_total::{WholeTerm, WholeTerms, fraction_over, whole_total, with
 use frac128::Frac;
 use lp_model::{Bound, RowId};
 
-/// A leaf, with the numbers of its rows' multipliers and of its cuts' weights over a denominator.
+/// A leaf, with the numbers of its rows' multipliers and of its cuts' weights over a denominator. For each of the first cuts
+/// that are known the next one, itself included, that has a weight: few have one, and each column's cost is taken over all.
 #[derive(Clone, Copy, Drop)]
 pub struct WholeLeaf<'a> {
     pub leaf: Leaf<'a>,
     pub denominator: i64,
     pub rows: &'a [i64],
     pub cuts: &'a [i64],
+    pub next: &'a [usize],
+    pub known: usize,
 }
 
 /// The number at a place, if there is one.
@@ -39,6 +43,25 @@ fn weight_at(numbers: &[i64], place: usize) -> Option<i64>
     } else {
         None
     }
+}
+
+/// What is next from a place on, and the place where that is not known.
+#[inline]
+fn next_at(next: &[usize], known: usize, place: usize) -> usize
+    ensures from { place ≤ result }
+    ensures next { (numbers : List ℤ) → AreNexts numbers next.now known → IsNextOf numbers place result }
+{
+    if known <= place {
+        return place;
+    }
+    if next.len() <= place {
+        return place;
+    }
+    let far = next[place];
+    if far <= place {
+        return place;
+    }
+    far
 }
 
 /// The side that a number over any denominator takes of two.
@@ -250,6 +273,57 @@ impl WholeLeaf<'_> {
         whole_total(start, &CutNumbers { whole: *self })
     }
 
+    /// The next cut from a place on that has a weight, and how many there are where none has.
+    fn next_weighed(&self, place: usize) -> usize
+        requires whole { IsWholeLeaf self.now }
+        requires place { place ≤ length self.now.leaf.cuts.now }
+        ensures from { place ≤ result }
+        ensures within { result ≤ length self.now.leaf.cuts.now }
+        ensures free { (k : ℕ) → place ≤ k → k < result → cut_weights self.now.leaf k ≡ int (pos 0) }
+    {
+        let next = next_at(self.next, self.known, place);
+        next.min(self.leaf.cuts.len())
+    }
+
+    /// The total with what a cut takes of a column's cost, over the denominator, where it can be had in whole numbers. None says
+    /// nothing.
+    fn with_cut(&self, total: i128, cut: usize, col: usize) -> Option<i128>
+        requires whole { IsWholeLeaf self.now }
+        requires total { HasRoomForProduct total }
+        requires within { cut < length self.now.leaf.cuts.now }
+        ensures room { IfSome result (λ next. HasRoomForProduct next) }
+        ensures fits { IfSome result (λ next. StepFits (quotient_of total self.now.denominator) (neg_ℚ (cut_weights self.now.leaf cut)) (cut_coefficient self.now.leaf.cuts.now cut col)) }
+        ensures value { IfSome result (λ next. quotient_of next self.now.denominator ≡ quotient_of total self.now.denominator +ℚ neg_ℚ (cut_weights self.now.leaf cut) *ℚ cut_coefficient self.now.leaf.cuts.now cut col) }
+    {
+        let terms = CutEntryNumbers { whole: *self, col };
+        let term = terms.term(cut)?;
+        with_product(total, term.factor, term.number)
+    }
+
+    /// What the cuts leave of a column's cost, from what the rows leave, as `whole_total`: a cut without a weight makes no step,
+    /// and is passed over.
+    fn after_cuts(&self, start: i128, col: usize) -> Option<i128>
+        requires whole { IsWholeLeaf self.now }
+        requires start { HasRoomForProduct start }
+        ensures room { IfSome result (λ total. HasRoomForProduct total) }
+        ensures fits { IfSome result (λ total. AllFit (quotient_of start self.now.denominator) (λ k. neg_ℚ (cut_weights self.now.leaf k)) (λ k. cut_coefficient self.now.leaf.cuts.now k col) (length self.now.leaf.cuts.now)) }
+        ensures value { IfSome result (λ total. quotient_of total self.now.denominator ≡ partial (quotient_of start self.now.denominator) (λ k. neg_ℚ (cut_weights self.now.leaf k)) (λ k. cut_coefficient self.now.leaf.cuts.now k col) (length self.now.leaf.cuts.now)) }
+    {
+        let count = self.leaf.cuts.len();
+        let mut total = start;
+        let mut place = self.next_weighed(0);
+        while place < count {
+            match self.with_cut(total, place, col) {
+                None => return None,
+                Some(next) => {
+                    total = next;
+                    place = self.next_weighed(place + 1);
+                }
+            }
+        }
+        Some(total)
+    }
+
     /// What is left of a column's cost, over the denominator, where it can be had in whole numbers. None says nothing.
     fn cost_left(&self, col: usize) -> Option<i64>
         requires whole { IsWholeLeaf self.now }
@@ -266,7 +340,7 @@ impl WholeLeaf<'_> {
                 entries,
             },
         )?;
-        let by_cuts = whole_total(by_rows, &CutEntryNumbers { whole: *self, col })?;
+        let by_cuts = self.after_cuts(by_rows, col)?;
         factor(by_cuts)
     }
 

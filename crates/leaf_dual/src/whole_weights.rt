@@ -1,8 +1,8 @@
 // The multipliers of rows and cuts as numbers over one denominator, each written at its place.
-ghost use Rattle.std.specs.Prelude.{◌≡◌, ◌<◌, ℕ, pos, length, nat_eq, IsTrue};
+ghost use Rattle.std.specs.Prelude.{◌≡◌, ◌+◌, ◌<◌, ◌≤◌, ℕ, pos, length, nat_eq, IsTrue};
 ghost use Rattle.lp_model.specs.Cuts.{is_live};
 ghost use Rattle.leaf_dual.specs.Dual.{multiplier, cut_weight};
-ghost use Rattle.leaf_dual.specs.Wholes.{IsDenominator, number_at, AreNumbersOver, IsWrittenWhere, IsRowWritten, IsCutWritten};
+ghost use Rattle.leaf_dual.specs.Wholes.{IsDenominator, number_at, AreNumbersOver, IsWrittenWhere, IsRowWritten, IsCutWritten, IsNextOf, AreNexts};
 
 use crate::whole_numbers::factor_over;
 use frac128::Frac;
@@ -118,4 +118,37 @@ pub fn write_cuts(
         }
     }
     true
+}
+
+/// Whether there is a number at a place and it is 0.
+fn is_zero_at(numbers: &[i64], place: usize) -> bool
+    ensures { IsTrue result → (place < length numbers.now) × (number_at numbers.now place ≡ pos 0) }
+{
+    place < numbers.len() && numbers[place] == 0
+}
+
+/// What is next from a place on: the place itself, where its number isn't 0, and else what is next behind it.
+fn next_from(numbers: &[i64], place: usize, behind: usize) -> usize
+    requires { IsNextOf numbers.now (place + 1) behind }
+    ensures { IsNextOf numbers.now place result }
+{
+    if is_zero_at(numbers, place) {
+        behind
+    } else {
+        place
+    }
+}
+
+/// Writes for each of the first places the next one, itself included, whose number isn't 0, and their count where there is none.
+pub fn write_nexts(numbers: &[i64], count: usize, next: &mut [usize])
+    requires { count ≤ length next.old }
+    ensures { AreNexts numbers.now next.new count }
+{
+    let mut at = count;
+    for behind in 0..count {
+        let place = count - 1 - behind;
+        let here = next_from(numbers, place, at);
+        next[place] = here;
+        at = here;
+    }
 }

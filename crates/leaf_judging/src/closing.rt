@@ -11,7 +11,7 @@ use leaf_dual::{LagValue, closes, path_farkas, path_lag};
 use lp_model::{BoundChange, Model, Mult, WideStep};
 
 /// What a leaf's multipliers say of its region.
-#[derive(Clone, Copy, Debug, Drop)]
+#[derive(Clone, Copy, Drop)]
 pub enum LeafNumber {
     /// The region has no feasible point.
     Empty,

@@ -9,7 +9,7 @@ ghost use Rattle.leaf_judging.specs.Judged.{AreStates, JudgesAll};
 ghost use Rattle.leaf_judging.specs.Queued.{IsQueueOf};
 ghost use Rattle.leaf_judging.specs.Numbers.{AreNumbersOf};
 
-use crate::choosing::{as_candidate, rank};
+use crate::choosing::{Candidate, as_candidate, rank};
 use crate::closing::{number_of, state_by};
 use crate::numbers::LeafNumbers;
 use crate::queue::LeafQueue;
@@ -70,8 +70,13 @@ fn numbers_of(
         pool,
         numbers: LeafNumbers::new(alloc),
     };
-    tree.visit_leaves(&mut numbering)?;
-    Ok(numbering.numbers)
+    match tree.visit_leaves(&mut numbering) {
+        Ok(()) => Ok(numbering.numbers),
+        Err(error) => {
+            drop(numbering);
+            Err(error)
+        }
+    }
 }
 
 /// What leaves are marked by: a model, the least value of the known points, if there are any, and the leaves' numbers.
@@ -80,6 +85,27 @@ pub(crate) struct Against<'a> {
     pub(crate) model: &'a Model,
     pub(crate) target: &'a Option<Frac>,
     pub(crate) numbers: &'a LeafNumbers,
+}
+
+/// What a leaf is by its number: its state, and the leaf as a candidate, if it is open.
+#[derive(Clone, Copy, Drop)]
+pub(crate) struct Mark {
+    pub(crate) state: LeafState,
+    pub(crate) candidate: Option<Candidate>,
+}
+
+impl Against<'_> {
+    ghost use Rattle.leaf_judging.specs.Numbers.{IsLeafMark};
+
+    /// What the leaf with the id is by its number.
+    fn mark_of(&self, id: u64) -> Mark
+        ensures { IsLeafMark self.now id result }
+    {
+        let number = self.numbers.number_or_minus(id);
+        let state = state_by(self.model, self.target, &number);
+        let candidate = as_candidate(&state, rank(&number), id);
+        Mark { state, candidate }
+    }
 }
 
 /// States of leaves, one by one, and the queue of those that are open.
@@ -102,10 +128,9 @@ impl Marking<'_> {
     ) -> Result<(), AllocError>
         ensures { OnOk result (MarksLeaf self.old (record { id = id; region = path.now; kept = kept.now }) self.new) }
     {
-        let number = self.against.numbers.number_or_minus(id);
-        let state = state_by(self.against.model, self.against.target, &number);
-        self.queue.add(&as_candidate(&state, rank(&number), id))?;
-        self.states.push(state)?;
+        let mark = self.against.mark_of(id);
+        self.queue.add(&mark.candidate)?;
+        self.states.push(mark.state)?;
         Ok(())
     }
 }
@@ -184,11 +209,19 @@ pub fn judge_tree(
     ensures queue { IfOk result (λ j. IsQueueOf (formulation model.now pool.now) (with_states j.states.items tree.now.root) j.index.queue) }
 {
     let numbers = numbers_of(alloc, model, pool, tree)?;
-    let Marks { states, queue } = judge_again(alloc, model, target, tree, &numbers)?;
-    Ok(Judged {
-        states,
-        index: LeafIndex { numbers, queue },
-    })
+    match judge_again(alloc, model, target, tree, &numbers) {
+        Ok(marks) => Ok(Judged {
+            states: marks.states,
+            index: LeafIndex {
+                numbers,
+                queue: marks.queue,
+            },
+        }),
+        Err(error) => {
+            drop(numbers);
+            Err(error)
+        }
+    }
 }
 
 /// Judges each leaf of a tree, and answers what is kept of them. Where there is no memory the tree stays as it was.

@@ -4,8 +4,7 @@ ghost use Rattle.rational.specs.Rational.{int, ◌≤ℚ◌};
 ghost use Rattle.lp_model.specs.Rays.{GoesOn, ColumnsGoOn, AreRowsJudged, IsDirectionCostAnswer, IsRayJudged, without_cost, without_costs};
 
 use crate::list::List;
-use crate::model::{Model, copy_rows};
-use crate::names::copy_name;
+use crate::model::Model;
 use crate::types::{Bound, Col, Point, WideStep};
 use frac128::Frac;
 use std::alloc::{AllocError, Global};
@@ -135,14 +134,7 @@ impl Model {
     pub fn without_costs(&self, alloc: Global) -> Result<Model, AllocError>
         ensures { IfOk result (λ m. m ≡ without_costs self.now) }
     {
-        Ok(Model {
-            sense: self.sense,
-            obj: copy_name(&self.obj)?,
-            obj2: copy_name(&self.obj2)?,
-            consts: self.consts,
-            rows: copy_rows(&self.rows)?,
-            cols: cols_without_costs(alloc, self.cols.as_slice())?,
-            wide: self.wide,
-        })
+        let cols = cols_without_costs(alloc, self.cols.as_slice())?;
+        self.with_cols(cols)
     }
 }

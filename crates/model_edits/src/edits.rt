@@ -1,5 +1,6 @@
 // Edits of a model, a further row or column among them, and why one is refused.
 ghost use Rattle.std.specs.Prelude.{◌≡◌, ◌↔◌, ◌<◌, ◌^◌, length, sum_by, map, Contains, IsTrue, IfOk, OnOk, OnErr, IfErr, IsSome, MatchOption};
+ghost use Rattle.lp_model.specs.declared.types.Edit.TheVariants.{AddCol, AddRow};
 ghost use Rattle.lp_model.specs.Lawful.{AreWithinLimits, row_names};
 ghost use Rattle.lp_model.specs.Edits.{with_entry, number_beside, edited, adds_col, adds_row, EditFits};
 ghost use Rattle.model_edits.specs.Faults.{PassesLimit, IsEditFault};
@@ -9,7 +10,7 @@ use crate::faults::EditFault;
 use crate::names::{count_beside, entries_beside, first_unknown, has_name, is_same, number_beside};
 use crate::removing::{del_col, del_row, replace_row};
 use frac128::Frac;
-use lp_model::{Col, Edit, List, Model, Name, Row, RowId, copy_name, is_range, is_zero};
+use lp_model::{Bound, Col, Edit, List, Model, Name, Row, RowId, copy_name, is_range, is_zero};
 use std::alloc::{AllocError, Global};
 
 /// The model after an edit. A refused edit leaves the model as it was.
@@ -19,7 +20,9 @@ pub fn apply(model: &mut Model, alloc: Global, edit: Edit) -> Result<(), EditFau
     ensures kept { OnErr result (model.new ≡ model.old) }
     ensures fault { IfErr result (λ f. IsEditFault model.old edit f) }
 {
-    apply_lent(model, alloc, &edit)
+    let result = apply_lent(model, alloc, &edit);
+    drop(edit);
+    result
 }
 
 /// The same of an edit that the caller keeps.
@@ -45,32 +48,14 @@ pub fn apply_lent(model: &mut Model, alloc: Global, edit: &Edit) -> Result<(), E
             cost,
             cost2,
             entries,
-        } => {
-            let col = Col {
-                name: copy_name(name)?,
-                int: *int,
-                lo: *lo,
-                up: *up,
-                cost: *cost,
-                cost2: *cost2,
-                rows: List::new(alloc),
-            };
-            add_col(model, alloc, col, entries.as_slice())
-        }
+        } => { add_col_of(model, alloc, name, *int, lo, up, cost, cost2, entries) }
         Edit::DelCol { col } => del_col(model, alloc, col),
         Edit::AddRow {
             name,
             lo,
             hi,
             entries,
-        } => {
-            let row = Row {
-                name: copy_name(name)?,
-                lo: *lo,
-                hi: *hi,
-            };
-            add_row(model, alloc, row, entries.as_slice())
-        }
+        } => { add_row_of(model, alloc, name, lo, hi, entries) }
         Edit::DelRow { row } => del_row(model, alloc, row),
         Edit::ReplaceRow {
             row,
@@ -79,6 +64,59 @@ pub fn apply_lent(model: &mut Model, alloc: Global, edit: &Edit) -> Result<(), E
             entries,
         } => replace_row(model, alloc, row, *lo, *hi, entries),
     }
+}
+
+/// Adds a column that is given by its parts.
+fn add_col_of(
+    model: &mut Model,
+    alloc: Global,
+    name: &Name,
+    int: bool,
+    lo: &Bound,
+    up: &Bound,
+    cost: &Frac,
+    cost2: &Frac,
+    named: &List<(Name, Frac)>,
+) -> Result<(), EditFault>
+    ensures edited { IfOk result (λ _. model.new ≡ edited model.old (AddCol name.now int lo.now up.now cost.now cost2.now named.now)) }
+    ensures fits { OnOk result (EditFits model.old (AddCol name.now int lo.now up.now cost.now cost2.now named.now)) }
+    ensures kept { OnErr result (model.new ≡ model.old) }
+    ensures fault { IfErr result (λ f. IsEditFault model.old (AddCol name.now int lo.now up.now cost.now cost2.now named.now) f) }
+{
+    let name = copy_name(name)?;
+    let col = Col {
+        name,
+        int,
+        lo: *lo,
+        up: *up,
+        cost: *cost,
+        cost2: *cost2,
+        rows: List::new(alloc),
+    };
+    add_col(model, alloc, col, named.as_slice())
+}
+
+/// Adds a row that is given by its parts.
+fn add_row_of(
+    model: &mut Model,
+    alloc: Global,
+    name: &Name,
+    lo: &Bound,
+    hi: &Bound,
+    named: &List<(Name, Frac)>,
+) -> Result<(), EditFault>
+    ensures edited { IfOk result (λ _. model.new ≡ edited model.old (AddRow name.now lo.now hi.now named.now)) }
+    ensures fits { OnOk result (EditFits model.old (AddRow name.now lo.now hi.now named.now)) }
+    ensures kept { OnErr result (model.new ≡ model.old) }
+    ensures fault { IfErr result (λ f. IsEditFault model.old (AddRow name.now lo.now hi.now named.now) f) }
+{
+    let name = copy_name(name)?;
+    let row = Row {
+        name,
+        lo: *lo,
+        hi: *hi,
+    };
+    add_row(model, alloc, row, named.as_slice())
 }
 
 /// The limit of the first count that passes its own.
@@ -113,6 +151,27 @@ pub(crate) fn count_entries(cols: &[Col]) -> usize
     ensures { result ≡ sum_by (λ c. length c.rows) cols.now }
 {
     cols.iter().map(|col| col.rows.as_slice().len()).sum()
+}
+
+/// A copy of the column with other entries.
+pub(crate) fn with_entries(col: &Col, rows: List<(RowId, Frac)>) -> Result<Col, AllocError>
+    ensures { IfOk result (λ c. c ≡ record col.now { rows = rows }) }
+{
+    match copy_name(&col.name) {
+        Ok(name) => Ok(Col {
+            name,
+            int: col.int,
+            lo: col.lo,
+            up: col.up,
+            cost: col.cost,
+            cost2: col.cost2,
+            rows,
+        }),
+        Err(error) => {
+            drop(rows);
+            Err(error)
+        }
+    }
 }
 
 /// A copy of the column with one more entry, where its number is not 0.

@@ -1,5 +1,5 @@
 // Edits of a model that take out a column or a row, or give a row other coefficients.
-ghost use Rattle.std.specs.Prelude.{◌≡◌, ◌⊎◌, ◌++◌, map, filter, nat_lt, Contains, IfOk, OnOk, OnErr, IfErr};
+ghost use Rattle.std.specs.Prelude.{◌≡◌, ◌⊎◌, ◌++◌, ◌∷◌, [], map, filter, nat_lt, Contains, IfOk, OnOk, OnErr, IfErr};
 ghost use Rattle.rational.specs.Rational.{ℚ};
 ghost use Rattle.lp_model.specs.declared.types.RowId.{RowId as Place};
 ghost use Rattle.lp_model.specs.declared.types.Edit.TheVariants.{DelCol, DelRow, ReplaceRow};
@@ -8,7 +8,7 @@ ghost use Rattle.model_edits.specs.declared.faults.EditFault.TheVariants.{NoSuch
 ghost use Rattle.model_edits.specs.Faults.{IsEditFault};
 
 use crate::changing::{change_row, col_at, row_at};
-use crate::edits::{count_entries, passed_limit};
+use crate::edits::{count_entries, passed_limit, with_entries};
 use crate::faults::EditFault;
 use crate::names::{first_unknown, number_beside};
 use frac128::Frac;
@@ -94,18 +94,16 @@ fn entries_with(
 fn without_entry(alloc: Global, col: &Col, row: u32) -> Result<Col, AllocError>
     ensures { IfOk result (λ c. c ≡ without_entry row col.now) }
 {
-    let mut shorter = col.clone()?;
-    shorter.rows = entries_without(alloc, col.rows.as_slice(), row)?;
-    Ok(shorter)
+    let rows = entries_without(alloc, col.rows.as_slice(), row)?;
+    with_entries(col, rows)
 }
 
 /// A copy of the column with another entry of a row.
 fn replaced_entry(alloc: Global, col: &Col, row: u32, number: &Frac) -> Result<Col, AllocError>
     ensures { IfOk result (λ c. c ≡ replaced_entry row number.now col.now) }
 {
-    let mut changed = col.clone()?;
-    changed.rows = entries_with(alloc, col.rows.as_slice(), row, number)?;
-    Ok(changed)
+    let rows = entries_with(alloc, col.rows.as_slice(), row, number)?;
+    with_entries(col, rows)
 }
 
 /// The columns without the entries of a row, which is taken out.
@@ -119,6 +117,21 @@ fn without_row(alloc: Global, cols: &[Col], row: u32) -> Result<List<Col>, Alloc
     Ok(changed)
 }
 
+/// Puts a copy of the column with another coefficient of a row behind those in the list.
+fn push_replaced(
+    alloc: Global,
+    list: &mut List<Col>,
+    col: &Col,
+    row: u32,
+    named: &[(Name, Frac)],
+) -> Result<(), AllocError>
+    ensures { IfOk result (λ _. list.new ≡ list.old ++ replaced_entry row (number_beside col.now.name named.now) col.now ∷ []) }
+{
+    let number = number_beside(&col.name, named);
+    let changed = replaced_entry(alloc, col, row, &number)?;
+    list.push(changed)
+}
+
 /// The columns with other coefficients of a row.
 fn with_numbers(
     alloc: Global,
@@ -130,8 +143,7 @@ fn with_numbers(
 {
     let mut changed = List::new(alloc);
     for col in cols {
-        let number = number_beside(&col.name, named);
-        changed.push(replaced_entry(alloc, col, row, &number)?)?;
+        push_replaced(alloc, &mut changed, col, row, named)?;
     }
     Ok(changed)
 }
@@ -199,9 +211,11 @@ fn check_replacement(
     let changed = with_numbers(alloc, cols, row, named)?;
     let entries = count_entries(changed.as_slice());
     if let Some(limit) = passed_limit(model.is_wide(), rows.len(), cols.len(), entries) {
+        drop(changed);
         return Err(EditFault::Limit(limit));
     }
     if !is_range(lo, hi) {
+        drop(changed);
         return Err(EditFault::Ranged(copy_name(name)?));
     }
     Ok((row, changed))

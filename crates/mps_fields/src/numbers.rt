@@ -9,7 +9,7 @@ use frac_text::{NumFault, Numeral, Side};
 use frac128::Frac;
 
 /// What the number of a bound line states. A number whose magnitude is 10^20 or more is infinite.
-#[derive(Clone, Copy, Debug, Drop)]
+#[derive(Clone, Copy, Drop)]
 pub enum Limit {
     Finite(Frac),
     Plus,

@@ -7,7 +7,7 @@ use frac_text::NumFault;
 use frac128::Frac;
 
 /// A row's name and the field that stands beside it, with the number that this spells.
-#[derive(Clone, Copy, Debug)]
+#[derive(Clone, Copy)]
 pub struct Pair<'a> {
     pub row: &'a [u8],
     pub field: &'a [u8],
@@ -16,7 +16,7 @@ pub struct Pair<'a> {
 }
 
 /// The pairs of a line, two at most.
-#[derive(Clone, Copy, Debug)]
+#[derive(Clone, Copy)]
 pub enum Pairs<'a> {
     Nothing,
     One(Pair<'a>),

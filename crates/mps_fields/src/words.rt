@@ -8,7 +8,7 @@ use lp_model::Sense;
 use mps_text::{Fields, Record};
 
 /// A section of the text, by the word of its header.
-#[derive(Clone, Copy, Debug, Drop)]
+#[derive(Clone, Copy, Drop)]
 pub enum Section {
     Name,
     Objsense,
@@ -21,7 +21,7 @@ pub enum Section {
 }
 
 /// What a line is, by its first byte and the section that it stands in.
-#[derive(Clone, Copy, Debug, Drop)]
+#[derive(Clone, Copy, Drop)]
 pub enum LineKind {
     Header,
     SenseLine,
@@ -36,7 +36,7 @@ pub enum LineKind {
 }
 
 /// The type of a row: an objective, or a row with an upper side, a lower side, or two equal ones.
-#[derive(Clone, Copy, Debug, Drop)]
+#[derive(Clone, Copy, Drop)]
 pub enum RowKind {
     Free,
     AtMost,
@@ -46,7 +46,7 @@ pub enum RowKind {
 
 /// The type of a bound line: a lower bound, an upper one, both, neither, no lower one, no upper one, 0 and 1 of an integer
 /// column, and a lower or an upper one of an integer column.
-#[derive(Clone, Copy, Debug, Drop)]
+#[derive(Clone, Copy, Drop)]
 pub enum BoundKind {
     Lower,
     Upper,

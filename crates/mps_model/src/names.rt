@@ -1,5 +1,5 @@
 // Names of rows and columns, each with the place that it has among them.
-ghost use Rattle.std.specs.Prelude.{◌≡◌, ◌++◌, ◌∷◌, ℕ, List as Items, length, map, IfOk};
+ghost use Rattle.std.specs.Prelude.{◌≡◌, ◌++◌, ◌∷◌, [], ℕ, List as Items, length, map, IfOk, OnOk};
 ghost use Rattle.mps_sections.specs.Statements.{stated_row_names};
 ghost use Rattle.mps_sections.specs.Limits.{AreNamesApart, names_of_columns};
 ghost use Rattle.mps_model.specs.Places.{IsFoundAt, IsIndexOf, find};
@@ -18,14 +18,22 @@ pub(crate) struct Names {
     ghost index: { IsIndexOf names places },
 }
 
+/// Puts a copy of a name behind others.
+fn push_copy(alloc: Global, names: &mut List<Name>, name: &[u8]) -> Result<(), AllocError>
+    ensures { OnOk result (names.new ≡ names.old ++ name.now ∷ []) }
+{
+    let copy = copied(alloc, name)?;
+    names.push(copy)?;
+    Ok(())
+}
+
 /// The names of the rows.
 pub(crate) fn names_of_rows(alloc: Global, rows: &[RowLine]) -> Result<List<Name>, AllocError>
     ensures { IfOk result (λ names. names ≡ stated_row_names rows.now) }
 {
     let mut names = List::new(alloc);
     for row in rows {
-        let name = copied(alloc, row.name.as_slice())?;
-        names.push(name)?;
+        push_copy(alloc, &mut names, row.name.as_slice())?;
     }
     Ok(names)
 }
@@ -39,8 +47,7 @@ pub(crate) fn names_of_columns(
 {
     let mut names = List::new(alloc);
     for column in columns {
-        let name = copied(alloc, column.name.as_slice())?;
-        names.push(name)?;
+        push_copy(alloc, &mut names, column.name.as_slice())?;
     }
     Ok(names)
 }

@@ -14,7 +14,7 @@ use mps_text::LineFault;
 use std::alloc::{AllocError, Global};
 
 /// A column's kind and bounds on the way through its bound lines.
-#[derive(Clone, Copy, Debug, Drop)]
+#[derive(Clone, Copy, Drop)]
 pub struct Span {
     pub integer: bool,
     pub lower: Option<Frac>,

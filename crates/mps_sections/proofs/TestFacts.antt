@@ -1,13 +1,16 @@
 -- What the tests of a line say where no code is found.
-use Rattle.std.proofs.Common.{◌≡◌, ◌+◌, ◌≤◌, true, false, List, [], ◌∷◌, map, length, refl, ◌∙◌, ap}
-use Rattle.std.specs.Prelude.{None}
+use Rattle.std.proofs.Common.{◌≡◌, ◌+◌, ◌≤◌, true, false, List, [], ◌∷◌, ◌++◌, map, length, refl, sym, ◌∙◌, ap}
+use Rattle.std.specs.Prelude.{Option, None, Some, is_some, Bool, nat_lt, not, ◌&&◌, ◌||◌}
+use Rattle.std.specs.List.{list_any}
 use Rattle.std.proofs.lemmas.Bool.{ltb-false}
 use Rattle.mps_text.specs.Text.{Entry}
-use Rattle.mps_fields.specs.Words.{line_kind}
+use Rattle.mps_fields.specs.Words.{line_kind, word, section_of, section_rank, bars, is_rows, is_columns, is_name_section, is_sense_section}
 use Rattle.mps_sections.specs.Statements.{StatedModel, read_pair, coefficients_in}
-use Rattle.mps_fields.specs.Fields.{column_pairs}
-use Rattle.mps_sections.specs.Faults.{Test, least, tests_of, column_tests, code_in}
+use Rattle.mps_fields.specs.Fields.{column_pairs, has_count, has_unknown_sense}
+use Rattle.mps_sections.specs.Faults.{Test, least, tests_of, section_tests, most_fields, column_tests, code_in}
+use Rattle.mps_fields.specs.declared.words.Section.{Section}
 use Rattle.mps_fields.specs.declared.words.LineKind.{LineKind}
+use Rattle.mps_fields.specs.declared.words.LineKind.TheVariants.{Header}
 
 abbrev pub NoneHolds : List Test → Type 0
 NoneHolds [] = Unit {0}
@@ -24,3 +27,29 @@ room_of_column s e h = ltb-false 50000 (s.count + length (coefficients_in s.rows
 pub code_of_kind : (s : StatedModel) (e : Entry) (kind : LineKind) → kind ≡ line_kind s.section e → code_in s e ≡ None → least (tests_of kind s e) ≡ None
 unfolding code_in
 code_of_kind s e kind k h = ap (λ (l : LineKind). least (tests_of l s e)) k ∙ h
+
+-- a code of the first tests is that of all
+pub least_before : (found more : List Test) → is_some (least found) ≡ true → least found ≡ least (found ++ more)
+least_before [] more h = absurd (cc)
+least_before ((code, true) ∷ found) more h = refl
+least_before ((code, false) ∷ found) more h = least_before found more h
+
+-- where the first tests have no code it is that of the others
+pub least_behind : (found more : List Test) → is_some (least found) ≡ false → least more ≡ least (found ++ more)
+least_behind [] more h = refl
+least_behind ((code, true) ∷ found) more h = absurd (cc)
+least_behind ((code, false) ∷ found) more h = least_behind found more h
+
+-- the code of the header of a section, by the headers before it
+pub code_of_header : (s : StatedModel) (e : Entry) (section : Section) (headers : List Section) (late lacking long senseless : Bool) →
+    section_of (word 0 e) ≡ Some section →
+    headers ≡ s.headers →
+    late ≡ list_any (λ stands. bars stands section) headers →
+    lacking ≡ ((nat_lt 3 (section_rank section) && not (list_any is_rows headers)) || (nat_lt 4 (section_rank section) && not (list_any is_columns headers))) →
+    long ≡ (not (is_name_section section) && not (has_count e 1 (most_fields section))) →
+    senseless ≡ (is_sense_section section && has_unknown_sense e) →
+    least ((4, late || lacking) ∷ (6, long) ∷ (8, senseless) ∷ []) ≡ least (tests_of Header s e)
+code_of_header s e section headers late lacking long senseless found same is_late is_lacking is_long is_senseless =
+    (λ i. least ((4, is_late i || is_lacking i) ∷ (6, is_long i) ∷ (8, is_senseless i) ∷ []))
+    ∙ (λ i. least ((4, list_any (λ stands. bars stands section) (same i) || ((nat_lt 3 (section_rank section) && not (list_any is_rows (same i))) || (nat_lt 4 (section_rank section) && not (list_any is_columns (same i))))) ∷ (6, not (is_name_section section) && not (has_count e 1 (most_fields section))) ∷ (8, is_sense_section section && has_unknown_sense e) ∷ []))
+    ∙ sym (ap (λ (known : Option Section). least (section_tests known s e)) found)

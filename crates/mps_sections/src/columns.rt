@@ -11,6 +11,7 @@ use crate::statements::ColumnLines;
 use lp_model::{List, Name};
 use mps_fields::Pairs;
 use std::alloc::{AllocError, Global};
+use std::mem;
 
 /// A column that may still get lines.
 #[derive(Drop)]
@@ -71,13 +72,18 @@ impl OpenColumn {
             marked,
             numbers,
         } = self;
-        let numbers = numbers.with(alloc, pairs)?;
-        Ok(OpenColumn {
-            name,
-            line,
-            marked,
-            numbers,
-        })
+        match numbers.with(alloc, pairs) {
+            Ok(more) => Ok(OpenColumn {
+                name,
+                line,
+                marked,
+                numbers: more,
+            }),
+            Err(error) => {
+                drop(name);
+                Err(error)
+            }
+        }
     }
 
     /// The column without further lines.
@@ -175,10 +181,18 @@ impl Columns {
     {
         let Columns { done, known, last } = self;
         match last {
-            Some(column) => {
-                let last = Some(column.with(alloc, pairs)?);
-                Ok(Columns { done, known, last })
-            }
+            Some(column) => match column.with(alloc, pairs) {
+                Ok(more) => Ok(Columns {
+                    done,
+                    known,
+                    last: Some(more),
+                }),
+                Err(error) => {
+                    drop(done);
+                    drop(known);
+                    Err(error)
+                }
+            },
             None => Ok(Columns {
                 done,
                 known,
@@ -197,14 +211,19 @@ impl Columns {
             last,
         } = self;
         match last {
-            Some(before) => {
-                before.add_to(alloc, &mut done, &mut known)?;
-                Ok(Columns {
+            Some(before) => match before.add_to(alloc, &mut done, &mut known) {
+                Ok(()) => Ok(Columns {
                     done,
                     known,
                     last: Some(column),
-                })
-            }
+                }),
+                Err(error) => {
+                    drop(done);
+                    drop(known);
+                    drop(column);
+                    Err(error)
+                }
+            },
             None => Ok(Columns {
                 done,
                 known,
@@ -213,8 +232,28 @@ impl Columns {
         }
     }
 
+    /// The columns with the first line of a further one.
+    fn with_further(
+        self,
+        alloc: Global,
+        name: &[u8],
+        line: u64,
+        marked: bool,
+        pairs: &Pairs,
+    ) -> Result<Columns, AllocError>
+        ensures { IfOk result (λ more. columns_in more ≡ columns_in self ++ record { name = name.now; line = line; marked = marked; numbers = map read_pair (pairs_shown pairs.now) } ∷ []) }
+    {
+        match OpenColumn::new(alloc, name, line, marked, pairs) {
+            Ok(column) => self.with_column(alloc, column),
+            Err(error) => {
+                drop(self);
+                Err(error)
+            }
+        }
+    }
+
     /// The columns with one more line: of the last one, or of a further one.
-    pub(crate) fn with(
+    fn with(
         self,
         alloc: Global,
         name: &[u8],
@@ -227,25 +266,44 @@ impl Columns {
         if self.is_last(name) {
             self.with_last(alloc, pairs)
         } else {
-            let column = OpenColumn::new(alloc, name, line, marked, pairs)?;
-            self.with_column(alloc, column)
+            self.with_further(alloc, name, line, marked, pairs)
         }
+    }
+
+    /// One more line: of the last column, or of a further one.
+    pub(crate) fn add(
+        &mut self,
+        alloc: Global,
+        name: &[u8],
+        line: u64,
+        marked: bool,
+        pairs: &Pairs,
+    ) -> Result<(), AllocError>
+        ensures { OnOk result (columns_in self.new ≡ with_line (columns_in self.old) name.now line marked (map read_pair (pairs_shown pairs.now))) }
+    {
+        let before = mem::replace(self, Columns::new(alloc));
+        *self = before.with(alloc, name, line, marked, pairs)?;
+        Ok(())
     }
 
     /// All columns.
     pub(crate) fn into_list(self) -> Result<List<ColumnLines>, AllocError>
         ensures { IfOk result (λ all. all ≡ columns_in self) }
     {
-        let Columns {
-            done,
-            known: _,
-            last,
-        } = self;
-        let mut all = done;
+        let Columns { done, known, last } = self;
+        drop(known);
         match last {
-            Some(column) => all.push(column.closed())?,
-            None => {}
+            Some(column) => {
+                let mut all = done;
+                match all.push(column.closed()) {
+                    Ok(()) => Ok(all),
+                    Err(error) => {
+                        drop(all);
+                        Err(error)
+                    }
+                }
+            }
+            None => Ok(done),
         }
-        Ok(all)
     }
 }

@@ -1,7 +1,8 @@
 // Numbers beside the names of rows.
-ghost use Rattle.std.specs.Prelude.{◌≡◌, ℕ, List as Items, [], ◌∷◌, ◌++◌, map, IfOk};
+ghost use Rattle.std.specs.Prelude.{◌≡◌, ℕ, List as Items, [], ◌∷◌, ◌++◌, ◌||◌, map, bytes_eq, IfOk, OnOk};
 ghost use Rattle.mps_sections.specs.Statements.{is_numbered, read_pair};
 ghost use Rattle.mps_sections.specs.Sets.{has};
+ghost use Rattle.mps_fields.specs.Fields.{pair_shown};
 
 use crate::name_set::NameSet;
 use crate::names::copied;
@@ -9,6 +10,7 @@ use crate::statements::RowNumber;
 use lp_model::List;
 use mps_fields::{Pair, Pairs};
 use std::alloc::{AllocError, Global};
+use std::mem;
 
 /// Numbers beside rows in order, and the set of these rows.
 #[derive(Drop)]
@@ -18,9 +20,26 @@ pub(crate) struct Numbered {
     ghost same: { (q : Items ℕ) → has rows q ≡ is_numbered numbers q },
 }
 
+/// Puts a pair's number behind others, and its row among theirs.
+fn add_pair(
+    alloc: Global,
+    numbers: &mut List<RowNumber>,
+    rows: &mut NameSet,
+    pair: &Pair,
+) -> Result<(), AllocError>
+    ensures numbers { OnOk result (numbers.new ≡ numbers.old ++ read_pair (pair_shown pair.now) ∷ []) }
+    ensures rows { OnOk result ((q : Items ℕ) → has rows.new q ≡ (bytes_eq pair.now.row.now q || has rows.old q)) }
+{
+    rows.insert(alloc, pair.row)?;
+    let row = copied(alloc, pair.row)?;
+    let number = pair.number_or_zero();
+    numbers.push(RowNumber { row, number })?;
+    Ok(())
+}
+
 impl Numbered {
     ghost use Rattle.mps_sections.specs.Faults.{has_again};
-    ghost use Rattle.mps_fields.specs.Fields.{pair_shown, pairs_shown};
+    ghost use Rattle.mps_fields.specs.Fields.{pairs_shown};
 
     /// No numbers.
     pub(crate) fn new(alloc: Global) -> Numbered
@@ -50,11 +69,14 @@ impl Numbered {
             mut numbers,
             mut rows,
         } = self;
-        rows.insert(alloc, pair.row)?;
-        let row = copied(alloc, pair.row)?;
-        let number = pair.number_or_zero();
-        numbers.push(RowNumber { row, number })?;
-        Ok(Numbered { numbers, rows })
+        match add_pair(alloc, &mut numbers, &mut rows, pair) {
+            Ok(()) => Ok(Numbered { numbers, rows }),
+            Err(error) => {
+                drop(numbers);
+                drop(rows);
+                Err(error)
+            }
+        }
     }
 
     /// The numbers with those of one more line.
@@ -69,6 +91,15 @@ impl Numbered {
                 more.with_pair(alloc, q)
             }
         }
+    }
+
+    /// The numbers of one more line.
+    pub(crate) fn add(&mut self, alloc: Global, pairs: &Pairs) -> Result<(), AllocError>
+        ensures { OnOk result (self.new.numbers ≡ self.old.numbers ++ map read_pair (pairs_shown pairs.now)) }
+    {
+        let before = mem::replace(self, Numbered::new(alloc));
+        *self = before.with(alloc, pairs)?;
+        Ok(())
     }
 
     /// The numbers alone.

@@ -16,7 +16,7 @@ use mps_text::{LineFault, Lines, Record};
 use std::alloc::Global;
 
 /// Why a text states nothing whole: its first fault, or want of memory.
-#[derive(Clone, Copy, Debug, Drop)]
+#[derive(Clone, Copy, Drop)]
 pub enum Stop {
     Fault(LineFault),
     Memory,

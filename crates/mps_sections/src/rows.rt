@@ -1,5 +1,5 @@
 // The rows that a text states.
-ghost use Rattle.std.specs.Prelude.{◌≡◌, ◌||◌, ◌&&◌, not, ℕ, List as Items, [], ◌++◌, bytes_eq, Some, IfOk};
+ghost use Rattle.std.specs.Prelude.{◌≡◌, ◌||◌, ◌&&◌, not, ℕ, List as Items, [], ◌∷◌, ◌++◌, bytes_eq, Some, IfOk, OnOk};
 ghost use Rattle.mps_fields.specs.Words.{among};
 ghost use Rattle.mps_sections.specs.Statements.{is_row_name, as_row, as_objective};
 ghost use Rattle.mps_sections.specs.Sets.{has};
@@ -10,6 +10,7 @@ use crate::statements::RowLine;
 use lp_model::{List, Name};
 use mps_fields::{Pairs, RowKind};
 use std::alloc::{AllocError, Global};
+use std::mem;
 
 /// The rows with sides and the names of the rows of type N, each in order, and the sets of all their names and of those of
 /// the rows with sides.
@@ -21,6 +22,42 @@ pub(crate) struct Rows {
     with_sides: NameSet,
     ghost same: { (q : Items ℕ) → has known q ≡ (is_row_name sided q || among objectives q) },
     ghost sides: { (q : Items ℕ) → has with_sides q ≡ is_row_name sided q },
+}
+
+/// Puts the name of a row of type N behind others, and among the names of all rows.
+fn add_objective(
+    alloc: Global,
+    objectives: &mut List<Name>,
+    known: &mut NameSet,
+    name: &[u8],
+) -> Result<(), AllocError>
+    ensures objectives { OnOk result (objectives.new ≡ objectives.old ++ name.now ∷ []) }
+    ensures known { OnOk result ((q : Items ℕ) → has known.new q ≡ (bytes_eq name.now q || has known.old q)) }
+{
+    known.insert(alloc, name)?;
+    let copy = copied(alloc, name)?;
+    objectives.push(copy)?;
+    Ok(())
+}
+
+/// Puts a row with sides behind others, and its name among the names of all rows and of those with sides.
+fn add_sided(
+    alloc: Global,
+    sided: &mut List<RowLine>,
+    known: &mut NameSet,
+    with_sides: &mut NameSet,
+    kind: RowKind,
+    name: &[u8],
+) -> Result<(), AllocError>
+    ensures sided { OnOk result (sided.new ≡ sided.old ++ record { name = name.now; kind = kind } ∷ []) }
+    ensures known { OnOk result ((q : Items ℕ) → has known.new q ≡ (bytes_eq name.now q || has known.old q)) }
+    ensures with_sides { OnOk result ((q : Items ℕ) → has with_sides.new q ≡ (bytes_eq name.now q || has with_sides.old q)) }
+{
+    known.insert(alloc, name)?;
+    with_sides.insert(alloc, name)?;
+    let name = copied(alloc, name)?;
+    sided.push(RowLine { name, kind })?;
+    Ok(())
 }
 
 impl Rows {
@@ -83,40 +120,86 @@ impl Rows {
         }
     }
 
-    /// The rows with one more.
-    pub(crate) fn with(self, alloc: Global, kind: RowKind, name: &[u8]) -> Result<Rows, AllocError>
-        ensures sided { IfOk result (λ rows. rows.sided ≡ self.sided ++ as_row (Some kind) name.now) }
-        ensures objectives { IfOk result (λ rows. rows.objectives ≡ self.objectives ++ as_objective (Some kind) name.now) }
+    /// The rows with one more of type N.
+    fn with_objective(self, alloc: Global, name: &[u8]) -> Result<Rows, AllocError>
+        ensures sided { IfOk result (λ rows. rows.sided ≡ self.sided) }
+        ensures objectives { IfOk result (λ rows. rows.objectives ≡ self.objectives ++ name.now ∷ []) }
+    {
+        let Rows {
+            sided,
+            mut objectives,
+            mut known,
+            with_sides,
+        } = self;
+        match add_objective(alloc, &mut objectives, &mut known, name) {
+            Ok(()) => Ok(Rows {
+                sided,
+                objectives,
+                known,
+                with_sides,
+            }),
+            Err(error) => {
+                drop(sided);
+                drop(objectives);
+                drop(known);
+                drop(with_sides);
+                Err(error)
+            }
+        }
+    }
+
+    /// The rows with one more that has sides.
+    fn with_sided(self, alloc: Global, kind: RowKind, name: &[u8]) -> Result<Rows, AllocError>
+        ensures sided { IfOk result (λ rows. rows.sided ≡ self.sided ++ record { name = name.now; kind = kind } ∷ []) }
+        ensures objectives { IfOk result (λ rows. rows.objectives ≡ self.objectives) }
     {
         let Rows {
             mut sided,
-            mut objectives,
+            objectives,
             mut known,
             mut with_sides,
         } = self;
-        known.insert(alloc, name)?;
-        let copy = copied(alloc, name)?;
-        match kind {
-            RowKind::Free => {
-                objectives.push(copy)?;
-                Ok(Rows {
-                    sided,
-                    objectives,
-                    known,
-                    with_sides,
-                })
-            }
-            _ => {
-                with_sides.insert(alloc, name)?;
-                sided.push(RowLine { name: copy, kind })?;
-                Ok(Rows {
-                    sided,
-                    objectives,
-                    known,
-                    with_sides,
-                })
+        match add_sided(alloc, &mut sided, &mut known, &mut with_sides, kind, name) {
+            Ok(()) => Ok(Rows {
+                sided,
+                objectives,
+                known,
+                with_sides,
+            }),
+            Err(error) => {
+                drop(sided);
+                drop(objectives);
+                drop(known);
+                drop(with_sides);
+                Err(error)
             }
         }
+    }
+
+    /// The rows with one more.
+    fn with(self, alloc: Global, kind: RowKind, name: &[u8]) -> Result<Rows, AllocError>
+        ensures sided { IfOk result (λ rows. rows.sided ≡ self.sided ++ as_row (Some kind) name.now) }
+        ensures objectives { IfOk result (λ rows. rows.objectives ≡ self.objectives ++ as_objective (Some kind) name.now) }
+    {
+        match kind {
+            RowKind::Free => self.with_objective(alloc, name),
+            _ => self.with_sided(alloc, kind, name),
+        }
+    }
+
+    /// One more row.
+    pub(crate) fn add(
+        &mut self,
+        alloc: Global,
+        kind: RowKind,
+        name: &[u8],
+    ) -> Result<(), AllocError>
+        ensures sided { OnOk result (self.new.sided ≡ self.old.sided ++ as_row (Some kind) name.now) }
+        ensures objectives { OnOk result (self.new.objectives ≡ self.old.objectives ++ as_objective (Some kind) name.now) }
+    {
+        let before = mem::replace(self, Rows::new(alloc));
+        *self = before.with(alloc, kind, name)?;
+        Ok(())
     }
 
     /// The names of the rows of type N, and the rows with sides.

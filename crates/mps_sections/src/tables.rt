@@ -1,11 +1,11 @@
 // What a text has stated so far, and the fault of a line that comes next.
-ghost use Rattle.std.specs.Prelude.{◌≡◌, ◌+◌, ◌≤◌, [], ◌∷◌, true, IfOk, OnOk, length, map, nat_lt, not, ◌&&◌, ◌||◌, option_to_list};
+ghost use Rattle.std.specs.Prelude.{◌≡◌, ◌+◌, ◌≤◌, [], ◌∷◌, ◌++◌, true, IfOk, OnOk, length, map, nat_lt, not, ◌&&◌, ◌||◌, option_to_list, Some};
 ghost use Rattle.std.specs.List.{list_any};
 ghost use Rattle.mps_text.specs.Reading.{entry_of_record};
 ghost use Rattle.mps_fields.specs.Words.{word, is_marker, bars, section_rank, is_rows, is_columns, is_name_section, is_sense_section, line_kind as kind_of_line};
-ghost use Rattle.mps_sections.specs.Statements.{StatedModel, stated, sections_in, coefficients_in, read_pair, stated_sense};
-ghost use Rattle.mps_fields.specs.Fields.{has_count as has_fields, column_pairs as pairs_in_column, set_pairs as pairs_behind_set, bound_column as column_of_bound, bound_field, has_unknown_sense as is_without_sense, has_not_number, has_too_wide};
-ghost use Rattle.mps_sections.specs.Faults.{least, has_sense, most_fields, tests_of, section_tests, sense_tests, row_tests, marker_tests, column_tests, set_tests, rhs_tests, range_tests, bound_tests, place_tests, pair_tests, has_unknown, is_late, lacks_section, code_in};
+ghost use Rattle.mps_sections.specs.Statements.{StatedModel, stated, sections_in, coefficients_in, read_pair, stated_sense, as_bound};
+ghost use Rattle.mps_fields.specs.Fields.{has_count as has_fields, column_pairs as pairs_in_column, set_pairs as pairs_behind_set, bound_column as column_of_bound, bound_field, has_twice, has_unknown_sense as is_without_sense, has_not_number, has_too_wide};
+ghost use Rattle.mps_sections.specs.Faults.{least, has_sense, most_fields, tests_of, section_tests, sense_tests, row_tests, marker_tests, column_tests, set_tests, rhs_tests, range_tests, bound_tests, place_tests, pair_tests, has_again, is_ranged_again, has_free_row, has_unknown, is_late, lacks_section, code_in};
 
 use crate::columns::Columns;
 use crate::names::{copied, count_coefficients};
@@ -21,7 +21,6 @@ use mps_fields::{
 };
 use mps_text::{Fields, Record};
 use std::alloc::{AllocError, Global};
-use std::mem;
 
 /// What the lines before a line have stated.
 #[derive(Drop)]
@@ -72,6 +71,26 @@ fn last_word<'a>(entry: &Record<'a>) -> &'a [u8]
         Fields::Four(_, _, _, last) => last,
         _ => first_word(entry),
     }
+}
+
+/// Puts what a bound line states of a column behind others.
+fn add_bound(
+    alloc: Global,
+    bounds: &mut List<BoundLine>,
+    kind: BoundKind,
+    entry: &Record,
+) -> Result<(), AllocError>
+    requires { has_fields (entry_of_record entry.now) 2 4 ≡ true }
+    ensures { OnOk result (bounds.new ≡ bounds.old ++ as_bound (Some kind) (entry_of_record entry.now)) }
+{
+    let column = copied(alloc, bound_column(kind, entry))?;
+    let limit = limit_or_plus(&limit_of(last_word(entry)));
+    bounds.push(BoundLine {
+        column,
+        kind,
+        limit,
+    })?;
+    Ok(())
 }
 
 fn has_sense(senses: &[Sense]) -> bool
@@ -141,6 +160,21 @@ fn lacks(headers: &[Section], section: Section) -> bool
     lacks_rows || lacks_columns
 }
 
+/// The least code of the header of a section by its tests.
+fn header_code(late: bool, lacking: bool, long: bool, senseless: bool) -> Option<u8>
+    ensures { result ≡ least ((4, late || lacking) ∷ (6, long) ∷ (8, senseless) ∷ []) }
+{
+    if late || lacking {
+        Some(4)
+    } else if long {
+        Some(6)
+    } else if senseless {
+        Some(8)
+    } else {
+        None
+    }
+}
+
 #[tactic(auto, unfolding(crate::specs::Shown::held))]
 impl Tables {
     ghost use Rattle.mps_sections.specs.Shown.{held, after, after_kind, with_senses};
@@ -172,16 +206,11 @@ impl Tables {
             return Some(3);
         };
         let headers = self.headers.as_slice();
-        if has_late(headers, section) || lacks(headers, section) {
-            return Some(4);
-        }
-        if has_more_fields(section, entry) {
-            Some(6)
-        } else if lacks_sense(section, entry) {
-            Some(8)
-        } else {
-            None
-        }
+        let late = has_late(headers, section);
+        let lacking = lacks(headers, section);
+        let long = has_more_fields(section, entry);
+        let senseless = lacks_sense(section, entry);
+        header_code(late, lacking, long, senseless)
     }
 
     /// The least fault of a data line of OBJSENSE.
@@ -277,6 +306,17 @@ impl Tables {
         None
     }
 
+    /// The least fault of a column's line by its pairs.
+    fn fault_of_entries(&self, name: &[u8], pairs: &Pairs) -> Option<u8>
+        ensures { result ≡ least (pair_tests (held self.now) (pairs_shown pairs.now) ++ place_tests (held self.now) name.now (pairs_shown pairs.now)) }
+    {
+        let fault = self.fault_of_pairs(pairs);
+        if fault.is_some() {
+            return fault;
+        }
+        self.fault_of_place(name, pairs)
+    }
+
     fn fault_of_column(&self, entry: &Record, pairs: &Pairs) -> Option<u8>
         requires { pairs_shown pairs.now ≡ pairs_in_column (entry_of_record entry.now) }
         ensures { result ≡ least (column_tests (held self.now) (entry_of_record entry.now)) }
@@ -288,11 +328,7 @@ impl Tables {
         if is_long(name) || pairs.has_long() {
             return Some(7);
         }
-        let fault = self.fault_of_pairs(pairs);
-        if fault.is_some() {
-            return fault;
-        }
-        self.fault_of_place(name, pairs)
+        self.fault_of_entries(name, pairs)
     }
 
     /// The least fault of a line of RHS or RANGES by itself and by the rows and numbers of its pairs.
@@ -309,6 +345,17 @@ impl Tables {
         self.fault_of_pairs(pairs)
     }
 
+    /// The least fault of a line of RHS by the lines before it.
+    fn fault_of_sides(&self, pairs: &Pairs) -> Option<u8>
+        ensures { result ≡ least ((22, has_twice (pairs_shown pairs.now) || has_again self.now.sides.numbers (pairs_shown pairs.now)) ∷ []) }
+    {
+        if pairs.has_twice() || self.sides.has_again(pairs) {
+            Some(22)
+        } else {
+            None
+        }
+    }
+
     fn fault_of_rhs(&self, entry: &Record, pairs: &Pairs) -> Option<u8>
         requires { pairs_shown pairs.now ≡ pairs_behind_set (entry_of_record entry.now) }
         ensures { result ≡ least (rhs_tests (held self.now) (entry_of_record entry.now)) }
@@ -317,10 +364,20 @@ impl Tables {
         if fault.is_some() {
             return fault;
         }
-        if pairs.has_twice() || self.sides.has_again(pairs) {
-            return Some(22);
+        self.fault_of_sides(pairs)
+    }
+
+    /// The least fault of a line of RANGES by the lines before it.
+    fn fault_of_ranges(&self, pairs: &Pairs) -> Option<u8>
+        ensures { result ≡ least ((22, has_twice (pairs_shown pairs.now) || is_ranged_again self.now.ranges.lines (pairs_shown pairs.now)) ∷ (23, has_free_row (held self.now) (pairs_shown pairs.now)) ∷ []) }
+    {
+        if pairs.has_twice() || self.ranges.has_again(pairs) {
+            Some(22)
+        } else if self.rows.has_free(pairs) {
+            Some(23)
+        } else {
+            None
         }
-        None
     }
 
     fn fault_of_range(&self, entry: &Record, pairs: &Pairs) -> Option<u8>
@@ -331,13 +388,7 @@ impl Tables {
         if fault.is_some() {
             return fault;
         }
-        if pairs.has_twice() || self.ranges.has_again(pairs) {
-            Some(22)
-        } else if self.rows.has_free(pairs) {
-            Some(23)
-        } else {
-            None
-        }
+        self.fault_of_ranges(pairs)
     }
 
     /// The least fault of a bound line of two to four fields, by its type.
@@ -434,8 +485,7 @@ impl Tables {
         let Some(kind) = RowKind::of(kind) else {
             return Ok(());
         };
-        let rows = mem::replace(&mut self.rows, Rows::new(alloc));
-        self.rows = rows.with(alloc, kind, name)?;
+        self.rows.add(alloc, kind, name)?;
         Ok(())
     }
 
@@ -458,8 +508,8 @@ impl Tables {
     {
         let name = first_word(entry);
         let count = count_coefficients(&self.rows, pairs);
-        let columns = mem::replace(&mut self.columns, Columns::new(alloc));
-        self.columns = columns.with(alloc, name, entry.line, self.marked, pairs)?;
+        let marked = self.marked;
+        self.columns.add(alloc, name, entry.line, marked, pairs)?;
         self.count += count;
         Ok(())
     }
@@ -468,8 +518,7 @@ impl Tables {
         requires { pairs_shown pairs.now ≡ pairs_behind_set (entry_of_record entry.now) }
         ensures { OnOk result (held self.new ≡ after_kind LineKind.RightSide (held self.old) (entry_of_record entry.now)) }
     {
-        let sides = mem::replace(&mut self.sides, Numbered::new(alloc));
-        self.sides = sides.with(alloc, pairs)?;
+        self.sides.add(alloc, pairs)?;
         Ok(())
     }
 
@@ -477,8 +526,7 @@ impl Tables {
         requires { pairs_shown pairs.now ≡ pairs_behind_set (entry_of_record entry.now) }
         ensures { OnOk result (held self.new ≡ after_kind LineKind.Range (held self.old) (entry_of_record entry.now)) }
     {
-        let ranges = mem::replace(&mut self.ranges, Ranges::new(alloc));
-        self.ranges = ranges.with(alloc, entry.line, pairs)?;
+        self.ranges.add(alloc, entry.line, pairs)?;
         Ok(())
     }
 
@@ -489,13 +537,7 @@ impl Tables {
         let Some(kind) = BoundKind::of(first_word(entry)) else {
             return Ok(());
         };
-        let column = copied(alloc, bound_column(kind, entry))?;
-        let limit = limit_or_plus(&limit_of(last_word(entry)));
-        self.bounds.push(BoundLine {
-            column,
-            kind,
-            limit,
-        })?;
+        add_bound(alloc, &mut self.bounds, kind, entry)?;
         Ok(())
     }
 
@@ -547,21 +589,20 @@ impl Tables {
         } = self;
         let sense = first_sense(senses.as_slice());
         drop(senses);
-        let (objectives, rows) = rows.into_lists();
-        let sides = sides.into_list();
-        let ranges = ranges.into_list();
         match columns.into_list() {
-            Ok(columns) => Ok(Sections {
-                sense,
-                objectives,
-                rows,
-                columns,
-                sides,
-                ranges,
-                bounds,
-            }),
+            Ok(columns) => {
+                let (objectives, rows) = rows.into_lists();
+                Ok(Sections {
+                    sense,
+                    objectives,
+                    rows,
+                    columns,
+                    sides: sides.into_list(),
+                    ranges: ranges.into_list(),
+                    bounds,
+                })
+            }
             Err(error) => {
-                drop(objectives);
                 drop(rows);
                 drop(sides);
                 drop(ranges);

@@ -7,7 +7,7 @@ use Rattle.lp_model.specs.declared.types.CutRow.{CutRow}
 use Rattle.lp_model.specs.declared.types.Var.TheVariants.{Cut}
 use Rattle.kept_cuts.proofs.KeptLemmas.{take-next}
 use Rattle.node_solve.specs.Laws.{AreLive, AreAt}
-use Rattle.node_solve.specs.Places.{live_cuts, live_places, cut_variables}
+use Rattle.node_solve.specs.Places.{live_cuts, live_places, places_from, cut_variables}
 
 -- ---- how many there are
 
@@ -113,11 +113,6 @@ live-at n pool = record {
     from_zero p = omega arith
 
 -- ---- more cuts that count
-
--- so many places, from k on
-abbrev pub places_from : ℕ → ℕ → List ℕ
-places_from k zero = []
-places_from k (suc n) = k ∷ places_from (suc k) n
 
 pub live-append : (n : ℕ) (a b : List CutRow) → live_cuts n (a ++ b) ≡ live_cuts n a ++ live_cuts (n - length (live_cuts n a)) b
 live-append zero a b = let e : zero - 0 ≡ zero = omega arith in ap (λ m. live_cuts m b) (sym e)

@@ -16,9 +16,9 @@ use Rattle.node_solve.specs.RoundCode.{round_of, IsKeptRound}
 use Rattle.node_solve.specs.declared.rounds.Round.{Round as HeldRound}
 use Rattle.node_solve.proofs.LiveLemmas.{live-few, places-length, live-all, live-are, live-at}
 
-pub first_kept : (W : Work) → IsPoolOf W.model W.pool → length W.pool ≤ 10000 → (r : HeldRound) → r.cuts.items ≡ live_cuts 200 W.pool → r.places.items ≡ live_places 200 0 W.pool → r.added.items ≡ [] → IsKeptRound W r
+pub first_kept : (W : Work) → IsPoolOf W.model W.pool → length W.pool ≤ 10000 → (r : HeldRound) → r.cuts ≡ live_cuts 200 W.pool → r.places.items ≡ live_places 200 0 W.pool → r.added.items ≡ [] → IsKeptRound W r
 first_kept W pool few r cuts places added =
-    let count : length r.cuts.items ≡ length (live_cuts 200 W.pool) = ap length cuts in
+    let count : length r.cuts ≡ length (live_cuts 200 W.pool) = ap length cuts in
     let least = live-few 200 W.pool in
     let none : length r.added.items ≡ 0 = ap length added in
     record {
@@ -31,20 +31,20 @@ first_kept W pool few r cuts places added =
     }
 
 pub added_kept : (W : Work) (r after : HeldRound) (c : CutRow) → IsKeptRound W r → IsCutOf W.model c → IsAddable W (round_of r) c
-    → after.cuts.items ≡ r.cuts.items ++ c ∷ [] → after.places.items ≡ r.places.items ++ (length W.pool + length r.added.items) ∷ [] → after.added.items ≡ r.added.items ++ c.from ∷ [] → IsKeptRound W after
+    → after.cuts ≡ r.cuts ++ c ∷ [] → after.places.items ≡ r.places.items ++ (length W.pool + length r.added.items) ∷ [] → after.added.items ≡ r.added.items ++ c.from ∷ [] → IsKeptRound W after
 added_kept W r after c kept is may cuts places added =
-    let e = length_push r.cuts.items c in
+    let e = length_push r.cuts c in
     let f = length_push r.places.items (length W.pool + length r.added.items) in
     let g = length_push r.added.items c.from in
-    let count : length after.cuts.items ≡ length (r.cuts.items ++ c ∷ []) = ap length cuts in
+    let count : length after.cuts ≡ length (r.cuts ++ c ∷ []) = ap length cuts in
     let named : length after.places.items ≡ length (r.places.items ++ (length W.pool + length r.added.items) ∷ []) = ap length places in
     let more : length after.added.items ≡ length (r.added.items ++ c.from ∷ []) = ap length added in
-    let before : length r.places.items ≡ length r.cuts.items = kept.each in
-    let room : length r.cuts.items < 200 = may.room in
+    let before : length r.places.items ≡ length r.cuts = kept.each in
+    let room : length r.cuts < 200 = may.room in
     let pool_room : length W.pool + length r.added.items < 10000 = may.pool_room in
     record {
-      are = subst (IsPoolOf W.model) (sym cuts) (All-push (IsCutOf W.model) r.cuts.items c kept.are is);
-      live = subst AreLive (sym cuts) (All-push (λ (d : CutRow). IsTrue d.live) r.cuts.items c kept.live may.live);
+      are = subst (IsPoolOf W.model) (sym cuts) (All-push (IsCutOf W.model) r.cuts c kept.are is);
+      live = subst AreLive (sym cuts) (All-push (λ (d : CutRow). IsTrue d.live) r.cuts c kept.live may.live);
       few = omega (arith, count, e, room);
       each = omega (arith, count, named, e, f, before);
       there = subst ArePoolPlaces (sym places) (All-push (λ (p : ℕ). p < 10000) r.places.items (length W.pool + length r.added.items) kept.there pool_room);
@@ -52,8 +52,8 @@ added_kept W r after c kept is may cuts places added =
     }
 
 -- each cut of a round has a place of 32 bits
-pub kept_places : (W : Work) (r : HeldRound) → IsKeptRound W r → HavePlaces r.cuts.items
-kept_places W r kept = let few : length r.cuts.items ≤ 200 = kept.few in omega (arith, few)
+pub kept_places : (W : Work) (r : HeldRound) → IsKeptRound W r → HavePlaces r.cuts
+kept_places W r kept = let few : length r.cuts ≤ 200 = kept.few in omega (arith, few)
 
 -- one derivation more
 pub adds-more : (W : Work) (ds : List Derivation) (d : Derivation) (a b c : Round) → AddsAll W a ds b → AddsOne W b d c → AddsAll W a (ds ++ d ∷ []) c

@@ -76,7 +76,7 @@ terms_are (x ∷ xs) ys size same = same_list x (x ∷ xs) ys size (λ k q. same
 -- ---- what one derivation adds
 
 pub added_is : (W : Work) (r : HeldRound) (after : List CutRow) (behind : List ℕ) (more : List Derivation) (c : CutRow) (place : ℕ) (d noted : Derivation) → c.from ≡ d → IsCutOf W.model c → IsAddable W (round_of r) c
-    → after ≡ r.cuts.items ++ c ∷ [] → behind ≡ r.places.items ++ place ∷ [] → place ≡ length W.pool + length r.added.items
+    → after ≡ r.cuts ++ c ∷ [] → behind ≡ r.places.items ++ place ∷ [] → place ≡ length W.pool + length r.added.items
     → more ≡ r.added.items ++ noted ∷ [] → noted ≡ d → AddsOne W (round_of r) d (record { cuts = after; places = behind; added = more; list = r.list })
 added_is W r after behind more c place d noted from is may cuts places place_is added noted_is =
     let placed = places ∙ ap (λ p. r.places.items ++ p ∷ []) place_is in

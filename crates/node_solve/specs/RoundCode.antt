@@ -17,7 +17,7 @@ abbrev pub task_work : Task → Work
 task_work t = record { model = t.model.now; pool = t.pool.now; job = t.job.now; first = t.first.now; rounds = t.rounds; pivots = t.pivots }
 
 abbrev pub round_of : HeldRound → Round
-round_of r = record { cuts = r.cuts.items; places = r.places.items; added = r.added.items; list = r.list }
+round_of r = record { cuts = r.cuts; places = r.places.items; added = r.added.items; list = r.list }
 
 -- what a round comes to where its run cannot start
 abbrev pub unstarted : StartFault → Solved
@@ -34,9 +34,9 @@ pub record IsTask (t : Task) : Type 0 where
 
 -- the cuts of a round are cuts of the model that count, each has its place, and there are at most 200
 pub record IsKeptRound (W : Work) (r : HeldRound) : Type 0 where
-  pub are : IsPoolOf W.model r.cuts.items
-  pub live : All (λ c. IsTrue c.live) r.cuts.items
-  pub few : length r.cuts.items ≤ 200
-  pub each : length r.places.items ≡ length r.cuts.items
+  pub are : IsPoolOf W.model r.cuts
+  pub live : All (λ c. IsTrue c.live) r.cuts
+  pub few : length r.cuts ≤ 200
+  pub each : length r.places.items ≡ length r.cuts
   pub there : ArePoolPlaces r.places.items
   pub room : length W.pool + length r.added.items ≤ 10000

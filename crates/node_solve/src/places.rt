@@ -1,8 +1,8 @@
 // The cuts of a relaxation beside those of a pool, and the lists that name them.
-ghost use Rattle.std.specs.Prelude.{◌≡◌, ◌≤◌, ◌+◌, ◌-◌, ◌++◌, ◌∷◌, [], length, map, get_or, IfOk};
+ghost use Rattle.std.specs.Prelude.{◌≡◌, ◌≤◌, ◌+◌, ◌-◌, ◌++◌, ◌∷◌, [], length, map, get_or, IsTrue, IfOk};
 ghost use Rattle.branch_tree.specs.declared.node.NodeResult.TheVariants.{Close, Split, PointAndClose, Keep};
 ghost use Rattle.kept_cuts.specs.Places.{index_among};
-ghost use Rattle.node_solve.specs.Places.{live_cuts, live_places, ArePoolPlaces, var_in_relaxation, var_in_pool, basis_in_relaxation, basis_in_pool, mult_in_pool, result_in_pool, with_cut_variables};
+ghost use Rattle.node_solve.specs.Places.{live_cuts, live_places, ArePoolPlaces, AreOwnPlaces, var_in_relaxation, var_in_pool, basis_in_relaxation, basis_in_pool, mult_in_pool, result_in_pool, with_cut_variables};
 
 use branch_tree::NodeResult;
 use cover_cuts::CutPool;
@@ -14,7 +14,7 @@ use std::alloc::{AllocError, Global};
 pub(crate) const CUT_LIMIT: usize = 200;
 
 /// An equal cut.
-fn copy_cut(cut: &CutRow) -> Result<CutRow, AllocError>
+pub(crate) fn copy_cut(cut: &CutRow) -> Result<CutRow, AllocError>
     ensures { IfOk result (λ c. c ≡ cut.now) }
 {
     cut.clone()
@@ -79,15 +79,40 @@ fn index_among(place: usize, places: &[usize]) -> usize
     places.len()
 }
 
+/// Whether each cut of the relaxation has its own place: so it is where the first cuts of the pool count.
+fn are_own_places(places: &[usize]) -> bool
+    ensures { IsTrue result → AreOwnPlaces places.now }
+{
+    for index in 0..places.len() {
+        if places[index] != index {
+            return false;
+        }
+    }
+    true
+}
+
+/// Where a place stands among others, past the last where it does not. Where each is its own, nothing is searched.
+fn cut_index(place: usize, places: &[usize], are_own: bool) -> usize
+    requires { IsTrue are_own → AreOwnPlaces places.now }
+    ensures { result ≡ index_among place places.now }
+{
+    if !are_own {
+        return index_among(place, places);
+    }
+    let count = places.len();
+    if place < count { place } else { count }
+}
+
 /// A variable of a pool, in the relaxation whose cuts have these places.
-fn var_in_relaxation(places: &[usize], var: &Var) -> Var
-    requires { length places.now ≤ 200 }
+fn var_in_relaxation(places: &[usize], are_own: bool, var: &Var) -> Var
+    requires few { length places.now ≤ 200 }
+    requires own { IsTrue are_own → AreOwnPlaces places.now }
     ensures { result ≡ var_in_relaxation places.now var.now }
 {
     match var {
         Var::Col(col) => Var::Col(*col),
         Var::Row(row) => Var::Row(*row),
-        Var::Cut(cut) => Var::Cut(CutId(index_among(cut.0 as usize, places) as u32)),
+        Var::Cut(cut) => Var::Cut(CutId(cut_index(cut.0 as usize, places, are_own) as u32)),
     }
 }
 
@@ -122,9 +147,10 @@ fn vars_in_relaxation(
     requires { length places.now ≤ 200 }
     ensures { IfOk result (λ vs. vs ≡ map (var_in_relaxation places.now) vars.now) }
 {
+    let are_own = are_own_places(places);
     let mut named = List::new(alloc);
     for var in vars {
-        named.push(var_in_relaxation(places, var))?;
+        named.push(var_in_relaxation(places, are_own, var))?;
     }
     Ok(named)
 }

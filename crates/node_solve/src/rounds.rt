@@ -1,10 +1,11 @@
 // Rounds: the relaxation of a leaf with the cuts that it has, and the cuts that its optimum violates.
-ghost use Rattle.std.specs.Prelude.{◌≡◌, ◌↔◌, ◌<◌, ◌+◌, ◌-◌, length, IsTrue, IfOk};
+ghost use Rattle.std.specs.Prelude.{◌≡◌, ◌↔◌, ◌<◌, ◌+◌, ◌-◌, ◌++◌, ◌∷◌, [], length, IsTrue, IfOk};
 ghost use Rattle.cover_cuts.specs.Cuts.{IsPoolOf};
 ghost use Rattle.node_solve.specs.Rounds.{HasRowOf, IsAddable, AddsOne, AddsAll, AddsCovers, MayGoOn, IsSolvedIn, IsNextAnswer, first_round, first_in};
 ghost use Rattle.node_solve.specs.RoundCode.{task_work, round_of, unstarted, IsKeptRound, IsTask};
 
-use crate::places::{CUT_LIMIT, LiveCuts, basis_in_relaxation, with_cut_variables};
+use crate::cuts::{RelaxationCuts, first_cuts};
+use crate::places::{CUT_LIMIT, basis_in_relaxation, with_cut_variables};
 use crate::points::first_fractional;
 use branch_tree::Job;
 use cover_cuts::{CutPool, cut_row};
@@ -35,8 +36,8 @@ pub(crate) struct Task<'a> {
 
 /// The relaxation of a round: its cuts with their places in the pool, those that were added, and where its run begins.
 #[derive(Drop)]
-pub(crate) struct Round {
-    pub(crate) cuts: Vec<CutRow>,
+pub(crate) struct Round<'a> {
+    pub(crate) cuts: RelaxationCuts<'a>,
     pub(crate) places: Vec<usize>,
     pub(crate) added: Vec<Derivation>,
     pub(crate) list: Basis,
@@ -65,14 +66,14 @@ pub(crate) enum Solved {
     Memory,
 }
 
-impl Task<'_> {
+impl<'a> Task<'a> {
     /// The first round: the cuts of the pool that count, and the basis that the leaf keeps.
-    pub(crate) fn first_round(&self, alloc: Global) -> Result<Round, AllocError>
+    pub(crate) fn first_round(&self, alloc: Global) -> Result<Round<'a>, AllocError>
         requires pool { IsPoolOf self.now.model.now self.now.pool.now }
         ensures first { IfOk result (λ r. round_of r ≡ first_round (task_work self.now)) }
         ensures kept { IfOk result (IsKeptRound (task_work self.now)) }
     {
-        let live = LiveCuts::new(alloc, self.pool)?;
+        let live = first_cuts(alloc, self.pool)?;
         let list = basis_in_relaxation(alloc, &live.places, &self.job.basis)?;
         let added = Vec::new(alloc);
         Ok(Round {
@@ -84,7 +85,7 @@ impl Task<'_> {
     }
 
     /// Solves the relaxation of a round, from this basis where the round's is not lawful.
-    fn solve_from(&self, alloc: Global, round: &Round, first: &Basis) -> Solved
+    fn solve_from(&self, alloc: Global, round: &Round<'_>, first: &Basis) -> Solved
         requires task { IsTask self.now }
         requires kept { IsKeptRound (task_work self.now) round.now }
         requires first { first.now ≡ first_in (task_work self.now) (round_of round.now) }
@@ -125,7 +126,7 @@ impl Task<'_> {
     }
 
     /// Solves the relaxation of a round.
-    pub(crate) fn solve(&self, alloc: Global, round: &Round) -> Solved
+    pub(crate) fn solve(&self, alloc: Global, round: &Round<'_>) -> Solved
         requires task { IsTask self.now }
         requires kept { IsKeptRound (task_work self.now) round.now }
         ensures { IsSolvedIn (task_work self.now) (round_of round.now) result }
@@ -137,7 +138,7 @@ impl Task<'_> {
     }
 
     /// Whether another round may be made at an optimum.
-    fn may_go_on(&self, made: u8, round: &Round, point: &Point) -> bool
+    fn may_go_on(&self, made: u8, round: &Round<'_>, point: &Point) -> bool
         ensures { IsTrue result ↔ MayGoOn (task_work self.now) made (round_of round.now) point.now }
     {
         if made >= self.rounds {
@@ -151,7 +152,7 @@ impl Task<'_> {
     }
 
     /// Whether a cut may be added: it counts, no cut of the relaxation has its row, and there is room.
-    fn is_addable(&self, round: &Round, cut: &CutRow) -> bool
+    fn is_addable(&self, round: &Round<'_>, cut: &CutRow) -> bool
         ensures { IsTrue result ↔ IsAddable (task_work self.now) (round_of round.now) cut.now }
     {
         if !cut.live {
@@ -169,28 +170,39 @@ impl Task<'_> {
     }
 
     /// Adds the cut of a derivation, where it may be.
-    fn add_one(&self, alloc: Global, round: &mut Round, from: &Derivation) -> Result<(), AllocError>
+    fn add_one(
+        &self,
+        alloc: Global,
+        round: &mut Round<'_>,
+        from: &Derivation,
+    ) -> Result<(), AllocError>
         requires kept { IsKeptRound (task_work self.now) round.old }
         ensures adds { IfOk result (λ _. AddsOne (task_work self.now) (round_of round.old) from.now (round_of round.new)) }
         ensures kept { IfOk result (λ _. IsKeptRound (task_work self.now) round.new) }
     {
         let cut = cut_row(alloc, self.model, from)?;
         if !self.is_addable(round, &cut) {
+            drop(cut);
             return Ok(());
         }
         let place = self.pool.rows().len() + round.added.len();
-        let noted = copy_derivation(from)?;
-        round.cuts.push(cut)?;
-        round.places.push(place)?;
-        round.added.push(noted)?;
-        Ok(())
+        match note_cut(&mut round.places, &mut round.added, place, from) {
+            Ok(()) => {
+                round.cuts.push(alloc, cut)?;
+                Ok(())
+            }
+            Err(error) => {
+                drop(cut);
+                Err(error)
+            }
+        }
     }
 
     /// Adds the cuts of derivations, one after the other, where they may be.
     fn add_all(
         &self,
         alloc: Global,
-        round: &mut Round,
+        round: &mut Round<'_>,
         covers: &[Derivation],
     ) -> Result<(), AllocError>
         requires kept { IsKeptRound (task_work self.now) round.old }
@@ -204,7 +216,12 @@ impl Task<'_> {
     }
 
     /// Adds cuts that the point violates.
-    fn separate(&self, alloc: Global, round: &mut Round, point: &Point) -> Result<(), AllocError>
+    fn separate(
+        &self,
+        alloc: Global,
+        round: &mut Round<'_>,
+        point: &Point,
+    ) -> Result<(), AllocError>
         requires shape { length point.now ≡ length self.now.model.now.cols }
         requires kept { IsKeptRound (task_work self.now) round.old }
         ensures separates { IfOk result (λ _. AddsCovers (task_work self.now) (round_of round.old) point.now (round_of round.new)) }
@@ -220,7 +237,7 @@ impl Task<'_> {
         &self,
         alloc: Global,
         made: u8,
-        round: &mut Round,
+        round: &mut Round<'_>,
         point: &Point,
         basis: &Basis,
     ) -> Result<bool, AllocError>
@@ -242,6 +259,29 @@ impl Task<'_> {
         round.list = list;
         Ok(true)
     }
+}
+
+/// Notes a cut that is added: its place in the pool, and its derivation.
+fn note_cut(
+    places: &mut Vec<usize>,
+    added: &mut Vec<Derivation>,
+    place: usize,
+    from: &Derivation,
+) -> Result<(), AllocError>
+    ensures places { IfOk result (λ _. places.new.items ≡ places.old.items ++ place ∷ []) }
+    ensures added { IfOk result (λ _. added.new.items ≡ added.old.items ++ from.now ∷ []) }
+{
+    let noted = copy_derivation(from)?;
+    added.push(noted)?;
+    places.push(place)?;
+    Ok(())
+}
+
+/// The cuts that a round added. The rest of the round is let go.
+pub(crate) fn added_of(round: Round<'_>) -> Vec<Derivation>
+    ensures { result.items ≡ round.entry.added.items }
+{
+    round.added
 }
 
 /// What a round comes to where its run cannot start.

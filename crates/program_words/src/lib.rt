@@ -13,11 +13,15 @@
 //! them), and refuses them exactly where `clap` finds a fault (`TakesWords`). The laws say without `clap` which words ask
 //! for which form for sure.
 //!
+//! `words_of` makes the words of what the system hands over.
+//!
 //! Below stands `clap`; above stands `sym_shell`, which does what is asked.
 #![tactic(auto)]
 
+mod arguments;
 mod laws;
 mod words;
 
+pub use arguments::words_of;
 pub use laws::{check_law, run_law};
 pub use words::{Form, WordsFault, form_of};

@@ -1,9 +1,9 @@
 // The words of the command line.
-ghost use Rattle.std.specs.Prelude.{◌≡◌, false, IfOk, IsErrOf};
-ghost use Rattle.clap.specs.Words.{app_of, found_of, subcommand_rows_of};
+ghost use Rattle.std.specs.Prelude.{◌≡◌, false, codes, IfOk, IsErrOf};
+ghost use Rattle.clap.specs.Words.{app_of, new_app, with_rule, with_subcommand, found_of, subcommand_rows_of};
 ghost use Rattle.clap.specs.Walk.{rows_of};
 ghost use Rattle.clap.specs.declared.builder.command.Command.TheViews.{out-Command};
-ghost use Rattle.program_words.specs.Forms.{run_app, check_app, symphony, TakesWords, asked_by, asked_form, form_shown, argument_text};
+ghost use Rattle.program_words.specs.Forms.{run_app, required_word, check_app, symphony_alone, symphony, TakesWords, asked_by, asked_form, form_shown, argument_text};
 ghost use Rattle.program_words.specs.declared.words.WordsFault.TheVariants.{Memory};
 
 use clap::error::ErrorKind;
@@ -12,7 +12,7 @@ use std::alloc::{AllocError, Global};
 use thiserror::Error;
 
 /// What the words ask the program to do.
-#[derive(Clone, Copy, Debug, PartialEq, Eq)]
+#[derive(Clone, Copy)]
 pub enum Form<'a> {
     /// To answer the commands of a script.
     Run,
@@ -21,7 +21,7 @@ pub enum Form<'a> {
 }
 
 /// Why the words have no form.
-#[derive(Clone, Copy, Debug, PartialEq, Eq, Error)]
+#[derive(Clone, Copy, Debug, Error)]
 pub enum WordsFault {
     /// They are none of the program's forms.
     #[error("the words have no form")]
@@ -47,29 +47,56 @@ fn run_command<'a>(alloc: Global) -> Command<'a>
     Command::new(alloc, "run")
 }
 
+/// The word `check` with its first name.
+fn check_of_model<'a>(alloc: Global) -> Result<Command<'a>, AllocError>
+    ensures app { IfOk result (λ command. app_of command ≡ with_rule (new_app (codes "check")) (required_word (codes "MODEL"))) }
+    ensures local { IfOk result (λ command. (out-Command command).has_globals ≡ false) }
+{
+    let model = Arg::new(alloc, "MODEL").required(true);
+    Command::new(alloc, "check").arg(model)
+}
+
 /// The form `check MODEL CERT`.
 fn check_command<'a>(alloc: Global) -> Result<Command<'a>, AllocError>
     ensures app { IfOk result (λ command. app_of command ≡ check_app) }
     ensures local { IfOk result (λ command. (out-Command command).has_globals ≡ false) }
 {
-    let model = Arg::new(alloc, "MODEL").required(true);
+    let command = check_of_model(alloc)?;
     let cert = Arg::new(alloc, "CERT").required(true);
-    Command::new(alloc, "check").arg(model)?.arg(cert)
+    command.arg(cert)
 }
 
-/// The command line: the program's name and a subcommand for each form. Help and the version are no subcommands or flags:
-/// other words have the usage line.
-fn command_line<'a>(alloc: Global) -> Result<Command<'a>, AllocError>
-    ensures { IfOk result (λ command. app_of command ≡ symphony) }
+/// The program's name without subcommands. Help and the version are no subcommands or flags: other words have the usage
+/// line.
+fn bare_command_line<'a>(alloc: Global) -> Command<'a>
+    ensures { app_of result ≡ symphony_alone }
 {
-    let check = check_command(alloc)?;
     Command::new(alloc, "symphony")
         .disable_help_flag(true)
         .disable_version_flag(true)
         .disable_help_subcommand(true)
         .subcommand_required(true)
-        .subcommand(run_command(alloc))?
-        .subcommand(check)
+}
+
+/// The program's name with the subcommand `run`.
+fn run_command_line<'a>(alloc: Global) -> Result<Command<'a>, AllocError>
+    ensures { IfOk result (λ command. app_of command ≡ with_subcommand symphony_alone run_app.top) }
+{
+    bare_command_line(alloc).subcommand(run_command(alloc))
+}
+
+/// The command line: the program's name and a subcommand for each form.
+fn command_line<'a>(alloc: Global) -> Result<Command<'a>, AllocError>
+    ensures { IfOk result (λ command. app_of command ≡ symphony) }
+{
+    let check = check_command(alloc)?;
+    match run_command_line(alloc) {
+        Ok(command) => command.subcommand(check),
+        Err(error) => {
+            drop(check);
+            Err(error)
+        }
+    }
 }
 
 /// The value of an argument, or no text where it has none.

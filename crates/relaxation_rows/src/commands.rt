@@ -128,7 +128,7 @@ impl Relaxations {
     /// The leaf to be worked.
     fn job(&self) -> Result<Job> {
         let basis = match &self.list {
-            Some(list) => list.clone()?,
+            Some(list) => list.copy(self.alloc)?,
             None => Basis {
                 basic: List::new(self.alloc),
                 high: List::new(self.alloc),

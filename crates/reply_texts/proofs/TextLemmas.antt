@@ -26,6 +26,15 @@ pub nothing_more : (r : List ℕ) → r ≡ r ++ []
 nothing_more [] = refl
 nothing_more (b ∷ r) = ap (λ t. b ∷ t) (nothing_more r)
 
+-- ---- the texts of a list's items, one behind another
+
+pub texts-step : {A : Type 0} (f : A → List ℕ) (xs : List A) (k : ℕ) (d : A) (r p q : List ℕ) → k < length xs → p ≡ r ++ flat_map f (take k xs) → q ≡ p ++ f (get_or xs k d) → q ≡ r ++ flat_map f (take (k + 1) xs)
+texts-step f xs k d r p q h before now =
+    now ∙ ap (λ t. t ++ f (get_or xs k d)) before ∙ flat_map_more f r (take k xs) (get_or xs k d) ∙ ap (λ found. r ++ flat_map f found) (sym (take_more xs k d h))
+
+pub texts-all : {A : Type 0} (f : A → List ℕ) (xs : List A) (k : ℕ) (r p : List ℕ) → length xs ≤ k → p ≡ r ++ flat_map f (take k xs) → p ≡ r ++ flat_map f xs
+texts-all f xs k r p past e = e ∙ ap (λ found. r ++ flat_map f found) (take_all k xs past)
+
 -- ---- a column's line
 
 is_nothing : ℚ → Bool

@@ -86,7 +86,7 @@ pub fn lows(alloc: Global, relax: &Relax<'_>) -> Result<Vec<Bound>, AllocError>
     ensures items { IfOk result (λ v. (u : ℕ) → u < length relax.now.model.now.cols + activity_count (form_of relax.now) → get_or v.items u None ≡ (relaxation_of relax.now).low u) }
 {
     let variables = relax.variables();
-    let mut list = Vec::new(alloc);
+    let mut list = Vec::with_capacity(alloc, variables)?;
     for variable in 0..variables {
         list.push(low_of(relax, variable))?;
     }
@@ -101,7 +101,7 @@ pub fn highs(alloc: Global, relax: &Relax<'_>) -> Result<Vec<Bound>, AllocError>
     ensures items { IfOk result (λ v. (u : ℕ) → u < length relax.now.model.now.cols + activity_count (form_of relax.now) → get_or v.items u None ≡ (relaxation_of relax.now).high u) }
 {
     let variables = relax.variables();
-    let mut list = Vec::new(alloc);
+    let mut list = Vec::with_capacity(alloc, variables)?;
     for variable in 0..variables {
         list.push(high_of(relax, variable))?;
     }
@@ -140,7 +140,7 @@ pub fn costs(alloc: Global, relax: &Relax<'_>) -> Result<Vec<Frac>, AllocError>
     ensures items { IfOk result (λ v. (u : ℕ) → u < length relax.now.model.now.cols + activity_count (form_of relax.now) → get_or v.items u (int (pos 0)) ≡ (relaxation_of relax.now).cost u) }
 {
     let variables = relax.variables();
-    let mut list = Vec::new(alloc);
+    let mut list = Vec::with_capacity(alloc, variables)?;
     for variable in 0..variables {
         list.push(cost_of(relax, variable))?;
     }

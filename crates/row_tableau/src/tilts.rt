@@ -83,7 +83,7 @@ pub fn tilts(alloc: Global, relax: &Relax<'_>) -> Result<Vec<Stand>, AllocError>
     ensures items { IfOk result (λ v. (u : ℕ) → u < length relax.now.model.now.cols + activity_count (form_of relax.now) → get_or v.items u Free ≡ tilt_of relax.now.kind (form_of relax.now) u) }
 {
     let variables = relax.variables();
-    let mut list = Vec::new(alloc);
+    let mut list = Vec::with_capacity(alloc, variables)?;
     for variable in 0..variables {
         list.push(tilt_of(relax, variable))?;
     }
@@ -115,7 +115,7 @@ fn sided(alloc: Global, relax: &Relax<'_>) -> Result<Vec<usize>, AllocError>
     ensures { IfOk result (λ v. v.items ≡ sided (form_of relax.now)) }
 {
     let variables = relax.variables();
-    let mut list = Vec::new(alloc);
+    let mut list = Vec::with_capacity(alloc, variables)?;
     for variable in 0..variables {
         if is_sided(relax, variable) {
             list.push(variable)?;

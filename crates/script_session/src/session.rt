@@ -26,14 +26,14 @@ fn is_comment_line(line: &[u8]) -> bool
 }
 
 /// Whether a script goes on after a line.
-#[derive(Clone, Copy, Debug, PartialEq, Eq)]
+#[derive(Clone, Copy)]
 pub(crate) enum Flow {
     Open,
     Ended,
 }
 
 /// Why a run ends before its script does.
-#[derive(Clone, Copy, Debug, PartialEq, Eq)]
+#[derive(Clone, Copy)]
 pub(crate) enum Stop {
     Source,
     Sink,

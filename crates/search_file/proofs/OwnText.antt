@@ -19,8 +19,8 @@ use Rattle.warm_values.specs.declared.fault.WarmFault.TheVariants.{Bad, Memory}
 use Rattle.warm_file.specs.Answers.{IsSearchAnswer}
 use Rattle.warm_file.specs.Searches.{States, IsFault}
 use Rattle.warm_file.proofs.SearchLaws.{no_fault-law}
-use Rattle.warm_json.specs.Writable.{HasNarrowSplit, HasSearchShape, IsWritable}
-use Rattle.warm_json.specs.Written.{search_json}
+use Rattle.warm_writer.specs.Writable.{HasNarrowSplit, HasSearchShape, IsWritable}
+use Rattle.warm_writer.specs.Written.{search_json}
 use Rattle.search_file.specs.Files.{IsReread, IsTextOf, IsTextAnswer}
 
 narrow-split : (F : Formulation) (n : NodeData) → IsRestorableNode F n → HasNarrowSplit n

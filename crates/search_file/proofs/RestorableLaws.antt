@@ -32,7 +32,7 @@ use Rattle.warm_values.proofs.Inversions.{next-ok, key-ok, test-ok, member-ok}
 use Rattle.warm_file.specs.Models.{model_of}
 use Rattle.warm_file.specs.Searches.{counts, cuts_of, points_of, nodes_of, whole_search, tree_of, search_in, search_of, States}
 use Rattle.warm_file.proofs.SearchLaws.{few-cuts, one_search-law}
-use Rattle.warm_json.specs.Writable.{IsVariableThere, IsActivity, AreWritableVariables, AreWritableMultipliers, IsWritableBasis, IsWritableNode}
+use Rattle.warm_writer.specs.Writable.{IsVariableThere, IsActivity, AreWritableVariables, AreWritableMultipliers, IsWritableBasis, IsWritableNode}
 use Rattle.search_file.specs.Files.{IsTextOf, IsStatedBy}
 use Rattle.search_file.specs.Laws.{FileLaw}
 use Rattle.search_file.proofs.StatedNodes.{nodes-stated, few-points}

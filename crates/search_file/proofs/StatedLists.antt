@@ -18,7 +18,7 @@ use Rattle.warm_values.specs.declared.rising.Kind.{Kind}
 use Rattle.warm_values.specs.declared.rising.Kind.TheVariants as kind
 use Rattle.warm_values.proofs.Inversions.{next-ok, key-ok, test-ok, list-keeps}
 use Rattle.warm_file.specs.Searches.{variables_of, multipliers_of}
-use Rattle.warm_json.specs.Writable.{ArePlacesRising, IsVariableThere, IsActivity, AreWritableVariables, IsWritableMultiplier, AreWritableMultipliers}
+use Rattle.warm_writer.specs.Writable.{ArePlacesRising, IsVariableThere, IsActivity, AreWritableVariables, IsWritableMultiplier, AreWritableMultipliers}
 
 less : (k m : ℕ) → nat_lt k m ≡ true → k < m
 less k m h = grind (arith, nat_tests)

@@ -24,7 +24,7 @@ use Rattle.warm_values.specs.Rising.{col_id}
 use Rattle.warm_values.specs.declared.rising.Counts.{Counts}
 use Rattle.warm_values.proofs.Inversions.{next-ok, key-ok, test-ok, member-ok, list-keeps, at_most-ok}
 use Rattle.warm_file.specs.Searches.{point_limit, point_of, points_of, variables_of, multipliers_of, basis_of, branching_of, split_of, leaf_of, node_of, nodes_of}
-use Rattle.warm_json.specs.Writable.{IsWritableBasis, IsWritableNode}
+use Rattle.warm_writer.specs.Writable.{IsWritableBasis, IsWritableNode}
 use Rattle.search_file.proofs.NumberFits.{spelled-fits}
 use Rattle.search_file.proofs.StatedLists.{placed, variables-stated, multipliers-stated}
 

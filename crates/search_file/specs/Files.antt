@@ -13,7 +13,7 @@ use Rattle.warm_values.specs.declared.fault.WarmFault.{WarmFault}
 use Rattle.warm_values.specs.declared.fault.WarmFault.TheVariants.{Bad, Memory}
 use Rattle.warm_file.specs.Answers.{IsSearchAnswer}
 use Rattle.warm_file.specs.Searches.{States, IsFault}
-use Rattle.warm_json.specs.Written.{search_json}
+use Rattle.warm_writer.specs.Written.{search_json}
 
 abbrev pub own_text : PlainSearch → List ℕ
 own_text S = compact_text (search_json (saved_data S))

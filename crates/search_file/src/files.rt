@@ -1,7 +1,7 @@
 // Searches as texts.
 ghost use Rattle.std.specs.Prelude.{◌≡◌, IfErr};
 ghost use Rattle.search_saving.specs.Saved.{saved_data};
-ghost use Rattle.warm_json.specs.Writable.{IsWritable};
+ghost use Rattle.warm_writer.specs.Writable.{IsWritable};
 ghost use Rattle.warm_values.specs.declared.fault.WarmFault.TheVariants.{Memory};
 ghost use Rattle.search_file.specs.Files.{IsReread, IsTextAnswer, IsSearchFound};
 

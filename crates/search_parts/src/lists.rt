@@ -1,13 +1,17 @@
 // Lists of variables that are there, each once.
-ghost use Rattle.std.specs.Prelude.{◌≡◌, ◌≢◌, ◌↔◌, IsTrue, All, AllPairs, Contains, IfOk, length, map};
+ghost use Rattle.std.specs.Prelude.{◌≡◌, ◌≢◌, ◌↔◌, ◌<◌, IsTrue, true, All, AllPairs, Contains, IfOk, length, map};
 ghost use Rattle.lp_model.specs.Formulations.{formulation};
 ghost use Rattle.search_parts.specs.Lists.{IsThere, IsActivityThere, NamesOnce, AreMultipliers, IsBasis, HasLists};
+ghost use Rattle.search_parts.specs.Marks.{mark_index};
 
 use branch_tree::LeafData;
 use cover_cuts::CutPool;
 use frac128::Frac;
-use lp_model::{Basis, Model, Mult, Var};
+use lp_model::{Basis, List, Model, Mult, Var};
 use std::alloc::{AllocError, Global};
+
+/// How many marks there are by which the variables of a list are told apart.
+const MARKS: usize = 4096;
 
 /// Whether the two are one variable.
 fn is_same(first: &Var, second: &Var) -> bool
@@ -33,14 +37,38 @@ fn is_named(vars: &[Var], var: &Var) -> bool
     false
 }
 
-/// Whether no variable is named twice.
+/// The place of a variable's mark: variables of a model of some size have each their own.
+fn mark_index(var: &Var) -> usize
+    ensures mark { result ≡ mark_index var.now }
+    ensures within { result < MARKS }
+{
+    let place = match var {
+        Var::Col(col) => 3 * col.0 as usize,
+        Var::Row(row) => 3 * row.0 as usize + 1,
+        Var::Cut(cut) => 3 * cut.0 as usize + 2,
+    };
+    place % MARKS
+}
+
+/// Whether the variable is among these, of which one has its mark if it is.
+fn is_repeated(vars: &[Var], var: &Var, marked: bool) -> bool
+    requires { Contains vars.now var.now → marked ≡ true }
+    ensures { IsTrue result ↔ Contains vars.now var.now }
+{
+    marked && is_named(vars, var)
+}
+
+/// Whether no variable is named twice. One is compared with those before it only where one of them has its mark.
 fn is_once(vars: &[Var]) -> bool
     ensures { IsTrue result ↔ AllPairs (λ a b. a ≢ b) vars.now }
 {
+    let mut marks = [false; MARKS];
     for place in 0..vars.len() {
-        if is_named(&vars[..place], &vars[place]) {
+        let mark = mark_index(&vars[place]);
+        if is_repeated(&vars[..place], &vars[place], marks[mark]) {
             return false;
         }
+        marks[mark] = true;
     }
     true
 }
@@ -99,10 +127,10 @@ fn are_there(model: &Model, pool: &CutPool, vars: &[Var]) -> bool
 }
 
 /// The variables of a list of multipliers.
-fn vars_of(alloc: Global, mult: &[(Var, Frac)]) -> Result<Vec<Var>, AllocError>
-    ensures { IfOk result (λ vars. vars.items ≡ map (λ m. m.0) mult.now) }
+fn vars_of(alloc: Global, mult: &[(Var, Frac)]) -> Result<List<Var>, AllocError>
+    ensures { IfOk result (λ vars. vars ≡ map (λ m. m.0) mult.now) }
 {
-    let mut vars = Vec::new(alloc);
+    let mut vars = List::new(alloc);
     for (var, _) in mult {
         vars.push(*var)?;
     }
@@ -126,7 +154,7 @@ pub fn are_multipliers(
     ensures { IfOk result (λ are. IsTrue are ↔ AreMultipliers (formulation model.now pool.now) mult.now) }
 {
     let vars = vars_of(alloc, mult.as_slice())?;
-    Ok(are_rows_once(model, pool, &vars))
+    Ok(are_rows_once(model, pool, vars.as_slice()))
 }
 
 /// Whether the variables are there, each once.

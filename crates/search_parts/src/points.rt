@@ -74,10 +74,7 @@ fn worst_of(values: &[Frac]) -> Option<usize>
 fn with_value(alloc: Global, values: &[Frac], value: Frac) -> Result<Vec<Frac>, AllocError>
     ensures { IfOk result (λ more. more.items ≡ values.now ++ value ∷ []) }
 {
-    let mut more = Vec::new(alloc);
-    for value in values {
-        more.push(*value)?;
-    }
+    let mut more = Vec::from_slice(alloc, values)?;
     more.push(value)?;
     Ok(more)
 }

@@ -1,7 +1,7 @@
 // What becomes of a result that is placed.
 
 /// What became of a result.
-#[derive(Clone, Copy, Debug, Drop)]
+#[derive(Clone, Copy, Drop)]
 pub enum Taken {
     /// No open leaf has the id.
     Stale,

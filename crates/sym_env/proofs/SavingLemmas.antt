@@ -7,7 +7,7 @@ use Rattle.sound_searches.specs.Laws.{HasNoOpenLeaf}
 use Rattle.sound_searches.specs.Sound.{PlainSearch, IsSound}
 use Rattle.sound_searches.specs.Trimmed.{Trims}
 use Rattle.search_saving.specs.Saved.{saved_data}
-use Rattle.warm_json.specs.Writable.{IsWritable}
+use Rattle.warm_writer.specs.Writable.{IsWritable}
 use Rattle.search_file.specs.Files.{own_text, IsTextOf, IsTextAnswer, IsStatedBy, IsSearchFound}
 use Rattle.search_file.proofs.RestorableLaws.{in-own-text}
 use Rattle.warm_values.specs.declared.fault.WarmFault.{WarmFault}

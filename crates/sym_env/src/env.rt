@@ -4,7 +4,7 @@ ghost use Rattle.std.specs.Option.{option_copied};
 ghost use Rattle.dual_bounds.specs.NewNumbers.{with_new_sides, with_new_costs, AreNewSides, AreNewCosts, ArePresentSides, ArePresentCosts};
 ghost use Rattle.dual_bounds.specs.Laws.{IsTrueLowerBound, IsTrueUpperBound, IsExactLower, IsExactUpper};
 ghost use Rattle.search_saving.specs.Saved.{saved_data};
-ghost use Rattle.warm_json.specs.Writable.{IsWritable};
+ghost use Rattle.warm_writer.specs.Writable.{IsWritable};
 ghost use Rattle.warm_values.specs.declared.fault.WarmFault.TheVariants.{Memory as TextMemory};
 ghost use Rattle.sym_env.specs.Env.{no_model, model_of, pool_in, Holds};
 ghost use Rattle.sym_env.specs.Bounds.{IsLowerAnswer, IsUpperAnswer};

@@ -1,7 +1,7 @@
 // How far a solve may go.
 
 /// How far a solve may go.
-#[derive(Clone, Copy, Debug, Drop)]
+#[derive(Clone, Copy, Drop)]
 pub struct Limits {
     /// How many results it may place.
     pub nodes: u64,

@@ -34,7 +34,8 @@ use Rattle.edit_words.specs.EditWords as says
 use Rattle.reply_texts.specs.Places.{block_text, step_line, step_text}
 use Rattle.reply_texts.specs.Texts.{ok_text, memory_text, column_lines, known_text, bound_text}
 use Rattle.sym_shell.specs.State.{ShellState}
-use Rattle.sym_shell.specs.Load.{LoadStep, ReadsFile, refusal_text}
+use Rattle.command_files.specs.Reading.{ReadsFile, refusal_text}
+use Rattle.sym_shell.specs.Load.{LoadStep}
 use Rattle.sym_shell.specs.Showing.{Finding, TellsBy, ShowsOptimumBy, ShowsEmptinessBy, ShowsNoEndBy, ShowsNodeStopBy, ShowsTreeStopBy, ShowsPivotStopBy, ShowsWideStopBy, AnswersBy, Optimum, Emptiness, NoEnd, NodeStop, TreeStop, PivotStop, WideStop, Wanting, EndsBy}
 use Rattle.sym_shell.specs.Solve.{limits_of, HasFewNodes, RepliesToSolve, SolveStep}
 use Rattle.sym_shell.specs.Warming.{WentOn, IsTooSmall, RepliesToWarm, WarmStep}
@@ -43,16 +44,17 @@ use Rattle.sym_shell.specs.Editing as editing
 use Rattle.sym_shell.specs.Bounding.{names_for, HasOneNumber, HaveOneNumber, IsLowerTold, IsUpperTold, TellsBound, AnswersBound, IsAtOptimum, RepliesToNumbers, RepliesToPairs, BoundStep}
 use Rattle.sym_shell.specs.Bounding as bounding
 use Rattle.sym_shell.specs.Shown.{point_shown}
-use Rattle.sym_shell.specs.Certify.{IsHeldText, Writes, Written, TooLong, Failed, Certifies, CertStep}
-use Rattle.sym_shell.specs.Certify as certify
-use Rattle.sym_shell.specs.Writing.{IsWrittenModel, WritesModel, WriteStep}
+use Rattle.command_files.specs.Filing.{Writes, Written, TooLong, Failed, IsWrittenModel}
+use Rattle.sym_shell.specs.Certify.{IsHeldText, Certifies, CertStep}
+use Rattle.command_files.specs.Filing as filing
+use Rattle.sym_shell.specs.Writing.{WritesModel, WriteStep}
 use Rattle.sym_shell.specs.Saving.{AnswersTrim, RepliesToTrim, TrimStep, AnswersSave, RepliesToSave, SaveStep, RefusesFile, RestoreStep}
 use Rattle.sym_shell.specs.Saving as saving
 use Rattle.sym_shell.specs.Step.{AnswersTo, Step}
 use Rattle.sym_shell.specs.Kinds.{Kind, Optimal, Infeasible, Unbounded, StoppedNodes, StoppedTree, StoppedPivots, StoppedWide, BoundShown, Done, UnknownCommand, WrongArguments, NoModel, UnknownName, TakenName, WrongNumber, OverLimit, NoBounds, BadSides, NoAnswer, StoreFailed, FileTooLong, FaultyText, FaultySearch, WantsMemory, Is, IsError}
 use Rattle.sym_shell.specs.Causes.{OfSearch, Searched, BoundRead, SaysEdit, SaysNumbers, NeedsModel, CauseOf, HasCauses}
-use Rattle.sym_shell.specs.declared.reading.Refusal.{Refusal}
-use Rattle.sym_shell.specs.declared.reading.Refusal.TheVariants as refusal
+use Rattle.command_files.specs.declared.reading.Refusal.{Refusal}
+use Rattle.command_files.specs.declared.reading.Refusal.TheVariants as refusal
 use Rattle.sym_shell.proofs.KindLemmas.{one_kind}
 use Rattle.sym_shell.proofs.ReplyLemmas.{solves-model}
 
@@ -275,7 +277,7 @@ module _ (old : ShellState) (words : List (List ℕ)) (reply : List ℕ) (new : 
     is = (codes "store\n", told);
     cause = inr (inl (record { file = file; search = S; text = text; asked = asked; present = present; held = some; certificate = subst (λ h. IsHeldText S h text) (sym same) is; is = (told, short, rose) }));
   }
-  writes_cause file S held asked present same some (certify.Wanting kept told) = wants told
+  writes_cause file S held asked present same some (filing.Wanting kept told) = wants told
 
   cert_cause : (file : List ℕ) → asks_of words ≡ Cert file → CertStep old file reply new → HasCause old words reply new
   cert_cause file asked h = by old.env.search old.env.held refl refl h.answer
@@ -308,7 +310,7 @@ module _ (old : ShellState) (words : List (List ℕ)) (reply : List ℕ) (new : 
     is = (codes "store\n", told);
     cause = inr (inr (inl (record { file = file; model = M; asked = asked; present = present; is = (told, (text, (is, short, rose))) })));
   }
-  model_cause file M asked present (certify.Wanting kept told) = wants told
+  model_cause file M asked present (filing.Wanting kept told) = wants told
 
   -- without a model there is no search
   no_search : (search : Option PlainSearch) → option_map (λ (S : PlainSearch). S.model) search ≡ None → search ≡ None
@@ -357,7 +359,7 @@ module _ (old : ShellState) (words : List (List ℕ)) (reply : List ℕ) (new : 
     is = (codes "store\n", told);
     cause = inr (inr (inr (inl (record { file = file; search = S; asked = asked; present = present; is = (told, (text, (is, short, rose))) }))));
   }
-  filed_cause file S asked present (certify.Wanting kept told) = wants told
+  filed_cause file S asked present (filing.Wanting kept told) = wants told
 
   save_cause : (file : List ℕ) → asks_of words ≡ Save file → SaveStep old file reply new → HasCause old words reply new
   save_cause file asked h = by old.env.search refl h.answer

@@ -7,7 +7,6 @@ pub mod CertLemmas
 pub mod WriteLemmas
 pub mod PlacingLemmas
 pub mod BoundLemmas
-pub mod CheckLemmas
 pub mod RunLemmas
 pub mod ShownWords
 pub mod ShownBack

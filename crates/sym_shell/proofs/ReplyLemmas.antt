@@ -30,7 +30,7 @@ use Rattle.sym_shell.specs.Solve.{limits_of, HasFewNodes, AnswersSolve, RepliesT
 use Rattle.sym_shell.specs.Warming.{WentOn, IsTooSmall, TellsAgain, AnswersWarm, RepliesToWarm}
 use Rattle.sym_shell.specs.State.{HasWords}
 use Rattle.sym_shell.proofs.ShownBack.{point-shown, value-shown}
-use Rattle.sym_shell.proofs.StepLemmas.{on_ok_if}
+use Rattle.command_files.proofs.FileLemmas.{on_ok_if}
 
 -- ---- whatever search was had
 

@@ -38,13 +38,13 @@ use Rattle.sym_env.specs.declared.env.EnvFault.TheVariants as env_fault
 use Rattle.reply_texts.specs.Texts.{ok_text, no_model_text, memory_text}
 use Rattle.sym_shell.specs.State.{shell_state, HasWords}
 use Rattle.sym_shell.specs.EnvFaults.{env_fault_text}
-use Rattle.sym_shell.specs.declared.reading.Refusal.{Refusal}
-use Rattle.sym_shell.specs.declared.reading.Refusal.TheVariants as refusal
-use Rattle.sym_shell.specs.Load.{HasText, ReadsText, refusal_text}
-use Rattle.sym_shell.specs.Certify.{Writes}
-use Rattle.sym_shell.specs.Certify as certify
+use Rattle.command_files.specs.declared.reading.Refusal.{Refusal}
+use Rattle.command_files.specs.declared.reading.Refusal.TheVariants as refusal
+use Rattle.command_files.specs.Reading.{HasText, ReadsText, refusal_text}
+use Rattle.command_files.specs.Filing.{Writes}
+use Rattle.command_files.specs.Filing as filing
 use Rattle.sym_shell.specs.Saving.{Trimmed, Untrimmed, RepliesToTrim, Filed, Untold, RepliesToSave, SaveStep, TakesText, Taken, Faulty, Wanting, RestoresFile, RefusesFile, NoFile, LongFile, NoSearch, Unread, RestoreStep}
-use Rattle.sym_shell.proofs.CertLemmas.{writes-as}
+use Rattle.command_files.proofs.FileLemmas.{writes-as}
 
 -- ---- a tree that is cut down
 
@@ -120,9 +120,9 @@ module _ (env : PlainEnv) (files : Option Files) (faults : ℕ) (name reply : Li
       by (Some S) env_fault.NoAnswer t h = absurd h
       by (Some S) (env_fault.Edit bad) t h = absurd h
       by (Some S) (env_fault.Warm (warm.Bad place code)) (inl t) h = Untold place code h t refl
-      by (Some S) (env_fault.Warm (warm.Bad place code)) (inr t) h = Filed (certify.Wanting (inl refl) t)
-      by (Some S) (env_fault.Warm warm.Memory) (inl t) h = Filed (certify.Wanting (inl refl) t)
-      by (Some S) (env_fault.Warm warm.Memory) (inr t) h = Filed (certify.Wanting (inl refl) t)
+      by (Some S) (env_fault.Warm (warm.Bad place code)) (inr t) h = Filed (filing.Wanting (inl refl) t)
+      by (Some S) (env_fault.Warm warm.Memory) (inl t) h = Filed (filing.Wanting (inl refl) t)
+      by (Some S) (env_fault.Warm warm.Memory) (inr t) h = Filed (filing.Wanting (inl refl) t)
       by (Some S) env_fault.Memory t h = absurd h
 
 -- ---- the names that a text states are words

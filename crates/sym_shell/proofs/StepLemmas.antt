@@ -1,6 +1,6 @@
 -- From what is asked to the words that ask it.
 use Rattle.std.proofs.Common.{◌≡◌, ◌⊎◌, ℕ, ◌≤◌, List, refl, ap, sym, subst, ◌∙◌, inl, inr, Option, Some, Ok, Err, Result}
-use Rattle.std.specs.Prelude.{OnOk, OnErr, IfOk, IfSome}
+use Rattle.std.specs.Prelude.{OnErr, IfSome}
 use Rattle.std.specs.Option.{option_map}
 use Rattle.command_words.specs.Asks.{Asks, Solve, Warm, asks_of}
 use Rattle.edit_words.specs.EditWords.{EditAsks}
@@ -13,21 +13,14 @@ use Rattle.sym_env.specs.Env.{PlainEnv, Holds}
 use Rattle.sym_env.specs.declared.limits.Limits.{Limits}
 use Rattle.reply_texts.specs.Texts.{ok_text, memory_text}
 use Rattle.sym_shell.specs.State.{ShellState, shell_state, HasWords}
-use Rattle.sym_shell.specs.Load.{HasText, LoadStep}
+use Rattle.command_files.specs.Reading.{HasText}
+use Rattle.sym_shell.specs.Load.{LoadStep}
 use Rattle.sym_shell.specs.Solve.{limits_of, RepliesToSolve, SolveStep}
 use Rattle.sym_shell.specs.Warming.{RepliesToWarm, WarmStep}
 use Rattle.sym_shell.specs.Editing.{RepliesToWords, EditStep}
 use Rattle.sym_shell.specs.Saving.{RepliesToTrim, TrimStep}
 use Rattle.sym_shell.specs.Step.{AnswersTo, Step}
-use Rattle.sym_shell.specs.declared.reading.Refusal.TheVariants as refusal
-
-pub on_ok : {E P Q : Type 0} (r : Result (Unit {0}) E) → (P → Q) → OnOk r P → OnOk r Q
-on_ok (Ok done) f h = f h
-on_ok (Err e) f h = h
-
-pub on_ok_if : {E P Q : Type 0} (r : Result (Unit {0}) E) → (Q → P) → IfOk r (λ _. Q) → OnOk r P
-on_ok_if (Ok done) f h = f h
-on_ok_if (Err e) f h = tt
+use Rattle.command_files.specs.declared.reading.Refusal.TheVariants as refusal
 
 pub step_of : (words : List (List ℕ)) (asks : Asks) (old new : ShellState) (reply : List ℕ) → asks ≡ asks_of words → AnswersTo asks old reply new → Step old words reply new
 unfolding Step
@@ -38,14 +31,6 @@ step_of words asks old new reply e h = subst (λ a. AnswersTo a old reply new) e
 pub unfinished : {E : Type 0} (r : Result (Unit {0}) E) (asks asked : Asks) (old new : ShellState) (bytes : List ℕ) → asked ≡ asks → OnErr r (AnswersTo asks old bytes new) → OnErr r ((x : List ℕ) × AnswersTo asked old x new)
 unfinished (Ok done) asks asked old new bytes e h = tt
 unfinished (Err f) asks asked old new bytes e h = (bytes, subst (λ a. AnswersTo a old bytes new) (sym e) h)
-
-pub always : {E P : Type 0} (r : Result (Unit {0}) E) → P → OnErr r P
-always (Ok done) h = tt
-always (Err f) h = h
-
-pub on_err : {E P Q : Type 0} (r : Result (Unit {0}) E) → (P → Q) → OnErr r P → OnErr r Q
-on_err (Ok done) f h = tt
-on_err (Err e) f h = f h
 
 -- a solve leaves the files
 pub solve-step : (old new : PlainEnv) (files : Option Files) (faults : ℕ) (l : Limits) (reply : List ℕ) → RepliesToSolve old old.search l reply new → SolveStep (shell_state old files faults) l reply (shell_state new files faults)

@@ -5,8 +5,8 @@ use Rattle.reply_texts.specs.Texts.{no_model_text, memory_text}
 use Rattle.sym_io.specs.Files.{Files}
 use Rattle.sym_env.specs.Env.{PlainEnv, model_of}
 use Rattle.sym_shell.specs.State.{shell_state}
-use Rattle.sym_shell.specs.Certify.{Writes}
-use Rattle.sym_shell.specs.Writing.{IsWrittenModel, WritesModel, WriteStep}
+use Rattle.command_files.specs.Filing.{Writes, IsWrittenModel}
+use Rattle.sym_shell.specs.Writing.{WritesModel, WriteStep}
 
 pub model-written : (env : PlainEnv) (files files' : Option Files) (faults faults' : ℕ) (name reply : List ℕ) (M : Program) → model_of env ≡ Some M → faults ≤ faults' → Writes (IsWrittenModel M) name files faults reply files' faults'
     → WriteStep (shell_state env files faults) name reply (shell_state env files' faults')

@@ -28,14 +28,15 @@ use Rattle.edit_words.specs.EditWords.{EditAsks, Edits, edit_asks, EntriesAsk, A
 use Rattle.edit_words.specs.EditWords as says
 use Rattle.reply_texts.specs.Texts.{ok_text, unknown_text, arguments_text, no_model_text, no_answer_text, number_text, unknown_name_text, sides_text, store_text, file_too_long_text, mps_text, warm_text, bound_text, memory_text}
 use Rattle.sym_shell.specs.State.{ShellState}
-use Rattle.sym_shell.specs.Load.{HasText, IsMissing, IsTooLong, IsFaulty, Loads}
+use Rattle.command_files.specs.Reading.{HasText, IsMissing, IsTooLong, IsFaulty}
+use Rattle.sym_shell.specs.Load.{Loads}
 use Rattle.sym_shell.specs.Showing.{Finding, ShowsOptimumBy, ShowsEmptinessBy, ShowsNoEndBy, ShowsNodeStopBy, ShowsTreeStopBy, ShowsPivotStopBy, ShowsWideStopBy, EndsBy}
 use Rattle.sym_shell.specs.Solve.{limits_of, HasFewNodes}
 use Rattle.sym_shell.specs.Warming.{WentOn, IsTooSmall, TellsAgain}
 use Rattle.sym_shell.specs.Editing.{edit_fault_text}
 use Rattle.sym_shell.specs.Bounding.{names_for, AreThere, IsFirstTwoSided, HaveOneNumber, asked_model, TellsBound, IsAtOptimum}
 use Rattle.sym_shell.specs.Certify.{IsHeldText}
-use Rattle.sym_shell.specs.Writing.{IsWrittenModel}
+use Rattle.command_files.specs.Filing.{IsWrittenModel}
 use Rattle.sym_shell.specs.Saving.{RestoresFile}
 use Rattle.sym_shell.specs.Step.{Step}
 use Rattle.sym_shell.specs.Kinds.{Kind, Optimal, Infeasible, Unbounded, StoppedNodes, StoppedTree, StoppedPivots, StoppedWide, BoundShown, Done, UnknownCommand, WrongArguments, NoModel, UnknownName, TakenName, WrongNumber, OverLimit, NoBounds, BadSides, NoAnswer, StoreFailed, FileTooLong, FaultyText, FaultySearch, WantsMemory, Is, IsError}

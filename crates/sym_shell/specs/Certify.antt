@@ -1,8 +1,5 @@
 -- What `cert F` may answer, and the file that it leaves.
-use Rattle.std.specs.Prelude.{◌≡◌, ◌⊎◌, ℕ, ◌<◌, ◌≤◌, List, length, Option, Some, None}
-use Rattle.sym_io.specs.Faults.{Rose}
-use Rattle.sym_io.specs.Files.{Files, KeepsOthers, Sets}
-use Rattle.sym_io.specs.declared.traits.TheConstants.{MAX_FILE_LENGTH}
+use Rattle.std.specs.Prelude.{◌≡◌, ◌⊎◌, ℕ, ◌≤◌, List, Option, Some, None}
 use Rattle.sound_searches.specs.Sound.{PlainSearch}
 use Rattle.cert_text.specs.Text.{MeantCertificate as States}
 use Rattle.tree_cert.specs.Certificates.{unbounded_certificate}
@@ -10,7 +7,8 @@ use Rattle.lp_model.specs.Program.{Point}
 use Rattle.sym_env.specs.Certificates.{IsCertificateText, IsUnboundedText}
 use Rattle.sym_env.specs.declared.held.Held.{Held}
 use Rattle.sym_env.specs.declared.held.Held.TheVariants.{Nothing, Finished, Unbounded}
-use Rattle.reply_texts.specs.Texts.{ok_text, no_model_text, no_answer_text, store_text, file_too_long_text, memory_text}
+use Rattle.command_files.specs.Filing.{Writes}
+use Rattle.reply_texts.specs.Texts.{no_model_text, no_answer_text, memory_text}
 use Rattle.sym_shell.specs.State.{ShellState}
 
 -- The bytes are the text of the search's certificate. They read as that certificate, which is accepted for the search's model, so that
@@ -30,13 +28,6 @@ abbrev pub IsHeldText : PlainSearch → Held → List ℕ → Type 0
 IsHeldText S Nothing text = ⊥
 IsHeldText S Finished text = IsReadCertificate S text
 IsHeldText S (Unbounded ray) text = IsReadUnbounded S ray text
-
--- a text with P stands in the file, or why it does not, and the reply tells it
-pub data Writes (P : List ℕ → Type 0) (name : List ℕ) (files : Option Files) (faults : ℕ) (reply : List ℕ) (files' : Option Files) (faults' : ℕ) : Type 0 where
-  Written : (text : List ℕ) → P text → length text ≤ MAX_FILE_LENGTH → Sets files files' name text → reply ≡ ok_text → Writes P name files faults reply files' faults'
-  TooLong : (text : List ℕ) → P text → MAX_FILE_LENGTH < length text → files' ≡ files → reply ≡ file_too_long_text → Writes P name files faults reply files' faults'
-  Failed : (text : List ℕ) → P text → length text ≤ MAX_FILE_LENGTH → Rose faults faults' → KeepsOthers files files' name → reply ≡ store_text → Writes P name files faults reply files' faults'
-  Wanting : (files' ≡ files) ⊎ (Rose faults faults' × KeepsOthers files files' name) → reply ≡ memory_text → Writes P name files faults reply files' faults'
 
 -- a refusal leaves the files
 pub record IsTold (old : ShellState) (text reply : List ℕ) (new : ShellState) : Type 0 where

@@ -12,10 +12,8 @@ pub mod Placing
 pub mod Certify
 pub mod Writing
 pub mod Saving
-pub mod Refusals
 pub mod Step
 pub mod Kinds
 pub mod Causes
-pub mod Checking
 pub mod Shell
 pub mod Run

@@ -9,7 +9,7 @@ use Rattle.script_session.specs.Run.{Outside, IsRun}
 use Rattle.script_session.specs.Told.{IsRunOf}
 use Rattle.program_words.specs.Forms.{AskedForm, Script, Check}
 use Rattle.sym_shell.specs.Causes.{IsAnswered}
-use Rattle.sym_shell.specs.Checking.{Checks, check_status}
+use Rattle.command_files.specs.Checking.{Checks, check_status}
 use Rattle.sym_shell.specs.Shell.{quits}
 use Rattle.sym_env.specs.Env.{PlainEnv, no_model}
 use Rattle.sym_shell.specs.State.{ShellState, shell_state}

@@ -9,8 +9,9 @@ use Rattle.sym_env.specs.Saving.{RestoresTo, TrimsTo}
 use Rattle.reply_texts.specs.Texts.{ok_text, no_model_text, store_text, file_too_long_text, warm_text, memory_text}
 use Rattle.sym_shell.specs.State.{ShellState}
 use Rattle.sym_shell.specs.Unchanged.{IsRefused}
-use Rattle.sym_shell.specs.Load.{HasText, IsMissing, IsTooLong}
-use Rattle.sym_shell.specs.Certify.{Writes, IsTold}
+use Rattle.command_files.specs.Reading.{HasText, IsMissing, IsTooLong}
+use Rattle.command_files.specs.Filing.{Writes}
+use Rattle.sym_shell.specs.Certify.{IsTold}
 
 -- ---- trim
 

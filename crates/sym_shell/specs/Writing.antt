@@ -1,18 +1,11 @@
 -- What `write F` may answer, and the file that it leaves.
 use Rattle.std.specs.Prelude.{◌≡◌, ℕ, ◌≤◌, List, Option, Some, None}
 use Rattle.lp_model.specs.Program.{Program}
-use Rattle.mps_model.specs.Faults.{MeantModel}
-use Rattle.mps_writer.specs.Canonical.{canonical_text}
-use Rattle.mps_writer.specs.Writable.{IsWritableMps}
 use Rattle.sym_env.specs.Env.{model_of}
 use Rattle.reply_texts.specs.Texts.{no_model_text}
 use Rattle.sym_shell.specs.State.{ShellState}
-use Rattle.sym_shell.specs.Certify.{Writes, IsTold}
-
--- The bytes are the model's canonical text. They mean the model, where it is writable.
-pub record IsWrittenModel (M : Program) (text : List ℕ) : Type 0 where
-  pub is : text ≡ canonical_text M
-  pub means : IsWritableMps M → MeantModel text None M
+use Rattle.command_files.specs.Filing.{Writes, IsWrittenModel}
+use Rattle.sym_shell.specs.Certify.{IsTold}
 
 -- of the model that is present, if there is one
 abbrev pub WritesModel : Option Program → ShellState → List ℕ → List ℕ → ShellState → Type 0

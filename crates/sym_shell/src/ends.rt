@@ -11,7 +11,7 @@ ghost use Rattle.std.specs.declared.io.ErrorKind.TheVariants.{OutOfMemory};
 ghost use Rattle.program_words.specs.Forms.{TakesWords};
 
 use crate::program::{STATUS_MEMORY, run};
-use crate::words::words_of;
+use program_words::words_of;
 use std::env::Args;
 use std::process::ExitCode;
 use std::{env, io};

@@ -9,33 +9,27 @@
 //! `optimal` shows a feasible point that no feasible point beats, `infeasible` means that there is none, `unbounded` that the
 //! objective has no end, no feasible point passes the bound of a search that stopped, nor a bound at other sides or costs, the
 //! certificate that was written is accepted for the model, and what was written of a model is its canonical text. `check MODEL CERT` prints the verdict on a
-//! certificate's file (`Checks`).
+//! certificate's file (`Checks` of `command_files`).
 //!
 //! Contract in one sentence: `run` writes the replies of one `Step` after the other, for all of the script's commands or,
 //! where something failed, for its first ones, or what a check says, and its status says which. `run_program` calls it with the
 //! words of the command line and the real ends, and ends with its status.
 //!
 //! Below stand `program_words`, which says what the command line asks for; `script_session`, which reads the script and knows
-//! no command; `command_words`, which says what a line's words ask for, and `edit_words`, which reads edits and numbers beside names; `mps_model`, which reads
-//! models, and `mps_writer`, which writes them; `sym_env`, which solves and edits them and writes certificates; `cert_check`, which
-//! checks these; and `reply_texts`, the bytes of replies. Above stands `sym_main`.
+//! no command; `command_words`, which says what a line's words ask for, and `edit_words`, which reads edits and numbers beside names;
+//! `command_files`, which reads models, writes files and checks certificates; `sym_env`, which solves and edits models and writes
+//! certificates; and `reply_texts`, the bytes of replies. Above stands `sym_main`.
 #![tactic(auto)]
 
 mod bounding;
-mod checking;
 mod ends;
-mod filing;
 mod laws;
 mod placing;
 mod program;
-mod reading;
 mod refusing;
 mod shell;
-mod words;
 
-pub use checking::check_text;
 pub use ends::run_program;
 pub use laws::told_law;
 pub use program::run;
-pub use reading::Refusal;
 pub use shell::Shell;

@@ -11,7 +11,7 @@ use reply_texts::{write_sides, write_unknown_name};
 use std::alloc::{AllocError, Global};
 
 /// Why the names of a line are no places.
-#[derive(Clone, Copy, Debug, Drop)]
+#[derive(Clone, Copy, Drop)]
 pub(crate) enum Unplaced {
     /// The name that stands at this place of the line, from 0, is the first that isn't there.
     Unknown(usize),

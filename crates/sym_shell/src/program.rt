@@ -7,11 +7,11 @@ ghost use Rattle.script_session.specs.Reply.{wants_memory};
 ghost use Rattle.script_session.specs.Run.{outside};
 ghost use Rattle.program_words.specs.Forms.{Script, TakesWords, asked_form};
 ghost use Rattle.program_words.specs.Laws.{IsRunForm, AsksScript, IsCheckForm, AsksCheck};
-ghost use Rattle.sym_shell.specs.Checking.{Checks, is_accepted, check_status};
+ghost use Rattle.command_files.specs.Checking.{Checks, is_accepted, check_status};
 ghost use Rattle.sym_shell.specs.Run.{around, RunsAs, Prints, Untouched, usage};
 
-use crate::checking::check_text;
 use crate::shell::Shell;
+use command_files::check_text;
 use program_words::{Form, WordsFault, form_of};
 use script_session::{run_script, write_all};
 use std::alloc::Global;

@@ -1,44 +1,16 @@
-// The reply where a file is refused.
+// The reply where a call of the environment is refused.
 ghost use Rattle.std.specs.Prelude.{◌≡◌, ◌++◌, IfOk};
-ghost use Rattle.sym_shell.specs.Checking.{cert_refusal_text};
 ghost use Rattle.sym_env.specs.declared.env.EnvFault.TheVariants.{Warm};
 ghost use Rattle.sym_shell.specs.Editing.{edit_fault_text};
 ghost use Rattle.sym_shell.specs.EnvFaults.{env_fault_text};
-ghost use Rattle.sym_shell.specs.Load.{refusal_text};
 
-use crate::reading::Refusal;
 use model_edits::EditFault;
 use reply_texts::{
-    write_bounds, write_faulty_certificate, write_faulty_model, write_faulty_search, write_limit,
-    write_sides, write_taken, write_unknown_name,
+    write_bounds, write_faulty_search, write_limit, write_sides, write_taken, write_unknown_name,
 };
 use std::alloc::AllocError;
 use sym_env::EnvFault;
 use warm_values::WarmFault;
-
-/// Why a file's model is refused.
-pub(crate) fn write_refusal(reply: &mut Vec<u8>, refusal: Refusal) -> Result<(), AllocError>
-    ensures { IfOk result (λ _. reply.new.items ≡ reply.old.items ++ refusal_text refusal) }
-{
-    match refusal {
-        Refusal::Store => reply.extend_from_slice(b"error 20 store\n"),
-        Refusal::FileTooLong => reply.extend_from_slice(b"error 21 file too long\n"),
-        Refusal::Faulty { line, code } => write_faulty_model(reply, line, code),
-        Refusal::Memory => reply.extend_from_slice(b"error 90 memory\n"),
-    }
-}
-
-/// Why a file's certificate is refused.
-pub(crate) fn write_cert_refusal(reply: &mut Vec<u8>, refusal: Refusal) -> Result<(), AllocError>
-    ensures { IfOk result (λ _. reply.new.items ≡ reply.old.items ++ cert_refusal_text refusal) }
-{
-    match refusal {
-        Refusal::Store => reply.extend_from_slice(b"error 20 store\n"),
-        Refusal::FileTooLong => reply.extend_from_slice(b"error 21 file too long\n"),
-        Refusal::Faulty { line, code } => write_faulty_certificate(reply, line, code),
-        Refusal::Memory => reply.extend_from_slice(b"error 90 memory\n"),
-    }
-}
 
 /// Which fault an edit has.
 fn write_edit_fault(reply: &mut Vec<u8>, fault: EditFault) -> Result<(), AllocError>

@@ -20,9 +20,8 @@ ghost use Rattle.sym_shell.specs.Step.{AnswersTo};
 ghost use Rattle.sym_shell.specs.Shell.{is_quit};
 
 use crate::bounding::bound_by_words;
-use crate::filing::{write_file, write_model};
-use crate::reading::{read_model, read_text};
-use crate::refusing::{write_env_fault, write_refusal};
+use crate::refusing::write_env_fault;
+use command_files::{read_model, read_text, write_file, write_model, write_refusal};
 use command_words::{Asked, NewNumbers, OptimumBound, read_words};
 use edit_words::{EditAsked, read_edit};
 use lp_model::{Edit, Model};

@@ -1,5 +1,6 @@
 pub mod StepLemmas
 pub mod PivotLemmas
+pub mod ReadLemmas
 pub mod WholeLemmas
 pub mod WholeListLemmas
 pub mod ListedLemmas

@@ -1,17 +1,17 @@
 -- The list of the entries, from the numbers over their denominator.
-use Rattle.std.specs.Prelude.{◌≡◌, ◌≢◌, ◌↔◌, ℕ, suc, ◌+◌, ◌-◌, ◌*◌, ◌/◌, ◌%◌, ◌<◌, ◌==◌, List, [], ◌∷◌, get_or, set, length, ◌<ℤ◌, ◌*ℤ◌, ℤ, pos, unsigned_abs, Bool, true, false, Result, Ok, Err, OkIff}
+use Rattle.std.specs.Prelude.{◌≡◌, ◌≢◌, ◌↔◌, ℕ, suc, ◌+◌, ◌-◌, ◌*◌, ◌/◌, ◌%◌, ◌<◌, ◌≤◌, ◌==◌, List, [], ◌∷◌, get_or, set, length, ◌<ℤ◌, ◌*ℤ◌, ℤ, pos, unsigned_abs, Bool, true, false, Result, Ok, Err, OkIff}
 use Rattle.std.specs.Result.{IsOk}
-use Rattle.std.proofs.Common.{refl, sym, ap, subst, subst₂, ◌∙◌, arith}
+use Rattle.std.proofs.Common.{◌++◌, refl, sym, ap, subst, subst₂, ◌∙◌, arith, below_more}
 use Rattle.std.proofs.Math.ListN.{get_or-map}
 use Rattle.std.proofs.lemmas.Nat.{div-mul-add, mod-mul-add}
-use Rattle.std.proofs.lemmas.List.{length-map, ext_get_or}
+use Rattle.std.proofs.lemmas.List.{length-map, ext_get_or, get_or_push, get_or_append_left, length-append}
 use Rattle.std.proofs.lemmas.Int.{ints}
 use Rattle.std.proofs.lemmas.Result.{OkIff-at_ok}
 use Rattle.rational.specs.Rational.{ℚ, den, int, ◌/ℚ◌}
 use Rattle.rational.proofs.Lowest.{reduced-cross, cancel_ℤ}
 use Rattle.rational.proofs.RationalRing.{int_is}
 use Rattle.rational.proofs.IntegerRing.{ring_ℤ, reads_ℤ}
-use Rattle.rational.proofs.Integers.{int-num}
+use Rattle.rational.proofs.Integers.{int-num, IsWhole-int}
 use Rattle.frac128.specs.Range.{IsNarrow, Fits}
 use Rattle.frac128.specs.LowestTerms.{quotient_of}
 use Rattle.frac128.proofs.Terms.{same_quotient, quotient-/ℚ}
@@ -20,7 +20,7 @@ use Rattle.bases.specs.Relaxation.{pivoted_entry}
 use Rattle.bases.specs.Steps.{PivotStepFits, EntryFits, step_value}
 use Rattle.table_entries.specs.FlatSteps.{dense_entry, FlatFits, flat_value}
 use Rattle.table_entries.specs.WholeSteps.{IsShort, IsWholeStep, magnitude, whole_number_at, is_unwritten, AreShort, AreWithin, AreWritten}
-use Rattle.table_entries.specs.Listed.{Listed, over, listed_costs, AreOver, IsListed, AreShortWhole, IsExchangedList, ArePartsExchanged}
+use Rattle.table_entries.specs.Listed.{Listed, over, listed_costs, AreOver, IsListed, IsStored, IsShortWhole, IsExchangedList, ArePartsExchanged}
 use Rattle.table_entries.proofs.WholeLemmas.{magnitude_positive, short_narrow}
 use Rattle.table_entries.proofs.PivotLemmas.{flat_within}
 use Rattle.table_entries.proofs.RowLemmas.{flat_fits, flat_written}
@@ -194,8 +194,47 @@ pub fractions_written : (d : ℤ) (ns : List ℤ) (fs : List ℚ) → pos 0 <ℤ
 fractions_written d ns fs h size written =
     ext_get_or (int (pos 0)) fs (over d ns) (size ∙ sym (length-map ns (λ x. quotient_of x d))) (λ i q. written i (subst (λ k. i < k) size q) ∙ sym (over_at d ns h i))
 
-pub numerators_over : (ns : List ℤ) (fs : List ℚ) → length ns ≡ length fs → AreShortWhole fs → ((at : ℕ) → at < length fs → whole_number_at ns at ≡ (get_or fs at (int (pos 0))).num) → over (pos 1) ns ≡ fs
+pub zero_short_whole : IsShortWhole (int (pos 0))
+zero_short_whole = record { whole = IsWhole-int (pos 0); short = subst IsShort (sym (num_int (pos 0))) (omega arith) }
+
+-- one more number behind those of the first fractions
+module _ (ns next : List ℤ) (n : ℕ) (y : ℤ) (pushed : next ≡ ns ++ y ∷ []) (size : length ns ≡ n) where
+  pub number_size : length next ≡ n + 1
+  number_size = ap length pushed ∙ length-append ns (y ∷ []) ∙ ap (λ k. k + 1) size
+
+  pub number_pushed : (fs : List ℚ) → y ≡ (get_or fs n (int (pos 0))).num → ((at : ℕ) → at < n → whole_number_at ns at ≡ (get_or fs at (int (pos 0))).num)
+      → (at : ℕ) → at < n + 1 → whole_number_at next at ≡ (get_or fs at (int (pos 0))).num
+  number_pushed fs here before =
+      subst (λ xs. (at : ℕ) → at < n + 1 → whole_number_at xs at ≡ (get_or fs at (int (pos 0))).num) (sym pushed)
+      (below_more (λ at. whole_number_at (ns ++ y ∷ []) at ≡ (get_or fs at (int (pos 0))).num) n
+      (λ at q. get_or_append_left ns (y ∷ []) (pos 0) at (omega (arith, q, size)) ∙ before at q)
+      (get_or_push ns y (pos 0) n size ∙ here))
+
+-- ---- new entries: the numbers are those of the first fractions, and where there are as many, of all
+
+pub numerators_over : (ns : List ℤ) (fs : List ℚ) → length ns ≡ length fs → ((at : ℕ) → at < length ns → IsShortWhole (get_or fs at (int (pos 0))))
+    → ((at : ℕ) → at < length ns → whole_number_at ns at ≡ (get_or fs at (int (pos 0))).num) → over (pos 1) ns ≡ fs
 numerators_over ns fs size whole items =
     sym (fractions_written (pos 1) ns fs (omega (arith, ints)) (sym size) (λ at q.
-    let q' = subst (λ k. at < k) size q in
-    int-num (get_or fs at (int (pos 0))) (whole at q').whole ∙ int_is (get_or fs at (int (pos 0))).num ∙ ap (λ n. quotient_of n (pos 1)) (sym (items at q'))))
+    int-num (get_or fs at (int (pos 0))) (whole at q).whole ∙ int_is (get_or fs at (int (pos 0))).num ∙ ap (λ n. quotient_of n (pos 1)) (sym (items at q))))
+
+pub new_listed : (b : Bool) (ns : List ℤ) (fs : List ℚ) → (b ≡ true → length ns ≡ length fs) → ((at : ℕ) → at < length ns → IsShortWhole (get_or fs at (int (pos 0))))
+    → ((at : ℕ) → at < length ns → whole_number_at ns at ≡ (get_or fs at (int (pos 0))).num) → listed_costs b (pos 1) ns fs ≡ fs
+new_listed true ns fs size whole items = numerators_over ns fs (size refl) whole items
+new_listed false ns fs size whole items = refl
+
+one_short : IsShort (pos 1)
+one_short = omega arith
+
+pub new_stored : (b : Bool) (ns spare_ns : List ℤ) (fs spare : List ℚ) (room : ℕ) → (b ≡ true → length ns ≡ length fs) → ((at : ℕ) → at < length ns → IsShortWhole (get_or fs at (int (pos 0))))
+    → ((at : ℕ) → at < length ns → whole_number_at ns at ≡ (get_or fs at (int (pos 0))).num) → spare_ns ≡ ns → length spare ≤ length fs → length fs ≤ room → IsStored b (pos 1) ns spare_ns fs spare room
+new_stored b ns spare_ns fs spare room size whole items same within has_room =
+    let short : AreShort ns = λ at q. subst IsShort (sym (items at q)) (whole at q).short in
+    record {
+      spare_length = within;
+      spare_room = has_room;
+      numbers_length = size;
+      spare_numbers_length = λ e. ap length same ∙ size e;
+      over_one = λ e. record { positive = omega (arith, ints); denominator_short = one_short; short = short };
+      spare_short = λ e. subst AreShort (sym same) short;
+    }

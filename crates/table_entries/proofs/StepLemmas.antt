@@ -1,6 +1,6 @@
 -- One more entry written.
 use Rattle.std.specs.Prelude.{◌≡◌, ℕ, ◌+◌, ◌/◌, ◌%◌, ◌<◌, ◌==◌, List, get_or, set, length, pos}
-use Rattle.std.proofs.Common.{ap, subst, ◌∙◌, below_more, arith}
+use Rattle.std.proofs.Common.{sym, ap, subst, ◌∙◌, below_more, arith}
 use Rattle.std.proofs.lemmas.List.{get_or-set_same, get_or-set_other, get_or_default}
 use Rattle.rational.specs.Rational.{ℚ, int}
 use Rattle.bases.specs.Steps.{PivotStepFits, step_value}
@@ -28,6 +28,12 @@ module _ (columns row place : ℕ) (entries next : List ℚ) (at : ℕ) (pivot i
       below_more (λ k. get_or (set next at written) k (int (pos 0)) ≡ flat_value columns row place entries k) at
       (λ k less. get_or-set_other next at k written (int (pos 0)) (λ e. omega (arith, e, less)) ∙ earlier k less)
       (get_or-set_same next at written (int (pos 0)) within ∙ value-here)
+
+-- back from the list's entries to those that were read
+pub fits-back : (columns row place : ℕ) (entries : List ℚ) (at : ℕ) (pivot in_row in_place entry : ℚ) → pivot ≡ dense_entry columns entries row place → in_row ≡ dense_entry columns entries row (at % columns)
+    → in_place ≡ dense_entry columns entries (at / columns) place → entry ≡ get_or entries at (int (pos 0)) → FlatFits columns row place entries at → PivotStepFits (at / columns == row) (at % columns == place) pivot in_row in_place entry
+fits-back columns row place entries at pivot in_row in_place entry pivot_is row_is place_is entry_is h =
+    subst (λ X. X) (λ i. PivotStepFits (at / columns == row) (at % columns == place) (sym pivot_is i) (sym row_is i) (sym place_is i) (sym entry_is i)) h
 
 -- an element read at i, which is j
 pub read_at : (xs : List ℚ) (i j : ℕ) (x : ℚ) → i ≡ j → i < length xs → x ≡ get_or xs i x → x ≡ get_or xs j (int (pos 0))

@@ -1,5 +1,5 @@
 -- What a contract sees of the entries of a table, in a list, row by row.
-use Rattle.std.specs.Prelude.{◌≡◌, ℕ, ◌+◌, ◌*◌, ◌<◌, ◌<ℤ◌, ℤ, Bool, true, false, List, length, get_or, map, pos}
+use Rattle.std.specs.Prelude.{◌≡◌, ℕ, ◌+◌, ◌*◌, ◌<◌, ◌≤◌, ◌<ℤ◌, ℤ, Bool, true, false, List, length, get_or, map, pos}
 use Rattle.rational.specs.Rational.{ℚ, int, IsWhole}
 use Rattle.frac128.specs.LowestTerms.{quotient_of}
 use Rattle.bases.specs.Relaxation.{pivoted_entry}
@@ -31,9 +31,10 @@ pub record IsListed (v : Listed) : Type 0 where
   pub are_over : AreOver v.denominator v.numbers
   pub list : v.list ≡ over v.denominator v.numbers
 
--- the lists behind the entries: fractions have room where the numbers are in use, too
-pub record IsStored (is_whole : Bool) (denominator : ℤ) (numbers spare_numbers : List ℤ) (fractions spare : List ℚ) : Type 0 where
-  pub spare_length : length spare ≡ length fractions
+-- the lists behind the entries: fractions have their lists where the numbers are in use, too, of which the second one has room
+pub record IsStored (is_whole : Bool) (denominator : ℤ) (numbers spare_numbers : List ℤ) (fractions spare : List ℚ) (room : ℕ) : Type 0 where
+  pub spare_length : length spare ≤ length fractions
+  pub spare_room : length fractions ≤ room
   pub numbers_length : is_whole ≡ true → length numbers ≡ length fractions
   pub spare_numbers_length : is_whole ≡ true → length spare_numbers ≡ length fractions
   pub over_one : is_whole ≡ true → AreOver denominator numbers
@@ -44,9 +45,6 @@ pub record IsStored (is_whole : Bool) (denominator : ℤ) (numbers spare_numbers
 pub record IsShortWhole (x : ℚ) : Type 0 where
   pub whole : IsWhole x
   pub short : IsShort x.num
-
-abbrev pub AreShortWhole : List ℚ → Type 0
-AreShortWhole xs = (at : ℕ) → at < length xs → IsShortWhole (get_or xs at (int (pos 0)))
 
 -- ---- after an exchange
 

@@ -110,7 +110,7 @@ pub record IsRowTouched (columns row : ℕ) (old new : Listed) : Type 0 where
   pub others : (i k : ℕ) → i ≢ row → k < columns → whole_number_at new.numbers (i * columns + k) ≡ whole_number_at old.numbers (i * columns + k)
 
 -- the row that was not written is
-pub record IsRowWritten (rows columns : ℕ) (coefficients : List ℤ) (slots : ℕ → ℕ) (row : ℕ) (old new : Listed) : Type 0 where
+pub record IsRowFormed (rows columns : ℕ) (coefficients : List ℤ) (slots : ℕ → ℕ) (row : ℕ) (old new : Listed) : Type 0 where
   pub touched : IsRowTouched columns row old new
   pub written : (k : ℕ) → k < columns → whole_number_at new.numbers (row * columns + k) ≡ unwritten_number rows columns old coefficients slots row k
 

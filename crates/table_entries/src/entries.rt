@@ -8,7 +8,7 @@ use crate::rows::write_by_rows;
 use frac128::{Frac, Wide};
 
 /// The place of an entry whose step has no room.
-#[derive(Clone, Copy, Debug, PartialEq, Eq)]
+#[derive(Clone, Copy)]
 pub struct WideEntry {
     pub row: usize,
     pub place: usize,

@@ -10,7 +10,7 @@ ghost use Rattle.table_entries.specs.FlatSteps.{dense_entry};
 ghost use Rattle.table_entries.specs.FlatSteps.{FlatFits};
 ghost use Rattle.table_entries.specs.WholeSteps.{IsShort, IsShortOver, magnitude, whole_number_at, is_unwritten, AreWithin};
 ghost use Rattle.table_entries.specs.Listed.{IsListed, IsExchangedList};
-ghost use Rattle.table_entries.specs.Parts.{Parts, IsParted, IsLight, IsRowWritten, IsSwap, AreColumnsWritten, any_entry, filled, row_coefficient, slot_number, swapped, unwritten_number, weight};
+ghost use Rattle.table_entries.specs.Parts.{Parts, IsParted, IsLight, IsRowFormed, IsSwap, AreColumnsWritten, any_entry, filled, row_coefficient, slot_number, swapped, unwritten_number, weight};
 
 use crate::entries::flat_index;
 use crate::table_entries::{TableEntries, fraction, is_nothing};
@@ -27,7 +27,7 @@ const ROOM: u64 = 1 << 62;
 /// The entries of a table, row by row, all of them, though rows of cuts may not be written. What is asked of such a row is
 /// formed from the rows of the columns, so each call is told the slots of the variables: the row of a basic one and, behind
 /// all rows, the place of each other one. A column's own row is always written.
-#[derive(Debug, Drop)]
+#[derive(Drop)]
 pub struct PartEntries {
     rows: usize,
     columns: usize,
@@ -89,20 +89,6 @@ fn mark_light(
         }
     }
     heaviest
-}
-
-/// The numbers of entries that are whole.
-fn numbers_of(alloc: Global, entries: &TableEntries, count: usize) -> Result<Vec<i64>, AllocError>
-    requires whole { entries.now.is_whole ≡ true }
-    requires listed { IsListed entries.now }
-    requires count { length entries.now.list ≡ count }
-    ensures { IfOk result (λ v. v.items ≡ entries.now.numbers) }
-{
-    let mut numbers = Vec::new(alloc);
-    for at in 0..count {
-        numbers.push(entries.number(at))?;
-    }
-    Ok(numbers)
 }
 
 /// The number at a place of what stands at a slot, over the denominator.
@@ -174,7 +160,7 @@ fn write_numbers(
     requires slots { columns ≤ length slots.now }
     requires light { IsLight rows columns entries.old coefficients.now (λ j. get_or slots.now j 0) row }
     requires apart { (j : ℕ) → j < columns → get_or slots.now j 0 ≢ row }
-    ensures { IsRowWritten rows columns coefficients.now (λ j. get_or slots.now j 0) row entries.old entries.new }
+    ensures { IsRowFormed rows columns coefficients.now (λ j. get_or slots.now j 0) row entries.old entries.new }
 {
     for place in 0..columns {
         let at = flat_index(rows, columns, row, place);
@@ -270,7 +256,7 @@ fn partly_written(
     ensures columns { IfOk result (λ v. v.columns ≡ columns) }
     ensures filled { IfOk result (λ v. (slots : ℕ → ℕ) → ((j : ℕ) → j < columns → slots j ≡ rows + j) → filled v slots ≡ entries.list) }
 {
-    let coefficients = numbers_of(alloc, &entries, rows * columns)?;
+    let coefficients = entries.copied_numbers(alloc)?;
     let mut unwritten = vec![in alloc; false; rows]?;
     let heaviest = mark_light(rows, columns, &coefficients, first, &mut unwritten);
     let limit = (ROOM / (heaviest + 1)) as i64;

@@ -1,10 +1,10 @@
 // The entries of a table, as whole numbers over one denominator as long as those are short, and else as fractions.
-ghost use Rattle.std.specs.Prelude.{◌≡◌, ◌≢◌, ◌↔◌, ◌<◌, ◌+◌, ◌*◌, ◌^◌, ◌<ℤ◌, ℕ, true, false, length, get_or, set, pos, IsTrue, IfSome, OnOk, OnErr, IfErr, IfOk};
+ghost use Rattle.std.specs.Prelude.{◌≡◌, ◌≢◌, ◌↔◌, ◌<◌, ◌≤◌, ◌+◌, ◌*◌, ◌^◌, ◌<ℤ◌, ℕ, true, false, length, get_or, set, pos, vec_capacity, IsTrue, IfSome, OnOk, OnErr, IfErr, IfOk};
 ghost use Rattle.rational.specs.Rational.{int};
 ghost use Rattle.frac128.specs.LowestTerms.{quotient_of};
 ghost use Rattle.table_entries.specs.FlatSteps.{FlatFits};
 ghost use Rattle.table_entries.specs.WholeSteps.{IsShort, whole_number_at};
-ghost use Rattle.table_entries.specs.Listed.{Listed, listed_costs, over, AreOver, IsListed, IsStored, IsShortWhole, AreShortWhole, IsExchangedList, ArePartsExchanged};
+ghost use Rattle.table_entries.specs.Listed.{Listed, listed_costs, over, AreOver, IsListed, IsStored, IsShortWhole, IsExchangedList, ArePartsExchanged};
 
 use crate::entries::{flat_index, write_exchanged};
 use crate::wholes::{LIMIT, are_within, write_wholes};
@@ -14,8 +14,9 @@ use std::alloc::{AllocError, Global};
 /// The entries of a table, row by row. While all are short whole numbers over one denominator, they are kept so: an
 /// exchange then divides without a greatest common divisor, and no step of it is without room. Where that ends, the
 /// entries are fractions from then on. Each list has a second one that takes the entries after an exchange, and the
-/// fractions' lists are there from the start, so an exchange takes no memory.
-#[derive(Debug, Drop)]
+/// fractions' lists have their room from the start, so an exchange takes no memory. The second one of these is filled at the
+/// first exchange of fractions: most tables never come to one.
+#[derive(Drop)]
 pub struct TableEntries {
     is_whole: bool,
     denominator: i64,
@@ -30,40 +31,47 @@ impl std::marker::Model for TableEntries {
 
     ghost view = { λ t. record { is_whole = t.is_whole; list = listed_costs t.is_whole t.denominator t.numbers.items t.fractions.items; denominator = t.denominator; numbers = t.numbers.items } };
 
-    ghost invariant = { λ t. IsStored t.is_whole t.denominator t.numbers.items t.spare_numbers.items t.fractions.items t.spare.items };
+    ghost invariant = { λ t. IsStored t.is_whole t.denominator t.numbers.items t.spare_numbers.items t.fractions.items t.spare.items (vec_capacity t.spare) };
 }
 
-/// Whether the fraction is a short whole number.
+/// Whether the fraction is a short whole number. Most entries are 0.
 pub fn is_short_whole(fraction: &Frac) -> bool
     ensures { IsTrue result → IsShortWhole fraction.now }
 {
+    if fraction.is_zero() {
+        return true;
+    }
     let numerator = fraction.numerator();
     fraction.is_whole() && i128::from(-LIMIT) < numerator && numerator < i128::from(LIMIT)
 }
 
-/// Whether all of the fractions are short whole numbers.
-fn are_short_whole(fractions: &[Frac]) -> bool
-    ensures { IsTrue result → AreShortWhole fractions.now }
+/// The numbers that the fractions are, up to the first one that is no short whole number.
+fn whole_numbers(alloc: Global, fractions: &[Frac]) -> Result<Vec<i64>, AllocError>
+    ensures length { IfOk result (λ v. length v.items ≤ length fractions.now) }
+    ensures whole { IfOk result (λ v. (at : ℕ) → at < length v.items → IsShortWhole (get_or fractions.now at (int (pos 0)))) }
+    ensures items { IfOk result (λ v. (at : ℕ) → at < length v.items → whole_number_at v.items at ≡ (get_or fractions.now at (int (pos 0))).num) }
 {
+    let mut numbers = Vec::with_capacity(alloc, fractions.len())?;
     for at in 0..fractions.len() {
-        if !is_short_whole(&fractions[at]) {
-            return false;
+        let fraction = fractions[at];
+        if !is_short_whole(&fraction) {
+            return Ok(numbers);
         }
-    }
-    true
-}
-
-/// The numbers that the fractions are.
-fn numerators(alloc: Global, fractions: &[Frac]) -> Result<Vec<i64>, AllocError>
-    requires { AreShortWhole fractions.now }
-    ensures length { IfOk result (λ v. length v.items ≡ length fractions.now) }
-    ensures items { IfOk result (λ v. (at : ℕ) → at < length fractions.now → whole_number_at v.items at ≡ (get_or fractions.now at (int (pos 0))).num) }
-{
-    let mut numbers = Vec::new(alloc);
-    for at in 0..fractions.len() {
-        numbers.push(fractions[at].numerator() as i64)?;
+        numbers.push_reserved(fraction.numerator() as i64);
     }
     Ok(numbers)
+}
+
+/// Writes zeros behind the fractions until there are so many, for which there is room.
+fn fill(fractions: &mut Vec<Frac>, count: usize)
+    requires within { length fractions.old.items ≤ count }
+    requires room { count ≤ vec_capacity fractions.old }
+    ensures length { length fractions.new.items ≡ count }
+    ensures room { count ≤ vec_capacity fractions.new }
+{
+    while fractions.len() < count {
+        fractions.push_reserved(Frac::whole(0));
+    }
 }
 
 /// Whether the number is 0.
@@ -107,14 +115,11 @@ impl TableEntries {
         ensures list { IfOk result (λ t. t.list ≡ fractions.items) }
         ensures denominator { IfOk result (λ t. t.denominator ≡ pos 1) }
     {
-        let spare = Vec::from_slice(alloc, &fractions)?;
-        let is_whole = are_short_whole(&fractions);
-        let numbers = if is_whole {
-            numerators(alloc, &fractions)?
-        } else {
-            Vec::new(alloc)
-        };
+        let count = fractions.len();
+        let numbers = whole_numbers(alloc, &fractions)?;
+        let is_whole = numbers.len() == count;
         let spare_numbers = Vec::from_slice(alloc, &numbers)?;
+        let spare = Vec::with_capacity(alloc, count)?;
         Ok(TableEntries {
             is_whole,
             denominator: 1,
@@ -187,6 +192,13 @@ impl TableEntries {
         ensures short { IsShort result }
     {
         self.numbers[at]
+    }
+
+    /// A list of the numbers.
+    pub fn copied_numbers(&self, alloc: Global) -> Result<Vec<i64>, AllocError>
+        ensures { IfOk result (λ v. v.items ≡ self.now.numbers) }
+    {
+        Vec::from_slice(alloc, &self.numbers)
     }
 
     /// Writes a number at an index of the list.
@@ -288,6 +300,8 @@ impl TableEntries {
         ensures earlier { IfErr result (λ e. (at : ℕ) → at < e → FlatFits columns row place self.old.list at) }
         ensures wide { IfErr result (λ e. ¬ (FlatFits columns row place self.old.list e)) }
     {
+        let count = self.fractions.len();
+        fill(&mut self.spare, count);
         write_exchanged(rows, columns, row, place, &self.fractions, &mut self.spare)?;
         std::mem::swap(&mut self.fractions, &mut self.spare);
         Ok(())

@@ -1,5 +1,5 @@
 -- A search with one more point: what its values come to, and that it stays sound and indexed.
-use Rattle.std.specs.Prelude.{◌≡◌, ℕ, zero, suc, ◌+◌, ◌≤◌, List, [], ◌∷◌, ◌++◌, length, map, drop}
+use Rattle.std.specs.Prelude.{◌≡◌, ℕ, zero, suc, ◌+◌, ◌<◌, ◌≤◌, List, [], ◌∷◌, ◌++◌, length, map, drop, Option, Some, None}
 use Rattle.std.proofs.Common.{refl, sym, subst, ap, ◌∙◌, arith, length-append}
 use Rattle.std.proofs.lemmas.List.{map-append, length-map}
 use Rattle.std.proofs.lemmas.List.Elements.{All-push}
@@ -25,7 +25,7 @@ use Rattle.tree_edit.specs.Indexed.{IsIndexed}
 use Rattle.leaf_judging.proofs.NumberLemmas.{numbers-states}
 use Rattle.sound_searches.proofs.SoundLemmas.{tree-states, is_at-states, own-states}
 use Rattle.search_parts.specs.Points.{target, IsKeepable}
-use Rattle.search_parts.specs.Joining.{IsWorst, list_without, AddsPoint, Joins}
+use Rattle.search_parts.specs.Joining.{IsWorst, IsPlaceWithin, list_without, AddsPoint, Joins}
 use Rattle.tree_edit.specs.PlacingSteps.{JoinsPoint}
 use Rattle.sound_searches.specs.Placing.{TakesPoint, ClosesWith, HasLeafAt}
 use Rattle.search_parts.proofs.WorstLemmas.{map-without, all-without, few-without, least-target, worst_unique}
@@ -42,6 +42,14 @@ joins-point S values x v joined keepable are v_is h =
       values_are = values_are;
       target_is = least-target S.model (list_without (S.points ++ x ∷ []) joined.worst) joined.values.items joined.target values_are h.target;
     }
+
+-- the place that goes is one of the points'
+place-within : (n : ℕ) (values : List ℚ) (worst : Option ℕ) → length values ≡ n → IsWorst values worst → IsPlaceWithin n worst
+place-within n values None same h = tt
+place-within n values (Some k) same h = let within : k < length values = h.1.within in omega arith
+
+pub worst-within : (S : PlainSearch) (x : Point) (joined : Joined) → JoinsPoint S x joined → IsPlaceWithin (length (S.points ++ x ∷ [])) joined.worst
+worst-within S x joined h = place-within (length (S.points ++ x ∷ [])) (map (least_value S.model 1) (S.points ++ x ∷ [])) joined.worst (length-map (S.points ++ x ∷ []) (least_value S.model 1)) h.worst
 
 -- the search with the point and the states
 pub kept-taken : (S : PlainSearch) (values : List ℚ) (numbers : LeafNumbers) (queue new : LeafQueue) (x : Point) (joined : Joined) (states : List LeafState) → IsIndexed S values numbers queue → JoinsPoint S x joined → AreStates (formulation_of S) joined.target S.tree.root states → IsQueueOf (formulation_of S) (with_states states S.tree.root) new

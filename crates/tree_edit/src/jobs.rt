@@ -3,7 +3,7 @@ ghost use Rattle.std.specs.Prelude.{◌≡◌, ◌↔◌, IsTrue, IfOk};
 ghost use Rattle.branch_tree.specs.declared.node.LeafState.TheVariants.{IsOpen};
 ghost use Rattle.sound_searches.specs.Jobs.{IsJobAnswer};
 
-use crate::search::Search;
+use crate::search::{Search, copies};
 use branch_tree::{Job, LeafState};
 use frac128::Frac;
 use std::alloc::AllocError;
@@ -33,12 +33,18 @@ impl Search {
         let Some(region) = self.tree.region_of(id)? else {
             unreachable!()
         };
-        Ok(Some(Job {
-            id,
-            region,
-            mult: kept.mult.copy(self.alloc)?,
-            basis: kept.basis.copy(self.alloc)?,
-            target: self.target(),
-        }))
+        match copies(self.alloc, &kept.mult, &kept.basis) {
+            Ok((mult, basis)) => Ok(Some(Job {
+                id,
+                region,
+                mult,
+                basis,
+                target: self.target(),
+            })),
+            Err(error) => {
+                drop(region);
+                Err(error)
+            }
+        }
     }
 }

@@ -17,7 +17,7 @@ use search_parts::{KeptPoints, keepable_points, least_of};
 use std::alloc::{AllocError, Global};
 
 /// A search of these parts, the leaves of which are judged.
-fn with_kept(
+pub(crate) fn with_kept(
     alloc: Global,
     model: Model,
     pool: CutPool,

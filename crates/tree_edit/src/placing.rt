@@ -1,6 +1,6 @@
 // Results placed in a search. What takes memory comes before the first change. A large value that isn't used is let go by
 // a call of `drop`, since its parts, let go one by one on each way out, make a long proof.
-ghost use Rattle.std.specs.Prelude.{◌≡◌, ◌↔◌, IsTrue, IfOk, OnOk, OnErr, MatchOption, MatchBool};
+ghost use Rattle.std.specs.Prelude.{◌≡◌, ◌↔◌, ◌≤◌, ◌++◌, ◌∷◌, [], length, IsTrue, IfOk, OnOk, OnErr, MatchOption, MatchBool};
 ghost use Rattle.lp_model.specs.Regions.{AreNarrow};
 ghost use Rattle.lp_model.specs.Formulations.{formulation};
 ghost use Rattle.branch_tree.specs.declared.node.LeafState.TheVariants.{IsOpen, IsClosed};
@@ -8,7 +8,9 @@ ghost use Rattle.branch_tree.specs.declared.node.NodeResult.TheVariants.{PointAn
 ghost use Rattle.leaf_judging.specs.Closing.{IsNumber, IsJudgedLeaf, ClosesBy};
 ghost use Rattle.search_parts.specs.Points.{IsKeepable, target};
 ghost use Rattle.search_parts.specs.Lists.{AreMultipliers, HasLists};
-ghost use Rattle.branch_tree.specs.Leaves.{with_state};
+ghost use Rattle.search_parts.specs.Joining.{IsPlaceWithin, list_without};
+ghost use Rattle.branch_tree.specs.Leaves.{with_state, leaf_count};
+ghost use Rattle.branch_tree.specs.Changes.{with_leaf_states};
 ghost use Rattle.leaf_judging.specs.Queued.{HasRank, HasMultipliers, HasState};
 ghost use Rattle.tree_edit.specs.PlacingSteps.{JoinsPoint};
 ghost use Rattle.sound_searches.specs.Placing.{TakesPoint, HasLeafAt, search_with_leaf, TakesClose, TakesPointClose, PutsJudged, TakesKeep, TakesPointKeep, TakesBasis, IsStale, IsOpenPlace, Takes, closed_data, with_basis};
@@ -16,10 +18,12 @@ ghost use Rattle.sound_searches.specs.Sound.{formulation_of};
 
 use crate::search::Search;
 use crate::splitting::Split;
-use branch_tree::{LeafData, LeafState, NodeResult};
+use branch_tree::{LeafData, LeafState, NodeResult, Tree};
 use cover_cuts::CutPool;
 use frac128::Frac;
-use leaf_judging::{Candidate, LeafNumber, judge_again, number_closes, number_of, rank};
+use leaf_judging::{
+    Candidate, LeafNumber, LeafQueue, Marks, judge_again, number_closes, number_of, rank,
+};
 use lp_model::{Basis, Model, Mult, Point, Region};
 use search_parts::{
     Joined, has_lists, is_basis, is_same_value, join_value, keepable_value, take_out,
@@ -47,10 +51,16 @@ impl Search {
         ensures target { OnOk result (target self.new.model self.new.points ≡ joined.target) }
         ensures kept { OnErr result (self.new ≡ self.old) }
     {
-        self.points.push(point)?;
-        take_out(&mut self.points, joined.worst);
-        self.values = joined.values;
-        Ok(())
+        match push_without(&mut self.points, point, joined.worst) {
+            Ok(()) => {
+                self.values = joined.values;
+                Ok(())
+            }
+            Err(error) => {
+                drop(joined);
+                Err(error)
+            }
+        }
     }
 
     /// Keeps a point, and judges all leaves against the least value by their numbers.
@@ -61,13 +71,25 @@ impl Search {
         ensures kept { OnErr result (self.new ≡ self.old) }
     {
         let target = &joined.target;
-        let marks = judge_again(self.alloc, &self.model, target, &self.tree, &self.numbers)?;
-        self.points.push(point)?;
-        take_out(&mut self.points, joined.worst);
-        self.values = joined.values;
-        self.tree.set_states(&marks.states);
-        self.queue = marks.queue;
-        Ok(())
+        match judge_again(self.alloc, &self.model, target, &self.tree, &self.numbers) {
+            Ok(marks) => match push_without(&mut self.points, point, joined.worst) {
+                Ok(()) => {
+                    self.values = joined.values;
+                    put_marks(&mut self.tree, &mut self.queue, marks);
+                    Ok(())
+                }
+                Err(error) => {
+                    drop(joined);
+                    drop(marks);
+                    Err(error)
+                }
+            },
+            Err(error) => {
+                drop(point);
+                drop(joined);
+                Err(error)
+            }
+        }
     }
 
     /// Keeps a point. The leaves are judged anew only where the least value changes.
@@ -118,6 +140,31 @@ impl Search {
         self.tree.set_leaf(id, kept);
     }
 
+    /// Closes the leaf with the id, if it closes by these data, whose lists fit.
+    fn close_listed(&mut self, id: u64, region: &Region, kept: LeafData) -> Taken
+        requires leaf { HasLeafAt self.old.tree id region.now }
+        requires narrow { AreNarrow region.now }
+        requires closed { kept.state ≡ IsClosed }
+        requires lists { HasLists (formulation_of self.old) kept }
+        ensures { TakesClose self.old id region.now kept self.new result }
+    {
+        let number = number_of(
+            &self.model,
+            &self.pool,
+            region.as_slice(),
+            &kept.mult,
+            &kept.farkas,
+        );
+        let target = self.target();
+        if closes_by(&self.model, &self.pool, &target, region, &kept, &number) {
+            self.put_closed(id, region, kept, &number);
+            Taken::Closed
+        } else {
+            drop(kept);
+            Taken::Reopened
+        }
+    }
+
     /// Closes the leaf with the id, if it closes by these data.
     fn place_close(&mut self, id: u64, region: &Region, kept: LeafData) -> Result<Taken, AllocError>
         requires leaf { HasLeafAt self.old.tree id region.now }
@@ -127,23 +174,7 @@ impl Search {
         ensures kept { OnErr result (self.new ≡ self.old) }
     {
         match has_lists(self.alloc, &self.model, &self.pool, &kept) {
-            Ok(true) => {
-                let number = number_of(
-                    &self.model,
-                    &self.pool,
-                    region.as_slice(),
-                    &kept.mult,
-                    &kept.farkas,
-                );
-                let target = self.target();
-                if closes_by(&self.model, &self.pool, &target, region, &kept, &number) {
-                    self.put_closed(id, region, kept, &number);
-                    Ok(Taken::Closed)
-                } else {
-                    drop(kept);
-                    Ok(Taken::Reopened)
-                }
-            }
+            Ok(true) => Ok(self.close_listed(id, region, kept)),
             Ok(false) => {
                 drop(kept);
                 Ok(Taken::Refused)
@@ -313,6 +344,7 @@ impl Search {
         ensures kept { OnErr result (self.new ≡ self.old) }
     {
         if !is_basis(&self.model, &self.pool, &kept.basis) {
+            drop(kept);
             return Ok(Taken::Refused);
         }
         self.put_judged(id, region, kept);
@@ -526,6 +558,31 @@ impl Search {
     }
 }
 
+/// Gives a tree's leaves the states that they are marked by, and the queue that is marked.
+fn put_marks(tree: &mut Tree, queue: &mut LeafQueue, marks: Marks)
+    requires { leaf_count tree.old.root ≤ length marks.states.items }
+    ensures tree { tree.new ≡ with_leaf_states tree.old marks.states.items }
+    ensures queue { queue.new ≡ marks.queue }
+{
+    tree.set_states(&marks.states);
+    *queue = marks.queue;
+}
+
+/// Puts a point behind the others, and takes out what then stands at a place, if one is given.
+fn push_without(
+    points: &mut Vec<Point>,
+    point: Point,
+    place: Option<usize>,
+) -> Result<(), AllocError>
+    requires { IsPlaceWithin (length (points.old.items ++ point ∷ [])) place }
+    ensures put { OnOk result (points.new.items ≡ list_without (points.old.items ++ point ∷ []) place) }
+    ensures kept { OnErr result (points.new.items ≡ points.old.items) }
+{
+    points.push(point)?;
+    take_out(points, place);
+    Ok(())
+}
+
 /// Whether a leaf of a region with these data, whose number this is, closes against the target.
 fn closes_by(
     model: &Model,
@@ -590,18 +647,40 @@ fn closed_like(
 ) -> Result<LeafData, AllocError>
     ensures { IfOk result (λ kept. kept ≡ closed_data mult leaf.now.farkas basis) }
 {
+    match leaf.farkas.copy(alloc) {
+        Ok(farkas) => Ok(closed_data(mult, farkas, basis)),
+        Err(error) => {
+            drop(mult);
+            drop(basis);
+            Err(error)
+        }
+    }
+}
+
+/// Copies of a leaf's multipliers and of its Farkas multipliers.
+fn multipliers_of(alloc: Global, leaf: &LeafData) -> Result<(Mult, Mult), AllocError>
+    ensures mult { IfOk result (λ both. both.0 ≡ leaf.now.mult) }
+    ensures farkas { IfOk result (λ both. both.1 ≡ leaf.now.farkas) }
+{
+    let mult = leaf.mult.copy(alloc)?;
     let farkas = leaf.farkas.copy(alloc)?;
-    Ok(closed_data(mult, farkas, basis))
+    Ok((mult, farkas))
 }
 
 /// A copy of a leaf's data with another basis.
 fn with_basis(alloc: Global, leaf: &LeafData, basis: Basis) -> Result<LeafData, AllocError>
     ensures { IfOk result (λ kept. kept ≡ with_basis leaf.now basis) }
 {
-    Ok(LeafData {
-        state: leaf.state,
-        mult: leaf.mult.copy(alloc)?,
-        farkas: leaf.farkas.copy(alloc)?,
-        basis,
-    })
+    match multipliers_of(alloc, leaf) {
+        Ok((mult, farkas)) => Ok(LeafData {
+            state: leaf.state,
+            mult,
+            farkas,
+            basis,
+        }),
+        Err(error) => {
+            drop(basis);
+            Err(error)
+        }
+    }
 }

@@ -17,9 +17,10 @@ use branch_tree::Tree;
 use cover_cuts::{CutPool, PoolFault};
 use frac128::Frac;
 use leaf_judging::{LeafIndex, LeafNumber, LeafNumbers, LeafQueue, judge_all};
-use lp_model::{CutId, Derivation, Model, Point};
+use lp_model::{Basis, CutId, Derivation, Model, Mult, Point};
 use search_parts::oldest_least;
 use std::alloc::{AllocError, Global};
+use std::mem;
 
 /// How many nodes a new search may have.
 const NODE_LIMIT: u64 = 1_000_000;
@@ -70,6 +71,39 @@ fn judged_tree(alloc: Global, model: &Model, limit: u64) -> Result<(Tree, LeafIn
     }
 }
 
+/// Puts a tree, and what is kept of its leaves, in the place of another.
+pub(crate) fn put_tree(
+    place: &mut Tree,
+    numbers: &mut LeafNumbers,
+    queue: &mut LeafQueue,
+    tree: Tree,
+    index: LeafIndex,
+)
+    ensures tree { place.new ≡ tree }
+    ensures numbers { numbers.new ≡ index.numbers }
+    ensures queue { queue.new ≡ index.queue }
+{
+    let old = mem::replace(place, tree);
+    drop(old);
+    *numbers = index.numbers;
+    *queue = index.queue;
+}
+
+/// Copies of multipliers and of a basis.
+pub(crate) fn copies(alloc: Global, mult: &Mult, basis: &Basis) -> Result<(Mult, Basis), AllocError>
+    ensures mult { IfOk result (λ both. both.0 ≡ mult.now) }
+    ensures basis { IfOk result (λ both. both.1 ≡ basis.now) }
+{
+    let mult = mult.copy(alloc)?;
+    match basis.copy(alloc) {
+        Ok(basis) => Ok((mult, basis)),
+        Err(error) => {
+            drop(mult);
+            Err(error)
+        }
+    }
+}
+
 impl Search {
     /// A search with one leaf, which is judged, no cut and no point. There will be at most 1,000,000 nodes.
     pub fn new(alloc: Global, model: Model) -> Result<Search, AllocError>
@@ -100,11 +134,15 @@ impl Search {
     {
         let (tree, index) = judged_tree(self.alloc, &self.model, self.tree.limit())?;
         self.pool = CutPool::new(self.alloc);
-        self.tree = tree;
         self.points = Vec::new(self.alloc);
         self.values = Vec::new(self.alloc);
-        self.numbers = index.numbers;
-        self.queue = index.queue;
+        put_tree(
+            &mut self.tree,
+            &mut self.numbers,
+            &mut self.queue,
+            tree,
+            index,
+        );
         Ok(())
     }
 

@@ -9,13 +9,13 @@ ghost use Rattle.sound_searches.specs.Placing.{HasLeafAt, IsSplitSound, TakesSpl
 ghost use Rattle.tree_edit.specs.PlacingSteps.{IsNumberedChild};
 ghost use Rattle.sound_searches.specs.Sound.{formulation_of};
 
-use crate::search::Search;
+use crate::search::{Search, copies};
 use branch_tree::{LeafData, Tree};
 use leaf_judging::{Candidate, LeafNumber, as_candidate, number_of, rank, state_by};
 use lp_model::{Basis, BoundChange, ColId, List, Mult, Region};
 use search_parts::{are_multipliers, is_basis, is_split_allowed};
 use sound_searches::Taken;
-use std::alloc::AllocError;
+use std::alloc::{AllocError, Global};
 
 /// A split of a leaf.
 #[derive(Drop)]
@@ -48,6 +48,14 @@ impl Split {
 pub(crate) struct Child {
     pub(crate) kept: LeafData,
     pub(crate) number: LeafNumber,
+}
+
+/// A split of a leaf, with its two children.
+#[derive(Drop)]
+pub(crate) struct Branching {
+    pub(crate) split: Split,
+    pub(crate) left: Child,
+    pub(crate) right: Child,
 }
 
 /// Splits the leaf with the id, whose children get these data. There is room, so that nothing but memory can be missing.
@@ -85,7 +93,53 @@ fn split_tree(
     }
 }
 
+/// Splits the leaf with the id, whose children are these.
+fn split_by(tree: &mut Tree, id: u64, branching: Branching) -> Result<(), AllocError>
+    requires has { HasLeaf tree.old id }
+    requires high { branching.split.v <ℤ pos largest }
+    ensures split { OnOk result (tree.new ≡ tree_with_split tree.old id branching.split.col.0 branching.split.v branching.split.mult branching.split.basis branching.left.kept branching.right.kept) }
+    ensures room { OnOk result (HasRoom tree.old) }
+    ensures kept { OnErr result (tree.new ≡ tree.old) }
+{
+    let Branching { split, left, right } = branching;
+    split_tree(tree, id, split, left.kept, right.kept)
+}
+
+/// The path of a split's child, whose last bound change this is.
+fn child_path(alloc: Global, region: &Region, change: BoundChange) -> Result<Region, AllocError>
+    ensures { IfOk result (λ path. path ≡ region.now ++ change ∷ []) }
+{
+    let mut path = region.copy(alloc)?;
+    match path.push(change) {
+        Ok(()) => Ok(path),
+        Err(error) => {
+            drop(path);
+            Err(error)
+        }
+    }
+}
+
 impl Search {
+    /// The child with a path and these lists, judged.
+    fn judged_child(&self, path: Region, mult: Mult, basis: Basis) -> Child
+        requires { AreNarrow path }
+        ensures { IsNumberedChild self.now path mult basis result }
+    {
+        let farkas = List::new(self.alloc);
+        let number = number_of(&self.model, &self.pool, path.as_slice(), &mult, &farkas);
+        drop(path);
+        let state = state_by(&self.model, &self.target(), &number);
+        Child {
+            kept: LeafData {
+                state,
+                mult,
+                farkas,
+                basis,
+            },
+            number,
+        }
+    }
+
     /// A split's child, judged.
     fn child(
         &self,
@@ -97,22 +151,14 @@ impl Search {
         requires { AreNarrow (region.now ++ change ∷ []) }
         ensures { IfOk result (λ child. IsNumberedChild self.now (region.now ++ change ∷ []) mult.now basis.now child) }
     {
-        let mut path = region.copy(self.alloc)?;
-        path.push(change)?;
-        let mult = mult.copy(self.alloc)?;
-        let basis = basis.copy(self.alloc)?;
-        let farkas = List::new(self.alloc);
-        let number = number_of(&self.model, &self.pool, path.as_slice(), &mult, &farkas);
-        let state = state_by(&self.model, &self.target(), &number);
-        Ok(Child {
-            kept: LeafData {
-                state,
-                mult,
-                farkas,
-                basis,
-            },
-            number,
-        })
+        let path = child_path(self.alloc, region, change)?;
+        match copies(self.alloc, mult, basis) {
+            Ok((mult, basis)) => Ok(self.judged_child(path, mult, basis)),
+            Err(error) => {
+                drop(path);
+                Err(error)
+            }
+        }
     }
 
     /// Splits the leaf with the id, whose children are these.
@@ -120,34 +166,33 @@ impl Search {
         &mut self,
         id: u64,
         region: &Region,
-        split: Split,
-        left: Child,
-        right: Child,
+        branching: Branching,
     ) -> Result<Taken, AllocError>
         requires leaf { HasLeafAt self.old.tree id region.now }
         requires narrow { AreNarrow region.now }
-        requires sound { IsSplitSound (formulation_of self.old) region.now split.col.0 split.v split.mult split.basis }
-        requires room { (neg_ℤ (pos largest) ≤ℤ split.v) × (split.v <ℤ pos largest) }
-        requires left { IsNumberedChild self.old (left_path region.now split.col.0 split.v) split.mult split.basis left }
-        requires right { IsNumberedChild self.old (right_path region.now split.col.0 split.v) split.mult split.basis right }
-        ensures taken { IfOk result (λ taken. TakesSplit self.old id region.now split.col.0 split.v split.mult split.basis self.new taken) }
+        requires sound { IsSplitSound (formulation_of self.old) region.now branching.split.col.0 branching.split.v branching.split.mult branching.split.basis }
+        requires room { (neg_ℤ (pos largest) ≤ℤ branching.split.v) × (branching.split.v <ℤ pos largest) }
+        requires left { IsNumberedChild self.old (left_path region.now branching.split.col.0 branching.split.v) branching.split.mult branching.split.basis branching.left }
+        requires right { IsNumberedChild self.old (right_path region.now branching.split.col.0 branching.split.v) branching.split.mult branching.split.basis branching.right }
+        ensures taken { IfOk result (λ taken. TakesSplit self.old id region.now branching.split.col.0 branching.split.v branching.split.mult branching.split.basis self.new taken) }
         ensures kept { OnErr result (self.new ≡ self.old) }
     {
         let Some((one, two)) = self.tree.next_ids() else {
-            drop(split);
-            drop(left);
-            drop(right);
+            drop(branching);
             return Ok(Taken::Full);
         };
         let _numbered = self.tree.nodes();
         let own = self.rank_of(id);
-        let left_rank = rank(&left.number);
-        let right_rank = rank(&right.number);
-        let first = as_candidate(&left.kept.state, left_rank, one);
-        let second = as_candidate(&right.kept.state, right_rank, two);
-        match self.numbers.put_both(one, &left.number, two, &right.number) {
+        let left_rank = rank(&branching.left.number);
+        let right_rank = rank(&branching.right.number);
+        let first = as_candidate(&branching.left.kept.state, left_rank, one);
+        let second = as_candidate(&branching.right.kept.state, right_rank, two);
+        match self
+            .numbers
+            .put_both(one, &branching.left.number, two, &branching.right.number)
+        {
             Ok(()) => match self.queue.add_both(&first, &second) {
-                Ok(()) => match split_tree(&mut self.tree, id, split, left.kept, right.kept) {
+                Ok(()) => match split_by(&mut self.tree, id, branching) {
                     Ok(()) => {
                         self.queue.remove(&Some(Candidate { rank: own, id }));
                         self.numbers.remove(id);
@@ -159,16 +204,12 @@ impl Search {
                     }
                 },
                 Err(error) => {
-                    drop(split);
-                    drop(left);
-                    drop(right);
+                    drop(branching);
                     Err(error)
                 }
             },
             Err(error) => {
-                drop(split);
-                drop(left);
-                drop(right);
+                drop(branching);
                 Err(error)
             }
         }
@@ -197,8 +238,13 @@ impl Search {
         ensures right { IfOk result (λ both. IsNumberedChild self.now (right_path region.now split.now.col.0 split.now.v) split.now.mult split.now.basis both.1) }
     {
         let left = self.child(region, split.up_to(), &split.mult, &split.basis)?;
-        let right = self.child(region, split.above(), &split.mult, &split.basis)?;
-        Ok((left, right))
+        match self.child(region, split.above(), &split.mult, &split.basis) {
+            Ok(right) => Ok((left, right)),
+            Err(error) => {
+                drop(left);
+                Err(error)
+            }
+        }
     }
 
     /// Splits the leaf with the id by a split that fits.
@@ -211,7 +257,10 @@ impl Search {
         ensures kept { OnErr result (self.new ≡ self.old) }
     {
         match self.children(region, &split) {
-            Ok((left, right)) => self.split_leaf(id, region, split, left, right),
+            Ok((left, right)) => {
+                let branching = Branching { split, left, right };
+                self.split_leaf(id, region, branching)
+            }
             Err(error) => {
                 drop(split);
                 Err(error)

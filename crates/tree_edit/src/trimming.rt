@@ -3,7 +3,7 @@ ghost use Rattle.std.specs.Prelude.{◌≡◌, OnOk, OnErr};
 ghost use Rattle.sound_searches.specs.Sound.{IsSoundTree, formulation_of};
 ghost use Rattle.sound_searches.specs.Trimmed.{TakesTree, Trims};
 
-use crate::search::Search;
+use crate::search::{Search, put_tree};
 use branch_tree::Tree;
 use leaf_judging::judge_all;
 use std::alloc::AllocError;
@@ -19,9 +19,13 @@ impl Search {
         let target = self.target();
         match judge_all(self.alloc, &self.model, &self.pool, &target, &mut tree) {
             Ok(index) => {
-                self.tree = tree;
-                self.numbers = index.numbers;
-                self.queue = index.queue;
+                put_tree(
+                    &mut self.tree,
+                    &mut self.numbers,
+                    &mut self.queue,
+                    tree,
+                    index,
+                );
                 Ok(())
             }
             Err(error) => {

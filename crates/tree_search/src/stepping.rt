@@ -13,6 +13,8 @@ ghost use Rattle.kept_cuts.specs.Kept.{derivations_of};
 ghost use Rattle.sound_searches.specs.Pool.{AddsCut, AddsCuts, AddsSome, AddsAny};
 ghost use Rattle.node_solve.specs.Places.{live_cuts, live_places, basis_in_relaxation};
 ghost use Rattle.node_solve.specs.declared.working.Worked.TheVariants.{Done, Pivots, Wide};
+ghost use Rattle.lp_model.specs.declared.answers.StopWhy.TheVariants as why;
+ghost use Rattle.tree_search.specs.declared.stepping.Stepped.TheVariants.{Stopped};
 ghost use Rattle.tree_search.specs.Steps.{FoundCuts, kept_basis, IsNextJob, KeepsOpen, IsPlacedBy, IsRayWay};
 ghost use Rattle.tree_search.specs.Stepping.{IsReady, Steps, WorksBy};
 
@@ -157,6 +159,29 @@ fn job_region(job: Job) -> Region
     job.region
 }
 
+/// A stop at the relaxation of a job, which had as many moves as the limit allows.
+fn at_pivots(job: Job, cuts: List<Derivation>, basis: Basis) -> Stepped
+    ensures { result ≡ Stopped (why.Pivots (record { path = Some job.region; cuts = cuts; basis = basis })) }
+{
+    Stepped::Stopped(StopWhy::Pivots(PivotPlace {
+        path: Some(job_region(job)),
+        cuts,
+        basis,
+    }))
+}
+
+/// A stop at the relaxation of a job, at a step that has no room.
+fn at_step(job: Job, cuts: List<Derivation>, basis: Basis, step: WideStep) -> Stepped
+    ensures { result ≡ Stopped (why.Wide (record { path = Some job.region; cuts = cuts; basis = basis; step = step })) }
+{
+    Stepped::Stopped(StopWhy::Wide(WideAt {
+        path: Some(job_region(job)),
+        cuts,
+        basis,
+        step,
+    }))
+}
+
 /// Stops where the relaxation had as many moves as the limit allows.
 fn stop_by_pivots(
     alloc: Global,
@@ -170,12 +195,14 @@ fn stop_by_pivots(
     ensures steps { IfOk result (λ stepped. (begin : PlainSearch) (found : FoundCuts) → WorksBy limits.now begin job (Pivots basis found) → AddsCuts begin found.items search.old → Steps limits.now begin search.new stepped) }
     ensures kept { OnErr result (search.new ≡ search.old) }
 {
-    let cuts = keep_basis(alloc, search, &job, &basis)?;
-    Ok(Stepped::Stopped(StopWhy::Pivots(PivotPlace {
-        path: Some(job_region(job)),
-        cuts,
-        basis,
-    })))
+    match keep_basis(alloc, search, &job, &basis) {
+        Ok(cuts) => Ok(at_pivots(job, cuts, basis)),
+        Err(error) => {
+            drop(job);
+            drop(basis);
+            Err(error)
+        }
+    }
 }
 
 /// Stops where a step of the work has no room.
@@ -191,8 +218,16 @@ fn stop_by_step(
     ensures steps { IfOk result (λ stepped. (begin : PlainSearch) (found : FoundCuts) → WorksBy limits.now begin job.now (Wide at found) → AddsCuts begin found.items search.old → Steps limits.now begin search.new stepped) }
     ensures kept { OnErr result (search.new ≡ search.old) }
 {
-    keep_basis(alloc, search, job, &at.basis)?;
-    Ok(Stepped::Stopped(StopWhy::Wide(at)))
+    match keep_basis(alloc, search, job, &at.basis) {
+        Ok(cuts) => {
+            drop(cuts);
+            Ok(Stepped::Stopped(StopWhy::Wide(at)))
+        }
+        Err(error) => {
+            drop(at);
+            Err(error)
+        }
+    }
 }
 
 /// Places a result that closes the leaf or splits it.
@@ -253,14 +288,20 @@ fn stop_by_value(
     known(search);
     drop(point);
     drop(mult);
-    let own = into_relaxation(alloc, search, basis)?;
-    let cuts = keep_basis(alloc, search, &job, &own)?;
-    Ok(Stepped::Stopped(StopWhy::Wide(WideAt {
-        path: Some(job_region(job)),
-        cuts,
-        basis: own,
-        step,
-    })))
+    match into_relaxation(alloc, search, basis) {
+        Ok(own) => match keep_basis(alloc, search, &job, &own) {
+            Ok(cuts) => Ok(at_step(job, cuts, own, step)),
+            Err(error) => {
+                drop(job);
+                drop(own);
+                Err(error)
+            }
+        },
+        Err(error) => {
+            drop(job);
+            Err(error)
+        }
+    }
 }
 
 /// Keeps a point that is found beside a ray.

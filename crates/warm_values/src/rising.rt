@@ -14,7 +14,7 @@ use serde_json::Value;
 use std::alloc::Global;
 
 /// What a variable of a relaxation is.
-#[derive(Clone, Copy, Debug, Drop)]
+#[derive(Clone, Copy, Drop)]
 pub enum Kind {
     Col,
     Row,
@@ -22,7 +22,7 @@ pub enum Kind {
 }
 
 /// How many variables there are of each kind.
-#[derive(Clone, Copy, Debug, Drop)]
+#[derive(Clone, Copy, Drop)]
 pub struct Counts {
     pub columns: u32,
     pub rows: u32,

@@ -3,4 +3,4 @@ use Rattle.branch_tree.specs.Following.{mult_left}
 use Rattle.branch_tree.proofs.following.mult_left.Given as goal
 
 abbrev pub invariant-loop-var : goal.invariant-loop-var
-invariant-loop-var l = l.kept ≡ mult_left l.gone (take l.var-index l.mult)
+invariant-loop-var l = l.kept ≡ mult_left l.gone.cuts.now (take l.var-index l.mult)

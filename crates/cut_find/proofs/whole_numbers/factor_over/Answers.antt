@@ -22,7 +22,7 @@ returns-clause-value c =
     let o_is : to_z w64 (of_z w64 own) ≡ own = omega (arith, ints, own_factor) in
     let s_is : to_z w64 (of_z w64 scale) ≡ scale = omega (arith, ints, scale_factor) in
     let n_is : to_z w64 (of_z w64 number) ≡ number = omega (arith, ints, number_factor) in
-    let d_is : to_z w64 (of_z w64 c.args.denominator) ≡ c.args.denominator = omega (arith, ints) in
+    let d_is : to_z w64 (of_z w64 c.args.denominator) ≡ c.args.denominator = let range = c.ranges.denominator in omega (arith, ints, range) in
     let e = c.denominator.ensures in
     let f = c.numerator.ensures in
     let own_is : own ≡ pos (den x) = c.in_ok-own.ensures.value ∙ (let q : to_z w128 (of_z w128 c.denominator.result) ≡ pos (den x) = omega (arith, ints, e, den_room) in q) in

@@ -13,19 +13,19 @@ pub returns-clause-bound : goal.returns-clause-bound
 returns-clause-bound c =
     let S = c.args.search.now in
     let made : c.in_ok-changed.changed ≡ with_new_sides S.model c.args.sides.now = c.in_ok-changed.ensures ∙ ap (λ (M : Program). with_new_sides M c.args.sides.now) c.model.ensures in
-    point-bound-of c.in_ok-changed.changed (with_new_sides S.model c.args.sides.now) c.points.result.now S.points c.point_bound.result made c.points.ensures.points c.point_bound.ensures
+    point-bound-of c.in_ok-changed.changed (with_new_sides S.model c.args.sides.now) c.points.result.now S.points c.point_bound-bound.result made c.points.ensures.points c.point_bound-bound.ensures
 
 pub returns-clause-true_bound : goal.returns-clause-true_bound
 returns-clause-true_bound c =
     let S = c.args.search.now in
     let made : c.in_ok-changed.changed ≡ with_new_sides S.model c.args.sides.now = c.in_ok-changed.ensures ∙ ap (λ (M : Program). with_new_sides M c.args.sides.now) c.model.ensures in
-    point-bound (with_new_sides S.model c.args.sides.now) S.points c.point_bound.result
-    (point-bound-of c.in_ok-changed.changed (with_new_sides S.model c.args.sides.now) c.points.result.now S.points c.point_bound.result made c.points.ensures.points c.point_bound.ensures)
+    point-bound (with_new_sides S.model c.args.sides.now) S.points c.point_bound-bound.result
+    (point-bound-of c.in_ok-changed.changed (with_new_sides S.model c.args.sides.now) c.points.result.now S.points c.point_bound-bound.result made c.points.ensures.points c.point_bound-bound.ensures)
 
 pub returns-clause-exact : goal.returns-clause-exact
 returns-clause-exact c =
     let S = c.args.search.now in
     let made : c.in_ok-changed.changed ≡ with_new_sides S.model c.args.sides.now = c.in_ok-changed.ensures ∙ ap (λ (M : Program). with_new_sides M c.args.sides.now) c.model.ensures in
     λ present.
-    (exact S c.points.ensures.sound).1 c.point_bound.result
-    (point-bound-of c.in_ok-changed.changed S.model c.points.result.now S.points c.point_bound.result (made ∙ sides-present S.model c.args.sides.now present) c.points.ensures.points c.point_bound.ensures)
+    (exact S c.points.ensures.sound).1 c.point_bound-bound.result
+    (point-bound-of c.in_ok-changed.changed S.model c.points.result.now S.points c.point_bound-bound.result (made ∙ sides-present S.model c.args.sides.now present) c.points.ensures.points c.point_bound-bound.ensures)

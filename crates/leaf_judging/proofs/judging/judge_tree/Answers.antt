@@ -1,7 +1,7 @@
 use Rattle.leaf_judging.proofs.judging.judge_tree.Goals as goal
 
-pub returns-clause-states : goal.returns-clause-states
-returns-clause-states c = c.in_ok-states.ensures.states c.args.pool.now c.in_ok-numbers.ensures
+pub returns-in-Ok-clause-states : goal.returns-in-Ok-clause-states
+returns-in-Ok-clause-states c = c.in-Ok.ensures.states c.args.pool.now c.in_ok-numbers.ensures
 
-pub returns-clause-queue : goal.returns-clause-queue
-returns-clause-queue c = c.in_ok-states.ensures.queue c.args.pool.now c.in_ok-numbers.ensures
+pub returns-in-Ok-clause-queue : goal.returns-in-Ok-clause-queue
+returns-in-Ok-clause-queue c = c.in-Ok.ensures.queue c.args.pool.now c.in_ok-numbers.ensures

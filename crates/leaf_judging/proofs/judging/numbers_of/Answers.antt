@@ -4,9 +4,9 @@ use Rattle.leaf_judging.specs.declared.judging.Numbering.{Numbering}
 use Rattle.leaf_judging.proofs.NumberLemmas.{numbered}
 use Rattle.leaf_judging.proofs.judging.numbers_of.Goals as goal
 
-pub returns : goal.returns
-returns c =
+pub returns-in-Ok : goal.returns-in-Ok
+returns-in-Ok c =
     let T = c.args.tree.now in
     let old : Numbering = record { model = c.args.model; pool = c.args.pool; numbers = c.new.result } in
-    let walk = numbered c.args.model.now c.args.pool.now [] T.root old c.visit_leaves.new.visitor refl refl (λ i. one_leaf T i c.visit_leaves.ensures.numbered) c.in_ok-visit_leaves.ensures.visits in
+    let walk = numbered c.args.model.now c.args.pool.now [] T.root old c.visit_leaves.new.visitor refl refl (λ i. one_leaf T i c.visit_leaves.ensures.numbered) c.in-Ok.ensures.visits in
     walk.1.1.0

@@ -1,7 +1,9 @@
-use Rattle.std.proofs.Common.{◌≡◌, ◌∙◌, sym, subst}
+use Rattle.std.proofs.Common.{◌≡◌, ◌∙◌, ◌<◌, sym, subst, arith, length}
+use Rattle.std.proofs.lemmas.List.{length-map}
 use Rattle.lp_model.specs.Elements.{changed_at}
 use Rattle.lp_model.specs.Lawful.{IsLawful}
 use Rattle.lp_model.specs.Edits.{with_col}
+use Rattle.lp_model.specs.declared.types.Col.{Col}
 use Rattle.model_edits.specs.Changes.{column_changed}
 use Rattle.model_edits.proofs.EditedLaws.{column-lawful, edited-column}
 use Rattle.model_edits.proofs.changing.set_col.Goals as goal
@@ -23,3 +25,11 @@ returns-clause-edited c =
     let columns : c.change_col.result ≡ (with_col M c.args.name.now (column_changed change)).cols =
     c.change_col.ensures ∙ (λ i. changed_at (column_changed change) (taken.columns i) (c.in_ok-place.ensures.place.is i)) in
     c.put_lists.ensures ∙ (λ i. record (taken.left i) { rows = taken.rows i; cols = columns i }) ∙ sym (edited-column M c.args.name.now change)
+
+pub change_col-requires : goal.change_col-requires
+change_col-requires c =
+    let M = c.args.model.now in
+    let n = length-map M.cols (λ (d : Col). d.name) in
+    let w = c.in_ok-place.ensures.place.within in
+    let below : c.in_ok-place.place < length M.cols = omega arith in
+    subst (λ l. c.in_ok-place.place < length l) (sym c.take_lists-rows.ensures.columns) below

@@ -46,3 +46,9 @@ returns-clause-fits c =
     let within : KeepsLimits M e = replace-within M c.args.name.now c.args.lo.now c.args.hi.now named c.in_ok-row.row c.rows-rows.result.now c.cols-cols.result.now c.in_ok-changed.changed c.rows-rows.ensures.lawful c.in_ok-row.ensures.found c.rows-rows.ensures.items c.cols-cols.ensures.items changed c.is_wide.result c.count_entries-entries.result c.is_wide.ensures counted c.in_default-passed_limit.ensures in
     let t : IsTrue c.is_range.result = search rules in
     record { known = known; free = none_taken c.args.name.now; limits = within; bounded = tt; range = c.is_range.ensures.0 t }
+
+pub returns-clause-place : goal.returns-clause-place
+returns-clause-place c = c.in_ok-row.ensures.found
+
+pub returns-clause-columns : goal.returns-clause-columns
+returns-clause-columns c = c.in_ok-changed.ensures ∙ (λ i. map (λ d. replaced_entry (c.in_ok-row.ensures.found.is i) (number_beside d.name (c.as_slice-named.ensures i)) d) (c.cols-cols.ensures.items i))

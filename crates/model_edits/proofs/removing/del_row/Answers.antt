@@ -20,3 +20,21 @@ put_lists-requires c =
 
 pub returns-clause-fits : goal.returns-clause-fits
 returns-clause-fits c = del_row-fits c.args.model.now c.args.name.now c.take_lists-rows.ensures.lawful c.in_ok-row.ensures.found.there
+
+pub remove-requires : goal.remove-requires
+remove-requires c =
+    let M = c.args.model.now in
+    let n = length-map M.rows (λ (d : Row). d.name) in
+    let w = c.in_ok-row.ensures.found.within in
+    let below : c.in_ok-row.row < length M.rows = omega arith in
+    subst (λ l. c.in_ok-row.row < length l) (sym c.take_lists-rows.ensures.rows) below
+
+pub returns-clause-edited : goal.returns-clause-edited
+returns-clause-edited c =
+    let M = c.args.model.now in
+    let name = c.args.name.now in
+    let taken = c.take_lists-rows.ensures in
+    let place = c.in_ok-row.ensures.found in
+    let rows : c.remove.new.self ≡ without_at M.rows (row_place M name) = c.remove.ensures ∙ (λ i. without_at (taken.rows i) (place.is i)) in
+    let columns : c.in_ok-changed.changed ≡ map (λ d. without_entry (row_place M name) d) M.cols = c.in_ok-changed.ensures ∙ (λ i. map (λ d. without_entry (place.is i) d) (c.cols.ensures.items i)) in
+    c.put_lists.ensures ∙ (λ i. record (taken.left i) { rows = rows i; cols = columns i })

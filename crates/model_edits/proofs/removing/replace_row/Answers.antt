@@ -19,3 +19,19 @@ put_lists-requires c =
     let rows : c.change_row.result ≡ changed_at f M.rows (row_place M name) = c.change_row.ensures ∙ (λ i. changed_at f (taken.rows i) (place.is i)) in
     let columns : c.in_ok-row.changed ≡ (edited M (ReplaceRow name c.args.lo c.args.hi c.args.named.now)).cols = c.in_ok-row.ensures.columns in
     subst IsLawful (sym (λ i. record (taken.left i) { rows = rows i; cols = columns i })) (replace-lawful M name c.args.lo c.args.hi c.args.named.now taken.lawful below c.in_ok-row.ensures.fits)
+
+pub change_row-requires : goal.change_row-requires
+change_row-requires c =
+    let M = c.args.model.now in
+    let n = length-map M.rows (λ (d : Row). d.name) in
+    let w = c.in_ok-row.ensures.place.within in
+    let below : c.in_ok-row.row < length M.rows = omega arith in
+    subst (λ l. c.in_ok-row.row < length l) (sym c.take_lists-rows.ensures.rows) below
+
+pub returns-clause-edited : goal.returns-clause-edited
+returns-clause-edited c =
+    let M = c.args.model.now in
+    let f = with_sides (Some c.args.lo) (Some c.args.hi) in
+    let taken = c.take_lists-rows.ensures in
+    let rows : c.change_row.result ≡ changed_at f M.rows (row_place M c.args.name.now) = c.change_row.ensures ∙ (λ i. changed_at f (taken.rows i) (c.in_ok-row.ensures.place.is i)) in
+    c.put_lists.ensures ∙ (λ i. record (taken.left i) { rows = rows i; cols = c.in_ok-row.ensures.columns i })

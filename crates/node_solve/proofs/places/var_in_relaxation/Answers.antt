@@ -4,6 +4,6 @@ use Rattle.node_solve.proofs.places.var_in_relaxation.Goals as goal
 
 pub overflow_cast-result : goal.overflow_cast-result
 overflow_cast-result c =
-    let within : c.index_among.result ≤ length c.args.places.now = subst (λ n. n ≤ length c.args.places.now) (sym c.index_among.ensures) (index-within _ c.args.places.now) in
-    let few = c.requires in
+    let within : c.cut_index.result ≤ length c.args.places.now = subst (λ n. n ≤ length c.args.places.now) (sym c.cut_index.ensures) (index-within _ c.args.places.now) in
+    let few = c.requires.few in
     omega (arith, within, few)

@@ -1,5 +1,5 @@
 use Rattle.std.proofs.Common.{refl, ap, Some}
 use Rattle.node_solve.proofs.working.place_of.Goals as goal
 
-pub returns : goal.returns
-returns c = (ap Some c.in_ok-copy.ensures, c.in_ok-derivations.ensures, refl, refl)
+pub returns-in-Ok : goal.returns-in-Ok
+returns-in-Ok c = (ap Some c.in-Ok.ensures.path, c.in-Ok.ensures.cuts, refl, refl)

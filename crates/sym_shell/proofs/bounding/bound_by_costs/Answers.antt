@@ -8,7 +8,7 @@ use Rattle.sym_shell.specs.Bounding.{placed_cols}
 use Rattle.sym_shell.specs.Placing.{unplaced_text}
 use Rattle.sym_shell.proofs.BoundLemmas.{alone, numbers-told, unplaced-told}
 use Rattle.sym_shell.proofs.PlacingLemmas.{new-costs}
-use Rattle.sym_shell.proofs.StepLemmas.{on_ok, on_ok_if}
+use Rattle.command_files.proofs.FileLemmas.{on_ok, on_ok_if}
 use Rattle.sym_shell.proofs.bounding.bound_by_costs.Goals as goal
 
 pub bound_with_costs-requires-clause-costs : goal.bound_with_costs-requires-clause-costs

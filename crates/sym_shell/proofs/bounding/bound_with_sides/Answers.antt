@@ -4,7 +4,7 @@ use Rattle.dual_bounds.specs.NewNumbers.{with_new_sides, ArePresentSides}
 use Rattle.command_words.specs.declared.words.OptimumBound.{OptimumBound}
 use Rattle.sym_shell.specs.Placing.{IsBoundReply}
 use Rattle.sym_shell.proofs.BoundLemmas.{lower-told, upper-told}
-use Rattle.sym_shell.proofs.StepLemmas.{on_ok}
+use Rattle.command_files.proofs.FileLemmas.{on_ok}
 use Rattle.sym_shell.proofs.bounding.bound_with_sides.Goals as goal
 
 pub returns-in-Lower : goal.returns-in-Lower

@@ -1,5 +1,5 @@
 use Rattle.sym_shell.proofs.BoundLemmas.{shows-number}
-use Rattle.sym_shell.proofs.StepLemmas.{on_ok_if}
+use Rattle.command_files.proofs.FileLemmas.{on_ok_if}
 use Rattle.sym_shell.proofs.bounding.write_number.Goals as goal
 
 pub returns : goal.returns

@@ -1,7 +1,7 @@
 use Rattle.std.proofs.Common.{ℕ, List, refl, ◌∙◌, ap, subst}
 use Rattle.std.specs.Io.KnownBytes.{Appends}
 use Rattle.script_session.specs.Output.{WritesFront}
-use Rattle.sym_shell.specs.Checking.{check_status}
+use Rattle.command_files.specs.Checking.{check_status}
 use Rattle.sym_shell.specs.Run.{Whole, CutOff}
 use Rattle.sym_shell.proofs.program.run_check.Goals as goal
 

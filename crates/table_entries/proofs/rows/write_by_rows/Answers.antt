@@ -1,4 +1,4 @@
-use Rattle.std.proofs.Common.{◌≡◌, ◌*◌, ◌+◌, ◌∙◌, sym, ap, subst, get_or, pos}
+use Rattle.std.proofs.Common.{◌≡◌, ◌*◌, ◌+◌, ◌∙◌, sym, ap, subst, arith, get_or, pos}
 use Rattle.rational.specs.Rational.{int}
 use Rattle.bases.specs.Relaxation.{pivoted_entry}
 use Rattle.bases.specs.Steps.{EntryFits}
@@ -31,3 +31,32 @@ loop-at_row-preserved c =
             (λ k q. subst (λ r. EntryFits t c.args.row c.args.place r k) (sym w.if-at_row-row.false) (c.loop-at_row.invariant.leaving_fits k q));
       }
     ]
+
+pub loop-at_row-init : goal.loop-at_row-init
+loop-at_row-init c = record {
+  leaving = c.in-Ok.ensures.written;
+  leaving_fits = c.in-Ok.ensures.fits;
+  written = λ i k less. absurd (omega (arith, less));
+  fits = λ i k less. absurd (omega (arith, less));
+}
+
+pub write_row-requires-clause-other : goal.write_row-requires-clause-other
+write_row-requires-clause-other c = c.if-at_row-row.true
+
+pub write_row-requires-clause-leaving : goal.write_row-requires-clause-leaving
+write_row-requires-clause-leaving c = c.loop-at_row.invariant.leaving
+
+pub write_row-requires-clause-leaving_fits : goal.write_row-requires-clause-leaving_fits
+write_row-requires-clause-leaving_fits c = c.loop-at_row.invariant.leaving_fits
+
+pub returns-in-Err-clause-wide : goal.returns-in-Err-clause-wide
+returns-in-Err-clause-wide c = let w = c.in-Err.ensures.wide in (c.args.row, (w.0, (c.requires.row, w.1)))
+
+pub returns-in-Err-write_row-clause-wide : goal.returns-in-Err-write_row-clause-wide
+returns-in-Err-write_row-clause-wide c = let w = c.in-Err-write_row.ensures.wide in (c.loop-at_row.at_row, (w.0, (c.loop-at_row-test.true, w.1)))
+
+pub returns-clause-written : goal.returns-clause-written
+returns-clause-written c = λ i k p q. c.loop-at_row.invariant.written i k (let past = c.loop-at_row-test.false in omega (arith, p, past)) q
+
+pub returns-clause-fits : goal.returns-clause-fits
+returns-clause-fits c = λ i k p q. c.loop-at_row.invariant.fits i k (let past = c.loop-at_row-test.false in omega (arith, p, past)) q

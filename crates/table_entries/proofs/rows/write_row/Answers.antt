@@ -1,4 +1,5 @@
-use Rattle.std.proofs.Common.{◌≡◌, ◌<◌, ◌*◌, ◌+◌, ◌∙◌, sym, arith, length}
+use Rattle.std.proofs.Common.{◌≡◌, ◌≢◌, ◌<◌, ◌*◌, ◌+◌, ◌∙◌, refl, sym, subst, arith, length, pos}
+use Rattle.rational.specs.Rational.{int}
 use Rattle.bases.specs.Relaxation.{pivoted_entry}
 use Rattle.table_entries.specs.FlatSteps.{dense_entry}
 use Rattle.table_entries.proofs.StepLemmas.{read_at}
@@ -15,10 +16,10 @@ returns-in-Err-clause-wide c =
     let k_within : k < n = c.loop-at_place-test.true in
     let y_is : c.index-next-flat_index.result ≡ pivoted_entry (dense_entry n entries) c.args.row c.args.place c.args.row k =
     read_at c.loop-at_place.next c.flat_index-in-loop-at_place.result (c.args.row * n + k) c.index-next-flat_index.result c.flat_index-in-loop-at_place.ensures.value
-    (let w = c.flat_index-in-loop-at_place.ensures.within in let v = c.loop-at_place.auto.next in let u = c.requires.room in omega arith) c.index-next-flat_index.is
+    (let w = c.flat_index-in-loop-at_place.ensures.within in let v = c.loop-at_place.auto.next in let u = c.requires.room in omega (arith, w, v, u)) c.index-next-flat_index.is
     ∙ c.loop-at_place.invariant.others c.args.row k (λ e. c.requires.other (sym e)) k_within ∙ c.requires.leaving k k_within in
     let t_is : c.index-entries-at.result ≡ dense_entry n entries c.args.at_row k = read_at entries c.flat_index-at.result (c.args.at_row * n + k) c.index-entries-at.result c.flat_index-at.ensures.value
-    (let w = c.flat_index-at.ensures.within in omega arith) c.index-entries-at.is in (
+    (let w = c.flat_index-at.ensures.within in omega (arith, w, size)) c.index-entries-at.is in (
       k,
       (
         k_within,
@@ -37,11 +38,11 @@ loop-at_place-preserved c =
     let k_within : k < n = c.loop-at_place-test.true in
     let y_is : c.index-next-flat_index.result ≡ pivoted_entry (dense_entry n entries) c.args.row c.args.place c.args.row k =
     read_at c.loop-at_place.next c.flat_index-in-loop-at_place.result (c.args.row * n + k) c.index-next-flat_index.result c.flat_index-in-loop-at_place.ensures.value
-    (let w = c.flat_index-in-loop-at_place.ensures.within in let v = c.loop-at_place.auto.next in let u = c.requires.room in omega arith) c.index-next-flat_index.is
+    (let w = c.flat_index-in-loop-at_place.ensures.within in let v = c.loop-at_place.auto.next in let u = c.requires.room in omega (arith, w, v, u)) c.index-next-flat_index.is
     ∙ c.loop-at_place.invariant.others c.args.row k (λ e. c.requires.other (sym e)) k_within ∙ c.requires.leaving k k_within in
     let t_is : c.index-entries-at.result ≡ dense_entry n entries c.args.at_row k = read_at entries c.flat_index-at.result (c.args.at_row * n + k) c.index-entries-at.result c.flat_index-at.ensures.value
-    (let w = c.flat_index-at.ensures.within in omega arith) c.index-entries-at.is in
-    let room : length c.loop-at_place.next ≡ c.args.rows * n = (let v = c.loop-at_place.auto.next in let u = c.requires.room in omega arith) in
+    (let w = c.flat_index-at.ensures.within in omega (arith, w, size)) c.index-entries-at.is in
+    let room : length c.loop-at_place.next ≡ c.args.rows * n = (let v = c.loop-at_place.auto.next in let u = c.requires.room in omega (arith, v, u)) in
     let same : c.in-Ok.entry ≡ pivoted_entry (dense_entry n entries) c.args.row c.args.place c.args.at_row k =
     c.in-Ok.ensures.1 ∙ moved_is n c.args.row c.args.place c.args.at_row c.requires.other entries k _ _ _ _ c.loop-at_place.invariant.pivot c.loop-at_place.invariant.in_place t_is y_is (c.requires.leaving_fits k k_within) in
     record {
@@ -65,3 +66,46 @@ flat_index-requires-in-loop-at_place-clause-room c = let size = c.requires.size 
 
 pub flat_index-at-requires-clause-room : goal.flat_index-at-requires-clause-room
 flat_index-at-requires-clause-room c = let size = c.requires.size in omega (arith, size)
+
+pub bounds-entries-flat_index : goal.bounds-entries-flat_index
+bounds-entries-flat_index c = let w = c.flat_index.ensures.within in let e = c.requires.size in omega (arith, w, e)
+
+pub bounds-entries-flat_index-2 : goal.bounds-entries-flat_index-2
+bounds-entries-flat_index-2 c = let w = c.flat_index-2.ensures.within in let e = c.requires.size in omega (arith, w, e)
+
+pub bounds-next-flat_index : goal.bounds-next-flat_index
+bounds-next-flat_index c = let w = c.loop-at_place.auto.next in let v = c.requires.room in let u = c.flat_index-in-loop-at_place.ensures.within in omega (arith, w, v, u)
+
+pub bounds-entries-at : goal.bounds-entries-at
+bounds-entries-at c = let w = c.flat_index-at.ensures.within in let e = c.requires.size in omega (arith, w, e)
+
+pub bounds-next-at : goal.bounds-next-at
+bounds-next-at c = let w = c.loop-at_place.auto.next in let v = c.requires.room in let u = c.flat_index-at.ensures.within in omega (arith, w, v, u)
+
+pub moved-requires : goal.moved-requires
+moved-requires c = subst (λ x. x ≢ int (pos 0)) (sym c.loop-at_place.invariant.pivot) c.requires.some
+
+pub loop-at_place-init : goal.loop-at_place-init
+loop-at_place-init c =
+    let a = c.args in
+    let within : c.flat_index.result < length a.entries.now = let w = c.flat_index.ensures.within in let e = c.requires.size in omega (arith, w, e) in
+    let within-2 : c.flat_index-2.result < length a.entries.now = let w = c.flat_index-2.ensures.within in let e = c.requires.size in omega (arith, w, e) in
+    record {
+      written = λ k less. absurd (omega (arith, less));
+      fits = λ k less. absurd (omega (arith, less));
+      others = λ i k other less. refl;
+      pivot = read_at a.entries.now c.flat_index.result (a.row * a.columns + a.place) c.index-entries-flat_index.result c.flat_index.ensures.value within c.index-entries-flat_index.is;
+      in_place = read_at a.entries.now c.flat_index-2.result (a.at_row * a.columns + a.place) c.index-entries-flat_index-2.result c.flat_index-2.ensures.value within-2 c.index-entries-flat_index-2.is;
+    }
+
+pub returns-in-Err-clause-others : goal.returns-in-Err-clause-others
+returns-in-Err-clause-others c = c.loop-at_place.invariant.others
+
+pub returns-clause-written : goal.returns-clause-written
+returns-clause-written c = λ k less. c.loop-at_place.invariant.written k (let past = c.loop-at_place-test.false in omega (arith, less, past))
+
+pub returns-clause-fits : goal.returns-clause-fits
+returns-clause-fits c = λ k less. c.loop-at_place.invariant.fits k (let past = c.loop-at_place-test.false in omega (arith, less, past))
+
+pub returns-clause-others : goal.returns-clause-others
+returns-clause-others c = c.loop-at_place.invariant.others

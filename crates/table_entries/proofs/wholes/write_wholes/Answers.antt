@@ -1,14 +1,38 @@
-use Rattle.std.proofs.Common.{subst, arith, ◌≡◌, ◌<◌, ◌≤◌, ◌*◌, to_z, of_z, w64}
+use Rattle.std.proofs.Common.{subst, arith, ◌<◌, ◌≤◌, ◌*◌}
 use Rattle.std.proofs.Math.Nat.{mul-le-mul_right}
-use Rattle.std.proofs.lemmas.Int.{ints}
 use Rattle.table_entries.specs.WholeSteps.{WholeAt, whole_number_at}
+use Rattle.table_entries.proofs.ReadLemmas.{short_read, short_again, positive_again}
 use Rattle.table_entries.proofs.wholes.write_wholes.Goals as goal
 
 pub returns-clause-written : goal.returns-clause-written
 returns-clause-written c = λ t at less flag.
     let a = c.args in
-    let d1 : to_z w64 (of_z w64 a.denominator) ≡ a.denominator = omega (arith, ints) in
+    let d1 = short_read a.denominator c.requires.denominator in
     let past : a.rows ≤ c.loop-at_row.at_row = c.loop-at_row-test.false in
     let all : a.rows * a.columns ≤ c.loop-at_row.at_row * a.columns = mul-le-mul_right a.columns past in
     let inside : at < c.loop-at_row.at_row * a.columns = omega (arith, less, all) in
     subst (λ d. WholeAt a.columns a.row a.place d a.numbers.now (whole_number_at c.loop-at_row.next at) at) d1 (c.loop-at_row.invariant.written at inside flag)
+
+pub loop-at_row-init : goal.loop-at_row-init
+loop-at_row-init c = record { written = λ at less flag. absurd (omega (arith, less)); short = c.requires.next }
+
+pub write_whole_row-requires-clause-room : goal.write_whole_row-requires-clause-room
+write_whole_row-requires-clause-room c = let w = c.loop-at_row.auto.next in let v = c.requires.room in omega (arith, w, v)
+
+pub write_whole_row-requires-clause-positive : goal.write_whole_row-requires-clause-positive
+write_whole_row-requires-clause-positive c = positive_again c.args.denominator c.requires.denominator c.requires.positive
+
+pub write_whole_row-requires-clause-denominator : goal.write_whole_row-requires-clause-denominator
+write_whole_row-requires-clause-denominator c = short_again c.args.denominator c.requires.denominator
+
+pub write_whole_row-requires-clause-next : goal.write_whole_row-requires-clause-next
+write_whole_row-requires-clause-next c = c.loop-at_row.invariant.short
+
+pub write_whole_row-requires-clause-earlier : goal.write_whole_row-requires-clause-earlier
+write_whole_row-requires-clause-earlier c = c.loop-at_row.invariant.written
+
+pub loop-at_row-preserved : goal.loop-at_row-preserved
+loop-at_row-preserved c = record { written = c.write_whole_row.ensures.written c.if-not-write_whole_row.false; short = c.write_whole_row.ensures.short }
+
+pub returns-clause-short : goal.returns-clause-short
+returns-clause-short c = c.loop-at_row.invariant.short

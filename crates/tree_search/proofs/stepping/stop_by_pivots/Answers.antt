@@ -1,5 +1,7 @@
 use Rattle.std.specs.Prelude.{Some}
-use Rattle.std.proofs.Common.{refl, ap, subst}
+use Rattle.std.proofs.Common.{refl, sym, subst}
+use Rattle.tree_search.specs.declared.stepping.Stepped.{Stepped}
+use Rattle.tree_search.specs.Stepping.{Steps}
 use Rattle.tree_search.proofs.JobLemmas.{IsWorkedBy, worked-by}
 use Rattle.tree_search.proofs.KeepLemmas.{job-after, added-model}
 use Rattle.tree_search.proofs.PlacedLemmas.{pivots-basis}
@@ -18,7 +20,9 @@ keep_basis-requires-clause-basis c =
     let (begin, (found, (works, adds))) = c.requires.works in
     pivots-basis limits.ways limits.first.now limits.pivots begin (subst (IsWorkedBy limits.ways) (added-model begin found.items S adds) (worked-by S limits.ways c.requires.ready.ways)) c.args.job found.items S adds c.args.basis found refl works.worked_is
 
-pub returns-clause-steps : goal.returns-clause-steps
-returns-clause-steps c =
+pub returns-in-Ok-clause-steps : goal.returns-in-Ok-clause-steps
+returns-in-Ok-clause-steps c =
     λ begin found works adds.
-    stop-pivots c.args.limits.now begin c.args.job found c.args.search.now adds c.keep_basis.new.search (record { path = Some c.job_region.result; cuts = c.in_ok-cuts.cuts; basis = c.args.basis }) works (ap Some c.job_region.ensures) c.in_ok-cuts.ensures.cuts c.in_ok-cuts.ensures.keeps
+    let limits = c.args.limits.now in
+    subst (λ (stepped : Stepped). Steps limits begin c.keep_basis.new.search stepped) (sym c.at_pivots.ensures)
+    (stop-pivots limits begin c.args.job found c.args.search.now adds c.keep_basis.new.search (record { path = Some c.args.job.region; cuts = c.in-Ok.cuts; basis = c.args.basis }) works refl c.in-Ok.ensures.cuts c.in-Ok.ensures.keeps)

@@ -17,5 +17,5 @@ keep_basis-requires-clause-basis c =
     let (begin, (found, (works, adds))) = c.requires.works in
     step-basis limits.ways limits.first.now limits.pivots begin (subst (IsWorkedBy limits.ways) (added-model begin found.items S adds) (worked-by S limits.ways c.requires.ready.ways)) c.args.job.now found.items S adds c.args.at found refl works.worked_is
 
-pub returns-clause-steps : goal.returns-clause-steps
-returns-clause-steps c = λ begin found works adds. stop-step c.args.limits.now begin c.args.job.now found c.args.search.now adds c.keep_basis.new.search c.args.at works c.in_ok-keep_basis.ensures.keeps
+pub returns-in-Ok-clause-steps : goal.returns-in-Ok-clause-steps
+returns-in-Ok-clause-steps c = λ begin found works adds. stop-step c.args.limits.now begin c.args.job.now found c.args.search.now adds c.keep_basis.new.search c.args.at works c.in-Ok.ensures.keeps

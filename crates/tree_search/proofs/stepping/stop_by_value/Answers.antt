@@ -5,6 +5,8 @@ use Rattle.node_solve.specs.Places.{live_places, basis_in_relaxation}
 use Rattle.search_parts.specs.Lists.{IsBasis}
 use Rattle.sound_searches.specs.Sound.{formulation_of}
 use Rattle.tree_search.specs.Steps.{kept_basis}
+use Rattle.tree_search.specs.declared.stepping.Stepped.{Stepped}
+use Rattle.tree_search.specs.Stepping.{Steps}
 use Rattle.tree_search.proofs.JobLemmas.{IsWorkedBy, worked-by}
 use Rattle.tree_search.proofs.KeepLemmas.{job-after, added-model}
 use Rattle.tree_search.proofs.PlacedLemmas.{point-back}
@@ -24,18 +26,19 @@ keep_basis-requires-clause-basis c =
     let (begin, (found, (works, adds))) = c.requires.works in
     let by = subst (IsWorkedBy limits.ways) (added-model begin found.items S adds) (worked-by S limits.ways c.requires.ready.ways) in
     let back = point-back limits.ways limits.first.now limits.pivots begin by c.args.job found.items S adds c.args.point c.args.mult c.args.basis found refl works.worked_is in
-    let own : c.in_ok-own.own ≡ basis_in_relaxation (live_places 200 0 S.cuts) c.args.basis = c.in_ok-own.ensures in
+    let own : c.in-Ok.own ≡ basis_in_relaxation (live_places 200 0 S.cuts) c.args.basis = c.in-Ok.ensures in
     subst (IsBasis (formulation_of S)) (sym (ap (kept_basis S) own ∙ back))
     (there limits begin c.args.job c.args.point c.args.mult c.args.basis found works S adds c.known.ensures.sound c.known.ensures.numbered c.known.ensures.lawful c.requires.rays c.requires.ready)
 
-pub returns-clause-steps : goal.returns-clause-steps
-returns-clause-steps c =
+pub returns-in-Ok-keep_basis-clause-steps : goal.returns-in-Ok-keep_basis-clause-steps
+returns-in-Ok-keep_basis-clause-steps c =
     λ begin found works adds.
     let limits = c.args.limits.now in
     let S = c.args.search.now in
     let by = subst (IsWorkedBy limits.ways) (added-model begin found.items S adds) (worked-by S limits.ways c.requires.ready.ways) in
     let back = point-back limits.ways limits.first.now limits.pivots begin by c.args.job found.items S adds c.args.point c.args.mult c.args.basis found refl works.worked_is in
-    let own : c.in_ok-own.own ≡ basis_in_relaxation (live_places 200 0 S.cuts) c.args.basis = c.in_ok-own.ensures in
-    stop-value limits begin c.args.job found S adds c.keep_basis.new.search c.requires.rays c.args.point c.args.mult c.args.basis
-    (record { path = Some c.job_region.result; cuts = c.in_ok-cuts.cuts; basis = c.in_ok-own.own; step = c.args.step })
-    works c.requires.value (ap Some c.job_region.ensures) c.in_ok-cuts.ensures.cuts own (ap (kept_basis S) own ∙ back) c.in_ok-cuts.ensures.keeps
+    let own : c.in-Ok.own ≡ basis_in_relaxation (live_places 200 0 S.cuts) c.args.basis = c.in-Ok.ensures in
+    subst (λ (stepped : Stepped). Steps limits begin c.keep_basis.new.search stepped) (sym c.at_step.ensures)
+    (stop-value limits begin c.args.job found S adds c.keep_basis.new.search c.requires.rays c.args.point c.args.mult c.args.basis
+    (record { path = Some c.args.job.region; cuts = c.in-Ok-keep_basis.cuts; basis = c.in-Ok.own; step = c.args.step })
+    works c.requires.value refl c.in-Ok-keep_basis.ensures.cuts own (ap (kept_basis S) own ∙ back) c.in-Ok-keep_basis.ensures.keeps)

@@ -2,7 +2,7 @@ use Rattle.std.proofs.Common.{subst, arith}
 use Rattle.std.specs.List.{All}
 use Rattle.std.proofs.lemmas.List.{take_all}
 use Rattle.std.proofs.lemmas.List.Elements.{All-more}
-use Rattle.warm_json.specs.Writable.{NodeFits}
+use Rattle.warm_writer.specs.Writable.{NodeFits}
 use Rattle.warm_writer.proofs.room.show_nodes.Goals as goal
 
 pub loop-node-preserved : goal.loop-node-preserved

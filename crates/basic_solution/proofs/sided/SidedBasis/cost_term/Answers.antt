@@ -13,9 +13,9 @@ use Rattle.basic_solution.proofs.sided.SidedBasis.cost_term.Goals as goal
 
 pub returns-then-number-eq0-clause-term : goal.returns-then-number-eq0-clause-term
 returns-then-number-eq0-clause-term c =
-    let number = c.in_ok-number.number in
-    let none : number ≡ pos 0 = let e = c.if-number-eq0.true in let small : IsSmallNumber number = c.in_ok-number.ensures.small in omega (arith, ints, e, small) in
-    without_cost ((relaxation c.args.self.now).cost c.args.variable) _ c.args.denominator c.requires.positive (sym c.cost_of.ensures ∙ c.in_ok-number.ensures.value ∙ ap int none)
+    let number = c.in_ok-number-in-Row.number in
+    let none : number ≡ pos 0 = let e = c.if-number-eq0.true in let small : IsSmallNumber number = c.in_ok-number-in-Row.ensures.small in omega (arith, ints, e, small) in
+    without_cost ((relaxation c.args.self.now).cost c.args.variable) _ c.args.denominator c.requires.positive (c.in_ok-number-in-Row.ensures.value ∙ ap int none)
 
 pub returns-in_ok-factor-in-Row-clause-term : goal.returns-in_ok-factor-in-Row-clause-term
 returns-in_ok-factor-in-Row-clause-term c =
@@ -23,9 +23,9 @@ returns-in_ok-factor-in-Row-clause-term c =
     let place = c.args.place in
     let variable = c.args.variable in
     let factor = c.in_ok-factor-in-Row.factor in
-    let number = c.in_ok-number.number in
+    let number = c.in_ok-number-in-Row.number in
     let factor_short : IsShort factor = c.in_ok-factor-in-Row.ensures.short in
-    let small : IsSmallNumber number = c.in_ok-number.ensures.small in
+    let small : IsSmallNumber number = c.in_ok-number-in-Row.ensures.small in
     let number_short : IsShort number = omega (arith, small) in
     let f_is : to_z w64 (of_z w64 factor) ≡ factor = omega (arith, ints, factor_short) in
     let n_is : to_z w64 (of_z w64 number) ≡ number = omega (arith, ints, number_short) in
@@ -33,7 +33,7 @@ returns-in_ok-factor-in-Row-clause-term c =
     let entry_is = subst (λ s. saved s place variable ≡ dense_entry c.self.inside.tableau.columns c.self.inside.tableau.entries row place) c.self.view_is
     (own_saved _ c.self.invariant place variable row c.in-Row.ensures.0 c.in-Row.ensures.1) in
     term_of_number ((relaxation c.args.self.now).cost variable) _ (to_z w64 (of_z w64 factor)) (to_z w64 (of_z w64 number)) c.args.denominator c.requires.positive (subst IsShort (sym f_is) factor_short) (subst IsShort (sym n_is) number_short)
-    (sym c.cost_of.ensures ∙ c.in_ok-number.ensures.value ∙ ap int (sym n_is))
+    (c.in_ok-number-in-Row.ensures.value ∙ ap int (sym n_is))
     (entry_is ∙ c.in_ok-factor-in-Row.ensures.value ∙ (λ i. quotient_of (sym f_is i) (d_is i)))
 
 pub returns-in-Place-clause-term : goal.returns-in-Place-clause-term

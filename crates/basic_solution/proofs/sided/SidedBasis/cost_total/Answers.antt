@@ -26,7 +26,7 @@ loop-variable-init c =
     let made : c.product-total.result ≡ start *ℤ d = c.product-total.ensures ∙ (λ i. s_is i *ℤ d_is i) in
     let total_is : to_z w128 (of_z w128 c.product-total.result) ≡ start *ℤ d = omega (arith, ints, made, size) in
     let variable_is = subst (λ t. c.nonbasic.result ≡ (table_of t).nonbasic c.args.place) (ap (λ s. s.tableau) c.self.view_is) c.nonbasic.ensures.value in
-    let own : int start ≡ place_cost now c.args.place = sym c.in_ok-start.ensures.value ∙ c.cost_of.ensures ∙ ap (relaxation now).cost variable_is in
+    let own : int start ≡ place_cost now c.args.place = sym c.in_ok-start.ensures.value ∙ ap (relaxation now).cost variable_is in
     record {
       size = subst (λ t. unsigned_abs t ≤ (0 + 1) * 2 ^ 93) (sym total_is) (omega (arith, size));
       value = (λ i. quotient_of (total_is i) (d_is i)) ∙ start_is start d c.requires.positive ∙ own ∙ partial_none (place_cost now c.args.place) (relaxation now).cost (saved now c.args.place);
@@ -95,7 +95,7 @@ returns c =
     let start = c.in_ok-start.start in
     let small : IsSmallNumber start = c.in_ok-start.ensures.small in
     let variable_is = subst (λ t. c.nonbasic.result ≡ (table_of t).nonbasic c.args.place) same c.nonbasic.ensures.value in
-    let own : place_cost s c.args.place ≡ int start = sym (c.cost_of.ensures ∙ ap (relaxation s).cost variable_is) ∙ c.in_ok-start.ensures.value in
+    let own : place_cost s c.args.place ≡ int start = sym (ap (relaxation s).cost variable_is) ∙ c.in_ok-start.ensures.value in
     let past = c.loop-variable-test.false in
     let within = c.loop-variable.auto.variable-end in
     let end = c.end-variable-end.result in

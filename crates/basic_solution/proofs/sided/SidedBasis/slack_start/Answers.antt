@@ -1,4 +1,4 @@
-use Rattle.std.proofs.Common.{◌∙◌, refl, ap, length, get_or, pos}
+use Rattle.std.proofs.Common.{◌∙◌, refl, sym, ap, length, get_or, pos}
 use Rattle.rational.specs.Rational.{int}
 use Rattle.row_tableau.specs.Relaxations.{form_of}
 use Rattle.basic_solution.specs.Held.{Held}
@@ -20,7 +20,7 @@ invariant_of-result c =
     } in
     slack_sided relax s refl c.in_ok-tableau.ensures.columns c.in_ok-tableau.ensures.activities c.in_ok-tableau.ensures.rows c.in_ok-tableau.ensures.table c.in_ok-tableau.ensures.slack
     c.in_ok-low.ensures.length c.in_ok-low.ensures.items c.in_ok-high.ensures.length c.in_ok-high.ensures.items (ap length c.new-priced.ensures ∙ c.in_ok-cost.ensures.length) (λ u q. ap (λ xs. get_or xs u (int (pos 0))) c.new-priced.ensures ∙ c.in_ok-cost.ensures.items u q)
-    c.in_ok-tilt.ensures.length c.in_ok-tilt.ensures.items c.in_ok-order.ensures (c.in_ok-stands.ensures ∙ ap length c.cols.ensures.items)
+    c.in_ok-tilt.ensures.length c.in_ok-tilt.ensures.items c.in_ok-order.ensures (sym c.in_ok-stands.stands.ok.0 ∙ c.in_ok-stands.ensures.len ∙ ap length c.cols.ensures.items)
     c.requires.sides
 
 pub returns : goal.returns
@@ -38,4 +38,4 @@ returns c =
     } in
     slack_state relax s refl c.in_ok-tableau.ensures.columns c.in_ok-tableau.ensures.activities c.in_ok-tableau.ensures.rows c.in_ok-tableau.ensures.table c.in_ok-tableau.ensures.slack
     c.in_ok-low.ensures.length c.in_ok-low.ensures.items c.in_ok-high.ensures.length c.in_ok-high.ensures.items (ap length c.new-priced.ensures ∙ c.in_ok-cost.ensures.length) (λ u q. ap (λ xs. get_or xs u (int (pos 0))) c.new-priced.ensures ∙ c.in_ok-cost.ensures.items u q)
-    c.in_ok-tilt.ensures.length c.in_ok-tilt.ensures.items c.in_ok-order.ensures (c.in_ok-stands.ensures ∙ ap length c.cols.ensures.items)
+    c.in_ok-tilt.ensures.length c.in_ok-tilt.ensures.items c.in_ok-order.ensures (sym c.in_ok-stands.stands.ok.0 ∙ c.in_ok-stands.ensures.len ∙ ap length c.cols.ensures.items)

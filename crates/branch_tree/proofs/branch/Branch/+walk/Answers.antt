@@ -1,4 +1,4 @@
-use Rattle.std.proofs.Common.{◌≡◌, [], ◌∷◌, ◌++◌, take, pos, ◌+ℤ◌, ap, subst, ◌∙◌}
+use Rattle.std.proofs.Common.{◌≡◌, [], ◌∷◌, length, take, pos, ◌+ℤ◌, ap, subst, ◌∙◌}
 use Rattle.std.specs.Prelude.{OnOk}
 use Rattle.lp_model.specs.Regions.{Path, at_most, at_least}
 use Rattle.branch_tree.specs.Tree.{left_path, right_path}
@@ -23,10 +23,25 @@ returns-in_ok-walk-in-Split-2-clause-visits g t c =
     let s = c.in-Split in
     let step = g.V.LeafVisitor.step in
     let path : Path = c.args.path.now.items in
+    let j = s.split.col.0 in
+    let v = s.split.v in
     let kept : SplitKept = record { id = s.split.id; mult = s.split.mult; basis = s.split.basis } in
-    let on : c.push.new.self.items ≡ left_path path s.split.col.0 s.split.v = c.in_ok-push-in-Split.ensures.items ∙ ap (λ b. path ++ b ∷ []) c.at_most.ensures in
-    let back : c.truncate.new.self.items ≡ path = c.truncate.ensures.items ∙ ap (take c.len-depth.result) (c.in_ok-walk-in-Split.ensures.path ∙ on) ∙ take_front path (at_most s.split.col.0 s.split.v ∷ []) c.len-depth.result (c.len-depth.ensures ∙ c.args.path.now.ok.0) in
-    let on_right : c.push-in-Split.new.self.items ≡ right_path path s.split.col.0 s.split.v = c.in_ok-push-in-Split-2.ensures.items ∙ ap (λ b. c.truncate.new.self.items ++ b ∷ []) c.at_least.ensures ∙ ap (λ p. p ++ at_least s.split.col.0 (s.split.v +ℤ pos 1) ∷ []) back in
-    let first : Visits step (region_leaves (left_path path s.split.col.0 s.split.v) (plain_branch s.left.value)) c.args.visitor.now c.walk.new.visitor = rw (← on, ← c.deref-in-Split.ensures) c.in_ok-walk-in-Split.ensures.visits in
-    let second : Visits step (region_leaves (right_path path s.split.col.0 s.split.v) (plain_branch s.right.value)) c.walk.new.visitor c.walk-in-Split.new.visitor = rw (← on_right, ← c.deref-in-Split-2.ensures) c.in_ok-walk-in-Split-2.ensures.visits in
-    rw s.is (visits_split step path kept s.split.col.0 s.split.v (plain_branch s.left.value) (plain_branch s.right.value) c.args.visitor.now c.walk.new.visitor c.walk-in-Split.new.visitor first second)
+    let on : c.go_left.new.path.items ≡ left_path path j v = c.in_ok-go_left-in-Split.ensures in
+    let back : take c.len-depth.result c.walk.new.path.items ≡ path = ap (take c.len-depth.result) (c.in_ok-walk-in-Split.ensures.path ∙ on) ∙ take_front path (at_most j v ∷ []) c.len-depth.result (c.len-depth.ensures ∙ c.args.path.now.ok.0) in
+    let on_right : c.go_right.new.path.items ≡ right_path path j v = c.in_ok-go_right-in-Split.ensures ∙ ap (λ (p : Path). right_path p j v) back in
+    let first : Visits step (region_leaves (left_path path j v) (plain_branch s.left.value)) c.args.visitor.now c.walk.new.visitor = rw (← on, ← c.deref-in-Split.ensures) c.in_ok-walk-in-Split.ensures.visits in
+    let second : Visits step (region_leaves (right_path path j v) (plain_branch s.right.value)) c.walk.new.visitor c.walk-in-Split.new.visitor = rw (← on_right, ← c.deref-in-Split-2.ensures) c.in_ok-walk-in-Split-2.ensures.visits in
+    rw s.is (visits_split step path kept j v (plain_branch s.left.value) (plain_branch s.right.value) c.args.visitor.now c.walk.new.visitor c.walk-in-Split.new.visitor first second)
+
+pub returns-in_ok-walk-in-Split-2-clause-path : goal.returns-in_ok-walk-in-Split-2-clause-path
+returns-in_ok-walk-in-Split-2-clause-path g t c =
+    let s = c.in-Split in
+    let path : Path = c.args.path.now.items in
+    let j = s.split.col.0 in
+    let v = s.split.v in
+    let d = c.len-depth.result in
+    let at : d ≡ length path = c.len-depth.ensures ∙ c.args.path.now.ok.0 in
+    let on : c.go_left.new.path.items ≡ left_path path j v = c.in_ok-go_left-in-Split.ensures in
+    let back : take d c.walk.new.path.items ≡ path = ap (take d) (c.in_ok-walk-in-Split.ensures.path ∙ on) ∙ take_front path (at_most j v ∷ []) d at in
+    let on_right : c.go_right.new.path.items ≡ right_path path j v = c.in_ok-go_right-in-Split.ensures ∙ ap (λ (p : Path). right_path p j v) back in
+    c.truncate.ensures.items ∙ ap (take d) (c.in_ok-walk-in-Split-2.ensures.path ∙ on_right) ∙ take_front path (at_least j (v +ℤ pos 1) ∷ []) d at

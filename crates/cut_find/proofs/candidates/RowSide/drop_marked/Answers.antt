@@ -86,3 +86,36 @@ returns c = λ _.
     let l = c.loop-place in
     let past : length taken ≤ l.place = let h = c.loop-place-test.false in omega (arith, h) in
     dropped_end self.model.now self.row.0 self.side c.args.side.now c.requires.side taken l.invariant.0 l.place (to_z w128 l.left-bits) l.marks past l.invariant.1.0 l.invariant.1.1
+
+pub bounds-marks-col : goal.bounds-marks-col
+bounds-marks-col c =
+    let self = c.args.self.now in
+    let taken = c.args.taken.now in
+    let l = c.loop-place in
+    let cand : IsCandidateColumn self.model.now self.row.0 self.side (get_or taken l.place 0) = All-get_or (IsCandidateColumn self.model.now self.row.0 self.side) taken l.place 0 c.loop-place-test.true c.requires.cover.candidates in
+    let within = cand.within in
+    let kept = l.auto.marks in
+    let long = c.requires.long in
+    omega (arith, within, kept, long)
+
+pub overflow_sub-rest : goal.overflow_sub-rest
+overflow_sub-rest c =
+    let self = c.args.self.now in
+    let M = self.model.now in
+    let taken = c.args.taken.now in
+    let l = c.loop-place in
+    let j = get_or taken l.place 0 in
+    let cand : IsCandidateColumn M self.row.0 self.side j = All-get_or (IsCandidateColumn M self.row.0 self.side) taken l.place 0 c.loop-place-test.true c.requires.cover.candidates in
+    let mark = mark_at l.marks j in
+    let factor : IsFactor mark.weight = (l.invariant.1.0.marked j cand.within cand.candidate.coefficient).factor in
+    let weight : to_z w64 (of_z w64 mark.weight) ≡ mark.weight = omega (arith, ints, factor) in
+    let size : c.size.result ≡ pos (unsigned_abs mark.weight) = c.size.ensures ∙ ap (λ w. pos (unsigned_abs w)) weight in
+    let room : HasRoomForProduct (to_z w128 l.left-bits) = l.invariant.1.0.room in
+    omega (arith, ints, size, room, factor)
+
+pub loop-place-init : goal.loop-place-init
+loop-place-init c =
+    let self = c.args.self.now in
+    let room : HasRoomForProduct c.args.total = c.requires.cover.room in
+    let total_is : to_z w128 (of_z w128 c.args.total) ≡ c.args.total = omega (arith, ints, room) in
+    (c.args.taken.now, (subst (λ n. IsWholeCover self.model.now self.row.0 self.side c.args.side.now c.args.taken.now n c.args.marks.now) (sym total_is) c.requires.cover, λ o drops. drops))

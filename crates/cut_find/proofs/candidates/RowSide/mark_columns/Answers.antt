@@ -31,7 +31,7 @@ returns c = λ _.
     let M = self.model.now in
     let l = c.loop-entry in
     let n = length M.cols in
-    let d_is : to_z w64 (of_z w64 c.args.denominator) ≡ c.args.denominator = omega (arith, ints) in
+    let d_is : to_z w64 (of_z w64 c.args.denominator) ≡ c.args.denominator = let range = c.ranges.denominator in omega (arith, ints, range) in
     let past : length self.entries.now ≤ l.entry-index = let h = c.loop-entry-test.false in omega (arith, h) in
     let end = entries_end M self.row.0 l.invariant.0 n self.entries.now l.entry-index past l.invariant.1.0 in
     subst (λ d. AreMarksOf M self.row.0 self.side d [] l.marks) d_is (marks_across M self.row.0 self.side (to_z w64 (of_z w64 c.args.denominator)) l.invariant.0 l.marks l.invariant.1.1 n end.1)

@@ -44,3 +44,12 @@ returns c = λ d js marks cand.
     let end = entries_end M self.row.0 l.invariant.0 n self.entries.now l.entry-index past l.invariant.1.0 in
     let same = l.invariant.1.1 d js marks cand ∙ below_across M self.row.0 self.side js l.invariant.0 n end.0 end.1 cand in
     λ t. record { row = self.row; side = self.side; literals = same t }
+
+pub bounds-marks-entry : goal.bounds-marks-entry
+bounds-marks-entry c =
+    let self = c.args.self.now in
+    let l = c.loop-entry in
+    let next = (entry_at self.model.now self.row.0 l.invariant.0 (length self.model.now.cols) self.entries.now l.entry-index c.entry-item.result c.loop-entry-test.true c.entry-item.is l.invariant.1.0).0 in
+    let within = next.within in
+    let long = c.requires.long in
+    omega (arith, within, long)

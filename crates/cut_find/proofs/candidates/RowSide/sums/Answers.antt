@@ -1,7 +1,7 @@
-use Rattle.std.proofs.Common.{◌≡◌, ◌∙◌, sym, subst, arith, length, ◌≤◌, pos, ◌<ℤ◌, to_z, of_z, w64}
+use Rattle.std.proofs.Common.{◌≡◌, ◌∙◌, sym, subst, arith, suc, length, ◌≤◌, pos, ◌<ℤ◌, to_z, of_z, w64}
 use Rattle.std.proofs.lemmas.Int.{ints}
 use Rattle.frac128.specs.LowestTerms.{quotient_of}
-use Rattle.leaf_dual.specs.Wholes.{IsFactor}
+use Rattle.leaf_dual.specs.Wholes.{IsFactor, IsDenominator}
 use Rattle.cut_find.specs.WholeSides.{mark_at, AreSumsTo}
 use Rattle.cut_find.proofs.RowLemmas.{entry_at, entries_end, entry_some}
 use Rattle.cut_find.proofs.SizeLemmas.{sums_begin, sums_across}
@@ -11,7 +11,7 @@ pub loop-entry-init : goal.loop-entry-init
 loop-entry-init c =
     let self = c.args.self.now in
     let p = c.requires.denominator.positive in
-    let d_is : to_z w64 (of_z w64 c.args.denominator) ≡ c.args.denominator = omega (arith, ints) in
+    let d_is : to_z w64 (of_z w64 c.args.denominator) ≡ c.args.denominator = let range = c.ranges.denominator in omega (arith, ints, range) in
     (0, (c.requires.entries, sums_begin self.model.now self.row.0 self.side (to_z w64 (of_z w64 c.args.denominator)) (subst (λ d. pos 0 <ℤ d) (sym d_is) p)))
 
 pub with_column-requires-clause-factor : goal.with_column-requires-clause-factor
@@ -36,7 +36,7 @@ with_column-requires-clause-weight c =
     let w = (mark_at c.args.marks.now e.0).weight in
     let h : IsFactor w = m.factor in
     let w_is : to_z w64 (of_z w64 w) ≡ w = omega (arith, ints, h) in
-    let d_is : to_z w64 (of_z w64 c.args.denominator) ≡ c.args.denominator = omega (arith, ints) in
+    let d_is : to_z w64 (of_z w64 c.args.denominator) ≡ c.args.denominator = let range = c.ranges.denominator in omega (arith, ints, range) in
     m.weight ∙ (λ t. quotient_of (sym w_is t) (sym d_is t))
 
 pub with_column-requires-clause-sums : goal.with_column-requires-clause-sums
@@ -54,7 +54,34 @@ returns c =
     let M = self.model.now in
     let l = c.loop-entry in
     let n = length M.cols in
-    let d_is : to_z w64 (of_z w64 c.args.denominator) ≡ c.args.denominator = omega (arith, ints) in
+    let d_is : to_z w64 (of_z w64 c.args.denominator) ≡ c.args.denominator = let range = c.ranges.denominator in omega (arith, ints, range) in
     let past : length self.entries.now ≤ l.entry-index = let h = c.loop-entry-test.false in omega (arith, h) in
     let end = entries_end M self.row.0 l.invariant.0 n self.entries.now l.entry-index past l.invariant.1.0 in
     subst (λ d. AreSumsTo M self.row.0 self.side d n l.sums) d_is (sums_across M self.row.0 self.side (to_z w64 (of_z w64 c.args.denominator)) l.invariant.0 n l.sums end.0 end.1 l.invariant.1.1)
+
+pub bounds-marks-entry : goal.bounds-marks-entry
+bounds-marks-entry c =
+    let self = c.args.self.now in
+    let l = c.loop-entry in
+    let next = (entry_at self.model.now self.row.0 l.invariant.0 (length self.model.now.cols) self.entries.now l.entry-index c.entry-item.result c.loop-entry-test.true c.entry-item.is l.invariant.1.0).0 in
+    let within = next.within in
+    let long = c.requires.long in
+    omega (arith, within, long)
+
+pub with_column-requires-clause-denominator : goal.with_column-requires-clause-denominator
+with_column-requires-clause-denominator c =
+    let d_is : to_z w64 (of_z w64 c.args.denominator) ≡ c.args.denominator = let range = c.ranges.denominator in omega (arith, ints, range) in
+    subst IsDenominator (sym d_is) c.requires.denominator
+
+pub with_column-requires-clause-within : goal.with_column-requires-clause-within
+with_column-requires-clause-within c =
+    let self = c.args.self.now in
+    let l = c.loop-entry in
+    (entry_at self.model.now self.row.0 l.invariant.0 (length self.model.now.cols) self.entries.now l.entry-index c.entry-item.result c.loop-entry-test.true c.entry-item.is l.invariant.1.0).0.within
+
+pub loop-entry-preserved : goal.loop-entry-preserved
+loop-entry-preserved c =
+    let self = c.args.self.now in
+    let l = c.loop-entry in
+    let at = entry_at self.model.now self.row.0 l.invariant.0 (length self.model.now.cols) self.entries.now l.entry-index c.entry-item.result c.loop-entry-test.true c.entry-item.is l.invariant.1.0 in
+    (suc c.entry-item.result.0, (at.1, c.in-Some.ensures))

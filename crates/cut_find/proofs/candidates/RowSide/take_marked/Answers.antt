@@ -1,9 +1,9 @@
-use Rattle.std.proofs.Common.{◌≡◌, ◌∙◌, refl, sym, ap, subst, arith, pos, ◌<ℤ◌, ◌+ℤ◌, true, length, get_or, unsigned_abs, to_z, of_z, w64}
+use Rattle.std.proofs.Common.{◌≡◌, ◌∙◌, refl, sym, ap, subst, arith, [], pos, ◌<ℤ◌, ◌+ℤ◌, true, length, get_or, unsigned_abs, to_z, of_z, w64}
 use Rattle.std.specs.Int.{w128}
 use Rattle.std.proofs.lemmas.Int.{ints}
 use Rattle.std.proofs.lemmas.List.Elements.{All-get_or}
 use Rattle.leaf_dual.specs.Wholes.{IsFactor, HasRoomForProduct}
-use Rattle.cut_find.specs.WholeSides.{IsCandidateColumn, mark_at, IsTaken}
+use Rattle.cut_find.specs.WholeSides.{IsCandidateColumn, mark_at, IsWholeCover, IsTaken}
 use Rattle.cut_find.proofs.TakeLemmas.{taken_here, taken_end, never_end, back_more, cover_more}
 use Rattle.cut_find.proofs.candidates.RowSide.take_marked.Goals as goal
 
@@ -86,3 +86,27 @@ returns-else-from-total-2 c =
     let past = c.loop-place-test.false in
     let met : ¬ (c.args.side.now.limit <ℤ to_z w128 l.total-bits) = λ h. omega (arith, ints, h, test, from, factor) in
     never_end self.model.now self.row.0 self.side c.args.side.now c.requires.side c.args.order.now l.place (to_z w128 l.total-bits) l.marks l.invariant.cover l.invariant.back (omega (arith, past)) met
+
+pub bounds-marks-col : goal.bounds-marks-col
+bounds-marks-col c =
+    let l = c.loop-place in
+    let within = (c.requires.order l.place 0 c.loop-place-test.true).within in
+    let kept = l.auto.marks in
+    let long = c.requires.long in
+    omega (arith, within, kept, long)
+
+pub with_size-requires-clause-total : goal.with_size-requires-clause-total
+with_size-requires-clause-total c = c.loop-place.invariant.cover.room
+
+pub loop-place-init : goal.loop-place-init
+loop-place-init c =
+    let self = c.args.self.now in
+    let side = c.args.side.now in
+    let whole = c.requires.side in
+    let room : HasRoomForProduct side.base = whole.room in
+    let base_is : to_z w128 (of_z w128 side.base) ≡ side.base = omega (arith, ints, room) in
+    record {
+      cover = subst (λ n. IsWholeCover self.model.now self.row.0 self.side side [] n c.args.marks.now) (sym base_is)
+          (record { sum = whole.base; room = room; marked = c.requires.marks; candidates = λ k e less. absurd (omega (arith, less)) });
+      back = λ o takes. takes;
+    }

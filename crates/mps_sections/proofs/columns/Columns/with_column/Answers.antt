@@ -4,8 +4,8 @@ use Rattle.mps_sections.specs.declared.statements.ColumnLines.{ColumnLines}
 use Rattle.mps_sections.proofs.ListFacts.{held_some}
 use Rattle.mps_sections.proofs.columns.Columns.with_column.Goals as goal
 
-pub returns-in_ok-add_to-in-Some : goal.returns-in_ok-add_to-in-Some
-returns-in_ok-add_to-in-Some c =
+pub returns-in-Ok : goal.returns-in-Ok
+returns-in-Ok c =
     let s = c.args.self in
     let column = c.args.column in
-    ap (λ (done : List ColumnLines). done ++ open_shown column ∷ []) (c.in_ok-add_to-in-Some.ensures.done ∙ sym (held_some s.done s.last c.in-Some.before c.in-Some.is))
+    ap (λ (done : List ColumnLines). done ++ open_shown column ∷ []) (c.in-Ok.ensures.done ∙ sym (held_some s.done s.last c.in-Some.before c.in-Some.is))

@@ -1,5 +1,6 @@
 use Rattle.std.proofs.Common.{◌∙◌, sym, ap, subst}
 use Rattle.node_solve.specs.Places.{ArePoolPlaces, result_in_pool}
+use Rattle.node_solve.specs.Rounds.{IsDoneAfter}
 use Rattle.node_solve.specs.Ends.{IsLastRound}
 use Rattle.node_solve.specs.RoundCode.{task_work, round_of}
 use Rattle.node_solve.proofs.OwnLemmas.{done_after, wide_worked}
@@ -19,4 +20,5 @@ returns-in-Ok c =
     let W = task_work c.args.self.now in
     let r = round_of c.args.round in
     let last = subst (IsLastRound W r) c.in-Done.is c.requires.last in
-    (last.0, (r, (last.1.0, done_after W r c.in-Done.done c.in-Ok.placed (c.in-Ok.ensures ∙ ap (λ ps. result_in_pool ps c.in-Done.done) c.as_slice.ensures.value) last)))
+    let done : IsDoneAfter W last.0 r c.in-Ok.placed r.added = done_after W r c.in-Done.done c.in-Ok.placed (c.in-Ok.ensures ∙ ap (λ ps. result_in_pool ps c.in-Done.done) c.as_slice.ensures.value) last in
+    (last.0, (r, (last.1.0, subst (λ found. IsDoneAfter W last.0 r c.in-Ok.placed found) (sym c.added_of.ensures) done)))

@@ -21,6 +21,6 @@ pub returns : goal.returns
 returns c =
     λ n s run found.
     let W = task_work c.args.self.now in
-    subst (λ d. IsOwnEndAt W (round_of c.args.round.now) (own.Done d) n s) (sym c.split_result.ensures)
+    subst (λ d. IsOwnEndAt W (round_of c.args.round.now) (own.Done d) n s) (sym c.split_result-split.ensures)
     (fraction_splits W (round_of c.args.round.now) c.args.point c.args.mult c.args.basis c.args.col c.requires.first n s found
     (λ closes. false≢true (sym c.if-reaches.false ∙ c.reaches.ensures.1 (subst (λ v. NumberCloses W.model W.job.target (Lag v)) (sym c.requires.number) closes))))

@@ -9,8 +9,7 @@ returns-then-not-cut c = not_dead (task_work c.args.self.now) (round_of c.args.r
 
 pub returns-then-count-ge-CUT_LIMIT : goal.returns-then-count-ge-CUT_LIMIT
 returns-then-count-ge-CUT_LIMIT c =
-    let size = c.args.round.now.cuts.ok.0 in
-    not_past (task_work c.args.self.now) (round_of c.args.round.now) c.args.cut.now (omega (arith, size, c.len-count.ensures))
+    not_past (task_work c.args.self.now) (round_of c.args.round.now) c.args.cut.now (omega (arith, c.len-count.ensures))
 
 pub returns-then-place-ge-POOL_LIMIT : goal.returns-then-place-ge-POOL_LIMIT
 returns-then-place-ge-POOL_LIMIT c =
@@ -22,10 +21,9 @@ pub returns : goal.returns
 returns c =
     let W = task_work c.args.self.now in
     let r = round_of c.args.round.now in
-    let size = c.args.round.now.cuts.ok.0 in
     let others = c.args.round.now.added.ok.0 in
     let pool = ap length c.rows.ensures.rows in
-    let room : length r.cuts < 200 = omega (arith, size, c.len-count.ensures) in
+    let room : length r.cuts < 200 = omega (arith, c.len-count.ensures) in
     let pool_room : length W.pool + length r.added < 10000 = omega (arith, others, pool, c.len.ensures) in
     addable_by W r c.args.cut.now c.if-not-cut.false room pool_room c.has_row_of.result
     (subst (λ l. IsTrue c.has_row_of.result ↔ HasRowOf l c.args.cut.now) c.as_slice.ensures.value c.has_row_of.ensures)

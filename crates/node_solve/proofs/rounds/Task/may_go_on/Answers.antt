@@ -9,14 +9,12 @@ returns-then-made-self c = may_not_rounds (task_work c.args.self.now) c.args.mad
 
 pub returns-then-count-ge-CUT_LIMIT : goal.returns-then-count-ge-CUT_LIMIT
 returns-then-count-ge-CUT_LIMIT c =
-    let size = c.args.round.now.cuts.ok.0 in
-    may_not_room (task_work c.args.self.now) c.args.made (round_of c.args.round.now) c.args.point.now (omega (arith, size, c.len-count.ensures))
+    may_not_room (task_work c.args.self.now) c.args.made (round_of c.args.round.now) c.args.point.now (omega (arith, c.len-count.ensures))
 
 pub returns : goal.returns
 returns c =
     let W = task_work c.args.self.now in
     let r = round_of c.args.round.now in
-    let size = c.args.round.now.cuts.ok.0 in
-    let room : length r.cuts < 200 = omega (arith, size, c.len-count.ensures) in
+    let room : length r.cuts < 200 = omega (arith, c.len-count.ensures) in
     subst (λ b. IsTrue b ↔ MayGoOn W c.args.made r c.args.point.now) (sym c.is_some.ensures)
     (may_by_point W c.args.made r c.args.point.now c.if-made-self.false room c.first_fractional.result c.first_fractional.ensures)

@@ -4,9 +4,9 @@ use Rattle.node_solve.proofs.rounds.Task.solve.Goals as goal
 
 pub with_cut_variables-requires : goal.with_cut_variables-requires
 with_cut_variables-requires c =
-    let count = c.len.ensures ∙ c.args.round.now.cuts.ok.0 in
+    let count = c.len.ensures in
     let few = c.requires.kept.few in
     omega (arith, count, few)
 
 pub solve_from-requires-clause-first : goal.solve_from-requires-clause-first
-solve_from-requires-clause-first c = c.in-Ok.ensures ∙ ap (λ n. with_cut_variables c.args.self.now.first.now 0 n) (c.len.ensures ∙ c.args.round.now.cuts.ok.0)
+solve_from-requires-clause-first c = c.in-Ok.ensures ∙ ap (λ n. with_cut_variables c.args.self.now.first.now 0 n) (c.len.ensures)

@@ -20,7 +20,7 @@ start-requires-clause-narrow c = subst AreNarrow (sym c.as_slice-region.ensures)
 
 pub start-requires-clause-few : goal.start-requires-clause-few
 start-requires-clause-few c =
-    let count : length c.as_slice-cuts.result.now ≡ length c.args.round.now.cuts.items = ap length c.as_slice-cuts.ensures.value in
+    let count : length c.as_slice-cuts.result.now ≡ length c.args.round.now.cuts = ap length c.as_slice-cuts.ensures.value in
     let few = c.requires.kept.few in
     omega (arith, count, few)
 

@@ -1,4 +1,5 @@
-use Rattle.std.proofs.Common.{subst}
+use Rattle.std.proofs.Common.{sym, subst}
+use Rattle.node_solve.specs.Rounds.{IsPivotsAfter}
 use Rattle.node_solve.specs.Ends.{IsEnd}
 use Rattle.node_solve.specs.RoundCode.{task_work, round_of}
 use Rattle.node_solve.proofs.TurnLemmas.{method_worked, pivots_after}
@@ -9,7 +10,7 @@ returns-in-Pivots c =
     let W = task_work c.args.self.now in
     let r = round_of c.args.round in
     let h = subst (IsEnd W c.args.round) c.in-Pivots.is c.requires in
-    (h.0, (r, (h.1.0, pivots_after W r c.in-Pivots.basis h.1.1)))
+    (h.0, (r, (h.1.0, subst (λ found. IsPivotsAfter W r c.in-Pivots.basis found) (sym c.added_of.ensures) (pivots_after W r c.in-Pivots.basis h.1.1))))
 
 pub returns-in-Wide : goal.returns-in-Wide
 returns-in-Wide c =

@@ -1,12 +1,12 @@
-use Rattle.std.proofs.Common.{◌≡◌, List, ℕ, ◌++◌, refl, sym, ◌∙◌, ap, subst, arith, false}
+use Rattle.std.proofs.Common.{rules, ◌≡◌, List, ℕ, ◌++◌, refl, sym, ◌∙◌, ap, subst, arith, length, length-append, false}
 use Rattle.std.specs.Prelude.{Ok, Err}
 use Rattle.std.proofs.lemmas.Result.{err_from_is_err_and}
 use Rattle.std.proofs.lemmas.List.Elements.{All-append, All-nil}
 use Rattle.script_session.specs.Request.{RequestStep}
 use Rattle.text_lines.specs.Lines.{is_newline, HasNoNewline}
-use Rattle.script_session.specs.Session.{moment_of}
+use Rattle.script_session.specs.Session.{moment_of, ServesPiece}
 use Rattle.script_session.specs.declared.session.Flow.TheVariants.{Open, Ended}
-use Rattle.script_session.proofs.PieceLemmas.{Stands, Stands-start, Stands-line, Stands-joined, served_line, piece_ended, piece_failed, piece_wanting}
+use Rattle.script_session.proofs.PieceLemmas.{Stands, Stands-start, Stands-line, Stands-joined, served_line, piece_ended, piece_failed, piece_wanting, piece_open}
 use Rattle.script_session.proofs.session.Session.feed.Goals as goal
 
 pub loop-line-init : goal.loop-line-init
@@ -104,3 +104,21 @@ loop-line-preserved g c =
       later = omega arith;
       store_later = omega arith;
     }
+
+pub returns-clause-served : goal.returns-clause-served
+returns-clause-served g c =
+    let written = g.W.Sink.written in
+    let files = g.S.Store.files in
+    let faults = g.S.Store.faults in
+    let old = moment_of c.args.self.now c.args.machine.now (written c.args.out.now) (files c.args.store.now) (faults c.args.store.now) in
+    let now = moment_of c.loop-line.self c.loop-line.machine (written c.loop-line.out) (files c.loop-line.store) (faults c.loop-line.store) in
+    let bytes = c.args.pending.now.items ++ c.args.piece.now in
+    let kept = c.loop-line.pending.items in
+    let rest = c.loop-line.rest.now in
+    let none : HasNoNewline rest = search rules in
+    let clean = All-append (λ byte. is_newline byte ≡ false) kept rest c.loop-line.invariant.clean none in
+    subst (λ (left : List ℕ). ServesPiece g.M.Machine.ends (RequestStep g.M.Machine.step) (Ok Open) old bytes now left) (sym c.in_ok-extend_from_slice-2.ensures.items)
+    (piece_open g.M.Machine.ends (RequestStep g.M.Machine.step) old now bytes (kept ++ rest) clean c.loop-line.invariant.stands)
+
+pub loop-line-smaller : goal.loop-line-smaller
+loop-line-smaller g c = let parts = ap (length) c.in-Some.ensures.parts in omega (arith, simp length-append at parts)

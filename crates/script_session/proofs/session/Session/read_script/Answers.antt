@@ -130,3 +130,6 @@ loop-count-preserved g c =
       sink_later = omega arith;
       store_later = omega arith;
     }
+
+pub loop-count-smaller : goal.loop-count-smaller
+loop-count-smaller g c = let limit = c.loop-count.invariant.limit in omega arith

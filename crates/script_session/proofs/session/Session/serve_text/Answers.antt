@@ -1,4 +1,4 @@
-use Rattle.std.proofs.Common.{◌≡◌, ◌<◌, ℕ, List, [], map, length, Bor, refl, sym, ◌∙◌, ap, subst, arith}
+use Rattle.std.proofs.Common.{◌≡◌, ◌<◌, ℕ, List, [], ◌∷◌, map, length, Bor, refl, sym, ◌∙◌, ap, subst, arith}
 use Rattle.std.specs.Prelude.{if◌then◌else◌, Err}
 use Rattle.std.proofs.lemmas.Result.{err_from_is_err_and}
 use Rattle.script_session.specs.Request.{RequestStep, Words}
@@ -6,7 +6,7 @@ use Rattle.script_session.specs.Script.{text_requests}
 use Rattle.script_session.specs.Session.{moment_of, Serves, ServesOne}
 use Rattle.script_session.specs.declared.session.Flow.TheVariants.{Open, Ended}
 use Rattle.script_session.proofs.SessionLemmas.{Serves-none, Halts-none}
-use Rattle.script_session.proofs.ScriptLemmas.{comment-silent, wordless-silent, spoken, spoken-requests, silent-requests, silent-end}
+use Rattle.script_session.proofs.ScriptLemmas.{comment-silent, wordless-silent, spoken, spoken-requests, silent-requests, silent-end, spoken-end}
 use Rattle.script_session.proofs.PieceLemmas.{all_failed}
 use Rattle.script_session.proofs.session.Session.serve_text.Goals as goal
 
@@ -51,3 +51,41 @@ returns-in_err-serve_command-clause-served g c =
     let fault = c.in_err-serve_command.field-0.0 in
     let served = subst (λ (words : List (Bor (List ℕ))). ServesOne (RequestStep g.M.Machine.step) (Err fault) old (Words (map (λ word. word.now) words)) new) c.deref.ensures.value c.in_err-serve_command.ensures.served in
     rw (p.1, p.2) (all_failed g.M.Machine.ends (RequestStep g.M.Machine.step) fault old new (text_requests text) _ (Words (map (λ word. word.now) words)) asked served)
+
+pub returns-then-ends_script-clause-served : goal.returns-then-ends_script-clause-served
+returns-then-ends_script-clause-served g c =
+    let written = g.W.Sink.written in
+    let files = g.S.Store.files in
+    let faults = g.S.Store.faults in
+    let old = moment_of c.args.self.now c.args.machine.now (written c.args.out.now) (files c.args.store.now) (faults c.args.store.now) in
+    let new = moment_of c.serve_command.new.self c.serve_command.new.machine (written c.serve_command.new.out) (files c.serve_command.new.store) (faults c.serve_command.new.store) in
+    let text = c.args.text.now in
+    let words = c.in_ok-words.words.items in
+    let some : 0 < length words = grind arith in
+    let speaks = spoken text words (sym c.is_comment_line.ensures ∙ c.if-is_comment_line.false) c.in_ok-words.ensures some in
+    let asked = spoken-requests text (map (λ word. word.now) words) speaks c.in_ok-words.ensures in
+    let served = subst (λ (words : List (Bor (List ℕ))). Serves (RequestStep g.M.Machine.step) old (Words (map (λ word. word.now) words) ∷ []) new) c.deref.ensures.value c.in_ok-serve_command.ensures.served in
+    let told = c.ends_script.ensures ∙ ap (λ (words : List (Bor (List ℕ))). g.M.Machine.ends (map (λ word. word.now) words)) c.deref-2.ensures.value in
+    let last = spoken-end g.M.Machine.ends text (map (λ word. word.now) words) speaks c.in_ok-words.ensures ∙ sym told ∙ c.if-ends_script.true in (
+      subst (λ requests. Serves (RequestStep g.M.Machine.step) old requests new) (sym asked) served,
+      ap (λ b. if b then Ended else Open) (sym last),
+    )
+
+pub returns-clause-served : goal.returns-clause-served
+returns-clause-served g c =
+    let written = g.W.Sink.written in
+    let files = g.S.Store.files in
+    let faults = g.S.Store.faults in
+    let old = moment_of c.args.self.now c.args.machine.now (written c.args.out.now) (files c.args.store.now) (faults c.args.store.now) in
+    let new = moment_of c.serve_command.new.self c.serve_command.new.machine (written c.serve_command.new.out) (files c.serve_command.new.store) (faults c.serve_command.new.store) in
+    let text = c.args.text.now in
+    let words = c.in_ok-words.words.items in
+    let some : 0 < length words = grind arith in
+    let speaks = spoken text words (sym c.is_comment_line.ensures ∙ c.if-is_comment_line.false) c.in_ok-words.ensures some in
+    let asked = spoken-requests text (map (λ word. word.now) words) speaks c.in_ok-words.ensures in
+    let served = subst (λ (words : List (Bor (List ℕ))). Serves (RequestStep g.M.Machine.step) old (Words (map (λ word. word.now) words) ∷ []) new) c.deref.ensures.value c.in_ok-serve_command.ensures.served in
+    let told = c.ends_script.ensures ∙ ap (λ (words : List (Bor (List ℕ))). g.M.Machine.ends (map (λ word. word.now) words)) c.deref-2.ensures.value in
+    let last = spoken-end g.M.Machine.ends text (map (λ word. word.now) words) speaks c.in_ok-words.ensures ∙ sym told ∙ c.if-ends_script.false in (
+      subst (λ requests. Serves (RequestStep g.M.Machine.step) old requests new) (sym asked) served,
+      ap (λ b. if b then Ended else Open) (sym last),
+    )

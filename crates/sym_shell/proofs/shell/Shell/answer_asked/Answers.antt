@@ -5,7 +5,8 @@ use Rattle.edit_words.specs.EditWords.{edit_asks, pairs_asks}
 use Rattle.sym_shell.specs.State.{shell_state}
 use Rattle.reply_texts.specs.Texts.{ok_text, memory_text}
 use Rattle.sym_shell.proofs.BoundLemmas.{pairs-untold}
-use Rattle.sym_shell.proofs.StepLemmas.{unfinished, always, on_err, some-solve-step, some-warm-step, edit-step, trim-step}
+use Rattle.command_files.proofs.FileLemmas.{always, on_err}
+use Rattle.sym_shell.proofs.StepLemmas.{unfinished, some-solve-step, some-warm-step, edit-step, trim-step}
 use Rattle.sym_shell.proofs.shell.Shell.answer_asked.Goals as goal
 
 pub returns-in-Load-clause-unfinished : goal.returns-in-Load-clause-unfinished

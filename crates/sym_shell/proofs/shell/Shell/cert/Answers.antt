@@ -5,7 +5,7 @@ use Rattle.sym_env.specs.Env.{PlainEnv}
 use Rattle.sym_shell.specs.State.{shell_state}
 use Rattle.sym_shell.specs.Certify.{CertStep}
 use Rattle.sym_shell.proofs.CertLemmas.{cert-written}
-use Rattle.sym_shell.proofs.StepLemmas.{on_ok, on_err}
+use Rattle.command_files.proofs.FileLemmas.{on_ok, on_err}
 use Rattle.sym_shell.proofs.shell.Shell.cert.Goals as goal
 
 pub returns-in-Ok-clause-answered : goal.returns-in-Ok-clause-answered

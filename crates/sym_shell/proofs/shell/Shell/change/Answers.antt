@@ -6,7 +6,7 @@ use Rattle.sym_env.specs.Env.{PlainEnv}
 use Rattle.sym_shell.specs.Editing.{RepliesToEdit}
 use Rattle.sym_shell.specs.EnvFaults.{env_fault_text}
 use Rattle.sym_shell.proofs.EditLemmas.{edits-words, made, refused, ok-told}
-use Rattle.sym_shell.proofs.StepLemmas.{on_ok_if}
+use Rattle.command_files.proofs.FileLemmas.{on_ok_if}
 use Rattle.sym_shell.proofs.shell.Shell.change.Goals as goal
 use Rattle.sym_shell.proofs.shell.Shell.change.Goals.{in-Ok, in-Err}
 

@@ -4,9 +4,8 @@ use Rattle.edit_words.specs.EditWords.{EditAsks, edit_asks}
 use Rattle.edit_words.proofs.NameLemmas.{IsNamedNew, asked-named}
 use Rattle.reply_texts.specs.Texts.{arguments_text, number_text, memory_text}
 use Rattle.sym_shell.specs.Editing.{RepliesToWords}
-use Rattle.sym_shell.proofs.CertLemmas.{told}
+use Rattle.command_files.proofs.FileLemmas.{told, on_ok_if, always}
 use Rattle.sym_shell.proofs.EditLemmas.{unread}
-use Rattle.sym_shell.proofs.StepLemmas.{on_ok_if, always}
 use Rattle.sym_shell.proofs.shell.Shell.edit.Goals as goal
 
 pub change-requires-clause-named : goal.change-requires-clause-named

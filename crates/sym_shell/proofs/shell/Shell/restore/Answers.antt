@@ -1,8 +1,8 @@
 use Rattle.std.proofs.Common.{◌++◌, ap, refl, ◌∙◌}
 use Rattle.reply_texts.specs.Texts.{memory_text}
-use Rattle.sym_shell.specs.Load.{refusal_text}
+use Rattle.command_files.specs.Reading.{refusal_text}
 use Rattle.sym_shell.proofs.SavingLemmas.{text-step, untold-step, unread-step}
-use Rattle.sym_shell.proofs.StepLemmas.{on_ok, on_ok_if, on_err, always}
+use Rattle.command_files.proofs.FileLemmas.{on_ok, on_ok_if, on_err, always}
 use Rattle.sym_shell.proofs.shell.Shell.restore.Goals as goal
 
 pub returns-in-Ok-clause-answered : goal.returns-in-Ok-clause-answered

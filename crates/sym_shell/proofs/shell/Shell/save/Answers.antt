@@ -6,7 +6,7 @@ use Rattle.sym_shell.specs.State.{shell_state}
 use Rattle.sym_shell.specs.EnvFaults.{env_fault_text}
 use Rattle.sym_shell.specs.Saving.{SaveStep}
 use Rattle.sym_shell.proofs.SavingLemmas.{save-written, save-refused}
-use Rattle.sym_shell.proofs.StepLemmas.{on_ok, on_ok_if, on_err, always}
+use Rattle.command_files.proofs.FileLemmas.{on_ok, on_ok_if, on_err, always}
 use Rattle.sym_shell.proofs.shell.Shell.save.Goals as goal
 
 pub returns-in-Ok-clause-answered : goal.returns-in-Ok-clause-answered

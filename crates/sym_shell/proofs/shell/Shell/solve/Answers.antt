@@ -4,7 +4,7 @@ use Rattle.std.proofs.Common.{ap, refl, sym, subst, ◌∙◌, OnOk}
 use Rattle.reply_texts.specs.Texts.{answer_text, no_model_text}
 use Rattle.sym_env.specs.Env.{PlainEnv}
 use Rattle.sym_shell.specs.Solve.{limits_of, RepliesToSolve}
-use Rattle.sym_shell.proofs.StepLemmas.{always}
+use Rattle.command_files.proofs.FileLemmas.{always}
 use Rattle.sym_shell.proofs.ReplyLemmas.{shows, tells, none-shown}
 use Rattle.sym_shell.proofs.shell.Shell.solve.Goals as goal
 

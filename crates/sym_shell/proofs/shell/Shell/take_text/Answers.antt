@@ -6,7 +6,7 @@ use Rattle.sym_env.specs.Env.{PlainEnv}
 use Rattle.sym_shell.specs.EnvFaults.{env_fault_text}
 use Rattle.sym_shell.specs.Saving.{TakesText}
 use Rattle.sym_shell.proofs.SavingLemmas.{restores-words, restore-made, restore-refused}
-use Rattle.sym_shell.proofs.StepLemmas.{on_ok_if}
+use Rattle.command_files.proofs.FileLemmas.{on_ok_if}
 use Rattle.sym_shell.proofs.shell.Shell.take_text.Goals as goal
 use Rattle.sym_shell.proofs.shell.Shell.take_text.Goals.{in-Ok, in-Err}
 

@@ -6,7 +6,7 @@ use Rattle.sym_env.specs.Env.{PlainEnv}
 use Rattle.sym_shell.specs.EnvFaults.{env_fault_text}
 use Rattle.sym_shell.specs.Saving.{RepliesToTrim}
 use Rattle.sym_shell.proofs.SavingLemmas.{trims-words, trim-made, trim-refused}
-use Rattle.sym_shell.proofs.StepLemmas.{on_ok_if}
+use Rattle.command_files.proofs.FileLemmas.{on_ok_if}
 use Rattle.sym_shell.proofs.shell.Shell.trim.Goals as goal
 use Rattle.sym_shell.proofs.shell.Shell.trim.Goals.{in-Ok, in-Err}
 

@@ -5,7 +5,7 @@ use Rattle.reply_texts.specs.Texts.{answer_text, no_model_text}
 use Rattle.sym_env.specs.Env.{PlainEnv}
 use Rattle.sym_shell.specs.Solve.{limits_of}
 use Rattle.sym_shell.specs.Warming.{RepliesToWarm}
-use Rattle.sym_shell.proofs.StepLemmas.{always}
+use Rattle.command_files.proofs.FileLemmas.{always}
 use Rattle.sym_shell.proofs.ReplyLemmas.{warm-shows, warm-tells, none-warmed}
 use Rattle.sym_shell.proofs.shell.Shell.warm.Goals as goal
 

@@ -5,9 +5,8 @@ use Rattle.reply_texts.specs.Texts.{no_model_text, memory_text}
 use Rattle.sym_env.specs.Env.{PlainEnv}
 use Rattle.sym_shell.specs.State.{shell_state}
 use Rattle.sym_shell.specs.Writing.{WriteStep}
-use Rattle.sym_shell.proofs.CertLemmas.{told}
+use Rattle.command_files.proofs.FileLemmas.{told, on_ok, on_err, always}
 use Rattle.sym_shell.proofs.WriteLemmas.{model-written, no-model}
-use Rattle.sym_shell.proofs.StepLemmas.{on_ok, on_err, always}
 use Rattle.sym_shell.proofs.shell.Shell.write.Goals as goal
 
 pub returns-in-Some-clause-answered : goal.returns-in-Some-clause-answered

@@ -3,7 +3,8 @@ use Rattle.std.proofs.lemmas.Result.{on_err_weaker}
 use Rattle.command_words.specs.Asks.{asks_shown}
 use Rattle.script_session.specs.Stand.{stand}
 use Rattle.sym_shell.specs.Shell.{state_of}
-use Rattle.sym_shell.proofs.StepLemmas.{on_ok, step_of}
+use Rattle.command_files.proofs.FileLemmas.{on_ok}
+use Rattle.sym_shell.proofs.StepLemmas.{step_of}
 use Rattle.sym_shell.proofs.shell.ShellMachine.answer.Goals as goal
 
 pub returns-clause-answered : goal.returns-clause-answered

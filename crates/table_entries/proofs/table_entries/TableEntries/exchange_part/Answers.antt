@@ -4,6 +4,7 @@ use Rattle.std.proofs.lemmas.List.{with_items_is, get_or_default}
 use Rattle.rational.specs.Rational.{int}
 use Rattle.table_entries.specs.WholeSteps.{IsShort, AreShort, AreWithin, magnitude, whole_number_at, AreWritten}
 use Rattle.table_entries.specs.Listed.{over, AreOver}
+use Rattle.table_entries.proofs.ReadLemmas.{short_read, short_again, short_as, positive_again}
 use Rattle.table_entries.proofs.ListedLemmas.{listed_numbers, whole_form, whole_list, whole_numbers, whole_size, not_zero_number, over_after, parts_exchanged}
 use Rattle.table_entries.proofs.table_entries.TableEntries.exchange_part.Goals as goal
 
@@ -43,9 +44,7 @@ write_wholes-requires-clause-positive c =
     let v = c.args.self.now in
     let form = whole_form self.is_whole self.denominator numbers self.fractions.items v c.self.view_is c.requires.whole in
     let are = c.self.invariant.over_one form in
-    let positive = are.positive in
-    let short = are.denominator_short in
-    omega (arith, ints, positive, short)
+    positive_again self.denominator are.denominator_short are.positive
 
 pub write_wholes-requires-clause-denominator : goal.write_wholes-requires-clause-denominator
 write_wholes-requires-clause-denominator c =
@@ -53,8 +52,7 @@ write_wholes-requires-clause-denominator c =
     let numbers = self.numbers.items in
     let v = c.args.self.now in
     let form = whole_form self.is_whole self.denominator numbers self.fractions.items v c.self.view_is c.requires.whole in
-    let short = (c.self.invariant.over_one form).denominator_short in
-    omega (arith, ints, short)
+    short_again self.denominator (c.self.invariant.over_one form).denominator_short
 
 pub write_wholes-requires-clause-short : goal.write_wholes-requires-clause-short
 write_wholes-requires-clause-short c =
@@ -113,7 +111,7 @@ abs-self-inside-requires c =
     let pivot_is : c.index-pivot.result.now ≡ whole_number_at numbers at =
     c.index-pivot.ensures ∙ get_or_default numbers c.flat_index.result c.index-pivot.result.now (pos 0) within ∙ ap (whole_number_at numbers) c.flat_index.ensures.value in
     let short : IsShort (whole_number_at numbers at) = are.short at (subst (λ k. k < length numbers) c.flat_index.ensures.value within) in
-    omega (arith, ints)
+    omega (arith, ints, pivot_is, short)
 
 pub invariant_of-self : goal.invariant_of-self
 invariant_of-self c =
@@ -124,6 +122,7 @@ invariant_of-self c =
     let new_is = with_items_is self.spare_numbers next kept in
     record {
       spare_length = shape.spare_length;
+      spare_room = shape.spare_room;
       numbers_length = shape.numbers_length;
       spare_numbers_length = λ e. ap length new_is ∙ c.write_wholes.auto.next ∙ ap length c.deref_mut.ensures.value ∙ shape.spare_numbers_length e;
       over_one = shape.over_one;
@@ -139,6 +138,7 @@ invariant_of-self-then-not-are_within c =
     let new_is = with_items_is self.spare_numbers next kept in
     record {
       spare_length = shape.spare_length;
+      spare_room = shape.spare_room;
       numbers_length = shape.numbers_length;
       spare_numbers_length = λ e. ap length new_is ∙ c.write_wholes.auto.next ∙ ap length c.deref_mut.ensures.value ∙ shape.spare_numbers_length e;
       over_one = shape.over_one;
@@ -159,10 +159,10 @@ invariant_of-self-2 c =
     let pivot_is : c.index-pivot.result.now ≡ whole_number_at numbers at =
     c.index-pivot.ensures ∙ get_or_default numbers c.flat_index.result c.index-pivot.result.now (pos 0) within ∙ ap (whole_number_at numbers) c.flat_index.ensures.value in
     let short : IsShort (whole_number_at numbers at) = are.short at (subst (λ k. k < length numbers) c.flat_index.ensures.value within) in
-    let read : to_z w64 (of_z w64 c.index-pivot.result.now) ≡ whole_number_at numbers at = omega (arith, ints, pivot_is, short) in
+    let read = short_as c.index-pivot.result.now (whole_number_at numbers at) pivot_is short in
     let abs_is : c.abs-self-inside.result ≡ magnitude (whole_number_at numbers at) = c.abs-self-inside.ensures.value ∙ ap magnitude read in
-    let denominator_is : to_z w64 (of_z w64 c.abs-self-inside.result) ≡ magnitude (whole_number_at numbers at) = omega (arith, ints, abs_is, short) in
-    let d_is : to_z w64 (of_z w64 self.denominator) ≡ self.denominator = let d_short = are.denominator_short in omega (arith, ints, d_short) in
+    let denominator_is = short_as c.abs-self-inside.result (magnitude (whole_number_at numbers at)) abs_is short in
+    let d_is = short_read self.denominator are.denominator_short in
     let list_is = whole_list self.is_whole self.denominator numbers self.fractions.items v c.self.view_is c.requires.whole in
     let some : whole_number_at numbers at ≢ pos 0 = not_zero_number self.denominator numbers are.positive at (subst (λ xs. get_or xs at (int (pos 0)) ≢ int (pos 0)) list_is c.requires.some) in
     let next = c.write_wholes.new.next in
@@ -174,6 +174,7 @@ invariant_of-self-2 c =
     subst₂ (λ d xs. AreWritten c.args.columns c.args.row c.args.place d xs c.args.unwritten.now next (c.args.rows * c.args.columns)) d_is c.deref.ensures.value (c.write_wholes.ensures.written c.if-not-write_wholes.false) in
     record {
       spare_length = shape.spare_length;
+      spare_room = shape.spare_room;
       numbers_length = λ e. ap length new_is ∙ next_size;
       spare_numbers_length = λ e. ap (λ v. length v.items) c.swap.ensures.y_after ∙ shape.numbers_length form;
       over_one = λ e. subst₂ AreOver (sym denominator_is) (sym new_is)
@@ -195,10 +196,10 @@ returns-clause-done c = λ t.
     let pivot_is : c.index-pivot.result.now ≡ whole_number_at numbers at =
     c.index-pivot.ensures ∙ get_or_default numbers c.flat_index.result c.index-pivot.result.now (pos 0) within ∙ ap (whole_number_at numbers) c.flat_index.ensures.value in
     let short : IsShort (whole_number_at numbers at) = are.short at (subst (λ k. k < length numbers) c.flat_index.ensures.value within) in
-    let read : to_z w64 (of_z w64 c.index-pivot.result.now) ≡ whole_number_at numbers at = omega (arith, ints, pivot_is, short) in
+    let read = short_as c.index-pivot.result.now (whole_number_at numbers at) pivot_is short in
     let abs_is : c.abs-self-inside.result ≡ magnitude (whole_number_at numbers at) = c.abs-self-inside.ensures.value ∙ ap magnitude read in
-    let denominator_is : to_z w64 (of_z w64 c.abs-self-inside.result) ≡ magnitude (whole_number_at numbers at) = omega (arith, ints, abs_is, short) in
-    let d_is : to_z w64 (of_z w64 self.denominator) ≡ self.denominator = let d_short = are.denominator_short in omega (arith, ints, d_short) in
+    let denominator_is = short_as c.abs-self-inside.result (magnitude (whole_number_at numbers at)) abs_is short in
+    let d_is = short_read self.denominator are.denominator_short in
     let list_is = whole_list self.is_whole self.denominator numbers self.fractions.items v c.self.view_is c.requires.whole in
     let some : whole_number_at numbers at ≢ pos 0 = not_zero_number self.denominator numbers are.positive at (subst (λ xs. get_or xs at (int (pos 0)) ≢ int (pos 0)) list_is c.requires.some) in
     let next = c.write_wholes.new.next in

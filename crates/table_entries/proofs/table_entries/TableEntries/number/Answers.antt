@@ -1,7 +1,7 @@
-use Rattle.std.proofs.Common.{sym, ap, subst, ◌∙◌, arith, ◌≡◌, ◌<◌, length, pos, to_z, of_z, w64}
-use Rattle.std.proofs.lemmas.Int.{ints}
+use Rattle.std.proofs.Common.{sym, ap, subst, ◌∙◌, arith, ◌≡◌, ◌<◌, length, pos}
 use Rattle.std.proofs.lemmas.List.{get_or_default}
 use Rattle.table_entries.specs.WholeSteps.{IsShort, whole_number_at}
+use Rattle.table_entries.proofs.ReadLemmas.{short_as, short_as_again}
 use Rattle.table_entries.proofs.ListedLemmas.{whole_form, whole_size}
 use Rattle.table_entries.proofs.table_entries.TableEntries.number.Goals as goal
 
@@ -23,7 +23,7 @@ returns-clause-value c =
     let within : at < length numbers = subst (λ n. at < n) (sym size) c.requires.within in
     let short : IsShort (whole_number_at numbers at) = (c.self.invariant.over_one form).short at within in
     let now_is : c.index.result.now ≡ whole_number_at numbers at = c.index.ensures ∙ get_or_default numbers at c.index.result.now (pos 0) within in
-    let read : to_z w64 (of_z w64 c.index.result.now) ≡ whole_number_at numbers at = omega (arith, ints, now_is, short) in
+    let read = short_as c.index.result.now (whole_number_at numbers at) now_is short in
     read ∙ ap (λ v. whole_number_at v.numbers at) c.self.view_is
 
 pub returns-clause-short : goal.returns-clause-short
@@ -36,4 +36,4 @@ returns-clause-short c =
     let within : at < length numbers = subst (λ n. at < n) (sym size) c.requires.within in
     let short : IsShort (whole_number_at numbers at) = (c.self.invariant.over_one form).short at within in
     let now_is : c.index.result.now ≡ whole_number_at numbers at = c.index.ensures ∙ get_or_default numbers at c.index.result.now (pos 0) within in
-    omega (arith, ints)
+    short_as_again c.index.result.now (whole_number_at numbers at) now_is short

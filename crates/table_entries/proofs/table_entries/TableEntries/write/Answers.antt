@@ -22,6 +22,7 @@ invariant_of-self c =
     let short : IsShort number = let h = c.requires.short in omega (arith, ints, h) in
     record {
       spare_length = shape.spare_length;
+      spare_room = shape.spare_room;
       numbers_length = λ e. length-set self.numbers.items c.args.at number ∙ shape.numbers_length e;
       spare_numbers_length = shape.spare_numbers_length;
       over_one = λ e. set_over self.denominator self.numbers.items c.args.at number (shape.over_one e) short;

@@ -1,10 +1,10 @@
-use Rattle.std.proofs.Common.{◌≡◌, ◌∙◌, ◌≤◌, ◌++◌, ◌∷◌, [], List, length, refl, sym, subst, ap}
+use Rattle.std.proofs.Common.{◌≡◌, ◌∙◌, ◌++◌, ◌∷◌, [], List, refl, sym, subst, ap}
 use Rattle.std.specs.Prelude.{Option}
 use Rattle.rational.specs.Rational.{ℚ}
-use Rattle.branch_tree.specs.Leaves.{leaf_count, with_states}
+use Rattle.branch_tree.specs.Leaves.{with_states}
 use Rattle.branch_tree.specs.Numbered.{NumberedTree}
 use Rattle.branch_tree.specs.Changes.{with_leaf_states}
-use Rattle.branch_tree.specs.declared.node.LeafState.{LeafState}
+use Rattle.leaf_judging.specs.declared.queue.LeafQueue.{LeafQueue}
 use Rattle.lp_model.specs.Program.{Point}
 use Rattle.leaf_judging.specs.Judged.{AreJudged, AreStates}
 use Rattle.sound_searches.specs.Sound.{PlainSearch, formulation_of}
@@ -14,41 +14,46 @@ use Rattle.search_parts.specs.Points.{target}
 use Rattle.tree_edit.specs.PlacingSteps.{JoinsPoint}
 use Rattle.sound_searches.specs.Placing.{TakesPoint}
 use Rattle.search_parts.specs.Joining.{list_without}
-use Rattle.tree_edit.proofs.PointTaken.{kept-taken}
+use Rattle.tree_edit.proofs.PointTaken.{worst-within, kept-taken}
 use Rattle.tree_edit.proofs.search.Search.add_better.Goals as goal
 
-pub set_states-requires : goal.set_states-requires
-set_states-requires c =
+pub push_without-requires : goal.push_without-requires
+push_without-requires c =
     let i = c.self.inside in
-    subst (λ (ss : List LeafState). leaf_count i.tree.root ≤ length ss) (sym c.deref.ensures.value) (c.in_ok-marks.ensures.states i.pool c.self.invariant.numbers_are).enough
+    let S : PlainSearch = record { model = i.model; cuts = i.pool; tree = i.tree; points = i.points.items } in
+    let joins : JoinsPoint S c.args.point c.args.joined = subst (λ (T : PlainSearch). JoinsPoint T c.args.point c.args.joined) (sym c.self.view_is) c.requires.joined in
+    worst-within S c.args.point c.args.joined joins
 
-pub invariant_of-self-2 : goal.invariant_of-self-2
-invariant_of-self-2 c =
+pub put_marks-requires : goal.put_marks-requires
+put_marks-requires c = (c.in-Ok.ensures.states c.self.inside.pool c.self.invariant.numbers_are).enough
+
+pub invariant_of-self : goal.invariant_of-self
+invariant_of-self c =
     let i = c.self.inside in
     let S : PlainSearch = record { model = i.model; cuts = i.pool; tree = i.tree; points = i.points.items } in
     let x = c.args.point in
     let j = c.args.joined in
     let joins : JoinsPoint S x j = subst (λ (T : PlainSearch). JoinsPoint T x j) (sym c.self.view_is) c.requires.joined in
-    let states = c.deref.result.now in
-    let queue = c.in_ok-marks.marks.queue in
-    let judged : AreStates (formulation_of S) j.target S.tree.root states = subst (λ (ss : List LeafState). AreStates (formulation_of S) j.target S.tree.root ss) (sym c.deref.ensures.value) (c.in_ok-marks.ensures.states i.pool c.self.invariant.numbers_are) in
-    let queued : IsQueueOf (formulation_of S) (with_states states S.tree.root) queue = subst (λ (ss : List LeafState). IsQueueOf (formulation_of S) (with_states ss S.tree.root) queue) (sym c.deref.ensures.value) (c.in_ok-marks.ensures.queue i.pool c.self.invariant.numbers_are) in
-    let points : c.take_out.new.items.items ≡ list_without (S.points ++ x ∷ []) j.worst = c.take_out.ensures ∙ ap (λ (ps : List Point). list_without ps j.worst) c.in_ok-push.ensures.items in
-    subst (λ (T : NumberedTree). IsIndexed (record { model = i.model; cuts = i.pool; tree = T; points = c.take_out.new.items.items }) j.values.items i.numbers queue) (sym c.set_states.ensures)
+    let states = c.in-Ok.marks.states.items in
+    let queue = c.put_marks.new.queue in
+    let judged : AreStates (formulation_of S) j.target S.tree.root states = c.in-Ok.ensures.states i.pool c.self.invariant.numbers_are in
+    let queued : IsQueueOf (formulation_of S) (with_states states S.tree.root) queue = subst (λ (q : LeafQueue). IsQueueOf (formulation_of S) (with_states states S.tree.root) q) (sym c.put_marks.ensures.queue) (c.in-Ok.ensures.queue i.pool c.self.invariant.numbers_are) in
+    let points : c.push_without.new.points.items ≡ list_without (S.points ++ x ∷ []) j.worst = c.in-Ok-push_without.ensures.put in
+    subst (λ (T : NumberedTree). IsIndexed (record { model = i.model; cuts = i.pool; tree = T; points = c.push_without.new.points.items }) j.values.items i.numbers queue) (sym c.put_marks.ensures.tree)
     (subst (λ (ps : List Point). IsIndexed (record { model = i.model; cuts = i.pool; tree = with_leaf_states i.tree states; points = ps }) j.values.items i.numbers queue) (sym points)
     (kept-taken S i.values.items i.numbers i.queue queue x j states c.self.invariant joins judged queued))
 
-pub returns-clause-taken : goal.returns-clause-taken
-returns-clause-taken c =
+pub returns-in-Ok-push_without-clause-taken : goal.returns-in-Ok-push_without-clause-taken
+returns-in-Ok-push_without-clause-taken c =
     let i = c.self.inside in
     let S : PlainSearch = record { model = i.model; cuts = i.pool; tree = i.tree; points = i.points.items } in
     let x = c.args.point in
     let j = c.args.joined in
     let joins : JoinsPoint S x j = subst (λ (T : PlainSearch). JoinsPoint T x j) (sym c.self.view_is) c.requires.joined in
-    let states = c.deref.result.now in
-    let judged : AreStates (formulation_of S) j.target S.tree.root states = subst (λ (ss : List LeafState). AreStates (formulation_of S) j.target S.tree.root ss) (sym c.deref.ensures.value) (c.in_ok-marks.ensures.states i.pool c.self.invariant.numbers_are) in
-    let points : c.take_out.new.items.items ≡ list_without (S.points ++ x ∷ []) j.worst = c.take_out.ensures ∙ ap (λ (ps : List Point). list_without ps j.worst) c.in_ok-push.ensures.items in
-    let new : PlainSearch = record { model = i.model; cuts = i.pool; tree = c.set_states.new.self; points = c.take_out.new.items.items } in
+    let states = c.in-Ok.marks.states.items in
+    let judged : AreStates (formulation_of S) j.target S.tree.root states = c.in-Ok.ensures.states i.pool c.self.invariant.numbers_are in
+    let points : c.push_without.new.points.items ≡ list_without (S.points ++ x ∷ []) j.worst = c.in-Ok-push_without.ensures.put in
+    let new : PlainSearch = record { model = i.model; cuts = i.pool; tree = c.put_marks.new.tree; points = c.push_without.new.points.items } in
     let best : j.target ≡ target S.model new.points = joins.target_is ∙ ap (target S.model) (sym points) in
     subst (λ (T : PlainSearch). TakesPoint T x new) c.self.view_is (record {
       model = refl;
@@ -56,8 +61,8 @@ returns-clause-taken c =
       points = (j.worst, (joins.worst, points));
       tree = record {
         states = states;
-        tree = c.set_states.ensures;
-        judged = subst (λ (T : NumberedTree). AreJudged (formulation_of S) (target S.model new.points) T.root) (sym c.set_states.ensures)
+        tree = c.put_marks.ensures.tree;
+        judged = subst (λ (T : NumberedTree). AreJudged (formulation_of S) (target S.model new.points) T.root) (sym c.put_marks.ensures.tree)
             (subst (λ (t : Option ℚ). AreJudged (formulation_of S) t (with_states states S.tree.root)) best judged.judged);
       };
     })

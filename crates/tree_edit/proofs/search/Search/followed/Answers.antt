@@ -5,12 +5,15 @@ use Rattle.kept_cuts.specs.Kept.{gone_with, IsPoolAfter}
 use Rattle.sound_searches.specs.Sound.{PlainSearch}
 use Rattle.tree_edit.proofs.search.Search.followed.Goals as goal
 
-pub returns-clause-pool : goal.returns-clause-pool
-returns-clause-pool c = subst (λ (R : PlainSearch). IsPoolAfter R.model c.args.edit.now R.cuts c.args.model.now c.in_ok-pool.pool) c.self.view_is c.in_ok-pool.ensures
+pub returns-in-Ok-followed-clause-pool : goal.returns-in-Ok-followed-clause-pool
+returns-in-Ok-followed-clause-pool c = subst (λ (R : PlainSearch). IsPoolAfter R.model c.args.edit.now R.cuts c.args.model.now c.in-Ok.pool) c.self.view_is c.in-Ok.ensures
 
-pub returns-clause-tree : goal.returns-clause-tree
-returns-clause-tree c =
+pub pool_after-requires-clause-pool : goal.pool_after-requires-clause-pool
+pool_after-requires-clause-pool c = c.self.invariant.sound.pool
+
+pub returns-in-Ok-followed-clause-tree : goal.returns-in-Ok-followed-clause-tree
+returns-in-Ok-followed-clause-tree c =
     let i = c.self.inside in
     let e = c.args.edit.now in
-    subst (λ (R : PlainSearch). c.in_ok-tree.tree ≡ after_edit R.tree R.model (gone_with R.model e R.cuts) e) c.self.view_is
-    (c.in_ok-tree.ensures ∙ ap (λ (gone : List CutId). after_edit i.tree i.model gone e) (c.deref.ensures.value ∙ c.in_ok-gone.ensures))
+    subst (λ (R : PlainSearch). c.in-Ok-followed.tree ≡ after_edit R.tree R.model (gone_with R.model e R.cuts) e) c.self.view_is
+    (c.in-Ok-followed.ensures ∙ ap (λ (gone : List CutId). after_edit i.tree i.model gone e) (c.deref.ensures.value ∙ c.in_ok-gone.ensures))

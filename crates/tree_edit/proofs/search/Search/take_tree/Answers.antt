@@ -1,9 +1,15 @@
 use Rattle.std.proofs.Common.{◌≡◌, ◌∙◌, refl, sym, subst, ap, Option}
 use Rattle.rational.specs.Rational.{ℚ}
+use Rattle.leaf_judging.specs.declared.numbers.LeafNumbers.{LeafNumbers}
+use Rattle.leaf_judging.specs.declared.queue.LeafQueue.{LeafQueue}
 use Rattle.leaf_judging.specs.Judged.{JudgesAll}
+use Rattle.leaf_judging.specs.Numbers.{AreNumbersOf}
+use Rattle.leaf_judging.specs.Queued.{IsQueueOf}
 use Rattle.search_parts.specs.Points.{target}
 use Rattle.sound_searches.specs.Sound.{PlainSearch, IsSoundTree, formulation_of}
 use Rattle.sound_searches.specs.Trimmed.{TakesTree}
+use Rattle.branch_tree.specs.Numbered.{NumberedTree}
+use Rattle.tree_edit.specs.Indexed.{IsIndexed}
 use Rattle.tree_edit.proofs.TrimLemmas.{kept-tree}
 use Rattle.tree_edit.proofs.search.Search.take_tree.Goals as goal
 
@@ -15,7 +21,11 @@ invariant_of-self c =
     let sound : IsSoundTree (formulation_of S) T.root = subst (λ (R : PlainSearch). IsSoundTree (formulation_of R) T.root) (sym c.self.view_is) c.requires in
     let best : c.target-target.result ≡ target S.model S.points = c.target-target.ensures ∙ ap (λ (R : PlainSearch). target R.model R.points) (sym c.self.view_is) in
     let judges : JudgesAll (formulation_of S) (target S.model S.points) T c.judge_all.new.tree = subst (λ (t : Option ℚ). JudgesAll (formulation_of S) t T c.judge_all.new.tree) best c.in-Ok.ensures.judged in
-    kept-tree S i.values.items i.numbers c.in-Ok.index.numbers i.queue c.in-Ok.index.queue T c.judge_all.new.tree c.self.invariant sound judges c.in-Ok.ensures.numbers c.in-Ok.ensures.queue
+    let root = c.judge_all.new.tree.root in
+    let numbers : AreNumbersOf (formulation_of S) root c.put_tree.new.numbers = subst (λ (n : LeafNumbers). AreNumbersOf (formulation_of S) root n) (sym c.put_tree.ensures.numbers) c.in-Ok.ensures.numbers in
+    let queue : IsQueueOf (formulation_of S) root c.put_tree.new.queue = subst (λ (q : LeafQueue). IsQueueOf (formulation_of S) root q) (sym c.put_tree.ensures.queue) c.in-Ok.ensures.queue in
+    subst (λ (U : NumberedTree). IsIndexed (record { model = i.model; cuts = i.pool; tree = U; points = i.points.items }) i.values.items c.put_tree.new.numbers c.put_tree.new.queue) (sym c.put_tree.ensures.tree)
+    (kept-tree S i.values.items i.numbers c.put_tree.new.numbers i.queue c.put_tree.new.queue T c.judge_all.new.tree c.self.invariant sound judges numbers queue)
 
 pub returns-in-Ok-clause-taken : goal.returns-in-Ok-clause-taken
 returns-in-Ok-clause-taken c =
@@ -23,6 +33,6 @@ returns-in-Ok-clause-taken c =
     let S : PlainSearch = record { model = i.model; cuts = i.pool; tree = i.tree; points = i.points.items } in
     let T = c.args.tree in
     let best : c.target-target.result ≡ target S.model S.points = c.target-target.ensures ∙ ap (λ (R : PlainSearch). target R.model R.points) (sym c.self.view_is) in
-    let judges : JudgesAll (formulation_of S) (target S.model S.points) T c.judge_all.new.tree = subst (λ (t : Option ℚ). JudgesAll (formulation_of S) t T c.judge_all.new.tree) best c.in-Ok.ensures.judged in
-    subst (λ (R : PlainSearch). TakesTree R T (record { model = i.model; cuts = i.pool; tree = c.judge_all.new.tree; points = i.points.items })) c.self.view_is
+    let judges : JudgesAll (formulation_of S) (target S.model S.points) T c.put_tree.new.place = subst (λ P. P) (λ k. JudgesAll (formulation_of S) (best k) T (sym c.put_tree.ensures.tree k)) c.in-Ok.ensures.judged in
+    subst (λ (R : PlainSearch). TakesTree R T (record { model = i.model; cuts = i.pool; tree = c.put_tree.new.place; points = i.points.items })) c.self.view_is
     (record { model = refl; cuts = refl; points = refl; tree = judges })

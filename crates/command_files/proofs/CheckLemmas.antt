@@ -1,0 +1,44 @@
+-- What `check` prints of two files that were read.
+use Rattle.std.specs.Prelude.{◌≡◌, ℕ, ◌≤◌, List, [], Option, None, Err}
+use Rattle.std.proofs.Common.{arith, sym, subst, inl, inr}
+use Rattle.sym_io.specs.Files.{Files}
+use Rattle.lp_model.specs.Program.{Program}
+use Rattle.mps_model.specs.Faults.{MeantModel}
+use Rattle.cert_text.specs.declared.cert.Cert.{Cert}
+use Rattle.cert_text.specs.Whole.{IsCertificate}
+use Rattle.cert_text.specs.declared.cert.Claim.{Claim}
+use Rattle.cert_check.specs.Laws.{AcceptedLaw, VerdictLaw, IsTrueClaim}
+use Rattle.cert_check.specs.Verdict.{IsVerdict}
+use Rattle.cert_check.specs.declared.verdict.Verdict.{Verdict}
+use Rattle.cert_check.specs.declared.verdict.Verdict.TheVariants.{Accepted}
+use Rattle.command_files.specs.Reading.{HasText}
+use Rattle.command_files.specs.Checking.{ReadsCert, WritesVerdict, ChecksFor, JudgedFor, RefusedFor, ChecksFiles, Judged, BadCert, Wanting}
+use Rattle.command_files.specs.declared.reading.Refusal.{Refusal}
+use Rattle.command_files.specs.declared.reading.Refusal.TheVariants as refusal
+
+-- an accepted claim is true
+pub true_claim : (M : Program) (cert : Cert) (verdict : Verdict) → VerdictLaw → AcceptedLaw → IsCertificate cert → IsVerdict M cert verdict → (claim : Claim) → verdict ≡ Accepted claim → IsTrueClaim M claim
+true_claim M cert verdict judged accepted whole is claim e =
+    let known = judged M cert claim whole (subst (IsVerdict M cert) e is) in
+    subst (IsTrueClaim M) (sym known.0) (accepted M cert known.1)
+
+-- a verdict that is written behind nothing
+pub verdict-first : (M : Program) (c : Cert) (old new : List ℕ) → old ≡ [] → WritesVerdict M c old new → WritesVerdict M c [] new
+verdict-first M c old new empty w = subst (λ front. WritesVerdict M c front new) empty w
+
+-- a certificate's file that is refused while the count of faults goes up from `now`, is so from any count before
+later-refused : (files : Option Files) (cert : List ℕ) (before now after : ℕ) (r : Refusal) → before ≤ now → ReadsCert files cert now after (Err r) → ReadsCert files cert before after (Err r)
+later-refused files cert before now after refusal.Store later (inl rose) = inl (omega arith)
+later-refused files cert before now after refusal.Store later (inr missing) = inr missing
+later-refused files cert before now after refusal.FileTooLong later h = h
+later-refused files cert before now after (refusal.Faulty line code) later h = h
+later-refused files cert before now after refusal.Memory later h = h
+
+-- behind the model's file
+pub checks-both : (files files' : Option Files) (model cert : List ℕ) (before now after : ℕ) (M : Program) (reply : List ℕ) → HasText files model (λ text. MeantModel text None M) → files' ≡ files → before ≤ now → ChecksFor files' M cert now after reply → ChecksFiles files model cert before after reply
+checks-both files files' model cert before now after M reply read same later h = by (subst (λ held. ChecksFor held M cert now after reply) same h)
+  where
+    by : ChecksFor files M cert now after reply → ChecksFiles files model cert before after reply
+    by (JudgedFor c stated (inl w)) = Judged (record { program = M; certificate = c; read = read; stated = stated; verdict = w.0; is = w.1.0; told = w.1.2; true_claim = w.1.1 })
+    by (JudgedFor c stated (inr told)) = Wanting told
+    by (RefusedFor r cause told) = BadCert (record { program = M; read = read; refusal = r; cause = later-refused files cert before now after r later cause; told = told })

@@ -1,0 +1,123 @@
+-- What `check MODEL CERT` prints.
+use Rattle.std.specs.Prelude.{◌≡◌, ◌⊎◌, ℕ, Bool, true, false, ◌&&◌, if◌then◌else◌, List, [], ◌++◌, codes, decimal, Option, None, Result, Ok, Err, ◌==◌}
+use Rattle.std.specs.List.{starts_with}
+use Rattle.rational.specs.Rational.{ℚ}
+use Rattle.frac128.specs.Printing.{printed}
+use Rattle.sym_io.specs.Faults.{Rose}
+use Rattle.sym_io.specs.Files.{Files}
+use Rattle.script_session.specs.Reply.{wants_memory}
+use Rattle.command_words.specs.Names.{is_file_name}
+use Rattle.lp_model.specs.Program.{Program}
+use Rattle.lp_model.specs.declared.types.WideStep.{WideStep}
+use Rattle.mps_model.specs.Faults.{MeantModel}
+use Rattle.cert_text.specs.Text.{MeantCertificate as States, FaultyCertificate}
+use Rattle.cert_check.specs.Verdict.{IsVerdict}
+use Rattle.cert_check.specs.Laws.{IsTrueClaim}
+use Rattle.cert_text.specs.declared.cert.Claim.{Claim}
+use Rattle.cert_text.specs.declared.cert.Claim.TheVariants.{Optimal, Infeasible, Unbounded}
+use Rattle.cert_text.specs.declared.cert.Cert.{Cert}
+use Rattle.cert_check.specs.declared.verdict.Verdict.{Verdict}
+use Rattle.cert_check.specs.declared.verdict.Verdict.TheVariants.{Accepted, Rejected, Wide}
+use Rattle.command_files.specs.Reading.{HasText, IsMissing, IsTooLong, ReadsFile, refusal_text}
+use Rattle.reply_texts.specs.Places.{step_text}
+use Rattle.reply_texts.specs.Texts.{arguments_text, store_text, file_too_long_text, cert_fault_text, memory_text}
+use Rattle.command_files.specs.declared.reading.Refusal.{Refusal}
+use Rattle.command_files.specs.declared.reading.Refusal.TheVariants as refusal
+
+-- ---- the certificate's file
+
+-- the causes of each answer to reading a file's certificate, where the count of faults goes from before to after
+abbrev pub ReadsCert : Option Files → List ℕ → ℕ → ℕ → Result Cert Refusal → Type 0
+ReadsCert files name before after (Ok cert) = HasText files name (λ text. States text cert)
+ReadsCert files name before after (Err refusal.Store) = Rose before after ⊎ IsMissing files name
+ReadsCert files name before after (Err refusal.FileTooLong) = IsTooLong files name
+ReadsCert files name before after (Err (refusal.Faulty line code)) = HasText files name (λ text. FaultyCertificate text line code)
+ReadsCert files name before after (Err refusal.Memory) = Unit {0}
+
+abbrev pub cert_refusal_text : Refusal → List ℕ
+cert_refusal_text refusal.Store = store_text
+cert_refusal_text refusal.FileTooLong = file_too_long_text
+cert_refusal_text (refusal.Faulty line code) = cert_fault_text line code
+cert_refusal_text refusal.Memory = memory_text
+
+-- ---- the verdict
+
+abbrev pub accepted_value_text : ℚ → List ℕ
+accepted_value_text v = codes "accepted optimal " ++ printed v ++ codes "\n"
+
+abbrev pub claim_text : Claim → List ℕ
+claim_text (Optimal v) = accepted_value_text v
+claim_text Infeasible = codes "accepted infeasible\n"
+claim_text Unbounded = codes "accepted unbounded\n"
+
+abbrev pub rejected_text : ℕ → ℕ → List ℕ
+rejected_text node why = codes "rejected " ++ decimal node ++ codes " " ++ decimal why ++ codes "\n"
+
+abbrev pub wide_text : Program → ℕ → WideStep → List ℕ
+wide_text M node step = codes "wide " ++ decimal node ++ codes " " ++ step_text M step ++ codes "\n"
+
+abbrev pub verdict_text : Program → Verdict → List ℕ
+verdict_text M (Accepted claim) = claim_text claim
+verdict_text M (Rejected node why) = rejected_text node why
+verdict_text M (Wide node step) = wide_text M node step
+
+-- the verdict on the certificate is told, a true claim where it is accepted, or that memory was wanting for it
+abbrev pub WritesVerdict : Program → Cert → List ℕ → List ℕ → Type 0
+WritesVerdict M cert old new =
+    ((verdict : Verdict) × (IsVerdict M cert verdict × ((claim : Claim) → verdict ≡ Accepted claim → IsTrueClaim M claim) × (new ≡ old ++ verdict_text M verdict)))
+    ⊎ (new ≡ old ++ memory_text)
+
+-- what is printed of a certificate's file for a model, the count of faults going from before to after
+pub data ChecksFor (files : Option Files) (M : Program) (cert : List ℕ) (before after : ℕ) (reply : List ℕ) : Type 0 where
+  JudgedFor : (certificate : Cert) → HasText files cert (λ text. States text certificate) → WritesVerdict M certificate [] reply → ChecksFor files M cert before after reply
+  RefusedFor : (refusal : Refusal) → ReadsCert files cert before after (Err refusal) → reply ≡ cert_refusal_text refusal → ChecksFor files M cert before after reply
+
+-- ---- all that is printed
+
+-- the files' texts mean a model and state a certificate, and this is the verdict, a true claim where it is accepted
+pub record Judges (files : Option Files) (model cert reply : List ℕ) : Type 0 where
+  pub program : Program
+  pub certificate : Cert
+  pub read : HasText files model (λ text. MeantModel text None program)
+  pub stated : HasText files cert (λ text. States text certificate)
+  pub verdict : Verdict
+  pub is : IsVerdict program certificate verdict
+  pub told : reply ≡ verdict_text program verdict
+  pub true_claim : (claim : Claim) → verdict ≡ Accepted claim → IsTrueClaim program claim
+
+-- the model's file is refused
+pub record RefusesModel (files : Option Files) (model : List ℕ) (before after : ℕ) (reply : List ℕ) : Type 0 where
+  pub refusal : Refusal
+  pub cause : ReadsFile files model None before after (Err refusal)
+  pub told : reply ≡ refusal_text refusal
+
+-- the model's file is read, and the certificate's is refused
+pub record RefusesCert (files : Option Files) (model cert : List ℕ) (before after : ℕ) (reply : List ℕ) : Type 0 where
+  pub program : Program
+  pub read : HasText files model (λ text. MeantModel text None program)
+  pub refusal : Refusal
+  pub cause : ReadsCert files cert before after (Err refusal)
+  pub told : reply ≡ cert_refusal_text refusal
+
+-- what is printed of two files, the count of faults going from before to after
+pub data ChecksFiles (files : Option Files) (model cert : List ℕ) (before after : ℕ) (reply : List ℕ) : Type 0 where
+  Judged : Judges files model cert reply → ChecksFiles files model cert before after reply
+  BadModel : RefusesModel files model before after reply → ChecksFiles files model cert before after reply
+  BadCert : RefusesCert files model cert before after reply → ChecksFiles files model cert before after reply
+  Wanting : reply ≡ memory_text → ChecksFiles files model cert before after reply
+
+-- what is printed, by whether both words are names of files
+abbrev pub ChecksWhere : Bool → Option Files → List ℕ → List ℕ → ℕ → ℕ → List ℕ → Type 0
+ChecksWhere true files model cert before after reply = ChecksFiles files model cert before after reply
+ChecksWhere false files model cert before after reply = reply ≡ arguments_text
+
+-- what is printed of two words: they are tested first
+abbrev pub Checks : Option Files → List ℕ → List ℕ → ℕ → ℕ → List ℕ → Type 0
+Checks files model cert before after reply = ChecksWhere (is_file_name model && is_file_name cert) files model cert before after reply
+
+abbrev pub is_accepted : List ℕ → Bool
+is_accepted reply = starts_with ◌==◌ reply (codes "accepted ")
+
+-- 5 where memory was wanting, 0 where the certificate is accepted, 1 else
+abbrev pub check_status : List ℕ → ℕ
+check_status reply = if wants_memory reply then 5 else if is_accepted reply then 0 else 1

@@ -1,0 +1,164 @@
+// The cuts of a relaxation: lent by the pool as long as they are its first ones, and copied where another one is added.
+ghost use Rattle.std.specs.Prelude.{◌≡◌, ◌<◌, ◌≤◌, [], ◌∷◌, ◌++◌, length, IfOk, IfSome};
+ghost use Rattle.node_solve.specs.Places.{live_cuts, live_places, places_from, IsFirstCount};
+
+use crate::places::{CUT_LIMIT, LiveCuts, copy_cut};
+use cover_cuts::CutPool;
+use lp_model::CutRow;
+use std::alloc::{AllocError, Global};
+
+/// The cuts of a relaxation. Contracts see the list.
+#[derive(Drop)]
+pub struct RelaxationCuts<'a> {
+    lent: &'a [CutRow],
+    own: Vec<CutRow>,
+    is_lent: bool,
+}
+
+impl<'a> std::marker::Model for RelaxationCuts<'a> {
+    ghost use Rattle.std.specs.Prelude.{List, if◌then◌else◌};
+    ghost use Rattle.lp_model.specs.declared.types.CutRow.{CutRow};
+
+    ghost Value = { List CutRow };
+
+    ghost view = { λ c. if c.is_lent then c.lent.now else c.own.items };
+}
+
+/// Equal cuts, with room for as many as a relaxation may have.
+fn copies(alloc: Global, cuts: &[CutRow]) -> Result<Vec<CutRow>, AllocError>
+    ensures { IfOk result (λ v. v.items ≡ cuts.now) }
+{
+    let mut own = Vec::with_capacity(alloc, CUT_LIMIT)?;
+    for cut in cuts {
+        own.push(copy_cut(cut)?)?;
+    }
+    Ok(own)
+}
+
+/// Equal cuts and one more.
+fn with_cut(alloc: Global, cuts: &[CutRow], cut: CutRow) -> Result<Vec<CutRow>, AllocError>
+    ensures { IfOk result (λ v. v.items ≡ cuts.now ++ cut ∷ []) }
+{
+    match copies(alloc, cuts) {
+        Ok(mut own) => match own.push(cut) {
+            Ok(()) => Ok(own),
+            Err(error) => {
+                drop(own);
+                Err(error.into())
+            }
+        },
+        Err(error) => {
+            drop(cut);
+            Err(error)
+        }
+    }
+}
+
+impl RelaxationCuts<'_> {
+    /// The list.
+    pub fn as_slice(&self) -> &[CutRow]
+        ensures value { result.now ≡ self.now }
+    {
+        if self.is_lent {
+            self.lent
+        } else {
+            self.own.as_slice()
+        }
+    }
+
+    /// How many there are.
+    pub fn len(&self) -> usize
+        ensures { result ≡ length self.now }
+    {
+        self.as_slice().len()
+    }
+
+    /// One more.
+    pub fn push(&mut self, alloc: Global, cut: CutRow) -> Result<(), AllocError>
+        ensures items { IfOk result (λ _. self.new ≡ self.old ++ cut ∷ []) }
+    {
+        if self.is_lent {
+            let own = with_cut(alloc, self.lent, cut)?;
+            self.own = own;
+            self.is_lent = false;
+            return Ok(());
+        }
+        self.own.push(cut)?;
+        Ok(())
+    }
+}
+
+/// How many of so many cuts a relaxation may have.
+fn allowed(count: usize) -> usize
+    ensures within { result ≤ count }
+    ensures few { result ≤ 200 }
+    ensures all { result < 200 → result ≡ count }
+{
+    if count < CUT_LIMIT { count } else { CUT_LIMIT }
+}
+
+/// How many cuts of a pool the relaxation has, where these are the first ones. None where a cut before the last of them does
+/// not count.
+fn first_count(rows: &[CutRow]) -> Option<usize>
+    ensures { IfSome result (IsFirstCount rows.now) }
+{
+    let count = allowed(rows.len());
+    for place in 0..count {
+        let cut = &rows[place];
+        if !cut.live {
+            return None;
+        }
+    }
+    Some(count)
+}
+
+/// The numbers below this.
+fn own_places(alloc: Global, count: usize) -> Result<Vec<usize>, AllocError>
+    ensures { IfOk result (λ v. v.items ≡ places_from 0 count) }
+{
+    let mut places = Vec::with_capacity(alloc, count)?;
+    for place in 0..count {
+        places.push(place)?;
+    }
+    Ok(places)
+}
+
+/// The first cuts of a pool that count, and their places, without copies where that can be.
+#[derive(Drop)]
+pub struct FirstCuts<'a> {
+    pub cuts: RelaxationCuts<'a>,
+    pub places: Vec<usize>,
+}
+
+/// The first 200 cuts that count, fewer where there are no more.
+pub(crate) fn first_cuts<'a>(alloc: Global, pool: &'a CutPool) -> Result<FirstCuts<'a>, AllocError>
+    ensures cuts { IfOk result (λ first. first.cuts ≡ live_cuts 200 pool.now) }
+    ensures places { IfOk result (λ first. first.places.items ≡ live_places 200 0 pool.now) }
+    ensures few { length pool.now ≤ 10000 }
+{
+    let rows = pool.rows();
+    match first_count(rows) {
+        Some(count) => {
+            let places = own_places(alloc, count)?;
+            Ok(FirstCuts {
+                cuts: RelaxationCuts {
+                    lent: &rows[..count],
+                    own: Vec::new(alloc),
+                    is_lent: true,
+                },
+                places,
+            })
+        }
+        None => {
+            let live = LiveCuts::new(alloc, pool)?;
+            Ok(FirstCuts {
+                cuts: RelaxationCuts {
+                    lent: rows,
+                    own: live.cuts,
+                    is_lent: false,
+                },
+                places: live.places,
+            })
+        }
+    }
+}

@@ -1,0 +1,57 @@
+use Rattle.std.proofs.Common.{sym, ap, subst, ◌∙◌, arith, ◌≡◌, ◌<◌, length, get_or, true, pos}
+use Rattle.std.proofs.lemmas.List.{get_or_default}
+use Rattle.rational.specs.Rational.{int}
+use Rattle.frac128.specs.LowestTerms.{quotient_of}
+use Rattle.table_entries.specs.WholeSteps.{whole_number_at}
+use Rattle.table_entries.proofs.ReadLemmas.{short_read, short_again, short_as, short_as_again, positive_again}
+use Rattle.table_entries.proofs.ListedLemmas.{listed_fractions, whole_list, whole_size, over_at}
+use Rattle.table_entries.proofs.table_entries.TableEntries.at.Goals as goal
+
+pub index-requires : goal.index-requires
+index-requires c =
+    let self = c.self.inside in
+    let whole : c.args.self.now.is_whole ≡ true = sym (ap (λ w. w.is_whole) c.self.view_is) ∙ c.if-self.true in
+    let size = whole_size self.is_whole self.denominator self.numbers.items self.fractions.items c.args.self.now c.self.view_is whole in
+    let within : c.args.at < length self.numbers.items = subst (λ n. c.args.at < n) (sym size) c.requires in
+    let all = self.numbers.ok.0 in
+    omega (arith, within, all)
+
+pub index-requires-else-self : goal.index-requires-else-self
+index-requires-else-self c =
+    let self = c.self.inside in
+    let list_is = sym (ap (λ v. v.list) c.self.view_is) ∙ listed_fractions self.is_whole self.denominator self.numbers.items self.fractions.items c.if-self.false in
+    let within : c.args.at < length self.fractions.items = subst (λ xs. c.args.at < length xs) list_is c.requires in
+    let all = self.fractions.ok.0 in
+    omega (arith, within, all)
+
+pub fraction-requires-clause-number : goal.fraction-requires-clause-number
+fraction-requires-clause-number c =
+    let self = c.self.inside in
+    let numbers = self.numbers.items in
+    let at = c.args.at in
+    let whole : c.args.self.now.is_whole ≡ true = sym (ap (λ w. w.is_whole) c.self.view_is) ∙ c.if-self.true in
+    let size = whole_size self.is_whole self.denominator numbers self.fractions.items c.args.self.now c.self.view_is whole in
+    let within : at < length numbers = subst (λ n. at < n) (sym size) c.requires in
+    let now_is : c.index.result.now ≡ whole_number_at numbers at = c.index.ensures ∙ get_or_default numbers at c.index.result.now (pos 0) within in
+    short_as_again c.index.result.now (whole_number_at numbers at) now_is ((c.self.invariant.over_one c.if-self.true).short at within)
+
+pub fraction-requires-clause-denominator : goal.fraction-requires-clause-denominator
+fraction-requires-clause-denominator c = short_again c.self.inside.denominator (c.self.invariant.over_one c.if-self.true).denominator_short
+
+pub fraction-requires-clause-positive : goal.fraction-requires-clause-positive
+fraction-requires-clause-positive c = let are = c.self.invariant.over_one c.if-self.true in positive_again c.self.inside.denominator are.denominator_short are.positive
+
+pub returns-then-self : goal.returns-then-self
+returns-then-self c =
+    let self = c.self.inside in
+    let numbers = self.numbers.items in
+    let at = c.args.at in
+    let whole : c.args.self.now.is_whole ≡ true = sym (ap (λ w. w.is_whole) c.self.view_is) ∙ c.if-self.true in
+    let are = c.self.invariant.over_one c.if-self.true in
+    let list_is = whole_list self.is_whole self.denominator numbers self.fractions.items c.args.self.now c.self.view_is whole in
+    let size = whole_size self.is_whole self.denominator numbers self.fractions.items c.args.self.now c.self.view_is whole in
+    let within : at < length numbers = subst (λ n. at < n) (sym size) c.requires in
+    let now_is : c.index.result.now ≡ whole_number_at numbers at = c.index.ensures ∙ get_or_default numbers at c.index.result.now (pos 0) within in
+    let read = short_as c.index.result.now (whole_number_at numbers at) now_is (are.short at within) in
+    let d_is = short_read self.denominator are.denominator_short in
+    c.fraction.ensures ∙ (λ i. quotient_of (read i) (d_is i)) ∙ sym (ap (λ xs. get_or xs at (int (pos 0))) list_is ∙ over_at self.denominator numbers are.positive at)
