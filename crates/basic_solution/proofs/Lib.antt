@@ -1,5 +1,6 @@
 pub mod PointLemmas
 pub mod RowTotalLemmas
+pub mod ReadLemmas
 pub mod TermLemmas
 pub mod CutTotalLemmas
 pub mod SideLemmas

@@ -6,7 +6,7 @@ ghost use Rattle.bases.specs.Steps.{at_basic};
 ghost use Rattle.table_entries.specs.WholeSteps.{IsShort};
 ghost use Rattle.table_entries.specs.WholeSums.{IsWholeTerm};
 ghost use Rattle.basic_solution.specs.Held.{relaxation, table, variables};
-ghost use Rattle.basic_solution.specs.Numbers.{CostsFit, IsReducedCostAnswer};
+ghost use Rattle.basic_solution.specs.Numbers.{CostsFit, IsFirstWideReducedCost, IsWideCost, IsReducedCostAnswer};
 ghost use Rattle.basic_solution.specs.RowTotals.{IsSmallNumber, IsCostTotal};
 
 use crate::row_totals::with_product;
@@ -87,14 +87,18 @@ impl SidedBasis<'_> {
     {
         match self.tableau.find(variable) {
             Position::Row(row) => {
-                let number = self.small_cost(variable)?;
+                let Some(number) = self.small_cost(variable) else {
+                    return None;
+                };
                 if number == 0 {
                     return Some(WholeTerm {
                         factor: 0,
                         number: 0,
                     });
                 }
-                let factor = self.tableau.number_over(row, place, denominator)?;
+                let Some(factor) = self.tableau.number_over(row, place, denominator) else {
+                    return None;
+                };
                 Some(WholeTerm { factor, number })
             }
             Position::Place(_) => Some(WholeTerm {
@@ -112,7 +116,9 @@ impl SidedBasis<'_> {
         requires denominator { IsShort denominator }
         ensures { IfSome result (λ total. IsCostTotal self.now place denominator total) }
     {
-        let start = self.small_cost(self.tableau.nonbasic(place))?;
+        let Some(start) = self.small_cost(self.tableau.nonbasic(place)) else {
+            return None;
+        };
         let _few = self.tableau.columns();
         let mut total = product(start, denominator);
         for variable in 0..self.cost.end() {
@@ -130,8 +136,34 @@ impl SidedBasis<'_> {
         ensures { IfSome result (λ cost. CostsFit self.now place (variables self.now) × (cost ≡ reduced_cost (relaxation self.now) (table self.now) (relaxation self.now).cost place)) }
     {
         let denominator = self.tableau.denominator();
-        let total = self.cost_total(place, denominator)?;
-        Some(quotient(total, denominator))
+        match self.cost_total(place, denominator) {
+            Some(total) => Some(quotient(total, denominator)),
+            None => None,
+        }
+    }
+
+    /// The step in which the term of a variable in the reduced cost of a place is added.
+    fn cost_step(&self, place: usize, basic: usize) -> WideStep
+        requires place { place < self.now.tableau.columns }
+        requires basic { basic < variables self.now }
+        ensures { IsFirstWideReducedCost self.now place basic → IsWideCost self.now place result }
+    {
+        let k = self.tableau.variable(self.tableau.nonbasic(place));
+        let b = self.tableau.variable(basic);
+        WideStep::Cost { k, b }
+    }
+
+    /// The reduced cost of a place, term by term, or the first of them that has no room.
+    fn cost_by_terms(&self, place: usize) -> Result<Frac, WideStep>
+        requires { place < self.now.tableau.columns }
+        ensures { IsReducedCostAnswer self.now place result }
+    {
+        let variable = self.tableau.nonbasic(place);
+        let terms = CostTerms { state: self, place };
+        match checked_sum(&self.cost_of(variable), &terms) {
+            Ok(cost) => Ok(cost),
+            Err(basic) => Err(self.cost_step(place, basic)),
+        }
     }
 
     /// The reduced cost of a place, or the first of its terms, in the order of the variables, that has no room.
@@ -142,14 +174,6 @@ impl SidedBasis<'_> {
         if let Some(cost) = self.whole_cost(place) {
             return Ok(cost);
         }
-        let variable = self.tableau.nonbasic(place);
-        let terms = CostTerms { state: self, place };
-        match checked_sum(&self.cost_of(variable), &terms) {
-            Ok(cost) => Ok(cost),
-            Err(basic) => Err(WideStep::Cost {
-                k: self.tableau.variable(variable),
-                b: self.tableau.variable(basic),
-            }),
-        }
+        self.cost_by_terms(place)
     }
 }

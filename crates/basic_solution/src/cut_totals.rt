@@ -40,7 +40,9 @@ fn terms_total(columns: usize, terms: &[(ColId, Frac)], totals: &[i64]) -> Optio
         if end <= column {
             return None;
         }
-        let number = small_number(&term.1)?;
+        let Some(number) = small_number(&term.1) else {
+            return None;
+        };
         total = with_product(total, totals[column], number);
         end = column;
     }
@@ -70,11 +72,15 @@ impl SidedBasis<'_> {
     {
         match self.tableau.find(column) {
             Position::Row(row) => {
-                let total = self.row_total(row, denominator)?;
+                let Some(total) = self.row_total(row, denominator) else {
+                    return None;
+                };
                 short_number(total)
             }
             Position::Place(place) => {
-                let number = small_number(&self.place_number(place))?;
+                let Some(number) = small_number(&self.place_number(place)) else {
+                    return None;
+                };
                 short_number(product(number, denominator))
             }
         }
@@ -92,7 +98,9 @@ impl SidedBasis<'_> {
         if !self.are_numbers_small() {
             return None;
         }
-        let denominator = self.tableau.whole_denominator()?;
+        let Some(denominator) = self.tableau.whole_denominator() else {
+            return None;
+        };
         for column in 0..columns {
             match self.column_total(column, denominator) {
                 None => return None,

@@ -46,7 +46,13 @@ impl SidedBasis<'_> {
         let mut list = List::new(alloc);
         for variable in 0..self.variables() {
             if self.is_basic(variable) {
-                list.push(self.tableau.variable(variable))?;
+                match list.push(self.tableau.variable(variable)) {
+                    Ok(()) => {}
+                    Err(error) => {
+                        drop(list);
+                        return Err(error);
+                    }
+                }
             }
         }
         Ok(list)
@@ -59,7 +65,13 @@ impl SidedBasis<'_> {
         let mut list = List::new(alloc);
         for variable in 0..self.variables() {
             if self.stands_high(variable) {
-                list.push(self.tableau.variable(variable))?;
+                match list.push(self.tableau.variable(variable)) {
+                    Ok(()) => {}
+                    Err(error) => {
+                        drop(list);
+                        return Err(error);
+                    }
+                }
             }
         }
         Ok(list)
@@ -69,8 +81,17 @@ impl SidedBasis<'_> {
     pub fn basis_lists(&self, alloc: Global) -> Result<Basis, AllocError>
         ensures { IfOk result (IsBasisOf self.now) }
     {
-        let basic = self.basic_variables(alloc)?;
-        let high = self.high_variables(alloc)?;
+        let basic = match self.basic_variables(alloc) {
+            Ok(basic) => basic,
+            Err(error) => return Err(error),
+        };
+        let high = match self.high_variables(alloc) {
+            Ok(high) => high,
+            Err(error) => {
+                drop(basic);
+                return Err(error);
+            }
+        };
         Ok(Basis { basic, high })
     }
 
@@ -81,8 +102,17 @@ impl SidedBasis<'_> {
         let mut list = List::new(alloc);
         for column in 0..self.tableau.columns() {
             match self.number_of(column) {
-                Ok(number) => list.push(number)?,
-                Err(step) => return Ok(Err(step)),
+                Ok(number) => match list.push(number) {
+                    Ok(()) => {}
+                    Err(error) => {
+                        drop(list);
+                        return Err(error);
+                    }
+                },
+                Err(step) => {
+                    drop(list);
+                    return Ok(Err(step));
+                }
             }
         }
         Ok(Ok(list))
@@ -97,10 +127,19 @@ impl SidedBasis<'_> {
         for variable in columns..self.variables() {
             let number = match self.multiplier_of(variable) {
                 Ok(number) => number,
-                Err(step) => return Ok(Err(step)),
+                Err(step) => {
+                    drop(list);
+                    return Ok(Err(step));
+                }
             };
             if !number.is_zero() {
-                list.push((self.tableau.variable(variable), number))?;
+                match list.push((self.tableau.variable(variable), number)) {
+                    Ok(()) => {}
+                    Err(error) => {
+                        drop(list);
+                        return Err(error);
+                    }
+                }
             }
         }
         Ok(Ok(list))
@@ -117,7 +156,13 @@ impl SidedBasis<'_> {
         for variable in columns..self.variables() {
             let number = self.farkas_of(row, side, variable);
             if !number.is_zero() {
-                list.push((self.tableau.variable(variable), number))?;
+                match list.push((self.tableau.variable(variable), number)) {
+                    Ok(()) => {}
+                    Err(error) => {
+                        drop(list);
+                        return Err(error);
+                    }
+                }
             }
         }
         Ok(list)

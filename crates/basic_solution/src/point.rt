@@ -69,7 +69,8 @@ impl WholeTerms for PointTerms<'_, '_> {
 }
 
 impl SidedBasis<'_> {
-    ghost use Rattle.basic_solution.specs.Numbers.{IsBasicValueAnswer};
+    ghost use Rattle.table_entries.specs.WholeSteps.{IsShort};
+    ghost use Rattle.basic_solution.specs.Numbers.{IsFirstWideValue, IsWideBasicValue, IsBasicValueAnswer};
 
     /// The number at which the variable of a place stands.
     pub(crate) fn place_number(&self, place: usize) -> Frac
@@ -120,10 +121,43 @@ impl SidedBasis<'_> {
                 number: 0,
             }),
             Position::Place(place) => {
-                let number = whole_number(&self.place_number(place))?;
-                let factor = self.tableau.number_over(row, place, denominator)?;
+                let Some(number) = whole_number(&self.place_number(place)) else {
+                    return None;
+                };
+                let Some(factor) = self.tableau.number_over(row, place, denominator) else {
+                    return None;
+                };
                 Some(WholeTerm { factor, number })
             }
+        }
+    }
+
+    /// The step in which the term of a variable in the value of the basic variable of a row is added.
+    fn point_step(&self, row: usize, variable: usize) -> WideStep
+        requires row { row < self.now.tableau.activities }
+        requires variable { variable < variables self.now }
+        ensures { IsFirstWideValue self.now row variable → IsWideBasicValue self.now row result }
+    {
+        let b = self.tableau.variable(self.tableau.basic(row));
+        let k = self.tableau.variable(variable);
+        WideStep::Point { b, k }
+    }
+
+    /// The value of the basic variable of a row, term by term, or the first of them that has no room.
+    fn value_by_terms(&self, row: usize, denominator: i64) -> Result<Frac, WideStep>
+        requires row { row < self.now.tableau.activities }
+        requires positive { pos 0 <ℤ denominator }
+        requires denominator { IsShort denominator }
+        ensures { IsBasicValueAnswer self.now row result }
+    {
+        let _sided = &self.tableau;
+        let terms = PointTerms { state: self, row };
+        if let Some(value) = whole_sum(0, denominator, &terms) {
+            return Ok(value);
+        }
+        match checked_sum(&Frac::whole(0), &terms) {
+            Ok(value) => Ok(value),
+            Err(variable) => Err(self.point_step(row, variable)),
         }
     }
 
@@ -136,16 +170,6 @@ impl SidedBasis<'_> {
         if let Some(total) = self.row_total(row, denominator) {
             return Ok(quotient(total, denominator));
         }
-        let terms = PointTerms { state: self, row };
-        if let Some(value) = whole_sum(0, denominator, &terms) {
-            return Ok(value);
-        }
-        match checked_sum(&Frac::whole(0), &terms) {
-            Ok(value) => Ok(value),
-            Err(variable) => Err(WideStep::Point {
-                b: self.tableau.variable(self.tableau.basic(row)),
-                k: self.tableau.variable(variable),
-            }),
-        }
+        self.value_by_terms(row, denominator)
     }
 }

@@ -61,14 +61,18 @@ impl SidedBasis<'_> {
         ensures term { IfSome result (λ t. IsWholeTerm denominator ((table self.now).entry row place) ((state self.now).at place) t.factor t.number) }
         ensures small { IfSome result (λ t. IsSmallNumber t.number) }
     {
-        let number = small_number(&self.place_number(place))?;
+        let Some(number) = small_number(&self.place_number(place)) else {
+            return None;
+        };
         if number == 0 {
             return Some(WholeTerm {
                 factor: 0,
                 number: 0,
             });
         }
-        let factor = self.tableau.number_over(row, place, denominator)?;
+        let Some(factor) = self.tableau.number_over(row, place, denominator) else {
+            return None;
+        };
         Some(WholeTerm { factor, number })
     }
 

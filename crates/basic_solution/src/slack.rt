@@ -25,14 +25,32 @@ impl<'a> SidedBasis<'a> {
         requires sides { KeepsFree relax.now.model.now relax.now.region.now }
         ensures { IfOk result (IsSlackState relax.now) }
     {
-        let low = lows(alloc, relax)?;
-        let high = highs(alloc, relax)?;
-        let cost = costs(alloc, relax)?;
+        let low = match lows(alloc, relax) {
+            Ok(low) => low,
+            Err(error) => return Err(error),
+        };
+        let high = match highs(alloc, relax) {
+            Ok(high) => high,
+            Err(error) => return Err(error),
+        };
+        let cost = match costs(alloc, relax) {
+            Ok(cost) => cost,
+            Err(error) => return Err(error),
+        };
         let priced = Costs::new(cost);
-        let tilt = tilts(alloc, relax)?;
-        let order = order(alloc, relax)?;
+        let tilt = match tilts(alloc, relax) {
+            Ok(tilt) => tilt,
+            Err(error) => return Err(error),
+        };
+        let order = match order(alloc, relax) {
+            Ok(order) => order,
+            Err(error) => return Err(error),
+        };
         let stands = vec![in alloc; Stand::Free; relax.model.cols().len()]?;
-        let tableau = Tableau::slack_start(alloc, relax)?;
+        let tableau = match Tableau::slack_start(alloc, relax) {
+            Ok(tableau) => tableau,
+            Err(error) => return Err(error),
+        };
         Ok(SidedBasis {
             model: relax.model,
             cuts: relax.cuts,
@@ -53,9 +71,13 @@ impl<'a> SidedBasis<'a> {
         requires sides { KeepsFree relax.now.model.now relax.now.region.now }
         ensures { IfOk result (IsSlackState relax.now) }
     {
-        let mut basis = SidedBasis::slack_start(alloc, relax)?;
-        basis.write_for_costs();
-        Ok(basis)
+        match SidedBasis::slack_start(alloc, relax) {
+            Ok(mut basis) => {
+                basis.write_for_costs();
+                Ok(basis)
+            }
+            Err(error) => Err(error),
+        }
     }
 
     /// Where the variable of a place stands by its cost, which is its reduced cost, if it can.
@@ -101,9 +123,13 @@ impl<'a> SidedBasis<'a> {
         ensures answer { IfOk result (IsSlackAnswer relax.now) }
         ensures directions { IfOk result (λ basis. relax.now.kind ≡ Directions → IsSome basis) }
     {
-        let mut basis = SidedBasis::slack(alloc, relax)?;
+        let mut basis = match SidedBasis::slack(alloc, relax) {
+            Ok(basis) => basis,
+            Err(error) => return Err(error),
+        };
         let _sided = &basis.tableau;
         if !basis.stand_by_costs() {
+            drop(basis);
             return Ok(None);
         }
         let _kept = &basis.tableau;

@@ -1,5 +1,5 @@
 -- A tree made of its nodes: the nodes with ids in preorder are those of one tree, which is numbered.
-use Rattle.std.specs.Prelude.{◌≡◌, ◌⊎◌, ℕ, suc, ◌+◌, ◌-◌, ◌^◌, ◌<◌, ◌≤◌, List, [], ◌∷◌, ◌++◌, length, map, All, ℤ, pos, ◌<ℤ◌}
+use Rattle.std.specs.Prelude.{◌≡◌, ◌⊎◌, ℕ, suc, ◌+◌, ◌-◌, ◌^◌, ◌<◌, ◌≤◌, List, [], ◌∷◌, ◌++◌, length, map, All, ℤ, pos, ◌<ℤ◌, Result, Ok, Err, IfOk}
 use Rattle.std.proofs.Common.{refl, sym, ap, ◌∙◌, arith, inl, inr, length-append}
 use Rattle.std.proofs.lemmas.Bool.{cases_lt}
 use Rattle.std.proofs.lemmas.List.{append-nil, append_assoc, length_push, map-append}
@@ -14,6 +14,7 @@ use Rattle.branch_tree.specs.Building.{stacked, with_id, with_ids}
 use Rattle.branch_tree.specs.declared.branch.Branch.{Branch}
 use Rattle.branch_tree.specs.declared.node.NodeData.{NodeData}
 use Rattle.branch_tree.specs.declared.node.NodeData.TheVariants.{Split as SplitNode}
+use Rattle.branch_tree.specs.declared.node.Node.{Node}
 use Rattle.branch_tree.specs.declared.node.Node.TheVariants as node
 use Rattle.branch_tree.proofs.CountLemmas.{nodes-splits, same_cases, same_at_most_one, same_other}
 
@@ -32,6 +33,17 @@ preorder-without (Split kept j v left right) =
     ∙ ap (λ ns. ns ++ map without_id (preorder right)) (preorder-without left)
     ∙ ap (λ ns. data_nodes (without_ids left) ++ ns) (preorder-without right)
     )
+
+-- a copy of each node is put behind a list: the split, then those below it
+pub preorder-split : {E : Type 0} (result : Result (Unit {0}) E) (kept : SplitKept) (j : ℕ) (v : ℤ) (left right : Plain) (old mid far new : List Node)
+    → mid ≡ old ++ node.Split kept.id (record { 0 = j }) v kept.mult kept.basis ∷ [] → far ≡ mid ++ preorder left → IfOk result (λ _. new ≡ far ++ preorder right)
+    → IfOk result (λ _. new ≡ old ++ preorder (Split kept j v left right))
+preorder-split (Ok done) kept j v left right old mid far new first below last =
+    let n : Node = node.Split kept.id (record { 0 = j }) v kept.mult kept.basis in
+    last
+    ∙ ap (λ ns. ns ++ preorder right) (below ∙ ap (λ ns. ns ++ preorder left) first ∙ append_assoc old (n ∷ []) (preorder left))
+    ∙ append_assoc old (n ∷ preorder left) (preorder right)
+preorder-split (Err e) kept j v left right old mid far new first below last = last
 
 with_ids-append : (k : ℕ) (xs ys : List NodeData) → with_ids k (xs ++ ys) ≡ with_ids k xs ++ with_ids (k + length xs) ys
 with_ids-append k [] ys = let at : k ≡ k + 0 = omega arith in ap (λ i. with_ids i ys) at

@@ -4,35 +4,23 @@ ghost use Rattle.std.specs.List.{range_with_len};
 ghost use Rattle.branch_tree.specs.Following.{is_gone, gone_before};
 ghost use Rattle.branch_tree.specs.Gone.{IsCounted};
 
-use lp_model::CutId;
+use lp_model::{CutId, List};
 use std::alloc::{AllocError, Global};
 
-/// For how many cuts it is written down whether they go. The others are looked for.
+/// For how many cuts it is written down how many go before them. For the others those are counted.
 const PLACES: usize = 512;
-
-/// Whether the cut is one of those that are taken out.
-fn is_gone(gone: &[CutId], cut: usize) -> bool
-    ensures { result ≡ is_gone gone.now cut }
-{
-    gone.iter().any(|place| place.0 as usize == cut)
-}
 
 /// How many of those that are taken out stood before the cut.
 fn gone_before(gone: &[CutId], cut: usize) -> usize
     ensures { result ≡ gone_before gone.now cut }
 {
-    gone.iter().filter(|place| (place.0 as usize) < cut).count()
-}
-
-/// Whether the cut is one of those that are taken out, by marks of the first cuts.
-fn is_marked(gone: &[CutId], marks: &[bool], cut: usize) -> bool
-    requires { marks.now ≡ map (is_gone gone.now) (range_with_len 0 (length marks.now)) }
-    ensures { result ≡ is_gone gone.now cut }
-{
-    if marks.len() <= cut {
-        return is_gone(gone, cut);
+    let mut before = 0;
+    for place in gone {
+        if (place.0 as usize) < cut {
+            before += 1;
+        }
     }
-    marks[cut]
+    before
 }
 
 /// How many of those that are taken out stood before the cut, by counts for the first cuts.
@@ -46,49 +34,43 @@ fn count_at(gone: &[CutId], counts: &[usize], cut: usize) -> usize
     counts[cut]
 }
 
-/// Cuts that are taken out, beside marks of the first cuts and counts of those that go before each, so that a list is walked
-/// without a search for each of its cuts.
+/// Cuts that are taken out, beside counts of those that go before each of the first cuts, so that a list is walked without a
+/// search for each of its cuts.
 #[derive(Drop)]
 pub(crate) struct GoneCuts<'a> {
     pub cuts: &'a [CutId],
-    pub marks: Vec<bool>,
-    pub counts: Vec<usize>,
+    pub counts: List<usize>,
 }
 
 impl GoneCuts<'_> {
-    /// Whether the cut is one of them.
-    pub(crate) fn is_gone(&self, cut: usize) -> bool
-        requires { IsCounted self.now }
-        ensures { result ≡ is_gone self.now.cuts.now cut }
-    {
-        is_marked(self.cuts, &self.marks, cut)
-    }
-
     /// How many of them stood before the cut.
     pub(crate) fn before(&self, cut: usize) -> usize
         requires { IsCounted self.now }
         ensures { result ≡ gone_before self.now.cuts.now cut }
     {
-        count_at(self.cuts, &self.counts, cut)
+        count_at(self.cuts, self.counts.as_slice(), cut)
+    }
+
+    /// Whether the cut is one of them: then more of them stood before the next cut.
+    pub(crate) fn is_gone(&self, cut: u32) -> bool
+        requires { IsCounted self.now }
+        ensures { result ≡ is_gone self.now.cuts.now cut }
+    {
+        let place = cut as usize;
+        self.before(place) < self.before(place + 1)
     }
 }
 
 impl<'a> GoneCuts<'a> {
-    /// The cuts with marks and counts.
+    /// The cuts with their counts.
     pub(crate) fn new(alloc: Global, cuts: &'a [CutId]) -> Result<GoneCuts<'a>, AllocError>
         ensures counted { IfOk result (λ g. IsCounted g) }
         ensures cuts { IfOk result (λ g. g.cuts.now ≡ cuts.now) }
     {
-        let mut marks = Vec::with_capacity(alloc, PLACES)?;
-        let mut counts = Vec::with_capacity(alloc, PLACES)?;
+        let mut counts = List::new(alloc);
         for place in 0..PLACES {
-            marks.push(is_gone(cuts, place))?;
             counts.push(gone_before(cuts, place))?;
         }
-        Ok(GoneCuts {
-            cuts,
-            marks,
-            counts,
-        })
+        Ok(GoneCuts { cuts, counts })
     }
 }

@@ -26,13 +26,28 @@ fn node_data(alloc: Global, node: &Node) -> Result<NodeData, AllocError>
             mult,
             basis,
             ..
-        } => Ok(NodeData::Split {
-            col: *col,
-            v: *v,
-            mult: mult.copy(alloc)?,
-            basis: basis.copy(alloc)?,
-        }),
-        Node::Leaf { kept, .. } => Ok(NodeData::Leaf(copy_data(alloc, kept)?)),
+        } => {
+            let mult = match mult.copy(alloc) {
+                Ok(mult) => mult,
+                Err(error) => return Err(error),
+            };
+            match basis.copy(alloc) {
+                Ok(basis) => Ok(NodeData::Split {
+                    col: *col,
+                    v: *v,
+                    mult,
+                    basis,
+                }),
+                Err(error) => {
+                    drop(mult);
+                    Err(error)
+                }
+            }
+        }
+        Node::Leaf { kept, .. } => match copy_data(alloc, kept) {
+            Ok(kept) => Ok(NodeData::Leaf(kept)),
+            Err(error) => Err(error),
+        },
     }
 }
 
@@ -42,8 +57,14 @@ fn nodes_data(alloc: Global, nodes: &[Node]) -> Result<List<NodeData>, AllocErro
 {
     let mut list = List::new(alloc);
     for node in nodes {
-        let copy = node_data(alloc, node)?;
-        list.push(copy)?;
+        let copy = match node_data(alloc, node) {
+            Ok(copy) => copy,
+            Err(error) => return Err(error),
+        };
+        match list.push(copy) {
+            Ok(()) => {}
+            Err(error) => return Err(error),
+        }
     }
     Ok(list)
 }
@@ -61,9 +82,14 @@ fn join_last(alloc: Global, split: SplitNode, branches: &mut Vec<Branch>) -> Res
         drop(left);
         return Ok(());
     };
-    let branch = joined(alloc, Ok(split), Ok(left), Ok(right))?;
-    branches.push(branch)?;
-    Ok(())
+    let branch = match joined(alloc, Ok(split), Ok(left), Ok(right)) {
+        Ok(branch) => branch,
+        Err(error) => return Err(error),
+    };
+    match branches.push(branch) {
+        Ok(()) => Ok(()),
+        Err(failed) => Err(failed.into()),
+    }
 }
 
 /// Puts the branch of a node, which stands before the nodes of the branches, behind them.
@@ -92,8 +118,10 @@ fn put_node(
             join_last(alloc, split, branches)
         }
         NodeData::Leaf(kept) => {
-            branches.push(Branch::Leaf(LeafNode { id, kept }))?;
-            Ok(())
+            match branches.push(Branch::Leaf(LeafNode { id, kept })) {
+                Ok(()) => Ok(()),
+                Err(failed) => Err(failed.into()),
+            }
         }
     }
 }
@@ -107,7 +135,10 @@ fn branches_of(alloc: Global, nodes: Vec<NodeData>) -> Result<Vec<Branch>, Alloc
     let mut branches = Vec::new(alloc);
     while let Some(node) = rest.pop() {
         let id = rest.len() as u64 + 1;
-        put_node(alloc, id, node, &mut branches)?;
+        match put_node(alloc, id, node, &mut branches) {
+            Ok(()) => {}
+            Err(error) => return Err(error),
+        }
     }
     Ok(branches)
 }
@@ -117,7 +148,10 @@ impl Tree {
     pub fn data_nodes(&self) -> Result<List<NodeData>, AllocError>
         ensures { IfOk result (λ nodes. nodes ≡ data_nodes (without_ids self.now.root)) }
     {
-        let nodes = self.preorder()?;
+        let nodes = match self.preorder() {
+            Ok(nodes) => nodes,
+            Err(error) => return Err(error),
+        };
         nodes_data(self.alloc, &nodes)
     }
 
@@ -137,7 +171,10 @@ impl Tree {
         if count > MOST_NODES {
             return Err(AllocError);
         }
-        let mut branches = branches_of(alloc, nodes)?;
+        let mut branches = match branches_of(alloc, nodes) {
+            Ok(branches) => branches,
+            Err(error) => return Err(error),
+        };
         let Some(root) = branches.pop() else {
             unreachable!()
         };

@@ -14,6 +14,18 @@ pub(crate) struct Ways {
     ways: BTreeMap<u64, Vec<bool>>,
 }
 
+/// A way with one more turn, `true` for a right child.
+fn longer(alloc: Global, way: &[bool], is_right: bool) -> Result<Vec<bool>, AllocError> {
+    let mut longer = match Vec::from_slice(alloc, way) {
+        Ok(longer) => longer,
+        Err(error) => return Err(error),
+    };
+    match longer.push(is_right) {
+        Ok(()) => Ok(longer),
+        Err(failed) => Err(failed.into()),
+    }
+}
+
 impl Ways {
     /// No way is known.
     pub(crate) fn new(alloc: Global) -> Ways {
@@ -41,12 +53,21 @@ impl Ways {
     ) -> Result<Vec<bool>, AllocError>
         requires { leaves_with id (plain_branch root.now) ≤ 1 }
     {
-        let way = root.way_to(alloc, id, self.to(id))?;
-        self.add(alloc, &way, false, left)?;
-        self.add(alloc, &way, true, right)?;
-        Ok(way)
+        let way = match root.way_to(alloc, id, self.to(id)) {
+            Ok(way) => way,
+            Err(error) => return Err(error),
+        };
+        match self.add(alloc, &way, false, left) {
+            Ok(()) => {}
+            Err(error) => return Err(error),
+        }
+        match self.add(alloc, &way, true, right) {
+            Ok(()) => Ok(way),
+            Err(error) => Err(error),
+        }
     }
 
+    /// Notes the way to a child of the node at a way.
     fn add(
         &mut self,
         alloc: Global,
@@ -54,10 +75,16 @@ impl Ways {
         is_right: bool,
         id: u64,
     ) -> Result<(), AllocError> {
-        let mut longer = Vec::from_slice(alloc, way)?;
-        longer.push(is_right)?;
-        self.ways.insert(id, longer)?;
-        Ok(())
+        match longer(alloc, way, is_right) {
+            Ok(longer) => match self.ways.insert(id, longer) {
+                Ok(before) => {
+                    drop(before);
+                    Ok(())
+                }
+                Err(failed) => Err(failed.into()),
+            },
+            Err(error) => Err(error),
+        }
     }
 
     /// A leaf is no more.

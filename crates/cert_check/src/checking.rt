@@ -1,5 +1,5 @@
 // The walk through a certificate's nodes.
-ghost use Rattle.std.specs.Prelude.{◌≡◌, ◌↔◌, ◌<◌, ◌≤◌, ◌+◌, ◌+ℤ◌, pos, length, All, IsTrue, IfOk, ℕ, List as Items};
+ghost use Rattle.std.specs.Prelude.{◌≡◌, ◌↔◌, ◌<◌, ◌≤◌, ◌+◌, ◌+ℤ◌, pos, length, All, IsTrue, IfOk, Ok, ℕ, List as Items};
 ghost use Rattle.frac128.specs.Range.{IsNarrow};
 ghost use Rattle.lp_model.specs.Program.{HasWholeObjective};
 ghost use Rattle.lp_model.specs.Regions.{AreNarrow, at_least};
@@ -55,21 +55,23 @@ fn node_with_places(
     requires { cuts ≤ 4294967296 }
     ensures { IfOk result (λ placed. IsPlace model.now cuts node.now placed) }
 {
-    Ok(match node {
+    match node {
         CertNode::Split { col, v } => match column_place(model, col) {
-            Some(col) => NodeWithPlaces::Split { col, v: *v },
-            None => NodeWithPlaces::Misnamed,
+            Some(col) => Ok(NodeWithPlaces::Split { col, v: *v }),
+            None => Ok(NodeWithPlaces::Misnamed),
         },
-        CertNode::Bound(mults) => match multipliers(alloc, model, cuts, mults.as_slice())? {
-            Some(mult) => NodeWithPlaces::Bound(mult),
-            None => NodeWithPlaces::Misnamed,
+        CertNode::Bound(mults) => match multipliers(alloc, model, cuts, mults.as_slice()) {
+            Ok(Some(mult)) => Ok(NodeWithPlaces::Bound(mult)),
+            Ok(None) => Ok(NodeWithPlaces::Misnamed),
+            Err(error) => Err(error),
         },
-        CertNode::Farkas(mults) => match multipliers(alloc, model, cuts, mults.as_slice())? {
-            Some(mult) => NodeWithPlaces::Farkas(mult),
-            None => NodeWithPlaces::Misnamed,
+        CertNode::Farkas(mults) => match multipliers(alloc, model, cuts, mults.as_slice()) {
+            Ok(Some(mult)) => Ok(NodeWithPlaces::Farkas(mult)),
+            Ok(None) => Ok(NodeWithPlaces::Misnamed),
+            Err(error) => Err(error),
         },
-        CertNode::Empty => NodeWithPlaces::Empty,
-    })
+        CertNode::Empty => Ok(NodeWithPlaces::Empty),
+    }
 }
 
 /// The nodes with their names and the numbers of some cuts as places.
@@ -84,10 +86,70 @@ fn placed_nodes(
 {
     let mut all = Vec::new(alloc);
     for node in nodes {
-        let one = node_with_places(alloc, model, cuts, node)?;
-        all.push(one)?;
+        let Ok(one) = node_with_places(alloc, model, cuts, node) else {
+            drop(all);
+            return Err(AllocError);
+        };
+        let Ok(()) = all.push(one) else {
+            drop(all);
+            return Err(AllocError);
+        };
     }
     Ok(all)
+}
+
+/// The buffer with these parts, where there was memory for each.
+fn buffer_of(
+    cuts: Result<CutRows, AllocError>,
+    nodes: Result<Vec<NodeWithPlaces>, AllocError>,
+    trail: Result<Trail, AllocError>,
+    point: Result<Option<Point>, AllocError>,
+    ray: Result<Option<Point>, AllocError>,
+) -> Result<RegionBuf, AllocError>
+    ensures { IfOk result (λ buf. (cuts ≡ Ok buf.cuts) × (nodes ≡ Ok buf.nodes) × (trail ≡ Ok buf.trail) × (point ≡ Ok buf.point) × (ray ≡ Ok buf.ray)) }
+{
+    let Ok(cuts) = cuts else {
+        drop(nodes);
+        drop(trail);
+        drop(point);
+        drop(ray);
+        return Err(AllocError);
+    };
+    let Ok(nodes) = nodes else {
+        drop(cuts);
+        drop(trail);
+        drop(point);
+        drop(ray);
+        return Err(AllocError);
+    };
+    let Ok(trail) = trail else {
+        drop(cuts);
+        drop(nodes);
+        drop(point);
+        drop(ray);
+        return Err(AllocError);
+    };
+    let Ok(point) = point else {
+        drop(cuts);
+        drop(nodes);
+        drop(trail);
+        drop(ray);
+        return Err(AllocError);
+    };
+    let Ok(ray) = ray else {
+        drop(cuts);
+        drop(nodes);
+        drop(trail);
+        drop(point);
+        return Err(AllocError);
+    };
+    Ok(RegionBuf {
+        nodes,
+        trail,
+        point,
+        ray,
+        cuts,
+    })
 }
 
 impl RegionBuf {
@@ -96,23 +158,19 @@ impl RegionBuf {
     pub fn new(alloc: Global, model: &Model, cert: &Cert) -> Result<RegionBuf, AllocError>
         ensures { IfOk result (λ buf. IsBufferOf model.now cert.now buf) }
     {
-        let count = cert.cuts.as_slice().len();
+        let named = cert.cuts.as_slice();
+        let stated = cert.nodes.as_slice();
+        let count = named.len();
         // so many rows would take more memory than a machine has
         if count > MOST_CUTS {
             return Err(AllocError);
         }
-        let cuts = cut_rows(alloc, model, cert.cuts.as_slice())?;
-        let nodes = placed_nodes(alloc, model, count, cert.nodes.as_slice())?;
-        let trail = Trail::new(alloc, cert.nodes.as_slice().len())?;
-        let found = point(alloc, model, cert.point.as_slice())?;
-        let ray = point(alloc, model, cert.ray.as_slice())?;
-        Ok(RegionBuf {
-            nodes,
-            trail,
-            point: found,
-            ray,
-            cuts,
-        })
+        let cuts = cut_rows(alloc, model, named);
+        let nodes = placed_nodes(alloc, model, count, stated);
+        let trail = Trail::new(alloc, stated.len());
+        let found = point(alloc, model, cert.point.as_slice());
+        let ray = point(alloc, model, cert.ray.as_slice());
+        buffer_of(cuts, nodes, trail, found, ray)
     }
 }
 

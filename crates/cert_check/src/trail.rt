@@ -116,9 +116,15 @@ impl Trail {
         let mut replaced = Vec::new(alloc);
         let mut region = Vec::new(alloc);
         while path.len() < length {
-            path.push(change)?;
-            replaced.push(none)?;
-            region.push(change)?;
+            let Ok(()) = path.push(change) else {
+                return Err(AllocError);
+            };
+            let Ok(()) = replaced.push(none) else {
+                return Err(AllocError);
+            };
+            let Ok(()) = region.push(change) else {
+                return Err(AllocError);
+            };
         }
         Ok(Trail {
             path,

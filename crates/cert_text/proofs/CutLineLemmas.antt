@@ -1,10 +1,16 @@
 -- The literals of a line, from the first one on.
-use Rattle.std.specs.Prelude.{◌≡◌, ℕ, suc, ◌+◌, ◌<◌, ◌≤◌, ◌++◌, Bool, List, [], ◌∷◌, length, drop, get_or, map, Some, None, Result, Ok, Err}
+use Rattle.std.specs.Prelude.{◌≡◌, ℕ, suc, ◌+◌, ◌-◌, ◌<◌, ◌≤◌, ◌++◌, Bool, List, [], ◌∷◌, length, take, drop, get_or, map, Some, None, Result, Ok, Err}
 use Rattle.std.specs.Option.{option_map}
 use Rattle.std.proofs.Common.{refl, sym, ap, ◌∙◌, arith, append_assoc, Bor}
+use Rattle.std.proofs.lemmas.Grind.{common_steps}
 use Rattle.std.proofs.lemmas.List.{append-nil, drop_all}
 use Rattle.std.proofs.Math.Seq.{drop-cons}
-use Rattle.cert_text.specs.CutLines.{sign_in, literal_in, with_literal, literals_in}
+use Rattle.lp_model.specs.declared.types.Side.{Side}
+use Rattle.lp_model.specs.Sides.{side_of_word}
+use Rattle.cert_text.specs.CutLines.{sign_in, literal_in, with_literal, literals_in, cut_by, cut_line_in}
+use Rattle.cert_text.specs.Reading.{Says}
+use Rattle.cert_text.specs.declared.line.LineFault.{LineFault}
+use Rattle.cert_text.specs.declared.line.LineFault.TheVariants.{Code, Memory}
 
 abbrev pub nows : List (Bor (List ℕ)) → List (List ℕ)
 nows words = map (λ word. word.now) words
@@ -40,3 +46,29 @@ module _ (words : List (Bor (List ℕ))) (literals : List (List ℕ × Bool)) (s
 
   pub literals-end : (k : ℕ) → length words ≤ k → said ≡ prefixed literals (literals_in (nows (drop k words))) → said ≡ Ok literals
   literals-end k past before = before ∙ ap (λ ws. prefixed literals (literals_in (nows ws))) (drop_all k words past) ∙ ap Ok (append-nil literals)
+
+-- ---- the words of a cut's line
+
+back : (a b : Bor (List ℕ)) (more : List (Bor (List ℕ))) → take (length (a ∷ b ∷ more) - 2) (drop 2 (a ∷ b ∷ more)) ≡ more
+back a b more = grind (arith, common_steps)
+
+pub cut_line-short : (words : List (Bor (List ℕ))) → length words < 2 → cut_line_in (nows words) ≡ Err 3
+cut_line-short [] few = refl
+cut_line-short (a ∷ []) few = refl
+cut_line-short (a ∷ b ∷ more) few = absurd (omega arith)
+
+module _ (words : List (Bor (List ℕ))) (d : Bor (List ℕ)) (long : 2 ≤ length words) where
+  abbrev rest : List (Bor (List ℕ))
+  rest = take (length words - 2) (drop 2 words)
+
+  first : (ws : List (Bor (List ℕ))) → 2 ≤ length ws → cut_line_in (nows ws) ≡ cut_by (get_or ws 0 d).now (side_of_word (get_or ws 1 d).now) (literals_in (nows (take (length ws - 2) (drop 2 ws))))
+  first [] h = absurd (omega arith)
+  first (a ∷ []) h = absurd (omega arith)
+  first (a ∷ b ∷ more) h = ap (λ ls. cut_by a.now (side_of_word b.now) (literals_in (nows ls))) (sym (back a b more))
+
+  pub cut_line-sideless : side_of_word (get_or words 1 d).now ≡ None → cut_line_in (nows words) ≡ Err 3
+  cut_line-sideless e = first words long ∙ ap (λ s. cut_by (get_or words 0 d).now s (literals_in (nows rest))) e
+
+  pub cut_line-faulty : (side : Side) (fault : LineFault) → side_of_word (get_or words 1 d).now ≡ Some side → Says (literals_in (nows rest)) (Err fault) → Says (cut_line_in (nows words)) (Err fault)
+  cut_line-faulty side (Code code) e h = first words long ∙ (λ i. cut_by (get_or words 0 d).now (e i) (h i))
+  cut_line-faulty side Memory e h = tt

@@ -1,7 +1,7 @@
 -- What the reader keeps: one more node, and the whole certificate.
 use Rattle.std.proofs.Common.{◌≡◌, ℕ, zero, suc, ◌+◌, ◌<◌, Bool, true, false, ◌||◌, ◌&&◌, not, List, [], ◌∷◌, ◌++◌, refl, sym, subst, ap, ◌∙◌, arith, if◌then◌else◌}
 use Rattle.std.proofs.lemmas.Bool.Decides.{Decides-eqb}
-use Rattle.std.specs.Prelude.{All, Option, Some, None, Ok, ◌==◌, option_to_list}
+use Rattle.std.specs.Prelude.{All, Option, Some, None, Result, Ok, Err, IfOk, ◌==◌, option_to_list}
 use Rattle.std.proofs.lemmas.List.Elements.{All-append}
 use Rattle.lp_model.specs.Edits.{Named}
 use Rattle.cert_text.specs.declared.cert.Claim.{Claim}
@@ -72,6 +72,29 @@ nil_right (x ∷ l) = ap (λ m. x ∷ m) (nil_right l)
 or_false : (b : Bool) → b ≡ (b || false)
 or_false true = refl
 or_false false = refl
+
+-- what follows from what a call gives, where it is handed on
+pub handed_on : {E P Q : Type 0} (r : Result (Unit {0}) E) → (P → Q) → IfOk r (λ _. P) → IfOk r (λ _. Q)
+handed_on (Ok done) f h = f h
+handed_on (Err e) f h = tt
+
+pub both_handed_on : {E P Q R : Type 0} (r : Result (Unit {0}) E) → (P → Q → R) → IfOk r (λ _. P) → IfOk r (λ _. Q) → IfOk r (λ _. R)
+both_handed_on (Ok done) f h k = f h k
+both_handed_on (Err e) f h k = tt
+
+-- a node is stated behind the others
+pub node_noted : (old : Reading) (node : CertNode) (new : StatedCertificate) → new ≡ record (held old) { count = old.count + 1; nodes = old.nodes ++ node ∷ [] } → new ≡ after (held old) (Ok (Node node))
+node_noted old node new is =
+    is
+    ∙ (λ i. record {
+      count = old.count + 1;
+      claims = nil_right (option_to_list old.claim) i;
+      points = nil_right (option_to_list old.point) i;
+      rays = nil_right (option_to_list old.ray) i;
+      cuts = nil_right old.cuts i;
+      nodes = old.nodes ++ node ∷ [];
+      ended = or_false old.ended i;
+    })
 
 abbrev claim_by : Bool → Bool → Bool → Option ℕ
 claim_by a b c = if a then Some 1 else if b then Some 8 else if c then None else Some 6

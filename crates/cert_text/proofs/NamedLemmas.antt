@@ -1,9 +1,11 @@
 -- Numbers beside names from the first one on, and what is gathered one after the other.
-use Rattle.std.proofs.Common.{◌≡◌, ℕ, ◌≤◌, ◌<◌, List, [], ◌∷◌, length, arith, ap, refl, Bor}
+use Rattle.std.proofs.Common.{◌≡◌, ℕ, ◌-◌, ◌≤◌, ◌<◌, List, [], ◌∷◌, length, get_or, take, drop, arith, ap, sym, refl, Bor}
+use Rattle.std.proofs.lemmas.Grind.{common_steps}
 use Rattle.std.proofs.Math.Nat.{min-eq_right}
 use Rattle.std.specs.Prelude.{map, Option, Some, None, Result, Ok, Err}
 use Rattle.std.specs.Option.{ForSome}
-use Rattle.cert_text.specs.Lines.{named_in}
+use Rattle.frac_text.specs.Parsing.{spelled_number}
+use Rattle.cert_text.specs.Lines.{beside, named_in}
 use Rattle.cert_text.specs.Reading.{joined_items}
 
 abbrev nows : List (Bor (List ℕ)) → List (List ℕ)
@@ -22,3 +24,12 @@ pub named_in-odd : (words : List (Bor (List ℕ))) → ¬ (length words ≡ 0) �
 named_in-odd [] some few = absurd (some refl)
 named_in-odd (a ∷ []) some few = refl
 named_in-odd (a ∷ b ∷ more) some few = absurd (omega arith)
+
+back : (a b : Bor (List ℕ)) (more : List (Bor (List ℕ))) → take (length (a ∷ b ∷ more) - 2) (drop 2 (a ∷ b ∷ more)) ≡ more
+back a b more = grind (arith, common_steps)
+
+pub named_in-first : (words : List (Bor (List ℕ))) (d e : Bor (List ℕ)) → 2 ≤ length words →
+    named_in (nows words) ≡ beside (get_or words 0 d).now (spelled_number (get_or words 1 e).now) (named_in (nows (take (length words - 2) (drop 2 words))))
+named_in-first [] d e h = absurd (omega arith)
+named_in-first (a ∷ []) d e h = absurd (omega arith)
+named_in-first (a ∷ b ∷ more) d e h = ap (λ ws. beside a.now (spelled_number b.now) (named_in (nows ws))) (sym (back a b more))

@@ -122,6 +122,15 @@ end_says words = Err 3
 
 -- ---- what a line says
 
+-- the first words from `end` on
+abbrev pub word_behind_leaf : List ℕ → Option LineWord
+word_behind_leaf first =
+    if bytes_eq first (codes "end") then Some word.End
+    else if bytes_eq first (codes "ray") then Some word.Ray
+    else if bytes_eq first (codes "cut") then Some word.Cut
+    else if bytes_eq first (codes "front") || bytes_eq first (codes "outcome") || bytes_eq first (codes "tree") then Some word.Foreign
+    else None
+
 -- words of certificates of other kinds stand in none of this one
 abbrev pub word_of : List ℕ → Option LineWord
 word_of first =

@@ -1,12 +1,12 @@
 // What the words of a cut's line say.
-ghost use Rattle.std.specs.Prelude.{◌≡◌, map};
+ghost use Rattle.std.specs.Prelude.{◌≡◌, ◌++◌, ◌∷◌, [], map, IfOk};
 ghost use Rattle.cert_text.specs.CutLines.{sign_in, literals_in, cut_line_in};
 ghost use Rattle.cert_text.specs.Reading.{Says};
 
 use crate::cert::NamedCut;
 use crate::line::LineFault;
 use lp_model::{List, Name, Side};
-use std::alloc::Global;
+use std::alloc::{AllocError, Global};
 
 /// Whether the sign of a literal is `+`, where it has a sign and a name.
 fn sign_in(word: &[u8]) -> Option<bool>
@@ -24,6 +24,19 @@ fn sign_in(word: &[u8]) -> Option<bool>
     }
 }
 
+/// One more literal.
+fn add_literal(
+    literals: &mut List<(Name, bool)>,
+    alloc: Global,
+    name: &[u8],
+    plus: bool,
+) -> Result<(), AllocError>
+    ensures { IfOk result (λ _. literals.new ≡ literals.old ++ (name.now, plus) ∷ []) }
+{
+    let name = Name::from_slice(alloc, name)?;
+    literals.push((name, plus))
+}
+
 /// `+NAME` and `-NAME` any number of times.
 fn literals_in(alloc: Global, words: &[&[u8]]) -> Result<List<(Name, bool)>, LineFault>
     ensures { Says (literals_in (map (λ word. word.now) words.now)) result }
@@ -31,10 +44,16 @@ fn literals_in(alloc: Global, words: &[&[u8]]) -> Result<List<(Name, bool)>, Lin
     let mut literals = List::new(alloc);
     for word in words {
         let Some(plus) = sign_in(word) else {
+            drop(literals);
             return Err(LineFault::Code(3));
         };
-        let name = Name::from_slice(alloc, &word[1..])?;
-        literals.push((name, plus))?;
+        match add_literal(&mut literals, alloc, &word[1..], plus) {
+            Ok(()) => {}
+            Err(_) => {
+                drop(literals);
+                return Err(LineFault::Memory);
+            }
+        }
     }
     Ok(literals)
 }
@@ -49,14 +68,23 @@ pub(crate) fn cut_in(alloc: Global, words: &[&[u8]]) -> Result<NamedCut, LineFau
     let Some(side) = Side::of_word(side) else {
         return Err(LineFault::Code(3));
     };
-    let literals = literals_in(alloc, more)?;
+    let literals = match literals_in(alloc, more) {
+        Ok(literals) => literals,
+        Err(fault) => return Err(fault),
+    };
     if literals.as_slice().is_empty() {
+        drop(literals);
         return Err(LineFault::Code(3));
     }
-    let row = Name::from_slice(alloc, row)?;
-    Ok(NamedCut {
-        row,
-        side,
-        literals,
-    })
+    match Name::from_slice(alloc, row) {
+        Ok(row) => Ok(NamedCut {
+            row,
+            side,
+            literals,
+        }),
+        Err(_) => {
+            drop(literals);
+            Err(LineFault::Memory)
+        }
+    }
 }

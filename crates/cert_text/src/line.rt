@@ -1,7 +1,7 @@
 // What one line of a certificate's text says.
-ghost use Rattle.std.specs.Prelude.{◌≡◌, map, IfOk, Ok};
+ghost use Rattle.std.specs.Prelude.{◌≡◌, bytes_eq, map, IfOk, Ok};
 ghost use Rattle.cert_text.specs.CutLines.{cut_line_in};
-ghost use Rattle.cert_text.specs.Lines.{begins_blank, ends_blank, is_whole, word_of, named_in, as_point, as_ray, as_cut, cert_says, claim_word, claim_says, split_at, split_says, leaf_says, end_says, word_says, words_say, line_says};
+ghost use Rattle.cert_text.specs.Lines.{begins_blank, ends_blank, is_whole, word_of, word_behind_leaf, named_in, as_point, as_ray, as_cut, cert_says, claim_word, claim_says, split_at, split_says, leaf_says, end_says, word_says, words_say, line_says};
 ghost use Rattle.cert_text.specs.Reading.{Says};
 ghost use Rattle.cert_text.specs.Whole.{IsNarrowStatement};
 
@@ -82,29 +82,42 @@ fn ends_blank(line: &[u8]) -> bool
     }
 }
 
+/// Whether a word is this one.
+pub(crate) fn is_word(key: &[u8], word: &[u8]) -> bool
+    ensures { result ≡ bytes_eq word.now key.now }
+{
+    word == key
+}
+
 fn line_word(word: &[u8]) -> Option<LineWord>
     ensures { result ≡ word_of word.now }
 {
-    if word == b"cert".as_slice() {
+    if is_word(b"cert", word) {
         Some(LineWord::Cert)
-    } else if word == b"claim".as_slice() {
+    } else if is_word(b"claim", word) {
         Some(LineWord::Claim)
-    } else if word == b"point".as_slice() {
+    } else if is_word(b"point", word) {
         Some(LineWord::Point)
-    } else if word == b"split".as_slice() {
+    } else if is_word(b"split", word) {
         Some(LineWord::Split)
-    } else if word == b"leaf".as_slice() {
+    } else if is_word(b"leaf", word) {
         Some(LineWord::Leaf)
-    } else if word == b"end".as_slice() {
+    } else {
+        word_behind_leaf(word)
+    }
+}
+
+/// The first word that a word is, where it is none up to `leaf`.
+fn word_behind_leaf(word: &[u8]) -> Option<LineWord>
+    ensures { result ≡ word_behind_leaf word.now }
+{
+    if is_word(b"end", word) {
         Some(LineWord::End)
-    } else if word == b"ray".as_slice() {
+    } else if is_word(b"ray", word) {
         Some(LineWord::Ray)
-    } else if word == b"cut".as_slice() {
+    } else if is_word(b"cut", word) {
         Some(LineWord::Cut)
-    } else if word == b"front".as_slice()
-        || word == b"outcome".as_slice()
-        || word == b"tree".as_slice()
-    {
+    } else if is_word(b"front", word) || is_word(b"outcome", word) || is_word(b"tree", word) {
         Some(LineWord::Foreign)
     } else {
         None
@@ -117,7 +130,7 @@ fn cert_says(words: &[&[u8]]) -> Result<Statement, LineFault>
     ensures narrow { IfOk result IsNarrowStatement }
 {
     match words {
-        [version] if *version == b"1".as_slice() => Ok(Statement::Header),
+        [version] if is_word(b"1", version) => Ok(Statement::Header),
         _ => Err(LineFault::Code(3)),
     }
 }
@@ -127,9 +140,9 @@ fn claim_word(kind: &[u8]) -> Result<Statement, LineFault>
     ensures says { Says (claim_word kind.now) result }
     ensures narrow { IfOk result IsNarrowStatement }
 {
-    if kind == b"infeasible".as_slice() {
+    if is_word(b"infeasible", kind) {
         Ok(Statement::Claims(Claim::Infeasible))
-    } else if kind == b"unbounded".as_slice() {
+    } else if is_word(b"unbounded", kind) {
         Ok(Statement::Claims(Claim::Unbounded))
     } else {
         Err(LineFault::Code(3))
@@ -143,7 +156,7 @@ fn claim_says(words: &[&[u8]]) -> Result<Statement, LineFault>
 {
     match words {
         [kind] => claim_word(kind),
-        [kind, number] if *kind == b"optimal".as_slice() => match frac_text::parse(number) {
+        [kind, number] if is_word(b"optimal", kind) => match frac_text::parse(number) {
             Ok(value) => Ok(Statement::Claims(Claim::Optimal(value))),
             Err(fault) => Err(LineFault::Code(number_code(fault))),
         },
@@ -189,8 +202,10 @@ fn split_at(alloc: Global, name: &[u8], value: &Frac) -> Result<Statement, LineF
     if v == i128::MAX {
         return Err(LineFault::Code(5));
     }
-    let col = Name::from_slice(alloc, name)?;
-    Ok(Statement::Node(CertNode::Split { col, v }))
+    match Name::from_slice(alloc, name) {
+        Ok(col) => Ok(Statement::Node(CertNode::Split { col, v })),
+        Err(_) => Err(LineFault::Memory),
+    }
 }
 
 fn is_whole(value: &Frac) -> bool
@@ -207,15 +222,19 @@ fn leaf_says(alloc: Global, words: &[&[u8]]) -> Result<Statement, LineFault>
     let [kind, more @ ..] = words else {
         return Err(LineFault::Code(3));
     };
-    if *kind == b"bound".as_slice() {
-        let mults = mults_in(alloc, more)?;
-        return Ok(Statement::Node(CertNode::Bound(mults)));
+    if is_word(b"bound", kind) {
+        return match mults_in(alloc, more) {
+            Ok(mults) => Ok(Statement::Node(CertNode::Bound(mults))),
+            Err(fault) => Err(fault),
+        };
     }
-    if *kind == b"farkas".as_slice() {
-        let mults = mults_in(alloc, more)?;
-        return Ok(Statement::Node(CertNode::Farkas(mults)));
+    if is_word(b"farkas", kind) {
+        return match mults_in(alloc, more) {
+            Ok(mults) => Ok(Statement::Node(CertNode::Farkas(mults))),
+            Err(fault) => Err(fault),
+        };
     }
-    if *kind == b"empty".as_slice() && more.is_empty() {
+    if is_word(b"empty", kind) && more.is_empty() {
         return Ok(Statement::Node(CertNode::Empty));
     }
     Err(LineFault::Code(3))
@@ -226,8 +245,10 @@ fn point_says(alloc: Global, words: &[&[u8]]) -> Result<Statement, LineFault>
     ensures says { Says (as_point (named_in (map (λ word. word.now) words.now))) result }
     ensures narrow { IfOk result IsNarrowStatement }
 {
-    let named = named_in(alloc, words)?;
-    Ok(Statement::Point(named))
+    match named_in(alloc, words) {
+        Ok(named) => Ok(Statement::Point(named)),
+        Err(fault) => Err(fault),
+    }
 }
 
 /// What `ray` with these further words says.
@@ -235,8 +256,10 @@ fn ray_says(alloc: Global, words: &[&[u8]]) -> Result<Statement, LineFault>
     ensures says { Says (as_ray (named_in (map (λ word. word.now) words.now))) result }
     ensures narrow { IfOk result IsNarrowStatement }
 {
-    let named = named_in(alloc, words)?;
-    Ok(Statement::Ray(named))
+    match named_in(alloc, words) {
+        Ok(named) => Ok(Statement::Ray(named)),
+        Err(fault) => Err(fault),
+    }
 }
 
 /// What `cut` with these further words says.
@@ -244,8 +267,10 @@ fn cut_says(alloc: Global, words: &[&[u8]]) -> Result<Statement, LineFault>
     ensures says { Says (as_cut (cut_line_in (map (λ word. word.now) words.now))) result }
     ensures narrow { IfOk result IsNarrowStatement }
 {
-    let cut = cut_in(alloc, words)?;
-    Ok(Statement::Cut(cut))
+    match cut_in(alloc, words) {
+        Ok(cut) => Ok(Statement::Cut(cut)),
+        Err(fault) => Err(fault),
+    }
 }
 
 /// What a known first word with these further words says.

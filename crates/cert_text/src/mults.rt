@@ -8,7 +8,7 @@ ghost use Rattle.cert_text.specs.Mults.{are_plain_digits, number_of_cut, row_mul
 ghost use Rattle.cert_text.specs.Reading.{Says, joined_items};
 
 use crate::cert::CertMult;
-use crate::line::LineFault;
+use crate::line::{LineFault, is_word};
 use crate::named::{Gathered, number_code};
 use lp_model::{List, Name};
 use std::alloc::{AllocError, Global};
@@ -77,10 +77,10 @@ fn row_mult(alloc: Global, name: &[u8], number: &[u8]) -> Result<CertMult, LineF
     ensures { Says (row_mult name.now (spelled_number number.now)) result }
 {
     match frac_text::parse(number) {
-        Ok(value) => {
-            let name = Name::from_slice(alloc, name)?;
-            Ok(CertMult::Row(name, value))
-        }
+        Ok(value) => match Name::from_slice(alloc, name) {
+            Ok(name) => Ok(CertMult::Row(name, value)),
+            Err(_) => Err(LineFault::Memory),
+        },
         Err(fault) => Err(LineFault::Code(number_code(fault))),
     }
 }
@@ -105,9 +105,9 @@ fn cut_mult(word: &[u8], number: &[u8]) -> Result<CertMult, LineFault>
 fn mult_in(alloc: Global, key: &[u8], word: &[u8], number: &[u8]) -> Result<CertMult, LineFault>
     ensures { Says (mult_in key.now word.now number.now) result }
 {
-    if key == b"row".as_slice() {
+    if is_word(b"row", key) {
         row_mult(alloc, word, number)
-    } else if key == b"cut".as_slice() {
+    } else if is_word(b"cut", key) {
         cut_mult(word, number)
     } else {
         Err(LineFault::Code(3))
@@ -144,12 +144,18 @@ pub(crate) fn mults_in(alloc: Global, words: &[&[u8]]) -> Result<List<CertMult>,
     let mut gathered = Gathered::new(alloc);
     let mut rest = words;
     while let [key, word, number, more @ ..] = rest {
-        add_mult(&mut gathered, alloc, key, word, number)?;
-        rest = more;
+        match add_mult(&mut gathered, alloc, key, word, number) {
+            Ok(()) => rest = more,
+            Err(_) => {
+                drop(gathered);
+                return Err(LineFault::Memory);
+            }
+        }
     }
     if rest.is_empty() {
         gathered.into_items()
     } else {
+        drop(gathered);
         Err(LineFault::Code(3))
     }
 }

@@ -116,12 +116,18 @@ pub(crate) fn named_in(alloc: Global, words: &[&[u8]]) -> Result<List<(Name, Fra
     let mut gathered = Gathered::new(alloc);
     let mut rest = words;
     while let [name, number, more @ ..] = rest {
-        add_named(&mut gathered, alloc, name, number)?;
-        rest = more;
+        match add_named(&mut gathered, alloc, name, number) {
+            Ok(()) => rest = more,
+            Err(_) => {
+                drop(gathered);
+                return Err(LineFault::Memory);
+            }
+        }
     }
     if rest.is_empty() {
         gathered.into_items()
     } else {
+        drop(gathered);
         Err(LineFault::Code(3))
     }
 }

@@ -34,15 +34,23 @@ fn pieces(alloc: Global, text: &[u8]) -> Result<Vec<&[u8]>, AllocError>
 fn line_bytes(alloc: Global, text: &[u8]) -> Result<Vec<&[u8]>, AllocError>
     ensures { IfOk result (λ lines. map (λ line. line.now) lines.items ≡ line_bytes text.now) }
 {
-    let mut lines = pieces(alloc, text)?;
+    let mut lines = match pieces(alloc, text) {
+        Ok(lines) => lines,
+        Err(error) => return Err(error),
+    };
     let Some(last) = lines.pop() else {
         return Ok(lines);
     };
     if last.is_empty() {
         return Ok(lines);
     }
-    lines.push(last)?;
-    Ok(lines)
+    match lines.push(last) {
+        Ok(()) => Ok(lines),
+        Err(_) => {
+            drop(lines);
+            Err(AllocError)
+        }
+    }
 }
 
 /// One more line, whose number is `number`.
@@ -66,6 +74,7 @@ fn read_line(
         }
     };
     if let Some(code) = reading.statement_code(&statement) {
+        drop(statement);
         return Err(CertFault::Bad { line: number, code });
     }
     match reading.note(statement) {
@@ -82,6 +91,7 @@ fn read_lines(alloc: Global, lines: &[&[u8]]) -> Result<Reading, CertFault>
     let mut reading = Reading::new(alloc);
     for (index, line) in lines.iter().enumerate() {
         if let Err(fault) = read_line(alloc, &mut reading, line, index as u64 + 1) {
+            drop(reading);
             return Err(fault);
         }
     }
@@ -97,12 +107,15 @@ pub fn read_cert(alloc: Global, text: &[u8]) -> Result<Cert, CertFault>
     let Ok(lines) = line_bytes(alloc, text) else {
         return Err(CertFault::Memory);
     };
-    let reading = match read_lines(alloc, &lines) {
+    let line = lines.len() as u64 + 1;
+    let read = read_lines(alloc, &lines);
+    drop(lines);
+    let reading = match read {
         Ok(reading) => reading,
         Err(fault) => return Err(fault),
     };
     if let Some(code) = reading.end_code() {
-        let line = lines.len() as u64 + 1;
+        drop(reading);
         return Err(CertFault::Bad { line, code });
     }
     Ok(reading.into_cert(alloc))

@@ -269,10 +269,10 @@ impl Reading {
         match statement {
             Statement::Claims(claim) => self.claim = Some(claim),
             Statement::Point(point) => self.point = Some(point),
-            Statement::Node(node) => self.add_node(node)?,
+            Statement::Node(node) => return self.add_node(node),
             Statement::End => self.ended = true,
             Statement::Ray(ray) => self.ray = Some(ray),
-            Statement::Cut(cut) => self.cuts.push(cut)?,
+            Statement::Cut(cut) => return self.cuts.push(cut),
             Statement::Header | Statement::Foreign => {}
         }
         Ok(())

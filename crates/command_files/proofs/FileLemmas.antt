@@ -22,6 +22,11 @@ pub on_err : {E P Q : Type 0} (r : Result (Unit {0}) E) → (P → Q) → OnErr 
 on_err (Ok done) f h = tt
 on_err (Err e) f h = f h
 
+-- a text, as far as there was memory for it
+pub text-written : {E : Type 0} (r : Result (Unit {0}) E) (before after text : List ℕ) → after ≡ (if is_ok r then before ++ text else before) → IfOk r (λ _. after ≡ before ++ text)
+text-written (Ok done) before after text e = e
+text-written (Err f) before after text e = tt
+
 -- ---- the file
 
 pub told : {E P : Type 0} (r : Result (Unit {0}) E) (old new text : List ℕ) → new ≡ (if is_ok r then old ++ text else old) → old ≡ [] → (new ≡ text → P) → OnOk r P

@@ -36,9 +36,16 @@ fn read_certificate<S: Store>(alloc: Global, store: &mut S, name: &str) -> Resul
     ensures kept { S.files store.new ≡ S.files store.old }
     ensures later { S.faults store.old ≤ S.faults store.new }
 {
-    let text = store.get(alloc, name)?;
-    let cert = read_cert(alloc, &text)?;
-    Ok(cert)
+    let text = match store.get(alloc, name) {
+        Ok(text) => text,
+        Err(fault) => return Err(Refusal::from(fault)),
+    };
+    let cert = read_cert(alloc, &text);
+    drop(text);
+    match cert {
+        Ok(cert) => Ok(cert),
+        Err(fault) => Err(Refusal::from(fault)),
+    }
 }
 
 /// Judges a certificate.
@@ -55,8 +62,7 @@ fn write_accepted_value(reply: &mut Vec<u8>, value: &Frac) -> Result<(), AllocEr
 {
     reply.extend_from_slice(b"accepted optimal ")?;
     value.write_to(reply)?;
-    reply.extend_from_slice(b"\n")?;
-    Ok(())
+    reply.extend_from_slice(b"\n")
 }
 
 /// The claim that is accepted.
@@ -79,8 +85,7 @@ fn write_rejected(reply: &mut Vec<u8>, node: u64, why: u8) -> Result<(), AllocEr
     reply.extend_from_slice(digits.format(node).as_bytes())?;
     reply.extend_from_slice(b" ")?;
     reply.extend_from_slice(digits.format(why).as_bytes())?;
-    reply.extend_from_slice(b"\n")?;
-    Ok(())
+    reply.extend_from_slice(b"\n")
 }
 
 /// The first node with a step of arithmetic that has no room, and the step.
@@ -97,8 +102,7 @@ fn write_wide(
     reply.extend_from_slice(digits.format(node).as_bytes())?;
     reply.extend_from_slice(b" ")?;
     write_step(reply, model, step)?;
-    reply.extend_from_slice(b"\n")?;
-    Ok(())
+    reply.extend_from_slice(b"\n")
 }
 
 fn write_verdict(reply: &mut Vec<u8>, model: &Model, verdict: &Verdict) -> Result<(), AllocError>

@@ -75,7 +75,14 @@ pub fn read_model<S: Store>(
     ensures kept { S.files store.new ≡ S.files store.old }
     ensures later { S.faults store.old ≤ S.faults store.new }
 {
-    let text = store.get(alloc, file_name(name))?;
-    let model = read(alloc, &text, intupper)?;
-    Ok(model)
+    let text = match store.get(alloc, file_name(name)) {
+        Ok(text) => text,
+        Err(fault) => return Err(Refusal::from(fault)),
+    };
+    let model = read(alloc, &text, intupper);
+    drop(text);
+    match model {
+        Ok(model) => Ok(model),
+        Err(fault) => Err(Refusal::from(fault)),
+    }
 }

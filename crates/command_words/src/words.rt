@@ -1,7 +1,7 @@
 // What the words of a line ask for.
-ghost use Rattle.std.specs.Prelude.{◌≡◌, true, map, [], ◌∷◌};
+ghost use Rattle.std.specs.Prelude.{◌≡◌, true, map, [], ◌∷◌, bytes_eq};
 ghost use Rattle.std.specs.List.{list_all};
-ghost use Rattle.command_words.specs.Names.{command_of, begins_name, is_file_name_byte, is_file_name, whole_number_of};
+ghost use Rattle.command_words.specs.Names.{command_of, command_behind_trim, command_behind_lbobj, begins_name, is_file_name_byte, is_file_name, whole_number_of};
 ghost use Rattle.command_words.specs.Asks.{Trim, no_limit, with_number, asks_of, asks_shown, load_asks, restore_asks, trim_asks, one_limit_asks, two_limits_asks, both_limits_asks, search_asks, begun_asks, solve_asks, warm_asks, filed_asks, file_asks, save_asks, cert_asks, write_asks, quit_asks, known_asks, NamesFile};
 
 /// A limit that isn't named.
@@ -124,37 +124,62 @@ pub enum Asked<'a> {
     },
 }
 
+/// Whether a word is this one.
+fn is_word(key: &[u8], word: &[u8]) -> bool
+    ensures { result ≡ bytes_eq word.now key.now }
+{
+    word == key
+}
+
 /// The command that a first word names.
 fn command_named(word: &[u8]) -> Option<CommandName>
     ensures { result ≡ command_of word.now }
 {
-    if word == b"load".as_slice() {
+    if is_word(b"load", word) {
         Some(CommandName::Load)
-    } else if word == b"solve".as_slice() {
+    } else if is_word(b"solve", word) {
         Some(CommandName::Solve)
-    } else if word == b"warm".as_slice() {
+    } else if is_word(b"warm", word) {
         Some(CommandName::Warm)
-    } else if word == b"edit".as_slice() {
+    } else if is_word(b"edit", word) {
         Some(CommandName::Edit)
-    } else if word == b"trim".as_slice() {
+    } else if is_word(b"trim", word) {
         Some(CommandName::Trim)
-    } else if word == b"save".as_slice() {
+    } else {
+        command_behind_trim(word)
+    }
+}
+
+/// The command that a word names which names none up to `trim`.
+fn command_behind_trim(word: &[u8]) -> Option<CommandName>
+    ensures { result ≡ command_behind_trim word.now }
+{
+    if is_word(b"save", word) {
         Some(CommandName::Save)
-    } else if word == b"restore".as_slice() {
+    } else if is_word(b"restore", word) {
         Some(CommandName::Restore)
-    } else if word == b"lbrhs".as_slice() {
+    } else if is_word(b"lbrhs", word) {
         Some(CommandName::Bound(OptimumBound::Lower, NewNumbers::Sides))
-    } else if word == b"lbobj".as_slice() {
+    } else if is_word(b"lbobj", word) {
         Some(CommandName::Bound(OptimumBound::Lower, NewNumbers::Costs))
-    } else if word == b"ubrhs".as_slice() {
+    } else {
+        command_behind_lbobj(word)
+    }
+}
+
+/// The command that a word names which names none up to `lbobj`.
+fn command_behind_lbobj(word: &[u8]) -> Option<CommandName>
+    ensures { result ≡ command_behind_lbobj word.now }
+{
+    if is_word(b"ubrhs", word) {
         Some(CommandName::Bound(OptimumBound::Upper, NewNumbers::Sides))
-    } else if word == b"ubobj".as_slice() {
+    } else if is_word(b"ubobj", word) {
         Some(CommandName::Bound(OptimumBound::Upper, NewNumbers::Costs))
-    } else if word == b"cert".as_slice() {
+    } else if is_word(b"cert", word) {
         Some(CommandName::Cert)
-    } else if word == b"write".as_slice() {
+    } else if is_word(b"write", word) {
         Some(CommandName::Write)
-    } else if word == b"quit".as_slice() {
+    } else if is_word(b"quit", word) {
         Some(CommandName::Quit)
     } else {
         None
@@ -222,7 +247,7 @@ fn whole_number(word: &[u8]) -> Option<u64>
 fn bounded_load<'a>(file: &'a [u8], key: &[u8], number: &'a [u8]) -> Asked<'a>
     ensures { asks_shown result ≡ load_asks (file.now ∷ key.now ∷ number.now ∷ []) }
 {
-    if !(is_file_name_word(file) && key == b"intupper".as_slice()) {
+    if !(is_file_name_word(file) && is_word(b"intupper", key)) {
         return Asked::Misused;
     }
     match whole_number(number) {
@@ -293,9 +318,9 @@ fn pivots_limited(beginning: Beginning, number: &[u8]) -> Asked<'_>
 fn one_limit<'a>(beginning: Beginning, key: &[u8], number: &'a [u8]) -> Asked<'a>
     ensures { asks_shown result ≡ one_limit_asks (begun_asks beginning) key.now number.now }
 {
-    if key == b"nodes".as_slice() {
+    if is_word(b"nodes", key) {
         nodes_limited(beginning, number)
-    } else if key == b"pivots".as_slice() {
+    } else if is_word(b"pivots", key) {
         pivots_limited(beginning, number)
     } else {
         Asked::Misused
@@ -338,9 +363,9 @@ fn both_limits<'a>(
 ) -> Asked<'a>
     ensures { asks_shown result ≡ both_limits_asks (begun_asks beginning) key.now number.now other.now more.now }
 {
-    if key == b"nodes".as_slice() && other == b"pivots".as_slice() {
+    if is_word(b"nodes", key) && is_word(b"pivots", other) {
         nodes_first(beginning, number, more)
-    } else if key == b"pivots".as_slice() && other == b"nodes".as_slice() {
+    } else if is_word(b"pivots", key) && is_word(b"nodes", other) {
         pivots_first(beginning, number, more)
     } else {
         Asked::Misused
@@ -461,7 +486,7 @@ fn depth_named(number: &[u8]) -> Asked<'_>
 fn deep_trim<'a>(key: &[u8], number: &'a [u8]) -> Asked<'a>
     ensures { asks_shown result ≡ trim_asks (key.now ∷ number.now ∷ []) }
 {
-    if key == b"depth".as_slice() {
+    if is_word(b"depth", key) {
         depth_named(number)
     } else {
         Asked::Misused

@@ -1,6 +1,7 @@
 -- Candidates by the entries of a row.
-use Rattle.std.specs.Prelude.{ℕ, zero, suc, ◌≤◌, List, [], ◌∷◌, ◌++◌, length, All}
-use Rattle.std.proofs.Common.{refl, sym, subst, inl, inr, arith}
+use Rattle.std.specs.Prelude.{◌≡◌, ℕ, zero, suc, ◌+◌, ◌<◌, ◌≤◌, List, [], ◌∷◌, ◌++◌, length, map, take, get_or, All}
+use Rattle.std.proofs.Common.{refl, sym, ap, subst, ◌∙◌, inl, inr, arith}
+use Rattle.std.proofs.lemmas.List.{take_more, map-append}
 use Rattle.std.proofs.lemmas.List.Elements.{All-nil, All-push, All-map}
 use Rattle.std.proofs.lemmas.List.Sorted.{All-permutation}
 use Rattle.rational.specs.Rational.{ℚ}
@@ -50,3 +51,9 @@ module _ (M : Program) (i : ℕ) (s : Side) (x : Point) where
   order_candidates order o =
       subst (AreCandidateColumns M i s) (sym o.columns)
       (All-map (IsCandidateColumn M i s) (λ r. r.1) o.ranked (All-permutation (λ r. IsCandidateColumn M i s r.1) o.found o.ranked o.permuted (candidate_columns (length M.cols) (omega arith) o.found o.candidates)))
+
+-- ---- the columns of candidates
+
+pub columns_more : (xs : List (ℚ × ℕ)) (k : ℕ) (d : ℚ × ℕ) (ys after : List ℕ) → k < length xs → after ≡ ys ++ (get_or xs k d).1 ∷ [] → ys ≡ map (λ r. r.1) (take k xs) → after ≡ map (λ r. r.1) (take (k + 1) xs)
+columns_more xs k d ys after below pushed same =
+    pushed ∙ ap (λ zs. zs ++ (get_or xs k d).1 ∷ []) same ∙ sym (ap (map (λ (r : ℚ × ℕ). r.1)) (take_more xs k d below) ∙ map-append (λ (r : ℚ × ℕ). r.1) (take k xs) (get_or xs k d ∷ []))

@@ -1,5 +1,6 @@
 -- The literals of a list of columns, by column, and the sum of least contributions with one literal more.
-use Rattle.std.specs.Prelude.{◌≡◌, ◌≢◌, ℕ, zero, suc, ◌<◌, ◌≤◌, Bool, true, false, not, cond, if◌then◌else◌, nat_eq, List, [], ◌∷◌, ◌++◌, length, pos, All, Option, Some, None, IsSome}
+use Rattle.std.specs.Prelude.{◌≡◌, ◌≢◌, ℕ, zero, suc, ◌<◌, ◌≤◌, Bool, true, false, not, cond, if◌then◌else◌, nat_eq, List, [], ◌∷◌, ◌++◌, length, pos, All, Option, Some, None, IsSome, ◌+◌, drop, get_or}
+use Rattle.std.proofs.lemmas.List.{drop_more}
 use Rattle.std.proofs.Common.{refl, sym, ap, subst, ◌∙◌, inl, inr, arith, eq-eqb, ne_eqb, eqb-true}
 use Rattle.std.proofs.lemmas.Bool.{cases_order}
 use Rattle.std.proofs.lemmas.List.Elements.{All-nil, All-head, All-tail, All-push, All-weaker}
@@ -20,6 +21,17 @@ use Rattle.cut_find.proofs.RowLemmas.{across, side_none}
 use Rattle.cut_find.proofs.SumLemmas.{sum_changed}
 
 -- ---- lists of columns
+
+-- the list from a place on, whose first column is another one, or is it
+module _ (js : List ℕ) (k j : ℕ) (below : k < length js) where
+  from_there : is_in (drop k js) j ≡ (if nat_eq (get_or js k 0) j then true else is_in (drop (k + 1) js) j)
+  from_there = ap (λ t. is_in t j) (drop_more js k 0 below)
+
+  pub in_later : get_or js k 0 ≢ j → is_in (drop k js) j ≡ is_in (drop (k + 1) js) j
+  in_later apart = from_there ∙ ap (λ b. if b then true else is_in (drop (k + 1) js) j) (ne_eqb (get_or js k 0) j apart)
+
+  pub in_here : get_or js k 0 ≡ j → is_in (drop k js) j ≡ true
+  in_here same = from_there ∙ ap (λ b. if b then true else is_in (drop (k + 1) js) j) (eq-eqb (get_or js k 0) j same)
 
 pub in_pushed : (js : List ℕ) (j : ℕ) → is_in (js ++ j ∷ []) j ≡ true
 in_pushed [] j = ap (λ b. if b then true else false) (eq-eqb j j refl)

@@ -1,5 +1,5 @@
 -- The sums of a side over a denominator, with one column more.
-use Rattle.std.specs.Prelude.{◌≡◌, ◌^◌, ℕ, suc, ◌+◌, ◌<◌, ◌≤◌, Bool, true, false, if◌then◌else◌, ℤ, pos, ◌<ℤ◌, ◌+ℤ◌, ◌*ℤ◌, unsigned_abs, IsSome, List, [], ◌∷◌, length, Option, Some}
+use Rattle.std.specs.Prelude.{◌≡◌, ◌^◌, ℕ, suc, ◌+◌, ◌<◌, ◌≤◌, Bool, true, false, if◌then◌else◌, ℤ, pos, ◌<ℤ◌, ◌+ℤ◌, ◌-ℤ◌, ◌*ℤ◌, unsigned_abs, IsSome, List, [], ◌∷◌, length, Option, Some}
 use Rattle.std.proofs.Common.{refl, sym, ap, subst, ◌∙◌, arith, below_more}
 use Rattle.std.proofs.lemmas.Int.{ints}
 use Rattle.rational.specs.Rational.{ℚ, int, ◌<ℚ◌}
@@ -21,6 +21,10 @@ use Rattle.cut_find.specs.WholeSides.{contributions, IsSumWithin, AreSumsTo}
 use Rattle.cut_find.proofs.RowLemmas.{across, side_none}
 use Rattle.cut_find.proofs.CoverLemmas.{number_in, number_out}
 use Rattle.cut_find.proofs.SumLemmas.{turned_term}
+
+-- what is left above a limit has room
+pub less_room : (left weight limit : ℤ) → HasRoomForProduct left → IsFactor limit → limit <ℤ (left -ℤ pos (unsigned_abs weight)) → HasRoomForProduct (left -ℤ pos (unsigned_abs weight))
+less_room left weight limit room factor less = omega (arith, ints, room, factor, less)
 
 needed_none : (y : ℚ) (lo up : Option ℚ) → y ≡ int (pos 0) → IsSome (needed_side y lo up)
 needed_none y lo up e = subst IsSome (needed-zero y lo up (λ h. <ℚ_irrefl (subst (λ q. int (pos 0) <ℚ q) e h)) (λ h. <ℚ_irrefl (subst (λ q. q <ℚ int (pos 0)) e h))) refl

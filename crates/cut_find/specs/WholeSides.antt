@@ -1,7 +1,7 @@
 -- A side of a row in whole numbers over one denominator: the sums of least contributions of all covers, without greatest common
 -- divisors.
 --     a literal that is taken adds the size of its column's coefficient to the sum
-use Rattle.std.specs.Prelude.{◌≡◌, ◌≢◌, ◌^◌, ◌<◌, ◌≤◌, ℕ, ℤ, pos, unsigned_abs, false, List, [], length, get_or, take, All, Option, Some, None, IsSome, Ok}
+use Rattle.std.specs.Prelude.{◌≡◌, ◌≢◌, ◌⊎◌, ◌^◌, ◌<◌, ◌≤◌, ℕ, ℤ, pos, ◌-ℤ◌, ◌<ℤ◌, unsigned_abs, false, List, [], length, get_or, set, take, All, Option, Some, None, IsSome, Ok}
 use Rattle.rational.specs.Rational.{ℚ, int}
 use Rattle.frac128.specs.LowestTerms.{quotient_of}
 use Rattle.checked_sum.specs.Steps.{AllFit, partial}
@@ -46,6 +46,10 @@ pub record IsMarkOf (M : Program) (i : ℕ) (s : Side) (d : ℤ) (js : List ℕ)
 
 abbrev pub mark_at : List Mark → ℕ → Mark
 mark_at marks j = get_or marks j (record { weight = pos 0; taken = false })
+
+-- a total without the size of a column's weight
+abbrev pub rest_without : List Mark → ℕ → ℤ → ℤ
+rest_without marks j total = total -ℤ pos (unsigned_abs (mark_at marks j).weight)
 
 -- the marks of the first n columns, where these have a coefficient
 abbrev pub AreMarksTo : Program → ℕ → Side → ℤ → List ℕ → ℕ → List Mark → Type 0
@@ -107,6 +111,12 @@ abbrev pub IsTakingAnswer : Program → ℕ → Side → WholeSide → List ℕ 
 IsTakingAnswer M i s side order marks Unknown = Unit {0}
 IsTakingAnswer M i s side order marks Never = TakesGreedily M i s [] order None
 IsTakingAnswer M i s side order marks (Cover count total) = IsTaken M i s side order marks count total
+
+-- what is left of a total, and the marks, where a column is dropped if the rest still passes the limit
+abbrev pub IsLeftOver : ℤ → List Mark → ℕ → ℤ → ℤ → List Mark → Type 0
+IsLeftOver limit old j left next new =
+    ((limit <ℤ rest_without old j left) × (next ≡ rest_without old j left) × (new ≡ set old j (record { weight = (mark_at old j).weight; taken = false })))
+    ⊎ ((¬ (limit <ℤ rest_without old j left)) × (next ≡ left) × (new ≡ old))
 
 -- what is left of what was taken
 pub record IsDropped (M : Program) (i : ℕ) (s : Side) (side : WholeSide) (taken : List ℕ) (marks : List Mark) : Type 0 where

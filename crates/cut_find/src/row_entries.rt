@@ -11,9 +11,18 @@ pub fn row_entries(alloc: Global, model: &Model) -> Result<Vec<List<(usize, Frac
     ensures long { IfOk result (λ v. length v.items ≡ length model.now.rows) }
     ensures entries { IfOk result (λ v. AreRowsTo model.now (length model.now.cols) v.items) }
 {
-    let mut rows = empty_lists(alloc, model.rows().len())?;
+    let mut rows = match empty_lists(alloc, model.rows().len()) {
+        Ok(rows) => rows,
+        Err(error) => return Err(error),
+    };
     for col in 0..model.cols().len() {
-        add_column(model, col, &mut rows)?;
+        match add_column(model, col, &mut rows) {
+            Ok(()) => {}
+            Err(error) => {
+                drop(rows);
+                return Err(error);
+            }
+        }
     }
     Ok(rows)
 }
@@ -24,7 +33,13 @@ fn empty_lists(alloc: Global, count: usize) -> Result<Vec<List<(usize, Frac)>>, 
 {
     let mut lists = Vec::new(alloc);
     for _ in 0..count {
-        lists.push(List::new(alloc))?;
+        match lists.push(List::new(alloc)) {
+            Ok(()) => {}
+            Err(error) => {
+                drop(lists);
+                return Err(error.into());
+            }
+        }
     }
     Ok(lists)
 }
@@ -38,7 +53,10 @@ fn add_column(model: &Model, col: usize, rows: &mut [List<(usize, Frac)>]) -> Re
 {
     for entry in model.cols()[col].rows.as_slice() {
         let row = &mut rows[entry.0.0 as usize];
-        row.push((col, entry.1))?;
+        match row.push((col, entry.1)) {
+            Ok(()) => {}
+            Err(error) => return Err(error),
+        }
     }
     Ok(())
 }

@@ -1,11 +1,11 @@
 // The greedy cover of a side in whole numbers: one addition for each column that is taken, one subtraction for each that may
 // be dropped.
-ghost use Rattle.std.specs.Prelude.{◌≡◌, ◌+ℤ◌, ◌-ℤ◌, ◌<ℤ◌, ℕ, ℤ, List as Items, [], length, pos, unsigned_abs, IsTrue, IfSome, IfOk, Some};
+ghost use Rattle.std.specs.Prelude.{◌≡◌, ◌↔◌, ◌+ℤ◌, ◌-ℤ◌, ◌<◌, ◌<ℤ◌, ℕ, ℤ, List as Items, [], length, set, pos, unsigned_abs, true, false, IsTrue, IfSome, IfOk, Some};
 ghost use Rattle.cover_cuts.specs.Covers.{side_limit};
 ghost use Rattle.leaf_dual.specs.Wholes.{IsFactor, HasRoomForProduct};
 ghost use Rattle.cut_find.specs.Greedy.{cover_of};
 ghost use Rattle.cut_find.specs.RowEntries.{AreEntriesOf};
-ghost use Rattle.cut_find.specs.WholeSides.{AreCandidateColumns, IsFoundInOrder, AreMarksOf, IsWholeSide, IsWholeCover, IsTakingAnswer, IsDropped};
+ghost use Rattle.cut_find.specs.WholeSides.{AreCandidateColumns, IsFoundInOrder, AreMarksOf, mark_at, IsWholeSide, IsWholeCover, IsTakingAnswer, IsLeftOver, IsDropped};
 
 use crate::candidates::RowSide;
 use crate::greedy_cover::violated;
@@ -48,6 +48,64 @@ fn with_size(total: i128, weight: i64) -> Option<i128>
     if next <= MARGIN { Some(next) } else { None }
 }
 
+impl WholeSide {
+    /// Whether a total passes the limit.
+    fn is_passed(&self, total: i128) -> bool
+        requires { IsFactor self.now.limit }
+        ensures { IsTrue result ↔ (self.now.limit <ℤ total) }
+    {
+        i128::from(self.limit) < total
+    }
+}
+
+/// Marks a column as taken, and adds its weight's size to the total. None where it was taken before, or there is no room.
+fn take_mark(marks: &mut [Mark], col: usize, total: i128) -> Option<i128>
+    requires within { col < length marks.old }
+    requires factor { IsFactor (mark_at marks.old col).weight }
+    requires total { HasRoomForProduct total }
+    ensures fresh { IfSome result (λ _. (mark_at marks.old col).taken ≡ false) }
+    ensures marks { IfSome result (λ _. marks.new ≡ set marks.old col (record { weight = (mark_at marks.old col).weight; taken = true })) }
+    ensures value { IfSome result (λ next. next ≡ total +ℤ pos (unsigned_abs (mark_at marks.old col).weight)) }
+    ensures room { IfSome result (λ next. HasRoomForProduct next) }
+{
+    let mark = marks[col];
+    if mark.taken {
+        return None;
+    }
+    let Some(next) = with_size(total, mark.weight) else {
+        return None;
+    };
+    marks[col] = Mark {
+        weight: mark.weight,
+        taken: true,
+    };
+    Some(next)
+}
+
+/// Takes a column's mark away where the rest is still a cover, and says what is left of the total. None where it has no mark.
+fn drop_mark(side: &WholeSide, marks: &mut [Mark], col: usize, left: i128) -> Option<i128>
+    requires limit { IsFactor side.now.limit }
+    requires within { col < length marks.old }
+    requires factor { IsFactor (mark_at marks.old col).weight }
+    requires left { HasRoomForProduct left }
+    ensures taken { IfSome result (λ _. (mark_at marks.old col).taken ≡ true) }
+    ensures left { IfSome result (λ next. IsLeftOver side.now.limit marks.old col left next marks.new) }
+{
+    let mark = marks[col];
+    if !mark.taken {
+        return None;
+    }
+    let rest = left - size(mark.weight);
+    if side.is_passed(rest) {
+        marks[col] = Mark {
+            weight: mark.weight,
+            taken: false,
+        };
+        return Some(rest);
+    }
+    Some(left)
+}
+
 impl RowSide<'_> {
     /// The first columns of the order that make a cover, which are then marked as taken. A column that comes again says nothing.
     fn take_marked(&self, side: &WholeSide, order: &[usize], marks: &mut [Mark]) -> Taking
@@ -59,27 +117,18 @@ impl RowSide<'_> {
     {
         let mut total = side.base;
         for place in 0..order.len() {
-            if i128::from(side.limit) < total {
+            if side.is_passed(total) {
                 return Taking::Cover {
                     count: place,
                     total,
                 };
             }
-            let col = order[place];
-            let mark = marks[col];
-            if mark.taken {
-                return Taking::Unknown;
-            }
-            match with_size(total, mark.weight) {
+            match take_mark(marks, order[place], total) {
                 None => return Taking::Unknown,
                 Some(next) => total = next,
             }
-            marks[col] = Mark {
-                weight: mark.weight,
-                taken: true,
-            };
         }
-        if i128::from(side.limit) < total {
+        if side.is_passed(total) {
             Taking::Cover {
                 count: order.len(),
                 total,
@@ -104,18 +153,9 @@ impl RowSide<'_> {
     {
         let mut left = total;
         for place in 0..taken.len() {
-            let col = taken[place];
-            let mark = marks[col];
-            if !mark.taken {
-                return false;
-            }
-            let rest = left - size(mark.weight);
-            if i128::from(side.limit) < rest {
-                left = rest;
-                marks[col] = Mark {
-                    weight: mark.weight,
-                    taken: false,
-                };
+            match drop_mark(side, marks, taken[place], left) {
+                None => return false,
+                Some(rest) => left = rest,
             }
         }
         true
@@ -130,7 +170,13 @@ impl RowSide<'_> {
         let mut literals = List::new(alloc);
         for entry in self.entries {
             if marks[entry.0].taken {
-                literals.push(self.entry_literal(entry))?;
+                match literals.push(self.entry_literal(entry)) {
+                    Ok(()) => {}
+                    Err(error) => {
+                        drop(literals);
+                        return Err(error);
+                    }
+                }
             }
         }
         Ok(Derivation {
@@ -182,8 +228,10 @@ impl RowSide<'_> {
                 if !self.drop_marked(side, &order[..count], total, marks) {
                     return Ok(None);
                 }
-                let cover = self.marked_cover(alloc, marks)?;
-                Ok(Some(violated(self.numbers, cover)))
+                match self.marked_cover(alloc, marks) {
+                    Ok(cover) => Ok(Some(violated(self.numbers, cover))),
+                    Err(error) => Err(error),
+                }
             }
         }
     }

@@ -10,8 +10,8 @@ ghost use Rattle.cut_find.specs.RowEntries.{AreEntriesOf};
 ghost use Rattle.cut_find.specs.WholeSides.{AreMarksOf, AreSumsTo, IsWholeSide};
 
 use crate::candidates::{RowSide, signed};
-use crate::whole_numbers::{common_multiple, factor_over, whole_factor, wide_product};
 use frac128::Frac;
+use leaf_dual::{common_multiple, factor_over, whole_factor, wide_product};
 use lp_model::Bound;
 
 /// Sums are at most of this size.
@@ -111,7 +111,9 @@ impl RowSide<'_> {
         requires sums { AreSumsTo self.now.model.now self.now.row.0 self.now.side denominator col sums }
         ensures { IfSome result (AreSumsTo self.now.model.now self.now.row.0 self.now.side denominator (suc col)) }
     {
-        let bound = self.bound_number(weight, col)?;
+        let Some(bound) = self.bound_number(weight, col) else {
+            return None;
+        };
         let product = wide_product(weight, bound);
         let size = sums.size + product.unsigned_abs() + u128::from(weight.unsigned_abs());
         if size > MARGIN {
@@ -150,11 +152,15 @@ impl RowSide<'_> {
         ensures marks { IfSome result (λ side. AreMarksOf self.now.model.now self.now.row.0 self.now.side side.denominator [] marks.new) }
     {
         let denominator = self.common_denominator(limit);
-        let over = factor_over(limit, denominator)?;
+        let Some(over) = factor_over(limit, denominator) else {
+            return None;
+        };
         if !self.mark_columns(denominator, marks) {
             return None;
         }
-        let sums = self.sums(denominator, marks)?;
+        let Some(sums) = self.sums(denominator, marks) else {
+            return None;
+        };
         if i128::from(over) < sums.base {
             return None;
         }

@@ -1,6 +1,6 @@
 -- Where no leaf of a sound search is open, both bounds at its own model are the value of its incumbent: each leaf closes against
 -- it, so no number is below it but by rounding; and no bound is past it.
-use Rattle.std.specs.Prelude.{◌≡◌, List, [], All, Option, Some, None, unwrap_or}
+use Rattle.std.specs.Prelude.{◌≡◌, List, [], Option, Some, None, unwrap_or}
 use Rattle.std.proofs.Common.{ap, subst, ◌∙◌, inl, inr}
 use Rattle.std.proofs.lemmas.List.Elements.{All-get_or}
 use Rattle.rational.specs.Rational.{ℚ, int, ceil}

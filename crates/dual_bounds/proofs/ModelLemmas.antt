@@ -1,5 +1,5 @@
 -- Models with other sides or costs are lawful, and with the numbers that there are they are the model itself.
-use Rattle.std.specs.Prelude.{◌≡◌, ◌≢◌, ℕ, zero, suc, ◌<◌, false, IsTrue, List, [], ◌∷◌, length, map, sum_by, pos, All, AllPairs, Option, Some, None}
+use Rattle.std.specs.Prelude.{◌≡◌, ◌≢◌, ℕ, zero, suc, ◌<◌, false, IsTrue, List, [], ◌∷◌, length, pos, All, AllPairs, Option, Some, None}
 use Rattle.std.specs.Option.{option_map}
 use Rattle.std.proofs.Common.{refl, sym, ap, subst}
 use Rattle.std.proofs.lemmas.List.Elements.{All-weaker}
@@ -12,7 +12,7 @@ use Rattle.lp_model.specs.declared.types.RowId.{RowId}
 use Rattle.lp_model.specs.declared.types.Row.{Row}
 use Rattle.lp_model.specs.declared.types.ColId.{ColId}
 use Rattle.lp_model.specs.declared.types.Col.{Col}
-use Rattle.dual_bounds.specs.NewNumbers.{changed_all, with_side, with_cost, row_index, col_index, with_new_sides, with_new_costs, AreNewSides, AreNewCosts, IsSideNow}
+use Rattle.dual_bounds.specs.NewNumbers.{with_side, with_cost, row_index, col_index, with_new_sides, with_new_costs, AreNewSides, AreNewCosts, IsSideNow}
 use Rattle.dual_bounds.specs.Laws.{PresentSidesLaw, PresentCostsLaw}
 use Rattle.dual_bounds.proofs.ChangedLists.{All-unmap, length-changed_all, map-changed_all, sum_by-changed_all, of_element-changed_all, All-changed_all, changed_all-same}
 use Rattle.dual_bounds.proofs.RangeLemmas.{row-ranged}

@@ -69,8 +69,17 @@ fn bound_with_cuts(
         pool,
         numbers: Vec::new(alloc),
     };
-    tree.visit_leaves(&mut listing)?;
-    Ok(proved_bound(model, &listing.numbers))
+    match tree.visit_leaves(&mut listing) {
+        Ok(()) => {
+            let bound = proved_bound(model, &listing.numbers);
+            drop(listing);
+            Ok(bound)
+        }
+        Err(error) => {
+            drop(listing);
+            Err(error)
+        }
+    }
 }
 
 /// What a tree proves of a model, with each cut of a pool derived again there.
@@ -84,6 +93,7 @@ pub(crate) fn tree_bound(
     ensures { IfOk result (λ bound. IsTreeBoundAt model.now pool.now tree.now.root bound) }
 {
     let again = derived_again(alloc, model, pool)?;
-    let bound = bound_with_cuts(alloc, model, &again, tree)?;
-    Ok(bound)
+    let bound = bound_with_cuts(alloc, model, &again, tree);
+    drop(again);
+    bound
 }

@@ -49,9 +49,15 @@ pub(crate) fn whole_ratio(
     ensures { IfSome result (λ r. IsWholeRatio state.now row side place r.top r.bottom) }
 {
     let denominator = state.denominator();
-    let entry = state.number_over(row, place, denominator)?;
-    let total = state.cost_total(place, denominator)?;
-    let cost = short_number(total)?;
+    let Some(entry) = state.number_over(row, place, denominator) else {
+        return None;
+    };
+    let Some(total) = state.cost_total(place, denominator) else {
+        return None;
+    };
+    let Some(cost) = short_number(total) else {
+        return None;
+    };
     let over = by_sign(entry, cost);
     let bottom = by_sign(entry, entry);
     match side {

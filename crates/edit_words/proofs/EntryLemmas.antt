@@ -1,10 +1,13 @@
 -- Names with numbers that were read one after the other are those that the words are; and those behind a command of bounds.
-use Rattle.std.proofs.Common.{◌≡◌, ℕ, ◌-◌, ◌≤◌, ◌<◌, Bool, true, false, List, [], ◌∷◌, ◌++◌, length, get_or, take, drop, arith, refl, sym, ap, ◌∙◌, append_assoc, Bor, Some, None, if◌then◌else◌}
+use Rattle.std.proofs.Common.{◌≡◌, ℕ, ◌-◌, ◌≤◌, ◌<◌, Bool, true, false, List, [], ◌∷◌, ◌++◌, length, get_or, take, drop, arith, refl, sym, ap, ◌∙◌, append_assoc, Bor, Option, Some, None, if◌then◌else◌}
 use Rattle.std.proofs.lemmas.List.{append-nil}
 use Rattle.rational.specs.Rational.{ℚ}
 use Rattle.lp_model.specs.Edits.{Named}
 use Rattle.edit_words.specs.Forms.{are_distinct}
-use Rattle.edit_words.specs.EditWords.{EntriesAsk, AreRead, AreMisused, HasNoNumber, number_in, with_first, entries_of, pairs_asks}
+use Rattle.lp_model.specs.declared.types.Edit.TheVariants.{AddCol}
+use Rattle.edit_words.specs.declared.asked.RowPlace.{RowPlace}
+use Rattle.text_lines.specs.Words.{Words}
+use Rattle.edit_words.specs.EditWords.{EditAsks, Edits, NoNumber, EntriesAsk, AreRead, AreMisused, HasNoNumber, number_in, side_in, lower_in, upper_in, is_int_word, with_first, with_read, with_entries, entries_of, pairs_asks, addcol_asks, whole_row_edit, whole_row_asks}
 use Rattle.edit_words.proofs.FormLemmas.{nows, some_word, first_two}
 
 -- those that were read, and those behind them
@@ -70,3 +73,24 @@ pub distinct_pairs : (words : List (Bor (List ℕ))) → ¬ (length words ≡ 0)
 unfolding pairs_asks
 distinct_pairs [] some distinct = absurd (some refl)
 distinct_pairs (a ∷ more) some distinct = ap (λ (b : Bool). if b then entries_of (nows (a ∷ more)) else AreMisused) distinct
+
+-- ---- edits of whole columns and rows
+
+pub read-none : {A : Type 0} (word : List ℕ) (o : Option A) (asks : A → EditAsks) → o ≡ None → with_read word o asks ≡ NoNumber word
+read-none {A} word o asks e = ap (λ (p : Option A). with_read word p asks) e
+
+pub read-then : {A : Type 0} (word : List ℕ) (o : Option A) (asks : A → EditAsks) (x : A) (all : EditAsks) → o ≡ Some x → asks x ≡ all → with_read word o asks ≡ all
+read-then {A} word o asks x all e h = ap (λ (p : Option A). with_read word p asks) e ∙ h
+
+pub entries-then : (found : EntriesAsk) (asks : Named → EditAsks) (is : EntriesAsk) (all : EditAsks) → found ≡ is → with_entries is asks ≡ all → with_entries found asks ≡ all
+entries-then found asks is all e h = ap (λ (a : EntriesAsk). with_entries a asks) e ∙ h
+
+pub addcol-read : (name which low high first second : List ℕ) (rest : Words) (int : Bool) (lo up : Option ℚ) (cost cost2 : ℚ)
+    → int ≡ is_int_word which → lower_in low ≡ Some lo → upper_in high ≡ Some up → number_in first ≡ Some cost → number_in second ≡ Some cost2
+    → addcol_asks (name ∷ which ∷ low ∷ high ∷ first ∷ second ∷ rest) ≡ with_entries (entries_of rest) (λ named. Edits (AddCol name int lo up cost cost2 named))
+addcol-read name which low high first second rest int lo up cost cost2 a b d e f =
+    (λ i. with_read low (b i) (λ l. with_read high (d i) (λ u. with_read first (e i) (λ x. with_read second (f i) (λ y. with_entries (entries_of rest) (λ named. Edits (AddCol name (sym a i) l u x y named)))))))
+
+pub row-read : (place : RowPlace) (row low high : List ℕ) (rest : Words) (lo hi : Option ℚ) → side_in low ≡ Some lo → side_in high ≡ Some hi
+    → whole_row_asks place (row ∷ low ∷ high ∷ rest) ≡ with_entries (entries_of rest) (λ named. Edits (whole_row_edit place row lo hi named))
+row-read place row low high rest lo hi a b = (λ i. with_read low (a i) (λ l. with_read high (b i) (λ h. with_entries (entries_of rest) (λ named. Edits (whole_row_edit place row l h named)))))

@@ -1,9 +1,10 @@
 // The ten edits, as words say them.
 ghost use Rattle.std.specs.Prelude.{◌≡◌, ◌∷◌, [], map, Some};
-ghost use Rattle.edit_words.specs.EditWords.{is_int_word, sides_edit, cost_asks, cost2_asks, row_asks, bounds_asks, kind_asks, addcol_asks, delcol_asks, delrow_asks, whole_row_edit, whole_row_asks, meaning, formed_asks, edit_asks, IsAskedOf};
+ghost use Rattle.lp_model.specs.declared.types.Edit.TheVariants.{AddCol};
+ghost use Rattle.edit_words.specs.EditWords.{Edits, entries_of, with_entries, is_int_word, sides_edit, cost_asks, cost2_asks, row_asks, bounds_asks, kind_asks, addcol_asks, delcol_asks, delrow_asks, whole_row_edit, whole_row_asks, meaning, formed_asks, edit_asks, IsAskedOf};
 
 use crate::entries::{Entries, entries_in};
-use crate::forms::fits;
+use crate::forms::{fits, is_word};
 use crate::kinds::EditKind;
 use crate::numbers::{lower_in, number_in, side_in, upper_in};
 use frac128::Frac;
@@ -35,20 +36,20 @@ enum RowPlace {
 fn is_int_word(word: &[u8]) -> bool
     ensures { result ≡ is_int_word word.now }
 {
-    word == b"int".as_slice()
+    is_word(b"int", word)
 }
 
 /// The edit of a row's sides.
 fn sides_edit(row: Name, which: &[u8], side: &Bound) -> Edit
     ensures { result ≡ sides_edit row which.now side.now }
 {
-    if which == b"lo".as_slice() {
+    if is_word(b"lo", which) {
         Edit::SetRow {
             row,
             lo: Some(*side),
             hi: None,
         }
-    } else if which == b"hi".as_slice() {
+    } else if is_word(b"hi", which) {
         Edit::SetRow {
             row,
             lo: None,
@@ -151,6 +152,41 @@ fn delrow_edit<'a>(alloc: Global, row: &[u8]) -> EditAsked<'a>
     }
 }
 
+/// A last column with the entries that words are.
+fn column_with<'a>(
+    alloc: Global,
+    name: &[u8],
+    int: bool,
+    lo: Bound,
+    up: Bound,
+    cost: Frac,
+    cost2: Frac,
+    rest: &[&'a [u8]],
+) -> EditAsked<'a>
+    ensures { IsAskedOf (with_entries (entries_of (map (λ word. word.now) rest.now)) (λ named. Edits (AddCol name.now int lo up cost cost2 named))) result }
+{
+    match entries_in(alloc, rest) {
+        Entries::Misused => EditAsked::Misused,
+        Entries::NoNumber { word } => EditAsked::NoNumber { word },
+        Entries::Memory => EditAsked::Memory,
+        Entries::Read(entries) => match Name::from_slice(alloc, name) {
+            Ok(name) => EditAsked::Edits(Edit::AddCol {
+                name,
+                int,
+                lo,
+                up,
+                cost,
+                cost2,
+                entries,
+            }),
+            Err(AllocError) => {
+                drop(entries);
+                EditAsked::Memory
+            }
+        },
+    }
+}
+
 /// A last column. Its words stand in the order of the form.
 fn addcol_edit<'a>(
     alloc: Global,
@@ -177,23 +213,7 @@ fn addcol_edit<'a>(
     let Some(cost2) = number_in(second) else {
         return EditAsked::NoNumber { word: second };
     };
-    match entries_in(alloc, rest) {
-        Entries::Misused => EditAsked::Misused,
-        Entries::NoNumber { word } => EditAsked::NoNumber { word },
-        Entries::Memory => EditAsked::Memory,
-        Entries::Read(entries) => match Name::from_slice(alloc, name) {
-            Ok(name) => EditAsked::Edits(Edit::AddCol {
-                name,
-                int,
-                lo,
-                up,
-                cost,
-                cost2,
-                entries,
-            }),
-            Err(AllocError) => EditAsked::Memory,
-        },
-    }
+    column_with(alloc, name, int, lo, up, cost, cost2, rest)
 }
 
 /// A row where it goes.
@@ -222,6 +242,31 @@ fn whole_row_edit(
     }
 }
 
+/// A row with its sides, where it goes, and the entries that words are.
+fn row_with<'a>(
+    alloc: Global,
+    place: RowPlace,
+    row: &[u8],
+    lo: Bound,
+    hi: Bound,
+    rest: &[&'a [u8]],
+) -> EditAsked<'a>
+    ensures { IsAskedOf (with_entries (entries_of (map (λ word. word.now) rest.now)) (λ named. Edits (whole_row_edit place row.now lo hi named))) result }
+{
+    match entries_in(alloc, rest) {
+        Entries::Misused => EditAsked::Misused,
+        Entries::NoNumber { word } => EditAsked::NoNumber { word },
+        Entries::Memory => EditAsked::Memory,
+        Entries::Read(entries) => match Name::from_slice(alloc, row) {
+            Ok(row) => EditAsked::Edits(whole_row_edit(place, row, lo, hi, entries)),
+            Err(AllocError) => {
+                drop(entries);
+                EditAsked::Memory
+            }
+        },
+    }
+}
+
 /// A row with its sides and entries.
 fn whole_row<'a>(
     alloc: Global,
@@ -239,15 +284,7 @@ fn whole_row<'a>(
     let Some(hi) = side_in(high) else {
         return EditAsked::NoNumber { word: high };
     };
-    match entries_in(alloc, rest) {
-        Entries::Misused => EditAsked::Misused,
-        Entries::NoNumber { word } => EditAsked::NoNumber { word },
-        Entries::Memory => EditAsked::Memory,
-        Entries::Read(entries) => match Name::from_slice(alloc, row) {
-            Ok(row) => EditAsked::Edits(whole_row_edit(place, row, lo, hi, entries)),
-            Err(AllocError) => EditAsked::Memory,
-        },
-    }
+    row_with(alloc, place, row, lo, hi, rest)
 }
 
 // ---- by the number of words

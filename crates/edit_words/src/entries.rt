@@ -35,7 +35,7 @@ fn push_entry(
 }
 
 /// The names with numbers that words are.
-#[tactic(auto, using(crate::proofs::EntryLemmas::entries_first, crate::proofs::EntryLemmas::one_more, crate::proofs::EntryLemmas::entries_end, crate::proofs::EntryLemmas::entries_odd, crate::proofs::EntryLemmas::behind_nothing))]
+#[tactic(auto, using(crate::proofs::EntryLemmas::entries_end))]
 pub(crate) fn entries_in<'a>(alloc: Global, words: &[&'a [u8]]) -> Entries<'a>
     ensures { IsEntriesOf (entries_of (map (λ word. word.now) words.now)) result }
 {
@@ -43,16 +43,21 @@ pub(crate) fn entries_in<'a>(alloc: Global, words: &[&'a [u8]]) -> Entries<'a>
     let mut rest = words;
     while let [name, word, more @ ..] = rest {
         let Some(number) = number_in(word) else {
+            drop(entries);
             return Entries::NoNumber { word };
         };
-        if push_entry(alloc, &mut entries, name, number).is_err() {
-            return Entries::Memory;
+        match push_entry(alloc, &mut entries, name, number) {
+            Ok(()) => rest = more,
+            Err(_) => {
+                drop(entries);
+                return Entries::Memory;
+            }
         }
-        rest = more;
     }
     if rest.is_empty() {
         Entries::Read(entries)
     } else {
+        drop(entries);
         Entries::Misused
     }
 }

@@ -1,5 +1,5 @@
 // Forms of words as data, and the words that have one.
-ghost use Rattle.std.specs.Prelude.{◌≡◌, map};
+ghost use Rattle.std.specs.Prelude.{◌≡◌, map, bytes_eq};
 ghost use Rattle.std.specs.List.{list_all};
 ghost use Rattle.edit_words.specs.Forms.{is_name_byte, is_new_name, fits_slot, fits_behind, fits, is_named, are_distinct};
 
@@ -22,6 +22,13 @@ pub(crate) enum Slot {
     Lower,
     /// A number, or `none`; far enough above 0 it is none.
     Upper,
+}
+
+/// Whether a word is this one.
+pub(crate) fn is_word(key: &[u8], word: &[u8]) -> bool
+    ensures { result ≡ bytes_eq word.now key.now }
+{
+    word == key
 }
 
 fn is_name_byte(byte: u8) -> bool
@@ -47,10 +54,8 @@ fn fits_slot(slot: Slot, word: &[u8]) -> bool
     ensures { result ≡ fits_slot slot word.now }
 {
     match slot {
-        Slot::Kind => word == b"int".as_slice() || word == b"cont".as_slice(),
-        Slot::Sides => {
-            word == b"lo".as_slice() || word == b"hi".as_slice() || word == b"both".as_slice()
-        }
+        Slot::Kind => is_word(b"int", word) || is_word(b"cont", word),
+        Slot::Sides => { is_word(b"lo", word) || is_word(b"hi", word) || is_word(b"both", word) }
         Slot::Known => true,
         Slot::New => is_new_name(word),
         Slot::Number => true,

@@ -1,8 +1,8 @@
 // What an edit changes, and the form of its words.
 ghost use Rattle.std.specs.Prelude.{◌≡◌};
-ghost use Rattle.edit_words.specs.EditWords.{edit_kind_of, slots_of, has_pairs};
+ghost use Rattle.edit_words.specs.EditWords.{edit_kind_of, whole_kind_of, slots_of, has_pairs};
 
-use crate::forms::Slot;
+use crate::forms::{Slot, is_word};
 
 /// What an edit changes, by its first word.
 #[derive(Clone, Copy)]
@@ -24,25 +24,34 @@ impl EditKind {
     pub(crate) fn of(word: &[u8]) -> Option<EditKind>
         ensures { result ≡ edit_kind_of word.now }
     {
-        if word == b"cost".as_slice() {
+        if is_word(b"cost", word) {
             Some(EditKind::Cost)
-        } else if word == b"cost2".as_slice() {
+        } else if is_word(b"cost2", word) {
             Some(EditKind::Cost2)
-        } else if word == b"row".as_slice() {
+        } else if is_word(b"row", word) {
             Some(EditKind::Row)
-        } else if word == b"bounds".as_slice() {
+        } else if is_word(b"bounds", word) {
             Some(EditKind::Bounds)
-        } else if word == b"kind".as_slice() {
+        } else if is_word(b"kind", word) {
             Some(EditKind::Kind)
-        } else if word == b"addcol".as_slice() {
+        } else {
+            EditKind::of_whole(word)
+        }
+    }
+
+    /// The kind that a word names which adds, removes or replaces a whole column or row.
+    fn of_whole(word: &[u8]) -> Option<EditKind>
+        ensures { result ≡ whole_kind_of word.now }
+    {
+        if is_word(b"addcol", word) {
             Some(EditKind::AddCol)
-        } else if word == b"delcol".as_slice() {
+        } else if is_word(b"delcol", word) {
             Some(EditKind::DelCol)
-        } else if word == b"addrow".as_slice() {
+        } else if is_word(b"addrow", word) {
             Some(EditKind::AddRow)
-        } else if word == b"delrow".as_slice() {
+        } else if is_word(b"delrow", word) {
             Some(EditKind::DelRow)
-        } else if word == b"replacerow".as_slice() {
+        } else if is_word(b"replacerow", word) {
             Some(EditKind::ReplaceRow)
         } else {
             None

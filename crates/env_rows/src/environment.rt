@@ -4,6 +4,7 @@ use anyhow::{Result, bail};
 use lp_model::{Answer, Edit, Model};
 use model_calls::{Callee, take_number};
 use model_texts::{Words, edit_of, push_edit_fault};
+use search_file::{search_in, text_of};
 use std::alloc::Global;
 use sym_env::{Env, EnvFault, Limits};
 use warm_values::WarmFault;
@@ -68,7 +69,6 @@ fn push_fault(got: &mut String, fault: &EnvFault) -> Result<()> {
         EnvFault::NoModel => got.push_str("no model")?,
         EnvFault::NoAnswer => got.push_str("no answer")?,
         EnvFault::Edit(fault) => push_edit_fault(got, fault)?,
-        EnvFault::Warm(fault) => push_warm_fault(got, fault)?,
         EnvFault::Memory => got.push_str("no memory")?,
     }
     Ok(())
@@ -160,12 +160,16 @@ impl Environment {
 
     /// Saves the search, and notes its text.
     fn save(&mut self, got: &mut String) -> Result<()> {
-        match self.env.save() {
+        let Some(search) = self.env.search() else {
+            got.push_str("no model")?;
+            return Ok(());
+        };
+        match text_of(self.alloc, search) {
             Ok(text) => {
                 self.saved = text;
                 Ok(())
             }
-            Err(fault) => push_fault(got, &fault),
+            Err(fault) => push_warm_fault(got, &fault),
         }
     }
 
@@ -178,10 +182,13 @@ impl Environment {
 
     /// Restores the search of the text that was saved last, or is given.
     fn restore(&mut self, got: &mut String) -> Result<()> {
-        let restored = self.env.restore(&self.saved);
-        let pushed = push_edited(got, &restored);
-        drop(restored);
-        pushed
+        match search_in(self.alloc, &self.saved) {
+            Ok(search) => {
+                self.env.restore(search);
+                Ok(())
+            }
+            Err(fault) => push_warm_fault(got, &fault),
+        }
     }
 
     /// How many bytes the certificate's text has.

@@ -127,17 +127,24 @@ pub(crate) fn exponent(minus: bool, digits: &[u8]) -> Option<i128>
     if minus { Some(-value) } else { Some(value) }
 }
 
+/// The power, if it is -38 to 38.
+fn short_power(power: i128) -> Option<i128>
+    ensures { MatchOption result (38 < unsigned_abs power) (λ e. (e ≡ power) × (unsigned_abs e ≤ 38)) }
+{
+    if power < -38 || power > 38 {
+        None
+    } else {
+        Some(power)
+    }
+}
+
 /// An exponent, less one for each digit behind the point and one more for each zero dropped, if it is -38 to 38.
 fn moved_power(exponent: i128, point: u64, dropped: u64) -> Option<i128>
     requires { unsigned_abs exponent ≤ 2 ^ 100 }
     ensures { MatchOption result (38 < unsigned_abs (exponent -ℤ pos point +ℤ pos dropped)) (λ e. (e ≡ exponent -ℤ pos point +ℤ pos dropped) × (unsigned_abs e ≤ 38)) }
 {
     let power = exponent - i128::from(point) + i128::from(dropped);
-    if power < -38 || power > 38 {
-        None
-    } else {
-        Some(power)
-    }
+    short_power(power)
 }
 
 /// The power of ten from the exponent, the digits behind the point and the zeros dropped, if it is -38 to 38.

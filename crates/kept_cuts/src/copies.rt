@@ -18,8 +18,12 @@ pub fn derivations(alloc: Global, cuts: &[CutRow]) -> Result<List<Derivation>, A
 {
     let mut list = List::new(alloc);
     for cut in cuts {
-        let copy = copy_derivation(&cut.from)?;
-        list.push(copy)?;
+        let Ok(copy) = copy_derivation(&cut.from) else {
+            return Err(AllocError);
+        };
+        let Ok(()) = list.push(copy) else {
+            return Err(AllocError);
+        };
     }
     Ok(list)
 }

@@ -7,6 +7,7 @@ ghost use Rattle.cover_cuts.specs.Cuts.{IsCutOf, IsPoolOf};
 ghost use Rattle.kept_cuts.specs.Kept.{names_column, goes_with, literal_after, derivation_after, one_if, gone_with, KeepsCut, IsPoolAfter};
 ghost use Rattle.kept_cuts.specs.Spared.{spares};
 
+use crate::copies::copy_derivation;
 use branch_tree::{col_of, row_of};
 use cover_cuts::{CutPool, PoolFault};
 use lp_model::{ColId, CutId, CutRow, Derivation, Edit, List, Literal, Model, RowId, place_after};
@@ -51,7 +52,9 @@ fn literals_after(
 {
     let mut after = List::new(alloc);
     for literal in literals {
-        after.push(literal_after(gone, literal))?;
+        let Ok(()) = after.push(literal_after(gone, literal)) else {
+            return Err(AllocError);
+        };
     }
     Ok(after)
 }
@@ -93,7 +96,7 @@ fn derivation_after(
     match edit {
         Edit::DelRow { row } => without_row(alloc, from, row_of(model, row)),
         Edit::DelCol { col } => without_column(alloc, from, col_of(model, col)),
-        _ => from.clone(),
+        _ => copy_derivation(from),
     }
 }
 

@@ -28,7 +28,7 @@ module _ (F : Formulation) (path : Path) (y z : ℕ → ℚ) (c₀ : ℚ) (c : �
 
   -- ---- one column
 
-  entry-wide : (j : ℕ) (of : Var) → Entry j of → ¬ EntriesFit F y z c j
+  pub entry-wide : (j : ℕ) (of : Var) → Entry j of → ¬ EntriesFit F y z c j
   entry-wide j (Row row) wide fits = wide.here (fits.of_rows row.0 wide.within)
   entry-wide j (Cut cut) wide fits = wide.1.here (fits.of_cuts cut.0 wide.1.within)
   entry-wide j (Col col) wide fits = wide

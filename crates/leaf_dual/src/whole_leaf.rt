@@ -9,7 +9,7 @@ ghost use Rattle.lp_model.specs.Formulations.{cut_coefficient};
 ghost use Rattle.leaf_dual.specs.declared.dual.LagValue.TheVariants.{Num};
 ghost use Rattle.leaf_dual.specs.Dual.{HavePlaces, row_side, cut_side, column_side};
 ghost use Rattle.leaf_dual.specs.Answers.{row_number, cut_number, LacksRowSide, LacksCutSide, IsDualAnswer};
-ghost use Rattle.leaf_dual.specs.Parts.{leaf_formulation, leaf_constant, costs, weights, cut_weights, entry_row, entry_number, IsRowsTotal, IsCutsTotal, IsCostAnswer, IsColumnAnswer, IsColumnsTotal};
+ghost use Rattle.leaf_dual.specs.Parts.{leaf_formulation, leaf_constant, costs, weights, cut_weights, entry_row, entry_number, IsRowsTotal, IsCutsTotal, IsReducedCost, IsCostAnswer, IsColumnAnswer, IsColumnsTotal};
 ghost use Rattle.leaf_dual.specs.Wholes.{IsFactor, HasRoomForProduct, IsTermOver, number_at, IsNextOf, AreNexts};
 ghost use Rattle.leaf_dual.specs.WholeParts.{IsWholeLeaf};
 
@@ -88,7 +88,9 @@ fn side_term(weight: i64, side: &Bound) -> Option<WholeTerm>
     match side {
         None => None,
         Some(bound) => {
-            let number = whole_factor(bound)?;
+            let Some(number) = whole_factor(bound) else {
+                return None;
+            };
             Some(WholeTerm {
                 factor: weight,
                 number,
@@ -109,7 +111,9 @@ fn taken_term(weight: i64, coefficient: &Frac) -> Option<WholeTerm>
             number: 0,
         });
     }
-    let number = whole_factor(coefficient)?;
+    let Some(number) = whole_factor(coefficient) else {
+        return None;
+    };
     Some(WholeTerm {
         factor: -weight,
         number,
@@ -140,7 +144,9 @@ impl WholeTerms for RowNumbers<'_> {
     }
 
     fn term(&self, index: usize) -> Option<WholeTerm> {
-        let weight = weight_at(self.whole.rows, index)?;
+        let Some(weight) = weight_at(self.whole.rows, index) else {
+            return None;
+        };
         let sides = &self.whole.leaf.model.rows()[index];
         let side = whole_side(weight, &sides.lo, &sides.hi);
         side_term(weight, &side)
@@ -171,7 +177,9 @@ impl WholeTerms for CutNumbers<'_> {
     }
 
     fn term(&self, index: usize) -> Option<WholeTerm> {
-        let weight = weight_at(self.whole.cuts, index)?;
+        let Some(weight) = weight_at(self.whole.cuts, index) else {
+            return None;
+        };
         let high = Some(self.whole.leaf.cuts[index].hi);
         let side = whole_side(weight, &None, &high);
         side_term(weight, &side)
@@ -204,48 +212,10 @@ impl WholeTerms for EntryNumbers<'_> {
 
     fn term(&self, index: usize) -> Option<WholeTerm> {
         let entry = &self.entries[index];
-        let weight = weight_at(self.whole.rows, entry.0.0 as usize)?;
+        let Some(weight) = weight_at(self.whole.rows, entry.0.0 as usize) else {
+            return None;
+        };
         taken_term(weight, &entry.1)
-    }
-}
-
-/// The terms of what the cuts take of a column's cost.
-#[derive(Drop)]
-struct CutEntryNumbers<'a> {
-    whole: WholeLeaf<'a>,
-    col: usize,
-}
-
-impl WholeTerms for CutEntryNumbers<'_> {
-    ghost count = { λ t. length t.whole.leaf.cuts.now };
-
-    ghost factor = { λ t k. neg_ℚ (cut_weights t.whole.leaf k) };
-
-    ghost number = { λ t k. cut_coefficient t.whole.leaf.cuts.now k t.col };
-
-    ghost denominator = { λ t. t.whole.denominator };
-
-    ghost is_lawful = { λ t. IsWholeLeaf t.whole };
-
-    ghost holds = { λ t k. Unit {0} };
-
-    fn count(&self) -> usize {
-        self.whole.leaf.cuts.len()
-    }
-
-    fn term(&self, index: usize) -> Option<WholeTerm> {
-        let weight = weight_at(self.whole.cuts, index)?;
-        // a cut without a weight is not looked through
-        if weight == 0 {
-            return Some(WholeTerm {
-                factor: 0,
-                number: 0,
-            });
-        }
-        taken_term(
-            weight,
-            &cut_coefficient(self.whole.leaf.cuts, index, self.col),
-        )
     }
 }
 
@@ -258,7 +228,9 @@ impl WholeLeaf<'_> {
         ensures total { IfSome result (λ total. IsRowsTotal self.now.leaf.model.now (weights self.now.leaf) (leaf_constant self.now.leaf) (Ok (quotient_of total self.now.denominator))) }
         ensures sides { IfSome result (λ total. ¬ LacksRowSide self.now.leaf.model.now (weights self.now.leaf)) }
     {
-        let start = factor_over(&self.leaf.constant(), self.denominator)?;
+        let Some(start) = factor_over(&self.leaf.constant(), self.denominator) else {
+            return None;
+        };
         whole_total(i128::from(start), &RowNumbers { whole: *self })
     }
 
@@ -285,6 +257,25 @@ impl WholeLeaf<'_> {
         next.min(self.leaf.cuts.len())
     }
 
+    /// The term of what a cut takes of a column's cost, where it can be had in whole numbers. A cut without a weight is not
+    /// looked through.
+    fn cut_term(&self, cut: usize, col: usize) -> Option<WholeTerm>
+        requires whole { IsWholeLeaf self.now }
+        requires within { cut < length self.now.leaf.cuts.now }
+        ensures { IfSome result (λ t. IsTermOver self.now.denominator (neg_ℚ (cut_weights self.now.leaf cut)) (cut_coefficient self.now.leaf.cuts.now cut col) t.factor t.number) }
+    {
+        let Some(weight) = weight_at(self.cuts, cut) else {
+            return None;
+        };
+        if weight == 0 {
+            return Some(WholeTerm {
+                factor: 0,
+                number: 0,
+            });
+        }
+        taken_term(weight, &cut_coefficient(self.leaf.cuts, cut, col))
+    }
+
     /// The total with what a cut takes of a column's cost, over the denominator, where it can be had in whole numbers. None says
     /// nothing.
     fn with_cut(&self, total: i128, cut: usize, col: usize) -> Option<i128>
@@ -295,8 +286,9 @@ impl WholeLeaf<'_> {
         ensures fits { IfSome result (λ next. StepFits (quotient_of total self.now.denominator) (neg_ℚ (cut_weights self.now.leaf cut)) (cut_coefficient self.now.leaf.cuts.now cut col)) }
         ensures value { IfSome result (λ next. quotient_of next self.now.denominator ≡ quotient_of total self.now.denominator +ℚ neg_ℚ (cut_weights self.now.leaf cut) *ℚ cut_coefficient self.now.leaf.cuts.now cut col) }
     {
-        let terms = CutEntryNumbers { whole: *self, col };
-        let term = terms.term(cut)?;
+        let Some(term) = self.cut_term(cut, col) else {
+            return None;
+        };
         with_product(total, term.factor, term.number)
     }
 
@@ -324,6 +316,26 @@ impl WholeLeaf<'_> {
         Some(total)
     }
 
+    /// What the rows leave of a column's cost, over the denominator, where it can be had in whole numbers. None says nothing.
+    fn after_rows(&self, col: usize) -> Option<i128>
+        requires whole { IsWholeLeaf self.now }
+        requires within { col < length self.now.leaf.model.now.cols }
+        ensures room { IfSome result (λ total. HasRoomForProduct total) }
+        ensures left { IfSome result (λ total. IsReducedCost self.now.leaf.model.now (weights self.now.leaf) (costs self.now.leaf) col (Ok (quotient_of total self.now.denominator))) }
+    {
+        let entries = self.leaf.model.cols()[col].rows.as_slice();
+        let Some(start) = factor_over(&self.leaf.cost(col), self.denominator) else {
+            return None;
+        };
+        whole_total(
+            i128::from(start),
+            &EntryNumbers {
+                whole: *self,
+                entries,
+            },
+        )
+    }
+
     /// What is left of a column's cost, over the denominator, where it can be had in whole numbers. None says nothing.
     fn cost_left(&self, col: usize) -> Option<i64>
         requires whole { IsWholeLeaf self.now }
@@ -331,16 +343,12 @@ impl WholeLeaf<'_> {
         ensures factor { IfSome result (λ n. IsFactor n) }
         ensures left { IfSome result (λ n. IsCostAnswer self.now.leaf.model.now self.now.leaf.cuts.now (weights self.now.leaf) (cut_weights self.now.leaf) (costs self.now.leaf) col (Ok (quotient_of n self.now.denominator))) }
     {
-        let entries = self.leaf.model.cols()[col].rows.as_slice();
-        let start = factor_over(&self.leaf.cost(col), self.denominator)?;
-        let by_rows = whole_total(
-            i128::from(start),
-            &EntryNumbers {
-                whole: *self,
-                entries,
-            },
-        )?;
-        let by_cuts = self.after_cuts(by_rows, col)?;
+        let Some(by_rows) = self.after_rows(col) else {
+            return None;
+        };
+        let Some(by_cuts) = self.after_cuts(by_rows, col) else {
+            return None;
+        };
         factor(by_cuts)
     }
 
@@ -371,9 +379,13 @@ impl WholeLeaf<'_> {
         ensures column { IfSome result (λ next. IsColumnAnswer self.now.leaf.model.now self.now.leaf.cuts.now self.now.leaf.region.now (weights self.now.leaf) (cut_weights self.now.leaf) (costs self.now.leaf) (quotient_of total self.now.denominator) col (Ok (quotient_of next self.now.denominator))) }
         ensures side { IfSome result (λ next. column_side (leaf_formulation self.now.leaf) self.now.leaf.region.now (weights self.now.leaf) (cut_weights self.now.leaf) (costs self.now.leaf) col ≢ None) }
     {
-        let reduced = self.cost_left(col)?;
+        let Some(reduced) = self.cost_left(col) else {
+            return None;
+        };
         let side = self.column_side(reduced, col);
-        let term = side_term(reduced, &side)?;
+        let Some(term) = side_term(reduced, &side) else {
+            return None;
+        };
         with_product(total, term.factor, term.number)
     }
 
@@ -402,9 +414,15 @@ impl WholeLeaf<'_> {
         requires narrow { AreNarrow self.now.leaf.region.now }
         ensures { IfSome result (λ v. IsDualAnswer (leaf_formulation self.now.leaf) self.now.leaf.region.now (weights self.now.leaf) (cut_weights self.now.leaf) (leaf_constant self.now.leaf) (costs self.now.leaf) (Ok (Num v))) }
     {
-        let rows = self.rows_total()?;
-        let cuts = self.cuts_total(rows)?;
-        let total = self.columns_total(cuts)?;
+        let Some(rows) = self.rows_total() else {
+            return None;
+        };
+        let Some(cuts) = self.cuts_total(rows) else {
+            return None;
+        };
+        let Some(total) = self.columns_total(cuts) else {
+            return None;
+        };
         Some(fraction_over(total, self.denominator))
     }
 }

@@ -60,7 +60,9 @@ fn exact_scale(denominator: i64, own: i64) -> Option<i64>
     if own <= 0 {
         return None;
     }
-    let scale = factor(i128::from(denominator / own))?;
+    let Some(scale) = factor(i128::from(denominator / own)) else {
+        return None;
+    };
     if wide_product(scale, own) == i128::from(denominator) {
         Some(scale)
     } else {
@@ -75,9 +77,15 @@ pub fn factor_over(fraction: &Frac, denominator: i64) -> Option<i64>
     ensures value { IfSome result (λ n. fraction.now ≡ quotient_of n denominator) }
 {
     fraction.has_room();
-    let own = factor(fraction.denominator())?;
-    let scale = exact_scale(denominator, own)?;
-    let number = factor(fraction.numerator())?;
+    let Some(own) = factor(fraction.denominator()) else {
+        return None;
+    };
+    let Some(scale) = exact_scale(denominator, own) else {
+        return None;
+    };
+    let Some(number) = factor(fraction.numerator()) else {
+        return None;
+    };
     factor(wide_product(number, scale))
 }
 
@@ -86,7 +94,9 @@ fn further_multiple(denominator: i64, fraction: &Frac) -> Option<i64>
     requires { IsDenominator denominator }
     ensures { IfSome result (λ n. IsFactor n) }
 {
-    let own = factor(fraction.denominator())?;
+    let Some(own) = factor(fraction.denominator()) else {
+        return None;
+    };
     if own <= 0 {
         return None;
     }
@@ -96,9 +106,22 @@ fn further_multiple(denominator: i64, fraction: &Frac) -> Option<i64>
     match Frac::new(i128::from(own), i128::from(denominator)) {
         Err(_) => None,
         Ok(ratio) => {
-            let more = factor(ratio.numerator())?;
+            let Some(more) = factor(ratio.numerator()) else {
+                return None;
+            };
             factor(wide_product(denominator, more))
         }
+    }
+}
+
+/// A multiple of the denominator and, as far as there is room, of that of a fraction.
+pub fn common_multiple(denominator: i64, fraction: &Frac) -> i64
+    requires { IsDenominator denominator }
+    ensures { IsDenominator result }
+{
+    match further_multiple(denominator, fraction) {
+        Some(multiple) if multiple > 0 => multiple,
+        _ => denominator,
     }
 }
 
@@ -109,10 +132,7 @@ pub fn common_denominator(mult: &[(Var, Frac)]) -> i64
 {
     let mut denominator = 1;
     for (_, number) in mult {
-        match further_multiple(denominator, number) {
-            Some(multiple) if multiple > 0 => denominator = multiple,
-            _ => {}
-        }
+        denominator = common_multiple(denominator, number);
     }
     denominator
 }

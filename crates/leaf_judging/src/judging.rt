@@ -174,11 +174,16 @@ pub fn judge_again(
         states: Vec::new(alloc),
         queue: LeafQueue::new(alloc),
     };
-    tree.visit_leaves(&mut marking)?;
-    Ok(Marks {
-        states: marking.states,
-        queue: marking.queue,
-    })
+    match tree.visit_leaves(&mut marking) {
+        Ok(()) => Ok(Marks {
+            states: marking.states,
+            queue: marking.queue,
+        }),
+        Err(error) => {
+            drop(marking);
+            Err(error)
+        }
+    }
 }
 
 /// What is kept of a tree's leaves beside it: their numbers, and the queue of those that are open.

@@ -5,6 +5,7 @@ ghost use Rattle.lp_model.specs.Rays.{GoesOn, ColumnsGoOn, AreRowsJudged, IsDire
 
 use crate::list::List;
 use crate::model::Model;
+use crate::names::copy_name;
 use crate::types::{Bound, Col, Point, WideStep};
 use frac128::Frac;
 use std::alloc::{AllocError, Global};
@@ -45,12 +46,28 @@ impl Col {
     }
 
     /// The column with the cost 0 in objective 1.
-    fn without_cost(&self) -> Result<Col, AllocError>
+    fn without_cost(&self, alloc: Global) -> Result<Col, AllocError>
         ensures { IfOk result (λ c. c ≡ without_cost self.now) }
     {
-        let mut col = self.clone()?;
-        col.cost = Frac::whole(0);
-        Ok(col)
+        let rows = match self.rows.copy(alloc) {
+            Ok(rows) => rows,
+            Err(error) => return Err(error),
+        };
+        match copy_name(&self.name) {
+            Ok(name) => Ok(Col {
+                name,
+                int: self.int,
+                lo: self.lo,
+                up: self.up,
+                cost: Frac::whole(0),
+                cost2: self.cost2,
+                rows,
+            }),
+            Err(error) => {
+                drop(rows);
+                Err(error)
+            }
+        }
     }
 }
 
@@ -60,7 +77,7 @@ fn cols_without_costs(alloc: Global, cols: &[Col]) -> Result<List<Col>, AllocErr
 {
     let mut list = List::new(alloc);
     for col in cols {
-        list.push(col.without_cost()?)?;
+        list.push(col.without_cost(alloc)?)?;
     }
     Ok(list)
 }

@@ -1,12 +1,14 @@
 -- An edit fits, or has one first fault.
-use Rattle.std.specs.Prelude.{◌≡◌, ℕ, ◌<◌, Bool, List, length, get_or, take, All, Contains}
-use Rattle.std.proofs.Common.{sym, ap, subst, ◌∙◌, arith, inl, inr}
+use Rattle.std.specs.Prelude.{◌≡◌, ◌⊎◌, ℕ, ◌<◌, Bool, List, [], length, get_or, take, All, Contains}
+use Rattle.std.proofs.Common.{sym, ap, subst, ◌∙◌, arith, inl, inr, map}
 use Rattle.std.proofs.lemmas.Bool.{cases_order}
 use Rattle.std.proofs.lemmas.List.{get_or-take, get_or_default, length-take-le}
+use Rattle.rational.specs.Rational.{ℚ}
 use Rattle.lp_model.specs.Program.{Program}
+use Rattle.lp_model.proofs.NameLemmas.{get_or-map}
 use Rattle.lp_model.specs.Lawful.{AreWithinLimits}
-use Rattle.lp_model.specs.Edits.{AreKnown, EditFits}
-use Rattle.model_edits.specs.Faults.{IsFirstUnknown, IsNoSuch, PassesLimit, EditBad}
+use Rattle.lp_model.specs.Edits.{AreKnown, EditFits, HasSubject, known_names, names_beside}
+use Rattle.model_edits.specs.Faults.{IsFirstUnknown, IsUnknownName, IsNoSuch, PassesLimit, EditBad, IsEditFault}
 use Rattle.lp_model.specs.declared.types.Edit.{Edit}
 use Rattle.model_edits.specs.declared.faults.EditFault.{EditFault}
 use Rattle.model_edits.specs.declared.faults.EditFault.TheVariants.{NoSuch, Duplicate, Limit, IntegerUnbounded, Ranged, Memory}
@@ -90,3 +92,22 @@ bad_unique M e (Ranged a) (IntegerUnbounded b) p q = absurd (q.3 p.3)
 bad_unique M e (Ranged a) (Ranged b) p q = ap Ranged (p.5 ∙ sym q.5)
 bad_unique M e f Memory p q = absurd q
 bad_unique M e Memory g p q = absurd p
+
+-- ---- what is told, or that there is no memory to tell it
+
+pub fault_told : (M : Program) (e : Edit) (f g : EditFault) → (f ≡ Memory) ⊎ (f ≡ g) → EditBad M e g → IsEditFault M e f
+fault_told M e f g (inl h) bad = inl h
+fault_told M e f g (inr h) bad = inr (subst (EditBad M e) (sym h) bad)
+
+pub told_with : {P : Type 0} (f g : EditFault) → (f ≡ Memory) ⊎ (f ≡ g) → P → (f ≡ Memory) ⊎ ((f ≡ g) × P)
+told_with f g (inl h) p = inl h
+told_with f g (inr h) p = inr (h, p)
+
+pub unknown_told : (M : Program) (e : Edit) (f : EditFault) → HasSubject M e → IsUnknownName (known_names M e) (names_beside e) f → IsEditFault M e f
+unknown_told M e f there (inl h) = inl h
+unknown_told M e f there (inr (name, h, first)) = inr (subst (EditBad M e) (sym h) (inr (there, first)))
+
+pub unknown_of_place : (known : List (List ℕ)) (named : List (List ℕ × ℚ)) (k : ℕ) (d : List ℕ × ℚ) (f : EditFault) → k < length named → d ≡ get_or named k d
+    → IsFirstUnknown known (map (λ e. e.0) named) (get_or (map (λ e. e.0) named) k []) → (f ≡ Memory) ⊎ (f ≡ NoSuch d.0) → IsUnknownName known (map (λ e. e.0) named) f
+unknown_of_place known named k d f below is first (inl h) = inl h
+unknown_of_place known named k d f below is first (inr h) = inr (d.0, h, subst (IsFirstUnknown known (map (λ e. e.0) named)) (get_or-map (λ e. e.0) named k d [] below is) first)

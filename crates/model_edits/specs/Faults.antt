@@ -16,6 +16,10 @@ pub record IsFirstUnknown (known names : List (List ℕ)) (name : List ℕ) : Ty
   pub before : All (Contains known) (take place names)
   pub unknown : ¬ Contains known name
 
+-- the fault tells the first of the names that is none of the known ones, or that there is no memory to tell it
+abbrev pub IsUnknownName : List (List ℕ) → List (List ℕ) → EditFault → Type 0
+IsUnknownName known names f = (f ≡ Memory) ⊎ ((name : List ℕ) × (f ≡ NoSuch name) × IsFirstUnknown known names name)
+
 -- n is the limit of the first count that passes its own
 abbrev pub PassesLimit : Bool → ℕ → ℕ → ℕ → ℕ → Type 0
 PassesLimit wide rows columns entries n =

@@ -8,9 +8,9 @@ ghost use Rattle.model_edits.specs.declared.faults.EditFault.TheVariants.{NoSuch
 ghost use Rattle.model_edits.specs.Changes.{column_changed, column_edit, IsBoundedAfter};
 ghost use Rattle.model_edits.specs.Faults.{IsEditFault};
 
-use crate::faults::EditFault;
+use crate::faults::{EditFault, integer_unbounded, no_such, ranged};
 use frac128::Frac;
-use lp_model::{Bound, Col, List, Model, Name, Row, copy_name, is_range, place_of};
+use lp_model::{Bound, Col, List, Model, Name, Row, is_range, place_of};
 use std::alloc::Global;
 
 /// What changes of one column.
@@ -101,7 +101,7 @@ pub(crate) fn col_at(model: &Model, name: &Name) -> Result<usize, EditFault>
 {
     match place_of(model.cols(), name.as_slice()) {
         Some(place) => Ok(place),
-        None => Err(EditFault::NoSuch(copy_name(name)?)),
+        None => Err(no_such(name)),
     }
 }
 
@@ -112,7 +112,7 @@ pub(crate) fn row_at(model: &Model, name: &Name) -> Result<usize, EditFault>
 {
     match place_of(model.rows(), name.as_slice()) {
         Some(place) => Ok(place),
-        None => Err(EditFault::NoSuch(copy_name(name)?)),
+        None => Err(no_such(name)),
     }
 }
 
@@ -124,7 +124,7 @@ fn check_change(model: &Model, name: &Name, change: &ColChange) -> Result<usize,
 {
     let place = col_at(model, name)?;
     if !change.keeps_bounded(&model.cols()[place]) {
-        return Err(EditFault::IntegerUnbounded(copy_name(name)?));
+        return Err(integer_unbounded(name));
     }
     Ok(place)
 }
@@ -161,7 +161,7 @@ fn check_sides(
     let place = row_at(model, name)?;
     let row = &model.rows()[place];
     if !is_range(&side_or(lo, &row.lo), &side_or(hi, &row.hi)) {
-        return Err(EditFault::Ranged(copy_name(name)?));
+        return Err(ranged(name));
     }
     Ok(place)
 }

@@ -6,8 +6,8 @@ ghost use Rattle.lp_model.specs.Edits.{with_entry, number_beside, edited, adds_c
 ghost use Rattle.model_edits.specs.Faults.{PassesLimit, IsEditFault};
 
 use crate::changing::{ColChange, set_col, set_row};
-use crate::faults::EditFault;
-use crate::names::{count_beside, entries_beside, first_unknown, has_name, is_same, number_beside};
+use crate::faults::{EditFault, duplicate, integer_unbounded, ranged};
+use crate::names::{count_beside, entries_beside, has_name, is_same, number_beside, unknown_name};
 use crate::removing::{del_col, del_row, replace_row};
 use frac128::Frac;
 use lp_model::{Bound, Col, Edit, List, Model, Name, Row, RowId, copy_name, is_range, is_zero};
@@ -175,14 +175,23 @@ pub(crate) fn with_entries(col: &Col, rows: List<(RowId, Frac)>) -> Result<Col, 
 }
 
 /// A copy of the column with one more entry, where its number is not 0.
-fn with_entry(col: &Col, row: RowId, number: Frac) -> Result<Col, AllocError>
+fn with_entry(alloc: Global, col: &Col, row: RowId, number: Frac) -> Result<Col, AllocError>
     ensures { IfOk result (λ c. c ≡ with_entry row.0 number col.now) }
 {
-    let mut longer = col.clone()?;
-    if !is_zero(&number) {
-        longer.rows.push((row, number))?;
+    let mut rows = match col.rows.copy(alloc) {
+        Ok(rows) => rows,
+        Err(error) => return Err(error),
+    };
+    if is_zero(&number) {
+        return with_entries(col, rows);
     }
-    Ok(longer)
+    match rows.push((row, number)) {
+        Ok(()) => with_entries(col, rows),
+        Err(error) => {
+            drop(rows);
+            Err(error)
+        }
+    }
 }
 
 /// The columns with a further row's coefficients.
@@ -197,7 +206,10 @@ fn with_row(
     let mut changed = List::new(alloc);
     for col in cols {
         let number = number_beside(&col.name, named);
-        changed.push(with_entry(col, row, number)?)?;
+        match with_entry(alloc, col, row, number) {
+            Ok(longer) => changed.push(longer)?,
+            Err(error) => return Err(error),
+        }
     }
     Ok(changed)
 }
@@ -241,18 +253,18 @@ fn check_col(model: &Model, col: &Col, named: &[(Name, Frac)]) -> Result<(), Edi
 {
     let rows = model.rows();
     let cols = model.cols();
-    if let Some(place) = first_unknown(rows, named) {
-        return Err(EditFault::NoSuch(copy_name(&named[place].0)?));
+    if let Some(fault) = unknown_name(rows, named) {
+        return Err(fault);
     }
     if has_name(cols, &col.name) {
-        return Err(EditFault::Duplicate(copy_name(&col.name)?));
+        return Err(duplicate(&col.name));
     }
     let entries = count_entries(cols) + count_beside(rows, named);
     if let Some(limit) = passed_limit(model.is_wide(), rows.len(), cols.len() + 1, entries) {
         return Err(EditFault::Limit(limit));
     }
     if !is_bounded(col) {
-        return Err(EditFault::IntegerUnbounded(copy_name(&col.name)?));
+        return Err(integer_unbounded(&col.name));
     }
     Ok(())
 }
@@ -264,18 +276,18 @@ fn check_row(model: &Model, row: &Row, named: &[(Name, Frac)]) -> Result<(), Edi
 {
     let rows = model.rows();
     let cols = model.cols();
-    if let Some(place) = first_unknown(cols, named) {
-        return Err(EditFault::NoSuch(copy_name(&named[place].0)?));
+    if let Some(fault) = unknown_name(cols, named) {
+        return Err(fault);
     }
     if has_row_name(model, &row.name) {
-        return Err(EditFault::Duplicate(copy_name(&row.name)?));
+        return Err(duplicate(&row.name));
     }
     let entries = count_entries(cols) + count_beside(cols, named);
     if let Some(limit) = passed_limit(model.is_wide(), rows.len() + 1, cols.len(), entries) {
         return Err(EditFault::Limit(limit));
     }
     if !is_range(&row.lo, &row.hi) {
-        return Err(EditFault::Ranged(copy_name(&row.name)?));
+        return Err(ranged(&row.name));
     }
     Ok(())
 }

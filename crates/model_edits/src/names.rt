@@ -1,8 +1,9 @@
 // Numbers beside names, and which of the names there are.
 ghost use Rattle.std.specs.Prelude.{◌≡◌, ◌↔◌, ◌<◌, ◌≤◌, ◌^◌, [], map, length, get_or, IsTrue, All, Contains, MatchOption, bytes_eq, IfOk};
 ghost use Rattle.lp_model.specs.Edits.{number_beside, entries_beside};
-ghost use Rattle.model_edits.specs.Faults.{IsFirstUnknown};
+ghost use Rattle.model_edits.specs.Faults.{IsFirstUnknown, IsUnknownName};
 
+use crate::faults::{EditFault, no_such};
 use frac128::Frac;
 use lp_model::{List, Name, Named, RowId, is_zero, place_of};
 use std::alloc::{AllocError, Global};
@@ -43,6 +44,16 @@ pub fn first_unknown<T: Named>(items: &[T], named: &[(Name, Frac)]) -> Option<us
         }
     }
     None
+}
+
+/// The fault of the first name that none of the items has.
+pub(crate) fn unknown_name<T: Named>(items: &[T], named: &[(Name, Frac)]) -> Option<EditFault>
+    ensures { MatchOption result (All (Contains (map T.name items.now)) (map (λ e. e.0) named.now)) (IsUnknownName (map T.name items.now) (map (λ e. e.0) named.now)) }
+{
+    match first_unknown(items, named) {
+        Some(place) => Some(no_such(&named[place].0)),
+        None => None,
+    }
 }
 
 /// The places and the numbers of the items whose number is not 0.

@@ -9,10 +9,10 @@ ghost use Rattle.model_edits.specs.Faults.{IsEditFault};
 
 use crate::changing::{change_row, col_at, row_at};
 use crate::edits::{count_entries, passed_limit, with_entries};
-use crate::faults::EditFault;
-use crate::names::{first_unknown, number_beside};
+use crate::faults::{EditFault, ranged};
+use crate::names::{number_beside, unknown_name};
 use frac128::Frac;
-use lp_model::{Bound, Col, List, Model, Name, RowId, copy_name, is_range, is_zero, place_after};
+use lp_model::{Bound, Col, List, Model, Name, RowId, is_range, is_zero, place_after};
 use std::alloc::{AllocError, Global};
 
 /// The entries without that of a row, which is taken out.
@@ -205,8 +205,8 @@ fn check_replacement(
     let rows = model.rows();
     let cols = model.cols();
     let named = named.as_slice();
-    if let Some(place) = first_unknown(cols, named) {
-        return Err(EditFault::NoSuch(copy_name(&named[place].0)?));
+    if let Some(fault) = unknown_name(cols, named) {
+        return Err(fault);
     }
     let changed = with_numbers(alloc, cols, row, named)?;
     let entries = count_entries(changed.as_slice());
@@ -216,7 +216,7 @@ fn check_replacement(
     }
     if !is_range(lo, hi) {
         drop(changed);
-        return Err(EditFault::Ranged(copy_name(name)?));
+        return Err(ranged(name));
     }
     Ok((row, changed))
 }

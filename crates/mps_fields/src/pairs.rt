@@ -1,7 +1,7 @@
 // The pairs of a row's name and a number on a line.
-ghost use Rattle.std.specs.Prelude.{◌≡◌, ◌≤◌};
+ghost use Rattle.std.specs.Prelude.{◌≡◌, ◌≤◌, [], ◌∷◌};
 ghost use Rattle.mps_text.specs.Reading.{entry_of_record};
-ghost use Rattle.mps_fields.specs.Fields.{has_count, is_long_name, column_pairs, set_pairs, pairs_shown, pairs_on};
+ghost use Rattle.mps_fields.specs.Fields.{has_count, is_long_name, pairs, column_pairs, set_pairs, pairs_shown, pairs_on};
 
 use crate::pair::{Pair, Pairs};
 use crate::words::LineKind;
@@ -23,16 +23,27 @@ pub fn has_count(entry: &Record, fewest: usize, most: usize) -> bool
     fewest <= count && count <= most
 }
 
+/// A row's name and the field beside it.
+fn one_pair<'a>(row: &'a [u8], number: &'a [u8]) -> Pairs<'a>
+    ensures { pairs_shown result ≡ pairs (row.now ∷ number.now ∷ []) }
+{
+    Pairs::One(Pair::of(row, number))
+}
+
+/// Two rows' names, each with the field beside it.
+fn two_pairs<'a>(row: &'a [u8], number: &'a [u8], other: &'a [u8], behind: &'a [u8]) -> Pairs<'a>
+    ensures { pairs_shown result ≡ pairs (row.now ∷ number.now ∷ other.now ∷ behind.now ∷ []) }
+{
+    Pairs::Two(Pair::of(row, number), Pair::of(other, behind))
+}
+
 /// The pairs behind a column's name.
 fn column_pairs<'a>(entry: &Record<'a>) -> Pairs<'a>
     ensures { pairs_shown result ≡ column_pairs (entry_of_record entry.now) }
 {
     match entry.fields {
-        Fields::Three(_, row, number) => Pairs::One(Pair::of(row, number)),
-        Fields::Five(_, row, number, other, behind) => Pairs::Two(
-            Pair::of(row, number),
-            Pair::of(other, behind),
-        ),
+        Fields::Three(_, row, number) => one_pair(row, number),
+        Fields::Five(_, row, number, other, behind) => two_pairs(row, number, other, behind),
         _ => Pairs::Nothing,
     }
 }
@@ -42,16 +53,10 @@ fn set_pairs<'a>(entry: &Record<'a>) -> Pairs<'a>
     ensures { pairs_shown result ≡ set_pairs (entry_of_record entry.now) }
 {
     match entry.fields {
-        Fields::Two(row, number) => Pairs::One(Pair::of(row, number)),
-        Fields::Three(_, row, number) => Pairs::One(Pair::of(row, number)),
-        Fields::Four(row, number, other, behind) => Pairs::Two(
-            Pair::of(row, number),
-            Pair::of(other, behind),
-        ),
-        Fields::Five(_, row, number, other, behind) => Pairs::Two(
-            Pair::of(row, number),
-            Pair::of(other, behind),
-        ),
+        Fields::Two(row, number) => one_pair(row, number),
+        Fields::Three(_, row, number) => one_pair(row, number),
+        Fields::Four(row, number, other, behind) => two_pairs(row, number, other, behind),
+        Fields::Five(_, row, number, other, behind) => two_pairs(row, number, other, behind),
         _ => Pairs::Nothing,
     }
 }

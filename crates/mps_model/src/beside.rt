@@ -47,7 +47,10 @@ fn zeros(alloc: Global, names: &[Name]) -> Result<Vec<Frac>, AllocError>
 {
     let mut zeros = Vec::new(alloc);
     for _name in names {
-        zeros.push(Frac::whole(0))?;
+        let Ok(()) = zeros.push(Frac::whole(0)) else {
+            drop(zeros);
+            return Err(AllocError);
+        };
     }
     Ok(zeros)
 }
@@ -83,7 +86,9 @@ pub(crate) fn numbers_beside(
 ) -> Result<Vec<Frac>, AllocError>
     ensures { IfOk result (λ found. found.items ≡ row_numbers_beside names.now.names numbers.now) }
 {
-    let mut found = zeros(alloc, names.names.as_slice())?;
+    let Ok(mut found) = zeros(alloc, names.names.as_slice()) else {
+        return Err(AllocError);
+    };
     set_numbers(found.as_mut_slice(), names, numbers);
     Ok(found)
 }
@@ -100,8 +105,7 @@ fn push_entry(
     if is_zero(number) {
         return Ok(());
     }
-    entries.push((RowId(place as u32), *number))?;
-    Ok(())
+    entries.push((RowId(place as u32), *number))
 }
 
 /// The numbers that are not 0, by their places.
@@ -111,7 +115,10 @@ pub(crate) fn entries_of(alloc: Global, numbers: &[Frac]) -> Result<List<(RowId,
 {
     let mut entries = List::new(alloc);
     for place in 0..numbers.len() {
-        push_entry(&mut entries, place, &numbers[place])?;
+        let Ok(()) = push_entry(&mut entries, place, &numbers[place]) else {
+            drop(entries);
+            return Err(AllocError);
+        };
     }
     Ok(entries)
 }

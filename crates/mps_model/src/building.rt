@@ -31,7 +31,9 @@ fn row_with(
     ensures is { IfOk result (λ r. r ≡ row_with number.now range.now row.now) }
     ensures range { IfOk result (λ r. IsRange r.lo r.hi) }
 {
-    let name = copied(alloc, row.name.as_slice())?;
+    let Ok(name) = copied(alloc, row.name.as_slice()) else {
+        return Err(AllocError);
+    };
     number.has_room();
     let sides = sides_of(row.kind, number, range);
     Ok(Row {
@@ -60,8 +62,14 @@ fn rows_with(
     for place in 0..lines.len() {
         let line = &lines[place];
         let range = range_beside(sections.ranges.as_slice(), line.name.as_slice());
-        let row = row_with(alloc, line, &numbers[place], &range)?;
-        rows.push(row)?;
+        let Ok(row) = row_with(alloc, line, &numbers[place], &range) else {
+            drop(rows);
+            return Err(AllocError);
+        };
+        let Ok(()) = rows.push(row) else {
+            drop(rows);
+            return Err(AllocError);
+        };
     }
     Ok(rows)
 }
@@ -81,10 +89,18 @@ fn column_with(
     ensures { IfOk result (λ c. c ≡ column_of sections.now intupper column.now) }
 {
     let numbers = column.numbers.as_slice();
-    let beside = numbers_beside(alloc, names, numbers)?;
-    let rows = entries_of(alloc, beside.as_slice())?;
+    let Ok(beside) = numbers_beside(alloc, names, numbers) else {
+        return Err(AllocError);
+    };
+    let entries = entries_of(alloc, beside.as_slice());
     drop(beside);
-    let name = copied(alloc, column.name.as_slice())?;
+    let Ok(rows) = entries else {
+        return Err(AllocError);
+    };
+    let Ok(name) = copied(alloc, column.name.as_slice()) else {
+        drop(rows);
+        return Err(AllocError);
+    };
     Ok(Col {
         name,
         int: span.integer,
@@ -113,8 +129,15 @@ fn columns_of(
     let mut columns = List::new(alloc);
     for place in 0..lines.len() {
         let line = &lines[place];
-        let column = column_with(alloc, sections, names, line, &spans[place], intupper)?;
-        columns.push(column)?;
+        let span = &spans[place];
+        let Ok(column) = column_with(alloc, sections, names, line, span, intupper) else {
+            drop(columns);
+            return Err(AllocError);
+        };
+        let Ok(()) = columns.push(column) else {
+            drop(columns);
+            return Err(AllocError);
+        };
     }
     Ok(columns)
 }
@@ -136,7 +159,9 @@ fn parts_of(
     ensures columns { IfOk result (λ parts. parts.1 ≡ map (column_of sections.now intupper) sections.now.columns) }
 {
     let numbers = table.numbers.as_slice();
-    let rows = rows_with(alloc, sections, sections.rows.as_slice(), numbers)?;
+    let Ok(rows) = rows_with(alloc, sections, sections.rows.as_slice(), numbers) else {
+        return Err(AllocError);
+    };
     let lines = sections.columns.as_slice();
     match columns_of(alloc, sections, &table.names, lines, spans, intupper) {
         Ok(columns) => Ok((rows, columns)),
@@ -176,7 +201,9 @@ pub(crate) fn model_of(
     requires bounded { column_flaw intupper sections.now.bounds sections.now.columns ≡ None }
     ensures { IfOk result (λ m. m ≡ model_of sections.now intupper) }
 {
-    let parts = parts_of(alloc, sections, table, spans, intupper)?;
+    let Ok(parts) = parts_of(alloc, sections, table, spans, intupper) else {
+        return Err(AllocError);
+    };
     match objective_names(alloc, sections) {
         Ok(names) => {
             let constants = [constant_of(sections), second_constant_of(sections)];

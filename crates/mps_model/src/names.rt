@@ -19,12 +19,17 @@ pub(crate) struct Names {
 }
 
 /// Puts a copy of a name behind others.
-fn push_copy(alloc: Global, names: &mut List<Name>, name: &[u8]) -> Result<(), AllocError>
+pub(crate) fn push_copy(
+    alloc: Global,
+    names: &mut List<Name>,
+    name: &[u8],
+) -> Result<(), AllocError>
     ensures { OnOk result (names.new ≡ names.old ++ name.now ∷ []) }
 {
-    let copy = copied(alloc, name)?;
-    names.push(copy)?;
-    Ok(())
+    let Ok(copy) = copied(alloc, name) else {
+        return Err(AllocError);
+    };
+    names.push(copy)
 }
 
 /// The names of the rows.
@@ -33,7 +38,10 @@ pub(crate) fn names_of_rows(alloc: Global, rows: &[RowLine]) -> Result<List<Name
 {
     let mut names = List::new(alloc);
     for row in rows {
-        push_copy(alloc, &mut names, row.name.as_slice())?;
+        let Ok(()) = push_copy(alloc, &mut names, row.name.as_slice()) else {
+            drop(names);
+            return Err(AllocError);
+        };
     }
     Ok(names)
 }
@@ -47,7 +55,10 @@ pub(crate) fn names_of_columns(
 {
     let mut names = List::new(alloc);
     for column in columns {
-        push_copy(alloc, &mut names, column.name.as_slice())?;
+        let Ok(()) = push_copy(alloc, &mut names, column.name.as_slice()) else {
+            drop(names);
+            return Err(AllocError);
+        };
     }
     Ok(names)
 }
@@ -57,7 +68,10 @@ fn index_of(alloc: Global, names: &[Name]) -> Result<NameIndex, AllocError>
 {
     let mut index = NameIndex::new(alloc);
     for place in 0..names.len() {
-        index.insert(alloc, names[place].as_slice(), place)?;
+        let Ok(()) = index.insert(alloc, names[place].as_slice(), place) else {
+            drop(index);
+            return Err(AllocError);
+        };
     }
     Ok(index)
 }

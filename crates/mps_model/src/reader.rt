@@ -38,7 +38,9 @@ pub fn read(alloc: Global, text: &[u8], intupper: Option<u64>) -> Result<Model, 
         Err(Stop::Fault(fault)) => return Err(bad(fault)),
         Err(Stop::Memory) => return Err(MpsFault::Memory),
     };
-    model_read(alloc, &sections, intupper)
+    let model = model_read(alloc, &sections, intupper);
+    drop(sections);
+    model
 }
 
 /// A fault as an answer.
@@ -60,10 +62,14 @@ fn model_read(alloc: Global, sections: &Sections, intupper: Option<u64>) -> Resu
         return Err(MpsFault::Memory);
     };
     let Ok(spans) = spans_of(alloc, sections) else {
+        drop(table);
         return Err(MpsFault::Memory);
     };
     let columns = sections.columns.as_slice();
-    model_with(alloc, sections, columns, &table, spans.as_slice(), intupper)
+    let model = model_with(alloc, sections, columns, &table, spans.as_slice(), intupper);
+    drop(spans);
+    drop(table);
+    model
 }
 
 /// The first fault that is looked for only where no line is faulty: of RANGES, then of the columns.

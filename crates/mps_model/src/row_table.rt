@@ -27,10 +27,19 @@ impl RowTable {
         requires { AreNamesApart (stated_row_names sections.now.rows) }
         ensures { IfOk result (IsRowTableOf sections.now) }
     {
-        let list = names_of_rows(alloc, sections.rows.as_slice())?;
-        let names = Names::of(alloc, list)?;
-        let numbers = numbers_beside(alloc, &names, sections.sides.as_slice())?;
-        Ok(RowTable { names, numbers })
+        let Ok(list) = names_of_rows(alloc, sections.rows.as_slice()) else {
+            return Err(AllocError);
+        };
+        let Ok(names) = Names::of(alloc, list) else {
+            return Err(AllocError);
+        };
+        match numbers_beside(alloc, &names, sections.sides.as_slice()) {
+            Ok(numbers) => Ok(RowTable { names, numbers }),
+            Err(error) => {
+                drop(names);
+                Err(error)
+            }
+        }
     }
 
     /// The code of a number of RANGES, if it has one.

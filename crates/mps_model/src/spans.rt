@@ -142,12 +142,16 @@ fn starts(alloc: Global, columns: &[ColumnLines]) -> Result<Vec<Span>, AllocErro
     for column in columns {
         let lower: Option<Frac> = Some(Frac::whole(0));
         let upper: Option<Frac> = None;
-        spans.push(Span {
+        let span = Span {
             integer: column.marked,
             lower,
             upper,
             named: false,
-        })?;
+        };
+        let Ok(()) = spans.push(span) else {
+            drop(spans);
+            return Err(AllocError);
+        };
     }
     Ok(spans)
 }
@@ -177,16 +181,46 @@ fn set_bounds(spans: &mut [Span], names: &Names, bounds: &[BoundLine])
     }
 }
 
+/// The places of the columns by name.
+fn names_in(alloc: Global, columns: &[ColumnLines]) -> Result<Names, AllocError>
+    requires { AreNamesApart (names_of_columns columns.now) }
+    ensures { IfOk result (λ names. names.names ≡ names_of_columns columns.now) }
+{
+    let Ok(list) = names_of_columns(alloc, columns) else {
+        return Err(AllocError);
+    };
+    Names::of(alloc, list)
+}
+
+/// The kind and bounds of each column, whose place these names tell, after all bound lines.
+fn spans_with(
+    alloc: Global,
+    names: &Names,
+    columns: &[ColumnLines],
+    bounds: &[BoundLine],
+) -> Result<Vec<Span>, AllocError>
+    requires { names.now.names ≡ names_of_columns columns.now }
+    ensures { IfOk result (λ spans. spans.items ≡ map (span_of bounds.now) columns.now) }
+{
+    let Ok(mut spans) = starts(alloc, columns) else {
+        return Err(AllocError);
+    };
+    set_bounds(spans.as_mut_slice(), names, bounds);
+    Ok(spans)
+}
+
 /// The kind and bounds of each column after all bound lines.
 pub(crate) fn spans_of(alloc: Global, sections: &Sections) -> Result<Vec<Span>, AllocError>
     requires { AreNamesApart (names_of_columns sections.now.columns) }
     ensures { IfOk result (λ spans. spans.items ≡ map (span_of sections.now.bounds) sections.now.columns) }
 {
-    let list = names_of_columns(alloc, sections.columns.as_slice())?;
-    let names = Names::of(alloc, list)?;
-    let mut spans = starts(alloc, sections.columns.as_slice())?;
-    set_bounds(spans.as_mut_slice(), &names, sections.bounds.as_slice());
-    Ok(spans)
+    let columns = sections.columns.as_slice();
+    let Ok(names) = names_in(alloc, columns) else {
+        return Err(AllocError);
+    };
+    let spans = spans_with(alloc, &names, columns, sections.bounds.as_slice());
+    drop(names);
+    spans
 }
 
 /// The line of the first integer column that lacks a bound.

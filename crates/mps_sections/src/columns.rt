@@ -46,8 +46,15 @@ impl OpenColumn {
     ) -> Result<OpenColumn, AllocError>
         ensures { IfOk result (λ c. open_shown c ≡ record { name = name.now; line = line; marked = marked; numbers = map read_pair (pairs_shown pairs.now) }) }
     {
-        let name = copied(alloc, name)?;
-        let numbers = Numbered::new(alloc).with(alloc, pairs)?;
+        let mut numbers = Numbered::new(alloc);
+        let Ok(()) = numbers.add(alloc, pairs) else {
+            drop(numbers);
+            return Err(AllocError);
+        };
+        let Ok(name) = copied(alloc, name) else {
+            drop(numbers);
+            return Err(AllocError);
+        };
         Ok(OpenColumn {
             name,
             line,
@@ -62,28 +69,11 @@ impl OpenColumn {
         self.name.as_slice() == name
     }
 
-    /// The column with one more line.
-    fn with(self, alloc: Global, pairs: &Pairs) -> Result<OpenColumn, AllocError>
-        ensures { IfOk result (λ c. open_shown c ≡ record { name = self.name; line = self.line; marked = self.marked; numbers = self.numbers.numbers ++ map read_pair (pairs_shown pairs.now) }) }
+    /// One more line.
+    fn add(&mut self, alloc: Global, pairs: &Pairs) -> Result<(), AllocError>
+        ensures { OnOk result (open_shown self.new ≡ record { name = self.old.name; line = self.old.line; marked = self.old.marked; numbers = self.old.numbers.numbers ++ map read_pair (pairs_shown pairs.now) }) }
     {
-        let OpenColumn {
-            name,
-            line,
-            marked,
-            numbers,
-        } = self;
-        match numbers.with(alloc, pairs) {
-            Ok(more) => Ok(OpenColumn {
-                name,
-                line,
-                marked,
-                numbers: more,
-            }),
-            Err(error) => {
-                drop(name);
-                Err(error)
-            }
-        }
+        self.numbers.add(alloc, pairs)
     }
 
     /// The column without further lines.
@@ -114,10 +104,23 @@ impl OpenColumn {
         ensures done { OnOk result (done.new ≡ done.old ++ open_shown self ∷ []) }
         ensures known { OnOk result ((q : Items ℕ) → has known.new q ≡ (bytes_eq self.name q || has known.old q)) }
     {
-        known.insert(alloc, self.name.as_slice())?;
-        done.push(self.closed())?;
-        Ok(())
+        match known.insert(alloc, self.name.as_slice()) {
+            Ok(()) => done.push(self.closed()),
+            Err(error) => {
+                drop(self);
+                Err(error)
+            }
+        }
     }
+}
+
+/// No columns and no names.
+fn clear(alloc: Global, done: &mut List<ColumnLines>, known: &mut NameSet)
+    ensures done { done.new ≡ [] }
+    ensures known { (q : Items ℕ) → has known.new q ≡ false }
+{
+    drop(mem::replace(done, List::new(alloc)));
+    drop(mem::replace(known, NameSet::new(alloc)));
 }
 
 impl Columns {
@@ -175,99 +178,45 @@ impl Columns {
         }
     }
 
-    /// The columns with one more line of the last one.
-    fn with_last(self, alloc: Global, pairs: &Pairs) -> Result<Columns, AllocError>
-        ensures { IfOk result (λ more. columns_in more ≡ with_more (columns_in self) (map read_pair (pairs_shown pairs.now))) }
+    /// One more line of the last column.
+    fn add_last(&mut self, alloc: Global, pairs: &Pairs) -> Result<(), AllocError>
+        ensures { OnOk result (columns_in self.new ≡ with_more (columns_in self.old) (map read_pair (pairs_shown pairs.now))) }
     {
-        let Columns { done, known, last } = self;
-        match last {
-            Some(column) => match column.with(alloc, pairs) {
-                Ok(more) => Ok(Columns {
-                    done,
-                    known,
-                    last: Some(more),
-                }),
-                Err(error) => {
-                    drop(done);
-                    drop(known);
-                    Err(error)
-                }
-            },
-            None => Ok(Columns {
-                done,
-                known,
-                last: None,
-            }),
+        match &mut self.last {
+            Some(column) => column.add(alloc, pairs),
+            None => Ok(()),
         }
     }
 
-    /// The columns with a further one.
-    fn with_column(self, alloc: Global, column: OpenColumn) -> Result<Columns, AllocError>
-        ensures { IfOk result (λ more. columns_in more ≡ columns_in self ++ open_shown column ∷ []) }
+    /// A further column. Where there is no memory for it no other one stays.
+    fn add_column(&mut self, alloc: Global, column: OpenColumn) -> Result<(), AllocError>
+        ensures { OnOk result (columns_in self.new ≡ columns_in self.old ++ open_shown column ∷ []) }
     {
-        let Columns {
-            mut done,
-            mut known,
-            last,
-        } = self;
-        match last {
-            Some(before) => match before.add_to(alloc, &mut done, &mut known) {
-                Ok(()) => Ok(Columns {
-                    done,
-                    known,
-                    last: Some(column),
-                }),
+        match mem::replace(&mut self.last, Some(column)) {
+            Some(before) => match before.add_to(alloc, &mut self.done, &mut self.known) {
+                Ok(()) => Ok(()),
                 Err(error) => {
-                    drop(done);
-                    drop(known);
-                    drop(column);
+                    clear(alloc, &mut self.done, &mut self.known);
                     Err(error)
                 }
             },
-            None => Ok(Columns {
-                done,
-                known,
-                last: Some(column),
-            }),
+            None => Ok(()),
         }
     }
 
-    /// The columns with the first line of a further one.
-    fn with_further(
-        self,
+    /// The first line of a further column.
+    fn add_further(
+        &mut self,
         alloc: Global,
         name: &[u8],
         line: u64,
         marked: bool,
         pairs: &Pairs,
-    ) -> Result<Columns, AllocError>
-        ensures { IfOk result (λ more. columns_in more ≡ columns_in self ++ record { name = name.now; line = line; marked = marked; numbers = map read_pair (pairs_shown pairs.now) } ∷ []) }
+    ) -> Result<(), AllocError>
+        ensures { OnOk result (columns_in self.new ≡ columns_in self.old ++ record { name = name.now; line = line; marked = marked; numbers = map read_pair (pairs_shown pairs.now) } ∷ []) }
     {
-        match OpenColumn::new(alloc, name, line, marked, pairs) {
-            Ok(column) => self.with_column(alloc, column),
-            Err(error) => {
-                drop(self);
-                Err(error)
-            }
-        }
-    }
-
-    /// The columns with one more line: of the last one, or of a further one.
-    fn with(
-        self,
-        alloc: Global,
-        name: &[u8],
-        line: u64,
-        marked: bool,
-        pairs: &Pairs,
-    ) -> Result<Columns, AllocError>
-        ensures { IfOk result (λ more. columns_in more ≡ with_line (columns_in self) name.now line marked (map read_pair (pairs_shown pairs.now))) }
-    {
-        if self.is_last(name) {
-            self.with_last(alloc, pairs)
-        } else {
-            self.with_further(alloc, name, line, marked, pairs)
-        }
+        let column = OpenColumn::new(alloc, name, line, marked, pairs)?;
+        self.add_column(alloc, column)
     }
 
     /// One more line: of the last column, or of a further one.
@@ -281,9 +230,11 @@ impl Columns {
     ) -> Result<(), AllocError>
         ensures { OnOk result (columns_in self.new ≡ with_line (columns_in self.old) name.now line marked (map read_pair (pairs_shown pairs.now))) }
     {
-        let before = mem::replace(self, Columns::new(alloc));
-        *self = before.with(alloc, name, line, marked, pairs)?;
-        Ok(())
+        if self.is_last(name) {
+            self.add_last(alloc, pairs)
+        } else {
+            self.add_further(alloc, name, line, marked, pairs)
+        }
     }
 
     /// All columns.

@@ -33,7 +33,9 @@ impl NameSet {
     pub(crate) fn insert(&mut self, alloc: Global, name: &[u8]) -> Result<(), AllocError>
         ensures { OnOk result ((q : List ℕ) → has self.new q ≡ (bytes_eq name.now q || has self.old q)) }
     {
-        let key = Vec::from_slice(alloc, name)?;
+        let Ok(key) = Vec::from_slice(alloc, name) else {
+            return Err(AllocError);
+        };
         self.keys.insert(key)?;
         Ok(())
     }

@@ -1,5 +1,5 @@
 // Numbers beside the names of rows.
-ghost use Rattle.std.specs.Prelude.{◌≡◌, ℕ, List as Items, [], ◌∷◌, ◌++◌, ◌||◌, map, bytes_eq, IfOk, OnOk};
+ghost use Rattle.std.specs.Prelude.{◌≡◌, ℕ, List as Items, [], ◌∷◌, ◌++◌, ◌||◌, false, map, bytes_eq, OnOk};
 ghost use Rattle.mps_sections.specs.Statements.{is_numbered, read_pair};
 ghost use Rattle.mps_sections.specs.Sets.{has};
 ghost use Rattle.mps_fields.specs.Fields.{pair_shown};
@@ -30,11 +30,23 @@ fn add_pair(
     ensures numbers { OnOk result (numbers.new ≡ numbers.old ++ read_pair (pair_shown pair.now) ∷ []) }
     ensures rows { OnOk result ((q : Items ℕ) → has rows.new q ≡ (bytes_eq pair.now.row.now q || has rows.old q)) }
 {
-    rows.insert(alloc, pair.row)?;
-    let row = copied(alloc, pair.row)?;
+    let Ok(()) = rows.insert(alloc, pair.row) else {
+        return Err(AllocError);
+    };
+    let Ok(row) = copied(alloc, pair.row) else {
+        return Err(AllocError);
+    };
     let number = pair.number_or_zero();
-    numbers.push(RowNumber { row, number })?;
-    Ok(())
+    numbers.push(RowNumber { row, number })
+}
+
+/// No numbers and no rows.
+fn clear(alloc: Global, numbers: &mut List<RowNumber>, rows: &mut NameSet)
+    ensures numbers { numbers.new ≡ [] }
+    ensures rows { (q : Items ℕ) → has rows.new q ≡ false }
+{
+    drop(mem::replace(numbers, List::new(alloc)));
+    drop(mem::replace(rows, NameSet::new(alloc)));
 }
 
 impl Numbered {
@@ -62,33 +74,15 @@ impl Numbered {
         }
     }
 
-    fn with_pair(self, alloc: Global, pair: &Pair) -> Result<Numbered, AllocError>
-        ensures { IfOk result (λ more. more.numbers ≡ self.numbers ++ read_pair (pair_shown pair.now) ∷ []) }
+    /// The number of one more pair. Where there is no memory for it no number stays.
+    fn add_one(&mut self, alloc: Global, pair: &Pair) -> Result<(), AllocError>
+        ensures { OnOk result (self.new.numbers ≡ self.old.numbers ++ read_pair (pair_shown pair.now) ∷ []) }
     {
-        let Numbered {
-            mut numbers,
-            mut rows,
-        } = self;
-        match add_pair(alloc, &mut numbers, &mut rows, pair) {
-            Ok(()) => Ok(Numbered { numbers, rows }),
+        match add_pair(alloc, &mut self.numbers, &mut self.rows, pair) {
+            Ok(()) => Ok(()),
             Err(error) => {
-                drop(numbers);
-                drop(rows);
+                clear(alloc, &mut self.numbers, &mut self.rows);
                 Err(error)
-            }
-        }
-    }
-
-    /// The numbers with those of one more line.
-    pub(crate) fn with(self, alloc: Global, pairs: &Pairs) -> Result<Numbered, AllocError>
-        ensures { IfOk result (λ more. more.numbers ≡ self.numbers ++ map read_pair (pairs_shown pairs.now)) }
-    {
-        match pairs {
-            Pairs::Nothing => Ok(self),
-            Pairs::One(p) => self.with_pair(alloc, p),
-            Pairs::Two(p, q) => {
-                let more = self.with_pair(alloc, p)?;
-                more.with_pair(alloc, q)
             }
         }
     }
@@ -97,9 +91,14 @@ impl Numbered {
     pub(crate) fn add(&mut self, alloc: Global, pairs: &Pairs) -> Result<(), AllocError>
         ensures { OnOk result (self.new.numbers ≡ self.old.numbers ++ map read_pair (pairs_shown pairs.now)) }
     {
-        let before = mem::replace(self, Numbered::new(alloc));
-        *self = before.with(alloc, pairs)?;
-        Ok(())
+        match pairs {
+            Pairs::Nothing => Ok(()),
+            Pairs::One(p) => self.add_one(alloc, p),
+            Pairs::Two(p, q) => {
+                self.add_one(alloc, p)?;
+                self.add_one(alloc, q)
+            }
+        }
     }
 
     /// The numbers alone.

@@ -1,5 +1,5 @@
 // The numbers of RANGES.
-ghost use Rattle.std.specs.Prelude.{◌≡◌, ℕ, List as Items, [], ◌∷◌, ◌++◌, ◌||◌, map, bytes_eq, IfOk, OnOk};
+ghost use Rattle.std.specs.Prelude.{◌≡◌, ℕ, List as Items, [], ◌∷◌, ◌++◌, ◌||◌, false, map, bytes_eq, OnOk};
 ghost use Rattle.mps_sections.specs.Statements.{is_ranged, read_range};
 ghost use Rattle.mps_sections.specs.Sets.{has};
 ghost use Rattle.mps_fields.specs.Fields.{pair_shown};
@@ -31,11 +31,23 @@ fn add_range(
     ensures lines { OnOk result (lines.new ≡ lines.old ++ read_range line (pair_shown pair.now) ∷ []) }
     ensures rows { OnOk result ((q : Items ℕ) → has rows.new q ≡ (bytes_eq pair.now.row.now q || has rows.old q)) }
 {
-    rows.insert(alloc, pair.row)?;
-    let row = copied(alloc, pair.row)?;
+    let Ok(()) = rows.insert(alloc, pair.row) else {
+        return Err(AllocError);
+    };
+    let Ok(row) = copied(alloc, pair.row) else {
+        return Err(AllocError);
+    };
     let number = pair.number_or_zero();
-    lines.push(RangeLine { row, number, line })?;
-    Ok(())
+    lines.push(RangeLine { row, number, line })
+}
+
+/// No numbers and no rows.
+fn clear(alloc: Global, lines: &mut List<RangeLine>, rows: &mut NameSet)
+    ensures lines { lines.new ≡ [] }
+    ensures rows { (q : Items ℕ) → has rows.new q ≡ false }
+{
+    drop(mem::replace(lines, List::new(alloc)));
+    drop(mem::replace(rows, NameSet::new(alloc)));
 }
 
 impl Ranges {
@@ -63,33 +75,15 @@ impl Ranges {
         }
     }
 
-    fn with_pair(self, alloc: Global, line: u64, pair: &Pair) -> Result<Ranges, AllocError>
-        ensures { IfOk result (λ more. more.lines ≡ self.lines ++ read_range line (pair_shown pair.now) ∷ []) }
+    /// The number of one more pair. Where there is no memory for it no number stays.
+    fn add_one(&mut self, alloc: Global, line: u64, pair: &Pair) -> Result<(), AllocError>
+        ensures { OnOk result (self.new.lines ≡ self.old.lines ++ read_range line (pair_shown pair.now) ∷ []) }
     {
-        let Ranges {
-            mut lines,
-            mut rows,
-        } = self;
-        match add_range(alloc, &mut lines, &mut rows, line, pair) {
-            Ok(()) => Ok(Ranges { lines, rows }),
+        match add_range(alloc, &mut self.lines, &mut self.rows, line, pair) {
+            Ok(()) => Ok(()),
             Err(error) => {
-                drop(lines);
-                drop(rows);
+                clear(alloc, &mut self.lines, &mut self.rows);
                 Err(error)
-            }
-        }
-    }
-
-    /// The numbers with those of one more line.
-    fn with(self, alloc: Global, line: u64, pairs: &Pairs) -> Result<Ranges, AllocError>
-        ensures { IfOk result (λ more. more.lines ≡ self.lines ++ map (read_range line) (pairs_shown pairs.now)) }
-    {
-        match pairs {
-            Pairs::Nothing => Ok(self),
-            Pairs::One(p) => self.with_pair(alloc, line, p),
-            Pairs::Two(p, q) => {
-                let more = self.with_pair(alloc, line, p)?;
-                more.with_pair(alloc, line, q)
             }
         }
     }
@@ -98,9 +92,14 @@ impl Ranges {
     pub(crate) fn add(&mut self, alloc: Global, line: u64, pairs: &Pairs) -> Result<(), AllocError>
         ensures { OnOk result (self.new.lines ≡ self.old.lines ++ map (read_range line) (pairs_shown pairs.now)) }
     {
-        let before = mem::replace(self, Ranges::new(alloc));
-        *self = before.with(alloc, line, pairs)?;
-        Ok(())
+        match pairs {
+            Pairs::Nothing => Ok(()),
+            Pairs::One(p) => self.add_one(alloc, line, p),
+            Pairs::Two(p, q) => {
+                self.add_one(alloc, line, p)?;
+                self.add_one(alloc, line, q)
+            }
+        }
     }
 
     /// The numbers alone.

@@ -73,7 +73,9 @@ fn note_lines(alloc: Global, tables: &mut Tables, text: &[u8]) -> Result<(), Sto
         match item {
             Err(fault) => return Err(Stop::Fault(fault)),
             Ok(entry) => {
-                read_line(alloc, tables, &entry)?;
+                if let Err(stop) = read_line(alloc, tables, &entry) {
+                    return Err(stop);
+                }
                 if is_end(&entry) {
                     return Ok(());
                 }

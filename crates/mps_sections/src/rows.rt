@@ -1,5 +1,5 @@
 // The rows that a text states.
-ghost use Rattle.std.specs.Prelude.{◌≡◌, ◌||◌, ◌&&◌, not, ℕ, List as Items, [], ◌∷◌, ◌++◌, bytes_eq, Some, IfOk, OnOk};
+ghost use Rattle.std.specs.Prelude.{◌≡◌, ◌||◌, ◌&&◌, not, ℕ, List as Items, [], ◌∷◌, ◌++◌, bytes_eq, false, Some, OnOk};
 ghost use Rattle.mps_fields.specs.Words.{among};
 ghost use Rattle.mps_sections.specs.Statements.{is_row_name, as_row, as_objective};
 ghost use Rattle.mps_sections.specs.Sets.{has};
@@ -34,10 +34,13 @@ fn add_objective(
     ensures objectives { OnOk result (objectives.new ≡ objectives.old ++ name.now ∷ []) }
     ensures known { OnOk result ((q : Items ℕ) → has known.new q ≡ (bytes_eq name.now q || has known.old q)) }
 {
-    known.insert(alloc, name)?;
-    let copy = copied(alloc, name)?;
-    objectives.push(copy)?;
-    Ok(())
+    let Ok(()) = known.insert(alloc, name) else {
+        return Err(AllocError);
+    };
+    let Ok(copy) = copied(alloc, name) else {
+        return Err(AllocError);
+    };
+    objectives.push(copy)
 }
 
 /// Puts a row with sides behind others, and its name among the names of all rows and of those with sides.
@@ -53,11 +56,35 @@ fn add_sided(
     ensures known { OnOk result ((q : Items ℕ) → has known.new q ≡ (bytes_eq name.now q || has known.old q)) }
     ensures with_sides { OnOk result ((q : Items ℕ) → has with_sides.new q ≡ (bytes_eq name.now q || has with_sides.old q)) }
 {
-    known.insert(alloc, name)?;
-    with_sides.insert(alloc, name)?;
-    let name = copied(alloc, name)?;
-    sided.push(RowLine { name, kind })?;
-    Ok(())
+    let Ok(()) = known.insert(alloc, name) else {
+        return Err(AllocError);
+    };
+    let Ok(()) = with_sides.insert(alloc, name) else {
+        return Err(AllocError);
+    };
+    let Ok(name) = copied(alloc, name) else {
+        return Err(AllocError);
+    };
+    sided.push(RowLine { name, kind })
+}
+
+/// No rows and no names.
+fn clear(
+    alloc: Global,
+    sided: &mut List<RowLine>,
+    objectives: &mut List<Name>,
+    known: &mut NameSet,
+    with_sides: &mut NameSet,
+)
+    ensures sided { sided.new ≡ [] }
+    ensures objectives { objectives.new ≡ [] }
+    ensures known { (q : Items ℕ) → has known.new q ≡ false }
+    ensures with_sides { (q : Items ℕ) → has with_sides.new q ≡ false }
+{
+    drop(mem::replace(sided, List::new(alloc)));
+    drop(mem::replace(objectives, List::new(alloc)));
+    drop(mem::replace(known, NameSet::new(alloc)));
+    drop(mem::replace(with_sides, NameSet::new(alloc)));
 }
 
 impl Rows {
@@ -120,70 +147,55 @@ impl Rows {
         }
     }
 
-    /// The rows with one more of type N.
-    fn with_objective(self, alloc: Global, name: &[u8]) -> Result<Rows, AllocError>
-        ensures sided { IfOk result (λ rows. rows.sided ≡ self.sided) }
-        ensures objectives { IfOk result (λ rows. rows.objectives ≡ self.objectives ++ name.now ∷ []) }
+    /// One more row of type N. Where there is no memory for it no row stays.
+    fn add_free(&mut self, alloc: Global, name: &[u8]) -> Result<(), AllocError>
+        ensures sided { OnOk result (self.new.sided ≡ self.old.sided) }
+        ensures objectives { OnOk result (self.new.objectives ≡ self.old.objectives ++ name.now ∷ []) }
     {
-        let Rows {
-            sided,
-            mut objectives,
-            mut known,
-            with_sides,
-        } = self;
-        match add_objective(alloc, &mut objectives, &mut known, name) {
-            Ok(()) => Ok(Rows {
-                sided,
-                objectives,
-                known,
-                with_sides,
-            }),
+        match add_objective(alloc, &mut self.objectives, &mut self.known, name) {
+            Ok(()) => Ok(()),
             Err(error) => {
-                drop(sided);
-                drop(objectives);
-                drop(known);
-                drop(with_sides);
+                clear(
+                    alloc,
+                    &mut self.sided,
+                    &mut self.objectives,
+                    &mut self.known,
+                    &mut self.with_sides,
+                );
                 Err(error)
             }
         }
     }
 
-    /// The rows with one more that has sides.
-    fn with_sided(self, alloc: Global, kind: RowKind, name: &[u8]) -> Result<Rows, AllocError>
-        ensures sided { IfOk result (λ rows. rows.sided ≡ self.sided ++ record { name = name.now; kind = kind } ∷ []) }
-        ensures objectives { IfOk result (λ rows. rows.objectives ≡ self.objectives) }
+    /// One more row that has sides. Where there is no memory for it no row stays.
+    fn add_with_sides(
+        &mut self,
+        alloc: Global,
+        kind: RowKind,
+        name: &[u8],
+    ) -> Result<(), AllocError>
+        ensures sided { OnOk result (self.new.sided ≡ self.old.sided ++ record { name = name.now; kind = kind } ∷ []) }
+        ensures objectives { OnOk result (self.new.objectives ≡ self.old.objectives) }
     {
-        let Rows {
-            mut sided,
-            objectives,
-            mut known,
-            mut with_sides,
-        } = self;
-        match add_sided(alloc, &mut sided, &mut known, &mut with_sides, kind, name) {
-            Ok(()) => Ok(Rows {
-                sided,
-                objectives,
-                known,
-                with_sides,
-            }),
+        match add_sided(
+            alloc,
+            &mut self.sided,
+            &mut self.known,
+            &mut self.with_sides,
+            kind,
+            name,
+        ) {
+            Ok(()) => Ok(()),
             Err(error) => {
-                drop(sided);
-                drop(objectives);
-                drop(known);
-                drop(with_sides);
+                clear(
+                    alloc,
+                    &mut self.sided,
+                    &mut self.objectives,
+                    &mut self.known,
+                    &mut self.with_sides,
+                );
                 Err(error)
             }
-        }
-    }
-
-    /// The rows with one more.
-    fn with(self, alloc: Global, kind: RowKind, name: &[u8]) -> Result<Rows, AllocError>
-        ensures sided { IfOk result (λ rows. rows.sided ≡ self.sided ++ as_row (Some kind) name.now) }
-        ensures objectives { IfOk result (λ rows. rows.objectives ≡ self.objectives ++ as_objective (Some kind) name.now) }
-    {
-        match kind {
-            RowKind::Free => self.with_objective(alloc, name),
-            _ => self.with_sided(alloc, kind, name),
         }
     }
 
@@ -197,9 +209,10 @@ impl Rows {
         ensures sided { OnOk result (self.new.sided ≡ self.old.sided ++ as_row (Some kind) name.now) }
         ensures objectives { OnOk result (self.new.objectives ≡ self.old.objectives ++ as_objective (Some kind) name.now) }
     {
-        let before = mem::replace(self, Rows::new(alloc));
-        *self = before.with(alloc, kind, name)?;
-        Ok(())
+        match kind {
+            RowKind::Free => self.add_free(alloc, name),
+            _ => self.add_with_sides(alloc, kind, name),
+        }
     }
 
     /// The names of the rows of type N, and the rows with sides.

@@ -83,14 +83,15 @@ fn add_bound(
     requires { has_fields (entry_of_record entry.now) 2 4 ≡ true }
     ensures { OnOk result (bounds.new ≡ bounds.old ++ as_bound (Some kind) (entry_of_record entry.now)) }
 {
-    let column = copied(alloc, bound_column(kind, entry))?;
+    let Ok(column) = copied(alloc, bound_column(kind, entry)) else {
+        return Err(AllocError);
+    };
     let limit = limit_or_plus(&limit_of(last_word(entry)));
     bounds.push(BoundLine {
         column,
         kind,
         limit,
-    })?;
-    Ok(())
+    })
 }
 
 fn has_sense(senses: &[Sense]) -> bool
@@ -452,10 +453,7 @@ impl Tables {
         ensures { OnOk result (held self.new ≡ with_senses (option_to_list sense) (held self.old)) }
     {
         match sense {
-            Some(sense) => {
-                self.senses.push(sense)?;
-                Ok(())
-            }
+            Some(sense) => self.senses.push(sense),
             None => Ok(()),
         }
     }
@@ -485,8 +483,7 @@ impl Tables {
         let Some(kind) = RowKind::of(kind) else {
             return Ok(());
         };
-        self.rows.add(alloc, kind, name)?;
-        Ok(())
+        self.rows.add(alloc, kind, name)
     }
 
     fn note_marker(&mut self, entry: &Record)
@@ -509,25 +506,22 @@ impl Tables {
         let name = first_word(entry);
         let count = count_coefficients(&self.rows, pairs);
         let marked = self.marked;
-        self.columns.add(alloc, name, entry.line, marked, pairs)?;
         self.count += count;
-        Ok(())
+        self.columns.add(alloc, name, entry.line, marked, pairs)
     }
 
     fn note_rhs(&mut self, alloc: Global, entry: &Record, pairs: &Pairs) -> Result<(), AllocError>
         requires { pairs_shown pairs.now ≡ pairs_behind_set (entry_of_record entry.now) }
         ensures { OnOk result (held self.new ≡ after_kind LineKind.RightSide (held self.old) (entry_of_record entry.now)) }
     {
-        self.sides.add(alloc, pairs)?;
-        Ok(())
+        self.sides.add(alloc, pairs)
     }
 
     fn note_range(&mut self, alloc: Global, entry: &Record, pairs: &Pairs) -> Result<(), AllocError>
         requires { pairs_shown pairs.now ≡ pairs_behind_set (entry_of_record entry.now) }
         ensures { OnOk result (held self.new ≡ after_kind LineKind.Range (held self.old) (entry_of_record entry.now)) }
     {
-        self.ranges.add(alloc, entry.line, pairs)?;
-        Ok(())
+        self.ranges.add(alloc, entry.line, pairs)
     }
 
     fn note_bound(&mut self, alloc: Global, entry: &Record) -> Result<(), AllocError>
@@ -537,8 +531,7 @@ impl Tables {
         let Some(kind) = BoundKind::of(first_word(entry)) else {
             return Ok(());
         };
-        add_bound(alloc, &mut self.bounds, kind, entry)?;
-        Ok(())
+        add_bound(alloc, &mut self.bounds, kind, entry)
     }
 
     /// What one more line states, which has no fault.

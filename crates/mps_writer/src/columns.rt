@@ -61,15 +61,18 @@ fn put_all_numbers(text: &mut Vec<u8>, model: &Model, column: &Col) -> Result<()
     ensures { IfOk result (λ _. text.new.items ≡ text.old.items ++ written_text (number_lines model.now column.now)) }
 {
     let name = column.name.as_slice();
-    put_nonzero(text, name, model.objective_name(1).as_slice(), &column.cost)?;
-    put_nonzero(
+    let Ok(()) = put_nonzero(text, name, model.objective_name(1).as_slice(), &column.cost) else {
+        return Err(AllocError);
+    };
+    let Ok(()) = put_nonzero(
         text,
         name,
         model.objective_name(2).as_slice(),
         &column.cost2,
-    )?;
-    put_entries(text, model, column, column.rows.as_slice())?;
-    Ok(())
+    ) else {
+        return Err(AllocError);
+    };
+    put_entries(text, model, column, column.rows.as_slice())
 }
 
 /// The same, or its cost of 0 where it has no number.
@@ -93,10 +96,13 @@ fn put_column(text: &mut Vec<u8>, model: &Model, column: &Col) -> Result<(), All
     if !column.int {
         return put_numbers(text, model, column);
     }
-    put_three(text, b"M", b"'MARKER'", b"'INTORG'")?;
-    put_numbers(text, model, column)?;
-    put_three(text, b"M", b"'MARKER'", b"'INTEND'")?;
-    Ok(())
+    let Ok(()) = put_three(text, b"M", b"'MARKER'", b"'INTORG'") else {
+        return Err(AllocError);
+    };
+    let Ok(()) = put_numbers(text, model, column) else {
+        return Err(AllocError);
+    };
+    put_three(text, b"M", b"'MARKER'", b"'INTEND'")
 }
 
 /// The lines of COLUMNS.
@@ -137,8 +143,7 @@ fn put_both_bounds(text: &mut Vec<u8>, column: &Col) -> Result<(), AllocError>
     ensures { IfOk result (λ _. text.new.items ≡ text.old.items ++ written_text (bound_lines column.now)) }
 {
     put_lower(text, column.name.as_slice(), &column.lo)?;
-    put_upper(text, column.name.as_slice(), &column.up)?;
-    Ok(())
+    put_upper(text, column.name.as_slice(), &column.up)
 }
 
 /// The lines of BOUNDS.

@@ -30,8 +30,12 @@ fn put_number(text: &mut Vec<u8>, number: &Frac) -> Result<(), AllocError>
 pub(crate) fn put_header(text: &mut Vec<u8>, word: &[u8]) -> Result<(), AllocError>
     ensures { IfOk result (λ _. text.new.items ≡ text.old.items ++ written_text (Header (word.now ∷ []) ∷ [])) }
 {
-    text.extend_from_slice(word)?;
-    text.push(b'\n')?;
+    let Ok(()) = text.extend_from_slice(word) else {
+        return Err(AllocError);
+    };
+    let Ok(()) = text.push(b'\n') else {
+        return Err(AllocError);
+    };
     Ok(())
 }
 
@@ -39,9 +43,15 @@ pub(crate) fn put_header(text: &mut Vec<u8>, word: &[u8]) -> Result<(), AllocErr
 pub(crate) fn put_two(text: &mut Vec<u8>, first: &[u8], second: &[u8]) -> Result<(), AllocError>
     ensures { IfOk result (λ _. text.new.items ≡ text.old.items ++ written_text (Data (first.now ∷ second.now ∷ []) ∷ [])) }
 {
-    put_word(text, first)?;
-    put_word(text, second)?;
-    text.push(b'\n')?;
+    let Ok(()) = put_word(text, first) else {
+        return Err(AllocError);
+    };
+    let Ok(()) = put_word(text, second) else {
+        return Err(AllocError);
+    };
+    let Ok(()) = text.push(b'\n') else {
+        return Err(AllocError);
+    };
     Ok(())
 }
 
@@ -55,8 +65,7 @@ pub(crate) fn put_three(
     ensures { IfOk result (λ _. text.new.items ≡ text.old.items ++ written_text (Data (first.now ∷ second.now ∷ third.now ∷ []) ∷ [])) }
 {
     put_word(text, first)?;
-    put_two(text, second, third)?;
-    Ok(())
+    put_two(text, second, third)
 }
 
 /// A data line of two words and a number.
@@ -68,10 +77,18 @@ pub(crate) fn put_entry(
 ) -> Result<(), AllocError>
     ensures { IfOk result (λ _. text.new.items ≡ text.old.items ++ written_text (entry_line first.now name.now number.now ∷ [])) }
 {
-    put_word(text, first)?;
-    put_word(text, name)?;
-    put_number(text, number)?;
-    text.push(b'\n')?;
+    let Ok(()) = put_word(text, first) else {
+        return Err(AllocError);
+    };
+    let Ok(()) = put_word(text, name) else {
+        return Err(AllocError);
+    };
+    let Ok(()) = put_number(text, number) else {
+        return Err(AllocError);
+    };
+    let Ok(()) = text.push(b'\n') else {
+        return Err(AllocError);
+    };
     Ok(())
 }
 
@@ -86,8 +103,7 @@ pub(crate) fn put_bound(
     ensures { IfOk result (λ _. text.new.items ≡ text.old.items ++ written_text (Data (kind.now ∷ set.now ∷ name.now ∷ printed number.now ∷ []) ∷ [])) }
 {
     put_word(text, kind)?;
-    put_entry(text, set, name, number)?;
-    Ok(())
+    put_entry(text, set, name, number)
 }
 
 /// The line of a number that isn't 0.

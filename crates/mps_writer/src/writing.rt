@@ -24,57 +24,97 @@ fn sense_word(sense: Sense) -> &'static [u8]
 fn put_opening(text: &mut Vec<u8>, sense: Sense) -> Result<(), AllocError>
     ensures { IfOk result (λ _. text.new.items ≡ text.old.items ++ written_text (opening_lines sense)) }
 {
-    put_header(text, b"NAME")?;
-    text.extend_from_slice(b"OBJSENSE")?;
-    put_word(text, sense_word(sense))?;
-    text.push(b'\n')?;
+    let Ok(()) = put_header(text, b"NAME") else {
+        return Err(AllocError);
+    };
+    let Ok(()) = text.extend_from_slice(b"OBJSENSE") else {
+        return Err(AllocError);
+    };
+    let Ok(()) = put_word(text, sense_word(sense)) else {
+        return Err(AllocError);
+    };
+    let Ok(()) = text.push(b'\n') else {
+        return Err(AllocError);
+    };
     Ok(())
 }
 
 fn put_row_section(text: &mut Vec<u8>, model: &Model) -> Result<(), AllocError>
     ensures { IfOk result (λ _. text.new.items ≡ text.old.items ++ written_text (rows_lines model.now)) }
 {
-    put_header(text, b"ROWS")?;
-    put_two(text, b"N", model.objective_name(1).as_slice())?;
-    put_two(text, b"N", model.objective_name(2).as_slice())?;
-    put_rows(text, model.rows())?;
-    Ok(())
+    let Ok(()) = put_header(text, b"ROWS") else {
+        return Err(AllocError);
+    };
+    let Ok(()) = put_two(text, b"N", model.objective_name(1).as_slice()) else {
+        return Err(AllocError);
+    };
+    let Ok(()) = put_two(text, b"N", model.objective_name(2).as_slice()) else {
+        return Err(AllocError);
+    };
+    put_rows(text, model.rows())
 }
 
 fn put_column_section(text: &mut Vec<u8>, model: &Model) -> Result<(), AllocError>
     ensures { IfOk result (λ _. text.new.items ≡ text.old.items ++ written_text (columns_lines model.now)) }
 {
     put_header(text, b"COLUMNS")?;
-    put_columns(text, model, model.cols())?;
-    Ok(())
+    put_columns(text, model, model.cols())
 }
 
 fn put_rhs_section(text: &mut Vec<u8>, model: &Model) -> Result<(), AllocError>
     ensures { IfOk result (λ _. text.new.items ≡ text.old.items ++ written_text (rhs_lines model.now)) }
 {
-    put_header(text, b"RHS")?;
+    let Ok(()) = put_header(text, b"RHS") else {
+        return Err(AllocError);
+    };
     let first = model.constant(1).neg();
-    put_nonzero(text, b"RHS", model.objective_name(1).as_slice(), &first)?;
+    let Ok(()) = put_nonzero(text, b"RHS", model.objective_name(1).as_slice(), &first) else {
+        return Err(AllocError);
+    };
     let second = model.constant(2).neg();
-    put_nonzero(text, b"RHS", model.objective_name(2).as_slice(), &second)?;
-    put_right_sides(text, model.rows())?;
-    Ok(())
+    let Ok(()) = put_nonzero(text, b"RHS", model.objective_name(2).as_slice(), &second) else {
+        return Err(AllocError);
+    };
+    put_right_sides(text, model.rows())
 }
 
 fn put_range_section(text: &mut Vec<u8>, model: &Model) -> Result<(), AllocError>
     ensures { IfOk result (λ _. text.new.items ≡ text.old.items ++ written_text (ranges_lines model.now)) }
 {
     put_header(text, b"RANGES")?;
-    put_ranges(text, model.rows())?;
-    Ok(())
+    put_ranges(text, model.rows())
 }
 
 fn put_bound_section(text: &mut Vec<u8>, model: &Model) -> Result<(), AllocError>
     ensures { IfOk result (λ _. text.new.items ≡ text.old.items ++ written_text (bounds_lines model.now)) }
 {
     put_header(text, b"BOUNDS")?;
-    put_bounds(text, model.cols())?;
-    Ok(())
+    put_bounds(text, model.cols())
+}
+
+/// All sections of a model, and the end.
+fn put_sections(text: &mut Vec<u8>, model: &Model) -> Result<(), AllocError>
+    ensures { IfOk result (λ _. text.new.items ≡ text.old.items ++ canonical_text model.now) }
+{
+    let Ok(()) = put_opening(text, model.sense()) else {
+        return Err(AllocError);
+    };
+    let Ok(()) = put_row_section(text, model) else {
+        return Err(AllocError);
+    };
+    let Ok(()) = put_column_section(text, model) else {
+        return Err(AllocError);
+    };
+    let Ok(()) = put_rhs_section(text, model) else {
+        return Err(AllocError);
+    };
+    let Ok(()) = put_range_section(text, model) else {
+        return Err(AllocError);
+    };
+    let Ok(()) = put_bound_section(text, model) else {
+        return Err(AllocError);
+    };
+    put_header(text, b"ENDATA")
 }
 
 /// The canonical text of a model as a free MPS file.
@@ -84,14 +124,13 @@ pub fn write(alloc: Global, model: &Model) -> Result<Vec<u8>, AllocError>
 {
     show_model(model);
     let mut text = Vec::new(alloc);
-    put_opening(&mut text, model.sense())?;
-    put_row_section(&mut text, model)?;
-    put_column_section(&mut text, model)?;
-    put_rhs_section(&mut text, model)?;
-    put_range_section(&mut text, model)?;
-    put_bound_section(&mut text, model)?;
-    put_header(&mut text, b"ENDATA")?;
-    Ok(text)
+    match put_sections(&mut text, model) {
+        Ok(()) => Ok(text),
+        Err(error) => {
+            drop(text);
+            Err(error)
+        }
+    }
 }
 
 /// A law: what `write` writes, `read` reads as the model that was written.

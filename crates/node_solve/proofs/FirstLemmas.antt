@@ -2,7 +2,7 @@
 -- Idea: the table has a row more for each cut (MoreRows). The parts of the cuts' tilts come behind all others, so each sign is
 -- told before them. A variable without sides has no part that is not 0: a cut names columns of 0 or 1 alone, of which none is
 -- without sides, and a basic one has the entry 0 there, since its own tilt is a part.
-use Rattle.std.specs.Prelude.{◌≡◌, ◌≢◌, ◌⊎◌, ℕ, zero, suc, ◌+◌, ◌-◌, ◌<◌, ◌≤◌, ◌==◌, nat_eq, if◌then◌else◌, Bool, true, false, IsSome, List, [], ◌∷◌, ◌++◌, length, get_or, filter, pos, All, Option, Some, None}
+use Rattle.std.specs.Prelude.{◌≡◌, ◌≢◌, ℕ, zero, suc, ◌+◌, ◌-◌, ◌<◌, ◌≤◌, ◌==◌, nat_eq, if◌then◌else◌, Bool, true, false, IsSome, List, [], ◌∷◌, ◌++◌, length, get_or, filter, pos, All, Option, Some, None}
 use Rattle.std.specs.List.{range_with_len}
 use Rattle.std.proofs.Common.{refl, sym, ap, ap₂, subst, ◌∙◌, arith, ⊎_elim, cond, append_assoc, append-nil, length-append, get_or-append-add}
 use Rattle.std.proofs.lemmas.Bool.{false≢true, cases_lt, lt-ltb, le-ltb, eqb-true}

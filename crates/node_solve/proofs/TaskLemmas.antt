@@ -1,6 +1,7 @@
 -- What the calls of a task come to: whether a round may follow, what is added, and how the relaxation of a round is solved.
-use Rattle.std.specs.Prelude.{◌≡◌, ◌↔◌, ◌+◌, ◌<◌, ◌≤◌, ℕ, Bool, true, false, not, is_some, IsTrue, List, ◌∷◌, [], ◌++◌, length, get_or, Option, Some, None, MatchOption}
-use Rattle.std.proofs.Common.{refl, sym, ap, subst, ◌∙◌, arith, inl}
+use Rattle.std.specs.Prelude.{◌≡◌, ◌↔◌, ◌+◌, ◌<◌, ◌≤◌, ℕ, Bool, true, false, not, is_some, IsTrue, List, ◌∷◌, [], ◌++◌, length, get_or, Option, Some, None, MatchOption, Result, Ok, Err}
+use Rattle.std.specs.declared.alloc.AllocError.{AllocError}
+use Rattle.std.proofs.Common.{refl, sym, ap, subst, ◌∙◌, arith, inl, inr}
 use Rattle.std.proofs.lemmas.Bool.{false≢true}
 use Rattle.rational.specs.Rational.{ℚ}
 use Rattle.lp_model.specs.Program.{Point}
@@ -16,16 +17,19 @@ use Rattle.cover_cuts.specs.Cuts.{IsCutOf, IsPoolOf}
 use Rattle.dual_simplex.specs.Starts.{IsStarted, IsStartFault, IsWideStart}
 use Rattle.dual_simplex.specs.SlackBases.{IsRootBasis}
 use Rattle.dual_simplex.specs.Walks.{Moves}
+use Rattle.dual_simplex.specs.Solves.{IsSolved}
+use Rattle.dual_simplex.specs.declared.solve.Lp.{Lp}
+use Rattle.dual_simplex.specs.declared.solve.Lp.TheVariants as lp
 use Rattle.dual_simplex.specs.declared.start.StartFault.{StartFault}
 use Rattle.dual_simplex.specs.declared.start.StartFault.TheVariants as fault
 use Rattle.dual_simplex.proofs.HeldLemmas.{same_list}
 use Rattle.node_solve.specs.Laws.{AreLive}
 use Rattle.node_solve.specs.Runs.{IsPlainOf, NamesIntegers}
-use Rattle.node_solve.specs.Works.{IsWholeAt, IsFirstFractional}
+use Rattle.node_solve.specs.Works.{IsWholeAt, IsFirstFractional, IsAllowedBy}
 use Rattle.node_solve.specs.Rounds.{Work, Round, form_in, first_in, RunsTo, HasRowOf, IsAddable, AddsOne, MayGoOn, IsSolvedIn}
-use Rattle.node_solve.specs.RoundCode.{round_of, unstarted}
+use Rattle.node_solve.specs.RoundCode.{round_of, run_end, unstarted}
 use Rattle.node_solve.specs.declared.rounds.Round.{Round as HeldRound}
-use Rattle.node_solve.proofs.EndLemmas.{not_whole, run_of}
+use Rattle.node_solve.proofs.EndLemmas.{not_whole, run_of, optimum_allowed}
 use Rattle.node_solve.proofs.FirstLemmas.{first_cuts}
 
 pub is_so : {P : Type 0} → P → IsTrue true ↔ P
@@ -96,3 +100,14 @@ module _ (W : Work) (r : Round) (relax : Relax) (first : Basis) (first_is : firs
 
   pub round_run : (began : Held) → IsStarted relax r.list first began → IsPlainOf (form_in W r) W.job.region relax → IsLawfulHeld began → (n : ℕ) (s : Held) → Moves n began s → RunsTo W r n s
   round_run began started is kept n s moves = run_of (form_in W r) W.job.region relax r.list (first_in W r) began (subst (λ f. IsStarted relax r.list f began) first_is started) is kept n s moves
+
+-- where the run ends so, the relaxation of the round comes to that
+pub run_told : (W : Work) (r : Round) (began after : Held) → ((n : ℕ) → Moves n began after → RunsTo W r n after) → (end : Result Lp AllocError) → IsSolved began W.pivots end after → IsSolvedIn W r (run_end end)
+run_told W r began after run (Ok (lp.Pivots basis)) told = record { moves = told.0; state = after; run = run told.0 told.1.1.0; holds = told.1.1.1 }
+run_told W r began after run (Ok (lp.Wide step basis)) told = inr (told.0, (after, (run told.0 told.1.1.0, (inl (told.1.0, told.1.1.1.0), told.1.1.1.1))))
+run_told W r began after run (Ok (lp.Optimal point mult basis)) told =
+    record { moves = told.0; state = after; run = run told.0 told.1.1.0; holds = (optimum_allowed W.pivots told.0 after point mult told.1.0 told.1.1.1.0, told.1.1.1) }
+run_told W r began after run (Ok (lp.Infeasible farkas mult basis)) told =
+    let allowed : IsAllowedBy W.pivots told.0 after = record { within = told.1.0; further = λ row side out. told.1.1.1.0 } in
+    record { moves = told.0; state = after; run = run told.0 told.1.1.0; holds = (allowed, told.1.1.1.1) }
+run_told W r began after run (Err error) told = tt

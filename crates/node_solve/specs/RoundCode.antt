@@ -1,8 +1,11 @@
 -- What the code of the work holds: a task and its rounds.
-use Rattle.std.specs.Prelude.{◌≡◌, ◌≤◌, ◌+◌, IsTrue, length, All}
+use Rattle.std.specs.Prelude.{◌≡◌, ◌≤◌, ◌+◌, IsTrue, length, All, Result, Ok, Err}
+use Rattle.std.specs.declared.alloc.AllocError.{AllocError}
 use Rattle.lp_model.specs.Regions.{AreNarrow, IsEmptyRegion}
 use Rattle.cover_cuts.specs.Cuts.{IsPoolOf}
 use Rattle.dual_simplex.specs.SlackBases.{IsRootBasis}
+use Rattle.dual_simplex.specs.declared.solve.Lp.{Lp}
+use Rattle.dual_simplex.specs.declared.solve.Lp.TheVariants as lp
 use Rattle.dual_simplex.specs.declared.start.StartFault.{StartFault}
 use Rattle.dual_simplex.specs.declared.start.StartFault.TheVariants as fault
 use Rattle.node_solve.specs.Runs.{NamesIntegers}
@@ -18,6 +21,14 @@ task_work t = record { model = t.model.now; pool = t.pool.now; job = t.job.now; 
 
 abbrev pub round_of : HeldRound → Round
 round_of r = record { cuts = r.cuts; places = r.places.items; added = r.added.items; list = r.list }
+
+-- what a round comes to where its run ends so
+abbrev pub run_end : Result Lp AllocError → Solved
+run_end (Ok (lp.Optimal point mult basis)) = solved.Optimal point mult basis
+run_end (Ok (lp.Infeasible farkas mult basis)) = solved.Infeasible farkas mult basis
+run_end (Ok (lp.Pivots basis)) = solved.Pivots basis
+run_end (Ok (lp.Wide step basis)) = solved.Wide step basis
+run_end (Err error) = solved.Memory
 
 -- what a round comes to where its run cannot start
 abbrev pub unstarted : StartFault → Solved

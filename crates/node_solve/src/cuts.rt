@@ -2,10 +2,11 @@
 ghost use Rattle.std.specs.Prelude.{◌≡◌, ◌<◌, ◌≤◌, [], ◌∷◌, ◌++◌, length, IfOk, IfSome};
 ghost use Rattle.node_solve.specs.Places.{live_cuts, live_places, places_from, IsFirstCount};
 
-use crate::places::{CUT_LIMIT, LiveCuts, copy_cut};
+use crate::places::{CUT_LIMIT, LiveCuts, push_copy};
 use cover_cuts::CutPool;
 use lp_model::CutRow;
 use std::alloc::{AllocError, Global};
+use std::mem;
 
 /// The cuts of a relaxation. Contracts see the list.
 #[derive(Drop)]
@@ -28,9 +29,14 @@ impl<'a> std::marker::Model for RelaxationCuts<'a> {
 fn copies(alloc: Global, cuts: &[CutRow]) -> Result<Vec<CutRow>, AllocError>
     ensures { IfOk result (λ v. v.items ≡ cuts.now) }
 {
-    let mut own = Vec::with_capacity(alloc, CUT_LIMIT)?;
+    let Ok(mut own) = Vec::with_capacity(alloc, CUT_LIMIT) else {
+        return Err(AllocError);
+    };
     for cut in cuts {
-        own.push(copy_cut(cut)?)?;
+        let Ok(()) = push_copy(&mut own, cut) else {
+            drop(own);
+            return Err(AllocError);
+        };
     }
     Ok(own)
 }
@@ -52,6 +58,13 @@ fn with_cut(alloc: Global, cuts: &[CutRow], cut: CutRow) -> Result<Vec<CutRow>, 
             Err(error)
         }
     }
+}
+
+/// Puts cuts in the place of others.
+fn put_cuts(place: &mut Vec<CutRow>, cuts: Vec<CutRow>)
+    ensures { place.new.items ≡ cuts.items }
+{
+    drop(mem::replace(place, cuts));
 }
 
 impl RelaxationCuts<'_> {
@@ -78,12 +91,17 @@ impl RelaxationCuts<'_> {
         ensures items { IfOk result (λ _. self.new ≡ self.old ++ cut ∷ []) }
     {
         if self.is_lent {
-            let own = with_cut(alloc, self.lent, cut)?;
-            self.own = own;
+            let Ok(own) = with_cut(alloc, self.lent, cut) else {
+                return Err(AllocError);
+            };
+            put_cuts(&mut self.own, own);
             self.is_lent = false;
             return Ok(());
         }
-        self.own.push(cut)?;
+        match self.own.push(cut) {
+            Ok(()) => {}
+            Err(error) => return Err(error.into()),
+        }
         Ok(())
     }
 }
@@ -116,9 +134,14 @@ fn first_count(rows: &[CutRow]) -> Option<usize>
 fn own_places(alloc: Global, count: usize) -> Result<Vec<usize>, AllocError>
     ensures { IfOk result (λ v. v.items ≡ places_from 0 count) }
 {
-    let mut places = Vec::with_capacity(alloc, count)?;
+    let Ok(mut places) = Vec::with_capacity(alloc, count) else {
+        return Err(AllocError);
+    };
     for place in 0..count {
-        places.push(place)?;
+        let Ok(()) = places.push(place) else {
+            drop(places);
+            return Err(AllocError);
+        };
     }
     Ok(places)
 }
@@ -139,7 +162,9 @@ pub(crate) fn first_cuts<'a>(alloc: Global, pool: &'a CutPool) -> Result<FirstCu
     let rows = pool.rows();
     match first_count(rows) {
         Some(count) => {
-            let places = own_places(alloc, count)?;
+            let Ok(places) = own_places(alloc, count) else {
+                return Err(AllocError);
+            };
             Ok(FirstCuts {
                 cuts: RelaxationCuts {
                     lent: &rows[..count],
@@ -150,7 +175,9 @@ pub(crate) fn first_cuts<'a>(alloc: Global, pool: &'a CutPool) -> Result<FirstCu
             })
         }
         None => {
-            let live = LiveCuts::new(alloc, pool)?;
+            let Ok(live) = LiveCuts::new(alloc, pool) else {
+                return Err(AllocError);
+            };
             Ok(FirstCuts {
                 cuts: RelaxationCuts {
                     lent: rows,

@@ -13,11 +13,17 @@ use std::alloc::{AllocError, Global};
 /// How many cuts a relaxation may have.
 pub(crate) const CUT_LIMIT: usize = 200;
 
-/// An equal cut.
-pub(crate) fn copy_cut(cut: &CutRow) -> Result<CutRow, AllocError>
-    ensures { IfOk result (λ c. c ≡ cut.now) }
+/// Puts an equal cut behind the others.
+pub(crate) fn push_copy(cuts: &mut Vec<CutRow>, cut: &CutRow) -> Result<(), AllocError>
+    ensures { IfOk result (λ _. cuts.new.items ≡ cuts.old.items ++ cut.now ∷ []) }
 {
-    cut.clone()
+    let Ok(copy) = cut.clone() else {
+        return Err(AllocError);
+    };
+    match cuts.push(copy) {
+        Ok(()) => Ok(()),
+        Err(error) => Err(error.into()),
+    }
 }
 
 /// Notes a cut and its place, where it counts and there is room.
@@ -37,9 +43,12 @@ fn note(
     if !cut.live {
         return Ok(());
     }
-    let noted = copy_cut(cut)?;
-    cuts.push(noted)?;
-    places.push(place)?;
+    let Ok(()) = push_copy(cuts, cut) else {
+        return Err(AllocError);
+    };
+    let Ok(()) = places.push(place) else {
+        return Err(AllocError);
+    };
     Ok(())
 }
 
@@ -61,7 +70,11 @@ impl LiveCuts {
         let mut cuts = Vec::new(alloc);
         let mut places = Vec::new(alloc);
         for place in 0..rows.len() {
-            note(&mut cuts, &mut places, &rows[place], place)?;
+            let Ok(()) = note(&mut cuts, &mut places, &rows[place], place) else {
+                drop(cuts);
+                drop(places);
+                return Err(AllocError);
+            };
         }
         Ok(LiveCuts { cuts, places })
     }
@@ -150,7 +163,10 @@ fn vars_in_relaxation(
     let are_own = are_own_places(places);
     let mut named = List::new(alloc);
     for var in vars {
-        named.push(var_in_relaxation(places, are_own, var))?;
+        let Ok(()) = named.push(var_in_relaxation(places, are_own, var)) else {
+            drop(named);
+            return Err(AllocError);
+        };
     }
     Ok(named)
 }
@@ -162,7 +178,10 @@ fn vars_in_pool(alloc: Global, places: &[usize], vars: &[Var]) -> Result<List<Va
 {
     let mut named = List::new(alloc);
     for var in vars {
-        named.push(var_in_pool(places, var))?;
+        let Ok(()) = named.push(var_in_pool(places, var)) else {
+            drop(named);
+            return Err(AllocError);
+        };
     }
     Ok(named)
 }
@@ -176,10 +195,16 @@ pub fn basis_in_relaxation(
     requires { length places.now ≤ 200 }
     ensures { IfOk result (λ b. b ≡ basis_in_relaxation places.now basis.now) }
 {
-    Ok(Basis {
-        basic: vars_in_relaxation(alloc, places, basis.basic.as_slice())?,
-        high: vars_in_relaxation(alloc, places, basis.high.as_slice())?,
-    })
+    let Ok(basic) = vars_in_relaxation(alloc, places, basis.basic.as_slice()) else {
+        return Err(AllocError);
+    };
+    match vars_in_relaxation(alloc, places, basis.high.as_slice()) {
+        Ok(high) => Ok(Basis { basic, high }),
+        Err(error) => {
+            drop(basic);
+            Err(error)
+        }
+    }
 }
 
 /// A basis of the relaxation as a leaf keeps it.
@@ -187,10 +212,16 @@ pub fn basis_in_pool(alloc: Global, places: &[usize], basis: &Basis) -> Result<B
     requires { ArePoolPlaces places.now }
     ensures { IfOk result (λ b. b ≡ basis_in_pool places.now basis.now) }
 {
-    Ok(Basis {
-        basic: vars_in_pool(alloc, places, basis.basic.as_slice())?,
-        high: vars_in_pool(alloc, places, basis.high.as_slice())?,
-    })
+    let Ok(basic) = vars_in_pool(alloc, places, basis.basic.as_slice()) else {
+        return Err(AllocError);
+    };
+    match vars_in_pool(alloc, places, basis.high.as_slice()) {
+        Ok(high) => Ok(Basis { basic, high }),
+        Err(error) => {
+            drop(basic);
+            Err(error)
+        }
+    }
 }
 
 /// Multipliers of the relaxation as a leaf keeps them.
@@ -200,7 +231,10 @@ fn mult_in_pool(alloc: Global, places: &[usize], mult: &[(Var, Frac)]) -> Result
 {
     let mut named = List::new(alloc);
     for (var, number) in mult {
-        named.push((var_in_pool(places, var), *number))?;
+        let Ok(()) = named.push((var_in_pool(places, var), *number)) else {
+            drop(named);
+            return Err(AllocError);
+        };
     }
     Ok(named)
 }
@@ -216,7 +250,9 @@ fn lists_in_pool(
     ensures mult { IfOk result (λ both. both.0 ≡ mult_in_pool places.now mult.now) }
     ensures basis { IfOk result (λ both. both.1 ≡ basis_in_pool places.now basis.now) }
 {
-    let named = mult_in_pool(alloc, places, mult)?;
+    let Ok(named) = mult_in_pool(alloc, places, mult) else {
+        return Err(AllocError);
+    };
     match basis_in_pool(alloc, places, basis) {
         Ok(basis) => Ok((named, basis)),
         Err(error) => {
@@ -237,7 +273,9 @@ fn close_in_pool(
     requires { ArePoolPlaces places.now }
     ensures { IfOk result (λ placed. placed ≡ Close (mult_in_pool places.now mult.now) (mult_in_pool places.now farkas.now) (basis_in_pool places.now basis.now)) }
 {
-    let (mult, basis) = lists_in_pool(alloc, places, mult, basis)?;
+    let Ok((mult, basis)) = lists_in_pool(alloc, places, mult, basis) else {
+        return Err(AllocError);
+    };
     match mult_in_pool(alloc, places, farkas) {
         Ok(farkas) => Ok(NodeResult::Close {
             mult,
@@ -264,13 +302,15 @@ fn split_in_pool(
     requires { ArePoolPlaces places.now }
     ensures { IfOk result (λ placed. placed ≡ Split col v (mult_in_pool places.now mult.now) (basis_in_pool places.now basis.now)) }
 {
-    let (mult, basis) = lists_in_pool(alloc, places, mult, basis)?;
-    Ok(NodeResult::Split {
-        col,
-        v,
-        mult,
-        basis,
-    })
+    match lists_in_pool(alloc, places, mult, basis) {
+        Ok((mult, basis)) => Ok(NodeResult::Split {
+            col,
+            v,
+            mult,
+            basis,
+        }),
+        Err(error) => Err(error),
+    }
 }
 
 /// A point that closes a leaf, as it is placed.
@@ -368,9 +408,14 @@ pub(crate) fn with_cut_variables(
     requires { from + count ≤ 200 }
     ensures { IfOk result (λ b. b ≡ with_cut_variables basis.now from count) }
 {
-    let mut with = basis.copy(alloc)?;
+    let Ok(mut with) = basis.copy(alloc) else {
+        return Err(AllocError);
+    };
     for index in 0..count {
-        with.basic.push(Var::Cut(CutId((from + index) as u32)))?;
+        let Ok(()) = with.basic.push(Var::Cut(CutId((from + index) as u32))) else {
+            drop(with);
+            return Err(AllocError);
+        };
     }
     Ok(with)
 }

@@ -2,7 +2,7 @@
 ghost use Rattle.std.specs.Prelude.{◌≡◌, ◌↔◌, ◌<◌, ◌+◌, ◌-◌, ◌++◌, ◌∷◌, [], length, IsTrue, IfOk};
 ghost use Rattle.cover_cuts.specs.Cuts.{IsPoolOf};
 ghost use Rattle.node_solve.specs.Rounds.{HasRowOf, IsAddable, AddsOne, AddsAll, AddsCovers, MayGoOn, IsSolvedIn, IsNextAnswer, first_round, first_in};
-ghost use Rattle.node_solve.specs.RoundCode.{task_work, round_of, unstarted, IsKeptRound, IsTask};
+ghost use Rattle.node_solve.specs.RoundCode.{task_work, round_of, run_end, unstarted, IsKeptRound, IsTask};
 
 use crate::cuts::{RelaxationCuts, first_cuts};
 use crate::places::{CUT_LIMIT, basis_in_relaxation, with_cut_variables};
@@ -16,6 +16,7 @@ use kept_cuts::copy_derivation;
 use lp_model::{Basis, ColId, CutRow, Derivation, Model, Mult, Point, WideStep};
 use row_tableau::{Relax, RelaxKind};
 use std::alloc::{AllocError, Global};
+use std::mem;
 
 /// How many cuts a pool may have.
 const POOL_LIMIT: usize = 10_000;
@@ -73,8 +74,13 @@ impl<'a> Task<'a> {
         ensures first { IfOk result (λ r. round_of r ≡ first_round (task_work self.now)) }
         ensures kept { IfOk result (IsKeptRound (task_work self.now)) }
     {
-        let live = first_cuts(alloc, self.pool)?;
-        let list = basis_in_relaxation(alloc, &live.places, &self.job.basis)?;
+        let Ok(live) = first_cuts(alloc, self.pool) else {
+            return Err(AllocError);
+        };
+        let Ok(list) = basis_in_relaxation(alloc, &live.places, &self.job.basis) else {
+            drop(live);
+            return Err(AllocError);
+        };
         let added = Vec::new(alloc);
         Ok(Round {
             cuts: live.cuts,
@@ -106,23 +112,7 @@ impl<'a> Task<'a> {
         };
         let end = state.solve(alloc, self.pivots);
         drop(state);
-        match end {
-            Err(_) => Solved::Memory,
-            Ok(Lp::Pivots { basis }) => Solved::Pivots { basis },
-            Ok(Lp::Wide { step, basis }) => Solved::Wide { step, basis },
-            Ok(Lp::Optimal { point, mult, basis }) => Solved::Optimal { point, mult, basis },
-            Ok(
-                Lp::Infeasible {
-                    farkas,
-                    mult,
-                    basis,
-                },
-            ) => Solved::Infeasible {
-                farkas,
-                mult,
-                basis,
-            },
-        }
+        run_end(end)
     }
 
     /// Solves the relaxation of a round.
@@ -180,22 +170,21 @@ impl<'a> Task<'a> {
         ensures adds { IfOk result (λ _. AddsOne (task_work self.now) (round_of round.old) from.now (round_of round.new)) }
         ensures kept { IfOk result (λ _. IsKeptRound (task_work self.now) round.new) }
     {
-        let cut = cut_row(alloc, self.model, from)?;
+        let Ok(cut) = cut_row(alloc, self.model, from) else {
+            return Err(AllocError);
+        };
         if !self.is_addable(round, &cut) {
             drop(cut);
             return Ok(());
         }
         let place = self.pool.rows().len() + round.added.len();
-        match note_cut(&mut round.places, &mut round.added, place, from) {
-            Ok(()) => {
-                round.cuts.push(alloc, cut)?;
-                Ok(())
-            }
-            Err(error) => {
-                drop(cut);
-                Err(error)
-            }
-        }
+        let Ok(()) = round.cuts.push(alloc, cut) else {
+            return Err(AllocError);
+        };
+        let Ok(()) = note_cut(&mut round.places, &mut round.added, place, from) else {
+            return Err(AllocError);
+        };
+        Ok(())
     }
 
     /// Adds the cuts of derivations, one after the other, where they may be.
@@ -210,7 +199,9 @@ impl<'a> Task<'a> {
         ensures kept { IfOk result (λ _. IsKeptRound (task_work self.now) round.new) }
     {
         for cover in covers {
-            self.add_one(alloc, round, cover)?;
+            let Ok(()) = self.add_one(alloc, round, cover) else {
+                return Err(AllocError);
+            };
         }
         Ok(())
     }
@@ -227,8 +218,14 @@ impl<'a> Task<'a> {
         ensures separates { IfOk result (λ _. AddsCovers (task_work self.now) (round_of round.old) point.now (round_of round.new)) }
         ensures kept { IfOk result (λ _. IsKeptRound (task_work self.now) round.new) }
     {
-        let covers = separate(alloc, self.model, point, ROUND_LIMIT)?;
-        self.add_all(alloc, round, covers.as_slice())?;
+        let Ok(covers) = separate(alloc, self.model, point, ROUND_LIMIT) else {
+            return Err(AllocError);
+        };
+        let Ok(()) = self.add_all(alloc, round, covers.as_slice()) else {
+            drop(covers);
+            return Err(AllocError);
+        };
+        drop(covers);
         Ok(())
     }
 
@@ -250,13 +247,17 @@ impl<'a> Task<'a> {
             return Ok(false);
         }
         let before = round.cuts.len();
-        self.separate(alloc, round, point)?;
+        let Ok(()) = self.separate(alloc, round, point) else {
+            return Err(AllocError);
+        };
         let count = round.cuts.len() - before;
         if count == 0 {
             return Ok(false);
         }
-        let list = with_cut_variables(alloc, basis, before, count)?;
-        round.list = list;
+        let Ok(list) = with_cut_variables(alloc, basis, before, count) else {
+            return Err(AllocError);
+        };
+        drop(mem::replace(&mut round.list, list));
         Ok(true)
     }
 }
@@ -271,9 +272,16 @@ fn note_cut(
     ensures places { IfOk result (λ _. places.new.items ≡ places.old.items ++ place ∷ []) }
     ensures added { IfOk result (λ _. added.new.items ≡ added.old.items ++ from.now ∷ []) }
 {
-    let noted = copy_derivation(from)?;
-    added.push(noted)?;
-    places.push(place)?;
+    let Ok(noted) = copy_derivation(from) else {
+        return Err(AllocError);
+    };
+    match added.push(noted) {
+        Ok(()) => {}
+        Err(error) => return Err(error.into()),
+    }
+    let Ok(()) = places.push(place) else {
+        return Err(AllocError);
+    };
     Ok(())
 }
 
@@ -282,6 +290,29 @@ pub(crate) fn added_of(round: Round<'_>) -> Vec<Derivation>
     ensures { result.items ≡ round.entry.added.items }
 {
     round.added
+}
+
+/// What a round comes to where its run ends so.
+fn run_end(end: Result<Lp, AllocError>) -> Solved
+    ensures { result ≡ run_end end }
+{
+    match end {
+        Err(_) => Solved::Memory,
+        Ok(Lp::Pivots { basis }) => Solved::Pivots { basis },
+        Ok(Lp::Wide { step, basis }) => Solved::Wide { step, basis },
+        Ok(Lp::Optimal { point, mult, basis }) => Solved::Optimal { point, mult, basis },
+        Ok(
+            Lp::Infeasible {
+                farkas,
+                mult,
+                basis,
+            },
+        ) => Solved::Infeasible {
+            farkas,
+            mult,
+            basis,
+        },
+    }
 }
 
 /// What a round comes to where its run cannot start.

@@ -1,8 +1,9 @@
 // The words of the command line.
-ghost use Rattle.std.specs.Prelude.{◌≡◌, false, codes, IfOk, IsErrOf};
-ghost use Rattle.clap.specs.Words.{app_of, new_app, with_rule, with_subcommand, found_of, subcommand_rows_of};
+ghost use Rattle.std.specs.Prelude.{◌≡◌, ◌≢◌, false, IfOk, IsErrOf};
+ghost use Rattle.clap.specs.Words.{app_of, kind_of, with_rule, with_subcommand, found_of, subcommand_rows_of};
 ghost use Rattle.clap.specs.Walk.{rows_of};
 ghost use Rattle.clap.specs.declared.builder.command.Command.TheViews.{out-Command};
+ghost use Rattle.clap.specs.declared.error.ErrorKind.TheVariants.{OutOfMemory};
 ghost use Rattle.program_words.specs.Forms.{run_app, required_word, check_app, symphony_alone, symphony, TakesWords, asked_by, asked_form, form_shown, argument_text};
 ghost use Rattle.program_words.specs.declared.words.WordsFault.TheVariants.{Memory};
 
@@ -47,13 +48,17 @@ fn run_command<'a>(alloc: Global) -> Command<'a>
     Command::new(alloc, "run")
 }
 
-/// The word `check` with its first name.
-fn check_of_model<'a>(alloc: Global) -> Result<Command<'a>, AllocError>
-    ensures app { IfOk result (λ command. app_of command ≡ with_rule (new_app (codes "check")) (required_word (codes "MODEL"))) }
-    ensures local { IfOk result (λ command. (out-Command command).has_globals ≡ false) }
+/// The command with one more word that has to be there.
+fn with_word<'a>(
+    alloc: Global,
+    command: Command<'a>,
+    name: &'a str,
+) -> Result<Command<'a>, AllocError>
+    requires { (out-Command command).has_globals ≡ false }
+    ensures app { IfOk result (λ longer. app_of longer ≡ with_rule (app_of command.entry) (required_word name.now)) }
+    ensures local { IfOk result (λ longer. (out-Command longer).has_globals ≡ false) }
 {
-    let model = Arg::new(alloc, "MODEL").required(true);
-    Command::new(alloc, "check").arg(model)
+    command.arg(Arg::new(alloc, name).required(true))
 }
 
 /// The form `check MODEL CERT`.
@@ -61,9 +66,10 @@ fn check_command<'a>(alloc: Global) -> Result<Command<'a>, AllocError>
     ensures app { IfOk result (λ command. app_of command ≡ check_app) }
     ensures local { IfOk result (λ command. (out-Command command).has_globals ≡ false) }
 {
-    let command = check_of_model(alloc)?;
-    let cert = Arg::new(alloc, "CERT").required(true);
-    command.arg(cert)
+    match with_word(alloc, Command::new(alloc, "check"), "MODEL") {
+        Ok(command) => with_word(alloc, command, "CERT"),
+        Err(error) => Err(error),
+    }
 }
 
 /// The program's name without subcommands. Help and the version are no subcommands or flags: other words have the usage
@@ -128,17 +134,31 @@ fn form_in<'a>(matches: &ArgMatches<'a>) -> Form<'a>
     }
 }
 
+/// Why words have no form, by the error that was met.
+fn fault_by(error: clap::Error) -> WordsFault
+    ensures { result ≡ WordsFault.Refused → kind_of error ≢ OutOfMemory }
+{
+    match error.kind() {
+        ErrorKind::OutOfMemory => WordsFault::Memory,
+        _ => WordsFault::Refused,
+    }
+}
+
 /// What the words ask for, of which the first is the program's name.
 pub fn form_of<'a>(alloc: Global, words: &'a [String]) -> Result<Form<'a>, WordsFault>
     ensures taken { IfOk result (λ _. TakesWords words.now) }
     ensures asked { IfOk result (λ form. form_shown form ≡ asked_form words.now) }
     ensures refused { IsErrOf result WordsFault.Refused → ¬ (TakesWords words.now) }
 {
-    match command_line(alloc)?.try_get_matches_from(words) {
-        Ok(matches) => Ok(form_in(&matches)),
-        Err(error) => match error.kind() {
-            ErrorKind::OutOfMemory => Err(WordsFault::Memory),
-            _ => Err(WordsFault::Refused),
-        },
+    let Ok(command) = command_line(alloc) else {
+        return Err(WordsFault::Memory);
+    };
+    match command.try_get_matches_from(words) {
+        Ok(matches) => {
+            let form = form_in(&matches);
+            drop(matches);
+            Ok(form)
+        }
+        Err(error) => Err(fault_by(error)),
     }
 }

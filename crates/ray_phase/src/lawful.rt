@@ -38,7 +38,10 @@ pub fn high_variables(
     let mut list = List::new(alloc);
     for variable in 0..state.variables() {
         if is_model_high(model, state, variable) {
-            list.push(state.variable(variable))?;
+            match list.push(state.variable(variable)) {
+                Ok(()) => {}
+                Err(error) => return Err(error),
+            }
         }
     }
     Ok(list)

@@ -1,11 +1,11 @@
 // The ray phase.
 ghost use Rattle.std.specs.Prelude.{◌≡◌, ℕ, [], None, length, IfOk};
 ghost use Rattle.basic_solution.specs.Lists.{IsBasisOf};
-ghost use Rattle.ray_phase.specs.Answers.{IsStart, IsDirectionsState, IsBest, IsRayEnd, IsRayAnswer};
+ghost use Rattle.ray_phase.specs.Answers.{IsStart, IsDirectionsState, IsBest, IsRunTo, IsRayEnd, IsRayAnswer};
 
 use crate::lawful::high_variables;
 use dual_simplex::{Lp, LpState};
-use lp_model::{Basis, List, Model, Point, WideAt, WideStep};
+use lp_model::{Basis, List, Model, Point, Var, WideAt, WideStep};
 use row_tableau::{Relax, RelaxKind};
 use std::alloc::{AllocError, Global};
 
@@ -38,6 +38,16 @@ fn wide_at(alloc: Global, step: WideStep, basis: Basis) -> WideAt
     }
 }
 
+/// The basis with another list of variables that stand high.
+fn with_high(basis: Basis, high: List<Var>) -> Basis
+    ensures { result ≡ record { basic = basis.basic; high = high } }
+{
+    Basis {
+        basic: basis.basic,
+        high,
+    }
+}
+
 /// The answer at an optimum of the directions: a ray where its cost is below 0, else the basis, which is lawful for the
 /// model.
 fn judged(
@@ -55,21 +65,31 @@ fn judged(
     let _lawful = model.cols();
     let cost = match model.direction_cost(&direction) {
         Ok(cost) => cost,
-        Err(step) => return RayAnswer::Wide(wide_at(alloc, step, basis)),
+        Err(step) => {
+            drop(direction);
+            return RayAnswer::Wide(wide_at(alloc, step, basis));
+        }
     };
     if cost.is_negative() {
         return match model.is_ray(&direction) {
-            Ok(true) => RayAnswer::Ray(direction),
+            Ok(true) => {
+                drop(basis);
+                RayAnswer::Ray(direction)
+            }
             Ok(false) => unreachable!(),
-            Err(step) => RayAnswer::Wide(wide_at(alloc, step, basis)),
+            Err(step) => {
+                drop(direction);
+                RayAnswer::Wide(wide_at(alloc, step, basis))
+            }
         };
     }
+    drop(direction);
     match high_variables(alloc, model, state) {
-        Ok(high) => RayAnswer::DualBasis(Basis {
-            basic: basis.basic,
-            high,
-        }),
-        Err(_) => RayAnswer::Memory,
+        Ok(high) => RayAnswer::DualBasis(with_high(basis, high)),
+        Err(_) => {
+            drop(basis);
+            RayAnswer::Memory
+        }
     }
 }
 
@@ -83,9 +103,33 @@ fn directions<'a>(alloc: Global, model: &'a Model) -> Result<LpState<'a>, AllocE
         region: &[],
         kind: RelaxKind::Directions,
     };
-    match LpState::slack(alloc, &relax)? {
+    let slack = match LpState::slack(alloc, &relax) {
+        Ok(slack) => slack,
+        Err(error) => return Err(error),
+    };
+    match slack {
         Some(state) => Ok(state),
         None => unreachable!(),
+    }
+}
+
+/// The answer where a run over the directions led to the state with this end.
+fn answer_of(alloc: Global, model: &Model, state: &LpState<'_>, end: Lp) -> RayAnswer
+    requires { (limit : ℕ) × IsRunTo model.now limit end state.now }
+    ensures { (limit : ℕ) → IsRunTo model.now limit end state.now → IsRayAnswer model.now limit result }
+{
+    match end {
+        Lp::Optimal { point, mult, basis } => {
+            drop(mult);
+            judged(alloc, model, state, point, basis)
+        }
+        Lp::Infeasible {
+            farkas: _,
+            mult: _,
+            basis: _,
+        } => unreachable!(),
+        Lp::Pivots { basis } => RayAnswer::Pivots { basis },
+        Lp::Wide { step, basis } => RayAnswer::Wide(wide_at(alloc, step, basis)),
     }
 }
 
@@ -99,31 +143,14 @@ pub fn ray(alloc: Global, model: &Model, pivot_limit: u64) -> RayAnswer
         Err(_) => return RayAnswer::Memory,
     };
     match state.solve(alloc, pivot_limit) {
+        Ok(end) => {
+            let answer = answer_of(alloc, model, &state, end);
+            drop(state);
+            answer
+        }
         Err(_) => {
             drop(state);
             RayAnswer::Memory
-        }
-        Ok(
-            Lp::Optimal {
-                point,
-                mult: _,
-                basis,
-            },
-        ) => judged(alloc, model, &state, point, basis),
-        Ok(
-            Lp::Infeasible {
-                farkas: _,
-                mult: _,
-                basis: _,
-            },
-        ) => unreachable!(),
-        Ok(Lp::Pivots { basis }) => {
-            drop(state);
-            RayAnswer::Pivots { basis }
-        }
-        Ok(Lp::Wide { step, basis }) => {
-            drop(state);
-            RayAnswer::Wide(wide_at(alloc, step, basis))
         }
     }
 }

@@ -1,6 +1,6 @@
 -- Texts written piece by piece.
 use Rattle.std.proofs.Common.{◌≡◌, ℕ, zero, suc, ◌+◌, ◌<◌, ◌≤◌, Bool, true, false, List, [], ◌∷◌, ◌++◌, length, take, get_or, refl, sym, ap, ◌∙◌, arith, append_assoc, if◌then◌else◌, pos}
-use Rattle.std.specs.Prelude.{codes, nat_eq, unsigned_abs}
+use Rattle.std.specs.Prelude.{codes, nat_eq, unsigned_abs, Result, Ok, Err, IfOk, is_ok}
 use Rattle.std.proofs.lemmas.List.{take_more, take_all, flat_map_more}
 use Rattle.std.proofs.lemmas.List.Elements.{All-nil, All-cons, All-append, All-same}
 use Rattle.std.specs.List.{All, flat_map}
@@ -21,6 +21,30 @@ use Rattle.reply_texts.specs.Texts.{column_line, column_lines}
 -- one piece behind another: of more pieces, the later ones first
 pub join : (r a b p q : List ℕ) → p ≡ r ++ a → q ≡ p ++ b → q ≡ r ++ (a ++ b)
 join r a b p q e f = f ∙ ap (λ t. t ++ b) e ∙ append_assoc r a b
+
+pub join_two : (r a b c p q : List ℕ) → p ≡ r ++ a → q ≡ p ++ (b ++ c) → q ≡ r ++ ((a ++ b) ++ c)
+join_two r a b c p q e f = join r a (b ++ c) p q e f ∙ ap (λ t. r ++ t) (sym (append_assoc a b c))
+
+pub join_three : (r a b c d p q : List ℕ) → p ≡ r ++ a → q ≡ p ++ ((b ++ c) ++ d) → q ≡ r ++ (((a ++ b) ++ c) ++ d)
+join_three r a b c d p q e f = join_two r a (b ++ c) d p q e f ∙ ap (λ t. r ++ (t ++ d)) (sym (append_assoc a b c))
+
+-- the same where the last call may have had no memory
+pub join_last : {T E : Type 0} (last : Result T E) (r a b p q : List ℕ) → p ≡ r ++ a → IfOk last (λ _. q ≡ p ++ b) → IfOk last (λ _. q ≡ r ++ (a ++ b))
+join_last (Ok x) r a b p q e f = join r a b p q e f
+join_last (Err x) r a b p q e f = tt
+
+pub join_last_two : {T E : Type 0} (last : Result T E) (r a b c p q : List ℕ) → p ≡ r ++ a → IfOk last (λ _. q ≡ p ++ (b ++ c)) → IfOk last (λ _. q ≡ r ++ ((a ++ b) ++ c))
+join_last_two (Ok x) r a b c p q e f = join_two r a b c p q e f
+join_last_two (Err x) r a b c p q e f = tt
+
+pub join_last_three : {T E : Type 0} (last : Result T E) (r a b c d p q : List ℕ) → p ≡ r ++ a → IfOk last (λ _. q ≡ p ++ ((b ++ c) ++ d)) → IfOk last (λ _. q ≡ r ++ (((a ++ b) ++ c) ++ d))
+join_last_three (Ok x) r a b c d p q e f = join_three r a b c d p q e f
+join_last_three (Err x) r a b c d p q e f = tt
+
+-- a last piece
+pub join_piece : {T E : Type 0} (last : Result T E) (r a b p q : List ℕ) → p ≡ r ++ a → q ≡ (if is_ok last then p ++ b else p) → IfOk last (λ _. q ≡ r ++ (a ++ b))
+join_piece (Ok x) r a b p q e f = join r a b p q e f
+join_piece (Err x) r a b p q e f = tt
 
 pub nothing_more : (r : List ℕ) → r ≡ r ++ []
 nothing_more [] = refl

@@ -4,9 +4,10 @@ ghost use Rattle.std.specs.List.{All};
 ghost use Rattle.frac128.specs.Range.{Fits};
 ghost use Rattle.lp_model.specs.Program.{value};
 ghost use Rattle.reply_texts.specs.Reports.{AnswerIsShaped, AnswerHasRoom};
-ghost use Rattle.reply_texts.specs.Texts.{value_line, column_line, column_lines, optimal_text, infeasible_text, unbounded_text, number_or_none, known_text, stopped_nodes_text, stopped_tree_text, stopped_pivots_text, stopped_wide_text, stopped_text, answer_text};
+ghost use Rattle.reply_texts.specs.Texts.{value_line, column_line, column_lines, optimal_text, infeasible_text, unbounded_text, number_or_none, known_text, stopped_pivots_text, stopped_wide_text, stopped_text, answer_text};
 
 use crate::blocks::{write_block, write_step_line};
+use crate::pieces::{write_count_line, write_two};
 use frac128::Frac;
 use lp_model::{Answer, Col, Model, PivotPlace, Point, StopWhy, WideAt};
 use std::alloc::AllocError;
@@ -14,24 +15,16 @@ use std::alloc::AllocError;
 fn write_infeasible(reply: &mut Vec<u8>, placed: u64) -> Result<(), AllocError>
     ensures { IfOk result (λ _. reply.new.items ≡ reply.old.items ++ infeasible_text placed) }
 {
-    let mut digits = itoa::Buffer::new();
-    reply.extend_from_slice(b"infeasible nodes ")?;
-    reply.extend_from_slice(digits.format(placed).as_bytes())?;
-    reply.extend_from_slice(b"\n")?;
-    Ok(())
+    write_count_line(reply, b"infeasible nodes ", placed)
 }
 
 /// The first line of an optimum: its value, and how many results were placed.
 fn write_value(reply: &mut Vec<u8>, value: &Frac, placed: u64) -> Result<(), AllocError>
     ensures { IfOk result (λ _. reply.new.items ≡ reply.old.items ++ value_line value.now placed) }
 {
-    let mut digits = itoa::Buffer::new();
     reply.extend_from_slice(b"optimal ")?;
     value.write_to(reply)?;
-    reply.extend_from_slice(b" nodes ")?;
-    reply.extend_from_slice(digits.format(placed).as_bytes())?;
-    reply.extend_from_slice(b"\n")?;
-    Ok(())
+    write_count_line(reply, b" nodes ", placed)
 }
 
 /// The line of a column whose number is not 0.
@@ -41,12 +34,16 @@ fn write_column_line(reply: &mut Vec<u8>, name: &[u8], number: &Frac) -> Result<
     if number.is_zero() {
         return Ok(());
     }
-    reply.extend_from_slice(b"x ")?;
-    reply.extend_from_slice(name)?;
-    reply.extend_from_slice(b" ")?;
-    number.write_to(reply)?;
-    reply.extend_from_slice(b"\n")?;
-    Ok(())
+    let Ok(()) = write_two(reply, b"x ", name) else {
+        return Err(AllocError);
+    };
+    let Ok(()) = reply.extend_from_slice(b" ") else {
+        return Err(AllocError);
+    };
+    let Ok(()) = number.write_to(reply) else {
+        return Err(AllocError);
+    };
+    reply.extend_from_slice(b"\n")
 }
 
 /// The lines of the columns in order.
@@ -83,19 +80,14 @@ fn write_optimal(
 {
     write_value(reply, best, placed)?;
     write_columns(reply, model.cols(), point.as_slice())?;
-    reply.extend_from_slice(b"end\n")?;
-    Ok(())
+    reply.extend_from_slice(b"end\n")
 }
 
 /// A model whose objective has no end.
 fn write_unbounded(reply: &mut Vec<u8>, placed: u64) -> Result<(), AllocError>
     ensures { IfOk result (λ _. reply.new.items ≡ reply.old.items ++ unbounded_text placed) }
 {
-    let mut digits = itoa::Buffer::new();
-    reply.extend_from_slice(b"unbounded nodes ")?;
-    reply.extend_from_slice(digits.format(placed).as_bytes())?;
-    reply.extend_from_slice(b"\n")?;
-    Ok(())
+    write_count_line(reply, b"unbounded nodes ", placed)
 }
 
 pub(crate) fn write_number_or_none(
@@ -105,10 +97,9 @@ pub(crate) fn write_number_or_none(
     ensures { IfOk result (λ _. reply.new.items ≡ reply.old.items ++ number_or_none number.now) }
 {
     match number {
-        Some(number) => number.write_to(reply)?,
-        None => reply.extend_from_slice(b"none")?,
+        Some(number) => number.write_to(reply),
+        None => reply.extend_from_slice(b"none"),
     }
-    Ok(())
 }
 
 /// The number of results, the bound and the best value.
@@ -121,41 +112,33 @@ fn write_known(
     ensures { IfOk result (λ _. reply.new.items ≡ reply.old.items ++ known_text placed bound.now best.now) }
 {
     let mut digits = itoa::Buffer::new();
-    reply.extend_from_slice(digits.format(placed).as_bytes())?;
-    reply.extend_from_slice(b" bound ")?;
-    write_number_or_none(reply, bound)?;
-    reply.extend_from_slice(b" best ")?;
-    write_number_or_none(reply, best)?;
-    reply.extend_from_slice(b"\n")?;
-    Ok(())
+    let Ok(()) = write_two(reply, digits.format(placed).as_bytes(), b" bound ") else {
+        return Err(AllocError);
+    };
+    let Ok(()) = write_number_or_none(reply, bound) else {
+        return Err(AllocError);
+    };
+    let Ok(()) = reply.extend_from_slice(b" best ") else {
+        return Err(AllocError);
+    };
+    let Ok(()) = write_number_or_none(reply, best) else {
+        return Err(AllocError);
+    };
+    reply.extend_from_slice(b"\n")
 }
 
-/// A search stopped after as many results as it may place.
-fn write_stopped_nodes(
+/// The first line of a stop: why, and what is known.
+fn write_stop(
     reply: &mut Vec<u8>,
+    why: &[u8],
     placed: u64,
     bound: &Option<Frac>,
     best: &Option<Frac>,
 ) -> Result<(), AllocError>
-    ensures { IfOk result (λ _. reply.new.items ≡ reply.old.items ++ stopped_nodes_text placed bound.now best.now) }
+    ensures { IfOk result (λ _. reply.new.items ≡ reply.old.items ++ (why.now ++ known_text placed bound.now best.now)) }
 {
-    reply.extend_from_slice(b"stopped nodes ")?;
-    write_known(reply, placed, bound, best)?;
-    Ok(())
-}
-
-/// A search stopped where a leaf is to be split and the tree has no room for two more nodes.
-fn write_stopped_tree(
-    reply: &mut Vec<u8>,
-    placed: u64,
-    bound: &Option<Frac>,
-    best: &Option<Frac>,
-) -> Result<(), AllocError>
-    ensures { IfOk result (λ _. reply.new.items ≡ reply.old.items ++ stopped_tree_text placed bound.now best.now) }
-{
-    reply.extend_from_slice(b"stopped tree ")?;
-    write_known(reply, placed, bound, best)?;
-    Ok(())
+    reply.extend_from_slice(why)?;
+    write_known(reply, placed, bound, best)
 }
 
 /// A search stopped where a relaxation had as many moves as the limit allows.
@@ -169,8 +152,7 @@ fn write_stopped_pivots(
 ) -> Result<(), AllocError>
     ensures { IfOk result (λ _. reply.new.items ≡ reply.old.items ++ stopped_pivots_text model.now placed bound.now best.now place.now) }
 {
-    reply.extend_from_slice(b"stopped pivots ")?;
-    write_known(reply, placed, bound, best)?;
+    write_stop(reply, b"stopped pivots ", placed, bound, best)?;
     write_block(
         reply,
         model,
@@ -178,8 +160,7 @@ fn write_stopped_pivots(
         place.cuts.as_slice(),
         &place.basis,
     )?;
-    reply.extend_from_slice(b"end\n")?;
-    Ok(())
+    reply.extend_from_slice(b"end\n")
 }
 
 /// A search stopped at a step of arithmetic without room.
@@ -189,16 +170,26 @@ fn write_stopped_wide(
     placed: u64,
     bound: &Option<Frac>,
     best: &Option<Frac>,
-    at: &WideAt,
+    place: &WideAt,
 ) -> Result<(), AllocError>
-    ensures { IfOk result (λ _. reply.new.items ≡ reply.old.items ++ stopped_wide_text model.now placed bound.now best.now at.now) }
+    ensures { IfOk result (λ _. reply.new.items ≡ reply.old.items ++ stopped_wide_text model.now placed bound.now best.now place.now) }
 {
-    reply.extend_from_slice(b"stopped wide ")?;
-    write_known(reply, placed, bound, best)?;
-    write_block(reply, model, &at.path, at.cuts.as_slice(), &at.basis)?;
-    write_step_line(reply, model, &at.step)?;
-    reply.extend_from_slice(b"end\n")?;
-    Ok(())
+    let Ok(()) = write_stop(reply, b"stopped wide ", placed, bound, best) else {
+        return Err(AllocError);
+    };
+    let Ok(()) = write_block(
+        reply,
+        model,
+        &place.path,
+        place.cuts.as_slice(),
+        &place.basis,
+    ) else {
+        return Err(AllocError);
+    };
+    let Ok(()) = write_step_line(reply, model, &place.step) else {
+        return Err(AllocError);
+    };
+    reply.extend_from_slice(b"end\n")
 }
 
 /// Where and why a search stopped.
@@ -213,8 +204,8 @@ fn write_stopped(
     ensures { IfOk result (λ _. reply.new.items ≡ reply.old.items ++ stopped_text model.now why.now placed bound.now best.now) }
 {
     match why {
-        StopWhy::Nodes => write_stopped_nodes(reply, placed, bound, best),
-        StopWhy::Tree => write_stopped_tree(reply, placed, bound, best),
+        StopWhy::Nodes => write_stop(reply, b"stopped nodes ", placed, bound, best),
+        StopWhy::Tree => write_stop(reply, b"stopped tree ", placed, bound, best),
         StopWhy::Pivots(place) => write_stopped_pivots(reply, model, placed, bound, best, place),
         StopWhy::Wide(at) => write_stopped_wide(reply, model, placed, bound, best, at),
     }

@@ -2,11 +2,15 @@
 ghost use Rattle.std.specs.Prelude.{◌≡◌, ◌++◌, codes, decimal, IfOk};
 ghost use Rattle.std.specs.List.{flat_map};
 ghost use Rattle.std.specs.Fmt.{signed_decimal};
-ghost use Rattle.reply_texts.specs.Places.{relation_text, change_text, path_line, region_line, side_text, literal_text, sign_text, cut_line, cut_lines, basis_line, high_line, basis_lines, block_text, step_line};
+ghost use Rattle.lp_model.specs.Lawful.{row_name};
+ghost use Rattle.reply_texts.specs.Places.{next_text, relation_text, change_text, path_line, region_line, side_text, literal_text, sign_text, cut_line, cut_lines, basis_lines, block_text, step_line};
 
 use crate::names::{column_name, row_name, write_variables};
+use crate::pieces::{write_count, write_two};
 use crate::steps::write_step;
-use lp_model::{Basis, BoundChange, Derivation, Literal, Model, Region, Side, Var, WideStep};
+use lp_model::{
+    Basis, BoundChange, Derivation, Literal, Model, Region, RowId, Side, Var, WideStep,
+};
 use std::alloc::AllocError;
 
 fn relation(side: Side) -> &'static [u8]
@@ -30,10 +34,18 @@ fn write_change(reply: &mut Vec<u8>, model: &Model, change: BoundChange) -> Resu
     ensures { IfOk result (λ _. reply.new.items ≡ reply.old.items ++ change_text model.now change) }
 {
     let BoundChange { col, side, v } = change;
-    reply.extend_from_slice(relation(side))?;
-    reply.extend_from_slice(column_name(model, col))?;
-    reply.extend_from_slice(b" ")?;
-    write_whole(reply, v)?;
+    let Ok(()) = reply.extend_from_slice(relation(side)) else {
+        return Err(AllocError);
+    };
+    let Ok(()) = reply.extend_from_slice(column_name(model, col)) else {
+        return Err(AllocError);
+    };
+    let Ok(()) = reply.extend_from_slice(b" ") else {
+        return Err(AllocError);
+    };
+    let Ok(()) = write_whole(reply, v) else {
+        return Err(AllocError);
+    };
     Ok(())
 }
 
@@ -56,8 +68,7 @@ fn write_path(reply: &mut Vec<u8>, model: &Model, path: &Region) -> Result<(), A
 {
     reply.extend_from_slice(b"path")?;
     write_changes(reply, model, path.as_slice())?;
-    reply.extend_from_slice(b"\n")?;
-    Ok(())
+    reply.extend_from_slice(b"\n")
 }
 
 /// The bound changes of a leaf, or that the relaxation is that of the ray phase.
@@ -83,9 +94,7 @@ fn sign(plus: bool) -> &'static [u8]
 fn write_literal(reply: &mut Vec<u8>, model: &Model, literal: Literal) -> Result<(), AllocError>
     ensures { IfOk result (λ _. reply.new.items ≡ reply.old.items ++ literal_text model.now literal) }
 {
-    reply.extend_from_slice(sign(literal.plus))?;
-    reply.extend_from_slice(column_name(model, literal.col))?;
-    Ok(())
+    write_two(reply, sign(literal.plus), column_name(model, literal.col))
 }
 
 fn write_literals(
@@ -110,6 +119,21 @@ fn side(side: Side) -> &'static [u8]
     }
 }
 
+/// A cut, by its place from 1, and the side of the row that it comes from.
+fn write_cut_side(
+    reply: &mut Vec<u8>,
+    model: &Model,
+    place: u64,
+    row: RowId,
+    of: Side,
+) -> Result<(), AllocError>
+    ensures { IfOk result (λ _. reply.new.items ≡ reply.old.items ++ (codes "cut " ++ decimal place ++ codes " " ++ row_name model.now row.0 ++ side_text of)) }
+{
+    write_count(reply, b"cut ", place)?;
+    write_two(reply, b" ", row_name(model, row))?;
+    reply.extend_from_slice(side(of))
+}
+
 /// A cut, by its place from 1, and where it comes from.
 fn write_cut_line(
     reply: &mut Vec<u8>,
@@ -119,15 +143,9 @@ fn write_cut_line(
 ) -> Result<(), AllocError>
     ensures { IfOk result (λ _. reply.new.items ≡ reply.old.items ++ cut_line model.now place cut.now) }
 {
-    let mut digits = itoa::Buffer::new();
-    reply.extend_from_slice(b"cut ")?;
-    reply.extend_from_slice(digits.format(place).as_bytes())?;
-    reply.extend_from_slice(b" ")?;
-    reply.extend_from_slice(row_name(model, cut.row))?;
-    reply.extend_from_slice(side(cut.side))?;
+    write_cut_side(reply, model, place, cut.row, cut.side)?;
     write_literals(reply, model, cut.literals.as_slice())?;
-    reply.extend_from_slice(b"\n")?;
-    Ok(())
+    reply.extend_from_slice(b"\n")
 }
 
 /// The cuts of a relaxation, in order.
@@ -140,31 +158,26 @@ fn write_cuts(reply: &mut Vec<u8>, model: &Model, cuts: &[Derivation]) -> Result
     Ok(())
 }
 
-fn write_basic(reply: &mut Vec<u8>, model: &Model, variables: &[Var]) -> Result<(), AllocError>
-    ensures { IfOk result (λ _. reply.new.items ≡ reply.old.items ++ basis_line model.now variables.now) }
+/// A line of variables behind a word.
+fn write_variable_line(
+    reply: &mut Vec<u8>,
+    model: &Model,
+    word: &[u8],
+    variables: &[Var],
+) -> Result<(), AllocError>
+    ensures { IfOk result (λ _. reply.new.items ≡ reply.old.items ++ (word.now ++ flat_map (next_text model.now) variables.now ++ codes "\n")) }
 {
-    reply.extend_from_slice(b"basis")?;
+    reply.extend_from_slice(word)?;
     write_variables(reply, model, variables)?;
-    reply.extend_from_slice(b"\n")?;
-    Ok(())
-}
-
-fn write_high(reply: &mut Vec<u8>, model: &Model, variables: &[Var]) -> Result<(), AllocError>
-    ensures { IfOk result (λ _. reply.new.items ≡ reply.old.items ++ high_line model.now variables.now) }
-{
-    reply.extend_from_slice(b"high")?;
-    write_variables(reply, model, variables)?;
-    reply.extend_from_slice(b"\n")?;
-    Ok(())
+    reply.extend_from_slice(b"\n")
 }
 
 /// A basis: its variables, and those of the others that stand at their high side.
 fn write_basis(reply: &mut Vec<u8>, model: &Model, basis: &Basis) -> Result<(), AllocError>
     ensures { IfOk result (λ _. reply.new.items ≡ reply.old.items ++ basis_lines model.now basis.now) }
 {
-    write_basic(reply, model, basis.basic.as_slice())?;
-    write_high(reply, model, basis.high.as_slice())?;
-    Ok(())
+    write_variable_line(reply, model, b"basis", basis.basic.as_slice())?;
+    write_variable_line(reply, model, b"high", basis.high.as_slice())
 }
 
 /// A relaxation, by its cuts and its region, and a basis of it.
@@ -179,8 +192,7 @@ pub(crate) fn write_block(
 {
     write_cuts(reply, model, cuts)?;
     write_region(reply, model, region)?;
-    write_basis(reply, model, basis)?;
-    Ok(())
+    write_basis(reply, model, basis)
 }
 
 /// The step of arithmetic without room.
@@ -193,6 +205,5 @@ pub(crate) fn write_step_line(
 {
     reply.extend_from_slice(b"at ")?;
     write_step(reply, model, step)?;
-    reply.extend_from_slice(b"\n")?;
-    Ok(())
+    reply.extend_from_slice(b"\n")
 }

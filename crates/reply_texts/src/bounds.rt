@@ -3,6 +3,7 @@ ghost use Rattle.std.specs.Prelude.{◌≡◌, ◌++◌, IfOk};
 ghost use Rattle.reply_texts.specs.Texts.{bound_text, wide_bound_text};
 
 use crate::answers::write_number_or_none;
+use crate::pieces::write_count;
 use crate::steps::write_step;
 use frac128::Frac;
 use lp_model::{Model, WideStep};
@@ -12,10 +13,13 @@ use std::alloc::AllocError;
 pub fn write_bound(reply: &mut Vec<u8>, bound: &Option<Frac>) -> Result<(), AllocError>
     ensures { IfOk result (λ _. reply.new.items ≡ reply.old.items ++ bound_text bound.now) }
 {
-    reply.extend_from_slice(b"bound ")?;
-    write_number_or_none(reply, bound)?;
-    reply.extend_from_slice(b"\n")?;
-    Ok(())
+    let Ok(()) = reply.extend_from_slice(b"bound ") else {
+        return Err(AllocError);
+    };
+    let Ok(()) = write_number_or_none(reply, bound) else {
+        return Err(AllocError);
+    };
+    reply.extend_from_slice(b"\n")
 }
 
 /// The leaf, from 1 in preorder, in whose number a step has no room, and the step.
@@ -27,11 +31,14 @@ pub fn write_wide_bound(
 ) -> Result<(), AllocError>
     ensures { IfOk result (λ _. reply.new.items ≡ reply.old.items ++ wide_bound_text model.now leaf step.now) }
 {
-    let mut digits = itoa::Buffer::new();
-    reply.extend_from_slice(b"bound wide ")?;
-    reply.extend_from_slice(digits.format(leaf).as_bytes())?;
-    reply.extend_from_slice(b" ")?;
-    write_step(reply, model, step)?;
-    reply.extend_from_slice(b"\n")?;
-    Ok(())
+    let Ok(()) = write_count(reply, b"bound wide ", leaf) else {
+        return Err(AllocError);
+    };
+    let Ok(()) = reply.extend_from_slice(b" ") else {
+        return Err(AllocError);
+    };
+    let Ok(()) = write_step(reply, model, step) else {
+        return Err(AllocError);
+    };
+    reply.extend_from_slice(b"\n")
 }

@@ -13,6 +13,7 @@ mod answers;
 mod blocks;
 mod bounds;
 mod names;
+mod pieces;
 mod refusals;
 mod steps;
 

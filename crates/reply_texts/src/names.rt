@@ -5,6 +5,7 @@ ghost use Rattle.reply_texts.specs.Places.{variable_text, next_text};
 ghost use Rattle.lp_model.specs.Lawful.{row_name};
 ghost use Rattle.lp_model.specs.Lawful.{column_name};
 
+use crate::pieces::{write_count, write_two};
 use lp_model::{ColId, Model, RowId, Var};
 use std::alloc::AllocError;
 
@@ -37,26 +38,19 @@ pub(crate) fn row_name(model: &Model, place: RowId) -> &[u8]
 fn write_column(reply: &mut Vec<u8>, model: &Model, place: ColId) -> Result<(), AllocError>
     ensures { IfOk result (λ _. reply.new.items ≡ reply.old.items ++ (codes "col " ++ column_name model.now place.0)) }
 {
-    reply.extend_from_slice(b"col ")?;
-    reply.extend_from_slice(column_name(model, place))?;
-    Ok(())
+    write_two(reply, b"col ", column_name(model, place))
 }
 
 fn write_row(reply: &mut Vec<u8>, model: &Model, place: RowId) -> Result<(), AllocError>
     ensures { IfOk result (λ _. reply.new.items ≡ reply.old.items ++ (codes "row " ++ row_name model.now place.0)) }
 {
-    reply.extend_from_slice(b"row ")?;
-    reply.extend_from_slice(row_name(model, place))?;
-    Ok(())
+    write_two(reply, b"row ", row_name(model, place))
 }
 
 fn write_cut(reply: &mut Vec<u8>, place: u32) -> Result<(), AllocError>
     ensures { IfOk result (λ _. reply.new.items ≡ reply.old.items ++ (codes "cut " ++ decimal (suc place))) }
 {
-    let mut digits = itoa::Buffer::new();
-    reply.extend_from_slice(b"cut ")?;
-    reply.extend_from_slice(digits.format(u64::from(place) + 1).as_bytes())?;
-    Ok(())
+    write_count(reply, b"cut ", u64::from(place) + 1)
 }
 
 pub(crate) fn write_variable(
@@ -82,8 +76,7 @@ pub(crate) fn write_next(
     ensures { IfOk result (λ _. reply.new.items ≡ reply.old.items ++ next_text model.now variable.now) }
 {
     reply.extend_from_slice(b" ")?;
-    write_variable(reply, model, variable)?;
-    Ok(())
+    write_variable(reply, model, variable)
 }
 
 /// Variables, each behind a blank.

@@ -1,27 +1,31 @@
 // The bytes of the refusals.
-ghost use Rattle.std.specs.Prelude.{◌≡◌, ◌++◌, IfOk};
+ghost use Rattle.std.specs.Prelude.{◌≡◌, ◌++◌, codes, decimal, IfOk};
 ghost use Rattle.reply_texts.specs.Texts.{unknown_text, unknown_name_text, taken_text, limit_text, bounds_text, sides_text, number_text, mps_text, warm_text, cert_fault_text};
 
+use crate::pieces::{write_count_line, write_line, write_two};
 use std::alloc::AllocError;
+
+/// The line of a text's first fault: its place behind a piece, and its code.
+fn write_fault(reply: &mut Vec<u8>, first: &[u8], place: &[u8], code: u8) -> Result<(), AllocError>
+    ensures { IfOk result (λ _. reply.new.items ≡ reply.old.items ++ (first.now ++ place.now ++ codes " code " ++ decimal code ++ codes "\n")) }
+{
+    let mut digits = itoa::Buffer::new();
+    write_two(reply, first, place)?;
+    write_line(reply, b" code ", digits.format(code).as_bytes())
+}
 
 /// The first word is no command.
 pub fn write_unknown(reply: &mut Vec<u8>, word: &[u8]) -> Result<(), AllocError>
     ensures { IfOk result (λ _. reply.new.items ≡ reply.old.items ++ unknown_text word.now) }
 {
-    reply.extend_from_slice(b"error 02 unknown command ")?;
-    reply.extend_from_slice(word)?;
-    reply.extend_from_slice(b"\n")?;
-    Ok(())
+    write_line(reply, b"error 02 unknown command ", word)
 }
 
 /// A word stands in a number's place and is none.
 pub fn write_no_number(reply: &mut Vec<u8>, word: &[u8]) -> Result<(), AllocError>
     ensures { IfOk result (λ _. reply.new.items ≡ reply.old.items ++ number_text word.now) }
 {
-    reply.extend_from_slice(b"error 07 number ")?;
-    reply.extend_from_slice(word)?;
-    reply.extend_from_slice(b"\n")?;
-    Ok(())
+    write_line(reply, b"error 07 number ", word)
 }
 
 /// The first faulty line of a model's text, and the least code of its faults.
@@ -29,25 +33,19 @@ pub fn write_faulty_model(reply: &mut Vec<u8>, line: u64, code: u8) -> Result<()
     ensures { IfOk result (λ _. reply.new.items ≡ reply.old.items ++ mps_text line code) }
 {
     let mut digits = itoa::Buffer::new();
-    reply.extend_from_slice(b"error 30 mps line ")?;
-    reply.extend_from_slice(digits.format(line).as_bytes())?;
-    reply.extend_from_slice(b" code ")?;
-    reply.extend_from_slice(digits.format(code).as_bytes())?;
-    reply.extend_from_slice(b"\n")?;
-    Ok(())
+    write_fault(
+        reply,
+        b"error 30 mps line ",
+        digits.format(line).as_bytes(),
+        code,
+    )
 }
 
 /// The place of the first fault of a text that states no search, and the fault's code.
 pub fn write_faulty_search(reply: &mut Vec<u8>, place: &[u8], code: u8) -> Result<(), AllocError>
     ensures { IfOk result (λ _. reply.new.items ≡ reply.old.items ++ warm_text place.now code) }
 {
-    let mut digits = itoa::Buffer::new();
-    reply.extend_from_slice(b"error 31 warm place ")?;
-    reply.extend_from_slice(place)?;
-    reply.extend_from_slice(b" code ")?;
-    reply.extend_from_slice(digits.format(code).as_bytes())?;
-    reply.extend_from_slice(b"\n")?;
-    Ok(())
+    write_fault(reply, b"error 31 warm place ", place, code)
 }
 
 /// The first faulty line of a certificate's text, and the least code of its faults.
@@ -55,61 +53,45 @@ pub fn write_faulty_certificate(reply: &mut Vec<u8>, line: u64, code: u8) -> Res
     ensures { IfOk result (λ _. reply.new.items ≡ reply.old.items ++ cert_fault_text line code) }
 {
     let mut digits = itoa::Buffer::new();
-    reply.extend_from_slice(b"error 32 cert line ")?;
-    reply.extend_from_slice(digits.format(line).as_bytes())?;
-    reply.extend_from_slice(b" code ")?;
-    reply.extend_from_slice(digits.format(code).as_bytes())?;
-    reply.extend_from_slice(b"\n")?;
-    Ok(())
+    write_fault(
+        reply,
+        b"error 32 cert line ",
+        digits.format(line).as_bytes(),
+        code,
+    )
 }
 
 /// No row or column has the name.
 pub fn write_unknown_name(reply: &mut Vec<u8>, name: &[u8]) -> Result<(), AllocError>
     ensures { IfOk result (λ _. reply.new.items ≡ reply.old.items ++ unknown_name_text name.now) }
 {
-    reply.extend_from_slice(b"error 05 unknown ")?;
-    reply.extend_from_slice(name)?;
-    reply.extend_from_slice(b"\n")?;
-    Ok(())
+    write_line(reply, b"error 05 unknown ", name)
 }
 
 /// The name of a new row or column is taken.
 pub fn write_taken(reply: &mut Vec<u8>, name: &[u8]) -> Result<(), AllocError>
     ensures { IfOk result (λ _. reply.new.items ≡ reply.old.items ++ taken_text name.now) }
 {
-    reply.extend_from_slice(b"error 06 taken ")?;
-    reply.extend_from_slice(name)?;
-    reply.extend_from_slice(b"\n")?;
-    Ok(())
+    write_line(reply, b"error 06 taken ", name)
 }
 
 /// A count would pass this limit.
 pub fn write_limit(reply: &mut Vec<u8>, limit: u64) -> Result<(), AllocError>
     ensures { IfOk result (λ _. reply.new.items ≡ reply.old.items ++ limit_text limit) }
 {
-    let mut digits = itoa::Buffer::new();
-    reply.extend_from_slice(b"error 08 limit ")?;
-    reply.extend_from_slice(digits.format(limit).as_bytes())?;
-    reply.extend_from_slice(b"\n")?;
-    Ok(())
+    write_count_line(reply, b"error 08 limit ", limit)
 }
 
 /// An integer column would lack a bound.
 pub fn write_bounds(reply: &mut Vec<u8>, name: &[u8]) -> Result<(), AllocError>
     ensures { IfOk result (λ _. reply.new.items ≡ reply.old.items ++ bounds_text name.now) }
 {
-    reply.extend_from_slice(b"error 10 bounds ")?;
-    reply.extend_from_slice(name)?;
-    reply.extend_from_slice(b"\n")?;
-    Ok(())
+    write_line(reply, b"error 10 bounds ", name)
 }
 
 /// A row would have no side, or sides that are no range.
 pub fn write_sides(reply: &mut Vec<u8>, name: &[u8]) -> Result<(), AllocError>
     ensures { IfOk result (λ _. reply.new.items ≡ reply.old.items ++ sides_text name.now) }
 {
-    reply.extend_from_slice(b"error 11 sides ")?;
-    reply.extend_from_slice(name)?;
-    reply.extend_from_slice(b"\n")?;
-    Ok(())
+    write_line(reply, b"error 11 sides ", name)
 }

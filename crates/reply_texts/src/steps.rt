@@ -5,45 +5,28 @@ ghost use Rattle.lp_model.specs.Lawful.{row_name};
 ghost use Rattle.lp_model.specs.Lawful.{column_name};
 
 use crate::names::{column_name, row_name, write_next, write_variable};
+use crate::pieces::write_two;
 use lp_model::{ColId, Model, RowId, Var, WideStep};
 use std::alloc::AllocError;
 
-fn write_activity(
+/// A row's name behind a piece, and a column's.
+fn write_crossing(
     reply: &mut Vec<u8>,
     model: &Model,
+    first: &[u8],
     row: RowId,
     column: ColId,
 ) -> Result<(), AllocError>
-    ensures { IfOk result (λ _. reply.new.items ≡ reply.old.items ++ (codes "act row " ++ row_name model.now row.0 ++ codes " col " ++ column_name model.now column.0)) }
+    ensures { IfOk result (λ _. reply.new.items ≡ reply.old.items ++ (first.now ++ row_name model.now row.0 ++ codes " col " ++ column_name model.now column.0)) }
 {
-    reply.extend_from_slice(b"act row ")?;
-    reply.extend_from_slice(row_name(model, row))?;
-    reply.extend_from_slice(b" col ")?;
-    reply.extend_from_slice(column_name(model, column))?;
-    Ok(())
-}
-
-fn write_cover(
-    reply: &mut Vec<u8>,
-    model: &Model,
-    row: RowId,
-    column: ColId,
-) -> Result<(), AllocError>
-    ensures { IfOk result (λ _. reply.new.items ≡ reply.old.items ++ (codes "cover row " ++ row_name model.now row.0 ++ codes " col " ++ column_name model.now column.0)) }
-{
-    reply.extend_from_slice(b"cover row ")?;
-    reply.extend_from_slice(row_name(model, row))?;
-    reply.extend_from_slice(b" col ")?;
-    reply.extend_from_slice(column_name(model, column))?;
-    Ok(())
+    write_two(reply, first, row_name(model, row))?;
+    write_two(reply, b" col ", column_name(model, column))
 }
 
 fn write_value_at(reply: &mut Vec<u8>, model: &Model, column: ColId) -> Result<(), AllocError>
     ensures { IfOk result (λ _. reply.new.items ≡ reply.old.items ++ (codes "value col " ++ column_name model.now column.0)) }
 {
-    reply.extend_from_slice(b"value col ")?;
-    reply.extend_from_slice(column_name(model, column))?;
-    Ok(())
+    write_two(reply, b"value col ", column_name(model, column))
 }
 
 fn write_value(reply: &mut Vec<u8>, model: &Model, column: &Option<ColId>) -> Result<(), AllocError>
@@ -63,19 +46,15 @@ fn write_entry(
 ) -> Result<(), AllocError>
     ensures { IfOk result (λ _. reply.new.items ≡ reply.old.items ++ (codes "lag col " ++ column_name model.now column.0 ++ codes " " ++ variable_text model.now by.now)) }
 {
-    reply.extend_from_slice(b"lag col ")?;
-    reply.extend_from_slice(column_name(model, column))?;
-    reply.extend_from_slice(b" ")?;
-    write_variable(reply, model, by)?;
-    Ok(())
+    write_two(reply, b"lag col ", column_name(model, column))?;
+    write_next(reply, model, by)
 }
 
 fn write_term(reply: &mut Vec<u8>, model: &Model, of: &Var) -> Result<(), AllocError>
     ensures { IfOk result (λ _. reply.new.items ≡ reply.old.items ++ (codes "lag " ++ variable_text model.now of.now)) }
 {
     reply.extend_from_slice(b"lag ")?;
-    write_variable(reply, model, of)?;
-    Ok(())
+    write_variable(reply, model, of)
 }
 
 /// A word and two variables.
@@ -90,8 +69,7 @@ fn write_pair(
 {
     reply.extend_from_slice(word)?;
     write_next(reply, model, first)?;
-    write_next(reply, model, second)?;
-    Ok(())
+    write_next(reply, model, second)
 }
 
 /// An entry after an exchange: who leaves, who enters, and the variables of the entry.
@@ -107,8 +85,7 @@ fn write_pivot(
 {
     write_pair(reply, model, b"pivot", leaving, entering)?;
     write_next(reply, model, first)?;
-    write_next(reply, model, second)?;
-    Ok(())
+    write_next(reply, model, second)
 }
 
 /// A ratio of the costs.
@@ -121,8 +98,7 @@ fn write_cost_ratio(
     ensures { IfOk result (λ _. reply.new.items ≡ reply.old.items ++ (codes "ratio" ++ next_text model.now leaving.now ++ next_text model.now entering.now ++ codes " 0")) }
 {
     write_pair(reply, model, b"ratio", leaving, entering)?;
-    reply.extend_from_slice(b" 0")?;
-    Ok(())
+    reply.extend_from_slice(b" 0")
 }
 
 /// A ratio of a part of the perturbation.
@@ -136,8 +112,7 @@ fn write_part_ratio(
     ensures { IfOk result (λ _. reply.new.items ≡ reply.old.items ++ (codes "ratio" ++ next_text model.now leaving.now ++ next_text model.now entering.now ++ next_text model.now part.now)) }
 {
     write_pair(reply, model, b"ratio", leaving, entering)?;
-    write_next(reply, model, part)?;
-    Ok(())
+    write_next(reply, model, part)
 }
 
 /// The place of a step of arithmetic.
@@ -150,10 +125,10 @@ pub fn write_step(reply: &mut Vec<u8>, model: &Model, step: &WideStep) -> Result
         WideStep::Cost { k, b } => write_pair(reply, model, b"cost", k, b),
         WideStep::RatioCost { r, k } => write_cost_ratio(reply, model, r, k),
         WideStep::Ratio { r, k, v } => write_part_ratio(reply, model, r, k, v),
-        WideStep::Act { row, col } => write_activity(reply, model, *row, *col),
+        WideStep::Act { row, col } => write_crossing(reply, model, b"act row ", *row, *col),
         WideStep::Value { col } => write_value(reply, model, col),
         WideStep::LagEntry { col, by } => write_entry(reply, model, *col, by),
         WideStep::LagTerm { of } => write_term(reply, model, of),
-        WideStep::Cover { row, col } => write_cover(reply, model, *row, *col),
+        WideStep::Cover { row, col } => write_crossing(reply, model, b"cover row ", *row, *col),
     }
 }

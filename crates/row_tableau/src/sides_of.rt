@@ -86,9 +86,15 @@ pub fn lows(alloc: Global, relax: &Relax<'_>) -> Result<Vec<Bound>, AllocError>
     ensures items { IfOk result (λ v. (u : ℕ) → u < length relax.now.model.now.cols + activity_count (form_of relax.now) → get_or v.items u None ≡ (relaxation_of relax.now).low u) }
 {
     let variables = relax.variables();
-    let mut list = Vec::with_capacity(alloc, variables)?;
+    let mut list = match Vec::with_capacity(alloc, variables) {
+        Ok(list) => list,
+        Err(error) => return Err(error),
+    };
     for variable in 0..variables {
-        list.push(low_of(relax, variable))?;
+        match list.push(low_of(relax, variable)) {
+            Ok(()) => {}
+            Err(error) => return Err(error.into()),
+        }
     }
     Ok(list)
 }
@@ -101,9 +107,15 @@ pub fn highs(alloc: Global, relax: &Relax<'_>) -> Result<Vec<Bound>, AllocError>
     ensures items { IfOk result (λ v. (u : ℕ) → u < length relax.now.model.now.cols + activity_count (form_of relax.now) → get_or v.items u None ≡ (relaxation_of relax.now).high u) }
 {
     let variables = relax.variables();
-    let mut list = Vec::with_capacity(alloc, variables)?;
+    let mut list = match Vec::with_capacity(alloc, variables) {
+        Ok(list) => list,
+        Err(error) => return Err(error),
+    };
     for variable in 0..variables {
-        list.push(high_of(relax, variable))?;
+        match list.push(high_of(relax, variable)) {
+            Ok(()) => {}
+            Err(error) => return Err(error.into()),
+        }
     }
     Ok(list)
 }
@@ -140,9 +152,15 @@ pub fn costs(alloc: Global, relax: &Relax<'_>) -> Result<Vec<Frac>, AllocError>
     ensures items { IfOk result (λ v. (u : ℕ) → u < length relax.now.model.now.cols + activity_count (form_of relax.now) → get_or v.items u (int (pos 0)) ≡ (relaxation_of relax.now).cost u) }
 {
     let variables = relax.variables();
-    let mut list = Vec::with_capacity(alloc, variables)?;
+    let mut list = match Vec::with_capacity(alloc, variables) {
+        Ok(list) => list,
+        Err(error) => return Err(error),
+    };
     for variable in 0..variables {
-        list.push(cost_of(relax, variable))?;
+        match list.push(cost_of(relax, variable)) {
+            Ok(()) => {}
+            Err(error) => return Err(error.into()),
+        }
     }
     Ok(list)
 }

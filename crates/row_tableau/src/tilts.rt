@@ -83,9 +83,15 @@ pub fn tilts(alloc: Global, relax: &Relax<'_>) -> Result<Vec<Stand>, AllocError>
     ensures items { IfOk result (λ v. (u : ℕ) → u < length relax.now.model.now.cols + activity_count (form_of relax.now) → get_or v.items u Free ≡ tilt_of relax.now.kind (form_of relax.now) u) }
 {
     let variables = relax.variables();
-    let mut list = Vec::with_capacity(alloc, variables)?;
+    let mut list = match Vec::with_capacity(alloc, variables) {
+        Ok(list) => list,
+        Err(error) => return Err(error),
+    };
     for variable in 0..variables {
-        list.push(tilt_of(relax, variable))?;
+        match list.push(tilt_of(relax, variable)) {
+            Ok(()) => {}
+            Err(error) => return Err(error.into()),
+        }
     }
     Ok(list)
 }
@@ -115,10 +121,16 @@ fn sided(alloc: Global, relax: &Relax<'_>) -> Result<Vec<usize>, AllocError>
     ensures { IfOk result (λ v. v.items ≡ sided (form_of relax.now)) }
 {
     let variables = relax.variables();
-    let mut list = Vec::with_capacity(alloc, variables)?;
+    let mut list = match Vec::with_capacity(alloc, variables) {
+        Ok(list) => list,
+        Err(error) => return Err(error),
+    };
     for variable in 0..variables {
         if is_sided(relax, variable) {
-            list.push(variable)?;
+            match list.push(variable) {
+                Ok(()) => {}
+                Err(error) => return Err(error.into()),
+            }
         }
     }
     Ok(list)
@@ -131,7 +143,10 @@ fn with_unsided(list: Vec<usize>, relax: &Relax<'_>) -> Result<Vec<usize>, Alloc
     let mut list = list;
     for column in 0..relax.model.cols().len() {
         if !is_sided(relax, column) {
-            list.push(column)?;
+            match list.push(column) {
+                Ok(()) => {}
+                Err(error) => return Err(error.into()),
+            }
         }
     }
     Ok(list)
@@ -142,7 +157,10 @@ pub fn order(alloc: Global, relax: &Relax<'_>) -> Result<Vec<usize>, AllocError>
     requires few { HasFewCuts relax.now }
     ensures { IfOk result (λ v. v.items ≡ order_of relax.now.kind (form_of relax.now)) }
 {
-    let list = sided(alloc, relax)?;
+    let list = match sided(alloc, relax) {
+        Ok(list) => list,
+        Err(error) => return Err(error),
+    };
     match relax.kind {
         RelaxKind::Plain => Ok(list),
         RelaxKind::CostsZero => Ok(list),

@@ -2,6 +2,7 @@ pub mod ScriptLemmas
 pub mod OutputLemmas
 pub mod SessionLemmas
 pub mod PieceLemmas
+pub mod CauseLemmas
 pub mod ReadLemmas
 pub mod RunLemmas
 pub mod ToldLemmas

@@ -46,9 +46,10 @@ impl Session {
                 return self.serve_rest(machine, out, store, &pending);
             }
             let room = SCRIPT_LIMIT - taken;
-            match self.feed(machine, out, store, &mut pending, &piece[..count.min(room)])? {
-                Flow::Ended => return Ok(()),
-                Flow::Open => {}
+            match self.feed(machine, out, store, &mut pending, &piece[..count.min(room)]) {
+                Ok(Flow::Ended) => return Ok(()),
+                Ok(Flow::Open) => {}
+                Err(stop) => return Err(stop),
             }
             if count > room {
                 return Err(Stop::TooLong);

@@ -1,5 +1,5 @@
 // A script's lines, answered one by one as they come.
-ghost use Rattle.std.specs.Prelude.{◌≡◌, ◌<◌, ◌≤◌, ◌++◌, ◌||◌, false, length, map};
+ghost use Rattle.std.specs.Prelude.{◌≡◌, ◌<◌, ◌≤◌, ◌++◌, ◌∷◌, [], ◌||◌, true, false, length, map, OnOk};
 ghost use Rattle.script_session.specs.Output.{SinkCause};
 ghost use Rattle.script_session.specs.Reply.{wants_memory, is_error, final_status};
 ghost use Rattle.script_session.specs.Request.{RequestStep, Words};
@@ -131,6 +131,33 @@ impl Session {
         Ok(())
     }
 
+    /// Answers one command, and tells whether it ends the script.
+    fn serve_words<M: Machine, W: Sink, S: Store>(
+        &mut self,
+        machine: &mut M,
+        out: &mut W,
+        store: &mut S,
+        words: &[&[u8]],
+    ) -> Result<Flow, Stop>
+        requires { 0 < length words.now }
+        ensures served { ServesAll (RequestStep M.step) result (moment_of self.old machine.old (W.written out.old) (S.files store.old) (S.faults store.old))
+            (Words (map (λ word. word.now) words.now) ∷ []) (M.ends (map (λ word. word.now) words.now)) (moment_of self.new machine.new (W.written out.new) (S.files store.new) (S.faults store.new)) }
+        ensures cause { SinkCause result (W.faults out.old) (W.faults out.new) }
+        ensures later { W.faults out.old ≤ W.faults out.new }
+        ensures store_later { S.faults store.old ≤ S.faults store.new }
+    {
+        match self.serve_command(machine, out, store, words) {
+            Ok(()) => {
+                if machine.ends_script(words) {
+                    Ok(Flow::Ended)
+                } else {
+                    Ok(Flow::Open)
+                }
+            }
+            Err(stop) => Err(stop),
+        }
+    }
+
     /// Answers the text of a line, where it has a command.
     fn serve_text<M: Machine, W: Sink, S: Store>(
         &mut self,
@@ -148,16 +175,16 @@ impl Session {
         if is_comment_line(text) {
             return Ok(Flow::Open);
         }
-        let words = words(self.alloc, text)?;
+        let Ok(words) = words(self.alloc, text) else {
+            return Err(Stop::Memory);
+        };
         if words.is_empty() {
+            drop(words);
             return Ok(Flow::Open);
         }
-        self.serve_command(machine, out, store, &words)?;
-        if machine.ends_script(&words) {
-            Ok(Flow::Ended)
-        } else {
-            Ok(Flow::Open)
-        }
+        let flow = self.serve_words(machine, out, store, &words);
+        drop(words);
+        flow
     }
 
     /// Answers the line of these bytes, `ended` by a newline or not. The reply to a line that is too long needs no memory.
@@ -185,6 +212,34 @@ impl Session {
         self.serve_text(machine, out, store, text)
     }
 
+    /// Answers the line that these bytes end behind what is kept of it. Nothing is kept of a line that was answered.
+    fn serve_joined<M: Machine, W: Sink, S: Store>(
+        &mut self,
+        machine: &mut M,
+        out: &mut W,
+        store: &mut S,
+        pending: &mut Vec<u8>,
+        end: &[u8],
+    ) -> Result<Flow, Stop>
+        ensures served { ServesLine M.ends (RequestStep M.step) result (moment_of self.old machine.old (W.written out.old) (S.files store.old) (S.faults store.old))
+            (record { bytes = pending.old.items ++ end.now; ended = true }) (moment_of self.new machine.new (W.written out.new) (S.files store.new) (S.faults store.new)) }
+        ensures cleared { OnOk result (pending.new.items ≡ []) }
+        ensures cause { SinkCause result (W.faults out.old) (W.faults out.new) }
+        ensures later { W.faults out.old ≤ W.faults out.new }
+        ensures store_later { S.faults store.old ≤ S.faults store.new }
+    {
+        let Ok(()) = pending.extend_from_slice(end) else {
+            return Err(Stop::Memory);
+        };
+        match self.serve_line(machine, out, store, pending, true) {
+            Ok(flow) => {
+                pending.clear();
+                Ok(flow)
+            }
+            Err(stop) => Err(stop),
+        }
+    }
+
     /// Answers the lines that the piece ends, and keeps what follows the last of them.
     pub(crate) fn feed<M: Machine, W: Sink, S: Store>(
         &mut self,
@@ -203,15 +258,17 @@ impl Session {
     {
         let mut rest = piece;
         while let Some((line, more)) = cut_line(rest) {
-            pending.extend_from_slice(line)?;
-            match self.serve_line(machine, out, store, pending, true)? {
-                Flow::Ended => return Ok(Flow::Ended),
-                Flow::Open => pending.clear(),
+            match self.serve_joined(machine, out, store, pending, line) {
+                Ok(Flow::Ended) => return Ok(Flow::Ended),
+                Ok(Flow::Open) => {}
+                Err(stop) => return Err(stop),
             }
             rest = more;
         }
-        pending.extend_from_slice(rest)?;
-        Ok(Flow::Open)
+        match pending.extend_from_slice(rest) {
+            Ok(()) => Ok(Flow::Open),
+            Err(_) => Err(Stop::Memory),
+        }
     }
 
     /// Answers the last line, which has no newline, where there is one.

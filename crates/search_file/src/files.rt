@@ -6,7 +6,7 @@ ghost use Rattle.warm_values.specs.declared.fault.WarmFault.TheVariants.{Memory}
 ghost use Rattle.search_file.specs.Files.{IsReread, IsTextAnswer, IsSearchFound};
 
 use search_saving::{data_of, search_of};
-use std::alloc::Global;
+use std::alloc::{AllocError, Global};
 use tree_edit::Search;
 use warm_file::read;
 use warm_values::WarmFault;
@@ -36,10 +36,16 @@ pub fn text_of(alloc: Global, search: &Search) -> Result<Vec<u8>, WarmFault>
 {
     let _sound = search.tree();
     let _lawful = search.model().cols();
-    let stated = data_of(alloc, search)?;
-    let text = write(alloc, &stated)?;
+    let stated = match data_of(alloc, search) {
+        Ok(stated) => stated,
+        Err(AllocError) => return Err(WarmFault::Memory),
+    };
+    let written = write(alloc, &stated);
     drop(stated);
-    reread(alloc, text)
+    match written {
+        Ok(text) => reread(alloc, text),
+        Err(AllocError) => Err(WarmFault::Memory),
+    }
 }
 
 /// The search that a text states, or the first fault of the text. Nothing in it is believed but the model: cuts are derived, points

@@ -76,9 +76,14 @@ fn nearest_zero(int: bool, lo: &Bound, up: &Bound) -> Frac
 fn longer_point(alloc: Global, point: &Point, number: Frac) -> Result<Point, AllocError>
     ensures { IfOk result (λ x. x ≡ point.now ++ number ∷ []) }
 {
-    let mut longer = List::from_slice(alloc, point.as_slice())?;
-    longer.push(number)?;
-    Ok(longer)
+    let mut longer = match List::from_slice(alloc, point.as_slice()) {
+        Ok(longer) => longer,
+        Err(error) => return Err(error),
+    };
+    match longer.push(number) {
+        Ok(()) => Ok(longer),
+        Err(error) => Err(error),
+    }
 }
 
 /// Takes the number at a place out of the point, if there is one.
@@ -95,7 +100,10 @@ fn take_number(point: &mut Point, place: usize)
 fn shorter_point(alloc: Global, point: &Point, place: usize) -> Result<Point, AllocError>
     ensures { IfOk result (λ x. x ≡ without_at point.now place) }
 {
-    let mut shorter = List::from_slice(alloc, point.as_slice())?;
+    let mut shorter = match List::from_slice(alloc, point.as_slice()) {
+        Ok(shorter) => shorter,
+        Err(error) => return Err(error),
+    };
     take_number(&mut shorter, place);
     Ok(shorter)
 }
@@ -133,8 +141,14 @@ pub fn kept_points(
         values: Vec::new(alloc),
     };
     for point in points {
-        let moved = point_after(alloc, old, edit, point)?;
-        kept.add(new, moved)?;
+        let moved = match point_after(alloc, old, edit, point) {
+            Ok(moved) => moved,
+            Err(error) => return Err(error),
+        };
+        match kept.add(new, moved) {
+            Ok(()) => {}
+            Err(error) => return Err(error),
+        }
     }
     Ok(kept)
 }

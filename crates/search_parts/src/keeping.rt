@@ -20,11 +20,17 @@ impl KeptPoints {
         ensures { OnOk result (AddsKeepable model.now point self.old.points.items self.old.values.items self.new.points.items self.new.values.items) }
     {
         let Some(value) = keepable_value(model, &point) else {
+            drop(point);
             return Ok(());
         };
-        self.points.push(point)?;
-        self.values.push(value)?;
-        Ok(())
+        match self.points.push(point) {
+            Ok(()) => {}
+            Err(failed) => return Err(failed.into()),
+        }
+        match self.values.push(value) {
+            Ok(()) => Ok(()),
+            Err(failed) => Err(failed.into()),
+        }
     }
 }
 
@@ -41,8 +47,14 @@ pub fn keepable_points(
         values: Vec::new(alloc),
     };
     for point in points {
-        let copy = List::from_slice(alloc, point.as_slice())?;
-        kept.add(model, copy)?;
+        let copy = match List::from_slice(alloc, point.as_slice()) {
+            Ok(copy) => copy,
+            Err(error) => return Err(error),
+        };
+        match kept.add(model, copy) {
+            Ok(()) => {}
+            Err(error) => return Err(error),
+        }
     }
     Ok(kept)
 }

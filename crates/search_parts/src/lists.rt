@@ -153,7 +153,10 @@ pub fn are_multipliers(
 ) -> Result<bool, AllocError>
     ensures { IfOk result (λ are. IsTrue are ↔ AreMultipliers (formulation model.now pool.now) mult.now) }
 {
-    let vars = vars_of(alloc, mult.as_slice())?;
+    let vars = match vars_of(alloc, mult.as_slice()) {
+        Ok(vars) => vars,
+        Err(error) => return Err(error),
+    };
     Ok(are_rows_once(model, pool, vars.as_slice()))
 }
 
@@ -181,11 +184,15 @@ pub fn has_lists(
 ) -> Result<bool, AllocError>
     ensures { IfOk result (λ has. IsTrue has ↔ HasLists (formulation model.now pool.now) kept.now) }
 {
-    if !are_multipliers(alloc, model, pool, &kept.mult)? {
-        return Ok(false);
+    match are_multipliers(alloc, model, pool, &kept.mult) {
+        Ok(true) => {}
+        Ok(false) => return Ok(false),
+        Err(error) => return Err(error),
     }
-    if !are_multipliers(alloc, model, pool, &kept.farkas)? {
-        return Ok(false);
+    match are_multipliers(alloc, model, pool, &kept.farkas) {
+        Ok(true) => {}
+        Ok(false) => return Ok(false),
+        Err(error) => return Err(error),
     }
     Ok(is_basis(model, pool, &kept.basis))
 }

@@ -74,9 +74,14 @@ fn worst_of(values: &[Frac]) -> Option<usize>
 fn with_value(alloc: Global, values: &[Frac], value: Frac) -> Result<Vec<Frac>, AllocError>
     ensures { IfOk result (λ more. more.items ≡ values.now ++ value ∷ []) }
 {
-    let mut more = Vec::from_slice(alloc, values)?;
-    more.push(value)?;
-    Ok(more)
+    let mut more = match Vec::from_slice(alloc, values) {
+        Ok(more) => more,
+        Err(error) => return Err(error),
+    };
+    match more.push(value) {
+        Ok(()) => Ok(more),
+        Err(failed) => Err(failed.into()),
+    }
 }
 
 /// Takes out what stands at a place, if one is given.
@@ -103,7 +108,10 @@ pub fn least_of(values: &[Frac]) -> Option<Frac>
 pub fn join_value(alloc: Global, values: &[Frac], value: Frac) -> Result<Joined, AllocError>
     ensures { IfOk result (λ joined. Joins values.now value joined) }
 {
-    let mut more = with_value(alloc, values, value)?;
+    let mut more = match with_value(alloc, values, value) {
+        Ok(more) => more,
+        Err(error) => return Err(error),
+    };
     let worst = worst_of(&more);
     take_out(&mut more, worst);
     let target = least_of(&more);

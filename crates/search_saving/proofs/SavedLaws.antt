@@ -1,6 +1,6 @@
 -- A search that is saved and made again. Its cuts are told by their derivations, its points may all be kept, its splits are lawful, and
 -- its leaves are judged by the same lists at the same paths, so the states are the same.
-use Rattle.std.specs.Prelude.{◌≡◌, ℕ, ◌+◌, ◌-◌, List, [], ◌∷◌, ◌++◌, length, map, drop, All, ℤ, pos, ◌+ℤ◌, ◌<ℤ◌, Option}
+use Rattle.std.specs.Prelude.{◌≡◌, ℕ, ◌+◌, List, [], ◌∷◌, ◌++◌, length, map, drop, All, ℤ, pos, ◌+ℤ◌, ◌<ℤ◌, Option}
 use Rattle.std.proofs.Common.{refl, sym, ap, subst, ◌∙◌, arith, inl, inr}
 use Rattle.std.proofs.lemmas.Int.{ints}
 use Rattle.std.proofs.lemmas.List.{length-map}

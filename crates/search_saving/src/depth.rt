@@ -30,8 +30,12 @@ fn put_children(due: &mut Vec<u64>, levels: u64) -> Result<bool, AllocError>
         return Ok(true);
     }
     let below = levels - 1;
-    due.push(below)?;
-    due.push(below)?;
+    let Ok(()) = due.push(below) else {
+        return Err(AllocError);
+    };
+    let Ok(()) = due.push(below) else {
+        return Err(AllocError);
+    };
     Ok(false)
 }
 
@@ -55,9 +59,15 @@ pub(crate) fn is_deep(alloc: Global, nodes: &[NodeData]) -> Result<bool, AllocEr
     ensures { IfOk result (λ deep. (t : DataTree) → data_nodes t ≡ nodes.now → IsTrue deep ↔ (depth_limit < tree_depth t)) }
 {
     let mut due = Vec::new(alloc);
-    due.push(DEPTH_LIMIT)?;
+    let Ok(()) = due.push(DEPTH_LIMIT) else {
+        drop(due);
+        return Err(AllocError);
+    };
     for node in nodes {
-        let deep = pass_node(&mut due, node)?;
+        let Ok(deep) = pass_node(&mut due, node) else {
+            drop(due);
+            return Err(AllocError);
+        };
         if deep {
             return Ok(true);
         }

@@ -30,15 +30,39 @@ fn is_lawful(model: &Model, node: &NodeData) -> bool
     }
 }
 
+/// Copies of multipliers and of a basis.
+fn lists_copy(alloc: Global, mult: &Mult, basis: &Basis) -> Result<(Mult, Basis), AllocError>
+    ensures mult { IfOk result (λ both. both.0 ≡ mult.now) }
+    ensures basis { IfOk result (λ both. both.1 ≡ basis.now) }
+{
+    let Ok(mult) = mult.copy(alloc) else {
+        return Err(AllocError);
+    };
+    match basis.copy(alloc) {
+        Ok(basis) => Ok((mult, basis)),
+        Err(error) => {
+            drop(mult);
+            Err(error)
+        }
+    }
+}
+
 /// Equal data of a leaf.
 fn leaf_copy(alloc: Global, kept: &LeafData) -> Result<NodeData, AllocError>
     ensures { IfOk result (λ n. n ≡ Leaf kept.now) }
 {
+    let Ok(farkas) = kept.farkas.copy(alloc) else {
+        return Err(AllocError);
+    };
+    let Ok((mult, basis)) = lists_copy(alloc, &kept.mult, &kept.basis) else {
+        drop(farkas);
+        return Err(AllocError);
+    };
     Ok(NodeData::Leaf(LeafData {
         state: kept.state,
-        mult: kept.mult.copy(alloc)?,
-        farkas: kept.farkas.copy(alloc)?,
-        basis: kept.basis.copy(alloc)?,
+        mult,
+        farkas,
+        basis,
     }))
 }
 
@@ -52,12 +76,15 @@ fn node_copy(alloc: Global, node: &NodeData) -> Result<NodeData, AllocError>
             v,
             mult,
             basis,
-        } => Ok(NodeData::Split {
-            col: *col,
-            v: *v,
-            mult: mult.copy(alloc)?,
-            basis: basis.copy(alloc)?,
-        }),
+        } => match lists_copy(alloc, mult, basis) {
+            Ok((mult, basis)) => Ok(NodeData::Split {
+                col: *col,
+                v: *v,
+                mult,
+                basis,
+            }),
+            Err(error) => Err(error),
+        },
         NodeData::Leaf(kept) => leaf_copy(alloc, kept),
     }
 }
@@ -66,11 +93,14 @@ fn node_copy(alloc: Global, node: &NodeData) -> Result<NodeData, AllocError>
 fn open_leaf(alloc: Global, mult: &Mult, basis: &Basis) -> Result<NodeData, AllocError>
     ensures { IfOk result (λ n. n ≡ Leaf (open_data mult.now basis.now)) }
 {
+    let Ok((mult, basis)) = lists_copy(alloc, mult, basis) else {
+        return Err(AllocError);
+    };
     Ok(NodeData::Leaf(LeafData {
         state: LeafState::IsOpen,
-        mult: mult.copy(alloc)?,
+        mult,
         farkas: List::new(alloc),
-        basis: basis.copy(alloc)?,
+        basis,
     }))
 }
 
@@ -107,12 +137,20 @@ fn put(
     ensures { IfOk result (λ out. PutsNode model.now node.now kept.old out kept.new) }
 {
     if is_lawful(model, node) {
-        let copy = node_copy(alloc, node)?;
-        kept.push(copy)?;
+        let Ok(copy) = node_copy(alloc, node) else {
+            return Err(AllocError);
+        };
+        let Ok(()) = kept.push(copy) else {
+            return Err(AllocError);
+        };
         return Ok(0);
     }
-    let leaf = merged(alloc, node)?;
-    kept.push(leaf)?;
+    let Ok(leaf) = merged(alloc, node) else {
+        return Err(AllocError);
+    };
+    let Ok(()) = kept.push(leaf) else {
+        return Err(AllocError);
+    };
     Ok(2)
 }
 
@@ -128,7 +166,10 @@ pub(crate) fn lawful_nodes(
     let mut out: u128 = 0;
     for node in nodes {
         if out == 0 {
-            let gone = put(alloc, model, node, &mut kept)?;
+            let Ok(gone) = put(alloc, model, node, &mut kept) else {
+                drop(kept);
+                return Err(AllocError);
+            };
             out = gone;
         } else {
             out = trees_out(out, node);

@@ -27,8 +27,14 @@ fn pool_of(alloc: Global, model: &Model, cuts: &[Derivation]) -> Result<CutPool,
 {
     let mut pool = CutPool::new(alloc);
     for cut in cuts {
-        let from = copy_derivation(cut)?;
-        add_derivation(&mut pool, model, from)?;
+        let Ok(from) = copy_derivation(cut) else {
+            drop(pool);
+            return Err(AllocError);
+        };
+        let Ok(()) = add_derivation(&mut pool, model, from) else {
+            drop(pool);
+            return Err(AllocError);
+        };
     }
     Ok(pool)
 }
@@ -41,9 +47,15 @@ fn tree_of(alloc: Global, model: &Model, nodes: &[NodeData]) -> Result<Tree, All
     ensures tree { IfOk result (λ tree. (t : DataTree) → data_nodes t ≡ nodes.now → tree ≡ numbered_tree node_limit (lawful_tree model.now t)) }
     ensures shallow { IfOk result (λ _. IsShallow model.now nodes.now) }
 {
-    let kept = lawful_nodes(alloc, model, nodes)?;
-    let deep = is_deep(alloc, kept.as_slice())?;
+    let Ok(kept) = lawful_nodes(alloc, model, nodes) else {
+        return Err(AllocError);
+    };
+    let Ok(deep) = is_deep(alloc, kept.as_slice()) else {
+        drop(kept);
+        return Err(AllocError);
+    };
     if deep {
+        drop(kept);
         return Err(AllocError);
     }
     Tree::from_preorder(alloc, NODE_LIMIT, kept)
@@ -56,8 +68,13 @@ fn parts_of(alloc: Global, stated: &SearchData) -> Result<(CutPool, Tree), Alloc
     ensures tree { IfOk result (λ both. (t : DataTree) → data_nodes t ≡ stated.now.nodes → both.1 ≡ numbered_tree node_limit (lawful_tree stated.now.model t)) }
     ensures shallow { IfOk result (λ _. IsShallow stated.now.model stated.now.nodes) }
 {
-    let pool = pool_of(alloc, &stated.model, stated.cuts.as_slice())?;
-    let tree = tree_of(alloc, &stated.model, stated.nodes.as_slice())?;
+    let Ok(pool) = pool_of(alloc, &stated.model, stated.cuts.as_slice()) else {
+        return Err(AllocError);
+    };
+    let Ok(tree) = tree_of(alloc, &stated.model, stated.nodes.as_slice()) else {
+        drop(pool);
+        return Err(AllocError);
+    };
     Ok((pool, tree))
 }
 

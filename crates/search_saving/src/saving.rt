@@ -17,8 +17,14 @@ fn copies(alloc: Global, points: &[Point]) -> Result<List<Point>, AllocError>
 {
     let mut list = List::new(alloc);
     for point in points {
-        let copy = List::from_slice(alloc, point.as_slice())?;
-        list.push(copy)?;
+        let Ok(copy) = List::from_slice(alloc, point.as_slice()) else {
+            drop(list);
+            return Err(AllocError);
+        };
+        let Ok(()) = list.push(copy) else {
+            drop(list);
+            return Err(AllocError);
+        };
     }
     Ok(list)
 }
@@ -28,9 +34,16 @@ fn model_and_cuts(alloc: Global, search: &Search) -> Result<(Model, List<Derivat
     ensures model { IfOk result (λ both. both.0 ≡ search.now.model) }
     ensures cuts { IfOk result (λ both. both.1 ≡ derivations_of search.now.cuts) }
 {
-    let model = search.model().copy()?;
-    let cuts = derivations(alloc, search.pool().rows())?;
-    Ok((model, cuts))
+    let Ok(model) = search.model().copy() else {
+        return Err(AllocError);
+    };
+    match derivations(alloc, search.pool().rows()) {
+        Ok(cuts) => Ok((model, cuts)),
+        Err(error) => {
+            drop(model);
+            Err(error)
+        }
+    }
 }
 
 /// The points of a search, and its nodes in preorder with their states.
@@ -41,16 +54,25 @@ fn points_and_nodes(
     ensures points { IfOk result (λ both. both.0 ≡ search.now.points) }
     ensures nodes { IfOk result (λ both. both.1 ≡ data_nodes (without_ids search.now.tree.root)) }
 {
-    let points = copies(alloc, search.points())?;
-    let nodes = search.tree().data_nodes()?;
-    Ok((points, nodes))
+    let Ok(points) = copies(alloc, search.points()) else {
+        return Err(AllocError);
+    };
+    match search.tree().data_nodes() {
+        Ok(nodes) => Ok((points, nodes)),
+        Err(error) => {
+            drop(points);
+            Err(error)
+        }
+    }
 }
 
 /// The data of a search: its model, the derivations of its cuts, its points, and its nodes in preorder with their states.
 pub fn data_of(alloc: Global, search: &Search) -> Result<SearchData, AllocError>
     ensures { IfOk result (λ s. s ≡ saved_data search.now) }
 {
-    let (model, cuts) = model_and_cuts(alloc, search)?;
+    let Ok((model, cuts)) = model_and_cuts(alloc, search) else {
+        return Err(AllocError);
+    };
     match points_and_nodes(alloc, search) {
         Ok((points, nodes)) => Ok(SearchData {
             model,

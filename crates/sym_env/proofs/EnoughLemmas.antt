@@ -23,11 +23,12 @@ use Rattle.tree_search.specs.declared.searching.Ended.{Ended}
 use Rattle.tree_search.specs.declared.searching.Ended.TheVariants as ended
 use Rattle.tree_search.specs.declared.searching.Ways.{Ways}
 use Rattle.tree_search.specs.declared.searching.Ways.TheVariants.{Own, Rays}
-use Rattle.sym_env.specs.Beginnings.{BeginsWith, IsRayStop, FindsRay, StopsBefore}
+use Rattle.ray_phase.specs.Beginnings.{IsRayStop, FindsRay, StopsBefore}
+use Rattle.sym_env.specs.Beginnings.{BeginsWith}
 use Rattle.sym_env.specs.Enough.{IsRayPhaseEnough, AreRelaxationsEnough, IsEnoughBeside, IsEnough, IsKeptEnough, IsEnoughFrom}
 use Rattle.sym_env.specs.Truth.{HasEnded}
 use Rattle.sym_env.specs.declared.limits.Limits.{Limits}
-use Rattle.sym_env.proofs.BeginLemmas.{dual_basis, is_ray}
+use Rattle.ray_phase.proofs.BeginningLemmas.{dual_basis, is_ray}
 
 -- ---- the search
 

@@ -4,4 +4,4 @@ pub mod EnoughLemmas
 pub mod TruthLemmas
 pub mod SolveLemmas
 pub mod WarmLemmas
-pub mod SavingLemmas
+pub mod TrimLemmas

@@ -15,7 +15,8 @@ use Rattle.tree_search.specs.declared.searching.Searched.{Searched}
 use Rattle.tree_search.specs.declared.searching.Ways.{Ways}
 use Rattle.tree_search.proofs.ExtendLemmas.{extends-self, extends-on, extends-added}
 use Rattle.tree_search.proofs.KeepLemmas.{added-model}
-use Rattle.sym_env.specs.Beginnings.{BeginsWith, StopsBefore}
+use Rattle.ray_phase.specs.Beginnings.{StopsBefore}
+use Rattle.sym_env.specs.Beginnings.{BeginsWith}
 use Rattle.sym_env.specs.Enough.{IsEnoughFrom}
 use Rattle.sym_env.specs.Solves.{StopsFirst, Searches, WantsBefore, WantsWithin, Solved}
 use Rattle.sym_env.specs.Truth.{HasEnded}

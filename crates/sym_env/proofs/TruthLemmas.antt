@@ -39,7 +39,7 @@ use Rattle.tree_search.specs.Steps.{HasOpenLeaf, IsNextJob, Goes, StepAtNext, Va
 use Rattle.tree_search.specs.declared.searching.Ended.{Ended}
 use Rattle.tree_search.specs.declared.searching.Ended.TheVariants as ended
 use Rattle.tree_search.specs.declared.searching.Ways.{Ways}
-use Rattle.sym_env.specs.Beginnings.{IsRayStop, StopsBefore}
+use Rattle.ray_phase.specs.Beginnings.{IsRayStop, StopsBefore}
 use Rattle.sym_env.specs.Env.{PlainEnv, HasPointAndRay, IsHeld}
 use Rattle.sym_env.specs.Solves.{Course, NothingOpen, StopsFirst, Searches, WantsBefore, WantsWithin, SolvesModel, SaysUnbounded, HasRayFor, held_by, IsOldest, SolvesEnv}
 use Rattle.sym_env.specs.Truth.{IsCount, IsBound, IsFoundValue, IsEarlyBy, IsTrueBy, IsSmallTree, IsTrueAnswer, IsTrueOfKept}
@@ -47,7 +47,7 @@ use Rattle.sym_env.specs.Warm.{Resumes, BesidePoint, GoesOn, Warms, Still, SomeO
 use Rattle.sym_env.specs.declared.held.Held.{Held}
 use Rattle.sym_env.specs.declared.held.Held.TheVariants.{Unbounded as Beside}
 use Rattle.sym_env.specs.declared.limits.Limits.{Limits}
-use Rattle.sym_env.proofs.BeginLemmas.{is_ray, judged_ray}
+use Rattle.ray_phase.proofs.BeginningLemmas.{is_ray, judged_ray}
 
 -- the laws of searches that are used
 pub record Laws : Type 0 where

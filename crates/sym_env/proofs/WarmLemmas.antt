@@ -21,7 +21,8 @@ use Rattle.tree_search.specs.Extends.{Extends}
 use Rattle.tree_search.specs.Search.{IsFinishedAnswer}
 use Rattle.tree_search.specs.declared.searching.Ended.TheVariants as ended
 use Rattle.tree_search.specs.declared.searching.Ways.TheVariants.{Own}
-use Rattle.sym_env.specs.Beginnings.{HasNoSlackBasis, BeginsWith, IsRayStop, StopsBefore}
+use Rattle.ray_phase.specs.Beginnings.{HasNoSlackBasis, IsRayStop, StopsBefore}
+use Rattle.sym_env.specs.Beginnings.{BeginsWith}
 use Rattle.sym_env.specs.Editing.{EditsEnv}
 use Rattle.sym_env.specs.Env.{PlainEnv, IsHeld}
 use Rattle.sym_env.specs.Solves.{SaysUnbounded, HasRayFor, held_by, IsOldest}
@@ -32,7 +33,7 @@ use Rattle.sym_env.specs.declared.env.EnvFault.TheVariants as fault
 use Rattle.sym_env.specs.declared.held.Held.{Held}
 use Rattle.sym_env.specs.declared.held.Held.TheVariants.{Nothing}
 use Rattle.sym_env.specs.declared.limits.Limits.{Limits}
-use Rattle.sym_env.proofs.BeginLemmas.{judged_ray}
+use Rattle.ray_phase.proofs.BeginningLemmas.{judged_ray}
 use Rattle.sym_env.proofs.TruthLemmas.{open-not_none, told-oldest, course-oldest, IsFinishedKind, course-finished, course-points, held-so}
 
 -- ---- kept points

@@ -11,7 +11,7 @@ use Rattle.branch_tree.specs.Tree.{node_count, split_count}
 use Rattle.sound_searches.specs.Sound.{PlainSearch}
 use Rattle.search_counting.specs.Work.{whole_points, cap_of, HasRoomFor}
 use Rattle.tree_search.specs.Room.{HasMoves, HasRoomAt, HasRoomForValues}
-use Rattle.sym_env.specs.Beginnings.{HasNoSlackBasis}
+use Rattle.ray_phase.specs.Beginnings.{HasNoSlackBasis}
 use Rattle.sym_env.specs.declared.limits.Limits.{Limits}
 
 -- the run of the ray phase has fewer moves than the limit, and room for each step at each of its states

@@ -21,6 +21,10 @@ pub record PlainEnv : Type 0 where
 abbrev pub no_model : PlainEnv
 no_model = record { search = None; held = Nothing }
 
+-- this search, of which no answer is held
+abbrev pub without_answer : PlainSearch → PlainEnv
+without_answer S = record { search = Some S; held = Nothing }
+
 abbrev pub model_of : PlainEnv → Option Program
 model_of env = option_map (λ S. S.model) env.search
 

@@ -1,12 +1,10 @@
 pub mod Env
 pub mod Certificates
 pub mod Beginnings
-pub mod Beginning
 pub mod Truth
 pub mod Solves
 pub mod Enough
 pub mod Warm
 pub mod Editing
 pub mod Bounds
-pub mod Saving
-pub mod Laws
+pub mod Trimming

@@ -17,7 +17,8 @@ use Rattle.tree_search.specs.Steps.{HasOpenLeaf}
 use Rattle.tree_search.specs.Search.{Finds, GivesUp, IsAnswerAtEnd, IsStoppedAnswer}
 use Rattle.tree_search.specs.declared.searching.Searched.{Searched}
 use Rattle.tree_search.specs.declared.searching.Ways.{Ways}
-use Rattle.sym_env.specs.Beginnings.{BeginsWith, StopsBefore}
+use Rattle.ray_phase.specs.Beginnings.{StopsBefore}
+use Rattle.sym_env.specs.Beginnings.{BeginsWith}
 use Rattle.sym_env.specs.Env.{PlainEnv}
 use Rattle.sym_env.specs.declared.env.EnvFault.{EnvFault}
 use Rattle.sym_env.specs.declared.env.EnvFault.TheVariants as fault

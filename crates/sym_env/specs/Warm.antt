@@ -17,7 +17,8 @@ use Rattle.tree_search.specs.Extends.{Extends}
 use Rattle.tree_search.specs.Search.{IsFinishedAnswer}
 use Rattle.tree_search.specs.Steps.{HasOpenLeaf}
 use Rattle.tree_search.specs.declared.searching.Ways.TheVariants.{Own}
-use Rattle.sym_env.specs.Beginnings.{HasNoSlackBasis, BeginsWith, IsRayStop}
+use Rattle.ray_phase.specs.Beginnings.{HasNoSlackBasis, IsRayStop}
+use Rattle.sym_env.specs.Beginnings.{BeginsWith}
 use Rattle.sym_env.specs.Env.{PlainEnv}
 use Rattle.sym_env.specs.Solves.{Course, HasRayFor, held_by, IsOldest}
 use Rattle.sym_env.specs.declared.env.EnvFault.{EnvFault}

@@ -20,8 +20,13 @@ pub(crate) fn certificate_text(alloc: Global, search: &Search) -> Result<Vec<u8>
     names_law();
     verdict_law();
     accepted_law();
-    let cert = certificate(alloc, search)?;
-    print_cert(alloc, &cert)
+    let cert = match certificate(alloc, search) {
+        Ok(cert) => cert,
+        Err(AllocError) => return Err(AllocError),
+    };
+    let text = print_cert(alloc, &cert);
+    drop(cert);
+    text
 }
 
 /// The text of the certificate that a model is unbounded, by this point and this ray.
@@ -38,8 +43,13 @@ fn unbounded_text_by(
     unbounded_names_law();
     verdict_law();
     accepted_law();
-    let cert = unbounded_certificate(alloc, model, point, ray)?;
-    print_cert(alloc, &cert)
+    let cert = match unbounded_certificate(alloc, model, point, ray) {
+        Ok(cert) => cert,
+        Err(AllocError) => return Err(AllocError),
+    };
+    let text = print_cert(alloc, &cert);
+    drop(cert);
+    text
 }
 
 /// The text of the certificate that the search's model is unbounded, by the incumbent and this ray.

@@ -3,19 +3,16 @@ ghost use Rattle.std.specs.Prelude.{◌≡◌, OnOk, OnErr, IfOk, IfErr, IfSome}
 ghost use Rattle.std.specs.Option.{option_copied};
 ghost use Rattle.dual_bounds.specs.NewNumbers.{with_new_sides, with_new_costs, AreNewSides, AreNewCosts, ArePresentSides, ArePresentCosts};
 ghost use Rattle.dual_bounds.specs.Laws.{IsTrueLowerBound, IsTrueUpperBound, IsExactLower, IsExactUpper};
-ghost use Rattle.search_saving.specs.Saved.{saved_data};
-ghost use Rattle.warm_writer.specs.Writable.{IsWritable};
-ghost use Rattle.warm_values.specs.declared.fault.WarmFault.TheVariants.{Memory as TextMemory};
-ghost use Rattle.sym_env.specs.Env.{no_model, model_of, pool_in, Holds};
+ghost use Rattle.sym_env.specs.Env.{no_model, model_of, pool_in, without_answer, Holds};
 ghost use Rattle.sym_env.specs.Bounds.{IsLowerAnswer, IsUpperAnswer};
 ghost use Rattle.sym_env.specs.Certificates.{IsCertAnswer};
 ghost use Rattle.sym_env.specs.Editing.{EditsEnv};
-ghost use Rattle.sym_env.specs.Saving.{IsSaveAnswer, RestoresEnv, TrimsEnv};
+ghost use Rattle.sym_env.specs.Trimming.{TrimsEnv};
 ghost use Rattle.sym_env.specs.Enough.{IsEnough, IsKeptEnough};
 ghost use Rattle.sym_env.specs.Solves.{held_beside, held_by, SolvesEnv};
 ghost use Rattle.sym_env.specs.Truth.{IsTrueAnswer, IsTrueOfKept, HasEnded};
 ghost use Rattle.sym_env.specs.Warm.{WarmsEnv};
-ghost use Rattle.sym_env.specs.declared.env.EnvFault.TheVariants.{Memory, Warm};
+ghost use Rattle.sym_env.specs.declared.env.EnvFault.TheVariants.{Memory};
 
 use crate::certificates::{certificate_text, unbounded_text};
 use crate::held::Held;
@@ -26,12 +23,10 @@ use dual_bounds::{LowerBound, UpperBound, lb_new_obj, lb_new_rhs, ub_new_obj, ub
 use frac128::Frac;
 use lp_model::{Answer, ColId, Edit, Model, Point, RowId};
 use model_edits::EditFault;
-use search_file::{search_in, text_of};
 use std::alloc::{AllocError, Global};
 use std::mem;
 use thiserror::Error;
 use tree_edit::Search;
-use warm_values::WarmFault;
 
 /// Why a call is refused.
 #[derive(Debug, Drop, Error)]
@@ -45,9 +40,6 @@ pub enum EnvFault {
     /// The edit is refused.
     #[error("the edit is refused")]
     Edit(EditFault),
-    /// The text states no search.
-    #[error("the text states no search")]
-    Warm(WarmFault),
     /// There is no memory.
     #[error("there is no memory")]
     Memory,
@@ -127,9 +119,12 @@ impl Env {
         ensures kept { OnErr result (self.new ≡ self.old) }
         ensures fault { IfErr result (λ fault. fault ≡ Memory) }
     {
-        let search = Search::new(self.alloc, model)?;
+        let search = match Search::new(self.alloc, model) {
+            Ok(search) => search,
+            Err(AllocError) => return Err(EnvFault::Memory),
+        };
         drop(self.search.replace(search));
-        self.held = Held::Nothing;
+        drop(mem::replace(&mut self.held, Held::Nothing));
         Ok(())
     }
 
@@ -139,6 +134,16 @@ impl Env {
     {
         match &self.search {
             Some(search) => Some(search.model()),
+            None => None,
+        }
+    }
+
+    /// The model with its cuts, points and nodes, as they are kept, if one is loaded.
+    pub fn search(&self) -> Option<&Search>
+        ensures { option_copied result ≡ self.now.search }
+    {
+        match &self.search {
+            Some(search) => Some(search),
             None => None,
         }
     }
@@ -220,36 +225,13 @@ impl Env {
         }
     }
 
-    /// The text of the search: its model, cuts, points and nodes. `restore` takes it. Where a name of the model can't be told, or a
-    /// list of a node is not in order, it is not answered, but its first fault is.
-    pub fn save(&self) -> Result<Vec<u8>, EnvFault>
-        ensures saves { IsSaveAnswer self.now.search result }
-        ensures writable { IfSome self.now.search (λ S. IsWritable (saved_data S) → IfErr result (λ fault. fault ≡ Warm TextMemory)) }
+    /// Replaces model and search by this search, and no answer is held. The old search is let go.
+    pub fn restore(&mut self, search: Search)
+        ensures { self.new ≡ without_answer search }
     {
-        let Some(search) = &self.search else {
-            return Err(EnvFault::NoModel);
-        };
-        match text_of(self.alloc, search) {
-            Ok(text) => Ok(text),
-            Err(fault) => Err(EnvFault::Warm(fault)),
-        }
-    }
-
-    /// Replaces model and search by those that the text states, and no answer is held. Whatever the text is, the search is sound: cuts
-    /// are derived, points are tested and leaves are judged at the stated model. The memory of the new search is taken before the old
-    /// one goes; after a fault of the text, and where there is no memory, all is as before. More than 4,000 splits one below the other
-    /// are want of memory.
-    pub fn restore(&mut self, text: &[u8]) -> Result<(), EnvFault>
-        ensures restores { RestoresEnv text.now self.old result self.new }
-    {
-        match search_in(self.alloc, text) {
-            Ok(search) => {
-                drop(self.search.replace(search));
-                self.held = Held::Nothing;
-                Ok(())
-            }
-            Err(fault) => Err(EnvFault::Warm(fault)),
-        }
+        let old = self.search.replace(search);
+        drop(old);
+        drop(mem::replace(&mut self.held, Held::Nothing));
     }
 
     /// What the kept tree proves of the model's optimum if the sides of the named rows become these numbers, without solving: no

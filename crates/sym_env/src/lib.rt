@@ -18,24 +18,21 @@
 //! Public contract: each answer is true of the model (`IsTrueAnswer` in specs/Truth), with what was done to find it (`SolvesModel`
 //! in specs/Solves, `WarmsIn` in specs/Warm); with enough of all (`IsEnough`, `IsKeptEnough` in specs/Enough) a search goes to its
 //! end. `edit` makes an edit of the model, which the search follows, or tells its first fault (`EditsEnv` in specs/Editing).
-//! `save` gives the text of the search, `restore` takes the search that a text states or tells its first fault, and `trim` cuts
-//! the tree down (specs/Saving); after `save` and `restore` a `warm_solve` places nothing where no leaf was open (`restored_law`).
+//! `search` lends the search that is kept, as it is saved, `restore` takes a search in its place, and `trim` cuts the tree down
+//! (specs/Trimming).
 //! `lb_new_rhs`, `lb_new_obj`, `ub_new_rhs` and `ub_new_obj` bound the model with other sides or costs by the tree and the points
 //! that are kept, and leave all as it is (specs/Bounds, `dual_bounds`). `cert` writes the certificate of the answer that is held,
 //! which is accepted for the model. The calls are those of the SYMPHONY manual's `sym_environment` in purpose. Below stand the
-//! search, the ray phase, the bounds, the warm files (`search_file`) and the certificates (`tree_cert`); above, the shell.
+//! search, the ray phase, the bounds and the certificates (`tree_cert`); above, the shell, which reads and writes searches as texts.
 #![tactic(auto)]
 
-mod beginnings;
 mod certificates;
 mod env;
 mod held;
-mod laws;
 mod limits;
 mod solving;
 mod warming;
 
 pub use env::{Env, EnvFault};
 pub use held::Held;
-pub use laws::restored_law;
 pub use limits::Limits;

@@ -3,16 +3,16 @@ ghost use Rattle.std.specs.Prelude.{◌≡◌, []};
 ghost use Rattle.sound_searches.specs.Calls.{IsFresh};
 ghost use Rattle.tree_search.specs.Steps.{HasOpenLeaf, IsWayFor, IsFirstFor, IsRayWay};
 ghost use Rattle.tree_search.specs.declared.searching.Ways.TheVariants.{Own};
-ghost use Rattle.sym_env.specs.Beginnings.{BeginsWith, BeginsBeside};
+ghost use Rattle.ray_phase.specs.Beginnings.{BeginsBeside};
+ghost use Rattle.sym_env.specs.Beginnings.{BeginsWith};
 ghost use Rattle.sym_env.specs.Enough.{IsEnough, IsEnoughFrom};
 ghost use Rattle.sym_env.specs.Solves.{Solved, SolvesModel, SaysUnbounded, HasRayFor};
 ghost use Rattle.sym_env.specs.Truth.{IsTrueAnswer, HasEnded};
 ghost use Rattle.sym_env.specs.Warm.{Went};
 
-use crate::beginnings::{Beginning, find_beginning};
 use crate::limits::Limits;
 use lp_model::{Answer, Basis, Model, Point};
-use ray_phase::{no_ray_law, root_law};
+use ray_phase::{Beginning, find_beginning, no_ray_law, root_law};
 use search_counting::{cap_law, left_law, roomy_law, too_few_nodes_law};
 use sound_searches::empty_law;
 use std::alloc::{AllocError, Global};
@@ -54,35 +54,40 @@ fn search_with(
 pub(crate) fn search_own(
     alloc: Global,
     search: &mut Search,
-    first: &Basis,
+    first: Basis,
     limits: &Limits,
 ) -> Answer
     requires some { HasOpenLeaf search.old }
-    requires begins { BeginsWith search.old.model limits.now.pivots Own first.now }
+    requires begins { BeginsWith search.old.model limits.now.pivots Own first }
     ensures went { Went limits.now search.old result search.new }
     ensures bounded { ¬ SaysUnbounded result }
     ensures complete { IsEnoughFrom search.old search.new.cuts limits.now.nodes limits.now.pivots → HasEnded result }
 {
     root_law();
-    search_with(alloc, search, &Ways::Own, first, limits)
+    let answer = search_with(alloc, search, &Ways::Own, &first, limits);
+    drop(first);
+    answer
 }
 
 /// Searches with the relaxations of the model without costs, which has a ray.
 fn search_beside_ray(
     alloc: Global,
     search: &mut Search,
-    costless: &Model,
-    first: &Basis,
+    costless: Model,
+    first: Basis,
     limits: &Limits,
 ) -> Answer
     requires some { HasOpenLeaf search.old }
     requires none { search.old.points ≡ [] }
-    requires begins { BeginsBeside search.old.model limits.now.pivots costless.now first.now }
+    requires begins { BeginsBeside search.old.model limits.now.pivots costless first }
     ensures went { Went limits.now search.old result search.new }
     ensures complete { IsEnoughFrom search.old search.new.cuts limits.now.nodes limits.now.pivots → HasEnded result }
 {
     root_law();
-    search_with(alloc, search, &Ways::Rays(costless), first, limits)
+    let answer = search_with(alloc, search, &Ways::Rays(&costless), &first, limits);
+    drop(costless);
+    drop(first);
+    answer
 }
 
 /// Goes on with a search that has an open leaf and keeps no point.
@@ -104,11 +109,11 @@ pub(crate) fn search_without_point(alloc: Global, search: &mut Search, limits: &
             ray: None,
         },
         Beginning::Own(first) => Solution {
-            answer: search_own(alloc, search, &first, limits),
+            answer: search_own(alloc, search, first, limits),
             ray: None,
         },
         Beginning::BesideRay(direction, costless, first) => {
-            let answer = search_beside_ray(alloc, search, &costless, &first, limits);
+            let answer = search_beside_ray(alloc, search, costless, first, limits);
             Solution {
                 answer,
                 ray: Some(direction),

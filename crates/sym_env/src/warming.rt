@@ -2,19 +2,18 @@
 ghost use Rattle.std.specs.Prelude.{◌≡◌, ◌<◌, length};
 ghost use Rattle.sound_searches.specs.Calls.{search_with_limit};
 ghost use Rattle.tree_search.specs.Steps.{HasOpenLeaf};
-ghost use Rattle.sym_env.specs.Beginnings.{HasNoSlackBasis};
+ghost use Rattle.ray_phase.specs.Beginnings.{HasNoSlackBasis};
 ghost use Rattle.sym_env.specs.Enough.{IsKeptEnough, IsEnoughFrom};
 ghost use Rattle.sym_env.specs.Solves.{HasRayFor};
 ghost use Rattle.sym_env.specs.Truth.{IsTrueOfKept, HasEnded};
 ghost use Rattle.sym_env.specs.Warm.{Resumes, Warms};
 ghost use Rattle.tree_search.specs.Extends.{Extends};
 
-use crate::beginnings::out_of_moves;
 use crate::limits::Limits;
 use crate::solving::{Solution, search_own, search_without_point};
 use dual_simplex::slack_basis;
 use lp_model::{Answer, StopWhy};
-use ray_phase::{RayAnswer, ray};
+use ray_phase::{RayAnswer, out_of_moves, ray};
 use search_counting::{cap_law, left_law};
 use sound_searches::empty_law;
 use std::alloc::{AllocError, Global};
@@ -39,7 +38,7 @@ fn resume_by_ray_phase(alloc: Global, search: &mut Search, limits: &Limits) -> S
             ray: None,
         },
         RayAnswer::DualBasis(first) => Solution {
-            answer: search_own(alloc, search, &first, limits),
+            answer: search_own(alloc, search, first, limits),
             ray: None,
         },
         RayAnswer::Ray(direction) => Solution {
@@ -74,7 +73,7 @@ fn resume_with_point(alloc: Global, search: &mut Search, limits: &Limits) -> Sol
             ray: None,
         },
         Ok(Some(first)) => Solution {
-            answer: search_own(alloc, search, &first, limits),
+            answer: search_own(alloc, search, first, limits),
             ray: None,
         },
         Ok(None) => resume_by_ray_phase(alloc, search, limits),

@@ -54,7 +54,10 @@ impl Sink for MemSink {
         ensures failed { OnErr result (Rose (sink_faults self.old) (sink_faults self.new)) }
         ensures none { RoseOnZero (sink_faults self.old) (sink_faults self.new) result bytes.now }
     {
-        self.plan.begin_call()?;
+        match self.plan.begin_call() {
+            Ok(()) => {}
+            Err(failed) => return Err(failed),
+        }
         match self.bytes.extend_from_slice(bytes) {
             Ok(()) => Ok(bytes.len()),
             Err(_) => {

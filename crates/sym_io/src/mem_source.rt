@@ -60,7 +60,10 @@ impl Source for MemSource {
         ensures later { source_faults self.old ≤ source_faults self.new }
         ensures failed { OnErr result (Rose (source_faults self.old) (source_faults self.new)) }
     {
-        self.plan.begin_call()?;
+        match self.plan.begin_call() {
+            Ok(()) => {}
+            Err(failed) => return Err(failed),
+        }
         let count = copy_front(&self.bytes[self.position..], buf);
         self.position += count;
         Ok(count)

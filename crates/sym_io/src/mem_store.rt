@@ -47,8 +47,17 @@ fn replace_file(
     ensures ok { OnOk result (files_of files.new.entries ≡ map.insert (files_of files.old.entries) name.now bytes.now) }
     ensures err { OnErr result (files_of files.new.entries ≡ files_of files.old.entries) }
 {
-    let name = String::from_str(alloc, name)?;
-    let bytes = bytes.to_vec(alloc)?;
+    let name = match String::from_str(alloc, name) {
+        Ok(name) => name,
+        Err(error) => return Err(error),
+    };
+    let bytes = match bytes.to_vec(alloc) {
+        Ok(bytes) => bytes,
+        Err(error) => {
+            drop(name);
+            return Err(error);
+        }
+    };
     files.insert(name, bytes)?;
     Ok(())
 }
@@ -65,14 +74,20 @@ impl Store for MemStore {
         ensures kept { Some (files_kept self.new) ≡ Some (files_kept self.old) }
         ensures later { store_faults self.old ≤ store_faults self.new }
     {
-        self.plan.begin_call()?;
+        match self.plan.begin_call() {
+            Ok(()) => {}
+            Err(_) => return Err(StoreFault::Failed),
+        }
         let Some(bytes) = self.files.get(name) else {
             return Err(StoreFault::Missing);
         };
         if bytes.len() > MAX_FILE_LENGTH {
             return Err(StoreFault::TooLong);
         }
-        Ok(bytes.to_vec(alloc)?)
+        match bytes.to_vec(alloc) {
+            Ok(copy) => Ok(copy),
+            Err(_) => Err(StoreFault::Memory),
+        }
     }
 
     fn put(&mut self, name: &str, bytes: &[u8]) -> Result<(), Failed>
@@ -82,7 +97,10 @@ impl Store for MemStore {
         ensures later { store_faults self.old ≤ store_faults self.new }
         ensures failed { OnErr result (Rose (store_faults self.old) (store_faults self.new)) }
     {
-        self.plan.begin_call()?;
+        match self.plan.begin_call() {
+            Ok(()) => {}
+            Err(failed) => return Err(failed),
+        }
         match replace_file(self.alloc, &mut self.files, name, bytes) {
             Ok(()) => Ok(()),
             Err(_) => {

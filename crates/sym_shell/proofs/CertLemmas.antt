@@ -1,5 +1,5 @@
 -- The certificate of a model whose names are words of a line.
-use Rattle.std.proofs.Common.{◌≡◌, ℕ, ◌≤◌, List, refl, subst, sym, ◌∙◌, Option, Some, None, Ok, Result}
+use Rattle.std.proofs.Common.{◌≡◌, ◌⊎◌, ℕ, ◌≤◌, arith, List, refl, ap, subst, sym, ◌∙◌, inl, inr, Option, Some, None, Ok, Err, Result}
 use Rattle.std.specs.Prelude.{IfSome, Vec}
 use Rattle.std.specs.declared.alloc.Global.{Global}
 use Rattle.std.specs.Option.{option_map}
@@ -10,12 +10,16 @@ use Rattle.sym_io.specs.Files.{Files}
 use Rattle.sym_env.specs.Certificates.{IsCertificateText, IsUnboundedText, IsCertAnswer}
 use Rattle.sym_env.specs.Env.{PlainEnv}
 use Rattle.sym_env.specs.declared.env.EnvFault.{EnvFault}
+use Rattle.sym_env.specs.declared.env.EnvFault.TheVariants as env_fault
 use Rattle.sym_env.specs.declared.held.Held.{Held}
 use Rattle.sym_env.specs.declared.held.Held.TheVariants.{Nothing, Finished, Unbounded}
 use Rattle.sym_shell.specs.State.{shell_state, HasWords}
 use Rattle.command_files.specs.Filing.{Writes}
+use Rattle.command_files.specs.Filing as filing
 use Rattle.command_files.proofs.FileLemmas.{writes-as}
-use Rattle.sym_shell.specs.Certify.{IsReadCertificate, IsReadUnbounded, IsHeldText, Certifies, CertStep}
+use Rattle.reply_texts.specs.Texts.{memory_text}
+use Rattle.sym_shell.specs.EnvFaults.{env_fault_text}
+use Rattle.sym_shell.specs.Certify.{IsReadCertificate, IsReadUnbounded, IsHeldText, IsTold, Certifies, CertStep}
 
 read-certificate : (S : PlainSearch) (text : List ℕ) → HasWordNames S.model → IsCertificateText S text → IsReadCertificate S text
 read-certificate S text names is = record { is = is; stated = is.stated names }
@@ -42,3 +46,30 @@ module _ (env : PlainEnv) (words : HasWords env) (files files' : Option Files) (
       by (Some S) Nothing w h = absurd (cc)
       by (Some S) Finished w h = writes-as (λ written. written ≡ bytes) (IsHeldText S Finished) name files faults reply files' faults' (λ t e. subst (IsReadCertificate S) (sym (e ∙ same)) (read-certificate S text.items w h)) writes
       by (Some S) (Unbounded ray) w h = writes-as (λ written. written ≡ bytes) (IsHeldText S (Unbounded ray)) name files faults reply files' faults' (λ t e. subst (IsReadUnbounded S ray) (sym (e ∙ same)) (read-unbounded S ray text.items w h)) writes
+
+-- there is none, or there was no memory
+module _ (env : PlainEnv) (files : Option Files) (faults : ℕ) (name reply : List ℕ) where
+  pub cert-refused : (r : Result (Vec ℕ Global) EnvFault) (f : EnvFault) → r ≡ Err f → IsCertAnswer env.search env.held r → (reply ≡ env_fault_text f) ⊎ (reply ≡ memory_text)
+      → CertStep (shell_state env files faults) name reply (shell_state env files faults)
+  cert-refused r f is answer told = record { env = refl; later = omega arith; answer = by env.search env.held (subst (IsCertAnswer env.search env.held) is answer) }
+    where
+      refused : (g : EnvFault) → f ≡ g → IsTold (shell_state env files faults) (env_fault_text g) reply (shell_state env files faults)
+      refused g same = record {
+        files = refl;
+        told = elim told [
+          | inl t ↦ inl (t ∙ ap env_fault_text same)
+          | inr t ↦ inr t
+        ];
+      }
+
+      wanting : f ≡ env_fault.Memory → reply ≡ memory_text
+      wanting same = elim told [
+        | inl t ↦ t ∙ ap env_fault_text same
+        | inr t ↦ t
+      ]
+
+      by : (search : Option PlainSearch) (held : Held) → IsCertAnswer search held (Err f) → Certifies search held (shell_state env files faults) name reply (shell_state env files faults)
+      by None held h = refused env_fault.NoModel (cc)
+      by (Some S) Nothing h = refused env_fault.NoAnswer (cc)
+      by (Some S) Finished h = filing.Wanting (inl refl) (wanting h)
+      by (Some S) (Unbounded ray) h = filing.Wanting (inl refl) (wanting h)

@@ -30,7 +30,7 @@ use Rattle.sym_shell.specs.State.{HasWords}
 use Rattle.edit_words.specs.EditWords.{EditAsks, Edits}
 use Rattle.edit_words.specs.EditWords as says
 use Rattle.sym_shell.specs.Unchanged.{IsRefused}
-use Rattle.sym_shell.specs.EnvFaults.{env_fault_text}
+use Rattle.sym_shell.specs.EnvFaults.{env_fault_text, reply_behind}
 use Rattle.sym_shell.specs.Editing.{edit_fault_text, AnswersEdit, Edited, Faulty, Wanting, RepliesToEdit, RepliesToWords}
 
 -- ---- a new name is a word
@@ -114,7 +114,7 @@ module _ (old new : PlainEnv) (e : Edit) (r : Result (Unit {0}) EnvFault) (edits
       by (Some S) some (Err f) h = subst HasWords (sym h.kept) words
 
   -- an edit that was made
-  pub made : (done : Unit {0}) (reply : List ℕ) → r ≡ Ok done → reply ≡ ok_text → RepliesToEdit old.search e old reply new
+  made : (done : Unit {0}) (reply : List ℕ) → r ≡ Ok done → reply ≡ ok_text → RepliesToEdit old.search e old reply new
   made done reply is told = by old.search (subst (λ o. EditsEnv old.search e old o new) is edits)
     where
       by : (search : Option PlainSearch) → EditsEnv search e old (Ok done) new → RepliesToEdit search e old reply new
@@ -122,7 +122,7 @@ module _ (old new : PlainEnv) (e : Edit) (r : Result (Unit {0}) EnvFault) (edits
       by (Some S) h = Edited told h
 
   -- one that was refused
-  pub refused : (f : EnvFault) (reply : List ℕ) → r ≡ Err f → reply ≡ env_fault_text f → RepliesToEdit old.search e old reply new
+  refused : (f : EnvFault) (reply : List ℕ) → r ≡ Err f → reply ≡ env_fault_text f → RepliesToEdit old.search e old reply new
   refused f reply is told = by old.search (subst (λ o. EditsEnv old.search e old o new) is edits)
     where
       caused : (S : PlainSearch) (bad : EditFault) → f ≡ fault.Edit bad → new ≡ old → IsEditFault S.model e bad → AnswersEdit S e old reply new
@@ -137,12 +137,27 @@ module _ (old new : PlainEnv) (e : Edit) (r : Result (Unit {0}) EnvFault) (edits
       by (Some S) h = caused S h.bad h.is h.kept h.cause
 
   -- whatever it was refused for, there may have been no memory to tell
-  pub wanting : (f : EnvFault) (reply : List ℕ) → r ≡ Err f → reply ≡ memory_text → RepliesToEdit old.search e old reply new
+  wanting : (f : EnvFault) (reply : List ℕ) → r ≡ Err f → reply ≡ memory_text → RepliesToEdit old.search e old reply new
   wanting f reply is told = by old.search (subst (λ o. EditsEnv old.search e old o new) is edits)
     where
       by : (search : Option PlainSearch) → EditsEnv search e old (Err f) new → RepliesToEdit search e old reply new
       by None h = record { unchanged = h.1; answer = inr told }
       by (Some S) h = Wanting told h.kept
+
+  -- with the reply behind the call
+  pub edit-told : (before after : List ℕ) → before ≡ ok_text → after ≡ reply_behind r before → RepliesToEdit old.search e old after new
+  edit-told before after is told = by r refl told
+    where
+      by : (o : Result (Unit {0}) EnvFault) → r ≡ o → after ≡ reply_behind o before → RepliesToEdit old.search e old after new
+      by (Ok done) same t = made done after same (t ∙ is)
+      by (Err f) same t = refused f after same t
+
+  pub edit-untold : is_err r ≡ true → RepliesToEdit old.search e old memory_text new
+  edit-untold fails = by r refl fails
+    where
+      by : (o : Result (Unit {0}) EnvFault) → r ≡ o → is_err o ≡ true → RepliesToEdit old.search e old memory_text new
+      by (Ok done) same f = absurd (cc)
+      by (Err f) same g = wanting f memory_text same refl
 
 -- an edit that was not tried
 pub untried : (env : PlainEnv) (e : Edit) → RepliesToEdit env.search e env memory_text env

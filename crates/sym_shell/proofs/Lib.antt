@@ -1,4 +1,5 @@
 pub mod ReplyLemmas
+pub mod AnswerLemmas
 pub mod StepLemmas
 pub mod EditLemmas
 pub mod KindLemmas
@@ -11,3 +12,4 @@ pub mod RunLemmas
 pub mod ShownWords
 pub mod ShownBack
 pub mod SavingLemmas
+pub mod RestoredLaws

@@ -41,7 +41,7 @@ placed-step place names named k e below is pushed before found = pushed ∙ (λ 
 pub placed-all : {P : Type 0} (place : ℕ → P) (names : List (List ℕ)) (named : Named) (k : ℕ) → length named ≤ k → placed_in place names (take k named) ≡ placed_in place names named
 placed-all place names named k past = ap (placed_in place names) (take_all k named past)
 
-name_here : (named : Named) (k : ℕ) (e : List ℕ × ℚ) → k < length named → e ≡ get_or named k e → name_at named k ≡ e.0
+pub name_here : (named : Named) (k : ℕ) (e : List ℕ × ℚ) → k < length named → e ≡ get_or named k e → name_at named k ≡ e.0
 name_here named k e below is = get_or-map (λ (d : Entry). d.0) named k e [] below is
 
 within_names : (named : Named) (k : ℕ) → k < length named → k < length (names_in named)

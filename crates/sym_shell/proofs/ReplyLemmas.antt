@@ -1,6 +1,6 @@
 -- What the reply to a search shows.
 use Rattle.std.proofs.Common.{◌≡◌, ℕ, ◌<◌, ◌≤◌, ◌^◌, arith, List, [], ◌++◌, refl, subst, sym, ap, ◌∙◌, inl, inr, Option, Some, None, Ok, Err, Result}
-use Rattle.std.specs.Prelude.{OnOk, IfOk, IfSome, length}
+use Rattle.std.specs.Prelude.{OnOk, OnErr, IfOk, IfSome, length}
 use Rattle.std.specs.Option.{option_map}
 use Rattle.frac128.specs.Range.{Fits}
 use Rattle.lp_model.specs.Lawful.{IsLawful}
@@ -17,20 +17,21 @@ use Rattle.sym_env.specs.Enough.{IsEnough, IsKeptEnough}
 use Rattle.sym_env.specs.Env.{PlainEnv, model_of, pool_in}
 use Rattle.sym_env.specs.Solves.{Solved, SolvesModel, HasRayFor, held_by, IsOldest, SolvesIn}
 use Rattle.sym_env.specs.Solves as solving
-use Rattle.sym_env.specs.Truth.{IsCount, IsTrueBy, IsTrueAnswer, IsTrueOfKept, HasEnded}
+use Rattle.sym_env.specs.Truth.{IsCount, IsTrueBy, IsSmallTree, IsTrueAnswer, IsTrueOfKept, HasEnded}
 use Rattle.sym_env.specs.Warm.{WarmsIn, WarmsEnv}
-use Rattle.sym_env.proofs.BeginLemmas.{is_ray}
+use Rattle.ray_phase.proofs.BeginningLemmas.{is_ray}
 use Rattle.sym_env.specs.declared.env.EnvFault.{EnvFault}
 use Rattle.sym_env.specs.declared.limits.Limits.{Limits}
-use Rattle.reply_texts.specs.Reports.{AnswerHasRoom}
+use Rattle.reply_texts.specs.Reports.{AnswerIsShaped, AnswerHasRoom}
 use Rattle.reply_texts.specs.Texts.{optimal_text, stopped_nodes_text, answer_text, no_model_text}
+use Rattle.sym_shell.specs.Answering.{IsAnswerOf, IsTellable, search_text}
 use Rattle.sym_shell.specs.Shown.{point_shown}
 use Rattle.sym_shell.specs.Showing.{Finding, ShowsNoEndBy, AnswersBy, Optimum, Emptiness, NoEnd, NodeStop, TreeStop, PivotStop, WideStop, Wanting}
 use Rattle.sym_shell.specs.Solve.{limits_of, HasFewNodes, AnswersSolve, RepliesToSolve}
 use Rattle.sym_shell.specs.Warming.{WentOn, IsTooSmall, TellsAgain, AnswersWarm, RepliesToWarm}
 use Rattle.sym_shell.specs.State.{HasWords}
 use Rattle.sym_shell.proofs.ShownBack.{point-shown, value-shown}
-use Rattle.command_files.proofs.FileLemmas.{on_ok_if}
+use Rattle.command_files.proofs.FileLemmas.{on_ok_if, always}
 
 -- ---- whatever search was had
 
@@ -184,6 +185,14 @@ true-small M l few (Stopped (Pivots place) n bound best) is = is
 true-small M l few (Stopped (Wide at_) n bound best) is = is
 true-small M l few Memory is = tt
 
+-- an optimum has a number for each column, and its value
+true-shaped : (Small : Type 0) (M : Program) (l : Limits) (answer : Answer) → IsTrueBy Small M l answer → AnswerIsShaped M answer
+true-shaped Small M l (Optimal v x n) is = (is.0.0.feasible.shape, is.0.1)
+true-shaped Small M l (Infeasible n) is = tt
+true-shaped Small M l (Unbounded n) is = tt
+true-shaped Small M l (Stopped why n bound best) is = tt
+true-shaped Small M l Memory is = tt
+
 -- ---- a search that went on
 
 warms-has : (l : Limits) (old : PlainSearch) (answer : Answer) (new : PlainEnv) → WarmsIn l old answer new → Has (WentOn old l) (WentOn old l Memory) old.model l answer new
@@ -222,7 +231,7 @@ few-nodes nodes pivots l is = subst (λ (k : Limits). k.tree ≤ 2 ^ 63) (sym is
 
 module _ (nodes pivots : ℕ) (l : Limits) (is : l ≡ limits_of nodes pivots) (old new : PlainEnv) (r : Result Answer EnvFault) (solves : solving.SolvesEnv old.search l old r new) (words : HasWords old)
     (holds : IfOk r (λ a. IfSome old.search (λ S. IsTrueAnswer S.model l a))) (complete : IfOk r (λ a. IfSome old.search (λ S. IsEnough S.model (pool_in new.search) l → HasEnded a))) where
-  pub shows : (answer : Answer) (M : Program) → r ≡ Ok answer → model_of new ≡ Some M → IsLawful M → AnswerHasRoom answer → RepliesToSolve old old.search (limits_of nodes pivots) (answer_text M answer) new
+  shows : (answer : Answer) (M : Program) → r ≡ Ok answer → model_of new ≡ Some M → IsLawful M → AnswerHasRoom answer → RepliesToSolve old old.search (limits_of nodes pivots) (answer_text M answer) new
   shows answer M ok present lawful room =
       subst (λ k. RepliesToSolve old old.search k (answer_text M answer) new) is
       (by old.search refl (subst (λ o. solving.SolvesEnv old.search l old o new) ok solves) (subst (λ o. IfOk o (λ a. IfSome old.search (λ S. IsTrueAnswer S.model l a))) ok holds)
@@ -239,21 +248,50 @@ module _ (nodes pivots : ℕ) (l : Limits) (is : l ≡ limits_of nodes pivots) (
           subst (λ N. AnswersSolve S l (answer_text N answer) new) same
           (answers (Solved S.model l) (SolvesModel S.model l S Memory) (IsEnough S.model (pool_in new.search) l) (HasFewNodes S.model l) S.model l (subst IsLawful (sym same) lawful) plain answer new room (true-small S.model l (few-nodes nodes pivots l is) answer t) e has)
 
-  pub tells : {E : Type 0} (answer : Answer) (M : Program) → r ≡ Ok answer → model_of new ≡ Some M → IsLawful M → AnswerHasRoom answer → (written : Result (Unit {0}) E) (before after : List ℕ)
-      → before ≡ [] → IfOk written (λ _. after ≡ before ++ answer_text M answer) → OnOk written (RepliesToSolve old old.search (limits_of nodes pivots) after new)
-  tells answer M ok present lawful room written before after empty text =
-      telling (answer_text M answer) (λ t. RepliesToSolve old old.search (limits_of nodes pivots) t new) (shows answer M ok present lawful room) written before after empty text
-
-  pub none-shown : (fault : EnvFault) (reply : List ℕ) → r ≡ Err fault → reply ≡ no_model_text → RepliesToSolve old old.search (limits_of nodes pivots) reply new
+  none-shown : (fault : EnvFault) (reply : List ℕ) → r ≡ Err fault → reply ≡ no_model_text → RepliesToSolve old old.search (limits_of nodes pivots) reply new
   none-shown fault reply fails e = by old.search (subst (λ o. solving.SolvesEnv old.search l old o new) fails solves)
     where
       by : (search : Option PlainSearch) → solving.SolvesEnv search l old (Err fault) new → RepliesToSolve old search (limits_of nodes pivots) reply new
       by None h = (inl e, h.1)
       by (Some S) h = absurd h
 
+  solve-whole : IsTellable r (model_of new) → RepliesToSolve old old.search (limits_of nodes pivots) (search_text r (model_of new)) new
+  solve-whole sure = by r (model_of new) refl refl sure
+    where
+      by : (o : Result Answer EnvFault) (m : Option Program) → r ≡ o → model_of new ≡ m → IsTellable o m → RepliesToSolve old old.search (limits_of nodes pivots) (search_text o m) new
+      by (Ok answer) None ok none s = absurd s
+      by (Ok answer) (Some M) ok present s = shows answer M ok present s.0 s.1
+      by (Err f) m fails present s = none-shown f no_model_text fails refl
+
+  -- with as much of the text as was written
+  pub solve-told : {E : Type 0} (written : Result (Unit {0}) E) (before after : List ℕ) → before ≡ [] → IsTellable r (model_of new) → IfOk written (λ _. after ≡ before ++ search_text r (model_of new))
+      → OnOk written (RepliesToSolve old old.search (limits_of nodes pivots) after new)
+  solve-told written before after empty sure text =
+      telling (search_text r (model_of new)) (λ t. RepliesToSolve old old.search (limits_of nodes pivots) t new) (solve-whole sure) written before after empty text
+
+  pub solve-untold : {E : Type 0} (written : Result (Unit {0}) E) → IsTellable r (model_of new) → OnErr written ((bytes : List ℕ) × RepliesToSolve old old.search (limits_of nodes pivots) bytes new)
+  solve-untold written sure = always written (search_text r (model_of new), solve-whole sure)
+
+  pub solve-words : HasWords new
+  solve-words = by r old.search refl solves
+    where
+      by : (o : Result Answer EnvFault) (search : Option PlainSearch) → old.search ≡ search → solving.SolvesEnv search l old o new → HasWords new
+      by o None none h = subst HasWords (sym h.1) words
+      by (Ok answer) (Some S) some h = model-words old new S some (has-model (Solved S.model l) (SolvesModel S.model l S Memory) S.model l answer new (solves-has l S answer new h)) words
+      by (Err f) (Some S) some h = absurd h
+
+  pub solve-shaped : IsAnswerOf r (model_of new)
+  solve-shaped = by r old.search solves holds
+    where
+      by : (o : Result Answer EnvFault) (search : Option PlainSearch) → solving.SolvesEnv search l old o new → IfOk o (λ a. IfSome search (λ S. IsTrueAnswer S.model l a)) → IsAnswerOf o (model_of new)
+      by (Err f) search h t = tt
+      by (Ok answer) None h t = let clash = h.0 in absurd (cc)
+      by (Ok answer) (Some S) h t =
+          subst (IsAnswerOf (Ok answer)) (sym (has-model (Solved S.model l) (SolvesModel S.model l S Memory) S.model l answer new (solves-has l S answer new h))) (true-shaped (IsSmallTree S.model l) S.model l answer t)
+
 module _ (nodes pivots : ℕ) (l : Limits) (is : l ≡ limits_of nodes pivots) (old new : PlainEnv) (r : Result Answer EnvFault) (warms : WarmsEnv old.search l old r new) (words : HasWords old)
     (holds : IfOk r (λ a. IfSome old.search (λ S. IsTrueOfKept S l a))) (complete : IfOk r (λ a. IfSome old.search (λ S. IsKeptEnough S (pool_in new.search) l → HasEnded a))) where
-  pub warm-shows : (answer : Answer) (M : Program) → r ≡ Ok answer → model_of new ≡ Some M → IsLawful M → AnswerHasRoom answer → RepliesToWarm old old.search (limits_of nodes pivots) (answer_text M answer) new
+  warm-shows : (answer : Answer) (M : Program) → r ≡ Ok answer → model_of new ≡ Some M → IsLawful M → AnswerHasRoom answer → RepliesToWarm old old.search (limits_of nodes pivots) (answer_text M answer) new
   warm-shows answer M ok present lawful room =
       subst (λ k. RepliesToWarm old old.search k (answer_text M answer) new) is
       (by old.search refl (subst (λ o. WarmsEnv old.search l old o new) ok warms) (subst (λ o. IfOk o (λ a. IfSome old.search (λ S. IsTrueOfKept S l a))) ok holds)
@@ -271,14 +309,42 @@ module _ (nodes pivots : ℕ) (l : Limits) (is : l ≡ limits_of nodes pivots) (
           subst (λ N. AnswersWarm S l (answer_text N answer) new × TellsAgain S (answer_text N answer)) same
           (answers (WentOn S l) (WentOn S l Memory) (IsKeptEnough S (pool_in new.search) l) (IsTooSmall S l) S.model l (subst IsLawful (sym same) lawful) plain answer new room t e has, again)
 
-  pub warm-tells : {E : Type 0} (answer : Answer) (M : Program) → r ≡ Ok answer → model_of new ≡ Some M → IsLawful M → AnswerHasRoom answer → (written : Result (Unit {0}) E) (before after : List ℕ)
-      → before ≡ [] → IfOk written (λ _. after ≡ before ++ answer_text M answer) → OnOk written (RepliesToWarm old old.search (limits_of nodes pivots) after new)
-  warm-tells answer M ok present lawful room written before after empty text =
-      telling (answer_text M answer) (λ t. RepliesToWarm old old.search (limits_of nodes pivots) t new) (warm-shows answer M ok present lawful room) written before after empty text
-
-  pub none-warmed : (fault : EnvFault) (reply : List ℕ) → r ≡ Err fault → reply ≡ no_model_text → RepliesToWarm old old.search (limits_of nodes pivots) reply new
+  none-warmed : (fault : EnvFault) (reply : List ℕ) → r ≡ Err fault → reply ≡ no_model_text → RepliesToWarm old old.search (limits_of nodes pivots) reply new
   none-warmed fault reply fails e = by old.search (subst (λ o. WarmsEnv old.search l old o new) fails warms)
     where
       by : (search : Option PlainSearch) → WarmsEnv search l old (Err fault) new → RepliesToWarm old search (limits_of nodes pivots) reply new
       by None h = (inl e, h.1)
       by (Some S) h = absurd h
+
+  warm-whole : IsTellable r (model_of new) → RepliesToWarm old old.search (limits_of nodes pivots) (search_text r (model_of new)) new
+  warm-whole sure = by r (model_of new) refl refl sure
+    where
+      by : (o : Result Answer EnvFault) (m : Option Program) → r ≡ o → model_of new ≡ m → IsTellable o m → RepliesToWarm old old.search (limits_of nodes pivots) (search_text o m) new
+      by (Ok answer) None ok none s = absurd s
+      by (Ok answer) (Some M) ok present s = warm-shows answer M ok present s.0 s.1
+      by (Err f) m fails present s = none-warmed f no_model_text fails refl
+
+  pub warm-told : {E : Type 0} (written : Result (Unit {0}) E) (before after : List ℕ) → before ≡ [] → IsTellable r (model_of new) → IfOk written (λ _. after ≡ before ++ search_text r (model_of new))
+      → OnOk written (RepliesToWarm old old.search (limits_of nodes pivots) after new)
+  warm-told written before after empty sure text =
+      telling (search_text r (model_of new)) (λ t. RepliesToWarm old old.search (limits_of nodes pivots) t new) (warm-whole sure) written before after empty text
+
+  pub warm-untold : {E : Type 0} (written : Result (Unit {0}) E) → IsTellable r (model_of new) → OnErr written ((bytes : List ℕ) × RepliesToWarm old old.search (limits_of nodes pivots) bytes new)
+  warm-untold written sure = always written (search_text r (model_of new), warm-whole sure)
+
+  pub warm-words : HasWords new
+  warm-words = by r old.search refl warms
+    where
+      by : (o : Result Answer EnvFault) (search : Option PlainSearch) → old.search ≡ search → WarmsEnv search l old o new → HasWords new
+      by o None none h = subst HasWords (sym h.1) words
+      by (Ok answer) (Some S) some h = model-words old new S some (has-model (WentOn S l) (WentOn S l Memory) S.model l answer new (warms-has l S answer new h)) words
+      by (Err f) (Some S) some h = absurd h
+
+  pub warm-shaped : IsAnswerOf r (model_of new)
+  warm-shaped = by r old.search warms holds
+    where
+      by : (o : Result Answer EnvFault) (search : Option PlainSearch) → WarmsEnv search l old o new → IfOk o (λ a. IfSome search (λ S. IsTrueOfKept S l a)) → IsAnswerOf o (model_of new)
+      by (Err f) search h t = tt
+      by (Ok answer) None h t = let clash = h.0 in absurd (cc)
+      by (Ok answer) (Some S) h t =
+          subst (IsAnswerOf (Ok answer)) (sym (has-model (WentOn S l) (WentOn S l Memory) S.model l answer new (warms-has l S answer new h))) (true-shaped (IsTooSmall S l) S.model l answer t)

@@ -1,6 +1,6 @@
 -- What the replies to `trim`, `save` and `restore` tell, and the names of the model that they leave.
 use Rattle.std.proofs.Common.{◌≡◌, ◌⊎◌, ℕ, ◌≤◌, arith, Bool, true, false, ◌&&◌, if◌then◌else◌, List, [], ◌∷◌, ◌++◌, map, refl, subst, sym, ap, ◌∙◌, inl, inr, Option, Some, None, Ok, Err, Result}
-use Rattle.std.specs.Prelude.{IfSome, Vec, length, not, nat_lt, nat_le, codes, is_some, All}
+use Rattle.std.specs.Prelude.{IfSome, Vec, length, not, nat_lt, nat_le, codes, is_some, is_err, All}
 use Rattle.std.specs.declared.alloc.Global.{Global}
 use Rattle.std.specs.List.{list_all}
 use Rattle.std.specs.Option.{option_map}
@@ -22,28 +22,29 @@ use Rattle.search_data.specs.Trees.{is_one_tree}
 use Rattle.search_data.specs.declared.data.SearchData.{SearchData}
 use Rattle.sym_io.specs.Files.{Files}
 use Rattle.sound_searches.specs.Sound.{PlainSearch}
-use Rattle.search_file.specs.Files.{IsTextOf}
+use Rattle.search_file.specs.Files.{IsTextOf, IsTextAnswer, IsStatedBy, IsSearchFound}
 use Rattle.warm_values.specs.Values.{text_in, truth_of, member, at_most_items}
 use Rattle.warm_values.specs.Faults.{fault, at_key}
 use Rattle.warm_values.specs.Numbers.{side_of, number_of, bound_of}
+use Rattle.warm_values.specs.declared.fault.WarmFault.{WarmFault}
 use Rattle.warm_values.specs.declared.fault.WarmFault.TheVariants as warm
 use Rattle.warm_values.proofs.Inversions.{next-ok, key-ok, test-ok, member-ok, list-keeps, at_most-ok}
 use Rattle.warm_file.specs.Models.{is_visible, is_lawful_name, is_among, name_of, row_in, row_of, col_in, col_of, room_behind, entries_of, is_bounded, costed_of, bounded_of, sense_of, rows_of, cols_of, program_of, lists_of, model_of as read_model}
 use Rattle.warm_file.specs.Ranges.{are_sides}
 use Rattle.warm_file.specs.Searches.{search_in, search_of, whole_search, cuts_of, points_of, nodes_of, counts, tree_of, States, IsFault}
-use Rattle.sym_env.specs.Env.{PlainEnv, model_of as model_in}
-use Rattle.sym_env.specs.Saving.{IsSaveAnswer, RestoresTo, RestoresEnv, TrimsEnv}
+use Rattle.sym_env.specs.Env.{PlainEnv, model_of as model_in, without_answer}
+use Rattle.sym_env.specs.Trimming.{TrimsEnv}
 use Rattle.sym_env.specs.declared.env.EnvFault.{EnvFault}
 use Rattle.sym_env.specs.declared.env.EnvFault.TheVariants as env_fault
 use Rattle.reply_texts.specs.Texts.{ok_text, no_model_text, memory_text}
 use Rattle.sym_shell.specs.State.{shell_state, HasWords}
-use Rattle.sym_shell.specs.EnvFaults.{env_fault_text}
+use Rattle.sym_shell.specs.EnvFaults.{env_fault_text, reply_behind, warm_fault_text}
 use Rattle.command_files.specs.declared.reading.Refusal.{Refusal}
 use Rattle.command_files.specs.declared.reading.Refusal.TheVariants as refusal
 use Rattle.command_files.specs.Reading.{HasText, ReadsText, refusal_text}
 use Rattle.command_files.specs.Filing.{Writes}
 use Rattle.command_files.specs.Filing as filing
-use Rattle.sym_shell.specs.Saving.{Trimmed, Untrimmed, RepliesToTrim, Filed, Untold, RepliesToSave, SaveStep, TakesText, Taken, Faulty, Wanting, RestoresFile, RefusesFile, NoFile, LongFile, NoSearch, Unread, RestoreStep}
+use Rattle.sym_shell.specs.Saving.{Trimmed, Untrimmed, RepliesToTrim, AnswersSave, Filed, Untold, RepliesToSave, SaveStep, RestoresTo, TakesText, Taken, Faulty, Wanting, RestoresFile, RefusesFile, NoFile, LongFile, NoSearch, Unread, RestoreStep}
 use Rattle.command_files.proofs.FileLemmas.{writes-as}
 
 -- ---- a tree that is cut down
@@ -63,14 +64,14 @@ module _ (old new : PlainEnv) (depth : ℕ) (r : Result (Unit {0}) EnvFault) (tr
       by (Some S) some (Ok done) h = same-model old new S h.search some (ap (λ (e : PlainEnv). e.search) h.env_is) h.trims.model words
       by (Some S) some (Err f) h = subst HasWords (sym h.1) words
 
-  pub trim-made : (done : Unit {0}) (reply : List ℕ) → r ≡ Ok done → reply ≡ ok_text → RepliesToTrim old.search depth old reply new
+  trim-made : (done : Unit {0}) (reply : List ℕ) → r ≡ Ok done → reply ≡ ok_text → RepliesToTrim old.search depth old reply new
   trim-made done reply is told = by old.search (subst (λ o. TrimsEnv old.search depth old o new) is trims)
     where
       by : (search : Option PlainSearch) → TrimsEnv search depth old (Ok done) new → RepliesToTrim search depth old reply new
       by None h = let clash = h.0 in absurd (cc)
       by (Some S) h = Trimmed told h
 
-  pub trim-refused : (f : EnvFault) (reply : List ℕ) → r ≡ Err f → reply ≡ env_fault_text f → RepliesToTrim old.search depth old reply new
+  trim-refused : (f : EnvFault) (reply : List ℕ) → r ≡ Err f → reply ≡ env_fault_text f → RepliesToTrim old.search depth old reply new
   trim-refused f reply is told = by old.search (subst (λ o. TrimsEnv old.search depth old o new) is trims)
     where
       none-there : f ≡ env_fault.NoModel → reply ≡ no_model_text
@@ -80,12 +81,27 @@ module _ (old new : PlainEnv) (depth : ℕ) (r : Result (Unit {0}) EnvFault) (tr
       by None h = let none : Err f ≡ Err env_fault.NoModel = h.0 in record { unchanged = h.1; answer = inl (none-there (cc)) }
       by (Some S) h = Untrimmed (told ∙ ap env_fault_text h.0) h.1
 
-  pub trim-wanting : (f : EnvFault) → r ≡ Err f → RepliesToTrim old.search depth old memory_text new
+  trim-wanting : (f : EnvFault) → r ≡ Err f → RepliesToTrim old.search depth old memory_text new
   trim-wanting f is = by old.search (subst (λ o. TrimsEnv old.search depth old o new) is trims)
     where
       by : (search : Option PlainSearch) → TrimsEnv search depth old (Err f) new → RepliesToTrim search depth old memory_text new
       by None h = record { unchanged = h.1; answer = inr refl }
       by (Some S) h = Untrimmed refl h.1
+
+  -- with the reply behind the call
+  pub trim-told : (before after : List ℕ) → before ≡ ok_text → after ≡ reply_behind r before → RepliesToTrim old.search depth old after new
+  trim-told before after is told = by r refl told
+    where
+      by : (o : Result (Unit {0}) EnvFault) → r ≡ o → after ≡ reply_behind o before → RepliesToTrim old.search depth old after new
+      by (Ok done) same t = trim-made done after same (t ∙ is)
+      by (Err f) same t = trim-refused f after same t
+
+  pub trim-untold : is_err r ≡ true → RepliesToTrim old.search depth old memory_text new
+  trim-untold fails = by r refl fails
+    where
+      by : (o : Result (Unit {0}) EnvFault) → r ≡ o → is_err o ≡ true → RepliesToTrim old.search depth old memory_text new
+      by (Ok done) same f = absurd (cc)
+      by (Err f) same g = trim-wanting f same
 
 -- a trim that was not tried
 pub untrimmed : (env : PlainEnv) (depth : ℕ) → RepliesToTrim env.search depth env memory_text env
@@ -97,33 +113,38 @@ untrimmed env depth = by env.search
 
 -- ---- a search that is saved
 
-module _ (env : PlainEnv) (files files' : Option Files) (faults faults' : ℕ) (name reply : List ℕ) where
-  pub save-written : (r : Result (Vec ℕ Global) EnvFault) (text : Vec ℕ Global) (bytes : List ℕ) → r ≡ Ok text → IsSaveAnswer env.search r → bytes ≡ text.items → faults ≤ faults'
-      → Writes (λ written. written ≡ bytes) name files faults reply files' faults' → SaveStep (shell_state env files faults) name reply (shell_state env files' faults')
-  save-written r text bytes is answer same later writes = record { env = refl; later = later; answer = by env.search (subst (IsSaveAnswer env.search) is answer) }
-    where
-      by : (search : Option PlainSearch) → IsSaveAnswer search (Ok text) → RepliesToSave search (shell_state env files faults) name reply (shell_state env files' faults')
-      by None h = absurd (cc)
-      by (Some S) h = Filed (writes-as (λ written. written ≡ bytes) (IsTextOf S) name files faults reply files' faults' (λ t e. subst (IsTextOf S) (sym (e ∙ same)) h) writes)
+module _ (files files' : Option Files) (faults faults' : ℕ) (name reply : List ℕ) (S : PlainSearch) where
+  -- its text was written
+  pub search-written : (text : Vec ℕ Global) (bytes : List ℕ) → IsTextAnswer S (Ok text) → bytes ≡ text.items → Writes (λ written. written ≡ bytes) name files faults reply files' faults'
+      → (env : PlainEnv) → AnswersSave S (shell_state env files faults) name reply (shell_state env files' faults')
+  search-written text bytes own same writes env =
+      Filed (writes-as (λ written. written ≡ bytes) (IsTextOf S) name files faults reply files' faults' (λ t e. subst (IsTextOf S) (sym (e ∙ same)) own) writes)
 
-module _ (env : PlainEnv) (files : Option Files) (faults : ℕ) (name reply : List ℕ) where
-  pub save-refused : (r : Result (Vec ℕ Global) EnvFault) (f : EnvFault) → r ≡ Err f → IsSaveAnswer env.search r → (reply ≡ env_fault_text f) ⊎ (reply ≡ memory_text) → SaveStep (shell_state env files faults) name reply (shell_state env files faults)
-  save-refused r f is answer told = record { env = refl; later = omega arith; answer = by env.search f told (subst (IsSaveAnswer env.search) is answer) }
-    where
-      by : (search : Option PlainSearch) (f : EnvFault) → (reply ≡ env_fault_text f) ⊎ (reply ≡ memory_text) → IsSaveAnswer search (Err f) → RepliesToSave search (shell_state env files faults) name reply (shell_state env files faults)
-      by None env_fault.NoModel t h = record { files = refl; told = t }
-      by None env_fault.NoAnswer t h = absurd (cc)
-      by None (env_fault.Edit bad) t h = absurd (cc)
-      by None (env_fault.Warm bad) t h = absurd (cc)
-      by None env_fault.Memory t h = absurd (cc)
-      by (Some S) env_fault.NoModel t h = absurd h
-      by (Some S) env_fault.NoAnswer t h = absurd h
-      by (Some S) (env_fault.Edit bad) t h = absurd h
-      by (Some S) (env_fault.Warm (warm.Bad place code)) (inl t) h = Untold place code h t refl
-      by (Some S) (env_fault.Warm (warm.Bad place code)) (inr t) h = Filed (filing.Wanting (inl refl) t)
-      by (Some S) (env_fault.Warm warm.Memory) (inl t) h = Filed (filing.Wanting (inl refl) t)
-      by (Some S) (env_fault.Warm warm.Memory) (inr t) h = Filed (filing.Wanting (inl refl) t)
-      by (Some S) env_fault.Memory t h = absurd h
+  -- the environment has it
+  pub search-saved : (env : PlainEnv) → Some S ≡ env.search → faults ≤ faults' → ((e : PlainEnv) → AnswersSave S (shell_state e files faults) name reply (shell_state e files' faults'))
+      → SaveStep (shell_state env files faults) name reply (shell_state env files' faults')
+  search-saved env there later told = record {
+    env = refl;
+    later = later;
+    answer = subst (λ o. RepliesToSave o (shell_state env files faults) name reply (shell_state env files' faults')) there (told env);
+  }
+
+module _ (files : Option Files) (faults : ℕ) (name reply : List ℕ) where
+  -- it has no text that states it, or there was no memory
+  pub search-untold : (S : PlainSearch) (f : WarmFault) → IsTextAnswer S (Err f) → (reply ≡ warm_fault_text f) ⊎ (reply ≡ memory_text) → (env : PlainEnv)
+      → AnswersSave S (shell_state env files faults) name reply (shell_state env files faults)
+  search-untold S (warm.Bad place code) h (inl t) env = Untold place code h t refl
+  search-untold S (warm.Bad place code) h (inr t) env = Filed (filing.Wanting (inl refl) t)
+  search-untold S warm.Memory h (inl t) env = Filed (filing.Wanting (inl refl) t)
+  search-untold S warm.Memory h (inr t) env = Filed (filing.Wanting (inl refl) t)
+
+  -- there is none
+  pub none-saved : (env : PlainEnv) → None ≡ env.search → (reply ≡ no_model_text) ⊎ (reply ≡ memory_text) → SaveStep (shell_state env files faults) name reply (shell_state env files faults)
+  none-saved env there told = record {
+    env = refl;
+    later = omega arith;
+    answer = subst (λ o. RepliesToSave o (shell_state env files faults) name reply (shell_state env files faults)) there (record { files = refl; told = told });
+  }
 
 -- ---- the names that a text states are words
 
@@ -264,36 +285,16 @@ stated-words d s e =
 
 -- ---- a search that is restored
 
-restored-words : (text : List ℕ) (env : PlainEnv) → RestoresTo text env → HasWords env
-restored-words text env h =
-    let names = stated-words h.stated.states.value h.stated.stated h.stated.states.stated in
-    let model : model_in env ≡ Some h.stated.stated.model = ap model_in h.env_is ∙ ap Some h.stated.restores.model in
-    subst (λ (m : Option Program). IfSome m HasWordNames) (sym model) names
+pub restored-words : (text : List ℕ) (S : PlainSearch) → IsStatedBy text S → HasWordNames S.model
+restored-words text S h = subst HasWordNames (sym h.restores.model) (stated-words h.states.value h.stated h.states.stated)
 
-module _ (text : List ℕ) (old new : PlainEnv) (r : Result (Unit {0}) EnvFault) (restores : RestoresEnv text old r new) where
-  pub restores-words : HasWords old → HasWords new
-  restores-words words = by r restores
-    where
-      by : (r : Result (Unit {0}) EnvFault) → RestoresEnv text old r new → HasWords new
-      by (Ok done) h = restored-words text new h
-      by (Err f) h = subst HasWords (sym h.0) words
+pub search-words : (S : PlainSearch) (env : PlainEnv) → HasWordNames S.model → env ≡ without_answer S → HasWords env
+search-words S env names is = subst HasWords (sym is) names
 
-  pub restore-made : (done : Unit {0}) (reply : List ℕ) → r ≡ Ok done → reply ≡ ok_text → TakesText text old reply new
-  restore-made done reply is told = Taken told (subst (λ o. RestoresEnv text old o new) is restores)
-
-  pub restore-refused : (f : EnvFault) (reply : List ℕ) → r ≡ Err f → reply ≡ env_fault_text f → TakesText text old reply new
-  restore-refused f reply is told = by f told (subst (λ o. RestoresEnv text old o new) is restores)
-    where
-      by : (f : EnvFault) → reply ≡ env_fault_text f → RestoresEnv text old (Err f) new → TakesText text old reply new
-      by env_fault.NoModel t h = absurd h.1
-      by env_fault.NoAnswer t h = absurd h.1
-      by (env_fault.Edit bad) t h = absurd h.1
-      by (env_fault.Warm (warm.Bad place code)) t h = Faulty place code h.1 t h.0
-      by (env_fault.Warm warm.Memory) t h = Wanting t h.0
-      by env_fault.Memory t h = absurd h.1
-
-  pub restore-kept : (f : EnvFault) → r ≡ Err f → new ≡ old
-  restore-kept f is = (subst (λ o. RestoresEnv text old o new) is restores).0
+-- the text states no search, or there was no memory
+pub text-untaken : (text : List ℕ) (env : PlainEnv) (reply : List ℕ) (f : WarmFault) → IsSearchFound text (Err f) → reply ≡ warm_fault_text f → TakesText text env reply env
+text-untaken text env reply (warm.Bad place code) h t = Faulty place code h t refl
+text-untaken text env reply warm.Memory h t = Wanting t refl
 
 module _ (old new : PlainEnv) (files files' : Option Files) (faults faults' : ℕ) (name reply : List ℕ) (kept : files' ≡ files) (later : faults ≤ faults') where
   -- the file was read, and its text answered so

@@ -1,8 +1,8 @@
 -- From what is asked to the words that ask it.
-use Rattle.std.proofs.Common.{◌≡◌, ◌⊎◌, ℕ, ◌≤◌, List, refl, ap, sym, subst, ◌∙◌, inl, inr, Option, Some, Ok, Err, Result}
-use Rattle.std.specs.Prelude.{OnErr, IfSome}
+use Rattle.std.proofs.Common.{◌≡◌, ◌⊎◌, ℕ, ◌≤◌, arith, List, refl, ap, sym, subst, ◌∙◌, inl, inr, Option, Some, Ok, Err, Result}
+use Rattle.std.specs.Prelude.{true, is_err, OnOk, OnErr, IfErr, IfSome}
 use Rattle.std.specs.Option.{option_map}
-use Rattle.command_words.specs.Asks.{Asks, Solve, Warm, asks_of}
+use Rattle.command_words.specs.Asks.{Asks, Load, Solve, Warm, Edit, Trim, Save, Restore, Bound, Cert, Write, Quit, Unknown, Misused, NoNumber, asks_of}
 use Rattle.edit_words.specs.EditWords.{EditAsks}
 use Rattle.sym_io.specs.Files.{Files}
 use Rattle.lp_model.specs.Program.{Program}
@@ -10,6 +10,8 @@ use Rattle.mps_model.specs.Faults.{MeantModel}
 use Rattle.word_names.specs.WordNames.{HasWordNames}
 use Rattle.sound_searches.specs.Sound.{PlainSearch}
 use Rattle.sym_env.specs.Env.{PlainEnv, Holds}
+use Rattle.sym_env.specs.declared.env.EnvFault.{EnvFault}
+use Rattle.sym_env.specs.declared.env.EnvFault.TheVariants.{Memory}
 use Rattle.sym_env.specs.declared.limits.Limits.{Limits}
 use Rattle.reply_texts.specs.Texts.{ok_text, memory_text}
 use Rattle.sym_shell.specs.State.{ShellState, shell_state, HasWords}
@@ -18,6 +20,7 @@ use Rattle.sym_shell.specs.Load.{LoadStep}
 use Rattle.sym_shell.specs.Solve.{limits_of, RepliesToSolve, SolveStep}
 use Rattle.sym_shell.specs.Warming.{RepliesToWarm, WarmStep}
 use Rattle.sym_shell.specs.Editing.{RepliesToWords, EditStep}
+use Rattle.sym_shell.specs.EnvFaults.{env_fault_text, reply_behind}
 use Rattle.sym_shell.specs.Saving.{RepliesToTrim, TrimStep}
 use Rattle.sym_shell.specs.Step.{AnswersTo, Step}
 use Rattle.command_files.specs.declared.reading.Refusal.TheVariants as refusal
@@ -25,6 +28,12 @@ use Rattle.command_files.specs.declared.reading.Refusal.TheVariants as refusal
 pub step_of : (words : List (List ℕ)) (asks : Asks) (old new : ShellState) (reply : List ℕ) → asks ≡ asks_of words → AnswersTo asks old reply new → Step old words reply new
 unfolding Step
 step_of words asks old new reply e h = subst (λ a. AnswersTo a old reply new) e h
+
+-- ---- where the reply was made whole
+
+pub finished : {E : Type 0} (r : Result (Unit {0}) E) (asks asked : Asks) (old new : ShellState) (bytes : List ℕ) → asked ≡ asks → OnOk r (AnswersTo asks old bytes new) → OnOk r (AnswersTo asked old bytes new)
+finished (Ok done) asks asked old new bytes e h = subst (λ a. AnswersTo a old bytes new) (sym e) h
+finished (Err f) asks asked old new bytes e h = tt
 
 -- ---- where the reply could not be made whole
 
@@ -58,6 +67,35 @@ edit-step old new files faults asks reply edits = record { files = refl; faults 
 pub trim-step : (old new : PlainEnv) (files : Option Files) (faults : ℕ) (depth : ℕ) (reply : List ℕ) → RepliesToTrim old.search depth old reply new → TrimStep (shell_state old files faults) depth reply (shell_state new files faults)
 trim-step old new files faults depth reply trims = record { files = refl; faults = refl; answer = trims }
 
+-- ---- no count of faults falls
+
+same-faults : (old new : ShellState) → new.faults ≡ old.faults → old.faults ≤ new.faults
+same-faults old new e = subst (λ n. old.faults ≤ n) (sym e) (omega arith)
+
+same-state : (old new : ShellState) → new ≡ old → old.faults ≤ new.faults
+same-state old new e = same-faults old new (ap (λ (s : ShellState). s.faults) e)
+
+later : (asks : Asks) (old new : ShellState) (reply : List ℕ) → AnswersTo asks old reply new → old.faults ≤ new.faults
+later (Load file intupper) old new reply h = h.later
+later (Solve nodes pivots) old new reply h = same-faults old new h.faults
+later (Warm nodes pivots) old new reply h = same-faults old new h.faults
+later (Edit words) old new reply h = same-faults old new h.faults
+later (Trim depth) old new reply h = same-faults old new h.faults
+later (Save file) old new reply h = h.later
+later (Restore file) old new reply h = h.later
+later (Bound which numbers words) old new reply h = same-state old new h.unchanged
+later (Cert file) old new reply h = h.later
+later (Write file) old new reply h = h.later
+later Quit old new reply h = same-state old new h.unchanged
+later (Unknown word) old new reply h = same-state old new h.unchanged
+later Misused old new reply h = same-state old new h.unchanged
+later (NoNumber word) old new reply h = same-state old new h.unchanged
+
+-- whether the reply was made whole or not
+pub answered-later : {E : Type 0} (r : Result (Unit {0}) E) (asks : Asks) (old new : ShellState) (reply : List ℕ) → OnOk r (AnswersTo asks old reply new) → OnErr r ((bytes : List ℕ) × AnswersTo asks old bytes new) → old.faults ≤ new.faults
+answered-later (Ok done) asks old new reply h k = later asks old new reply h
+answered-later (Err f) asks old new reply h k = later asks old new k.0 k.1
+
 -- ---- a model that is loaded
 
 -- the reply tells whether it was
@@ -79,6 +117,25 @@ wants-step old new files files' faults faults' name intupper kept later same = r
 pub holds-words : (M : Program) (env : PlainEnv) → HasWordNames M → Holds M env → HasWords env
 holds-words M env names h = subst (λ (m : Option Program). IfSome m HasWordNames) (sym (ap (option_map (λ (S : PlainSearch). S.model)) h.search_is ∙ ap Some h.fresh.model)) names
 
-pub load-words : (old new : PlainEnv) (M : Program) (reply : List ℕ) → HasWordNames M → HasWords old → ((reply ≡ ok_text) × Holds M new) ⊎ ((reply ≡ memory_text) × (new ≡ old)) → HasWords new
-load-words old new M reply names words (inl h) = holds-words M new names h.1
-load-words old new M reply names words (inr h) = subst HasWords (sym h.1) words
+-- what the environment's call did, with the reply behind it
+module _ (r : Result (Unit {0}) EnvFault) (old new : PlainEnv) (M : Program) (loaded : OnOk r (Holds M new)) (kept : OnErr r (new ≡ old)) where
+  pub load-words : HasWordNames M → HasWords old → HasWords new
+  load-words names words = by r loaded kept
+    where
+      by : (o : Result (Unit {0}) EnvFault) → OnOk o (Holds M new) → OnErr o (new ≡ old) → HasWords new
+      by (Ok done) h k = holds-words M new names h
+      by (Err f) h k = subst HasWords (sym k) words
+
+  pub load-told : (before after : List ℕ) → before ≡ ok_text → IfErr r (λ f. f ≡ Memory) → after ≡ reply_behind r before → ((after ≡ ok_text) × Holds M new) ⊎ ((after ≡ memory_text) × (new ≡ old))
+  load-told before after is = by r loaded kept
+    where
+      by : (o : Result (Unit {0}) EnvFault) → OnOk o (Holds M new) → OnErr o (new ≡ old) → IfErr o (λ f. f ≡ Memory) → after ≡ reply_behind o before → ((after ≡ ok_text) × Holds M new) ⊎ ((after ≡ memory_text) × (new ≡ old))
+      by (Ok done) h k wants e = inl (e ∙ is, h)
+      by (Err f) h k wants e = inr (e ∙ ap env_fault_text wants, k)
+
+  pub load-untold : is_err r ≡ true → new ≡ old
+  load-untold = by r kept
+    where
+      by : (o : Result (Unit {0}) EnvFault) → OnErr o (new ≡ old) → is_err o ≡ true → new ≡ old
+      by (Ok done) k fails = absurd (cc)
+      by (Err f) k fails = k

@@ -16,7 +16,7 @@ use Rattle.warm_file.specs.Searches.{IsFault}
 use Rattle.sym_env.specs.Editing.{EditsTo}
 use Rattle.sym_env.specs.Enough.{IsEnough, IsKeptEnough}
 use Rattle.sym_env.specs.Env.{model_of, pool_in}
-use Rattle.sym_env.specs.Saving.{TrimsTo}
+use Rattle.sym_env.specs.Trimming.{TrimsTo}
 use Rattle.sym_env.specs.Solves.{Solved}
 use Rattle.sym_env.specs.declared.held.Held.TheVariants.{Nothing}
 use Rattle.sym_env.specs.declared.limits.Limits.{Limits}

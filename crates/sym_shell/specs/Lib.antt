@@ -7,6 +7,7 @@ pub mod Solve
 pub mod Warming
 pub mod Editing
 pub mod EnvFaults
+pub mod Answering
 pub mod Bounding
 pub mod Placing
 pub mod Certify
@@ -17,3 +18,4 @@ pub mod Kinds
 pub mod Causes
 pub mod Shell
 pub mod Run
+pub mod Laws

@@ -2,10 +2,11 @@
 use Rattle.std.specs.Prelude.{◌≡◌, ◌⊎◌, ℕ, ◌≤◌, List, Option, Some, None}
 use Rattle.sym_io.specs.Faults.{Rose}
 use Rattle.sound_searches.specs.Sound.{PlainSearch}
-use Rattle.search_file.specs.Files.{own_text, IsTextOf}
+use Rattle.search_file.specs.Files.{own_text, IsTextOf, IsStatedBy}
 use Rattle.warm_file.specs.Searches.{IsFault}
 use Rattle.sym_env.specs.Env.{PlainEnv}
-use Rattle.sym_env.specs.Saving.{RestoresTo, TrimsTo}
+use Rattle.sym_env.specs.Trimming.{TrimsTo}
+use Rattle.sym_env.specs.declared.held.Held.TheVariants.{Nothing}
 use Rattle.reply_texts.specs.Texts.{ok_text, no_model_text, store_text, file_too_long_text, warm_text, memory_text}
 use Rattle.sym_shell.specs.State.{ShellState}
 use Rattle.sym_shell.specs.Unchanged.{IsRefused}
@@ -50,6 +51,12 @@ pub record SaveStep (old : ShellState) (name reply : List ℕ) (new : ShellState
   pub answer : RepliesToSave old.env.search old name reply new
 
 -- ---- restore
+
+-- the search that the text states takes the place of the old one, and no answer is held
+pub record RestoresTo (text : List ℕ) (env : PlainEnv) : Type 0 where
+  pub search : PlainSearch
+  pub stated : IsStatedBy text search
+  pub env_is : env ≡ record { search = Some search; held = Nothing }
 
 -- the environment has the search that the file's text states, and holds no answer
 pub record RestoresFile (old : ShellState) (name reply : List ℕ) (new : ShellState) : Type 0 where

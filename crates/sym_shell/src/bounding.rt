@@ -206,7 +206,9 @@ pub(crate) fn bound_by_words(
 {
     match read_pairs(alloc, words) {
         Entries::Read(named) => {
-            bound_by_numbers(alloc, env, which, numbers, named.as_slice(), reply)
+            let told = bound_by_numbers(alloc, env, which, numbers, named.as_slice(), reply);
+            drop(named);
+            told
         }
         Entries::Misused => reply.extend_from_slice(b"error 03 arguments\n"),
         Entries::NoNumber { word } => write_no_number(reply, word),

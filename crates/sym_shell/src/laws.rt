@@ -1,7 +1,13 @@
-// What the clauses of `run` come to, as clauses of calls that do nothing.
+// What the clauses of `run` come to, and what holds of a search that is saved and restored, as clauses of calls that do nothing.
+ghost use Rattle.sym_shell.specs.Laws.{RestoredLaw};
 ghost use Rattle.sym_shell.specs.Run.{ShellToldLaw};
 
 /// A run of a source that tells its bytes has answered those, what it had not yet taken among them.
 pub fn told_law()
     ensures { ShellToldLaw }
+{}
+
+/// A search without an open leaf that is saved and restored has none, so that `warm` places nothing.
+pub fn restored_law()
+    ensures { RestoredLaw }
 {}

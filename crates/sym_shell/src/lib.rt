@@ -18,18 +18,21 @@
 //! Below stand `program_words`, which says what the command line asks for; `script_session`, which reads the script and knows
 //! no command; `command_words`, which says what a line's words ask for, and `edit_words`, which reads edits and numbers beside names;
 //! `command_files`, which reads models, writes files and checks certificates; `sym_env`, which solves and edits models and writes
-//! certificates; and `reply_texts`, the bytes of replies. Above stands `sym_main`.
+//! certificates; `search_file`, which writes and reads the texts of searches; and `reply_texts`, the bytes of replies. Above stands
+//! `sym_main`.
 #![tactic(auto)]
 
+mod answering;
 mod bounding;
 mod ends;
 mod laws;
 mod placing;
 mod program;
 mod refusing;
+mod saving;
 mod shell;
 
 pub use ends::run_program;
-pub use laws::told_law;
+pub use laws::{restored_law, told_law};
 pub use program::run;
 pub use shell::Shell;

@@ -21,16 +21,6 @@ pub(crate) enum Unplaced {
     Memory,
 }
 
-impl From<AllocError> for Unplaced {
-    ghost use Rattle.sym_shell.specs.declared.placing.Unplaced.TheVariants.{Memory};
-
-    ghost from_gives = { λ _ unplaced. unplaced ≡ Memory };
-
-    fn from(_: AllocError) -> Self {
-        Unplaced::Memory
-    }
-}
-
 /// The place of a row or of a column, from 0.
 pub(crate) trait Place: Copy {
     ghost at_place: { ℕ → Self };
@@ -71,9 +61,13 @@ fn placed<T: Named, P: Place>(
     let mut places = List::new(alloc);
     for (index, (name, number)) in named.iter().enumerate() {
         let Some(place) = place_of(items, name.as_slice()) else {
+            drop(places);
             return Err(Unplaced::Unknown(index));
         };
-        places.push((P::at_place(place as u32), *number))?;
+        let Ok(()) = places.push((P::at_place(place as u32), *number)) else {
+            drop(places);
+            return Err(Unplaced::Memory);
+        };
     }
     Ok(places)
 }
@@ -100,7 +94,10 @@ pub(crate) fn placed_sides(
 ) -> Result<List<(RowId, Frac)>, Unplaced>
     ensures { ArePlacedSides model.now named.now result }
 {
-    let sides: List<(RowId, Frac)> = placed(alloc, model.rows(), named)?;
+    let sides: List<(RowId, Frac)> = match placed(alloc, model.rows(), named) {
+        Ok(sides) => sides,
+        Err(unplaced) => return Err(unplaced),
+    };
     match first_two_sided(model.rows(), sides.as_slice()) {
         Some(place) => {
             drop(sides);

@@ -42,7 +42,9 @@ fn run_commands<R: Source, W: Sink, S: Store>(
     ensures store_later { S.faults store.old ≤ S.faults store.new }
 {
     let mut shell = Shell::new(alloc);
-    run_script(alloc, &mut shell, script, out, store)
+    let status = run_script(alloc, &mut shell, script, out, store);
+    drop(shell);
+    status
 }
 
 /// Whether the bytes are the refusal for want of memory.

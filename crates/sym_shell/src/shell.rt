@@ -1,11 +1,11 @@
 // The machine behind the script: the environment, and what a command does to it.
-ghost use Rattle.std.specs.Prelude.{◌≡◌, ◌≤◌, ◌⊎◌, true, [], OnOk, OnErr, ℕ, List, map};
+ghost use Rattle.std.specs.Prelude.{◌≡◌, ◌⊎◌, true, [], OnOk, OnErr, ℕ, List, map};
 ghost use Rattle.edit_words.specs.EditWords.{edit_asks, pairs_asks};
 ghost use Rattle.edit_words.specs.NewNames.{BringsName, IsNewName};
 ghost use Rattle.word_names.specs.WordNames.{HasWordNames};
 ghost use Rattle.command_words.specs.Names.{is_file_name};
 ghost use Rattle.command_words.specs.Asks.{asks_shown, NamesFile};
-ghost use Rattle.sym_env.specs.Env.{no_model, Holds};
+ghost use Rattle.sym_env.specs.Env.{no_model, without_answer, Holds};
 ghost use Rattle.reply_texts.specs.Texts.{ok_text, memory_text};
 ghost use Rattle.sym_shell.specs.State.{shell_state};
 ghost use Rattle.sym_shell.specs.Load.{LoadStep};
@@ -19,17 +19,21 @@ ghost use Rattle.sym_shell.specs.Writing.{WriteStep};
 ghost use Rattle.sym_shell.specs.Step.{AnswersTo};
 ghost use Rattle.sym_shell.specs.Shell.{is_quit};
 
+use crate::answering::tell_answer;
 use crate::bounding::bound_by_words;
-use crate::refusing::write_env_fault;
+use crate::refusing::{tell_done, write_env_fault, write_warm_fault};
+use crate::saving::write_search;
 use command_files::{read_model, read_text, write_file, write_model, write_refusal};
 use command_words::{Asked, NewNumbers, OptimumBound, read_words};
 use edit_words::{EditAsked, read_edit};
 use lp_model::{Edit, Model};
-use reply_texts::{answer_has_room, write_answer, write_no_number, write_unknown};
+use reply_texts::{write_no_number, write_unknown};
 use script_session::Machine;
+use search_file::search_in;
 use std::alloc::{AllocError, Global};
-use sym_env::{Env, EnvFault, Limits};
+use sym_env::{Env, Limits};
 use sym_io::Store;
+use tree_edit::Search;
 
 /// How many nodes the tree of a search may have.
 const NODE_LIMIT: u64 = 1_000_000;
@@ -86,11 +90,8 @@ impl Shell {
             drop(model);
             return Err(AllocError);
         }
-        if self.env.load(model).is_err() {
-            reply.clear();
-            reply.extend_from_slice(b"error 90 memory\n")?;
-        }
-        Ok(())
+        let done = self.env.load(model);
+        tell_done(reply, done)
     }
 
     /// Replaces the model by the file's.
@@ -108,7 +109,6 @@ impl Shell {
             (shell_state self.new (S.files store.new) (S.faults store.new))) }
         ensures unfinished { OnErr result (LoadStep (shell_state self.old (S.files store.old) (S.faults store.old)) name.now intupper memory_text
             (shell_state self.new (S.files store.new) (S.faults store.new))) }
-        ensures store_later { S.faults store.old ≤ S.faults store.new }
     {
         match read_model(alloc, store, name, intupper) {
             Ok(model) => self.keep(model, reply),
@@ -122,17 +122,10 @@ impl Shell {
         ensures answered { OnOk result (RepliesToSolve self.old self.old.search (limits_of nodes pivots) reply.new.items self.new) }
         ensures unfinished { OnErr result ((bytes : List ℕ) × RepliesToSolve self.old self.old.search (limits_of nodes pivots) bytes self.new) }
     {
-        match self.env.solve(&limits_of(nodes, pivots)) {
-            Ok(answer) => {
-                answer_has_room(&answer);
-                let Some(model) = self.env.model() else {
-                    unreachable!()
-                };
-                let _lawful = model.cols();
-                write_answer(reply, model, &answer)
-            }
-            Err(_) => reply.extend_from_slice(b"error 04 no model\n"),
-        }
+        let answer = self.env.solve(&limits_of(nodes, pivots));
+        let told = tell_answer(reply, &self.env, &answer);
+        drop(answer);
+        told
     }
 
     /// Goes on with the search that is kept.
@@ -141,17 +134,10 @@ impl Shell {
         ensures answered { OnOk result (RepliesToWarm self.old self.old.search (limits_of nodes pivots) reply.new.items self.new) }
         ensures unfinished { OnErr result ((bytes : List ℕ) × RepliesToWarm self.old self.old.search (limits_of nodes pivots) bytes self.new) }
     {
-        match self.env.warm_solve(&limits_of(nodes, pivots)) {
-            Ok(answer) => {
-                answer_has_room(&answer);
-                let Some(model) = self.env.model() else {
-                    unreachable!()
-                };
-                let _lawful = model.cols();
-                write_answer(reply, model, &answer)
-            }
-            Err(_) => reply.extend_from_slice(b"error 04 no model\n"),
-        }
+        let answer = self.env.warm_solve(&limits_of(nodes, pivots));
+        let told = tell_answer(reply, &self.env, &answer);
+        drop(answer);
+        told
     }
 
     /// Makes an edit, and tells whether it was made. The reply's memory is taken first, so that all stays where there is none.
@@ -165,13 +151,8 @@ impl Shell {
             drop(edit);
             return Err(AllocError);
         }
-        match self.env.edit(edit) {
-            Ok(()) => Ok(()),
-            Err(fault) => {
-                reply.clear();
-                write_env_fault(reply, fault)
-            }
-        }
+        let done = self.env.edit(edit);
+        tell_done(reply, done)
     }
 
     /// Makes the edit that the words behind `edit` ask for, or tells why not.
@@ -199,19 +180,17 @@ impl Shell {
         ensures answered { OnOk result (RepliesToTrim self.old.search depth self.old reply.new.items self.new) }
         ensures unfinished { OnErr result (RepliesToTrim self.old.search depth self.old memory_text self.new) }
     {
-        reply.extend_from_slice(b"ok\n")?;
-        match self.env.trim(depth) {
-            Ok(()) => Ok(()),
-            Err(fault) => {
-                reply.clear();
-                write_env_fault(reply, fault)
-            }
+        if reply.extend_from_slice(b"ok\n").is_err() {
+            return Err(AllocError);
         }
+        let done = self.env.trim(depth);
+        tell_done(reply, done)
     }
 
     /// Writes the search that is kept to a file.
     fn save<S: Store>(
         &self,
+        alloc: Global,
         store: &mut S,
         name: &[u8],
         reply: &mut Vec<u8>,
@@ -222,27 +201,42 @@ impl Shell {
             (shell_state self.now (S.files store.new) (S.faults store.new))) }
         ensures unfinished { OnErr result (SaveStep (shell_state self.now (S.files store.old) (S.faults store.old)) name.now memory_text
             (shell_state self.now (S.files store.new) (S.faults store.new))) }
-        ensures store_later { S.faults store.old ≤ S.faults store.new }
     {
-        match self.env.save() {
-            Ok(text) => write_file(store, name, &text, reply),
-            Err(fault) => write_env_fault(reply, fault),
+        match self.env.search() {
+            Some(search) => write_search(alloc, store, name, search, reply),
+            None => reply.extend_from_slice(b"error 04 no model\n"),
         }
     }
 
-    /// Takes the search that a text states. The reply's memory is taken first, so that all stays where there is none.
-    fn take_text(&mut self, text: &[u8], reply: &mut Vec<u8>) -> Result<(), AllocError>
+    /// Replaces model and search by this search. The reply's memory is taken first, so that all stays where there is none.
+    fn keep_search(&mut self, search: Search, reply: &mut Vec<u8>) -> Result<(), AllocError>
+        requires words { HasWordNames search.model }
+        requires empty { reply.old.items ≡ [] }
+        ensures kept { OnOk result ((reply.new.items ≡ ok_text) × (self.new ≡ without_answer search)) }
+        ensures unfinished { OnErr result (self.new ≡ self.old) }
+    {
+        if reply.extend_from_slice(b"ok\n").is_err() {
+            drop(search);
+            return Err(AllocError);
+        }
+        self.env.restore(search);
+        Ok(())
+    }
+
+    /// Takes the search that a text states, or tells the first fault of the text.
+    fn take_text(
+        &mut self,
+        alloc: Global,
+        text: &[u8],
+        reply: &mut Vec<u8>,
+    ) -> Result<(), AllocError>
         requires { reply.old.items ≡ [] }
         ensures answered { OnOk result (TakesText text.now self.old reply.new.items self.new) }
         ensures unfinished { OnErr result (self.new ≡ self.old) }
     {
-        reply.extend_from_slice(b"ok\n")?;
-        match self.env.restore(text) {
-            Ok(()) => Ok(()),
-            Err(fault) => {
-                reply.clear();
-                write_env_fault(reply, fault)
-            }
+        match search_in(alloc, text) {
+            Ok(search) => self.keep_search(search, reply),
+            Err(fault) => write_warm_fault(reply, fault),
         }
     }
 
@@ -260,10 +254,9 @@ impl Shell {
             (shell_state self.new (S.files store.new) (S.faults store.new))) }
         ensures unfinished { OnErr result (RestoreStep (shell_state self.old (S.files store.old) (S.faults store.old)) name.now memory_text
             (shell_state self.new (S.files store.new) (S.faults store.new))) }
-        ensures store_later { S.faults store.old ≤ S.faults store.new }
     {
         match read_text(alloc, store, name) {
-            Ok(text) => self.take_text(&text, reply),
+            Ok(text) => self.take_text(alloc, &text, reply),
             Err(unread) => write_refusal(reply, unread),
         }
     }
@@ -296,22 +289,14 @@ impl Shell {
             (shell_state self.now (S.files store.new) (S.faults store.new))) }
         ensures unfinished { OnErr result (CertStep (shell_state self.now (S.files store.old) (S.faults store.old)) name.now memory_text
             (shell_state self.now (S.files store.new) (S.faults store.new))) }
-        ensures store_later { S.faults store.old ≤ S.faults store.new }
     {
-        match self.env.cert() {
-            Ok(text) => write_file(store, name, &text, reply),
-            Err(EnvFault::NoModel) => reply.extend_from_slice(b"error 04 no model\n"),
-            Err(EnvFault::NoAnswer) => reply.extend_from_slice(b"error 13 no finished answer\n"),
-            Err(EnvFault::Edit(fault)) => {
-                drop(fault);
-                reply.extend_from_slice(b"error 90 memory\n")
-            }
-            Err(EnvFault::Warm(fault)) => {
-                drop(fault);
-                reply.extend_from_slice(b"error 90 memory\n")
-            }
-            Err(EnvFault::Memory) => reply.extend_from_slice(b"error 90 memory\n"),
-        }
+        let text = match self.env.cert() {
+            Ok(text) => text,
+            Err(fault) => return write_env_fault(reply, fault),
+        };
+        let told = write_file(store, name, &text, reply);
+        drop(text);
+        told
     }
 
     /// Writes the model that is present to a file.
@@ -328,7 +313,6 @@ impl Shell {
             (shell_state self.now (S.files store.new) (S.faults store.new))) }
         ensures unfinished { OnErr result (WriteStep (shell_state self.now (S.files store.old) (S.faults store.old)) name.now memory_text
             (shell_state self.now (S.files store.new) (S.faults store.new))) }
-        ensures store_later { S.faults store.old ≤ S.faults store.new }
     {
         match self.env.model() {
             Some(model) => write_model(alloc, store, name, model, reply),
@@ -350,7 +334,6 @@ impl Shell {
             (shell_state self.new (S.files store.new) (S.faults store.new))) }
         ensures unfinished { OnErr result ((bytes : List ℕ) × AnswersTo (asks_shown asked.entry) (shell_state self.old (S.files store.old) (S.faults store.old)) bytes
             (shell_state self.new (S.files store.new) (S.faults store.new))) }
-        ensures store_later { S.faults store.old ≤ S.faults store.new }
     {
         match asked {
             Asked::Load { file, intupper } => self.load(alloc, store, file, intupper, reply),
@@ -358,7 +341,7 @@ impl Shell {
             Asked::Warm { nodes, pivots } => self.warm(nodes, pivots, reply),
             Asked::Edit { words } => self.edit(alloc, words, reply),
             Asked::Trim { depth } => self.trim(depth, reply),
-            Asked::Save { file } => self.save(store, file, reply),
+            Asked::Save { file } => self.save(alloc, store, file, reply),
             Asked::Restore { file } => self.restore(alloc, store, file, reply),
             Asked::Bound {
                 which,

@@ -39,16 +39,23 @@ pub fn exchanged(
 {
     if is_row {
         if is_place {
-            Ok(pivot.reciprocal())
-        } else {
-            Ok(in_row.div(pivot)?.neg())
+            return Ok(pivot.reciprocal());
         }
-    } else if is_place {
-        in_place.div(pivot)
-    } else {
-        let quotient = in_row.div(pivot)?;
-        let product = in_place.mul(&quotient)?;
-        entry.sub(&product)
+        return match in_row.div(pivot) {
+            Ok(quotient) => Ok(quotient.neg()),
+            Err(wide) => Err(wide),
+        };
+    }
+    if is_place {
+        return in_place.div(pivot);
+    }
+    let quotient = match in_row.div(pivot) {
+        Ok(quotient) => quotient,
+        Err(wide) => return Err(wide),
+    };
+    match in_place.mul(&quotient) {
+        Ok(product) => entry.sub(&product),
+        Err(wide) => Err(wide),
     }
 }
 

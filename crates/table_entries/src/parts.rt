@@ -256,11 +256,26 @@ fn partly_written(
     ensures columns { IfOk result (λ v. v.columns ≡ columns) }
     ensures filled { IfOk result (λ v. (slots : ℕ → ℕ) → ((j : ℕ) → j < columns → slots j ≡ rows + j) → filled v slots ≡ entries.list) }
 {
-    let coefficients = entries.copied_numbers(alloc)?;
-    let mut unwritten = vec![in alloc; false; rows]?;
+    let coefficients = match entries.copied_numbers(alloc) {
+        Ok(coefficients) => coefficients,
+        Err(error) => {
+            drop(entries);
+            return Err(error);
+        }
+    };
+    let mut unwritten = match vec![in alloc; false; rows] {
+        Ok(unwritten) => unwritten,
+        Err(error) => {
+            drop(coefficients);
+            drop(entries);
+            return Err(error);
+        }
+    };
     let heaviest = mark_light(rows, columns, &coefficients, first, &mut unwritten);
     let limit = (ROOM / (heaviest + 1)) as i64;
     if !are_within(limit, rows, columns, &unwritten, &coefficients) {
+        drop(unwritten);
+        drop(coefficients);
         return all_written(alloc, rows, columns, entries);
     }
     Ok(PartEntries {

@@ -116,10 +116,31 @@ impl TableEntries {
         ensures denominator { IfOk result (λ t. t.denominator ≡ pos 1) }
     {
         let count = fractions.len();
-        let numbers = whole_numbers(alloc, &fractions)?;
+        let numbers = match whole_numbers(alloc, &fractions) {
+            Ok(numbers) => numbers,
+            Err(error) => {
+                drop(fractions);
+                return Err(error);
+            }
+        };
         let is_whole = numbers.len() == count;
-        let spare_numbers = Vec::from_slice(alloc, &numbers)?;
-        let spare = Vec::with_capacity(alloc, count)?;
+        let spare_numbers = match Vec::from_slice(alloc, &numbers) {
+            Ok(spare_numbers) => spare_numbers,
+            Err(error) => {
+                drop(numbers);
+                drop(fractions);
+                return Err(error);
+            }
+        };
+        let spare = match Vec::with_capacity(alloc, count) {
+            Ok(spare) => spare,
+            Err(error) => {
+                drop(spare_numbers);
+                drop(numbers);
+                drop(fractions);
+                return Err(error);
+            }
+        };
         Ok(TableEntries {
             is_whole,
             denominator: 1,
@@ -327,12 +348,13 @@ impl TableEntries {
         ensures earlier { IfErr result (λ e. (at : ℕ) → at < e → FlatFits columns row place self.old.list at) }
         ensures wide { IfErr result (λ e. ¬ (FlatFits columns row place self.old.list e)) }
     {
-        if self.is_whole {
-            if self.exchange_wholes(rows, columns, row, place) {
-                return Ok(());
-            }
-            self.go_over();
+        if !self.is_whole() {
+            return self.exchange_fractions(rows, columns, row, place);
         }
+        if self.exchange_wholes(rows, columns, row, place) {
+            return Ok(());
+        }
+        self.go_over();
         self.exchange_fractions(rows, columns, row, place)
     }
 }

@@ -1,10 +1,10 @@
 -- A cut that counts is read back from its names: the row and the columns of its derivation are there, and no column's name stands twice.
 use Rattle.std.proofs.Common.{◌≡◌, ◌≢◌, ℕ, zero, suc, ◌<◌, ◌≤◌, Bool, true, false, List, [], ◌∷◌, length, get_or, map, refl, sym, ap, subst, ◌∙◌, arith}
-use Rattle.std.specs.Prelude.{IsTrue, IsSome, All, AllPairs, Contains, Option, None, Ok}
+use Rattle.std.specs.Prelude.{IsTrue, IsSome, All, AllPairs, Contains, None}
 use Rattle.std.specs.Option.{option_map}
 use Rattle.std.proofs.lemmas.List.{length-map, get_or_default}
 use Rattle.std.proofs.lemmas.List.Elements.{All-map}
-use Rattle.rational.specs.Rational.{ℚ, neg_ℚ}
+use Rattle.rational.specs.Rational.{neg_ℚ}
 use Rattle.lp_model.specs.Program.{Program}
 use Rattle.lp_model.specs.Elements.{of_element}
 use Rattle.lp_model.specs.Lawful.{IsLawful, column_names, column_name, row_name}
@@ -18,7 +18,7 @@ use Rattle.lp_model.specs.declared.types.Derivation.{Derivation}
 use Rattle.lp_model.specs.declared.types.CutRow.{CutRow}
 use Rattle.lp_model.proofs.ElementLemmas.{element, of_element-get}
 use Rattle.lp_model.proofs.NameLemmas.{get_or-map}
-use Rattle.cover_cuts.specs.Covers.{side_limit, IsBinary, AreLiterals}
+use Rattle.cover_cuts.specs.Covers.{side_limit, AreLiterals}
 use Rattle.cover_cuts.specs.Answers.{DerivesWithRoom}
 use Rattle.cover_cuts.specs.Cuts.{cover_terms, cover_high, IsCutOf, IsPoolOf}
 use Rattle.cert_text.specs.declared.cert.NamedCut.{NamedCut}

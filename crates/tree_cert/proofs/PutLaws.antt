@@ -1,6 +1,6 @@
 -- One item further: what was put so far, and what is to be put of the items that are left, is what is to be put of all.
-use Rattle.std.proofs.Common.{◌≡◌, ℕ, ◌+◌, ◌<◌, ◌≤◌, List, [], ◌∷◌, ◌++◌, length, take, drop, get_or, map, refl, sym, ap, subst, ◌∙◌, append_assoc}
-use Rattle.std.specs.Prelude.{Bool, All, codes}
+use Rattle.std.proofs.Common.{◌≡◌, ℕ, ◌+◌, ◌<◌, ◌≤◌, List, [], ◌∷◌, ◌++◌, length, take, drop, get_or, map, refl, sym, ap, subst, ◌∙◌, append_assoc, if◌then◌else◌}
+use Rattle.std.specs.Prelude.{Bool, All, codes, Result, Ok, Err, is_ok, IfOk, OnOk}
 use Rattle.rational.specs.Rational.{ℚ}
 use Rattle.frac128.specs.Printing.{printed}
 use Rattle.lp_model.specs.Edits.{Named}
@@ -53,14 +53,14 @@ mult_step m mults = spaced_append (mult_words m) (all_mult_words mults)
 pub literal_step : (l : List ℕ × Bool) (literals : List (List ℕ × Bool)) → spaced (literal_words (l ∷ literals)) ≡ spaced (literal_word l ∷ []) ++ spaced (literal_words literals)
 literal_step l literals = spaced_append (literal_word l ∷ []) (literal_words literals)
 
--- a word of a sign and further bytes, put piece by piece
-pub signed_put : (old bytes a b c : List ℕ) (sign : ℕ) → a ≡ old ++ 32 ∷ [] → b ≡ a ++ sign ∷ [] → c ≡ b ++ bytes → c ≡ old ++ spaced ((sign ∷ bytes) ∷ [])
-signed_put old bytes a b c sign first second third =
-    third
-    ∙ ap (λ l. l ++ bytes) (second ∙ ap (λ l. l ++ sign ∷ []) first)
-    ∙ append_assoc (old ++ 32 ∷ []) (sign ∷ []) bytes
-    ∙ append_assoc old (32 ∷ []) (sign ∷ bytes)
-    ∙ ap (λ l. old ++ 32 ∷ sign ∷ l) (sym (nil_right bytes))
+-- a word behind its blank
+pub word_put : (old word one new : List ℕ) → one ≡ old ++ 32 ∷ [] → new ≡ one ++ word → new ≡ old ++ spaced (word ∷ [])
+word_put old word one new first second = second ∙ ap (λ l. l ++ word) first ∙ append_assoc old (32 ∷ []) word ∙ ap (λ l. old ++ 32 ∷ l) (sym (nil_right word))
+
+-- a word of a sign and further bytes
+pub signed_put : (old bytes one new : List ℕ) (sign : ℕ) → one ≡ old ++ spaced ((sign ∷ []) ∷ []) → new ≡ one ++ bytes → new ≡ old ++ spaced ((sign ∷ bytes) ∷ [])
+signed_put old bytes one new sign first second =
+    second ∙ ap (λ l. l ++ bytes) first ∙ append_assoc old (32 ∷ sign ∷ []) bytes ∙ ap (λ l. old ++ 32 ∷ sign ∷ l) (sym (nil_right bytes))
 
 -- words behind words
 pub words_put : (a b : Words) (old one new : List ℕ) → one ≡ old ++ spaced a → new ≡ one ++ spaced b → new ≡ old ++ spaced (a ++ b)
@@ -74,6 +74,10 @@ line_step n nodes = sym (append_assoc (line_text (node_words n)) (10 ∷ []) (li
 
 pub line_put : (old line one new : List ℕ) → one ≡ old ++ line → new ≡ one ++ 10 ∷ [] → new ≡ old ++ (line ++ 10 ∷ [])
 line_put old line one new first second = second ∙ ap (λ l. l ++ 10 ∷ []) first ∙ append_assoc old line (10 ∷ [])
+
+-- words behind the head of a line
+pub behind_put : (old head : List ℕ) (words : Words) (one new : List ℕ) → one ≡ old ++ head → new ≡ one ++ spaced words → new ≡ old ++ (head ++ spaced words)
+behind_put old head words one new first second = second ∙ ap (λ l. l ++ spaced words) first ∙ append_assoc old head (spaced words)
 
 -- a line of a word and further words, put word by word
 pub named_line_put : (old word : List ℕ) (words : Words) (a b c : List ℕ) → a ≡ old ++ word → b ≡ a ++ spaced words → c ≡ b ++ 10 ∷ [] → c ≡ old ++ lines_text ((word ∷ words) ∷ [])
@@ -115,3 +119,49 @@ text_parts cert a b c d r k e f first second third fourth fifth sixth seventh la
     ∙ ap (λ l. points ++ (rays ++ l)) (sym (lines_append (map cut_words cert.cuts) behind_nodes))
     ∙ ap (λ l. points ++ l) (sym (lines_append (ray_lines cert.claim cert.ray) behind_cuts))
     ∙ sym (lines_append (point_lines cert.claim cert.point) (ray_lines cert.claim cert.ray ++ behind_cuts)))
+
+-- ---- the same where the last call may have had no memory
+
+module _ {T E : Type 0} where
+  pub word_last : (last : Result T E) (old word one new : List ℕ) → one ≡ old ++ 32 ∷ [] → new ≡ (if is_ok last then one ++ word else one) → IfOk last (λ _. new ≡ old ++ spaced (word ∷ []))
+  word_last (Ok x) old word one new first second = word_put old word one new first second
+  word_last (Err x) old word one new first second = tt
+
+  pub number_last : (last : Result T E) (old word one new : List ℕ) → one ≡ old ++ 32 ∷ [] → OnOk last (new ≡ one ++ word) → IfOk last (λ _. new ≡ old ++ spaced (word ∷ []))
+  number_last (Ok x) old word one new first second = word_put old word one new first second
+  number_last (Err x) old word one new first second = tt
+
+  pub words_last : (last : Result T E) (a b : Words) (old one new : List ℕ) → one ≡ old ++ spaced a → IfOk last (λ _. new ≡ one ++ spaced b) → IfOk last (λ _. new ≡ old ++ spaced (a ++ b))
+  words_last (Ok x) a b old one new first second = words_put a b old one new first second
+  words_last (Err x) a b old one new first second = tt
+
+  pub signed_last : (last : Result T E) (old bytes one new : List ℕ) (sign : ℕ) → one ≡ old ++ spaced ((sign ∷ []) ∷ []) → new ≡ (if is_ok last then one ++ bytes else one) → IfOk last (λ _. new ≡ old ++ spaced ((sign ∷ bytes) ∷ []))
+  signed_last (Ok x) old bytes one new sign first second = signed_put old bytes one new sign first second
+  signed_last (Err x) old bytes one new sign first second = tt
+
+  pub piece_last : (last : Result T E) (old piece new : List ℕ) → new ≡ (if is_ok last then old ++ piece else old) → IfOk last (λ _. new ≡ old ++ piece)
+  piece_last (Ok x) old piece new is = is
+  piece_last (Err x) old piece new is = tt
+
+  pub behind_last : (last : Result T E) (old head : List ℕ) (words : Words) (one new : List ℕ) → one ≡ old ++ head → IfOk last (λ _. new ≡ one ++ spaced words) → IfOk last (λ _. new ≡ old ++ (head ++ spaced words))
+  behind_last (Ok x) old head words one new first second = behind_put old head words one new first second
+  behind_last (Err x) old head words one new first second = tt
+
+  pub named_line_last : (last : Result T E) (old word : List ℕ) (words : Words) (a b c : List ℕ) → a ≡ old ++ word → b ≡ a ++ spaced words → c ≡ (if is_ok last then b ++ 10 ∷ [] else b) → IfOk last (λ _. c ≡ old ++ lines_text ((word ∷ words) ∷ []))
+  named_line_last (Ok x) old word words a b c first second third = named_line_put old word words a b c first second third
+  named_line_last (Err x) old word words a b c first second third = tt
+
+  pub three_last : (last : Result T E) (old word first second : List ℕ) (words : Words) (a b c d : List ℕ) → a ≡ old ++ word → b ≡ a ++ spaced (first ∷ []) → c ≡ b ++ spaced (second ∷ []) → IfOk last (λ _. d ≡ c ++ spaced words) →
+      IfOk last (λ _. d ≡ old ++ line_text (word ∷ first ∷ second ∷ words))
+  three_last (Ok x) old word first second words a b c d begun one two done = three_put old word first second words a b c d begun one two done
+  three_last (Err x) old word first second words a b c d begun one two done = tt
+
+  pub text_last : (last : Result T E) (cert : Cert) (a b c d r k e f : List ℕ) → a ≡ codes "cert 1\n" → b ≡ a ++ line_text (claim_words cert.claim) → c ≡ b ++ 10 ∷ [] → d ≡ c ++ lines_text (point_lines cert.claim cert.point) →
+      r ≡ d ++ lines_text (ray_lines cert.claim cert.ray) → k ≡ r ++ lines_text (map cut_words cert.cuts) → e ≡ k ++ lines_text (map node_words cert.nodes) → f ≡ (if is_ok last then e ++ codes "end\n" else e) → IfOk last (λ _. f ≡ cert_text cert)
+  text_last (Ok x) cert a b c d r k e f first second third fourth fifth sixth seventh ended = text_parts cert a b c d r k e f first second third fourth fifth sixth seventh ended
+  text_last (Err x) cert a b c d r k e f first second third fourth fifth sixth seventh ended = tt
+
+-- what holds whatever the last call answers
+pub if_ok : {T E : Type 0} {P : Type 0} (last : Result T E) → P → IfOk last (λ _. P)
+if_ok (Ok x) p = p
+if_ok (Err x) p = tt

@@ -1,5 +1,5 @@
 // Numbers beside the names of rows and columns, and cuts by names.
-ghost use Rattle.std.specs.Prelude.{◌≡◌, suc, ◌<◌, ◌++◌, [], length, map, All, IfOk};
+ghost use Rattle.std.specs.Prelude.{◌≡◌, suc, ◌<◌, ◌++◌, ◌∷◌, [], length, map, All, IfOk};
 ghost use Rattle.lp_model.specs.Formulations.{formulation};
 ghost use Rattle.search_parts.specs.Lists.{IsActivityThere, AreMultipliers};
 ghost use Rattle.tree_cert.specs.Certificates.{unless_zero, nonzero_numbers};
@@ -46,8 +46,7 @@ fn add_cut(
     if !live {
         return Ok(());
     }
-    mults.push(CertMult::Cut(u64::from(cut.0) + 1, number))?;
-    Ok(())
+    mults.push(CertMult::Cut(u64::from(cut.0) + 1, number))
 }
 
 /// A multiplier, of a row by its name and of a cut that counts by its place, from 1.
@@ -65,8 +64,7 @@ fn add_mult(
     match var {
         Var::Row(row) => {
             let name = row_name(alloc, model, row)?;
-            mults.push(CertMult::Row(name, number))?;
-            Ok(())
+            mults.push(CertMult::Row(name, number))
         }
         Var::Cut(cut) => add_cut(mults, cuts, cut, number),
         Var::Col(_) => Ok(()),
@@ -85,7 +83,9 @@ pub(crate) fn mults_named(
 {
     let mut mults = List::new(alloc);
     for (var, number) in mult {
-        add_mult(alloc, &mut mults, model, cuts, *var, *number)?;
+        let Ok(()) = add_mult(alloc, &mut mults, model, cuts, *var, *number) else {
+            return Err(AllocError);
+        };
     }
     Ok(mults)
 }
@@ -101,20 +101,29 @@ fn named_literals(
 {
     let mut named = List::new(alloc);
     for literal in literals {
-        let name = column_name(alloc, model, literal.col)?;
-        named.push((name, literal.plus))?;
+        let Ok(name) = column_name(alloc, model, literal.col) else {
+            return Err(AllocError);
+        };
+        let Ok(()) = named.push((name, literal.plus)) else {
+            return Err(AllocError);
+        };
     }
     Ok(named)
 }
 
-/// A derivation by names.
-fn named_cut(alloc: Global, model: &Model, from: &Derivation) -> Result<NamedCut, AllocError>
+/// One more derivation by names.
+fn push_named_cut(
+    alloc: Global,
+    named: &mut List<NamedCut>,
+    model: &Model,
+    from: &Derivation,
+) -> Result<(), AllocError>
     requires { IsDerivationThere model.now from.now }
-    ensures { IfOk result (λ cut. cut ≡ named_cut model.now from.now) }
+    ensures { IfOk result (λ _. named.new ≡ named.old ++ named_cut model.now from.now ∷ []) }
 {
     let row = row_name(alloc, model, from.row)?;
     let literals = named_literals(alloc, model, from.literals.as_slice())?;
-    Ok(NamedCut {
+    named.push(NamedCut {
         row,
         side: from.side,
         literals,
@@ -134,8 +143,7 @@ pub(crate) fn named_cuts(
 {
     let mut named = List::new(alloc);
     for index in 0..used.len() {
-        let cut = named_cut(alloc, model, &cuts[used[index]].from)?;
-        named.push(cut)?;
+        push_named_cut(alloc, &mut named, model, &cuts[used[index]].from)?;
     }
     Ok(named)
 }
@@ -153,8 +161,7 @@ fn add_nonzero(
         return Ok(());
     }
     let name = Name::from_slice(alloc, col.name.as_slice())?;
-    named.push((name, *number))?;
-    Ok(())
+    named.push((name, *number))
 }
 
 /// The numbers that are not 0, beside the names of their columns.
@@ -170,7 +177,9 @@ fn nonzero_of(
     for place in 0..cols.len() {
         let col = &cols[place];
         let number = &numbers[place];
-        add_nonzero(alloc, &mut named, col, number)?;
+        let Ok(()) = add_nonzero(alloc, &mut named, col, number) else {
+            return Err(AllocError);
+        };
     }
     Ok(named)
 }

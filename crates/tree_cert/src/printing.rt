@@ -7,7 +7,7 @@ ghost use Rattle.cert_text.specs.Text.{MeantCertificate};
 ghost use Rattle.cert_text.specs.Whole.{IsCertificate};
 ghost use Rattle.tree_cert.specs.CertText.{named_words, mult_words, all_mult_words, sign_of, literal_word, literal_words, side_word, cut_words, claim_words, node_words, point_lines, ray_lines, line_text, lines_text, cert_text, HasCertWords};
 ghost use Rattle.text_lines.specs.Words.{spaced};
-ghost use Rattle.tree_cert.specs.Printed.{HasFractions, MultFits, HasNodeRoom, HasClaimRoom, HasPointRoom, HasRayRoom};
+ghost use Rattle.tree_cert.specs.Printed.{HasFractions, MultFits, HasNodeRoom, HasClaimRoom, HasPointRoom, HasRayRoom, HasCertRoom};
 
 use cert_text::{Cert, CertMult, CertNode, Claim, NamedCut};
 use frac128::Frac;
@@ -20,8 +20,7 @@ fn put_word(text: &mut Vec<u8>, word: &[u8]) -> Result<(), AllocError>
     ensures { IfOk result (λ _. text.new.items ≡ text.old.items ++ spaced (word.now ∷ [])) }
 {
     text.push(b' ')?;
-    text.extend_from_slice(word)?;
-    Ok(())
+    text.extend_from_slice(word)
 }
 
 /// A number as one more word.
@@ -31,8 +30,7 @@ fn put_number(text: &mut Vec<u8>, number: &Frac) -> Result<(), AllocError>
 {
     number.has_room();
     text.push(b' ')?;
-    number.write_to(text)?;
-    Ok(())
+    number.write_to(text)
 }
 
 /// A name and a number.
@@ -61,8 +59,7 @@ fn put_row(text: &mut Vec<u8>, name: &Name, number: &Frac) -> Result<(), AllocEr
     ensures room { IfOk result (λ _. Fits number.now) }
 {
     put_word(text, b"row")?;
-    put_pair(text, name, number)?;
-    Ok(())
+    put_pair(text, name, number)
 }
 
 /// `cut K V`.
@@ -73,8 +70,7 @@ fn put_cut(text: &mut Vec<u8>, cut: u64, number: &Frac) -> Result<(), AllocError
     let mut buffer = Buffer::new();
     put_word(text, b"cut")?;
     put_word(text, buffer.format(cut).as_bytes())?;
-    put_number(text, number)?;
-    Ok(())
+    put_number(text, number)
 }
 
 /// A multiplier.
@@ -99,20 +95,18 @@ fn put_mults(text: &mut Vec<u8>, mults: &[CertMult]) -> Result<(), AllocError>
     Ok(())
 }
 
-fn sign(plus: bool) -> u8
-    ensures { result ≡ sign_of plus }
+fn sign_word(plus: bool) -> &'static [u8]
+    ensures { result.now ≡ sign_of plus ∷ [] }
 {
-    if plus { b'+' } else { b'-' }
+    if plus { b"+" } else { b"-" }
 }
 
 /// `+NAME` or `-NAME` as one more word.
 fn put_literal(text: &mut Vec<u8>, name: &Name, plus: bool) -> Result<(), AllocError>
     ensures { IfOk result (λ _. text.new.items ≡ text.old.items ++ spaced (literal_word (name.now, plus) ∷ [])) }
 {
-    text.push(b' ')?;
-    text.push(sign(plus))?;
-    text.extend_from_slice(name.as_slice())?;
-    Ok(())
+    put_word(text, sign_word(plus))?;
+    text.extend_from_slice(name.as_slice())
 }
 
 /// `+NAME` or `-NAME` for each.
@@ -141,8 +135,7 @@ fn put_cut_line(text: &mut Vec<u8>, cut: &NamedCut) -> Result<(), AllocError>
     text.extend_from_slice(b"cut")?;
     put_word(text, cut.row.as_slice())?;
     put_word(text, side_word(cut.side))?;
-    put_literals(text, cut.literals.as_slice())?;
-    Ok(())
+    put_literals(text, cut.literals.as_slice())
 }
 
 /// The cuts' lines.
@@ -150,8 +143,12 @@ fn put_cuts(text: &mut Vec<u8>, cuts: &[NamedCut]) -> Result<(), AllocError>
     ensures { IfOk result (λ _. text.new.items ≡ text.old.items ++ lines_text (map cut_words cuts.now)) }
 {
     for cut in cuts {
-        put_cut_line(text, cut)?;
-        text.push(b'\n')?;
+        let Ok(()) = put_cut_line(text, cut) else {
+            return Err(AllocError);
+        };
+        let Ok(()) = text.push(b'\n') else {
+            return Err(AllocError);
+        };
     }
     Ok(())
 }
@@ -206,8 +203,12 @@ fn put_nodes(text: &mut Vec<u8>, nodes: &[CertNode]) -> Result<(), AllocError>
     ensures room { IfOk result (λ _. All HasNodeRoom nodes.now) }
 {
     for node in nodes {
-        put_node(text, node)?;
-        text.push(b'\n')?;
+        let Ok(()) = put_node(text, node) else {
+            return Err(AllocError);
+        };
+        let Ok(()) = text.push(b'\n') else {
+            return Err(AllocError);
+        };
     }
     Ok(())
 }
@@ -219,8 +220,7 @@ fn put_named_line(text: &mut Vec<u8>, word: &[u8], named: &[(Name, Frac)]) -> Re
 {
     text.extend_from_slice(word)?;
     put_named(text, named)?;
-    text.push(b'\n')?;
-    Ok(())
+    text.extend_from_slice(b"\n")
 }
 
 /// The point's line, where the claim has one.
@@ -247,6 +247,36 @@ fn put_ray(text: &mut Vec<u8>, cert: &Cert) -> Result<(), AllocError>
     }
 }
 
+/// The lines of a certificate, in a text that is empty.
+fn put_cert(text: &mut Vec<u8>, cert: &Cert) -> Result<(), AllocError>
+    requires { text.old.items ≡ [] }
+    ensures text { IfOk result (λ _. text.new.items ≡ cert_text cert.now) }
+    ensures room { IfOk result (λ _. HasCertRoom cert.now) }
+{
+    let Ok(()) = text.extend_from_slice(b"cert 1\n") else {
+        return Err(AllocError);
+    };
+    let Ok(()) = put_claim(text, &cert.claim) else {
+        return Err(AllocError);
+    };
+    let Ok(()) = text.push(b'\n') else {
+        return Err(AllocError);
+    };
+    let Ok(()) = put_point(text, cert) else {
+        return Err(AllocError);
+    };
+    let Ok(()) = put_ray(text, cert) else {
+        return Err(AllocError);
+    };
+    let Ok(()) = put_cuts(text, cert.cuts.as_slice()) else {
+        return Err(AllocError);
+    };
+    let Ok(()) = put_nodes(text, cert.nodes.as_slice()) else {
+        return Err(AllocError);
+    };
+    text.extend_from_slice(b"end\n")
+}
+
 /// The text of a certificate. Where the certificate has the parts of its claim, and its names are words, the text states it,
 /// so that `read_cert` reads it back.
 pub fn print_cert(alloc: Global, cert: &Cert) -> Result<Vec<u8>, AllocError>
@@ -254,13 +284,6 @@ pub fn print_cert(alloc: Global, cert: &Cert) -> Result<Vec<u8>, AllocError>
     ensures states { IfOk result (λ text. IsCertificate cert.now → HasCertWords cert.now → MeantCertificate text.items cert.now) }
 {
     let mut text = Vec::new(alloc);
-    text.extend_from_slice(b"cert 1\n")?;
-    put_claim(&mut text, &cert.claim)?;
-    text.push(b'\n')?;
-    put_point(&mut text, cert)?;
-    put_ray(&mut text, cert)?;
-    put_cuts(&mut text, cert.cuts.as_slice())?;
-    put_nodes(&mut text, cert.nodes.as_slice())?;
-    text.extend_from_slice(b"end\n")?;
+    put_cert(&mut text, cert)?;
     Ok(text)
 }

@@ -1,5 +1,5 @@
 // The cuts that the nodes of a certificate name, and their numbers.
-ghost use Rattle.std.specs.Prelude.{◌≡◌, ◌<◌, ◌≤◌, ◌-◌, ◌++◌, length, map, set, true, false, replicate, IfOk, All};
+ghost use Rattle.std.specs.Prelude.{◌≡◌, ◌<◌, ◌≤◌, ◌-◌, ◌++◌, ◌∷◌, [], length, map, set, true, false, replicate, IfOk, All};
 ghost use Rattle.tree_cert.specs.Cuts.{node_mults, IsOfFirst};
 ghost use Rattle.tree_cert.specs.Marked.{mark_of, marks_of, marks_in, NodeNamesFirst, place_if, places_of, count_with, counts_of, renumbered, renumbered_node};
 
@@ -104,7 +104,9 @@ fn counts_of(alloc: Global, marks: &[bool]) -> Result<Vec<u32>, AllocError>
     let mut counts = Vec::new(alloc);
     let mut count = 0u32;
     for place in 0..marks.len() {
-        counts.push(count)?;
+        let Ok(()) = counts.push(count) else {
+            return Err(AllocError);
+        };
         count = count_with(count, marks[place]);
     }
     Ok(counts)
@@ -119,26 +121,42 @@ pub(crate) fn used_by(alloc: Global, size: usize, nodes: &[CertNode]) -> Result<
 {
     let mut marks = vec![in alloc; false; size]?;
     mark_nodes(&mut marks, nodes);
-    Ok(Used {
-        places: places_of(alloc, &marks)?,
-        counts: counts_of(alloc, &marks)?,
-    })
+    let Ok(places) = places_of(alloc, &marks) else {
+        drop(marks);
+        return Err(AllocError);
+    };
+    let Ok(counts) = counts_of(alloc, &marks) else {
+        drop(places);
+        drop(marks);
+        return Err(AllocError);
+    };
+    drop(marks);
+    Ok(Used { places, counts })
 }
 
-/// A multiplier, of a cut by its number among those that are named.
-fn renumbered(alloc: Global, counts: &[u32], mult: &CertMult) -> Result<CertMult, AllocError>
+/// One more multiplier, of a cut by its number among those that are named.
+fn push_renumbered(
+    alloc: Global,
+    list: &mut List<CertMult>,
+    counts: &[u32],
+    mult: &CertMult,
+) -> Result<(), AllocError>
     requires { IsOfFirst (length counts.now) mult.now }
-    ensures { IfOk result (λ m. m ≡ renumbered counts.now mult.now) }
+    ensures { IfOk result (λ _. list.new ≡ list.old ++ renumbered counts.now mult.now ∷ []) }
 {
     match mult {
-        CertMult::Row(name, number) => Ok(CertMult::Row(name.copy(alloc)?, *number)),
+        CertMult::Row(name, number) => {
+            let own = name.copy(alloc)?;
+            list.push(CertMult::Row(own, *number))
+        }
         CertMult::Cut(cut, number) => {
             let count = counts[*cut as usize - 1];
-            Ok(CertMult::Cut(u64::from(count) + 1, *number))
+            list.push(CertMult::Cut(u64::from(count) + 1, *number))
         }
     }
 }
 
+/// Multipliers, with cuts by their numbers among those that are named.
 fn renumbered_mults(
     alloc: Global,
     counts: &[u32],
@@ -149,30 +167,35 @@ fn renumbered_mults(
 {
     let mut list = List::new(alloc);
     for mult in mults {
-        let own = renumbered(alloc, counts, mult)?;
-        list.push(own)?;
+        push_renumbered(alloc, &mut list, counts, mult)?;
     }
     Ok(list)
 }
 
-fn renumbered_node(alloc: Global, counts: &[u32], node: &CertNode) -> Result<CertNode, AllocError>
+/// One more node, with cuts by their numbers among those that are named.
+fn push_renumbered_node(
+    alloc: Global,
+    list: &mut List<CertNode>,
+    counts: &[u32],
+    node: &CertNode,
+) -> Result<(), AllocError>
     requires { NodeNamesFirst (length counts.now) node.now }
-    ensures { IfOk result (λ n. n ≡ renumbered_node counts.now node.now) }
+    ensures { IfOk result (λ _. list.new ≡ list.old ++ renumbered_node counts.now node.now ∷ []) }
 {
     match node {
-        CertNode::Split { col, v } => Ok(CertNode::Split {
-            col: col.copy(alloc)?,
-            v: *v,
-        }),
+        CertNode::Split { col, v } => {
+            let own = col.copy(alloc)?;
+            list.push(CertNode::Split { col: own, v: *v })
+        }
         CertNode::Bound(mults) => {
             let own = renumbered_mults(alloc, counts, mults.as_slice())?;
-            Ok(CertNode::Bound(own))
+            list.push(CertNode::Bound(own))
         }
         CertNode::Farkas(mults) => {
             let own = renumbered_mults(alloc, counts, mults.as_slice())?;
-            Ok(CertNode::Farkas(own))
+            list.push(CertNode::Farkas(own))
         }
-        CertNode::Empty => Ok(CertNode::Empty),
+        CertNode::Empty => list.push(CertNode::Empty),
     }
 }
 
@@ -187,8 +210,7 @@ pub(crate) fn renumbered_nodes(
 {
     let mut list = List::new(alloc);
     for node in nodes {
-        let own = renumbered_node(alloc, counts, node)?;
-        list.push(own)?;
+        push_renumbered_node(alloc, &mut list, counts, node)?;
     }
     Ok(list)
 }

@@ -67,10 +67,10 @@ fn cert_node(
     ensures { IfOk result (λ c. IsNodeOf (formulation model.now cuts.now) suc path.now node.now c) }
 {
     match node {
-        Node::Split { col, v, .. } => Ok(CertNode::Split {
-            col: column_name(alloc, model, *col)?,
-            v: *v,
-        }),
+        Node::Split { col, v, .. } => {
+            let name = column_name(alloc, model, *col)?;
+            Ok(CertNode::Split { col: name, v: *v })
+        }
         Node::Leaf { kept, .. } => leaf_node(alloc, model, cuts, path, kept),
     }
 }
@@ -89,9 +89,15 @@ pub(crate) fn cert_nodes(
     let mut path = Vec::new(alloc);
     let mut certs = List::new(alloc);
     for node in nodes {
-        let cert = cert_node(alloc, model, cuts, &path, node)?;
-        certs.push(cert)?;
-        step_on(&mut path, node)?;
+        let Ok(cert) = cert_node(alloc, model, cuts, &path, node) else {
+            return Err(AllocError);
+        };
+        let Ok(()) = certs.push(cert) else {
+            return Err(AllocError);
+        };
+        let Ok(()) = step_on(&mut path, node) else {
+            return Err(AllocError);
+        };
     }
     Ok(certs)
 }

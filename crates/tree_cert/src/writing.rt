@@ -65,10 +65,25 @@ fn proof(alloc: Global, search: &Search) -> Result<Reasoning, AllocError>
 {
     let _sound = search.points();
     let pool = search.pool().rows();
-    let placed = placed_nodes(alloc, search)?;
-    let used = used_by(alloc, pool.len(), placed.as_slice())?;
-    let nodes = renumbered_nodes(alloc, &used.counts, placed.as_slice())?;
-    let cuts = named_cuts(alloc, search.model(), pool, &used.places)?;
+    let Ok(placed) = placed_nodes(alloc, search) else {
+        return Err(AllocError);
+    };
+    let Ok(used) = used_by(alloc, pool.len(), placed.as_slice()) else {
+        drop(placed);
+        return Err(AllocError);
+    };
+    let Ok(nodes) = renumbered_nodes(alloc, &used.counts, placed.as_slice()) else {
+        drop(used);
+        drop(placed);
+        return Err(AllocError);
+    };
+    drop(placed);
+    let Ok(cuts) = named_cuts(alloc, search.model(), pool, &used.places) else {
+        drop(nodes);
+        drop(used);
+        return Err(AllocError);
+    };
+    drop(used);
     Ok(Reasoning { cuts, nodes })
 }
 
@@ -82,8 +97,13 @@ pub fn certificate(alloc: Global, search: &Search) -> Result<Cert, AllocError>
     let _sound = search.points();
     let _lawful = search.model().rows();
     let claim = claim(search);
-    let point = point(alloc, search)?;
-    let found = proof(alloc, search)?;
+    let Ok(point) = point(alloc, search) else {
+        return Err(AllocError);
+    };
+    let Ok(found) = proof(alloc, search) else {
+        drop(point);
+        return Err(AllocError);
+    };
     let ray = List::new(alloc);
     let Reasoning { cuts, nodes } = found;
     Ok(Cert {
@@ -109,8 +129,13 @@ pub fn unbounded_certificate(
     ensures accepted { IfOk result (λ cert. IsVerdict model.now cert (Accepted Unbounded)) }
 {
     let _lawful = model.rows();
-    let point = nonzero_numbers(alloc, model, point)?;
-    let ray = nonzero_numbers(alloc, model, ray)?;
+    let Ok(point) = nonzero_numbers(alloc, model, point) else {
+        return Err(AllocError);
+    };
+    let Ok(ray) = nonzero_numbers(alloc, model, ray) else {
+        drop(point);
+        return Err(AllocError);
+    };
     let cuts = List::new(alloc);
     let nodes = List::new(alloc);
     Ok(Cert {

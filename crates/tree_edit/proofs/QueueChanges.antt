@@ -18,12 +18,11 @@ use Rattle.leaf_judging.specs.declared.choosing.Candidate.{Candidate}
 use Rattle.leaf_judging.specs.declared.queue.LeafQueue.{LeafQueue}
 use Rattle.leaf_judging.specs.Closing.{IsNumber}
 use Rattle.leaf_judging.specs.Choosing.{IsCandidate}
-use Rattle.leaf_judging.specs.Queued.{Has, IsThat, AddsBoth, Removes, RemovesBoth, IsSameQueue, IsNew, SomeLeaf, IsQueued, IsQueueOf, IsRank, HasRank, HasMultipliers, HasState, IsChildCandidate, candidate_of}
+use Rattle.leaf_judging.specs.Queued.{Has, IsThat, AddsBoth, Removes, IsSameQueue, IsNew, SomeLeaf, IsQueued, IsQueueOf, IsRank, HasRank, HasMultipliers, HasState, IsChildCandidate, candidate_of}
 use Rattle.sound_searches.specs.Placing.{IsAt, split_node}
 use Rattle.leaf_judging.proofs.JudgeLemmas.{rank_same}
 use Rattle.sound_searches.proofs.ClosedTree.{each_both}
 use Rattle.sound_searches.proofs.SoundLemmas.{each-weaker}
-use Rattle.leaf_judging.proofs.QueueLemmas.{both-undone}
 use Rattle.leaf_judging.proofs.QueueLists.{child-candidate}
 use Rattle.tree_edit.proofs.QueuedLemmas.{some-put, some-id, each-changed, some-changed}
 
@@ -174,12 +173,3 @@ module _ (F : Formulation) (T : NumberedTree) (n : IsNumbered T) (old added new 
       queue-split F T.root r id path left at ranked old added new T.last j v mult basis left right one two is adds removed has
       (other-id T n (T.last + 1) id (omega arith) has) (other-id T n (T.last + 2) id (omega arith) has)
       (child-candidate F (left_path path j v) (T.last + 1) left left_rank first one left_is) (child-candidate F (right_path path j v) (T.last + 2) right right_rank second two right_is)
-
-  -- without memory for the split both candidates are taken out again
-  pub split-undone : RemovesBoth added one two new → IsQueueOf F T.root new
-  split-undone removed =
-      queue-same F T.root old new is
-      (both-undone old added new one two
-      (new-candidate F T n old is (T.last + 1) (omega arith) left.state left_rank one left_is)
-      (new-candidate F T n old is (T.last + 2) (omega arith) right.state right_rank two right_is)
-      adds removed)

@@ -4,7 +4,6 @@ use Rattle.std.proofs.Common.{refl, sym, subst, ap, ◌∙◌, arith, inl, inr}
 use Rattle.std.proofs.lemmas.Int.{ints}
 use Rattle.rational.specs.Rational.{ℚ}
 use Rattle.frac128.specs.Range.{IsNarrow, largest}
-use Rattle.lp_model.specs.Program.{Program}
 use Rattle.lp_model.specs.Regions.{Path, AreNarrow, at_most, at_least}
 use Rattle.lp_model.specs.Formulations.{Formulation}
 use Rattle.lp_model.specs.declared.types.BoundChange.{BoundChange}

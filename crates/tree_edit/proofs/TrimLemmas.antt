@@ -1,5 +1,5 @@
 -- A search with another tree, and the tree after a trim: it fits the model as the tree before does.
-use Rattle.std.specs.Prelude.{ℕ, ◌+◌, ◌-◌, List, All}
+use Rattle.std.specs.Prelude.{ℕ, ◌+◌, ◌-◌, List}
 use Rattle.std.proofs.Common.{sym, subst, arith}
 use Rattle.std.proofs.lemmas.List.Elements.{All-nil}
 use Rattle.rational.specs.Rational.{ℚ}

@@ -30,8 +30,10 @@ impl Search {
         if !is_open(&kept.state) {
             return Ok(None);
         }
-        let Some(region) = self.tree.region_of(id)? else {
-            unreachable!()
+        let region = match self.tree.region_of(id) {
+            Ok(Some(region)) => region,
+            Ok(None) => unreachable!(),
+            Err(error) => return Err(error),
         };
         match copies(self.alloc, &kept.mult, &kept.basis) {
             Ok((mult, basis)) => Ok(Some(Job {

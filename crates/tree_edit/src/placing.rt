@@ -2,7 +2,6 @@
 // a call of `drop`, since its parts, let go one by one on each way out, make a long proof.
 ghost use Rattle.std.specs.Prelude.{◌≡◌, ◌↔◌, ◌≤◌, ◌++◌, ◌∷◌, [], length, IsTrue, IfOk, OnOk, OnErr, MatchOption, MatchBool};
 ghost use Rattle.lp_model.specs.Regions.{AreNarrow};
-ghost use Rattle.lp_model.specs.Formulations.{formulation};
 ghost use Rattle.branch_tree.specs.declared.node.LeafState.TheVariants.{IsOpen, IsClosed};
 ghost use Rattle.branch_tree.specs.declared.node.NodeResult.TheVariants.{PointAndClose, Keep};
 ghost use Rattle.leaf_judging.specs.Closing.{IsNumber, IsJudgedLeaf, ClosesBy};
@@ -19,17 +18,23 @@ ghost use Rattle.sound_searches.specs.Sound.{formulation_of};
 use crate::search::Search;
 use crate::splitting::Split;
 use branch_tree::{LeafData, LeafState, NodeResult, Tree};
-use cover_cuts::CutPool;
 use frac128::Frac;
 use leaf_judging::{
     Candidate, LeafNumber, LeafQueue, Marks, judge_again, number_closes, number_of, rank,
 };
-use lp_model::{Basis, Model, Mult, Point, Region};
+use lp_model::{Basis, Mult, Point, Region};
 use search_parts::{
     Joined, has_lists, is_basis, is_same_value, join_value, keepable_value, take_out,
 };
 use sound_searches::Taken;
 use std::alloc::{AllocError, Global};
+
+/// The number of a leaf, and whether it closes by it.
+#[derive(Drop)]
+struct Closing {
+    number: LeafNumber,
+    closes: bool,
+}
 
 impl Search {
     /// What the points' values come to with one more point, where it is feasible and no step lacks room.
@@ -39,7 +44,9 @@ impl Search {
         let Some(value) = keepable_value(&self.model, point) else {
             return Ok(None);
         };
-        let joined = join_value(self.alloc, &self.values, value)?;
+        let Ok(joined) = join_value(self.alloc, &self.values, value) else {
+            return Err(AllocError);
+        };
         Ok(Some(joined))
     }
 
@@ -140,13 +147,11 @@ impl Search {
         self.tree.set_leaf(id, kept);
     }
 
-    /// Closes the leaf with the id, if it closes by these data, whose lists fit.
-    fn close_listed(&mut self, id: u64, region: &Region, kept: LeafData) -> Taken
-        requires leaf { HasLeafAt self.old.tree id region.now }
-        requires narrow { AreNarrow region.now }
-        requires closed { kept.state ≡ IsClosed }
-        requires lists { HasLists (formulation_of self.old) kept }
-        ensures { TakesClose self.old id region.now kept self.new result }
+    /// The number of a leaf of a region with these data, and whether it closes against the target.
+    fn closing(&self, target: &Option<Frac>, region: &Region, kept: &LeafData) -> Closing
+        requires { AreNarrow region.now }
+        ensures number { IsNumber (formulation_of self.now) region.now kept.now.mult kept.now.farkas result.number }
+        ensures closes { IsTrue result.closes ↔ ClosesBy (formulation_of self.now) target.now region.now kept.now }
     {
         let number = number_of(
             &self.model,
@@ -155,9 +160,22 @@ impl Search {
             &kept.mult,
             &kept.farkas,
         );
+        let closes = number_closes(&self.model, target, &number);
+        Closing { number, closes }
+    }
+
+    /// Closes the leaf with the id, if it closes by these data, whose lists fit.
+    fn close_listed(&mut self, id: u64, region: &Region, kept: LeafData) -> Taken
+        requires leaf { HasLeafAt self.old.tree id region.now }
+        requires narrow { AreNarrow region.now }
+        requires closed { kept.state ≡ IsClosed }
+        requires lists { HasLists (formulation_of self.old) kept }
+        ensures { TakesClose self.old id region.now kept self.new result }
+    {
         let target = self.target();
-        if closes_by(&self.model, &self.pool, &target, region, &kept, &number) {
-            self.put_closed(id, region, kept, &number);
+        let closing = self.closing(&target, region, &kept);
+        if closing.closes {
+            self.put_closed(id, region, kept, &closing.number);
             Taken::Closed
         } else {
             drop(kept);
@@ -234,22 +252,9 @@ impl Search {
         ensures taken { IfOk result (λ taken. TakesPointClose self.old id region.now point kept self.new taken) }
         ensures kept { OnErr result (self.new ≡ self.old) }
     {
-        let number = number_of(
-            &self.model,
-            &self.pool,
-            region.as_slice(),
-            &kept.mult,
-            &kept.farkas,
-        );
-        if closes_by(
-            &self.model,
-            &self.pool,
-            &joined.target,
-            region,
-            &kept,
-            &number,
-        ) {
-            self.put_joined_close(id, region, point, joined, kept, &number)
+        let closing = self.closing(&joined.target, region, &kept);
+        if closing.closes {
+            self.put_joined_close(id, region, point, joined, kept, &closing.number)
         } else {
             drop(point);
             drop(joined);
@@ -578,24 +583,13 @@ fn push_without(
     ensures put { OnOk result (points.new.items ≡ list_without (points.old.items ++ point ∷ []) place) }
     ensures kept { OnErr result (points.new.items ≡ points.old.items) }
 {
-    points.push(point)?;
-    take_out(points, place);
-    Ok(())
-}
-
-/// Whether a leaf of a region with these data, whose number this is, closes against the target.
-fn closes_by(
-    model: &Model,
-    pool: &CutPool,
-    target: &Option<Frac>,
-    region: &Region,
-    kept: &LeafData,
-    number: &LeafNumber,
-) -> bool
-    requires { IsNumber (formulation model.now pool.now) region.now kept.now.mult kept.now.farkas number.now }
-    ensures { IsTrue result ↔ ClosesBy (formulation model.now pool.now) target.now region.now kept.now }
-{
-    number_closes(model, target, number)
+    match points.push(point) {
+        Ok(()) => {
+            take_out(points, place);
+            Ok(())
+        }
+        Err(error) => Err(error.into()),
+    }
 }
 
 /// Whether the leaf is closed.
@@ -662,9 +656,16 @@ fn multipliers_of(alloc: Global, leaf: &LeafData) -> Result<(Mult, Mult), AllocE
     ensures mult { IfOk result (λ both. both.0 ≡ leaf.now.mult) }
     ensures farkas { IfOk result (λ both. both.1 ≡ leaf.now.farkas) }
 {
-    let mult = leaf.mult.copy(alloc)?;
-    let farkas = leaf.farkas.copy(alloc)?;
-    Ok((mult, farkas))
+    let Ok(farkas) = leaf.farkas.copy(alloc) else {
+        return Err(AllocError);
+    };
+    match leaf.mult.copy(alloc) {
+        Ok(mult) => Ok((mult, farkas)),
+        Err(error) => {
+            drop(farkas);
+            Err(error)
+        }
+    }
 }
 
 /// A copy of a leaf's data with another basis.

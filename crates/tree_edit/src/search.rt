@@ -1,5 +1,5 @@
 // A search: a model, its cuts, a tree and the kept points.
-ghost use Rattle.std.specs.Prelude.{◌≡◌, ◌⊎◌, None, IfOk, IfErr, OnOk, OnErr, length};
+ghost use Rattle.std.specs.Prelude.{◌≡◌, ◌⊎◌, [], None, IfOk, IfErr, OnOk, OnErr, length};
 ghost use Rattle.cover_cuts.specs.declared.pool.PoolFault.TheVariants.{Full, Memory};
 ghost use Rattle.sound_searches.specs.Pool.{AddsCut};
 ghost use Rattle.std.specs.Option.{option_copied};
@@ -60,7 +60,9 @@ fn judged_tree(alloc: Global, model: &Model, limit: u64) -> Result<(Tree, LeafIn
     ensures numbers { IfOk result (λ both. AreNumbersOf (without_cuts model.now) both.0.root both.1.numbers) }
     ensures queue { IfOk result (λ both. IsQueueOf (without_cuts model.now) both.0.root both.1.queue) }
 {
-    let mut tree = Tree::new(alloc, limit)?;
+    let Ok(mut tree) = Tree::new(alloc, limit) else {
+        return Err(AllocError);
+    };
     let none = CutPool::new(alloc);
     match judge_all(alloc, model, &none, &None, &mut tree) {
         Ok(index) => Ok((tree, index)),
@@ -89,12 +91,25 @@ pub(crate) fn put_tree(
     *queue = index.queue;
 }
 
+/// Takes out all cuts, all points and their values.
+fn clear(alloc: Global, pool: &mut CutPool, points: &mut Vec<Point>, values: &mut Vec<Frac>)
+    ensures pool { pool.new ≡ [] }
+    ensures points { points.new.items ≡ [] }
+    ensures values { values.new.items ≡ [] }
+{
+    drop(mem::replace(pool, CutPool::new(alloc)));
+    drop(mem::replace(points, Vec::new(alloc)));
+    *values = Vec::new(alloc);
+}
+
 /// Copies of multipliers and of a basis.
 pub(crate) fn copies(alloc: Global, mult: &Mult, basis: &Basis) -> Result<(Mult, Basis), AllocError>
     ensures mult { IfOk result (λ both. both.0 ≡ mult.now) }
     ensures basis { IfOk result (λ both. both.1 ≡ basis.now) }
 {
-    let mult = mult.copy(alloc)?;
+    let Ok(mult) = mult.copy(alloc) else {
+        return Err(AllocError);
+    };
     match basis.copy(alloc) {
         Ok(basis) => Ok((mult, basis)),
         Err(error) => {
@@ -132,10 +147,15 @@ impl Search {
         ensures fresh { IfOk result (λ _. IsFresh self.old.model self.old.tree.limit self.new) }
         ensures kept { OnErr result (self.new ≡ self.old) }
     {
-        let (tree, index) = judged_tree(self.alloc, &self.model, self.tree.limit())?;
-        self.pool = CutPool::new(self.alloc);
-        self.points = Vec::new(self.alloc);
-        self.values = Vec::new(self.alloc);
+        let Ok((tree, index)) = judged_tree(self.alloc, &self.model, self.tree.limit()) else {
+            return Err(AllocError);
+        };
+        clear(
+            self.alloc,
+            &mut self.pool,
+            &mut self.points,
+            &mut self.values,
+        );
         put_tree(
             &mut self.tree,
             &mut self.numbers,

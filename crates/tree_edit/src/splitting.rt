@@ -1,17 +1,21 @@
 // Leaves that are split. What takes memory comes before the first change. A large value that isn't used is let go by a call
 // of `drop` (see `placing`).
-ghost use Rattle.std.specs.Prelude.{◌≡◌, ◌↔◌, IsTrue, ◌++◌, ◌∷◌, [], ◌≤ℤ◌, ◌<ℤ◌, ◌+ℤ◌, pos, neg_ℤ, IfOk, OnOk, OnErr};
+ghost use Rattle.std.specs.Prelude.{◌≡◌, ◌≢◌, ◌↔◌, IsTrue, ◌++◌, ◌∷◌, [], ◌≤ℤ◌, ◌<ℤ◌, ◌+ℤ◌, pos, neg_ℤ, IfOk, OnOk, OnErr};
 ghost use Rattle.frac128.specs.Range.{largest};
 ghost use Rattle.branch_tree.specs.Tree.{left_path, right_path};
 ghost use Rattle.lp_model.specs.Regions.{AreNarrow, at_most, at_least};
 ghost use Rattle.branch_tree.specs.Changes.{HasLeaf, HasRoom};
 ghost use Rattle.sound_searches.specs.Placing.{HasLeafAt, IsSplitSound, TakesSplit, tree_with_split};
-ghost use Rattle.tree_edit.specs.PlacingSteps.{IsNumberedChild};
+ghost use Rattle.leaf_judging.specs.Numbers.{HasBoth, KeepsOtherTwo};
+ghost use Rattle.leaf_judging.specs.Queued.{IsNew, AddsBoth, IsSameQueue};
+ghost use Rattle.tree_edit.specs.PlacingSteps.{IsNumberedChild, child_candidate};
 ghost use Rattle.sound_searches.specs.Sound.{formulation_of};
 
 use crate::search::{Search, copies};
 use branch_tree::{LeafData, Tree};
-use leaf_judging::{Candidate, LeafNumber, as_candidate, number_of, rank, state_by};
+use leaf_judging::{
+    Candidate, LeafNumber, LeafNumbers, LeafQueue, as_candidate, number_of, rank, state_by,
+};
 use lp_model::{Basis, BoundChange, ColId, List, Mult, Region};
 use search_parts::{are_multipliers, is_basis, is_split_allowed};
 use sound_searches::Taken;
@@ -105,11 +109,67 @@ fn split_by(tree: &mut Tree, id: u64, branching: Branching) -> Result<(), AllocE
     split_tree(tree, id, split, left.kept, right.kept)
 }
 
+/// A split's child under its id as a candidate, if it is open.
+fn candidate(child: &Child, id: u64) -> Option<Candidate>
+    ensures { result ≡ child_candidate child.now id }
+{
+    as_candidate(&child.kept.state, rank(&child.number), id)
+}
+
+/// Splits the leaf with the id, whose children get these ids, puts down their numbers, and adds those that are open to the
+/// queue. The leaf's own number and place in the queue stay. Where there is no memory the tree and the queue do.
+fn enter_split(
+    tree: &mut Tree,
+    numbers: &mut LeafNumbers,
+    queue: &mut LeafQueue,
+    id: u64,
+    one: u64,
+    two: u64,
+    branching: Branching,
+) -> Result<(), AllocError>
+    requires has { HasLeaf tree.old id }
+    requires high { branching.split.v <ℤ pos largest }
+    requires apart { one ≢ two }
+    requires first { IsNew queue.old (child_candidate branching.left one) }
+    requires second { IsNew queue.old (child_candidate branching.right two) }
+    ensures split { OnOk result (tree.new ≡ tree_with_split tree.old id branching.split.col.0 branching.split.v branching.split.mult branching.split.basis branching.left.kept branching.right.kept) }
+    ensures room { OnOk result (HasRoom tree.old) }
+    ensures put { OnOk result (HasBoth numbers.new one branching.left.number two branching.right.number) }
+    ensures others { KeepsOtherTwo numbers.old one two numbers.new }
+    ensures added { OnOk result (AddsBoth queue.old (child_candidate branching.left one) (child_candidate branching.right two) queue.new) }
+    ensures kept { OnErr result (tree.new ≡ tree.old) }
+    ensures same { OnErr result (IsSameQueue queue.old queue.new) }
+{
+    let first = candidate(&branching.left, one);
+    let second = candidate(&branching.right, two);
+    match numbers.put_both(one, &branching.left.number, two, &branching.right.number) {
+        Ok(()) => match queue.add_both(&first, &second) {
+            Ok(()) => match split_by(tree, id, branching) {
+                Ok(()) => Ok(()),
+                Err(error) => {
+                    queue.take_back(&first, &second);
+                    Err(error)
+                }
+            },
+            Err(error) => {
+                drop(branching);
+                Err(error)
+            }
+        },
+        Err(error) => {
+            drop(branching);
+            Err(error)
+        }
+    }
+}
+
 /// The path of a split's child, whose last bound change this is.
 fn child_path(alloc: Global, region: &Region, change: BoundChange) -> Result<Region, AllocError>
     ensures { IfOk result (λ path. path ≡ region.now ++ change ∷ []) }
 {
-    let mut path = region.copy(alloc)?;
+    let Ok(mut path) = region.copy(alloc) else {
+        return Err(AllocError);
+    };
     match path.push(change) {
         Ok(()) => Ok(path),
         Err(error) => {
@@ -151,7 +211,9 @@ impl Search {
         requires { AreNarrow (region.now ++ change ∷ []) }
         ensures { IfOk result (λ child. IsNumberedChild self.now (region.now ++ change ∷ []) mult.now basis.now child) }
     {
-        let path = child_path(self.alloc, region, change)?;
+        let Ok(path) = child_path(self.alloc, region, change) else {
+            return Err(AllocError);
+        };
         match copies(self.alloc, mult, basis) {
             Ok((mult, basis)) => Ok(self.judged_child(path, mult, basis)),
             Err(error) => {
@@ -183,35 +245,21 @@ impl Search {
         };
         let _numbered = self.tree.nodes();
         let own = self.rank_of(id);
-        let left_rank = rank(&branching.left.number);
-        let right_rank = rank(&branching.right.number);
-        let first = as_candidate(&branching.left.kept.state, left_rank, one);
-        let second = as_candidate(&branching.right.kept.state, right_rank, two);
-        match self
-            .numbers
-            .put_both(one, &branching.left.number, two, &branching.right.number)
-        {
-            Ok(()) => match self.queue.add_both(&first, &second) {
-                Ok(()) => match split_by(&mut self.tree, id, branching) {
-                    Ok(()) => {
-                        self.queue.remove(&Some(Candidate { rank: own, id }));
-                        self.numbers.remove(id);
-                        Ok(Taken::Split)
-                    }
-                    Err(error) => {
-                        self.queue.take_back(&first, &second);
-                        Err(error)
-                    }
-                },
-                Err(error) => {
-                    drop(branching);
-                    Err(error)
-                }
-            },
-            Err(error) => {
-                drop(branching);
-                Err(error)
+        match enter_split(
+            &mut self.tree,
+            &mut self.numbers,
+            &mut self.queue,
+            id,
+            one,
+            two,
+            branching,
+        ) {
+            Ok(()) => {
+                self.queue.remove(&Some(Candidate { rank: own, id }));
+                self.numbers.remove(id);
+                Ok(Taken::Split)
             }
+            Err(error) => Err(error),
         }
     }
 
@@ -224,10 +272,11 @@ impl Search {
         if !is_split_allowed(&self.model, region, split.col, split.v) {
             return Ok(false);
         }
-        if !are_multipliers(self.alloc, &self.model, &self.pool, &split.mult)? {
-            return Ok(false);
+        match are_multipliers(self.alloc, &self.model, &self.pool, &split.mult) {
+            Ok(true) => Ok(is_basis(&self.model, &self.pool, &split.basis)),
+            Ok(false) => Ok(false),
+            Err(error) => Err(error),
         }
-        Ok(is_basis(&self.model, &self.pool, &split.basis))
     }
 
     /// The children of a split that fits, each judged.
@@ -237,7 +286,9 @@ impl Search {
         ensures left { IfOk result (λ both. IsNumberedChild self.now (left_path region.now split.now.col.0 split.now.v) split.now.mult split.now.basis both.0) }
         ensures right { IfOk result (λ both. IsNumberedChild self.now (right_path region.now split.now.col.0 split.now.v) split.now.mult split.now.basis both.1) }
     {
-        let left = self.child(region, split.up_to(), &split.mult, &split.basis)?;
+        let Ok(left) = self.child(region, split.up_to(), &split.mult, &split.basis) else {
+            return Err(AllocError);
+        };
         match self.child(region, split.above(), &split.mult, &split.basis) {
             Ok(right) => Ok((left, right)),
             Err(error) => {

@@ -41,7 +41,9 @@ impl Search {
         ensures trims { OnOk result (Trims self.old depth self.new) }
         ensures kept { OnErr result (self.new ≡ self.old) }
     {
-        let mut tree = self.tree.copy()?;
+        let Ok(mut tree) = self.tree.copy() else {
+            return Err(AllocError);
+        };
         tree.trim_depth(depth);
         self.take_tree(tree)
     }

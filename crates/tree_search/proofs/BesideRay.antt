@@ -1,6 +1,6 @@
 -- What the model without costs says of the search's own: which derivations derive, and what a result needs so that it is placed.
-use Rattle.std.specs.Prelude.{◌≡◌, ◌↔◌, ℕ, suc, ◌<◌, ◌≤◌, IsTrue, List, [], ◌∷◌, length, pos, Option, None, Some, IsSome}
-use Rattle.std.proofs.Common.{refl, sym, ap, subst, ◌∙◌, inl, inr}
+use Rattle.std.specs.Prelude.{◌≡◌, ℕ, suc, ◌<◌, List, [], ◌∷◌, pos, Option, None, IsSome}
+use Rattle.std.proofs.Common.{sym, ap, subst, ◌∙◌, inl, inr}
 use Rattle.std.proofs.lemmas.List.Elements.{All-weaker}
 use Rattle.rational.specs.Rational.{ℚ, int, ◌*ℚ◌, ◌<ℚ◌}
 use Rattle.checked_sum.specs.Sums.{sum_below}

@@ -1,28 +1,25 @@
 -- Why a search stops, as seen from its start; and where there is enough it goes to the end.
-use Rattle.std.specs.Prelude.{◌≡◌, ◌⊎◌, ℕ, zero, suc, Bool, true, false, if◌then◌else◌, List, [], ◌∷◌, length, Option, ◌+◌, ◌-◌, ◌^◌, ◌<◌, ◌≤◌, ℤ, Some, None, Result, Ok, Err, IfOk}
+use Rattle.std.specs.Prelude.{◌≡◌, ◌⊎◌, ℕ, zero, suc, Bool, true, false, if◌then◌else◌, List, [], ◌∷◌, length, Option, ◌+◌, ◌-◌, ◌<◌, ◌≤◌, Some, None, Result, Ok, Err, IfOk}
 use Rattle.std.proofs.Common.{refl, sym, subst, ap, ◌∙◌, inl, inr, arith}
 use Rattle.lp_model.specs.Program.{Program, Point}
 use Rattle.lp_model.specs.Formulations.{Formulation, formulation}
 use Rattle.lp_model.specs.declared.types.CutRow.{CutRow}
 use Rattle.lp_model.specs.declared.types.Derivation.{Derivation}
-use Rattle.lp_model.specs.Answers.{IsValueAnswer}
 use Rattle.lp_model.specs.Lawful.{IsLawful}
 use Rattle.lp_model.specs.Regions.{Path}
 use Rattle.lp_model.specs.declared.types.Basis.{Basis}
-use Rattle.lp_model.specs.declared.types.ColId.{ColId}
 use Rattle.lp_model.specs.declared.types.WideStep.{WideStep}
 use Rattle.lp_model.specs.declared.answers.PivotPlace.{PivotPlace}
 use Rattle.lp_model.specs.declared.answers.WideAt.{WideAt}
 use Rattle.lp_model.specs.declared.answers.StopWhy.{StopWhy}
 use Rattle.lp_model.specs.declared.answers.StopWhy.TheVariants as why
-use Rattle.leaf_dual.specs.Dual.{Multipliers}
 use Rattle.branch_tree.specs.Changes.{HasRoom}
 use Rattle.branch_tree.specs.declared.node.Job.{Job}
 use Rattle.branch_tree.specs.declared.node.NodeResult.TheVariants.{Split as SplitAt, PointAndClose}
 use Rattle.search_parts.specs.Lists.{IsBasis}
 use Rattle.kept_cuts.specs.Kept.{derivations_of}
 use Rattle.sound_searches.specs.Sound.{PlainSearch, IsSound}
-use Rattle.search_counting.specs.Work.{whole_points, cap_of, HasRoomFor, work_of, splits_of, IsRoomy}
+use Rattle.search_counting.specs.Work.{whole_points, cap_of, work_of, splits_of, IsRoomy}
 use Rattle.search_counting.proofs.CapLemmas.{work-cap, splits-cap}
 use Rattle.search_counting.proofs.LowerLemmas.{has-room}
 use Rattle.search_counting.proofs.RoomLemmas.{room-fewer}
@@ -40,13 +37,13 @@ use Rattle.node_solve.proofs.PoolLemmas.{basis-back}
 use Rattle.node_solve.proofs.TakenLemmas.{IsPointIn, done_point}
 use Rattle.node_solve.specs.declared.working.Worked.{Worked}
 use Rattle.node_solve.specs.declared.working.Worked.TheVariants.{Done, Pivots, Wide}
-use Rattle.basic_solution.specs.Held.{Held, IsLawfulHeld}
+use Rattle.basic_solution.specs.Held.{Held}
 use Rattle.dual_simplex.proofs.SolveLemmas.{of_after}
-use Rattle.tree_search.specs.Steps.{work_next, kept_basis, worked_model, IsWayFor, HasOpenLeaf, WorksNext, Goes, KeepsOpen, FullAtNext, PivotsAtNext, StepAtNext, ValueAtNext, PointAtNext, StopsAtNext, IsRayWay}
-use Rattle.tree_search.specs.Room.{AreAmong, IsSelection, IsWorkedRegion, HasMoves, HasRoomAt}
+use Rattle.tree_search.specs.Steps.{work_next, kept_basis, worked_model, IsWayFor, HasOpenLeaf, WorksNext, Goes, KeepsOpen, FullAtNext, PivotsAtNext, StepAtNext, ValueAtNext, StopsAtNext, IsRayWay}
+use Rattle.tree_search.specs.Room.{AreAmong, IsSelection, IsWorkedRegion}
 use Rattle.tree_search.specs.Causes.{IsPivotCause, IsStepCause, IsWideValue, IsWideValueBy, IsCause, HasCause, IsAtEnd, HasOwnValues, IsEnoughForSearch}
 use Rattle.tree_search.specs.Extends.{Extends}
-use Rattle.tree_search.specs.Search.{IsAfter, IsAtLimit, StopsFor, FindsPoint, FinishesSearch, Ends, IsLeft, Finds, GivesUp}
+use Rattle.tree_search.specs.Search.{StopsFor, Ends, IsLeft, Finds}
 use Rattle.tree_search.specs.declared.searching.Ways.{Ways}
 use Rattle.tree_search.specs.declared.searching.Ways.TheVariants.{Own, Rays}
 use Rattle.tree_search.specs.declared.searching.Ended.{Ended}

@@ -12,7 +12,7 @@ use Rattle.branch_tree.specs.declared.node.NodeResult.{NodeResult}
 use Rattle.branch_tree.specs.declared.node.NodeResult.TheVariants.{Close, Split, PointAndClose, Keep}
 use Rattle.node_solve.specs.Works.{IsDone}
 use Rattle.node_solve.specs.Rounds.{Work, Round, form_in, AddsOne, AddsAll, MakesRound, MakesRounds, IsWorked}
-use Rattle.node_solve.specs.Places.{live_cuts, live_places, ArePoolPlaces, mult_in_pool, basis_in_pool, result_in_pool}
+use Rattle.node_solve.specs.Places.{live_places, ArePoolPlaces, mult_in_pool, basis_in_pool, result_in_pool}
 use Rattle.node_solve.specs.declared.working.Worked.TheVariants.{Done, Pivots, Wide}
 use Rattle.node_solve.proofs.LiveLemmas.{live-few, places-length, live-at}
 use Rattle.tree_search.specs.Steps.{FoundCuts}

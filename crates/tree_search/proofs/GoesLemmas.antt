@@ -1,8 +1,7 @@
 -- A search step by step: what was placed so far, and where it ends or stops.
-use Rattle.std.specs.Prelude.{◌≡◌, ◌⊎◌, ℕ, suc, ◌+◌, ◌<◌, ◌≤◌, List, Some}
+use Rattle.std.specs.Prelude.{◌≡◌, ℕ, suc, ◌+◌, ◌<◌, ◌≤◌, List, Some}
 use Rattle.std.proofs.Common.{refl, sym, subst, ◌∙◌, inl, inr, arith}
 use Rattle.lp_model.specs.Rays.{IsUnbounded}
-use Rattle.lp_model.specs.declared.types.Basis.{Basis}
 use Rattle.lp_model.specs.declared.types.Derivation.{Derivation}
 use Rattle.lp_model.specs.declared.answers.StopWhy.{StopWhy}
 use Rattle.lp_model.specs.declared.answers.StopWhy.TheVariants as why
@@ -10,14 +9,12 @@ use Rattle.branch_tree.specs.Numbered.{IsNumbered}
 use Rattle.sound_searches.specs.Laws.{HasNoOpenLeaf}
 use Rattle.sound_searches.specs.Pool.{AddsCuts, AddsAny}
 use Rattle.sound_searches.specs.Sound.{PlainSearch, IsSound}
-use Rattle.search_counting.specs.Work.{work_of, IsRoomy, Lowers}
-use Rattle.tree_search.specs.Steps.{HasOpenLeaf, WorksNext, Places, PlacesMany, Goes, PointAtNext, StopsAtNext}
-use Rattle.tree_search.specs.Search.{StopsFor, IsLeft, GivesUp}
+use Rattle.search_counting.specs.Work.{work_of, IsRoomy}
+use Rattle.tree_search.specs.Steps.{HasOpenLeaf, PlacesMany, Goes, StopsAtNext}
+use Rattle.tree_search.specs.Search.{StopsFor, GivesUp}
 use Rattle.tree_search.specs.Stepping.{IsReady, Steps, Comes}
 use Rattle.tree_search.specs.Extends.{Extends}
-use Rattle.tree_search.specs.declared.searching.Ways.{Ways}
 use Rattle.tree_search.specs.declared.searching.Ended.TheVariants.{Finished, Unbounded, Stopped}
-use Rattle.tree_search.specs.declared.searching.Searched.{Searched}
 use Rattle.tree_search.specs.declared.stepping.Limits.{Limits}
 use Rattle.tree_search.specs.declared.stepping.Stepped.TheVariants as stepped
 use Rattle.node_solve.proofs.AddedLemmas.{more-cuts}

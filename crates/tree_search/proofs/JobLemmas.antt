@@ -1,8 +1,8 @@
 -- The region of an open leaf can be worked, by the search's own model and by that without costs.
-use Rattle.std.specs.Prelude.{◌≡◌, ℕ, ◌<◌, IsTrue, [], ◌∷◌, ◌++◌, length, ℤ, ◌+ℤ◌, pos}
+use Rattle.std.specs.Prelude.{◌≡◌, ◌<◌, IsTrue, [], ◌∷◌, ◌++◌, length, ◌+ℤ◌, pos}
 use Rattle.std.proofs.Common.{sym, subst, ◌∙◌}
 use Rattle.lp_model.specs.Program.{Program, is_integer}
-use Rattle.lp_model.specs.Regions.{Path, AreNarrow, IsEmptyRegion, at_most, at_least}
+use Rattle.lp_model.specs.Regions.{Path, at_most, at_least}
 use Rattle.lp_model.specs.Rays.{without_costs}
 use Rattle.lp_model.specs.declared.types.BoundChange.{BoundChange}
 use Rattle.lp_model.proofs.SamePointsLemmas.{same_points}
@@ -14,7 +14,7 @@ use Rattle.sound_searches.specs.Sound.{PlainSearch, IsSound}
 use Rattle.sound_searches.proofs.PlaceLemmas.{narrow-found}
 use Rattle.search_counting.proofs.LeafLemmas.{open-found}
 use Rattle.node_solve.specs.Runs.{NamesIntegers}
-use Rattle.tree_search.specs.Steps.{worked_model, IsWayFor, IsBesideRay}
+use Rattle.tree_search.specs.Steps.{worked_model, IsWayFor}
 use Rattle.tree_search.specs.Room.{IsWorkedRegion}
 use Rattle.tree_search.specs.declared.searching.Ways.{Ways}
 use Rattle.tree_search.specs.declared.searching.Ways.TheVariants.{Own, Rays}

@@ -1,25 +1,23 @@
 -- A basis that is kept by an open leaf, alone or with a point: it is taken, and the leaf stays open.
-use Rattle.std.specs.Prelude.{◌≡◌, ℕ, ◌<◌, ◌≤◌, Bool, true, if◌then◌else◌, nat_eq, ◌+◌, ◌++◌, length, map, List, [], ◌∷◌, Option, Some, None, Ok, MatchOption}
+use Rattle.std.specs.Prelude.{◌≡◌, ℕ, ◌<◌, ◌≤◌, Bool, if◌then◌else◌, ◌+◌, ◌++◌, length, map, List, [], ◌∷◌, Option, Some, None, MatchOption}
 use Rattle.std.specs.Option.{option_map}
 use Rattle.std.proofs.Common.{refl, sym, subst, ap, ◌∙◌, inl, inr, arith, length-append}
 use Rattle.std.proofs.lemmas.Bool.Decides.{eqb_tells}
 use Rattle.std.proofs.lemmas.List.{length-map}
 use Rattle.rational.specs.Rational.{ℚ}
-use Rattle.lp_model.specs.Program.{Program, Point, IsFeasible}
-use Rattle.lp_model.specs.Formulations.{Formulation, formulation}
+use Rattle.lp_model.specs.Program.{Point}
+use Rattle.lp_model.specs.Formulations.{formulation}
 use Rattle.lp_model.specs.Rays.{IsRay}
 use Rattle.lp_model.specs.Regions.{Path, InRegion}
 use Rattle.lp_model.specs.declared.types.Basis.{Basis}
 use Rattle.lp_model.specs.declared.types.CutRow.{CutRow}
 use Rattle.lp_model.specs.declared.types.Derivation.{Derivation}
 use Rattle.leaf_dual.specs.Dual.{Multipliers}
-use Rattle.leaf_dual.specs.Answers.{IsLagAnswer}
 use Rattle.leaf_dual.specs.declared.dual.LagValue.TheVariants.{Minus, Num}
 use Rattle.branch_tree.specs.Tree.{Leaf}
-use Rattle.branch_tree.specs.Plain.{Plain, LeafKept, leaves_with, leaf_below, replaced}
+use Rattle.branch_tree.specs.Plain.{Plain, LeafKept, leaves_with, replaced}
 use Rattle.branch_tree.specs.Leaves.{with_state, with_states}
 use Rattle.branch_tree.specs.Numbered.{NumberedTree, IsNumbered}
-use Rattle.branch_tree.specs.Changes.{with_leaf_states}
 use Rattle.branch_tree.specs.declared.node.Job.{Job}
 use Rattle.branch_tree.specs.declared.node.LeafData.{LeafData}
 use Rattle.branch_tree.specs.declared.node.LeafState.{LeafState}
@@ -31,14 +29,14 @@ use Rattle.branch_tree.proofs.PlaceLaws.{replaced_at, replaced-found, same-repla
 use Rattle.branch_tree.proofs.StateLemmas.{leaves_with-states}
 use Rattle.leaf_judging.specs.declared.closing.LeafNumber.{LeafNumber}
 use Rattle.leaf_judging.specs.declared.closing.LeafNumber.TheVariants.{Empty, Lag, Wide}
-use Rattle.leaf_judging.specs.Closing.{IsNumber, NumberCloses, StateSays, IsJudged}
+use Rattle.leaf_judging.specs.Closing.{IsNumber, NumberCloses, IsJudged}
 use Rattle.leaf_judging.proofs.JudgeLemmas.{judged_same}
 use Rattle.sound_searches.specs.declared.taken.Taken.{Taken}
 use Rattle.sound_searches.specs.declared.taken.Taken.TheVariants.{Stale, Refused, Reopened, Full, Closed, Split, Kept}
 use Rattle.sound_searches.specs.Calls.{IsLeafAt, IsOpenLeaf}
 use Rattle.sound_searches.specs.Jobs.{IsJobOf}
 use Rattle.search_parts.specs.Lists.{IsBasis}
-use Rattle.sound_searches.specs.Placing.{IsAt, PutsJudged, TakesPoint, TakesOpen, Takes, with_basis, search_with_leaf}
+use Rattle.sound_searches.specs.Placing.{IsAt, TakesPoint, TakesOpen, Takes, with_basis, search_with_leaf}
 use Rattle.search_parts.specs.Points.{IsKeepable, target}
 use Rattle.sound_searches.specs.Pool.{AddsCut, AddsCuts}
 use Rattle.sound_searches.specs.Sound.{PlainSearch, formulation_of, IsSound}

@@ -1,10 +1,10 @@
 -- The first point beside a ray: it may be kept, and its leaf stays open.
 use Rattle.std.specs.Prelude.{◌≡◌, ℕ, ◌++◌, Some, Ok}
 use Rattle.std.proofs.Common.{refl, sym, ap, subst}
-use Rattle.lp_model.specs.Program.{Program, Point, value, IsFeasible}
+use Rattle.lp_model.specs.Program.{Point, value, IsFeasible}
 use Rattle.lp_model.specs.Answers.{IsValueAnswer}
 use Rattle.lp_model.specs.Lawful.{IsLawful}
-use Rattle.lp_model.specs.Rays.{IsRay, IsUnbounded, without_costs}
+use Rattle.lp_model.specs.Rays.{IsRay, IsUnbounded}
 use Rattle.lp_model.specs.Regions.{InRegion}
 use Rattle.lp_model.specs.declared.types.Basis.{Basis}
 use Rattle.lp_model.proofs.SamePointsLemmas.{same_points}
@@ -25,7 +25,7 @@ use Rattle.node_solve.specs.Rounds.{IsWorked}
 use Rattle.node_solve.specs.declared.working.Worked.TheVariants.{Done}
 use Rattle.node_solve.proofs.AddedLemmas.{more-cuts}
 use Rattle.node_solve.proofs.TakenLemmas.{IsPointIn, done_point}
-use Rattle.tree_search.specs.Steps.{FoundCuts, work_next, worked_model, IsWayFor, IsRayWay, KeepsOpen, PointAtNext}
+use Rattle.tree_search.specs.Steps.{FoundCuts, work_next, IsWayFor, IsRayWay, PointAtNext}
 use Rattle.tree_search.specs.Room.{IsWorkedRegion}
 use Rattle.tree_search.specs.Stepping.{IsReady, WorksBy}
 use Rattle.tree_search.specs.declared.searching.Ways.{Ways}

@@ -1,7 +1,7 @@
 -- Beside a ray no number bounds the leaf of a feasible point: along the ray the points stay in its region, and their values
 -- fall below each number.
 use Rattle.std.specs.Prelude.{◌≡◌, ℕ, ◌<◌, IsTrue, [], ◌∷◌, length, pos, Ok}
-use Rattle.std.proofs.Common.{refl, sym, subst, ap, ◌∙◌, inl, inr}
+use Rattle.std.proofs.Common.{sym, subst, ap, ◌∙◌, inl, inr}
 use Rattle.rational.specs.Rational.{ℚ, int, floor, ◌+ℚ◌, ◌*ℚ◌, ◌≤ℚ◌, ◌<ℚ◌}
 use Rattle.rational.proofs.RationalRing.{ring, reads_ℚ}
 use Rattle.rational.proofs.RationalOrder.{≤ℚ_trans, ≤ℚ_or_>ℚ, not_both_ℚ}

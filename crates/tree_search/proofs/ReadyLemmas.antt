@@ -1,7 +1,6 @@
 -- After a result was placed the search can be worked on as before.
-use Rattle.std.specs.Prelude.{◌≡◌, ℕ, List, []}
-use Rattle.std.proofs.Common.{refl, sym, subst, ap, ◌∙◌}
-use Rattle.lp_model.specs.Program.{Program, Point}
+use Rattle.std.specs.Prelude.{◌≡◌, ℕ, List}
+use Rattle.std.proofs.Common.{sym, subst, ap, ◌∙◌}
 use Rattle.lp_model.specs.Rays.{IsRay, without_costs}
 use Rattle.lp_model.specs.declared.types.Basis.{Basis}
 use Rattle.lp_model.specs.declared.types.Derivation.{Derivation}
@@ -15,7 +14,7 @@ use Rattle.sound_searches.specs.Sound.{PlainSearch}
 use Rattle.search_counting.specs.Laws.{IsEffective}
 use Rattle.dual_simplex.specs.SlackBases.{IsRootBasis}
 use Rattle.node_solve.proofs.AddedLemmas.{more-cuts}
-use Rattle.tree_search.specs.Steps.{worked_model, IsWayFor, IsFirstFor, IsPlacedBy, Places}
+use Rattle.tree_search.specs.Steps.{worked_model, IsWayFor, IsPlacedBy, Places}
 use Rattle.tree_search.specs.Stepping.{IsReady}
 use Rattle.tree_search.specs.declared.searching.Ways.{Ways}
 use Rattle.tree_search.specs.declared.searching.Ways.TheVariants.{Own, Rays}

@@ -1,8 +1,8 @@
 -- A step without room that a run makes is one at a basis of its relaxation.
-use Rattle.std.specs.Prelude.{◌≡◌, ◌⊎◌, ℕ, zero, suc, ◌+◌, ◌≤◌, ◌<◌, List, Option, Some, None, Err}
+use Rattle.std.specs.Prelude.{ℕ, zero, suc, ◌<◌, List, Option, Some, None}
 use Rattle.std.specs.Option.{IsSomeAnd}
-use Rattle.std.proofs.Common.{refl, sym, subst, inl, inr}
-use Rattle.lp_model.specs.Program.{Program, Point}
+use Rattle.std.proofs.Common.{sym, subst, inl, inr}
+use Rattle.lp_model.specs.Program.{Program}
 use Rattle.lp_model.specs.Formulations.{Formulation}
 use Rattle.lp_model.specs.declared.types.CutRow.{CutRow}
 use Rattle.lp_model.specs.Regions.{Path}
@@ -13,7 +13,6 @@ use Rattle.bases.specs.declared.stand.Stand.{Stand}
 use Rattle.row_tableau.specs.declared.relax.Relax.{Relax}
 use Rattle.row_tableau.specs.Answers.{IsPivotPlace}
 use Rattle.basic_solution.specs.Held.{Held, IsLawfulHeld}
-use Rattle.basic_solution.specs.Slack.{IsOf}
 use Rattle.basic_solution.specs.Numbers.{IsValuePlace, IsPlaceCost, IsWideCost, IsWideReduced}
 use Rattle.basic_solution.specs.ListedStates.{IsExchangePlace, IsListRefused}
 use Rattle.dual_simplex.specs.Answers.{QuotientFits, IsPartPlace, IsWidePart, IsWideOrder, IsWideMove}
@@ -22,7 +21,6 @@ use Rattle.dual_simplex.specs.Starts.{IsWideStart}
 use Rattle.dual_simplex.specs.Walks.{Moves}
 use Rattle.dual_simplex.proofs.MoveLemmas.{kept_after}
 use Rattle.dual_simplex.proofs.SolveLemmas.{of_after}
-use Rattle.node_solve.specs.Runs.{IsPlainOf, IsSimplexRun}
 use Rattle.node_solve.specs.Works.{IsWideAtEnd, IsRunWide}
 use Rattle.tree_search.specs.Room.{IsSelection, IsWorkedRegion, AllStand, IsTableStep, IsStepAt, HasRoomAt}
 

@@ -3,7 +3,7 @@
 --     IsSelection F pool        a model with at most 200 cuts of the pool, in its order
 --     HasMoves M pool limit     no run of its relaxations has as many moves as the limit
 --     HasRoomAt M pool          no step at any basis of its relaxations is without room
-use Rattle.std.specs.Prelude.{◌≡◌, ◌⊎◌, ℕ, ◌+◌, ◌<◌, ◌≤◌, List, [], ◌∷◌, length, get_or, Err, true}
+use Rattle.std.specs.Prelude.{◌≡◌, ◌⊎◌, ℕ, ◌+◌, ◌<◌, ◌≤◌, List, [], ◌∷◌, length, get_or, Err}
 use Rattle.std.specs.Option.{IsSomeAnd}
 use Rattle.lp_model.specs.Program.{Program, Point}
 use Rattle.lp_model.specs.Answers.{IsFeasibilityAnswer, IsValueAnswer}

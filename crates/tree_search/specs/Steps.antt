@@ -31,7 +31,6 @@ use Rattle.search_counting.specs.Laws.{IsEffective}
 use Rattle.dual_simplex.specs.SlackBases.{IsRootBasis}
 use Rattle.node_solve.specs.Rounds.{Work, IsWorked}
 use Rattle.node_solve.specs.Places.{live_cuts, live_places, basis_in_relaxation, basis_in_pool}
-use Rattle.lp_model.specs.declared.types.CutRow.{CutRow}
 use Rattle.lp_model.specs.declared.types.Derivation.{Derivation}
 use Rattle.std.specs.declared.alloc.Global.{Global}
 use Rattle.std.specs.declared.vec.Vec.{Vec}

@@ -51,9 +51,10 @@ fn bound_of(search: &Search) -> Result<Option<Frac>, AllocError>
     ensures { IfOk result (λ bound. IsBoundOf search.now bound) }
 {
     known(search);
-    match least_number(search)? {
-        None => Ok(None),
-        Some(least) => Ok(Some(search.model().sense().least_form(&least))),
+    match least_number(search) {
+        Ok(None) => Ok(None),
+        Ok(Some(least)) => Ok(Some(search.model().sense().least_form(&least))),
+        Err(error) => Err(error),
     }
 }
 

@@ -57,7 +57,11 @@ fn go_on(
                 placed,
             });
         }
-        match step(alloc, search, limits, id)? {
+        let stepped = match step(alloc, search, limits, id) {
+            Ok(stepped) => stepped,
+            Err(error) => return Err(error),
+        };
+        match stepped {
             Stepped::Placed => placed += 1,
             Stepped::Found => {
                 return Ok(Searched {

@@ -68,9 +68,10 @@ fn next_job(search: &Search, id: u64) -> Result<Job, AllocError>
     ensures { IfOk result (λ job. IsNextJob search.now job) }
 {
     known(search);
-    match search.job(id)? {
-        Some(job) => Ok(job),
-        None => unreachable!(),
+    match search.job(id) {
+        Ok(Some(job)) => Ok(job),
+        Ok(None) => unreachable!(),
+        Err(error) => Err(error),
     }
 }
 
@@ -123,10 +124,43 @@ fn add_cuts(search: &mut Search, found: &[Derivation]) -> Result<(), AllocError>
     ensures some { OnErr result (AddsSome search.old found.now search.new) }
 {
     for from in found {
-        let own = copy_derivation(from)?;
-        add_cut(search, own)?;
+        let own = match copy_derivation(from) {
+            Ok(own) => own,
+            Err(error) => return Err(error),
+        };
+        match add_cut(search, own) {
+            Ok(()) => {}
+            Err(error) => return Err(error),
+        }
     }
     Ok(())
+}
+
+/// The derivations of the cuts of a leaf's relaxation, which has the first 200 that count, and its basis as the leaf keeps it.
+fn kept_lists(
+    alloc: Global,
+    search: &Search,
+    basis: &Basis,
+) -> Result<(List<Derivation>, Basis), AllocError>
+    ensures cuts { IfOk result (λ both. both.0 ≡ derivations_of (live_cuts 200 search.now.cuts)) }
+    ensures basis { IfOk result (λ both. both.1 ≡ kept_basis search.now basis.now) }
+{
+    let Ok(live) = LiveCuts::new(alloc, search.pool()) else {
+        return Err(AllocError);
+    };
+    let Ok(cuts) = derivations(alloc, &live.cuts) else {
+        drop(live);
+        return Err(AllocError);
+    };
+    let kept = basis_in_pool(alloc, &live.places, basis);
+    drop(live);
+    match kept {
+        Ok(basis) => Ok((cuts, basis)),
+        Err(error) => {
+            drop(cuts);
+            Err(error)
+        }
+    }
 }
 
 /// Gives the leaf of the job the basis of its relaxation, which has the first 200 cuts that count. The leaf stays open.
@@ -142,11 +176,18 @@ fn keep_basis(
     ensures cuts { IfOk result (λ cuts. cuts ≡ derivations_of (live_cuts 200 search.old.cuts)) }
     ensures kept { OnErr result (search.new ≡ search.old) }
 {
-    let live = LiveCuts::new(alloc, search.pool())?;
-    let cuts = derivations(alloc, &live.cuts)?;
-    let basis = basis_in_pool(alloc, &live.places, basis)?;
+    let Ok((cuts, basis)) = kept_lists(alloc, search, basis) else {
+        return Err(AllocError);
+    };
     known(search);
-    match search.place(job.id, NodeResult::Keep { point: None, basis })? {
+    let taken = match search.place(job.id, NodeResult::Keep { point: None, basis }) {
+        Ok(taken) => taken,
+        Err(error) => {
+            drop(cuts);
+            return Err(error);
+        }
+    };
+    match taken {
         Taken::Kept => Ok(cuts),
         _ => unreachable!(),
     }
@@ -244,7 +285,11 @@ fn place_result(
     ensures kept { OnErr result (search.new ≡ search.old) }
 {
     known(search);
-    match search.place(job.id, done)? {
+    let taken = match search.place(job.id, done) {
+        Ok(taken) => taken,
+        Err(error) => return Err(error),
+    };
+    match taken {
         Taken::Full => Ok(Stepped::Stopped(StopWhy::Tree)),
         _ => Ok(Stepped::Placed),
     }
@@ -254,8 +299,12 @@ fn place_result(
 fn relaxation_basis(alloc: Global, search: &Search, basis: &Basis) -> Result<Basis, AllocError>
     ensures { IfOk result (λ own. own ≡ basis_in_relaxation (live_places 200 0 search.now.cuts) basis.now) }
 {
-    let live = LiveCuts::new(alloc, search.pool())?;
-    basis_in_relaxation(alloc, &live.places, basis)
+    let Ok(live) = LiveCuts::new(alloc, search.pool()) else {
+        return Err(AllocError);
+    };
+    let own = basis_in_relaxation(alloc, &live.places, basis);
+    drop(live);
+    own
 }
 
 /// A basis that is let go, in the leaf's relaxation.
@@ -326,7 +375,11 @@ fn keep_found(
         point: Some(point),
         basis,
     };
-    match search.place(job.id, kept)? {
+    let taken = match search.place(job.id, kept) {
+        Ok(taken) => taken,
+        Err(error) => return Err(error),
+    };
+    match taken {
         Taken::Kept => Ok(Stepped::Found),
         _ => unreachable!(),
     }
@@ -351,7 +404,11 @@ fn keep_point(
     known(search);
     match search.model().value(1, &point) {
         Err(step) => stop_by_value(alloc, search, limits, job, point, mult, basis, step),
-        Ok(_) => keep_found(search, limits, &job, point, mult, basis),
+        Ok(_) => {
+            let stepped = keep_found(search, limits, &job, point, mult, basis);
+            drop(job);
+            stepped
+        }
     }
 }
 
@@ -373,7 +430,11 @@ fn place_beside_ray(
         NodeResult::PointAndClose { point, mult, basis } => {
             keep_point(alloc, search, limits, job, point, mult, basis)
         }
-        other => place_result(search, limits, &job, other),
+        other => {
+            let stepped = place_result(search, limits, &job, other);
+            drop(job);
+            stepped
+        }
     }
 }
 
@@ -391,7 +452,11 @@ fn place_done(
     ensures kept { OnErr result (search.new ≡ search.old) }
 {
     match limits.ways {
-        Ways::Own => place_result(search, limits, &job, done),
+        Ways::Own => {
+            let stepped = place_result(search, limits, &job, done);
+            drop(job);
+            stepped
+        }
         Ways::Rays(_) => place_beside_ray(alloc, search, limits, job, done),
     }
 }
@@ -493,7 +558,10 @@ pub(crate) fn step(
     ensures steps { IfOk result (λ stepped. Steps limits.now search.old search.new stepped) }
     ensures some { OnErr result (AddsAny search.old search.new) }
 {
-    let job = next_job(search, id)?;
+    let job = match next_job(search, id) {
+        Ok(job) => job,
+        Err(error) => return Err(error),
+    };
     match work_on(alloc, search, limits, &job) {
         Worked::Memory => {
             drop(job);

@@ -59,7 +59,10 @@ fn is_whole(number: &Frac) -> bool
 pub(crate) fn read_whole(alloc: Global, value: &Value) -> Result<Frac, WarmFault>
     ensures { SaysFault (whole_of (view value.now)) result }
 {
-    let number = read_number(alloc, value)?;
+    let number = match read_number(alloc, value) {
+        Ok(number) => number,
+        Err(fault) => return Err(fault),
+    };
     if !is_whole(&number) {
         return bad(alloc, 5);
     }

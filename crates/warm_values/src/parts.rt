@@ -54,8 +54,12 @@ pub fn at_key<A>(alloc: Global, key: &str, outcome: Result<A, WarmFault>) -> Res
 {
     match outcome {
         Err(WarmFault::Bad { place, code }) => {
-            let place = behind_key(alloc, key, &place)?;
-            Err(WarmFault::Bad { place, code })
+            let longer = behind_key(alloc, key, &place);
+            drop(place);
+            match longer {
+                Ok(place) => Err(WarmFault::Bad { place, code }),
+                Err(_) => Err(WarmFault::Memory),
+            }
         }
         Err(WarmFault::Memory) => Err(WarmFault::Memory),
         Ok(stated) => Ok(stated),
@@ -90,8 +94,17 @@ fn each<A: Drop, E: Element<A>>(
         let mut digits = itoa::Buffer::new();
         let outcome = element.read(alloc, list.as_slice(), value);
         match at_key(alloc, digits.format(index), outcome) {
-            Ok(item) => list.push(item)?,
-            Err(fault) => return Err(fault),
+            Ok(item) => match list.push(item) {
+                Ok(()) => {}
+                Err(_) => {
+                    drop(list);
+                    return Err(WarmFault::Memory);
+                }
+            },
+            Err(fault) => {
+                drop(list);
+                return Err(fault);
+            }
         }
     }
     Ok(list)

@@ -1,9 +1,11 @@
 // Lists that rise: places beside numbers, literals, variables.
-ghost use Rattle.std.specs.Prelude.{◌≡◌, ℕ, ◌+◌, ◌<◌, ◌^◌};
+ghost use Rattle.std.specs.Prelude.{◌≡◌, ℕ, ◌+◌, ◌<◌, ◌^◌, bytes_eq, Result};
+ghost use Rattle.serde_json.specs.Data.{Data};
 ghost use Rattle.serde_json.specs.View.{view};
-ghost use Rattle.warm_values.specs.Faults.{SaysFault};
+ghost use Rattle.warm_values.specs.Faults.{Fault, SaysFault};
 ghost use Rattle.warm_values.specs.Values.{place_below, truth_of};
 ghost use Rattle.warm_values.specs.Rising.{is_past, row_id, col_id, rising_entry, stated_literal, multiplier_at, row_entry_of, col_entry_of, literal_of, variable_kind_in, kind_of, dual_kind_of, count_of_kind, var_of, variable_rank, variable_of, multiplier_of};
+ghost use Rattle.warm_values.specs.RisingItems.{rising_item, past_variable};
 
 use crate::fault::WarmFault;
 use crate::numbers::NonzeroPart;
@@ -148,10 +150,59 @@ fn read_truth(alloc: Global, value: &Value) -> Result<bool, WarmFault>
     }
 }
 
+/// What stands behind the place in an item of a rising list.
+trait Beside<A> {
+    ghost beside: { Self → ℕ → Data → Result A Fault };
+
+    fn read_beside(&self, alloc: Global, place: u32, value: &Value) -> Result<A, WarmFault>
+        ensures { SaysFault (beside self.now place (view value.now)) result };
+}
+
+/// An item of a rising list: a place below `count`, and what stands beside it.
+fn read_rising<A: Placed, R: Beside<A>>(
+    alloc: Global,
+    rule: &R,
+    count: u32,
+    before: &[A],
+    value: &Value,
+) -> Result<A, WarmFault>
+    ensures { SaysFault (rising_item (R.beside rule.now) A.place count before.now (view value.now)) result }
+{
+    let Some((first, second)) = two(value) else {
+        return bad(alloc, 3);
+    };
+    match item(alloc, 0, first, &PlacePart { count }) {
+        Ok(place) => {
+            if is_past(before, place as u64) {
+                rule.read_beside(alloc, place, second)
+            } else {
+                bad(alloc, 8)
+            }
+        }
+        Err(fault) => Err(fault),
+    }
+}
+
 /// The entries of a column in so many rows, or the numbers of a point of so many columns.
 #[derive(Drop)]
 pub struct Entries {
     pub count: u32,
+}
+
+impl Beside<(RowId, Frac)> for Entries {
+    ghost beside = { λ _. rising_entry row_id };
+
+    fn read_beside(
+        &self,
+        alloc: Global,
+        place: u32,
+        value: &Value,
+    ) -> Result<(RowId, Frac), WarmFault> {
+        match item(alloc, 1, value, &NonzeroPart) {
+            Ok(number) => Ok((RowId(place), number)),
+            Err(fault) => Err(fault),
+        }
+    }
 }
 
 impl Element<(RowId, Frac)> for Entries {
@@ -163,35 +214,24 @@ impl Element<(RowId, Frac)> for Entries {
         before: &[(RowId, Frac)],
         value: &Value,
     ) -> Result<(RowId, Frac), WarmFault> {
-        read_row_entry(alloc, self.count, before, value)
+        read_rising(alloc, self, self.count, before, value)
     }
 }
 
-#[tactic(auto, using(crate::proofs::Saying::saying))]
-fn row_entry_at(alloc: Global, place: u32, value: &Value) -> Result<(RowId, Frac), WarmFault>
-    ensures { SaysFault (rising_entry row_id place (view value.now)) result }
-{
-    let number = item(alloc, 1, value, &NonzeroPart)?;
-    Ok((RowId(place), number))
-}
+impl Beside<(ColId, Frac)> for Entries {
+    ghost beside = { λ _. rising_entry col_id };
 
-#[tactic(auto, using(crate::proofs::Saying::saying), unfolding(crate::specs::Rising::row_entry_of))]
-fn read_row_entry(
-    alloc: Global,
-    count: u32,
-    before: &[(RowId, Frac)],
-    value: &Value,
-) -> Result<(RowId, Frac), WarmFault>
-    ensures { SaysFault (row_entry_of count before.now (view value.now)) result }
-{
-    let Some((first, second)) = two(value) else {
-        return bad(alloc, 3);
-    };
-    let place = item(alloc, 0, first, &PlacePart { count })?;
-    if is_past(before, place as u64) {
-        return row_entry_at(alloc, place, second);
+    fn read_beside(
+        &self,
+        alloc: Global,
+        place: u32,
+        value: &Value,
+    ) -> Result<(ColId, Frac), WarmFault> {
+        match item(alloc, 1, value, &NonzeroPart) {
+            Ok(number) => Ok((ColId(place), number)),
+            Err(fault) => Err(fault),
+        }
     }
-    bad(alloc, 8)
 }
 
 impl Element<(ColId, Frac)> for Entries {
@@ -203,35 +243,8 @@ impl Element<(ColId, Frac)> for Entries {
         before: &[(ColId, Frac)],
         value: &Value,
     ) -> Result<(ColId, Frac), WarmFault> {
-        read_col_entry(alloc, self.count, before, value)
+        read_rising(alloc, self, self.count, before, value)
     }
-}
-
-#[tactic(auto, using(crate::proofs::Saying::saying))]
-fn col_entry_at(alloc: Global, place: u32, value: &Value) -> Result<(ColId, Frac), WarmFault>
-    ensures { SaysFault (rising_entry col_id place (view value.now)) result }
-{
-    let number = item(alloc, 1, value, &NonzeroPart)?;
-    Ok((ColId(place), number))
-}
-
-#[tactic(auto, using(crate::proofs::Saying::saying), unfolding(crate::specs::Rising::col_entry_of))]
-fn read_col_entry(
-    alloc: Global,
-    count: u32,
-    before: &[(ColId, Frac)],
-    value: &Value,
-) -> Result<(ColId, Frac), WarmFault>
-    ensures { SaysFault (col_entry_of count before.now (view value.now)) result }
-{
-    let Some((first, second)) = two(value) else {
-        return bad(alloc, 3);
-    };
-    let place = item(alloc, 0, first, &PlacePart { count })?;
-    if is_past(before, place as u64) {
-        return col_entry_at(alloc, place, second);
-    }
-    bad(alloc, 8)
 }
 
 /// The literals of a cut, over so many columns.
@@ -240,53 +253,44 @@ pub struct Literals {
     pub columns: u32,
 }
 
+impl Beside<Literal> for Literals {
+    ghost beside = { λ _. stated_literal };
+
+    fn read_beside(&self, alloc: Global, place: u32, value: &Value) -> Result<Literal, WarmFault> {
+        match item(alloc, 1, value, &TruthPart) {
+            Ok(plus) => Ok(Literal {
+                col: ColId(place),
+                plus,
+            }),
+            Err(fault) => Err(fault),
+        }
+    }
+}
+
 impl Element<Literal> for Literals {
     ghost states = { λ l. literal_of l.columns };
 
     fn read(&self, alloc: Global, before: &[Literal], value: &Value) -> Result<Literal, WarmFault> {
-        read_literal(alloc, self.columns, before, value)
+        read_rising(alloc, self, self.columns, before, value)
     }
 }
 
-#[tactic(auto, using(crate::proofs::Saying::saying))]
-fn literal_at(alloc: Global, place: u32, value: &Value) -> Result<Literal, WarmFault>
-    ensures { SaysFault (stated_literal place (view value.now)) result }
+/// Whether a word is this one.
+fn is_word(key: &[u8], word: &[u8]) -> bool
+    ensures { result ≡ bytes_eq word.now key.now }
 {
-    let plus = item(alloc, 1, value, &TruthPart)?;
-    Ok(Literal {
-        col: ColId(place),
-        plus,
-    })
-}
-
-#[tactic(auto, using(crate::proofs::Saying::saying), unfolding(crate::specs::Rising::literal_of))]
-fn read_literal(
-    alloc: Global,
-    columns: u32,
-    before: &[Literal],
-    value: &Value,
-) -> Result<Literal, WarmFault>
-    ensures { SaysFault (literal_of columns before.now (view value.now)) result }
-{
-    let Some((first, second)) = two(value) else {
-        return bad(alloc, 3);
-    };
-    let place = item(alloc, 0, first, &PlacePart { count: columns })?;
-    if is_past(before, place as u64) {
-        return literal_at(alloc, place, second);
-    }
-    bad(alloc, 8)
+    word == key
 }
 
 /// The kind that a word names.
 fn kind_in(word: &[u8]) -> Option<Kind>
     ensures { result ≡ variable_kind_in word.now }
 {
-    if word == b"col".as_slice() {
+    if is_word(b"col", word) {
         Some(Kind::Col)
-    } else if word == b"row".as_slice() {
+    } else if is_word(b"row", word) {
         Some(Kind::Row)
-    } else if word == b"cut".as_slice() {
+    } else if is_word(b"cut", word) {
         Some(Kind::Cut)
     } else {
         None
@@ -365,6 +369,33 @@ fn var_of(kind: Kind, place: u32) -> Var
     }
 }
 
+/// A variable whose kind and place these state, past those before it.
+fn read_past<A: Placed, K: Part<Kind>>(
+    alloc: Global,
+    counts: &Counts,
+    kinds: &K,
+    before: &[A],
+    first: &Value,
+    second: &Value,
+) -> Result<Var, WarmFault>
+    ensures { SaysFault (past_variable counts.now (K.states kinds.now) A.place before.now (view first.now) (view second.now)) result }
+{
+    let kind = match item(alloc, 0, first, kinds) {
+        Ok(kind) => kind,
+        Err(fault) => return Err(fault),
+    };
+    let count = counts.of_kind(kind);
+    let place = match item(alloc, 1, second, &PlacePart { count }) {
+        Ok(place) => place,
+        Err(fault) => return Err(fault),
+    };
+    let var = var_of(kind, place);
+    if is_past(before, rank(&var)) {
+        return Ok(var);
+    }
+    bad(alloc, 8)
+}
+
 /// The variables of a basis.
 #[derive(Drop)]
 pub struct Variables {
@@ -375,30 +406,13 @@ impl Element<Var> for Variables {
     ghost states = { λ v. variable_of v.counts };
 
     fn read(&self, alloc: Global, before: &[Var], value: &Value) -> Result<Var, WarmFault> {
-        read_variable(alloc, &self.counts, before, value)
+        match two(value) {
+            Some((first, second)) => {
+                read_past(alloc, &self.counts, &KindPart, before, first, second)
+            }
+            None => bad(alloc, 3),
+        }
     }
-}
-
-#[tactic(auto, using(crate::proofs::Saying::saying), unfolding(crate::specs::Rising::variable_of))]
-fn read_variable(
-    alloc: Global,
-    counts: &Counts,
-    before: &[Var],
-    value: &Value,
-) -> Result<Var, WarmFault>
-    ensures { SaysFault (variable_of counts.now before.now (view value.now)) result }
-{
-    let Some((first, second)) = two(value) else {
-        return bad(alloc, 3);
-    };
-    let kind = item(alloc, 0, first, &KindPart)?;
-    let count = counts.of_kind(kind);
-    let place = item(alloc, 1, second, &PlacePart { count })?;
-    let var = var_of(kind, place);
-    if is_past(before, rank(&var)) {
-        return Ok(var);
-    }
-    bad(alloc, 8)
 }
 
 /// Multipliers.
@@ -420,14 +434,17 @@ impl Element<(Var, Frac)> for Multipliers {
     }
 }
 
-#[tactic(auto, using(crate::proofs::Saying::saying))]
+/// What stands behind a variable.
 fn multiplier_at(alloc: Global, var: Var, value: &Value) -> Result<(Var, Frac), WarmFault>
     ensures { SaysFault (multiplier_at var (view value.now)) result }
 {
-    let number = item(alloc, 2, value, &NonzeroPart)?;
-    Ok((var, number))
+    match item(alloc, 2, value, &NonzeroPart) {
+        Ok(number) => Ok((var, number)),
+        Err(fault) => Err(fault),
+    }
 }
 
+/// A variable and its multiplier.
 #[tactic(auto, using(crate::proofs::Saying::saying), unfolding(crate::specs::Rising::multiplier_of))]
 fn read_multiplier(
     alloc: Global,
@@ -440,12 +457,8 @@ fn read_multiplier(
     let Some((first, second, third)) = three(value) else {
         return bad(alloc, 3);
     };
-    let kind = item(alloc, 0, first, &DualKindPart)?;
-    let count = counts.of_kind(kind);
-    let place = item(alloc, 1, second, &PlacePart { count })?;
-    let var = var_of(kind, place);
-    if is_past(before, rank(&var)) {
-        return multiplier_at(alloc, var, third);
+    match read_past(alloc, counts, &DualKindPart, before, first, second) {
+        Ok(var) => multiplier_at(alloc, var, third),
+        Err(fault) => Err(fault),
     }
-    bad(alloc, 8)
 }

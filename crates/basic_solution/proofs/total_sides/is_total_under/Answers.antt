@@ -1,15 +1,25 @@
-use Rattle.std.proofs.Common.{◌≡◌, ◌↔◌, IsTrue, ap₂, subst, arith, to_z, of_z, w64}
+use Rattle.std.proofs.Common.{◌≡◌, ◌↔◌, IsTrue, ap₂, subst, to_z, of_z, w64}
 use Rattle.std.specs.Int.{w128}
-use Rattle.std.proofs.lemmas.Int.{ints}
 use Rattle.rational.specs.Rational.{◌<ℚ◌}
 use Rattle.frac128.specs.LowestTerms.{quotient_of}
 use Rattle.basic_solution.proofs.SideLemmas.{under_decided}
+use Rattle.basic_solution.proofs.ReadLemmas.{margin_again}
+use Rattle.table_entries.proofs.ReadLemmas.{short_read, short_again, positive_again, product_read}
 use Rattle.basic_solution.proofs.total_sides.is_total_under.Goals as goal
 
 pub returns-in-Some : goal.returns-in-Some
 returns-in-Some c =
-    let d_is : to_z w64 (of_z w64 c.args.denominator) ≡ c.args.denominator = omega (arith, ints) in
-    let t_is : to_z w128 (of_z w128 c.args.total) ≡ c.args.total = omega (arith, ints) in
+    let d_is : to_z w64 (of_z w64 c.args.denominator) ≡ c.args.denominator = short_read c.args.denominator c.requires.denominator in
+    let t_is : to_z w128 (of_z w128 c.args.total) ≡ c.args.total = product_read c.args.total c.requires.total in
     let call = c.is_quotient_below in
     under_decided c.args.low.now c.in-Some.bound (quotient_of c.args.total c.args.denominator) call.result c.in-Some.is
     (subst (λ x. IsTrue call.result ↔ (x <ℚ c.in-Some.bound)) (ap₂ quotient_of t_is d_is) call.ensures)
+
+pub is_quotient_below-requires-clause-total : goal.is_quotient_below-requires-clause-total
+is_quotient_below-requires-clause-total c = margin_again c.args.total c.requires.total
+
+pub is_quotient_below-requires-clause-positive : goal.is_quotient_below-requires-clause-positive
+is_quotient_below-requires-clause-positive c = positive_again c.args.denominator c.requires.denominator c.requires.positive
+
+pub is_quotient_below-requires-clause-denominator : goal.is_quotient_below-requires-clause-denominator
+is_quotient_below-requires-clause-denominator c = short_again c.args.denominator c.requires.denominator

@@ -13,7 +13,7 @@ overflow_add-id c =
 pub loop-node-preserved : goal.loop-node-preserved
 loop-node-preserved c =
     let at : c.len.result + 1 ≡ length c.pop.new.self.items + 1 = ap (λ n. n + 1) (c.len.ensures ∙ c.pop.new.self.ok.0) in
-    behind-more c.args.nodes.items c.loop-node.rest.items c.pop.new.self.items c.in-Some.node (c.len.result + 1) c.loop-node.branches.items c.put_node.new.branches.items c.in-Some.ensures.items at c.loop-node.invariant c.in_ok-put_node.ensures
+    behind-more c.args.nodes.items c.loop-node.rest.items c.pop.new.self.items c.in-Some.node (c.len.result + 1) c.loop-node.branches.items c.put_node.new.branches.items c.in-Some.ensures.items at c.loop-node.invariant c.in-Ok.ensures
 
 pub returns : goal.returns
 returns c = behind-all c.args.nodes.items c.loop-node.rest.items c.loop-node.branches.items (sym c.loop-node.rest.ok.0 ∙ c.in_default.ensures.cases.0) c.loop-node.invariant

@@ -1,4 +1,4 @@
-use Rattle.std.proofs.Common.{length, sym, subst, ◌∙◌}
+use Rattle.std.proofs.Common.{length, sym, subst, ap, arith, ◌∙◌}
 use Rattle.leaf_dual.specs.Dual.{HavePlaces}
 use Rattle.cert_check.specs.Walk.{AreNodesPlaced}
 use Rattle.cert_check.proofs.ClaimVerdicts.{tree_there, head_rejected, head_wide, head_accepted, head-cuts, rows-are, rows-places, tree-walked, tree_verdict}
@@ -45,3 +45,35 @@ returns-else-has_tree-clause-verdict c =
     let cert = c.args.cert.now in
     head_accepted c.args.model.now cert c.requires.certificate (sym c.has_tree.ensures ∙ c.if-has_tree.false)
     (c.in-Passes.ensures cert.point cert.ray cert.cuts c.requires.buffer.point c.requires.buffer.ray c.requires.buffer.cuts)
+
+pub returns-in-Breaks-clause-buffer : goal.returns-in-Breaks-clause-buffer
+returns-in-Breaks-clause-buffer c = c.requires.buffer
+
+pub returns-in-NoRoom-clause-buffer : goal.returns-in-NoRoom-clause-buffer
+returns-in-NoRoom-clause-buffer c = c.requires.buffer
+
+pub check_nodes-requires-clause-trail : goal.check_nodes-requires-clause-trail
+check_nodes-requires-clause-trail c = c.requires.buffer.trail
+
+pub check_nodes-requires-clause-room : goal.check_nodes-requires-clause-room
+check_nodes-requires-clause-room c =
+    let nodes = c.requires.buffer.nodes.0 in
+    let room = c.requires.buffer.room in
+    let same = ap length c.deref.ensures.value in
+    omega (arith, nodes, room, same)
+
+pub returns-then-has_tree-clause-buffer : goal.returns-then-has_tree-clause-buffer
+returns-then-has_tree-clause-buffer c =
+    let b = c.requires.buffer in
+    record {
+      cuts = b.cuts;
+      few = b.few;
+      nodes = b.nodes;
+      trail = c.check_nodes.ensures.trail;
+      room = let same = c.check_nodes.ensures.room in let room = b.room in omega (arith, same, room);
+      point = b.point;
+      ray = b.ray;
+    }
+
+pub returns-else-has_tree-clause-buffer : goal.returns-else-has_tree-clause-buffer
+returns-else-has_tree-clause-buffer c = c.requires.buffer

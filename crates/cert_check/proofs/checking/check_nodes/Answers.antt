@@ -77,3 +77,38 @@ returns-clause-verdict c = λ tree walked. (
   refl,
   goes_all (formulation c.args.model.now c.args.cuts.now) c.args.claim.now tree c.args.nodes.now c.loop-index.index (path_of_trail c.loop-index.trail) walked (omega (arith, c.loop-index-test.false)) (c.loop-index.invariant.goes tree walked),
 )
+
+pub judge-requires-clause-places : goal.judge-requires-clause-places
+judge-requires-clause-places c = c.requires.places
+
+pub judge-requires-clause-whole : goal.judge-requires-clause-whole
+judge-requires-clause-whole c = c.is_whole-whole.ensures
+
+pub step_on-requires-clause-trail : goal.step_on-requires-clause-trail
+step_on-requires-clause-trail c = c.loop-index.invariant.trail
+
+pub step_on-requires-clause-room : goal.step_on-requires-clause-room
+step_on-requires-clause-room c =
+    let deep = c.loop-index.invariant.deep in
+    let same = c.loop-index.invariant.room in
+    let room = c.requires.room in
+    let below = c.loop-index-test.true in
+    omega (arith, deep, same, room, below)
+
+pub returns-in-Breaks-clause-trail : goal.returns-in-Breaks-clause-trail
+returns-in-Breaks-clause-trail c = c.loop-index.invariant.trail
+
+pub returns-in-Breaks-clause-room : goal.returns-in-Breaks-clause-room
+returns-in-Breaks-clause-room c = c.loop-index.invariant.room
+
+pub returns-in-NoRoom-clause-trail : goal.returns-in-NoRoom-clause-trail
+returns-in-NoRoom-clause-trail c = c.loop-index.invariant.trail
+
+pub returns-in-NoRoom-clause-room : goal.returns-in-NoRoom-clause-room
+returns-in-NoRoom-clause-room c = c.loop-index.invariant.room
+
+pub returns-clause-trail : goal.returns-clause-trail
+returns-clause-trail c = c.loop-index.invariant.trail
+
+pub returns-clause-room : goal.returns-clause-room
+returns-clause-room c = c.loop-index.invariant.room

@@ -1,11 +1,12 @@
 use Rattle.std.proofs.Common.{inl, inr}
+use Rattle.cert_check.proofs.CutSteps.{breaks-not, wide-not}
 use Rattle.cert_check.proofs.checking.check_unbounded.Goals as goal
 
 pub returns-in-Passes : goal.returns-in-Passes
 returns-in-Passes c = λ p r point ray. inl (c.in-Passes.ensures p point, c.check_ray.ensures r ray)
 
 pub returns-in-Breaks : goal.returns-in-Breaks
-returns-in-Breaks c = λ p r point ray. inr (c.in-Breaks.ensures p point, λ e. cc)
+returns-in-Breaks c = λ p r point ray. inr (c.in-Breaks.ensures p point, breaks-not c.in-Breaks.why)
 
 pub returns-in-NoRoom : goal.returns-in-NoRoom
-returns-in-NoRoom c = λ p r point ray. inr (c.in-NoRoom.ensures p point, λ e. cc)
+returns-in-NoRoom c = λ p r point ray. inr (c.in-NoRoom.ensures p point, wide-not c.in-NoRoom.step)

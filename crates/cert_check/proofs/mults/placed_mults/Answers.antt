@@ -16,11 +16,11 @@ loop-index-preserved c =
     record {
       there = each-more mults k mult c.loop-index-test.true c.index-mults-index.is (IsMultiplierThere M c.args.count) c.loop-index.invariant.there c.in-Some.ensures.0;
       placed_is = pushed_more (mult_of M) mults k mult c.loop-index.placed c.push.new.self c.loop-index-test.true c.index-mults-index.is c.loop-index.invariant.placed_is
-          (c.in_ok-push.ensures.pushed ∙ ap (λ e. c.loop-index.placed ++ e ∷ []) c.in-Some.ensures.1);
+          (c.in-Ok.ensures.pushed ∙ ap (λ e. c.loop-index.placed ++ e ∷ []) c.in-Some.ensures.1);
     }
 
 pub returns : goal.returns
 returns c =
     let mults = c.args.mults.now in
     let k = c.loop-index.index in
-    (each-done (IsMultiplierThere c.args.model.now c.args.count) mults k (omega arith) c.loop-index.invariant.there, pushed_all (mult_of c.args.model.now) mults k c.loop-index.placed (omega arith) c.loop-index.invariant.placed_is)
+    (each-done (IsMultiplierThere c.args.model.now c.args.count) mults k (omega (arith, c.loop-index-test.false)) c.loop-index.invariant.there, pushed_all (mult_of c.args.model.now) mults k c.loop-index.placed (omega (arith, c.loop-index-test.false)) c.loop-index.invariant.placed_is)

@@ -11,7 +11,7 @@ loop-col-preserved c =
     let items = c.cols-col-items.ensures.items in
     pushed_more (λ col. number_beside col.name named) M.cols c.loop-col.col-index x c.loop-col.numbers c.push.new.self
     (subst (λ cols. c.loop-col.col-index < length cols) items c.loop-col-test.true) (c.col-item.is ∙ ap (λ cols. get_or cols c.loop-col.col-index x) items) c.loop-col.invariant
-    (c.in_ok-push.ensures.pushed ∙ ap (λ n. c.loop-col.numbers ++ n ∷ []) c.number_beside.ensures)
+    (c.in-Ok.ensures.pushed ∙ ap (λ n. c.loop-col.numbers ++ n ∷ []) c.number_beside.ensures)
 
 pub returns : goal.returns
 returns c =

@@ -19,11 +19,10 @@ returns-in_default c =
 pub loop-word-preserved : goal.loop-word-preserved
 loop-word-preserved c =
     let w = get_or c.args.words.now c.loop-word.word-index some_word in
-    let name = c.in_ok-name.ensures ∙ take_rest w.now 1 in
     literals-more c.args.words.now c.loop-word.literals (literals_in (nows c.args.words.now)) c.loop-word.word-index w c.loop-word-test.true (get_or_default c.args.words.now c.loop-word.word-index some_word w c.loop-word-test.true) c.loop-word.invariant
     c.in-Some.plus (sym c.sign_in.ensures ∙ c.in-Some.is)
     ∙ ap (λ ls. prefixed ls (literals_in (nows (drop (c.loop-word.word-index + 1) c.args.words.now))))
-    (sym (c.in_ok-push.ensures.pushed ∙ ap (λ n. c.loop-word.literals ++ (n, c.in-Some.plus) ∷ []) name))
+    (sym (c.in-Ok.ensures ∙ ap (λ n. c.loop-word.literals ++ (n, c.in-Some.plus) ∷ []) (take_rest w.now 1)))
 
 pub returns : goal.returns
 returns c = literals-end c.args.words.now c.loop-word.literals (literals_in (nows c.args.words.now)) c.loop-word.word-index (omega arith) c.loop-word.invariant

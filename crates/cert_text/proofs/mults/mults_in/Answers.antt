@@ -19,7 +19,7 @@ loop-rest-preserved c =
     let g = c.loop-rest.gathered in
     c.loop-rest.invariant
     ∙ ap (joined_items g.least g.items) (mults_in-first c.loop-rest.rest.now some_word some_word some_word c.in-len3-up.len_at_least)
-    ∙ c.in_ok-add_mult.ensures _
+    ∙ c.in-Ok.ensures _
 
 pub returns-else-is_empty : goal.returns-else-is_empty
 returns-else-is_empty c =

@@ -1,14 +1,24 @@
-use Rattle.std.proofs.Common.{map, ap, sym, ◌∙◌, arith}
+use Rattle.std.proofs.Common.{map, [], ap, sym, ◌∙◌, arith, Bor, List, ℕ}
 use Rattle.std.proofs.lemmas.Grind.{common_steps}
 use Rattle.cert_text.specs.Lines.{named_in}
 use Rattle.cert_text.specs.Reading.{joined_items}
-use Rattle.cert_text.proofs.NamedLemmas.{joined-nothing, joined-form, named_in-odd}
+use Rattle.cert_text.proofs.NamedLemmas.{joined-nothing, joined-form, named_in-odd, named_in-first}
 use Rattle.cert_text.proofs.named.named_in.Goals as goal
+
+abbrev some_word : Bor (List ℕ)
+some_word = record { ref_ptr = (0, 0); now = [] }
 
 pub loop-rest-init : goal.loop-rest-init
 loop-rest-init c =
     let said = named_in (map (λ word. word.now) c.args.words.now) in
     joined-nothing said ∙ (λ i. joined_items (sym c.new-gathered.ensures.least i) (sym c.new-gathered.ensures.items i) said)
+
+pub loop-rest-preserved : goal.loop-rest-preserved
+loop-rest-preserved c =
+    let g = c.loop-rest.gathered in
+    c.loop-rest.invariant
+    ∙ ap (joined_items g.least g.items) (named_in-first c.loop-rest.rest.now some_word some_word c.in-len2-up.len_at_least)
+    ∙ c.in-Ok.ensures _
 
 pub returns-else-is_empty : goal.returns-else-is_empty
 returns-else-is_empty c =

@@ -42,7 +42,7 @@ loop-entry-preserved c =
     let within = entry_within M j entries column l.entry-index l.invariant.0 l.rows l.invariant.1 e below c.entry-item.is long in
     let more = rows_more M j entries column l.entry-index l.invariant.0 l.rows l.invariant.1 e below c.entry-item.is long in
     let read = get_or_read l.rows at c.index-rows-entry.result within c.index-rows-entry.is [] in
-    let pushed = c.in_ok-push.ensures.pushed ∙ ap (λ r. r ++ (j, e.1) ∷ []) (sym c.index-rows-entry.is ∙ read) in
+    let pushed = c.in-Ok.ensures.pushed ∙ ap (λ r. r ++ (j, e.1) ∷ []) (sym c.index-rows-entry.is ∙ read) in
     (suc at, subst (λ r. AreRowsBelow M j entries (l.entry-index + 1) (suc at) (set l.rows at r)) (sym pushed) more)
 
 pub returns : goal.returns

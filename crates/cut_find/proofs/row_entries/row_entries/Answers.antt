@@ -11,8 +11,8 @@ loop-col-init c =
     let n = length c.rows.result.now in
     let nil : List (ℕ × ℚ) = [] in
     record {
-      long = ap length c.in_ok-rows.ensures ∙ length-replicate n nil ∙ ap length c.rows.ensures.items;
-      rows = subst (AreRowsTo M 0) (sym c.in_ok-rows.ensures) (no_rows M n);
+      long = ap length c.in-Ok.ensures ∙ length-replicate n nil ∙ ap length c.rows.ensures.items;
+      rows = subst (AreRowsTo M 0) (sym c.in-Ok.ensures) (no_rows M n);
     }
 
 pub add_column-requires-clause-before : goal.add_column-requires-clause-before
@@ -29,7 +29,7 @@ loop-col-preserved c =
     let more : suc col ≡ col + 1 = omega arith in
     record {
       long = ap length same ∙ kept ∙ l.rows.ok.0 ∙ l.invariant.long;
-      rows = subst (AreRowsTo M (col + 1)) (sym same) (subst (λ n. AreRowsTo M n next) more c.in_ok-add_column.ensures);
+      rows = subst (AreRowsTo M (col + 1)) (sym same) (subst (λ n. AreRowsTo M n next) more c.in-Ok-add_column.ensures);
     }
 
 pub returns-clause-entries : goal.returns-clause-entries

@@ -13,17 +13,17 @@ pub set_side_at-requires : goal.set_side_at-requires
 set_side_at-requires c =
     let sides = c.args.sides.now in
     let i = c.loop-side.side-index in
-    let small : i < length sides = omega arith in
+    let small : i < length sides = omega (arith, c.loop-side-test.true) in
     let there : c.side-item.result.0.0 < length c.args.rows.now = subst (λ (e : RowId × ℚ). e.0.0 < length c.args.rows.now) (sym c.side-item.is) (c.requires i c.side-item.result small) in
     let long = c.loop-side.invariant.long in
-    omega arith
+    omega (arith, there, long)
 
 pub loop-side-preserved : goal.loop-side-preserved
 loop-side-preserved c =
     let sides = c.args.sides.now in
     let i = c.loop-side.side-index in
     let e = c.side-item.result in
-    let small : i < length sides = omega arith in
+    let small : i < length sides = omega (arith, c.loop-side-test.true) in
     let one : take (i + 1) sides ≡ take i sides ++ e ∷ [] = take_more sides i e small ∙ ap (λ b. take i sides ++ b ∷ []) (sym c.side-item.is) in
     record {
       long = ap length c.set_side_at.ensures ∙ length-changed_at (with_side e.1) c.loop-side.rows e.0.0 ∙ c.loop-side.invariant.long;
@@ -36,5 +36,5 @@ loop-side-preserved c =
 pub returns : goal.returns
 returns c =
     let sides = c.args.sides.now in
-    let end : length sides ≤ c.loop-side.side-index = omega arith in
+    let end : length sides ≤ c.loop-side.side-index = omega (arith, c.loop-side-test.false) in
     c.loop-side.invariant.made ∙ ap (λ (named : List (RowId × ℚ)). changed_all row_index with_side named c.args.rows.now) (take_all c.loop-side.side-index sides end)

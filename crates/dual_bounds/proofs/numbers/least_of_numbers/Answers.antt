@@ -13,7 +13,7 @@ loop-number-preserved c =
     let i = c.loop-number.number-index in
     let n = c.number-item.result in
     let least = c.loop-number.least in
-    let small : i < length numbers = omega arith in
+    let small : i < length numbers = omega (arith, c.loop-number-test.true) in
     let rest = least_of_numbers (drop (i + 1) numbers) in
     let next : c.least_of_two-least.result ≡ least_of_two least (finite_number n) = c.least_of_two-least.ensures ∙ ap (λ (o : Option ℚ). least_of_two least o) c.rank.ensures in
     c.loop-number.invariant
@@ -26,5 +26,5 @@ returns c =
     let numbers = c.args.numbers.now in
     let i = c.loop-number.number-index in
     let least = c.loop-number.least in
-    let end : length numbers ≤ i = omega arith in
+    let end : length numbers ≤ i = omega (arith, c.loop-number-test.false) in
     sym (c.loop-number.invariant ∙ ap (λ l. least_of_two least (least_of_numbers l)) (drop_all i numbers end) ∙ least-none least)

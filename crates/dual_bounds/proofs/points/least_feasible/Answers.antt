@@ -14,7 +14,7 @@ loop-point-preserved c =
     let points = c.args.points.now in
     let i = c.loop-point.point-index in
     let x = c.point-item.result in
-    let small : i < length points = omega arith in
+    let small : i < length points = omega (arith, c.loop-point-test.true) in
     let one : take (i + 1) points ≡ take i points ++ x ∷ [] = take_more points i x small ∙ ap (λ b. take i points ++ b ∷ []) (sym c.point-item.is) in
     subst (λ (xs : List Point). IsLeastFeasible M xs c.least_of_two-least.result) (sym one)
     (feasible-more M (take i points) x c.loop-point.least c.feasible_value.result c.least_of_two-least.result c.loop-point.invariant c.feasible_value.ensures c.least_of_two-least.ensures)
@@ -23,5 +23,5 @@ pub returns : goal.returns
 returns c =
     let M = c.args.model.now in
     let points = c.args.points.now in
-    let end : length points ≤ c.loop-point.point-index = omega arith in
+    let end : length points ≤ c.loop-point.point-index = omega (arith, c.loop-point-test.false) in
     subst (λ (xs : List Point). IsLeastFeasible M xs c.loop-point.least) (take_all c.loop-point.point-index points end) c.loop-point.invariant

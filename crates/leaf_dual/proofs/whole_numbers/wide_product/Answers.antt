@@ -3,6 +3,7 @@ use Rattle.std.specs.Prelude.{◌*ℤ◌}
 use Rattle.std.specs.Int.{w128}
 use Rattle.std.proofs.lemmas.Int.{to_z-of_z, ints}
 use Rattle.leaf_dual.proofs.RoomLemmas.{factor_product}
+use Rattle.leaf_dual.proofs.ReadLemmas.{wide_made}
 use Rattle.leaf_dual.proofs.whole_numbers.wide_product.Goals as goal
 
 pub overflow_mul-result : goal.overflow_mul-result
@@ -16,3 +17,6 @@ overflow_mul-result c =
     let second_wide : FitsSigned w128 c.args.second = omega (arith, ints) in
     let product_fits : FitsSigned w128 (c.args.first *ℤ c.args.second) = omega (arith, ints) in
     rw (first_is, second_is) (simp to_z-of_z product_fits)
+
+pub returns : goal.returns
+returns c = wide_made c.args.first c.args.second c.from.result c.from-2.result c.requires.first c.requires.second c.from.ensures c.from-2.ensures

@@ -1,10 +1,10 @@
 use Rattle.std.proofs.Common.{sym, subst, ◌∙◌, ◌≡◌, ◌+ℤ◌, ◌*ℤ◌, arith, below_more, to_z, of_z, w64}
 use Rattle.std.specs.Int.{w128}
-use Rattle.std.proofs.lemmas.Int.{ints}
 use Rattle.frac128.specs.LowestTerms.{quotient_of}
 use Rattle.checked_sum.specs.Steps.{StepFitsAt, partial}
 use Rattle.checked_sum.proofs.StepLaws.{partial_none}
 use Rattle.leaf_dual.specs.Wholes.{IsTermOver, HasRoomForProduct}
+use Rattle.leaf_dual.proofs.ReadLemmas.{factor_read, factor_again, room_read, room_again}
 use Rattle.leaf_dual.proofs.WholeLemmas.{total_more, fits_more_over}
 use Rattle.leaf_dual.proofs.whole_total.whole_total.Goals as goal
 
@@ -12,11 +12,17 @@ pub loop-index-init : goal.loop-index-init
 loop-index-init g c =
     let t = c.args.terms.now in
     record {
-      room = let h = c.requires.start in omega (arith, ints, h);
+      room = room_again c.args.start c.requires.start;
       total = partial_none (quotient_of (to_z w128 (of_z w128 c.args.start)) (g.T.WholeTerms.denominator t)) (g.T.WholeTerms.factor t) (g.T.WholeTerms.number t);
       fits = λ k below. absurd (omega arith);
       holds = λ k below. absurd (omega arith);
     }
+
+pub with_product-requires-clause-factor : goal.with_product-requires-clause-factor
+with_product-requires-clause-factor g c = factor_again c.in-Some.term.factor c.in-Some.ensures.value.factor
+
+pub with_product-requires-clause-number : goal.with_product-requires-clause-number
+with_product-requires-clause-number g c = factor_again c.in-Some.term.number c.in-Some.ensures.value.number
 
 pub loop-index-preserved : goal.loop-index-preserved
 loop-index-preserved g c =
@@ -31,11 +37,11 @@ loop-index-preserved g c =
     let f = c.in-Some.term.factor in
     let n = c.in-Some.term.number in
     let term : IsTermOver d (factor k) (number k) f n = c.in-Some.ensures.value in
-    let f_is : to_z w64 (of_z w64 f) ≡ f = let h = term.factor in omega (arith, ints, h) in
-    let n_is : to_z w64 (of_z w64 n) ≡ n = let h = term.number in omega (arith, ints, h) in
+    let f_is : to_z w64 (of_z w64 f) ≡ f = factor_read f term.factor in
+    let n_is : to_z w64 (of_z w64 n) ≡ n = factor_read n term.number in
     let next' = to_z w128 (of_z w128 c.in-Some-with_product.next) in
     let room : HasRoomForProduct c.in-Some-with_product.next = c.in-Some-with_product.ensures.room in
-    let same : next' ≡ c.in-Some-with_product.next = omega (arith, ints, room) in
+    let same : next' ≡ c.in-Some-with_product.next = room_read c.in-Some-with_product.next room in
     let next_is : next' ≡ total +ℤ f *ℤ n = same ∙ c.in-Some-with_product.ensures.value ∙ (λ i. total +ℤ f_is i *ℤ n_is i) in
     let next_room : HasRoomForProduct next' = subst HasRoomForProduct (sym same) room in
     record {
@@ -48,7 +54,7 @@ loop-index-preserved g c =
 pub returns-clause-fits : goal.returns-clause-fits
 returns-clause-fits g c = λ k q.
     let t = c.args.terms.now in
-    let s_is : to_z w128 (of_z w128 c.args.start) ≡ c.args.start = omega (arith, ints) in
+    let s_is : to_z w128 (of_z w128 c.args.start) ≡ c.args.start = room_read c.args.start c.requires.start in
     let past = c.loop-index-test.false in
     let count = c.count-index-end.ensures in
     subst (λ s. StepFitsAt (quotient_of s (g.T.WholeTerms.denominator t)) (g.T.WholeTerms.factor t) (g.T.WholeTerms.number t) k) s_is (c.loop-index.invariant.fits k (omega (arith, q, past, count)))
@@ -56,7 +62,7 @@ returns-clause-fits g c = λ k q.
 pub returns-clause-value : goal.returns-clause-value
 returns-clause-value g c =
     let t = c.args.terms.now in
-    let s_is : to_z w128 (of_z w128 c.args.start) ≡ c.args.start = omega (arith, ints) in
+    let s_is : to_z w128 (of_z w128 c.args.start) ≡ c.args.start = room_read c.args.start c.requires.start in
     let past = c.loop-index-test.false in
     let within = c.loop-index.auto.index-end in
     let count = c.count-index-end.ensures in

@@ -1,8 +1,7 @@
-use Rattle.std.proofs.Common.{sym, ap, ap₂, subst, ◌∙◌, ◌≡◌, ◌≤◌, ◌^◌, arith, ◌+ℤ◌, ◌*ℤ◌, ℤ, [], ◌∷◌, pos, unsigned_abs, to_z, of_z, w64}
-use Rattle.std.specs.Int.{w128}
+use Rattle.std.proofs.Common.{sym, ap, ◌∙◌, ◌≡◌, arith, ◌+ℤ◌, ◌*ℤ◌, ℤ, [], ◌∷◌, pos}
 use Rattle.std.proofs.lemmas.Int.{ints}
 use Rattle.rational.proofs.IntegerRing.{ring_ℤ, reads_ℤ}
-use Rattle.leaf_dual.proofs.RoomLemmas.{factor_product}
+use Rattle.leaf_dual.proofs.ReadLemmas.{factor_again, room_read, room_again, sum_fits, sum_read}
 use Rattle.leaf_dual.proofs.whole_total.with_product.Goals as goal
 
 nothing_by_factor : (t f n : ℤ) → f ≡ pos 0 → t ≡ t +ℤ f *ℤ n
@@ -10,24 +9,20 @@ nothing_by_factor t f n none = ring_ℤ (t ∷ n ∷ []) (search reads_ℤ) (sea
 
 pub returns-then-factor-eq0-clause-value : goal.returns-then-factor-eq0-clause-value
 returns-then-factor-eq0-clause-value c =
-    let t_is : to_z w128 (of_z w128 c.args.total) ≡ c.args.total = omega (arith, ints) in
-    let none : c.args.factor ≡ pos 0 = let e = c.if-factor-eq0.true in omega (arith, ints, e) in
-    t_is ∙ nothing_by_factor c.args.total c.args.factor c.args.number none
+    let none : c.args.factor ≡ pos 0 = let e = c.if-factor-eq0.true in let h = c.requires.factor in omega (arith, ints, e, h) in
+    room_read c.args.total c.requires.total ∙ nothing_by_factor c.args.total c.args.factor c.args.number none
+
+pub returns-then-factor-eq0-clause-room : goal.returns-then-factor-eq0-clause-room
+returns-then-factor-eq0-clause-room c = room_again c.args.total c.requires.total
+
+pub wide_product-requires-clause-first : goal.wide_product-requires-clause-first
+wide_product-requires-clause-first c = factor_again c.args.factor c.requires.factor
+
+pub wide_product-requires-clause-second : goal.wide_product-requires-clause-second
+wide_product-requires-clause-second c = factor_again c.args.number c.requires.number
 
 pub overflow_add-next : goal.overflow_add-next
-overflow_add-next c =
-    let a = c.args in
-    let f : to_z w64 (of_z w64 a.factor) ≡ a.factor = omega (arith, ints) in
-    let n : to_z w64 (of_z w64 a.number) ≡ a.number = omega (arith, ints) in
-    let product : c.wide_product.result ≡ a.factor *ℤ a.number = c.wide_product.ensures ∙ ap₂ ◌*ℤ◌ f n in
-    let room : unsigned_abs c.wide_product.result ≤ 2 ^ 124 = subst (λ p. unsigned_abs p ≤ 2 ^ 124) (sym product) (factor_product a.factor a.number c.requires.factor c.requires.number) in
-    omega (arith, ints)
+overflow_add-next c = sum_fits c.args.total c.args.factor c.args.number c.wide_product.result c.requires.total c.requires.factor c.requires.number c.wide_product.ensures
 
 pub returns-then-next-le-MARGIN-clause-value : goal.returns-then-next-le-MARGIN-clause-value
-returns-then-next-le-MARGIN-clause-value c =
-    let a = c.args in
-    let f : to_z w64 (of_z w64 a.factor) ≡ a.factor = omega (arith, ints) in
-    let n : to_z w64 (of_z w64 a.number) ≡ a.number = omega (arith, ints) in
-    let product : c.wide_product.result ≡ a.factor *ℤ a.number = c.wide_product.ensures ∙ ap₂ ◌*ℤ◌ f n in
-    let room : unsigned_abs c.wide_product.result ≤ 2 ^ 124 = subst (λ p. unsigned_abs p ≤ 2 ^ 124) (sym product) (factor_product a.factor a.number c.requires.factor c.requires.number) in
-    omega (arith, ints)
+returns-then-next-le-MARGIN-clause-value c = sum_read c.args.total c.args.factor c.args.number c.wide_product.result c.requires.total c.requires.factor c.requires.number c.wide_product.ensures

@@ -1,4 +1,4 @@
-use Rattle.std.proofs.Common.{rules, ◌≡◌, [], List, refl, sym, subst}
+use Rattle.std.proofs.Common.{◌≡◌, [], List, refl, sym, subst}
 use Rattle.std.specs.List.{AllZip}
 use Rattle.lp_model.specs.Formulations.{formulation}
 use Rattle.branch_tree.specs.Leaves.{region_leaves}
@@ -10,28 +10,28 @@ use Rattle.leaf_judging.proofs.QueueLists.{queued-none, queue-tree}
 use Rattle.leaf_judging.proofs.MarkLemmas.{all-kept, marked}
 use Rattle.leaf_judging.proofs.judging.judge_again.Goals as goal
 
-pub returns-clause-states : goal.returns-clause-states
-returns-clause-states c = λ cuts numbered.
+pub returns-in-Ok-clause-states : goal.returns-in-Ok-clause-states
+returns-in-Ok-clause-states c = λ cuts numbered.
     let F = formulation c.args.model.now cuts in
     let t = c.args.target.now in
     let numbers = c.args.numbers.now in
     let root = c.args.tree.now.root in
-    let none : c.new.result.items ≡ [] = search rules in
+    let none : c.new.result.items ≡ [] = c.new.ensures.items in
     let old : Marking = record { against = record { model = c.args.model; target = c.args.target; numbers = c.args.numbers }; states = c.new.result; queue = c.new-2.result } in
     let new : Marking = c.visit_leaves.new.visitor in
     let begun = subst (λ (ss : List LeafState). AllZip (JudgedAs F t) [] ss × AreQueued F [] ss c.new-2.result) (sym none) (tt, queued-none F c.new-2.result c.new-2.ensures) in
-    let done = marked F t numbers [] (region_leaves [] root) old new (all-kept F t numbers root numbered) ((refl, (refl, refl)), begun) c.in_ok-visit_leaves.ensures.visits in
+    let done = marked F t numbers [] (region_leaves [] root) old new (all-kept F t numbers root numbered) ((refl, (refl, refl)), begun) c.in-Ok.ensures.visits in
     record { enough = judged-count F t root new.states.items done.1.0; judged = judged_tree F t root new.states.items done.1.0 }
 
-pub returns-clause-queue : goal.returns-clause-queue
-returns-clause-queue c = λ cuts numbered.
+pub returns-in-Ok-clause-queue : goal.returns-in-Ok-clause-queue
+returns-in-Ok-clause-queue c = λ cuts numbered.
     let F = formulation c.args.model.now cuts in
     let t = c.args.target.now in
     let numbers = c.args.numbers.now in
     let root = c.args.tree.now.root in
-    let none : c.new.result.items ≡ [] = search rules in
+    let none : c.new.result.items ≡ [] = c.new.ensures.items in
     let old : Marking = record { against = record { model = c.args.model; target = c.args.target; numbers = c.args.numbers }; states = c.new.result; queue = c.new-2.result } in
     let new : Marking = c.visit_leaves.new.visitor in
     let begun = subst (λ (ss : List LeafState). AllZip (JudgedAs F t) [] ss × AreQueued F [] ss c.new-2.result) (sym none) (tt, queued-none F c.new-2.result c.new-2.ensures) in
-    let done = marked F t numbers [] (region_leaves [] root) old new (all-kept F t numbers root numbered) ((refl, (refl, refl)), begun) c.in_ok-visit_leaves.ensures.visits in
+    let done = marked F t numbers [] (region_leaves [] root) old new (all-kept F t numbers root numbered) ((refl, (refl, refl)), begun) c.in-Ok.ensures.visits in
     queue-tree F root new.states.items new.queue done.1.1

@@ -1,6 +1,9 @@
-use Rattle.std.proofs.Common.{rules, ◌≡◌, ◌∙◌, ap, sym, subst, inr, false, IsTrue, get_or}
+use Rattle.std.proofs.Common.{rules, refl, ◌≡◌, ◌∙◌, ap, sym, subst, false, IsTrue, get_or}
 use Rattle.lp_model.specs.Lawful.{IsRange}
 use Rattle.lp_model.specs.Edits.{side_or}
+use Rattle.lp_model.specs.declared.types.Edit.TheVariants.{SetRow}
+use Rattle.model_edits.specs.declared.faults.EditFault.TheVariants.{Ranged}
+use Rattle.model_edits.proofs.EditLaws.{fault_told}
 use Rattle.model_edits.proofs.EditedLaws.{sides-fits, sides-fault}
 use Rattle.model_edits.proofs.changing.check_sides.Goals as goal
 
@@ -15,7 +18,8 @@ returns-then-not-is_range-clause-fault c =
     let f : c.is_range.result ≡ false = search rules in
     let sides : IsRange c.side_or.result c.side_or-2.result ≡ IsRange (side_or lo row.lo) (side_or hi row.hi) = (λ i. IsRange (c.side_or.ensures i) (c.side_or-2.ensures i)) in
     let none : ¬ IsRange (side_or lo row.lo) (side_or hi row.hi) = λ h. let t : IsTrue c.is_range.result = c.is_range.ensures.1 (subst (λ P. P) (sym sides) h) in cc in
-    inr (sides-fault M c.args.name.now lo hi k row c.in_ok-place.ensures.found is c.in_ok-copy_name.field-0 c.rows.ensures.lawful c.in_ok-copy_name.ensures none)
+    fault_told M (SetRow c.args.name.now lo hi) c.ranged.result (Ranged c.args.name.now) c.ranged.ensures
+    (sides-fault M c.args.name.now lo hi k row c.in_ok-place.ensures.found is c.args.name.now c.rows.ensures.lawful refl none)
 
 pub returns-clause-fits : goal.returns-clause-fits
 returns-clause-fits c =

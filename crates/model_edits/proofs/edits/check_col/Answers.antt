@@ -1,7 +1,15 @@
-use Rattle.std.proofs.Common.{rules, ◌≡◌, sym, subst, inr, false, IsTrue, map, All, Contains}
+use Rattle.std.proofs.Common.{rules, refl, ◌≡◌, sym, subst, inr, false, IsTrue, map, All, Contains}
 use Rattle.lp_model.specs.Edits.{AreKnown, IsNameTaken, KeepsLimits, IsBounded, adds_col}
+use Rattle.model_edits.specs.Faults.{IsUnknownName}
+use Rattle.model_edits.specs.declared.faults.EditFault.TheVariants.{Duplicate, IntegerUnbounded}
+use Rattle.model_edits.proofs.EditLaws.{fault_told, unknown_told}
 use Rattle.model_edits.proofs.CountLemmas.{col_passes, col_within}
 use Rattle.model_edits.proofs.edits.check_col.Goals as goal
+
+pub returns-in-Some-clause-fault : goal.returns-in-Some-clause-fault
+returns-in-Some-clause-fault c =
+    unknown_told c.args.model.now (adds_col c.args.col.now c.args.named.now) c.in-Some.fault tt
+    (subst (λ l. IsUnknownName (map (λ d. d.name) l) (map (λ d. d.0) c.args.named.now) c.in-Some.fault) c.rows-rows.ensures.items c.in-Some.ensures)
 
 pub returns-then-has_name-clause-fault : goal.returns-then-has_name-clause-fault
 returns-then-has_name-clause-fault c =
@@ -10,7 +18,7 @@ returns-then-has_name-clause-fault c =
     let known : AreKnown M e = (tt, subst (λ l. All (Contains (map (λ r. r.name) l)) (map (λ d. d.0) c.args.named.now)) c.rows-rows.ensures.items c.in_default.ensures) in
     let t : IsTrue c.has_name.result = search rules in
     let taken : IsNameTaken M e = subst (λ l. Contains (map (λ d. d.name) l) c.args.col.now.name) c.cols-cols.ensures.items (c.has_name.ensures.0 t) in
-    inr (known, taken, c.in_ok-copy_name-2.ensures)
+    fault_told M e c.duplicate.result (Duplicate c.args.col.now.name) c.duplicate.ensures (known, taken, refl)
 
 pub returns-in-Some-passed_limit-clause-fault : goal.returns-in-Some-passed_limit-clause-fault
 returns-in-Some-passed_limit-clause-fault c =
@@ -31,7 +39,7 @@ returns-then-not-is_bounded-clause-fault c =
     let within : KeepsLimits M e = col_within M c.rows-rows.result.now c.cols-cols.result.now c.is_wide.result c.count_entries.result c.count_beside.result c.rows-rows.ensures.items c.cols-cols.ensures.items c.is_wide.ensures c.count_entries.ensures c.args.col.now c.args.named.now c.count_beside.ensures.count c.in_default-passed_limit.ensures in
     let g : c.is_bounded.result ≡ false = search rules in
     let unbounded : ¬ IsBounded M e = λ h. let t : IsTrue c.is_bounded.result = c.is_bounded.ensures.1 h in cc in
-    inr (known, free, within, unbounded, c.in_ok-copy_name-3.ensures)
+    fault_told M e c.integer_unbounded.result (IntegerUnbounded c.args.col.now.name) c.integer_unbounded.ensures (known, free, within, unbounded, refl)
 
 pub returns-clause-fits : goal.returns-clause-fits
 returns-clause-fits c =

@@ -1,7 +1,15 @@
-use Rattle.std.proofs.Common.{rules, ◌≡◌, subst, inr, false, IsTrue, map, All, Contains}
+use Rattle.std.proofs.Common.{rules, refl, ◌≡◌, subst, inr, false, IsTrue, map, All, Contains}
 use Rattle.lp_model.specs.Edits.{AreKnown, IsNameTaken, KeepsLimits, HasRange, adds_row}
+use Rattle.model_edits.specs.Faults.{IsUnknownName}
+use Rattle.model_edits.specs.declared.faults.EditFault.TheVariants.{Duplicate, Ranged}
+use Rattle.model_edits.proofs.EditLaws.{fault_told, unknown_told}
 use Rattle.model_edits.proofs.CountLemmas.{row_passes, row_within}
 use Rattle.model_edits.proofs.edits.check_row.Goals as goal
+
+pub returns-in-Some-clause-fault : goal.returns-in-Some-clause-fault
+returns-in-Some-clause-fault c =
+    unknown_told c.args.model.now (adds_row c.args.row.now c.args.named.now) c.in-Some.fault tt
+    (subst (λ l. IsUnknownName (map (λ d. d.name) l) (map (λ d. d.0) c.args.named.now) c.in-Some.fault) c.cols-cols.ensures.items c.in-Some.ensures)
 
 pub returns-then-has_row_name-clause-fault : goal.returns-then-has_row_name-clause-fault
 returns-then-has_row_name-clause-fault c =
@@ -10,7 +18,7 @@ returns-then-has_row_name-clause-fault c =
     let known : AreKnown M e = (tt, subst (λ l. All (Contains (map (λ d. d.name) l)) (map (λ d. d.0) c.args.named.now)) c.cols-cols.ensures.items c.in_default.ensures) in
     let t : IsTrue c.has_row_name.result = search rules in
     let taken : IsNameTaken M e = c.has_row_name.ensures.0 t in
-    inr (known, taken, c.in_ok-copy_name-2.ensures)
+    fault_told M e c.duplicate.result (Duplicate c.args.row.now.name) c.duplicate.ensures (known, taken, refl)
 
 pub returns-in-Some-passed_limit-clause-fault : goal.returns-in-Some-passed_limit-clause-fault
 returns-in-Some-passed_limit-clause-fault c =
@@ -31,7 +39,7 @@ returns-then-not-is_range-clause-fault c =
     let within : KeepsLimits M e = row_within M c.rows-rows.result.now c.cols-cols.result.now c.is_wide.result c.count_entries.result c.count_beside.result c.rows-rows.ensures.items c.cols-cols.ensures.items c.is_wide.ensures c.count_entries.ensures c.args.row.now c.args.named.now c.count_beside.ensures.count c.in_default-passed_limit.ensures in
     let g : c.is_range.result ≡ false = search rules in
     let unbounded : ¬ HasRange M e = λ h. let t : IsTrue c.is_range.result = c.is_range.ensures.1 h in cc in
-    inr (known, free, within, tt, unbounded, c.in_ok-copy_name-3.ensures)
+    fault_told M e c.ranged.result (Ranged c.args.row.now.name) c.ranged.ensures (known, free, within, tt, unbounded, refl)
 
 pub returns-clause-fits : goal.returns-clause-fits
 returns-clause-fits c =

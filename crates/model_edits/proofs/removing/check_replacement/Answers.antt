@@ -1,8 +1,11 @@
-use Rattle.std.proofs.Common.{rules, ◌≡◌, ◌∙◌, ◌<◌, ◌^◌, length, ap, sym, subst, inr, false, IsTrue, map, All, Contains}
+use Rattle.std.proofs.Common.{rules, ◌≡◌, ◌∙◌, ◌<◌, ◌^◌, length, refl, ap, sym, subst, inr, false, IsTrue, map, All, Contains}
 use Rattle.std.specs.List.{sum_by}
 use Rattle.lp_model.specs.Edits.{AreKnown, KeepsLimits, HasRange, number_beside, replaced_entry}
 use Rattle.lp_model.specs.declared.types.Col.{Col}
 use Rattle.lp_model.specs.declared.types.Edit.TheVariants.{ReplaceRow}
+use Rattle.model_edits.specs.Faults.{IsUnknownName}
+use Rattle.model_edits.specs.declared.faults.EditFault.TheVariants.{Ranged}
+use Rattle.model_edits.proofs.EditLaws.{fault_told, unknown_told}
 use Rattle.model_edits.proofs.EditedLaws.{replace-few, replace-passes, replace-within, none_taken}
 use Rattle.model_edits.proofs.removing.check_replacement.Goals as goal
 
@@ -11,6 +14,11 @@ count_entries-entries-requires c =
     let changed = c.in_ok-changed.ensures ∙ (λ i. map (λ d. replaced_entry c.in_ok-row.row (number_beside d.name (c.as_slice-named.ensures i)) d) c.cols-cols.result.now) in
     subst (λ l. sum_by (λ (d : Col). length d.rows) l < 2 ^ 32) (sym c.as_slice.ensures)
     (replace-few c.args.model.now c.args.name.now c.args.lo.now c.args.hi.now c.args.named.now c.in_ok-row.row c.rows-rows.result.now c.cols-cols.result.now c.in_ok-changed.changed c.rows-rows.ensures.lawful c.in_ok-row.ensures.found c.rows-rows.ensures.items c.cols-cols.ensures.items changed)
+
+pub returns-in-Some-clause-fault : goal.returns-in-Some-clause-fault
+returns-in-Some-clause-fault c =
+    unknown_told c.args.model.now (ReplaceRow c.args.name.now c.args.lo.now c.args.hi.now c.args.named.now) c.in-Some.fault c.in_ok-row.ensures.found.there
+    (subst (λ P. P) (λ i. IsUnknownName (map (λ d. d.name) (c.cols-cols.ensures.items i)) (map (λ d. d.0) (c.as_slice-named.ensures i)) c.in-Some.fault) c.in-Some.ensures)
 
 pub returns-in-Some-passed_limit-clause-fault : goal.returns-in-Some-passed_limit-clause-fault
 returns-in-Some-passed_limit-clause-fault c =
@@ -33,7 +41,7 @@ returns-then-not-is_range-clause-fault c =
     let within : KeepsLimits M e = replace-within M c.args.name.now c.args.lo.now c.args.hi.now named c.in_ok-row.row c.rows-rows.result.now c.cols-cols.result.now c.in_ok-changed.changed c.rows-rows.ensures.lawful c.in_ok-row.ensures.found c.rows-rows.ensures.items c.cols-cols.ensures.items changed c.is_wide.result c.count_entries-entries.result c.is_wide.ensures counted c.in_default-passed_limit.ensures in
     let f : c.is_range.result ≡ false = search rules in
     let none : ¬ HasRange M e = λ h. let t : IsTrue c.is_range.result = c.is_range.ensures.1 h in cc in
-    inr (known, none_taken c.args.name.now, within, tt, none, c.in_ok-copy_name-2.ensures)
+    fault_told M e c.ranged.result (Ranged c.args.name.now) c.ranged.ensures (known, none_taken c.args.name.now, within, tt, none, refl)
 
 pub returns-clause-fits : goal.returns-clause-fits
 returns-clause-fits c =

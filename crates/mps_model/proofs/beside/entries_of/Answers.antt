@@ -12,7 +12,7 @@ loop-place-preserved c =
     let small : place < length numbers = omega (arith, c.loop-place-test.true) in
     let one : take (place + 1) numbers ≡ take place numbers ++ x ∷ [] = take_more numbers place x small ∙ ap (λ y. take place numbers ++ y ∷ []) (sym c.index-numbers-place.is) in
     let long = length-take-le place numbers (omega (arith, small)) in
-    c.in_ok-push_entry.ensures
+    c.in-Ok.ensures
     ∙ ap (λ es. es ++ coefficient_at place x) c.loop-place.invariant
     ∙ sym (entries_step 0 place (take place numbers) x (omega (arith, long)))
     ∙ ap (row_entries_from 0) (sym one)

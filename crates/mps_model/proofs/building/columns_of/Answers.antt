@@ -1,5 +1,5 @@
 use Rattle.std.proofs.Common.{◌≡◌, ◌<◌, ◌+◌, ◌≤◌, ◌++◌, ◌∷◌, [], List, map, length, take, ap, sym, ◌∙◌, arith}
-use Rattle.std.proofs.lemmas.List.{take_more, take_all}
+use Rattle.std.proofs.lemmas.List.{take_more, take_all, length-map}
 use Rattle.lp_model.specs.declared.types.Col.{Col}
 use Rattle.mps_model.specs.Meaning.{span_of, column_of}
 use Rattle.mps_model.proofs.BesideSteps.{mapped_at, mapped_more}
@@ -14,8 +14,8 @@ loop-place-preserved c =
     let columns = c.loop-place.columns in
     let small : place < length lines = omega (arith, c.loop-place-test.true) in
     let one : take (place + 1) lines ≡ take place lines ++ line ∷ [] = take_more lines place line small ∙ ap (λ r. take place lines ++ r ∷ []) (sym c.index-lines-place.is) in
-    c.in_ok-push.ensures.pushed
-    ∙ ap (λ d. columns ++ d ∷ []) c.in_ok-column.ensures
+    c.in-Ok-push.ensures.pushed
+    ∙ ap (λ d. columns ++ d ∷ []) c.in-Ok.ensures
     ∙ ap (λ (found : List Col). found ++ column_of s c.args.intupper line ∷ []) c.loop-place.invariant
     ∙ mapped_more (column_of s c.args.intupper) (take place lines) line (take (place + 1) lines) one
 
@@ -32,3 +32,9 @@ column_with-requires-clause-span c =
     let place = c.loop-place.place in
     let small : place < length lines = omega (arith, c.loop-place-test.true) in
     mapped_at (span_of s.bounds) lines c.args.spans.now place c.index-lines-place.result c.index-spans-place.result small c.requires.spans c.index-lines-place.is c.index-spans-place.is
+
+pub bounds-spans-place : goal.bounds-spans-place
+bounds-spans-place c =
+    let lines = c.args.lines.now in
+    let long : length c.args.spans.now ≡ length lines = ap length c.requires.spans ∙ length-map lines (span_of c.args.sections.now.bounds) in
+    omega (arith, c.loop-place-test.true, long)

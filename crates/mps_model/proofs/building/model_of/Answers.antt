@@ -8,16 +8,16 @@ use Rattle.mps_model.proofs.building.model_of.Goals as goal
 pub of_parts-requires : goal.of_parts-requires
 of_parts-requires c =
     let s = c.args.sections.now in
-    let parts = c.in_ok-parts.parts in
-    let names = c.in-Ok.names in
-    let same = parts_are s c.args.intupper names.0 names.1 c.constant_of.result c.second_constant_of.result parts.0 parts.1 c.in-Ok.ensures.first c.in-Ok.ensures.second c.constant_of.ensures c.second_constant_of.ensures c.in_ok-parts.ensures.rows c.in_ok-parts.ensures.columns in
-    let ranges = subst (All (λ (r : Row). IsRange r.lo r.hi)) c.in_ok-parts.ensures.rows c.in_ok-parts.ensures.ranges in
+    let parts = c.in-Ok.parts in
+    let names = c.in-Ok-objective_names.names in
+    let same = parts_are s c.args.intupper names.0 names.1 c.constant_of.result c.second_constant_of.result parts.0 parts.1 c.in-Ok-objective_names.ensures.first c.in-Ok-objective_names.ensures.second c.constant_of.ensures c.second_constant_of.ensures c.in-Ok.ensures.rows c.in-Ok.ensures.columns in
+    let ranges = subst (All (λ (r : Row). IsRange r.lo r.hi)) c.in-Ok.ensures.rows c.in-Ok.ensures.ranges in
     subst IsLawful (sym same) (meant-lawful s c.args.intupper c.requires.limits c.requires.bounded ranges)
 
-pub returns-in-Ok : goal.returns-in-Ok
-returns-in-Ok c =
+pub returns-in-Ok-objective_names : goal.returns-in-Ok-objective_names
+returns-in-Ok-objective_names c =
     let s = c.args.sections.now in
-    let parts = c.in_ok-parts.parts in
-    let names = c.in-Ok.names in
+    let parts = c.in-Ok.parts in
+    let names = c.in-Ok-objective_names.names in
     c.of_parts.ensures
-    ∙ parts_are s c.args.intupper names.0 names.1 c.constant_of.result c.second_constant_of.result parts.0 parts.1 c.in-Ok.ensures.first c.in-Ok.ensures.second c.constant_of.ensures c.second_constant_of.ensures c.in_ok-parts.ensures.rows c.in_ok-parts.ensures.columns
+    ∙ parts_are s c.args.intupper names.0 names.1 c.constant_of.result c.second_constant_of.result parts.0 parts.1 c.in-Ok-objective_names.ensures.first c.in-Ok-objective_names.ensures.second c.constant_of.ensures c.second_constant_of.ensures c.in-Ok.ensures.rows c.in-Ok.ensures.columns

@@ -14,5 +14,5 @@ columns_of-requires-clause-names c = c.requires.table.names
 pub columns_of-requires-clause-spans : goal.columns_of-requires-clause-spans
 columns_of-requires-clause-spans c = c.requires.spans ∙ ap (map (span_of c.args.sections.now.bounds)) (sym c.as_slice-lines.ensures)
 
-pub returns-in-Ok-clause-columns : goal.returns-in-Ok-clause-columns
-returns-in-Ok-clause-columns c = c.in-Ok.ensures ∙ ap (map (column_of c.args.sections.now c.args.intupper)) c.as_slice-lines.ensures
+pub returns-in-Ok-columns_of-clause-columns : goal.returns-in-Ok-columns_of-clause-columns
+returns-in-Ok-columns_of-clause-columns c = c.in-Ok-columns_of.ensures ∙ ap (map (column_of c.args.sections.now c.args.intupper)) c.as_slice-lines.ensures

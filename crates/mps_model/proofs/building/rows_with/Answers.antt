@@ -44,7 +44,7 @@ loop-place-preserved c =
     let place = c.loop-place.place in
     let line = c.index-lines-place.result in
     let number = c.index-numbers-place.result in
-    let row = c.in_ok-row.row in
+    let row = c.in-Ok.row in
     let rows = c.loop-place.rows in
     let small : place < length lines = omega (arith, c.loop-place-test.true) in
     let stated : place < length s.rows = omega (arith, c.loop-place-test.true, ap length c.requires.lines) in
@@ -54,14 +54,14 @@ loop-place-preserved c =
     c.range_beside-range.ensures ∙ ap (λ (found : List RangeLine). range_beside c.as_slice-in-loop-place.result.now found) c.as_slice.ensures ∙ ap (λ (name : List ℕ). range_beside name s.ranges) c.as_slice-in-loop-place.ensures
     in
     let one : take (place + 1) lines ≡ take place lines ++ line ∷ [] = take_more lines place line small ∙ ap (λ r. take place lines ++ r ∷ []) (sym c.index-lines-place.is) in
-    let made : row ≡ row_of s line = c.in_ok-row.ensures.is ∙ ap (λ (x : ℚ). row_with x c.range_beside-range.result line) number_is ∙ ap (λ (range : Option ℚ). row_with (row_number_beside line.name s.sides) range line) range_is in
+    let made : row ≡ row_of s line = c.in-Ok.ensures.is ∙ ap (λ (x : ℚ). row_with x c.range_beside-range.result line) number_is ∙ ap (λ (range : Option ℚ). row_with (row_number_beside line.name s.sides) range line) range_is in
     record {
       is =
-          c.in_ok-push.ensures.pushed
+          c.in-Ok-push.ensures.pushed
           ∙ ap (λ (r : Row). rows ++ r ∷ []) made
           ∙ ap (λ (found : List Row). found ++ row_of s line ∷ []) c.loop-place.invariant.is
           ∙ mapped_more (row_of s) (take place lines) line (take (place + 1) lines) one;
-      ranges = subst (All HasRange) (sym c.in_ok-push.ensures.pushed) (All-append HasRange rows (row ∷ []) c.loop-place.invariant.ranges (All-cons HasRange row [] c.in_ok-row.ensures.range (All-nil HasRange)));
+      ranges = subst (All HasRange) (sym c.in-Ok-push.ensures.pushed) (All-append HasRange rows (row ∷ []) c.loop-place.invariant.ranges (All-cons HasRange row [] c.in-Ok.ensures.range (All-nil HasRange)));
     }
 
 pub returns-clause-is : goal.returns-clause-is

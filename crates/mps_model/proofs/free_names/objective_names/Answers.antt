@@ -1,28 +1,26 @@
-use Rattle.std.proofs.Common.{◌≡◌, ◌++◌, ◌∷◌, [], ap, ◌∙◌}
-use Rattle.std.specs.Prelude.{codes}
+use Rattle.std.proofs.Common.{◌≡◌, ℕ, List, ◌++◌, ◌∷◌, [], ap, subst, ◌∙◌}
+use Rattle.std.specs.Prelude.{codes, Result, Ok, Err, IfOk}
 use Rattle.mps_sections.specs.Statements.{stated_row_names}
-use Rattle.mps_model.specs.Meaning.{objective_name, objective_or, second_or, free_name}
+use Rattle.mps_model.specs.Meaning.{objective_or, second_or, free_name}
 use Rattle.mps_model.proofs.free_names.objective_names.Goals as goal
+
+abbrev first_of : List (List ℕ) → List (List ℕ) → List ℕ
+first_of objectives taken = objective_or objectives (free_name taken (codes "OBJ"))
+
+second_of : {E : Type 0} (result : Result (List ℕ × List ℕ) E) (objectives taken : List (List ℕ)) → IfOk result (λ names. names.0 ≡ first_of objectives taken)
+    → IfOk result (λ names. names.1 ≡ second_or objectives (free_name (taken ++ names.0 ∷ []) (codes "OBJ2")))
+    → IfOk result (λ names. names.1 ≡ second_or objectives (free_name (taken ++ first_of objectives taken ∷ []) (codes "OBJ2")))
+second_of (Ok names) objectives taken p q = q ∙ ap (λ (name : List ℕ). second_or objectives (free_name (taken ++ name ∷ []) (codes "OBJ2"))) p
+second_of (Err error) objectives taken p q = tt
 
 pub returns-clause-first : goal.returns-clause-first
 returns-clause-first c =
-    let s = c.args.sections.now in
-    let named : c.in_ok-taken.taken ≡ stated_row_names s.rows = c.in_ok-taken.ensures ∙ ap stated_row_names c.as_slice.ensures in
-    c.in_ok-first.ensures
-    ∙ ap (λ found. objective_or found (free_name c.as_slice-3.result.now (codes "OBJ"))) c.as_slice-2.ensures
-    ∙ ap (λ found. objective_or s.objectives (free_name found (codes "OBJ"))) (c.as_slice-3.ensures ∙ named)
+    let taken = c.in-Ok.ensures ∙ ap stated_row_names c.as_slice.ensures in
+    subst (λ P. P) (λ i. IfOk c.names_beside-names.result (λ names. names.0 ≡ first_of (c.as_slice-2.ensures i) (taken i))) c.names_beside-names.ensures.first
 
 pub returns-clause-second : goal.returns-clause-second
 returns-clause-second c =
-    let s = c.args.sections.now in
-    let taken = c.in_ok-taken.taken in
-    let named : taken ≡ stated_row_names s.rows = c.in_ok-taken.ensures ∙ ap stated_row_names c.as_slice.ensures in
-    let first : c.in_ok-first.first ≡ objective_name s =
-    c.in_ok-first.ensures
-    ∙ ap (λ found. objective_or found (free_name c.as_slice-3.result.now (codes "OBJ"))) c.as_slice-2.ensures
-    ∙ ap (λ found. objective_or s.objectives (free_name found (codes "OBJ"))) (c.as_slice-3.ensures ∙ named)
-    in
-    c.in_ok-second.ensures
-    ∙ ap (λ found. second_or found (free_name c.as_slice-6.result.now (codes "OBJ2"))) c.as_slice-5.ensures
-    ∙ ap (λ found. second_or s.objectives (free_name found (codes "OBJ2")))
-    (c.as_slice-6.ensures ∙ c.in_ok-push.ensures.pushed ∙ ap (λ name. taken ++ name ∷ []) (c.in_ok-copy.ensures ∙ c.as_slice-4.ensures ∙ first) ∙ ap (λ found. found ++ objective_name s ∷ []) named)
+    let taken = c.in-Ok.ensures ∙ ap stated_row_names c.as_slice.ensures in
+    let found = c.names_beside-names.result in
+    subst (λ P. P) (λ i. IfOk found (λ names. names.1 ≡ second_or (c.as_slice-2.ensures i) (free_name (taken i ++ first_of (c.as_slice-2.ensures i) (taken i) ∷ []) (codes "OBJ2"))))
+    (second_of found c.as_slice-2.result.now c.in-Ok.taken c.names_beside-names.ensures.first c.names_beside-names.ensures.second)

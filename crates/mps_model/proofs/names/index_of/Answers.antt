@@ -11,4 +11,4 @@ loop-place-preserved c =
     let here = c.index-names-place.result in
     let small : place < length names = omega (arith, c.loop-place-test.true) in
     let one : take (place + 1) names ≡ take place names ++ c.as_slice.result.now ∷ [] = take_more names place here small ∙ ap (λ name. take place names ++ name ∷ []) (sym c.index-names-place.is ∙ sym c.as_slice.ensures) in
-    λ q. index_more (take place names) (take (place + 1) names) c.as_slice.result.now q place (find c.loop-place.index q) (find c.insert.new.self q) one (sym (length-take-le place names (omega (arith, small)))) (c.loop-place.invariant q) (c.in_ok-insert.ensures q)
+    λ q. index_more (take place names) (take (place + 1) names) c.as_slice.result.now q place (find c.loop-place.index q) (find c.insert.new.self q) one (sym (length-take-le place names (omega (arith, small)))) (c.loop-place.invariant q) (c.in-Ok.ensures q)

@@ -1,5 +1,4 @@
 use Rattle.std.proofs.Common.{◌≡◌, ◌∷◌, ◌∙◌, ap, sym, length, arith, ℕ, suc}
-use Rattle.std.proofs.lemmas.Result.{err_from_is_err_and}
 use Rattle.std.specs.Prelude.{Ok, Err}
 use Rattle.text_lines.specs.Lines.{lines_of}
 use Rattle.mps_text.specs.Text.{Flaw}
@@ -18,25 +17,24 @@ returns-in-Err c =
     let shown : items_left c.loop-item.lines ≡ Err (flaw_of c.in-Err.fault) ∷ more = c.in-Some.ensures.shown ∙ ap (λ i. item_of i ∷ more) c.in-Err.is in
     OnLine (bad_line c.args.text.now (items_left c.loop-item.lines) more (held c.loop-item.tables) (flaw_of c.in-Err.fault) c.loop-item.invariant.behind shown)
 
-pub returns-in_err-read_line-in-Ok : goal.returns-in_err-read_line-in-Ok
-returns-in_err-read_line-in-Ok c =
+pub returns-in-Err-read_line : goal.returns-in-Err-read_line
+returns-in-Err-read_line c =
     let more = items_left c.next.new.self in
     let shown : items_left c.loop-item.lines ≡ Ok (entry_of_record c.in-Ok.entry) ∷ more = c.in-Some.ensures.shown ∙ ap (λ i. item_of i ∷ more) c.in-Ok.is in
-    let p = err_from_is_err_and c.from_residual.result c.from_residual.ensures.1 in
-    rw (p.1, p.2) (stopped c.args.text.now (items_left c.loop-item.lines) more (held c.loop-item.tables) (entry_of_record c.in-Ok.entry) c.in_err-read_line-in-Ok.field-0.0 c.loop-item.invariant.behind shown c.in_err-read_line-in-Ok.ensures)
+    stopped c.args.text.now (items_left c.loop-item.lines) more (held c.loop-item.tables) (entry_of_record c.in-Ok.entry) c.in-Err-read_line.stop c.loop-item.invariant.behind shown c.in-Err-read_line.ensures
 
 pub returns-then-is_end : goal.returns-then-is_end
 returns-then-is_end c =
     let more = items_left c.next.new.self in
     let shown : items_left c.loop-item.lines ≡ Ok (entry_of_record c.in-Ok.entry) ∷ more = c.in-Some.ensures.shown ∙ ap (λ i. item_of i ∷ more) c.in-Ok.is in
-    let noted = c.in_ok-read_line-in-Ok.ensures in
+    let noted = c.in_default-read_line.ensures in
     last_line c.args.text.now (items_left c.loop-item.lines) more (held c.loop-item.tables) (held c.read_line.new.tables) (entry_of_record c.in-Ok.entry) c.loop-item.invariant.behind shown noted.0 noted.1 (sym c.is_end.ensures ∙ c.if-is_end.true)
 
 pub loop-item-preserved : goal.loop-item-preserved
 loop-item-preserved c =
     let more = items_left c.next.new.self in
     let shown : items_left c.loop-item.lines ≡ Ok (entry_of_record c.in-Ok.entry) ∷ more = c.in-Some.ensures.shown ∙ ap (λ i. item_of i ∷ more) c.in-Ok.is in
-    let noted = c.in_ok-read_line-in-Ok.ensures in
+    let noted = c.in_default-read_line.ensures in
     record {
       behind = next_line c.args.text.now (items_left c.loop-item.lines) more (held c.loop-item.tables) (held c.read_line.new.tables) (entry_of_record c.in-Ok.entry) c.loop-item.invariant.behind shown noted.0 noted.1 (sym c.is_end.ensures ∙ c.if-is_end.false);
       last = c.in-Some.ensures.behind ∙ c.loop-item.invariant.last;

@@ -11,4 +11,4 @@ returns c =
     let old = c.args.text.now.items in
     data_put (a ∷ b ∷ x ∷ []) old c.put_number.new.text.items c.push.new.self.items
     (words_put (a ∷ b ∷ []) (x ∷ []) old c.put_word-2.new.text.items c.put_number.new.text.items
-    (words_put (a ∷ []) (b ∷ []) old c.put_word.new.text.items c.put_word-2.new.text.items c.in_ok-put_word.ensures c.in_ok-put_word-2.ensures) c.in_ok-put_number.ensures) c.in_ok-push.ensures.items
+    (words_put (a ∷ []) (b ∷ []) old c.put_word.new.text.items c.put_word-2.new.text.items c.in-Ok.ensures c.in-Ok-put_word.ensures) c.in-Ok-put_number.ensures) c.in-Ok-push.ensures.items

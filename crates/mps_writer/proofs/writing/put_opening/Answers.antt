@@ -12,6 +12,6 @@ returns c =
     let word = c.extend_from_slice.new.self.items in
     let sensed = c.put_word.new.text.items in
     let new = c.push.new.self.items in
-    let sense : sensed ≡ word ++ spaced (sense_word c.args.sense ∷ []) = c.in_ok-put_word.ensures ∙ ap (λ (w : List ℕ). word ++ spaced (w ∷ [])) c.sense_word.ensures in
-    lines_put (Header (codes "NAME" ∷ []) ∷ []) (Header (codes "OBJSENSE" ∷ sense_word c.args.sense ∷ []) ∷ []) old named new c.in_ok-put_header.ensures
-    (headed_put (codes "OBJSENSE") (sense_word c.args.sense ∷ []) named word sensed new c.in_ok-extend_from_slice.ensures.items sense c.in_ok-push.ensures.items)
+    let sense : sensed ≡ word ++ spaced (sense_word c.args.sense ∷ []) = c.in-Ok-put_word.ensures ∙ ap (λ (w : List ℕ). word ++ spaced (w ∷ [])) c.sense_word.ensures in
+    lines_put (Header (codes "NAME" ∷ []) ∷ []) (Header (codes "OBJSENSE" ∷ sense_word c.args.sense ∷ []) ∷ []) old named new c.in-Ok.ensures
+    (headed_put (codes "OBJSENSE") (sense_word c.args.sense ∷ []) named word sensed new c.in-Ok-extend_from_slice.ensures.items sense c.in-Ok-push.ensures.items)

@@ -8,4 +8,9 @@ loop-place-preserved c =
     let n = c.loop-place.place in
     let here : n ≡ 0 + n = omega arith in
     let next : suc n ≡ n + 1 = omega arith in
-    c.in_ok-push.ensures.items ∙ (λ i. c.loop-place.invariant i ++ here i ∷ []) ∙ places-push 0 n ∙ ap (places_from 0) next
+    c.in-Ok-push.ensures.items ∙ (λ i. c.loop-place.invariant i ++ here i ∷ []) ∙ places-push 0 n ∙ ap (places_from 0) next
+
+pub returns : goal.returns
+returns c =
+    let all : c.loop-place.place ≡ c.args.count = omega (arith, c.loop-place-test.false, c.loop-place.auto.place-end) in
+    c.loop-place.invariant ∙ ap (places_from 0) all

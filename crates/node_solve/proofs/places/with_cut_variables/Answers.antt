@@ -12,7 +12,7 @@ loop-index-preserved c =
     let n = c.loop-index.index in
     let next : suc n ≡ n + 1 = omega arith in
     let basic : c.push.new.self ≡ b.basic ++ cut_variables k (n + 1) =
-    c.in_ok-push.ensures.pushed
+    c.in-Ok-push.ensures.pushed
     ∙ ap (λ (w : Basis). w.basic ++ Cut (record { 0 = k + n }) ∷ []) c.loop-index.invariant
     ∙ append_assoc b.basic (cut_variables k n) (Cut (record { 0 = k + n }) ∷ [])
     ∙ ap (λ l. b.basic ++ l) (variables-push k n ∙ ap (λ m. cut_variables k m) next) in

@@ -1,4 +1,5 @@
 use Rattle.std.proofs.Common.{◌≡◌, refl, sym, ap, ◌∙◌, arith, length, get_or, below_more}
+use Rattle.std.proofs.lemmas.Bool.{false≢true}
 use Rattle.rational.specs.Rational.{ℚ}
 use Rattle.lp_model.specs.declared.types.ColId.{ColId}
 use Rattle.lp_model.proofs.ElementLemmas.{get_or-read}
@@ -18,9 +19,7 @@ returns-then-not-is_same_term c =
     get_or-read c.index-first-index.result xs xs i c.index-first-index.result refl (omega arith) c.index-first-index.is
     ∙ ap (λ l. get_or l i c.index-first-index.result) e
     ∙ sym (get_or-read c.index-first-index.result ys ys i c.index-second-index.result refl (omega arith) c.index-second-index.is) in
-    let t = c.is_same_term.ensures.1 one in
-    let f = c.if-not-is_same_term.true in
-    absurd cc)
+    false≢true (sym c.if-not-is_same_term.true ∙ c.is_same_term.ensures.1 one))
 
 pub loop-index-preserved : goal.loop-index-preserved
 loop-index-preserved c =

@@ -1,9 +1,10 @@
 use Rattle.std.proofs.Common.{sym, ◌∙◌}
+use Rattle.std.proofs.lemmas.Bool.{false≢true}
 use Rattle.node_solve.proofs.TaskLemmas.{is_not}
 use Rattle.node_solve.proofs.rounds.is_same_row.Goals as goal
 
 pub returns-then-not-is_equal : goal.returns-then-not-is_equal
-returns-then-not-is_equal c = is_not (λ h. let t = c.is_equal.ensures.1 h.1 in let f = c.if-not-is_equal.true in absurd cc)
+returns-then-not-is_equal c = is_not (λ h. false≢true (sym c.if-not-is_equal.true ∙ c.is_equal.ensures.1 h.1))
 
 pub returns : goal.returns
 returns c = (

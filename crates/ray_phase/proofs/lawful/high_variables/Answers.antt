@@ -5,7 +5,7 @@ use Rattle.basic_solution.specs.Lists.{AreRising}
 use Rattle.basic_solution.proofs.ListLemmas.{rising_named, rising_skip}
 use Rattle.ray_phase.specs.Answers.{IsModelHigh}
 use Rattle.ray_phase.proofs.lawful.high_variables.Goals as goal
-use Rattle.ray_phase.proofs.lawful.high_variables.Goals.{then-is_model_high+in_ok-push, else-is_model_high}
+use Rattle.ray_phase.proofs.lawful.high_variables.Goals.{then-is_model_high+in-Ok, else-is_model_high}
 
 pub loop-variable-preserved : goal.loop-variable-preserved
 loop-variable-preserved c =
@@ -13,7 +13,7 @@ loop-variable-preserved c =
     let v = c.loop-variable.variable in
     let P = IsModelHigh c.args.model.now c.args.state.now in
     elim c.if-is_model_high.branch [
-      | then-is_model_high+in_ok-push w ↦ rising_named t P v c.loop-variable.list c.if-is_model_high.list w.variable.result (w.list-is ∙ w.in_ok-push.ensures.pushed)
+      | then-is_model_high+in-Ok w ↦ rising_named t P v c.loop-variable.list c.if-is_model_high.list w.variable.result (w.list-is ∙ w.in-Ok.ensures.pushed)
           w.variable.ensures c.loop-variable.invariant (c.is_model_high.ensures.0 w.if-is_model_high.true)
       | else-is_model_high w ↦ subst (λ list. AreRising P (v + 1) (numbers t list)) (sym w.list-is) (rising_skip P v (numbers t c.loop-variable.list) c.loop-variable.invariant (λ h. false≢true (sym w.if-is_model_high.false ∙ c.is_model_high.ensures.1 h)))
     ]

@@ -4,6 +4,8 @@ use Rattle.rational.specs.Rational.{int, ◌<ℚ◌}
 use Rattle.rational.proofs.RationalOrder.{≤ℚ_from_not}
 use Rattle.lp_model.specs.Rays.{direction_cost, IsRayJudged}
 use Rattle.lp_model.proofs.RayLemmas.{judged_rightly}
+use Rattle.ray_phase.specs.Answers.{IsRayEnd}
+use Rattle.ray_phase.specs.declared.phase.RayAnswer.TheVariants.{DualBasis}
 use Rattle.ray_phase.proofs.DirectionLemmas.{count_rows, model_ray, lawful_basis, optimum_of, wide_end}
 use Rattle.ray_phase.proofs.phase.judged.Goals as goal
 
@@ -42,7 +44,8 @@ returns-in-Ok-high_variables c = λ n limit.
     let d = c.args.direction in
     let best = c.requires.best in
     let high = c.in-Ok-high_variables.high in
-    let not_below = ≤ℚ_from_not (int (pos 0)) (direction_cost M d) (λ h. false≢true (sym c.if-is_negative.false ∙ c.is_negative.ensures.1 (subst (λ t. t <ℚ int (pos 0)) (sym c.in-Ok.ensures.1) h))) in (
+    let not_below = ≤ℚ_from_not (int (pos 0)) (direction_cost M d) (λ h. false≢true (sym c.if-is_negative.false ∙ c.is_negative.ensures.1 (subst (λ t. t <ℚ int (pos 0)) (sym c.in-Ok.ensures.1) h))) in
+    subst (λ b. IsRayEnd M n limit s (DualBasis b)) (sym c.with_high.ensures) (
       (d, (optimum_of s d best, (c.in-Ok.ensures.0, not_below))),
       (record { basic = c.requires.basis.basic; high = c.in-Ok-high_variables.ensures }, lawful_basis M s c.requires.directions d best not_below c.args.basis.basic high c.requires.basis.basic c.in-Ok-high_variables.ensures),
     )

@@ -1,8 +1,7 @@
-use Rattle.std.proofs.Common.{◌++◌, ◌∙◌, ap}
-use Rattle.std.specs.Prelude.{codes, decimal}
-use Rattle.reply_texts.proofs.TextLemmas.{join}
+use Rattle.std.proofs.Common.{◌≡◌, ℕ, List, ◌++◌, ◌∙◌, subst}
+use Rattle.std.specs.Prelude.{codes, decimal, IfOk}
 use Rattle.reply_texts.proofs.refusals.write_faulty_model.Goals as goal
 
 pub returns : goal.returns
 returns c =
-    join c.args.reply.now.items ((((codes "error 30 mps line ") ++ (decimal c.args.line)) ++ (codes " code ")) ++ (decimal c.args.code)) (codes "\n") c.extend_from_slice-4.new.self.items c.extend_from_slice-5.new.self.items (join c.args.reply.now.items (((codes "error 30 mps line ") ++ (decimal c.args.line)) ++ (codes " code ")) (decimal c.args.code) c.extend_from_slice-3.new.self.items c.extend_from_slice-4.new.self.items (join c.args.reply.now.items ((codes "error 30 mps line ") ++ (decimal c.args.line)) (codes " code ") c.extend_from_slice-2.new.self.items c.extend_from_slice-3.new.self.items (join c.args.reply.now.items (codes "error 30 mps line ") (decimal c.args.line) c.extend_from_slice.new.self.items c.extend_from_slice-2.new.self.items c.in_ok-extend_from_slice.ensures.items (c.in_ok-extend_from_slice-2.ensures.items ∙ ap (λ t. c.extend_from_slice.new.self.items ++ t) (c.as_bytes.ensures.value ∙ c.format.ensures.text))) c.in_ok-extend_from_slice-3.ensures.items) (c.in_ok-extend_from_slice-4.ensures.items ∙ ap (λ t. c.extend_from_slice-3.new.self.items ++ t) (c.as_bytes-2.ensures.value ∙ c.format-2.ensures.text))) c.in_ok-extend_from_slice-5.ensures.items
+    subst (λ (t : List ℕ). IfOk c.write_fault.result (λ _. c.write_fault.new.reply.items ≡ c.args.reply.now.items ++ ((((codes "error 30 mps line " ++ t) ++ codes " code ") ++ decimal c.args.code) ++ codes "\n"))) (c.as_bytes.ensures.value ∙ c.format.ensures.text) c.write_fault.ensures

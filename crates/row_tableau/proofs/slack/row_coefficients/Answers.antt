@@ -1,9 +1,11 @@
-use Rattle.std.proofs.Common.{◌≡◌, ◌≢◌, ◌<◌, ◌*◌, ◌+◌, ◌∙◌, sym, ap, subst, length, get_or, pos, ℕ}
+use Rattle.std.proofs.Common.{◌≡◌, ◌≢◌, ◌<◌, ◌*◌, ◌+◌, ◌∙◌, sym, ap, subst, arith, length, get_or, pos, ℕ}
 use Rattle.std.proofs.lemmas.List.{with_items_is}
 use Rattle.rational.specs.Rational.{int}
 use Rattle.lp_model.specs.Program.{coefficient, entry_of}
 use Rattle.lp_model.proofs.ElementLemmas.{of_element-read}
+use Rattle.lp_model.proofs.ModelLaws.{few_columns}
 use Rattle.row_tableau.proofs.ColumnLemmas.{columns_written, columns_zero}
+use Rattle.row_tableau.proofs.LayoutLemmas.{few_entries}
 use Rattle.row_tableau.proofs.slack.row_coefficients.Goals as goal
 
 pub loop-col-preserved : goal.loop-col-preserved
@@ -29,3 +31,31 @@ loop-col-preserved c =
       written = columns_written M m n col col_within c.loop-col.list.items next _ same here others c.loop-col.invariant.written;
       zeros = columns_zero M m n col col_within c.loop-col.list.items next _ same here others c.loop-col.invariant.zeros;
     }
+
+pub write_column-requires-clause-size : goal.write_column-requires-clause-size
+write_column-requires-clause-size c =
+    let columns_are : length c.cols-columns.result.now ≡ length c.args.model.now.cols = ap length c.cols-columns.ensures.items in
+    ap length c.deref_mut.ensures.value ∙ c.loop-col.invariant.size ∙ ap (λ n. c.args.activities * n) (sym columns_are)
+
+pub write_column-requires-clause-room : goal.write_column-requires-clause-room
+write_column-requires-clause-room c =
+    let columns_are : length c.cols-columns.result.now ≡ length c.args.model.now.cols = ap length c.cols-columns.ensures.items in
+    let columns_few = few_columns c.args.model.now c.cols-columns.ensures.lawful in
+    let few = c.requires in
+    few_entries (length c.cols-columns.result.now) c.args.activities (omega (arith, columns_are, columns_few, few))
+
+pub write_column-requires-clause-zeros : goal.write_column-requires-clause-zeros
+write_column-requires-clause-zeros c = λ i q.
+    let columns_are : length c.cols-columns.result.now ≡ length c.args.model.now.cols = ap length c.cols-columns.ensures.items in
+    let col = c.loop-col.col in
+    let col_within : col < length c.args.model.now.cols = subst (λ k. col < k) columns_are c.loop-col-test.true in
+    ap (λ xs. get_or xs (i * length c.cols-columns.result.now + col) (int (pos 0))) c.deref_mut.ensures.value
+    ∙ subst (λ n. get_or c.loop-col.list.items (i * n + col) (int (pos 0)) ≡ int (pos 0)) (sym columns_are) (c.loop-col.invariant.zeros i col q (omega arith) col_within)
+
+pub overflow_mul-activities : goal.overflow_mul-activities
+overflow_mul-activities c =
+    let columns_are : length c.cols-columns.result.now ≡ length c.args.model.now.cols = ap length c.cols-columns.ensures.items in
+    let columns_few = few_columns c.args.model.now c.cols-columns.ensures.lawful in
+    let few = c.requires in
+    let room = few_entries (length c.cols-columns.result.now) c.args.activities (omega (arith, columns_are, columns_few, few)) in
+    omega (arith, room)

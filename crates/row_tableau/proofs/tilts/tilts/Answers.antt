@@ -10,7 +10,7 @@ loop-variable-preserved c =
     let xs = c.loop-variable.list.items in
     let y = c.tilt_of.result in
     let inv = c.loop-variable.invariant in
-    let pushed = c.in_ok-push.ensures.items in
+    let pushed = c.in-Ok-push.ensures.items in
     record {
       size = ap length pushed ∙ length-append xs (y ∷ []) ∙ ap (λ n. n + 1) inv.size;
       items = subst (λ ys. (u : ℕ) → u < c.loop-variable.variable + 1 → get_or ys u Free ≡ tilt_of c.args.relax.now.kind (form_of c.args.relax.now) u) (sym pushed)

@@ -2,7 +2,7 @@ use Rattle.std.proofs.Common.{◌∙◌, ◌++◌, ◌∷◌, [], refl, sym, ap,
 use Rattle.search_saving.proofs.lawful.put.Goals as goal
 
 pub returns-then-is_lawful : goal.returns-then-is_lawful
-returns-then-is_lawful c = inl (sym c.is_lawful.ensures ∙ c.if-is_lawful.true, refl, c.in_ok-push.ensures.pushed ∙ ap (λ n. c.args.kept.now ++ n ∷ []) c.in_ok-copy.ensures)
+returns-then-is_lawful c = inl (sym c.is_lawful.ensures ∙ c.if-is_lawful.true, refl, c.in-Ok-push.ensures.pushed ∙ ap (λ n. c.args.kept.now ++ n ∷ []) c.in-Ok.ensures)
 
 pub returns : goal.returns
-returns c = inr (sym c.is_lawful.ensures ∙ c.if-is_lawful.false, refl, c.in_ok-push-2.ensures.pushed ∙ ap (λ n. c.args.kept.now ++ n ∷ []) c.in_ok-leaf.ensures)
+returns c = inr (sym c.is_lawful.ensures ∙ c.if-is_lawful.false, refl, c.in-Ok-push-2.ensures.pushed ∙ ap (λ n. c.args.kept.now ++ n ∷ []) c.in-Ok-merged.ensures)

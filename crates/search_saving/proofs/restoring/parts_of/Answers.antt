@@ -20,10 +20,10 @@ tree_of-requires-clause-bounds c =
     subst (λ (ns : List NodeData). All HasNodeBound ns) (sym c.as_slice-2.ensures) (All-weaker (IsRestorableNode F) HasNodeBound (node-bound F) c.args.stated.now.nodes c.requires.nodes)
 
 pub returns-clause-pool : goal.returns-clause-pool
-returns-clause-pool c = subst (λ (ds : List Derivation). IsPoolFrom c.args.stated.now.model ds c.in_ok-pool.pool) c.as_slice.ensures c.in_ok-pool.ensures
+returns-clause-pool c = subst (λ (ds : List Derivation). IsPoolFrom c.args.stated.now.model ds c.in-Ok.pool) c.as_slice.ensures c.in-Ok.ensures
 
 pub returns-clause-tree : goal.returns-clause-tree
-returns-clause-tree c t is = c.in_ok-tree.ensures.tree t (is ∙ sym c.as_slice-2.ensures)
+returns-clause-tree c t is = c.in-Ok-tree_of.ensures.tree t (is ∙ sym c.as_slice-2.ensures)
 
 pub returns-clause-shallow : goal.returns-clause-shallow
-returns-clause-shallow c t is = c.in_ok-tree.ensures.shallow t (is ∙ sym c.as_slice-2.ensures)
+returns-clause-shallow c t is = c.in-Ok-tree_of.ensures.shallow t (is ∙ sym c.as_slice-2.ensures)

@@ -15,7 +15,7 @@ add_derivation-requires c =
 
 pub loop-cut-preserved : goal.loop-cut-preserved
 loop-cut-preserved c =
-    pool-next c.args.model.now c.args.cuts.now c.loop-cut.cut-index c.cut-item.result c.in_ok-from.from c.loop-cut.pool c.add_derivation.new.pool c.loop-cut-test.true c.cut-item.is c.in_ok-from.ensures c.loop-cut.invariant c.in_ok-add_derivation.ensures
+    pool-next c.args.model.now c.args.cuts.now c.loop-cut.cut-index c.cut-item.result c.in-Ok.from c.loop-cut.pool c.add_derivation.new.pool c.loop-cut-test.true c.cut-item.is c.in-Ok.ensures c.loop-cut.invariant c.in-Ok-add_derivation.ensures
 
 pub returns : goal.returns
-returns c = subst (λ (ds : List Derivation). IsPoolFrom c.args.model.now ds c.loop-cut.pool) (take_all c.loop-cut.cut-index c.args.cuts.now (omega arith)) c.loop-cut.invariant
+returns c = subst (λ (ds : List Derivation). IsPoolFrom c.args.model.now ds c.loop-cut.pool) (take_all c.loop-cut.cut-index c.args.cuts.now (omega (arith, c.loop-cut-test.false))) c.loop-cut.invariant

@@ -5,5 +5,5 @@ use Rattle.sym_env.proofs.certificates.certificate_text.Goals as goal
 
 pub returns : goal.returns
 returns c =
-    certificate-text (λ (v : Vec ℕ Global). v.items) c.args.search.now c.in_ok-cert.cert c.print_cert.result c.names_law.ensures c.verdict_law.ensures c.accepted_law.ensures c.points-sound.ensures.sound
-    c.in_ok-cert.ensures.exact c.in_ok-cert.ensures.certificate c.in_ok-cert.ensures.accepted c.print_cert.ensures.text c.print_cert.ensures.states
+    certificate-text (λ (v : Vec ℕ Global). v.items) c.args.search.now c.in-Ok.cert c.print_cert-text.result c.names_law.ensures c.verdict_law.ensures c.accepted_law.ensures c.points-sound.ensures.sound
+    c.in-Ok.ensures.exact c.in-Ok.ensures.certificate c.in-Ok.ensures.accepted c.print_cert-text.ensures.text c.print_cert-text.ensures.states

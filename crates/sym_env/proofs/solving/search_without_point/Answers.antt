@@ -1,5 +1,5 @@
 use Rattle.std.proofs.Common.{subst}
-use Rattle.sym_env.specs.Beginning.{IsBeginning}
+use Rattle.ray_phase.specs.Beginnings.{IsBeginning}
 use Rattle.sym_env.proofs.SolveLemmas.{wants-first, stopped-first, stopped-never}
 use Rattle.sym_env.proofs.TruthLemmas.{stop-bounded}
 use Rattle.sym_env.proofs.solving.search_without_point.Goals as goal

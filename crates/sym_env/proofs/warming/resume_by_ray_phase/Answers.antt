@@ -3,9 +3,9 @@ use Rattle.ray_phase.specs.Answers.{IsRayAnswer}
 use Rattle.ray_phase.specs.declared.phase.RayAnswer.TheVariants as phase
 use Rattle.lp_model.specs.declared.answers.StopWhy.TheVariants as stop
 use Rattle.tree_search.proofs.ExtendLemmas.{extends-self}
-use Rattle.sym_env.specs.Beginnings.{IsRayStop}
+use Rattle.ray_phase.specs.Beginnings.{IsRayStop}
 use Rattle.sym_env.specs.Warm.{BesidePoint}
-use Rattle.sym_env.proofs.BeginLemmas.{stop-pivots}
+use Rattle.ray_phase.proofs.BeginningLemmas.{stop-pivots}
 use Rattle.sym_env.proofs.SolveLemmas.{wants-first, stopped-first, stopped-never}
 use Rattle.sym_env.proofs.TruthLemmas.{stop-bounded}
 use Rattle.sym_env.proofs.WarmLemmas.{with-own, with-stop, with-none, own-stop}

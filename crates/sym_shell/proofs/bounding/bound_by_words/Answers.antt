@@ -5,6 +5,6 @@ use Rattle.edit_words.specs.EditWords.{names_in}
 use Rattle.edit_words.proofs.PairLemmas.{pairs-distinct}
 use Rattle.sym_shell.proofs.bounding.bound_by_words.Goals as goal
 
-pub bound_by_numbers-requires-clause-distinct : goal.bound_by_numbers-requires-clause-distinct
-bound_by_numbers-requires-clause-distinct c =
+pub bound_by_numbers-told-requires-clause-distinct : goal.bound_by_numbers-told-requires-clause-distinct
+bound_by_numbers-told-requires-clause-distinct c =
     subst (λ (named : Named). AllPairs (λ a b. a ≢ b) (names_in named)) (sym c.as_slice.ensures) (pairs-distinct (map (λ word. word.now) c.args.words.now) c.in-Read.named c.in-Read.ensures)

@@ -21,7 +21,7 @@ loop-index-preserved g c =
     record {
       there = there-more names c.args.named.now k e c.loop-index-test.true c.index-named-index.is c.loop-index.invariant.there (subst (Contains names) c.as_slice.ensures first.there);
       places =
-          placed-step g.P.Place.at_place names c.args.named.now k e c.loop-index-test.true c.index-named-index.is c.in_ok-push.ensures.pushed c.loop-index.invariant.places
+          placed-step g.P.Place.at_place names c.args.named.now k e c.loop-index-test.true c.index-named-index.is c.in-Ok.ensures.pushed c.loop-index.invariant.places
           (c.at_place.ensures ∙ ap g.P.Place.at_place (first.is ∙ ap (place_in names) c.as_slice.ensures));
     }
 

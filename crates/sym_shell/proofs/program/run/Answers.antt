@@ -1,9 +1,9 @@
-use Rattle.std.proofs.Common.{refl, sym, ◌∙◌, ap, subst, inl, arith}
+use Rattle.std.proofs.Common.{refl, sym, ◌∙◌, ap, subst, inl, inr, arith}
 use Rattle.std.specs.Prelude.{Err}
 use Rattle.script_session.specs.Run.{outside}
 use Rattle.program_words.specs.Forms.{AskedForm, form_shown}
 use Rattle.sym_shell.specs.Run.{around, RunsAs}
-use Rattle.sym_shell.proofs.RunLemmas.{run_form, check_form, not_usage}
+use Rattle.sym_shell.proofs.RunLemmas.{run_form, check_form, not_usage, below_seven}
 use Rattle.sym_shell.proofs.program.run.Goals as goal
 
 pub returns-in-Ok-Run-clause-run_form : goal.returns-in-Ok-Run-clause-run_form
@@ -48,3 +48,84 @@ returns-in-Err-Memory-clause-run_form g c = run_form c.args.words.now 5 (λ _ tw
 
 pub returns-in-Err-Memory-clause-check_form : goal.returns-in-Err-Memory-clause-check_form
 returns-in-Err-Memory-clause-check_form g c = check_form c.args.words.now 5 (λ _ two. absurd (omega arith))
+
+pub returns-in-Ok-Run-clause-usage : goal.returns-in-Ok-Run-clause-usage
+returns-in-Ok-Run-clause-usage g c = λ two. absurd (c.run_commands.ensures.known.0 two)
+
+pub returns-in-Ok-Run-clause-usage_only : goal.returns-in-Ok-Run-clause-usage_only
+returns-in-Ok-Run-clause-usage_only g c = λ no. absurd (no c.in-Ok-Run.ensures.taken)
+
+pub returns-in-Ok-Run-clause-usage_line : goal.returns-in-Ok-Run-clause-usage_line
+returns-in-Ok-Run-clause-usage_line g c = λ two. absurd (c.run_commands.ensures.known.0 two)
+
+pub returns-in-Ok-Run-clause-unwritten : goal.returns-in-Ok-Run-clause-unwritten
+returns-in-Ok-Run-clause-unwritten g c = λ no five. absurd (no c.in-Ok-Run.ensures.taken)
+
+pub returns-in-Ok-Run-clause-untouched : goal.returns-in-Ok-Run-clause-untouched
+returns-in-Ok-Run-clause-untouched g c = λ no. absurd (no c.in-Ok-Run.ensures.taken)
+
+pub returns-in-Ok-Check-clause-usage : goal.returns-in-Ok-Check-clause-usage
+returns-in-Ok-Check-clause-usage g c = λ two. absurd (not_usage c.run_check.result c.run_check.ensures.known two)
+
+pub returns-in-Ok-Check-clause-usage_only : goal.returns-in-Ok-Check-clause-usage_only
+returns-in-Ok-Check-clause-usage_only g c = λ no. absurd (no c.in-Ok-Check.ensures.taken)
+
+pub returns-in-Ok-Check-clause-usage_line : goal.returns-in-Ok-Check-clause-usage_line
+returns-in-Ok-Check-clause-usage_line g c = λ two. absurd (not_usage c.run_check.result c.run_check.ensures.known two)
+
+pub returns-in-Ok-Check-clause-unwritten : goal.returns-in-Ok-Check-clause-unwritten
+returns-in-Ok-Check-clause-unwritten g c = λ no five. absurd (no c.in-Ok-Check.ensures.taken)
+
+pub returns-in-Ok-Check-clause-untouched : goal.returns-in-Ok-Check-clause-untouched
+returns-in-Ok-Check-clause-untouched g c = λ no. absurd (no c.in-Ok-Check.ensures.taken)
+
+pub returns-in-Ok-Run-clause-known : goal.returns-in-Ok-Run-clause-known
+returns-in-Ok-Run-clause-known g c = c.run_commands.ensures.known.1
+
+pub returns-in-Ok-Run-clause-source_later : goal.returns-in-Ok-Run-clause-source_later
+returns-in-Ok-Run-clause-source_later g c = c.run_commands.ensures.source_later
+
+pub returns-in-Ok-Run-clause-sink_later : goal.returns-in-Ok-Run-clause-sink_later
+returns-in-Ok-Run-clause-sink_later g c = c.run_commands.ensures.sink_later
+
+pub returns-in-Ok-Run-clause-store_later : goal.returns-in-Ok-Run-clause-store_later
+returns-in-Ok-Run-clause-store_later g c = c.run_commands.ensures.store_later
+
+pub returns-in-Ok-Check-clause-known : goal.returns-in-Ok-Check-clause-known
+returns-in-Ok-Check-clause-known g c = below_seven c.run_check.result c.run_check.ensures.known
+
+pub returns-in-Ok-Check-clause-sink_later : goal.returns-in-Ok-Check-clause-sink_later
+returns-in-Ok-Check-clause-sink_later g c = c.run_check.ensures.sink_later
+
+pub returns-in-Ok-Check-clause-store_later : goal.returns-in-Ok-Check-clause-store_later
+returns-in-Ok-Check-clause-store_later g c = c.run_check.ensures.store_later
+
+pub returns-in-Err-Refused-clause-usage : goal.returns-in-Err-Refused-clause-usage
+returns-in-Err-Refused-clause-usage g c = λ two. c.in-Err-Refused.ensures.refused (ap Err c.in-Err-Refused.field-0-is)
+
+pub returns-in-Err-Refused-clause-usage_only : goal.returns-in-Err-Refused-clause-usage_only
+returns-in-Err-Refused-clause-usage_only g c = λ no. inl c.write_usage.ensures.status
+
+pub returns-in-Err-Refused-clause-usage_line : goal.returns-in-Err-Refused-clause-usage_line
+returns-in-Err-Refused-clause-usage_line g c = λ two. c.write_usage.ensures.line
+
+pub returns-in-Err-Refused-clause-untouched : goal.returns-in-Err-Refused-clause-untouched
+returns-in-Err-Refused-clause-untouched g c = λ no. (refl, refl, refl, refl)
+
+pub returns-in-Err-Refused-clause-ran : goal.returns-in-Err-Refused-clause-ran
+returns-in-Err-Refused-clause-ran g c = λ takes. absurd (c.in-Err-Refused.ensures.refused (ap Err c.in-Err-Refused.field-0-is) takes)
+
+pub returns-in-Err-Refused-clause-sink_later : goal.returns-in-Err-Refused-clause-sink_later
+returns-in-Err-Refused-clause-sink_later g c = c.write_usage.ensures.sink_later
+
+pub returns-in-Err-Memory-clause-usage_only : goal.returns-in-Err-Memory-clause-usage_only
+returns-in-Err-Memory-clause-usage_only g c = λ no. inr refl
+
+pub returns-in-Err-Memory-clause-unwritten : goal.returns-in-Err-Memory-clause-unwritten
+returns-in-Err-Memory-clause-unwritten g c = λ no five. refl
+
+pub returns-in-Err-Memory-clause-untouched : goal.returns-in-Err-Memory-clause-untouched
+returns-in-Err-Memory-clause-untouched g c = λ no. (refl, refl, refl, refl)
+
+pub returns-in-Err-Memory-clause-ran : goal.returns-in-Err-Memory-clause-ran
+returns-in-Err-Memory-clause-ran g c = λ takes. inr (refl, record { ends = refl; files = refl; faults = refl })

@@ -1,4 +1,5 @@
-use Rattle.std.proofs.Common.{ap, sym, ◌∙◌, [], ◌∷◌, ◌++◌, ◌≡◌, Bool, true, false, rules, if◌then◌else◌}
+use Rattle.std.proofs.Common.{ap, sym, subst, ◌∙◌, [], ◌∷◌, ◌++◌, ◌≡◌, Bool, true, false, if◌then◌else◌}
+use Rattle.std.specs.Prelude.{IfOk}
 use Rattle.lp_model.specs.Edits.{Named}
 use Rattle.tree_cert.proofs.NameLaws.{is_zero_by}
 use Rattle.tree_cert.proofs.names.add_nonzero.Goals as goal
@@ -9,12 +10,11 @@ nil_right (e ∷ l) = ap (λ m. e ∷ m) (nil_right l)
 
 pub returns-then-is_zero : goal.returns-then-is_zero
 returns-then-is_zero c =
-    let t : c.is_zero.result ≡ true = search rules in
-    nil_right c.args.named.now ∙ ap (λ (b : Bool). c.args.named.now ++ (if b then [] else (c.args.col.now.name, c.args.number.now) ∷ [])) (sym (is_zero_by c.is_zero.result c.args.number.now c.is_zero.ensures ∙ t))
+    nil_right c.args.named.now ∙ ap (λ (b : Bool). c.args.named.now ++ (if b then [] else (c.args.col.now.name, c.args.number.now) ∷ [])) (sym (is_zero_by c.is_zero.result c.args.number.now c.is_zero.ensures ∙ c.if-is_zero.true))
 
 pub returns : goal.returns
 returns c =
-    let f : c.is_zero.result ≡ false = search rules in
-    c.in_ok-push.ensures.pushed
-    ∙ ap (λ n. c.args.named.now ++ (n, c.args.number.now) ∷ []) (c.in_ok-name.ensures ∙ c.as_slice.ensures)
-    ∙ ap (λ (b : Bool). c.args.named.now ++ (if b then [] else (c.args.col.now.name, c.args.number.now) ∷ [])) (sym (is_zero_by c.is_zero.result c.args.number.now c.is_zero.ensures ∙ f))
+    subst (λ (ns : Named). IfOk c.push.result (λ _. c.push.new.self ≡ c.args.named.now ++ ns))
+    (ap (λ n. (n, c.args.number.now) ∷ []) (c.in_ok-name.ensures ∙ c.as_slice.ensures)
+    ∙ ap (λ (b : Bool). if b then [] else (c.args.col.now.name, c.args.number.now) ∷ []) (sym (is_zero_by c.is_zero.result c.args.number.now c.is_zero.ensures ∙ c.if-is_zero.false)))
+    c.push.ensures.pushed

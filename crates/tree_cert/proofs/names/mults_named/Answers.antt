@@ -1,4 +1,4 @@
-use Rattle.std.proofs.Common.{◌≡◌, suc, ◌++◌, take, sym, ap, ◌∙◌, arith}
+use Rattle.std.proofs.Common.{suc, ◌++◌, take, sym, ap, ◌∙◌, arith}
 use Rattle.std.proofs.lemmas.List.{take_all}
 use Rattle.lp_model.specs.Formulations.{Formulation, formulation}
 use Rattle.kept_cuts.proofs.KeptLemmas.{take-next}
@@ -18,7 +18,7 @@ loop-var-preserved c =
     let list = c.args.mult.now in
     let i = c.loop-var.var-index in
     let m = c.loop-var-item.result in
-    c.in_ok-add_mult.ensures
+    c.in-Ok.ensures
     ∙ ap (λ l. l ++ mult_named F suc m.0 m.1) c.loop-var.invariant
     ∙ sym (mults-push F suc (take i list) m)
     ∙ ap (mults_named F suc) (sym (take-next list i m c.loop-var-test.true c.loop-var-item.is))
@@ -26,4 +26,4 @@ loop-var-preserved c =
 pub returns : goal.returns
 returns c =
     let F : Formulation = formulation c.args.model.now c.args.cuts.now in
-    c.loop-var.invariant ∙ ap (mults_named F suc) (take_all c.loop-var.var-index c.args.mult.now (omega arith))
+    c.loop-var.invariant ∙ ap (mults_named F suc) (take_all c.loop-var.var-index c.args.mult.now (omega (arith, c.loop-var-test.false)))

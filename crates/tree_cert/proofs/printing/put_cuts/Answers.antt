@@ -9,9 +9,9 @@ loop-cut-preserved c =
     let cut = c.cut-item.result in
     put_next (λ (cs : List NamedCut). lines_text (map cut_words cs)) (λ (c : NamedCut). line_text (cut_words c) ++ 10 ∷ []) cut_step c.args.cuts.now c.loop-cut.cut-index (c.args.text.now.items ++ lines_text (map cut_words c.args.cuts.now)) c.loop-cut.text.items c.loop-cut.invariant
     cut c.push.new.self.items c.loop-cut-test.true c.cut-item.is
-    (line_put c.loop-cut.text.items (line_text (cut_words cut)) c.put_cut_line.new.text.items c.push.new.self.items c.in_ok-put_cut_line.ensures c.in_ok-push.ensures.items)
+    (line_put c.loop-cut.text.items (line_text (cut_words cut)) c.put_cut_line.new.text.items c.push.new.self.items c.in-Ok.ensures c.in-Ok-push.ensures.items)
 
 pub returns : goal.returns
 returns c =
     put_end (λ (cs : List NamedCut). lines_text (map cut_words cs)) (λ (c : NamedCut). line_text (cut_words c) ++ 10 ∷ []) cut_step c.args.cuts.now c.loop-cut.cut-index (c.args.text.now.items ++ lines_text (map cut_words c.args.cuts.now)) c.loop-cut.text.items c.loop-cut.invariant
-    (omega arith) refl
+    (omega (arith, c.loop-cut-test.false)) refl

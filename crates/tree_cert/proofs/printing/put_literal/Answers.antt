@@ -1,10 +1,13 @@
 use Rattle.std.proofs.Common.{ap, ◌∙◌, ◌++◌, ◌∷◌, []}
-use Rattle.tree_cert.proofs.PutLaws.{signed_put}
+use Rattle.text_lines.specs.Words.{spaced}
+use Rattle.std.specs.Prelude.{is_ok, if◌then◌else◌}
+use Rattle.tree_cert.proofs.PutLaws.{signed_last}
 use Rattle.tree_cert.specs.CertText.{sign_of}
 use Rattle.tree_cert.proofs.printing.put_literal.Goals as goal
 
 pub returns : goal.returns
 returns c =
-    signed_put c.args.text.now.items c.args.name.now c.push.new.self.items c.push-2.new.self.items c.extend_from_slice.new.self.items (sign_of c.args.plus) c.in_ok-push.ensures.items
-    (c.in_ok-push-2.ensures.items ∙ ap (λ s. c.push.new.self.items ++ s ∷ []) c.sign.ensures)
-    (c.in_ok-extend_from_slice.ensures.items ∙ ap (λ l. c.push-2.new.self.items ++ l) c.as_slice.ensures)
+    let one = c.put_word.new.text.items in
+    signed_last c.extend_from_slice.result c.args.text.now.items c.args.name.now one c.extend_from_slice.new.self.items (sign_of c.args.plus)
+    (c.in_ok-put_word.ensures ∙ ap (λ w. c.args.text.now.items ++ spaced (w ∷ [])) c.sign_word.ensures)
+    (c.extend_from_slice.ensures.items ∙ ap (λ l. if is_ok c.extend_from_slice.result then one ++ l else one) c.as_slice.ensures)

@@ -12,4 +12,4 @@ loop-name-preserved c =
 pub returns : goal.returns
 returns c =
     put_end (λ (ls : List (List ℕ × Bool)). spaced (literal_words ls)) (λ (l : List ℕ × Bool). spaced (literal_word l ∷ [])) literal_step c.args.literals.now c.loop-name.name-index (c.args.text.now.items ++ spaced (literal_words c.args.literals.now)) c.loop-name.text.items c.loop-name.invariant
-    (omega arith) refl
+    (omega (arith, c.loop-name-test.false)) refl

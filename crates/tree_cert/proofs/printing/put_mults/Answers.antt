@@ -1,9 +1,9 @@
-use Rattle.std.proofs.Common.{◌++◌, List, arith}
+use Rattle.std.proofs.Common.{◌++◌, List, arith, refl}
 use Rattle.cert_text.specs.declared.cert.CertMult.{CertMult}
 use Rattle.tree_cert.specs.CertText.{mult_words, all_mult_words}
 use Rattle.text_lines.specs.Words.{spaced}
 use Rattle.tree_cert.specs.Printed.{MultFits}
-use Rattle.tree_cert.proofs.PutLaws.{put_next, all_next, all_end, mult_step}
+use Rattle.tree_cert.proofs.PutLaws.{put_next, put_end, all_next, all_end, mult_step}
 use Rattle.tree_cert.proofs.printing.put_mults.Goals as goal
 
 pub loop-mult-preserved : goal.loop-mult-preserved
@@ -17,4 +17,8 @@ loop-mult-preserved c =
     }
 
 pub returns-clause-room : goal.returns-clause-room
-returns-clause-room c = all_end MultFits c.args.mults.now c.loop-mult.mult-index (omega arith) c.loop-mult.invariant.room
+returns-clause-room c = all_end MultFits c.args.mults.now c.loop-mult.mult-index (omega (arith, c.loop-mult-test.false)) c.loop-mult.invariant.room
+
+pub returns-clause-text : goal.returns-clause-text
+returns-clause-text c =
+    put_end (λ (ms : List CertMult). spaced (all_mult_words ms)) (λ (m : CertMult). spaced (mult_words m)) mult_step c.args.mults.now c.loop-mult.mult-index (c.args.text.now.items ++ spaced (all_mult_words c.args.mults.now)) c.loop-mult.text.items c.loop-mult.invariant.put (omega (arith, c.loop-mult-test.false)) refl

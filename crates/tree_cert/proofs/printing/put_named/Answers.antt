@@ -1,11 +1,11 @@
-use Rattle.std.proofs.Common.{◌++◌, ◌∷◌, [], List, ℕ, arith}
+use Rattle.std.proofs.Common.{◌++◌, ◌∷◌, [], List, ℕ, arith, refl}
 use Rattle.rational.specs.Rational.{ℚ}
 use Rattle.frac128.specs.Range.{Fits}
 use Rattle.frac128.specs.Printing.{printed}
 use Rattle.lp_model.specs.Edits.{Named}
 use Rattle.tree_cert.specs.CertText.{named_words}
 use Rattle.text_lines.specs.Words.{spaced}
-use Rattle.tree_cert.proofs.PutLaws.{put_next, all_next, all_end, named_step}
+use Rattle.tree_cert.proofs.PutLaws.{put_next, put_end, all_next, all_end, named_step}
 use Rattle.tree_cert.proofs.printing.put_named.Goals as goal
 
 pub loop-name-preserved : goal.loop-name-preserved
@@ -19,4 +19,8 @@ loop-name-preserved c =
     }
 
 pub returns-clause-room : goal.returns-clause-room
-returns-clause-room c = all_end (λ (d : List ℕ × ℚ). Fits d.1) c.args.named.now c.loop-name.name-index (omega arith) c.loop-name.invariant.room
+returns-clause-room c = all_end (λ (d : List ℕ × ℚ). Fits d.1) c.args.named.now c.loop-name.name-index (omega (arith, c.loop-name-test.false)) c.loop-name.invariant.room
+
+pub returns-clause-text : goal.returns-clause-text
+returns-clause-text c =
+    put_end (λ (ns : Named). spaced (named_words ns)) (λ (e : List ℕ × ℚ). spaced (e.0 ∷ printed e.1 ∷ [])) named_step c.args.named.now c.loop-name.name-index (c.args.text.now.items ++ spaced (named_words c.args.named.now)) c.loop-name.text.items c.loop-name.invariant.put (omega (arith, c.loop-name-test.false)) refl

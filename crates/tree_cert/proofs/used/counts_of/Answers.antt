@@ -1,4 +1,4 @@
-use Rattle.std.proofs.Common.{◌≡◌, ◌+◌, ◌<◌, ◌≤◌, ◌∷◌, ◌++◌, [], false, length, get_or, take, sym, ap, ◌∙◌, arith, refl}
+use Rattle.std.proofs.Common.{◌≡◌, ◌+◌, ◌≤◌, ◌∷◌, ◌++◌, [], false, length, get_or, take, sym, ap, ◌∙◌, arith}
 use Rattle.std.proofs.lemmas.List.{take_all, take_more, length-take-le}
 use Rattle.tree_cert.specs.Marked.{count_with, counts_of, count_all}
 use Rattle.tree_cert.proofs.UsedLaws.{counts-push, count-push, count-few}
@@ -21,7 +21,7 @@ loop-place-preserved c =
     let more = take_more marks i false c.loop-place-test.true in
     record {
       counts =
-          c.in_ok-push.ensures.items
+          c.in-Ok.ensures.items
           ∙ ap (λ l. l ++ c.loop-place.count ∷ []) c.loop-place.invariant.counts
           ∙ ap (λ n. counts_of 0 (take i marks) ++ n ∷ []) c.loop-place.invariant.count
           ∙ sym (counts-push 0 (take i marks) b)
@@ -30,4 +30,4 @@ loop-place-preserved c =
     }
 
 pub returns : goal.returns
-returns c = c.loop-place.invariant.counts ∙ ap (counts_of 0) (take_all c.loop-place.place c.args.marks.now (omega arith))
+returns c = c.loop-place.invariant.counts ∙ ap (counts_of 0) (take_all c.loop-place.place c.args.marks.now (omega (arith, c.loop-place-test.false)))

@@ -25,4 +25,4 @@ loop-mult-preserved c =
     ∙ ap (marks_of c.args.marks.now) (sym (take-next mults i m c.loop-mult-test.true c.mult-item.is))
 
 pub returns : goal.returns
-returns c = c.loop-mult.invariant ∙ ap (marks_of c.args.marks.now) (take_all c.loop-mult.mult-index c.args.mults.now (omega arith))
+returns c = c.loop-mult.invariant ∙ ap (marks_of c.args.marks.now) (take_all c.loop-mult.mult-index c.args.mults.now (omega (arith, c.loop-mult-test.false)))

@@ -28,4 +28,4 @@ loop-node-preserved c =
     ∙ ap (marks_in c.args.marks.now) (sym (take-next nodes i n c.loop-node-test.true c.node-item.is))
 
 pub returns : goal.returns
-returns c = c.loop-node.invariant ∙ ap (marks_in c.args.marks.now) (take_all c.loop-node.node-index c.args.nodes.now (omega arith))
+returns c = c.loop-node.invariant ∙ ap (marks_in c.args.marks.now) (take_all c.loop-node.node-index c.args.nodes.now (omega (arith, c.loop-node-test.false)))

@@ -1,4 +1,4 @@
-use Rattle.std.proofs.Common.{◌≡◌, ◌+◌, ◌∷◌, ◌++◌, [], false, length, get_or, take, sym, ap, ◌∙◌, arith}
+use Rattle.std.proofs.Common.{◌≡◌, ◌+◌, ◌++◌, false, length, get_or, take, sym, ap, ◌∙◌, arith}
 use Rattle.std.proofs.lemmas.List.{take_all, take_more, length-take-le}
 use Rattle.tree_cert.specs.Marked.{place_if, places_of}
 use Rattle.tree_cert.proofs.UsedLaws.{places-push}
@@ -18,4 +18,4 @@ loop-place-preserved c =
     ∙ ap (places_of 0) (sym (take_more marks i false c.loop-place-test.true))
 
 pub returns : goal.returns
-returns c = c.loop-place.invariant ∙ ap (places_of 0) (take_all c.loop-place.place c.args.marks.now (omega arith))
+returns c = c.loop-place.invariant ∙ ap (places_of 0) (take_all c.loop-place.place c.args.marks.now (omega (arith, c.loop-place-test.false)))

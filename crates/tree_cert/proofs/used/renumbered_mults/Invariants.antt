@@ -3,4 +3,4 @@ use Rattle.tree_cert.specs.Marked.{renumbered}
 use Rattle.tree_cert.proofs.used.renumbered_mults.Given as goal
 
 abbrev pub invariant-loop-mult : goal.invariant-loop-mult
-invariant-loop-mult l = l.list ≡ map (renumbered l.counts) (take l.mult-index l.mults)
+invariant-loop-mult l = l.list ≡ take l.mult-index (map (renumbered l.counts) l.mults)

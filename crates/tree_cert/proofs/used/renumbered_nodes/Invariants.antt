@@ -3,4 +3,4 @@ use Rattle.tree_cert.specs.Marked.{renumbered_node}
 use Rattle.tree_cert.proofs.used.renumbered_nodes.Given as goal
 
 abbrev pub invariant-loop-node : goal.invariant-loop-node
-invariant-loop-node l = l.list ≡ map (renumbered_node l.counts) (take l.node-index l.nodes)
+invariant-loop-node l = l.list ≡ take l.node-index (map (renumbered_node l.counts) l.nodes)

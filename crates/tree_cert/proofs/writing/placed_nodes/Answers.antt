@@ -1,5 +1,5 @@
-use Rattle.std.proofs.Common.{◌≡◌, suc, ◌≤◌, [], length, ap, sym, subst, ◌∙◌, arith}
-use Rattle.lp_model.specs.Formulations.{Formulation, formulation}
+use Rattle.std.proofs.Common.{◌≡◌, suc, [], length, ap, sym, subst, ◌∙◌, arith}
+use Rattle.lp_model.specs.Formulations.{formulation}
 use Rattle.branch_tree.specs.Plain.{preorder}
 use Rattle.sound_searches.specs.Sound.{formulation_of}
 use Rattle.tree_cert.specs.Walked.{AreFit, AreNodesOf}

@@ -14,7 +14,7 @@ pub nonzero_numbers-requires-2 : goal.nonzero_numbers-requires-2
 nonzero_numbers-requires-2 c = c.requires.ray.0.shape
 
 pub returns-clause-exact : goal.returns-clause-exact
-returns-clause-exact c = (λ i. record { claim = Unbounded; point = c.in_ok-point.ensures i; ray = c.in_ok-ray.ensures i; cuts = c.new-cuts.ensures i; nodes = c.new-nodes.ensures i })
+returns-clause-exact c = (λ i. record { claim = Unbounded; point = c.in-Ok.ensures i; ray = c.in-Ok-nonzero_numbers.ensures i; cuts = c.new-cuts.ensures i; nodes = c.new-nodes.ensures i })
 
 pub returns-clause-certificate : goal.returns-clause-certificate
 returns-clause-certificate c = subst IsCertificate (sym (returns-clause-exact c)) (unbounded-whole c.args.model.now c.args.point.now c.args.ray.now)

@@ -2,11 +2,14 @@ use Rattle.std.specs.Prelude.{◌≡◌, Some}
 use Rattle.std.proofs.Common.{refl, subst, sym, ◌∙◌}
 use Rattle.sound_searches.proofs.ClosedTree.{sound-empty, sound-optimum}
 use Rattle.tree_search.specs.Search.{FindsOptimum, best_value}
-use Rattle.tree_search.proofs.SearchLemmas.{value-best}
+use Rattle.tree_search.proofs.SearchLemmas.{value-best, best-there}
 use Rattle.tree_search.proofs.answering.finished.Goals as goal
 
 pub returns-in_default : goal.returns-in_default
 returns-in_default c = (record { finished = c.requires; no_point = c.in_default.ensures; none = sound-empty c.args.search.now c.known.ensures.sound c.requires c.in_default.ensures }, refl)
+
+pub unreachable-requires : goal.unreachable-requires
+unreachable-requires c = best-there c.args.search.now c.in-Some.incumbent.now c.in-Some.ensures.0 c.in-Some.ensures.1 c.in_default-best_value.ensures
 
 pub returns-in-Ok : goal.returns-in-Ok
 returns-in-Ok c =

@@ -1,5 +1,5 @@
 use Rattle.std.specs.Prelude.{◌≡◌, Some}
-use Rattle.std.proofs.Common.{subst, sym, ap, ◌∙◌}
+use Rattle.std.proofs.Common.{sym, ap, ◌∙◌}
 use Rattle.branch_tree.specs.Plain.{path_of}
 use Rattle.branch_tree.specs.Numbered.{NumberedTree, IsNumbered}
 use Rattle.sound_searches.specs.Calls.{IsNext}
@@ -12,15 +12,15 @@ unreachable-requires c =
     let S = c.args.search.now in
     next-none S c.requires.0 c.requires.1.0 c.in_default.ensures c.requires.1.1
 
-pub unreachable-requires-in_default-2 : goal.unreachable-requires-in_default-2
-unreachable-requires-in_default-2 c =
+pub unreachable-requires-in-Ok-None : goal.unreachable-requires-in-Ok-None
+unreachable-requires-in-Ok-None c =
     let S = c.args.search.now in
     let numbered : IsNumbered S.tree = c.known.ensures.numbered in
     let next : IsNext S (Some c.in-Some.id) = c.in-Some.ensures in
-    next-there S c.in-Some.id numbered next (sym c.in_default-2.is ∙ c.in_ok-region.ensures.region ∙ ap (λ (T : NumberedTree). path_of c.in-Some.id T.root) c.tree.ensures.tree)
+    next-there S c.in-Some.id numbered next (sym c.in-Ok-None.field-0-is ∙ c.in-Ok-None.ensures.region ∙ ap (λ (T : NumberedTree). path_of c.in-Some.id T.root) c.tree.ensures.tree)
 
-pub rounded_lag-requires : goal.rounded_lag-requires
-rounded_lag-requires c =
+pub rounded_lag-least-requires : goal.rounded_lag-least-requires
+rounded_lag-least-requires c =
     let S = c.args.search.now in
-    let at : Some c.in-Some-2.region ≡ path_of c.in-Some.id S.tree.root = sym c.in-Some-2.is ∙ c.in_ok-region.ensures.region ∙ ap (λ (T : NumberedTree). path_of c.in-Some.id T.root) c.tree.ensures.tree in
-    narrow-found S c.in-Some.id c.in-Some-2.region c.known.ensures.sound (sym at)
+    let at : Some c.in-Ok-Some.region ≡ path_of c.in-Some.id S.tree.root = sym c.in-Ok-Some.field-0-is ∙ c.in-Ok-Some.ensures.region ∙ ap (λ (T : NumberedTree). path_of c.in-Some.id T.root) c.tree.ensures.tree in
+    narrow-found S c.in-Some.id c.in-Ok-Some.region c.known.ensures.sound (sym at)

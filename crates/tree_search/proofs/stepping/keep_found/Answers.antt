@@ -1,6 +1,5 @@
 use Rattle.std.specs.Prelude.{Some}
 use Rattle.std.proofs.Common.{subst}
-use Rattle.lp_model.specs.Program.{value}
 use Rattle.branch_tree.specs.declared.node.NodeResult.TheVariants.{Keep}
 use Rattle.sound_searches.specs.Placing.{Takes}
 use Rattle.tree_search.proofs.PointLemmas.{ray_point-taken, ray_point-next}
@@ -12,11 +11,11 @@ unreachable-requires c =
     let (begin, (found, (works, adds))) = c.requires.works in
     c.in_default.not-Kept
     (ray_point-taken c.args.limits.now begin c.args.job.now c.args.point c.args.mult c.args.basis found works S adds c.known.ensures.sound c.known.ensures.numbered c.known.ensures.lawful c.requires.rays c.requires.ready c.requires.value
-    c.place.new.self c.in_ok-place.field-0 c.in_ok-place.ensures.taken)
+    c.place.new.self c.in-Ok.taken c.in-Ok.ensures.taken)
 
 pub returns-clause-steps : goal.returns-clause-steps
 returns-clause-steps c =
     λ begin found works adds.
     let S = c.args.search.now in
     ray_point-next c.args.limits.now begin c.args.job.now c.args.point c.args.mult c.args.basis found works S adds c.known.ensures.sound c.known.ensures.numbered c.known.ensures.lawful c.requires.rays c.requires.ready c.requires.value c.place.new.self
-    (subst (Takes S c.args.job.now.id (Keep (Some c.args.point) c.args.basis) c.place.new.self) c.in-Kept.is c.in_ok-place.ensures.taken)
+    (subst (Takes S c.args.job.now.id (Keep (Some c.args.point) c.args.basis) c.place.new.self) c.in-Kept.is c.in-Ok.ensures.taken)

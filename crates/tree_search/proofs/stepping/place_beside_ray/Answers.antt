@@ -12,8 +12,8 @@ keep_point-requires-clause-works c = works-same c.args.limits.now c.args.job c.a
 pub returns-in-PointAndClose-clause-steps : goal.returns-in-PointAndClose-clause-steps
 returns-in-PointAndClose-clause-steps c = steps-same c.args.limits.now c.args.job c.args.search.now c.keep_point.new.search c.args.done _ c.in-PointAndClose.is c.keep_point.result c.keep_point.ensures.steps
 
-pub place_result-requires-clause-by : goal.place_result-requires-clause-by
-place_result-requires-clause-by c =
+pub place_result-stepped-requires-clause-by : goal.place_result-stepped-requires-clause-by
+place_result-stepped-requires-clause-by c =
     let limits = c.args.limits.now in
     let (begin, (found, (works, adds))) = c.requires.works in
     other-placed limits.ways c.args.done c.in_default.not-PointAndClose

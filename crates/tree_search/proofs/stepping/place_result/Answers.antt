@@ -8,10 +8,10 @@ returns-in-Full-clause-steps c =
     λ begin found works adds.
     let S = c.args.search.now in
     full-result c.args.limits.now begin c.args.job.now c.args.done found works c.requires.by S adds c.known.ensures.sound c.known.ensures.numbered c.known.ensures.lawful c.requires.ready c.place.new.self
-    (subst (Takes S c.args.job.now.id c.args.done c.place.new.self) c.in-Full.is c.in_ok-place.ensures.taken)
+    (subst (Takes S c.args.job.now.id c.args.done c.place.new.self) c.in-Full.is c.in-Ok.ensures.taken)
 
 pub returns-in_default-clause-steps : goal.returns-in_default-clause-steps
 returns-in_default-clause-steps c =
     λ begin found works adds.
     placed-result c.args.limits.now begin c.args.job.now c.args.done found works c.requires.by c.args.search.now adds c.known.ensures.sound c.known.ensures.numbered c.known.ensures.lawful c.requires.ready c.place.new.self
-    c.in_ok-place.field-0 c.in_ok-place.ensures.taken c.in_default.not-Full
+    c.in-Ok.taken c.in-Ok.ensures.taken c.in_default.not-Full

@@ -1,6 +1,5 @@
 use Rattle.std.specs.Prelude.{◌≡◌, Some}
 use Rattle.std.proofs.Common.{refl, sym, ap, subst, ◌∙◌}
-use Rattle.lp_model.specs.Program.{value}
 use Rattle.node_solve.specs.Places.{live_places, basis_in_relaxation}
 use Rattle.search_parts.specs.Lists.{IsBasis}
 use Rattle.sound_searches.specs.Sound.{formulation_of}

@@ -1,4 +1,3 @@
-use Rattle.std.specs.Prelude.{◌≡◌}
 use Rattle.std.proofs.Common.{ap, sym, subst, ◌∙◌}
 use Rattle.cover_cuts.specs.Cuts.{IsPoolOf}
 use Rattle.tree_search.specs.Steps.{worked_model}

@@ -18,7 +18,7 @@ returns-in-Err g c =
 pub loop-index-preserved : goal.loop-index-preserved
 loop-index-preserved g c =
     let states = g.E.Element.states c.args.element.now in
-    let pushed : c.push.new.self ≡ c.loop-index.list ++ c.in-Ok.item ∷ [] = c.in_ok-push-in-Ok.ensures.pushed in
+    let pushed : c.push.new.self ≡ c.loop-index.list ++ c.in-Ok.item ∷ [] = c.in-Ok-push.ensures.pushed in
     let read : SaysFault (states c.loop-index.list (view c.index-values-index.result)) c.read-outcome.result =
     subst (λ b. SaysFault (states b (view c.index-values-index.result)) c.read-outcome.result) c.as_slice.ensures c.read-outcome.ensures in
     record {

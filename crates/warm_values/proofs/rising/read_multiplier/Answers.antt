@@ -1,26 +1,37 @@
-use Rattle.std.proofs.Common.{◌∙◌, sym, ap, subst}
+use Rattle.std.proofs.Common.{subst, Err}
 use Rattle.serde_json.specs.View.{view}
-use Rattle.warm_values.specs.Faults.{at_item, SaysFault}
-use Rattle.warm_values.specs.Values.{place_below}
-use Rattle.warm_values.specs.Rising.{is_past, variable_rank, multiplier_at, multiplier_of}
-use Rattle.warm_values.proofs.Saying.{says-there, says-next, says-then, says-else}
+use Rattle.warm_values.specs.Faults.{SaysFault}
+use Rattle.warm_values.specs.Rising.{variable_rank, multiplier_at, dual_kind_of, multiplier_of}
+use Rattle.warm_values.specs.RisingItems.{past_variable}
+use Rattle.warm_values.proofs.Saying.{says-there, says-missing, says-first, says-next}
+use Rattle.warm_values.proofs.PastLemmas.{behind-past}
 use Rattle.warm_values.proofs.rising.read_multiplier.Goals as goal
 
-pub returns-then-is_past : goal.returns-then-is_past
+pub returns-in_default : goal.returns-in_default
 unfolding multiplier_of
-returns-then-is_past c =
-    let r = c.multiplier_at.result in
-    let order = ap (λ u. is_past (λ e. variable_rank e.0) c.args.before.now (variable_rank u)) (sym c.var_of-var.ensures) ∙ ap (is_past (λ e. variable_rank e.0) c.args.before.now) (sym c.rank.ensures) ∙ sym c.is_past.ensures ∙ c.if-is_past.true in
-    let place = ap (λ n. at_item 1 (place_below n (view c.in-Some.second.now))) (sym c.of_kind-count.ensures) ∙ c.in_ok-place.ensures in
-    says-there 3 _ _ (view c.in-Some.first.now, view c.in-Some.second.now, view c.in-Some.third.now) r c.in-Some.ensures
-    (says-next _ _ c.in_ok-kind.kind r c.in_ok-kind.ensures (says-next _ _ c.in_ok-place.place r place
-    (says-then _ _ _ r order (subst (λ u. SaysFault (multiplier_at u (view c.in-Some.third.now)) r) c.var_of-var.ensures c.multiplier_at.ensures))))
+returns-in_default c = says-missing 3 _ _ c.bad.result c.in_default.ensures c.bad.ensures
 
-pub returns : goal.returns
+pub returns-in-Ok : goal.returns-in-Ok
 unfolding multiplier_of
-returns c =
-    let r = c.bad-2.result in
-    let order = ap (λ u. is_past (λ e. variable_rank e.0) c.args.before.now (variable_rank u)) (sym c.var_of-var.ensures) ∙ ap (is_past (λ e. variable_rank e.0) c.args.before.now) (sym c.rank.ensures) ∙ sym c.is_past.ensures ∙ c.if-is_past.false in
-    let place = ap (λ n. at_item 1 (place_below n (view c.in-Some.second.now))) (sym c.of_kind-count.ensures) ∙ c.in_ok-place.ensures in
-    says-there 3 _ _ (view c.in-Some.first.now, view c.in-Some.second.now, view c.in-Some.third.now) r c.in-Some.ensures
-    (says-next _ _ c.in_ok-kind.kind r c.in_ok-kind.ensures (says-next _ _ c.in_ok-place.place r place (says-else _ _ _ r order c.bad-2.ensures)))
+returns-in-Ok c =
+    let n = c.args.counts.now in
+    let a = view c.in-Some.first.now in
+    let b = view c.in-Some.second.now in
+    let d = view c.in-Some.third.now in
+    let r = c.multiplier_at.result in
+    let said = past_variable n dual_kind_of (λ e. variable_rank e.0) c.args.before.now a b in
+    says-there 3 _ _ (a, b, d) r c.in-Some.ensures
+    (subst (λ q. SaysFault q r) (behind-past n dual_kind_of (λ e. variable_rank e.0) c.args.before.now a b (λ v. multiplier_at v d))
+    (says-next said (λ v. multiplier_at v d) c.in-Ok.var r c.in-Ok.ensures c.multiplier_at.ensures))
+
+pub returns-in-Err : goal.returns-in-Err
+unfolding multiplier_of
+returns-in-Err c =
+    let n = c.args.counts.now in
+    let a = view c.in-Some.first.now in
+    let b = view c.in-Some.second.now in
+    let d = view c.in-Some.third.now in
+    let said = past_variable n dual_kind_of (λ e. variable_rank e.0) c.args.before.now a b in
+    says-there 3 _ _ (a, b, d) (Err c.in-Err.fault) c.in-Some.ensures
+    (subst (λ q. SaysFault q (Err c.in-Err.fault)) (behind-past n dual_kind_of (λ e. variable_rank e.0) c.args.before.now a b (λ v. multiplier_at v d))
+    (says-first said (λ v. multiplier_at v d) c.in-Err.fault c.in-Err.ensures))

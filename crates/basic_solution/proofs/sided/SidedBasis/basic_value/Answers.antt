@@ -1,34 +1,38 @@
-use Rattle.std.proofs.Common.{refl, ◌≡◌, ◌∙◌, subst, ap, ap₂, arith, pos, to_z, of_z, w64}
+use Rattle.std.proofs.Common.{◌≡◌, ◌∙◌, ap₂, to_z, of_z, w64}
 use Rattle.std.specs.Int.{w128}
-use Rattle.std.proofs.lemmas.Int.{ints}
-use Rattle.rational.specs.Rational.{int}
 use Rattle.frac128.specs.LowestTerms.{quotient_of}
 use Rattle.table_entries.specs.WholeSums.{HasMargin}
-use Rattle.row_tableau.specs.Dense.{table_of}
-use Rattle.row_tableau.specs.Variables.{variable_number}
-use Rattle.basic_solution.specs.Held.{IsSided}
-use Rattle.basic_solution.proofs.PointLemmas.{value_answer, value_refusal}
+use Rattle.basic_solution.proofs.ReadLemmas.{margin_again}
+use Rattle.table_entries.proofs.ReadLemmas.{short_again, positive_again, product_read}
 use Rattle.basic_solution.proofs.sided.SidedBasis.basic_value.Goals as goal
-
-pub returns-in-Ok : goal.returns-in-Ok
-returns-in-Ok c = value_answer c.args.self.now (subst IsSided c.self.view_is c.self.invariant) c.args.row c.whole.result c.in-Ok.value c.whole.ensures c.in-Ok.ensures
-
-pub returns-in-Err : goal.returns-in-Err
-returns-in-Err c =
-    let same = ap (λ s. s.tableau) c.self.view_is in
-    value_refusal c.args.self.now (subst IsSided c.self.view_is c.self.invariant) c.args.row
-    _ _ c.in-Err.variable c.whole.result c.whole.ensures c.requires
-    (subst (λ t. variable_number t c.variable.result ≡ (table_of t).basic c.args.row) same (c.variable.ensures ∙ c.basic.ensures.value))
-    (subst (λ t. variable_number t c.variable-in-Err.result ≡ c.in-Err.variable) same c.variable-in-Err.ensures)
-    c.in-Err.ensures
 
 pub returns-in-Some : goal.returns-in-Some
 returns-in-Some c =
     let d = c.denominator-denominator.result in
-    let d_is : to_z w64 (of_z w64 d) ≡ d = let short = c.denominator-denominator.ensures.short in omega (arith, ints, short) in
     let margin : HasMargin c.in-Some.total = c.in-Some.ensures.margin in
-    let t_is : to_z w128 (of_z w128 c.in-Some.total) ≡ c.in-Some.total = omega (arith, ints, margin) in
+    let t_is : to_z w128 (of_z w128 c.in-Some.total) ≡ c.in-Some.total = product_read c.in-Some.total margin in
     (c.in-Some.ensures.fits, c.quotient.ensures ∙ ap₂ quotient_of t_is (λ i. to_z w64 (of_z w64 d)) ∙ c.in-Some.ensures.value)
 
-pub returns-in-Some-whole_sum : goal.returns-in-Some-whole_sum
-returns-in-Some-whole_sum c = value_answer c.args.self.now (subst IsSided c.self.view_is c.self.invariant) c.args.row (int (pos 0)) c.in-Some-whole_sum.value refl (c.in-Some-whole_sum.ensures.fits, c.in-Some-whole_sum.ensures.value)
+pub value_by_terms-requires-clause-positive : goal.value_by_terms-requires-clause-positive
+value_by_terms-requires-clause-positive c = positive_again c.denominator-denominator.result c.denominator-denominator.ensures.short c.denominator-denominator.ensures.positive
+
+pub value_by_terms-requires-clause-denominator : goal.value_by_terms-requires-clause-denominator
+value_by_terms-requires-clause-denominator c = short_again c.denominator-denominator.result c.denominator-denominator.ensures.short
+
+pub returns : goal.returns
+returns c = c.value_by_terms.ensures
+
+pub row_total-requires-clause-positive : goal.row_total-requires-clause-positive
+row_total-requires-clause-positive c = positive_again c.denominator-denominator.result c.denominator-denominator.ensures.short c.denominator-denominator.ensures.positive
+
+pub row_total-requires-clause-denominator : goal.row_total-requires-clause-denominator
+row_total-requires-clause-denominator c = short_again c.denominator-denominator.result c.denominator-denominator.ensures.short
+
+pub quotient-requires-clause-total : goal.quotient-requires-clause-total
+quotient-requires-clause-total c = margin_again c.in-Some.total c.in-Some.ensures.margin
+
+pub quotient-requires-clause-positive : goal.quotient-requires-clause-positive
+quotient-requires-clause-positive c = positive_again c.denominator-denominator.result c.denominator-denominator.ensures.short c.denominator-denominator.ensures.positive
+
+pub quotient-requires-clause-denominator : goal.quotient-requires-clause-denominator
+quotient-requires-clause-denominator c = short_again c.denominator-denominator.result c.denominator-denominator.ensures.short

@@ -1,47 +1,52 @@
-use Rattle.std.proofs.Common.{sym, subst, ◌∙◌, ◌≡◌, ◌<◌, ◌*ℤ◌, arith, to_z, of_z, w64}
+use Rattle.std.proofs.Common.{sym, subst, ◌∙◌, ◌≡◌, ◌<◌, ◌*ℤ◌, to_z, of_z, w64}
 use Rattle.std.specs.Int.{w128}
-use Rattle.std.proofs.lemmas.Int.{ints}
 use Rattle.table_entries.specs.WholeSums.{HasMargin}
 use Rattle.table_entries.proofs.WholeSumLemmas.{start_is}
 use Rattle.basic_solution.specs.Held.{IsSided, table}
 use Rattle.basic_solution.specs.RowTotals.{IsSmallNumber, IsRowTotal}
-use Rattle.basic_solution.proofs.RowTotalLemmas.{start_size}
 use Rattle.basic_solution.proofs.PointLemmas.{point_basic, point_nonbasic}
 use Rattle.basic_solution.proofs.CutTotalLemmas.{column_total_of}
+use Rattle.basic_solution.proofs.ReadLemmas.{small_short_again, start_read}
+use Rattle.table_entries.proofs.ReadLemmas.{short_read, short_again, positive_again, product_read}
 use Rattle.basic_solution.proofs.sided.SidedBasis.column_total.Goals as goal
 
-pub returns-in_ok-total-in-Row : goal.returns-in_ok-total-in-Row
-returns-in_ok-total-in-Row c =
+pub returns-in-Some : goal.returns-in-Some
+returns-in-Some c =
     let now = c.args.self.now in
     let row = c.in-Row.row in
     let column = c.args.column in
     let d = c.args.denominator in
-    let d_is : to_z w64 (of_z w64 d) ≡ d = omega (arith, ints) in
-    let total = c.in_ok-total-in-Row.total in
+    let d_is : to_z w64 (of_z w64 d) ≡ d = short_read d c.requires.denominator in
+    let total = c.in-Some.total in
     let at = subst (λ s. (row < s.tableau.activities) × ((table s).basic row ≡ column)) c.self.view_is c.in-Row.ensures in
-    let of : IsRowTotal now row d total = subst (λ e. IsRowTotal now row e total) d_is c.in_ok-total-in-Row.ensures in
+    let of : IsRowTotal now row d total = subst (λ e. IsRowTotal now row e total) d_is c.in-Some.ensures in
     let margin : HasMargin total = of.margin in
-    let read : to_z w128 (of_z w128 total) ≡ total = omega (arith, ints, margin) in
+    let read : to_z w128 (of_z w128 total) ≡ total = product_read total margin in
     column_total_of now column d total _ (of.value ∙ point_basic now (subst IsSided c.self.view_is c.self.invariant) column row at.0 at.1) read
     c.short_number.result c.short_number.ensures.short c.short_number.ensures.value
 
 pub product-requires-clause-first : goal.product-requires-clause-first
-product-requires-clause-first c = let small : IsSmallNumber c.in_ok-number-in-Place.number = c.in_ok-number-in-Place.ensures.small in omega (arith, ints, small)
+product-requires-clause-first c = small_short_again c.in-Some-small_number.number c.in-Some-small_number.ensures.small
 
-pub returns-in_ok-number-in-Place : goal.returns-in_ok-number-in-Place
-returns-in_ok-number-in-Place c =
+pub product-requires-clause-second : goal.product-requires-clause-second
+product-requires-clause-second c = short_again c.args.denominator c.requires.denominator
+
+pub returns-in-Some-small_number : goal.returns-in-Some-small_number
+returns-in-Some-small_number c =
     let now = c.args.self.now in
     let place = c.in-Place.place in
     let column = c.args.column in
     let d = c.args.denominator in
-    let d_is : to_z w64 (of_z w64 d) ≡ d = omega (arith, ints) in
-    let n = c.in_ok-number-in-Place.number in
-    let small : IsSmallNumber n = c.in_ok-number-in-Place.ensures.small in
-    let n_is : to_z w64 (of_z w64 n) ≡ n = omega (arith, ints, small) in
-    let size = start_size n d small c.requires.denominator in
-    let made : c.product.result ≡ n *ℤ d = c.product.ensures ∙ (λ i. n_is i *ℤ d_is i) in
-    let read : to_z w128 (of_z w128 c.product.result) ≡ n *ℤ d = omega (arith, ints, made, size) in
+    let n = c.in-Some-small_number.number in
+    let small : IsSmallNumber n = c.in-Some-small_number.ensures.small in
+    let read : to_z w128 (of_z w128 c.product.result) ≡ n *ℤ d = start_read c.product.result n d small c.requires.denominator c.product.ensures in
     let at = subst (λ s. (place < s.tableau.columns) × ((table s).nonbasic place ≡ column)) c.self.view_is (c.in-Place.ensures.0, c.in-Place.ensures.1) in
     column_total_of now column d (n *ℤ d) _
-    (start_is n d c.requires.positive ∙ sym c.in_ok-number-in-Place.ensures.value ∙ c.place_number.ensures ∙ point_nonbasic now (subst IsSided c.self.view_is c.self.invariant) column place at.0 at.1) read
+    (start_is n d c.requires.positive ∙ sym c.in-Some-small_number.ensures.value ∙ c.place_number.ensures ∙ point_nonbasic now (subst IsSided c.self.view_is c.self.invariant) column place at.0 at.1) read
     c.short_number-in-Place.result c.short_number-in-Place.ensures.short c.short_number-in-Place.ensures.value
+
+pub row_total-requires-clause-positive : goal.row_total-requires-clause-positive
+row_total-requires-clause-positive c = positive_again c.args.denominator c.requires.denominator c.requires.positive
+
+pub row_total-requires-clause-denominator : goal.row_total-requires-clause-denominator
+row_total-requires-clause-denominator c = short_again c.args.denominator c.requires.denominator

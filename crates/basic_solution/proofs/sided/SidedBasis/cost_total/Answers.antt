@@ -1,6 +1,5 @@
 use Rattle.std.proofs.Common.{sym, ap, subst, ◌∙◌, ◌≡◌, ◌<◌, ◌≤◌, ◌+◌, ◌*◌, ◌^◌, ◌<ℤ◌, ◌+ℤ◌, ◌*ℤ◌, pos, unsigned_abs, length, arith, below_more, to_z, of_z, w64}
 use Rattle.std.specs.Int.{w128}
-use Rattle.std.proofs.lemmas.Int.{ints}
 use Rattle.rational.specs.Rational.{int}
 use Rattle.frac128.specs.LowestTerms.{quotient_of}
 use Rattle.checked_sum.specs.Steps.{partial}
@@ -12,29 +11,32 @@ use Rattle.table_entries.proofs.WholeSumLemmas.{start_is, total_more}
 use Rattle.basic_solution.specs.Held.{IsSided, relaxation, variables}
 use Rattle.basic_solution.specs.RowTotals.{IsSmallNumber, HasSmallTerm, AreFreeFrom, IsCostTotal}
 use Rattle.basic_solution.proofs.RowTotalLemmas.{place_cost, saved, size_more, start_size, margin_of, total_of_place}
+use Rattle.basic_solution.proofs.ReadLemmas.{small_short_again, start_read, total_read, none_below}
+use Rattle.table_entries.proofs.ReadLemmas.{short_read, short_again}
 use Rattle.basic_solution.proofs.sided.SidedBasis.cost_total.Goals as goal
 
 pub loop-variable-init : goal.loop-variable-init
 loop-variable-init c =
     let now = c.args.self.now in
-    let start = c.in_ok-start.start in
-    let small : IsSmallNumber start = c.in_ok-start.ensures.small in
+    let start = c.in-Some.start in
+    let small : IsSmallNumber start = c.in-Some.ensures.small in
     let d = c.args.denominator in
-    let s_is : to_z w64 (of_z w64 start) ≡ start = omega (arith, ints, small) in
-    let d_is : to_z w64 (of_z w64 d) ≡ d = omega (arith, ints) in
+    let d_is : to_z w64 (of_z w64 d) ≡ d = short_read d c.requires.denominator in
     let size : unsigned_abs (start *ℤ d) ≤ 2 ^ 93 = start_size start d small c.requires.denominator in
-    let made : c.product-total.result ≡ start *ℤ d = c.product-total.ensures ∙ (λ i. s_is i *ℤ d_is i) in
-    let total_is : to_z w128 (of_z w128 c.product-total.result) ≡ start *ℤ d = omega (arith, ints, made, size) in
+    let total_is : to_z w128 (of_z w128 c.product-total.result) ≡ start *ℤ d = start_read c.product-total.result start d small c.requires.denominator c.product-total.ensures in
     let variable_is = subst (λ t. c.nonbasic.result ≡ (table_of t).nonbasic c.args.place) (ap (λ s. s.tableau) c.self.view_is) c.nonbasic.ensures.value in
-    let own : int start ≡ place_cost now c.args.place = sym c.in_ok-start.ensures.value ∙ ap (relaxation now).cost variable_is in
+    let own : int start ≡ place_cost now c.args.place = sym c.in-Some.ensures.value ∙ ap (relaxation now).cost variable_is in
     record {
       size = subst (λ t. unsigned_abs t ≤ (0 + 1) * 2 ^ 93) (sym total_is) (omega (arith, size));
       value = (λ i. quotient_of (total_is i) (d_is i)) ∙ start_is start d c.requires.positive ∙ own ∙ partial_none (place_cost now c.args.place) (relaxation now).cost (saved now c.args.place);
-      terms = λ i below. absurd (omega arith);
+      terms = λ i below. absurd (none_below i below);
     }
 
 pub product-total-requires-clause-first : goal.product-total-requires-clause-first
-product-total-requires-clause-first c = let small : IsSmallNumber c.in_ok-start.start = c.in_ok-start.ensures.small in omega (arith, ints, small)
+product-total-requires-clause-first c = small_short_again c.in-Some.start c.in-Some.ensures.small
+
+pub product-total-requires-clause-second : goal.product-total-requires-clause-second
+product-total-requires-clause-second c = short_again c.args.denominator c.requires.denominator
 
 pub with_product-total-requires-clause-total : goal.with_product-total-requires-clause-total
 with_product-total-requires-clause-total c =
@@ -55,15 +57,13 @@ loop-variable-preserved c =
     let k = c.loop-variable.variable in
     let before = c.loop-variable.invariant in
     let total = to_z w128 c.loop-variable.total-bits in
-    let f = c.in-Some.term.factor in
-    let n = c.in-Some.term.number in
-    let term : IsWholeTerm d' (a k) (x k) f n = c.in-Some.ensures.term in
-    let small : IsSmallNumber n = c.in-Some.ensures.small in
-    let d_is : d' ≡ d = omega (arith, ints) in
+    let f = c.in-Some-cost_term.term.factor in
+    let n = c.in-Some-cost_term.term.number in
+    let term : IsWholeTerm d' (a k) (x k) f n = c.in-Some-cost_term.ensures.term in
+    let small : IsSmallNumber n = c.in-Some-cost_term.ensures.small in
+    let d_is : d' ≡ d = short_read d c.requires.denominator in
     let positive : pos 0 <ℤ d' = subst (λ y. pos 0 <ℤ y) (sym d_is) c.requires.positive in
     let d_short : IsShort d' = subst IsShort (sym d_is) c.requires.denominator in
-    let f_is : to_z w64 (of_z w64 f) ≡ f = let h = term.factor_short in omega (arith, ints, h) in
-    let n_is : to_z w64 (of_z w64 n) ≡ n = let h = term.number_short in omega (arith, ints, h) in
     let few = c.columns-few.ensures.lawful.few in
     let less = c.loop-variable-test.true in
     let same = c.end-variable-end.ensures.within in
@@ -72,9 +72,8 @@ loop-variable-preserved c =
     let next = total +ℤ f *ℤ n in
     let size : unsigned_abs next ≤ (k + 1 + 1) * 2 ^ 93 = size_more total f n (k + 1) term.factor_short small before.size in
     let next_margin : HasMargin next = margin_of next (k + 1 + 1) (omega (arith, few, less, same, all)) size in
-    let made : c.with_product-total.result ≡ next = c.with_product-total.ensures ∙ (λ i. total +ℤ f_is i *ℤ n_is i) in
     let next' = to_z w128 (of_z w128 c.with_product-total.result) in
-    let next_is : next' ≡ next = omega (arith, ints, made, next_margin) in
+    let next_is : next' ≡ next = total_read c.with_product-total.result total f n term.factor_short term.number_short next_margin c.with_product-total.ensures in
     record {
       size = subst (λ t. unsigned_abs t ≤ (k + 1 + 1) * 2 ^ 93) (sym next_is) size;
       value = total_more (place_cost now c.args.place) a x k d' total positive d_short margin f n term next' next_is (subst HasMargin (sym next_is) next_margin) before.value;
@@ -91,11 +90,11 @@ returns c =
     let sided = subst IsSided c.self.view_is c.self.invariant in
     let few : variables s < 2 ^ 32 = let w = c.columns-few.ensures.lawful.few in omega (arith, w, columns, activities) in
     let d = c.args.denominator in
-    let d_is : to_z w64 (of_z w64 d) ≡ d = omega (arith, ints) in
-    let start = c.in_ok-start.start in
-    let small : IsSmallNumber start = c.in_ok-start.ensures.small in
+    let d_is : to_z w64 (of_z w64 d) ≡ d = short_read d c.requires.denominator in
+    let start = c.in-Some.start in
+    let small : IsSmallNumber start = c.in-Some.ensures.small in
     let variable_is = subst (λ t. c.nonbasic.result ≡ (table_of t).nonbasic c.args.place) same c.nonbasic.ensures.value in
-    let own : place_cost s c.args.place ≡ int start = sym (ap (relaxation s).cost variable_is) ∙ c.in_ok-start.ensures.value in
+    let own : place_cost s c.args.place ≡ int start = sym (ap (relaxation s).cost variable_is) ∙ c.in-Some.ensures.value in
     let past = c.loop-variable-test.false in
     let within = c.loop-variable.auto.variable-end in
     let end = c.end-variable-end.result in
@@ -109,3 +108,9 @@ returns c =
     (total_of_place s sided few c.args.place _ positive short start small own end end_within (subst (λ xs. AreFreeFrom xs end) costs_are c.end-variable-end.ensures.free)
     (λ i q. inv.terms i (subst (λ j. i < j) (sym all) q)) total (subst (λ j. unsigned_abs total ≤ (j + 1) * 2 ^ 93) all inv.size)
     (inv.value ∙ ap (partial (place_cost s c.args.place) (relaxation s).cost (saved s c.args.place)) all))
+
+pub with_product-total-requires-clause-factor : goal.with_product-total-requires-clause-factor
+with_product-total-requires-clause-factor c = short_again c.in-Some-cost_term.term.factor c.in-Some-cost_term.ensures.term.factor_short
+
+pub with_product-total-requires-clause-number : goal.with_product-total-requires-clause-number
+with_product-total-requires-clause-number c = small_short_again c.in-Some-cost_term.term.number c.in-Some-cost_term.ensures.small

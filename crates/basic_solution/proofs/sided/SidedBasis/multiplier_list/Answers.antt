@@ -8,7 +8,7 @@ use Rattle.basic_solution.specs.Numbers.{MultiplierFits}
 use Rattle.basic_solution.specs.Lists.{AreRising, HasMultiplier, names}
 use Rattle.basic_solution.proofs.ListLemmas.{rising_skip, multipliers_named, multipliers_valued}
 use Rattle.basic_solution.proofs.sided.SidedBasis.multiplier_list.Goals as goal
-use Rattle.basic_solution.proofs.sided.SidedBasis.multiplier_list.Goals.{then-not-is_zero+in_ok-push, else-not-is_zero}
+use Rattle.basic_solution.proofs.sided.SidedBasis.multiplier_list.Goals.{then-not-is_zero+in-Ok-push, else-not-is_zero}
 
 pub loop-variable-preserved : goal.loop-variable-preserved
 loop-variable-preserved c =
@@ -20,8 +20,8 @@ loop-variable-preserved c =
     let first : s.tableau.columns ≤ v = let a = c.loop-variable.auto.variable in subst (λ n. n ≤ v) (c.columns-columns.ensures.value ∙ ap (λ d. d.columns) same) a in
     let fits : (u : ℕ) → u < v + 1 → s.tableau.columns ≤ u → MultiplierFits s u = below_more (λ u. s.tableau.columns ≤ u → MultiplierFits s u) v before.fits (λ _. c.in-Ok.ensures.0) in
     elim c.if-not-is_zero.branch [
-      | then-not-is_zero+in_ok-push w ↦
-          let pushed = w.list-is ∙ w.in_ok-push.ensures.pushed in
+      | then-not-is_zero+in-Ok-push w ↦
+          let pushed = w.list-is ∙ w.in-Ok-push.ensures.pushed in
           let is = subst (λ d. variable_number d w.variable.result ≡ v) same w.variable.ensures in
           record {
             named = multipliers_named s y v c.loop-variable.list c.if-not-is_zero.list w.variable.result c.in-Ok.number pushed is c.in-Ok.ensures.1

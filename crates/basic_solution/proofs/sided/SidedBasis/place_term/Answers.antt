@@ -7,26 +7,34 @@ use Rattle.table_entries.specs.WholeSteps.{IsShort}
 use Rattle.table_entries.proofs.WholeSumLemmas.{term_of_factor, term_of_nothing}
 use Rattle.basic_solution.specs.Held.{table}
 use Rattle.basic_solution.specs.RowTotals.{IsSmallNumber}
+use Rattle.basic_solution.proofs.ReadLemmas.{small_short, small_read, small_again, small_none, none_small}
+use Rattle.table_entries.proofs.ReadLemmas.{short_read}
 use Rattle.basic_solution.proofs.sided.SidedBasis.place_term.Goals as goal
 
 pub returns-then-number-eq0-clause-term : goal.returns-then-number-eq0-clause-term
 returns-then-number-eq0-clause-term c =
-    let number = c.in_ok-number.number in
-    let none : number ≡ pos 0 = let e = c.if-number-eq0.true in let small : IsSmallNumber number = c.in_ok-number.ensures.small in omega (arith, ints, e, small) in
-    term_of_nothing _ _ c.args.denominator c.requires.positive (sym c.place_number.ensures ∙ c.in_ok-number.ensures.value ∙ ap int none)
+    let number = c.in-Some.number in
+    let none : number ≡ pos 0 = small_none number c.in-Some.ensures.small c.if-number-eq0.true in
+    term_of_nothing _ _ c.args.denominator c.requires.positive (sym c.place_number.ensures ∙ c.in-Some.ensures.value ∙ ap int none)
 
 pub returns-clause-term : goal.returns-clause-term
 returns-clause-term c =
     let place = c.args.place in
-    let factor = c.in_ok-factor.factor in
-    let number = c.in_ok-number.number in
-    let factor_short : IsShort factor = c.in_ok-factor.ensures.short in
-    let small : IsSmallNumber number = c.in_ok-number.ensures.small in
-    let number_short : IsShort number = omega (arith, small) in
-    let f_is : to_z w64 (of_z w64 factor) ≡ factor = omega (arith, ints, factor_short) in
-    let n_is : to_z w64 (of_z w64 number) ≡ number = omega (arith, ints, number_short) in
-    let d_is : to_z w64 (of_z w64 c.args.denominator) ≡ c.args.denominator = omega (arith, ints) in
+    let factor = c.in-Some-number_over.factor in
+    let number = c.in-Some.number in
+    let factor_short : IsShort factor = c.in-Some-number_over.ensures.short in
+    let small : IsSmallNumber number = c.in-Some.ensures.small in
+    let number_short : IsShort number = small_short number small in
+    let f_is : to_z w64 (of_z w64 factor) ≡ factor = short_read factor factor_short in
+    let n_is : to_z w64 (of_z w64 number) ≡ number = small_read number small in
+    let d_is : to_z w64 (of_z w64 c.args.denominator) ≡ c.args.denominator = let range = c.ranges.denominator in omega (arith, ints, range) in
     let entry_is = subst (λ s. (table s).entry c.args.row place ≡ dense_entry c.self.inside.tableau.columns c.self.inside.tableau.entries c.args.row place) c.self.view_is refl in
     term_of_factor _ _ (to_z w64 (of_z w64 factor)) (to_z w64 (of_z w64 number)) c.args.denominator c.requires.positive (subst IsShort (sym f_is) factor_short) (subst IsShort (sym n_is) number_short)
-    (entry_is ∙ c.in_ok-factor.ensures.value ∙ (λ i. quotient_of (sym f_is i) (d_is i)))
-    (sym c.place_number.ensures ∙ c.in_ok-number.ensures.value ∙ ap int (sym n_is))
+    (entry_is ∙ c.in-Some-number_over.ensures.value ∙ (λ i. quotient_of (sym f_is i) (d_is i)))
+    (sym c.place_number.ensures ∙ c.in-Some.ensures.value ∙ ap int (sym n_is))
+
+pub returns-then-number-eq0-clause-small : goal.returns-then-number-eq0-clause-small
+returns-then-number-eq0-clause-small c = none_small
+
+pub returns-clause-small : goal.returns-clause-small
+returns-clause-small c = small_again c.in-Some.number c.in-Some.ensures.small

@@ -13,7 +13,7 @@ loop-column-preserved c =
     let xs = c.loop-column.list in
     let x = c.in-Ok.number in
     let inv = c.loop-column.invariant in
-    let pushed = c.in_ok-push-in-Ok.ensures.pushed in
+    let pushed = c.in-Ok-push.ensures.pushed in
     record {
       size = ap length pushed ∙ length-append xs (x ∷ []) ∙ ap (λ n. n + 1) inv.size;
       numbers = subst (λ ys. (j : ℕ) → j < c.loop-column.column + 1 → coordinate ys j ≡ point (relaxation s) (table s) (state s).at j) (sym pushed)

@@ -10,17 +10,17 @@ invariant_of-result c =
     let relax = c.args.relax.now in
     let s : Held = record {
       form = form_of relax;
-      low = c.in_ok-low.low.items;
-      high = c.in_ok-high.high.items;
+      low = c.in-Ok.low.items;
+      high = c.in-Ok-highs.high.items;
       cost = c.new-priced.result;
-      tilt = c.in_ok-tilt.tilt.items;
-      order = c.in_ok-order.order.items;
-      tableau = c.in_ok-tableau.tableau;
+      tilt = c.in-Ok-tilts.tilt.items;
+      order = c.in-Ok-order.order.items;
+      tableau = c.in-Ok-slack_start.tableau;
       stands = c.in_ok-stands.stands.items;
     } in
-    slack_sided relax s refl c.in_ok-tableau.ensures.columns c.in_ok-tableau.ensures.activities c.in_ok-tableau.ensures.rows c.in_ok-tableau.ensures.table c.in_ok-tableau.ensures.slack
-    c.in_ok-low.ensures.length c.in_ok-low.ensures.items c.in_ok-high.ensures.length c.in_ok-high.ensures.items (ap length c.new-priced.ensures ∙ c.in_ok-cost.ensures.length) (λ u q. ap (λ xs. get_or xs u (int (pos 0))) c.new-priced.ensures ∙ c.in_ok-cost.ensures.items u q)
-    c.in_ok-tilt.ensures.length c.in_ok-tilt.ensures.items c.in_ok-order.ensures (sym c.in_ok-stands.stands.ok.0 ∙ c.in_ok-stands.ensures.len ∙ ap length c.cols.ensures.items)
+    slack_sided relax s refl c.in-Ok-slack_start.ensures.columns c.in-Ok-slack_start.ensures.activities c.in-Ok-slack_start.ensures.rows c.in-Ok-slack_start.ensures.table c.in-Ok-slack_start.ensures.slack
+    c.in-Ok.ensures.length c.in-Ok.ensures.items c.in-Ok-highs.ensures.length c.in-Ok-highs.ensures.items (ap length c.new-priced.ensures ∙ c.in-Ok-costs.ensures.length) (λ u q. ap (λ xs. get_or xs u (int (pos 0))) c.new-priced.ensures ∙ c.in-Ok-costs.ensures.items u q)
+    c.in-Ok-tilts.ensures.length c.in-Ok-tilts.ensures.items c.in-Ok-order.ensures (sym c.in_ok-stands.stands.ok.0 ∙ c.in_ok-stands.ensures.len ∙ ap length c.cols.ensures.items)
     c.requires.sides
 
 pub returns : goal.returns
@@ -28,14 +28,14 @@ returns c =
     let relax = c.args.relax.now in
     let s : Held = record {
       form = form_of relax;
-      low = c.in_ok-low.low.items;
-      high = c.in_ok-high.high.items;
+      low = c.in-Ok.low.items;
+      high = c.in-Ok-highs.high.items;
       cost = c.new-priced.result;
-      tilt = c.in_ok-tilt.tilt.items;
-      order = c.in_ok-order.order.items;
-      tableau = c.in_ok-tableau.tableau;
+      tilt = c.in-Ok-tilts.tilt.items;
+      order = c.in-Ok-order.order.items;
+      tableau = c.in-Ok-slack_start.tableau;
       stands = c.in_ok-stands.stands.items;
     } in
-    slack_state relax s refl c.in_ok-tableau.ensures.columns c.in_ok-tableau.ensures.activities c.in_ok-tableau.ensures.rows c.in_ok-tableau.ensures.table c.in_ok-tableau.ensures.slack
-    c.in_ok-low.ensures.length c.in_ok-low.ensures.items c.in_ok-high.ensures.length c.in_ok-high.ensures.items (ap length c.new-priced.ensures ∙ c.in_ok-cost.ensures.length) (λ u q. ap (λ xs. get_or xs u (int (pos 0))) c.new-priced.ensures ∙ c.in_ok-cost.ensures.items u q)
-    c.in_ok-tilt.ensures.length c.in_ok-tilt.ensures.items c.in_ok-order.ensures (sym c.in_ok-stands.stands.ok.0 ∙ c.in_ok-stands.ensures.len ∙ ap length c.cols.ensures.items)
+    slack_state relax s refl c.in-Ok-slack_start.ensures.columns c.in-Ok-slack_start.ensures.activities c.in-Ok-slack_start.ensures.rows c.in-Ok-slack_start.ensures.table c.in-Ok-slack_start.ensures.slack
+    c.in-Ok.ensures.length c.in-Ok.ensures.items c.in-Ok-highs.ensures.length c.in-Ok-highs.ensures.items (ap length c.new-priced.ensures ∙ c.in-Ok-costs.ensures.length) (λ u q. ap (λ xs. get_or xs u (int (pos 0))) c.new-priced.ensures ∙ c.in-Ok-costs.ensures.items u q)
+    c.in-Ok-tilts.ensures.length c.in-Ok-tilts.ensures.items c.in-Ok-order.ensures (sym c.in_ok-stands.stands.ok.0 ∙ c.in_ok-stands.ensures.len ∙ ap length c.cols.ensures.items)

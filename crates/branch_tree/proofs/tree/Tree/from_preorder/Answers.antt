@@ -14,8 +14,8 @@ pub unreachable-requires : goal.unreachable-requires
 unreachable-requires c =
     let nodes = c.into_vec-nodes.result.items in
     let (t, is) = c.requires.whole in
-    let made = c.in_ok-branches.ensures in
-    let branches = c.in_ok-branches.branches in
+    let made = c.in-Ok.ensures in
+    let branches = c.in-Ok.branches in
     let none : branches.items ≡ [] = c.in_default.ensures.items ∙ append-nil c.pop.new.self.items ∙ nothing-left branches.items c.pop.new.self.items c.in_default.ensures.items (sym branches.ok.0 ∙ c.in_default.ensures.cases.0) in
     root-there nodes branches.items [] t made (is ∙ sym c.into_vec-nodes.ensures) none
 
@@ -23,8 +23,8 @@ pub invariant_of-result : goal.invariant_of-result
 invariant_of-result c =
     let nodes = c.into_vec-nodes.result.items in
     let (t, is) = c.requires.whole in
-    let branches = c.in_ok-branches.branches in
-    let root : plain_branch c.in-Some.root ≡ numbered_from 1 t = root-is nodes branches.items c.pop.new.self.items t c.in_ok-branches.ensures (is ∙ sym c.into_vec-nodes.ensures) c.in-Some.root c.in-Some.ensures.items in
+    let branches = c.in-Ok.branches in
+    let root : plain_branch c.in-Some.root ≡ numbered_from 1 t = root-is nodes branches.items c.pop.new.self.items t c.in-Ok.ensures (is ∙ sym c.into_vec-nodes.ensures) c.in-Some.root c.in-Some.ensures.items in
     let count : c.len-count.result ≡ node_count t = c.len-count.ensures ∙ c.into_vec-nodes.result.ok.0 ∙ ap length (c.into_vec-nodes.ensures ∙ sym is) ∙ length-data_nodes t in
     let few : node_count t ≤ 2 ^ 62 = omega (arith, count, c.if-count-gt-MOST_NODES.false) in
     let all : All HasNodeBound (data_nodes t) = subst (All HasNodeBound) (sym is) c.requires.bounds in
@@ -33,7 +33,7 @@ invariant_of-result c =
 pub returns : goal.returns
 returns c t is =
     let nodes = c.into_vec-nodes.result.items in
-    let branches = c.in_ok-branches.branches in
-    let root : plain_branch c.in-Some.root ≡ numbered_from 1 t = root-is nodes branches.items c.pop.new.self.items t c.in_ok-branches.ensures (is ∙ sym c.into_vec-nodes.ensures) c.in-Some.root c.in-Some.ensures.items in
+    let branches = c.in-Ok.branches in
+    let root : plain_branch c.in-Some.root ≡ numbered_from 1 t = root-is nodes branches.items c.pop.new.self.items t c.in-Ok.ensures (is ∙ sym c.into_vec-nodes.ensures) c.in-Some.root c.in-Some.ensures.items in
     let count : c.len-count.result ≡ node_count t = c.len-count.ensures ∙ c.into_vec-nodes.result.ok.0 ∙ ap length (c.into_vec-nodes.ensures ∙ sym is) ∙ length-data_nodes t in
     λ i. record { root = root i; last = count i; limit = c.args.limit }

@@ -11,14 +11,14 @@ pub count-count-requires : goal.count-count-requires
 count-count-requires c =
     let T : NumberedTree = record { root = plain_branch c.self.inside.root; last = c.self.inside.last; limit = c.self.inside.limit } in
     let n = numbered-left c.args.gone.now T c.self.invariant.numbered in
-    let at_root = c.in_ok-root.ensures ∙ ap (λ (g : List CutId). branch_left g (plain_branch c.self.inside.root)) c.in_ok-counted.ensures.cuts in
+    let at_root = c.in-Ok-left.ensures ∙ ap (λ (g : List CutId). branch_left g (plain_branch c.self.inside.root)) c.in-Ok.ensures.cuts in
     omega (arith, n.few, c.self.invariant.numbered.left, ap node_count at_root)
 
 pub invariant_of-result : goal.invariant_of-result
 invariant_of-result c =
     let i = c.self.inside in
     let T : NumberedTree = record { root = plain_branch i.root; last = i.last; limit = i.limit } in
-    let at_root = c.in_ok-root.ensures ∙ ap (λ (g : List CutId). branch_left g (plain_branch i.root)) c.in_ok-counted.ensures.cuts in
+    let at_root = c.in-Ok-left.ensures ∙ ap (λ (g : List CutId). branch_left g (plain_branch i.root)) c.in-Ok.ensures.cuts in
     record {
       numbered = subst (λ r. IsNumbered (record { root = r; last = i.last; limit = i.limit })) (sym at_root) (numbered-left c.args.gone.now T c.self.invariant.numbered);
       counted = c.count-count.ensures;

@@ -3,7 +3,7 @@ use Rattle.std.specs.Prelude.{Ok, None, ◌≡◌}
 use Rattle.cert_text.specs.Text.{code_in}
 use Rattle.cert_text.specs.Reading.{held, after}
 use Rattle.cert_text.specs.Whole.{IsNarrowStatement}
-use Rattle.cert_text.proofs.KeptLemmas.{node_kept, claim_kept, claim_noted, point_kept, point_noted, ray_kept, ray_noted, cut_kept, cut_noted, last_kept}
+use Rattle.cert_text.proofs.KeptLemmas.{handed_on, both_handed_on, node_kept, node_noted, claim_kept, claim_noted, point_kept, point_noted, ray_kept, ray_noted, cut_kept, cut_noted, last_kept}
 use Rattle.cert_text.proofs.reading.Reading.note.Goals as goal
 
 pub returns-in-Claims-clause-stated : goal.returns-in-Claims-clause-stated
@@ -36,23 +36,29 @@ returns-in-Ray-clause-kept c =
     let old = c.args.self.now in
     ray_kept old c.in-Ray.ray (subst (λ s. code_in (held old) (Ok s) ≡ None) c.in-Ray.is c.requires.clean) c.requires.kept
 
-pub returns-in_ok-push-in-Cut-clause-stated : goal.returns-in_ok-push-in-Cut-clause-stated
-returns-in_ok-push-in-Cut-clause-stated c =
+pub returns-in-Cut-clause-stated : goal.returns-in-Cut-clause-stated
+returns-in-Cut-clause-stated c =
     let old = c.args.self.now in
-    cut_noted old c.in-Cut.cut c.push.new.self c.in_ok-push-in-Cut.ensures.pushed ∙ ap (λ s. after (held old) (Ok s)) (sym c.in-Cut.is)
+    handed_on c.push.result (λ pushed. cut_noted old c.in-Cut.cut c.push.new.self pushed ∙ ap (λ s. after (held old) (Ok s)) (sym c.in-Cut.is)) c.push.ensures.pushed
 
-pub returns-in_ok-push-in-Cut-clause-kept : goal.returns-in_ok-push-in-Cut-clause-kept
-returns-in_ok-push-in-Cut-clause-kept c =
+pub returns-in-Cut-clause-kept : goal.returns-in-Cut-clause-kept
+returns-in-Cut-clause-kept c =
     let old = c.args.self.now in
-    cut_kept old c.in-Cut.cut c.push.new.self (subst (λ s. code_in (held old) (Ok s) ≡ None) c.in-Cut.is c.requires.clean) c.requires.kept
+    handed_on c.push.result (λ pushed. cut_kept old c.in-Cut.cut c.push.new.self (subst (λ s. code_in (held old) (Ok s) ≡ None) c.in-Cut.is c.requires.clean) c.requires.kept) c.push.ensures.pushed
 
-pub returns-in_ok-add_node-in-Node-clause-kept : goal.returns-in_ok-add_node-in-Node-clause-kept
-returns-in_ok-add_node-in-Node-clause-kept c =
-    let parts = c.in_ok-add_node-in-Node.ensures.parts in
+pub returns-in-Node-clause-stated : goal.returns-in-Node-clause-stated
+returns-in-Node-clause-stated c =
+    let old = c.args.self.now in
+    handed_on c.add_node.result (λ stated. node_noted old c.in-Node.node (held c.add_node.new.self) stated ∙ ap (λ s. after (held old) (Ok s)) (sym c.in-Node.is)) c.add_node.ensures.stated
+
+pub returns-in-Node-clause-kept : goal.returns-in-Node-clause-kept
+returns-in-Node-clause-kept c =
+    both_handed_on c.add_node.result
+    (λ nodes parts.
     node_kept c.args.self.now c.add_node.new.self c.in-Node.node
     (subst (λ s. code_in (held c.args.self.now) (Ok s) ≡ None) c.in-Node.is c.requires.clean)
     (subst IsNarrowStatement c.in-Node.is c.requires.narrow) c.requires.kept
-    c.in_ok-add_node-in-Node.ensures.nodes parts.0 parts.1 parts.2 parts.3 parts.4
+    nodes parts.0 parts.1 parts.2 parts.3 parts.4) c.add_node.ensures.nodes c.add_node.ensures.parts
 
 pub returns-in-End-clause-kept : goal.returns-in-End-clause-kept
 returns-in-End-clause-kept c =

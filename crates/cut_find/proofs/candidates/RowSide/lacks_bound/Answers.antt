@@ -1,4 +1,4 @@
-use Rattle.std.proofs.Common.{◌≡◌, ◌∙◌, sym, ap, length, None}
+use Rattle.std.proofs.Common.{◌≡◌, ◌∙◌, ◌<◌, sym, ap, subst, suc, length, None}
 use Rattle.lp_model.specs.Program.{lower, upper}
 use Rattle.lp_model.specs.Sides.{needed_side}
 use Rattle.cover_cuts.specs.Covers.{signed_by_side, side_coefficient}
@@ -6,6 +6,22 @@ use Rattle.cover_cuts.proofs.LiteralLemmas.{lower_is, upper_is}
 use Rattle.cut_find.proofs.RowLemmas.{entry_at}
 use Rattle.cut_find.proofs.JudgeLemmas.{never_bound, none_there}
 use Rattle.cut_find.proofs.candidates.RowSide.lacks_bound.Goals as goal
+
+pub loop-entry-init : goal.loop-entry-init
+loop-entry-init c = (0, c.requires)
+
+pub bounds-cols-entry : goal.bounds-cols-entry
+bounds-cols-entry c =
+    let self = c.args.self.now in
+    let l = c.loop-entry in
+    let next = (entry_at self.model.now self.row.0 l.invariant.0 (length self.model.now.cols) self.entries.now l.entry-index c.entry-item.result c.loop-entry-test.true c.entry-item.is l.invariant.1).0 in
+    subst (λ n. c.entry-item.result.0 < n) (sym (ap length c.cols.ensures.items)) next.within
+
+pub loop-entry-preserved : goal.loop-entry-preserved
+loop-entry-preserved c =
+    let self = c.args.self.now in
+    let l = c.loop-entry in
+    (suc c.entry-item.result.0, (entry_at self.model.now self.row.0 l.invariant.0 (length self.model.now.cols) self.entries.now l.entry-index c.entry-item.result c.loop-entry-test.true c.entry-item.is l.invariant.1).1)
 
 pub returns-then-is_none : goal.returns-then-is_none
 returns-then-is_none c = λ _.

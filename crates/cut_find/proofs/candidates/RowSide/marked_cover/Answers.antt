@@ -4,7 +4,7 @@ use Rattle.cut_find.specs.WholeSides.{AreMarksOf, AreCandidateColumns}
 use Rattle.cut_find.proofs.RowLemmas.{entry_at, entries_end, entry_some}
 use Rattle.cut_find.proofs.CoverLemmas.{below_in, below_out, below_across}
 use Rattle.cut_find.proofs.candidates.RowSide.marked_cover.Goals as goal
-use Rattle.cut_find.proofs.candidates.RowSide.marked_cover.Goals.{then-marks-entry+in_ok-push, else-marks-entry}
+use Rattle.cut_find.proofs.candidates.RowSide.marked_cover.Goals.{then-marks-entry+in-Ok, else-marks-entry}
 
 pub loop-entry-preserved : goal.loop-entry-preserved
 loop-entry-preserved c =
@@ -21,12 +21,12 @@ loop-entry-preserved c =
     let before : (d : ℤ) (js : List ℕ) → AreMarksOf M i s d js marks → AreCandidateColumns M i s js → l.literals ≡ literals_below M i s e.0 js =
     λ d js marked cand. l.invariant.1.1 d js marked cand ∙ below_across M i s js l.invariant.0 e.0 at.0.after at.0.none cand in
     elim c.if-marks-entry.branch [
-      | then-marks-entry+in_ok-push w ↦ (
+      | then-marks-entry+in-Ok w ↦ (
         suc e.0,
         (
           at.1,
           λ d js marked cand.
-              w.literals-is ∙ w.in_ok-push.ensures.pushed ∙ (λ t. before d js marked cand t ++ w.entry_literal.ensures t ∷ [])
+              w.literals-is ∙ w.in-Ok.ensures.pushed ∙ (λ t. before d js marked cand t ++ w.entry_literal.ensures t ∷ [])
               ∙ below_in M i s js e.0 (sym (marked e.0 at.0.within some).taken ∙ w.if-marks-entry.true),
         ),
       )
@@ -53,3 +53,18 @@ bounds-marks-entry c =
     let within = next.within in
     let long = c.requires.long in
     omega (arith, within, long)
+
+pub loop-entry-init : goal.loop-entry-init
+loop-entry-init c = (0, (c.requires.entries, λ d js marked cand. c.new-literals.ensures))
+
+pub entry_literal-requires-clause-within : goal.entry_literal-requires-clause-within
+entry_literal-requires-clause-within c =
+    let self = c.args.self.now in
+    let l = c.loop-entry in
+    (entry_at self.model.now self.row.0 l.invariant.0 (length self.model.now.cols) self.entries.now l.entry-index c.entry-item.result c.loop-entry-test.true c.entry-item.is l.invariant.1.0).0.within
+
+pub entry_literal-requires-clause-number : goal.entry_literal-requires-clause-number
+entry_literal-requires-clause-number c =
+    let self = c.args.self.now in
+    let l = c.loop-entry in
+    (entry_at self.model.now self.row.0 l.invariant.0 (length self.model.now.cols) self.entries.now l.entry-index c.entry-item.result c.loop-entry-test.true c.entry-item.is l.invariant.1.0).0.number

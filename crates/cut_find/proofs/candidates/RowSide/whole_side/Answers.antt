@@ -4,9 +4,19 @@ use Rattle.std.proofs.lemmas.Int.{ints}
 use Rattle.frac128.specs.LowestTerms.{quotient_of}
 use Rattle.cover_cuts.specs.Covers.{side_limit}
 use Rattle.leaf_dual.specs.Wholes.{IsFactor, IsDenominator}
+use Rattle.leaf_dual.proofs.ReadLemmas.{factor_read, denominator_again}
 use Rattle.cut_find.specs.WholeSides.{AreSumsTo, IsWholeSide}
 use Rattle.cut_find.proofs.JudgeLemmas.{whole_of_sums}
 use Rattle.cut_find.proofs.candidates.RowSide.whole_side.Goals as goal
+
+pub factor_over-requires : goal.factor_over-requires
+factor_over-requires c = denominator_again c.common_denominator-denominator.result c.common_denominator-denominator.ensures
+
+pub mark_columns-requires-clause-denominator : goal.mark_columns-requires-clause-denominator
+mark_columns-requires-clause-denominator c = denominator_again c.common_denominator-denominator.result c.common_denominator-denominator.ensures
+
+pub sums-requires-clause-denominator : goal.sums-requires-clause-denominator
+sums-requires-clause-denominator c = denominator_again c.common_denominator-denominator.result c.common_denominator-denominator.ensures
 
 pub returns-clause-side : goal.returns-clause-side
 returns-clause-side c =
@@ -14,17 +24,16 @@ returns-clause-side c =
     let M = self.model.now in
     let d = c.common_denominator-denominator.result in
     let is : IsDenominator d = c.common_denominator-denominator.ensures in
-    let d_factor = is.factor in
-    let d_is : to_z w64 (of_z w64 d) ≡ d = omega (arith, ints, d_factor) in
-    let over = c.in_ok-over.over in
-    let over_factor : IsFactor over = c.in_ok-over.ensures.factor in
-    let over_is : to_z w64 (of_z w64 over) ≡ over = omega (arith, ints, over_factor) in
-    let sums = c.in_ok-sums.sums in
-    let all : AreSumsTo M self.row.0 self.side d (length M.cols) sums = subst (λ e. AreSumsTo M self.row.0 self.side e (length M.cols) sums) d_is c.in_ok-sums.ensures in
+    let d_is : to_z w64 (of_z w64 d) ≡ d = factor_read d is.factor in
+    let over = c.in-Some.over in
+    let over_factor : IsFactor over = c.in-Some.ensures.factor in
+    let over_is : to_z w64 (of_z w64 over) ≡ over = factor_read over over_factor in
+    let sums = c.in-Some-sums.sums in
+    let all : AreSumsTo M self.row.0 self.side d (length M.cols) sums = subst (λ e. AreSumsTo M self.row.0 self.side e (length M.cols) sums) d_is c.in-Some-sums.ensures in
     let within = all.base_within in
     let room = all.room in
     let base_is : to_z w128 (of_z w128 sums.base) ≡ sums.base = omega (arith, ints, within, room) in
-    let limit : side_limit M self.row.0 self.side ≡ Some (quotient_of over d) = c.requires.limit ∙ ap Some (c.in_ok-over.ensures.value ∙ ap (quotient_of over) d_is) in
+    let limit : side_limit M self.row.0 self.side ≡ Some (quotient_of over d) = c.requires.limit ∙ ap Some (c.in-Some.ensures.value ∙ ap (quotient_of over) d_is) in
     let from = c.from.ensures in
     let test = c.if-from-sums.false in
     let met : ¬ (over <ℤ sums.base) = λ h. omega (arith, ints, h, test, from, base_is, over_factor) in

@@ -8,8 +8,18 @@ use Rattle.lp_model.specs.Sides.{needed_side}
 use Rattle.cover_cuts.specs.Covers.{side_coefficient}
 use Rattle.leaf_dual.specs.Wholes.{IsFactor}
 use Rattle.leaf_dual.proofs.RoomLemmas.{factor_product}
+use Rattle.leaf_dual.proofs.ReadLemmas.{factor_read, factor_again, product_made, product_read}
 use Rattle.cut_find.proofs.SizeLemmas.{sums_more}
 use Rattle.cut_find.proofs.candidates.RowSide.with_column.Goals as goal
+
+pub bound_number-requires : goal.bound_number-requires
+bound_number-requires c = c.requires.within
+
+pub wide_product-product-requires-clause-first : goal.wide_product-product-requires-clause-first
+wide_product-product-requires-clause-first c = factor_again c.args.weight c.requires.factor
+
+pub wide_product-product-requires-clause-second : goal.wide_product-product-requires-clause-second
+wide_product-product-requires-clause-second c = factor_again c.in-Some.bound c.in-Some.ensures.factor
 
 pub returns : goal.returns
 returns c =
@@ -18,16 +28,16 @@ returns c =
     let j = c.args.col in
     let d = c.args.denominator in
     let w = c.args.weight in
-    let f = c.in_ok-bound.bound in
+    let f = c.in-Some.bound in
     let w_factor : IsFactor w = c.requires.factor in
-    let f_factor : IsFactor f = c.in_ok-bound.ensures.factor in
-    let w_is : to_z w64 (of_z w64 w) ≡ w = omega (arith, ints, w_factor) in
-    let f_is : to_z w64 (of_z w64 f) ≡ f = omega (arith, ints, f_factor) in
+    let f_factor : IsFactor f = c.in-Some.ensures.factor in
+    let w_is : to_z w64 (of_z w64 w) ≡ w = factor_read w w_factor in
+    let f_is : to_z w64 (of_z w64 f) ≡ f = factor_read f f_factor in
     let bound : needed_side (side_coefficient M self.row.0 self.side j) (lower M j) (upper M j) ≡ Some (int f) =
-    ap (λ q. needed_side q (lower M j) (upper M j)) (c.requires.weight ∙ ap (λ n. quotient_of n d) (sym w_is)) ∙ c.in_ok-bound.ensures.bound d c.requires.denominator.positive in
-    let made : c.wide_product-product.result ≡ w *ℤ f = c.wide_product-product.ensures ∙ ap₂ ◌*ℤ◌ w_is f_is in
+    ap (λ q. needed_side q (lower M j) (upper M j)) (c.requires.weight ∙ ap (λ n. quotient_of n d) (sym w_is)) ∙ c.in-Some.ensures.bound d c.requires.denominator.positive in
+    let made : c.wide_product-product.result ≡ w *ℤ f = product_made c.wide_product-product.result w f w_factor f_factor c.wide_product-product.ensures in
     let small : unsigned_abs (w *ℤ f) ≤ 2 ^ 124 = factor_product w f w_factor f_factor in
-    let product_is : to_z w128 (of_z w128 c.wide_product-product.result) ≡ w *ℤ f = omega (arith, ints, made, small) in
+    let product_is : to_z w128 (of_z w128 c.wide_product-product.result) ≡ w *ℤ f = product_read c.wide_product-product.result w f w_factor f_factor made in
     let sums = c.args.sums in
     let base_within = c.requires.sums.base_within in
     let room = c.requires.sums.room in

@@ -1,5 +1,4 @@
-use Rattle.std.proofs.Common.{◌≡◌, ◌∙◌, sym, ap, subst, arith, pos, get_or, to_z, of_z, w64}
-use Rattle.std.proofs.lemmas.Int.{ints}
+use Rattle.std.proofs.Common.{◌≡◌, ◌∙◌, sym, ap, subst, pos, get_or, to_z, of_z, w64}
 use Rattle.std.proofs.lemmas.Option.{IfSome_then}
 use Rattle.rational.specs.Rational.{int, neg_ℚ}
 use Rattle.frac128.specs.LowestTerms.{quotient_of}
@@ -7,6 +6,7 @@ use Rattle.lp_model.proofs.ElementLemmas.{of_element-get}
 use Rattle.leaf_dual.specs.Dual.{multiplier}
 use Rattle.leaf_dual.specs.Parts.{entry_row, entry_number}
 use Rattle.leaf_dual.specs.Wholes.{IsFactor, IsTermOver}
+use Rattle.leaf_dual.proofs.ReadLemmas.{factor_read}
 use Rattle.leaf_dual.proofs.whole_leaf.EntryNumbersWholeTerms.term.Goals as goal
 
 pub returns-clause-value : goal.returns-clause-value
@@ -21,9 +21,9 @@ returns-clause-value c =
     let read = get_or es k e in
     let row : entry_row es k ≡ read.0.0 = of_element-get 0 (λ n. n.0.0) es k e c.requires.index c.index-self-index.is ∙ ap (λ n. n.0.0) c.index-self-index.is in
     let number : entry_number es k ≡ read.1 = of_element-get (int (pos 0)) (λ n. n.1) es k e c.requires.index c.index-self-index.is ∙ ap (λ n. n.1) c.index-self-index.is in
-    let weight = c.in_ok-weight.weight in
-    let over = c.requires.lawful.rows read.0.0 c.in_ok-weight.ensures.within in
-    let w_factor : IsFactor weight = subst IsFactor (sym c.in_ok-weight.ensures.value) over.0 in
-    let w_is : to_z w64 (of_z w64 weight) ≡ weight = omega (arith, ints, w_factor) in
-    let y_is : quotient_of (to_z w64 (of_z w64 weight)) d ≡ y (entry_row es k) = ap (λ n. quotient_of n d) (w_is ∙ c.in_ok-weight.ensures.value) ∙ over.1 ∙ ap y (sym row) in
+    let weight = c.in-Some.weight in
+    let over = c.requires.lawful.rows read.0.0 c.in-Some.ensures.within in
+    let w_factor : IsFactor weight = subst IsFactor (sym c.in-Some.ensures.value) over.0 in
+    let w_is : to_z w64 (of_z w64 weight) ≡ weight = factor_read weight w_factor in
+    let y_is : quotient_of (to_z w64 (of_z w64 weight)) d ≡ y (entry_row es k) = ap (λ n. quotient_of n d) (w_is ∙ c.in-Some.ensures.value) ∙ over.1 ∙ ap y (sym row) in
     IfSome_then c.taken_term.result c.taken_term.ensures (λ t h. subst (λ P. P) (λ j. IsTermOver d (neg_ℚ (y_is j)) (sym number j) t.factor t.number) (h d p))

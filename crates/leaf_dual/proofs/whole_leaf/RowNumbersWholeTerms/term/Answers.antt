@@ -1,5 +1,4 @@
-use Rattle.std.proofs.Common.{◌≡◌, ◌∙◌, sym, ap, subst, arith, None, to_z, of_z, w64}
-use Rattle.std.proofs.lemmas.Int.{ints}
+use Rattle.std.proofs.Common.{◌≡◌, ◌∙◌, sym, ap, subst, None, to_z, of_z, w64}
 use Rattle.std.proofs.lemmas.Option.{IfSome_then}
 use Rattle.frac128.specs.LowestTerms.{quotient_of}
 use Rattle.lp_model.specs.Program.{low_side, high_side}
@@ -7,6 +6,7 @@ use Rattle.lp_model.proofs.ElementLemmas.{of_element-read}
 use Rattle.leaf_dual.specs.Dual.{multiplier, needed_side, row_side}
 use Rattle.leaf_dual.specs.Answers.{side_number}
 use Rattle.leaf_dual.specs.Wholes.{IsFactor, IsTermOver}
+use Rattle.leaf_dual.proofs.ReadLemmas.{factor_read}
 use Rattle.leaf_dual.proofs.whole_leaf.RowNumbersWholeTerms.term.Goals as goal
 
 pub returns-clause-value : goal.returns-clause-value
@@ -17,11 +17,11 @@ returns-clause-value c =
     let y = multiplier W.leaf.mult.now in
     let d = W.denominator in
     let p = c.requires.lawful.denominator.positive in
-    let weight = c.in_ok-weight.weight in
-    let over = c.requires.lawful.rows i c.in_ok-weight.ensures.within in
-    let w_factor : IsFactor weight = subst IsFactor (sym c.in_ok-weight.ensures.value) over.0 in
-    let w_is : to_z w64 (of_z w64 weight) ≡ weight = omega (arith, ints, w_factor) in
-    let y_is : quotient_of (to_z w64 (of_z w64 weight)) d ≡ y i = ap (λ n. quotient_of n d) (w_is ∙ c.in_ok-weight.ensures.value) ∙ over.1 in
+    let weight = c.in-Some.weight in
+    let over = c.requires.lawful.rows i c.in-Some.ensures.within in
+    let w_factor : IsFactor weight = subst IsFactor (sym c.in-Some.ensures.value) over.0 in
+    let w_is : to_z w64 (of_z w64 weight) ≡ weight = factor_read weight w_factor in
+    let y_is : quotient_of (to_z w64 (of_z w64 weight)) d ≡ y i = ap (λ n. quotient_of n d) (w_is ∙ c.in-Some.ensures.value) ∙ over.1 in
     let row = c.index-rows-index.result in
     let low : row.lo ≡ low_side M i = of_element-read None (λ r. r.lo) M.rows c.rows.result.now i row c.rows.ensures.items c.requires.index c.index-rows-index.is in
     let high : row.hi ≡ high_side M i = of_element-read None (λ r. r.hi) M.rows c.rows.result.now i row c.rows.ensures.items c.requires.index c.index-rows-index.is in
@@ -36,11 +36,11 @@ returns-clause-holds c =
     let y = multiplier W.leaf.mult.now in
     let d = W.denominator in
     let p = c.requires.lawful.denominator.positive in
-    let weight = c.in_ok-weight.weight in
-    let over = c.requires.lawful.rows i c.in_ok-weight.ensures.within in
-    let w_factor : IsFactor weight = subst IsFactor (sym c.in_ok-weight.ensures.value) over.0 in
-    let w_is : to_z w64 (of_z w64 weight) ≡ weight = omega (arith, ints, w_factor) in
-    let y_is : quotient_of (to_z w64 (of_z w64 weight)) d ≡ y i = ap (λ n. quotient_of n d) (w_is ∙ c.in_ok-weight.ensures.value) ∙ over.1 in
+    let weight = c.in-Some.weight in
+    let over = c.requires.lawful.rows i c.in-Some.ensures.within in
+    let w_factor : IsFactor weight = subst IsFactor (sym c.in-Some.ensures.value) over.0 in
+    let w_is : to_z w64 (of_z w64 weight) ≡ weight = factor_read weight w_factor in
+    let y_is : quotient_of (to_z w64 (of_z w64 weight)) d ≡ y i = ap (λ n. quotient_of n d) (w_is ∙ c.in-Some.ensures.value) ∙ over.1 in
     let row = c.index-rows-index.result in
     let low : row.lo ≡ low_side M i = of_element-read None (λ r. r.lo) M.rows c.rows.result.now i row c.rows.ensures.items c.requires.index c.index-rows-index.is in
     let high : row.hi ≡ high_side M i = of_element-read None (λ r. r.hi) M.rows c.rows.result.now i row c.rows.ensures.items c.requires.index c.index-rows-index.is in

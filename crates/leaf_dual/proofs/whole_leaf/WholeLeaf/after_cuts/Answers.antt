@@ -1,6 +1,5 @@
 use Rattle.std.proofs.Common.{◌≡◌, ◌∙◌, ◌+◌, ℕ, sym, ap, subst, arith, length, [], pos, to_z, of_z}
 use Rattle.std.specs.Int.{w128}
-use Rattle.std.proofs.lemmas.Int.{ints}
 use Rattle.rational.specs.Rational.{ℚ, int, neg_ℚ}
 use Rattle.rational.proofs.RationalRing.{ring, reads_ℚ}
 use Rattle.frac128.specs.LowestTerms.{quotient_of}
@@ -9,6 +8,7 @@ use Rattle.checked_sum.proofs.StepLaws.{partial_none, partial_next, fits_next}
 use Rattle.lp_model.specs.Formulations.{cut_coefficient}
 use Rattle.leaf_dual.specs.Dual.{cut_weight}
 use Rattle.leaf_dual.specs.Wholes.{HasRoomForProduct}
+use Rattle.leaf_dual.proofs.ReadLemmas.{room_read, room_again}
 use Rattle.leaf_dual.proofs.SkippedTerms.{AreNone, fits-skipped, partial-skipped}
 use Rattle.leaf_dual.proofs.whole_leaf.WholeLeaf.after_cuts.Goals as goal
 
@@ -25,7 +25,7 @@ loop-place-init c =
     let none : AreNone start a x 0 n = λ k from below. ap neg_ℚ (c.next_weighed-place.ensures.free k from below) ∙ nothing in
     record {
       within = c.next_weighed-place.ensures.within;
-      room = let h = c.requires.start in omega (arith, ints, h);
+      room = room_again c.args.start c.requires.start;
       total = partial_none start a x ∙ partial-skipped start a x 0 n c.next_weighed-place.ensures.from none;
       fits = fits-skipped start a x 0 n none (λ k below. absurd (omega (arith, below)));
     }
@@ -42,7 +42,7 @@ loop-place-preserved c =
     let before = c.loop-place.invariant in
     let next = c.in-Some.next in
     let next_room : HasRoomForProduct next = c.in-Some.ensures.room in
-    let n_is : to_z w128 (of_z w128 next) ≡ next = omega (arith, ints, next_room) in
+    let n_is : to_z w128 (of_z w128 next) ≡ next = room_read next next_room in
     let after = c.next_weighed-place-in-Some in
     let none : AreNone start a x (k + 1) after.result = λ j from below. ap neg_ℚ (after.ensures.free j from below) ∙ nothing in
     let more : quotient_of next d ≡ partial start a x (k + 1) = partial_next start a x k total before.total (quotient_of next d) c.in-Some.ensures.value in
@@ -60,7 +60,7 @@ returns-clause-fits c =
     let d = W.denominator in
     let a : ℕ → ℚ = λ k. neg_ℚ (cut_weight W.leaf.cuts.now W.leaf.mult.now k) in
     let x : ℕ → ℚ = λ k. cut_coefficient W.leaf.cuts.now k c.args.col in
-    let s_is : to_z w128 (of_z w128 c.args.start) ≡ c.args.start = omega (arith, ints) in
+    let s_is : to_z w128 (of_z w128 c.args.start) ≡ c.args.start = room_read c.args.start c.requires.start in
     let past = c.loop-place-test.false in
     let all : c.loop-place.place ≡ length W.leaf.cuts.now = let within = c.loop-place.invariant.within in omega (arith, past, within) in
     subst (λ s. AllFit (quotient_of s d) a x (length W.leaf.cuts.now)) s_is (subst (AllFit (quotient_of (to_z w128 (of_z w128 c.args.start)) d) a x) all c.loop-place.invariant.fits)
@@ -71,7 +71,7 @@ returns-clause-value c =
     let d = W.denominator in
     let a : ℕ → ℚ = λ k. neg_ℚ (cut_weight W.leaf.cuts.now W.leaf.mult.now k) in
     let x : ℕ → ℚ = λ k. cut_coefficient W.leaf.cuts.now k c.args.col in
-    let s_is : to_z w128 (of_z w128 c.args.start) ≡ c.args.start = omega (arith, ints) in
+    let s_is : to_z w128 (of_z w128 c.args.start) ≡ c.args.start = room_read c.args.start c.requires.start in
     let past = c.loop-place-test.false in
     let all : c.loop-place.place ≡ length W.leaf.cuts.now = let within = c.loop-place.invariant.within in omega (arith, past, within) in
     c.loop-place.invariant.total ∙ (λ i. partial (quotient_of (s_is i) d) a x (all i))

@@ -1,6 +1,5 @@
 use Rattle.std.proofs.Common.{◌≡◌, ◌∙◌, sym, ap, subst, arith, length, Ok, None, below_more, to_z, of_z}
 use Rattle.std.specs.Int.{w128}
-use Rattle.std.proofs.lemmas.Int.{ints}
 use Rattle.frac128.specs.LowestTerms.{quotient_of}
 use Rattle.checked_sum.proofs.StepLaws.{partial_none}
 use Rattle.lp_model.specs.Formulations.{formulation}
@@ -8,6 +7,7 @@ use Rattle.leaf_dual.specs.Dual.{multiplier, cut_weight, column_reduced_cost, co
 use Rattle.leaf_dual.specs.Answers.{bound_number}
 use Rattle.leaf_dual.specs.Parts.{cost_of, IsColumnsTotal}
 use Rattle.leaf_dual.specs.Wholes.{HasRoomForProduct}
+use Rattle.leaf_dual.proofs.ReadLemmas.{room_read, room_again}
 use Rattle.leaf_dual.proofs.AnswerLemmas.{columns-none, columns-next, columns-all}
 use Rattle.leaf_dual.proofs.whole_leaf.WholeLeaf.columns_total.Goals as goal
 
@@ -22,7 +22,7 @@ loop-col-init c =
     let costs = cost_of W.leaf.costed M in
     let start = quotient_of (to_z w128 (of_z w128 c.args.start)) W.denominator in
     record {
-      room = let h = c.requires.start in omega (arith, ints, h);
+      room = room_again c.args.start c.requires.start;
       total = partial_none start (column_reduced_cost (formulation M cuts) y z costs) (bound_number (formulation M cuts) path y z costs);
       fits = columns-none M cuts path y z costs start;
       sides = λ j below. absurd (omega arith);
@@ -41,7 +41,7 @@ loop-col-preserved c =
     let start = quotient_of (to_z w128 (of_z w128 c.args.start)) d in
     let next = c.in-Some.next in
     let next_room : HasRoomForProduct next = c.in-Some.ensures.room in
-    let n_is : to_z w128 (of_z w128 next) ≡ next = omega (arith, ints, next_room) in
+    let n_is : to_z w128 (of_z w128 next) ≡ next = room_read next next_room in
     let before = c.loop-col.invariant in
     let more = columns-next M cuts path y z costs start c.loop-col.col (quotient_of (to_z w128 c.loop-col.total-bits) d) before.total before.fits (quotient_of next d) c.in-Some.ensures.column in
     record {
@@ -61,7 +61,7 @@ returns-clause-total c =
     let z = cut_weight cuts W.leaf.mult.now in
     let costs = cost_of W.leaf.costed M in
     let d = W.denominator in
-    let s_is : to_z w128 (of_z w128 c.args.start) ≡ c.args.start = omega (arith, ints) in
+    let s_is : to_z w128 (of_z w128 c.args.start) ≡ c.args.start = room_read c.args.start c.requires.start in
     let total = quotient_of (to_z w128 c.loop-col.total-bits) d in
     let all : c.loop-col.col ≡ length M.cols = let past = c.loop-col-test.false in let below = c.loop-col.auto.col-end in let items = ap length c.cols-col-end.ensures.items in omega (arith, past, below, items) in
     subst (λ s. IsColumnsTotal M cuts path y z costs (quotient_of s d) (Ok total)) s_is

@@ -1,12 +1,23 @@
-use Rattle.std.proofs.Common.{◌≡◌, ◌∙◌, sym, subst, arith, Ok, to_z, of_z, w64}
+use Rattle.std.proofs.Common.{◌≡◌, ◌∙◌, sym, subst, Ok, to_z, of_z, w64}
 use Rattle.std.specs.Int.{w128}
-use Rattle.std.proofs.lemmas.Int.{ints}
 use Rattle.frac128.specs.LowestTerms.{quotient_of}
 use Rattle.leaf_dual.specs.Dual.{multiplier, cut_weight}
 use Rattle.leaf_dual.specs.Parts.{constant_of, cost_of, IsCutsTotal, IsColumnsTotal}
-use Rattle.leaf_dual.specs.Wholes.{IsFactor, HasRoomForProduct}
+use Rattle.leaf_dual.proofs.ReadLemmas.{factor_read, denominator_again, room_read, room_again}
 use Rattle.leaf_dual.proofs.WholeColumns.{number_over}
 use Rattle.leaf_dual.proofs.whole_leaf.WholeLeaf.number.Goals as goal
+
+pub cuts_total-requires-clause-start : goal.cuts_total-requires-clause-start
+cuts_total-requires-clause-start c = room_again c.in-Some.rows c.in-Some.ensures.room
+
+pub columns_total-requires-clause-start : goal.columns_total-requires-clause-start
+columns_total-requires-clause-start c = room_again c.in-Some-cuts_total.cuts c.in-Some-cuts_total.ensures.room
+
+pub fraction_over-requires-clause-total : goal.fraction_over-requires-clause-total
+fraction_over-requires-clause-total c = room_again c.in-Some-columns_total.total c.in-Some-columns_total.ensures.room
+
+pub fraction_over-requires-clause-denominator : goal.fraction_over-requires-clause-denominator
+fraction_over-requires-clause-denominator c = denominator_again c.args.self.now.denominator c.requires.whole.denominator
 
 pub returns : goal.returns
 returns c =
@@ -18,20 +29,16 @@ returns c =
     let z = cut_weight cuts W.leaf.mult.now in
     let costs = cost_of W.leaf.costed M in
     let d = W.denominator in
-    let rows = c.in_ok-rows.rows in
-    let rows_room : HasRoomForProduct rows = c.in_ok-rows.ensures.room in
-    let r_is : to_z w128 (of_z w128 rows) ≡ rows = omega (arith, ints, rows_room) in
-    let by_cuts = c.in_ok-cuts.cuts in
-    let cuts_room : HasRoomForProduct by_cuts = c.in_ok-cuts.ensures.room in
-    let c_is : to_z w128 (of_z w128 by_cuts) ≡ by_cuts = omega (arith, ints, cuts_room) in
-    let total = c.in_ok-total.total in
-    let total_room : HasRoomForProduct total = c.in_ok-total.ensures.room in
-    let t_is : to_z w128 (of_z w128 total) ≡ total = omega (arith, ints, total_room) in
-    let d_factor : IsFactor d = c.requires.whole.denominator.factor in
-    let d_is : to_z w64 (of_z w64 d) ≡ d = omega (arith, ints, d_factor) in
-    let cuts_are : IsCutsTotal cuts z (quotient_of rows d) (Ok (quotient_of by_cuts d)) = subst (λ s. IsCutsTotal cuts z (quotient_of s d) (Ok (quotient_of by_cuts d))) r_is c.in_ok-cuts.ensures.total in
+    let rows = c.in-Some.rows in
+    let r_is : to_z w128 (of_z w128 rows) ≡ rows = room_read rows c.in-Some.ensures.room in
+    let by_cuts = c.in-Some-cuts_total.cuts in
+    let c_is : to_z w128 (of_z w128 by_cuts) ≡ by_cuts = room_read by_cuts c.in-Some-cuts_total.ensures.room in
+    let total = c.in-Some-columns_total.total in
+    let t_is : to_z w128 (of_z w128 total) ≡ total = room_read total c.in-Some-columns_total.ensures.room in
+    let d_is : to_z w64 (of_z w64 d) ≡ d = factor_read d c.requires.whole.denominator.factor in
+    let cuts_are : IsCutsTotal cuts z (quotient_of rows d) (Ok (quotient_of by_cuts d)) = subst (λ s. IsCutsTotal cuts z (quotient_of s d) (Ok (quotient_of by_cuts d))) r_is c.in-Some-cuts_total.ensures.total in
     let columns_are : IsColumnsTotal M cuts path y z costs (quotient_of by_cuts d) (Ok c.fraction_over.result) =
     subst (λ s. IsColumnsTotal M cuts path y z costs (quotient_of s d) (Ok c.fraction_over.result)) c_is
-    (subst (λ v. IsColumnsTotal M cuts path y z costs (quotient_of (to_z w128 (of_z w128 by_cuts)) d) (Ok v)) (sym (c.fraction_over.ensures ∙ (λ i. quotient_of (t_is i) (d_is i)))) c.in_ok-total.ensures.total) in
-    number_over M cuts path y z costs (constant_of W.leaf.costed M) (quotient_of rows d) (quotient_of by_cuts d) c.fraction_over.result c.in_ok-rows.ensures.sides c.in_ok-cuts.ensures.sides c.in_ok-total.ensures.sides
-    c.in_ok-rows.ensures.total cuts_are columns_are
+    (subst (λ v. IsColumnsTotal M cuts path y z costs (quotient_of (to_z w128 (of_z w128 by_cuts)) d) (Ok v)) (sym (c.fraction_over.ensures ∙ (λ i. quotient_of (t_is i) (d_is i)))) c.in-Some-columns_total.ensures.total) in
+    number_over M cuts path y z costs (constant_of W.leaf.costed M) (quotient_of rows d) (quotient_of by_cuts d) c.fraction_over.result c.in-Some.ensures.sides c.in-Some-cuts_total.ensures.sides c.in-Some-columns_total.ensures.sides
+    c.in-Some.ensures.total cuts_are columns_are

@@ -1,6 +1,5 @@
-use Rattle.std.proofs.Common.{◌≡◌, ◌∙◌, sym, ap, subst, arith, length, to_z, of_z, w64}
+use Rattle.std.proofs.Common.{◌≡◌, ◌∙◌, sym, ap, subst, length, to_z, of_z, w64}
 use Rattle.std.specs.Int.{w128}
-use Rattle.std.proofs.lemmas.Int.{ints}
 use Rattle.std.proofs.lemmas.Option.{IfSome_then}
 use Rattle.frac128.specs.LowestTerms.{quotient_of}
 use Rattle.checked_sum.specs.Steps.{AllFit, partial}
@@ -8,8 +7,15 @@ use Rattle.leaf_dual.specs.Dual.{multiplier}
 use Rattle.leaf_dual.specs.Answers.{row_number}
 use Rattle.leaf_dual.specs.Parts.{constant_of}
 use Rattle.leaf_dual.specs.Wholes.{IsFactor}
+use Rattle.leaf_dual.proofs.ReadLemmas.{factor_read, denominator_again, start_read, start_again}
 use Rattle.leaf_dual.proofs.WholeLemmas.{both}
 use Rattle.leaf_dual.proofs.whole_leaf.WholeLeaf.rows_total.Goals as goal
+
+pub factor_over-requires : goal.factor_over-requires
+factor_over-requires c = denominator_again c.args.self.now.denominator c.requires.denominator
+
+pub whole_total-requires-clause-start : goal.whole_total-requires-clause-start
+whole_total-requires-clause-start c = start_again c.from.result c.in-Some.start c.in-Some.ensures.factor c.from.ensures
 
 pub returns-clause-total : goal.returns-clause-total
 returns-clause-total c =
@@ -17,13 +23,11 @@ returns-clause-total c =
     let M = W.leaf.model.now in
     let y = multiplier W.leaf.mult.now in
     let d = W.denominator in
-    let start = c.in_ok-start.start in
-    let start_factor : IsFactor start = c.in_ok-start.ensures.factor in
-    let d_factor : IsFactor d = c.requires.denominator.factor in
-    let d_is : to_z w64 (of_z w64 d) ≡ d = omega (arith, ints, d_factor) in
-    let e = c.from.ensures in
-    let from_is : to_z w128 (of_z w128 c.from.result) ≡ start = omega (arith, ints, e, start_factor) in
-    let start_is : quotient_of (to_z w128 (of_z w128 c.from.result)) d ≡ constant_of W.leaf.costed M = ap (λ n. quotient_of n d) from_is ∙ ap (quotient_of start) (sym d_is) ∙ sym c.in_ok-start.ensures.value ∙ c.constant.ensures in
+    let start = c.in-Some.start in
+    let start_factor : IsFactor start = c.in-Some.ensures.factor in
+    let d_is : to_z w64 (of_z w64 d) ≡ d = factor_read d c.requires.denominator.factor in
+    let from_is : to_z w128 (of_z w128 c.from.result) ≡ start = start_read c.from.result start start_factor c.from.ensures in
+    let start_is : quotient_of (to_z w128 (of_z w128 c.from.result)) d ≡ constant_of W.leaf.costed M = ap (λ n. quotient_of n d) from_is ∙ ap (quotient_of start) (sym d_is) ∙ sym c.in-Some.ensures.value ∙ c.constant.ensures in
     IfSome_then c.whole_total.result (both _ _ c.whole_total.result c.whole_total.ensures.fits c.whole_total.ensures.value)
     (λ total h. subst (λ s. AllFit s y (row_number M y) (length M.rows) × (quotient_of total d ≡ partial s y (row_number M y) (length M.rows))) start_is h)
 

@@ -1,16 +1,34 @@
-use Rattle.std.proofs.Common.{◌≡◌, ◌∙◌, ap, subst, arith, ◌+ℤ◌, ◌*ℤ◌, to_z, of_z, w64}
+use Rattle.std.proofs.Common.{◌≡◌, ◌∙◌, ap, subst, ◌+ℤ◌, ◌*ℤ◌, to_z, of_z, w64}
 use Rattle.std.specs.Int.{w128}
-use Rattle.std.proofs.lemmas.Int.{ints}
 use Rattle.std.proofs.lemmas.Option.{IfSome_then}
 use Rattle.frac128.specs.LowestTerms.{quotient_of}
 use Rattle.lp_model.specs.Regions.{region_low, region_high}
 use Rattle.leaf_dual.specs.Dual.{multiplier, cut_weight, needed_side}
 use Rattle.leaf_dual.specs.Answers.{side_number}
 use Rattle.leaf_dual.specs.Parts.{cost_of}
-use Rattle.leaf_dual.specs.Wholes.{IsFactor, IsTermOver}
+use Rattle.leaf_dual.specs.Wholes.{IsTermOver}
+use Rattle.leaf_dual.proofs.ReadLemmas.{factor_read, factor_again, room_read, room_again}
 use Rattle.leaf_dual.proofs.WholeLemmas.{both}
 use Rattle.leaf_dual.proofs.WholeColumns.{side_over, column_over}
 use Rattle.leaf_dual.proofs.whole_leaf.WholeLeaf.with_column.Goals as goal
+
+pub side_term-requires : goal.side_term-requires
+side_term-requires c = factor_again c.in-Some.reduced c.in-Some.ensures.factor
+
+pub with_product-requires-clause-total : goal.with_product-requires-clause-total
+with_product-requires-clause-total c = room_again c.args.total c.requires.total
+
+pub with_product-requires-clause-factor : goal.with_product-requires-clause-factor
+with_product-requires-clause-factor c =
+    let is = c.requires.whole.denominator in
+    let term = c.in-Some-side_term.ensures.value c.args.self.now.denominator is.positive in
+    factor_again c.in-Some-side_term.term.factor term.factor
+
+pub with_product-requires-clause-number : goal.with_product-requires-clause-number
+with_product-requires-clause-number c =
+    let is = c.requires.whole.denominator in
+    let term = c.in-Some-side_term.ensures.value c.args.self.now.denominator is.positive in
+    factor_again c.in-Some-side_term.term.number term.number
 
 pub returns-clause-column : goal.returns-clause-column
 returns-clause-column c =
@@ -24,20 +42,19 @@ returns-clause-column c =
     let d = W.denominator in
     let p = c.requires.whole.denominator.positive in
     let j = c.args.col in
-    let reduced = c.in_ok-reduced.reduced in
-    let reduced_factor : IsFactor reduced = c.in_ok-reduced.ensures.factor in
-    let r_is : to_z w64 (of_z w64 reduced) ≡ reduced = omega (arith, ints, reduced_factor) in
+    let reduced = c.in-Some.reduced in
+    let r_is : to_z w64 (of_z w64 reduced) ≡ reduced = factor_read reduced c.in-Some.ensures.factor in
     let side = c.column_side-side.result in
     let side_is : side ≡ needed_side (quotient_of reduced d) (region_low M path j) (region_high M path j) =
     c.column_side-side.ensures d p ∙ ap (λ n. needed_side (quotient_of n d) (region_low M path j) (region_high M path j)) r_is in
-    let f = c.in_ok-term.term.factor in
-    let n = c.in_ok-term.term.number in
-    let term : IsTermOver d (quotient_of reduced d) (side_number side) f n = subst (λ m. IsTermOver d (quotient_of m d) (side_number side) f n) r_is (c.in_ok-term.ensures.value d p) in
-    let f_is : to_z w64 (of_z w64 f) ≡ f = let h = term.factor in omega (arith, ints, h) in
-    let n_is : to_z w64 (of_z w64 n) ≡ n = let h = term.number in omega (arith, ints, h) in
-    let t_is : to_z w128 (of_z w128 c.args.total) ≡ c.args.total = omega (arith, ints) in
+    let f = c.in-Some-side_term.term.factor in
+    let n = c.in-Some-side_term.term.number in
+    let term : IsTermOver d (quotient_of reduced d) (side_number side) f n = subst (λ m. IsTermOver d (quotient_of m d) (side_number side) f n) r_is (c.in-Some-side_term.ensures.value d p) in
+    let f_is : to_z w64 (of_z w64 f) ≡ f = factor_read f term.factor in
+    let n_is : to_z w64 (of_z w64 n) ≡ n = factor_read n term.number in
+    let t_is : to_z w128 (of_z w128 c.args.total) ≡ c.args.total = room_read c.args.total c.requires.total in
     IfSome_then c.with_product.result (both _ _ c.with_product.result c.with_product.ensures.value c.with_product.ensures.room)
-    (λ next h. column_over M cuts path y z costs j d reduced c.in_ok-reduced.ensures.left side side_is c.args.total f n next c.requires.whole.denominator c.requires.total term (h.0 ∙ (λ i. t_is i +ℤ f_is i *ℤ n_is i)) h.1)
+    (λ next h. column_over M cuts path y z costs j d reduced c.in-Some.ensures.left side side_is c.args.total f n next c.requires.whole.denominator c.requires.total term (h.0 ∙ (λ i. t_is i +ℤ f_is i *ℤ n_is i)) h.1)
 
 pub returns-clause-side : goal.returns-clause-side
 returns-clause-side c =
@@ -51,11 +68,10 @@ returns-clause-side c =
     let d = W.denominator in
     let p = c.requires.whole.denominator.positive in
     let j = c.args.col in
-    let reduced = c.in_ok-reduced.reduced in
-    let reduced_factor : IsFactor reduced = c.in_ok-reduced.ensures.factor in
-    let r_is : to_z w64 (of_z w64 reduced) ≡ reduced = omega (arith, ints, reduced_factor) in
+    let reduced = c.in-Some.reduced in
+    let r_is : to_z w64 (of_z w64 reduced) ≡ reduced = factor_read reduced c.in-Some.ensures.factor in
     let side = c.column_side-side.result in
     let side_is : side ≡ needed_side (quotient_of reduced d) (region_low M path j) (region_high M path j) =
     c.column_side-side.ensures d p ∙ ap (λ n. needed_side (quotient_of n d) (region_low M path j) (region_high M path j)) r_is in
-    let some = side_over M cuts path y z costs j d reduced c.in_ok-reduced.ensures.left side side_is c.in_ok-term.ensures.there in
+    let some = side_over M cuts path y z costs j d reduced c.in-Some.ensures.left side side_is c.in-Some-side_term.ensures.there in
     IfSome_then c.with_product.result c.with_product.ensures.room (λ next h. some)

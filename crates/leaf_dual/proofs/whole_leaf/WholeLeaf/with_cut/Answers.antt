@@ -1,13 +1,22 @@
-use Rattle.std.proofs.Common.{◌≡◌, ◌∙◌, arith, ◌+ℤ◌, ◌*ℤ◌, to_z, of_z, w64}
+use Rattle.std.proofs.Common.{◌≡◌, ◌∙◌, ◌+ℤ◌, ◌*ℤ◌, to_z, of_z, w64}
 use Rattle.std.specs.Int.{w128}
-use Rattle.std.proofs.lemmas.Int.{ints}
 use Rattle.std.proofs.lemmas.Option.{IfSome_then}
 use Rattle.rational.specs.Rational.{neg_ℚ}
 use Rattle.lp_model.specs.Formulations.{cut_coefficient}
 use Rattle.leaf_dual.specs.Dual.{cut_weight}
 use Rattle.leaf_dual.specs.Wholes.{IsTermOver}
+use Rattle.leaf_dual.proofs.ReadLemmas.{factor_read, factor_again, room_read, room_again}
 use Rattle.leaf_dual.proofs.WholeLemmas.{both, step_fits, step_value}
 use Rattle.leaf_dual.proofs.whole_leaf.WholeLeaf.with_cut.Goals as goal
+
+pub with_product-requires-clause-total : goal.with_product-requires-clause-total
+with_product-requires-clause-total c = room_again c.args.total c.requires.total
+
+pub with_product-requires-clause-factor : goal.with_product-requires-clause-factor
+with_product-requires-clause-factor c = factor_again c.in-Some.term.factor c.in-Some.ensures.factor
+
+pub with_product-requires-clause-number : goal.with_product-requires-clause-number
+with_product-requires-clause-number c = factor_again c.in-Some.term.number c.in-Some.ensures.number
 
 pub returns-clause-fits : goal.returns-clause-fits
 returns-clause-fits c =
@@ -15,12 +24,12 @@ returns-clause-fits c =
     let d = W.denominator in
     let a = neg_ℚ (cut_weight W.leaf.cuts.now W.leaf.mult.now c.args.cut) in
     let x = cut_coefficient W.leaf.cuts.now c.args.cut c.args.col in
-    let f = c.in_ok-term.term.factor in
-    let n = c.in_ok-term.term.number in
-    let term : IsTermOver d a x f n = c.in_ok-term.ensures.value in
-    let f_is : to_z w64 (of_z w64 f) ≡ f = let h = term.factor in omega (arith, ints, h) in
-    let n_is : to_z w64 (of_z w64 n) ≡ n = let h = term.number in omega (arith, ints, h) in
-    let t_is : to_z w128 (of_z w128 c.args.total) ≡ c.args.total = omega (arith, ints) in
+    let f = c.in-Some.term.factor in
+    let n = c.in-Some.term.number in
+    let term : IsTermOver d a x f n = c.in-Some.ensures in
+    let f_is : to_z w64 (of_z w64 f) ≡ f = factor_read f term.factor in
+    let n_is : to_z w64 (of_z w64 n) ≡ n = factor_read n term.number in
+    let t_is : to_z w128 (of_z w128 c.args.total) ≡ c.args.total = room_read c.args.total c.requires.total in
     IfSome_then c.with_product.result (both _ _ c.with_product.result c.with_product.ensures.value c.with_product.ensures.room)
     (λ next h. step_fits a x d c.args.total c.requires.whole.denominator c.requires.total f n term next (h.0 ∙ (λ i. t_is i +ℤ f_is i *ℤ n_is i)) h.1)
 
@@ -30,11 +39,11 @@ returns-clause-value c =
     let d = W.denominator in
     let a = neg_ℚ (cut_weight W.leaf.cuts.now W.leaf.mult.now c.args.cut) in
     let x = cut_coefficient W.leaf.cuts.now c.args.cut c.args.col in
-    let f = c.in_ok-term.term.factor in
-    let n = c.in_ok-term.term.number in
-    let term : IsTermOver d a x f n = c.in_ok-term.ensures.value in
-    let f_is : to_z w64 (of_z w64 f) ≡ f = let h = term.factor in omega (arith, ints, h) in
-    let n_is : to_z w64 (of_z w64 n) ≡ n = let h = term.number in omega (arith, ints, h) in
-    let t_is : to_z w128 (of_z w128 c.args.total) ≡ c.args.total = omega (arith, ints) in
+    let f = c.in-Some.term.factor in
+    let n = c.in-Some.term.number in
+    let term : IsTermOver d a x f n = c.in-Some.ensures in
+    let f_is : to_z w64 (of_z w64 f) ≡ f = factor_read f term.factor in
+    let n_is : to_z w64 (of_z w64 n) ≡ n = factor_read n term.number in
+    let t_is : to_z w128 (of_z w128 c.args.total) ≡ c.args.total = room_read c.args.total c.requires.total in
     IfSome_then c.with_product.result (both _ _ c.with_product.result c.with_product.ensures.value c.with_product.ensures.room)
     (λ next h. step_value a x d c.args.total c.requires.whole.denominator c.requires.total f n term next (h.0 ∙ (λ i. t_is i +ℤ f_is i *ℤ n_is i)) h.1)

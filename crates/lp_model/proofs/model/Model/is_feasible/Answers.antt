@@ -1,4 +1,5 @@
-use Rattle.std.proofs.Common.{rules, ◌≡◌, ◌<◌, length, arith, ap, below_more, IsTrue, false, inr}
+use Rattle.std.proofs.Common.{rules, ◌≡◌, ◌∙◌, ◌<◌, length, arith, ap, sym, below_more, IsTrue, false, inl, inr}
+use Rattle.std.proofs.lemmas.Bool.{false≢true}
 use Rattle.lp_model.specs.Program.{Within}
 use Rattle.lp_model.specs.Answers.{RowPasses}
 use Rattle.lp_model.proofs.AnswerLemmas.{row-passes, row-breach, all-pass}
@@ -37,3 +38,29 @@ returns c =
     let items : length c.rows-row-items.result.now ≡ length M.rows = ap length c.rows-row-items.ensures.items in
     let hold : IsTrue c.columns_hold.result = search rules in
     all-pass M x shape (c.columns_hold.ensures.0 hold) c.loop-index.index (omega arith) c.loop-index.invariant
+
+pub returns-then-not-columns_hold : goal.returns-then-not-columns_hold
+returns-then-not-columns_hold c =
+    let numbers = ap length c.as_slice.ensures in
+    let columns = ap length c.cols.ensures.items in
+    let shape : length c.args.point.now ≡ length c.args.self.now.cols = omega (arith, numbers, columns) in
+    inr (shape, inl (λ all. false≢true (sym c.if-not-columns_hold.true ∙ c.columns_hold.ensures.1 all)))
+
+pub returns-in-Err : goal.returns-in-Err
+returns-in-Err c =
+    let M = c.args.self.now in
+    let x = c.args.point.now in
+    let numbers = ap length c.as_slice.ensures in
+    let columns = ap length c.cols.ensures.items in
+    let shape : length x ≡ length M.cols = omega (arith, numbers, columns) in
+    let items : length c.rows-row-items.result.now ≡ length M.rows = ap length c.rows-row-items.ensures.items in
+    let within : c.loop-index.index < length M.rows = omega arith in (
+      c.loop-index.index,
+      (
+        c.in-Err.ensures.0,
+        (
+          record { shape = shape; columns = c.columns_hold.ensures.0 c.if-not-columns_hold.false; within = within; before = c.loop-index.invariant; here = c.in-Err.ensures.1.0 },
+          c.in-Err.ensures.1.1,
+        ),
+      ),
+    )

@@ -14,8 +14,8 @@ pub returns : goal.returns
 unfolding has
 returns c =
     let keys = c.args.self.now.keys.keys in
-    let key = c.in_ok-key.key in
+    let key = c.in-Ok.key in
     λ q.
     ap (list_any (λ k. bytes_eq q k.items)) c.in_ok-insert.ensures.keys
     ∙ insert_any (λ k x. slice_cmp nat_cmp k.items x.items) (λ k. bytes_eq q k.items) (λ k x e. ap (bytes_eq q) (sym ((bytes_eq-Decides k.items x.items).0 (sym (is_eq-slice_cmp k.items x.items) ∙ ap is_eq e)))) keys key
-    ∙ ap (λ b. b || list_any (λ k. bytes_eq q k.items) keys) (ap (bytes_eq q) c.in_ok-key.ensures.items ∙ bytes_eq-flips q c.args.name.now)
+    ∙ ap (λ b. b || list_any (λ k. bytes_eq q k.items) keys) (ap (bytes_eq q) c.in-Ok.ensures.items ∙ bytes_eq-flips q c.args.name.now)

@@ -13,8 +13,8 @@ loop-place-preserved c =
     let cut = c.index-rows-place.result in
     let is : cut ≡ get_or pool k cut = c.index-rows-place.is ∙ ap (λ xs. get_or xs k cut) c.rows-rows.ensures.rows in
     record {
-      cuts = live-next pool k cut below is c.loop-place.cuts.items c.note.new.cuts.items c.loop-place.invariant.cuts c.in_ok-note.ensures.cuts;
-      places = places-next pool k cut below is c.loop-place.cuts.items c.loop-place.places.items c.note.new.places.items c.loop-place.invariant.cuts c.loop-place.invariant.places c.in_ok-note.ensures.places;
+      cuts = live-next pool k cut below is c.loop-place.cuts.items c.note.new.cuts.items c.loop-place.invariant.cuts c.in-Ok.ensures.cuts;
+      places = places-next pool k cut below is c.loop-place.cuts.items c.loop-place.places.items c.note.new.places.items c.loop-place.invariant.cuts c.loop-place.invariant.places c.in-Ok.ensures.places;
     }
 
 pub returns-clause-cuts : goal.returns-clause-cuts

@@ -13,6 +13,6 @@ loop-cover-preserved c =
     let i = c.loop-cover.cover-index in
     let cover = c.cover-item.result in (
       subst (λ (l : List Derivation). AddsAll W (round_of c.args.round.now) l (round_of c.add_one.new.round)) (sym (take-next c.args.covers.now i cover c.loop-cover-test.true c.cover-item.is))
-          (adds-more W (take i c.args.covers.now) cover (round_of c.args.round.now) (round_of c.loop-cover.round) (round_of c.add_one.new.round) c.loop-cover.invariant.0 c.in_ok-add_one.ensures.adds),
-      c.in_ok-add_one.ensures.kept,
+          (adds-more W (take i c.args.covers.now) cover (round_of c.args.round.now) (round_of c.loop-cover.round) (round_of c.add_one.new.round) c.loop-cover.invariant.0 c.in-Ok.ensures.adds),
+      c.in-Ok.ensures.kept,
     )

@@ -9,7 +9,7 @@ returns-then-not-may_go_on-clause-goes_on c = (refl, inl (λ may. false≢true (
 
 pub overflow_sub-count : goal.overflow_sub-count
 overflow_sub-count c =
-    let more = never-fewer (task_work c.args.self.now) (round_of c.args.round.now) (round_of c.separate.new.round) c.args.point.now c.in_ok-separate.ensures.separates in
+    let more = never-fewer (task_work c.args.self.now) (round_of c.args.round.now) (round_of c.separate.new.round) c.args.point.now c.in-Ok.ensures.separates in
     let before = c.len-before.ensures in
     let after = c.len.ensures in
     omega (arith, more, before, after)
@@ -18,20 +18,28 @@ pub returns-then-count-eq0-clause-goes_on : goal.returns-then-count-eq0-clause-g
 returns-then-count-eq0-clause-goes_on c =
     let before = c.len-before.ensures in
     let after = c.len.ensures in
-    let none = none-new (task_work c.args.self.now) (round_of c.args.round.now) (round_of c.separate.new.round) c.args.point.now c.in_ok-separate.ensures.separates (let h = c.if-count-eq0.true in omega (arith, h, before, after)) in
+    let none = none-new (task_work c.args.self.now) (round_of c.args.round.now) (round_of c.separate.new.round) c.args.point.now c.in-Ok.ensures.separates (let h = c.if-count-eq0.true in omega (arith, h, before, after)) in
     (none.0, inr none.1)
 
 pub with_cut_variables-requires : goal.with_cut_variables-requires
 with_cut_variables-requires c =
-    let more = never-fewer (task_work c.args.self.now) (round_of c.args.round.now) (round_of c.separate.new.round) c.args.point.now c.in_ok-separate.ensures.separates in
+    let more = never-fewer (task_work c.args.self.now) (round_of c.args.round.now) (round_of c.separate.new.round) c.args.point.now c.in-Ok.ensures.separates in
     let before = c.len-before.ensures in
     let after = c.len.ensures in
-    let few = c.in_ok-separate.ensures.kept.few in
+    let few = c.in-Ok.ensures.kept.few in
     omega (arith, more, before, after, few)
 
 pub returns-clause-goes_on : goal.returns-clause-goes_on
 returns-clause-goes_on c =
     let before = c.len-before.ensures in
     let after = c.len.ensures in
-    goes-on (task_work c.args.self.now) c.args.made (round_of c.args.round.now) (round_of c.separate.new.round) c.args.point.now c.args.basis.now c.in_ok-list.list _ _ (c.may_go_on.ensures.0 c.if-not-may_go_on.false) c.in_ok-separate.ensures.separates
-    before (λ i. after i - before i) c.if-count-eq0.false c.in_ok-list.ensures
+    goes-on (task_work c.args.self.now) c.args.made (round_of c.args.round.now) (round_of c.separate.new.round) c.args.point.now c.args.basis.now c.replace.new.dest _ _ (c.may_go_on.ensures.0 c.if-not-may_go_on.false) c.in-Ok.ensures.separates
+    before (λ i. after i - before i) c.if-count-eq0.false (c.replace.ensures.after ∙ c.in-Ok-with_cut_variables.ensures)
+
+pub returns-then-count-eq0-clause-kept : goal.returns-then-count-eq0-clause-kept
+returns-then-count-eq0-clause-kept c = c.in-Ok.ensures.kept
+
+pub returns-clause-kept : goal.returns-clause-kept
+returns-clause-kept c =
+    let kept = c.in-Ok.ensures.kept in
+    record { are = kept.are; live = kept.live; few = kept.few; each = kept.each; there = kept.there; room = kept.room }

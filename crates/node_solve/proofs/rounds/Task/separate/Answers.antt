@@ -6,6 +6,6 @@ use Rattle.node_solve.proofs.rounds.Task.separate.Goals as goal
 pub returns-clause-separates : goal.returns-clause-separates
 returns-clause-separates c =
     let W = task_work c.args.self.now in (
-      c.in_ok-covers.covers.items,
-      (c.in_ok-covers.ensures, subst (λ l. AddsAll W (round_of c.args.round.now) l (round_of c.add_all.new.round)) c.as_slice.ensures.value c.in_ok-add_all.ensures.adds),
+      c.in-Ok.covers.items,
+      (c.in-Ok.ensures, subst (λ l. AddsAll W (round_of c.args.round.now) l (round_of c.add_all.new.round)) c.as_slice.ensures.value c.in-Ok-add_all.ensures.adds),
     )

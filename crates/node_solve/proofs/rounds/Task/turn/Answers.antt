@@ -14,3 +14,6 @@ returns-in-Infeasible c =
 
 pub after_optimum-requires-clause-solved : goal.after_optimum-requires-clause-solved
 after_optimum-requires-clause-solved c = c.in-Optimal.ensures
+
+pub returns-in-Optimal : goal.returns-in-Optimal
+returns-in-Optimal c = c.after_optimum.ensures

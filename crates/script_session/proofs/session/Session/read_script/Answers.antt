@@ -1,12 +1,12 @@
 use Rattle.std.proofs.Common.{◌≡◌, ◌≤◌, ℕ, ◌<◌, List, [], ◌++◌, length, take, drop, length-drop, sym, subst, arith}
-use Rattle.std.specs.Prelude.{Ok}
+use Rattle.std.specs.Prelude.{Ok, Err}
 use Rattle.std.specs.Io.KnownBytes.{Consumes}
-use Rattle.std.proofs.lemmas.Result.{err_from_is_err_and}
 use Rattle.std.proofs.lemmas.List.{length-take-le}
 use Rattle.script_session.specs.Request.{RequestStep}
 use Rattle.script_session.specs.Session.{moment_of, ServesPiece, ServesRest}
 use Rattle.script_session.specs.declared.session.Flow.{Flow}
 use Rattle.script_session.specs.declared.reading.TheConstants.{PIECE_LENGTH}
+use Rattle.script_session.proofs.CauseLemmas.{later_on, rose_on, sink_cause_on, piece_cause, rest_cause}
 use Rattle.script_session.proofs.ReadLemmas.{ReadsOn-start, ReadsOn-more, read_failed, read_at_end, read_ended, read_overlong, read_stopped, front_parts}
 use Rattle.script_session.proofs.session.Session.read_script.Goals as goal
 
@@ -42,9 +42,8 @@ returns-then-count-eq0-clause-served g c =
     let served = subst (λ (rest : List ℕ). ServesRest g.M.Machine.ends (RequestStep g.M.Machine.step) c.serve_rest.result now rest new) c.deref.ensures.value c.serve_rest.ensures.served in
     read_at_end g.M.Machine.ends (RequestStep g.M.Machine.step) c.serve_rest.result left left' left'' old now new c.loop-count.taken kept c.loop-count.invariant.reads c.loop-count.invariant.limit nothing (c.in-Ok.ensures.bytes.1 c.if-count-eq0.true (omega arith)) served
 
-pub returns-in_err-feed-clause-served : goal.returns-in_err-feed-clause-served
-returns-in_err-feed-clause-served g c =
-    let p = err_from_is_err_and c.from_residual.result c.from_residual.ensures.1 in
+pub returns-in-Err-clause-served : goal.returns-in-Err-clause-served
+returns-in-Err-clause-served g c =
     let left = g.R.Source.left c.args.script.now in
     let left' = g.R.Source.left c.loop-count.script in
     let left'' = g.R.Source.left c.read.new.self in
@@ -60,10 +59,10 @@ returns-in_err-feed-clause-served g c =
     let bound = c.in-Ok.ensures.bound in
     let short : length bytes ≤ PIECE_LENGTH = omega arith in
     let long : length piece ≡ c.min.result = length-take-le c.min.result c.read.new.buf (omega arith) in
-    rw (p.1, p.2) (read_stopped g.M.Machine.ends (RequestStep g.M.Machine.step) c.in_err-feed.field-0.0 left left' left'' old now new c.loop-count.taken kept bytes piece others c.feed.new.pending.items c.loop-count.invariant.reads c.loop-count.invariant.limit short c.in-Ok.ensures.bytes.0 parts (omega arith) c.in_err-feed.ensures.served)
+    read_stopped g.M.Machine.ends (RequestStep g.M.Machine.step) c.in-Err.stop left left' left'' old now new c.loop-count.taken kept bytes piece others c.feed.new.pending.items c.loop-count.invariant.reads c.loop-count.invariant.limit short c.in-Ok.ensures.bytes.0 parts (omega arith) c.in-Err.ensures.served
 
-pub returns-in-Ended-clause-served : goal.returns-in-Ended-clause-served
-returns-in-Ended-clause-served g c =
+pub returns-in-Ok-Ended-clause-served : goal.returns-in-Ok-Ended-clause-served
+returns-in-Ok-Ended-clause-served g c =
     let left = g.R.Source.left c.args.script.now in
     let left' = g.R.Source.left c.loop-count.script in
     let left'' = g.R.Source.left c.read.new.self in
@@ -79,7 +78,7 @@ returns-in-Ended-clause-served g c =
     let bound = c.in-Ok.ensures.bound in
     let short : length bytes ≤ PIECE_LENGTH = omega arith in
     let long : length piece ≡ c.min.result = length-take-le c.min.result c.read.new.buf (omega arith) in
-    let served = subst (λ (flow : Flow). ServesPiece g.M.Machine.ends (RequestStep g.M.Machine.step) (Ok flow) now (kept ++ piece) new c.feed.new.pending.items) c.in-Ended.is c.in_ok-feed.ensures.served in
+    let served = subst (λ (flow : Flow). ServesPiece g.M.Machine.ends (RequestStep g.M.Machine.step) (Ok flow) now (kept ++ piece) new c.feed.new.pending.items) c.in-Ok-Ended.field-0-is c.in-Ok-Ended.ensures.served in
     read_ended g.M.Machine.ends (RequestStep g.M.Machine.step) left left' left'' old now new c.loop-count.taken kept bytes piece others c.feed.new.pending.items c.loop-count.invariant.reads c.loop-count.invariant.limit short c.in-Ok.ensures.bytes.0 parts (omega arith) served
 
 pub returns-then-count-room-clause-served : goal.returns-then-count-room-clause-served
@@ -99,7 +98,7 @@ returns-then-count-room-clause-served g c =
     let bound = c.in-Ok.ensures.bound in
     let short : length bytes ≤ PIECE_LENGTH = omega arith in
     let long : length piece ≡ c.min.result = length-take-le c.min.result c.read.new.buf (omega arith) in
-    let served = subst (λ (flow : Flow). ServesPiece g.M.Machine.ends (RequestStep g.M.Machine.step) (Ok flow) now (kept ++ piece) new c.feed.new.pending.items) c.in-Open.is c.in_ok-feed.ensures.served in
+    let served = subst (λ (flow : Flow). ServesPiece g.M.Machine.ends (RequestStep g.M.Machine.step) (Ok flow) now (kept ++ piece) new c.feed.new.pending.items) c.in-Ok-Open.field-0-is c.in-Ok-Open.ensures.served in
     let some : 0 < length others = omega (arith, length-drop c.min.result bytes) in
     read_overlong g.M.Machine.ends (RequestStep g.M.Machine.step) left left' left'' old now new c.loop-count.taken kept bytes piece others c.feed.new.pending.items c.loop-count.invariant.reads c.loop-count.invariant.limit short c.in-Ok.ensures.bytes.0 parts (omega arith) some served
 
@@ -120,16 +119,77 @@ loop-count-preserved g c =
     let bound = c.in-Ok.ensures.bound in
     let short : length bytes ≤ PIECE_LENGTH = omega arith in
     let long : length piece ≡ c.min.result = length-take-le c.min.result c.read.new.buf (omega arith) in
-    let served = subst (λ (flow : Flow). ServesPiece g.M.Machine.ends (RequestStep g.M.Machine.step) (Ok flow) now (kept ++ piece) new c.feed.new.pending.items) c.in-Open.is c.in_ok-feed.ensures.served in
+    let served = subst (λ (flow : Flow). ServesPiece g.M.Machine.ends (RequestStep g.M.Machine.step) (Ok flow) now (kept ++ piece) new c.feed.new.pending.items) c.in-Ok-Open.field-0-is c.in-Ok-Open.ensures.served in
     let same : c.min.result ≡ count = omega arith in
     let consumed : Consumes left' left'' piece = subst (λ (n : ℕ). Consumes left' left'' (take n c.read.new.buf)) (sym same) c.in-Ok.ensures.bytes.0 in
     record {
       reads = ReadsOn-more g.M.Machine.ends (RequestStep g.M.Machine.step) left left' left'' old now new c.loop-count.taken count kept piece c.feed.new.pending.items c.loop-count.invariant.reads consumed (omega arith) served;
       limit = omega arith;
-      source_later = omega arith;
-      sink_later = omega arith;
-      store_later = omega arith;
+      source_later = later_on _ _ _ c.loop-count.invariant.source_later c.read.ensures.later;
+      sink_later = later_on _ _ _ c.loop-count.invariant.sink_later c.feed.ensures.later;
+      store_later = later_on _ _ _ c.loop-count.invariant.store_later c.feed.ensures.store_later;
     }
 
 pub loop-count-smaller : goal.loop-count-smaller
 loop-count-smaller g c = let limit = c.loop-count.invariant.limit in omega arith
+
+pub returns-in_default-clause-source_cause : goal.returns-in_default-clause-source_cause
+returns-in_default-clause-source_cause g c = rose_on _ _ _ c.loop-count.invariant.source_later c.in_default.ensures.failed
+
+pub returns-in_default-clause-source_later : goal.returns-in_default-clause-source_later
+returns-in_default-clause-source_later g c = later_on _ _ _ c.loop-count.invariant.source_later c.read.ensures.later
+
+pub returns-then-count-eq0-clause-source_cause : goal.returns-then-count-eq0-clause-source_cause
+returns-then-count-eq0-clause-source_cause g c =
+    let now = moment_of c.loop-count.self c.loop-count.machine (g.W.Sink.written c.loop-count.out) (g.S.Store.files c.loop-count.store) (g.S.Store.faults c.loop-count.store) in
+    let new = moment_of c.serve_rest.new.self c.serve_rest.new.machine (g.W.Sink.written c.serve_rest.new.out) (g.S.Store.files c.serve_rest.new.store) (g.S.Store.faults c.serve_rest.new.store) in
+    rest_cause g.M.Machine.ends (RequestStep g.M.Machine.step) c.serve_rest.result now new c.deref.result.now _ _ c.serve_rest.ensures.served
+
+pub returns-then-count-eq0-clause-sink_cause : goal.returns-then-count-eq0-clause-sink_cause
+returns-then-count-eq0-clause-sink_cause g c = sink_cause_on c.serve_rest.result _ _ _ c.loop-count.invariant.sink_later c.serve_rest.ensures.cause
+
+pub returns-then-count-eq0-clause-source_later : goal.returns-then-count-eq0-clause-source_later
+returns-then-count-eq0-clause-source_later g c = later_on _ _ _ c.loop-count.invariant.source_later c.read.ensures.later
+
+pub returns-then-count-eq0-clause-sink_later : goal.returns-then-count-eq0-clause-sink_later
+returns-then-count-eq0-clause-sink_later g c = later_on _ _ _ c.loop-count.invariant.sink_later c.serve_rest.ensures.later
+
+pub returns-then-count-eq0-clause-store_later : goal.returns-then-count-eq0-clause-store_later
+returns-then-count-eq0-clause-store_later g c = later_on _ _ _ c.loop-count.invariant.store_later c.serve_rest.ensures.store_later
+
+pub returns-in-Err-clause-source_cause : goal.returns-in-Err-clause-source_cause
+returns-in-Err-clause-source_cause g c =
+    let now = moment_of c.loop-count.self c.loop-count.machine (g.W.Sink.written c.loop-count.out) (g.S.Store.files c.loop-count.store) (g.S.Store.faults c.loop-count.store) in
+    let new = moment_of c.feed.new.self c.feed.new.machine (g.W.Sink.written c.feed.new.out) (g.S.Store.files c.feed.new.store) (g.S.Store.faults c.feed.new.store) in
+    let piece = take c.min.result c.read.new.buf in
+    piece_cause g.M.Machine.ends (RequestStep g.M.Machine.step) c.in-Err.stop now new (c.loop-count.pending.items ++ piece) c.feed.new.pending.items _ _ c.in-Err.ensures.served
+
+pub returns-in-Err-clause-sink_cause : goal.returns-in-Err-clause-sink_cause
+returns-in-Err-clause-sink_cause g c = sink_cause_on {T = Unit {0}} (Err c.in-Err.stop) _ _ _ c.loop-count.invariant.sink_later c.in-Err.ensures.cause
+
+pub returns-in-Err-clause-source_later : goal.returns-in-Err-clause-source_later
+returns-in-Err-clause-source_later g c = later_on _ _ _ c.loop-count.invariant.source_later c.read.ensures.later
+
+pub returns-in-Err-clause-sink_later : goal.returns-in-Err-clause-sink_later
+returns-in-Err-clause-sink_later g c = later_on _ _ _ c.loop-count.invariant.sink_later c.feed.ensures.later
+
+pub returns-in-Err-clause-store_later : goal.returns-in-Err-clause-store_later
+returns-in-Err-clause-store_later g c = later_on _ _ _ c.loop-count.invariant.store_later c.feed.ensures.store_later
+
+pub returns-in-Ok-Ended-clause-source_later : goal.returns-in-Ok-Ended-clause-source_later
+returns-in-Ok-Ended-clause-source_later g c = later_on _ _ _ c.loop-count.invariant.source_later c.read.ensures.later
+
+pub returns-in-Ok-Ended-clause-sink_later : goal.returns-in-Ok-Ended-clause-sink_later
+returns-in-Ok-Ended-clause-sink_later g c = later_on _ _ _ c.loop-count.invariant.sink_later c.feed.ensures.later
+
+pub returns-in-Ok-Ended-clause-store_later : goal.returns-in-Ok-Ended-clause-store_later
+returns-in-Ok-Ended-clause-store_later g c = later_on _ _ _ c.loop-count.invariant.store_later c.feed.ensures.store_later
+
+pub returns-then-count-room-clause-source_later : goal.returns-then-count-room-clause-source_later
+returns-then-count-room-clause-source_later g c = later_on _ _ _ c.loop-count.invariant.source_later c.read.ensures.later
+
+pub returns-then-count-room-clause-sink_later : goal.returns-then-count-room-clause-sink_later
+returns-then-count-room-clause-sink_later g c = later_on _ _ _ c.loop-count.invariant.sink_later c.feed.ensures.later
+
+pub returns-then-count-room-clause-store_later : goal.returns-then-count-room-clause-store_later
+returns-then-count-room-clause-store_later g c = later_on _ _ _ c.loop-count.invariant.store_later c.feed.ensures.store_later

@@ -2,7 +2,7 @@ use Rattle.std.specs.Prelude.{◌≡◌, Some, OnOk, OnErr}
 use Rattle.std.proofs.Common.{subst, sym, ap, ◌∙◌}
 use Rattle.sound_searches.specs.Sound.{PlainSearch}
 use Rattle.sound_searches.specs.Trimmed.{Trims}
-use Rattle.sym_env.proofs.SavingLemmas.{trims-env, wants-trim}
+use Rattle.sym_env.proofs.TrimLemmas.{trims-env, wants-trim}
 use Rattle.sym_env.proofs.env.Env.trim.Goals as goal
 
 pub returns-in-Ok : goal.returns-in-Ok

@@ -1,32 +1,26 @@
-use Rattle.std.proofs.Common.{ℕ, ◌++◌, subst, sym, ap, ◌∙◌, OnOk}
-use Rattle.std.specs.Prelude.{Vec}
-use Rattle.std.specs.declared.alloc.Global.{Global}
-use Rattle.reply_texts.specs.Texts.{ok_text}
+use Rattle.std.proofs.Common.{◌∙◌, subst, sym, OnOk}
+use Rattle.std.specs.Prelude.{OnErr}
+use Rattle.reply_texts.specs.Texts.{ok_text, memory_text}
 use Rattle.sym_env.specs.Env.{PlainEnv}
-use Rattle.sym_shell.specs.EnvFaults.{env_fault_text}
 use Rattle.sym_shell.specs.Saving.{RepliesToTrim}
-use Rattle.sym_shell.proofs.SavingLemmas.{trims-words, trim-made, trim-refused}
-use Rattle.command_files.proofs.FileLemmas.{on_ok_if}
+use Rattle.sym_shell.proofs.EditLemmas.{ok-told}
+use Rattle.sym_shell.proofs.SavingLemmas.{trims-words, trim-told, trim-untold}
+use Rattle.command_files.proofs.FileLemmas.{on_ok_if, on_err}
 use Rattle.sym_shell.proofs.shell.Shell.trim.Goals as goal
-use Rattle.sym_shell.proofs.shell.Shell.trim.Goals.{in-Ok, in-Err}
 
 pub invariant_of-self : goal.invariant_of-self
-invariant_of-self c = trims-words c.self.inside.env c.trim.new.self c.args.depth c.trim.result c.trim.ensures.trims c.self.invariant
+invariant_of-self c = trims-words c.self.inside.env c.trim-done.new.self c.args.depth c.trim-done.result c.trim-done.ensures.trims c.self.invariant
 
 pub returns-clause-answered : goal.returns-clause-answered
 returns-clause-answered c =
-    subst (λ (old : PlainEnv). OnOk c.match-trim.result (RepliesToTrim old.search c.args.depth old c.match-trim.reply.items c.trim.new.self)) c.self.view_is
-    (elim c.match-trim.branch [
-      | in-Ok w ↦
-          let old = c.self.inside.env in
-          subst (λ r. OnOk r (RepliesToTrim old.search c.args.depth old c.match-trim.reply.items c.trim.new.self)) (sym w.result-is)
-          (trim-made old c.trim.new.self c.args.depth c.trim.result c.trim.ensures.trims tt c.match-trim.reply.items w.in-Ok.is
-          (ap (λ (v : Vec ℕ Global). v.items) w.reply-is ∙ c.in_ok-extend_from_slice.ensures.items ∙ ap (λ t. t ++ ok_text) c.requires))
-      | in-Err w ↦
-          let old = c.self.inside.env in
-          subst (λ r. OnOk r (RepliesToTrim old.search c.args.depth old c.match-trim.reply.items c.trim.new.self)) (sym w.result-is)
-          (on_ok_if w.write_env_fault.result
-          (λ e. trim-refused old c.trim.new.self c.args.depth c.trim.result c.trim.ensures.trims w.in-Err.fault c.match-trim.reply.items w.in-Err.is
-          (ap (λ (v : Vec ℕ Global). v.items) w.reply-is ∙ e ∙ ap (λ t. t ++ env_fault_text w.in-Err.fault) w.clear.ensures.items))
-          w.write_env_fault.ensures)
-    ])
+    let reply = c.tell_done.new.reply.items in
+    subst (λ (old : PlainEnv). OnOk c.tell_done.result (RepliesToTrim old.search c.args.depth old reply c.trim-done.new.self)) c.self.view_is
+    (on_ok_if c.tell_done.result
+    (trim-told c.self.inside.env c.trim-done.new.self c.args.depth c.trim-done.result c.trim-done.ensures.trims c.extend_from_slice.new.self.items reply
+    (ok-told c.extend_from_slice.result c.args.reply.now.items c.extend_from_slice.new.self.items ok_text c.extend_from_slice.ensures.items (sym c.is_err.ensures.value ∙ c.if-is_err.false) c.requires))
+    c.tell_done.ensures.told)
+
+pub returns-clause-unfinished : goal.returns-clause-unfinished
+returns-clause-unfinished c =
+    subst (λ (old : PlainEnv). OnErr c.tell_done.result (RepliesToTrim old.search c.args.depth old memory_text c.trim-done.new.self)) c.self.view_is
+    (on_err c.tell_done.result (trim-untold c.self.inside.env c.trim-done.new.self c.args.depth c.trim-done.result c.trim-done.ensures.trims) c.tell_done.ensures.refused)

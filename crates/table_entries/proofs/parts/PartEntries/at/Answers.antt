@@ -4,7 +4,9 @@ use Rattle.rational.specs.Rational.{int}
 use Rattle.table_entries.specs.FlatSteps.{dense_entry}
 use Rattle.table_entries.specs.WholeSteps.{is_unwritten}
 use Rattle.table_entries.specs.Parts.{Parts, filled}
+use Rattle.frac128.specs.LowestTerms.{quotient_of}
 use Rattle.table_entries.proofs.FilledLemmas.{written_at}
+use Rattle.table_entries.proofs.ReadLemmas.{short_read}
 use Rattle.table_entries.proofs.parts.PartEntries.at.Goals as goal
 
 pub returns : goal.returns
@@ -21,3 +23,10 @@ returns c =
     let entry_is : get_or self.entries.list c.flat_index.result (int (pos 0)) ≡ dense_entry c.args.self.now.columns (filled c.args.self.now slots) row place =
     ap (λ x. get_or self.entries.list x (int (pos 0))) c.flat_index.ensures.value ∙ sym (written_at v slots row place row_within place_within flag) ∙ ap (λ w. dense_entry w.columns (filled w slots) row place) c.self.view_is in
     c.at.ensures ∙ entry_is
+
+pub returns-then-index : goal.returns-then-index
+returns-then-index c =
+    let n_read = short_read c.number.result c.number.ensures.short in
+    let d_read = short_read c.denominator.result c.denominator.ensures.short in
+    let d_is : c.denominator.result ≡ c.args.self.now.entries.denominator = c.denominator.ensures.value (ap (λ v. v.entries.is_whole) c.self.view_is ∙ c.number.ensures.whole) ∙ ap (λ v. v.entries.denominator) c.self.view_is in
+    c.fraction.ensures ∙ (λ i. quotient_of (n_read i) ((d_read ∙ d_is) i)) ∙ sym c.number.ensures.value

@@ -66,3 +66,13 @@ returns-in-Ok-push_without-clause-taken c =
             (subst (λ (t : Option ℚ). AreJudged (formulation_of S) t (with_states states S.tree.root)) best judged.judged);
       };
     })
+
+pub returns-in-Ok-push_without-clause-target : goal.returns-in-Ok-push_without-clause-target
+returns-in-Ok-push_without-clause-target c =
+    let i = c.self.inside in
+    let S : PlainSearch = record { model = i.model; cuts = i.pool; tree = i.tree; points = i.points.items } in
+    let x = c.args.point in
+    let j = c.args.joined in
+    let joins : JoinsPoint S x j = subst (λ (T : PlainSearch). JoinsPoint T x j) (sym c.self.view_is) c.requires.joined in
+    let points : c.push_without.new.points.items ≡ list_without (S.points ++ x ∷ []) j.worst = c.in-Ok-push_without.ensures.put in
+    ap (target S.model) points ∙ sym joins.target_is

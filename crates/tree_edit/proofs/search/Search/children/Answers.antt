@@ -20,16 +20,16 @@ child-requires-2 c =
     let room = c.requires.room in
     subst (λ (b : BoundChange). AreNarrow (path ++ b ∷ [])) (sym c.above.ensures) (narrow-right path split.col.0 split.v c.requires.narrow room.0 room.1)
 
-pub returns-in-Ok-clause-left : goal.returns-in-Ok-clause-left
-returns-in-Ok-clause-left c =
+pub returns-in-Ok-child-clause-left : goal.returns-in-Ok-child-clause-left
+returns-in-Ok-child-clause-left c =
     let S : PlainSearch = c.args.self.now in
     let path = c.args.region.now in
     let split = c.args.split.now in
-    subst (λ (b : BoundChange). IsNumberedChild S (path ++ b ∷ []) split.mult split.basis c.in_ok-left.left) c.up_to.ensures c.in_ok-left.ensures
+    subst (λ (b : BoundChange). IsNumberedChild S (path ++ b ∷ []) split.mult split.basis c.in-Ok.left) c.up_to.ensures c.in-Ok.ensures
 
-pub returns-in-Ok-clause-right : goal.returns-in-Ok-clause-right
-returns-in-Ok-clause-right c =
+pub returns-in-Ok-child-clause-right : goal.returns-in-Ok-child-clause-right
+returns-in-Ok-child-clause-right c =
     let S : PlainSearch = c.args.self.now in
     let path = c.args.region.now in
     let split = c.args.split.now in
-    subst (λ (b : BoundChange). IsNumberedChild S (path ++ b ∷ []) split.mult split.basis c.in-Ok.right) c.above.ensures c.in-Ok.ensures
+    subst (λ (b : BoundChange). IsNumberedChild S (path ++ b ∷ []) split.mult split.basis c.in-Ok-child.right) c.above.ensures c.in-Ok-child.ensures

@@ -40,7 +40,7 @@ with_kept-requires-clause-few c =
     let long = length-map c.deref.result.now f in
     let same = ap length c.deref.ensures.value in
     let old : length c.self.inside.points.items ≤ 100 = c.self.invariant.sound.few in
-    omega arith
+    omega (arith, few, long, same, old)
 
 if_ok : {A E : Type 0} {P Q : A → Type 0} (r : Result A E) → ((a : A) → P a → Q a) → IfOk r P → IfOk r Q
 if_ok (Ok a) w h = w a h

@@ -10,7 +10,7 @@ pub returns : goal.returns
 returns c =
     let i = c.self.inside in
     let S : PlainSearch = record { model = i.model; cuts = i.pool; tree = i.tree; points = i.points.items } in
-    let j = c.in_ok-joined.joined in
-    let joins = subst (λ (vs : List ℚ). Joins vs c.in-Some.value j) c.deref.ensures.value c.in_ok-joined.ensures in
+    let j = c.in-Ok.joined in
+    let joins = subst (λ (vs : List ℚ). Joins vs c.in-Some.value j) c.deref.ensures.value c.in-Ok.ensures in
     subst (λ (T : PlainSearch). JoinsPoint T c.args.point.now j) c.self.view_is
     (joins-point S i.values.items c.args.point.now c.in-Some.value j c.in-Some.ensures.0 c.self.invariant.values_are c.in-Some.ensures.1 joins)

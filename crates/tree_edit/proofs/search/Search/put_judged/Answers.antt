@@ -4,6 +4,7 @@ use Rattle.branch_tree.specs.declared.node.LeafData.{LeafData}
 use Rattle.leaf_judging.specs.Closing.{IsJudged, IsJudgedLeaf}
 use Rattle.leaf_judging.specs.Queued.{HasMultipliers, HasState}
 use Rattle.sound_searches.specs.Sound.{PlainSearch, formulation_of}
+use Rattle.search_parts.specs.Lists.{HasLists}
 use Rattle.search_parts.specs.Points.{target}
 use Rattle.sound_searches.specs.Placing.{IsAt, search_with_leaf}
 use Rattle.tree_edit.proofs.QueuedLemmas.{own-state}
@@ -55,3 +56,8 @@ returns c =
         subst (λ (d : LeafData). c.put_own.new.self ≡ search_with_leaf c.args.self.now id d) c.in_state-kept.ensures c.put_own.ensures,
       ),
     )
+
+pub put_own-requires-clause-lists : goal.put_own-requires-clause-lists
+put_own-requires-clause-lists c =
+    let lists = c.requires.lists in
+    subst (λ (d : LeafData). HasLists (formulation_of c.args.self.now) d) (sym c.in_state-kept.ensures) (record { mult = lists.mult; farkas = lists.farkas; basis = lists.basis })

@@ -1,0 +1,36 @@
+-- The first of the rows that may leave, row by row.
+use Rattle.std.specs.Prelude.{◌≡◌, ℕ, ◌+◌, ◌<◌, ◌≤◌, List, Option, Some, None}
+use Rattle.std.proofs.Common.{arith, below_more}
+use Rattle.bases.specs.Relaxation.{Table}
+use Rattle.bases.specs.Bases.{MayLeave}
+use Rattle.row_tableau.specs.Dense.{Dense, table_of}
+use Rattle.row_tableau.specs.Answers.{IsFirstLeaving}
+
+module _ (t : Dense) (list : List ℕ) (place row : ℕ) where
+  abbrev d : Table
+  d = table_of t
+
+  pub none_leaves : IsFirstLeaving t list place row None → ¬ (MayLeave list d place row) → IsFirstLeaving t list place (row + 1) None
+  none_leaves none stays = below_more (λ i. ¬ (MayLeave list d place i)) row none stays
+
+  pub one_leaves : IsFirstLeaving t list place row None → MayLeave list d place row → IsFirstLeaving t list place (row + 1) (Some row)
+  one_leaves none may = (
+    omega arith,
+    may,
+    below_more (λ i. MayLeave list d place i → d.basic row ≤ d.basic i) row (λ i q m. absurd (none i q m)) (λ m. omega arith),
+  )
+
+  module _ (other : ℕ) (before : IsFirstLeaving t list place row (Some other)) where
+    pub other_leaves : (MayLeave list d place row → d.basic other ≤ d.basic row) → IsFirstLeaving t list place (row + 1) (Some other)
+    other_leaves first = (
+      (let w = before.0 in omega (arith, w)),
+      before.1,
+      below_more (λ i. MayLeave list d place i → d.basic other ≤ d.basic i) row before.2 first,
+    )
+
+    pub lesser_leaves : ¬ (d.basic other ≤ d.basic row) → MayLeave list d place row → IsFirstLeaving t list place (row + 1) (Some row)
+    lesser_leaves lesser may = (
+      omega arith,
+      may,
+      below_more (λ i. MayLeave list d place i → d.basic row ≤ d.basic i) row (λ i q m. let a = before.2 i q m in omega (arith, a, lesser)) (λ m. omega arith),
+    )

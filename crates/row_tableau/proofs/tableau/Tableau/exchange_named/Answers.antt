@@ -1,0 +1,22 @@
+use Rattle.std.proofs.Common.{◌<◌, ◌≢◌, sym, subst, pos}
+use Rattle.rational.specs.Rational.{int}
+use Rattle.bases.specs.Steps.{IsFirstWidePivotEntry}
+use Rattle.row_tableau.specs.Dense.{Dense, table_of}
+use Rattle.row_tableau.specs.Answers.{IsWidePivot}
+use Rattle.row_tableau.proofs.tableau.Tableau.exchange_named.Goals as goal
+
+pub wide_pivot-requires-clause-row : goal.wide_pivot-requires-clause-row
+wide_pivot-requires-clause-row c = subst (λ (t : Dense). c.args.row < t.activities) (sym c.in-Err.ensures.kept) c.requires.row
+
+pub wide_pivot-requires-clause-place : goal.wide_pivot-requires-clause-place
+wide_pivot-requires-clause-place c = subst (λ (t : Dense). c.args.place < t.columns) (sym c.in-Err.ensures.kept) c.requires.place
+
+pub wide_pivot-requires-clause-some : goal.wide_pivot-requires-clause-some
+wide_pivot-requires-clause-some c = subst (λ (t : Dense). (table_of t).entry c.args.row c.args.place ≢ int (pos 0)) (sym c.in-Err.ensures.kept) c.requires.some
+
+pub wide_pivot-requires-clause-first : goal.wide_pivot-requires-clause-first
+wide_pivot-requires-clause-first c =
+    subst (λ (t : Dense). IsFirstWidePivotEntry t.columns t.activities (table_of t) c.args.row c.args.place c.in-Err.at.row c.in-Err.at.place) (sym c.in-Err.ensures.kept) c.in-Err.ensures.wide
+
+pub returns-in-Err-clause-wide : goal.returns-in-Err-clause-wide
+returns-in-Err-clause-wide c = subst (λ (t : Dense). IsWidePivot t c.args.row c.args.place c.wide_pivot.result) c.in-Err.ensures.kept c.wide_pivot.ensures

@@ -1,0 +1,37 @@
+use Rattle.std.proofs.Common.{◌≡◌, ◌∷◌, [], ◌++◌, sym, subst}
+use Rattle.std.specs.Prelude.{codes, IfOk}
+use Rattle.frac128.specs.Printing.{printed}
+use Rattle.cert_text.specs.declared.cert.Claim.{Claim}
+use Rattle.tree_cert.specs.CertText.{claim_words, line_text}
+use Rattle.tree_cert.specs.Printed.{HasClaimRoom}
+use Rattle.tree_cert.proofs.PutLaws.{piece_last, behind_last, if_ok}
+use Rattle.tree_cert.proofs.printing.put_claim.Goals as goal
+
+pub returns-in_ok-extend_from_slice-in-Optimal-clause-text : goal.returns-in_ok-extend_from_slice-in-Optimal-clause-text
+returns-in_ok-extend_from_slice-in-Optimal-clause-text c =
+    let old = c.args.text.now.items in
+    subst (λ (claim : Claim). IfOk c.put_number.result (λ _. c.put_number.new.text.items ≡ old ++ line_text (claim_words claim))) (sym c.in-Optimal.is)
+    (behind_last c.put_number.result old (codes "claim optimal") (printed c.in-Optimal.value ∷ []) c.extend_from_slice.new.self.items c.put_number.new.text.items c.in_ok-extend_from_slice-in-Optimal.ensures.items c.put_number.ensures.text)
+
+pub returns-in_ok-extend_from_slice-in-Optimal-clause-room : goal.returns-in_ok-extend_from_slice-in-Optimal-clause-room
+returns-in_ok-extend_from_slice-in-Optimal-clause-room c = if_ok c.put_number.result (subst HasClaimRoom (sym c.in-Optimal.is) c.put_number.ensures.room)
+
+pub returns-in-Infeasible-clause-text : goal.returns-in-Infeasible-clause-text
+returns-in-Infeasible-clause-text c =
+    let old = c.args.text.now.items in
+    let last = c.extend_from_slice-in-Infeasible.result in
+    let new = c.extend_from_slice-in-Infeasible.new.self.items in
+    subst (λ (claim : Claim). IfOk last (λ _. new ≡ old ++ line_text (claim_words claim))) (sym c.in-Infeasible.is) (piece_last last old (codes "claim infeasible") new c.extend_from_slice-in-Infeasible.ensures.items)
+
+pub returns-in-Infeasible-clause-room : goal.returns-in-Infeasible-clause-room
+returns-in-Infeasible-clause-room c = if_ok c.extend_from_slice-in-Infeasible.result (subst HasClaimRoom (sym c.in-Infeasible.is) tt)
+
+pub returns-in-Unbounded-clause-text : goal.returns-in-Unbounded-clause-text
+returns-in-Unbounded-clause-text c =
+    let old = c.args.text.now.items in
+    let last = c.extend_from_slice-in-Unbounded.result in
+    let new = c.extend_from_slice-in-Unbounded.new.self.items in
+    subst (λ (claim : Claim). IfOk last (λ _. new ≡ old ++ line_text (claim_words claim))) (sym c.in-Unbounded.is) (piece_last last old (codes "claim unbounded") new c.extend_from_slice-in-Unbounded.ensures.items)
+
+pub returns-in-Unbounded-clause-room : goal.returns-in-Unbounded-clause-room
+returns-in-Unbounded-clause-room c = if_ok c.extend_from_slice-in-Unbounded.result (subst HasClaimRoom (sym c.in-Unbounded.is) tt)
