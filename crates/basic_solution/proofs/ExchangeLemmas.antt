@@ -3,6 +3,7 @@ use Rattle.std.specs.Prelude.{◌≡◌, ◌≢◌, pos, ℕ, ◌+◌, ◌<◌, 
 use Rattle.std.proofs.Common.{sym, ap, ap₂, subst, ◌∙◌}
 use Rattle.std.proofs.lemmas.List.{length-set}
 use Rattle.row_tableau.specs.Activities.{activity_coefficient}
+use Rattle.row_tableau.specs.Dense.{Dense}
 use Rattle.rational.specs.Rational.{ℚ, int, ◌+ℚ◌, ◌*ℚ◌}
 use Rattle.checked_sum.proofs.SumLaws.{sum_below-same}
 use Rattle.bases.specs.declared.stand.Stand.{Stand}
@@ -69,3 +70,11 @@ sided_after s after sided row side place row_within place_within some move =
 
 pub sided_of : (s : Held) → IsLawfulHeld s → IsSided s
 sided_of s kept = record { shape = kept.shape; separates = kept.separates; table = record { table = kept.good.table; arranged = kept.good.arranged } }
+
+-- the move of a state is that of the same state
+pub moved_at : (before s after : Held) → before ≡ s → (row : ℕ) (side : Stand) (place : ℕ) → IsMove before after row side place → IsMove s after row side place
+moved_at before s after is row side place h = subst (λ u. IsMove u after row side place) is h
+
+-- the state with an equal tableau
+pub same_tableau : (s : Held) (t : Dense) → t ≡ s.tableau → (record s { tableau = t }) ≡ s
+same_tableau s t is = let placed : Dense → Held = λ d. record s { tableau = d } in ap placed is

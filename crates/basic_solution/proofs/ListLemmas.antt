@@ -1,15 +1,17 @@
 -- Lists of variables that rise.
-use Rattle.std.specs.Prelude.{◌≡◌, ℕ, ◌+◌, ◌<◌, ◌≤◌, pos, All, List, [], ◌∷◌, ◌++◌, length}
+use Rattle.std.specs.Prelude.{◌≡◌, ◌↔◌, ℕ, ◌+◌, ◌<◌, ◌≤◌, pos, true, false, IsTrue, All, List, [], ◌∷◌, ◌++◌, length, get_or}
 use Rattle.std.proofs.Common.{refl, sym, ap, subst, ◌∙◌, arith, below_more}
+use Rattle.std.proofs.lemmas.Bool.{false≢true}
 use Rattle.std.proofs.lemmas.List.{get_or_push, get_or_append_left, length-append, map-append}
-use Rattle.std.proofs.lemmas.List.Elements.{All-push}
+use Rattle.std.proofs.lemmas.List.Elements.{All-nil, All-push}
 use Rattle.rational.specs.Rational.{ℚ, int}
 use Rattle.lp_model.specs.declared.types.Var.{Var}
+use Rattle.bases.specs.declared.stand.Stand.TheVariants.{High, Free}
 use Rattle.bases.specs.Bases.{listed, Lists}
 use Rattle.row_tableau.specs.Dense.{Dense}
 use Rattle.row_tableau.specs.Variables.{variable_number, numbers}
-use Rattle.basic_solution.specs.Held.{Held}
-use Rattle.basic_solution.specs.Lists.{AreRising, HasMultiplier, names}
+use Rattle.basic_solution.specs.Held.{Held, IsSided, table, variables}
+use Rattle.basic_solution.specs.Lists.{AreRising, StandsHigh, HasMultiplier, AreListedMultipliers, AreMultipliersBelow, names}
 
 pub rising_none : (P : ℕ → Type 0) (n : ℕ) → ((v : ℕ) → v < n → ¬ (P v)) → AreRising P n []
 rising_none P n none = record {
@@ -66,12 +68,38 @@ rising_named t P n list after var pushed is before holds =
     (sym (ap (numbers t) pushed ∙ map-append (variable_number t) list (var ∷ []) ∙ ap (λ m. numbers t list ++ m ∷ []) is))
     (rising_push P n (numbers t list) before holds)
 
+-- ---- who stands high
+
+module _ (s : Held) (sided : IsSided s) (v : ℕ) where
+  pub basic_not_high : (row : ℕ) → row < s.tableau.activities → (table s).basic row ≡ v → IsTrue false ↔ StandsHigh s v
+  basic_not_high row within is = ((λ t. absurd (false≢true t)), (λ h. absurd (sided.table.arranged.apart row h.0 within h.1.0 (is ∙ sym h.1.1.0))))
+
+  module _ (place : ℕ) (within : place < s.tableau.columns) (is : (table s).nonbasic place ≡ v) where
+    pub place_high : get_or s.stands place Free ≡ High → IsTrue true ↔ StandsHigh s v
+    place_high stand = ((λ _. (place, (within, (is, stand)))), (λ _. refl))
+
+    pub place_not_high : ¬ (get_or s.stands place Free ≡ High) → IsTrue false ↔ StandsHigh s v
+    place_not_high other = (
+      (λ t. absurd (false≢true t)),
+      (λ h. absurd (other (ap (λ k. get_or s.stands k Free) (sided.table.arranged.nonbasic_once place h.0 within h.1.0 (is ∙ sym h.1.1.0)) ∙ h.1.1.1))),
+    )
+
 -- ---- multipliers
 
-module _ (s : Held) (y : ℕ → ℚ) (n : ℕ) (list after : List (Var × ℚ)) (var : Var) (x : ℚ) (pushed : after ≡ list ++ (var, x) ∷ []) (is : variable_number s.tableau var ≡ n) (number_is : x ≡ y n) where
-  pub multipliers_named : s.tableau.columns ≤ n → ¬ (x ≡ int (pos 0)) → AreRising (HasMultiplier s y) n (numbers s.tableau (names list)) → AreRising (HasMultiplier s y) (n + 1) (numbers s.tableau (names after))
-  multipliers_named activity some before =
-      rising_named s.tableau (HasMultiplier s y) n (names list) (names after) var (ap names pushed ∙ map-append (λ m. m.0) list ((var, x) ∷ [])) is before (activity, λ none. some (number_is ∙ none))
+module _ (s : Held) (y : ℕ → ℚ) where
+  -- columns have none
+  pub multipliers_none : (n : ℕ) → n ≡ s.tableau.columns → AreMultipliersBelow s y n []
+  multipliers_none n is = record { named = rising_none (HasMultiplier s y) n (λ v below h. let from = h.0 in omega (arith, is, below, from)); values = All-nil (λ m. m.1 ≡ y (variable_number s.tableau m.0)) }
 
-  pub multipliers_valued : All (λ m. m.1 ≡ y (variable_number s.tableau m.0)) list → All (λ m. m.1 ≡ y (variable_number s.tableau m.0)) after
-  multipliers_valued before = subst (All (λ m. m.1 ≡ y (variable_number s.tableau m.0))) (sym pushed) (All-push (λ m. m.1 ≡ y (variable_number s.tableau m.0)) list (var, x) before (number_is ∙ ap y (sym is)))
+  pub multipliers_all : (n : ℕ) → n ≡ variables s → (list : List (Var × ℚ)) → AreMultipliersBelow s y n list → AreListedMultipliers s y list
+  multipliers_all n is list all = record { named = subst (λ m. AreRising (HasMultiplier s y) m (numbers s.tableau (names list))) is all.named; values = all.values }
+
+  module _ (n : ℕ) (list : List (Var × ℚ)) (before : AreMultipliersBelow s y n list) where
+    pub multipliers_skip : y n ≡ int (pos 0) → AreMultipliersBelow s y (n + 1) list
+    multipliers_skip none = record { named = rising_skip (HasMultiplier s y) n (numbers s.tableau (names list)) before.named (λ h. h.1 none); values = before.values }
+
+    pub multipliers_more : (after : List (Var × ℚ)) (var : Var) (x : ℚ) → after ≡ list ++ (var, x) ∷ [] → variable_number s.tableau var ≡ n → x ≡ y n → s.tableau.columns ≤ n → ¬ (x ≡ int (pos 0)) → AreMultipliersBelow s y (n + 1) after
+    multipliers_more after var x pushed is number_is activity some = record {
+      named = rising_named s.tableau (HasMultiplier s y) n (names list) (names after) var (ap names pushed ∙ map-append (λ m. m.0) list ((var, x) ∷ [])) is before.named (activity, λ none. some (number_is ∙ none));
+      values = subst (All (λ m. m.1 ≡ y (variable_number s.tableau m.0))) (sym pushed) (All-push (λ m. m.1 ≡ y (variable_number s.tableau m.0)) list (var, x) before.values (number_is ∙ ap y (sym is)));
+    }

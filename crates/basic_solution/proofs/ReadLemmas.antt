@@ -22,6 +22,10 @@ small_again n h = subst IsSmallNumber (sym (small_read n h)) h
 pub small_short_again : (n : ℤ) → IsSmallNumber n → IsShort (to_z w64 (of_z w64 n))
 small_short_again n h = subst IsShort (sym (small_read n h)) (small_short n h)
 
+-- a small number that was handed from 128 bits to 64
+pub small_narrowed : (x n : ℤ) → x ≡ n → IsSmallNumber n → to_z w64 (of_z w64 (to_z w128 (of_z w128 x))) ≡ n
+small_narrowed x n is small = omega (arith, ints, is, small)
+
 -- a small number of which the code says that it is 0
 pub small_none : (n : ℤ) → IsSmallNumber n → of_z w64 n ≡ 0 → n ≡ pos 0
 small_none n h e = omega (arith, ints, e, h)

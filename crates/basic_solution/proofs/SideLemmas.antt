@@ -1,6 +1,7 @@
 -- Numbers and sides.
-use Rattle.std.specs.Prelude.{◌≡◌, ◌↔◌, ℕ, ◌<◌, [], ◌∷◌, pos, get_or, Bool, IsTrue, Option, Some, None, Ok}
+use Rattle.std.specs.Prelude.{◌≡◌, ◌↔◌, ℕ, ◌<◌, [], ◌∷◌, pos, get_or, Bool, false, IsTrue, Option, Some, None, Ok}
 use Rattle.std.proofs.Common.{sym, ap, subst, ◌∙◌}
+use Rattle.std.proofs.lemmas.Bool.{false≢true}
 use Rattle.std.proofs.lemmas.List.{get_or_default}
 use Rattle.rational.specs.Rational.{ℚ, int, ◌*ℚ◌, neg_ℚ, ◌<ℚ◌}
 use Rattle.rational.proofs.RationalRing.{ring, reads_ℚ}
@@ -21,6 +22,12 @@ under_decided low b x r is h = ((λ t. (b, (is, h.0 t))), (λ u. h.1 (subst (λ 
 
 pub over_decided : (high : Option ℚ) (b x : ℚ) (r : Bool) → high ≡ Some b → IsTrue r ↔ (b <ℚ x) → IsTrue r ↔ IsAboveSide high x
 over_decided high b x r is h = ((λ t. (b, (is, h.0 t))), (λ u. h.1 (subst (λ d. d <ℚ x) (same_some high u.0 b u.1.0 is) u.1.1)))
+
+pub under_none : (low : Option ℚ) (x : ℚ) → low ≡ None → IsTrue false ↔ IsBelowSide low x
+under_none low x is = ((λ t. absurd (false≢true t)), (λ u. absurd (let f : None ≡ Some u.0 = sym is ∙ u.1.0 in cc)))
+
+pub over_none : (high : Option ℚ) (x : ℚ) → high ≡ None → IsTrue false ↔ IsAboveSide high x
+over_none high x is = ((λ t. absurd (false≢true t)), (λ u. absurd (let f : None ≡ Some u.0 = sym is ∙ u.1.0 in cc)))
 
 pub sign_low : (stand : Stand) (x : ℚ) → stand ≡ Low → x ≡ sign stand *ℚ x
 sign_low stand x e = subst (λ s. x ≡ sign s *ℚ x) (sym e) (ring (x ∷ []) (search reads_ℚ) tt)

@@ -1,12 +1,10 @@
 // Reduced costs.
 ghost use Rattle.std.specs.Prelude.{◌≡◌, ◌<◌, ◌<ℤ◌, pos, IfSome};
-ghost use Rattle.rational.specs.Rational.{int};
-ghost use Rattle.bases.specs.Relaxation.{reduced_cost};
 ghost use Rattle.bases.specs.Steps.{at_basic};
 ghost use Rattle.table_entries.specs.WholeSteps.{IsShort};
 ghost use Rattle.table_entries.specs.WholeSums.{IsWholeTerm};
 ghost use Rattle.basic_solution.specs.Held.{relaxation, table, variables};
-ghost use Rattle.basic_solution.specs.Numbers.{CostsFit, IsFirstWideReducedCost, IsWideCost, IsReducedCostAnswer};
+ghost use Rattle.basic_solution.specs.Numbers.{IsFirstWideReducedCost, IsWideCost, IsReducedCostAnswer};
 ghost use Rattle.basic_solution.specs.RowTotals.{IsSmallNumber, IsCostTotal};
 
 use crate::row_totals::with_product;
@@ -54,16 +52,6 @@ impl SidedBasis<'_> {
         self.cost.of(variable)
     }
 
-    /// The number that the cost of a variable is, where all costs are small whole numbers.
-    #[inline]
-    fn small_cost(&self, variable: usize) -> Option<i64>
-        requires { variable < variables self.now }
-        ensures small { IfSome result (λ n. IsSmallNumber n) }
-        ensures value { IfSome result (λ n. (relaxation self.now).cost variable ≡ int n) }
-    {
-        self.cost.small_of(variable)
-    }
-
     /// The entry of a basic variable at a place, 0 for another one.
     pub(crate) fn saved_of(&self, place: usize, variable: usize) -> Frac
         requires place { place < self.now.tableau.columns }
@@ -87,7 +75,7 @@ impl SidedBasis<'_> {
     {
         match self.tableau.find(variable) {
             Position::Row(row) => {
-                let Some(number) = self.small_cost(variable) else {
+                let Some(number) = self.cost.small_of(variable) else {
                     return None;
                 };
                 if number == 0 {
@@ -116,7 +104,7 @@ impl SidedBasis<'_> {
         requires denominator { IsShort denominator }
         ensures { IfSome result (λ total. IsCostTotal self.now place denominator total) }
     {
-        let Some(start) = self.small_cost(self.tableau.nonbasic(place)) else {
+        let Some(start) = self.cost.small_of(self.tableau.nonbasic(place)) else {
             return None;
         };
         let _few = self.tableau.columns();
@@ -130,26 +118,14 @@ impl SidedBasis<'_> {
         Some(total)
     }
 
-    /// The reduced cost of a place, where it can be had with one division. None says nothing of it.
-    fn whole_cost(&self, place: usize) -> Option<Frac>
-        requires { place < self.now.tableau.columns }
-        ensures { IfSome result (λ cost. CostsFit self.now place (variables self.now) × (cost ≡ reduced_cost (relaxation self.now) (table self.now) (relaxation self.now).cost place)) }
-    {
-        let denominator = self.tableau.denominator();
-        match self.cost_total(place, denominator) {
-            Some(total) => Some(quotient(total, denominator)),
-            None => None,
-        }
-    }
-
     /// The step in which the term of a variable in the reduced cost of a place is added.
     fn cost_step(&self, place: usize, basic: usize) -> WideStep
         requires place { place < self.now.tableau.columns }
         requires basic { basic < variables self.now }
         ensures { IsFirstWideReducedCost self.now place basic → IsWideCost self.now place result }
     {
-        let k = self.tableau.variable(self.tableau.nonbasic(place));
-        let b = self.tableau.variable(basic);
+        let k = self.variable(self.nonbasic(place));
+        let b = self.variable(basic);
         WideStep::Cost { k, b }
     }
 
@@ -171,8 +147,9 @@ impl SidedBasis<'_> {
         requires { place < self.now.tableau.columns }
         ensures { IsReducedCostAnswer self.now place result }
     {
-        if let Some(cost) = self.whole_cost(place) {
-            return Ok(cost);
+        let denominator = self.tableau.denominator();
+        if let Some(total) = self.cost_total(place, denominator) {
+            return Ok(quotient(total, denominator));
         }
         self.cost_by_terms(place)
     }

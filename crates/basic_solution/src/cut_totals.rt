@@ -54,7 +54,7 @@ impl SidedBasis<'_> {
     pub fn are_numbers_small(&self) -> bool
         ensures { IsTrue result → (k : ℕ) → k < self.now.tableau.columns → StandsSmall self.now k }
     {
-        for place in 0..self.tableau.columns() {
+        for place in 0..self.columns() {
             match small_number(&self.place_number(place)) {
                 Some(_number) => {}
                 None => return false,

@@ -41,7 +41,7 @@ impl SidedBasis<'_> {
         ensures same { IsRestood self.old self.new }
         ensures stands { (k : ℕ) → k < self.new.tableau.columns → StandBy (numbers self.new.tableau high.now) self.new k }
     {
-        for place in 0..self.tableau.columns() {
+        for place in 0..self.columns() {
             let stand = self.named_stand(high, place);
             self.set_stand(place, stand);
         }
@@ -52,7 +52,7 @@ impl SidedBasis<'_> {
         ensures same { IsRestood self.old self.new }
         ensures nowhere { StandsNowhere self.new }
     {
-        for place in 0..self.tableau.columns() {
+        for place in 0..self.columns() {
             self.set_stand(place, Stand::Free);
         }
     }
@@ -80,15 +80,18 @@ impl SidedBasis<'_> {
             Err(step) => return Err(step),
         };
         let stand = self.stand_of(place);
-        Ok(is_same(self.asked(place, &cost), stand) && self.can_stand(place, stand))
+        if is_same(self.asked(place, &cost), stand) {
+            Ok(self.can_stand(place, stand))
+        } else {
+            Ok(false)
+        }
     }
 
     /// Whether each variable stands where its reduced cost asks it to.
     fn is_lawful(&self) -> Result<bool, WideStep>
         ensures { IsLawfulAnswer self.now result }
     {
-        let _sided = &self.tableau;
-        for place in 0..self.tableau.columns() {
+        for place in 0..self.columns() {
             match self.is_placed(place) {
                 Err(step) => return Err(step),
                 Ok(false) => return Ok(false),

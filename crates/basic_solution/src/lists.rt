@@ -1,13 +1,15 @@
 // The lists that a state gives: its basis, the numbers of its point, its multipliers, and Farkas multipliers.
-ghost use Rattle.std.specs.Prelude.{◌≡◌, ◌↔◌, ◌<◌, IfOk, IsTrue};
+ghost use Rattle.std.specs.Prelude.{◌≡◌, ◌↔◌, ◌<◌, ◌≤◌, ◌+◌, ℕ, IfOk, IsTrue};
+ghost use Rattle.rational.specs.Rational.{ℚ};
 ghost use Rattle.bases.specs.Relaxation.{multipliers};
 ghost use Rattle.bases.specs.States.{farkas_weights};
 ghost use Rattle.row_tableau.specs.Answers.{IsBasic};
 ghost use Rattle.basic_solution.specs.Held.{relaxation, state, table, variables};
-ghost use Rattle.basic_solution.specs.Lists.{StandsHigh, AreBasic, AreHigh, IsBasisOf, IsPointAnswer, AreListedMultipliers, AreMultipliersAnswer};
+ghost use Rattle.basic_solution.specs.Lists.{StandsHigh, AreBasic, AreHigh, IsBasisOf, IsPointAnswer, AreListedMultipliers, AreMultipliersBelow, AreMultipliersAnswer};
 
 use crate::sided::SidedBasis;
 use bases::Stand;
+use frac128::Frac;
 use lp_model::{Basis, List, Mult, Point, Var, WideStep};
 use row_tableau::Position;
 use std::alloc::{AllocError, Global};
@@ -18,7 +20,7 @@ impl SidedBasis<'_> {
         requires { variable < variables self.now }
         ensures { IsTrue result ↔ IsBasic self.now.tableau variable }
     {
-        match self.tableau.find(variable) {
+        match self.find(variable) {
             Position::Row(_) => true,
             Position::Place(_) => false,
         }
@@ -31,7 +33,7 @@ impl SidedBasis<'_> {
     {
         match self.tableau.find(variable) {
             Position::Row(_) => false,
-            Position::Place(place) => match self.stands[place] {
+            Position::Place(place) => match self.stand_of(place) {
                 Stand::High => true,
                 Stand::Low => false,
                 Stand::Free => false,
@@ -46,7 +48,7 @@ impl SidedBasis<'_> {
         let mut list = List::new(alloc);
         for variable in 0..self.variables() {
             if self.is_basic(variable) {
-                match list.push(self.tableau.variable(variable)) {
+                match list.push(self.variable(variable)) {
                     Ok(()) => {}
                     Err(error) => {
                         drop(list);
@@ -65,7 +67,7 @@ impl SidedBasis<'_> {
         let mut list = List::new(alloc);
         for variable in 0..self.variables() {
             if self.stands_high(variable) {
-                match list.push(self.tableau.variable(variable)) {
+                match list.push(self.variable(variable)) {
                     Ok(()) => {}
                     Err(error) => {
                         drop(list);
@@ -100,7 +102,7 @@ impl SidedBasis<'_> {
         ensures { IfOk result (IsPointAnswer self.now) }
     {
         let mut list = List::new(alloc);
-        for column in 0..self.tableau.columns() {
+        for column in 0..self.columns() {
             match self.number_of(column) {
                 Ok(number) => match list.push(number) {
                     Ok(()) => {}
@@ -118,11 +120,28 @@ impl SidedBasis<'_> {
         Ok(Ok(list))
     }
 
+    /// Appends the multiplier of an activity, where it is not 0, to those of the activities before it.
+    fn add_multiplier(
+        &self,
+        variable: usize,
+        number: Frac,
+        list: &mut Mult,
+    ) -> Result<(), AllocError>
+        requires activity { self.now.tableau.columns ≤ variable }
+        requires within { variable < variables self.now }
+        ensures { IfOk result (λ _. (y : ℕ → ℚ) → number ≡ y variable → AreMultipliersBelow self.now y variable list.old → AreMultipliersBelow self.now y (variable + 1) list.new) }
+    {
+        if number.is_zero() {
+            return Ok(());
+        }
+        list.push((self.variable(variable), number))
+    }
+
     /// The multipliers of the activities that are not 0, rising, or the first step that has no room.
     pub fn multiplier_list(&self, alloc: Global) -> Result<Result<Mult, WideStep>, AllocError>
         ensures { IfOk result (AreMultipliersAnswer self.now (multipliers (relaxation self.now) (table self.now) (relaxation self.now).cost)) }
     {
-        let columns = self.tableau.columns();
+        let columns = self.columns();
         let mut list = List::new(alloc);
         for variable in columns..self.variables() {
             let number = match self.multiplier_of(variable) {
@@ -132,13 +151,11 @@ impl SidedBasis<'_> {
                     return Ok(Err(step));
                 }
             };
-            if !number.is_zero() {
-                match list.push((self.tableau.variable(variable), number)) {
-                    Ok(()) => {}
-                    Err(error) => {
-                        drop(list);
-                        return Err(error);
-                    }
+            match self.add_multiplier(variable, number, &mut list) {
+                Ok(()) => {}
+                Err(error) => {
+                    drop(list);
+                    return Err(error);
                 }
             }
         }
@@ -151,17 +168,15 @@ impl SidedBasis<'_> {
         requires { row < self.now.tableau.activities }
         ensures { IfOk result (AreListedMultipliers self.now (farkas_weights (relaxation self.now) (state self.now) row side)) }
     {
-        let columns = self.tableau.columns();
+        let columns = self.columns();
         let mut list = List::new(alloc);
         for variable in columns..self.variables() {
             let number = self.farkas_of(row, side, variable);
-            if !number.is_zero() {
-                match list.push((self.tableau.variable(variable), number)) {
-                    Ok(()) => {}
-                    Err(error) => {
-                        drop(list);
-                        return Err(error);
-                    }
+            match self.add_multiplier(variable, number, &mut list) {
+                Ok(()) => {}
+                Err(error) => {
+                    drop(list);
+                    return Err(error);
                 }
             }
         }

@@ -138,8 +138,8 @@ impl SidedBasis<'_> {
         requires variable { variable < variables self.now }
         ensures { IsFirstWideValue self.now row variable → IsWideBasicValue self.now row result }
     {
-        let b = self.tableau.variable(self.tableau.basic(row));
-        let k = self.tableau.variable(variable);
+        let b = self.variable(self.basic(row));
+        let k = self.variable(variable);
         WideStep::Point { b, k }
     }
 

@@ -46,7 +46,10 @@ impl<'a> SidedBasis<'a> {
             Ok(order) => order,
             Err(error) => return Err(error),
         };
-        let stands = vec![in alloc; Stand::Free; relax.model.cols().len()]?;
+        let stands = match vec![in alloc; Stand::Free; relax.model.cols().len()] {
+            Ok(stands) => stands,
+            Err(error) => return Err(error),
+        };
         let tableau = match Tableau::slack_start(alloc, relax) {
             Ok(tableau) => tableau,
             Err(error) => return Err(error),
@@ -86,7 +89,7 @@ impl<'a> SidedBasis<'a> {
         requires cost { (relaxation self.now).cost ((table self.now).nonbasic place) ≡ reduced_cost (relaxation self.now) (table self.now) (relaxation self.now).cost place }
         ensures { IsStandAnswer self.now place result }
     {
-        let cost = self.cost_of(self.tableau.nonbasic(place));
+        let cost = self.cost_of(self.nonbasic(place));
         let stand = self.asked(place, &cost);
         if self.can_stand(place, stand) {
             Some(stand)
@@ -102,7 +105,7 @@ impl<'a> SidedBasis<'a> {
         ensures placed { IsTrue result → (k : ℕ) → k < self.new.tableau.columns → IsPlaced self.new k (get_or self.new.stands k Free) }
         ensures misplaced { result ≡ false → (k : ℕ) × ((k < self.old.tableau.columns) × IsMisplaced self.old k) }
     {
-        for place in 0..self.tableau.columns() {
+        for place in 0..self.columns() {
             match self.stand_by_cost(place) {
                 Some(stand) => self.set_stand(place, stand),
                 None => return false,
@@ -127,12 +130,12 @@ impl<'a> SidedBasis<'a> {
             Ok(basis) => basis,
             Err(error) => return Err(error),
         };
-        let _sided = &basis.tableau;
+        let _sided = basis.columns();
         if !basis.stand_by_costs() {
             drop(basis);
             return Ok(None);
         }
-        let _kept = &basis.tableau;
+        let _kept = basis.columns();
         Ok(Some(basis))
     }
 }

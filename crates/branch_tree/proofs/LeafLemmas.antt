@@ -1,10 +1,10 @@
 -- The leaf with an id: in the left child, else in the right one.
-use Rattle.std.specs.Prelude.{◌≡◌, ℕ, ◌+◌, ◌<◌, ◌≤◌, MatchOption, IfSome, IfOk, Result, Ok, Err, IsTrue, length, ◌++◌, ◌∷◌, take, Bool, true, false, if◌then◌else◌, nat_eq, MatchBool, [], Option, Some, None, ℤ, pos, ◌+ℤ◌}
+use Rattle.std.specs.Prelude.{◌≡◌, ℕ, ◌+◌, ◌<◌, ◌≤◌, MatchOption, IfSome, IfOk, Result, Ok, Err, IsTrue, length, ◌++◌, take, Bool, true, false, if◌then◌else◌, nat_eq, [], Option, Some, None, ℤ}
 use Rattle.std.specs.Option.{option_map, option_or}
-use Rattle.std.proofs.Common.{refl, sym, ap, subst, ◌∙◌, arith, take-take, length-append}
+use Rattle.std.proofs.Common.{refl, sym, ap, subst, ◌∙◌, arith}
 use Rattle.std.proofs.lemmas.List.Folds.{find-append}
 use Rattle.std.proofs.Math.Seq.{take-append_seam}
-use Rattle.lp_model.specs.Regions.{Path, at_least}
+use Rattle.lp_model.specs.Regions.{Path}
 use Rattle.branch_tree.specs.Tree.{Leaf, Split, leaves, left_path, right_path}
 use Rattle.branch_tree.specs.Plain.{SplitKept, LeafKept, Plain, leaves_with, leaf_below, path_below, path_of, data_of}
 use Rattle.branch_tree.specs.declared.node.LeafData.{LeafData}
@@ -131,6 +131,10 @@ one_found : (o : Option Path) (n : ℕ) → n ≤ 1 → MatchOption o (n ≡ 0) 
 one_found None n one h = h
 one_found (Some p) n one h = omega (arith, one, h)
 
+-- no leaf with the id has a path
+pub path_of-none : (id : ℕ) (t : Plain) → leaves_with id t ≡ 0 → path_of id t ≡ None
+path_of-none id t none = ap (option_map (λ (l : Path × LeafKept). l.0)) (leaf_below-none id [] t none)
+
 -- a region is answered just where a leaf has the id
 pub region_found : {E : Type 0} (r : Result (Option Path) E) (id : ℕ) (t : Plain) → leaves_with id t ≤ 1 → IfOk r (λ p. p ≡ path_of id t) → IfOk r (λ p. MatchOption p (leaves_with id t ≡ 0) (λ _. leaves_with id t ≡ 1))
 region_found (Ok p) id t one h = subst (λ o. MatchOption o (leaves_with id t ≡ 0) (λ _. leaves_with id t ≡ 1)) (sym h) (one_found (path_of id t) (leaves_with id t) one (path_below-found id [] t))
@@ -139,19 +143,3 @@ region_found (Err e) id t one h = h
 -- what was put behind a path is taken off again
 pub take_front : (path more : Path) (n : ℕ) → n ≡ length path → take n (path ++ more) ≡ path
 take_front path more n e = rw e (take-append_seam path more)
-
--- a list that begins as a longer path begins as the path
-pub kept_front : (path more longer new : Path) → longer ≡ path ++ more → take (length longer) new ≡ longer → take (length path) new ≡ path
-kept_front path more longer new e h =
-    let kept : take (length (path ++ more)) new ≡ path ++ more = subst (λ (p : Path). take (length p) new ≡ p) e h in
-    sym (take-take (length path) (length (path ++ more)) new (omega (arith, length-append path more))) ∙ ap (take (length path)) kept ∙ take-append_seam path more
-
--- the search of the right child, where nothing is found in the left one
-module _ (id : ℕ) (kept : SplitKept) (j : ℕ) (v : ℤ) (left right : Plain) where
-  pub path_search-right : {E : Type 0} (found : Result Bool E) (path longer new : Path) → longer ≡ right_path path j v → path_below id (left_path path j v) left ≡ None
-      → IfOk found (λ b. MatchBool b (path_below id longer right ≡ Some new) ((path_below id longer right ≡ None) × (take (length longer) new ≡ longer)))
-      → IfOk found (λ b. MatchBool b (path_below id path (Split kept j v left right) ≡ Some new) ((path_below id path (Split kept j v left right) ≡ None) × (take (length path) new ≡ path)))
-  path_search-right (Ok true) path longer new on none h = path_below-right id kept j v left right path (Some new) none (subst (λ p. path_below id p right ≡ Some new) on h)
-  path_search-right (Ok false) path longer new on none h =
-      (path_below-right id kept j v left right path None none (subst (λ p. path_below id p right ≡ None) on h.0), kept_front path (at_least j (v +ℤ pos 1) ∷ []) longer new on h.1)
-  path_search-right (Err e) path longer new on none h = h

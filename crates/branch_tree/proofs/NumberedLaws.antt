@@ -34,6 +34,13 @@ one_leaf T id n = omega (arith, n.distinct id)
 pub two_more_fit : (T : NumberedTree) (count : ℕ) → IsCounted T count → count + 2 < 2 ^ 64
 two_more_fit T count k = omega (arith, k.counted, nodes-splits T.root, k.numbered.few, k.numbered.left)
 
+-- the ids of the leaves of a new split are numbers of 64 bits
+pub left_id_fits : (T : NumberedTree) → HasRoom T → T.last + 1 < 2 ^ 64
+left_id_fits T room = omega (arith, room.ids)
+
+pub right_id_fits : (T : NumberedTree) → HasRoom T → T.last + 2 < 2 ^ 64
+right_id_fits T room = omega (arith, room.ids)
+
 -- whether there is room, from the counter
 pub has_room-counted : (T : NumberedTree) (count : ℕ) → IsCounted T count → count + 2 ≤ T.limit
     → (IsTrue (leb (count / 2 + 3) (18446744073709551615 - T.last)) → HasRoom T) × (HasRoom T → IsTrue (leb (count / 2 + 3) (18446744073709551615 - T.last)))

@@ -161,29 +161,20 @@ pub(crate) fn data_of_lists(
 ) -> Result<LeafData, AllocError>
     ensures { IfOk result (λ k. (k.state ≡ state) × (mult ≡ Ok k.mult) × (farkas ≡ Ok k.farkas) × (basis ≡ Ok k.basis)) }
 {
-    let mult = match mult {
-        Ok(mult) => mult,
-        Err(error) => {
-            drop(farkas);
-            drop(basis);
-            return Err(error);
-        }
+    let Ok(mult) = mult else {
+        drop(farkas);
+        drop(basis);
+        return Err(AllocError);
     };
-    let farkas = match farkas {
-        Ok(farkas) => farkas,
-        Err(error) => {
-            drop(mult);
-            drop(basis);
-            return Err(error);
-        }
+    let Ok(farkas) = farkas else {
+        drop(mult);
+        drop(basis);
+        return Err(AllocError);
     };
-    let basis = match basis {
-        Ok(basis) => basis,
-        Err(error) => {
-            drop(mult);
-            drop(farkas);
-            return Err(error);
-        }
+    let Ok(basis) = basis else {
+        drop(mult);
+        drop(farkas);
+        return Err(AllocError);
     };
     Ok(LeafData {
         state,

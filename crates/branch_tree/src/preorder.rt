@@ -27,22 +27,19 @@ fn node_data(alloc: Global, node: &Node) -> Result<NodeData, AllocError>
             basis,
             ..
         } => {
-            let mult = match mult.copy(alloc) {
-                Ok(mult) => mult,
-                Err(error) => return Err(error),
+            let Ok(mult) = mult.copy(alloc) else {
+                return Err(AllocError);
             };
-            match basis.copy(alloc) {
-                Ok(basis) => Ok(NodeData::Split {
-                    col: *col,
-                    v: *v,
-                    mult,
-                    basis,
-                }),
-                Err(error) => {
-                    drop(mult);
-                    Err(error)
-                }
-            }
+            let Ok(basis) = basis.copy(alloc) else {
+                drop(mult);
+                return Err(AllocError);
+            };
+            Ok(NodeData::Split {
+                col: *col,
+                v: *v,
+                mult,
+                basis,
+            })
         }
         Node::Leaf { kept, .. } => match copy_data(alloc, kept) {
             Ok(kept) => Ok(NodeData::Leaf(kept)),
@@ -57,14 +54,14 @@ fn nodes_data(alloc: Global, nodes: &[Node]) -> Result<List<NodeData>, AllocErro
 {
     let mut list = List::new(alloc);
     for node in nodes {
-        let copy = match node_data(alloc, node) {
-            Ok(copy) => copy,
-            Err(error) => return Err(error),
+        let Ok(copy) = node_data(alloc, node) else {
+            drop(list);
+            return Err(AllocError);
         };
-        match list.push(copy) {
-            Ok(()) => {}
-            Err(error) => return Err(error),
-        }
+        let Ok(()) = list.push(copy) else {
+            drop(list);
+            return Err(AllocError);
+        };
     }
     Ok(list)
 }
@@ -82,9 +79,8 @@ fn join_last(alloc: Global, split: SplitNode, branches: &mut Vec<Branch>) -> Res
         drop(left);
         return Ok(());
     };
-    let branch = match joined(alloc, Ok(split), Ok(left), Ok(right)) {
-        Ok(branch) => branch,
-        Err(error) => return Err(error),
+    let Ok(branch) = joined(alloc, Ok(split), Ok(left), Ok(right)) else {
+        return Err(AllocError);
     };
     match branches.push(branch) {
         Ok(()) => Ok(()),
@@ -135,10 +131,11 @@ fn branches_of(alloc: Global, nodes: Vec<NodeData>) -> Result<Vec<Branch>, Alloc
     let mut branches = Vec::new(alloc);
     while let Some(node) = rest.pop() {
         let id = rest.len() as u64 + 1;
-        match put_node(alloc, id, node, &mut branches) {
-            Ok(()) => {}
-            Err(error) => return Err(error),
-        }
+        let Ok(()) = put_node(alloc, id, node, &mut branches) else {
+            drop(rest);
+            drop(branches);
+            return Err(AllocError);
+        };
     }
     Ok(branches)
 }
@@ -148,9 +145,8 @@ impl Tree {
     pub fn data_nodes(&self) -> Result<List<NodeData>, AllocError>
         ensures { IfOk result (λ nodes. nodes ≡ data_nodes (without_ids self.now.root)) }
     {
-        let nodes = match self.preorder() {
-            Ok(nodes) => nodes,
-            Err(error) => return Err(error),
+        let Ok(nodes) = self.preorder() else {
+            return Err(AllocError);
         };
         nodes_data(self.alloc, &nodes)
     }
@@ -171,9 +167,8 @@ impl Tree {
         if count > MOST_NODES {
             return Err(AllocError);
         }
-        let mut branches = match branches_of(alloc, nodes) {
-            Ok(branches) => branches,
-            Err(error) => return Err(error),
+        let Ok(mut branches) = branches_of(alloc, nodes) else {
+            return Err(AllocError);
         };
         let Some(root) = branches.pop() else {
             unreachable!()

@@ -1,29 +1,17 @@
 // Where leaves are, as hints: a way that is missing or old costs a search and changes no answer, so nothing here has a
-// contract.
+// contract, and where there is no memory for a way it is missing.
 ghost use Rattle.std.specs.Prelude.{◌≤◌};
 ghost use Rattle.branch_tree.specs.Plain.{leaves_with};
 ghost use Rattle.branch_tree.specs.Branches.{plain_branch};
 
 use crate::branch::Branch;
-use std::alloc::{AllocError, Global};
+use std::alloc::Global;
 use std::collections::BTreeMap;
 
 /// The ways down from the root to leaves, by their ids, with `true` for a right child.
 #[derive(Drop)]
 pub(crate) struct Ways {
     ways: BTreeMap<u64, Vec<bool>>,
-}
-
-/// A way with one more turn, `true` for a right child.
-fn longer(alloc: Global, way: &[bool], is_right: bool) -> Result<Vec<bool>, AllocError> {
-    let mut longer = match Vec::from_slice(alloc, way) {
-        Ok(longer) => longer,
-        Err(error) => return Err(error),
-    };
-    match longer.push(is_right) {
-        Ok(()) => Ok(longer),
-        Err(failed) => Err(failed.into()),
-    }
 }
 
 impl Ways {
@@ -42,7 +30,8 @@ impl Ways {
         }
     }
 
-    /// The way down to the leaf with the id, which is to be split. Those to its two children are known from then on.
+    /// The way down to the leaf with the id, which is to be split, and is forgotten with it. Those to its two children are known
+    /// from then on.
     pub(crate) fn split(
         &mut self,
         alloc: Global,
@@ -50,46 +39,23 @@ impl Ways {
         id: u64,
         left: u64,
         right: u64,
-    ) -> Result<Vec<bool>, AllocError>
+    ) -> Vec<bool>
         requires { leaves_with id (plain_branch root.now) ≤ 1 }
     {
-        let way = match root.way_to(alloc, id, self.to(id)) {
-            Ok(way) => way,
-            Err(error) => return Err(error),
-        };
-        match self.add(alloc, &way, false, left) {
-            Ok(()) => {}
-            Err(error) => return Err(error),
-        }
-        match self.add(alloc, &way, true, right) {
-            Ok(()) => Ok(way),
-            Err(error) => Err(error),
-        }
+        let way = root.way_to(alloc, id, self.to(id));
+        let _ = self.ways.remove(&id);
+        self.add(alloc, &way, false, left);
+        self.add(alloc, &way, true, right);
+        way
     }
 
     /// Notes the way to a child of the node at a way.
-    fn add(
-        &mut self,
-        alloc: Global,
-        way: &[bool],
-        is_right: bool,
-        id: u64,
-    ) -> Result<(), AllocError> {
-        match longer(alloc, way, is_right) {
-            Ok(longer) => match self.ways.insert(id, longer) {
-                Ok(before) => {
-                    drop(before);
-                    Ok(())
-                }
-                Err(failed) => Err(failed.into()),
-            },
-            Err(error) => Err(error),
-        }
-    }
-
-    /// A leaf is no more.
-    pub(crate) fn forget(&mut self, id: u64) {
-        let _ = self.ways.remove(&id);
+    fn add(&mut self, alloc: Global, way: &[bool], is_right: bool, id: u64) {
+        let Ok(mut longer) = Vec::from_slice(alloc, way) else {
+            return;
+        };
+        let _ = longer.push(is_right);
+        let _ = self.ways.insert(id, longer);
     }
 
     /// Many leaves are no more.

@@ -1,8 +1,8 @@
 -- A trail's region has the bounds of its path, one change further and one change back.
-use Rattle.std.proofs.Common.{◌≡◌, ◌≢◌, ℕ, zero, suc, ◌+◌, ◌<◌, ◌≤◌, List, [], ◌∷◌, ◌++◌, length, take, get_or, refl, sym, ap, subst, ◌∙◌, arith}
+use Rattle.std.proofs.Common.{◌≡◌, ◌≢◌, ℕ, zero, suc, ◌+◌, ◌-◌, ◌<◌, ◌≤◌, List, [], ◌∷◌, ◌++◌, length, take, get_or, refl, sym, ap, subst, ◌∙◌, arith}
 use Rattle.std.specs.Prelude.{set, max, All}
 use Rattle.std.proofs.Math.Path.{fun_ext}
-use Rattle.std.proofs.lemmas.List.{take_more, get_or-set_same, get_or-set_other, length-append, get_or_append_left}
+use Rattle.std.proofs.lemmas.List.{take_more, get_or_default, get_or-set_same, get_or-set_other, length-append, get_or_append_left}
 use Rattle.std.proofs.Math.Seq.{get_or-append_seam}
 use Rattle.lp_model.specs.Regions.{Path, AreNarrow, low_along, high_along}
 use Rattle.lp_model.specs.declared.types.BoundChange.{BoundChange}
@@ -95,6 +95,27 @@ trail-push t c r places count is below same back counted within top tight =
     subst (λ n. IsLed (set t.path.items t.depth c) (set t.replaced.items t.depth r) n places count) up
     (led-push t.path.items t.replaced.items t.depth c r places t.region.items count t.count below is.replaced is.led back counted
     (record { within = omega (arith, few, below, even, same, within); few = omega (arith, counted, within, top); is = tight ∙ (λ i. tightened (take (sym counted i) (sym back i)) c) }))
+
+-- the trail without its last change
+module _ (t : Trail) (is : IsTrail t) (some : 0 < t.depth) where
+  up : t.depth ≡ suc (t.depth - 1)
+  up = omega arith
+
+  below : t.depth - 1 < length t.path.items
+  below = let within = is.within in omega (arith, within, some)
+
+  pub trail-back : (last : Replaced) → last ≡ get_or t.replaced.items (t.depth - 1) last → IsLed t.path.items t.replaced.items (t.depth - 1) (undone t.region.items last) last.count
+  trail-back last read =
+      let even = is.replaced in
+      let same : last ≡ get_or t.replaced.items (t.depth - 1) no_replaced = read ∙ get_or_default t.replaced.items (t.depth - 1) last no_replaced (omega (arith, even, below)) in
+      subst (λ r. IsLed t.path.items t.replaced.items (t.depth - 1) (undone t.region.items r) r.count) (sym same)
+      (subst (λ n. IsLed t.path.items t.replaced.items n t.region.items t.count) up is.led).1
+
+  pub path-back : (change : BoundChange) → change ≡ get_or t.path.items (t.depth - 1) change → path_of_trail t ≡ take (t.depth - 1) t.path.items ++ change ∷ []
+  path-back change read =
+      ap (λ n. take n t.path.items) up
+      ∙ one_more t.path.items t.replaced.items (t.depth - 1) below
+      ∙ ap (λ d. take (t.depth - 1) t.path.items ++ d ∷ []) (sym (read ∙ get_or_default t.path.items (t.depth - 1) change no_change below))
 
 -- ---- a walk's path
 

@@ -112,20 +112,18 @@ impl Trail {
             was: change,
             count: 0,
         };
-        let mut path = Vec::new(alloc);
-        let mut replaced = Vec::new(alloc);
-        let mut region = Vec::new(alloc);
-        while path.len() < length {
-            let Ok(()) = path.push(change) else {
-                return Err(AllocError);
-            };
-            let Ok(()) = replaced.push(none) else {
-                return Err(AllocError);
-            };
-            let Ok(()) = region.push(change) else {
-                return Err(AllocError);
-            };
-        }
+        let Ok(path) = vec![in alloc; change; length] else {
+            return Err(AllocError);
+        };
+        let Ok(replaced) = vec![in alloc; none; length] else {
+            drop(path);
+            return Err(AllocError);
+        };
+        let Ok(region) = vec![in alloc; change; length] else {
+            drop(path);
+            drop(replaced);
+            return Err(AllocError);
+        };
         Ok(Trail {
             path,
             replaced,

@@ -3,13 +3,14 @@ use Rattle.std.proofs.Common.{◌≡◌, ℕ, ◌-◌, ◌<◌, ◌≤◌, Bool,
 use Rattle.std.proofs.lemmas.Grind.{common_steps}
 use Rattle.std.proofs.lemmas.List.{map-append}
 use Rattle.std.specs.List.{slice_split}
-use Rattle.std.specs.Prelude.{Result, Ok, Err, codes, bytes_eq}
+use Rattle.std.specs.Prelude.{Option, Result, Ok, Err, codes, bytes_eq}
 use Rattle.text_lines.specs.Lines.{Line, is_newline, is_nothing, lines_of, lines_of_pieces, line_bytes}
 use Rattle.text_lines.specs.Words.{words_of}
 use Rattle.text_lines.proofs.LineLemmas.{last_of, bytes-last}
 use Rattle.cert_text.specs.Mults.{mults_in}
-use Rattle.cert_text.specs.Lines.{begins_blank, ends_blank, as_leaf, empty_says, leaf_says, words_say, line_says}
+use Rattle.cert_text.specs.Lines.{begins_blank, ends_blank, split_says, as_leaf, empty_says, leaf_says, word_of, known_says, words_say, line_says}
 use Rattle.cert_text.specs.Reading.{Says}
+use Rattle.cert_text.specs.declared.line.LineWord.{LineWord}
 use Rattle.cert_text.specs.declared.line.Statement.{Statement}
 use Rattle.cert_text.specs.declared.line.LineFault.{LineFault}
 use Rattle.cert_text.specs.declared.line.LineFault.TheVariants.{Code, Memory}
@@ -58,10 +59,44 @@ lines-none text [] [] are parts none = ap (λ pieces. map (λ (line : Line). lin
 lines-none text [] (piece ∷ more) are parts none = absurd (let h : 0 ≡ length ((piece ∷ more) ++ []) = ap length parts in omega (arith, h))
 lines-none text (piece ∷ more) rest are parts none = absurd (omega arith)
 
--- ---- leaves
+-- ---- words
 
 back : (a : Bor (List ℕ)) (more : List (Bor (List ℕ))) → take (length (a ∷ more) - 1) (drop 1 (a ∷ more)) ≡ more
 back a more = grind (arith, common_steps)
+
+pub just_one : (words : List (Bor (List ℕ))) (d : Bor (List ℕ)) → 1 ≤ length words → length words < 2 → nows words ≡ (get_or words 0 d).now ∷ []
+just_one [] d some few = absurd (omega arith)
+just_one (a ∷ []) d some few = refl
+just_one (a ∷ b ∷ more) d some few = absurd (omega arith)
+
+pub just_two : (words : List (Bor (List ℕ))) (d : Bor (List ℕ)) → 2 ≤ length words → length words < 3 → nows words ≡ (get_or words 0 d).now ∷ (get_or words 1 d).now ∷ []
+just_two [] d some few = absurd (omega arith)
+just_two (a ∷ []) d some few = absurd (omega arith)
+just_two (a ∷ b ∷ []) d some few = refl
+just_two (a ∷ b ∷ c ∷ more) d some few = absurd (omega arith)
+
+pub split-short : (words : List (Bor (List ℕ))) → length words < 2 → split_says (nows words) ≡ Err 3
+split-short [] few = refl
+split-short (a ∷ []) few = refl
+split-short (a ∷ b ∷ more) few = absurd (omega arith)
+
+pub split-long : (words : List (Bor (List ℕ))) → 3 ≤ length words → split_says (nows words) ≡ Err 3
+split-long [] many = absurd (omega arith)
+split-long (a ∷ []) many = absurd (omega arith)
+split-long (a ∷ b ∷ []) many = absurd (omega arith)
+split-long (a ∷ b ∷ c ∷ more) many = refl
+
+pub words-none : (blank : Bool) (words : List (Bor (List ℕ))) → length words < 1 → words_say blank (nows words) ≡ Err 2
+words-none blank [] few = refl
+words-none blank (a ∷ more) few = absurd (omega arith)
+
+-- the words behind a first one
+pub words-first : (blank : Bool) (words : List (Bor (List ℕ))) (d : Bor (List ℕ)) (known : Option LineWord) → 1 ≤ length words → known ≡ word_of (get_or words 0 d).now
+    → known_says known blank (nows (take (length words - 1) (drop 1 words))) ≡ words_say blank (nows words)
+words-first blank [] d known some e = absurd (omega arith)
+words-first blank (a ∷ more) d known some e = (λ i. known_says (e i) blank (nows (back a more i)))
+
+-- ---- leaves
 
 abbrev leaf_by : Bool → Bool → Bool → List (List ℕ) → Result Statement ℕ
 leaf_by a b e words = if a then as_leaf Bound (mults_in words) else if b then as_leaf Farkas (mults_in words) else if e then empty_says words else Err 3

@@ -1,9 +1,10 @@
 -- Multipliers from the first one on, and the numbers of cuts.
-use Rattle.std.proofs.Common.{◌≡◌, ℕ, ◌-◌, ◌^◌, ◌≤◌, ◌<◌, ◌++◌, ◌&&◌, List, [], ◌∷◌, length, get_or, take, drop, arith, sym, ap, subst, refl, ◌∙◌, append_assoc, Bor, Bool, true, false, if◌then◌else◌}
+use Rattle.std.proofs.Common.{◌≡◌, ℕ, ◌+◌, ◌-◌, ◌^◌, ◌≤◌, ◌<◌, ◌++◌, ◌&&◌, List, [], ◌∷◌, length, get_or, take, drop, arith, sym, ap, subst, refl, ◌∙◌, append_assoc, Bor, Bool, true, false, if◌then◌else◌}
 use Rattle.std.specs.Prelude.{map, codes, bytes_eq, not, ◌==◌, nat_lt, min, Option, Some, None, Result, Ok, Err}
 use Rattle.std.specs.List.{list_all}
 use Rattle.std.proofs.lemmas.Bool.Decides.{nat_tests}
 use Rattle.std.proofs.lemmas.Grind.{common_steps}
+use Rattle.std.proofs.lemmas.List.{drop_more, drop_all}
 use Rattle.frac_text.specs.Spelling.{is_digit, value_of}
 use Rattle.frac_text.specs.Parsing.{spelled_number}
 use Rattle.frac_text.specs.declared.parsing.NumFault.{NumFault}
@@ -19,6 +20,13 @@ abbrev nows : List (Bor (List ℕ)) → List (List ℕ)
 nows words = map (λ word. word.now) words
 
 -- ---- a cut's number
+
+-- whether all bytes from one place on pass
+pub digits_next : (passes : ℕ → Bool) (bytes : List ℕ) (k : ℕ) → k < length bytes → list_all passes (drop k bytes) ≡ (passes (get_or bytes k 0) && list_all passes (drop (k + 1) bytes))
+digits_next passes bytes k below = ap (list_all passes) (drop_more bytes k 0 below)
+
+pub digits_none : (passes : ℕ → Bool) (bytes : List ℕ) (k : ℕ) → length bytes ≤ k → list_all passes (drop k bytes) ≡ true
+digits_none passes bytes k past = ap (list_all passes) (drop_all k bytes past)
 
 pub plain-digits : (word : List ℕ) → are_plain_digits word ≡ true → list_all is_digit word ≡ true
 plain-digits [] e = absurd (let f : false ≡ true = e in cc)
@@ -115,6 +123,10 @@ joined-code least items said code e rest = ap (λ s. joined_items least items (w
     here None (Err other) = refl
     here (Some l) (Ok mults) = refl
     here (Some l) (Err other) = ap Err (min-thrice l code other)
+
+pub mults_in-none : (words : List (Bor (List ℕ))) → length words ≡ 0 → mults_in (nows words) ≡ Ok []
+mults_in-none [] none = refl
+mults_in-none (a ∷ more) none = absurd (omega arith)
 
 pub mults_in-short : (words : List (Bor (List ℕ))) → ¬ (length words ≡ 0) → length words < 3 → mults_in (nows words) ≡ Err 3
 mults_in-short [] some few = absurd (some refl)

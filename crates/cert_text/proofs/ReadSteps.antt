@@ -1,12 +1,14 @@
 -- What the lines so far and the next one come to.
-use Rattle.std.proofs.Common.{◌≡◌, ℕ, zero, suc, ◌+◌, ◌<◌, ◌≤◌, List, [], ◌∷◌, length, take, get_or, map, Bor, refl, ap, subst, ◌∙◌, arith}
-use Rattle.std.specs.Prelude.{Ok, Err, Some}
+use Rattle.std.proofs.Common.{◌≡◌, ℕ, zero, suc, ◌+◌, ◌<◌, ◌≤◌, List, [], ◌∷◌, length, take, get_or, map, Bor, refl, sym, ap, subst, ◌∙◌, arith}
+use Rattle.std.specs.Prelude.{Ok, Err, Some, None}
 use Rattle.std.proofs.lemmas.List.{length-take-le, length-map}
 use Rattle.cert_text.specs.declared.reader.CertFault.{CertFault}
 use Rattle.cert_text.specs.declared.reader.CertFault.TheVariants.{Bad, Memory}
 use Rattle.text_lines.specs.Lines.{line_bytes}
-use Rattle.cert_text.specs.Text.{StatedCertificate, stated, AreClean, OnLine}
-use Rattle.cert_text.specs.Reading.{IsNoted, IsReading, IsFaultyLine, IsCertificateAnswer}
+use Rattle.cert_text.specs.declared.cert.Cert.{Cert}
+use Rattle.cert_text.specs.declared.reading.Reading.{Reading}
+use Rattle.cert_text.specs.Text.{StatedCertificate, stated, end_code, cert_of, AreClean, MeantCertificate, FaultyCertificate, OnLine, AtEnd}
+use Rattle.cert_text.specs.Reading.{held, IsNoted, IsReading, IsFaultyLine, IsCertificateAnswer}
 use Rattle.cert_text.proofs.TextLemmas.{code_here, holds_more, clean_more}
 
 abbrev pub nows : List (Bor (List ℕ)) → List (List ℕ)
@@ -34,6 +36,19 @@ module _ (lines : List (List ℕ)) (k : ℕ) (below : k < length lines) (clean :
 
   pub noted_holds : (r : Unit {0}) → IsNoted s line number t (Ok r) → t ≡ stated (take (k + 1) lines)
   noted_holds r noted = holds_more lines k below s line _ holds is noted.0 t noted.1
+
+pub end_faulty : (text : List ℕ) (lines : List (List ℕ)) (r : Reading) (line code : ℕ) → lines ≡ line_bytes text → IsReading lines (Ok r) → end_code (held r) ≡ Some code → line ≡ suc (length lines) → FaultyCertificate text line code
+end_faulty text lines r line code e reading is at =
+    AtEnd (subst (λ (ls : List (List ℕ)). AreClean ls (length ls)) e reading.0)
+    (ap (λ (ls : List (List ℕ)). end_code (stated ls)) (sym e) ∙ ap end_code (sym reading.1) ∙ is)
+    (at ∙ ap (λ (ls : List (List ℕ)). suc (length ls)) e)
+
+pub meant : (text : List ℕ) (lines : List (List ℕ)) (r : Reading) (cert : Cert) → lines ≡ line_bytes text → IsReading lines (Ok r) → end_code (held r) ≡ None → cert ≡ cert_of (held r) → MeantCertificate text cert
+meant text lines r cert e reading none is = record {
+  clean = subst (λ (ls : List (List ℕ)). AreClean ls (length ls)) e reading.0;
+  ended = ap (λ (ls : List (List ℕ)). end_code (stated ls)) (sym e) ∙ ap end_code (sym reading.1) ∙ none;
+  is = is ∙ ap cert_of (reading.1 ∙ ap stated e);
+}
 
 pub faulty_answer : (text : List ℕ) (lines : List (List ℕ)) (fault : CertFault) → lines ≡ line_bytes text → IsReading lines (Err fault) → IsCertificateAnswer text (Err fault)
 faulty_answer text lines (Bad at code) e reading =

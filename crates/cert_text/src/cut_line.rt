@@ -33,7 +33,9 @@ fn add_literal(
 ) -> Result<(), AllocError>
     ensures { IfOk result (λ _. literals.new ≡ literals.old ++ (name.now, plus) ∷ []) }
 {
-    let name = Name::from_slice(alloc, name)?;
+    let Ok(name) = Name::from_slice(alloc, name) else {
+        return Err(AllocError);
+    };
     literals.push((name, plus))
 }
 

@@ -314,6 +314,8 @@ pub(crate) fn line_says(alloc: Global, line: &[u8]) -> Result<Statement, LineFau
     if begins_blank(line) {
         return Err(LineFault::Code(2));
     }
-    let words = words(alloc, line)?;
+    let Ok(words) = words(alloc, line) else {
+        return Err(LineFault::Memory);
+    };
     words_say(alloc, ends_blank(line), &words)
 }

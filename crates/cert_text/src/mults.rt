@@ -22,7 +22,12 @@ fn is_digit_byte(byte: u8) -> bool
 fn are_digits_alone(word: &[u8]) -> bool
     ensures { result ≡ list_all is_digit word.now }
 {
-    word.iter().all(|byte| is_digit_byte(*byte))
+    for byte in word {
+        if !is_digit_byte(*byte) {
+            return false;
+        }
+    }
+    true
 }
 
 /// Whether the word is decimal digits without a leading zero.
@@ -125,10 +130,7 @@ fn add_mult(
     ensures { IfOk result (λ _. (rest : Result (Items Multiplier) ℕ) → joined_items gathered.old.least gathered.old.items (with_mult (mult_in key.now word.now number.now) rest) ≡ joined_items gathered.new.least gathered.new.items rest) }
 {
     match mult_in(alloc, key, word, number) {
-        Ok(mult) => {
-            gathered.add(mult)?;
-            Ok(())
-        }
+        Ok(mult) => gathered.add(mult),
         Err(LineFault::Code(code)) => {
             gathered.add_code(code);
             Ok(())

@@ -101,12 +101,16 @@ fn add_named(
 {
     match frac_text::parse(number) {
         Ok(value) => {
-            let name = Name::from_slice(alloc, name)?;
-            gathered.add((name, value))?;
+            let Ok(name) = Name::from_slice(alloc, name) else {
+                return Err(AllocError);
+            };
+            gathered.add((name, value))
         }
-        Err(fault) => gathered.add_fault(fault),
+        Err(fault) => {
+            gathered.add_fault(fault);
+            Ok(())
+        }
     }
-    Ok(())
 }
 
 /// `NAME V` any number of times.

@@ -251,7 +251,9 @@ impl Reading {
         ensures parts { IfOk result (λ _. (self.new.claim ≡ self.old.claim) × (self.new.point ≡ self.old.point) × (self.new.ray ≡ self.old.ray) × (self.new.cuts ≡ self.old.cuts) × (self.new.ended ≡ self.old.ended)) }
     {
         let due = due_behind(self.due, &node);
-        self.nodes.push(node)?;
+        let Ok(()) = self.nodes.push(node) else {
+            return Err(AllocError);
+        };
         self.due = due;
         Ok(())
     }

@@ -29,11 +29,10 @@ pub trait Terms {
 }
 
 /// Whether the number is 0.
-#[tactic(auto, using(rational::proofs::Comparison::comparisons))]
 fn is_zero(number: &Frac) -> bool
     ensures { IsTrue result ↔ number.now ≡ int (pos 0) }
 {
-    *number == Frac::whole(0)
+    number.is_zero()
 }
 
 /// The total and the product of a number that is not 0, if there is room for both. A factor 0 makes no step.
@@ -44,8 +43,10 @@ fn add_product(total: &Frac, factor: &Frac, number: &Frac) -> Result<Frac, Wide>
     if is_zero(factor) {
         return Ok(*total);
     }
-    let product = factor.mul(number)?;
-    total.add(&product)
+    match factor.mul(number) {
+        Ok(product) => total.add(&product),
+        Err(wide) => Err(wide),
+    }
 }
 
 /// The sum of the terms from the start, or the place of the first step that has no room.

@@ -1,5 +1,5 @@
 -- What `check` prints of two files that were read.
-use Rattle.std.specs.Prelude.{◌≡◌, ℕ, ◌≤◌, List, [], Option, None, Err}
+use Rattle.std.specs.Prelude.{◌≡◌, ℕ, ◌<◌, ◌≤◌, ◌⊎◌, Bool, true, false, if◌then◌else◌, List, [], Option, None, Err}
 use Rattle.std.proofs.Common.{arith, sym, subst, inl, inr}
 use Rattle.sym_io.specs.Files.{Files}
 use Rattle.lp_model.specs.Program.{Program}
@@ -42,3 +42,9 @@ checks-both files files' model cert before now after M reply read same later h =
     by (JudgedFor c stated (inl w)) = Judged (record { program = M; certificate = c; read = read; stated = stated; verdict = w.0; is = w.1.0; told = w.1.2; true_claim = w.1.1 })
     by (JudgedFor c stated (inr told)) = Wanting told
     by (RefusedFor r cause told) = BadCert (record { program = M; read = read; refusal = r; cause = later-refused files cert before now after r later cause; told = told })
+
+-- the statuses of a check
+pub known-status : (memory accepted : Bool) (status : ℕ) → status ≡ (if memory then 5 else if accepted then 0 else 1) → (status < 2) ⊎ ((status ≡ 4) ⊎ (status ≡ 5))
+known-status true accepted status e = inr (inr e)
+known-status false true status e = inl (subst (λ n. n < 2) (sym e) (omega arith))
+known-status false false status e = inl (subst (λ n. n < 2) (sym e) (omega arith))

@@ -1,10 +1,12 @@
 -- What `check MODEL CERT` prints.
 use Rattle.std.specs.Prelude.{◌≡◌, ◌⊎◌, ℕ, Bool, true, false, ◌&&◌, if◌then◌else◌, List, [], ◌++◌, codes, decimal, Option, None, Result, Ok, Err, ◌==◌}
 use Rattle.std.specs.List.{starts_with}
+use Rattle.std.specs.Io.KnownBytes.{Appends}
 use Rattle.rational.specs.Rational.{ℚ}
 use Rattle.frac128.specs.Printing.{printed}
 use Rattle.sym_io.specs.Faults.{Rose}
 use Rattle.sym_io.specs.Files.{Files}
+use Rattle.script_session.specs.Output.{WritesFront}
 use Rattle.script_session.specs.Reply.{wants_memory}
 use Rattle.command_words.specs.Names.{is_file_name}
 use Rattle.lp_model.specs.Program.{Program}
@@ -121,3 +123,12 @@ is_accepted reply = starts_with ◌==◌ reply (codes "accepted ")
 -- 5 where memory was wanting, 0 where the certificate is accepted, 1 else
 abbrev pub check_status : List ℕ → ℕ
 check_status reply = if wants_memory reply then 5 else if is_accepted reply then 0 else 1
+
+-- ---- the printing
+
+-- A text with P was printed whole, and gives the status; or a front of it, where the sink failed; or nothing, where there was no
+-- memory for it. The sink's count of faults goes from before to after.
+pub data Prints (P : List ℕ → Type 0) (status_of : List ℕ → ℕ) (written written' : Option (List ℕ)) (before after : ℕ) (status : ℕ) : Type 0 where
+  Whole : (text : List ℕ) → P text → Appends written written' text → status ≡ status_of text → Prints P status_of written written' before after status
+  CutOff : (text : List ℕ) → P text → WritesFront written written' text → Rose before after → status ≡ 4 → Prints P status_of written written' before after status
+  MemoryWanted : written' ≡ written → status ≡ 5 → Prints P status_of written written' before after status

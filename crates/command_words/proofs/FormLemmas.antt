@@ -29,6 +29,31 @@ unfolding asks_of
 asks_of-nothing [] h = refl
 asks_of-nothing (word ∷ more) h = absurd (omega arith)
 
+-- what stands for a word where there is none
+abbrev pub some_word : Bor (List ℕ)
+some_word = record { ref_ptr = (0, 0); now = [] }
+
+-- lists of one, two and four words, word by word
+pub one_word : (words : List (Bor (List ℕ))) → length words ≡ 1 → (get_or words 0 some_word).now ∷ [] ≡ nows words
+one_word [] h = absurd (omega arith)
+one_word (a ∷ []) h = refl
+one_word (a ∷ b ∷ more) h = absurd (omega arith)
+
+pub two_words : (words : List (Bor (List ℕ))) → length words ≡ 2 → (get_or words 0 some_word).now ∷ (get_or words 1 some_word).now ∷ [] ≡ nows words
+two_words [] h = absurd (omega arith)
+two_words (a ∷ []) h = absurd (omega arith)
+two_words (a ∷ b ∷ []) h = refl
+two_words (a ∷ b ∷ c ∷ more) h = absurd (omega arith)
+
+pub four_words : (words : List (Bor (List ℕ))) → length words ≡ 4
+    → (get_or words 0 some_word).now ∷ (get_or words 1 some_word).now ∷ (get_or words 2 some_word).now ∷ (get_or words 3 some_word).now ∷ [] ≡ nows words
+four_words [] h = absurd (omega arith)
+four_words (a ∷ []) h = absurd (omega arith)
+four_words (a ∷ b ∷ []) h = absurd (omega arith)
+four_words (a ∷ b ∷ c ∷ []) h = absurd (omega arith)
+four_words (a ∷ b ∷ c ∷ d ∷ []) h = refl
+four_words (a ∷ b ∷ c ∷ d ∷ e ∷ more) h = absurd (omega arith)
+
 pub load_asks-other : (words : List (Bor (List ℕ))) → ¬ (length words ≡ 1) → ¬ (length words ≡ 3) → Misused ≡ load_asks (nows words)
 load_asks-other [] h k = refl
 load_asks-other (a ∷ []) h k = absurd (h refl)
@@ -49,6 +74,11 @@ trim_asks-other [] h k = absurd (h refl)
 trim_asks-other (a ∷ []) h k = refl
 trim_asks-other (a ∷ b ∷ []) h k = absurd (k refl)
 trim_asks-other (a ∷ b ∷ c ∷ more) h k = refl
+
+pub file_asks-other : (what : Content) (words : List (Bor (List ℕ))) → ¬ (length words ≡ 1) → Misused ≡ file_asks what (nows words)
+file_asks-other what [] h = refl
+file_asks-other what (a ∷ []) h = absurd (h refl)
+file_asks-other what (a ∷ b ∷ more) h = refl
 
 -- ---- a file that is asked for has a file name
 

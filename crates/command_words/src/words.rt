@@ -204,7 +204,12 @@ fn begins_as_name(word: &[u8]) -> bool
 fn has_name_bytes(word: &[u8]) -> bool
     ensures { result ≡ list_all is_file_name_byte word.now }
 {
-    word.iter().all(|byte| is_letter_digit_or_mark(*byte))
+    for index in 0..word.len() {
+        if !is_letter_digit_or_mark(word[index]) {
+            return false;
+        }
+    }
+    true
 }
 
 /// Whether a word is a file name: 1 to 255 letters, digits, `.`, `_` and `-`, not beginning with `.` or `-`.
@@ -247,7 +252,7 @@ fn whole_number(word: &[u8]) -> Option<u64>
 fn bounded_load<'a>(file: &'a [u8], key: &[u8], number: &'a [u8]) -> Asked<'a>
     ensures { asks_shown result ≡ load_asks (file.now ∷ key.now ∷ number.now ∷ []) }
 {
-    if !(is_file_name_word(file) && is_word(b"intupper", key)) {
+    if !(is_file_name_word(file) & is_word(b"intupper", key)) {
         return Asked::Misused;
     }
     match whole_number(number) {
@@ -363,9 +368,9 @@ fn both_limits<'a>(
 ) -> Asked<'a>
     ensures { asks_shown result ≡ both_limits_asks (begun_asks beginning) key.now number.now other.now more.now }
 {
-    if is_word(b"nodes", key) && is_word(b"pivots", other) {
+    if is_word(b"nodes", key) & is_word(b"pivots", other) {
         nodes_first(beginning, number, more)
-    } else if is_word(b"pivots", key) && is_word(b"nodes", other) {
+    } else if is_word(b"pivots", key) & is_word(b"nodes", other) {
         pivots_first(beginning, number, more)
     } else {
         Asked::Misused

@@ -1,9 +1,9 @@
 -- The literals of a list of columns, by column, and the sum of least contributions with one literal more.
-use Rattle.std.specs.Prelude.{◌≡◌, ◌≢◌, ℕ, zero, suc, ◌<◌, ◌≤◌, Bool, true, false, not, cond, if◌then◌else◌, nat_eq, List, [], ◌∷◌, ◌++◌, length, pos, All, Option, Some, None, IsSome, ◌+◌, drop, get_or}
-use Rattle.std.proofs.lemmas.List.{drop_more}
+use Rattle.std.specs.Prelude.{◌≡◌, ◌≢◌, ℕ, zero, suc, ◌<◌, ◌≤◌, Bool, true, false, not, cond, if◌then◌else◌, nat_eq, List, [], ◌∷◌, ◌++◌, length, pos, All, Option, Some, None, IsSome, ◌+◌, take, drop, get_or}
+use Rattle.std.proofs.lemmas.List.{append-nil, drop_more}
 use Rattle.std.proofs.Common.{refl, sym, ap, subst, ◌∙◌, inl, inr, arith, eq-eqb, ne_eqb, eqb-true}
 use Rattle.std.proofs.lemmas.Bool.{cases_order}
-use Rattle.std.proofs.lemmas.List.Elements.{All-nil, All-head, All-tail, All-push, All-weaker}
+use Rattle.std.proofs.lemmas.List.Elements.{All-nil, All-head, All-tail, All-push, All-weaker, filter_more}
 use Rattle.rational.specs.Rational.{ℚ, int, ◌+ℚ◌, ◌-ℚ◌, ◌*ℚ◌, neg_ℚ, ◌<ℚ◌}
 use Rattle.rational.proofs.RationalRing.{ring, reads_ℚ}
 use Rattle.rational.proofs.RationalOrder.{<ℚ_irrefl, <ℚ_trans}
@@ -60,6 +60,17 @@ without_other j k (l ∷ ls) apart = by (nat_eq l j) refl (without_other j k ls 
     by : (b : Bool) → nat_eq l j ≡ b → is_in (places_without j ls) k ≡ is_in ls k → is_in (cond (not b) (l ∷ places_without j ls) (places_without j ls)) k ≡ (if nat_eq l k then true else is_in ls k)
     by true e rest = rest ∙ sym (ap (λ c. if c then true else is_in ls k) (ne_eqb l k (λ q. apart (sym q ∙ eqb-true l j e))))
     by false e rest = ap (λ b. if nat_eq l k then true else b) rest
+
+-- the first columns of a list without one of them, with one column more
+module _ (j : ℕ) (js : List ℕ) (k : ℕ) (below : k < length js) where
+  abbrev front : List ℕ
+  front = places_without j (take k js)
+
+  pub without_kept : get_or js k 0 ≢ j → places_without j (take (k + 1) js) ≡ front ++ get_or js k 0 ∷ []
+  without_kept other = filter_more (λ i. not (nat_eq i j)) js k 0 below ∙ ap (λ b. front ++ cond (not b) (get_or js k 0 ∷ []) []) (ne_eqb (get_or js k 0) j other)
+
+  pub without_lost : get_or js k 0 ≡ j → places_without j (take (k + 1) js) ≡ front
+  without_lost same = filter_more (λ i. not (nat_eq i j)) js k 0 below ∙ ap (λ b. front ++ cond (not b) (get_or js k 0 ∷ []) []) (eq-eqb (get_or js k 0) j same) ∙ append-nil front
 
 -- what holds of all columns of a list
 pub in_all : (P : ℕ → Type 0) (js : List ℕ) (j : ℕ) → All P js → is_in js j ≡ true → P j
@@ -119,6 +130,12 @@ module _ (M : Program) (i : ℕ) (s : Side) where
   module _ (js : List ℕ) where
     abbrev lits : ℕ → List Literal
     lits n = literals_below M i s n js
+
+    pub literal_more : (n : ℕ) → is_in js n ≡ true → literals_below M i s (n + 1) js ≡ lits n ++ lit n ∷ []
+    literal_more n here = let next : n + 1 ≡ suc n = omega arith in ap lits next ∙ ap (λ b. if b then lits n ++ lit n ∷ [] else lits n) here
+
+    pub literals_same : (n : ℕ) → is_in js n ≡ false → literals_below M i s (n + 1) js ≡ lits n
+    literals_same n out = let next : n + 1 ≡ suc n = omega arith in ap lits next ∙ ap (λ b. if b then lits n ++ lit n ∷ [] else lits n) out
 
     other : (n j : ℕ) → literal_number (lits n) j ≡ None → n ≢ j → literal_number (lits n ++ lit n ∷ []) j ≡ None
     other n j none apart = pushed_none (lits n) (lit n) j none ∙ ap (λ b. if b then Some (number_at_one (lit n)) else None) (ne_eqb n j apart)

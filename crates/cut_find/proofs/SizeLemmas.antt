@@ -1,6 +1,7 @@
 -- The sums of a side over a denominator, with one column more.
 use Rattle.std.specs.Prelude.{◌≡◌, ◌^◌, ℕ, suc, ◌+◌, ◌<◌, ◌≤◌, Bool, true, false, if◌then◌else◌, ℤ, pos, ◌<ℤ◌, ◌+ℤ◌, ◌-ℤ◌, ◌*ℤ◌, unsigned_abs, IsSome, List, [], ◌∷◌, length, Option, Some}
-use Rattle.std.proofs.Common.{refl, sym, ap, subst, ◌∙◌, arith, below_more}
+use Rattle.std.specs.Int.{w128}
+use Rattle.std.proofs.Common.{FitsSigned, refl, sym, ap, ap₂, subst, ◌∙◌, arith, below_more, to_z, of_z, w64}
 use Rattle.std.proofs.lemmas.Int.{ints}
 use Rattle.rational.specs.Rational.{ℚ, int, ◌<ℚ◌}
 use Rattle.rational.proofs.IntegerRing.{ring_ℤ, reads_ℤ}
@@ -13,6 +14,7 @@ use Rattle.lp_model.specs.declared.types.Side.{Side}
 use Rattle.lp_model.proofs.SideLemmas.{needed-zero}
 use Rattle.cover_cuts.specs.Covers.{side_coefficient}
 use Rattle.leaf_dual.specs.Wholes.{IsFactor, HasRoomForProduct, IsDenominator, IsTermOver}
+use Rattle.leaf_dual.proofs.ReadLemmas.{factor_read, room_read}
 use Rattle.leaf_dual.proofs.WholeLemmas.{total_more, fits_more_over, zero_over}
 use Rattle.cut_find.specs.declared.whole_side.Sums.{Sums}
 use Rattle.cut_find.specs.Greedy.{is_plus, is_in}
@@ -21,6 +23,28 @@ use Rattle.cut_find.specs.WholeSides.{contributions, IsSumWithin, AreSumsTo}
 use Rattle.cut_find.proofs.RowLemmas.{across, side_none}
 use Rattle.cut_find.proofs.CoverLemmas.{number_in, number_out}
 use Rattle.cut_find.proofs.SumLemmas.{turned_term}
+
+-- a total with the size of a factor, as 128 bits are read
+size_has_room : (n : ℕ) → n < 2 ^ 62 → HasRoomForProduct (pos n)
+size_has_room n h = omega (arith, ints, h)
+
+larger_within : (t : ℤ) (n : ℕ) → HasRoomForProduct t → n < 2 ^ 62 → FitsSigned w128 (t +ℤ pos n)
+larger_within t n h k = omega (arith, ints, h, k)
+
+larger_is : (t : ℤ) (n : ℕ) → HasRoomForProduct t → n < 2 ^ 62 → to_z w128 (of_z w128 (t +ℤ pos n)) ≡ t +ℤ pos n
+larger_is t n h k = omega (arith, ints, h, k)
+
+module _ (t w s : ℤ) (room : HasRoomForProduct t) (h : IsFactor w) (is : s ≡ pos (unsigned_abs (to_z w64 (of_z w64 w)))) where
+  larger_parts : to_z w128 (of_z w128 t) +ℤ to_z w128 (of_z w128 s) ≡ t +ℤ pos (unsigned_abs w)
+  larger_parts =
+      ap₂ ◌+ℤ◌ (room_read t room)
+      (ap (λ x. to_z w128 (of_z w128 x)) (is ∙ ap (λ x. pos (unsigned_abs x)) (factor_read w h)) ∙ room_read (pos (unsigned_abs w)) (size_has_room (unsigned_abs w) h))
+
+  pub larger_fits : FitsSigned w128 (to_z w128 (of_z w128 t) +ℤ to_z w128 (of_z w128 s))
+  larger_fits = subst (FitsSigned w128) (sym larger_parts) (larger_within t (unsigned_abs w) room h)
+
+  pub larger_read : to_z w128 (of_z w128 (to_z w128 (of_z w128 t) +ℤ to_z w128 (of_z w128 s))) ≡ t +ℤ pos (unsigned_abs w)
+  larger_read = ap (λ x. to_z w128 (of_z w128 x)) larger_parts ∙ larger_is t (unsigned_abs w) room h
 
 -- what is left above a limit has room
 pub less_room : (left weight limit : ℤ) → HasRoomForProduct left → IsFactor limit → limit <ℤ (left -ℤ pos (unsigned_abs weight)) → HasRoomForProduct (left -ℤ pos (unsigned_abs weight))

@@ -1,6 +1,6 @@
 // Which basic variable leaves. Columns and rows come before cuts; where none of them is outside a side, the values of the cuts are
 // had by their terms.
-ghost use Rattle.std.specs.Prelude.{◌<◌, ◌≤◌, IfSome};
+ghost use Rattle.std.specs.Prelude.{◌≡◌, ◌<◌, ◌≤◌, IfSome};
 ghost use Rattle.basic_solution.specs.Held.{variables};
 ghost use Rattle.basic_solution.specs.Numbers.{IsRowBreach};
 ghost use Rattle.basic_solution.specs.CutTotals.{AreColumnTotals};
@@ -107,6 +107,23 @@ fn first_out(state: &SidedBasis<'_>) -> Result<Option<Leaving>, WideStep>
         }
     }
     first_cut_out(state, first_cut)
+}
+
+/// The first basic variable that is outside a side. The rows whose entries the values of basic variables are sums of are
+/// written before, and its own behind.
+pub(crate) fn next_out(state: &mut SidedBasis<'_>) -> Result<Option<Leaving>, WideStep>
+    ensures leaving { IsLeaving state.old result }
+    ensures kept { state.new ≡ state.old }
+{
+    state.write_for_values();
+    match first_out(state) {
+        Err(step) => Err(step),
+        Ok(None) => Ok(None),
+        Ok(Some(leaving)) => {
+            state.write_row(leaving.row);
+            Ok(Some(leaving))
+        }
+    }
 }
 
 impl LpState<'_> {

@@ -1,11 +1,14 @@
 -- Words from the first one on.
-use Rattle.std.proofs.Common.{◌≡◌, ℕ, ◌-◌, ◌≤◌, ◌<◌, List, [], ◌∷◌, length, get_or, take, drop, arith, sym, refl, Bor, Option}
-use Rattle.std.specs.Prelude.{map, Bool, false, not, ◌&&◌, ◌||◌, bytes_eq}
+use Rattle.std.proofs.Common.{◌≡◌, ℕ, ◌+◌, ◌-◌, ◌≤◌, ◌<◌, List, [], ◌∷◌, length, get_or, take, drop, arith, sym, ap, refl, Bor, Option}
+use Rattle.std.specs.Prelude.{map, Bool, true, false, not, ◌&&◌, ◌||◌, bytes_eq}
+use Rattle.std.specs.List.{list_all}
 use Rattle.std.proofs.lemmas.Grind.{common_steps}
+use Rattle.std.proofs.lemmas.List.{drop_more, drop_all}
 use Rattle.edit_words.specs.declared.kinds.EditKind.{EditKind}
 use Rattle.edit_words.specs.declared.forms.Slot.{Slot}
 use Rattle.edit_words.specs.Forms.{is_named, are_distinct, fits}
-use Rattle.edit_words.specs.EditWords.{Misused, edit_kind_of, formed_asks, edit_asks}
+use Rattle.edit_words.specs.declared.asked.RowPlace.{RowPlace}
+use Rattle.edit_words.specs.EditWords.{Misused, cost_asks, cost2_asks, row_asks, bounds_asks, kind_asks, addcol_asks, delcol_asks, delrow_asks, whole_row_asks, edit_kind_of, formed_asks, edit_asks}
 
 abbrev pub nows : List (Bor (List ℕ)) → List (List ℕ)
 nows words = map (λ word. word.now) words
@@ -48,6 +51,118 @@ first_six (a ∷ b ∷ c ∷ e ∷ []) h = absurd (omega arith)
 first_six (a ∷ b ∷ c ∷ e ∷ f ∷ []) h = absurd (omega arith)
 first_six (a ∷ b ∷ c ∷ e ∷ f ∷ g ∷ more) h = (λ i. a.now ∷ b.now ∷ c.now ∷ e.now ∷ f.now ∷ g.now ∷ nows (sym (back-six a b c e f g more) i))
 
+-- ---- as many words as a kind's form has, fewer and more
+
+pub just_one : (words : List (Bor (List ℕ))) → 1 ≤ length words → length words < 2 → nows words ≡ (get_or words 0 some_word).now ∷ []
+just_one [] some few = absurd (omega arith)
+just_one (a ∷ []) some few = refl
+just_one (a ∷ b ∷ more) some few = absurd (omega arith)
+
+pub just_two : (words : List (Bor (List ℕ))) → 2 ≤ length words → length words < 3 → nows words ≡ (get_or words 0 some_word).now ∷ (get_or words 1 some_word).now ∷ []
+just_two [] some few = absurd (omega arith)
+just_two (a ∷ []) some few = absurd (omega arith)
+just_two (a ∷ b ∷ []) some few = refl
+just_two (a ∷ b ∷ c ∷ more) some few = absurd (omega arith)
+
+pub just_three : (words : List (Bor (List ℕ))) → 3 ≤ length words → length words < 4 → nows words ≡ (get_or words 0 some_word).now ∷ (get_or words 1 some_word).now ∷ (get_or words 2 some_word).now ∷ []
+just_three [] some few = absurd (omega arith)
+just_three (a ∷ []) some few = absurd (omega arith)
+just_three (a ∷ b ∷ []) some few = absurd (omega arith)
+just_three (a ∷ b ∷ c ∷ []) some few = refl
+just_three (a ∷ b ∷ c ∷ e ∷ more) some few = absurd (omega arith)
+
+pub cost_asks-short : (words : List (Bor (List ℕ))) → length words < 2 → cost_asks (nows words) ≡ Misused
+cost_asks-short [] few = refl
+cost_asks-short (a ∷ []) few = refl
+cost_asks-short (a ∷ b ∷ more) few = absurd (omega arith)
+
+pub cost_asks-long : (words : List (Bor (List ℕ))) → 3 ≤ length words → cost_asks (nows words) ≡ Misused
+cost_asks-long [] many = absurd (omega arith)
+cost_asks-long (a ∷ []) many = absurd (omega arith)
+cost_asks-long (a ∷ b ∷ []) many = absurd (omega arith)
+cost_asks-long (a ∷ b ∷ c ∷ more) many = refl
+
+pub cost2_asks-short : (words : List (Bor (List ℕ))) → length words < 2 → cost2_asks (nows words) ≡ Misused
+cost2_asks-short [] few = refl
+cost2_asks-short (a ∷ []) few = refl
+cost2_asks-short (a ∷ b ∷ more) few = absurd (omega arith)
+
+pub cost2_asks-long : (words : List (Bor (List ℕ))) → 3 ≤ length words → cost2_asks (nows words) ≡ Misused
+cost2_asks-long [] many = absurd (omega arith)
+cost2_asks-long (a ∷ []) many = absurd (omega arith)
+cost2_asks-long (a ∷ b ∷ []) many = absurd (omega arith)
+cost2_asks-long (a ∷ b ∷ c ∷ more) many = refl
+
+pub row_asks-short : (words : List (Bor (List ℕ))) → length words < 3 → row_asks (nows words) ≡ Misused
+row_asks-short [] few = refl
+row_asks-short (a ∷ []) few = refl
+row_asks-short (a ∷ b ∷ []) few = refl
+row_asks-short (a ∷ b ∷ c ∷ more) few = absurd (omega arith)
+
+pub row_asks-long : (words : List (Bor (List ℕ))) → 4 ≤ length words → row_asks (nows words) ≡ Misused
+row_asks-long [] many = absurd (omega arith)
+row_asks-long (a ∷ []) many = absurd (omega arith)
+row_asks-long (a ∷ b ∷ []) many = absurd (omega arith)
+row_asks-long (a ∷ b ∷ c ∷ []) many = absurd (omega arith)
+row_asks-long (a ∷ b ∷ c ∷ e ∷ more) many = refl
+
+pub bounds_asks-short : (words : List (Bor (List ℕ))) → length words < 3 → bounds_asks (nows words) ≡ Misused
+bounds_asks-short [] few = refl
+bounds_asks-short (a ∷ []) few = refl
+bounds_asks-short (a ∷ b ∷ []) few = refl
+bounds_asks-short (a ∷ b ∷ c ∷ more) few = absurd (omega arith)
+
+pub bounds_asks-long : (words : List (Bor (List ℕ))) → 4 ≤ length words → bounds_asks (nows words) ≡ Misused
+bounds_asks-long [] many = absurd (omega arith)
+bounds_asks-long (a ∷ []) many = absurd (omega arith)
+bounds_asks-long (a ∷ b ∷ []) many = absurd (omega arith)
+bounds_asks-long (a ∷ b ∷ c ∷ []) many = absurd (omega arith)
+bounds_asks-long (a ∷ b ∷ c ∷ e ∷ more) many = refl
+
+pub kind_asks-short : (words : List (Bor (List ℕ))) → length words < 2 → kind_asks (nows words) ≡ Misused
+kind_asks-short [] few = refl
+kind_asks-short (a ∷ []) few = refl
+kind_asks-short (a ∷ b ∷ more) few = absurd (omega arith)
+
+pub kind_asks-long : (words : List (Bor (List ℕ))) → 3 ≤ length words → kind_asks (nows words) ≡ Misused
+kind_asks-long [] many = absurd (omega arith)
+kind_asks-long (a ∷ []) many = absurd (omega arith)
+kind_asks-long (a ∷ b ∷ []) many = absurd (omega arith)
+kind_asks-long (a ∷ b ∷ c ∷ more) many = refl
+
+pub delcol_asks-short : (words : List (Bor (List ℕ))) → length words < 1 → delcol_asks (nows words) ≡ Misused
+delcol_asks-short [] few = refl
+delcol_asks-short (a ∷ more) few = absurd (omega arith)
+
+pub delcol_asks-long : (words : List (Bor (List ℕ))) → 2 ≤ length words → delcol_asks (nows words) ≡ Misused
+delcol_asks-long [] many = absurd (omega arith)
+delcol_asks-long (a ∷ []) many = absurd (omega arith)
+delcol_asks-long (a ∷ b ∷ more) many = refl
+
+pub delrow_asks-short : (words : List (Bor (List ℕ))) → length words < 1 → delrow_asks (nows words) ≡ Misused
+delrow_asks-short [] few = refl
+delrow_asks-short (a ∷ more) few = absurd (omega arith)
+
+pub delrow_asks-long : (words : List (Bor (List ℕ))) → 2 ≤ length words → delrow_asks (nows words) ≡ Misused
+delrow_asks-long [] many = absurd (omega arith)
+delrow_asks-long (a ∷ []) many = absurd (omega arith)
+delrow_asks-long (a ∷ b ∷ more) many = refl
+
+pub addcol_asks-short : (words : List (Bor (List ℕ))) → length words < 6 → addcol_asks (nows words) ≡ Misused
+addcol_asks-short [] few = refl
+addcol_asks-short (a ∷ []) few = refl
+addcol_asks-short (a ∷ b ∷ []) few = refl
+addcol_asks-short (a ∷ b ∷ c ∷ []) few = refl
+addcol_asks-short (a ∷ b ∷ c ∷ e ∷ []) few = refl
+addcol_asks-short (a ∷ b ∷ c ∷ e ∷ f ∷ []) few = refl
+addcol_asks-short (a ∷ b ∷ c ∷ e ∷ f ∷ g ∷ more) few = absurd (omega arith)
+
+pub whole_row_asks-short : (place : RowPlace) (words : List (Bor (List ℕ))) → length words < 3 → whole_row_asks place (nows words) ≡ Misused
+whole_row_asks-short place [] few = refl
+whole_row_asks-short place (a ∷ []) few = refl
+whole_row_asks-short place (a ∷ b ∷ []) few = refl
+whole_row_asks-short place (a ∷ b ∷ c ∷ more) few = absurd (omega arith)
+
 -- ---- the word behind `edit`
 
 pub edit_asks-first : (words : List (Bor (List ℕ))) (k : Option EditKind) → 1 ≤ length words → k ≡ edit_kind_of (get_or words 0 some_word).now
@@ -88,6 +203,15 @@ unfolding are_distinct
 are_distinct_first [] h = absurd (omega arith)
 are_distinct_first (a ∷ []) h = absurd (omega arith)
 are_distinct_first (a ∷ b ∷ more) h = (λ i. not (is_named a.now (nows (sym (back-two a b more) i))) && are_distinct (nows (sym (back-two a b more) i)))
+
+-- ---- the bytes of a name
+
+-- whether all bytes from one place on pass
+pub bytes_next : (passes : ℕ → Bool) (bytes : List ℕ) (k : ℕ) → k < length bytes → list_all passes (drop k bytes) ≡ (passes (get_or bytes k 0) && list_all passes (drop (k + 1) bytes))
+bytes_next passes bytes k below = ap (list_all passes) (drop_more bytes k 0 below)
+
+pub bytes_none : (passes : ℕ → Bool) (bytes : List ℕ) (k : ℕ) → length bytes ≤ k → list_all passes (drop k bytes) ≡ true
+bytes_none passes bytes k past = ap (list_all passes) (drop_all k bytes past)
 
 -- ---- a slot without a word
 

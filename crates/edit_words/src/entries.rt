@@ -30,7 +30,9 @@ fn push_entry(
 ) -> Result<(), AllocError>
     ensures { IfOk result (λ _. entries.new ≡ entries.old ++ (name.now, number) ∷ []) }
 {
-    let name = Name::from_slice(alloc, name)?;
+    let Ok(name) = Name::from_slice(alloc, name) else {
+        return Err(AllocError);
+    };
     entries.push((name, number))
 }
 

@@ -40,7 +40,12 @@ fn is_name_byte(byte: u8) -> bool
 fn has_name_bytes(word: &[u8]) -> bool
     ensures { result ≡ list_all is_name_byte word.now }
 {
-    word.iter().all(|byte| is_name_byte(*byte))
+    for byte in word {
+        if !is_name_byte(*byte) {
+            return false;
+        }
+    }
+    true
 }
 
 fn is_new_name(word: &[u8]) -> bool

@@ -14,12 +14,18 @@ impl Frac {
         ensures begins { take (length text.old.items) text.new.items ≡ text.old.items }
     {
         let mut buffer = Buffer::new();
-        text.extend_from_slice(buffer.format(self.numerator()).as_bytes())?;
-        if !self.is_whole() {
-            text.push(b'/')?;
-            text.extend_from_slice(buffer.format(self.denominator()).as_bytes())?;
+        match text.extend_from_slice(buffer.format(self.numerator()).as_bytes()) {
+            Ok(()) => {}
+            Err(error) => return Err(error),
         }
-        Ok(())
+        if self.is_whole() {
+            return Ok(());
+        }
+        text.push(b'/')?;
+        match text.extend_from_slice(buffer.format(self.denominator()).as_bytes()) {
+            Ok(()) => Ok(()),
+            Err(error) => Err(error),
+        }
     }
 }
 

@@ -19,6 +19,15 @@ module _ (p : ℕ → Bool) where
   none_any [] clean = refl
   none_any (byte ∷ bytes) clean = none_any bytes (λ k h. clean (suc k) (omega arith)) ∙ ap (λ b. b || list_any p bytes) (sym (clean 0 (omega arith)))
 
+  pub some_any : (bytes : List ℕ) (k : ℕ) → k < length bytes → p (get_or bytes k 0) ≡ true → true ≡ list_any p bytes
+  some_any [] k within hit = absurd (omega arith)
+  some_any (byte ∷ bytes) zero within hit = ap (λ b. b || list_any p bytes) (sym hit)
+  some_any (byte ∷ bytes) (suc k) within hit = by (p byte) (some_any bytes k (omega arith) hit)
+    where
+      by : (b : Bool) → true ≡ list_any p bytes → true ≡ b || list_any p bytes
+      by true some = refl
+      by false some = some
+
   pub place_of_none : (bytes : List ℕ) → ((k : ℕ) → k < length bytes → p (get_or bytes k 0) ≡ false) → position_or_len p bytes ≡ length bytes
   place_of_none bytes clean = position_or_len_is p bytes (length bytes) 0 (omega arith) clean (λ h. absurd (omega arith))
 

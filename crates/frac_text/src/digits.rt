@@ -27,7 +27,12 @@ pub(crate) fn has_no_byte(bytes: &[u8]) -> bool
 pub(crate) fn has_digits_alone(bytes: &[u8]) -> bool
     ensures { result ≡ list_all is_digit bytes.now }
 {
-    bytes.iter().all(|byte| is_digit_byte(*byte))
+    for index in 0..bytes.len() {
+        if !is_digit_byte(bytes[index]) {
+            return false;
+        }
+    }
+    true
 }
 
 /// Whether there is a byte, and each is a digit.
@@ -53,9 +58,12 @@ fn with_digit(value: u128, digit: u8) -> Option<u128>
     requires { is_digit digit ≡ true }
     ensures { MatchOption result (largest < 10 * value + (digit - 48)) (λ n. (n ≡ 10 * value + (digit - 48)) × (n ≤ largest)) }
 {
-    let next = value
-        .checked_mul(10)?
-        .checked_add(u128::from(digit - b'0'))?;
+    let Some(tenfold) = value.checked_mul(10) else {
+        return None;
+    };
+    let Some(next) = tenfold.checked_add(u128::from(digit - b'0')) else {
+        return None;
+    };
     if next > LARGEST { None } else { Some(next) }
 }
 
@@ -68,7 +76,10 @@ pub(crate) fn value_with_digits(front: u128, digits: &[u8]) -> Option<u128>
     let mut value = front;
     let mut rest = digits;
     while let Some((digit, more)) = rest.split_first() {
-        value = with_digit(value, *digit)?;
+        let Some(next) = with_digit(value, *digit) else {
+            return None;
+        };
+        value = next;
         rest = more;
     }
     Some(value)

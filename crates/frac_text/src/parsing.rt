@@ -109,7 +109,10 @@ fn value_of_two(front: &[u8], back: &[u8]) -> Option<u128>
     requires back { list_all is_digit back.now ≡ true }
     ensures { MatchOption result (largest < value_of (front.now ++ back.now)) (λ n. (n ≡ value_of (front.now ++ back.now)) × (n ≤ largest)) }
 {
-    value_with_digits(value_of_digits(front)?, back)
+    let Some(value) = value_of_digits(front) else {
+        return None;
+    };
+    value_with_digits(value, back)
 }
 
 /// An exponent above this is too wide, however many digits stand behind the point.
@@ -119,7 +122,9 @@ pub(crate) fn exponent(minus: bool, digits: &[u8]) -> Option<i128>
     requires { list_all is_digit digits.now ≡ true }
     ensures { MatchOption result (2 ^ 100 < value_of digits.now) (λ e. (e ≡ with_sign minus (value_of digits.now)) × (unsigned_abs e ≤ 2 ^ 100)) }
 {
-    let magnitude = value_of_digits(digits)?;
+    let Some(magnitude) = value_of_digits(digits) else {
+        return None;
+    };
     if magnitude > LONGEST {
         return None;
     }
@@ -152,7 +157,9 @@ fn power(minus: bool, digits: &[u8], point: u64, dropped: u64) -> Option<i128>
     requires { list_all is_digit digits.now ≡ true }
     ensures { MatchOption result (38 < unsigned_abs (with_sign minus (value_of digits.now) -ℤ pos point +ℤ pos dropped)) (λ e. (e ≡ with_sign minus (value_of digits.now) -ℤ pos point +ℤ pos dropped) × (unsigned_abs e ≤ 38)) }
 {
-    let exponent = exponent(minus, digits)?;
+    let Some(exponent) = exponent(minus, digits) else {
+        return None;
+    };
     moved_power(exponent, point, dropped)
 }
 

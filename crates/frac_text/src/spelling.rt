@@ -64,17 +64,19 @@ fn cut_at(bytes: &[u8], mark: Mark) -> Cut<'_>
     ensures before { result.before.now ≡ before_first (marks mark) bytes.now }
     ensures after { result.after.now ≡ after_first (marks mark) bytes.now }
 {
-    match bytes.iter().position(|byte| mark.is(*byte)) {
-        Some(place) => Cut {
-            found: true,
-            before: &bytes[..place],
-            after: &bytes[place + 1..],
-        },
-        None => Cut {
-            found: false,
-            before: bytes,
-            after: &bytes[bytes.len()..],
-        },
+    for place in 0..bytes.len() {
+        if mark.is(bytes[place]) {
+            return Cut {
+                found: true,
+                before: &bytes[..place],
+                after: &bytes[place + 1..],
+            };
+        }
+    }
+    Cut {
+        found: false,
+        before: bytes,
+        after: &bytes[bytes.len()..],
     }
 }
 

@@ -1,40 +1,25 @@
 // Whether a direction is a ray, and the model without costs.
-ghost use Rattle.std.specs.Prelude.{◌≡◌, ◌≢◌, ◌↔◌, length, map, pos, None, IsTrue, IfOk};
-ghost use Rattle.rational.specs.Rational.{int, ◌≤ℚ◌};
+ghost use Rattle.std.specs.Prelude.{◌≡◌, ◌↔◌, ◌++◌, [], ◌∷◌, length, map, pos, IsTrue, IfOk};
+ghost use Rattle.rational.specs.Rational.{int};
 ghost use Rattle.lp_model.specs.Rays.{GoesOn, ColumnsGoOn, AreRowsJudged, IsDirectionCostAnswer, IsRayJudged, without_cost, without_costs};
 
 use crate::list::List;
 use crate::model::Model;
-use crate::names::copy_name;
 use crate::types::{Bound, Col, Point, WideStep};
 use frac128::Frac;
 use std::alloc::{AllocError, Global};
-
-/// Whether a number is at least 0 where there is a low side.
-fn stays_above(low: &Bound, number: &Frac) -> bool
-    ensures { IsTrue result ↔ (low.now ≢ None → int (pos 0) ≤ℚ number.now) }
-{
-    match low {
-        Some(_) => !number.is_negative(),
-        None => true,
-    }
-}
-
-/// Whether a number is at most 0 where there is a high side.
-fn stays_below(high: &Bound, number: &Frac) -> bool
-    ensures { IsTrue result ↔ (high.now ≢ None → number.now ≤ℚ int (pos 0)) }
-{
-    match high {
-        Some(_) => !number.is_positive(),
-        None => true,
-    }
-}
 
 /// Whether neither side is ever passed by adding the number again and again.
 fn goes_on(low: &Bound, high: &Bound, number: &Frac) -> bool
     ensures { IsTrue result ↔ GoesOn low.now high.now number.now }
 {
-    stays_above(low, number) && stays_below(high, number)
+    if number.is_negative() {
+        return low.is_none();
+    }
+    if number.is_positive() {
+        return high.is_none();
+    }
+    true
 }
 
 impl Col {
@@ -44,30 +29,15 @@ impl Col {
     {
         (!self.int || number.is_zero()) && goes_on(&self.lo, &self.up, number)
     }
+}
 
-    /// The column with the cost 0 in objective 1.
-    fn without_cost(&self, alloc: Global) -> Result<Col, AllocError>
-        ensures { IfOk result (λ c. c ≡ without_cost self.now) }
-    {
-        let rows = match self.rows.copy(alloc) {
-            Ok(rows) => rows,
-            Err(error) => return Err(error),
-        };
-        match copy_name(&self.name) {
-            Ok(name) => Ok(Col {
-                name,
-                int: self.int,
-                lo: self.lo,
-                up: self.up,
-                cost: Frac::whole(0),
-                cost2: self.cost2,
-                rows,
-            }),
-            Err(error) => {
-                drop(rows);
-                Err(error)
-            }
-        }
+/// The column with the cost 0 in objective 1, behind the others.
+fn push_without_cost(list: &mut List<Col>, col: &Col) -> Result<(), AllocError>
+    ensures { IfOk result (λ _. list.new ≡ list.old ++ without_cost col.now ∷ []) }
+{
+    match col.with_cost(Frac::whole(0)) {
+        Ok(col) => list.push(col),
+        Err(error) => Err(error),
     }
 }
 
@@ -77,7 +47,13 @@ fn cols_without_costs(alloc: Global, cols: &[Col]) -> Result<List<Col>, AllocErr
 {
     let mut list = List::new(alloc);
     for col in cols {
-        list.push(col.without_cost(alloc)?)?;
+        match push_without_cost(&mut list, col) {
+            Ok(()) => {}
+            Err(error) => {
+                drop(list);
+                return Err(error);
+            }
+        }
     }
     Ok(list)
 }
@@ -151,7 +127,9 @@ impl Model {
     pub fn without_costs(&self, alloc: Global) -> Result<Model, AllocError>
         ensures { IfOk result (λ m. m ≡ without_costs self.now) }
     {
-        let cols = cols_without_costs(alloc, self.cols.as_slice())?;
-        self.with_cols(cols)
+        match cols_without_costs(alloc, self.cols.as_slice()) {
+            Ok(cols) => self.with_cols(cols),
+            Err(error) => Err(error),
+        }
     }
 }

@@ -81,13 +81,15 @@ fn high_along(region: &[BoundChange], col: usize, bound: Bound) -> Bound
 }
 
 /// Whether there are two bounds and they cross.
-#[tactic(auto, using(rational::proofs::Comparison::comparisons))]
 fn is_crossed(low: &Bound, high: &Bound) -> bool
     ensures { IsTrue result ↔ IsCrossed low.now high.now }
 {
-    match (low, high) {
-        (Some(low), Some(high)) => *high < *low,
-        _ => false,
+    match low {
+        None => false,
+        Some(low) => match high {
+            None => false,
+            Some(high) => high.is_below(low),
+        },
     }
 }
 

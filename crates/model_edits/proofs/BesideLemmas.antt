@@ -17,8 +17,8 @@ module _ {A : Type 0} (f : A → List ℕ) (items : List A) (named : Named) (i :
   numbers_more : numbers_beside 0 (take (i + 1) (map f items)) named ≡ numbers_beside 0 (take i (map f items)) named ++ (record { 0 = i }, number) ∷ []
   numbers_more =
       let inside : i < length (map f items) = rw (length-map items f) within in
-      let taken : length (take i (map f items)) ≡ i = length-take-le i (map f items) (omega arith) in
-      let long : 0 + length (take i (map f items)) ≡ i = omega arith in
+      let taken : length (take i (map f items)) ≡ i = length-take-le i (map f items) (omega (arith, inside)) in
+      let long : 0 + length (take i (map f items)) ≡ i = omega (arith, taken) in
       ap (λ ns. numbers_beside 0 ns named) (take_more (map f items) i [] inside)
       ∙ numbers_beside-append 0 (take i (map f items)) (get_or (map f items) i [] ∷ []) named
       ∙ ap (λ n. numbers_beside 0 (take i (map f items)) named ++ (record { 0 = n }, number_beside (get_or (map f items) i []) named) ∷ []) long

@@ -1,14 +1,15 @@
 -- An edit fits, or has one first fault.
-use Rattle.std.specs.Prelude.{◌≡◌, ◌⊎◌, ℕ, ◌<◌, Bool, List, [], length, get_or, take, All, Contains}
-use Rattle.std.proofs.Common.{sym, ap, subst, ◌∙◌, arith, inl, inr, map}
+use Rattle.std.specs.Prelude.{◌≡◌, ◌⊎◌, ℕ, ◌<◌, Bool, List, [], length, get_or, take, All, Contains, Result, Ok, Err, IfOk, OnOk, OnErr, IfErr}
+use Rattle.std.proofs.Common.{refl, sym, ap, subst, ◌∙◌, arith, inl, inr, map}
 use Rattle.std.proofs.lemmas.Bool.{cases_order}
 use Rattle.std.proofs.lemmas.List.{get_or-take, get_or_default, length-take-le}
 use Rattle.rational.specs.Rational.{ℚ}
 use Rattle.lp_model.specs.Program.{Program}
 use Rattle.lp_model.proofs.NameLemmas.{get_or-map}
 use Rattle.lp_model.specs.Lawful.{AreWithinLimits}
-use Rattle.lp_model.specs.Edits.{AreKnown, EditFits, HasSubject, known_names, names_beside}
+use Rattle.lp_model.specs.Edits.{AreKnown, edited, EditFits, HasSubject, known_names, names_beside, subject}
 use Rattle.model_edits.specs.Faults.{IsFirstUnknown, IsUnknownName, IsNoSuch, PassesLimit, EditBad, IsEditFault}
+use Rattle.model_edits.specs.Answers.{IsEditAnswer}
 use Rattle.lp_model.specs.declared.types.Edit.{Edit}
 use Rattle.model_edits.specs.declared.faults.EditFault.{EditFault}
 use Rattle.model_edits.specs.declared.faults.EditFault.TheVariants.{NoSuch, Duplicate, Limit, IntegerUnbounded, Ranged, Memory}
@@ -99,6 +100,10 @@ pub fault_told : (M : Program) (e : Edit) (f g : EditFault) → (f ≡ Memory) �
 fault_told M e f g (inl h) bad = inl h
 fault_told M e f g (inr h) bad = inr (subst (EditBad M e) (sym h) bad)
 
+pub no_such_told : (M : Program) (e : Edit) (f : EditFault) → (f ≡ Memory) ⊎ ((f ≡ NoSuch (subject e)) × (¬ HasSubject M e)) → IsEditFault M e f
+no_such_told M e f (inl h) = inl h
+no_such_told M e f (inr h) = inr (subst (EditBad M e) (sym h.0) (inl (h.1, refl)))
+
 pub told_with : {P : Type 0} (f g : EditFault) → (f ≡ Memory) ⊎ (f ≡ g) → P → (f ≡ Memory) ⊎ ((f ≡ g) × P)
 told_with f g (inl h) p = inl h
 told_with f g (inr h) p = inr (h, p)
@@ -111,3 +116,22 @@ pub unknown_of_place : (known : List (List ℕ)) (named : List (List ℕ × ℚ)
     → IsFirstUnknown known (map (λ e. e.0) named) (get_or (map (λ e. e.0) named) k []) → (f ≡ Memory) ⊎ (f ≡ NoSuch d.0) → IsUnknownName known (map (λ e. e.0) named) f
 unknown_of_place known named k d f below is first (inl h) = inl h
 unknown_of_place known named k d f below is first (inr h) = inr (d.0, h, subst (IsFirstUnknown known (map (λ e. e.0) named)) (get_or-map (λ e. e.0) named k d [] below is) first)
+
+-- ---- what is answered, clause by clause
+
+module _ (M : Program) (e : Edit) where
+  pub answer_edited : (r : Result (Unit {0}) EditFault) (N : Program) → IsEditAnswer M e r N → IfOk r (λ _. N ≡ edited M e)
+  answer_edited (Ok done) N h = h.1
+  answer_edited (Err f) N h = tt
+
+  pub answer_fits : (r : Result (Unit {0}) EditFault) (N : Program) → IsEditAnswer M e r N → OnOk r (EditFits M e)
+  answer_fits (Ok done) N h = h.0
+  answer_fits (Err f) N h = tt
+
+  pub answer_kept : (r : Result (Unit {0}) EditFault) (N : Program) → IsEditAnswer M e r N → OnErr r (N ≡ M)
+  answer_kept (Ok done) N h = tt
+  answer_kept (Err f) N h = h.1
+
+  pub answer_fault : (r : Result (Unit {0}) EditFault) (N : Program) → IsEditAnswer M e r N → IfErr r (λ f. IsEditFault M e f)
+  answer_fault (Ok done) N h = tt
+  answer_fault (Err f) N h = h.0

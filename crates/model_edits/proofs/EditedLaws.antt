@@ -1,6 +1,6 @@
 -- The edits that change, take out or replace a row or column: where they fit, they make a lawful model of a lawful one.
-use Rattle.std.specs.Prelude.{◌≡◌, ◌≢◌, ℕ, suc, ◌-◌, ◌^◌, ◌<◌, ◌≤◌, Bool, IsTrue, List, [], ◌∷◌, length, get_or, map, sum_by, All, AllPairs, Contains, Option, Some, None, false, IsSome}
-use Rattle.std.proofs.Common.{refl, sym, ap, subst, ◌∙◌, arith, inl}
+use Rattle.std.specs.Prelude.{◌≡◌, ◌≢◌, ◌⊎◌, ℕ, suc, ◌-◌, ◌^◌, ◌<◌, ◌≤◌, Bool, IsTrue, List, [], ◌∷◌, length, get_or, map, sum_by, All, AllPairs, Contains, Option, Some, None, false, IsSome}
+use Rattle.std.proofs.Common.{refl, sym, ap, subst, ◌∙◌, arith, inl, inr}
 use Rattle.std.proofs.lemmas.List.{length-map, get_or_default}
 use Rattle.std.proofs.lemmas.List.Elements.{All-map, All-nil}
 use Rattle.rational.specs.Rational.{ℚ}
@@ -9,12 +9,12 @@ use Rattle.lp_model.specs.Program.{Program}
 use Rattle.lp_model.specs.Lawful.{IsRange, IsLawfulColumn, AreWithinLimits, row_names, column_names, entry_count, IsLawful}
 use Rattle.lp_model.specs.Edits.{Named, number_beside, IsBounded, HasRange, side_or, with_sides, without_entry, replaced_entry, col_place, row_place, only_row_names, with_col, edited, subject, EditFits, KeepsLimits, AreKnown, IsNameTaken, HasSubject, IsPlaceOf}
 use Rattle.model_edits.specs.Changes.{column_changed, column_edit, IsBoundedAfter}
-use Rattle.model_edits.specs.Faults.{EditBad, PassesLimit}
+use Rattle.model_edits.specs.Faults.{EditBad, IsEditFault, PassesLimit}
 use Rattle.model_edits.specs.declared.changing.ColChange.{ColChange}
 use Rattle.model_edits.specs.declared.changing.ColChange.TheVariants.{Cost, Cost2, Bounds, Kind}
 use Rattle.lp_model.specs.declared.types.Edit.TheVariants.{SetRow, DelCol, DelRow, ReplaceRow}
 use Rattle.model_edits.specs.declared.faults.EditFault.{EditFault}
-use Rattle.model_edits.specs.declared.faults.EditFault.TheVariants.{NoSuch}
+use Rattle.model_edits.specs.declared.faults.EditFault.TheVariants.{NoSuch, Memory}
 use Rattle.lp_model.specs.declared.types.Row.{Row}
 use Rattle.lp_model.specs.declared.types.Col.{Col}
 use Rattle.lp_model.proofs.ElementLemmas.{of_element-get}
@@ -144,9 +144,13 @@ module _ (M : Program) (name : List ℕ) where
   column-fault change k c named place is lawful same open_ =
       (column-known change place.there, column-free change, column-limits change lawful, column-unbounded k c place is change lawful open_, same ∙ column-subject change)
 
-  pub column-no_such : (change : ColChange) (f : EditFault) → f ≡ NoSuch name → ¬ Contains (column_names M) name → EditBad M (column_edit name change) f
+  column-no_such : (change : ColChange) (f : EditFault) → f ≡ NoSuch name → ¬ Contains (column_names M) name → EditBad M (column_edit name change) f
   column-no_such change f e h =
       subst (EditBad M (column_edit name change)) (sym e) (inl ((λ g. h (subst (λ P. P) (sym (column-has change)) g)), column-subject change))
+
+  pub column-told : (change : ColChange) (f : EditFault) → (f ≡ Memory) ⊎ ((f ≡ NoSuch name) × (¬ Contains (column_names M) name)) → IsEditFault M (column_edit name change) f
+  column-told change f (inl h) = inl h
+  column-told change f (inr h) = inr (column-no_such change f h.0 h.1)
 
   pub column-lawful : (change : ColChange) → IsLawful M → EditFits M (column_edit name change) → IsLawful (with_col M name (column_changed change))
   column-lawful change lawful fits =

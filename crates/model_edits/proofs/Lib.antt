@@ -1,3 +1,4 @@
+pub mod ListLemmas
 pub mod EntriesLaws
 pub mod EditedLaws
 pub mod BesideLemmas

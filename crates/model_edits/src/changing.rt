@@ -1,12 +1,12 @@
 // Edits of a model that change one column, or the sides of one row.
-ghost use Rattle.std.specs.Prelude.{◌≡◌, ◌⊎◌, ◌↔◌, ◌<◌, length, IsTrue, IfOk, OnOk, OnErr, IfErr, Contains};
+ghost use Rattle.std.specs.Prelude.{◌≡◌, ◌⊎◌, ◌↔◌, ◌<◌, length, IsTrue, IfOk, IfErr, Contains};
 ghost use Rattle.lp_model.specs.declared.types.Edit.TheVariants.{SetRow};
 ghost use Rattle.lp_model.specs.Elements.{changed_at};
 ghost use Rattle.lp_model.specs.Lawful.{column_names};
-ghost use Rattle.lp_model.specs.Edits.{edited, side_or, with_sides, only_row_names, IsPlaceOf, EditFits};
+ghost use Rattle.lp_model.specs.Edits.{side_or, with_sides, only_row_names, IsPlaceOf};
 ghost use Rattle.model_edits.specs.declared.faults.EditFault.TheVariants.{NoSuch, Memory};
 ghost use Rattle.model_edits.specs.Changes.{column_changed, column_edit, IsBoundedAfter};
-ghost use Rattle.model_edits.specs.Faults.{IsEditFault};
+ghost use Rattle.model_edits.specs.Answers.{IsPlaceCheck, IsEditAnswer};
 
 use crate::faults::{EditFault, integer_unbounded, no_such, ranged};
 use frac128::Frac;
@@ -118,11 +118,12 @@ pub(crate) fn row_at(model: &Model, name: &Name) -> Result<usize, EditFault>
 
 /// Refused with what is wrong with a change of a column, and else the column's place.
 fn check_change(model: &Model, name: &Name, change: &ColChange) -> Result<usize, EditFault>
-    ensures place { IfOk result (λ k. IsPlaceOf (column_names model.now) name.now k) }
-    ensures fits { OnOk result (EditFits model.now (column_edit name.now change.now)) }
-    ensures fault { IfErr result (λ f. IsEditFault model.now (column_edit name.now change.now) f) }
+    ensures { IsPlaceCheck model.now (column_edit name.now change.now) (column_names model.now) name.now result }
 {
-    let place = col_at(model, name)?;
+    let place = match col_at(model, name) {
+        Ok(place) => place,
+        Err(fault) => return Err(fault),
+    };
     if !change.keeps_bounded(&model.cols()[place]) {
         return Err(integer_unbounded(name));
     }
@@ -136,12 +137,12 @@ pub(crate) fn set_col(
     name: &Name,
     change: ColChange,
 ) -> Result<(), EditFault>
-    ensures edited { IfOk result (λ _. model.new ≡ edited model.old (column_edit name.now change)) }
-    ensures fits { OnOk result (EditFits model.old (column_edit name.now change)) }
-    ensures kept { OnErr result (model.new ≡ model.old) }
-    ensures fault { IfErr result (λ f. IsEditFault model.old (column_edit name.now change) f) }
+    ensures { IsEditAnswer model.old (column_edit name.now change) result model.new }
 {
-    let place = check_change(model, name, &change)?;
+    let place = match check_change(model, name, &change) {
+        Ok(place) => place,
+        Err(fault) => return Err(fault),
+    };
     let (rows, cols) = model.take_lists(alloc);
     model.put_lists(rows, change_col(cols, place, change));
     Ok(())
@@ -154,11 +155,12 @@ fn check_sides(
     lo: &Option<Bound>,
     hi: &Option<Bound>,
 ) -> Result<usize, EditFault>
-    ensures place { IfOk result (λ k. IsPlaceOf (only_row_names model.now) name.now k) }
-    ensures fits { OnOk result (EditFits model.now (SetRow name.now lo.now hi.now)) }
-    ensures fault { IfErr result (λ f. IsEditFault model.now (SetRow name.now lo.now hi.now) f) }
+    ensures { IsPlaceCheck model.now (SetRow name.now lo.now hi.now) (only_row_names model.now) name.now result }
 {
-    let place = row_at(model, name)?;
+    let place = match row_at(model, name) {
+        Ok(place) => place,
+        Err(fault) => return Err(fault),
+    };
     let row = &model.rows()[place];
     if !is_range(&side_or(lo, &row.lo), &side_or(hi, &row.hi)) {
         return Err(ranged(name));
@@ -174,12 +176,12 @@ pub(crate) fn set_row(
     lo: &Option<Bound>,
     hi: &Option<Bound>,
 ) -> Result<(), EditFault>
-    ensures edited { IfOk result (λ _. model.new ≡ edited model.old (SetRow name.now lo.now hi.now)) }
-    ensures fits { OnOk result (EditFits model.old (SetRow name.now lo.now hi.now)) }
-    ensures kept { OnErr result (model.new ≡ model.old) }
-    ensures fault { IfErr result (λ f. IsEditFault model.old (SetRow name.now lo.now hi.now) f) }
+    ensures { IsEditAnswer model.old (SetRow name.now lo.now hi.now) result model.new }
 {
-    let place = check_sides(model, name, lo, hi)?;
+    let place = match check_sides(model, name, lo, hi) {
+        Ok(place) => place,
+        Err(fault) => return Err(fault),
+    };
     let (rows, cols) = model.take_lists(alloc);
     model.put_lists(change_row(rows, place, lo, hi), cols);
     Ok(())

@@ -4,6 +4,7 @@ ghost use Rattle.lp_model.specs.declared.types.Edit.TheVariants.{AddCol, AddRow}
 ghost use Rattle.lp_model.specs.Lawful.{AreWithinLimits, row_names};
 ghost use Rattle.lp_model.specs.Edits.{with_entry, number_beside, edited, adds_col, adds_row, EditFits};
 ghost use Rattle.model_edits.specs.Faults.{PassesLimit, IsEditFault};
+ghost use Rattle.model_edits.specs.Answers.{IsEditCheck, IsEditAnswer};
 
 use crate::changing::{ColChange, set_col, set_row};
 use crate::faults::{EditFault, duplicate, integer_unbounded, ranged};
@@ -31,6 +32,13 @@ pub fn apply_lent(model: &mut Model, alloc: Global, edit: &Edit) -> Result<(), E
     ensures fits { OnOk result (EditFits model.old edit.now) }
     ensures kept { OnErr result (model.new ≡ model.old) }
     ensures fault { IfErr result (λ f. IsEditFault model.old edit.now f) }
+{
+    make_edit(model, alloc, edit)
+}
+
+/// Makes an edit.
+fn make_edit(model: &mut Model, alloc: Global, edit: &Edit) -> Result<(), EditFault>
+    ensures { IsEditAnswer model.old edit.now result model.new }
 {
     match edit {
         Edit::SetCost { col, v } => set_col(model, alloc, col, ColChange::Cost(*v)),
@@ -78,12 +86,11 @@ fn add_col_of(
     cost2: &Frac,
     named: &List<(Name, Frac)>,
 ) -> Result<(), EditFault>
-    ensures edited { IfOk result (λ _. model.new ≡ edited model.old (AddCol name.now int lo.now up.now cost.now cost2.now named.now)) }
-    ensures fits { OnOk result (EditFits model.old (AddCol name.now int lo.now up.now cost.now cost2.now named.now)) }
-    ensures kept { OnErr result (model.new ≡ model.old) }
-    ensures fault { IfErr result (λ f. IsEditFault model.old (AddCol name.now int lo.now up.now cost.now cost2.now named.now) f) }
+    ensures { IsEditAnswer model.old (AddCol name.now int lo.now up.now cost.now cost2.now named.now) result model.new }
 {
-    let name = copy_name(name)?;
+    let Ok(name) = copy_name(name) else {
+        return Err(EditFault::Memory);
+    };
     let col = Col {
         name,
         int,
@@ -105,12 +112,11 @@ fn add_row_of(
     hi: &Bound,
     named: &List<(Name, Frac)>,
 ) -> Result<(), EditFault>
-    ensures edited { IfOk result (λ _. model.new ≡ edited model.old (AddRow name.now lo.now hi.now named.now)) }
-    ensures fits { OnOk result (EditFits model.old (AddRow name.now lo.now hi.now named.now)) }
-    ensures kept { OnErr result (model.new ≡ model.old) }
-    ensures fault { IfErr result (λ f. IsEditFault model.old (AddRow name.now lo.now hi.now named.now) f) }
+    ensures { IsEditAnswer model.old (AddRow name.now lo.now hi.now named.now) result model.new }
 {
-    let name = copy_name(name)?;
+    let Ok(name) = copy_name(name) else {
+        return Err(EditFault::Memory);
+    };
     let row = Row {
         name,
         lo: *lo,
@@ -206,10 +212,14 @@ fn with_row(
     let mut changed = List::new(alloc);
     for col in cols {
         let number = number_beside(&col.name, named);
-        match with_entry(alloc, col, row, number) {
-            Ok(longer) => changed.push(longer)?,
-            Err(error) => return Err(error),
-        }
+        let Ok(longer) = with_entry(alloc, col, row, number) else {
+            drop(changed);
+            return Err(AllocError);
+        };
+        let Ok(()) = changed.push(longer) else {
+            drop(changed);
+            return Err(AllocError);
+        };
     }
     Ok(changed)
 }
@@ -220,14 +230,19 @@ fn add_col(
     col: Col,
     named: &[(Name, Frac)],
 ) -> Result<(), EditFault>
-    ensures edited { IfOk result (λ _. model.new ≡ edited model.old (adds_col col named.now)) }
-    ensures fits { OnOk result (EditFits model.old (adds_col col named.now)) }
-    ensures kept { OnErr result (model.new ≡ model.old) }
-    ensures fault { IfErr result (λ f. IsEditFault model.old (adds_col col named.now) f) }
+    ensures { IsEditAnswer model.old (adds_col col named.now) result model.new }
 {
-    check_col(model, &col, named)?;
-    insert_col(model, alloc, col, named)?;
-    Ok(())
+    match check_col(model, &col, named) {
+        Ok(()) => {}
+        Err(fault) => {
+            drop(col);
+            return Err(fault);
+        }
+    }
+    match insert_col(model, alloc, col, named) {
+        Ok(()) => Ok(()),
+        Err(_) => Err(EditFault::Memory),
+    }
 }
 
 fn add_row(
@@ -236,20 +251,24 @@ fn add_row(
     row: Row,
     named: &[(Name, Frac)],
 ) -> Result<(), EditFault>
-    ensures edited { IfOk result (λ _. model.new ≡ edited model.old (adds_row row named.now)) }
-    ensures fits { OnOk result (EditFits model.old (adds_row row named.now)) }
-    ensures kept { OnErr result (model.new ≡ model.old) }
-    ensures fault { IfErr result (λ f. IsEditFault model.old (adds_row row named.now) f) }
+    ensures { IsEditAnswer model.old (adds_row row named.now) result model.new }
 {
-    check_row(model, &row, named)?;
-    insert_row(model, alloc, row, named)?;
-    Ok(())
+    match check_row(model, &row, named) {
+        Ok(()) => {}
+        Err(fault) => {
+            drop(row);
+            return Err(fault);
+        }
+    }
+    match insert_row(model, alloc, row, named) {
+        Ok(()) => Ok(()),
+        Err(_) => Err(EditFault::Memory),
+    }
 }
 
 /// Refused with what is wrong with a new column, its own entries aside.
 fn check_col(model: &Model, col: &Col, named: &[(Name, Frac)]) -> Result<(), EditFault>
-    ensures fits { OnOk result (EditFits model.now (adds_col col.now named.now)) }
-    ensures fault { IfErr result (λ f. IsEditFault model.now (adds_col col.now named.now) f) }
+    ensures { IsEditCheck model.now (adds_col col.now named.now) result }
 {
     let rows = model.rows();
     let cols = model.cols();
@@ -271,8 +290,7 @@ fn check_col(model: &Model, col: &Col, named: &[(Name, Frac)]) -> Result<(), Edi
 
 /// Refused with what is wrong with a new row.
 fn check_row(model: &Model, row: &Row, named: &[(Name, Frac)]) -> Result<(), EditFault>
-    ensures fits { OnOk result (EditFits model.now (adds_row row.now named.now)) }
-    ensures fault { IfErr result (λ f. IsEditFault model.now (adds_row row.now named.now) f) }
+    ensures { IsEditCheck model.now (adds_row row.now named.now) result }
 {
     let rows = model.rows();
     let cols = model.cols();
@@ -316,8 +334,12 @@ fn insert_col(
     ensures edited { IfOk result (λ _. model.new ≡ edited model.old (adds_col col named.now)) }
     ensures kept { OnErr result (model.new ≡ model.old) }
 {
+    let Ok(entries) = entries_beside(alloc, model.rows(), named) else {
+        drop(col);
+        return Err(AllocError);
+    };
     let mut col = col;
-    col.rows = entries_beside(alloc, model.rows(), named)?;
+    col.rows = entries;
     let (rows, mut cols) = model.take_lists(alloc);
     match cols.push(col) {
         Ok(()) => {
@@ -343,14 +365,19 @@ fn insert_row(
     ensures kept { OnErr result (model.new ≡ model.old) }
 {
     let place = RowId(model.rows().len() as u32);
-    let changed = with_row(alloc, model.cols(), place, named)?;
+    let Ok(changed) = with_row(alloc, model.cols(), place, named) else {
+        drop(row);
+        return Err(AllocError);
+    };
     let (mut rows, cols) = model.take_lists(alloc);
     match rows.push(row) {
         Ok(()) => {
+            drop(cols);
             model.put_lists(rows, changed);
             Ok(())
         }
         Err(error) => {
+            drop(changed);
             model.put_lists(rows, cols);
             Err(error)
         }

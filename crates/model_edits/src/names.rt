@@ -69,7 +69,10 @@ pub fn entries_beside<T: Named>(
     for (place, item) in items.iter().enumerate() {
         let number = number_beside(item.name(), named);
         if !is_zero(&number) {
-            entries.push((RowId(place as u32), number))?;
+            let Ok(()) = entries.push((RowId(place as u32), number)) else {
+                drop(entries);
+                return Err(AllocError);
+            };
         }
     }
     Ok(entries)

@@ -1,11 +1,11 @@
 // Edits of a model that take out a column or a row, or give a row other coefficients.
-ghost use Rattle.std.specs.Prelude.{◌≡◌, ◌⊎◌, ◌++◌, ◌∷◌, [], map, filter, nat_lt, Contains, IfOk, OnOk, OnErr, IfErr};
+ghost use Rattle.std.specs.Prelude.{◌≡◌, ◌⊎◌, ◌++◌, ◌∷◌, [], map, filter, nat_lt, Contains, IfOk, OnOk, IfErr};
 ghost use Rattle.rational.specs.Rational.{ℚ};
 ghost use Rattle.lp_model.specs.declared.types.RowId.{RowId as Place};
 ghost use Rattle.lp_model.specs.declared.types.Edit.TheVariants.{DelCol, DelRow, ReplaceRow};
-ghost use Rattle.lp_model.specs.Edits.{number_beside, edited, entry_at, entries_without, without_entry, entries_with, replaced_entry, only_row_names, IsPlaceOf, EditFits};
+ghost use Rattle.lp_model.specs.Edits.{number_beside, entry_at, entries_without, without_entry, entries_with, replaced_entry, only_row_names, IsPlaceOf};
 ghost use Rattle.model_edits.specs.declared.faults.EditFault.TheVariants.{NoSuch, Memory};
-ghost use Rattle.model_edits.specs.Faults.{IsEditFault};
+ghost use Rattle.model_edits.specs.Answers.{IsReplacementCheck, IsEditAnswer};
 
 use crate::changing::{change_row, col_at, row_at};
 use crate::edits::{count_entries, passed_limit, with_entries};
@@ -26,7 +26,10 @@ fn entries_without(
     let mut kept = List::new(alloc);
     for (place, number) in entries {
         if place.0 != row {
-            kept.push((RowId(place_after(row, place.0)), *number))?;
+            let Ok(()) = kept.push((RowId(place_after(row, place.0)), *number)) else {
+                drop(kept);
+                return Err(AllocError);
+            };
         }
     }
     Ok(kept)
@@ -42,7 +45,9 @@ fn push_earlier(
 {
     for (place, number) in entries {
         if place.0 < row {
-            list.push((*place, *number))?;
+            let Ok(()) = list.push((*place, *number)) else {
+                return Err(AllocError);
+            };
         }
     }
     Ok(())
@@ -58,7 +63,9 @@ fn push_later(
 {
     for (place, number) in entries {
         if row < place.0 {
-            list.push((*place, *number))?;
+            let Ok(()) = list.push((*place, *number)) else {
+                return Err(AllocError);
+            };
         }
     }
     Ok(())
@@ -68,9 +75,12 @@ fn push_later(
 fn push_entry(list: &mut List<(RowId, Frac)>, row: u32, number: &Frac) -> Result<(), AllocError>
     ensures { OnOk result (list.new ≡ list.old ++ entry_at row number.now) }
 {
-    if !is_zero(number) {
-        list.push((RowId(row), *number))?;
+    if is_zero(number) {
+        return Ok(());
     }
+    let Ok(()) = list.push((RowId(row), *number)) else {
+        return Err(AllocError);
+    };
     Ok(())
 }
 
@@ -84,9 +94,18 @@ fn entries_with(
     ensures { IfOk result (λ es. es ≡ entries_with row number.now entries.now) }
 {
     let mut list = List::new(alloc);
-    push_earlier(&mut list, entries, row)?;
-    push_entry(&mut list, row, number)?;
-    push_later(&mut list, entries, row)?;
+    let Ok(()) = push_earlier(&mut list, entries, row) else {
+        drop(list);
+        return Err(AllocError);
+    };
+    let Ok(()) = push_entry(&mut list, row, number) else {
+        drop(list);
+        return Err(AllocError);
+    };
+    let Ok(()) = push_later(&mut list, entries, row) else {
+        drop(list);
+        return Err(AllocError);
+    };
     Ok(list)
 }
 
@@ -94,7 +113,9 @@ fn entries_with(
 fn without_entry(alloc: Global, col: &Col, row: u32) -> Result<Col, AllocError>
     ensures { IfOk result (λ c. c ≡ without_entry row col.now) }
 {
-    let rows = entries_without(alloc, col.rows.as_slice(), row)?;
+    let Ok(rows) = entries_without(alloc, col.rows.as_slice(), row) else {
+        return Err(AllocError);
+    };
     with_entries(col, rows)
 }
 
@@ -102,7 +123,9 @@ fn without_entry(alloc: Global, col: &Col, row: u32) -> Result<Col, AllocError>
 fn replaced_entry(alloc: Global, col: &Col, row: u32, number: &Frac) -> Result<Col, AllocError>
     ensures { IfOk result (λ c. c ≡ replaced_entry row number.now col.now) }
 {
-    let rows = entries_with(alloc, col.rows.as_slice(), row, number)?;
+    let Ok(rows) = entries_with(alloc, col.rows.as_slice(), row, number) else {
+        return Err(AllocError);
+    };
     with_entries(col, rows)
 }
 
@@ -112,7 +135,14 @@ fn without_row(alloc: Global, cols: &[Col], row: u32) -> Result<List<Col>, Alloc
 {
     let mut changed = List::new(alloc);
     for col in cols {
-        changed.push(without_entry(alloc, col, row)?)?;
+        let Ok(shorter) = without_entry(alloc, col, row) else {
+            drop(changed);
+            return Err(AllocError);
+        };
+        let Ok(()) = changed.push(shorter) else {
+            drop(changed);
+            return Err(AllocError);
+        };
     }
     Ok(changed)
 }
@@ -128,7 +158,9 @@ fn push_replaced(
     ensures { IfOk result (λ _. list.new ≡ list.old ++ replaced_entry row (number_beside col.now.name named.now) col.now ∷ []) }
 {
     let number = number_beside(&col.name, named);
-    let changed = replaced_entry(alloc, col, row, &number)?;
+    let Ok(changed) = replaced_entry(alloc, col, row, &number) else {
+        return Err(AllocError);
+    };
     list.push(changed)
 }
 
@@ -143,7 +175,10 @@ fn with_numbers(
 {
     let mut changed = List::new(alloc);
     for col in cols {
-        push_replaced(alloc, &mut changed, col, row, named)?;
+        let Ok(()) = push_replaced(alloc, &mut changed, col, row, named) else {
+            drop(changed);
+            return Err(AllocError);
+        };
     }
     Ok(changed)
 }
@@ -153,19 +188,22 @@ fn row_id_at(model: &Model, name: &Name) -> Result<u32, EditFault>
     ensures found { IfOk result (λ k. IsPlaceOf (only_row_names model.now) name.now k) }
     ensures fault { IfErr result (λ f. (f ≡ Memory) ⊎ ((f ≡ NoSuch name.now) × (¬ Contains (only_row_names model.now) name.now))) }
 {
-    let place = row_at(model, name)?;
+    let place = match row_at(model, name) {
+        Ok(place) => place,
+        Err(fault) => return Err(fault),
+    };
     let _lawful = model.rows();
     Ok(place as u32)
 }
 
 /// Takes a column out.
 pub(crate) fn del_col(model: &mut Model, alloc: Global, name: &Name) -> Result<(), EditFault>
-    ensures edited { IfOk result (λ _. model.new ≡ edited model.old (DelCol name.now)) }
-    ensures fits { OnOk result (EditFits model.old (DelCol name.now)) }
-    ensures kept { OnErr result (model.new ≡ model.old) }
-    ensures fault { IfErr result (λ f. IsEditFault model.old (DelCol name.now) f) }
+    ensures { IsEditAnswer model.old (DelCol name.now) result model.new }
 {
-    let place = col_at(model, name)?;
+    let place = match col_at(model, name) {
+        Ok(place) => place,
+        Err(fault) => return Err(fault),
+    };
     let (rows, mut cols) = model.take_lists(alloc);
     cols.remove(place);
     model.put_lists(rows, cols);
@@ -174,14 +212,17 @@ pub(crate) fn del_col(model: &mut Model, alloc: Global, name: &Name) -> Result<(
 
 /// Takes a row out.
 pub(crate) fn del_row(model: &mut Model, alloc: Global, name: &Name) -> Result<(), EditFault>
-    ensures edited { IfOk result (λ _. model.new ≡ edited model.old (DelRow name.now)) }
-    ensures fits { OnOk result (EditFits model.old (DelRow name.now)) }
-    ensures kept { OnErr result (model.new ≡ model.old) }
-    ensures fault { IfErr result (λ f. IsEditFault model.old (DelRow name.now) f) }
+    ensures { IsEditAnswer model.old (DelRow name.now) result model.new }
 {
-    let row = row_id_at(model, name)?;
-    let changed = without_row(alloc, model.cols(), row)?;
-    let (mut rows, _cols) = model.take_lists(alloc);
+    let row = match row_id_at(model, name) {
+        Ok(row) => row,
+        Err(fault) => return Err(fault),
+    };
+    let Ok(changed) = without_row(alloc, model.cols(), row) else {
+        return Err(EditFault::Memory);
+    };
+    let (mut rows, cols) = model.take_lists(alloc);
+    drop(cols);
     rows.remove(row as usize);
     model.put_lists(rows, changed);
     Ok(())
@@ -196,19 +237,21 @@ fn check_replacement(
     hi: &Bound,
     named: &List<(Name, Frac)>,
 ) -> Result<(u32, List<Col>), EditFault>
-    ensures place { IfOk result (λ found. IsPlaceOf (only_row_names model.now) name.now found.0) }
-    ensures columns { IfOk result (λ found. found.1 ≡ (edited model.now (ReplaceRow name.now lo.now hi.now named.now)).cols) }
-    ensures fits { OnOk result (EditFits model.now (ReplaceRow name.now lo.now hi.now named.now)) }
-    ensures fault { IfErr result (λ f. IsEditFault model.now (ReplaceRow name.now lo.now hi.now named.now) f) }
+    ensures { IsReplacementCheck model.now name.now lo.now hi.now named.now result }
 {
-    let row = row_id_at(model, name)?;
+    let row = match row_id_at(model, name) {
+        Ok(row) => row,
+        Err(fault) => return Err(fault),
+    };
     let rows = model.rows();
     let cols = model.cols();
     let named = named.as_slice();
     if let Some(fault) = unknown_name(cols, named) {
         return Err(fault);
     }
-    let changed = with_numbers(alloc, cols, row, named)?;
+    let Ok(changed) = with_numbers(alloc, cols, row, named) else {
+        return Err(EditFault::Memory);
+    };
     let entries = count_entries(changed.as_slice());
     if let Some(limit) = passed_limit(model.is_wide(), rows.len(), cols.len(), entries) {
         drop(changed);
@@ -230,16 +273,18 @@ pub(crate) fn replace_row(
     hi: Bound,
     named: &List<(Name, Frac)>,
 ) -> Result<(), EditFault>
-    ensures edited { IfOk result (λ _. model.new ≡ edited model.old (ReplaceRow name.now lo hi named.now)) }
-    ensures fits { OnOk result (EditFits model.old (ReplaceRow name.now lo hi named.now)) }
-    ensures kept { OnErr result (model.new ≡ model.old) }
-    ensures fault { IfErr result (λ f. IsEditFault model.old (ReplaceRow name.now lo hi named.now) f) }
+    ensures { IsEditAnswer model.old (ReplaceRow name.now lo hi named.now) result model.new }
 {
-    let (row, changed) = check_replacement(model, alloc, name, &lo, &hi, named)?;
-    let (rows, _cols) = model.take_lists(alloc);
-    model.put_lists(
-        change_row(rows, row as usize, &Some(lo), &Some(hi)),
-        changed,
-    );
-    Ok(())
+    match check_replacement(model, alloc, name, &lo, &hi, named) {
+        Ok((row, changed)) => {
+            let (rows, cols) = model.take_lists(alloc);
+            drop(cols);
+            model.put_lists(
+                change_row(rows, row as usize, &Some(lo), &Some(hi)),
+                changed,
+            );
+            Ok(())
+        }
+        Err(fault) => Err(fault),
+    }
 }

@@ -12,7 +12,12 @@ use std::alloc::{AllocError, Global};
 fn contains(names: &[Name], name: &[u8]) -> bool
     ensures { result ≡ among names.now name.now }
 {
-    names.iter().any(|other| other.as_slice() == name)
+    for item in names {
+        if item.as_slice() == name {
+            return true;
+        }
+    }
+    false
 }
 
 /// Puts `_` and a number behind a word.
@@ -51,7 +56,9 @@ fn free_name(alloc: Global, taken: &[Name], base: &[u8]) -> Result<Name, AllocEr
     ensures { IfOk result (λ name. name ≡ free_name taken.now base.now) }
 {
     for number in 0..taken.len() {
-        let name = candidate(alloc, base, number as u64)?;
+        let Ok(name) = candidate(alloc, base, number as u64) else {
+            return Err(AllocError);
+        };
         if !contains(taken, name.as_slice()) {
             return Ok(name);
         }

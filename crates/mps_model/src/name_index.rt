@@ -41,7 +41,9 @@ impl NameIndex {
     ) -> Result<(), AllocError>
         ensures { OnOk result ((q : List ℕ) → find self.new q ≡ (if bytes_eq name.now q then Some place else find self.old q)) }
     {
-        let key = Vec::from_slice(alloc, name)?;
+        let Ok(key) = Vec::from_slice(alloc, name) else {
+            return Err(AllocError);
+        };
         self.places.insert(key, place)?;
         Ok(())
     }

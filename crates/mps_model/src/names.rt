@@ -82,7 +82,10 @@ impl Names {
         requires { AreNamesApart names }
         ensures { IfOk result (λ all. all.names ≡ names) }
     {
-        let places = index_of(alloc, names.as_slice())?;
+        let Ok(places) = index_of(alloc, names.as_slice()) else {
+            drop(names);
+            return Err(AllocError);
+        };
         Ok(Names { names, places })
     }
 

@@ -1,14 +1,18 @@
 -- What the tests of a line say where no code is found.
 use Rattle.std.proofs.Common.{◌≡◌, ◌+◌, ◌≤◌, true, false, List, [], ◌∷◌, ◌++◌, map, length, refl, sym, ◌∙◌, ap}
-use Rattle.std.specs.Prelude.{Option, None, Some, is_some, Bool, nat_lt, not, ◌&&◌, ◌||◌}
+use Rattle.std.specs.Prelude.{ℕ, Option, None, Some, Result, is_some, Bool, nat_lt, not, ◌&&◌, ◌||◌}
 use Rattle.std.specs.List.{list_any}
 use Rattle.std.proofs.lemmas.Bool.{ltb-false}
 use Rattle.mps_text.specs.Text.{Entry}
-use Rattle.mps_fields.specs.Words.{line_kind, word, section_of, section_rank, bars, is_rows, is_columns, is_name_section, is_sense_section}
-use Rattle.mps_sections.specs.Statements.{StatedModel, read_pair, coefficients_in}
-use Rattle.mps_fields.specs.Fields.{column_pairs, has_count, has_unknown_sense}
-use Rattle.mps_sections.specs.Faults.{Test, least, tests_of, section_tests, most_fields, column_tests, code_in}
+use Rattle.mps_fields.specs.Words.{line_kind, word, section_of, section_rank, bars, is_rows, is_columns, is_name_section, is_sense_section, takes_number}
+use Rattle.mps_sections.specs.Statements.{StatedModel, read_pair, coefficients_in, is_column}
+use Rattle.mps_fields.specs.Fields.{column_pairs, has_count, has_unknown_sense, bound_column, bound_field, is_long_name}
+use Rattle.mps_fields.specs.Numbers.{limit_of, limit_or_plus, is_not_number, is_too_wide, is_misplaced}
+use Rattle.mps_sections.specs.Faults.{Test, least, tests_of, section_tests, most_fields, column_tests, bound_tests, code_in}
 use Rattle.mps_fields.specs.declared.words.Section.{Section}
+use Rattle.mps_fields.specs.declared.words.BoundKind.{BoundKind}
+use Rattle.mps_fields.specs.declared.numbers.Limit.{Limit}
+use Rattle.frac_text.specs.declared.parsing.NumFault.{NumFault}
 use Rattle.mps_fields.specs.declared.words.LineKind.{LineKind}
 use Rattle.mps_fields.specs.declared.words.LineKind.TheVariants.{Header}
 
@@ -53,3 +57,19 @@ code_of_header s e section headers late lacking long senseless found same is_lat
     (λ i. least ((4, is_late i || is_lacking i) ∷ (6, is_long i) ∷ (8, is_senseless i) ∷ []))
     ∙ (λ i. least ((4, list_any (λ stands. bars stands section) (same i) || ((nat_lt 3 (section_rank section) && not (list_any is_rows (same i))) || (nat_lt 4 (section_rank section) && not (list_any is_columns (same i))))) ∷ (6, not (is_name_section section) && not (has_count e 1 (most_fields section))) ∷ (8, is_sense_section section && has_unknown_sense e) ∷ []))
     ∙ sym (ap (λ (known : Option Section). least (section_tests known s e)) found)
+
+-- the code of a bound line of a known type, by its column and its limit
+pub code_of_bound : (s : StatedModel) (e : Entry) (kind : BoundKind) (column : List ℕ) (limit : Result Limit NumFault) (numbered few long unread wide stands misplaced : Bool) →
+    column ≡ bound_column kind e →
+    limit ≡ limit_of (bound_field e) →
+    numbered ≡ takes_number kind →
+    few ≡ has_count e 3 4 →
+    long ≡ is_long_name column →
+    unread ≡ is_not_number limit →
+    wide ≡ is_too_wide limit →
+    stands ≡ is_column s.columns column →
+    misplaced ≡ is_misplaced kind (limit_or_plus limit) →
+    least ((6, numbered && not few) ∷ (7, long) ∷ (12, numbered && unread) ∷ (13, numbered && wide) ∷ (19, not stands) ∷ (21, misplaced) ∷ []) ≡ least (bound_tests (Some kind) s e)
+code_of_bound s e kind column limit numbered few long unread wide stands misplaced same read is_numbered is_few is_long is_unread is_wide is_standing is_out =
+    (λ i. least ((6, is_numbered i && not (is_few i)) ∷ (7, is_long i) ∷ (12, is_numbered i && is_unread i) ∷ (13, is_numbered i && is_wide i) ∷ (19, not (is_standing i)) ∷ (21, is_out i) ∷ []))
+    ∙ (λ i. least ((6, takes_number kind && not (has_count e 3 4)) ∷ (7, is_long_name (same i)) ∷ (12, takes_number kind && is_not_number (read i)) ∷ (13, takes_number kind && is_too_wide (read i)) ∷ (19, not (is_column s.columns (same i))) ∷ (21, is_misplaced kind (limit_or_plus (read i))) ∷ []))

@@ -4,6 +4,7 @@ ghost use Rattle.mps_sections.specs.Statements.{is_column, read_pair};
 ghost use Rattle.mps_sections.specs.Sets.{has};
 ghost use Rattle.mps_sections.specs.Faults.{is_last, numbers_of_last, has_again};
 
+use crate::clearing::clear;
 use crate::name_set::NameSet;
 use crate::names::copied;
 use crate::numbered::Numbered;
@@ -114,15 +115,6 @@ impl OpenColumn {
     }
 }
 
-/// No columns and no names.
-fn clear(alloc: Global, done: &mut List<ColumnLines>, known: &mut NameSet)
-    ensures done { done.new ≡ [] }
-    ensures known { (q : Items ℕ) → has known.new q ≡ false }
-{
-    drop(mem::replace(done, List::new(alloc)));
-    drop(mem::replace(known, NameSet::new(alloc)));
-}
-
 impl Columns {
     ghost use Rattle.mps_sections.specs.Shown.{columns_in, with_line, with_more, open_shown};
     ghost use Rattle.mps_fields.specs.Fields.{pairs_shown};
@@ -215,7 +207,9 @@ impl Columns {
     ) -> Result<(), AllocError>
         ensures { OnOk result (columns_in self.new ≡ columns_in self.old ++ record { name = name.now; line = line; marked = marked; numbers = map read_pair (pairs_shown pairs.now) } ∷ []) }
     {
-        let column = OpenColumn::new(alloc, name, line, marked, pairs)?;
+        let Ok(column) = OpenColumn::new(alloc, name, line, marked, pairs) else {
+            return Err(AllocError);
+        };
         self.add_column(alloc, column)
     }
 

@@ -13,6 +13,7 @@
 //! lists.
 #![tactic(auto)]
 
+mod clearing;
 mod columns;
 mod name_set;
 mod names;

@@ -12,7 +12,9 @@ use std::alloc::{AllocError, Global};
 pub fn copied(alloc: Global, name: &[u8]) -> Result<Name, AllocError>
     ensures { IfOk result (λ copy. copy ≡ name.now) }
 {
-    let bytes = Vec::from_slice(alloc, name)?;
+    let Ok(bytes) = Vec::from_slice(alloc, name) else {
+        return Err(AllocError);
+    };
     Ok(List::from_vec(bytes))
 }
 

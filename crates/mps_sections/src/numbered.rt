@@ -1,16 +1,16 @@
 // Numbers beside the names of rows.
-ghost use Rattle.std.specs.Prelude.{◌≡◌, ℕ, List as Items, [], ◌∷◌, ◌++◌, ◌||◌, false, map, bytes_eq, OnOk};
+ghost use Rattle.std.specs.Prelude.{◌≡◌, ℕ, List as Items, [], ◌∷◌, ◌++◌, ◌||◌, map, bytes_eq, OnOk};
 ghost use Rattle.mps_sections.specs.Statements.{is_numbered, read_pair};
 ghost use Rattle.mps_sections.specs.Sets.{has};
 ghost use Rattle.mps_fields.specs.Fields.{pair_shown};
 
+use crate::clearing::clear;
 use crate::name_set::NameSet;
 use crate::names::copied;
 use crate::statements::RowNumber;
 use lp_model::List;
 use mps_fields::{Pair, Pairs};
 use std::alloc::{AllocError, Global};
-use std::mem;
 
 /// Numbers beside rows in order, and the set of these rows.
 #[derive(Drop)]
@@ -38,15 +38,6 @@ fn add_pair(
     };
     let number = pair.number_or_zero();
     numbers.push(RowNumber { row, number })
-}
-
-/// No numbers and no rows.
-fn clear(alloc: Global, numbers: &mut List<RowNumber>, rows: &mut NameSet)
-    ensures numbers { numbers.new ≡ [] }
-    ensures rows { (q : Items ℕ) → has rows.new q ≡ false }
-{
-    drop(mem::replace(numbers, List::new(alloc)));
-    drop(mem::replace(rows, NameSet::new(alloc)));
 }
 
 impl Numbered {
@@ -95,7 +86,9 @@ impl Numbered {
             Pairs::Nothing => Ok(()),
             Pairs::One(p) => self.add_one(alloc, p),
             Pairs::Two(p, q) => {
-                self.add_one(alloc, p)?;
+                let Ok(()) = self.add_one(alloc, p) else {
+                    return Err(AllocError);
+                };
                 self.add_one(alloc, q)
             }
         }

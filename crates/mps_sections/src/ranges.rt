@@ -1,16 +1,16 @@
 // The numbers of RANGES.
-ghost use Rattle.std.specs.Prelude.{◌≡◌, ℕ, List as Items, [], ◌∷◌, ◌++◌, ◌||◌, false, map, bytes_eq, OnOk};
+ghost use Rattle.std.specs.Prelude.{◌≡◌, ℕ, List as Items, [], ◌∷◌, ◌++◌, ◌||◌, map, bytes_eq, OnOk};
 ghost use Rattle.mps_sections.specs.Statements.{is_ranged, read_range};
 ghost use Rattle.mps_sections.specs.Sets.{has};
 ghost use Rattle.mps_fields.specs.Fields.{pair_shown};
 
+use crate::clearing::clear;
 use crate::name_set::NameSet;
 use crate::names::copied;
 use crate::statements::RangeLine;
 use lp_model::List;
 use mps_fields::{Pair, Pairs};
 use std::alloc::{AllocError, Global};
-use std::mem;
 
 /// The numbers of RANGES in order, each with its row and its line, and the set of these rows.
 #[derive(Drop)]
@@ -39,15 +39,6 @@ fn add_range(
     };
     let number = pair.number_or_zero();
     lines.push(RangeLine { row, number, line })
-}
-
-/// No numbers and no rows.
-fn clear(alloc: Global, lines: &mut List<RangeLine>, rows: &mut NameSet)
-    ensures lines { lines.new ≡ [] }
-    ensures rows { (q : Items ℕ) → has rows.new q ≡ false }
-{
-    drop(mem::replace(lines, List::new(alloc)));
-    drop(mem::replace(rows, NameSet::new(alloc)));
 }
 
 impl Ranges {
@@ -96,7 +87,9 @@ impl Ranges {
             Pairs::Nothing => Ok(()),
             Pairs::One(p) => self.add_one(alloc, line, p),
             Pairs::Two(p, q) => {
-                self.add_one(alloc, line, p)?;
+                let Ok(()) = self.add_one(alloc, line, p) else {
+                    return Err(AllocError);
+                };
                 self.add_one(alloc, line, q)
             }
         }

@@ -1,16 +1,16 @@
 // The rows that a text states.
-ghost use Rattle.std.specs.Prelude.{◌≡◌, ◌||◌, ◌&&◌, not, ℕ, List as Items, [], ◌∷◌, ◌++◌, bytes_eq, false, Some, OnOk};
+ghost use Rattle.std.specs.Prelude.{◌≡◌, ◌||◌, ◌&&◌, not, ℕ, List as Items, [], ◌∷◌, ◌++◌, bytes_eq, Some, OnOk};
 ghost use Rattle.mps_fields.specs.Words.{among};
 ghost use Rattle.mps_sections.specs.Statements.{is_row_name, as_row, as_objective};
 ghost use Rattle.mps_sections.specs.Sets.{has};
 
+use crate::clearing::clear;
 use crate::name_set::NameSet;
 use crate::names::copied;
 use crate::statements::RowLine;
 use lp_model::{List, Name};
 use mps_fields::{Pairs, RowKind};
 use std::alloc::{AllocError, Global};
-use std::mem;
 
 /// The rows with sides and the names of the rows of type N, each in order, and the sets of all their names and of those of
 /// the rows with sides.
@@ -68,25 +68,6 @@ fn add_sided(
     sided.push(RowLine { name, kind })
 }
 
-/// No rows and no names.
-fn clear(
-    alloc: Global,
-    sided: &mut List<RowLine>,
-    objectives: &mut List<Name>,
-    known: &mut NameSet,
-    with_sides: &mut NameSet,
-)
-    ensures sided { sided.new ≡ [] }
-    ensures objectives { objectives.new ≡ [] }
-    ensures known { (q : Items ℕ) → has known.new q ≡ false }
-    ensures with_sides { (q : Items ℕ) → has with_sides.new q ≡ false }
-{
-    drop(mem::replace(sided, List::new(alloc)));
-    drop(mem::replace(objectives, List::new(alloc)));
-    drop(mem::replace(known, NameSet::new(alloc)));
-    drop(mem::replace(with_sides, NameSet::new(alloc)));
-}
-
 impl Rows {
     ghost use Rattle.std.specs.List.{list_any};
     ghost use Rattle.mps_fields.specs.Fields.{pairs_shown};
@@ -122,7 +103,7 @@ impl Rows {
     pub(crate) fn is_free(&self, name: &[u8]) -> bool
         ensures { result ≡ ((is_row_name self.now.sided name.now || among self.now.objectives name.now) && not (is_row_name self.now.sided name.now)) }
     {
-        self.known.contains(name) && !self.with_sides.contains(name)
+        self.known.contains(name) & !self.with_sides.contains(name)
     }
 
     /// Whether a row of the pairs isn't known.
@@ -155,13 +136,8 @@ impl Rows {
         match add_objective(alloc, &mut self.objectives, &mut self.known, name) {
             Ok(()) => Ok(()),
             Err(error) => {
-                clear(
-                    alloc,
-                    &mut self.sided,
-                    &mut self.objectives,
-                    &mut self.known,
-                    &mut self.with_sides,
-                );
+                clear(alloc, &mut self.sided, &mut self.known);
+                clear(alloc, &mut self.objectives, &mut self.with_sides);
                 Err(error)
             }
         }
@@ -187,13 +163,8 @@ impl Rows {
         ) {
             Ok(()) => Ok(()),
             Err(error) => {
-                clear(
-                    alloc,
-                    &mut self.sided,
-                    &mut self.objectives,
-                    &mut self.known,
-                    &mut self.with_sides,
-                );
+                clear(alloc, &mut self.sided, &mut self.known);
+                clear(alloc, &mut self.objectives, &mut self.with_sides);
                 Err(error)
             }
         }

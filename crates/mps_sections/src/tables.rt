@@ -2,9 +2,10 @@
 ghost use Rattle.std.specs.Prelude.{◌≡◌, ◌+◌, ◌≤◌, [], ◌∷◌, ◌++◌, true, IfOk, OnOk, length, map, nat_lt, not, ◌&&◌, ◌||◌, option_to_list, Some};
 ghost use Rattle.std.specs.List.{list_any};
 ghost use Rattle.mps_text.specs.Reading.{entry_of_record};
-ghost use Rattle.mps_fields.specs.Words.{word, is_marker, bars, section_rank, is_rows, is_columns, is_name_section, is_sense_section, line_kind as kind_of_line};
+ghost use Rattle.mps_fields.specs.Words.{word, is_marker, section_rank, is_rows, is_columns, is_name_section, is_sense_section, line_kind as kind_of_line};
 ghost use Rattle.mps_sections.specs.Statements.{StatedModel, stated, sections_in, coefficients_in, read_pair, stated_sense, as_bound};
 ghost use Rattle.mps_fields.specs.Fields.{has_count as has_fields, column_pairs as pairs_in_column, set_pairs as pairs_behind_set, bound_column as column_of_bound, bound_field, has_twice, has_unknown_sense as is_without_sense, has_not_number, has_too_wide};
+ghost use Rattle.mps_sections.specs.HeaderTests.{is_asked};
 ghost use Rattle.mps_sections.specs.Faults.{least, has_sense, most_fields, tests_of, section_tests, sense_tests, row_tests, marker_tests, column_tests, set_tests, rhs_tests, range_tests, bound_tests, place_tests, pair_tests, has_again, is_ranged_again, has_free_row, has_unknown, is_late, lacks_section, code_in};
 
 use crate::columns::Columns;
@@ -37,6 +38,14 @@ pub(crate) struct Tables {
     pub ranges: Ranges,
     pub bounds: List<BoundLine>,
     ghost few: { count ≤ 50000 },
+}
+
+/// Which of the headers are looked for: those behind which a section can no longer come, that of ROWS, or that of COLUMNS.
+#[derive(Clone, Copy)]
+enum HeaderTest {
+    Bars(Section),
+    IsRows,
+    IsColumns,
 }
 
 /// The third field of a line of three.
@@ -115,14 +124,14 @@ fn most_fields(section: Section) -> usize
 fn has_more_fields(section: Section, entry: &Record) -> bool
     ensures { result ≡ (not (is_name_section section) && not (has_fields (entry_of_record entry.now) 1 (most_fields section))) }
 {
-    !section.is_name() && !has_count(entry, 1, most_fields(section))
+    !section.is_name() & !has_count(entry, 1, most_fields(section))
 }
 
 /// Whether the header OBJSENSE has a second field that is no sense.
 fn lacks_sense(section: Section, entry: &Record) -> bool
     ensures { result ≡ (is_sense_section section && is_without_sense (entry_of_record entry.now)) }
 {
-    section.is_sense() && has_unknown_sense(entry)
+    section.is_sense() & has_unknown_sense(entry)
 }
 
 /// The first sense, MIN where there is none.
@@ -135,42 +144,76 @@ fn first_sense(senses: &[Sense]) -> Sense
     }
 }
 
-fn has_late(headers: &[Section], section: Section) -> bool
-    ensures { result ≡ list_any (λ stands. bars stands section) headers.now }
+/// Whether a header is one of those that are looked for.
+fn is_asked(test: HeaderTest, stands: Section) -> bool
+    ensures { result ≡ is_asked test stands }
 {
-    headers.iter().any(|stands| stands.bars(section))
+    match test {
+        HeaderTest::Bars(comes) => stands.bars(comes),
+        HeaderTest::IsRows => stands.is_rows(),
+        HeaderTest::IsColumns => stands.is_columns(),
+    }
 }
 
-fn has_rows(headers: &[Section]) -> bool
-    ensures { result ≡ list_any is_rows headers.now }
+/// Whether one of the headers that are looked for stands.
+fn has_header(headers: &[Section], test: HeaderTest) -> bool
+    ensures { result ≡ list_any (is_asked test) headers.now }
 {
-    headers.iter().any(|stands| stands.is_rows())
-}
-
-fn has_columns(headers: &[Section]) -> bool
-    ensures { result ≡ list_any is_columns headers.now }
-{
-    headers.iter().any(|stands| stands.is_columns())
+    for index in 0..headers.len() {
+        if is_asked(test, headers[index]) {
+            return true;
+        }
+    }
+    false
 }
 
 fn lacks(headers: &[Section], section: Section) -> bool
     ensures { result ≡ ((nat_lt 3 (section_rank section) && not (list_any is_rows headers.now)) || (nat_lt 4 (section_rank section) && not (list_any is_columns headers.now))) }
 {
-    let lacks_rows = 3 < section.rank() && !has_rows(headers);
-    let lacks_columns = 4 < section.rank() && !has_columns(headers);
-    lacks_rows || lacks_columns
+    let rank = section.rank();
+    let lacks_rows = (3 < rank) & !has_header(headers, HeaderTest::IsRows);
+    let lacks_columns = (4 < rank) & !has_header(headers, HeaderTest::IsColumns);
+    lacks_rows | lacks_columns
 }
 
 /// The least code of the header of a section by its tests.
 fn header_code(late: bool, lacking: bool, long: bool, senseless: bool) -> Option<u8>
     ensures { result ≡ least ((4, late || lacking) ∷ (6, long) ∷ (8, senseless) ∷ []) }
 {
-    if late || lacking {
+    if late | lacking {
         Some(4)
     } else if long {
         Some(6)
     } else if senseless {
         Some(8)
+    } else {
+        None
+    }
+}
+
+/// The least code of a bound line of a known type by its tests.
+fn bound_code(
+    short: bool,
+    long: bool,
+    unread: bool,
+    wide: bool,
+    unknown: bool,
+    misplaced: bool,
+) -> Option<u8>
+    ensures { result ≡ least ((6, short) ∷ (7, long) ∷ (12, unread) ∷ (13, wide) ∷ (19, unknown) ∷ (21, misplaced) ∷ []) }
+{
+    if short {
+        Some(6)
+    } else if long {
+        Some(7)
+    } else if unread {
+        Some(12)
+    } else if wide {
+        Some(13)
+    } else if unknown {
+        Some(19)
+    } else if misplaced {
+        Some(21)
     } else {
         None
     }
@@ -207,7 +250,7 @@ impl Tables {
             return Some(3);
         };
         let headers = self.headers.as_slice();
-        let late = has_late(headers, section);
+        let late = has_header(headers, HeaderTest::Bars(section));
         let lacking = lacks(headers, section);
         let long = has_more_fields(section, entry);
         let senseless = lacks_sense(section, entry);
@@ -292,13 +335,13 @@ impl Tables {
     {
         let last = self.columns.is_last(name);
         let stands = self.columns.contains(name);
-        if stands && !last {
+        if stands & !last {
             return Some(14);
         }
-        if pairs.has_twice() || (last && self.columns.has_again(pairs)) {
+        if pairs.has_twice() | (last & self.columns.has_again(pairs)) {
             return Some(15);
         }
-        if !stands && self.columns.len() >= 1000 {
+        if !stands & (self.columns.len() >= 1000) {
             return Some(16);
         }
         if self.has_too_many(pairs) {
@@ -322,11 +365,11 @@ impl Tables {
         requires { pairs_shown pairs.now ≡ pairs_in_column (entry_of_record entry.now) }
         ensures { result ≡ least (column_tests (held self.now) (entry_of_record entry.now)) }
     {
-        if !(has_count(entry, 3, 3) || has_count(entry, 5, 5)) {
+        if !(has_count(entry, 3, 3) | has_count(entry, 5, 5)) {
             return Some(6);
         }
         let name = first_word(entry);
-        if is_long(name) || pairs.has_long() {
+        if is_long(name) | pairs.has_long() {
             return Some(7);
         }
         self.fault_of_entries(name, pairs)
@@ -350,7 +393,7 @@ impl Tables {
     fn fault_of_sides(&self, pairs: &Pairs) -> Option<u8>
         ensures { result ≡ least ((22, has_twice (pairs_shown pairs.now) || has_again self.now.sides.numbers (pairs_shown pairs.now)) ∷ []) }
     {
-        if pairs.has_twice() || self.sides.has_again(pairs) {
+        if pairs.has_twice() | self.sides.has_again(pairs) {
             Some(22)
         } else {
             None
@@ -372,7 +415,7 @@ impl Tables {
     fn fault_of_ranges(&self, pairs: &Pairs) -> Option<u8>
         ensures { result ≡ least ((22, has_twice (pairs_shown pairs.now) || is_ranged_again self.now.ranges.lines (pairs_shown pairs.now)) ∷ (23, has_free_row (held self.now) (pairs_shown pairs.now)) ∷ []) }
     {
-        if pairs.has_twice() || self.ranges.has_again(pairs) {
+        if pairs.has_twice() | self.ranges.has_again(pairs) {
             Some(22)
         } else if self.rows.has_free(pairs) {
             Some(23)
@@ -396,24 +439,17 @@ impl Tables {
     fn fault_of_bound_kind(&self, kind: BoundKind, entry: &Record) -> Option<u8>
         ensures { has_fields (entry_of_record entry.now) 2 4 ≡ true → result ≡ least (bound_tests (Some kind) (held self.now) (entry_of_record entry.now)) }
     {
-        if kind.takes_number() && !has_count(entry, 3, 4) {
-            return Some(6);
-        }
+        let numbered = kind.takes_number();
         let column = bound_column(kind, entry);
         let limit = limit_of(last_word(entry));
-        if is_long(column) {
-            Some(7)
-        } else if kind.takes_number() && is_no_limit(&limit) {
-            Some(12)
-        } else if kind.takes_number() && is_wide_limit(&limit) {
-            Some(13)
-        } else if !self.columns.contains(column) {
-            Some(19)
-        } else if is_misplaced(kind, &limit_or_plus(&limit)) {
-            Some(21)
-        } else {
-            None
-        }
+        bound_code(
+            numbered & !has_count(entry, 3, 4),
+            is_long(column),
+            numbered & is_no_limit(&limit),
+            numbered & is_wide_limit(&limit),
+            !self.columns.contains(column),
+            is_misplaced(kind, &limit_or_plus(&limit)),
+        )
     }
 
     fn fault_of_bound(&self, entry: &Record) -> Option<u8>
@@ -466,7 +502,9 @@ impl Tables {
         self.section = section;
         match section {
             Some(stands) => {
-                self.headers.push(stands)?;
+                let Ok(()) = self.headers.push(stands) else {
+                    return Err(AllocError);
+                };
                 self.note_sense(sense)
             }
             None => self.note_sense(sense),
@@ -570,7 +608,7 @@ impl Tables {
     {
         let Tables {
             section: _,
-            headers: _,
+            headers,
             senses,
             rows,
             columns,
@@ -580,28 +618,25 @@ impl Tables {
             ranges,
             bounds,
         } = self;
+        drop(headers);
         let sense = first_sense(senses.as_slice());
         drop(senses);
-        match columns.into_list() {
-            Ok(columns) => {
-                let (objectives, rows) = rows.into_lists();
-                Ok(Sections {
-                    sense,
-                    objectives,
-                    rows,
-                    columns,
-                    sides: sides.into_list(),
-                    ranges: ranges.into_list(),
-                    bounds,
-                })
-            }
-            Err(error) => {
-                drop(rows);
-                drop(sides);
-                drop(ranges);
-                drop(bounds);
-                Err(error)
-            }
-        }
+        let Ok(columns) = columns.into_list() else {
+            drop(rows);
+            drop(sides);
+            drop(ranges);
+            drop(bounds);
+            return Err(AllocError);
+        };
+        let (objectives, rows) = rows.into_lists();
+        Ok(Sections {
+            sense,
+            objectives,
+            rows,
+            columns,
+            sides: sides.into_list(),
+            ranges: ranges.into_list(),
+            bounds,
+        })
     }
 }

@@ -34,7 +34,9 @@ fn put_entries(
     ensures { IfOk result (λ _. text.new.items ≡ text.old.items ++ written_text (entry_lines model.now column.now)) }
 {
     for entry in entries {
-        put_row_entry(text, model, column.name.as_slice(), entry)?;
+        let Ok(()) = put_row_entry(text, model, column.name.as_slice(), entry) else {
+            return Err(AllocError);
+        };
     }
     Ok(())
 }
@@ -115,7 +117,9 @@ pub(crate) fn put_columns(
     ensures { IfOk result (λ _. text.new.items ≡ text.old.items ++ written_text (flat_map (column_lines model.now) columns.now)) }
 {
     for column in columns {
-        put_column(text, model, column)?;
+        let Ok(()) = put_column(text, model, column) else {
+            return Err(AllocError);
+        };
     }
     Ok(())
 }
@@ -142,7 +146,9 @@ fn put_upper(text: &mut Vec<u8>, name: &[u8], upper: &Bound) -> Result<(), Alloc
 fn put_both_bounds(text: &mut Vec<u8>, column: &Col) -> Result<(), AllocError>
     ensures { IfOk result (λ _. text.new.items ≡ text.old.items ++ written_text (bound_lines column.now)) }
 {
-    put_lower(text, column.name.as_slice(), &column.lo)?;
+    let Ok(()) = put_lower(text, column.name.as_slice(), &column.lo) else {
+        return Err(AllocError);
+    };
     put_upper(text, column.name.as_slice(), &column.up)
 }
 
@@ -151,7 +157,9 @@ pub(crate) fn put_bounds(text: &mut Vec<u8>, columns: &[Col]) -> Result<(), Allo
     ensures { IfOk result (λ _. text.new.items ≡ text.old.items ++ written_text (flat_map bound_lines columns.now)) }
 {
     for column in columns {
-        put_both_bounds(text, column)?;
+        let Ok(()) = put_both_bounds(text, column) else {
+            return Err(AllocError);
+        };
     }
     Ok(())
 }

@@ -64,7 +64,9 @@ pub(crate) fn put_three(
 ) -> Result<(), AllocError>
     ensures { IfOk result (λ _. text.new.items ≡ text.old.items ++ written_text (Data (first.now ∷ second.now ∷ third.now ∷ []) ∷ [])) }
 {
-    put_word(text, first)?;
+    let Ok(()) = put_word(text, first) else {
+        return Err(AllocError);
+    };
     put_two(text, second, third)
 }
 
@@ -102,7 +104,9 @@ pub(crate) fn put_bound(
 ) -> Result<(), AllocError>
     ensures { IfOk result (λ _. text.new.items ≡ text.old.items ++ written_text (Data (kind.now ∷ set.now ∷ name.now ∷ printed number.now ∷ []) ∷ [])) }
 {
-    put_word(text, kind)?;
+    let Ok(()) = put_word(text, kind) else {
+        return Err(AllocError);
+    };
     put_entry(text, set, name, number)
 }
 

@@ -42,7 +42,9 @@ pub(crate) fn put_rows(text: &mut Vec<u8>, rows: &[Row]) -> Result<(), AllocErro
     ensures { IfOk result (λ _. text.new.items ≡ text.old.items ++ written_text (map row_line rows.now)) }
 {
     for row in rows {
-        put_row(text, row)?;
+        let Ok(()) = put_row(text, row) else {
+            return Err(AllocError);
+        };
     }
     Ok(())
 }
@@ -59,7 +61,9 @@ pub(crate) fn put_right_sides(text: &mut Vec<u8>, rows: &[Row]) -> Result<(), Al
     ensures { IfOk result (λ _. text.new.items ≡ text.old.items ++ written_text (flat_map rhs_line rows.now)) }
 {
     for row in rows {
-        put_right_side(text, row)?;
+        let Ok(()) = put_right_side(text, row) else {
+            return Err(AllocError);
+        };
     }
     Ok(())
 }
@@ -84,7 +88,9 @@ pub(crate) fn put_ranges(text: &mut Vec<u8>, rows: &[Row]) -> Result<(), AllocEr
     ensures { IfOk result (λ _. text.new.items ≡ text.old.items ++ written_text (flat_map range_line rows.now)) }
 {
     for row in rows {
-        put_range(text, row)?;
+        let Ok(()) = put_range(text, row) else {
+            return Err(AllocError);
+        };
     }
     Ok(())
 }

@@ -57,7 +57,9 @@ fn put_row_section(text: &mut Vec<u8>, model: &Model) -> Result<(), AllocError>
 fn put_column_section(text: &mut Vec<u8>, model: &Model) -> Result<(), AllocError>
     ensures { IfOk result (λ _. text.new.items ≡ text.old.items ++ written_text (columns_lines model.now)) }
 {
-    put_header(text, b"COLUMNS")?;
+    let Ok(()) = put_header(text, b"COLUMNS") else {
+        return Err(AllocError);
+    };
     put_columns(text, model, model.cols())
 }
 
@@ -81,14 +83,18 @@ fn put_rhs_section(text: &mut Vec<u8>, model: &Model) -> Result<(), AllocError>
 fn put_range_section(text: &mut Vec<u8>, model: &Model) -> Result<(), AllocError>
     ensures { IfOk result (λ _. text.new.items ≡ text.old.items ++ written_text (ranges_lines model.now)) }
 {
-    put_header(text, b"RANGES")?;
+    let Ok(()) = put_header(text, b"RANGES") else {
+        return Err(AllocError);
+    };
     put_ranges(text, model.rows())
 }
 
 fn put_bound_section(text: &mut Vec<u8>, model: &Model) -> Result<(), AllocError>
     ensures { IfOk result (λ _. text.new.items ≡ text.old.items ++ written_text (bounds_lines model.now)) }
 {
-    put_header(text, b"BOUNDS")?;
+    let Ok(()) = put_header(text, b"BOUNDS") else {
+        return Err(AllocError);
+    };
     put_bounds(text, model.cols())
 }
 

@@ -122,7 +122,11 @@ impl<'a> Task<'a> {
         ensures { IsSolvedIn (task_work self.now) (round_of round.now) result }
     {
         match with_cut_variables(alloc, self.first, 0, round.cuts.len()) {
-            Ok(first) => self.solve_from(alloc, round, &first),
+            Ok(first) => {
+                let solved = self.solve_from(alloc, round, &first);
+                drop(first);
+                solved
+            }
             Err(_) => Solved::Memory,
         }
     }

@@ -1,9 +1,10 @@
 // Scripts of a machine whose replies are what a test wants, also for want of memory.
+use memory_ends::{MemSink, MemSource, MemStore};
 use script_session::{Machine, run_script};
 use std::alloc::{AllocError, Global};
 use std::collections::BTreeMap;
 use std::test::Fail;
-use sym_io::{MemSink, MemSource, MemStore, Store};
+use sym_io::Store;
 
 /// Says each command again, its words joined by one blank. But `refuse` is refused, to `starve` memory is wanting, and `lose` has no
 /// memory for its reply. A command of three words ends the script.

@@ -1,10 +1,10 @@
 // The ends of the program, one call at a time.
+use memory_ends::{MemSink, MemSource};
 use std::io::{ErrorKind, Read};
 use std::test::Fail;
 use std::{fs, io};
 use sym_io::{
-    CurrentFolder, Failed, MemSink, MemSource, Sink, Source, StandardInput, StandardOutput, Store,
-    StoreFault,
+    CurrentFolder, Failed, Sink, Source, StandardInput, StandardOutput, Store, StoreFault,
 };
 
 /// A reader that can't be read.

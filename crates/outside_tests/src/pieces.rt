@@ -1,12 +1,13 @@
 // Ends that move few bytes at a time, as pipes and terminals do.
 use crate::echo::Echo;
+use memory_ends::MemStore;
 use script_session::run_script;
 use std::alloc::Global;
 use std::collections::BTreeMap;
 use std::io;
 use std::io::{Read, Write};
 use std::test::Fail;
-use sym_io::{MemStore, StandardInput, StandardOutput};
+use sym_io::{StandardInput, StandardOutput};
 
 /// A reader or a writer that moves at most so many bytes a call.
 #[derive(Drop)]

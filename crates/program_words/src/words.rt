@@ -66,10 +66,10 @@ fn check_command<'a>(alloc: Global) -> Result<Command<'a>, AllocError>
     ensures app { IfOk result (λ command. app_of command ≡ check_app) }
     ensures local { IfOk result (λ command. (out-Command command).has_globals ≡ false) }
 {
-    match with_word(alloc, Command::new(alloc, "check"), "MODEL") {
-        Ok(command) => with_word(alloc, command, "CERT"),
-        Err(error) => Err(error),
-    }
+    let Ok(command) = with_word(alloc, Command::new(alloc, "check"), "MODEL") else {
+        return Err(AllocError);
+    };
+    with_word(alloc, command, "CERT")
 }
 
 /// The program's name without subcommands. Help and the version are no subcommands or flags: other words have the usage
@@ -95,14 +95,14 @@ fn run_command_line<'a>(alloc: Global) -> Result<Command<'a>, AllocError>
 fn command_line<'a>(alloc: Global) -> Result<Command<'a>, AllocError>
     ensures { IfOk result (λ command. app_of command ≡ symphony) }
 {
-    let check = check_command(alloc)?;
-    match run_command_line(alloc) {
-        Ok(command) => command.subcommand(check),
-        Err(error) => {
-            drop(check);
-            Err(error)
-        }
-    }
+    let Ok(check) = check_command(alloc) else {
+        return Err(AllocError);
+    };
+    let Ok(command) = run_command_line(alloc) else {
+        drop(check);
+        return Err(AllocError);
+    };
+    command.subcommand(check)
 }
 
 /// The value of an argument, or no text where it has none.

@@ -105,15 +105,6 @@ of_element-past d f [] k h = refl
 of_element-past d f (x ∷ xs) zero h = absurd (omega arith)
 of_element-past d f (x ∷ xs) (suc k) h = let less : length xs ≤ k = omega arith in of_element-past d f xs k less
 
--- ---- lists written element by element
-
-pub pieces-step : {A : Type 0} (f : A → List ℕ) (xs : List A) (k : ℕ) (d : A) (r p q : List ℕ) → k < length xs → p ≡ r ++ flat_map f (take k xs) → q ≡ p ++ f (get_or xs k d) → q ≡ r ++ flat_map f (take (k + 1) xs)
-pieces-step f xs k d r p q below before now =
-    now ∙ ap (λ t. t ++ f (get_or xs k d)) before ∙ flat_map_more f r (take k xs) (get_or xs k d) ∙ ap (λ t. r ++ flat_map f t) (sym (take_more xs k d below))
-
-pub pieces-all : {A : Type 0} (f : A → List ℕ) (xs : List A) (k : ℕ) (r p : List ℕ) → length xs ≤ k → p ≡ r ++ flat_map f (take k xs) → p ≡ r ++ flat_map f xs
-pieces-all f xs k r p h e = e ∙ ap (λ t. r ++ flat_map f t) (take_all k xs h)
-
 -- ---- cuts
 
 cuts-more : (M : Program) (k : ℕ) (ds : List Derivation) (d : Derivation) → cut_lines M k (ds ++ d ∷ []) ≡ cut_lines M k ds ++ cut_line M (k + length ds) d

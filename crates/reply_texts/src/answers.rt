@@ -22,8 +22,12 @@ fn write_infeasible(reply: &mut Vec<u8>, placed: u64) -> Result<(), AllocError>
 fn write_value(reply: &mut Vec<u8>, value: &Frac, placed: u64) -> Result<(), AllocError>
     ensures { IfOk result (λ _. reply.new.items ≡ reply.old.items ++ value_line value.now placed) }
 {
-    reply.extend_from_slice(b"optimal ")?;
-    value.write_to(reply)?;
+    let Ok(()) = reply.extend_from_slice(b"optimal ") else {
+        return Err(AllocError);
+    };
+    let Ok(()) = value.write_to(reply) else {
+        return Err(AllocError);
+    };
     write_count_line(reply, b" nodes ", placed)
 }
 
@@ -52,7 +56,9 @@ fn write_columns(reply: &mut Vec<u8>, columns: &[Col], numbers: &[Frac]) -> Resu
     ensures { IfOk result (λ _. reply.new.items ≡ reply.old.items ++ column_lines columns.now numbers.now) }
 {
     for (index, column) in columns.iter().enumerate() {
-        write_column_line(reply, column.name.as_slice(), &numbers[index])?;
+        let Ok(()) = write_column_line(reply, column.name.as_slice(), &numbers[index]) else {
+            return Err(AllocError);
+        };
     }
     Ok(())
 }
@@ -78,8 +84,12 @@ fn write_optimal(
     requires best { best.now ≡ value model.now 1 point.now }
     ensures { IfOk result (λ _. reply.new.items ≡ reply.old.items ++ optimal_text model.now point.now placed) }
 {
-    write_value(reply, best, placed)?;
-    write_columns(reply, model.cols(), point.as_slice())?;
+    let Ok(()) = write_value(reply, best, placed) else {
+        return Err(AllocError);
+    };
+    let Ok(()) = write_columns(reply, model.cols(), point.as_slice()) else {
+        return Err(AllocError);
+    };
     reply.extend_from_slice(b"end\n")
 }
 
@@ -137,7 +147,9 @@ fn write_stop(
 ) -> Result<(), AllocError>
     ensures { IfOk result (λ _. reply.new.items ≡ reply.old.items ++ (why.now ++ known_text placed bound.now best.now)) }
 {
-    reply.extend_from_slice(why)?;
+    let Ok(()) = reply.extend_from_slice(why) else {
+        return Err(AllocError);
+    };
     write_known(reply, placed, bound, best)
 }
 
@@ -152,14 +164,18 @@ fn write_stopped_pivots(
 ) -> Result<(), AllocError>
     ensures { IfOk result (λ _. reply.new.items ≡ reply.old.items ++ stopped_pivots_text model.now placed bound.now best.now place.now) }
 {
-    write_stop(reply, b"stopped pivots ", placed, bound, best)?;
-    write_block(
+    let Ok(()) = write_stop(reply, b"stopped pivots ", placed, bound, best) else {
+        return Err(AllocError);
+    };
+    let Ok(()) = write_block(
         reply,
         model,
         &place.path,
         place.cuts.as_slice(),
         &place.basis,
-    )?;
+    ) else {
+        return Err(AllocError);
+    };
     reply.extend_from_slice(b"end\n")
 }
 

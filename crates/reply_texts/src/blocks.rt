@@ -57,7 +57,9 @@ fn write_changes(
     ensures { IfOk result (λ _. reply.new.items ≡ reply.old.items ++ flat_map (change_text model.now) changes.now) }
 {
     for change in changes {
-        write_change(reply, model, *change)?;
+        let Ok(()) = write_change(reply, model, *change) else {
+            return Err(AllocError);
+        };
     }
     Ok(())
 }
@@ -66,8 +68,12 @@ fn write_changes(
 fn write_path(reply: &mut Vec<u8>, model: &Model, path: &Region) -> Result<(), AllocError>
     ensures { IfOk result (λ _. reply.new.items ≡ reply.old.items ++ path_line model.now path.now) }
 {
-    reply.extend_from_slice(b"path")?;
-    write_changes(reply, model, path.as_slice())?;
+    let Ok(()) = reply.extend_from_slice(b"path") else {
+        return Err(AllocError);
+    };
+    let Ok(()) = write_changes(reply, model, path.as_slice()) else {
+        return Err(AllocError);
+    };
     reply.extend_from_slice(b"\n")
 }
 
@@ -105,7 +111,9 @@ fn write_literals(
     ensures { IfOk result (λ _. reply.new.items ≡ reply.old.items ++ flat_map (literal_text model.now) literals.now) }
 {
     for literal in literals {
-        write_literal(reply, model, *literal)?;
+        let Ok(()) = write_literal(reply, model, *literal) else {
+            return Err(AllocError);
+        };
     }
     Ok(())
 }
@@ -129,8 +137,12 @@ fn write_cut_side(
 ) -> Result<(), AllocError>
     ensures { IfOk result (λ _. reply.new.items ≡ reply.old.items ++ (codes "cut " ++ decimal place ++ codes " " ++ row_name model.now row.0 ++ side_text of)) }
 {
-    write_count(reply, b"cut ", place)?;
-    write_two(reply, b" ", row_name(model, row))?;
+    let Ok(()) = write_count(reply, b"cut ", place) else {
+        return Err(AllocError);
+    };
+    let Ok(()) = write_two(reply, b" ", row_name(model, row)) else {
+        return Err(AllocError);
+    };
     reply.extend_from_slice(side(of))
 }
 
@@ -143,8 +155,12 @@ fn write_cut_line(
 ) -> Result<(), AllocError>
     ensures { IfOk result (λ _. reply.new.items ≡ reply.old.items ++ cut_line model.now place cut.now) }
 {
-    write_cut_side(reply, model, place, cut.row, cut.side)?;
-    write_literals(reply, model, cut.literals.as_slice())?;
+    let Ok(()) = write_cut_side(reply, model, place, cut.row, cut.side) else {
+        return Err(AllocError);
+    };
+    let Ok(()) = write_literals(reply, model, cut.literals.as_slice()) else {
+        return Err(AllocError);
+    };
     reply.extend_from_slice(b"\n")
 }
 
@@ -153,7 +169,9 @@ fn write_cuts(reply: &mut Vec<u8>, model: &Model, cuts: &[Derivation]) -> Result
     ensures { IfOk result (λ _. reply.new.items ≡ reply.old.items ++ cut_lines model.now 1 cuts.now) }
 {
     for (index, cut) in cuts.iter().enumerate() {
-        write_cut_line(reply, model, index as u64 + 1, cut)?;
+        let Ok(()) = write_cut_line(reply, model, index as u64 + 1, cut) else {
+            return Err(AllocError);
+        };
     }
     Ok(())
 }
@@ -167,8 +185,12 @@ fn write_variable_line(
 ) -> Result<(), AllocError>
     ensures { IfOk result (λ _. reply.new.items ≡ reply.old.items ++ (word.now ++ flat_map (next_text model.now) variables.now ++ codes "\n")) }
 {
-    reply.extend_from_slice(word)?;
-    write_variables(reply, model, variables)?;
+    let Ok(()) = reply.extend_from_slice(word) else {
+        return Err(AllocError);
+    };
+    let Ok(()) = write_variables(reply, model, variables) else {
+        return Err(AllocError);
+    };
     reply.extend_from_slice(b"\n")
 }
 
@@ -176,7 +198,9 @@ fn write_variable_line(
 fn write_basis(reply: &mut Vec<u8>, model: &Model, basis: &Basis) -> Result<(), AllocError>
     ensures { IfOk result (λ _. reply.new.items ≡ reply.old.items ++ basis_lines model.now basis.now) }
 {
-    write_variable_line(reply, model, b"basis", basis.basic.as_slice())?;
+    let Ok(()) = write_variable_line(reply, model, b"basis", basis.basic.as_slice()) else {
+        return Err(AllocError);
+    };
     write_variable_line(reply, model, b"high", basis.high.as_slice())
 }
 
@@ -190,8 +214,12 @@ pub(crate) fn write_block(
 ) -> Result<(), AllocError>
     ensures { IfOk result (λ _. reply.new.items ≡ reply.old.items ++ block_text model.now region.now cuts.now basis.now) }
 {
-    write_cuts(reply, model, cuts)?;
-    write_region(reply, model, region)?;
+    let Ok(()) = write_cuts(reply, model, cuts) else {
+        return Err(AllocError);
+    };
+    let Ok(()) = write_region(reply, model, region) else {
+        return Err(AllocError);
+    };
     write_basis(reply, model, basis)
 }
 
@@ -203,7 +231,11 @@ pub(crate) fn write_step_line(
 ) -> Result<(), AllocError>
     ensures { IfOk result (λ _. reply.new.items ≡ reply.old.items ++ step_line model.now step.now) }
 {
-    reply.extend_from_slice(b"at ")?;
-    write_step(reply, model, step)?;
+    let Ok(()) = reply.extend_from_slice(b"at ") else {
+        return Err(AllocError);
+    };
+    let Ok(()) = write_step(reply, model, step) else {
+        return Err(AllocError);
+    };
     reply.extend_from_slice(b"\n")
 }

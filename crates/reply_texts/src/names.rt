@@ -75,7 +75,9 @@ pub(crate) fn write_next(
 ) -> Result<(), AllocError>
     ensures { IfOk result (λ _. reply.new.items ≡ reply.old.items ++ next_text model.now variable.now) }
 {
-    reply.extend_from_slice(b" ")?;
+    let Ok(()) = reply.extend_from_slice(b" ") else {
+        return Err(AllocError);
+    };
     write_variable(reply, model, variable)
 }
 
@@ -88,7 +90,9 @@ pub(crate) fn write_variables(
     ensures { IfOk result (λ _. reply.new.items ≡ reply.old.items ++ flat_map (next_text model.now) variables.now) }
 {
     for variable in variables {
-        write_next(reply, model, variable)?;
+        let Ok(()) = write_next(reply, model, variable) else {
+            return Err(AllocError);
+        };
     }
     Ok(())
 }

@@ -7,7 +7,9 @@ use std::alloc::AllocError;
 pub(crate) fn write_two(reply: &mut Vec<u8>, first: &[u8], second: &[u8]) -> Result<(), AllocError>
     ensures { IfOk result (λ _. reply.new.items ≡ reply.old.items ++ (first.now ++ second.now)) }
 {
-    reply.extend_from_slice(first)?;
+    let Ok(()) = reply.extend_from_slice(first) else {
+        return Err(AllocError);
+    };
     reply.extend_from_slice(second)
 }
 
@@ -15,7 +17,9 @@ pub(crate) fn write_two(reply: &mut Vec<u8>, first: &[u8], second: &[u8]) -> Res
 pub(crate) fn write_line(reply: &mut Vec<u8>, first: &[u8], second: &[u8]) -> Result<(), AllocError>
     ensures { IfOk result (λ _. reply.new.items ≡ reply.old.items ++ (first.now ++ second.now ++ codes "\n")) }
 {
-    write_two(reply, first, second)?;
+    let Ok(()) = write_two(reply, first, second) else {
+        return Err(AllocError);
+    };
     reply.extend_from_slice(b"\n")
 }
 

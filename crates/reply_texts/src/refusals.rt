@@ -10,7 +10,9 @@ fn write_fault(reply: &mut Vec<u8>, first: &[u8], place: &[u8], code: u8) -> Res
     ensures { IfOk result (λ _. reply.new.items ≡ reply.old.items ++ (first.now ++ place.now ++ codes " code " ++ decimal code ++ codes "\n")) }
 {
     let mut digits = itoa::Buffer::new();
-    write_two(reply, first, place)?;
+    let Ok(()) = write_two(reply, first, place) else {
+        return Err(AllocError);
+    };
     write_line(reply, b" code ", digits.format(code).as_bytes())
 }
 

@@ -19,7 +19,9 @@ fn write_crossing(
 ) -> Result<(), AllocError>
     ensures { IfOk result (λ _. reply.new.items ≡ reply.old.items ++ (first.now ++ row_name model.now row.0 ++ codes " col " ++ column_name model.now column.0)) }
 {
-    write_two(reply, first, row_name(model, row))?;
+    let Ok(()) = write_two(reply, first, row_name(model, row)) else {
+        return Err(AllocError);
+    };
     write_two(reply, b" col ", column_name(model, column))
 }
 
@@ -46,14 +48,18 @@ fn write_entry(
 ) -> Result<(), AllocError>
     ensures { IfOk result (λ _. reply.new.items ≡ reply.old.items ++ (codes "lag col " ++ column_name model.now column.0 ++ codes " " ++ variable_text model.now by.now)) }
 {
-    write_two(reply, b"lag col ", column_name(model, column))?;
+    let Ok(()) = write_two(reply, b"lag col ", column_name(model, column)) else {
+        return Err(AllocError);
+    };
     write_next(reply, model, by)
 }
 
 fn write_term(reply: &mut Vec<u8>, model: &Model, of: &Var) -> Result<(), AllocError>
     ensures { IfOk result (λ _. reply.new.items ≡ reply.old.items ++ (codes "lag " ++ variable_text model.now of.now)) }
 {
-    reply.extend_from_slice(b"lag ")?;
+    let Ok(()) = reply.extend_from_slice(b"lag ") else {
+        return Err(AllocError);
+    };
     write_variable(reply, model, of)
 }
 
@@ -67,8 +73,12 @@ fn write_pair(
 ) -> Result<(), AllocError>
     ensures { IfOk result (λ _. reply.new.items ≡ reply.old.items ++ (word.now ++ next_text model.now first.now ++ next_text model.now second.now)) }
 {
-    reply.extend_from_slice(word)?;
-    write_next(reply, model, first)?;
+    let Ok(()) = reply.extend_from_slice(word) else {
+        return Err(AllocError);
+    };
+    let Ok(()) = write_next(reply, model, first) else {
+        return Err(AllocError);
+    };
     write_next(reply, model, second)
 }
 
@@ -83,8 +93,12 @@ fn write_pivot(
 ) -> Result<(), AllocError>
     ensures { IfOk result (λ _. reply.new.items ≡ reply.old.items ++ (codes "pivot" ++ next_text model.now leaving.now ++ next_text model.now entering.now ++ next_text model.now first.now ++ next_text model.now second.now)) }
 {
-    write_pair(reply, model, b"pivot", leaving, entering)?;
-    write_next(reply, model, first)?;
+    let Ok(()) = write_pair(reply, model, b"pivot", leaving, entering) else {
+        return Err(AllocError);
+    };
+    let Ok(()) = write_next(reply, model, first) else {
+        return Err(AllocError);
+    };
     write_next(reply, model, second)
 }
 
@@ -97,7 +111,9 @@ fn write_cost_ratio(
 ) -> Result<(), AllocError>
     ensures { IfOk result (λ _. reply.new.items ≡ reply.old.items ++ (codes "ratio" ++ next_text model.now leaving.now ++ next_text model.now entering.now ++ codes " 0")) }
 {
-    write_pair(reply, model, b"ratio", leaving, entering)?;
+    let Ok(()) = write_pair(reply, model, b"ratio", leaving, entering) else {
+        return Err(AllocError);
+    };
     reply.extend_from_slice(b" 0")
 }
 
@@ -111,7 +127,9 @@ fn write_part_ratio(
 ) -> Result<(), AllocError>
     ensures { IfOk result (λ _. reply.new.items ≡ reply.old.items ++ (codes "ratio" ++ next_text model.now leaving.now ++ next_text model.now entering.now ++ next_text model.now part.now)) }
 {
-    write_pair(reply, model, b"ratio", leaving, entering)?;
+    let Ok(()) = write_pair(reply, model, b"ratio", leaving, entering) else {
+        return Err(AllocError);
+    };
     write_next(reply, model, part)
 }
 

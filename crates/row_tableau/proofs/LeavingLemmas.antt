@@ -1,8 +1,10 @@
 -- The first of the rows that may leave, row by row.
-use Rattle.std.specs.Prelude.{◌≡◌, ℕ, ◌+◌, ◌<◌, ◌≤◌, List, Option, Some, None}
-use Rattle.std.proofs.Common.{arith, below_more}
+use Rattle.std.specs.Prelude.{◌≡◌, ◌↔◌, ℕ, ◌+◌, ◌≤◌, pos, Bool, true, false, not, IsTrue, List, Some, None}
+use Rattle.std.proofs.Common.{refl, arith, below_more}
+use Rattle.std.proofs.lemmas.Bool.{false≢true}
+use Rattle.rational.specs.Rational.{int}
 use Rattle.bases.specs.Relaxation.{Table}
-use Rattle.bases.specs.Bases.{MayLeave}
+use Rattle.bases.specs.Bases.{Lists, MayLeave}
 use Rattle.row_tableau.specs.Dense.{Dense, table_of}
 use Rattle.row_tableau.specs.Answers.{IsFirstLeaving}
 
@@ -34,3 +36,8 @@ module _ (t : Dense) (list : List ℕ) (place row : ℕ) where
       may,
       below_more (λ i. MayLeave list d place i → d.basic row ≤ d.basic i) row (λ i q m. let a = before.2 i q m in omega (arith, a, lesser)) (λ m. omega arith),
     )
+
+-- an unlisted variable may leave where its entry is not 0
+pub unlisted_leaves : (list : List ℕ) (d : Table) (place row : ℕ) (zero : Bool) → ¬ (Lists list (d.basic row)) → IsTrue zero ↔ d.entry row place ≡ int (pos 0) → IsTrue (not zero) ↔ MayLeave list d place row
+unlisted_leaves list d place row true unlisted is = ((λ t. absurd (false≢true t)), (λ m. absurd (m.some (is.0 refl))))
+unlisted_leaves list d place row false unlisted is = ((λ _. record { unlisted = unlisted; some = λ e. false≢true (is.1 e) }), (λ _. refl))

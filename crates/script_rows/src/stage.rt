@@ -1,10 +1,11 @@
 // What a row has said so far, and what its runs were answered.
 use anyhow::{Result, bail, ensure};
+use memory_ends::{MemSink, MemSource, MemStore};
 use row_texts::{Stage, bytes_of, compare, number_of};
 use std::alloc::{AllocError, Global};
 use std::collections::BTreeMap;
 use std::mem::replace;
-use sym_io::{MemSink, MemSource, MemStore, Store, StoreFault};
+use sym_io::{Store, StoreFault};
 
 /// The most faults in a row that a file's reader goes past.
 const MOST_FAULTS: u32 = 100;

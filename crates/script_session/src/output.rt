@@ -15,7 +15,9 @@ pub fn write_all<W: Sink>(out: &mut W, bytes: &[u8]) -> Result<(), Failed>
 {
     let mut rest = bytes;
     while !rest.is_empty() {
-        let count = out.write(rest)?;
+        let Ok(count) = out.write(rest) else {
+            return Err(Failed);
+        };
         if count == 0 {
             return Err(Failed);
         }

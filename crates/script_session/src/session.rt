@@ -5,14 +5,13 @@ ghost use Rattle.script_session.specs.Reply.{wants_memory, is_error, final_statu
 ghost use Rattle.script_session.specs.Request.{RequestStep, Words};
 ghost use Rattle.text_lines.specs.Lines.{HasNoNewline};
 ghost use Rattle.script_session.specs.Script.{is_comment, text_requests, is_end_text};
-ghost use Rattle.script_session.specs.declared.session.Stop.TheVariants.{Memory, Sink as SinkStop};
 
 use crate::machine::Machine;
 use crate::output::write_all;
 use crate::reading::LINE_LIMIT;
 use crate::reply::{is_error_reply, is_memory_reply};
-use std::alloc::{AllocError, Global};
-use sym_io::{Failed, Sink, Store};
+use std::alloc::Global;
+use sym_io::{Sink, Store};
 use text_lines::{cut_line, line_text, words};
 
 /// A comment's first byte is `#`.
@@ -39,22 +38,6 @@ pub(crate) enum Stop {
     Sink,
     TooLong,
     Memory,
-}
-
-impl From<AllocError> for Stop {
-    ghost from_gives = { λ _ stop. stop ≡ Memory };
-
-    fn from(_: AllocError) -> Self {
-        Stop::Memory
-    }
-}
-
-impl From<Failed> for Stop {
-    ghost from_gives = { λ _ stop. stop ≡ SinkStop };
-
-    fn from(_: Failed) -> Self {
-        Stop::Sink
-    }
 }
 
 /// What a run keeps beside its machine: the room for a reply, which each command uses anew, and what was answered so far.
@@ -125,9 +108,13 @@ impl Session {
         ensures store_later { S.faults store.old ≤ S.faults store.new }
     {
         self.reply.clear();
-        machine.answer(self.alloc, store, words, &mut self.reply)?;
+        let Ok(()) = machine.answer(self.alloc, store, words, &mut self.reply) else {
+            return Err(Stop::Memory);
+        };
         self.note_reply();
-        write_all(out, &self.reply)?;
+        let Ok(()) = write_all(out, &self.reply) else {
+            return Err(Stop::Sink);
+        };
         Ok(())
     }
 
@@ -205,7 +192,9 @@ impl Session {
         let is_long = bytes.len() > LINE_LIMIT;
         if is_long {
             self.refused = true;
-            write_all(out, b"error 01 line too long\n")?;
+            let Ok(()) = write_all(out, b"error 01 line too long\n") else {
+                return Err(Stop::Sink);
+            };
             return Ok(Flow::Open);
         }
         let text = line_text(bytes, ended);
@@ -289,7 +278,9 @@ impl Session {
         if pending.is_empty() {
             return Ok(());
         }
-        self.serve_line(machine, out, store, pending, false)?;
-        Ok(())
+        match self.serve_line(machine, out, store, pending, false) {
+            Ok(_) => Ok(()),
+            Err(stop) => Err(stop),
+        }
     }
 }

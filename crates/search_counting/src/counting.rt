@@ -60,7 +60,10 @@ fn most_results(points: u64) -> Option<u64>
     if points == 0 {
         return Some(1);
     }
-    (points - 1).checked_mul(2)?.checked_add(1)
+    match (points - 1).checked_mul(2) {
+        Some(doubled) => doubled.checked_add(1),
+        None => None,
+    }
 }
 
 /// The most results that a search of the model places: one for each whole point within its bounds, and one for each split

@@ -54,7 +54,11 @@ pub fn text_of(alloc: Global, search: &Search) -> Result<Vec<u8>, WarmFault>
 pub fn search_in(alloc: Global, text: &[u8]) -> Result<Search, WarmFault>
     ensures { IsSearchFound text.now result }
 {
-    let stated = read(alloc, text)?;
-    let search = search_of(alloc, stated)?;
-    Ok(search)
+    match read(alloc, text) {
+        Ok(stated) => match search_of(alloc, stated) {
+            Ok(search) => Ok(search),
+            Err(AllocError) => Err(WarmFault::Memory),
+        },
+        Err(fault) => Err(fault),
+    }
 }

@@ -1,5 +1,5 @@
 -- What a run of the shell's commands says, in the states of which they speak.
-use Rattle.std.proofs.Common.{◌≡◌, ℕ, ◌<◌, ◌⊎◌, Bool, true, false, if◌then◌else◌, List, subst, sym, Option, inl, inr, arith}
+use Rattle.std.proofs.Common.{◌≡◌, ℕ, ◌<◌, ◌⊎◌, List, subst, Option, inl, inr, arith}
 use Rattle.std.specs.Prelude.{◌≢◌, String}
 use Rattle.std.specs.declared.alloc.Global.{Global}
 use Rattle.sym_io.specs.Files.{Files}
@@ -40,11 +40,6 @@ pub below_seven : (status : ℕ) → (status < 2) ⊎ ((status ≡ 4) ⊎ (statu
 below_seven status (inl few) = omega arith
 below_seven status (inr (inl four)) = omega arith
 below_seven status (inr (inr five)) = omega arith
-
-pub known-status : (memory accepted : Bool) (status : ℕ) → status ≡ (if memory then 5 else if accepted then 0 else 1) → (status < 2) ⊎ ((status ≡ 4) ⊎ (status ≡ 5))
-known-status true accepted status e = inr (inr e)
-known-status false true status e = inl (subst (λ n. n < 2) (sym e) (omega arith))
-known-status false false status e = inl (subst (λ n. n < 2) (sym e) (omega arith))
 
 -- words that are taken are never refused
 pub run_form : (words : List (String Global)) (status : ℕ) → (TakesWords words → status ≢ 2) → IsRunForm words → AsksScript words × (status ≢ 2)

@@ -1,15 +1,12 @@
 -- What a run of the program is, by what its words ask for.
 use Rattle.std.specs.Prelude.{◌≡◌, ℕ, List, codes, Option, Some}
-use Rattle.std.specs.Io.KnownBytes.{Appends}
-use Rattle.sym_io.specs.Faults.{Rose}
 use Rattle.sym_io.specs.Files.{Files}
-use Rattle.script_session.specs.Output.{WritesFront}
 use Rattle.script_session.specs.Request.{RequestStep}
 use Rattle.script_session.specs.Run.{Outside, IsRun}
 use Rattle.script_session.specs.Told.{IsRunOf}
 use Rattle.program_words.specs.Forms.{AskedForm, Script, Check}
 use Rattle.sym_shell.specs.Causes.{IsAnswered}
-use Rattle.command_files.specs.Checking.{Checks, check_status}
+use Rattle.command_files.specs.Checking.{Checks, check_status, Prints}
 use Rattle.sym_shell.specs.Shell.{quits}
 use Rattle.sym_env.specs.Env.{PlainEnv, no_model}
 use Rattle.sym_shell.specs.State.{ShellState, shell_state}
@@ -42,13 +39,6 @@ abbrev pub end_with : PlainEnv → Around → ShellState
 end_with env around = shell_state env around.files' around.faults'
 
 -- ---- a form that prints one text
-
--- A text with P was printed whole, and gives the status; or a front of it, where the sink failed; or nothing, where there was no
--- memory for it. The sink's count of faults goes from before to after.
-pub data Prints (P : List ℕ → Type 0) (status_of : List ℕ → ℕ) (written written' : Option (List ℕ)) (before after : ℕ) (status : ℕ) : Type 0 where
-  Whole : (text : List ℕ) → P text → Appends written written' text → status ≡ status_of text → Prints P status_of written written' before after status
-  CutOff : (text : List ℕ) → P text → WritesFront written written' text → Rose before after → status ≡ 4 → Prints P status_of written written' before after status
-  MemoryWanted : written' ≡ written → status ≡ 5 → Prints P status_of written written' before after status
 
 -- a text with P was printed; nothing was read from the source, and the files stay
 pub record IsPrinted (P : List ℕ → Type 0) (status_of : List ℕ → ℕ) (around : Around) (status : ℕ) : Type 0 where

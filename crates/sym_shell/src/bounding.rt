@@ -96,11 +96,15 @@ fn bound_with_sides(
     match which {
         OptimumBound::Lower => {
             let answer = env.lb_new_rhs(sides);
-            tell_lower(reply, model, &answer)
+            let told = tell_lower(reply, model, &answer);
+            drop(answer);
+            told
         }
         OptimumBound::Upper => {
             let answer = env.ub_new_rhs(sides);
-            tell_upper(reply, model, &answer)
+            let told = tell_upper(reply, model, &answer);
+            drop(answer);
+            told
         }
     }
 }
@@ -121,11 +125,15 @@ fn bound_with_costs(
     match which {
         OptimumBound::Lower => {
             let answer = env.lb_new_obj(costs);
-            tell_lower(reply, model, &answer)
+            let told = tell_lower(reply, model, &answer);
+            drop(answer);
+            told
         }
         OptimumBound::Upper => {
             let answer = env.ub_new_obj(costs);
-            tell_upper(reply, model, &answer)
+            let told = tell_upper(reply, model, &answer);
+            drop(answer);
+            told
         }
     }
 }

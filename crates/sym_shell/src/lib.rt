@@ -35,4 +35,3 @@ mod shell;
 pub use ends::run_program;
 pub use laws::{restored_law, told_law};
 pub use program::run;
-pub use shell::Shell;

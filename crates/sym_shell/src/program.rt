@@ -3,15 +3,13 @@ ghost use Rattle.std.specs.Prelude.{◌≡◌, ◌≢◌, ◌<◌, ◌≤◌, �
 ghost use Rattle.std.specs.Io.KnownBytes.{Appends};
 ghost use Rattle.sym_io.specs.Faults.{Rose};
 ghost use Rattle.script_session.specs.Output.{WritesFront};
-ghost use Rattle.script_session.specs.Reply.{wants_memory};
 ghost use Rattle.script_session.specs.Run.{outside};
 ghost use Rattle.program_words.specs.Forms.{Script, TakesWords, asked_form};
 ghost use Rattle.program_words.specs.Laws.{IsRunForm, AsksScript, IsCheckForm, AsksCheck};
-ghost use Rattle.command_files.specs.Checking.{Checks, is_accepted, check_status};
-ghost use Rattle.sym_shell.specs.Run.{around, RunsAs, Prints, Untouched, usage};
+ghost use Rattle.sym_shell.specs.Run.{around, RunsAs, Untouched, usage};
 
 use crate::shell::Shell;
-use command_files::check_text;
+use command_files::run_check;
 use program_words::{Form, WordsFault, form_of};
 use script_session::{run_script, write_all};
 use std::alloc::Global;
@@ -20,8 +18,6 @@ use sym_io::{Sink, Source, Store};
 const USAGE: &[u8] = b"usage: symphony run | check MODEL CERT | bench SEED ROWS COLS NODES\n";
 
 const STATUS_USAGE: u8 = 2;
-
-const STATUS_SINK: u8 = 4;
 
 pub(crate) const STATUS_MEMORY: u8 = 5;
 
@@ -45,56 +41,6 @@ fn run_commands<R: Source, W: Sink, S: Store>(
     let status = run_script(alloc, &mut shell, script, out, store);
     drop(shell);
     status
-}
-
-/// Whether the bytes are the refusal for want of memory.
-fn tells_memory(reply: &[u8]) -> bool
-    ensures { result ≡ wants_memory reply.now }
-{
-    reply == b"error 90 memory\n".as_slice()
-}
-
-fn tells_accepted(reply: &[u8]) -> bool
-    ensures { result ≡ is_accepted reply.now }
-{
-    reply.starts_with(b"accepted ")
-}
-
-/// The status after what `check` has printed.
-fn status_of_check(reply: &[u8]) -> u8
-    ensures { result ≡ check_status reply.now }
-{
-    if tells_memory(reply) {
-        STATUS_MEMORY
-    } else if tells_accepted(reply) {
-        0
-    } else {
-        1
-    }
-}
-
-/// Checks a certificate, prints what comes of it, and answers the status.
-fn run_check<W: Sink, S: Store>(
-    alloc: Global,
-    model: &str,
-    cert: &str,
-    out: &mut W,
-    store: &mut S,
-) -> u8
-    ensures known { (result < 2) ⊎ ((result ≡ 4) ⊎ (result ≡ 5)) }
-    ensures printed { Prints (Checks (S.files store.old) model.now cert.now (S.faults store.old) (S.faults store.new)) check_status
-        (W.written out.old) (W.written out.new) (W.faults out.old) (W.faults out.new) result }
-    ensures files { S.files store.new ≡ S.files store.old }
-    ensures sink_later { W.faults out.old ≤ W.faults out.new }
-    ensures store_later { S.faults store.old ≤ S.faults store.new }
-{
-    let Ok(reply) = check_text(alloc, model, cert, store) else {
-        return STATUS_MEMORY;
-    };
-    match write_all(out, &reply) {
-        Ok(()) => status_of_check(&reply),
-        Err(_) => STATUS_SINK,
-    }
 }
 
 /// Writes the usage line, as far as the sink takes it, and answers the status. A sink that fails does not change it: what

@@ -41,7 +41,7 @@ const NODE_LIMIT: u64 = 1_000_000;
 /// The solver's state between commands: the environment, each name of whose model is a word of a line. Contracts see a
 /// `PlainEnv`.
 #[derive(Drop)]
-pub struct Shell {
+pub(crate) struct Shell {
     env: Env,
 }
 
@@ -71,7 +71,7 @@ fn limits_of(nodes: u64, pivots: u64) -> Limits
 
 impl Shell {
     /// No model is loaded. It takes no memory.
-    pub fn new(alloc: Global) -> Shell
+    pub(crate) fn new(alloc: Global) -> Shell
         ensures { result ≡ no_model }
     {
         Shell {

@@ -227,7 +227,13 @@ fn all_written(
     ensures columns { IfOk result (λ v. v.columns ≡ columns) }
     ensures filled { IfOk result (λ v. (slots : ℕ → ℕ) → filled v slots ≡ entries.list) }
 {
-    let unwritten = vec![in alloc; false; rows]?;
+    let unwritten = match vec![in alloc; false; rows] {
+        Ok(unwritten) => unwritten,
+        Err(error) => {
+            drop(entries);
+            return Err(error);
+        }
+    };
     Ok(PartEntries {
         rows,
         columns,
@@ -304,7 +310,10 @@ impl PartEntries {
         ensures columns { IfOk result (λ v. v.columns ≡ columns) }
         ensures filled { IfOk result (λ v. (slots : ℕ → ℕ) → ((j : ℕ) → j < columns → slots j ≡ rows + j) → filled v slots ≡ fractions.items) }
     {
-        let entries = TableEntries::new(alloc, fractions)?;
+        let entries = match TableEntries::new(alloc, fractions) {
+            Ok(entries) => entries,
+            Err(error) => return Err(error),
+        };
         if first < rows {
             if entries.is_whole() {
                 return partly_written(alloc, rows, columns, first, entries);

@@ -1,9 +1,11 @@
 -- The lines of a text, one at a time.
-use Rattle.std.proofs.Common.{◌≡◌, ℕ, ◌<◌, List, [], ◌∷◌, ◌++◌, length, map, refl, sym, ◌∙◌, ap, arith, Bool, false}
+use Rattle.std.proofs.Common.{◌≡◌, ℕ, ◌<◌, ◌≤◌, ◌+◌, ◌-◌, List, [], ◌∷◌, ◌++◌, length, map, take, drop, get_or, refl, sym, ◌∙◌, ap, subst, arith, Bool, true, false}
 use Rattle.std.specs.Prelude.{if◌then◌else◌, ◌==◌}
 use Rattle.std.proofs.lemmas.Bool.Decides.{nat_tests}
 use Rattle.std.specs.List.{slice_split}
 use Rattle.std.specs.Str.Lines.{lines, lines_of_parts, strip_carriage_return}
+use Rattle.std.proofs.lemmas.List.{take_more, take_all, take_rest, take-append-drop, drop_more}
+use Rattle.std.proofs.lemmas.List.Elements.{All-append, All-cons, All-nil}
 use Rattle.std.proofs.lemmas.List.Splits.{slice_split_at, slice_split_none, length-slice_split}
 use Rattle.text_lines.specs.Lines.{Line, ended_line, last_line, is_newline, HasNoNewline, lines_of, lines_of_pieces, text_of, is_nothing}
 
@@ -52,3 +54,25 @@ bytes-last [] [] = refl
 bytes-last [] (byte ∷ bytes) = refl
 bytes-last (a ∷ []) piece = ap (λ lines. a ∷ lines) (bytes-last [] piece)
 bytes-last (a ∷ b ∷ more) piece = ap (λ lines. a ∷ lines) (bytes-last (b ∷ more) piece)
+
+-- a list up to a place, what stands there, and what stands behind
+pub cut_at_place : (text : List ℕ) (end : ℕ) → end < length text → text ≡ take end text ++ get_or text end 0 ∷ take (length text - (end + 1)) (drop (end + 1) text)
+cut_at_place text end small =
+    sym (take-append-drop end text)
+    ∙ ap (λ (rest : List ℕ). take end text ++ rest) (drop_more text end 0 small ∙ ap (λ (rest : List ℕ). get_or text end 0 ∷ rest) (sym (take_rest text (end + 1))))
+
+-- a text up to its first newline, and behind it
+pub at_newline : (text : List ℕ) (end : ℕ) → end < length text → is_newline (get_or text end 0) ≡ true → text ≡ take end text ++ 10 ∷ take (length text - (end + 1)) (drop (end + 1) text)
+at_newline text end small found =
+    let byte : get_or text end 0 ≡ 10 = grind (arith, nat_tests) in
+    cut_at_place text end small ∙ ap (λ (b : ℕ). take end text ++ b ∷ take (length text - (end + 1)) (drop (end + 1) text)) byte
+
+-- a text up to a byte that is no newline
+pub no_newline_more : (text : List ℕ) (end : ℕ) → end < length text → HasNoNewline (take end text) → is_newline (get_or text end 0) ≡ false → HasNoNewline (take (end + 1) text)
+no_newline_more text end small clean other =
+    subst HasNoNewline (sym (take_more text end 0 small))
+    (All-append (λ byte. is_newline byte ≡ false) (take end text) (get_or text end 0 ∷ []) clean (All-cons (λ byte. is_newline byte ≡ false) (get_or text end 0) [] other (All-nil (λ byte. is_newline byte ≡ false))))
+
+-- a text of which no byte is one
+pub no_newline_all : (text : List ℕ) (end : ℕ) → length text ≤ end → HasNoNewline (take end text) → HasNoNewline text
+no_newline_all text end past clean = subst HasNoNewline (take_all end text past) clean

@@ -1,5 +1,5 @@
 -- The words of a line: the runs of bytes between blanks; and words that are written, with a blank before each.
-use Rattle.std.specs.Prelude.{◌≡◌, ℕ, ◌<◌, Bool, false, ◌||◌, not, List, [], ◌∷◌, ◌++◌, length, ◌==◌}
+use Rattle.std.specs.Prelude.{◌≡◌, ℕ, ◌<◌, Bool, false, ◌||◌, not, List, [], ◌∷◌, ◌++◌, length, ◌==◌, if◌then◌else◌}
 use Rattle.std.specs.List.{All, slice_split, filter}
 use Rattle.text_lines.specs.Lines.{HasNoNewline, is_nothing}
 
@@ -12,6 +12,10 @@ is_piece bytes = not (is_nothing bytes)
 
 abbrev pub HasNoBlank : List ℕ → Type 0
 HasNoBlank bytes = All (λ byte. is_blank byte ≡ false) bytes
+
+-- what a piece between blanks gives: a word, where it has a byte
+abbrev pub word_in : List ℕ → List (List ℕ)
+word_in piece = if is_nothing piece then [] else piece ∷ []
 
 -- the pieces between blanks that have a byte
 unfoldable pub words_of : List ℕ → List (List ℕ)

@@ -1,7 +1,13 @@
 // The lines of a text, from the first one on.
 ghost use Rattle.std.specs.Prelude.{◌≡◌, ◌∷◌, ◌++◌, IfSome, IfNone};
 ghost use Rattle.std.specs.Str.Lines.{strip_carriage_return};
-ghost use Rattle.text_lines.specs.Lines.{HasNoNewline, text_of};
+ghost use Rattle.text_lines.specs.Lines.{is_newline, HasNoNewline, text_of};
+
+fn is_newline_byte(byte: u8) -> bool
+    ensures { result ≡ is_newline byte }
+{
+    byte == b'\n'
+}
 
 /// The first line, without its newline, and what follows that. None where the text has no newline.
 pub fn cut_line(text: &[u8]) -> Option<(&[u8], &[u8])>
@@ -9,8 +15,12 @@ pub fn cut_line(text: &[u8]) -> Option<(&[u8], &[u8])>
     ensures clean { IfSome result (λ parts. HasNoNewline parts.0.now) }
     ensures parts { IfSome result (λ parts. text.now ≡ parts.0.now ++ 10 ∷ parts.1.now) }
 {
-    let end = text.iter().position(|byte| *byte == b'\n')?;
-    Some((&text[..end], &text[end + 1..]))
+    for end in 0..text.len() {
+        if is_newline_byte(text[end]) {
+            return Some((&text[..end], &text[end + 1..]));
+        }
+    }
+    None
 }
 
 /// The line without the carriage return at its end, if it has one.

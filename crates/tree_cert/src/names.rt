@@ -62,10 +62,10 @@ fn add_mult(
     ensures { IfOk result (λ _. mults.new ≡ mults.old ++ mult_named (formulation model.now cuts.now) suc var number) }
 {
     match var {
-        Var::Row(row) => {
-            let name = row_name(alloc, model, row)?;
-            mults.push(CertMult::Row(name, number))
-        }
+        Var::Row(row) => match row_name(alloc, model, row) {
+            Ok(name) => mults.push(CertMult::Row(name, number)),
+            Err(error) => Err(error),
+        },
         Var::Cut(cut) => add_cut(mults, cuts, cut, number),
         Var::Col(_) => Ok(()),
     }
@@ -121,8 +121,13 @@ fn push_named_cut(
     requires { IsDerivationThere model.now from.now }
     ensures { IfOk result (λ _. named.new ≡ named.old ++ named_cut model.now from.now ∷ []) }
 {
-    let row = row_name(alloc, model, from.row)?;
-    let literals = named_literals(alloc, model, from.literals.as_slice())?;
+    let Ok(row) = row_name(alloc, model, from.row) else {
+        return Err(AllocError);
+    };
+    let Ok(literals) = named_literals(alloc, model, from.literals.as_slice()) else {
+        drop(row);
+        return Err(AllocError);
+    };
     named.push(NamedCut {
         row,
         side: from.side,
@@ -143,7 +148,9 @@ pub(crate) fn named_cuts(
 {
     let mut named = List::new(alloc);
     for index in 0..used.len() {
-        push_named_cut(alloc, &mut named, model, &cuts[used[index]].from)?;
+        let Ok(()) = push_named_cut(alloc, &mut named, model, &cuts[used[index]].from) else {
+            return Err(AllocError);
+        };
     }
     Ok(named)
 }
@@ -160,7 +167,9 @@ fn add_nonzero(
     if number.is_zero() {
         return Ok(());
     }
-    let name = Name::from_slice(alloc, col.name.as_slice())?;
+    let Ok(name) = Name::from_slice(alloc, col.name.as_slice()) else {
+        return Err(AllocError);
+    };
     named.push((name, *number))
 }
 

@@ -38,7 +38,9 @@ fn put_pair(text: &mut Vec<u8>, name: &Name, number: &Frac) -> Result<(), AllocE
     ensures text { IfOk result (λ _. text.new.items ≡ text.old.items ++ spaced (name.now ∷ printed number.now ∷ [])) }
     ensures room { IfOk result (λ _. Fits number.now) }
 {
-    put_word(text, name.as_slice())?;
+    let Ok(()) = put_word(text, name.as_slice()) else {
+        return Err(AllocError);
+    };
     put_number(text, number)
 }
 
@@ -48,7 +50,9 @@ fn put_named(text: &mut Vec<u8>, named: &[(Name, Frac)]) -> Result<(), AllocErro
     ensures room { IfOk result (λ _. HasFractions named.now) }
 {
     for (name, number) in named {
-        put_pair(text, name, number)?;
+        let Ok(()) = put_pair(text, name, number) else {
+            return Err(AllocError);
+        };
     }
     Ok(())
 }
@@ -58,7 +62,9 @@ fn put_row(text: &mut Vec<u8>, name: &Name, number: &Frac) -> Result<(), AllocEr
     ensures text { IfOk result (λ _. text.new.items ≡ text.old.items ++ spaced (codes "row" ∷ name.now ∷ printed number.now ∷ [])) }
     ensures room { IfOk result (λ _. Fits number.now) }
 {
-    put_word(text, b"row")?;
+    let Ok(()) = put_word(text, b"row") else {
+        return Err(AllocError);
+    };
     put_pair(text, name, number)
 }
 
@@ -68,8 +74,12 @@ fn put_cut(text: &mut Vec<u8>, cut: u64, number: &Frac) -> Result<(), AllocError
     ensures room { IfOk result (λ _. Fits number.now × (cut < 2 ^ 64)) }
 {
     let mut buffer = Buffer::new();
-    put_word(text, b"cut")?;
-    put_word(text, buffer.format(cut).as_bytes())?;
+    let Ok(()) = put_word(text, b"cut") else {
+        return Err(AllocError);
+    };
+    let Ok(()) = put_word(text, buffer.format(cut).as_bytes()) else {
+        return Err(AllocError);
+    };
     put_number(text, number)
 }
 
@@ -90,7 +100,9 @@ fn put_mults(text: &mut Vec<u8>, mults: &[CertMult]) -> Result<(), AllocError>
     ensures room { IfOk result (λ _. All MultFits mults.now) }
 {
     for mult in mults {
-        put_mult(text, mult)?;
+        let Ok(()) = put_mult(text, mult) else {
+            return Err(AllocError);
+        };
     }
     Ok(())
 }
@@ -105,7 +117,9 @@ fn sign_word(plus: bool) -> &'static [u8]
 fn put_literal(text: &mut Vec<u8>, name: &Name, plus: bool) -> Result<(), AllocError>
     ensures { IfOk result (λ _. text.new.items ≡ text.old.items ++ spaced (literal_word (name.now, plus) ∷ [])) }
 {
-    put_word(text, sign_word(plus))?;
+    let Ok(()) = put_word(text, sign_word(plus)) else {
+        return Err(AllocError);
+    };
     text.extend_from_slice(name.as_slice())
 }
 
@@ -114,7 +128,9 @@ fn put_literals(text: &mut Vec<u8>, literals: &[(Name, bool)]) -> Result<(), All
     ensures { IfOk result (λ _. text.new.items ≡ text.old.items ++ spaced (literal_words literals.now)) }
 {
     for (name, plus) in literals {
-        put_literal(text, name, *plus)?;
+        let Ok(()) = put_literal(text, name, *plus) else {
+            return Err(AllocError);
+        };
     }
     Ok(())
 }
@@ -132,9 +148,15 @@ fn side_word(side: Side) -> &'static [u8]
 fn put_cut_line(text: &mut Vec<u8>, cut: &NamedCut) -> Result<(), AllocError>
     ensures { IfOk result (λ _. text.new.items ≡ text.old.items ++ line_text (cut_words cut.now)) }
 {
-    text.extend_from_slice(b"cut")?;
-    put_word(text, cut.row.as_slice())?;
-    put_word(text, side_word(cut.side))?;
+    let Ok(()) = text.extend_from_slice(b"cut") else {
+        return Err(AllocError);
+    };
+    let Ok(()) = put_word(text, cut.row.as_slice()) else {
+        return Err(AllocError);
+    };
+    let Ok(()) = put_word(text, side_word(cut.side)) else {
+        return Err(AllocError);
+    };
     put_literals(text, cut.literals.as_slice())
 }
 
@@ -159,10 +181,10 @@ fn put_claim(text: &mut Vec<u8>, claim: &Claim) -> Result<(), AllocError>
     ensures room { IfOk result (λ _. HasClaimRoom claim.now) }
 {
     match claim {
-        Claim::Optimal(value) => {
-            text.extend_from_slice(b"claim optimal")?;
-            put_number(text, value)
-        }
+        Claim::Optimal(value) => match text.extend_from_slice(b"claim optimal") {
+            Ok(()) => put_number(text, value),
+            Err(error) => Err(error),
+        },
         Claim::Infeasible => text.extend_from_slice(b"claim infeasible"),
         Claim::Unbounded => text.extend_from_slice(b"claim unbounded"),
     }
@@ -173,8 +195,12 @@ fn put_split(text: &mut Vec<u8>, col: &Name, v: i128) -> Result<(), AllocError>
     ensures { IfOk result (λ _. text.new.items ≡ text.old.items ++ line_text (codes "split" ∷ col.now ∷ signed_decimal v ∷ [])) }
 {
     let mut buffer = Buffer::new();
-    text.extend_from_slice(b"split")?;
-    put_word(text, col.as_slice())?;
+    let Ok(()) = text.extend_from_slice(b"split") else {
+        return Err(AllocError);
+    };
+    let Ok(()) = put_word(text, col.as_slice()) else {
+        return Err(AllocError);
+    };
     put_word(text, buffer.format(v).as_bytes())
 }
 
@@ -185,14 +211,14 @@ fn put_node(text: &mut Vec<u8>, node: &CertNode) -> Result<(), AllocError>
 {
     match node {
         CertNode::Split { col, v } => put_split(text, col, *v),
-        CertNode::Bound(mults) => {
-            text.extend_from_slice(b"leaf bound")?;
-            put_mults(text, mults.as_slice())
-        }
-        CertNode::Farkas(mults) => {
-            text.extend_from_slice(b"leaf farkas")?;
-            put_mults(text, mults.as_slice())
-        }
+        CertNode::Bound(mults) => match text.extend_from_slice(b"leaf bound") {
+            Ok(()) => put_mults(text, mults.as_slice()),
+            Err(error) => Err(error),
+        },
+        CertNode::Farkas(mults) => match text.extend_from_slice(b"leaf farkas") {
+            Ok(()) => put_mults(text, mults.as_slice()),
+            Err(error) => Err(error),
+        },
         CertNode::Empty => text.extend_from_slice(b"leaf empty"),
     }
 }
@@ -218,8 +244,12 @@ fn put_named_line(text: &mut Vec<u8>, word: &[u8], named: &[(Name, Frac)]) -> Re
     ensures text { IfOk result (λ _. text.new.items ≡ text.old.items ++ lines_text ((word.now ∷ named_words named.now) ∷ [])) }
     ensures room { IfOk result (λ _. HasFractions named.now) }
 {
-    text.extend_from_slice(word)?;
-    put_named(text, named)?;
+    let Ok(()) = text.extend_from_slice(word) else {
+        return Err(AllocError);
+    };
+    let Ok(()) = put_named(text, named) else {
+        return Err(AllocError);
+    };
     text.extend_from_slice(b"\n")
 }
 
@@ -284,6 +314,9 @@ pub fn print_cert(alloc: Global, cert: &Cert) -> Result<Vec<u8>, AllocError>
     ensures states { IfOk result (λ text. IsCertificate cert.now → HasCertWords cert.now → MeantCertificate text.items cert.now) }
 {
     let mut text = Vec::new(alloc);
-    put_cert(&mut text, cert)?;
+    let Ok(()) = put_cert(&mut text, cert) else {
+        drop(text);
+        return Err(AllocError);
+    };
     Ok(text)
 }

@@ -83,7 +83,9 @@ fn places_of(alloc: Global, marks: &[bool]) -> Result<Vec<usize>, AllocError>
 {
     let mut places = Vec::new(alloc);
     for place in 0..marks.len() {
-        note(&mut places, marks[place], place)?;
+        let Ok(()) = note(&mut places, marks[place], place) else {
+            return Err(AllocError);
+        };
     }
     Ok(places)
 }
@@ -119,7 +121,9 @@ pub(crate) fn used_by(alloc: Global, size: usize, nodes: &[CertNode]) -> Result<
     ensures places { IfOk result (λ used. used.places.items ≡ places_of 0 (marks_in (replicate size false) nodes.now)) }
     ensures counts { IfOk result (λ used. used.counts.items ≡ counts_of 0 (marks_in (replicate size false) nodes.now)) }
 {
-    let mut marks = vec![in alloc; false; size]?;
+    let Ok(mut marks) = vec![in alloc; false; size] else {
+        return Err(AllocError);
+    };
     mark_nodes(&mut marks, nodes);
     let Ok(places) = places_of(alloc, &marks) else {
         drop(marks);
@@ -145,10 +149,10 @@ fn push_renumbered(
     ensures { IfOk result (λ _. list.new ≡ list.old ++ renumbered counts.now mult.now ∷ []) }
 {
     match mult {
-        CertMult::Row(name, number) => {
-            let own = name.copy(alloc)?;
-            list.push(CertMult::Row(own, *number))
-        }
+        CertMult::Row(name, number) => match name.copy(alloc) {
+            Ok(own) => list.push(CertMult::Row(own, *number)),
+            Err(error) => Err(error),
+        },
         CertMult::Cut(cut, number) => {
             let count = counts[*cut as usize - 1];
             list.push(CertMult::Cut(u64::from(count) + 1, *number))
@@ -167,7 +171,9 @@ fn renumbered_mults(
 {
     let mut list = List::new(alloc);
     for mult in mults {
-        push_renumbered(alloc, &mut list, counts, mult)?;
+        let Ok(()) = push_renumbered(alloc, &mut list, counts, mult) else {
+            return Err(AllocError);
+        };
     }
     Ok(list)
 }
@@ -183,18 +189,18 @@ fn push_renumbered_node(
     ensures { IfOk result (λ _. list.new ≡ list.old ++ renumbered_node counts.now node.now ∷ []) }
 {
     match node {
-        CertNode::Split { col, v } => {
-            let own = col.copy(alloc)?;
-            list.push(CertNode::Split { col: own, v: *v })
-        }
-        CertNode::Bound(mults) => {
-            let own = renumbered_mults(alloc, counts, mults.as_slice())?;
-            list.push(CertNode::Bound(own))
-        }
-        CertNode::Farkas(mults) => {
-            let own = renumbered_mults(alloc, counts, mults.as_slice())?;
-            list.push(CertNode::Farkas(own))
-        }
+        CertNode::Split { col, v } => match col.copy(alloc) {
+            Ok(own) => list.push(CertNode::Split { col: own, v: *v }),
+            Err(error) => Err(error),
+        },
+        CertNode::Bound(mults) => match renumbered_mults(alloc, counts, mults.as_slice()) {
+            Ok(own) => list.push(CertNode::Bound(own)),
+            Err(error) => Err(error),
+        },
+        CertNode::Farkas(mults) => match renumbered_mults(alloc, counts, mults.as_slice()) {
+            Ok(own) => list.push(CertNode::Farkas(own)),
+            Err(error) => Err(error),
+        },
         CertNode::Empty => list.push(CertNode::Empty),
     }
 }
@@ -210,7 +216,9 @@ pub(crate) fn renumbered_nodes(
 {
     let mut list = List::new(alloc);
     for node in nodes {
-        push_renumbered_node(alloc, &mut list, counts, node)?;
+        let Ok(()) = push_renumbered_node(alloc, &mut list, counts, node) else {
+            return Err(AllocError);
+        };
     }
     Ok(list)
 }

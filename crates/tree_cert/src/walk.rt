@@ -67,10 +67,10 @@ fn cert_node(
     ensures { IfOk result (λ c. IsNodeOf (formulation model.now cuts.now) suc path.now node.now c) }
 {
     match node {
-        Node::Split { col, v, .. } => {
-            let name = column_name(alloc, model, *col)?;
-            Ok(CertNode::Split { col: name, v: *v })
-        }
+        Node::Split { col, v, .. } => match column_name(alloc, model, *col) {
+            Ok(name) => Ok(CertNode::Split { col: name, v: *v }),
+            Err(error) => Err(error),
+        },
         Node::Leaf { kept, .. } => leaf_node(alloc, model, cuts, path, kept),
     }
 }

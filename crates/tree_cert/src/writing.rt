@@ -47,9 +47,12 @@ fn point(alloc: Global, search: &Search) -> Result<List<(Name, Frac)>, AllocErro
 fn placed_nodes(alloc: Global, search: &Search) -> Result<List<CertNode>, AllocError>
     ensures { IfOk result (λ certs. AreOfTree (formulation_of search.now) suc search.now.tree.root certs) }
 {
-    let nodes = search.tree().preorder()?;
-    let certs = cert_nodes(alloc, search.model(), search.pool().rows(), &nodes)?;
-    Ok(certs)
+    let Ok(nodes) = search.tree().preorder() else {
+        return Err(AllocError);
+    };
+    let certs = cert_nodes(alloc, search.model(), search.pool().rows(), &nodes);
+    drop(nodes);
+    certs
 }
 
 /// The cuts and the nodes of a certificate.

@@ -1,5 +1,5 @@
 -- A search with one more point: what its values come to, and that it stays sound and indexed.
-use Rattle.std.specs.Prelude.{◌≡◌, ℕ, zero, suc, ◌+◌, ◌<◌, ◌≤◌, List, [], ◌∷◌, ◌++◌, length, map, drop, Option, Some, None}
+use Rattle.std.specs.Prelude.{◌≡◌, ℕ, zero, suc, ◌+◌, ◌<◌, ◌≤◌, List, [], ◌∷◌, ◌++◌, length, map, drop, Option, Some, None, Result, Ok, Err, OnOk, OnErr}
 use Rattle.std.proofs.Common.{refl, sym, subst, ap, ◌∙◌, arith, length-append}
 use Rattle.std.proofs.lemmas.List.{map-append, length-map}
 use Rattle.std.proofs.lemmas.List.Elements.{All-push}
@@ -88,6 +88,17 @@ kept-added S values numbers queue x joined kept h same =
       numbers_are = kept.numbers_are;
       queue_is = kept.queue_is;
     }
+
+-- the same of what a call leaves, which entered the point or kept all
+pub kept-entered : (S : PlainSearch) (values : List ℚ) (numbers : LeafNumbers) (queue : LeafQueue) (x : Point) (joined : Joined) → IsIndexed S values numbers queue → JoinsPoint S x joined → joined.target ≡ target S.model S.points
+    → {T E : Type 0} (r : Result T E) (points : List Point) (new : List ℚ) → OnOk r (points ≡ list_without (S.points ++ x ∷ []) joined.worst) → OnOk r (new ≡ joined.values.items) → OnErr r (points ≡ S.points) → OnErr r (new ≡ values)
+    → IsIndexed (record { model = S.model; cuts = S.cuts; tree = S.tree; points = points }) new numbers queue
+kept-entered S values numbers queue x joined kept h same (Ok u) points new put are _ _ =
+    subst (λ (ps : List Point). IsIndexed (record { model = S.model; cuts = S.cuts; tree = S.tree; points = ps }) new numbers queue) (sym put)
+    (subst (λ (vs : List ℚ). IsIndexed (record { model = S.model; cuts = S.cuts; tree = S.tree; points = list_without (S.points ++ x ∷ []) joined.worst }) vs numbers queue) (sym are) (kept-added S values numbers queue x joined kept h same))
+kept-entered S values numbers queue x joined kept h same (Err e) points new _ _ put are =
+    subst (λ (ps : List Point). IsIndexed (record { model = S.model; cuts = S.cuts; tree = S.tree; points = ps }) new numbers queue) (sym put)
+    (subst (λ (vs : List ℚ). IsIndexed S vs numbers queue) (sym are) kept)
 
 none_dropped : (n : ℕ) (u : Plain) → with_states [] u ≡ u → with_states (drop n []) u ≡ u
 none_dropped zero u h = h

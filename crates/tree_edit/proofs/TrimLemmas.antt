@@ -4,7 +4,7 @@ use Rattle.std.proofs.Common.{sym, subst, arith}
 use Rattle.std.proofs.lemmas.List.Elements.{All-nil}
 use Rattle.rational.specs.Rational.{ℚ}
 use Rattle.lp_model.specs.Formulations.{Formulation}
-use Rattle.branch_tree.specs.Tree.{Leaf, Split}
+use Rattle.branch_tree.specs.Tree.{Leaf, Split, HasNarrowSplits}
 use Rattle.branch_tree.specs.Plain.{Plain, trimmed, splits_at}
 use Rattle.branch_tree.specs.Numbered.{NumberedTree}
 use Rattle.branch_tree.specs.Changes.{after_trim}
@@ -35,6 +35,9 @@ module _ (F : Formulation) where
     narrow = each_split-trimmed _ depth T.last T.root h.narrow;
     lists = lists-trimmed depth T.last T.root h.lists;
   }
+
+pub narrow-trimmed : (T : NumberedTree) (depth : ℕ) → HasNarrowSplits T.root → HasNarrowSplits (after_trim T depth).root
+narrow-trimmed T depth h = each_split-trimmed _ depth T.last T.root h
 
 -- the search with another tree, each leaf of which is judged
 pub kept-tree : (S : PlainSearch) (values : List ℚ) (numbers more : LeafNumbers) (queue new : LeafQueue) (T U : NumberedTree) → IsIndexed S values numbers queue → IsSoundTree (formulation_of S) T.root

@@ -1,6 +1,6 @@
 // Results placed in a search. What takes memory comes before the first change. A large value that isn't used is let go by
 // a call of `drop`, since its parts, let go one by one on each way out, make a long proof.
-ghost use Rattle.std.specs.Prelude.{◌≡◌, ◌↔◌, ◌≤◌, ◌++◌, ◌∷◌, [], length, IsTrue, IfOk, OnOk, OnErr, MatchOption, MatchBool};
+ghost use Rattle.std.specs.Prelude.{◌≡◌, ◌≤◌, Some, ◌++◌, ◌∷◌, [], length, IfOk, IfErr, OnOk, OnErr, MatchOption, MatchBool};
 ghost use Rattle.lp_model.specs.Regions.{AreNarrow};
 ghost use Rattle.branch_tree.specs.declared.node.LeafState.TheVariants.{IsOpen, IsClosed};
 ghost use Rattle.branch_tree.specs.declared.node.NodeResult.TheVariants.{PointAndClose, Keep};
@@ -9,10 +9,13 @@ ghost use Rattle.search_parts.specs.Points.{IsKeepable, target};
 ghost use Rattle.search_parts.specs.Lists.{AreMultipliers, HasLists};
 ghost use Rattle.search_parts.specs.Joining.{IsPlaceWithin, list_without};
 ghost use Rattle.branch_tree.specs.Leaves.{with_state, leaf_count};
-ghost use Rattle.branch_tree.specs.Changes.{with_leaf_states};
-ghost use Rattle.leaf_judging.specs.Queued.{HasRank, HasMultipliers, HasState};
-ghost use Rattle.tree_edit.specs.PlacingSteps.{JoinsPoint};
-ghost use Rattle.sound_searches.specs.Placing.{TakesPoint, HasLeafAt, search_with_leaf, TakesClose, TakesPointClose, PutsJudged, TakesKeep, TakesPointKeep, TakesBasis, IsStale, IsOpenPlace, Takes, closed_data, with_basis};
+ghost use Rattle.branch_tree.specs.Changes.{HasLeaf, with_leaf_states};
+ghost use Rattle.branch_tree.specs.Plain.{data_of};
+ghost use Rattle.branch_tree.specs.declared.node.LeafData.{LeafData};
+ghost use Rattle.leaf_judging.specs.Queued.{HasRank, HasMultipliers};
+ghost use Rattle.tree_edit.specs.PlacingSteps.{JoinsPoint, ClosesByNumber, StaysOpen};
+ghost use Rattle.sound_searches.specs.declared.taken.Taken.TheVariants.{Refused};
+ghost use Rattle.sound_searches.specs.Placing.{TakesPoint, HasLeafAt, search_with_leaf, TakesClose, TakesPointClose, PutsJudged, TakesPointKeep, TakesBasis, IsStale, IsOpenPlace, Takes, closed_data, with_basis};
 ghost use Rattle.sound_searches.specs.Sound.{formulation_of};
 
 use crate::search::Search;
@@ -29,25 +32,20 @@ use search_parts::{
 use sound_searches::Taken;
 use std::alloc::{AllocError, Global};
 
-/// The number of a leaf, and whether it closes by it.
-#[derive(Drop)]
-struct Closing {
-    number: LeafNumber,
-    closes: bool,
-}
-
 impl Search {
-    /// What the points' values come to with one more point, where it is feasible and no step lacks room.
-    fn join(&self, point: &Point) -> Result<Option<Joined>, AllocError>
-        ensures { IfOk result (λ found. MatchOption found (¬ IsKeepable self.now.model point.now) (JoinsPoint self.now point.now)) }
+    /// What the points' values come to with one more point, where it is feasible and no step lacks room, and else what is
+    /// answered.
+    fn join(&self, point: &Point) -> Result<Joined, Result<Taken, AllocError>>
+        ensures joins { IfOk result (JoinsPoint self.now point.now) }
+        ensures refused { IfErr result (λ answer. IfOk answer (λ taken. (taken ≡ Refused) × (¬ IsKeepable self.now.model point.now))) }
     {
         let Some(value) = keepable_value(&self.model, point) else {
-            return Ok(None);
+            return Err(Ok(Taken::Refused));
         };
-        let Ok(joined) = join_value(self.alloc, &self.values, value) else {
-            return Err(AllocError);
-        };
-        Ok(Some(joined))
+        match join_value(self.alloc, &self.values, value) {
+            Ok(joined) => Ok(joined),
+            Err(error) => Err(Err(error)),
+        }
     }
 
     /// Keeps a point that isn't better than those that there are: no leaf is judged anew.
@@ -58,16 +56,7 @@ impl Search {
         ensures target { OnOk result (target self.new.model self.new.points ≡ joined.target) }
         ensures kept { OnErr result (self.new ≡ self.old) }
     {
-        match push_without(&mut self.points, point, joined.worst) {
-            Ok(()) => {
-                self.values = joined.values;
-                Ok(())
-            }
-            Err(error) => {
-                drop(joined);
-                Err(error)
-            }
-        }
+        enter_point(&mut self.points, &mut self.values, point, joined)
     }
 
     /// Keeps a point, and judges all leaves against the least value by their numbers.
@@ -79,14 +68,12 @@ impl Search {
     {
         let target = &joined.target;
         match judge_again(self.alloc, &self.model, target, &self.tree, &self.numbers) {
-            Ok(marks) => match push_without(&mut self.points, point, joined.worst) {
+            Ok(marks) => match enter_point(&mut self.points, &mut self.values, point, joined) {
                 Ok(()) => {
-                    self.values = joined.values;
                     put_marks(&mut self.tree, &mut self.queue, marks);
                     Ok(())
                 }
                 Err(error) => {
-                    drop(joined);
                     drop(marks);
                     Err(error)
                 }
@@ -135,24 +122,23 @@ impl Search {
         self.tree.set_leaf(id, kept);
     }
 
-    /// Gives the leaf with the id other data with its own multipliers and its own state.
-    fn put_own(&mut self, id: u64, region: &Region, kept: LeafData)
-        requires leaf { HasLeafAt self.old.tree id region.now }
-        requires own { HasMultipliers id kept self.old.tree.root }
-        requires state { HasState id kept.state self.old.tree.root }
-        requires lists { HasLists (formulation_of self.old) kept }
-        requires judged { IsJudgedLeaf (formulation_of self.old) (target self.old.model self.old.points) region.now kept }
-        ensures { self.new ≡ search_with_leaf self.old id kept }
-    {
-        self.tree.set_leaf(id, kept);
-    }
-
-    /// The number of a leaf of a region with these data, and whether it closes against the target.
-    fn closing(&self, target: &Option<Frac>, region: &Region, kept: &LeafData) -> Closing
+    /// The number of a leaf of a region with these data, if they fit and it closes against the target by them, and else what is
+    /// answered.
+    fn closing(
+        &self,
+        target: &Option<Frac>,
+        region: &Region,
+        kept: &LeafData,
+    ) -> Result<LeafNumber, Result<Taken, AllocError>>
         requires { AreNarrow region.now }
-        ensures number { IsNumber (formulation_of self.now) region.now kept.now.mult kept.now.farkas result.number }
-        ensures closes { IsTrue result.closes ↔ ClosesBy (formulation_of self.now) target.now region.now kept.now }
+        ensures closes { IfOk result (ClosesByNumber (formulation_of self.now) target.now region.now kept.now) }
+        ensures open { IfErr result (λ answer. IfOk answer (StaysOpen (formulation_of self.now) target.now region.now kept.now)) }
     {
+        match has_lists(self.alloc, &self.model, &self.pool, kept) {
+            Ok(true) => {}
+            Ok(false) => return Err(Ok(Taken::Refused)),
+            Err(error) => return Err(Err(error)),
+        }
         let number = number_of(
             &self.model,
             &self.pool,
@@ -161,25 +147,10 @@ impl Search {
             &kept.farkas,
         );
         let closes = number_closes(&self.model, target, &number);
-        Closing { number, closes }
-    }
-
-    /// Closes the leaf with the id, if it closes by these data, whose lists fit.
-    fn close_listed(&mut self, id: u64, region: &Region, kept: LeafData) -> Taken
-        requires leaf { HasLeafAt self.old.tree id region.now }
-        requires narrow { AreNarrow region.now }
-        requires closed { kept.state ≡ IsClosed }
-        requires lists { HasLists (formulation_of self.old) kept }
-        ensures { TakesClose self.old id region.now kept self.new result }
-    {
-        let target = self.target();
-        let closing = self.closing(&target, region, &kept);
-        if closing.closes {
-            self.put_closed(id, region, kept, &closing.number);
-            Taken::Closed
+        if closes {
+            Ok(number)
         } else {
-            drop(kept);
-            Taken::Reopened
+            Err(Ok(Taken::Reopened))
         }
     }
 
@@ -191,15 +162,15 @@ impl Search {
         ensures taken { IfOk result (λ taken. TakesClose self.old id region.now kept self.new taken) }
         ensures kept { OnErr result (self.new ≡ self.old) }
     {
-        match has_lists(self.alloc, &self.model, &self.pool, &kept) {
-            Ok(true) => Ok(self.close_listed(id, region, kept)),
-            Ok(false) => {
-                drop(kept);
-                Ok(Taken::Refused)
+        let target = self.target();
+        match self.closing(&target, region, &kept) {
+            Ok(number) => {
+                self.put_closed(id, region, kept, &number);
+                Ok(Taken::Closed)
             }
-            Err(error) => {
+            Err(answer) => {
                 drop(kept);
-                Err(error)
+                answer
             }
         }
     }
@@ -235,34 +206,6 @@ impl Search {
         }
     }
 
-    /// Closes the leaf with the id, if it closes by these data, whose lists fit, with a point that may be kept.
-    fn place_listed_close(
-        &mut self,
-        id: u64,
-        region: &Region,
-        point: Point,
-        joined: Joined,
-        kept: LeafData,
-    ) -> Result<Taken, AllocError>
-        requires leaf { HasLeafAt self.old.tree id region.now }
-        requires narrow { AreNarrow region.now }
-        requires closed { kept.state ≡ IsClosed }
-        requires joined { JoinsPoint self.old point joined }
-        requires lists { HasLists (formulation_of self.old) kept }
-        ensures taken { IfOk result (λ taken. TakesPointClose self.old id region.now point kept self.new taken) }
-        ensures kept { OnErr result (self.new ≡ self.old) }
-    {
-        let closing = self.closing(&joined.target, region, &kept);
-        if closing.closes {
-            self.put_joined_close(id, region, point, joined, kept, &closing.number)
-        } else {
-            drop(point);
-            drop(joined);
-            drop(kept);
-            Ok(Taken::Reopened)
-        }
-    }
-
     /// Closes the leaf with the id, if it closes by these data with a point that may be kept.
     fn place_joined_close(
         &mut self,
@@ -279,19 +222,13 @@ impl Search {
         ensures taken { IfOk result (λ taken. TakesPointClose self.old id region.now point kept self.new taken) }
         ensures kept { OnErr result (self.new ≡ self.old) }
     {
-        match has_lists(self.alloc, &self.model, &self.pool, &kept) {
-            Ok(true) => self.place_listed_close(id, region, point, joined, kept),
-            Ok(false) => {
+        match self.closing(&joined.target, region, &kept) {
+            Ok(number) => self.put_joined_close(id, region, point, joined, kept, &number),
+            Err(answer) => {
                 drop(point);
                 drop(joined);
                 drop(kept);
-                Ok(Taken::Refused)
-            }
-            Err(error) => {
-                drop(point);
-                drop(joined);
-                drop(kept);
-                Err(error)
+                answer
             }
         }
     }
@@ -311,16 +248,11 @@ impl Search {
         ensures kept { OnErr result (self.new ≡ self.old) }
     {
         match self.join(&point) {
-            Ok(Some(joined)) => self.place_joined_close(id, region, point, joined, kept),
-            Ok(None) => {
+            Ok(joined) => self.place_joined_close(id, region, point, joined, kept),
+            Err(answer) => {
                 drop(point);
                 drop(kept);
-                Ok(Taken::Refused)
-            }
-            Err(error) => {
-                drop(point);
-                drop(kept);
-                Err(error)
+                answer
             }
         }
     }
@@ -336,28 +268,11 @@ impl Search {
             unreachable!()
         };
         let kept = in_state(leaf.state, kept);
-        self.put_own(id, region, kept);
-    }
-
-    /// Gives the leaf with the id these data, which are its own but for the basis.
-    fn place_keep(&mut self, id: u64, region: &Region, kept: LeafData) -> Result<Taken, AllocError>
-        requires leaf { HasLeafAt self.old.tree id region.now }
-        requires own { HasMultipliers id kept self.old.tree.root }
-        requires mult { AreMultipliers (formulation_of self.old) kept.mult }
-        requires farkas { AreMultipliers (formulation_of self.old) kept.farkas }
-        ensures taken { IfOk result (λ taken. TakesKeep self.old id region.now kept self.new taken) }
-        ensures kept { OnErr result (self.new ≡ self.old) }
-    {
-        if !is_basis(&self.model, &self.pool, &kept.basis) {
-            drop(kept);
-            return Ok(Taken::Refused);
-        }
-        self.put_judged(id, region, kept);
-        Ok(Taken::Kept)
+        self.tree.set_leaf(id, kept);
     }
 
     /// Keeps a point that may be kept, and gives the leaf with the id these data, which are its own but for the basis.
-    fn place_joined_keep(
+    fn put_joined_keep(
         &mut self,
         id: u64,
         region: &Region,
@@ -367,18 +282,11 @@ impl Search {
     ) -> Result<Taken, AllocError>
         requires leaf { HasLeafAt self.old.tree id region.now }
         requires own { HasMultipliers id kept self.old.tree.root }
-        requires mult { AreMultipliers (formulation_of self.old) kept.mult }
-        requires farkas { AreMultipliers (formulation_of self.old) kept.farkas }
+        requires lists { HasLists (formulation_of self.old) kept }
         requires joined { JoinsPoint self.old point joined }
         ensures taken { IfOk result (λ taken. TakesPointKeep self.old id region.now point kept self.new taken) }
         ensures kept { OnErr result (self.new ≡ self.old) }
     {
-        if !is_basis(&self.model, &self.pool, &kept.basis) {
-            drop(point);
-            drop(joined);
-            drop(kept);
-            return Ok(Taken::Refused);
-        }
         match self.take_point(point, joined) {
             Ok(()) => {
                 self.put_judged(id, region, kept);
@@ -391,7 +299,7 @@ impl Search {
         }
     }
 
-    /// Keeps a point, and gives the leaf with the id these data, which are its own but for the basis.
+    /// Keeps a point, and gives the leaf with the id these data, which fit and are its own but for the basis.
     fn place_point_keep(
         &mut self,
         id: u64,
@@ -401,22 +309,16 @@ impl Search {
     ) -> Result<Taken, AllocError>
         requires leaf { HasLeafAt self.old.tree id region.now }
         requires own { HasMultipliers id kept self.old.tree.root }
-        requires mult { AreMultipliers (formulation_of self.old) kept.mult }
-        requires farkas { AreMultipliers (formulation_of self.old) kept.farkas }
+        requires lists { HasLists (formulation_of self.old) kept }
         ensures taken { IfOk result (λ taken. TakesPointKeep self.old id region.now point kept self.new taken) }
         ensures kept { OnErr result (self.new ≡ self.old) }
     {
         match self.join(&point) {
-            Ok(Some(joined)) => self.place_joined_keep(id, region, point, joined, kept),
-            Ok(None) => {
+            Ok(joined) => self.put_joined_keep(id, region, point, joined, kept),
+            Err(answer) => {
                 drop(point);
                 drop(kept);
-                Ok(Taken::Refused)
-            }
-            Err(error) => {
-                drop(point);
-                drop(kept);
-                Err(error)
+                answer
             }
         }
     }
@@ -436,14 +338,22 @@ impl Search {
         ensures taken { IfOk result (λ taken. TakesBasis self.old id region.now point kept self.new taken) }
         ensures kept { OnErr result (self.new ≡ self.old) }
     {
+        if !is_basis(&self.model, &self.pool, &kept.basis) {
+            drop(point);
+            drop(kept);
+            return Ok(Taken::Refused);
+        }
         match point {
-            None => self.place_keep(id, region, kept),
+            None => {
+                self.put_judged(id, region, kept);
+                Ok(Taken::Kept)
+            }
             Some(point) => self.place_point_keep(id, region, point, kept),
         }
     }
 
     /// The region of the open leaf with the id, if there is one.
-    fn open_region(&self, id: u64) -> Result<Option<Region>, AllocError>
+    pub(crate) fn open_region(&self, id: u64) -> Result<Option<Region>, AllocError>
         ensures { IfOk result (λ found. MatchOption found (IsStale self.now id) (λ region. IsOpenPlace self.now id region)) }
     {
         let Some(leaf) = self.tree.leaf(id) else {
@@ -453,6 +363,31 @@ impl Search {
             return Ok(None);
         }
         self.tree.region_of(id)
+    }
+
+    /// A copy of the leaf's data with another basis.
+    fn with_basis_at(&self, id: u64, basis: Basis) -> Result<LeafData, AllocError>
+        requires { HasLeaf self.now.tree id }
+        ensures data { IfOk result (λ kept. (leaf : LeafData) × ((data_of id self.now.tree.root ≡ Some leaf) × (kept ≡ with_basis leaf basis))) }
+        ensures own { IfOk result (λ kept. HasMultipliers id kept self.now.tree.root) }
+        ensures mult { IfOk result (λ kept. AreMultipliers (formulation_of self.now) kept.mult) }
+        ensures farkas { IfOk result (λ kept. AreMultipliers (formulation_of self.now) kept.farkas) }
+    {
+        let Some(leaf) = self.tree.leaf(id) else {
+            unreachable!()
+        };
+        with_basis(self.alloc, leaf, basis)
+    }
+
+    /// The data of the leaf once it is closed by these lists. Its Farkas multipliers stay.
+    fn closed_at(&self, id: u64, mult: Mult, basis: Basis) -> Result<LeafData, AllocError>
+        requires { HasLeaf self.now.tree id }
+        ensures { IfOk result (λ kept. (leaf : LeafData) × ((data_of id self.now.tree.root ≡ Some leaf) × (kept ≡ closed_data mult leaf.farkas basis))) }
+    {
+        let Some(leaf) = self.tree.leaf(id) else {
+            unreachable!()
+        };
+        closed_like(self.alloc, leaf, mult, basis)
     }
 
     /// Keeps the open leaf with the id with another basis, and the point, if there is one.
@@ -467,10 +402,7 @@ impl Search {
         ensures taken { IfOk result (λ taken. Takes self.old id (Keep point basis) self.new taken) }
         ensures kept { OnErr result (self.new ≡ self.old) }
     {
-        let Some(leaf) = self.tree.leaf(id) else {
-            unreachable!()
-        };
-        match with_basis(self.alloc, leaf, basis) {
+        match self.with_basis_at(id, basis) {
             Ok(kept) => self.place_basis(id, region, point, kept),
             Err(error) => {
                 drop(point);
@@ -493,10 +425,7 @@ impl Search {
         ensures taken { IfOk result (λ taken. Takes self.old id (PointAndClose point mult basis) self.new taken) }
         ensures kept { OnErr result (self.new ≡ self.old) }
     {
-        let Some(leaf) = self.tree.leaf(id) else {
-            unreachable!()
-        };
-        match closed_like(self.alloc, leaf, mult, basis) {
+        match self.closed_at(id, mult, basis) {
             Ok(kept) => self.place_point_close(id, region, point, kept),
             Err(error) => {
                 drop(point);
@@ -589,6 +518,32 @@ fn push_without(
             Ok(())
         }
         Err(error) => Err(error.into()),
+    }
+}
+
+/// Puts a point behind the others, takes out what then stands at the worst place, and puts the values that they come to in the
+/// place of the old ones.
+fn enter_point(
+    points: &mut Vec<Point>,
+    values: &mut Vec<Frac>,
+    point: Point,
+    joined: Joined,
+) -> Result<(), AllocError>
+    requires { IsPlaceWithin (length (points.old.items ++ point ∷ [])) joined.worst }
+    ensures put { OnOk result (points.new.items ≡ list_without (points.old.items ++ point ∷ []) joined.worst) }
+    ensures values { OnOk result (values.new.items ≡ joined.values.items) }
+    ensures kept { OnErr result (points.new.items ≡ points.old.items) }
+    ensures same { OnErr result (values.new.items ≡ values.old.items) }
+{
+    match push_without(points, point, joined.worst) {
+        Ok(()) => {
+            *values = joined.values;
+            Ok(())
+        }
+        Err(error) => {
+            drop(joined);
+            Err(error)
+        }
     }
 }
 

@@ -62,21 +62,16 @@ pub(crate) struct Branching {
     pub(crate) right: Child,
 }
 
-/// Splits the leaf with the id, whose children get these data. There is room, so that nothing but memory can be missing.
-fn split_tree(
-    tree: &mut Tree,
-    id: u64,
-    split: Split,
-    left: LeafData,
-    right: LeafData,
-) -> Result<(), AllocError>
+/// Splits the leaf with the id, whose children are these. There is room, so that nothing but memory can be missing.
+fn split_tree(tree: &mut Tree, id: u64, branching: Branching) -> Result<(), AllocError>
     requires has { HasLeaf tree.old id }
-    requires high { split.v <ℤ pos largest }
-    ensures split { OnOk result (tree.new ≡ tree_with_split tree.old id split.col.0 split.v split.mult split.basis left right) }
+    requires high { branching.split.v <ℤ pos largest }
+    ensures split { OnOk result (tree.new ≡ tree_with_split tree.old id branching.split.col.0 branching.split.v branching.split.mult branching.split.basis branching.left.kept branching.right.kept) }
     ensures room { OnOk result (HasRoom tree.old) }
     ensures kept { OnErr result (tree.new ≡ tree.old) }
 {
     let _numbered = tree.nodes();
+    let Branching { split, left, right } = branching;
     let Split {
         col,
         v,
@@ -85,8 +80,8 @@ fn split_tree(
     } = split;
     match tree.replace_leaf(id, col, v, mult, basis) {
         Ok((first, second)) => {
-            tree.set_leaf(first, left);
-            tree.set_leaf(second, right);
+            tree.set_leaf(first, left.kept);
+            tree.set_leaf(second, right.kept);
             Ok(())
         }
         Err(_) => {
@@ -97,23 +92,35 @@ fn split_tree(
     }
 }
 
-/// Splits the leaf with the id, whose children are these.
-fn split_by(tree: &mut Tree, id: u64, branching: Branching) -> Result<(), AllocError>
-    requires has { HasLeaf tree.old id }
-    requires high { branching.split.v <ℤ pos largest }
-    ensures split { OnOk result (tree.new ≡ tree_with_split tree.old id branching.split.col.0 branching.split.v branching.split.mult branching.split.basis branching.left.kept branching.right.kept) }
-    ensures room { OnOk result (HasRoom tree.old) }
-    ensures kept { OnErr result (tree.new ≡ tree.old) }
-{
-    let Branching { split, left, right } = branching;
-    split_tree(tree, id, split, left.kept, right.kept)
-}
-
 /// A split's child under its id as a candidate, if it is open.
 fn candidate(child: &Child, id: u64) -> Option<Candidate>
     ensures { result ≡ child_candidate child.now id }
 {
     as_candidate(&child.kept.state, rank(&child.number), id)
+}
+
+/// Puts down the numbers of a split's children, which get these ids, and adds those that are open to the queue. Where there is
+/// no memory the queue stays.
+fn enter_children(
+    numbers: &mut LeafNumbers,
+    queue: &mut LeafQueue,
+    one: u64,
+    two: u64,
+    branching: &Branching,
+    first: &Option<Candidate>,
+    second: &Option<Candidate>,
+) -> Result<(), AllocError>
+    requires apart { one ≢ two }
+    requires first { IsNew queue.old first.now }
+    ensures put { OnOk result (HasBoth numbers.new one branching.now.left.number two branching.now.right.number) }
+    ensures others { KeepsOtherTwo numbers.old one two numbers.new }
+    ensures added { OnOk result (AddsBoth queue.old first.now second.now queue.new) }
+    ensures same { OnErr result (IsSameQueue queue.old queue.new) }
+{
+    match numbers.put_both(one, &branching.left.number, two, &branching.right.number) {
+        Ok(()) => queue.add_both(first, second),
+        Err(error) => Err(error),
+    }
 }
 
 /// Splits the leaf with the id, whose children get these ids, puts down their numbers, and adds those that are open to the
@@ -142,17 +149,11 @@ fn enter_split(
 {
     let first = candidate(&branching.left, one);
     let second = candidate(&branching.right, two);
-    match numbers.put_both(one, &branching.left.number, two, &branching.right.number) {
-        Ok(()) => match queue.add_both(&first, &second) {
-            Ok(()) => match split_by(tree, id, branching) {
-                Ok(()) => Ok(()),
-                Err(error) => {
-                    queue.take_back(&first, &second);
-                    Err(error)
-                }
-            },
+    match enter_children(numbers, queue, one, two, &branching, &first, &second) {
+        Ok(()) => match split_tree(tree, id, branching) {
+            Ok(()) => Ok(()),
             Err(error) => {
-                drop(branching);
+                queue.take_back(&first, &second);
                 Err(error)
             }
         },
@@ -239,12 +240,12 @@ impl Search {
         ensures taken { IfOk result (λ taken. TakesSplit self.old id region.now branching.split.col.0 branching.split.v branching.split.mult branching.split.basis self.new taken) }
         ensures kept { OnErr result (self.new ≡ self.old) }
     {
+        let own = self.rank_of(id);
         let Some((one, two)) = self.tree.next_ids() else {
             drop(branching);
             return Ok(Taken::Full);
         };
         let _numbered = self.tree.nodes();
-        let own = self.rank_of(id);
         match enter_split(
             &mut self.tree,
             &mut self.numbers,

@@ -16,6 +16,9 @@ use Rattle.node_solve.specs.Places.{live_places, ArePoolPlaces, mult_in_pool, ba
 use Rattle.node_solve.specs.declared.working.Worked.TheVariants.{Done, Pivots, Wide}
 use Rattle.node_solve.proofs.LiveLemmas.{live-few, places-length, live-at}
 use Rattle.tree_search.specs.Steps.{FoundCuts}
+use Rattle.tree_search.specs.Stepping.{worked_with}
+use Rattle.tree_search.specs.declared.stepping.Outcome.{Outcome}
+use Rattle.tree_search.specs.declared.stepping.Outcome.TheVariants as outcome
 
 -- ---- the places of a relaxation's cuts
 
@@ -60,14 +63,19 @@ module _ (W : Work) where
         let same : length vec.items ≡ length r.added = ap length e in
         omega (arith, fits, same)
 
-    pub done-fits : (result : NodeResult) (vec : FoundCuts) → IsWorked W (Done result vec) → length W.pool + length vec.items ≤ 10000
+    done-fits : (result : NodeResult) (vec : FoundCuts) → IsWorked W (Done result vec) → length W.pool + length vec.items ≤ 10000
     done-fits result vec (made, (r, (makes, d))) = found-fit made r makes vec d.found_are
 
-    pub pivots-fit : (basis : Basis) (vec : FoundCuts) → IsWorked W (Pivots basis vec) → length W.pool + length vec.items ≤ 10000
+    pivots-fit : (basis : Basis) (vec : FoundCuts) → IsWorked W (Pivots basis vec) → length W.pool + length vec.items ≤ 10000
     pivots-fit basis vec (made, (r, (makes, d))) = found-fit made r makes vec d.found_are
 
-    pub wide-fits : (at : WideAt) (vec : FoundCuts) → IsWorked W (Wide at vec) → length W.pool + length vec.items ≤ 10000
+    wide-fits : (at : WideAt) (vec : FoundCuts) → IsWorked W (Wide at vec) → length W.pool + length vec.items ≤ 10000
     wide-fits at vec (made, (r, (makes, (leaf, (wide, found_are))))) = found-fit made r makes vec found_are
+
+    pub found-fits : (came : Outcome) (vec : FoundCuts) → IsWorked W (worked_with came vec) → length W.pool + length vec.items ≤ 10000
+    found-fits (outcome.Done result) vec h = done-fits result vec h
+    found-fits (outcome.Pivots basis) vec h = pivots-fit basis vec h
+    found-fits (outcome.Wide at) vec h = wide-fits at vec h
 
   -- ---- results
 

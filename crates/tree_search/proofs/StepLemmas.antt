@@ -7,7 +7,7 @@ use Rattle.std.proofs.lemmas.List.Elements.{All-map, All-head, All-tail, All-con
 use Rattle.lp_model.specs.Regions.{Path}
 use Rattle.lp_model.specs.Formulations.{Formulation}
 use Rattle.branch_tree.specs.Tree.{Leaf, Split, left_path, right_path, EachLeaf, leaves}
-use Rattle.branch_tree.specs.Plain.{Plain, LeafKept, leaves_with, leaf_below, path_of}
+use Rattle.branch_tree.specs.Plain.{Plain, LeafKept, leaves_with, leaf_below, path_of, data_of}
 use Rattle.branch_tree.specs.Numbered.{IsNumbered}
 use Rattle.branch_tree.specs.Leaves.{region_leaf, region_leaves}
 use Rattle.branch_tree.specs.declared.node.RegionLeaf.{RegionLeaf}
@@ -72,6 +72,11 @@ pub next-there : (S : PlainSearch) (id : ℕ) → IsNumbered S.tree → IsNext S
 next-there S id numbered next is =
     let found = next-found S id numbered next in
     let e : None ≡ Some found.0.region = is ∙ found.1.1.path_is in cc
+
+pub next-kept : (S : PlainSearch) (id : ℕ) → IsNumbered S.tree → IsNext S (Some id) → None ≡ data_of id S.tree.root → ⊥
+next-kept S id numbered next is =
+    let found = next-found S id numbered next in
+    let e : None ≡ Some found.0.kept = is ∙ found.1.1.data_is in cc
 
 -- where no leaf goes first none is open
 pub next-none : (S : PlainSearch) (id : ℕ) (path : Path) → IsNext S None → IsOpenLeaf S id path → ⊥

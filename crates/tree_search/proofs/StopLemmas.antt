@@ -19,7 +19,8 @@ use Rattle.node_solve.specs.Places.{live_cuts, live_places, basis_in_relaxation,
 use Rattle.node_solve.specs.declared.working.Worked.{Worked}
 use Rattle.node_solve.specs.declared.working.Worked.TheVariants.{Done, Pivots, Wide}
 use Rattle.tree_search.specs.Steps.{FoundCuts, kept_basis, IsRayWay, IsPlacedBy, KeepsOpen}
-use Rattle.tree_search.specs.Stepping.{WorksBy, Steps}
+use Rattle.tree_search.specs.Stepping.{WorksBy, Steps, worked_with}
+use Rattle.tree_search.specs.declared.stepping.Outcome.{Outcome}
 use Rattle.tree_search.specs.declared.stepping.Limits.{Limits}
 use Rattle.tree_search.specs.declared.searching.Ways.{Ways}
 use Rattle.tree_search.specs.declared.searching.Ways.TheVariants.{Own, Rays}
@@ -92,6 +93,21 @@ module _ (limits : Limits) (job : Job) (S T : PlainSearch) (a b : NodeResult) (s
       → IfOk result (λ s. (begin : PlainSearch) (found : FoundCuts) → WorksBy limits begin job (Done a found) → AddsCuts begin found.items S → Steps limits begin T s)
   steps-same (Ok s) h = λ begin found works adds. h begin found (subst (λ r. WorksBy limits begin job (Done r found)) same works) adds
   steps-same (Err e) h = tt
+
+-- ---- what the work came to, matched
+
+module _ (limits : Limits) (job : Job) (S T : PlainSearch) where
+  abbrev pub WasWorked : Outcome → Type 0
+  WasWorked came = (begin : PlainSearch) × ((found : FoundCuts) × (WorksBy limits begin job (worked_with came found) × AddsCuts begin found.items S))
+
+  abbrev pub StepsFrom : Outcome → Stepped → Type 0
+  StepsFrom came s = (begin : PlainSearch) (found : FoundCuts) → WorksBy limits begin job (worked_with came found) → AddsCuts begin found.items S → Steps limits begin T s
+
+  pub outcome-works : (a b : Outcome) → a ≡ b → WasWorked a → WasWorked b
+  outcome-works a b same h = subst WasWorked same h
+
+  pub outcome-steps : {E : Type 0} (a b : Outcome) → a ≡ b → (result : Result Stepped E) → IfOk result (StepsFrom b) → IfOk result (StepsFrom a)
+  outcome-steps a b same result h = subst (λ came. IfOk result (StepsFrom came)) (sym same) h
 
 -- ---- a step, from the search that was worked
 

@@ -4,11 +4,14 @@ use Rattle.sound_searches.specs.Sound.{PlainSearch}
 use Rattle.search_counting.specs.Work.{Lowers}
 use Rattle.branch_tree.specs.declared.node.Job.{Job}
 use Rattle.node_solve.specs.declared.working.Worked.{Worked}
-use Rattle.tree_search.specs.Steps.{IsWayFor, IsFirstFor, WorksNext, Places, PointAtNext, StopsAtNext}
+use Rattle.node_solve.specs.declared.working.Worked.TheVariants as answer
+use Rattle.tree_search.specs.Steps.{FoundCuts, IsWayFor, IsFirstFor, WorksNext, Places, PointAtNext, StopsAtNext}
 use Rattle.tree_search.specs.Search.{Ends, IsLeft}
 use Rattle.tree_search.specs.Extends.{Extends}
 use Rattle.tree_search.specs.declared.searching.Searched.{Searched}
 use Rattle.tree_search.specs.declared.stepping.Limits.{Limits}
+use Rattle.tree_search.specs.declared.stepping.Outcome.{Outcome}
+use Rattle.tree_search.specs.declared.stepping.Outcome.TheVariants as outcome
 use Rattle.tree_search.specs.declared.stepping.Stepped.{Stepped}
 use Rattle.tree_search.specs.declared.stepping.Stepped.TheVariants.{Placed, Found, Stopped}
 
@@ -19,6 +22,12 @@ pub record IsReady (limits : Limits) (S : PlainSearch) : Type 0 where
 
 abbrev pub WorksBy : Limits → PlainSearch → Job → Worked → Type 0
 WorksBy limits S job worked = WorksNext limits.ways limits.first.now limits.pivots S job worked
+
+-- what the work answers that comes to this and found these cuts
+abbrev pub worked_with : Outcome → FoundCuts → Worked
+worked_with (outcome.Done done) found = answer.Done done found
+worked_with (outcome.Pivots basis) found = answer.Pivots basis found
+worked_with (outcome.Wide at) found = answer.Wide at found
 
 abbrev pub Steps : Limits → PlainSearch → PlainSearch → Stepped → Type 0
 Steps limits old new Placed = Lowers old new × Places limits.ways limits.first.now limits.pivots old new

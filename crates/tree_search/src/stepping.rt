@@ -16,7 +16,7 @@ ghost use Rattle.node_solve.specs.declared.working.Worked.TheVariants.{Done, Piv
 ghost use Rattle.lp_model.specs.declared.answers.StopWhy.TheVariants as why;
 ghost use Rattle.tree_search.specs.declared.stepping.Stepped.TheVariants.{Stopped};
 ghost use Rattle.tree_search.specs.Steps.{FoundCuts, kept_basis, IsNextJob, KeepsOpen, IsPlacedBy, IsRayWay};
-ghost use Rattle.tree_search.specs.Stepping.{IsReady, Steps, WorksBy};
+ghost use Rattle.tree_search.specs.Stepping.{IsReady, Steps, WorksBy, worked_with};
 
 use crate::searching::Ways;
 use branch_tree::{Job, NodeResult};
@@ -49,6 +49,17 @@ pub(crate) enum Stepped {
     Found,
     /// Nothing was placed.
     Stopped(StopWhy),
+}
+
+/// What the work on a leaf comes to, beside the cuts that it found.
+#[derive(Drop)]
+pub(crate) enum Outcome {
+    /// A result to be placed.
+    Done(NodeResult),
+    /// As many moves as the limit allows were made, and the last basis is this.
+    Pivots(Basis),
+    /// A step has no room.
+    Wide(WideAt),
 }
 
 /// What holds of each search, and what contracts may use of it after this call.
@@ -461,75 +472,41 @@ fn place_done(
     }
 }
 
-/// Adds the cuts that were found, and stops where the relaxation had as many moves as the limit allows.
-fn after_pivots(
+/// Goes on to what the work on a leaf came to, where the cuts that it found are in the pool.
+fn place_outcome(
     alloc: Global,
     search: &mut Search,
     limits: &Limits<'_>,
     job: Job,
-    basis: Basis,
-    found: Vec<Derivation>,
+    outcome: Outcome,
 ) -> Result<Stepped, AllocError>
     requires ready { IsReady limits.now search.old }
-    requires works { WorksBy limits.now search.old job (Pivots basis found) }
-    ensures steps { IfOk result (λ stepped. Steps limits.now search.old search.new stepped) }
-    ensures some { OnErr result (AddsAny search.old search.new) }
+    requires works { (begin : PlainSearch) × ((found : FoundCuts) × (WorksBy limits.now begin job (worked_with outcome found) × AddsCuts begin found.items search.old)) }
+    ensures steps { IfOk result (λ stepped. (begin : PlainSearch) (found : FoundCuts) → WorksBy limits.now begin job (worked_with outcome found) → AddsCuts begin found.items search.old → Steps limits.now begin search.new stepped) }
+    ensures kept { OnErr result (search.new ≡ search.old) }
 {
-    known(search);
-    let added = add_cuts(search, &found);
-    drop(found);
-    match added {
-        Ok(()) => stop_by_pivots(alloc, search, limits, job, basis),
-        Err(error) => {
-            drop(job);
-            drop(basis);
-            Err(error)
-        }
-    }
-}
-
-/// Adds the cuts that were found, and stops where a step of the work has no room.
-fn after_step(
-    alloc: Global,
-    search: &mut Search,
-    limits: &Limits<'_>,
-    job: Job,
-    at: WideAt,
-    found: Vec<Derivation>,
-) -> Result<Stepped, AllocError>
-    requires ready { IsReady limits.now search.old }
-    requires works { WorksBy limits.now search.old job (Wide at found) }
-    ensures steps { IfOk result (λ stepped. Steps limits.now search.old search.new stepped) }
-    ensures some { OnErr result (AddsAny search.old search.new) }
-{
-    known(search);
-    let added = add_cuts(search, &found);
-    drop(found);
-    match added {
-        Ok(()) => {
+    match outcome {
+        Outcome::Pivots(basis) => stop_by_pivots(alloc, search, limits, job, basis),
+        Outcome::Wide(at) => {
             let stepped = stop_by_step(alloc, search, limits, &job, at);
             drop(job);
             stepped
         }
-        Err(error) => {
-            drop(job);
-            drop(at);
-            Err(error)
-        }
+        Outcome::Done(done) => place_done(alloc, search, limits, job, done),
     }
 }
 
-/// Adds the cuts that were found, and places the result.
-fn after_result(
+/// Adds the cuts that the work on a leaf found, and goes on to what it came to.
+fn after_work(
     alloc: Global,
     search: &mut Search,
     limits: &Limits<'_>,
     job: Job,
-    done: NodeResult,
+    outcome: Outcome,
     found: Vec<Derivation>,
 ) -> Result<Stepped, AllocError>
     requires ready { IsReady limits.now search.old }
-    requires works { WorksBy limits.now search.old job (Done done found) }
+    requires works { WorksBy limits.now search.old job (worked_with outcome found) }
     ensures steps { IfOk result (λ stepped. Steps limits.now search.old search.new stepped) }
     ensures some { OnErr result (AddsAny search.old search.new) }
 {
@@ -537,10 +514,10 @@ fn after_result(
     let added = add_cuts(search, &found);
     drop(found);
     match added {
-        Ok(()) => place_done(alloc, search, limits, job, done),
+        Ok(()) => place_outcome(alloc, search, limits, job, outcome),
         Err(error) => {
             drop(job);
-            drop(done);
+            drop(outcome);
             Err(error)
         }
     }
@@ -567,8 +544,14 @@ pub(crate) fn step(
             drop(job);
             Err(AllocError)
         }
-        Worked::Pivots { basis, found } => after_pivots(alloc, search, limits, job, basis, found),
-        Worked::Wide(at, found) => after_step(alloc, search, limits, job, at, found),
-        Worked::Done(done, found) => after_result(alloc, search, limits, job, done, found),
+        Worked::Pivots { basis, found } => {
+            after_work(alloc, search, limits, job, Outcome::Pivots(basis), found)
+        }
+        Worked::Wide(at, found) => {
+            after_work(alloc, search, limits, job, Outcome::Wide(at), found)
+        }
+        Worked::Done(done, found) => {
+            after_work(alloc, search, limits, job, Outcome::Done(done), found)
+        }
     }
 }

@@ -67,10 +67,30 @@ module _ {A B C E : Type 0} (f : Result A Fault) (s : Result B Fault) (t : Resul
   pub three-bad : (w : WarmFault) → SaysFault {A = (A × B) × C} (both_of (both_of f s) t) (Err w) → SaysFault {A = E} (behind f (λ a. behind s (λ b. behind t (λ c. next a b c)))) (Err w)
   three-bad w h = subst (λ (q : Result E Fault). SaysFault q (Err w)) (three f s t next) (says-first (both_of (both_of f s) t) (λ q. next q.0.0 q.0.1 q.1) w h)
 
+-- ---- one part, and two behind it
+
+two-behind : {A B C E : Type 0} (f : Result A Fault) (s : Result B Fault) (t : Result C Fault) (next : A → B → C → Result E Fault)
+    → behind (both_of f (both_of s t)) (λ p. next p.0 p.1.0 p.1.1) ≡ behind f (λ a. behind s (λ b. behind t (λ c. next a b c)))
+unfolding behind
+two-behind (Err e) s t next = refl
+two-behind (Ok a) (Err e) t next = refl
+two-behind (Ok a) (Ok b) (Err e) next = refl
+two-behind (Ok a) (Ok b) (Ok c) next = refl
+
+module _ {A B C E : Type 0} (f : Result A Fault) (s : Result B Fault) (t : Result C Fault) (next : A → B → C → Result E Fault) where
+  pub behind-ok : (p : A × (B × C)) (x : E) → both_of f (both_of s t) ≡ Ok p → next p.0 p.1.0 p.1.1 ≡ Ok x → behind f (λ a. behind s (λ b. behind t (λ c. next a b c))) ≡ Ok x
+  behind-ok p x e h = sym (two-behind f s t next) ∙ ok-next (both_of f (both_of s t)) (λ q. next q.0 q.1.0 q.1.1) p x e h
+
+  pub behind-says : (p : A × (B × C)) (r : Result E WarmFault) → both_of f (both_of s t) ≡ Ok p → SaysFault (next p.0 p.1.0 p.1.1) r → SaysFault (behind f (λ a. behind s (λ b. behind t (λ c. next a b c)))) r
+  behind-says p r e h = subst (λ q. SaysFault q r) (two-behind f s t next) (says-next (both_of f (both_of s t)) (λ q. next q.0 q.1.0 q.1.1) p r e h)
+
+  pub behind-bad : (w : WarmFault) → SaysFault {A = A × (B × C)} (both_of f (both_of s t)) (Err w) → SaysFault {A = E} (behind f (λ a. behind s (λ b. behind t (λ c. next a b c)))) (Err w)
+  behind-bad w h = subst (λ (q : Result E Fault). SaysFault q (Err w)) (two-behind f s t next) (says-first (both_of f (both_of s t)) (λ q. next q.0 q.1.0 q.1.1) w h)
+
 -- ---- four parts
 
 four : {A B C D E : Type 0} (f : Result A Fault) (s : Result B Fault) (t : Result C Fault) (u : Result D Fault) (next : A → B → C → D → Result E Fault)
-    → behind (both_of (both_of f s) (both_of t u)) (λ p. next p.0.0 p.0.1 p.1.0 p.1.1) ≡ behind f (λ a. behind s (λ b. behind t (λ c. behind u (λ d. next a b c d))))
+    → behind (both_of (both_of f (both_of s t)) u) (λ p. next p.0.0 p.0.1.0 p.0.1.1 p.1) ≡ behind f (λ a. behind s (λ b. behind t (λ c. behind u (λ d. next a b c d))))
 unfolding behind
 four (Err e) s t u next = refl
 four (Ok a) (Err e) t u next = refl
@@ -79,9 +99,9 @@ four (Ok a) (Ok b) (Ok c) (Err e) next = refl
 four (Ok a) (Ok b) (Ok c) (Ok d) next = refl
 
 module _ {A B C D E : Type 0} (f : Result A Fault) (s : Result B Fault) (t : Result C Fault) (u : Result D Fault) (next : A → B → C → D → Result E Fault) where
-  pub four-ok : (p : (A × B) × (C × D)) (x : E) → both_of (both_of f s) (both_of t u) ≡ Ok p → next p.0.0 p.0.1 p.1.0 p.1.1 ≡ Ok x
+  pub four-ok : (p : (A × (B × C)) × D) (x : E) → both_of (both_of f (both_of s t)) u ≡ Ok p → next p.0.0 p.0.1.0 p.0.1.1 p.1 ≡ Ok x
       → behind f (λ a. behind s (λ b. behind t (λ c. behind u (λ d. next a b c d)))) ≡ Ok x
-  four-ok p x e h = sym (four f s t u next) ∙ ok-next (both_of (both_of f s) (both_of t u)) (λ q. next q.0.0 q.0.1 q.1.0 q.1.1) p x e h
+  four-ok p x e h = sym (four f s t u next) ∙ ok-next (both_of (both_of f (both_of s t)) u) (λ q. next q.0.0 q.0.1.0 q.0.1.1 q.1) p x e h
 
-  pub four-bad : (w : WarmFault) → SaysFault {A = (A × B) × (C × D)} (both_of (both_of f s) (both_of t u)) (Err w) → SaysFault {A = E} (behind f (λ a. behind s (λ b. behind t (λ c. behind u (λ d. next a b c d))))) (Err w)
-  four-bad w h = subst (λ (q : Result E Fault). SaysFault q (Err w)) (four f s t u next) (says-first (both_of (both_of f s) (both_of t u)) (λ q. next q.0.0 q.0.1 q.1.0 q.1.1) w h)
+  pub four-bad : (w : WarmFault) → SaysFault {A = (A × (B × C)) × D} (both_of (both_of f (both_of s t)) u) (Err w) → SaysFault {A = E} (behind f (λ a. behind s (λ b. behind t (λ c. behind u (λ d. next a b c d))))) (Err w)
+  four-bad w h = subst (λ (q : Result E Fault). SaysFault q (Err w)) (four f s t u next) (says-first (both_of (both_of f (both_of s t)) u) (λ q. next q.0.0 q.0.1.0 q.0.1.1 q.1) w h)

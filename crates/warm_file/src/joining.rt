@@ -1,9 +1,13 @@
 // Parts that are read one behind the other.
 ghost use Rattle.std.specs.Prelude.{Result as Said};
+ghost use Rattle.serde_json.specs.View.{view};
 ghost use Rattle.warm_values.specs.Faults.{Fault, SaysFault};
+ghost use Rattle.warm_values.specs.Values.{member};
 ghost use Rattle.warm_file.specs.Joined.{both_of};
 
-use warm_values::WarmFault;
+use serde_json::Value;
+use std::alloc::Global;
+use warm_values::{Part, WarmFault, member};
 
 /// What two parts state, the second read behind the first: both values, or the first fault.
 pub(crate) fn both<A: Drop, B: Drop>(
@@ -25,4 +29,19 @@ pub(crate) fn both<A: Drop, B: Drop>(
             Err(fault)
         }
     }
+}
+
+/// What the values of two keys state, of an object, the second read behind the first.
+pub(crate) fn two_members<A: Drop, P: Part<A>>(
+    alloc: Global,
+    object: &Value,
+    first: &str,
+    second: &str,
+    part: &P,
+) -> Result<(A, A), WarmFault>
+    ensures { SaysFault (both_of (member first.now (P.states part.now) (view object.now)) (member second.now (P.states part.now) (view object.now))) result }
+{
+    let one = member(alloc, object, first, part);
+    let other = member(alloc, object, second, part);
+    both(one, other)
 }

@@ -1,5 +1,5 @@
 -- How an answer says what is stated, part by part.
-use Rattle.std.specs.Prelude.{◌≡◌, ℕ, Bool, true, false, if◌then◌else◌, List, ◌∷◌, ◌++◌, Option, Some, None, Result, Ok, Err}
+use Rattle.std.specs.Prelude.{◌≡◌, ℕ, Bool, true, false, if◌then◌else◌, List, ◌∷◌, ◌++◌, Option, Some, None, Result, Ok, Err, is_ok, OnOk}
 use Rattle.std.specs.Result.{IsErr, IsErrAnd}
 use Rattle.std.proofs.Common.{sym, ap, subst, ◌∙◌}
 use Rattle.warm_values.specs.Faults.{Fault, fault, or_fault, behind, at_key, SaysFault}
@@ -30,6 +30,10 @@ unfolding behind or_fault
 says-missing {A} {B} code o next r e h = subst (λ s. SaysFault (behind (or_fault code s) next) r) e h
 
 -- ---- under a key
+
+pub bytes-added : {E : Type 0} (r : Result (Unit {0}) E) (before after bytes : List ℕ) → after ≡ (if is_ok r then before ++ bytes else before) → OnOk r (after ≡ before ++ bytes)
+bytes-added (Ok done) before after bytes e = e
+bytes-added (Err f) before after bytes e = tt
 
 pub under-ok : {A : Type 0} (key : List ℕ) (said : Result A Fault) (a : A) → said ≡ Ok a → at_key key said ≡ Ok a
 unfolding at_key

@@ -1,5 +1,5 @@
 -- Lists of two and of three, and the last item of a list.
-use Rattle.std.specs.Prelude.{◌≡◌, ◌≢◌, ℕ, suc, ◌-◌, List, [], ◌∷◌, length, Some, None, option_and_then, nat_lt, slice_get}
+use Rattle.std.specs.Prelude.{◌≡◌, ◌≢◌, ℕ, suc, ◌-◌, true, List, [], ◌∷◌, length, Some, None, option_and_then, nat_lt, slice_get}
 use Rattle.std.proofs.Common.{refl, ap, ◌∙◌, arith}
 use Rattle.serde_json.specs.Data.{Data}
 use Rattle.serde_json.specs.Find.{as_array}
@@ -33,3 +33,10 @@ past_last {A} place (a ∷ []) x k e = let f : x ≡ a = cc in ap (λ y. nat_lt 
 past_last {A} place (a ∷ b ∷ xs) x k e =
     let shorter : length (a ∷ b ∷ xs) - 1 ≡ suc (length (b ∷ xs) - 1) = omega arith in
     past_last place (b ∷ xs) x k (e ∙ ap (slice_get (a ∷ b ∷ xs)) shorter)
+
+pub past_none : {A : Type 0} (place : A → ℕ) (xs : List A) (k : ℕ) → None ≡ slice_get xs (length xs - 1) → true ≡ is_past place xs k
+past_none place [] k e = refl
+past_none place (a ∷ []) k e = absurd (cc)
+past_none place (a ∷ b ∷ xs) k e =
+    let shorter : length (a ∷ b ∷ xs) - 1 ≡ suc (length (b ∷ xs) - 1) = omega arith in
+    past_none place (b ∷ xs) k (e ∙ ap (slice_get (a ∷ b ∷ xs)) shorter)

@@ -1,5 +1,5 @@
 // Faults with their places, members of objects and items of lists.
-ghost use Rattle.std.specs.Prelude.{◌≡◌, ℕ, List as Items, [], ◌∷◌, ◌++◌, Result, IfOk, option_map, option_and_then};
+ghost use Rattle.std.specs.Prelude.{◌≡◌, ℕ, List as Items, [], ◌∷◌, ◌++◌, Result, IfOk, OnOk, option_map, option_and_then};
 ghost use Rattle.serde_json.specs.Data.{Data};
 ghost use Rattle.serde_json.specs.Find.{as_array};
 ghost use Rattle.serde_json.specs.View.{view, items_view};
@@ -37,15 +37,38 @@ pub fn bad<A>(alloc: Global, code: u8) -> Result<A, WarmFault>
     })
 }
 
+/// Adds bytes behind the others.
+fn add(text: &mut Vec<u8>, bytes: &[u8]) -> Result<(), AllocError>
+    ensures { OnOk result (text.new.items ≡ text.old.items ++ bytes.now) }
+{
+    text.extend_from_slice(bytes)
+}
+
+/// Adds a key and a place, behind a `/`.
+fn put_key(longer: &mut Vec<u8>, key: &str, place: &Name) -> Result<(), AllocError>
+    ensures { OnOk result (longer.new.items ≡ longer.old.items ++ 47 ∷ (key.now ++ place.now)) }
+{
+    let Ok(()) = add(longer, b"/") else {
+        return Err(AllocError);
+    };
+    let Ok(()) = add(longer, key.as_bytes()) else {
+        return Err(AllocError);
+    };
+    add(longer, place.as_slice())
+}
+
 /// A place behind a key.
 fn behind_key(alloc: Global, key: &str, place: &Name) -> Result<Name, AllocError>
     ensures { IfOk result (λ longer. longer ≡ 47 ∷ (key.now ++ place.now)) }
 {
     let mut longer = Vec::new(alloc);
-    longer.push(b'/')?;
-    longer.extend_from_slice(key.as_bytes())?;
-    longer.extend_from_slice(place.as_slice())?;
-    Ok(Name::from_vec(longer))
+    match put_key(&mut longer, key, place) {
+        Ok(()) => Ok(Name::from_vec(longer)),
+        Err(error) => {
+            drop(longer);
+            Err(error)
+        }
+    }
 }
 
 /// What the part under a key states.

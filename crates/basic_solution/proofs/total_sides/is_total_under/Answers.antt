@@ -2,7 +2,7 @@ use Rattle.std.proofs.Common.{◌≡◌, ◌↔◌, IsTrue, ap₂, subst, to_z, 
 use Rattle.std.specs.Int.{w128}
 use Rattle.rational.specs.Rational.{◌<ℚ◌}
 use Rattle.frac128.specs.LowestTerms.{quotient_of}
-use Rattle.basic_solution.proofs.SideLemmas.{under_decided}
+use Rattle.basic_solution.proofs.SideLemmas.{under_decided, under_none}
 use Rattle.basic_solution.proofs.ReadLemmas.{margin_again}
 use Rattle.table_entries.proofs.ReadLemmas.{short_read, short_again, positive_again, product_read}
 use Rattle.basic_solution.proofs.total_sides.is_total_under.Goals as goal
@@ -23,3 +23,6 @@ is_quotient_below-requires-clause-positive c = positive_again c.args.denominator
 
 pub is_quotient_below-requires-clause-denominator : goal.is_quotient_below-requires-clause-denominator
 is_quotient_below-requires-clause-denominator c = short_again c.args.denominator c.requires.denominator
+
+pub returns-in-None : goal.returns-in-None
+returns-in-None c = under_none c.args.low.now (quotient_of c.args.total c.args.denominator) c.in-None.is

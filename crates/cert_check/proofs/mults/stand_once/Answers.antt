@@ -17,7 +17,7 @@ returns-then-not-is_new c =
     let item = c.loop-place-item.result in
     let key = place_key item.0 in
     let seen = c.loop-place.seen in
-    let stands : IsTrue (contains nat_cmp seen key) = not-false (contains nat_cmp seen key) (sym (c.in_ok-is_new.ensures.added ∙ ap (λ k. not (contains nat_cmp seen k)) c.place_key.ensures) ∙ c.if-not-is_new.true) in
+    let stands : IsTrue (contains nat_cmp seen key) = not-false (contains nat_cmp seen key) (sym (c.in-Ok.ensures.added ∙ ap (λ k. not (contains nat_cmp seen k)) c.place_key.ensures) ∙ c.if-not-is_new.true) in
     is_not (once_none (λ e. place_key e.0) c.args.placed.now c.loop-place.place-index item c.loop-place-test.true c.loop-place-item.is ((c.loop-place.invariant.seen key).0 stands))
 
 pub loop-place-preserved : goal.loop-place-preserved
@@ -27,8 +27,8 @@ loop-place-preserved c =
     let item = c.loop-place-item.result in
     let key = place_key item.0 in
     let seen = c.loop-place.seen in
-    let none : contains nat_cmp seen key ≡ false = not-true (contains nat_cmp seen key) (sym (c.in_ok-is_new.ensures.added ∙ ap (λ k. not (contains nat_cmp seen k)) c.place_key.ensures) ∙ c.if-not-is_new.false) in
-    let updates : Updates nat_cmp seen c.insert.new.self key true = subst (λ n. Updates nat_cmp seen c.insert.new.self n true) c.place_key.ensures c.in_ok-is_new.ensures.updates in
+    let none : contains nat_cmp seen key ≡ false = not-true (contains nat_cmp seen key) (sym (c.in-Ok.ensures.added ∙ ap (λ k. not (contains nat_cmp seen k)) c.place_key.ensures) ∙ c.if-not-is_new.false) in
+    let updates : Updates nat_cmp seen c.insert.new.self key true = subst (λ n. Updates nat_cmp seen c.insert.new.self n true) c.place_key.ensures c.in-Ok.ensures.updates in
     record {
       once = once_more (λ e. place_key e.0) placed k item c.loop-place-test.true c.loop-place-item.is c.loop-place.invariant.once (λ has. let both : true ≡ false = sym ((c.loop-place.invariant.seen key).1 has) ∙ none in cc);
       seen = subst (Sees c.insert.new.self) (sym (taken_more (λ e. place_key e.0) placed k item c.loop-place-test.true c.loop-place-item.is)) (sees-more seen c.insert.new.self key (take k (place_keys placed)) updates c.loop-place.invariant.seen);

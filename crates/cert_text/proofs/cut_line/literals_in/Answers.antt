@@ -25,4 +25,4 @@ loop-word-preserved c =
     (sym (c.in-Ok.ensures ∙ ap (λ n. c.loop-word.literals ++ (n, c.in-Some.plus) ∷ []) (take_rest w.now 1)))
 
 pub returns : goal.returns
-returns c = literals-end c.args.words.now c.loop-word.literals (literals_in (nows c.args.words.now)) c.loop-word.word-index (omega arith) c.loop-word.invariant
+returns c = literals-end c.args.words.now c.loop-word.literals (literals_in (nows c.args.words.now)) c.loop-word.word-index (omega (arith, c.loop-word-test.false)) c.loop-word.invariant

@@ -6,4 +6,4 @@ pub returns-then-begins_blank-clause-says : goal.returns-then-begins_blank-claus
 returns-then-begins_blank-clause-says c = says_blank c.args.line.now (rw (← c.begins_blank.ensures) c.if-begins_blank.true)
 
 pub returns-clause-says : goal.returns-clause-says
-returns-clause-says c = says_words c.args.line.now _ _ (rw (← c.begins_blank.ensures) c.if-begins_blank.false) c.ends_blank.ensures c.in_ok-words.ensures c.words_say.result (search rules)
+returns-clause-says c = says_words c.args.line.now _ _ (rw (← c.begins_blank.ensures) c.if-begins_blank.false) c.ends_blank.ensures c.in-Ok.ensures c.words_say.result (search rules)

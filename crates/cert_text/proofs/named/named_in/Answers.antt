@@ -1,8 +1,8 @@
-use Rattle.std.proofs.Common.{map, [], ap, sym, ◌∙◌, arith, Bor, List, ℕ}
+use Rattle.std.proofs.Common.{map, [], ap, sym, subst, ◌∙◌, arith, Bor, List, ℕ}
 use Rattle.std.proofs.lemmas.Grind.{common_steps}
 use Rattle.cert_text.specs.Lines.{named_in}
-use Rattle.cert_text.specs.Reading.{joined_items}
-use Rattle.cert_text.proofs.NamedLemmas.{joined-nothing, joined-form, named_in-odd, named_in-first}
+use Rattle.cert_text.specs.Reading.{Says, joined_items}
+use Rattle.cert_text.proofs.NamedLemmas.{joined-nothing, joined-form, named_in-none, named_in-odd, named_in-first}
 use Rattle.cert_text.proofs.named.named_in.Goals as goal
 
 abbrev some_word : Bor (List ℕ)
@@ -26,3 +26,8 @@ returns-else-is_empty c =
     c.loop-rest.invariant
     ∙ ap (joined_items g.least g.items) (named_in-odd c.loop-rest.rest.now (grind (arith, common_steps)) (grind (arith, common_steps)))
     ∙ joined-form g.least g.items g.high
+
+pub returns-then-is_empty : goal.returns-then-is_empty
+returns-then-is_empty c =
+    let g = c.loop-rest.gathered in
+    subst (λ said. Says said c.into_items.result) (sym (c.loop-rest.invariant ∙ ap (joined_items g.least g.items) (named_in-none c.loop-rest.rest.now (grind (arith, common_steps))))) c.into_items.ensures

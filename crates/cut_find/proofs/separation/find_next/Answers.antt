@@ -11,8 +11,8 @@ returns-in-None c =
     let none = subst (IsGreedyAnswer side.model.now side.row.0 side.side side.numbers.now) c.in-None.is c.in-Ok.ensures in
     inr (let room = c.if-len-max.false in let count = c.len.ensures in let long = c.args.found.now.ok.0 in omega (arith, room), inl (none, refl))
 
-pub returns-in_ok-push-in-Some : goal.returns-in_ok-push-in-Some
-returns-in_ok-push-in-Some c =
+pub returns-in-Ok-push : goal.returns-in-Ok-push
+returns-in-Ok-push c =
     let side = c.args.row_side.now in
     let some = subst (IsGreedyAnswer side.model.now side.row.0 side.side side.numbers.now) c.in-Some.is c.in-Ok.ensures in
-    inr (let room = c.if-len-max.false in let count = c.len.ensures in let long = c.args.found.now.ok.0 in omega (arith, room), inr (c.in-Some.cover, (some, c.in_ok-push-in-Some.ensures.items)))
+    inr (let room = c.if-len-max.false in let count = c.len.ensures in let long = c.args.found.now.ok.0 in omega (arith, room), inr (c.in-Some.cover, (some, c.in-Ok-push.ensures.items)))

@@ -1,5 +1,5 @@
-use Rattle.std.proofs.Common.{◌≡◌, sym, subst, IfSome, arith, to_z, of_z, w64}
-use Rattle.std.proofs.lemmas.Int.{ints}
+use Rattle.std.proofs.Common.{◌≡◌, sym, subst, IfSome, to_z, of_z, w64}
+use Rattle.table_entries.proofs.ReadLemmas.{short_read}
 use Rattle.basic_solution.specs.CutTotals.{AreColumnTotals}
 use Rattle.dual_simplex.proofs.leaving.breach_of.Goals as goal
 
@@ -9,6 +9,5 @@ cut_breach-requires-clause-totals c =
     let totals = c.args.totals.now in
     let d = c.in-Some.denominator in
     let are : AreColumnTotals now d totals = subst (λ o. IfSome o (λ e. AreColumnTotals now e totals)) c.in-Some.is c.requires.totals in
-    let short = are.denominator_short in
-    let d_is : to_z w64 (of_z w64 d) ≡ d = omega (arith, ints, short) in
+    let d_is : to_z w64 (of_z w64 d) ≡ d = short_read d are.denominator_short in
     subst (λ e. AreColumnTotals now e totals) (sym d_is) are

@@ -1,4 +1,4 @@
-use Rattle.std.proofs.Common.{rules, ◌≡◌, ◌∙◌, sym, ap, arith, true, false, length, map, take, ◌+◌}
+use Rattle.std.proofs.Common.{◌≡◌, ◌∙◌, sym, ap, arith, length, map, take, ◌+◌}
 use Rattle.std.proofs.lemmas.List.{length_push}
 use Rattle.lp_model.specs.Edits.{number_beside, entries_beside}
 use Rattle.model_edits.proofs.BesideLemmas.{zero_more, entry_more}
@@ -17,16 +17,14 @@ loop-item-preserved g c =
     let before = c.loop-item.invariant in
     elim c.if-not-is_zero.branch [
       | then-not-is_zero w ↦
-          let t : c.is_zero.result ≡ false = search rules in
           let more : length (entries_beside 0 (take (i + 1) (map f items)) named) ≡ length (entries_beside 0 (take i (map f items)) named) + 1 =
-          ap length (entry_more f items named i item c.loop-item-test.true c.item-item.is number number_is (sym c.is_zero.ensures.test ∙ t)) ∙ length_push (entries_beside 0 (take i (map f items)) named) _ in
+          ap length (entry_more f items named i item c.loop-item-test.true c.item-item.is number number_is (sym c.is_zero.ensures.test ∙ w.if-not-is_zero.true)) ∙ length_push (entries_beside 0 (take i (map f items)) named) _ in
           let is = before.is in
           let few = before.few in
           let next = w.count-is in
-          record { is = omega arith; few = omega arith }
+          record { is = omega (arith, more, is, next); few = omega (arith, few, next) }
       | else-not-is_zero w ↦
-          let t : c.is_zero.result ≡ true = search rules in
           let few = before.few in
           let next = w.count-is in
-          record { is = next ∙ before.is ∙ sym (ap length (zero_more f items named i item c.loop-item-test.true c.item-item.is number number_is (sym c.is_zero.ensures.test ∙ t))); few = omega arith }
+          record { is = next ∙ before.is ∙ sym (ap length (zero_more f items named i item c.loop-item-test.true c.item-item.is number number_is (sym c.is_zero.ensures.test ∙ w.if-not-is_zero.false))); few = omega (arith, few, next) }
     ]

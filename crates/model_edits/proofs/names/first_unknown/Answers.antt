@@ -1,4 +1,4 @@
-use Rattle.std.proofs.Common.{rules, ◌≡◌, ◌∙◌, ◌≤◌, ◌<◌, sym, subst, arith, IsTrue, length, map, get_or, All, Contains, []}
+use Rattle.std.proofs.Common.{◌≡◌, ◌∙◌, ◌≤◌, ◌<◌, sym, subst, arith, length, map, get_or, All, Contains, []}
 use Rattle.std.proofs.lemmas.Bool.{false≢true}
 use Rattle.std.proofs.lemmas.List.{length-map, take_all, get_or_default}
 use Rattle.std.proofs.lemmas.List.Elements.{All-more}
@@ -10,10 +10,9 @@ loop-place-preserved g c =
     let known = Contains (map g.T.Named.name c.args.items.now) in
     let k = c.loop-place.place in
     let named = c.args.named.now in
-    let t : IsTrue c.has_name.result = search rules in
     let here : get_or (map (λ e. e.0) named) k [] ≡ c.index-named-place.result.0 = get_or-map (λ e. e.0) named k c.index-named-place.result [] c.loop-place-test.true c.index-named-place.is in
     let within : k < length (map (λ e. e.0) named) = rw (length-map named (λ e. e.0)) c.loop-place-test.true in
-    All-more known (map (λ e. e.0) named) k [] within c.loop-place.invariant (subst known (sym here) (c.has_name.ensures.0 t))
+    All-more known (map (λ e. e.0) named) k [] within c.loop-place.invariant (subst known (sym here) (c.has_name.ensures.0 c.if-not-has_name.false))
 
 pub returns : goal.returns
 returns g c =

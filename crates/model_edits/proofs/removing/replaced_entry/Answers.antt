@@ -5,5 +5,5 @@ use Rattle.model_edits.proofs.removing.replaced_entry.Goals as goal
 
 pub returns : goal.returns
 returns c =
-    let entries = c.in_ok-rows.ensures ∙ ap (entries_with c.args.row c.args.number.now) c.as_slice.ensures in
+    let entries = c.in-Ok.ensures ∙ ap (entries_with c.args.row c.args.number.now) c.as_slice.ensures in
     subst (λ es. IfOk c.with_entries.result (λ d. d ≡ record c.args.col.now { rows = es })) entries c.with_entries.ensures

@@ -11,5 +11,5 @@ returns c =
     let old = c.args.text.now.items in
     let one = c.put_lower.new.text.items in
     lines_put (lower_line d.name d.lo ∷ []) (upper_line d.name d.up ∷ []) old one c.put_upper.new.text.items
-    (c.in_ok-put_lower.ensures ∙ ap (λ (name : List ℕ). old ++ written_text (lower_line name d.lo ∷ [])) c.as_slice.ensures)
+    (c.in-Ok.ensures ∙ ap (λ (name : List ℕ). old ++ written_text (lower_line name d.lo ∷ [])) c.as_slice.ensures)
     (last ∙ ap (λ (name : List ℕ). one ++ written_text (upper_line name d.up ∷ [])) c.as_slice-2.ensures)) c.put_upper.ensures

@@ -11,7 +11,7 @@ pub loop-column-preserved : goal.loop-column-preserved
 loop-column-preserved c =
     let items = c.args.columns.now in
     put_next (λ (xs : List Col). written_text (flat_map (column_lines c.args.model.now) xs)) (λ (x : Col). written_text ((column_lines c.args.model.now) x)) (lines_step (column_lines c.args.model.now)) items c.loop-column.column-index (c.args.text.now.items ++ written_text (flat_map (column_lines c.args.model.now) items)) c.loop-column.text.items c.loop-column.invariant
-    c.column-item.result c.put_column.new.text.items c.loop-column-test.true c.column-item.is c.in_ok-put_column.ensures
+    c.column-item.result c.put_column.new.text.items c.loop-column-test.true c.column-item.is c.in-Ok.ensures
 
 pub returns : goal.returns
 returns c =

@@ -18,7 +18,7 @@ loop-entry-preserved c =
     let old = c.loop-entry.text.items in
     put_next (λ (es : List (RowId × ℚ)). written_text (map one es)) (λ (e : RowId × ℚ). written_text (one e ∷ [])) (line_step one) items c.loop-entry.entry-index (c.args.text.now.items ++ written_text (map one items)) old c.loop-entry.invariant
     c.entry-item.result c.put_row_entry.new.text.items c.loop-entry-test.true c.entry-item.is
-    (c.in_ok-put_row_entry.ensures ∙ ap (λ (n : List ℕ). old ++ written_text (entry_line n (row_name M c.entry-item.result.0.0) c.entry-item.result.1 ∷ [])) c.as_slice.ensures)
+    (c.in-Ok.ensures ∙ ap (λ (n : List ℕ). old ++ written_text (entry_line n (row_name M c.entry-item.result.0.0) c.entry-item.result.1 ∷ [])) c.as_slice.ensures)
 
 pub returns : goal.returns
 returns c =

@@ -7,4 +7,4 @@ pub returns : goal.returns
 returns c =
     handed_on c.put_entry.result
     (λ last.
-    first_put c.args.kind.now (c.args.set.now ∷ c.args.name.now ∷ printed c.args.number.now ∷ []) c.args.text.now.items c.put_word.new.text.items c.put_entry.new.text.items c.in_ok-put_word.ensures last) c.put_entry.ensures
+    first_put c.args.kind.now (c.args.set.now ∷ c.args.name.now ∷ printed c.args.number.now ∷ []) c.args.text.now.items c.put_word.new.text.items c.put_entry.new.text.items c.in-Ok.ensures last) c.put_entry.ensures

@@ -6,4 +6,4 @@ pub returns : goal.returns
 returns c =
     handed_on c.put_two.result
     (λ last.
-    first_put c.args.first.now (c.args.second.now ∷ c.args.third.now ∷ []) c.args.text.now.items c.put_word.new.text.items c.put_two.new.text.items c.in_ok-put_word.ensures last) c.put_two.ensures
+    first_put c.args.first.now (c.args.second.now ∷ c.args.third.now ∷ []) c.args.text.now.items c.put_word.new.text.items c.put_two.new.text.items c.in-Ok.ensures last) c.put_two.ensures

@@ -10,7 +10,7 @@ pub loop-row-preserved : goal.loop-row-preserved
 loop-row-preserved c =
     let items = c.args.rows.now in
     put_next (λ (xs : List Row). written_text (flat_map range_line xs)) (λ (x : Row). written_text (range_line x)) (lines_step range_line) items c.loop-row.row-index (c.args.text.now.items ++ written_text (flat_map range_line items)) c.loop-row.text.items c.loop-row.invariant
-    c.row-item.result c.put_range.new.text.items c.loop-row-test.true c.row-item.is c.in_ok-put_range.ensures
+    c.row-item.result c.put_range.new.text.items c.loop-row-test.true c.row-item.is c.in-Ok.ensures
 
 pub returns : goal.returns
 returns c =

@@ -9,7 +9,7 @@ pub loop-row-preserved : goal.loop-row-preserved
 loop-row-preserved c =
     let items = c.args.rows.now in
     put_next (λ (xs : List Row). written_text (flat_map rhs_line xs)) (λ (x : Row). written_text (rhs_line x)) (lines_step rhs_line) items c.loop-row.row-index (c.args.text.now.items ++ written_text (flat_map rhs_line items)) c.loop-row.text.items c.loop-row.invariant
-    c.row-item.result c.put_right_side.new.text.items c.loop-row-test.true c.row-item.is c.in_ok-put_right_side.ensures
+    c.row-item.result c.put_right_side.new.text.items c.loop-row-test.true c.row-item.is c.in-Ok.ensures
 
 pub returns : goal.returns
 returns c =

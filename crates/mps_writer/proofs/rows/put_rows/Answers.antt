@@ -8,7 +8,7 @@ pub loop-row-preserved : goal.loop-row-preserved
 loop-row-preserved c =
     let items = c.args.rows.now in
     put_next (λ (xs : List Row). written_text (map row_line xs)) (λ (x : Row). written_text (row_line x ∷ [])) (line_step row_line) items c.loop-row.row-index (c.args.text.now.items ++ written_text (map row_line items)) c.loop-row.text.items c.loop-row.invariant
-    c.row-item.result c.put_row.new.text.items c.loop-row-test.true c.row-item.is c.in_ok-put_row.ensures
+    c.row-item.result c.put_row.new.text.items c.loop-row-test.true c.row-item.is c.in-Ok.ensures
 
 pub returns : goal.returns
 returns c =

@@ -11,5 +11,5 @@ returns c =
     (λ last.
     let M = c.args.model.now in
     let head = c.put_header.new.text.items in
-    lines_put (Header (codes "BOUNDS" ∷ []) ∷ []) (flat_map bound_lines M.cols) c.args.text.now.items head c.put_bounds.new.text.items c.in_ok-put_header.ensures
+    lines_put (Header (codes "BOUNDS" ∷ []) ∷ []) (flat_map bound_lines M.cols) c.args.text.now.items head c.put_bounds.new.text.items c.in-Ok.ensures
     (last ∙ ap (λ (items : List Col). head ++ written_text (flat_map bound_lines items)) c.cols.ensures.items)) c.put_bounds.ensures

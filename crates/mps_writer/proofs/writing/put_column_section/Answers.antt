@@ -14,7 +14,7 @@ returns c =
     (λ last.
     let M = c.args.model.now in
     let head = c.put_header.new.text.items in
-    lines_put (Header (codes "COLUMNS" ∷ []) ∷ []) (flat_map (column_lines M) M.cols) c.args.text.now.items head c.put_columns.new.text.items c.in_ok-put_header.ensures
+    lines_put (Header (codes "COLUMNS" ∷ []) ∷ []) (flat_map (column_lines M) M.cols) c.args.text.now.items head c.put_columns.new.text.items c.in-Ok.ensures
     (last ∙ ap (λ (items : List Col). head ++ written_text (flat_map (column_lines M) items)) c.cols.ensures.items)) c.put_columns.ensures
 
 -- a lawful model's entries are of its rows

@@ -12,7 +12,7 @@ returns c =
     (λ last.
     let M = c.args.model.now in
     let head = c.put_header.new.text.items in
-    lines_put (Header (codes "RANGES" ∷ []) ∷ []) (flat_map range_line M.rows) c.args.text.now.items head c.put_ranges.new.text.items c.in_ok-put_header.ensures
+    lines_put (Header (codes "RANGES" ∷ []) ∷ []) (flat_map range_line M.rows) c.args.text.now.items head c.put_ranges.new.text.items c.in-Ok.ensures
     (last ∙ ap (λ (items : List Row). head ++ written_text (flat_map range_line items)) c.rows.ensures.items)) c.put_ranges.ensures
 
 pub put_ranges-requires : goal.put_ranges-requires

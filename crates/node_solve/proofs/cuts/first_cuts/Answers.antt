@@ -7,3 +7,9 @@ returns-in-Ok-clause-cuts c = ap (take c.in-Some.count) c.rows-rows.ensures.rows
 
 pub returns-in-Ok-clause-places : goal.returns-in-Ok-clause-places
 returns-in-Ok-clause-places c = c.in-Ok.ensures ∙ sym (subst (λ p. IsFirstCount p c.in-Some.count) c.rows-rows.ensures.rows c.in-Some.ensures).places
+
+pub returns-in-Ok-new-clause-cuts : goal.returns-in-Ok-new-clause-cuts
+returns-in-Ok-new-clause-cuts c = c.in-Ok-new.ensures.cuts
+
+pub returns-in-Ok-new-clause-places : goal.returns-in-Ok-new-clause-places
+returns-in-Ok-new-clause-places c = c.in-Ok-new.ensures.places

@@ -3,6 +3,6 @@ use Rattle.std.proofs.lemmas.Result.{IfOk-weaker}
 use Rattle.clap.specs.Words.{App, with_subcommand}
 use Rattle.program_words.proofs.words.command_line.Goals as goal
 
-pub returns-in-Ok : goal.returns-in-Ok
-returns-in-Ok c =
-    IfOk-weaker c.subcommand.result _ _ (λ r h. h.shape (search rules) ∙ ap₂ with_subcommand c.in-Ok.ensures (ap (λ (a : App). a.top) c.in_ok-check.ensures.app)) c.subcommand.ensures
+pub returns : goal.returns
+returns c =
+    IfOk-weaker c.subcommand.result _ _ (λ r h. h.shape (search rules) ∙ ap₂ with_subcommand c.in-Ok-run_command_line.ensures (ap (λ (a : App). a.top) c.in-Ok.ensures.app)) c.subcommand.ensures

@@ -13,6 +13,6 @@ returns c =
     let block = block_text M place.path place.cuts place.basis in
     let before = c.write_stop.new.reply.items in
     join_piece c.extend_from_slice.result c.args.reply.now.items (stop ++ block) (codes "end\n") c.write_block.new.reply.items c.extend_from_slice.new.self.items
-    (join c.args.reply.now.items stop block before c.write_block.new.reply.items c.in_ok-write_stop.ensures
-    (c.in_ok-write_block.ensures ∙ ap (λ cuts. before ++ block_text M place.path cuts place.basis) c.as_slice.ensures))
+    (join c.args.reply.now.items stop block before c.write_block.new.reply.items c.in-Ok.ensures
+    (c.in-Ok-write_block.ensures ∙ ap (λ cuts. before ++ block_text M place.path cuts place.basis) c.as_slice.ensures))
     c.extend_from_slice.ensures.items

@@ -9,7 +9,7 @@ loop-index-init c = cuts-begin c.args.model.now c.args.cuts.now c.args.reply.now
 pub loop-index-preserved : goal.loop-index-preserved
 loop-index-preserved c =
     cuts-step c.args.model.now c.args.cuts.now c.loop-index.index c.index-cuts-index.result c.args.reply.now.items c.loop-index.reply.items c.write_cut_line.new.reply.items c.loop-index-test.true c.loop-index.invariant
-    (c.in_ok-write_cut_line.ensures ∙ ap (λ d. c.loop-index.reply.items ++ cut_line c.args.model.now (c.loop-index.index + 1) d) c.index-cuts-index.is)
+    (c.in-Ok.ensures ∙ ap (λ d. c.loop-index.reply.items ++ cut_line c.args.model.now (c.loop-index.index + 1) d) c.index-cuts-index.is)
 
 pub returns : goal.returns
-returns c = cuts-all c.args.model.now c.args.cuts.now c.loop-index.index c.args.reply.now.items c.loop-index.reply.items (omega arith) c.loop-index.invariant
+returns c = cuts-all c.args.model.now c.args.cuts.now c.loop-index.index c.args.reply.now.items c.loop-index.reply.items (omega (arith, c.loop-index-test.false)) c.loop-index.invariant

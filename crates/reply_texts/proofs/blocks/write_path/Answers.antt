@@ -9,6 +9,6 @@ pub returns : goal.returns
 returns c =
     let changes = flat_map (change_text c.args.model.now) c.args.path.now in
     join_piece c.extend_from_slice-2.result c.args.reply.now.items (codes "path" ++ changes) (codes "\n") c.write_changes.new.reply.items c.extend_from_slice-2.new.self.items
-    (join c.args.reply.now.items (codes "path") changes c.extend_from_slice.new.self.items c.write_changes.new.reply.items c.in_ok-extend_from_slice.ensures.items
-    (c.in_ok-write_changes.ensures ∙ ap (λ changes. c.extend_from_slice.new.self.items ++ flat_map (change_text c.args.model.now) changes) c.as_slice.ensures))
+    (join c.args.reply.now.items (codes "path") changes c.extend_from_slice.new.self.items c.write_changes.new.reply.items c.in-Ok.ensures.items
+    (c.in-Ok-write_changes.ensures ∙ ap (λ changes. c.extend_from_slice.new.self.items ++ flat_map (change_text c.args.model.now) changes) c.as_slice.ensures))
     c.extend_from_slice-2.ensures.items

@@ -8,5 +8,5 @@ pub returns : goal.returns
 returns c =
     let step = step_text c.args.model.now c.args.step.now in
     join_piece c.extend_from_slice-2.result c.args.reply.now.items (codes "at " ++ step) (codes "\n") c.write_step.new.reply.items c.extend_from_slice-2.new.self.items
-    (join c.args.reply.now.items (codes "at ") step c.extend_from_slice.new.self.items c.write_step.new.reply.items c.in_ok-extend_from_slice.ensures.items c.in_ok-write_step.ensures)
+    (join c.args.reply.now.items (codes "at ") step c.extend_from_slice.new.self.items c.write_step.new.reply.items c.in-Ok.ensures.items c.in-Ok-write_step.ensures)
     c.extend_from_slice-2.ensures.items

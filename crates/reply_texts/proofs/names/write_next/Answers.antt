@@ -5,4 +5,4 @@ use Rattle.reply_texts.proofs.names.write_next.Goals as goal
 
 pub returns : goal.returns
 returns c =
-    join_last c.write_variable.result c.args.reply.now.items (codes " ") (variable_text c.args.model.now c.args.variable.now) c.extend_from_slice.new.self.items c.write_variable.new.reply.items c.in_ok-extend_from_slice.ensures.items c.write_variable.ensures
+    join_last c.write_variable.result c.args.reply.now.items (codes " ") (variable_text c.args.model.now c.args.variable.now) c.extend_from_slice.new.self.items c.write_variable.new.reply.items c.in-Ok.ensures.items c.write_variable.ensures

@@ -5,4 +5,4 @@ use Rattle.reply_texts.proofs.pieces.write_line.Goals as goal
 
 pub returns : goal.returns
 returns c =
-    join_piece c.extend_from_slice.result c.args.reply.now.items (c.args.first.now ++ c.args.second.now) (codes "\n") c.write_two.new.reply.items c.extend_from_slice.new.self.items c.in_ok-write_two.ensures c.extend_from_slice.ensures.items
+    join_piece c.extend_from_slice.result c.args.reply.now.items (c.args.first.now ++ c.args.second.now) (codes "\n") c.write_two.new.reply.items c.extend_from_slice.new.self.items c.in-Ok.ensures c.extend_from_slice.ensures.items

@@ -4,4 +4,4 @@ use Rattle.reply_texts.proofs.pieces.write_two.Goals as goal
 
 pub returns : goal.returns
 returns c =
-    join_piece c.extend_from_slice-2.result c.args.reply.now.items c.args.first.now c.args.second.now c.extend_from_slice.new.self.items c.extend_from_slice-2.new.self.items c.in_ok-extend_from_slice.ensures.items c.extend_from_slice-2.ensures.items
+    join_piece c.extend_from_slice-2.result c.args.reply.now.items c.args.first.now c.args.second.now c.extend_from_slice.new.self.items c.extend_from_slice-2.new.self.items c.in-Ok.ensures.items c.extend_from_slice-2.ensures.items

@@ -8,5 +8,5 @@ pub returns : goal.returns
 returns c =
     let row = c.args.first.now ++ row_name c.args.model.now c.args.row.0 in
     join_last_two c.write_two-2.result c.args.reply.now.items row (codes " col ") (column_name c.args.model.now c.args.column.0) c.write_two.new.reply.items c.write_two-2.new.reply.items
-    (c.in_ok-write_two.ensures ∙ ap (λ (t : List ℕ). c.args.reply.now.items ++ (c.args.first.now ++ t)) c.row_name.ensures)
+    (c.in-Ok.ensures ∙ ap (λ (t : List ℕ). c.args.reply.now.items ++ (c.args.first.now ++ t)) c.row_name.ensures)
     (subst (λ (t : List ℕ). IfOk c.write_two-2.result (λ _. c.write_two-2.new.reply.items ≡ c.write_two.new.reply.items ++ (codes " col " ++ t))) c.column_name.ensures c.write_two-2.ensures)

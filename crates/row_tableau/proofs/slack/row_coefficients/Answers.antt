@@ -1,4 +1,4 @@
-use Rattle.std.proofs.Common.{◌≡◌, ◌≢◌, ◌<◌, ◌*◌, ◌+◌, ◌∙◌, sym, ap, subst, arith, length, get_or, pos, ℕ}
+use Rattle.std.proofs.Common.{◌≡◌, ◌≢◌, ◌<◌, ◌*◌, ◌+◌, ◌∙◌, sym, ap, subst, arith, length, get_or, pos, ℕ, ◌≤◌}
 use Rattle.std.proofs.lemmas.List.{with_items_is}
 use Rattle.rational.specs.Rational.{int}
 use Rattle.lp_model.specs.Program.{coefficient, entry_of}
@@ -59,3 +59,15 @@ overflow_mul-activities c =
     let few = c.requires in
     let room = few_entries (length c.cols-columns.result.now) c.args.activities (omega (arith, columns_are, columns_few, few)) in
     omega (arith, room)
+
+pub write_column-requires-clause-col : goal.write_column-requires-clause-col
+write_column-requires-clause-col c = c.loop-col-test.true
+
+pub returns-clause-length : goal.returns-clause-length
+returns-clause-length c = c.loop-col.invariant.size
+
+pub returns-clause-items : goal.returns-clause-items
+returns-clause-items c = λ i k i_within k_within.
+    let columns_are : length c.cols-columns.result.now ≡ length c.args.model.now.cols = ap length c.cols-columns.ensures.items in
+    let past : length c.cols-columns.result.now ≤ c.loop-col.col = c.loop-col-test.false in
+    c.loop-col.invariant.written i k i_within (omega (arith, columns_are, past, k_within))

@@ -1,4 +1,7 @@
-use Rattle.std.proofs.Common.{◌≡◌, ◌<◌, ◌≤◌, ◌*◌, ◌+◌, arith, length, ◌∙◌}
+use Rattle.std.proofs.Common.{◌≡◌, ◌<◌, ◌≤◌, ◌*◌, ◌+◌, [], refl, sym, ap, subst, arith, length, drop, get_or, pos, ◌∙◌}
+use Rattle.std.proofs.lemmas.List.{drop_all}
+use Rattle.rational.specs.Rational.{int}
+use Rattle.lp_model.specs.CutTerms.{term_of}
 use Rattle.row_tableau.proofs.CutLemmas.{cut_more, cut_others, cut_past}
 use Rattle.row_tableau.proofs.slack.write_cut.Goals as goal
 
@@ -39,3 +42,27 @@ loop-left-preserved c =
       written = cut_past m n row c.requires.row list size terms left some c.loop-left.invariant.left e c.index-terms-left.is past c.loop-left.invariant.written;
       others = c.loop-left.invariant.others;
     }
+
+pub loop-left-init : goal.loop-left-init
+loop-left-init c =
+    let terms = c.args.terms.now in
+    let none : drop (length terms) terms ≡ [] = drop_all (length terms) terms (omega arith) in
+    record { left = omega arith; written = λ k within. c.requires.zeros k within ∙ ap (term_of k) (sym none); others = λ i k i_within k_within other. refl }
+
+pub flat_index-requires-clause-row : goal.flat_index-requires-clause-row
+flat_index-requires-clause-row c = c.requires.row
+
+pub flat_index-requires-clause-place : goal.flat_index-requires-clause-place
+flat_index-requires-clause-place c = c.if-col-columns.true
+
+pub flat_index-requires-clause-room : goal.flat_index-requires-clause-room
+flat_index-requires-clause-room c = c.requires.room
+
+pub returns-clause-written : goal.returns-clause-written
+returns-clause-written c = λ k within.
+    let past = c.loop-left-test.false in
+    let all : c.loop-left.left ≡ 0 = omega (arith, past) in
+    subst (λ n. get_or c.loop-left.list (c.args.row * c.args.columns + k) (int (pos 0)) ≡ term_of k (drop n c.args.terms.now)) all (c.loop-left.invariant.written k within)
+
+pub returns-clause-others : goal.returns-clause-others
+returns-clause-others c = c.loop-left.invariant.others

@@ -1,37 +1,30 @@
 use Rattle.std.proofs.Common.{List, ℕ, ◌<◌, length, take, sym, arith, subst}
-use Rattle.std.specs.Prelude.{Result, Ok, Err, OnErr}
 use Rattle.std.specs.Io.KnownBytes.{Appends}
 use Rattle.std.proofs.lemmas.Bool.Decides.{nat_tests}
-use Rattle.script_session.specs.Output.{WritesFront}
 use Rattle.script_session.proofs.OutputLemmas.{Sends, Sends-more, broken_off, none_taken, from_on}
 use Rattle.script_session.proofs.output.write_all.Goals as goal
 
-on_err : {T E : Type 0} (r : Result T E) (P : Type 0) → P → OnErr r P
-on_err (Ok done) P p = tt
-on_err (Err fault) P p = p
-
-pub returns-in_err-count-clause-err : goal.returns-in_err-count-clause-err
-returns-in_err-count-clause-err g c =
+pub returns-in_default-clause-err : goal.returns-in_default-clause-err
+returns-in_default-clause-err g c =
     let written = g.W.Sink.written in
     let rest = c.loop-rest.rest.now in
     let some : 0 < length rest = grind (arith, nat_tests) in
-    on_err c.from_residual.result (WritesFront (written c.args.out.now) (written c.write.new.self) c.args.bytes.now)
-    (broken_off (written c.args.out.now) (written c.loop-rest.out) (written c.write.new.self) c.args.bytes.now rest c.loop-rest.invariant.sent c.in_err-count.ensures.bytes some)
+    broken_off (written c.args.out.now) (written c.loop-rest.out) (written c.write.new.self) c.args.bytes.now rest c.loop-rest.invariant.sent c.in_default.ensures.bytes some
 
 pub returns-then-count-eq0-clause-err : goal.returns-then-count-eq0-clause-err
 returns-then-count-eq0-clause-err g c =
     let written = g.W.Sink.written in
     let rest = c.loop-rest.rest.now in
     let some : 0 < length rest = grind (arith, nat_tests) in
-    let none = subst (λ (n : ℕ). Appends (written c.loop-rest.out) (written c.write.new.self) (take n rest)) c.if-count-eq0.true c.in_ok-count.ensures.bytes in
+    let none = subst (λ (n : ℕ). Appends (written c.loop-rest.out) (written c.write.new.self) (take n rest)) c.if-count-eq0.true c.in-Ok.ensures.bytes in
     none_taken (written c.args.out.now) (written c.loop-rest.out) (written c.write.new.self) c.args.bytes.now rest c.loop-rest.invariant.sent none some
 
 pub loop-rest-preserved : goal.loop-rest-preserved
 loop-rest-preserved g c =
     let written = g.W.Sink.written in
     let rest = c.loop-rest.rest.now in
-    let count = c.in_ok-count.count in
+    let count = c.in-Ok.count in
     record {
-      sent = subst (λ (left : List ℕ). Sends (written c.args.out.now) (written c.write.new.self) c.args.bytes.now left) (sym (from_on count rest)) (Sends-more _ _ _ c.args.bytes.now rest count c.loop-rest.invariant.sent c.in_ok-count.ensures.bytes);
+      sent = subst (λ (left : List ℕ). Sends (written c.args.out.now) (written c.write.new.self) c.args.bytes.now left) (sym (from_on count rest)) (Sends-more _ _ _ c.args.bytes.now rest count c.loop-rest.invariant.sent c.in-Ok.ensures.bytes);
       later = omega arith;
     }

@@ -1,11 +1,7 @@
-use Rattle.std.proofs.Common.{rules, tests}
-use Rattle.std.proofs.lemmas.Iterator.Consumers.{map_from_collect, YieldsList-from_filter}
-use Rattle.std.proofs.lemmas.Iterator.Splits.{YieldsList-from_slice_split}
-use Rattle.text_lines.specs.Words.{words_of, is_blank, is_piece}
+use Rattle.std.proofs.Common.{◌++◌, ℕ, List, map, ap, ◌∙◌, Bor}
+use Rattle.text_lines.specs.Words.{words_of}
 use Rattle.text_lines.proofs.blanks.words.Goals as goal
 
-pub returns : goal.returns
-unfolding words_of
-returns c =
-    map_from_collect _ c.collect.ensures.ran
-    (YieldsList-from_filter _ is_piece (YieldsList-from_slice_split _ is_blank c.args.line.now (cc) (cc) (cc) (λ x r q k. search (rules, tests))) c.filter.ensures.closure (λ x r q k. search (rules, tests)))
+pub returns-in-Ok : goal.returns-in-Ok
+returns-in-Ok c =
+    c.in-Ok.ensures ∙ ap (λ (items : List (Bor (List ℕ))). map (λ (word : Bor (List ℕ)). word.now) items ++ words_of c.args.line.now) c.new-words.ensures.items

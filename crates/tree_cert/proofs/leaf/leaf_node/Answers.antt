@@ -18,11 +18,11 @@ returns-then-is_empty_region c = c.is_empty_region.ensures.0 c.if-is_empty_regio
 pub returns-then-is_refuted : goal.returns-then-is_refuted
 returns-then-is_refuted c = (
   (λ e. iff_false c.is_empty_region.ensures c.if-is_empty_region.false e),
-  (c.is_refuted.ensures.0 c.if-is_refuted.true, c.in_ok-mults.ensures ∙ ap (mults_named (formulation c.args.model.now c.args.cuts.now) suc) c.as_slice.ensures),
+  (c.is_refuted.ensures.0 c.if-is_refuted.true, c.in-Ok.ensures ∙ ap (mults_named (formulation c.args.model.now c.args.cuts.now) suc) c.as_slice.ensures),
 )
 
 pub returns : goal.returns
 returns c = (
   (λ e. iff_false c.is_empty_region.ensures c.if-is_empty_region.false e),
-  ((λ r. iff_false c.is_refuted.ensures c.if-is_refuted.false r), c.in_ok-mults-2.ensures ∙ ap (mults_named (formulation c.args.model.now c.args.cuts.now) suc) c.as_slice-2.ensures),
+  ((λ r. iff_false c.is_refuted.ensures c.if-is_refuted.false r), c.in-Ok-mults_named.ensures ∙ ap (mults_named (formulation c.args.model.now c.args.cuts.now) suc) c.as_slice-2.ensures),
 )

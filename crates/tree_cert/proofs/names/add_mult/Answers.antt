@@ -6,11 +6,11 @@ use Rattle.cert_text.specs.declared.cert.CertMult.TheVariants.{Row}
 use Rattle.tree_cert.specs.Cuts.{mult_named}
 use Rattle.tree_cert.proofs.names.add_mult.Goals as goal
 
-pub returns-in_ok-name-in-Row : goal.returns-in_ok-name-in-Row
-returns-in_ok-name-in-Row c =
+pub returns-in-Ok : goal.returns-in-Ok
+returns-in-Ok c =
     let F : Formulation = formulation c.args.model.now c.args.cuts.now in
     subst (λ (ms : List CertMult). IfOk c.push.result (λ _. c.push.new.self ≡ c.args.mults.now ++ ms))
-    (ap (λ n. Row n c.args.number ∷ []) c.in_ok-name-in-Row.ensures ∙ ap (λ x. mult_named F suc x c.args.number) (sym c.in-Row.is)) c.push.ensures.pushed
+    (ap (λ n. Row n c.args.number ∷ []) c.in-Ok.ensures ∙ ap (λ x. mult_named F suc x c.args.number) (sym c.in-Row.is)) c.push.ensures.pushed
 
 pub returns-in-Cut : goal.returns-in-Cut
 returns-in-Cut c =

@@ -15,6 +15,6 @@ returns-then-is_zero c =
 pub returns : goal.returns
 returns c =
     subst (λ (ns : Named). IfOk c.push.result (λ _. c.push.new.self ≡ c.args.named.now ++ ns))
-    (ap (λ n. (n, c.args.number.now) ∷ []) (c.in_ok-name.ensures ∙ c.as_slice.ensures)
+    (ap (λ n. (n, c.args.number.now) ∷ []) (c.in-Ok.ensures ∙ c.as_slice.ensures)
     ∙ ap (λ (b : Bool). if b then [] else (c.args.col.now.name, c.args.number.now) ∷ []) (sym (is_zero_by c.is_zero.result c.args.number.now c.is_zero.ensures ∙ c.if-is_zero.false)))
     c.push.ensures.pushed

@@ -27,7 +27,7 @@ loop-index-preserved c =
     let below : k < length cuts = c.requires.within i 0 c.loop-index-test.true in
     let from : derivation_at cuts k ≡ (get_or cuts k found).from =
     of_element-get no_derivation (λ (x : CutRow). x.from) cuts k found below c.index-cuts-used.is ∙ ap (λ (x : CutRow). x.from) c.index-cuts-used.is in
-    c.in_ok-push_named_cut.ensures
+    c.in-Ok.ensures
     ∙ ap (λ d. c.loop-index.named ++ named_cut M d ∷ []) (sym from)
     ∙ ap (λ named. named ++ named_cut M (derivation_at cuts k) ∷ []) c.loop-index.invariant
     ∙ sym (map-append (λ p. named_cut M (derivation_at cuts p)) (take i used) (k ∷ []))

@@ -8,7 +8,7 @@ pub returns : goal.returns
 returns c =
     let M = c.args.model.now in
     let from = c.args.from.now in
-    let own : NamedCut = record { row = c.in_ok-row.row; side = from.side; literals = c.in_ok-literals.literals } in
-    let literals = c.in_ok-literals.ensures ∙ ap (map (named_literal M)) c.as_slice.ensures in
-    let same : own ≡ named_cut M from = (λ i. record { row = c.in_ok-row.ensures i; side = from.side; literals = literals i }) in
+    let own : NamedCut = record { row = c.in-Ok.row; side = from.side; literals = c.in-Ok-named_literals.literals } in
+    let literals = c.in-Ok-named_literals.ensures ∙ ap (map (named_literal M)) c.as_slice.ensures in
+    let same : own ≡ named_cut M from = (λ i. record { row = c.in-Ok.ensures i; side = from.side; literals = literals i }) in
     subst (λ (cut : NamedCut). IfOk c.push.result (λ _. c.push.new.self ≡ c.args.named.now ++ cut ∷ [])) same c.push.ensures.pushed

@@ -7,8 +7,8 @@ pub put_cert-requires : goal.put_cert-requires
 put_cert-requires c = c.new-text.ensures.items
 
 pub returns-clause-text : goal.returns-clause-text
-returns-clause-text c = c.in_ok-put_cert.ensures.text
+returns-clause-text c = c.in-Ok.ensures.text
 
 pub returns-clause-states : goal.returns-clause-states
 returns-clause-states c = λ whole words.
-    subst (λ text. MeantCertificate text c.args.cert.now) (sym c.in_ok-put_cert.ensures.text) (printed_states c.args.cert.now whole words c.in_ok-put_cert.ensures.room)
+    subst (λ text. MeantCertificate text c.args.cert.now) (sym c.in-Ok.ensures.text) (printed_states c.args.cert.now whole words c.in-Ok.ensures.room)

@@ -7,14 +7,14 @@ use Rattle.tree_cert.specs.Printed.{HasClaimRoom}
 use Rattle.tree_cert.proofs.PutLaws.{piece_last, behind_last, if_ok}
 use Rattle.tree_cert.proofs.printing.put_claim.Goals as goal
 
-pub returns-in_ok-extend_from_slice-in-Optimal-clause-text : goal.returns-in_ok-extend_from_slice-in-Optimal-clause-text
-returns-in_ok-extend_from_slice-in-Optimal-clause-text c =
+pub returns-in-Ok-clause-text : goal.returns-in-Ok-clause-text
+returns-in-Ok-clause-text c =
     let old = c.args.text.now.items in
     subst (λ (claim : Claim). IfOk c.put_number.result (λ _. c.put_number.new.text.items ≡ old ++ line_text (claim_words claim))) (sym c.in-Optimal.is)
-    (behind_last c.put_number.result old (codes "claim optimal") (printed c.in-Optimal.value ∷ []) c.extend_from_slice.new.self.items c.put_number.new.text.items c.in_ok-extend_from_slice-in-Optimal.ensures.items c.put_number.ensures.text)
+    (behind_last c.put_number.result old (codes "claim optimal") (printed c.in-Optimal.value ∷ []) c.extend_from_slice.new.self.items c.put_number.new.text.items c.in-Ok.ensures.items c.put_number.ensures.text)
 
-pub returns-in_ok-extend_from_slice-in-Optimal-clause-room : goal.returns-in_ok-extend_from_slice-in-Optimal-clause-room
-returns-in_ok-extend_from_slice-in-Optimal-clause-room c = if_ok c.put_number.result (subst HasClaimRoom (sym c.in-Optimal.is) c.put_number.ensures.room)
+pub returns-in-Ok-clause-room : goal.returns-in-Ok-clause-room
+returns-in-Ok-clause-room c = if_ok c.put_number.result (subst HasClaimRoom (sym c.in-Optimal.is) c.put_number.ensures.room)
 
 pub returns-in-Infeasible-clause-text : goal.returns-in-Infeasible-clause-text
 returns-in-Infeasible-clause-text c =

@@ -10,6 +10,6 @@ pub returns-clause-text : goal.returns-clause-text
 returns-clause-text c =
     let k = decimal c.args.cut in
     words_last c.put_number.result (codes "cut" ∷ k ∷ []) (printed c.args.number.now ∷ []) c.args.text.now.items c.put_word-2.new.text.items c.put_number.new.text.items
-    (words_put (codes "cut" ∷ []) (k ∷ []) c.args.text.now.items c.put_word.new.text.items c.put_word-2.new.text.items c.in_ok-put_word.ensures
-    (c.in_ok-put_word-2.ensures ∙ ap (λ w. c.put_word.new.text.items ++ spaced (w ∷ [])) (c.as_bytes.ensures.value ∙ c.format.ensures.text)))
+    (words_put (codes "cut" ∷ []) (k ∷ []) c.args.text.now.items c.put_word.new.text.items c.put_word-2.new.text.items c.in-Ok.ensures
+    (c.in-Ok-put_word.ensures ∙ ap (λ w. c.put_word.new.text.items ++ spaced (w ∷ [])) (c.as_bytes.ensures.value ∙ c.format.ensures.text)))
     c.put_number.ensures.text

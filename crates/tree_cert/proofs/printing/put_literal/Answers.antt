@@ -9,5 +9,5 @@ pub returns : goal.returns
 returns c =
     let one = c.put_word.new.text.items in
     signed_last c.extend_from_slice.result c.args.text.now.items c.args.name.now one c.extend_from_slice.new.self.items (sign_of c.args.plus)
-    (c.in_ok-put_word.ensures ∙ ap (λ w. c.args.text.now.items ++ spaced (w ∷ [])) c.sign_word.ensures)
+    (c.in-Ok.ensures ∙ ap (λ w. c.args.text.now.items ++ spaced (w ∷ [])) c.sign_word.ensures)
     (c.extend_from_slice.ensures.items ∙ ap (λ l. if is_ok c.extend_from_slice.result then one ++ l else one) c.as_slice.ensures)

@@ -12,8 +12,8 @@ loop-mult-preserved c =
     record {
       put =
           put_next (λ (ms : List CertMult). spaced (all_mult_words ms)) (λ (m : CertMult). spaced (mult_words m)) mult_step c.args.mults.now c.loop-mult.mult-index (c.args.text.now.items ++ spaced (all_mult_words c.args.mults.now)) c.loop-mult.text.items c.loop-mult.invariant.put
-          m c.put_mult.new.text.items c.loop-mult-test.true c.mult-item.is c.in_ok-put_mult.ensures.text;
-      room = all_next MultFits c.args.mults.now c.loop-mult.mult-index m c.loop-mult-test.true c.mult-item.is c.loop-mult.invariant.room c.in_ok-put_mult.ensures.room;
+          m c.put_mult.new.text.items c.loop-mult-test.true c.mult-item.is c.in-Ok.ensures.text;
+      room = all_next MultFits c.args.mults.now c.loop-mult.mult-index m c.loop-mult-test.true c.mult-item.is c.loop-mult.invariant.room c.in-Ok.ensures.room;
     }
 
 pub returns-clause-room : goal.returns-clause-room

@@ -14,8 +14,8 @@ loop-name-preserved c =
     record {
       put =
           put_next (λ (ns : Named). spaced (named_words ns)) (λ (e : List ℕ × ℚ). spaced (e.0 ∷ printed e.1 ∷ [])) named_step c.args.named.now c.loop-name.name-index (c.args.text.now.items ++ spaced (named_words c.args.named.now)) c.loop-name.text.items c.loop-name.invariant.put
-          e c.put_pair.new.text.items c.loop-name-test.true c.loop-name-item.is c.in_ok-put_pair.ensures.text;
-      room = all_next (λ (d : List ℕ × ℚ). Fits d.1) c.args.named.now c.loop-name.name-index e c.loop-name-test.true c.loop-name-item.is c.loop-name.invariant.room c.in_ok-put_pair.ensures.room;
+          e c.put_pair.new.text.items c.loop-name-test.true c.loop-name-item.is c.in-Ok.ensures.text;
+      room = all_next (λ (d : List ℕ × ℚ). Fits d.1) c.args.named.now c.loop-name.name-index e c.loop-name-test.true c.loop-name-item.is c.loop-name.invariant.room c.in-Ok.ensures.room;
     }
 
 pub returns-clause-room : goal.returns-clause-room

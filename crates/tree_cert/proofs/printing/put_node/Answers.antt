@@ -11,35 +11,35 @@ use Rattle.tree_cert.proofs.printing.put_node.Goals as goal
 pub returns-in-Split-clause-room : goal.returns-in-Split-clause-room
 returns-in-Split-clause-room c = if_ok c.put_split.result (subst HasNodeRoom (sym c.in-Split.is) tt)
 
-pub returns-in_ok-extend_from_slice-in-Bound-clause-text : goal.returns-in_ok-extend_from_slice-in-Bound-clause-text
-returns-in_ok-extend_from_slice-in-Bound-clause-text c =
+pub returns-in-Ok-clause-text : goal.returns-in-Ok-clause-text
+returns-in-Ok-clause-text c =
     let old = c.args.text.now.items in
     let one = c.extend_from_slice.new.self.items in
     let last = c.put_mults.result in
     let new = c.put_mults.new.text.items in
     subst (λ (n : CertNode). IfOk last (λ _. new ≡ old ++ line_text (node_words n))) (sym c.in-Bound.is)
-    (behind_last last old (codes "leaf bound") (all_mult_words c.in-Bound.mults) one new c.in_ok-extend_from_slice-in-Bound.ensures.items
+    (behind_last last old (codes "leaf bound") (all_mult_words c.in-Bound.mults) one new c.in-Ok.ensures.items
     (subst (λ (ms : List CertMult). IfOk last (λ _. new ≡ one ++ spaced (all_mult_words ms))) c.as_slice.ensures c.put_mults.ensures.text))
 
-pub returns-in_ok-extend_from_slice-in-Bound-clause-room : goal.returns-in_ok-extend_from_slice-in-Bound-clause-room
-returns-in_ok-extend_from_slice-in-Bound-clause-room c =
+pub returns-in-Ok-clause-room : goal.returns-in-Ok-clause-room
+returns-in-Ok-clause-room c =
     let last = c.put_mults.result in
     subst (λ (n : CertNode). IfOk last (λ _. HasNodeRoom n)) (sym c.in-Bound.is) (subst (λ (ms : List CertMult). IfOk last (λ _. All MultFits ms)) c.as_slice.ensures c.put_mults.ensures.room)
 
-pub returns-in_ok-extend_from_slice-in-Farkas-clause-text : goal.returns-in_ok-extend_from_slice-in-Farkas-clause-text
-returns-in_ok-extend_from_slice-in-Farkas-clause-text c =
+pub returns-in-Ok-extend_from_slice-clause-text : goal.returns-in-Ok-extend_from_slice-clause-text
+returns-in-Ok-extend_from_slice-clause-text c =
     let old = c.args.text.now.items in
     let one = c.extend_from_slice-in-Farkas.new.self.items in
-    let last = c.put_mults-in-Farkas.result in
-    let new = c.put_mults-in-Farkas.new.text.items in
+    let last = c.put_mults-in-Ok-extend_from_slice.result in
+    let new = c.put_mults-in-Ok-extend_from_slice.new.text.items in
     subst (λ (n : CertNode). IfOk last (λ _. new ≡ old ++ line_text (node_words n))) (sym c.in-Farkas.is)
-    (behind_last last old (codes "leaf farkas") (all_mult_words c.in-Farkas.mults) one new c.in_ok-extend_from_slice-in-Farkas.ensures.items
-    (subst (λ (ms : List CertMult). IfOk last (λ _. new ≡ one ++ spaced (all_mult_words ms))) c.as_slice-in-Farkas.ensures c.put_mults-in-Farkas.ensures.text))
+    (behind_last last old (codes "leaf farkas") (all_mult_words c.in-Farkas.mults) one new c.in-Ok-extend_from_slice.ensures.items
+    (subst (λ (ms : List CertMult). IfOk last (λ _. new ≡ one ++ spaced (all_mult_words ms))) c.as_slice-in-Ok-extend_from_slice.ensures c.put_mults-in-Ok-extend_from_slice.ensures.text))
 
-pub returns-in_ok-extend_from_slice-in-Farkas-clause-room : goal.returns-in_ok-extend_from_slice-in-Farkas-clause-room
-returns-in_ok-extend_from_slice-in-Farkas-clause-room c =
-    let last = c.put_mults-in-Farkas.result in
-    subst (λ (n : CertNode). IfOk last (λ _. HasNodeRoom n)) (sym c.in-Farkas.is) (subst (λ (ms : List CertMult). IfOk last (λ _. All MultFits ms)) c.as_slice-in-Farkas.ensures c.put_mults-in-Farkas.ensures.room)
+pub returns-in-Ok-extend_from_slice-clause-room : goal.returns-in-Ok-extend_from_slice-clause-room
+returns-in-Ok-extend_from_slice-clause-room c =
+    let last = c.put_mults-in-Ok-extend_from_slice.result in
+    subst (λ (n : CertNode). IfOk last (λ _. HasNodeRoom n)) (sym c.in-Farkas.is) (subst (λ (ms : List CertMult). IfOk last (λ _. All MultFits ms)) c.as_slice-in-Ok-extend_from_slice.ensures c.put_mults-in-Ok-extend_from_slice.ensures.room)
 
 pub returns-in-Empty-clause-text : goal.returns-in-Empty-clause-text
 returns-in-Empty-clause-text c =

@@ -11,7 +11,7 @@ loop-place-preserved c =
     let b = get_or marks i false in
     let size : length (take i marks) ≡ i = length-take-le i marks (omega (arith, c.loop-place-test.true)) in
     let here : i ≡ 0 + length (take i marks) = omega (arith, size) in
-    c.in_ok-note.ensures
+    c.in-Ok.ensures
     ∙ ap (λ l. l ++ place_if b i) c.loop-place.invariant
     ∙ ap (λ p. places_of 0 (take i marks) ++ place_if b p) here
     ∙ sym (places-push 0 (take i marks) b)

@@ -5,10 +5,10 @@ use Rattle.cert_text.specs.declared.cert.CertMult.TheVariants as mult
 use Rattle.tree_cert.specs.Marked.{renumbered}
 use Rattle.tree_cert.proofs.used.push_renumbered.Goals as goal
 
-pub returns-in_ok-own-in-Row : goal.returns-in_ok-own-in-Row
-returns-in_ok-own-in-Row c =
+pub returns-in-Ok : goal.returns-in-Ok
+returns-in-Ok c =
     subst (λ (m : CertMult). IfOk c.push.result (λ _. c.push.new.self ≡ c.args.list.now ++ m ∷ []))
-    (ap (λ n. mult.Row n c.in-Row.number) c.in_ok-own-in-Row.ensures ∙ ap (renumbered c.args.counts.now) (sym c.in-Row.is)) c.push.ensures.pushed
+    (ap (λ n. mult.Row n c.in-Row.number) c.in-Ok.ensures ∙ ap (renumbered c.args.counts.now) (sym c.in-Row.is)) c.push.ensures.pushed
 
 pub returns-in-Cut : goal.returns-in-Cut
 returns-in-Cut c =

@@ -5,15 +5,15 @@ use Rattle.cert_text.specs.declared.cert.CertNode.TheVariants as node
 use Rattle.tree_cert.specs.Marked.{renumbered, renumbered_node}
 use Rattle.tree_cert.proofs.used.push_renumbered_node.Goals as goal
 
-pub returns-in_ok-own-in-Bound : goal.returns-in_ok-own-in-Bound
-returns-in_ok-own-in-Bound c =
-    subst (λ (n : CertNode). IfOk c.push-in-Bound.result (λ _. c.push-in-Bound.new.self ≡ c.args.list.now ++ n ∷ []))
-    (ap node.Bound (c.in_ok-own-in-Bound.ensures ∙ ap (map (renumbered c.args.counts.now)) c.as_slice.ensures) ∙ ap (renumbered_node c.args.counts.now) (sym c.in-Bound.is)) c.push-in-Bound.ensures.pushed
+pub returns-in-Ok-renumbered_mults : goal.returns-in-Ok-renumbered_mults
+returns-in-Ok-renumbered_mults c =
+    subst (λ (n : CertNode). IfOk c.push-in-Ok-renumbered_mults.result (λ _. c.push-in-Ok-renumbered_mults.new.self ≡ c.args.list.now ++ n ∷ []))
+    (ap node.Bound (c.in-Ok-renumbered_mults.ensures ∙ ap (map (renumbered c.args.counts.now)) c.as_slice.ensures) ∙ ap (renumbered_node c.args.counts.now) (sym c.in-Bound.is)) c.push-in-Ok-renumbered_mults.ensures.pushed
 
-pub returns-in_ok-own-in-Farkas : goal.returns-in_ok-own-in-Farkas
-returns-in_ok-own-in-Farkas c =
-    subst (λ (n : CertNode). IfOk c.push-in-Farkas.result (λ _. c.push-in-Farkas.new.self ≡ c.args.list.now ++ n ∷ []))
-    (ap node.Farkas (c.in_ok-own-in-Farkas.ensures ∙ ap (map (renumbered c.args.counts.now)) c.as_slice-in-Farkas.ensures) ∙ ap (renumbered_node c.args.counts.now) (sym c.in-Farkas.is)) c.push-in-Farkas.ensures.pushed
+pub returns-in-Ok-renumbered_mults-2 : goal.returns-in-Ok-renumbered_mults-2
+returns-in-Ok-renumbered_mults-2 c =
+    subst (λ (n : CertNode). IfOk c.push-in-Ok-renumbered_mults-2.result (λ _. c.push-in-Ok-renumbered_mults-2.new.self ≡ c.args.list.now ++ n ∷ []))
+    (ap node.Farkas (c.in-Ok-renumbered_mults-2.ensures ∙ ap (map (renumbered c.args.counts.now)) c.as_slice-in-Farkas.ensures) ∙ ap (renumbered_node c.args.counts.now) (sym c.in-Farkas.is)) c.push-in-Ok-renumbered_mults-2.ensures.pushed
 
 pub returns-in-Empty : goal.returns-in-Empty
 returns-in-Empty c =

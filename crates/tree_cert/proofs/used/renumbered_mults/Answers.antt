@@ -9,7 +9,7 @@ push_renumbered-requires c = subst (IsOfFirst (length c.args.counts.now)) (sym c
 
 pub loop-mult-preserved : goal.loop-mult-preserved
 loop-mult-preserved c =
-    pushed_more (renumbered c.args.counts.now) c.args.mults.now c.loop-mult.mult-index c.mult-item.result c.loop-mult.list c.push_renumbered.new.list c.loop-mult-test.true c.mult-item.is c.loop-mult.invariant c.in_ok-push_renumbered.ensures
+    pushed_more (renumbered c.args.counts.now) c.args.mults.now c.loop-mult.mult-index c.mult-item.result c.loop-mult.list c.push_renumbered.new.list c.loop-mult-test.true c.mult-item.is c.loop-mult.invariant c.in-Ok.ensures
 
 pub returns : goal.returns
 returns c = pushed_all (renumbered c.args.counts.now) c.args.mults.now c.loop-mult.mult-index c.loop-mult.list (omega (arith, c.loop-mult-test.false)) c.loop-mult.invariant

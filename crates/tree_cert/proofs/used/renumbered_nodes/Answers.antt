@@ -9,7 +9,7 @@ push_renumbered_node-requires c = subst (NodeNamesFirst (length c.args.counts.no
 pub loop-node-preserved : goal.loop-node-preserved
 loop-node-preserved c =
     pushed_more (renumbered_node c.args.counts.now) c.args.nodes.now c.loop-node.node-index c.node-item.result c.loop-node.list c.push_renumbered_node.new.list c.loop-node-test.true c.node-item.is c.loop-node.invariant
-    c.in_ok-push_renumbered_node.ensures
+    c.in-Ok.ensures
 
 pub returns : goal.returns
 returns c = pushed_all (renumbered_node c.args.counts.now) c.args.nodes.now c.loop-node.node-index c.loop-node.list (omega (arith, c.loop-node-test.false)) c.loop-node.invariant

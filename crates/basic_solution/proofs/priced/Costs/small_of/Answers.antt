@@ -3,6 +3,7 @@ use Rattle.std.specs.Int.{w128}
 use Rattle.std.proofs.lemmas.Int.{ints}
 use Rattle.rational.specs.Rational.{ℚ, int}
 use Rattle.basic_solution.specs.RowTotals.{IsSmallNumber, AreSmallNumbers}
+use Rattle.basic_solution.proofs.ReadLemmas.{small_narrowed}
 use Rattle.basic_solution.proofs.priced.Costs.small_of.Goals as goal
 
 -- the number of x, which stands at v
@@ -26,7 +27,7 @@ returns-clause-small c =
     let n = own.0 in
     let small : IsSmallNumber n = own.1.0 in
     let e : c.numerator.result ≡ n = c.numerator.ensures ∙ own.1.1.1 in
-    let read : to_z w64 (of_z w64 (to_z w128 (of_z w128 c.numerator.result))) ≡ n = omega (arith, ints, e, small) in
+    let read : to_z w64 (of_z w64 (to_z w128 (of_z w128 c.numerator.result))) ≡ n = small_narrowed c.numerator.result n e small in
     subst IsSmallNumber (sym read) small
 
 pub returns-clause-value : goal.returns-clause-value
@@ -35,5 +36,5 @@ returns-clause-value c =
     let n = own.0 in
     let small : IsSmallNumber n = own.1.0 in
     let e : c.numerator.result ≡ n = c.numerator.ensures ∙ own.1.1.1 in
-    let read : to_z w64 (of_z w64 (to_z w128 (of_z w128 c.numerator.result))) ≡ n = omega (arith, ints, e, small) in
+    let read : to_z w64 (of_z w64 (to_z w128 (of_z w128 c.numerator.result))) ≡ n = small_narrowed c.numerator.result n e small in
     own.1.1.0 ∙ ap int (sym read)

@@ -1,4 +1,4 @@
-use Rattle.std.proofs.Common.{sym, ap, ◌∙◌, arith, below_more}
+use Rattle.std.proofs.Common.{sym, ◌∙◌, arith, below_more}
 use Rattle.basic_solution.specs.CutTotals.{StandsSmall}
 use Rattle.basic_solution.proofs.sided.SidedBasis.are_numbers_small.Goals as goal
 
@@ -11,5 +11,4 @@ pub returns : goal.returns
 returns c = λ t k q.
     let past = c.loop-place-test.false in
     let same = c.columns-place-end.ensures.value in
-    let columns = ap (λ s. s.tableau.columns) c.self.view_is in
-    c.loop-place.invariant k (omega (arith, past, same, columns, q))
+    c.loop-place.invariant k (omega (arith, past, same, q))

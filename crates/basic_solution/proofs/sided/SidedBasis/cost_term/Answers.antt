@@ -1,11 +1,11 @@
-use Rattle.std.proofs.Common.{◌≡◌, ◌∙◌, sym, ap, subst, arith, pos, to_z, of_z, w64}
+use Rattle.std.proofs.Common.{◌≡◌, ◌<◌, ◌∙◌, sym, ap, subst, arith, pos, to_z, of_z, w64}
 use Rattle.std.proofs.lemmas.Int.{ints}
 use Rattle.rational.specs.Rational.{int}
 use Rattle.frac128.specs.LowestTerms.{quotient_of}
 use Rattle.table_entries.specs.FlatSteps.{dense_entry}
 use Rattle.table_entries.specs.WholeSteps.{IsShort}
 use Rattle.table_entries.proofs.WholeSumLemmas.{term_of_number, term_of_nothing}
-use Rattle.basic_solution.specs.Held.{relaxation}
+use Rattle.basic_solution.specs.Held.{relaxation, variables}
 use Rattle.basic_solution.specs.RowTotals.{IsSmallNumber}
 use Rattle.basic_solution.proofs.RowTotalLemmas.{saved}
 use Rattle.basic_solution.proofs.PointLemmas.{without_cost, own_saved, no_saved}
@@ -13,11 +13,17 @@ use Rattle.basic_solution.proofs.ReadLemmas.{small_short, small_read, small_agai
 use Rattle.table_entries.proofs.ReadLemmas.{short_read}
 use Rattle.basic_solution.proofs.sided.SidedBasis.cost_term.Goals as goal
 
+pub small_of-requires : goal.small_of-requires
+small_of-requires c =
+    let within = subst (λ s. c.args.variable < variables s) (sym c.self.view_is) c.requires.variable in
+    let size = c.self.invariant.shape.cost_length in
+    omega (arith, within, size)
+
 pub returns-then-number-eq0-clause-term : goal.returns-then-number-eq0-clause-term
 returns-then-number-eq0-clause-term c =
     let number = c.in-Some.number in
     let none : number ≡ pos 0 = small_none number c.in-Some.ensures.small c.if-number-eq0.true in
-    without_cost ((relaxation c.args.self.now).cost c.args.variable) _ c.args.denominator c.requires.positive (c.in-Some.ensures.value ∙ ap int none)
+    without_cost ((relaxation c.args.self.now).cost c.args.variable) _ c.args.denominator c.requires.positive (ap (λ s. (relaxation s).cost c.args.variable) (sym c.self.view_is) ∙ c.in-Some.ensures.value ∙ ap int none)
 
 pub returns-in-Some-number_over-clause-term : goal.returns-in-Some-number_over-clause-term
 returns-in-Some-number_over-clause-term c =
@@ -35,7 +41,7 @@ returns-in-Some-number_over-clause-term c =
     let entry_is = subst (λ s. saved s place variable ≡ dense_entry c.self.inside.tableau.columns c.self.inside.tableau.entries row place) c.self.view_is
     (own_saved _ c.self.invariant place variable row c.in-Row.ensures.0 c.in-Row.ensures.1) in
     term_of_number ((relaxation c.args.self.now).cost variable) _ (to_z w64 (of_z w64 factor)) (to_z w64 (of_z w64 number)) c.args.denominator c.requires.positive (subst IsShort (sym f_is) factor_short) (subst IsShort (sym n_is) number_short)
-    (c.in-Some.ensures.value ∙ ap int (sym n_is))
+    (ap (λ s. (relaxation s).cost variable) (sym c.self.view_is) ∙ c.in-Some.ensures.value ∙ ap int (sym n_is))
     (entry_is ∙ c.in-Some-number_over.ensures.value ∙ (λ i. quotient_of (sym f_is i) (d_is i)))
 
 pub returns-in-Place-clause-term : goal.returns-in-Place-clause-term

@@ -15,6 +15,12 @@ use Rattle.basic_solution.proofs.ReadLemmas.{small_short_again, start_read, tota
 use Rattle.table_entries.proofs.ReadLemmas.{short_read, short_again}
 use Rattle.basic_solution.proofs.sided.SidedBasis.cost_total.Goals as goal
 
+pub small_of-requires : goal.small_of-requires
+small_of-requires c =
+    let within = c.nonbasic.ensures.within in
+    let size = c.self.invariant.shape.cost_length in
+    omega (arith, within, size)
+
 pub loop-variable-init : goal.loop-variable-init
 loop-variable-init c =
     let now = c.args.self.now in
@@ -25,7 +31,7 @@ loop-variable-init c =
     let size : unsigned_abs (start *ℤ d) ≤ 2 ^ 93 = start_size start d small c.requires.denominator in
     let total_is : to_z w128 (of_z w128 c.product-total.result) ≡ start *ℤ d = start_read c.product-total.result start d small c.requires.denominator c.product-total.ensures in
     let variable_is = subst (λ t. c.nonbasic.result ≡ (table_of t).nonbasic c.args.place) (ap (λ s. s.tableau) c.self.view_is) c.nonbasic.ensures.value in
-    let own : int start ≡ place_cost now c.args.place = sym c.in-Some.ensures.value ∙ ap (relaxation now).cost variable_is in
+    let own : int start ≡ place_cost now c.args.place = sym c.in-Some.ensures.value ∙ ap (λ s. (relaxation s).cost c.nonbasic.result) c.self.view_is ∙ ap (relaxation now).cost variable_is in
     record {
       size = subst (λ t. unsigned_abs t ≤ (0 + 1) * 2 ^ 93) (sym total_is) (omega (arith, size));
       value = (λ i. quotient_of (total_is i) (d_is i)) ∙ start_is start d c.requires.positive ∙ own ∙ partial_none (place_cost now c.args.place) (relaxation now).cost (saved now c.args.place);
@@ -94,7 +100,7 @@ returns c =
     let start = c.in-Some.start in
     let small : IsSmallNumber start = c.in-Some.ensures.small in
     let variable_is = subst (λ t. c.nonbasic.result ≡ (table_of t).nonbasic c.args.place) same c.nonbasic.ensures.value in
-    let own : place_cost s c.args.place ≡ int start = sym (ap (relaxation s).cost variable_is) ∙ c.in-Some.ensures.value in
+    let own : place_cost s c.args.place ≡ int start = sym (ap (relaxation s).cost variable_is) ∙ ap (λ t. (relaxation t).cost c.nonbasic.result) (sym c.self.view_is) ∙ c.in-Some.ensures.value in
     let past = c.loop-variable-test.false in
     let within = c.loop-variable.auto.variable-end in
     let end = c.end-variable-end.result in

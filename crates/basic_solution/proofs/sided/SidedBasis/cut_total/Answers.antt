@@ -12,6 +12,12 @@ use Rattle.basic_solution.proofs.sided.SidedBasis.cut_total.Goals as goal
 pub terms_total-requires-clause-few : goal.terms_total-requires-clause-few
 terms_total-requires-clause-few c = let few = c.columns-columns.ensures.lawful.few in let same = c.columns-columns.ensures.value in omega (arith, few, same)
 
+pub terms_total-requires-clause-size : goal.terms_total-requires-clause-size
+terms_total-requires-clause-size c = let is = c.columns-columns.ensures.value in let same = ap (λ s. s.tableau.columns) c.self.view_is in let size = c.requires.size in omega (arith, is, same, size)
+
+pub terms_total-requires-clause-short : goal.terms_total-requires-clause-short
+terms_total-requires-clause-short c = λ j q. c.requires.short j (let is = c.columns-columns.ensures.value in let same = ap (λ s. s.tableau.columns) c.self.view_is in omega (arith, is, same, q))
+
 pub returns : goal.returns
 returns c =
     let now = c.args.self.now in

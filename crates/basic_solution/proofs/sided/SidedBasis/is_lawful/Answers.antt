@@ -1,7 +1,7 @@
-use Rattle.std.proofs.Common.{◌<◌, ◌∙◌, ℕ, sym, ap, subst, arith, get_or, below_more}
+use Rattle.std.proofs.Common.{◌<◌, ◌∙◌, ℕ, sym, arith, get_or, below_more}
 use Rattle.std.proofs.lemmas.Bool.{false≢true}
 use Rattle.bases.specs.declared.stand.Stand.TheVariants.{Free}
-use Rattle.basic_solution.specs.Held.{IsSided, variables}
+use Rattle.basic_solution.specs.Held.{variables}
 use Rattle.basic_solution.specs.Numbers.{CostsFit}
 use Rattle.basic_solution.specs.Slack.{IsPlaced}
 use Rattle.basic_solution.proofs.SlackLemmas.{kept_placed, placed_kept}
@@ -16,16 +16,14 @@ loop-place-preserved c =
 pub returns-in-Err : goal.returns-in-Err
 returns-in-Err c =
     let now = c.args.self.now in
-    let columns = ap (λ s. s.tableau.columns) c.self.view_is in
-    let within : c.loop-place.place < now.tableau.columns = let less = c.loop-place-test.true in let f = c.columns-place-end.ensures.value in omega (arith, less, f, columns) in
+    let within : c.loop-place.place < now.tableau.columns = let less = c.loop-place-test.true in let f = c.columns-place-end.ensures.value in omega (arith, less, f) in
     record { place = c.loop-place.place; within = within; before = c.loop-place.invariant; wide = c.in-Err.ensures }
 
 pub returns-in-Ok-false : goal.returns-in-Ok-false
 returns-in-Ok-false c =
     let now = c.args.self.now in
     let place = c.loop-place.place in
-    let columns = ap (λ s. s.tableau.columns) c.self.view_is in
-    let within : place < now.tableau.columns = let less = c.loop-place-test.true in let f = c.columns-place-end.ensures.value in omega (arith, less, f, columns) in
+    let within : place < now.tableau.columns = let less = c.loop-place-test.true in let f = c.columns-place-end.ensures.value in omega (arith, less, f) in
     let elsewhere : ¬ (IsPlaced now place (get_or now.stands place Free)) = λ h. false≢true (sym c.in-Ok-false.field-0-test ∙ c.in-Ok-false.ensures.1.1 h) in
     ((λ kept. elsewhere (placed_kept now kept place within)), (place, record { within = within; before = c.loop-place.invariant; fits = c.in-Ok-false.ensures.0; elsewhere = elsewhere }))
 
@@ -33,6 +31,5 @@ pub returns : goal.returns
 returns c =
     let now = c.args.self.now in
     let inv = c.loop-place.invariant in
-    let columns = ap (λ s. s.tableau.columns) c.self.view_is in
-    let all : (k : ℕ) → k < now.tableau.columns → k < c.loop-place.place = λ k w. let past = c.loop-place-test.false in let f = c.columns-place-end.ensures.value in omega (arith, past, f, columns, w) in
-    (kept_placed now (subst IsSided c.self.view_is c.self.invariant) (λ k w. (inv k (all k w)).1), (λ k w. (inv k (all k w)).0))
+    let all : (k : ℕ) → k < now.tableau.columns → k < c.loop-place.place = λ k w. let past = c.loop-place-test.false in let f = c.columns-place-end.ensures.value in omega (arith, past, f, w) in
+    (kept_placed now c.columns-place-end.ensures.sided (λ k w. (inv k (all k w)).1), (λ k w. (inv k (all k w)).0))

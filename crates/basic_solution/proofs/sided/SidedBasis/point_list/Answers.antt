@@ -7,6 +7,13 @@ use Rattle.basic_solution.specs.Held.{relaxation, state, table}
 use Rattle.basic_solution.specs.Numbers.{NumberFits}
 use Rattle.basic_solution.proofs.sided.SidedBasis.point_list.Goals as goal
 
+pub loop-column-init : goal.loop-column-init
+loop-column-init c = record { size = ap length c.new-list.ensures; numbers = λ j below. absurd (omega (arith, below)); fits = λ j below. absurd (omega (arith, below)) }
+
+pub number_of-requires : goal.number_of-requires
+number_of-requires c =
+    let less = c.loop-column-test.true in let f = c.columns-column-end.ensures.value in omega (arith, less, f)
+
 pub loop-column-preserved : goal.loop-column-preserved
 loop-column-preserved c =
     let s = c.args.self.now in
@@ -26,15 +33,13 @@ loop-column-preserved c =
 pub returns-in-Err : goal.returns-in-Err
 returns-in-Err c =
     let s = c.args.self.now in
-    let columns = ap (λ h. h.tableau.columns) c.self.view_is in
-    let within : c.loop-column.column < s.tableau.columns = let less = c.loop-column-test.true in let f = c.columns-column-end.ensures.value in omega (arith, less, f, columns) in
+    let within : c.loop-column.column < s.tableau.columns = let less = c.loop-column-test.true in let f = c.columns-column-end.ensures.value in omega (arith, less, f) in
     record { column = c.loop-column.column; within = within; before = c.loop-column.invariant.fits; wide = c.in-Err.ensures }
 
 pub returns : goal.returns
 returns c =
     let s = c.args.self.now in
     let inv = c.loop-column.invariant in
-    let columns = ap (λ h. h.tableau.columns) c.self.view_is in
-    let whole : c.loop-column.column ≡ s.tableau.columns = let past = c.loop-column-test.false in let most = c.loop-column.auto.column-end in let f = c.columns-column-end.ensures.value in omega (arith, past, most, f, columns) in
+    let whole : c.loop-column.column ≡ s.tableau.columns = let past = c.loop-column-test.false in let most = c.loop-column.auto.column-end in let f = c.columns-column-end.ensures.value in omega (arith, past, most, f) in
     let all : (j : ℕ) → j < s.tableau.columns → j < c.loop-column.column = λ j w. omega (arith, whole, w) in
     (record { size = inv.size ∙ whole; numbers = λ j w. inv.numbers j (all j w) }, (λ j w. inv.fits j (all j w)))

@@ -16,11 +16,11 @@ invariant_of-result c =
       tilt = c.in-Ok-tilts.tilt.items;
       order = c.in-Ok-order.order.items;
       tableau = c.in-Ok-slack_start.tableau;
-      stands = c.in_ok-stands.stands.items;
+      stands = c.in-Ok-vec.stands.items;
     } in
     slack_sided relax s refl c.in-Ok-slack_start.ensures.columns c.in-Ok-slack_start.ensures.activities c.in-Ok-slack_start.ensures.rows c.in-Ok-slack_start.ensures.table c.in-Ok-slack_start.ensures.slack
     c.in-Ok.ensures.length c.in-Ok.ensures.items c.in-Ok-highs.ensures.length c.in-Ok-highs.ensures.items (ap length c.new-priced.ensures ∙ c.in-Ok-costs.ensures.length) (λ u q. ap (λ xs. get_or xs u (int (pos 0))) c.new-priced.ensures ∙ c.in-Ok-costs.ensures.items u q)
-    c.in-Ok-tilts.ensures.length c.in-Ok-tilts.ensures.items c.in-Ok-order.ensures (sym c.in_ok-stands.stands.ok.0 ∙ c.in_ok-stands.ensures.len ∙ ap length c.cols.ensures.items)
+    c.in-Ok-tilts.ensures.length c.in-Ok-tilts.ensures.items c.in-Ok-order.ensures (sym c.in-Ok-vec.stands.ok.0 ∙ c.in-Ok-vec.ensures.len ∙ ap length c.cols.ensures.items)
     c.requires.sides
 
 pub returns : goal.returns
@@ -34,8 +34,8 @@ returns c =
       tilt = c.in-Ok-tilts.tilt.items;
       order = c.in-Ok-order.order.items;
       tableau = c.in-Ok-slack_start.tableau;
-      stands = c.in_ok-stands.stands.items;
+      stands = c.in-Ok-vec.stands.items;
     } in
     slack_state relax s refl c.in-Ok-slack_start.ensures.columns c.in-Ok-slack_start.ensures.activities c.in-Ok-slack_start.ensures.rows c.in-Ok-slack_start.ensures.table c.in-Ok-slack_start.ensures.slack
     c.in-Ok.ensures.length c.in-Ok.ensures.items c.in-Ok-highs.ensures.length c.in-Ok-highs.ensures.items (ap length c.new-priced.ensures ∙ c.in-Ok-costs.ensures.length) (λ u q. ap (λ xs. get_or xs u (int (pos 0))) c.new-priced.ensures ∙ c.in-Ok-costs.ensures.items u q)
-    c.in-Ok-tilts.ensures.length c.in-Ok-tilts.ensures.items c.in-Ok-order.ensures (sym c.in_ok-stands.stands.ok.0 ∙ c.in_ok-stands.ensures.len ∙ ap length c.cols.ensures.items)
+    c.in-Ok-tilts.ensures.length c.in-Ok-tilts.ensures.items c.in-Ok-order.ensures (sym c.in-Ok-vec.stands.ok.0 ∙ c.in-Ok-vec.ensures.len ∙ ap length c.cols.ensures.items)

@@ -26,7 +26,6 @@ loop-place-preserved c =
 pub returns-clause-stands : goal.returns-clause-stands
 returns-clause-stands c = λ k w.
     let inv = c.loop-place.invariant in
-    let columns = ap (λ s. s.tableau.columns) c.self.view_is in
     let same = ap (λ s. s.tableau.columns) inv.same in
-    let within : k < c.loop-place.place = let past = c.loop-place-test.false in let f = c.columns-place-end.ensures.value in omega (arith, past, f, columns, same, w) in
+    let within : k < c.loop-place.place = let past = c.loop-place-test.false in let f = c.columns-place-end.ensures.value in omega (arith, past, f, same, w) in
     restood_stand c.args.high.now c.args.self.now c.loop-place.self inv.same k (inv.stands k within)

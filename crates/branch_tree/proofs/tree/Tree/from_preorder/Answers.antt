@@ -16,7 +16,7 @@ unreachable-requires c =
     let (t, is) = c.requires.whole in
     let made = c.in-Ok.ensures in
     let branches = c.in-Ok.branches in
-    let none : branches.items ≡ [] = c.in_default.ensures.items ∙ append-nil c.pop.new.self.items ∙ nothing-left branches.items c.pop.new.self.items c.in_default.ensures.items (sym branches.ok.0 ∙ c.in_default.ensures.cases.0) in
+    let none : branches.items ≡ [] = c.in_default-pop.ensures.items ∙ append-nil c.pop.new.self.items ∙ nothing-left branches.items c.pop.new.self.items c.in_default-pop.ensures.items (sym branches.ok.0 ∙ c.in_default-pop.ensures.cases.0) in
     root-there nodes branches.items [] t made (is ∙ sym c.into_vec-nodes.ensures) none
 
 pub invariant_of-result : goal.invariant_of-result

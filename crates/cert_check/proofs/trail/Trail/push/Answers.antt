@@ -1,6 +1,6 @@
 use Rattle.std.proofs.Common.{◌≡◌, ◌∙◌, ◌+◌, length, take, sym, ap, subst, arith}
 use Rattle.std.specs.Prelude.{set}
-use Rattle.std.proofs.lemmas.List.{length-set, with_items_is}
+use Rattle.std.proofs.lemmas.List.{length-set, take_more_set, with_items_is}
 use Rattle.std.specs.Vec.{with_items}
 use Rattle.cert_check.specs.Tight.{tightened, IsLed}
 use Rattle.cert_check.proofs.TrailLemmas.{trail-few, trail-push}
@@ -43,3 +43,6 @@ returns-clause-trail c =
           subst (λ l. IsLed (set t.path.items t.depth c.args.change) (set t.replaced.items t.depth r) (t.depth + 1) l c.max-self.result) (sym written)
           (trail-push t c.args.change r places c.max-self.result c.requires.trail c.requires.room long (e.back ∙ value) e.count e.within top tight);
     }
+
+pub returns-clause-path : goal.returns-clause-path
+returns-clause-path c = take_more_set c.args.self.now.path.items c.args.self.now.depth c.args.change c.requires.room

@@ -10,6 +10,6 @@ pub invariant_of-self-2 : goal.invariant_of-self-2
 invariant_of-self-2 c =
     let nodes = c.args.self.now.nodes in
     record {
-      counted = c.due_behind-due.ensures.due ∙ ap (λ d. due_after d (c.args.node ∷ [])) c.args.self.now.counted ∙ sym (due_after-more 1 nodes c.args.node) ∙ ap (due_after 1) (sym c.in_ok-push.ensures.pushed);
+      counted = c.due_behind-due.ensures.due ∙ ap (λ d. due_after d (c.args.node ∷ [])) c.args.self.now.counted ∙ sym (due_after-more 1 nodes c.args.node) ∙ ap (due_after 1) (sym c.in-Ok.ensures.pushed);
       few = omega (arith, c.due_behind-due.ensures.within, c.requires.room);
     }

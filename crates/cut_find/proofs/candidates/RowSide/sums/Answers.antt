@@ -1,7 +1,6 @@
 use Rattle.std.proofs.Common.{◌≡◌, ◌∙◌, sym, subst, arith, suc, length, ◌≤◌, pos, ◌<ℤ◌, to_z, of_z, w64}
-use Rattle.std.proofs.lemmas.Int.{ints}
 use Rattle.frac128.specs.LowestTerms.{quotient_of}
-use Rattle.leaf_dual.specs.Wholes.{IsFactor, IsDenominator}
+use Rattle.leaf_dual.proofs.ReadLemmas.{factor_read, factor_again, denominator_again}
 use Rattle.cut_find.specs.WholeSides.{mark_at, AreSumsTo}
 use Rattle.cut_find.proofs.RowLemmas.{entry_at, entries_end, entry_some}
 use Rattle.cut_find.proofs.SizeLemmas.{sums_begin, sums_across}
@@ -11,7 +10,7 @@ pub loop-entry-init : goal.loop-entry-init
 loop-entry-init c =
     let self = c.args.self.now in
     let p = c.requires.denominator.positive in
-    let d_is : to_z w64 (of_z w64 c.args.denominator) ≡ c.args.denominator = let range = c.ranges.denominator in omega (arith, ints, range) in
+    let d_is : to_z w64 (of_z w64 c.args.denominator) ≡ c.args.denominator = factor_read c.args.denominator c.requires.denominator.factor in
     (0, (c.requires.entries, sums_begin self.model.now self.row.0 self.side (to_z w64 (of_z w64 c.args.denominator)) (subst (λ d. pos 0 <ℤ d) (sym d_is) p)))
 
 pub with_column-requires-clause-factor : goal.with_column-requires-clause-factor
@@ -22,8 +21,7 @@ with_column-requires-clause-factor c =
     let e = c.entry-item.result in
     let next = (entry_at M self.row.0 l.invariant.0 (length M.cols) self.entries.now l.entry-index e c.loop-entry-test.true c.entry-item.is l.invariant.1.0).0 in
     let m = c.requires.marks e.0 next.within (entry_some M self.row.0 l.invariant.0 (length M.cols) e next self.side) in
-    let h : IsFactor (mark_at c.args.marks.now e.0).weight = m.factor in
-    omega (arith, ints, h)
+    factor_again (mark_at c.args.marks.now e.0).weight m.factor
 
 pub with_column-requires-clause-weight : goal.with_column-requires-clause-weight
 with_column-requires-clause-weight c =
@@ -34,9 +32,8 @@ with_column-requires-clause-weight c =
     let next = (entry_at M self.row.0 l.invariant.0 (length M.cols) self.entries.now l.entry-index e c.loop-entry-test.true c.entry-item.is l.invariant.1.0).0 in
     let m = c.requires.marks e.0 next.within (entry_some M self.row.0 l.invariant.0 (length M.cols) e next self.side) in
     let w = (mark_at c.args.marks.now e.0).weight in
-    let h : IsFactor w = m.factor in
-    let w_is : to_z w64 (of_z w64 w) ≡ w = omega (arith, ints, h) in
-    let d_is : to_z w64 (of_z w64 c.args.denominator) ≡ c.args.denominator = let range = c.ranges.denominator in omega (arith, ints, range) in
+    let w_is : to_z w64 (of_z w64 w) ≡ w = factor_read w m.factor in
+    let d_is : to_z w64 (of_z w64 c.args.denominator) ≡ c.args.denominator = factor_read c.args.denominator c.requires.denominator.factor in
     m.weight ∙ (λ t. quotient_of (sym w_is t) (sym d_is t))
 
 pub with_column-requires-clause-sums : goal.with_column-requires-clause-sums
@@ -54,7 +51,7 @@ returns c =
     let M = self.model.now in
     let l = c.loop-entry in
     let n = length M.cols in
-    let d_is : to_z w64 (of_z w64 c.args.denominator) ≡ c.args.denominator = let range = c.ranges.denominator in omega (arith, ints, range) in
+    let d_is : to_z w64 (of_z w64 c.args.denominator) ≡ c.args.denominator = factor_read c.args.denominator c.requires.denominator.factor in
     let past : length self.entries.now ≤ l.entry-index = let h = c.loop-entry-test.false in omega (arith, h) in
     let end = entries_end M self.row.0 l.invariant.0 n self.entries.now l.entry-index past l.invariant.1.0 in
     subst (λ d. AreSumsTo M self.row.0 self.side d n l.sums) d_is (sums_across M self.row.0 self.side (to_z w64 (of_z w64 c.args.denominator)) l.invariant.0 n l.sums end.0 end.1 l.invariant.1.1)
@@ -69,9 +66,7 @@ bounds-marks-entry c =
     omega (arith, within, long)
 
 pub with_column-requires-clause-denominator : goal.with_column-requires-clause-denominator
-with_column-requires-clause-denominator c =
-    let d_is : to_z w64 (of_z w64 c.args.denominator) ≡ c.args.denominator = let range = c.ranges.denominator in omega (arith, ints, range) in
-    subst IsDenominator (sym d_is) c.requires.denominator
+with_column-requires-clause-denominator c = denominator_again c.args.denominator c.requires.denominator
 
 pub with_column-requires-clause-within : goal.with_column-requires-clause-within
 with_column-requires-clause-within c =

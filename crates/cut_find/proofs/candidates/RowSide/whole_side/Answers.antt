@@ -4,7 +4,7 @@ use Rattle.std.proofs.lemmas.Int.{ints}
 use Rattle.frac128.specs.LowestTerms.{quotient_of}
 use Rattle.cover_cuts.specs.Covers.{side_limit}
 use Rattle.leaf_dual.specs.Wholes.{IsFactor, IsDenominator}
-use Rattle.leaf_dual.proofs.ReadLemmas.{factor_read, denominator_again}
+use Rattle.leaf_dual.proofs.ReadLemmas.{factor_read, denominator_again, room_read}
 use Rattle.cut_find.specs.WholeSides.{AreSumsTo, IsWholeSide}
 use Rattle.cut_find.proofs.JudgeLemmas.{whole_of_sums}
 use Rattle.cut_find.proofs.candidates.RowSide.whole_side.Goals as goal
@@ -32,7 +32,7 @@ returns-clause-side c =
     let all : AreSumsTo M self.row.0 self.side d (length M.cols) sums = subst (λ e. AreSumsTo M self.row.0 self.side e (length M.cols) sums) d_is c.in-Some-sums.ensures in
     let within = all.base_within in
     let room = all.room in
-    let base_is : to_z w128 (of_z w128 sums.base) ≡ sums.base = omega (arith, ints, within, room) in
+    let base_is : to_z w128 (of_z w128 sums.base) ≡ sums.base = room_read sums.base (omega (arith, within, room)) in
     let limit : side_limit M self.row.0 self.side ≡ Some (quotient_of over d) = c.requires.limit ∙ ap Some (c.in-Some.ensures.value ∙ ap (quotient_of over) d_is) in
     let from = c.from.ensures in
     let test = c.if-from-sums.false in

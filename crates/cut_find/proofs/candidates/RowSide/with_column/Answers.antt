@@ -1,14 +1,12 @@
-use Rattle.std.proofs.Common.{◌≡◌, ◌∙◌, sym, ap, ap₂, arith, ◌+◌, ◌≤◌, ◌^◌, ◌+ℤ◌, ◌*ℤ◌, unsigned_abs, Some, to_z, of_z, w64}
+use Rattle.std.proofs.Common.{◌≡◌, ◌∙◌, sym, ap, arith, ◌+◌, ◌≤◌, ◌^◌, ◌+ℤ◌, ◌*ℤ◌, unsigned_abs, Some, to_z, of_z, w64}
 use Rattle.std.specs.Int.{w128}
-use Rattle.std.proofs.lemmas.Int.{ints}
 use Rattle.rational.specs.Rational.{int}
 use Rattle.frac128.specs.LowestTerms.{quotient_of}
 use Rattle.lp_model.specs.Program.{lower, upper}
 use Rattle.lp_model.specs.Sides.{needed_side}
 use Rattle.cover_cuts.specs.Covers.{side_coefficient}
-use Rattle.leaf_dual.specs.Wholes.{IsFactor}
-use Rattle.leaf_dual.proofs.RoomLemmas.{factor_product}
-use Rattle.leaf_dual.proofs.ReadLemmas.{factor_read, factor_again, product_made, product_read}
+use Rattle.leaf_dual.specs.Wholes.{IsFactor, HasRoomForProduct}
+use Rattle.leaf_dual.proofs.ReadLemmas.{factor_read, factor_again, product_made, product_read, sum_read}
 use Rattle.cut_find.proofs.SizeLemmas.{sums_more}
 use Rattle.cut_find.proofs.candidates.RowSide.with_column.Goals as goal
 
@@ -36,15 +34,12 @@ returns c =
     let bound : needed_side (side_coefficient M self.row.0 self.side j) (lower M j) (upper M j) ≡ Some (int f) =
     ap (λ q. needed_side q (lower M j) (upper M j)) (c.requires.weight ∙ ap (λ n. quotient_of n d) (sym w_is)) ∙ c.in-Some.ensures.bound d c.requires.denominator.positive in
     let made : c.wide_product-product.result ≡ w *ℤ f = product_made c.wide_product-product.result w f w_factor f_factor c.wide_product-product.ensures in
-    let small : unsigned_abs (w *ℤ f) ≤ 2 ^ 124 = factor_product w f w_factor f_factor in
     let product_is : to_z w128 (of_z w128 c.wide_product-product.result) ≡ w *ℤ f = product_read c.wide_product-product.result w f w_factor f_factor made in
     let sums = c.args.sums in
     let base_within = c.requires.sums.base_within in
     let room = c.requires.sums.room in
-    let base_is : to_z w128 (of_z w128 sums.base) ≡ sums.base = omega (arith, ints, base_within, room) in
-    let total : to_z w128 (of_z w128 (to_z w128 (of_z w128 sums.base) +ℤ to_z w128 (of_z w128 c.wide_product-product.result))) ≡ sums.base +ℤ w *ℤ f =
-    (let e : to_z w128 (of_z w128 (to_z w128 (of_z w128 sums.base) +ℤ to_z w128 (of_z w128 c.wide_product-product.result))) ≡ to_z w128 (of_z w128 sums.base) +ℤ to_z w128 (of_z w128 c.wide_product-product.result) = omega (arith, ints, base_is, product_is, base_within, room, small) in e)
-    ∙ ap₂ ◌+ℤ◌ base_is product_is in
+    let base_room : HasRoomForProduct sums.base = omega (arith, base_within, room) in
+    let total : to_z w128 (of_z w128 (to_z w128 (of_z w128 sums.base) +ℤ to_z w128 (of_z w128 c.wide_product-product.result))) ≡ sums.base +ℤ w *ℤ f = sum_read sums.base w f c.wide_product-product.result base_room w_factor f_factor c.wide_product-product.ensures in
     let first : c.unsigned_abs.result ≡ unsigned_abs (w *ℤ f) = c.unsigned_abs.ensures.value ∙ ap unsigned_abs product_is in
     let second : c.from.result ≡ unsigned_abs w = c.from.ensures ∙ c.unsigned_abs-2.ensures.value ∙ ap unsigned_abs w_is in
     let size : sums.size + c.unsigned_abs.result + c.from.result ≡ sums.size + unsigned_abs (w *ℤ f) + unsigned_abs w = λ t. sums.size + first t + second t in

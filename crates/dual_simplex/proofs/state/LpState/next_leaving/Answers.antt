@@ -1,26 +1,13 @@
-use Rattle.std.proofs.Common.{◌∙◌, subst, Ok, Err, Some, None}
+use Rattle.std.proofs.Common.{◌∙◌, sym, subst}
 use Rattle.dual_simplex.specs.Answers.{IsLeaving}
+use Rattle.dual_simplex.specs.LpStates.{IsLpState}
 use Rattle.dual_simplex.proofs.state.LpState.next_leaving.Goals as goal
 
-pub write_row-requires : goal.write_row-requires
-write_row-requires c = let out = subst (λ o. IsLeaving c.write_for_values.new.self (Ok o)) c.in-Ok-Some.field-0-is c.in-Ok-Some.ensures in out.0.within
+pub invariant_of-self : goal.invariant_of-self
+invariant_of-self c = subst IsLpState (sym c.next_out.ensures.kept) c.self.invariant
 
-pub returns-in-Err : goal.returns-in-Err
-returns-in-Err c = record {
-  leaving = subst (λ s. IsLeaving s (Err c.in-Err.step)) c.write_for_values.ensures c.in-Err.ensures;
-  kept = c.write_for_values.ensures;
-}
+pub returns-clause-leaving : goal.returns-clause-leaving
+returns-clause-leaving c = subst (λ s. IsLeaving s c.next_out.result) c.self.view_is c.next_out.ensures.leaving
 
-pub returns-in-Ok-None : goal.returns-in-Ok-None
-returns-in-Ok-None c = record {
-  leaving = subst (λ s. IsLeaving s (Ok None)) c.write_for_values.ensures (subst (λ o. IsLeaving c.write_for_values.new.self (Ok o)) c.in-Ok-None.field-0-is c.in-Ok-None.ensures);
-  kept = c.write_for_values.ensures;
-}
-
-pub returns-in-Ok-Some : goal.returns-in-Ok-Some
-returns-in-Ok-Some c =
-    let out = subst (λ o. IsLeaving c.write_for_values.new.self (Ok o)) c.in-Ok-Some.field-0-is c.in-Ok-Some.ensures in
-    record {
-      leaving = subst (λ s. IsLeaving s (Ok (Some c.in-Ok-Some.leaving))) c.write_for_values.ensures out;
-      kept = c.write_row.ensures ∙ c.write_for_values.ensures;
-    }
+pub returns-clause-kept : goal.returns-clause-kept
+returns-clause-kept c = c.next_out.ensures.kept ∙ c.self.view_is

@@ -50,3 +50,6 @@ returns-in-Err-columns_total c =
     let costs = cost_of c.args.self.now.costed M in
     let full : ¬ LacksSide (formulation M cuts) path y z costs = λ h. false≢true (sym c.if-lacks_side.false ∙ c.lacks_side.ensures.1 h) in
     answer-wide M cuts path y z costs (constant_of c.args.self.now.costed M) full c.in-Ok.rows c.in-Ok.ensures c.in-Ok-cuts_total.cuts c.in-Ok-cuts_total.ensures c.in-Err-columns_total.step c.in-Err-columns_total.ensures
+
+pub returns-then-lacks_side : goal.returns-then-lacks_side
+returns-then-lacks_side c = c.lacks_side.ensures.0 c.if-lacks_side.true

@@ -1,4 +1,4 @@
-use Rattle.std.proofs.Common.{rules, ◌≡◌, ◌<◌, length, arith, ap, below_more, IsTrue, false, true}
+use Rattle.std.proofs.Common.{rules, refl, ◌≡◌, ◌<◌, length, arith, ap, below_more, IsTrue, false, true}
 use Rattle.lp_model.specs.Program.{IsAllowed, ColumnHolds}
 use Rattle.lp_model.specs.Answers.{ColumnsHold}
 use Rattle.lp_model.proofs.AnswerLemmas.{column-holds, column-fails}
@@ -24,3 +24,8 @@ loop-index-preserved c =
     let allowed : IsTrue c.allows.result = search rules in
     below_more (ColumnHolds M x) c.loop-index.index c.loop-index.invariant
     (column-holds M x _ _ c.loop-index.index c.col-item.result _ c.cols-col-items.ensures.items c.as_slice-numbers.ensures c.requires below c.col-item.is c.index-numbers-index.is (c.allows.ensures.0 allowed))
+
+pub returns : goal.returns
+returns c =
+    let items : length c.cols-col-items.result.now ≡ length c.args.self.now.cols = ap length c.cols-col-items.ensures.items in
+    ((λ t j below. let h : j < c.loop-index.index = omega arith in c.loop-index.invariant j h), (λ h. refl))

@@ -12,8 +12,8 @@ pub returns : goal.returns
 unfolding find
 returns c =
     let entries = c.args.self.now.places.entries in
-    let key = c.in_ok-key.key in
+    let key = c.in-Ok.key in
     λ q.
     ap (lookup (λ k. bytes_eq q k.items)) c.in_ok-insert.ensures.entries
     ∙ insert_lookup (λ k x. slice_cmp nat_cmp k.items x.items) (λ k. bytes_eq q k.items) (λ k x e. same_key q k.items x.items e) (λ k x a b. one_key q k.items x.items a b) entries key c.args.place
-    ∙ ap (λ b. if b then Some c.args.place else lookup (λ k. bytes_eq q k.items) entries) (ap (bytes_eq q) c.in_ok-key.ensures.items ∙ bytes_eq-flips q c.args.name.now)
+    ∙ ap (λ b. if b then Some c.args.place else lookup (λ k. bytes_eq q k.items) entries) (ap (bytes_eq q) c.in-Ok.ensures.items ∙ bytes_eq-flips q c.args.name.now)

@@ -11,5 +11,5 @@ unfolding held
 returns c =
     let e = entry_of_record c.args.entry.now in
     let found : section_of (word 0 e) ≡ Some c.in-Some.section = sym (ap section_of c.first_word.ensures) ∙ sym c.in-Some.ensures in
-    c.header_code.ensures ∙ code_of_header (held c.args.self.now) e c.in-Some.section c.as_slice-headers.result.now c.has_late-late.result c.lacks-lacking.result c.has_more_fields-long.result c.lacks_sense-senseless.result
-    found c.as_slice-headers.ensures c.has_late-late.ensures c.lacks-lacking.ensures c.has_more_fields-long.ensures c.lacks_sense-senseless.ensures
+    c.header_code.ensures ∙ code_of_header (held c.args.self.now) e c.in-Some.section c.as_slice-headers.result.now c.has_header-late.result c.lacks-lacking.result c.has_more_fields-long.result c.lacks_sense-senseless.result
+    found c.as_slice-headers.ensures c.has_header-late.ensures c.lacks-lacking.ensures c.has_more_fields-long.ensures c.lacks_sense-senseless.ensures

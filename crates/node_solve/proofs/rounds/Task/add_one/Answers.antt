@@ -1,4 +1,4 @@
-use Rattle.std.proofs.Common.{◌≡◌, ◌∙◌, ◌+◌, ◌++◌, ◌∷◌, [], refl, sym, ap, inr, length}
+use Rattle.std.proofs.Common.{◌≡◌, ◌∙◌, ◌+◌, ◌++◌, ◌∷◌, [], refl, sym, ap, inr, arith, length}
 use Rattle.std.proofs.lemmas.Bool.{false≢true}
 use Rattle.node_solve.specs.RoundCode.{task_work}
 use Rattle.node_solve.proofs.RoundLemmas.{added_kept}
@@ -26,3 +26,11 @@ returns-clause-kept c =
     added_kept W r _ c.in-Ok.cut c.requires.kept c.in-Ok.ensures.cut (c.is_addable.ensures.0 c.if-not-is_addable.false)
     c.in-Ok-push.ensures.items (c.in-Ok-note_cut.ensures.places ∙ ap (λ p. r.places.items ++ p ∷ []) place)
     (c.in-Ok-note_cut.ensures.added ∙ ap (λ x. r.added.items ++ x ∷ []) (sym c.in-Ok.ensures.from))
+
+pub overflow_add-place : goal.overflow_add-place
+overflow_add-place c =
+    let rows = ap length c.rows.ensures.rows in
+    let added = c.len.ensures in
+    let items = c.args.round.now.added.ok.0 in
+    let room = c.requires.kept.room in
+    omega (arith, rows, added, items, room)

@@ -28,3 +28,9 @@ returns c =
     let r = round_of c.args.round.now in
     let next = subst (λ b. IsNextAnswer W c.args.made r c.args.point c.args.basis b (round_of c.next_round.new.round)) c.if-more.false c.in-Ok.ensures.goes_on in
     (c.in-Ok.ensures.kept, last_of W c.args.made r (round_of c.next_round.new.round) c.args.point c.args.mult c.args.basis c.requires.made c.requires.solved next c.optimal.result c.optimal.ensures)
+
+pub optimal-requires-clause-kept : goal.optimal-requires-clause-kept
+optimal-requires-clause-kept c = c.in-Ok.ensures.kept
+
+pub optimal-requires-clause-task : goal.optimal-requires-clause-task
+optimal-requires-clause-task c = c.requires.task

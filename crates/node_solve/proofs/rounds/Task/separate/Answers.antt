@@ -9,3 +9,9 @@ returns-clause-separates c =
       c.in-Ok.covers.items,
       (c.in-Ok.ensures, subst (λ l. AddsAll W (round_of c.args.round.now) l (round_of c.add_all.new.round)) c.as_slice.ensures.value c.in-Ok-add_all.ensures.adds),
     )
+
+pub add_all-requires : goal.add_all-requires
+add_all-requires c = record { kept = c.requires.kept }
+
+pub returns-clause-kept : goal.returns-clause-kept
+returns-clause-kept c = c.in-Ok-add_all.ensures.kept

@@ -8,5 +8,5 @@ with_cut_variables-requires c =
     let few = c.requires.kept.few in
     omega (arith, count, few)
 
-pub solve_from-requires-clause-first : goal.solve_from-requires-clause-first
-solve_from-requires-clause-first c = c.in-Ok.ensures ∙ ap (λ n. with_cut_variables c.args.self.now.first.now 0 n) (c.len.ensures)
+pub solve_from-solved-requires-clause-first : goal.solve_from-solved-requires-clause-first
+solve_from-solved-requires-clause-first c = c.in-Ok.ensures ∙ ap (λ n. with_cut_variables c.args.self.now.first.now 0 n) (c.len.ensures)

@@ -1,4 +1,5 @@
 use Rattle.std.proofs.Common.{refl, sym, subst, inl, inr}
+use Rattle.row_tableau.specs.Dense.{IsTableauOf}
 use Rattle.row_tableau.specs.Variables.{numbers}
 use Rattle.row_tableau.specs.Answers.{IsFirstLeaving, EntersAt}
 use Rattle.row_tableau.proofs.tableau.Tableau.enter.Goals as goal
@@ -63,3 +64,57 @@ returns-in-Err-clause-entered c =
       first = first.2;
     } in
     (c.in-Err.ensures.kept, (c.in-Some.row, (c.in-Place.place, (enters, c.in-Err.ensures.wide))))
+
+pub first_leaving-requires-clause-marks : goal.first_leaving-requires-clause-marks
+first_leaving-requires-clause-marks c = c.requires.marks
+
+pub first_leaving-requires-clause-place : goal.first_leaving-requires-clause-place
+first_leaving-requires-clause-place c = c.in-Place.ensures.0
+
+pub returns-in-Row-clause-columns : goal.returns-in-Row-clause-columns
+returns-in-Row-clause-columns c = refl
+
+pub returns-in-Row-clause-rows : goal.returns-in-Row-clause-rows
+returns-in-Row-clause-rows c = refl
+
+pub returns-in-Row-clause-activities : goal.returns-in-Row-clause-activities
+returns-in-Row-clause-activities c = refl
+
+pub returns-in-Row-clause-basis : goal.returns-in-Row-clause-basis
+returns-in-Row-clause-basis c = λ p is. is
+
+pub returns-in-None-clause-columns : goal.returns-in-None-clause-columns
+returns-in-None-clause-columns c = refl
+
+pub returns-in-None-clause-rows : goal.returns-in-None-clause-rows
+returns-in-None-clause-rows c = refl
+
+pub returns-in-None-clause-activities : goal.returns-in-None-clause-activities
+returns-in-None-clause-activities c = refl
+
+pub returns-in-None-clause-basis : goal.returns-in-None-clause-basis
+returns-in-None-clause-basis c = λ p is. is
+
+pub returns-in-Ok-clause-columns : goal.returns-in-Ok-clause-columns
+returns-in-Ok-clause-columns c = c.exchange_named.ensures.columns
+
+pub returns-in-Ok-clause-rows : goal.returns-in-Ok-clause-rows
+returns-in-Ok-clause-rows c = c.exchange_named.ensures.rows
+
+pub returns-in-Ok-clause-activities : goal.returns-in-Ok-clause-activities
+returns-in-Ok-clause-activities c = c.exchange_named.ensures.activities
+
+pub returns-in-Err-clause-columns : goal.returns-in-Err-clause-columns
+returns-in-Err-clause-columns c = c.exchange_named.ensures.columns
+
+pub returns-in-Err-clause-rows : goal.returns-in-Err-clause-rows
+returns-in-Err-clause-rows c = c.exchange_named.ensures.rows
+
+pub returns-in-Err-clause-activities : goal.returns-in-Err-clause-activities
+returns-in-Err-clause-activities c = c.exchange_named.ensures.activities
+
+pub returns-in-Ok-clause-basis : goal.returns-in-Ok-clause-basis
+returns-in-Ok-clause-basis c = c.in-Ok.ensures.basis
+
+pub returns-in-Err-clause-basis : goal.returns-in-Err-clause-basis
+returns-in-Err-clause-basis c = λ p is. subst (IsTableauOf p) (sym c.in-Err.ensures.kept) is

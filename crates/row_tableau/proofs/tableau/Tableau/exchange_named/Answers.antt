@@ -20,3 +20,33 @@ wide_pivot-requires-clause-first c =
 
 pub returns-in-Err-clause-wide : goal.returns-in-Err-clause-wide
 returns-in-Err-clause-wide c = subst (λ (t : Dense). IsWidePivot t c.args.row c.args.place c.wide_pivot.result) c.in-Err.ensures.kept c.wide_pivot.ensures
+
+pub returns-in-Ok-clause-columns : goal.returns-in-Ok-clause-columns
+returns-in-Ok-clause-columns c = c.exchange.ensures.columns
+
+pub returns-in-Err-clause-columns : goal.returns-in-Err-clause-columns
+returns-in-Err-clause-columns c = c.exchange.ensures.columns
+
+pub returns-in-Ok-clause-rows : goal.returns-in-Ok-clause-rows
+returns-in-Ok-clause-rows c = c.exchange.ensures.rows
+
+pub returns-in-Err-clause-rows : goal.returns-in-Err-clause-rows
+returns-in-Err-clause-rows c = c.exchange.ensures.rows
+
+pub returns-in-Ok-clause-activities : goal.returns-in-Ok-clause-activities
+returns-in-Ok-clause-activities c = c.exchange.ensures.activities
+
+pub returns-in-Err-clause-activities : goal.returns-in-Err-clause-activities
+returns-in-Err-clause-activities c = c.exchange.ensures.activities
+
+pub returns-in-Ok-clause-table : goal.returns-in-Ok-clause-table
+returns-in-Ok-clause-table c = c.in-Ok.ensures.table
+
+pub returns-in-Ok-clause-basis : goal.returns-in-Ok-clause-basis
+returns-in-Ok-clause-basis c = c.in-Ok.ensures.basis
+
+pub returns-in-Ok-clause-fits : goal.returns-in-Ok-clause-fits
+returns-in-Ok-clause-fits c = c.in-Ok.ensures.fits
+
+pub returns-in-Err-clause-kept : goal.returns-in-Err-clause-kept
+returns-in-Err-clause-kept c = c.in-Err.ensures.kept

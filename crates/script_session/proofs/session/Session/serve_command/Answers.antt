@@ -2,27 +2,24 @@ use Rattle.std.proofs.Common.{ℕ, List, refl, map, subst, ◌∙◌, ap}
 use Rattle.std.specs.Prelude.{Vec}
 use Rattle.std.specs.declared.alloc.Global.{Global}
 use Rattle.std.specs.Io.KnownBytes.{Appends}
-use Rattle.std.proofs.lemmas.Result.{err_from_is_err_and}
 use Rattle.script_session.specs.Request.{RequestStep, Words}
 use Rattle.script_session.specs.Output.{WritesFront}
 use Rattle.script_session.specs.Session.{moment_of}
 use Rattle.script_session.proofs.SessionLemmas.{Serves-one, Breaks-one, Halts-one}
 use Rattle.script_session.proofs.session.Session.serve_command.Goals as goal
 
-pub returns-in_err-answer-clause-served : goal.returns-in_err-answer-clause-served
-returns-in_err-answer-clause-served g c =
-    let p = err_from_is_err_and c.from_residual.result c.from_residual.ensures.1 in
+pub returns-in_default-clause-served : goal.returns-in_default-clause-served
+returns-in_default-clause-served g c =
     let written = g.W.Sink.written in
     let files = g.S.Store.files in
     let faults = g.S.Store.faults in
     let request = Words (map (λ word. word.now) c.args.words.now) in
     let old = moment_of c.args.self.now c.args.machine.now (written c.args.out.now) (files c.args.store.now) (faults c.args.store.now) in
     let new = moment_of c.args.self.now c.answer.new.self (written c.args.out.now) (files c.answer.new.store) (faults c.answer.new.store) in
-    rw (p.1, p.2) (Halts-one (RequestStep g.M.Machine.step) old new request c.in_err-answer.ensures.unfinished refl)
+    Halts-one (RequestStep g.M.Machine.step) old new request c.in_default.ensures.unfinished refl
 
-pub returns-in_err-write_all-clause-served : goal.returns-in_err-write_all-clause-served
-returns-in_err-write_all-clause-served g c =
-    let p = err_from_is_err_and c.from_residual-in_err-write_all.result c.from_residual-in_err-write_all.ensures.1 in
+pub returns-in_default-write_all-clause-served : goal.returns-in_default-write_all-clause-served
+returns-in_default-write_all-clause-served g c =
     let written = g.W.Sink.written in
     let files = g.S.Store.files in
     let faults = g.S.Store.faults in
@@ -31,8 +28,8 @@ returns-in_err-write_all-clause-served g c =
     let new = moment_of c.note_reply.new.self c.answer.new.self (written c.write_all.new.out) (files c.answer.new.store) (faults c.answer.new.store) in
     let reply = c.answer.new.reply.items in
     let same = c.deref.ensures.value ∙ ap (λ (reply : Vec ℕ Global). reply.items) c.note_reply.ensures.reply in
-    let sent = subst (λ (bytes : List ℕ). WritesFront old.written new.written bytes) same c.in_err-write_all.ensures.err in
-    rw (p.1, p.2) (Breaks-one (RequestStep g.M.Machine.step) old new request reply c.in_ok-answer.ensures.answered sent)
+    let sent = subst (λ (bytes : List ℕ). WritesFront old.written new.written bytes) same c.in_default-write_all.ensures.err in
+    Breaks-one (RequestStep g.M.Machine.step) old new request reply c.in-Ok.ensures.answered sent
 
 pub returns-clause-served : goal.returns-clause-served
 returns-clause-served g c =
@@ -44,5 +41,5 @@ returns-clause-served g c =
     let new = moment_of c.note_reply.new.self c.answer.new.self (written c.write_all.new.out) (files c.answer.new.store) (faults c.answer.new.store) in
     let reply = c.answer.new.reply.items in
     let same = c.deref.ensures.value ∙ ap (λ (reply : Vec ℕ Global). reply.items) c.note_reply.ensures.reply in
-    let sent = subst (λ (bytes : List ℕ). Appends old.written new.written bytes) same c.in_ok-write_all.ensures.ok in
-    Serves-one (RequestStep g.M.Machine.step) old new request reply c.in_ok-answer.ensures.answered sent c.note_reply.ensures.wanted c.note_reply.ensures.refused
+    let sent = subst (λ (bytes : List ℕ). Appends old.written new.written bytes) same c.in-Ok-write_all.ensures.ok in
+    Serves-one (RequestStep g.M.Machine.step) old new request reply c.in-Ok.ensures.answered sent c.note_reply.ensures.wanted c.note_reply.ensures.refused

@@ -1,6 +1,5 @@
 use Rattle.std.proofs.Common.{◌≡◌, ℕ, List, refl, subst, true, false, arith}
 use Rattle.std.proofs.lemmas.Bool.Decides.{nat_tests}
-use Rattle.std.proofs.lemmas.Result.{err_from_is_err_and}
 use Rattle.script_session.specs.Request.{RequestStep}
 use Rattle.text_lines.specs.Lines.{Line}
 use Rattle.script_session.specs.Script.{is_long_line, text_requests, is_end_text}
@@ -10,9 +9,8 @@ use Rattle.script_session.proofs.SessionLemmas.{Serves-overlong, Breaks-overlong
 use Rattle.script_session.proofs.PieceLemmas.{long_broken, short_line, long_line}
 use Rattle.script_session.proofs.session.Session.serve_line.Goals as goal
 
-pub returns-in_err-write_all-clause-served : goal.returns-in_err-write_all-clause-served
-returns-in_err-write_all-clause-served g c =
-    let p = err_from_is_err_and c.from_residual.result c.from_residual.ensures.1 in
+pub returns-in_default-clause-served : goal.returns-in_default-clause-served
+returns-in_default-clause-served g c =
     let written = g.W.Sink.written in
     let files = g.S.Store.files in
     let faults = g.S.Store.faults in
@@ -21,7 +19,7 @@ returns-in_err-write_all-clause-served g c =
     let old = moment_of c.args.self.now c.args.machine.now (written c.args.out.now) (files c.args.store.now) (faults c.args.store.now) in
     let refused : Session = record c.args.self.now { refused = true } in
     let new = moment_of refused c.args.machine.now (written c.write_all.new.out) (files c.args.store.now) (faults c.args.store.now) in
-    rw (p.1, p.2) (long_broken g.M.Machine.ends (RequestStep g.M.Machine.step) old new line long (Breaks-overlong g.M.Machine.step old new refl c.in_err-write_all.ensures.err))
+    long_broken g.M.Machine.ends (RequestStep g.M.Machine.step) old new line long (Breaks-overlong g.M.Machine.step old new refl c.in_default.ensures.err)
 
 pub returns-then-is_long-clause-served : goal.returns-then-is_long-clause-served
 returns-then-is_long-clause-served g c =
@@ -33,7 +31,7 @@ returns-then-is_long-clause-served g c =
     let old = moment_of c.args.self.now c.args.machine.now (written c.args.out.now) (files c.args.store.now) (faults c.args.store.now) in
     let refused : Session = record c.args.self.now { refused = true } in
     let new = moment_of refused c.args.machine.now (written c.write_all.new.out) (files c.args.store.now) (faults c.args.store.now) in
-    long_line g.M.Machine.ends (RequestStep g.M.Machine.step) old new line long (Serves-overlong g.M.Machine.step old new refl c.in_ok-write_all.ensures.ok refl refl)
+    long_line g.M.Machine.ends (RequestStep g.M.Machine.step) old new line long (Serves-overlong g.M.Machine.step old new refl c.in-Ok.ensures.ok refl refl)
 
 pub returns-clause-served : goal.returns-clause-served
 returns-clause-served g c =

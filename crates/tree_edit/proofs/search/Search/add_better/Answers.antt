@@ -17,8 +17,8 @@ use Rattle.search_parts.specs.Joining.{list_without}
 use Rattle.tree_edit.proofs.PointTaken.{worst-within, kept-taken}
 use Rattle.tree_edit.proofs.search.Search.add_better.Goals as goal
 
-pub push_without-requires : goal.push_without-requires
-push_without-requires c =
+pub enter_point-requires : goal.enter_point-requires
+enter_point-requires c =
     let i = c.self.inside in
     let S : PlainSearch = record { model = i.model; cuts = i.pool; tree = i.tree; points = i.points.items } in
     let joins : JoinsPoint S c.args.point c.args.joined = subst (λ (T : PlainSearch). JoinsPoint T c.args.point c.args.joined) (sym c.self.view_is) c.requires.joined in
@@ -38,13 +38,22 @@ invariant_of-self c =
     let queue = c.put_marks.new.queue in
     let judged : AreStates (formulation_of S) j.target S.tree.root states = c.in-Ok.ensures.states i.pool c.self.invariant.numbers_are in
     let queued : IsQueueOf (formulation_of S) (with_states states S.tree.root) queue = subst (λ (q : LeafQueue). IsQueueOf (formulation_of S) (with_states states S.tree.root) q) (sym c.put_marks.ensures.queue) (c.in-Ok.ensures.queue i.pool c.self.invariant.numbers_are) in
-    let points : c.push_without.new.points.items ≡ list_without (S.points ++ x ∷ []) j.worst = c.in-Ok-push_without.ensures.put in
-    subst (λ (T : NumberedTree). IsIndexed (record { model = i.model; cuts = i.pool; tree = T; points = c.push_without.new.points.items }) j.values.items i.numbers queue) (sym c.put_marks.ensures.tree)
-    (subst (λ (ps : List Point). IsIndexed (record { model = i.model; cuts = i.pool; tree = with_leaf_states i.tree states; points = ps }) j.values.items i.numbers queue) (sym points)
-    (kept-taken S i.values.items i.numbers i.queue queue x j states c.self.invariant joins judged queued))
+    let points : c.enter_point.new.points.items ≡ list_without (S.points ++ x ∷ []) j.worst = c.in-Ok-enter_point.ensures.put in
+    let values = c.enter_point.new.values.items in
+    subst (λ (T : NumberedTree). IsIndexed (record { model = i.model; cuts = i.pool; tree = T; points = c.enter_point.new.points.items }) values i.numbers queue) (sym c.put_marks.ensures.tree)
+    (subst (λ (ps : List Point). IsIndexed (record { model = i.model; cuts = i.pool; tree = with_leaf_states i.tree states; points = ps }) values i.numbers queue) (sym points)
+    (subst (λ (vs : List ℚ). IsIndexed (record { model = i.model; cuts = i.pool; tree = with_leaf_states i.tree states; points = list_without (S.points ++ x ∷ []) j.worst }) vs i.numbers queue) (sym c.in-Ok-enter_point.ensures.values)
+    (kept-taken S i.values.items i.numbers i.queue queue x j states c.self.invariant joins judged queued)))
 
-pub returns-in-Ok-push_without-clause-taken : goal.returns-in-Ok-push_without-clause-taken
-returns-in-Ok-push_without-clause-taken c =
+pub invariant_of-self-in-Err-enter_point : goal.invariant_of-self-in-Err-enter_point
+invariant_of-self-in-Err-enter_point c =
+    let i = c.self.inside in
+    let S : PlainSearch = record { model = i.model; cuts = i.pool; tree = i.tree; points = i.points.items } in
+    subst (λ (ps : List Point). IsIndexed (record { model = i.model; cuts = i.pool; tree = i.tree; points = ps }) c.enter_point.new.values.items i.numbers i.queue) (sym c.in-Err-enter_point.ensures.kept)
+    (subst (λ (vs : List ℚ). IsIndexed S vs i.numbers i.queue) (sym c.in-Err-enter_point.ensures.same) c.self.invariant)
+
+pub returns-in-Ok-enter_point-clause-taken : goal.returns-in-Ok-enter_point-clause-taken
+returns-in-Ok-enter_point-clause-taken c =
     let i = c.self.inside in
     let S : PlainSearch = record { model = i.model; cuts = i.pool; tree = i.tree; points = i.points.items } in
     let x = c.args.point in
@@ -52,8 +61,8 @@ returns-in-Ok-push_without-clause-taken c =
     let joins : JoinsPoint S x j = subst (λ (T : PlainSearch). JoinsPoint T x j) (sym c.self.view_is) c.requires.joined in
     let states = c.in-Ok.marks.states.items in
     let judged : AreStates (formulation_of S) j.target S.tree.root states = c.in-Ok.ensures.states i.pool c.self.invariant.numbers_are in
-    let points : c.push_without.new.points.items ≡ list_without (S.points ++ x ∷ []) j.worst = c.in-Ok-push_without.ensures.put in
-    let new : PlainSearch = record { model = i.model; cuts = i.pool; tree = c.put_marks.new.tree; points = c.push_without.new.points.items } in
+    let points : c.enter_point.new.points.items ≡ list_without (S.points ++ x ∷ []) j.worst = c.in-Ok-enter_point.ensures.put in
+    let new : PlainSearch = record { model = i.model; cuts = i.pool; tree = c.put_marks.new.tree; points = c.enter_point.new.points.items } in
     let best : j.target ≡ target S.model new.points = joins.target_is ∙ ap (target S.model) (sym points) in
     subst (λ (T : PlainSearch). TakesPoint T x new) c.self.view_is (record {
       model = refl;
@@ -67,12 +76,12 @@ returns-in-Ok-push_without-clause-taken c =
       };
     })
 
-pub returns-in-Ok-push_without-clause-target : goal.returns-in-Ok-push_without-clause-target
-returns-in-Ok-push_without-clause-target c =
+pub returns-in-Ok-enter_point-clause-target : goal.returns-in-Ok-enter_point-clause-target
+returns-in-Ok-enter_point-clause-target c =
     let i = c.self.inside in
     let S : PlainSearch = record { model = i.model; cuts = i.pool; tree = i.tree; points = i.points.items } in
     let x = c.args.point in
     let j = c.args.joined in
     let joins : JoinsPoint S x j = subst (λ (T : PlainSearch). JoinsPoint T x j) (sym c.self.view_is) c.requires.joined in
-    let points : c.push_without.new.points.items ≡ list_without (S.points ++ x ∷ []) j.worst = c.in-Ok-push_without.ensures.put in
+    let points : c.enter_point.new.points.items ≡ list_without (S.points ++ x ∷ []) j.worst = c.in-Ok-enter_point.ensures.put in
     ap (target S.model) points ∙ sym joins.target_is

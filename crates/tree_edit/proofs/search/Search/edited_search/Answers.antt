@@ -14,6 +14,15 @@ use Rattle.search_parts.proofs.KeepableLemmas.{keepable-all, keepable-few}
 use Rattle.tree_edit.proofs.GoneCuts.{follow-sound}
 use Rattle.tree_edit.proofs.search.Search.edited_search.Goals as goal
 
+pub followed-requires-clause-fits : goal.followed-requires-clause-fits
+followed-requires-clause-fits c = c.requires.fits
+
+pub followed-requires-clause-edited : goal.followed-requires-clause-edited
+followed-requires-clause-edited c = c.requires.edited
+
+pub with_kept-requires-clause-values : goal.with_kept-requires-clause-values
+with_kept-requires-clause-values c = c.in-Ok-kept_points.ensures.values_are
+
 pub with_kept-requires-clause-tree : goal.with_kept-requires-clause-tree
 with_kept-requires-clause-tree c =
     let i = c.self.inside in

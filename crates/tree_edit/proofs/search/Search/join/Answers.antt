@@ -6,8 +6,8 @@ use Rattle.tree_edit.specs.PlacingSteps.{JoinsPoint}
 use Rattle.tree_edit.proofs.PointTaken.{joins-point}
 use Rattle.tree_edit.proofs.search.Search.join.Goals as goal
 
-pub returns : goal.returns
-returns c =
+pub returns-in-Ok-clause-joins : goal.returns-in-Ok-clause-joins
+returns-in-Ok-clause-joins c =
     let i = c.self.inside in
     let S : PlainSearch = record { model = i.model; cuts = i.pool; tree = i.tree; points = i.points.items } in
     let j = c.in-Ok.joined in

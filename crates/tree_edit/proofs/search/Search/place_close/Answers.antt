@@ -1,17 +1,49 @@
-use Rattle.std.proofs.Common.{◌∙◌, refl, subst, sym}
-use Rattle.std.proofs.lemmas.Bool.{false≢true}
-use Rattle.search_parts.specs.Lists.{HasLists}
+use Rattle.std.specs.Prelude.{Option}
+use Rattle.std.proofs.Common.{refl, subst}
+use Rattle.std.proofs.lemmas.Result.{IfOk-weaker}
+use Rattle.rational.specs.Rational.{ℚ}
+use Rattle.leaf_judging.specs.Closing.{ClosesBy}
+use Rattle.search_parts.specs.Points.{target}
+use Rattle.sound_searches.specs.declared.taken.Taken.{Taken}
 use Rattle.sound_searches.specs.Sound.{PlainSearch, formulation_of}
+use Rattle.sound_searches.specs.Placing.{TakesClose}
+use Rattle.tree_edit.specs.PlacingSteps.{StaysOpen}
+use Rattle.tree_edit.proofs.CloseLemmas.{judged-closed, stays-open, on-err}
 use Rattle.tree_edit.proofs.search.Search.place_close.Goals as goal
 
-pub close_listed-requires-clause-lists : goal.close_listed-requires-clause-lists
-close_listed-requires-clause-lists c =
-    subst (λ (R : PlainSearch). HasLists (formulation_of R) c.args.kept) c.self.view_is (c.in-Ok-true.ensures.0 c.in-Ok-true.field-0-test)
+pub put_closed-requires-clause-leaf : goal.put_closed-requires-clause-leaf
+put_closed-requires-clause-leaf c = c.requires.leaf
 
-pub returns-in-Ok-false-clause-taken : goal.returns-in-Ok-false-clause-taken
-returns-in-Ok-false-clause-taken c =
+pub put_closed-requires-clause-number : goal.put_closed-requires-clause-number
+put_closed-requires-clause-number c = c.in-Ok.ensures.closes.number_is
+
+pub put_closed-requires-clause-lists : goal.put_closed-requires-clause-lists
+put_closed-requires-clause-lists c = c.in-Ok.ensures.closes.lists
+
+pub put_closed-requires-clause-judged : goal.put_closed-requires-clause-judged
+put_closed-requires-clause-judged c =
     let S : PlainSearch = c.args.self.now in
+    let path = c.args.region.now in
     let kept = c.args.kept in
-    let no : ¬ HasLists (formulation_of S) kept =
-    subst (λ (R : PlainSearch). ¬ HasLists (formulation_of R) kept) c.self.view_is (λ h. false≢true (sym c.in-Ok-false.field-0-test ∙ c.in-Ok-false.ensures.1 h)) in
-    (no, refl)
+    judged-closed (formulation_of S) (target S.model S.points) path kept (subst (λ (t : Option ℚ). ClosesBy (formulation_of S) t path kept) c.target-target.ensures c.in-Ok.ensures.closes.closes) c.requires.closed
+
+pub put_closed-requires-clause-closed : goal.put_closed-requires-clause-closed
+put_closed-requires-clause-closed c = c.requires.closed
+
+pub returns-in-Ok-clause-taken : goal.returns-in-Ok-clause-taken
+returns-in-Ok-clause-taken c =
+    let S : PlainSearch = c.args.self.now in
+    let path = c.args.region.now in
+    let kept = c.args.kept in
+    (c.in-Ok.ensures.closes.lists, subst (λ (t : Option ℚ). ClosesBy (formulation_of S) t path kept) c.target-target.ensures c.in-Ok.ensures.closes.closes, c.put_closed.ensures)
+
+pub returns-in-Err-clause-taken : goal.returns-in-Err-clause-taken
+returns-in-Err-clause-taken c =
+    let S : PlainSearch = c.args.self.now in
+    let path = c.args.region.now in
+    let kept = c.args.kept in
+    IfOk-weaker c.in-Err.answer (λ (taken : Taken). StaysOpen (formulation_of S) c.target-target.result path kept taken) (λ (taken : Taken). TakesClose S c.args.id path kept S taken)
+    (λ taken h. stays-open S c.args.id path kept taken (subst (λ (t : Option ℚ). StaysOpen (formulation_of S) t path kept taken) c.target-target.ensures h)) c.in-Err.ensures.open
+
+pub returns-in-Err-clause-kept : goal.returns-in-Err-clause-kept
+returns-in-Err-clause-kept c = on-err c.in-Err.answer refl

@@ -1,17 +1,44 @@
-use Rattle.std.proofs.Common.{◌∙◌, refl, subst, sym}
-use Rattle.std.proofs.lemmas.Bool.{false≢true}
-use Rattle.search_parts.specs.Lists.{HasLists}
+use Rattle.std.proofs.Common.{refl}
+use Rattle.std.proofs.lemmas.Result.{IfOk-weaker}
+use Rattle.sound_searches.specs.declared.taken.Taken.{Taken}
 use Rattle.sound_searches.specs.Sound.{PlainSearch, formulation_of}
+use Rattle.sound_searches.specs.Placing.{TakesPointClose}
+use Rattle.tree_edit.specs.PlacingSteps.{StaysOpen}
+use Rattle.tree_edit.proofs.CloseLemmas.{stays-open_with, on-err}
 use Rattle.tree_edit.proofs.search.Search.place_joined_close.Goals as goal
 
-pub place_listed_close-requires-clause-lists : goal.place_listed_close-requires-clause-lists
-place_listed_close-requires-clause-lists c =
-    subst (λ (R : PlainSearch). HasLists (formulation_of R) c.args.kept) c.self.view_is (c.in-Ok-true.ensures.0 c.in-Ok-true.field-0-test)
+pub put_joined_close-requires-clause-leaf : goal.put_joined_close-requires-clause-leaf
+put_joined_close-requires-clause-leaf c = c.requires.leaf
 
-pub returns-in-Ok-false-clause-taken : goal.returns-in-Ok-false-clause-taken
-returns-in-Ok-false-clause-taken c =
+pub put_joined_close-requires-clause-number : goal.put_joined_close-requires-clause-number
+put_joined_close-requires-clause-number c = c.in-Ok.ensures.closes.number_is
+
+pub put_joined_close-requires-clause-closed : goal.put_joined_close-requires-clause-closed
+put_joined_close-requires-clause-closed c = c.requires.closed
+
+pub put_joined_close-requires-clause-joined : goal.put_joined_close-requires-clause-joined
+put_joined_close-requires-clause-joined c = c.requires.joined
+
+pub put_joined_close-requires-clause-lists : goal.put_joined_close-requires-clause-lists
+put_joined_close-requires-clause-lists c = c.in-Ok.ensures.closes.lists
+
+pub put_joined_close-requires-clause-closes : goal.put_joined_close-requires-clause-closes
+put_joined_close-requires-clause-closes c = c.in-Ok.ensures.closes.closes
+
+pub returns-in-Ok-clause-taken : goal.returns-in-Ok-clause-taken
+returns-in-Ok-clause-taken c = c.put_joined_close.ensures.taken
+
+pub returns-in-Ok-clause-kept : goal.returns-in-Ok-clause-kept
+returns-in-Ok-clause-kept c = c.put_joined_close.ensures.kept
+
+pub returns-in-Err-clause-taken : goal.returns-in-Err-clause-taken
+returns-in-Err-clause-taken c =
     let S : PlainSearch = c.args.self.now in
+    let x = c.args.point in
+    let path = c.args.region.now in
     let kept = c.args.kept in
-    let no : ¬ HasLists (formulation_of S) kept =
-    subst (λ (R : PlainSearch). ¬ HasLists (formulation_of R) kept) c.self.view_is (λ h. false≢true (sym c.in-Ok-false.field-0-test ∙ c.in-Ok-false.ensures.1 h)) in
-    ((λ h. no h.1), refl)
+    let j = c.args.joined in
+    IfOk-weaker c.in-Err.answer (λ (taken : Taken). StaysOpen (formulation_of S) j.target path kept taken) (λ (taken : Taken). TakesPointClose S c.args.id path x kept S taken) (stays-open_with S c.args.id path kept x j c.requires.joined) c.in-Err.ensures.open
+
+pub returns-in-Err-clause-kept : goal.returns-in-Err-clause-kept
+returns-in-Err-clause-kept c = on-err c.in-Err.answer refl

@@ -1,25 +1,39 @@
-use Rattle.std.specs.Prelude.{MatchOption}
-use Rattle.std.proofs.Common.{refl, subst}
+use Rattle.std.proofs.Common.{◌≡◌, refl, subst, sym}
+use Rattle.std.proofs.lemmas.Result.{IfOk-weaker}
 use Rattle.search_parts.specs.Points.{IsKeepable}
+use Rattle.sound_searches.specs.declared.taken.Taken.{Taken}
+use Rattle.sound_searches.specs.declared.taken.Taken.TheVariants.{Refused}
 use Rattle.sound_searches.specs.Sound.{PlainSearch}
-use Rattle.tree_edit.specs.PlacingSteps.{JoinsPoint}
+use Rattle.sound_searches.specs.Placing.{TakesPointKeep}
+use Rattle.tree_edit.proofs.CloseLemmas.{on-err}
 use Rattle.tree_edit.proofs.search.Search.place_point_keep.Goals as goal
 
-pub returns-in-Ok-None-clause-taken : goal.returns-in-Ok-None-clause-taken
-returns-in-Ok-None-clause-taken c =
+pub put_joined_keep-requires-clause-leaf : goal.put_joined_keep-requires-clause-leaf
+put_joined_keep-requires-clause-leaf c = c.requires.leaf
+
+pub put_joined_keep-requires-clause-own : goal.put_joined_keep-requires-clause-own
+put_joined_keep-requires-clause-own c = c.requires.own
+
+pub put_joined_keep-requires-clause-lists : goal.put_joined_keep-requires-clause-lists
+put_joined_keep-requires-clause-lists c = c.requires.lists
+
+pub put_joined_keep-requires-clause-joined : goal.put_joined_keep-requires-clause-joined
+put_joined_keep-requires-clause-joined c = c.in-Ok.ensures.joins
+
+pub returns-in-Ok-clause-taken : goal.returns-in-Ok-clause-taken
+returns-in-Ok-clause-taken c = c.put_joined_keep.ensures.taken
+
+pub returns-in-Ok-clause-kept : goal.returns-in-Ok-clause-kept
+returns-in-Ok-clause-kept c = c.put_joined_keep.ensures.kept
+
+pub returns-in-Err-clause-taken : goal.returns-in-Err-clause-taken
+returns-in-Err-clause-taken c =
     let S : PlainSearch = c.args.self.now in
     let x = c.args.point in
-    let not : ¬ IsKeepable S.model x = subst (λ o. MatchOption o (¬ IsKeepable S.model x) (JoinsPoint S x)) c.in-Ok-None.field-0-is c.in-Ok-None.ensures in
-    ((λ h. not h.0), refl)
+    let path = c.args.region.now in
+    let kept = c.args.kept in
+    IfOk-weaker c.in-Err.answer (λ (taken : Taken). (taken ≡ Refused) × (¬ IsKeepable S.model x)) (λ (taken : Taken). TakesPointKeep S c.args.id path x kept S taken)
+    (λ taken h. subst (λ (t : Taken). TakesPointKeep S c.args.id path x kept S t) (sym h.0) ((λ k. h.1 k.0), refl)) c.in-Err.ensures.refused
 
-pub place_joined_keep-requires-clause-joined : goal.place_joined_keep-requires-clause-joined
-place_joined_keep-requires-clause-joined c =
-    let S : PlainSearch = c.args.self.now in
-    let x = c.args.point in
-    subst (λ o. MatchOption o (¬ IsKeepable S.model x) (JoinsPoint S x)) c.in-Ok-Some.field-0-is c.in-Ok-Some.ensures
-
-pub returns-in-Ok-Some-clause-taken : goal.returns-in-Ok-Some-clause-taken
-returns-in-Ok-Some-clause-taken c = c.place_joined_keep.ensures.taken
-
-pub returns-in-Ok-Some-clause-kept : goal.returns-in-Ok-Some-clause-kept
-returns-in-Ok-Some-clause-kept c = c.place_joined_keep.ensures.kept
+pub returns-in-Err-clause-kept : goal.returns-in-Err-clause-kept
+returns-in-Err-clause-kept c = on-err c.in-Err.answer refl

@@ -8,6 +8,9 @@ use Rattle.tree_edit.proofs.PointTaken.{leaf-taken}
 use Rattle.tree_edit.proofs.search.Search.put_joined_close.Goals as goal
 use Rattle.lp_model.specs.Formulations.{formulation}
 
+pub put_closed-requires-clause-closed : goal.put_closed-requires-clause-closed
+put_closed-requires-clause-closed c = c.requires.closed
+
 pub put_closed-requires-clause-leaf : goal.put_closed-requires-clause-leaf
 put_closed-requires-clause-leaf c = leaf-taken c.args.self.now c.args.point c.take_point.new.self c.args.id c.args.region.now c.in-Ok.ensures.taken c.requires.leaf
 

@@ -20,6 +20,9 @@ use Rattle.tree_edit.proofs.search.Search.split_leaf.Goals as goal
 pub enter_split-requires-clause-has : goal.enter_split-requires-clause-has
 enter_split-requires-clause-has c = subst (λ (R : PlainSearch). HasLeaf R.tree c.args.id) (sym c.self.view_is) c.requires.leaf.has
 
+pub enter_split-requires-clause-high : goal.enter_split-requires-clause-high
+enter_split-requires-clause-high c = c.requires.room.1
+
 pub enter_split-requires-clause-apart : goal.enter_split-requires-clause-apart
 enter_split-requires-clause-apart c =
     let first : c.in-Some.one ≡ c.self.inside.tree.last + 1 = ap (λ (p : ℕ × ℕ). p.0) c.in-Some.ensures.1 in

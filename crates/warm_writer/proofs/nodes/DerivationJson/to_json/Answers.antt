@@ -3,7 +3,6 @@ use Rattle.serde_json.specs.Data.{no_members, put}
 use Rattle.serde_json.specs.View.{members_view}
 use Rattle.serde_json.proofs.OnLiterals.{serde_json_on_literals}
 use Rattle.warm_writer.specs.Written.{place_json, list_json, row_side_word, literal_json}
-use Rattle.warm_writer.proofs.Objects.{value-is}
 use Rattle.warm_writer.proofs.nodes.DerivationJson.to_json.Goals as goal
 
 pub returns : goal.returns
@@ -15,5 +14,5 @@ returns c =
     let m2 = put (codes "row") (place_json s.row.0) m1 in
     let h2 : IfOk c.with-from_row.result (λ m. members_view m.entries ≡ m2) = c.with-from_row.ensures (place_json s.row.0) m1 (c.place.ensures) h1 in
     let m3 = put (codes "lits") (list_json literal_json s.literals) m2 in
-    let h3 : IfOk c.with-from_lits.result (λ m. members_view m.entries ≡ m3) = c.with-from_lits.ensures (list_json literal_json s.literals) m2 (value-is c.list-lits.result (list_json literal_json c.as_slice.result.now) (list_json literal_json s.literals) c.list-lits.ensures (ap (list_json literal_json) c.as_slice.ensures)) h2 in
+    let h3 : IfOk c.with_list-from_lits.result (λ m. members_view m.entries ≡ m3) = c.with_list-from_lits.ensures m2 h2 in
     c.object.ensures m3 h3

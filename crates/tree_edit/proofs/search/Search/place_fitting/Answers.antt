@@ -1,0 +1,31 @@
+use Rattle.tree_edit.proofs.search.Search.place_fitting.Goals as goal
+
+pub children-requires-clause-narrow : goal.children-requires-clause-narrow
+children-requires-clause-narrow c = c.requires.narrow
+
+pub children-requires-clause-room : goal.children-requires-clause-room
+children-requires-clause-room c = c.requires.room
+
+pub split_leaf-requires-clause-leaf : goal.split_leaf-requires-clause-leaf
+split_leaf-requires-clause-leaf c = c.requires.leaf
+
+pub split_leaf-requires-clause-narrow : goal.split_leaf-requires-clause-narrow
+split_leaf-requires-clause-narrow c = c.requires.narrow
+
+pub split_leaf-requires-clause-sound : goal.split_leaf-requires-clause-sound
+split_leaf-requires-clause-sound c = c.requires.sound
+
+pub split_leaf-requires-clause-room : goal.split_leaf-requires-clause-room
+split_leaf-requires-clause-room c = c.requires.room
+
+pub split_leaf-requires-clause-left : goal.split_leaf-requires-clause-left
+split_leaf-requires-clause-left c = c.in-Ok.ensures.left
+
+pub split_leaf-requires-clause-right : goal.split_leaf-requires-clause-right
+split_leaf-requires-clause-right c = c.in-Ok.ensures.right
+
+pub returns-in-Ok-clause-taken : goal.returns-in-Ok-clause-taken
+returns-in-Ok-clause-taken c = c.split_leaf.ensures.taken
+
+pub returns-in-Ok-clause-kept : goal.returns-in-Ok-clause-kept
+returns-in-Ok-clause-kept c = c.split_leaf.ensures.kept

@@ -1,0 +1,41 @@
+use Rattle.std.specs.Prelude.{length}
+use Rattle.std.proofs.Common.{ap, subst, arith}
+use Rattle.sound_searches.specs.Pool.{AddsCuts}
+use Rattle.tree_search.specs.Steps.{work_next}
+use Rattle.tree_search.specs.Stepping.{worked_with}
+use Rattle.tree_search.proofs.FoundLemmas.{found-fits}
+use Rattle.tree_search.proofs.ReadyLemmas.{ready-added}
+use Rattle.tree_search.proofs.StopLemmas.{some-any, step-since, any-since}
+use Rattle.tree_search.proofs.stepping.after_work.Goals as goal
+
+pub add_cuts-added-requires : goal.add_cuts-added-requires
+add_cuts-added-requires c =
+    let l = c.args.limits.now in
+    let S = c.args.search.now in
+    let fits = found-fits (work_next l.ways l.first.now l.pivots S c.args.job) c.known.ensures.sound.few_cuts c.args.outcome c.args.found c.requires.works.worked_is in
+    let same = ap length c.deref.ensures.value in
+    omega (arith, fits, same)
+
+pub returns-in-Err-clause-some : goal.returns-in-Err-clause-some
+returns-in-Err-clause-some c =
+    some-any c.args.search.now c.deref.result.now c.add_cuts-added.new.search c.in-Err.ensures.some
+
+pub place_outcome-requires-clause-ready : goal.place_outcome-requires-clause-ready
+place_outcome-requires-clause-ready c = ready-added c.args.limits.now c.args.search.now c.deref.result.now c.add_cuts-added.new.search c.in-Ok.ensures.adds c.requires.ready
+
+pub place_outcome-requires-clause-works : goal.place_outcome-requires-clause-works
+place_outcome-requires-clause-works c =
+    let S = c.args.search.now in
+    let T = c.add_cuts-added.new.search in
+    (S, (c.args.found, (c.requires.works, subst (λ ds. AddsCuts S ds T) c.deref.ensures.value c.in-Ok.ensures.adds)))
+
+pub returns-in-Ok-clause-steps : goal.returns-in-Ok-clause-steps
+returns-in-Ok-clause-steps c =
+    let S = c.args.search.now in
+    let T = c.add_cuts-added.new.search in
+    let adds = subst (λ ds. AddsCuts S ds T) c.deref.ensures.value c.in-Ok.ensures.adds in
+    step-since c.args.limits.now c.args.job (λ found. worked_with c.args.outcome found) S c.args.found c.requires.works T adds c.place_outcome.new.search c.place_outcome.result c.place_outcome.ensures.steps
+
+pub returns-in-Ok-clause-some : goal.returns-in-Ok-clause-some
+returns-in-Ok-clause-some c =
+    any-since c.args.search.now c.deref.result.now c.add_cuts-added.new.search c.place_outcome.new.search c.in-Ok.ensures.adds c.place_outcome.result c.place_outcome.ensures.kept
