@@ -3,12 +3,12 @@ use Rattle.std.specs.Prelude.{◌≡◌, ℕ, suc, ◌<◌, ◌≤◌, [], ◌�
 use Rattle.std.proofs.Common.{sym, ap, ap₂, subst, ◌∙◌, arith, ⊎_elim}
 use Rattle.std.proofs.lemmas.Bool.{cases_lt}
 use Rattle.std.proofs.lemmas.List.{get_or_default}
-use Rattle.rational.specs.Rational.{ℚ, int, ◌+ℚ◌, ◌*ℚ◌}
-use Rattle.rational.proofs.RationalRing.{ring, reads_ℚ}
-use Rattle.bases.specs.declared.stand.Stand.{Stand}
-use Rattle.bases.specs.Relaxation.{Relaxation, Table, reduced_cost}
-use Rattle.bases.specs.States.{reduced_parts}
-use Rattle.bases.proofs.SumBelowLaws.{sum_below-zero}
+use Rattle.frac128.specs.Rational.{ℚ, int, ◌+ℚ◌, ◌*ℚ◌}
+use Rattle.frac128.specs.RationalRing.{ring, reads_ℚ}
+use Rattle.table_entries.specs.declared.stand.Stand.{Stand}
+use Rattle.table_entries.specs.Relaxation.{Relaxation, Table, reduced_cost}
+use Rattle.table_entries.specs.States.{reduced_parts}
+use Rattle.table_entries.proofs.SumBelowLaws.{sum_below-zero}
 use Rattle.basic_solution.specs.Held.{Held, relaxation, parts, table, own_cost}
 use Rattle.basic_solution.specs.Slack.{IsPlaced, IsMisplaced, IsRestood}
 use Rattle.basic_solution.proofs.SignLemmas.{NoneBelow}

@@ -4,15 +4,15 @@ use Rattle.std.proofs.Common.{sym, ap, subst, ◌∙◌, ⊎_elim, arith}
 use Rattle.std.proofs.lemmas.Bool.{cases_eq}
 use Rattle.std.proofs.lemmas.Int.{ints}
 use Rattle.std.proofs.lemmas.List.{get_or-set_same, get_or-set_other}
-use Rattle.rational.specs.Rational.{ℚ, ◌*ℚ◌}
-use Rattle.rational.proofs.RationalRing.{zero-+ℚ}
+use Rattle.frac128.specs.Rational.{ℚ, ◌*ℚ◌}
+use Rattle.frac128.specs.RationalRing.{zero-+ℚ}
 use Rattle.frac128.specs.LowestTerms.{quotient_of}
-use Rattle.checked_sum.specs.Sums.{sum_below}
+use Rattle.frac128.specs.Sums.{sum_below}
 use Rattle.checked_sum.proofs.SumLaws.{sum_below-same}
-use Rattle.bases.specs.Relaxation.{Relaxation, Table, IsTable, IsArranged, point}
-use Rattle.bases.specs.States.{basic_value}
-use Rattle.bases.proofs.Arranged.{assigned-basic, Rows-point}
-use Rattle.bases.proofs.BringIn.{basic_within}
+use Rattle.table_entries.specs.Relaxation.{Relaxation, Table, IsTable, IsArranged, point}
+use Rattle.table_entries.specs.States.{basic_value}
+use Rattle.table_entries.proofs.Arranged.{assigned-basic, Rows-point}
+use Rattle.table_entries.proofs.BringIn.{basic_within}
 use Rattle.lp_model.specs.declared.types.ColId.{ColId}
 use Rattle.lp_model.specs.CutTerms.{term_of, AreTerms}
 use Rattle.row_tableau.specs.Activities.{activity_coefficient}

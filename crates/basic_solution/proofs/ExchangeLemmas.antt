@@ -4,13 +4,13 @@ use Rattle.std.proofs.Common.{sym, ap, ap₂, subst, ◌∙◌}
 use Rattle.std.proofs.lemmas.List.{length-set}
 use Rattle.row_tableau.specs.Activities.{activity_coefficient}
 use Rattle.row_tableau.specs.Dense.{Dense}
-use Rattle.rational.specs.Rational.{ℚ, int, ◌+ℚ◌, ◌*ℚ◌}
+use Rattle.frac128.specs.Rational.{ℚ, int, ◌+ℚ◌, ◌*ℚ◌}
 use Rattle.checked_sum.proofs.SumLaws.{sum_below-same}
-use Rattle.bases.specs.declared.stand.Stand.{Stand}
-use Rattle.bases.specs.Relaxation.{Relaxation, Table, Agree, reduced_cost}
-use Rattle.bases.specs.States.{Separates}
-use Rattle.bases.specs.Bases.{IsTableOf}
-use Rattle.bases.proofs.OneTable.{IsTableOf-after}
+use Rattle.table_entries.specs.declared.stand.Stand.{Stand}
+use Rattle.table_entries.specs.Relaxation.{Relaxation, Table, Agree, reduced_cost}
+use Rattle.table_entries.specs.States.{Separates}
+use Rattle.table_entries.specs.Bases.{IsTableOf}
+use Rattle.table_entries.proofs.OneTable.{IsTableOf-after}
 use Rattle.basic_solution.specs.Held.{Held, HasShape, IsSided, IsLawfulHeld, relaxation, parts, state, table, variables}
 use Rattle.basic_solution.specs.Exchanges.{IsMove}
 

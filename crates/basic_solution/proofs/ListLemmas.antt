@@ -4,10 +4,10 @@ use Rattle.std.proofs.Common.{refl, sym, ap, subst, ◌∙◌, arith, below_more
 use Rattle.std.proofs.lemmas.Bool.{false≢true}
 use Rattle.std.proofs.lemmas.List.{get_or_push, get_or_append_left, length-append, map-append}
 use Rattle.std.proofs.lemmas.List.Elements.{All-nil, All-push}
-use Rattle.rational.specs.Rational.{ℚ, int}
+use Rattle.frac128.specs.Rational.{ℚ, int}
 use Rattle.lp_model.specs.declared.types.Var.{Var}
-use Rattle.bases.specs.declared.stand.Stand.TheVariants.{High, Free}
-use Rattle.bases.specs.Bases.{listed, Lists}
+use Rattle.table_entries.specs.declared.stand.Stand.TheVariants.{High, Free}
+use Rattle.table_entries.specs.Bases.{listed, Lists}
 use Rattle.row_tableau.specs.Dense.{Dense}
 use Rattle.row_tableau.specs.Variables.{variable_number, numbers}
 use Rattle.basic_solution.specs.Held.{Held, IsSided, table, variables}

@@ -3,14 +3,14 @@ use Rattle.std.specs.Prelude.{◌≡◌, ℕ, zero, suc, ◌+◌, ◌-◌, ◌<�
 use Rattle.std.proofs.Common.{refl, sym, ap, subst, ◌∙◌, arith}
 use Rattle.std.proofs.lemmas.Bool.{lt-ltb, le-ltb}
 use Rattle.std.proofs.lemmas.List.{get_or_default}
-use Rattle.rational.specs.Rational.{ℚ, int, ◌*ℚ◌}
-use Rattle.rational.proofs.RationalRing.{ring, reads_ℚ}
-use Rattle.bases.specs.declared.stand.Stand.{Stand}
-use Rattle.bases.specs.declared.stand.Stand.TheVariants.{Free}
-use Rattle.bases.specs.Relaxation.{reduced_cost}
-use Rattle.bases.specs.States.{sign}
-use Rattle.bases.proofs.SumBelowLaws.{if_same, if_other}
-use Rattle.bases.proofs.ReducedCosts.{reduced_alone-basic, reduced_alone-nonbasic}
+use Rattle.frac128.specs.Rational.{ℚ, int, ◌*ℚ◌}
+use Rattle.frac128.specs.RationalRing.{ring, reads_ℚ}
+use Rattle.table_entries.specs.declared.stand.Stand.{Stand}
+use Rattle.table_entries.specs.declared.stand.Stand.TheVariants.{Free}
+use Rattle.table_entries.specs.Relaxation.{reduced_cost}
+use Rattle.table_entries.specs.States.{sign}
+use Rattle.table_entries.proofs.SumBelowLaws.{if_same, if_other}
+use Rattle.table_entries.proofs.ReducedCosts.{reduced_alone-basic, reduced_alone-nonbasic}
 use Rattle.basic_solution.specs.Held.{Held, IsSided, relaxation, parts, table, variables, own_cost}
 use Rattle.basic_solution.specs.Numbers.{IsReducedCostAnswer, IsPartAnswer}
 use Rattle.lp_model.specs.declared.types.WideStep.{WideStep}

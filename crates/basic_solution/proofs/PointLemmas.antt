@@ -1,16 +1,16 @@
 -- Sums over all variables at a state are sums over rows or places.
 use Rattle.std.specs.Prelude.{◌≡◌, ℕ, ℤ, ◌<◌, ◌<ℤ◌, [], ◌∷◌, pos, Result, Ok, Err, if◌then◌else◌, ◌==◌}
 use Rattle.std.proofs.Common.{refl, sym, ap, ap₂, subst, ◌∙◌}
-use Rattle.rational.specs.Rational.{ℚ, int, ◌+ℚ◌, ◌*ℚ◌, neg_ℚ}
-use Rattle.rational.proofs.RationalRing.{ring, reads_ℚ, *ℚ_comm}
-use Rattle.checked_sum.specs.Sums.{sum_below}
+use Rattle.frac128.specs.Rational.{ℚ, int, ◌+ℚ◌, ◌*ℚ◌, neg_ℚ}
+use Rattle.frac128.specs.RationalRing.{ring, reads_ℚ, *ℚ_comm}
+use Rattle.frac128.specs.Sums.{sum_below}
 use Rattle.checked_sum.specs.Steps.{AllFit, IsFirstWide, IsCheckedSum}
 use Rattle.checked_sum.proofs.SumLaws.{sum_below-same}
-use Rattle.bases.specs.Relaxation.{IsArranged, reduced_cost, point, multipliers, row_weights}
-use Rattle.bases.specs.States.{basic_value}
-use Rattle.bases.specs.Steps.{nothing, at_nonbasic, at_basic}
-use Rattle.bases.proofs.SumBelowLaws.{sum_below-zero, if_same, if_other}
-use Rattle.bases.proofs.Arranged.{assigned-basic, assigned-nonbasic}
+use Rattle.table_entries.specs.Relaxation.{IsArranged, reduced_cost, point, multipliers, row_weights}
+use Rattle.table_entries.specs.States.{basic_value}
+use Rattle.table_entries.specs.Steps.{nothing, at_nonbasic, at_basic}
+use Rattle.table_entries.proofs.SumBelowLaws.{sum_below-zero, if_same, if_other}
+use Rattle.table_entries.proofs.Arranged.{assigned-basic, assigned-nonbasic}
 use Rattle.table_entries.specs.WholeSums.{IsWholeTerm}
 use Rattle.table_entries.proofs.WholeSumLemmas.{term_of_nothing}
 use Rattle.basic_solution.specs.Held.{Held, IsSided, relaxation, state, table, variables}

@@ -5,20 +5,20 @@ use Rattle.std.proofs.Math.Nat.{mul-le-mul_right}
 use Rattle.std.proofs.lemmas.Bool.{cases_lt}
 use Rattle.std.proofs.lemmas.Int.{ints, unsigned_abs-mul}
 use mathlib.Core.Path.{subst₂}
-use Rattle.rational.specs.Rational.{ℚ, int, ◌+ℚ◌, ◌*ℚ◌, ◌<ℚ◌}
-use Rattle.rational.proofs.IntegerRing.{ring_ℤ, reads_ℤ}
-use Rattle.rational.proofs.Lowest.{reduced-<ℚ}
-use Rattle.rational.proofs.RationalRing.{int_is, zero-+ℚ, ring, reads_ℚ}
+use Rattle.frac128.specs.Rational.{ℚ, int, ◌+ℚ◌, ◌*ℚ◌, ◌<ℚ◌}
+use Rattle.frac128.specs.IntegerRing.{ring_ℤ, reads_ℤ}
+use Rattle.frac128.specs.Lowest.{reduced-<ℚ}
+use Rattle.frac128.specs.RationalRing.{int_is, zero-+ℚ, ring, reads_ℚ}
 use Rattle.frac128.specs.LowestTerms.{quotient_of}
 use Rattle.frac128.proofs.Terms.{denominator_is}
-use Rattle.checked_sum.specs.Sums.{sum_below}
+use Rattle.frac128.specs.Sums.{sum_below}
 use Rattle.checked_sum.specs.Steps.{AllFit, partial}
 use Rattle.checked_sum.proofs.StepLaws.{partial_none}
-use Rattle.bases.specs.States.{basic_value}
-use Rattle.bases.specs.Steps.{at_nonbasic, at_basic}
-use Rattle.bases.proofs.Arranged.{sum_below-split}
-use Rattle.bases.proofs.OneTable.{covered}
-use Rattle.bases.proofs.SumBelowLaws.{sum_below-zero}
+use Rattle.table_entries.specs.States.{basic_value}
+use Rattle.table_entries.specs.Steps.{at_nonbasic, at_basic}
+use Rattle.table_entries.proofs.Arranged.{sum_below-split}
+use Rattle.table_entries.proofs.OneTable.{covered}
+use Rattle.table_entries.proofs.SumBelowLaws.{sum_below-zero}
 use Rattle.table_entries.specs.WholeSteps.{IsShort}
 use Rattle.table_entries.specs.WholeSums.{IsWholeTerm, HasMargin}
 use Rattle.table_entries.proofs.WholeSumLemmas.{term_of_nothing, start_is, total_more, whole_fits_more}

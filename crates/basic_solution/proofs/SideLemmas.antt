@@ -3,13 +3,13 @@ use Rattle.std.specs.Prelude.{◌≡◌, ◌↔◌, ℕ, ◌<◌, [], ◌∷◌,
 use Rattle.std.proofs.Common.{sym, ap, subst, ◌∙◌}
 use Rattle.std.proofs.lemmas.Bool.{false≢true}
 use Rattle.std.proofs.lemmas.List.{get_or_default}
-use Rattle.rational.specs.Rational.{ℚ, int, ◌*ℚ◌, neg_ℚ, ◌<ℚ◌}
-use Rattle.rational.proofs.RationalRing.{ring, reads_ℚ}
-use Rattle.bases.specs.declared.stand.Stand.{Stand}
-use Rattle.bases.specs.declared.stand.Stand.TheVariants.{Low, High, Free}
-use Rattle.bases.specs.States.{sign, IsOutside, basic_value}
-use Rattle.bases.specs.Directions.{stand_number}
-use Rattle.bases.proofs.BringIn.{basic_within}
+use Rattle.frac128.specs.Rational.{ℚ, int, ◌*ℚ◌, neg_ℚ, ◌<ℚ◌}
+use Rattle.frac128.specs.RationalRing.{ring, reads_ℚ}
+use Rattle.table_entries.specs.declared.stand.Stand.{Stand}
+use Rattle.table_entries.specs.declared.stand.Stand.TheVariants.{Low, High, Free}
+use Rattle.table_entries.specs.States.{sign, IsOutside, basic_value}
+use Rattle.table_entries.specs.Directions.{stand_number}
+use Rattle.table_entries.proofs.BringIn.{basic_within}
 use Rattle.basic_solution.specs.Held.{Held, IsSided, relaxation, state, table, variables}
 use Rattle.basic_solution.specs.Breach.{IsBelowSide, IsAboveSide, IsBreach}
 use Rattle.basic_solution.specs.Numbers.{ValueFits, IsRowBreach}

@@ -2,14 +2,14 @@
 use Rattle.std.specs.Prelude.{◌≡◌, ℕ, zero, suc, ◌+◌, ◌<◌, [], ◌∷◌, pos, Option, Some, None, IsSome}
 use Rattle.std.proofs.Common.{refl, sym, ap, subst, ◌∙◌, arith, below_more}
 use Rattle.std.proofs.lemmas.Bool.{false≢true}
-use Rattle.rational.specs.Rational.{ℚ, int, neg_ℚ, ◌<ℚ◌}
-use Rattle.rational.proofs.RationalRing.{ring, reads_ℚ}
-use Rattle.rational.proofs.RationalOrder.{≤ℚ_from_not, ≤ℚ_antisymm, linear_strict}
-use Rattle.bases.specs.declared.stand.Stand.{Stand}
-use Rattle.bases.specs.declared.stand.Stand.TheVariants.{Low, High, Free}
-use Rattle.bases.specs.Relaxation.{Relaxation}
-use Rattle.bases.specs.States.{IsPositive, LawfulAt, Standing}
-use Rattle.bases.specs.Directions.{stand_number}
+use Rattle.frac128.specs.Rational.{ℚ, int, neg_ℚ, ◌<ℚ◌}
+use Rattle.frac128.specs.RationalRing.{ring, reads_ℚ}
+use Rattle.frac128.specs.RationalOrder.{≤ℚ_from_not, ≤ℚ_antisymm, linear_strict}
+use Rattle.table_entries.specs.declared.stand.Stand.{Stand}
+use Rattle.table_entries.specs.declared.stand.Stand.TheVariants.{Low, High, Free}
+use Rattle.table_entries.specs.Relaxation.{Relaxation}
+use Rattle.table_entries.specs.States.{IsPositive, LawfulAt, Standing}
+use Rattle.table_entries.specs.Directions.{stand_number}
 use Rattle.basic_solution.specs.Slack.{CanStand}
 
 -- ---- the first part that is not 0

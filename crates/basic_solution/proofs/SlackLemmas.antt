@@ -3,24 +3,24 @@ use Rattle.std.specs.Prelude.{◌≡◌, ℕ, zero, suc, ◌+◌, ◌<◌, ltb, 
 use Rattle.std.proofs.Common.{refl, sym, ap, ap₂, subst, ◌∙◌, arith, ⊎_elim}
 use Rattle.std.proofs.lemmas.Bool.{cases_eq, cases_lt, lt-ltb, le-ltb}
 use Rattle.std.proofs.lemmas.List.{get_or_past}
-use Rattle.rational.specs.Rational.{ℚ, int, ◌+ℚ◌, ◌*ℚ◌}
-use Rattle.rational.proofs.RationalRing.{ring, reads_ℚ}
-use Rattle.checked_sum.specs.Sums.{sum_below}
+use Rattle.frac128.specs.Rational.{ℚ, int, ◌+ℚ◌, ◌*ℚ◌}
+use Rattle.frac128.specs.RationalRing.{ring, reads_ℚ}
+use Rattle.frac128.specs.Sums.{sum_below}
 use Rattle.checked_sum.proofs.SumLaws.{sum_below-same}
 use Rattle.lp_model.specs.Program.{cost, in_least_form}
 use Rattle.lp_model.specs.Formulations.{Formulation}
 use Rattle.lp_model.specs.Regions.{Path}
-use Rattle.bases.specs.declared.stand.Stand.{Stand}
-use Rattle.bases.specs.declared.stand.Stand.TheVariants.{Low, High, Free}
-use Rattle.bases.specs.Bases.{Lists}
-use Rattle.bases.specs.Relaxation.{Relaxation, Agree, slack_table, reduced_cost}
-use Rattle.bases.specs.States.{IsFree, Separates, LawfulAt, sign, reduced_parts}
-use Rattle.bases.specs.Directions.{direction_side}
-use Rattle.bases.proofs.SumBelowLaws.{if_same, if_other, sum_below-zero}
-use Rattle.bases.proofs.Pivot.{IsTable-slack}
-use Rattle.bases.proofs.Arranged.{IsArranged-slack}
-use Rattle.bases.proofs.OneTable.{IsTable-agree, IsArranged-agree, agree_turned}
-use Rattle.bases.proofs.ReducedCosts.{reduced_alone-nonbasic}
+use Rattle.table_entries.specs.declared.stand.Stand.{Stand}
+use Rattle.table_entries.specs.declared.stand.Stand.TheVariants.{Low, High, Free}
+use Rattle.table_entries.specs.Bases.{Lists}
+use Rattle.table_entries.specs.Relaxation.{Relaxation, Agree, slack_table, reduced_cost}
+use Rattle.table_entries.specs.States.{IsFree, Separates, LawfulAt, sign, reduced_parts}
+use Rattle.table_entries.specs.Directions.{direction_side}
+use Rattle.table_entries.proofs.SumBelowLaws.{if_same, if_other, sum_below-zero}
+use Rattle.table_entries.proofs.Pivot.{IsTable-slack}
+use Rattle.table_entries.proofs.Arranged.{IsArranged-slack}
+use Rattle.table_entries.proofs.OneTable.{IsTable-agree, IsArranged-agree, agree_turned}
+use Rattle.table_entries.proofs.ReducedCosts.{reduced_alone-nonbasic}
 use Rattle.row_tableau.specs.declared.relax.Relax.{Relax}
 use Rattle.row_tableau.specs.declared.relax.RelaxKind.{RelaxKind}
 use Rattle.row_tableau.specs.declared.relax.RelaxKind.TheVariants.{Plain, CostsZero, Directions}
@@ -31,7 +31,7 @@ use Rattle.basic_solution.specs.Held.{Held, HasShape, IsSided, IsLawfulHeld, rel
 use Rattle.row_tableau.specs.Tilts.{tilt_of, order_of, tilted_cost, parts_of, KeepsFree}
 use Rattle.basic_solution.specs.Slack.{IsOf, IsSlackState, CanStand, IsPlaced, IsMisplaced, IsRestood}
 use Rattle.basic_solution.proofs.SignLemmas.{stands_of, can_of}
-use Rattle.bases.proofs.Signs.{asked_once, asked_same}
+use Rattle.table_entries.proofs.Signs.{asked_once, asked_same}
 use Rattle.row_tableau.proofs.OrderLemmas.{separated}
 use Rattle.row_tableau.proofs.TiltLemmas.{tilted, listed_there}
 use Rattle.basic_solution.proofs.PartLemmas.{part_is}

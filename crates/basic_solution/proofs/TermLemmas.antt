@@ -3,12 +3,12 @@ use Rattle.std.specs.Prelude.{◌≡◌, ℕ, suc, ◌-◌, ◌<◌, ◌≤◌, 
 use Rattle.std.proofs.Common.{refl, sym, ap, ap₂, subst, ◌∙◌, arith, eq-eqb}
 use Rattle.std.proofs.Math.Seq.{drop-cons}
 use Rattle.std.proofs.lemmas.Bool.{eqb-true, ne_eqb}
-use Rattle.rational.specs.Rational.{ℚ, int, ◌+ℚ◌, ◌*ℚ◌}
-use Rattle.rational.proofs.RationalRing.{ring, reads_ℚ}
+use Rattle.frac128.specs.Rational.{ℚ, int, ◌+ℚ◌, ◌*ℚ◌}
+use Rattle.frac128.specs.RationalRing.{ring, reads_ℚ}
 use Rattle.frac128.specs.LowestTerms.{quotient_of}
-use Rattle.checked_sum.specs.Sums.{sum_below}
+use Rattle.frac128.specs.Sums.{sum_below}
 use Rattle.checked_sum.proofs.SumLaws.{sum_below-add, sum_below-same}
-use Rattle.bases.proofs.SumBelowLaws.{sum_below-zero, sum_below-changed}
+use Rattle.table_entries.proofs.SumBelowLaws.{sum_below-zero, sum_below-changed}
 use Rattle.lp_model.specs.declared.types.ColId.{ColId}
 use Rattle.lp_model.specs.CutTerms.{term_of, AreTerms}
 use Rattle.table_entries.proofs.WholeSumLemmas.{sum_is, product_is}

@@ -1,8 +1,8 @@
 -- Numbers outside a side.
 use Rattle.std.specs.Prelude.{◌≡◌, Option, Some, None}
-use Rattle.rational.specs.Rational.{ℚ, ◌<ℚ◌}
-use Rattle.bases.specs.declared.stand.Stand.{Stand}
-use Rattle.bases.specs.declared.stand.Stand.TheVariants.{Low, High, Free}
+use Rattle.frac128.specs.Rational.{ℚ, ◌<ℚ◌}
+use Rattle.table_entries.specs.declared.stand.Stand.{Stand}
+use Rattle.table_entries.specs.declared.stand.Stand.TheVariants.{Low, High, Free}
 
 -- there is a low side, and the number is below it
 abbrev pub IsBelowSide : Option ℚ → ℚ → Type 0

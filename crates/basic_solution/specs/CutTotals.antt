@@ -1,11 +1,11 @@
 -- The values of basic cuts times the denominator of the table: by their terms, and by the numbers of the columns times it.
 use Rattle.std.specs.Prelude.{◌≡◌, ℕ, ◌+◌, ◌*◌, ◌<◌, ◌≤◌, ◌^◌, ℤ, pos, ◌<ℤ◌, unsigned_abs, List, length}
-use Rattle.rational.specs.Rational.{ℚ, int, ◌*ℚ◌}
+use Rattle.frac128.specs.Rational.{ℚ, int, ◌*ℚ◌}
 use Rattle.frac128.specs.LowestTerms.{quotient_of}
-use Rattle.checked_sum.specs.Sums.{sum_below}
+use Rattle.frac128.specs.Sums.{sum_below}
 use Rattle.lp_model.specs.CutTerms.{term_of}
 use Rattle.lp_model.specs.declared.types.ColId.{ColId}
-use Rattle.bases.specs.Relaxation.{point}
+use Rattle.table_entries.specs.Relaxation.{point}
 use Rattle.table_entries.specs.WholeSteps.{IsShort, whole_number_at}
 use Rattle.basic_solution.specs.Held.{Held, relaxation, state, table}
 use Rattle.basic_solution.specs.RowTotals.{IsSmallNumber, HasSmallTerm}

@@ -1,7 +1,7 @@
 -- What an exchange makes of a state.
 use Rattle.std.specs.Prelude.{◌≡◌, ℕ, set}
-use Rattle.bases.specs.declared.stand.Stand.{Stand}
-use Rattle.bases.specs.Relaxation.{Agree, pivoted}
+use Rattle.table_entries.specs.declared.stand.Stand.{Stand}
+use Rattle.table_entries.specs.Relaxation.{Agree, pivoted}
 use Rattle.basic_solution.specs.Held.{Held, table}
 
 -- the variable of the row leaves for the side and that of the place enters: all else stays

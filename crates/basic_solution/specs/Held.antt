@@ -1,14 +1,14 @@
 -- What a contract sees of a state: a relaxation, the parts of its costs, a table, and where the nonbasic variables stand.
 use Rattle.std.specs.Prelude.{◌≡◌, ℕ, zero, suc, ◌+◌, ◌<◌, ltb, ◌==◌, if◌then◌else◌, List, length, get_or, pos, Option, None}
-use Rattle.rational.specs.Rational.{ℚ, int}
+use Rattle.frac128.specs.Rational.{ℚ, int}
 use Rattle.lp_model.specs.Formulations.{Formulation}
 use Rattle.row_tableau.specs.Activities.{activity_coefficient}
-use Rattle.bases.specs.Relaxation.{Relaxation, Table}
-use Rattle.bases.specs.declared.stand.Stand.{Stand}
-use Rattle.bases.specs.declared.stand.Stand.TheVariants.{Free}
-use Rattle.bases.specs.States.{State, sign, Separates, IsGood}
-use Rattle.bases.specs.Directions.{stand_number}
-use Rattle.bases.specs.Bases.{IsTableOf}
+use Rattle.table_entries.specs.Relaxation.{Relaxation, Table}
+use Rattle.table_entries.specs.declared.stand.Stand.{Stand}
+use Rattle.table_entries.specs.declared.stand.Stand.TheVariants.{Free}
+use Rattle.table_entries.specs.States.{State, sign, Separates, IsGood}
+use Rattle.table_entries.specs.Directions.{stand_number}
+use Rattle.table_entries.specs.Bases.{IsTableOf}
 use Rattle.row_tableau.specs.Dense.{Dense, table_of}
 
 -- sides, costs and tilts by variable, and the variables that have a tilt in the order of the parts

@@ -4,11 +4,11 @@ use Rattle.std.specs.Option.{IsSomeAnd}
 use Rattle.lp_model.specs.WideSteps.{TablePlace, Pivot, table_place}
 use Rattle.lp_model.specs.declared.types.Basis.{Basis}
 use Rattle.lp_model.specs.declared.types.WideStep.{WideStep}
-use Rattle.bases.specs.declared.stand.Stand.{Stand}
-use Rattle.bases.specs.declared.stand.Stand.TheVariants.{Low, High, Free}
-use Rattle.bases.specs.Relaxation.{Relaxation}
-use Rattle.bases.specs.Bases.{Lists, IsNamedBy, IsNonsingular, BringsIn, IsOnOpenWay}
-use Rattle.bases.specs.States.{IsFree}
+use Rattle.table_entries.specs.declared.stand.Stand.{Stand}
+use Rattle.table_entries.specs.declared.stand.Stand.TheVariants.{Low, High, Free}
+use Rattle.table_entries.specs.Relaxation.{Relaxation}
+use Rattle.table_entries.specs.Bases.{Lists, IsNamedBy, IsNonsingular, BringsIn, IsOnOpenWay}
+use Rattle.table_entries.specs.States.{IsFree}
 use Rattle.row_tableau.specs.declared.relax.Relax.{Relax}
 use Rattle.row_tableau.specs.Relaxations.{relaxation_of}
 use Rattle.row_tableau.specs.Dense.{IsTableauOf}

@@ -1,12 +1,12 @@
 -- The lists that a state gives, each in the order of the variables.
 use Rattle.std.specs.Prelude.{◌≡◌, ◌≢◌, ℕ, ◌<◌, ◌≤◌, List, length, map, pos, All, Result, Ok, Err}
-use Rattle.rational.specs.Rational.{ℚ, int}
+use Rattle.frac128.specs.Rational.{ℚ, int}
 use Rattle.lp_model.specs.Program.{coordinate}
 use Rattle.lp_model.specs.declared.types.Var.{Var}
 use Rattle.lp_model.specs.declared.types.Basis.{Basis}
-use Rattle.bases.specs.declared.stand.Stand.TheVariants.{High}
-use Rattle.bases.specs.Bases.{listed, Lists}
-use Rattle.bases.specs.Relaxation.{point}
+use Rattle.table_entries.specs.declared.stand.Stand.TheVariants.{High}
+use Rattle.table_entries.specs.Bases.{listed, Lists}
+use Rattle.table_entries.specs.Relaxation.{point}
 use Rattle.row_tableau.specs.Variables.{numbers, variable_number}
 use Rattle.row_tableau.specs.Answers.{IsBasic}
 use Rattle.basic_solution.specs.Held.{Held, relaxation, state, table, variables}

@@ -1,14 +1,14 @@
 -- The numbers of a state: which terms of them have room, which is the first that has none, and which of them are outside a side.
 use Rattle.std.specs.Prelude.{◌≡◌, ℕ, zero, suc, ◌<◌, pos, Option, Some, None, Result, Ok, Err}
 use Rattle.std.specs.Option.{IsSomeAnd}
-use Rattle.rational.specs.Rational.{ℚ, int}
+use Rattle.frac128.specs.Rational.{ℚ, int}
 use Rattle.checked_sum.specs.Steps.{AllFit, IsFirstWide}
 use Rattle.lp_model.specs.WideSteps.{TablePlace, Point, Cost, table_place}
 use Rattle.lp_model.specs.declared.types.WideStep.{WideStep}
-use Rattle.bases.specs.declared.stand.Stand.{Stand}
-use Rattle.bases.specs.Relaxation.{reduced_cost, point, multipliers}
-use Rattle.bases.specs.States.{basic_value, IsOutside}
-use Rattle.bases.specs.Steps.{PointFits, CostFits, at_nonbasic, at_basic}
+use Rattle.table_entries.specs.declared.stand.Stand.{Stand}
+use Rattle.table_entries.specs.Relaxation.{reduced_cost, point, multipliers}
+use Rattle.table_entries.specs.States.{basic_value, IsOutside}
+use Rattle.table_entries.specs.Steps.{PointFits, CostFits, at_nonbasic, at_basic}
 use Rattle.row_tableau.specs.Variables.{variable_number}
 use Rattle.basic_solution.specs.Held.{Held, relaxation, parts, state, table, variables}
 

@@ -1,9 +1,9 @@
 -- The value of a basic variable, and the reduced cost of a place, times the denominator of the table.
 use Rattle.std.specs.Prelude.{◌≡◌, ℕ, ◌<◌, ◌≤◌, ◌^◌, ℤ, unsigned_abs, List, length, get_or, pos}
-use Rattle.rational.specs.Rational.{ℚ, int}
+use Rattle.frac128.specs.Rational.{ℚ, int}
 use Rattle.frac128.specs.LowestTerms.{quotient_of}
-use Rattle.bases.specs.Relaxation.{reduced_cost}
-use Rattle.bases.specs.States.{basic_value}
+use Rattle.table_entries.specs.Relaxation.{reduced_cost}
+use Rattle.table_entries.specs.States.{basic_value}
 use Rattle.table_entries.specs.WholeSums.{IsWholeTerm, HasMargin}
 use Rattle.basic_solution.specs.Held.{Held, relaxation, state, table, variables}
 use Rattle.basic_solution.specs.Numbers.{ValueFits, CostsFit}

@@ -1,10 +1,10 @@
 -- The states of a relaxation, and its slack state.
 use Rattle.std.specs.Prelude.{◌≡◌, ℕ, ◌<◌, length, get_or, Option, Some, None, IsSome}
-use Rattle.rational.specs.Rational.{ℚ}
-use Rattle.bases.specs.declared.stand.Stand.{Stand}
-use Rattle.bases.specs.declared.stand.Stand.TheVariants.{Low, High, Free}
-use Rattle.bases.specs.Relaxation.{Agree, slack_table}
-use Rattle.bases.specs.States.{LawfulAt, reduced_parts}
+use Rattle.frac128.specs.Rational.{ℚ}
+use Rattle.table_entries.specs.declared.stand.Stand.{Stand}
+use Rattle.table_entries.specs.declared.stand.Stand.TheVariants.{Low, High, Free}
+use Rattle.table_entries.specs.Relaxation.{Agree, slack_table}
+use Rattle.table_entries.specs.States.{LawfulAt, reduced_parts}
 use Rattle.row_tableau.specs.declared.relax.Relax.{Relax}
 use Rattle.row_tableau.specs.Relaxations.{form_of, relaxation_of}
 use Rattle.row_tableau.specs.Dense.{IsTableauOf}

@@ -1,15 +1,15 @@
 // Where the reduced costs ask the nonbasic variables to stand.
 ghost use Rattle.std.specs.Prelude.{◌≡◌, ◌↔◌, ◌<◌, ℕ, suc, get_or, IsTrue};
-ghost use Rattle.bases.specs.declared.stand.Stand.TheVariants.{Free};
-ghost use Rattle.bases.specs.Relaxation.{reduced_cost};
-ghost use Rattle.bases.specs.States.{LawfulAt, reduced_parts};
+ghost use Rattle.table_entries.specs.declared.stand.Stand.TheVariants.{Free};
+ghost use Rattle.table_entries.specs.Relaxation.{reduced_cost};
+ghost use Rattle.table_entries.specs.States.{LawfulAt, reduced_parts};
 ghost use Rattle.basic_solution.specs.Held.{relaxation, parts, table};
 ghost use Rattle.basic_solution.specs.Slack.{CanStand, IsRestood};
 
 use crate::sided::SidedBasis;
-use bases::Stand;
 use frac128::Frac;
 use lp_model::Bound;
+use table_entries::Stand;
 
 /// Whether a variable with these sides can stand so: it has that side, or none.
 fn can_stand(stand: Stand, low: &Bound, high: &Bound) -> bool

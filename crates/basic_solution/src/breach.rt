@@ -5,8 +5,8 @@ ghost use Rattle.basic_solution.specs.Numbers.{IsRowBreach};
 use crate::sided::SidedBasis;
 use crate::sides::breach;
 use crate::total_sides::total_breach;
-use bases::Stand;
 use lp_model::WideStep;
+use table_entries::Stand;
 
 impl SidedBasis<'_> {
     /// The side that the basic variable of a row is outside of, if any.

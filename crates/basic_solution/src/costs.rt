@@ -1,6 +1,6 @@
 // Reduced costs.
 ghost use Rattle.std.specs.Prelude.{◌≡◌, ◌<◌, ◌<ℤ◌, pos, IfSome};
-ghost use Rattle.bases.specs.Steps.{at_basic};
+ghost use Rattle.table_entries.specs.Steps.{at_basic};
 ghost use Rattle.table_entries.specs.WholeSteps.{IsShort};
 ghost use Rattle.table_entries.specs.WholeSums.{IsWholeTerm};
 ghost use Rattle.basic_solution.specs.Held.{relaxation, table, variables};

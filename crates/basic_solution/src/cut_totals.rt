@@ -8,11 +8,10 @@ ghost use Rattle.basic_solution.specs.CutTotals.{StandsSmall, IsColumnTotal, Are
 use crate::row_totals::{small_number, with_product};
 use crate::sided::SidedBasis;
 use crate::total_sides::total_breach;
-use bases::Stand;
 use frac128::Frac;
 use lp_model::{ColId, WideStep};
 use row_tableau::Position;
-use table_entries::{product, short_number};
+use table_entries::{Stand, product, short_number};
 
 /// The column of a term.
 #[inline]
@@ -51,7 +50,7 @@ fn terms_total(columns: usize, terms: &[(ColId, Frac)], totals: &[i64]) -> Optio
 
 impl SidedBasis<'_> {
     /// Whether the variable of each place stands at a small whole number.
-    pub fn are_numbers_small(&self) -> bool
+    pub(crate) fn are_numbers_small(&self) -> bool
         ensures { IsTrue result → (k : ℕ) → k < self.now.tableau.columns → StandsSmall self.now k }
     {
         for place in 0..self.columns() {

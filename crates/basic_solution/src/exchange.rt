@@ -1,14 +1,14 @@
 // Exchanges.
 ghost use Rattle.std.specs.Prelude.{◌≡◌, ◌≢◌, ◌<◌, pos, OnOk, OnErr, IfErr};
-ghost use Rattle.rational.specs.Rational.{int};
-ghost use Rattle.bases.specs.Steps.{ExchangeFits};
+ghost use Rattle.frac128.specs.Rational.{int};
+ghost use Rattle.table_entries.specs.Steps.{ExchangeFits};
 ghost use Rattle.row_tableau.specs.Answers.{IsWidePivot};
 ghost use Rattle.basic_solution.specs.Held.{table};
 ghost use Rattle.basic_solution.specs.Exchanges.{IsMove};
 
 use crate::sided::SidedBasis;
-use bases::Stand;
 use lp_model::WideStep;
+use table_entries::Stand;
 
 impl SidedBasis<'_> {
     /// Exchanges the basic variable of a row, which then stands at that side, with the variable of a place.

@@ -15,11 +15,10 @@
 //! (V. Chvatal, Linear Programming, 1983, chapters 2 and 8). It is lawful where each reduced cost has the sign of its side:
 //! above 0 at the low one, below 0 at the high one.
 //!
-//! Public contract: each number is the one that `bases` defines and each of its terms, in the order of the variables, has
-//! room; or the first term that has none is named.
-//! `slack_state` answers the lawful slack basis, or that there is none. `exchange`, `bring_in` and `stand_at` lead to
-//! another basis of the same relaxation; `stand_at` tells whether it is lawful there.
-//! Below stand `row_tableau` and `bases`; above, the dual simplex method.
+//! Public contract: each number is the one that `table_entries` defines and each of its terms, in the order of the variables,
+//! has room; or the first term that has none is named. `slack_state` answers the lawful slack basis, or that there is none.
+//! `exchange`, `bring_in` and `stand_at` lead to another basis of the same relaxation; `stand_at` tells whether it is lawful
+//! there. Below stand `row_tableau` and `table_entries`; above, the dual simplex method.
 #![tactic(auto)]
 
 mod asked;

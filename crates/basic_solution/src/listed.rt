@@ -6,8 +6,8 @@ ghost use Rattle.basic_solution.specs.Slack.{IsRestood};
 ghost use Rattle.basic_solution.specs.ListedStates.{IsStandBy, StandBy, Keeps, StandsNowhere, IsBroughtTo, IsLawfulAnswer, IsPlaceAnswer, IsStoodAt, LeadsOn};
 
 use crate::sided::SidedBasis;
-use bases::Stand;
 use lp_model::{Basis, Var, WideStep};
+use table_entries::Stand;
 
 /// Whether two stands are the same.
 fn is_same(first: Stand, second: Stand) -> bool

@@ -1,18 +1,18 @@
 // The lists that a state gives: its basis, the numbers of its point, its multipliers, and Farkas multipliers.
 ghost use Rattle.std.specs.Prelude.{◌≡◌, ◌↔◌, ◌<◌, ◌≤◌, ◌+◌, ℕ, IfOk, IsTrue};
-ghost use Rattle.rational.specs.Rational.{ℚ};
-ghost use Rattle.bases.specs.Relaxation.{multipliers};
-ghost use Rattle.bases.specs.States.{farkas_weights};
+ghost use Rattle.frac128.specs.Rational.{ℚ};
+ghost use Rattle.table_entries.specs.Relaxation.{multipliers};
+ghost use Rattle.table_entries.specs.States.{farkas_weights};
 ghost use Rattle.row_tableau.specs.Answers.{IsBasic};
 ghost use Rattle.basic_solution.specs.Held.{relaxation, state, table, variables};
 ghost use Rattle.basic_solution.specs.Lists.{StandsHigh, AreBasic, AreHigh, IsBasisOf, IsPointAnswer, AreListedMultipliers, AreMultipliersBelow, AreMultipliersAnswer};
 
 use crate::sided::SidedBasis;
-use bases::Stand;
 use frac128::Frac;
 use lp_model::{Basis, List, Mult, Point, Var, WideStep};
 use row_tableau::Position;
 use std::alloc::{AllocError, Global};
+use table_entries::Stand;
 
 impl SidedBasis<'_> {
     /// Whether a variable is basic.

@@ -1,15 +1,15 @@
 // What a state gives: the numbers of its point, its multipliers, and the Farkas multipliers of a row.
 ghost use Rattle.std.specs.Prelude.{◌≡◌, ◌<◌};
-ghost use Rattle.bases.specs.States.{farkas_weights};
+ghost use Rattle.table_entries.specs.States.{farkas_weights};
 ghost use Rattle.basic_solution.specs.Held.{relaxation, state, variables};
 ghost use Rattle.basic_solution.specs.Numbers.{IsNumberAnswer, IsMultiplierAnswer};
 
 use crate::sided::SidedBasis;
 use crate::sides::signed;
-use bases::Stand;
 use frac128::Frac;
 use lp_model::WideStep;
 use row_tableau::Position;
+use table_entries::Stand;
 
 impl SidedBasis<'_> {
     /// The number of a variable at the state's point, or the first step that has no room.

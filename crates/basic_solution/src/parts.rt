@@ -1,6 +1,6 @@
 // Reduced costs part by part.
 ghost use Rattle.std.specs.Prelude.{◌≡◌, ◌<◌, ◌+◌, length};
-ghost use Rattle.bases.specs.Relaxation.{reduced_cost};
+ghost use Rattle.table_entries.specs.Relaxation.{reduced_cost};
 ghost use Rattle.basic_solution.specs.Held.{relaxation, table, variables, own_cost};
 
 use crate::sided::SidedBasis;

@@ -1,17 +1,16 @@
 // The point of a state: where the nonbasic variables stand, and the values of the basic ones.
 ghost use Rattle.std.specs.Prelude.{◌≡◌, ◌<◌, ◌+◌, ◌<ℤ◌, pos, get_or, IfSome};
-ghost use Rattle.bases.specs.Steps.{at_nonbasic};
-ghost use Rattle.bases.specs.Directions.{stand_number};
+ghost use Rattle.table_entries.specs.Steps.{at_nonbasic};
+ghost use Rattle.table_entries.specs.Directions.{stand_number};
 ghost use Rattle.table_entries.specs.WholeSums.{IsWholeTerm};
 ghost use Rattle.basic_solution.specs.Held.{relaxation, state, table, variables};
 
 use crate::sided::SidedBasis;
-use bases::Stand;
 use checked_sum::{Terms, checked_sum};
 use frac128::Frac;
 use lp_model::{Bound, WideStep};
 use row_tableau::Position;
-use table_entries::{WholeTerm, WholeTerms, quotient, whole_number, whole_sum};
+use table_entries::{Stand, WholeTerm, WholeTerms, quotient, whole_number, whole_sum};
 
 /// The number at a side, 0 where there is none.
 fn side_number(stand: Stand, low: &Bound, high: &Bound) -> Frac

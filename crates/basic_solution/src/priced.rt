@@ -1,6 +1,6 @@
 // Costs by variable.
 ghost use Rattle.std.specs.Prelude.{◌≡◌, ◌<◌, ◌≤◌, length, get_or, pos, IsTrue, IfSome};
-ghost use Rattle.rational.specs.Rational.{int};
+ghost use Rattle.frac128.specs.Rational.{int};
 ghost use Rattle.basic_solution.specs.RowTotals.{IsSmallNumber, AreSmallNumbers, AreFreeFrom};
 
 use crate::row_totals::small_number;
@@ -46,7 +46,7 @@ pub struct Costs {
 
 impl std::marker::Model for Costs {
     ghost use Rattle.std.specs.Prelude.{◌≤◌, List, length, IsTrue};
-    ghost use Rattle.rational.specs.Rational.{ℚ};
+    ghost use Rattle.frac128.specs.Rational.{ℚ};
     ghost use Rattle.basic_solution.specs.RowTotals.{AreFreeFrom, AreSmallNumbers};
 
     ghost Value = { List ℚ };
@@ -58,7 +58,7 @@ impl std::marker::Model for Costs {
 
 impl Costs {
     /// The costs of a list.
-    pub fn new(list: Vec<Frac>) -> Costs
+    pub(crate) fn new(list: Vec<Frac>) -> Costs
         ensures { result ≡ list.items }
     {
         let end = priced(&list);
@@ -71,7 +71,7 @@ impl Costs {
     }
 
     /// The cost of a variable.
-    pub fn of(&self, variable: usize) -> Frac
+    pub(crate) fn of(&self, variable: usize) -> Frac
         requires { variable < length self.now }
         ensures { result ≡ get_or self.now variable (int (pos 0)) }
     {
@@ -79,7 +79,7 @@ impl Costs {
     }
 
     /// How many variables there are up to the last one that has a cost.
-    pub fn end(&self) -> usize
+    pub(crate) fn end(&self) -> usize
         ensures within { result ≤ length self.now }
         ensures free { AreFreeFrom self.now result }
     {
@@ -87,7 +87,7 @@ impl Costs {
     }
 
     /// Whether all costs are small whole numbers.
-    pub fn are_small(&self) -> bool
+    pub(crate) fn are_small(&self) -> bool
         ensures { IsTrue result → AreSmallNumbers self.now }
     {
         self.is_small
@@ -95,7 +95,7 @@ impl Costs {
 
     /// The number that the cost of a variable is, where all costs are small whole numbers.
     #[inline]
-    pub fn small_of(&self, variable: usize) -> Option<i64>
+    pub(crate) fn small_of(&self, variable: usize) -> Option<i64>
         requires { variable < length self.now }
         ensures small { IfSome result (λ n. IsSmallNumber n) }
         ensures value { IfSome result (λ n. get_or self.now variable (int (pos 0)) ≡ int n) }

@@ -1,6 +1,6 @@
 // The value of a basic variable times the denominator of the table, place by place.
 ghost use Rattle.std.specs.Prelude.{◌≡◌, ◌<◌, ◌<ℤ◌, ◌+ℤ◌, ◌*ℤ◌, pos, IfSome};
-ghost use Rattle.rational.specs.Rational.{int};
+ghost use Rattle.frac128.specs.Rational.{int};
 ghost use Rattle.table_entries.specs.WholeSteps.{IsShort};
 ghost use Rattle.table_entries.specs.WholeSums.{HasMargin, IsWholeTerm};
 ghost use Rattle.basic_solution.specs.Held.{state, table};

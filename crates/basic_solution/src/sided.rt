@@ -1,7 +1,7 @@
 // A basis whose other variables stand at sides.
 ghost use Rattle.std.specs.Prelude.{◌≡◌, ◌<◌, ◌≤◌, ◌+◌, ◌<ℤ◌, get_or, length, pos, IfSome};
 ghost use Rattle.frac128.specs.LowestTerms.{quotient_of};
-ghost use Rattle.bases.specs.declared.stand.Stand.TheVariants.{Free};
+ghost use Rattle.table_entries.specs.declared.stand.Stand.TheVariants.{Free};
 ghost use Rattle.row_tableau.specs.Answers.{IsPosition};
 ghost use Rattle.row_tableau.specs.Dense.{HasFullLists};
 ghost use Rattle.row_tableau.specs.Variables.{variable_number};
@@ -9,10 +9,10 @@ ghost use Rattle.table_entries.specs.WholeSteps.{IsShort};
 ghost use Rattle.basic_solution.specs.Held.{IsSided, table, variables};
 
 use crate::priced::Costs;
-use bases::Stand;
 use frac128::Frac;
 use lp_model::{Bound, CutRow, Model, Var};
 use row_tableau::{Position, Tableau};
+use table_entries::Stand;
 
 /// The table of a basis of a relaxation, and where its nonbasic variables stand, by place: lawful or not. Sides, costs and
 /// tilts are by variable; `order` has the variables whose tilts are costs in a part of their own, in the order of the

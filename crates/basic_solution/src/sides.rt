@@ -1,12 +1,12 @@
 // Numbers and sides.
 ghost use Rattle.std.specs.Prelude.{◌≡◌, ◌↔◌, IsTrue};
-ghost use Rattle.rational.specs.Rational.{◌*ℚ◌};
-ghost use Rattle.bases.specs.States.{sign};
+ghost use Rattle.frac128.specs.Rational.{◌*ℚ◌};
+ghost use Rattle.table_entries.specs.States.{sign};
 ghost use Rattle.basic_solution.specs.Breach.{IsBelowSide, IsAboveSide, IsBreach};
 
-use bases::Stand;
 use frac128::Frac;
 use lp_model::Bound;
+use table_entries::Stand;
 
 /// Whether there is a low side and the number is below it.
 fn is_under(low: &Bound, value: &Frac) -> bool

@@ -1,8 +1,8 @@
 // The slack state.
 ghost use Rattle.std.specs.Prelude.{◌≡◌, ◌<◌, ℕ, get_or, false, IsTrue, IfOk, IsSome};
 ghost use Rattle.lp_model.specs.Regions.{AreNarrow};
-ghost use Rattle.bases.specs.declared.stand.Stand.TheVariants.{Free};
-ghost use Rattle.bases.specs.Relaxation.{reduced_cost};
+ghost use Rattle.table_entries.specs.declared.stand.Stand.TheVariants.{Free};
+ghost use Rattle.table_entries.specs.Relaxation.{reduced_cost};
 ghost use Rattle.row_tableau.specs.declared.relax.RelaxKind.TheVariants.{Directions};
 ghost use Rattle.row_tableau.specs.Relaxations.{HasFewCuts};
 ghost use Rattle.basic_solution.specs.Held.{relaxation, table};
@@ -11,11 +11,11 @@ ghost use Rattle.basic_solution.specs.Slack.{IsSlackState, IsSlackAnswer, IsPlac
 
 use crate::priced::Costs;
 use crate::sided::SidedBasis;
-use bases::Stand;
 use row_tableau::sides_of::{costs, highs, lows};
 use row_tableau::tilts::{order, tilts};
 use row_tableau::{Relax, Tableau};
 use std::alloc::{AllocError, Global};
+use table_entries::Stand;
 
 impl<'a> SidedBasis<'a> {
     /// The slack basis of a relaxation, with no variable at a side. Rows of cuts may not be written.

@@ -1,15 +1,14 @@
 // Whether the total of a value, over the denominator, is outside a side.
 ghost use Rattle.std.specs.Prelude.{◌≡◌, ◌↔◌, ◌<ℤ◌, pos, IsTrue};
-ghost use Rattle.rational.specs.Rational.{◌<ℚ◌};
+ghost use Rattle.frac128.specs.Rational.{◌<ℚ◌};
 ghost use Rattle.frac128.specs.LowestTerms.{quotient_of};
 ghost use Rattle.table_entries.specs.WholeSteps.{IsShort};
 ghost use Rattle.table_entries.specs.WholeSums.{HasMargin};
 ghost use Rattle.basic_solution.specs.Breach.{IsBelowSide, IsAboveSide, IsBreach};
 
-use bases::Stand;
 use frac128::Frac;
 use lp_model::Bound;
-use table_entries::{product, quotient, whole_number};
+use table_entries::{Stand, product, quotient, whole_number};
 
 /// Whether the total over the denominator is below a number.
 fn is_quotient_below(total: i128, denominator: i64, bound: &Frac) -> bool

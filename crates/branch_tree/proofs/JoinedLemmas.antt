@@ -1,7 +1,7 @@
 -- The tree of a split over two branches, where what became of each is known.
 use Rattle.std.specs.Prelude.{◌≡◌, ℕ, ℤ, List, Result, Ok, Err, IfOk}
 use Rattle.std.proofs.Common.{◌∙◌, subst}
-use Rattle.rational.specs.Rational.{ℚ}
+use Rattle.frac128.specs.Rational.{ℚ}
 use Rattle.lp_model.specs.declared.types.ColId.{ColId}
 use Rattle.lp_model.specs.declared.types.Var.{Var}
 use Rattle.lp_model.specs.declared.types.Basis.{Basis}

@@ -1,14 +1,14 @@
 -- A lawful tree whose leaves close as they say proves the claim.
 use Rattle.std.specs.Prelude.{◌≡◌, ℕ, true, false, List, [], All}
 use Rattle.std.proofs.Common.{subst, sym, inl, inr}
-use Rattle.rational.specs.Rational.{ℚ, ◌≤ℚ◌}
-use Rattle.rational.proofs.RationalOrder.{not_both_ℚ}
+use Rattle.frac128.specs.Rational.{ℚ, ◌≤ℚ◌}
+use Rattle.frac128.specs.RationalOrder.{not_both_ℚ}
 use Rattle.lp_model.specs.Program.{Program, Point, least_value, in_least_form, IsFeasible, IsEmpty}
 use Rattle.lp_model.specs.Edits.{Named}
 use Rattle.lp_model.specs.Regions.{Path, InRegion}
 use Rattle.lp_model.specs.Formulations.{Formulation, IsValid}
 use Rattle.lp_model.proofs.RegionLemmas.{empty_region}
-use Rattle.lp_model.proofs.UnboundedLemmas.{unbounded}
+use Rattle.model_points.proofs.UnboundedLemmas.{unbounded}
 use Rattle.leaf_dual.specs.Dual.{Multipliers}
 use Rattle.leaf_dual.proofs.WeakDuality.{farkas-none, reached-bound}
 use Rattle.branch_tree.specs.Tree.{Tree, SplitsLawfully, EachLeaf}

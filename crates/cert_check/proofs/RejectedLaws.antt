@@ -7,8 +7,8 @@ use Rattle.lp_model.specs.Lawful.{column_names}
 use Rattle.lp_model.specs.Edits.{Named}
 use Rattle.lp_model.specs.Regions.{Path}
 use Rattle.lp_model.specs.Formulations.{Formulation}
-use Rattle.lp_model.proofs.AnswerLemmas.{feasible_answer}
-use Rattle.lp_model.proofs.RayLemmas.{judged_rightly}
+use Rattle.model_points.proofs.AnswerLemmas.{feasible_answer}
+use Rattle.model_points.proofs.RayLemmas.{judged_rightly}
 use Rattle.branch_tree.specs.Tree.{SplitsLawfully, EachLeaf, left_path, right_path}
 use Rattle.cert_text.specs.declared.cert.Claim.{Claim}
 use Rattle.cert_text.specs.declared.cert.Claim.TheVariants.{Optimal, Infeasible, Unbounded}

@@ -8,10 +8,10 @@ use Rattle.std.proofs.lemmas.List.{length-take-le, get_or-take, take_more_set, s
 use Rattle.std.proofs.lemmas.List.Elements.{All-cons}
 use Rattle.std.proofs.lemmas.List.Kept.{AllPairs-cons}
 use Rattle.std.proofs.lemmas.Int.{ints}
-use Rattle.rational.specs.Rational.{ℚ, int, ◌≤ℚ◌, min_ℚ, max_ℚ}
-use Rattle.rational.proofs.RationalOrder.{≤ℚ_refl, ≤ℚ_trans, ≤ℚ_antisymm}
-use Rattle.rational.proofs.Integers.{int-≤ℚ-int}
-use Rattle.rational.proofs.Division.{min-≤ℚ, ≤ℚ-max, ≤ℚ-min, max-≤ℚ}
+use Rattle.frac128.specs.Rational.{ℚ, int, ◌≤ℚ◌, min_ℚ, max_ℚ}
+use Rattle.frac128.specs.RationalOrder.{≤ℚ_refl, ≤ℚ_trans, ≤ℚ_antisymm}
+use Rattle.frac128.proofs.Integers.{int-≤ℚ-int}
+use Rattle.frac128.proofs.Division.{min-≤ℚ, ≤ℚ-max, ≤ℚ-min, max-≤ℚ}
 use Rattle.frac128.specs.Range.{IsNarrow}
 use Rattle.lp_model.specs.Regions.{Path, AreNarrow, tighter_low, tighter_high, low_after, high_after, low_along, high_along}
 use Rattle.lp_model.specs.declared.types.Side.{Side}

@@ -1,7 +1,7 @@
 -- The verdict on the nodes, one further.
 use Rattle.std.proofs.Common.{◌≡◌, ℕ, ◌+◌, ◌<◌, ◌≤◌, List, [], ◌∷◌, ◌++◌, length, take, drop, get_or, sym, ap, subst, ◌∙◌, arith, append_assoc, inl, inr}
 use Rattle.std.specs.Prelude.{All, Some}
-use Rattle.rational.specs.Rational.{ℚ}
+use Rattle.frac128.specs.Rational.{ℚ}
 use Rattle.lp_model.specs.Edits.{Named}
 use Rattle.std.proofs.lemmas.List.{length-map, length-take-le, take_more, take_all, take-append-drop}
 use Rattle.std.proofs.lemmas.List.Elements.{All-more}

@@ -4,13 +4,13 @@
 --     CutStands          a cut's names are known, and it derives (specs/Cuts)
 --     SplitsLawfully, EachLeaf each split is on an integer column; what holds of each leaf and its path (branch_tree)
 use Rattle.std.specs.Prelude.{◌≡◌, ◌≢◌, ◌⊎◌, ℕ, true, false, List, [], map, length, All, AllPairs, Contains}
-use Rattle.rational.specs.Rational.{ℚ}
+use Rattle.frac128.specs.Rational.{ℚ}
 use Rattle.lp_model.specs.Program.{Program, Point, value, in_least_form, IsFeasible, HasWholeObjective}
 use Rattle.lp_model.specs.Lawful.{column_names}
-use Rattle.lp_model.specs.Rays.{IsRay}
 use Rattle.lp_model.specs.Edits.{Named, number_beside}
 use Rattle.lp_model.specs.Regions.{Path, IsEmptyRegion}
 use Rattle.lp_model.specs.Formulations.{Formulation}
+use Rattle.model_points.specs.Rays.{IsRay}
 use Rattle.leaf_dual.specs.Dual.{Multipliers, lag, farkas, IsPositiveNumber, Reaches}
 use Rattle.branch_tree.specs.Tree.{SplitsLawfully, EachLeaf}
 use Rattle.cert_text.specs.declared.cert.Claim.{Claim}

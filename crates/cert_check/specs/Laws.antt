@@ -1,7 +1,7 @@
 -- What an accepted certificate proves.
 use Rattle.std.specs.Prelude.{◌≡◌, ℕ}
 use Rattle.lp_model.specs.Program.{Program, Point, value, IsOptimum, IsEmpty}
-use Rattle.lp_model.specs.Rays.{IsUnbounded}
+use Rattle.model_points.specs.Rays.{IsUnbounded}
 use Rattle.cert_text.specs.declared.cert.Claim.{Claim}
 use Rattle.cert_text.specs.declared.cert.Claim.TheVariants.{Optimal, Infeasible, Unbounded}
 use Rattle.cert_text.specs.declared.cert.Cert.{Cert}

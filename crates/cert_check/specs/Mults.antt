@@ -1,6 +1,6 @@
 -- The multipliers of a certificate's leaf: each of a row, by its name, or of a cut, by its number from 1.
 use Rattle.std.specs.Prelude.{◌≢◌, ℕ, ◌-◌, ◌<◌, ◌≤◌, List, map, All, AllPairs, Contains}
-use Rattle.rational.specs.Rational.{ℚ}
+use Rattle.frac128.specs.Rational.{ℚ}
 use Rattle.lp_model.specs.Program.{Program}
 use Rattle.lp_model.specs.declared.types.Var.{Var}
 use Rattle.lp_model.specs.declared.types.Var.TheVariants as var

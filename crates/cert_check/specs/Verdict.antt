@@ -10,14 +10,14 @@
 --     7   a leaf does not close as it says
 -- or has a step of arithmetic without room.
 use Rattle.std.specs.Prelude.{◌≡◌, ◌≢◌, ◌⊎◌, ℕ, suc, ◌++◌, true, false, IsTrue, List, [], ◌∷◌, length, Contains, All, Ok, Err}
-use Rattle.rational.specs.Rational.{ℚ}
+use Rattle.frac128.specs.Rational.{ℚ}
 use Rattle.lp_model.specs.Program.{Program, Point, is_integer, in_least_form, HasWholeObjective}
 use Rattle.lp_model.specs.Lawful.{column_names}
-use Rattle.lp_model.specs.Answers.{IsValueAnswer, IsFeasibilityAnswer}
 use Rattle.lp_model.specs.Edits.{Named}
-use Rattle.lp_model.specs.Rays.{IsRayJudged}
 use Rattle.lp_model.specs.Regions.{Path, IsEmptyRegion}
 use Rattle.lp_model.specs.Formulations.{Formulation}
+use Rattle.model_points.specs.Answers.{IsValueAnswer, IsFeasibilityAnswer}
+use Rattle.model_points.specs.Rays.{IsRayJudged}
 use Rattle.leaf_dual.specs.Dual.{Multipliers, IsPositiveNumber, Reaches}
 use Rattle.leaf_dual.specs.Answers.{IsLagAnswer, IsFarkasAnswer}
 use Rattle.leaf_dual.specs.declared.dual.LagValue.{LagValue}

@@ -201,7 +201,7 @@ fn judge(
 }
 
 /// The change to the second child of a split, whose first child is that of the change.
-fn second_child(first: &BoundChange) -> BoundChange
+pub fn second_child(first: &BoundChange) -> BoundChange
     requires { IsNarrow (first.now.v +ℤ pos 1) }
     ensures { result ≡ at_least first.now.col.0 (first.now.v +ℤ pos 1) }
 {

@@ -4,13 +4,12 @@ use Rattle.std.specs.Prelude.{map, codes, bytes_eq, not, ◌==◌, nat_lt, min, 
 use Rattle.std.specs.List.{list_all}
 use Rattle.std.proofs.lemmas.Bool.Decides.{nat_tests}
 use Rattle.std.proofs.lemmas.Grind.{common_steps}
-use Rattle.std.proofs.lemmas.List.{drop_more, drop_all}
 use Rattle.frac_text.specs.Spelling.{is_digit, value_of}
 use Rattle.frac_text.specs.Parsing.{spelled_number}
 use Rattle.frac_text.specs.declared.parsing.NumFault.{NumFault}
 use Rattle.frac_text.specs.declared.parsing.NumFault.TheVariants.{NotNumber, Wide}
 use Rattle.frac_text.proofs.Cuts.{both}
-use Rattle.rational.specs.Rational.{ℚ}
+use Rattle.frac128.specs.Rational.{ℚ}
 use Rattle.cert_text.specs.declared.cert.CertMult.{CertMult}
 use Rattle.cert_text.specs.Numbers.{number_code}
 use Rattle.cert_text.specs.Mults.{are_plain_digits, number_of_cut, row_mult, cut_mult, mult_in, with_mult, mults_in}
@@ -20,13 +19,6 @@ abbrev nows : List (Bor (List ℕ)) → List (List ℕ)
 nows words = map (λ word. word.now) words
 
 -- ---- a cut's number
-
--- whether all bytes from one place on pass
-pub digits_next : (passes : ℕ → Bool) (bytes : List ℕ) (k : ℕ) → k < length bytes → list_all passes (drop k bytes) ≡ (passes (get_or bytes k 0) && list_all passes (drop (k + 1) bytes))
-digits_next passes bytes k below = ap (list_all passes) (drop_more bytes k 0 below)
-
-pub digits_none : (passes : ℕ → Bool) (bytes : List ℕ) (k : ℕ) → length bytes ≤ k → list_all passes (drop k bytes) ≡ true
-digits_none passes bytes k past = ap (list_all passes) (drop_all k bytes past)
 
 pub plain-digits : (word : List ℕ) → are_plain_digits word ≡ true → list_all is_digit word ≡ true
 plain-digits [] e = absurd (let f : false ≡ true = e in cc)

@@ -5,7 +5,7 @@ use Rattle.std.proofs.Math.Nat.{min-eq_right}
 use Rattle.std.specs.Prelude.{map, Option, Some, None, Result, Ok, Err}
 use Rattle.std.specs.Option.{ForSome}
 use Rattle.frac_text.specs.Parsing.{spelled_number}
-use Rattle.rational.specs.Rational.{ℚ}
+use Rattle.frac128.specs.Rational.{ℚ}
 use Rattle.lp_model.specs.Edits.{Named}
 use Rattle.cert_text.specs.Lines.{with_named, beside, named_in}
 use Rattle.cert_text.specs.Reading.{joined_items}

@@ -4,7 +4,7 @@
 --     5   a number is too wide, or a cut's is above 2^64 - 1
 use Rattle.std.specs.Prelude.{ℕ, ◌^◌, Bool, false, not, ◌&&◌, if◌then◌else◌, ◌==◌, nat_lt, min, List, [], ◌∷◌, codes, bytes_eq, Result, Ok, Err}
 use Rattle.std.specs.List.{list_all}
-use Rattle.rational.specs.Rational.{ℚ}
+use Rattle.frac128.specs.Rational.{ℚ}
 use Rattle.frac_text.specs.Spelling.{is_digit, value_of}
 use Rattle.frac_text.specs.Parsing.{spelled_number}
 use Rattle.frac_text.specs.declared.parsing.NumFault.{NumFault}

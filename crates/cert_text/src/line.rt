@@ -1,5 +1,5 @@
 // What one line of a certificate's text says.
-ghost use Rattle.std.specs.Prelude.{◌≡◌, bytes_eq, map, IfOk, Ok};
+ghost use Rattle.std.specs.Prelude.{◌≡◌, map, IfOk, Ok};
 ghost use Rattle.cert_text.specs.CutLines.{cut_line_in};
 ghost use Rattle.cert_text.specs.Lines.{begins_blank, ends_blank, is_whole, word_of, word_behind_leaf, named_in, as_point, as_ray, as_cut, cert_says, claim_word, claim_says, split_at, split_says, leaf_says, end_says, word_says, words_say, line_says};
 ghost use Rattle.cert_text.specs.Reading.{Says};
@@ -11,8 +11,8 @@ use crate::mults::mults_in;
 use crate::named::{named_in, number_code};
 use frac128::Frac;
 use lp_model::{List, Name};
-use std::alloc::{AllocError, Global};
-use text_lines::{is_blank_byte, words};
+use std::alloc::Global;
+use text_lines::{is_blank_byte, is_word, words};
 
 /// The first words that there are.
 #[derive(Clone, Copy)]
@@ -52,16 +52,6 @@ pub(crate) enum LineFault {
     Memory,
 }
 
-impl From<AllocError> for LineFault {
-    ghost use Rattle.cert_text.specs.declared.line.LineFault.TheVariants.{Memory};
-
-    ghost from_gives = { λ _ fault. fault ≡ Memory };
-
-    fn from(_: AllocError) -> Self {
-        LineFault::Memory
-    }
-}
-
 /// Whether the line begins with a blank.
 fn begins_blank(line: &[u8]) -> bool
     ensures { result ≡ begins_blank line.now }
@@ -80,13 +70,6 @@ fn ends_blank(line: &[u8]) -> bool
         Some(byte) => is_blank_byte(*byte),
         None => false,
     }
-}
-
-/// Whether a word is this one.
-pub(crate) fn is_word(key: &[u8], word: &[u8]) -> bool
-    ensures { result ≡ bytes_eq word.now key.now }
-{
-    word == key
 }
 
 fn line_word(word: &[u8]) -> Option<LineWord>

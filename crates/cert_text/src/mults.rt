@@ -8,27 +8,12 @@ ghost use Rattle.cert_text.specs.Mults.{are_plain_digits, number_of_cut, row_mul
 ghost use Rattle.cert_text.specs.Reading.{Says, joined_items};
 
 use crate::cert::CertMult;
-use crate::line::{LineFault, is_word};
+use crate::line::LineFault;
 use crate::named::{Gathered, number_code};
+use frac_text::{has_digits_alone, is_digit_byte};
 use lp_model::{List, Name};
 use std::alloc::{AllocError, Global};
-
-fn is_digit_byte(byte: u8) -> bool
-    ensures { result ≡ is_digit byte }
-{
-    b'0' <= byte && byte <= b'9'
-}
-
-fn are_digits_alone(word: &[u8]) -> bool
-    ensures { result ≡ list_all is_digit word.now }
-{
-    for byte in word {
-        if !is_digit_byte(*byte) {
-            return false;
-        }
-    }
-    true
-}
+use text_lines::is_word;
 
 /// Whether the word is decimal digits without a leading zero.
 fn are_plain_digits(word: &[u8]) -> bool
@@ -37,7 +22,7 @@ fn are_plain_digits(word: &[u8]) -> bool
     match word {
         [] => false,
         [byte] => is_digit_byte(*byte),
-        [first, ..] => *first != b'0' && are_digits_alone(word),
+        [first, ..] => *first != b'0' && has_digits_alone(word),
     }
 }
 

@@ -2,7 +2,7 @@
 use Rattle.std.specs.Prelude.{◌≡◌, ℕ, ◌<◌, ◌≤◌, Result, Ok, Err}
 use Rattle.std.proofs.Common.{refl, sym, ap, subst, ◌∙◌, inl, inr, arith}
 use Rattle.std.proofs.lemmas.Bool.{cases_order}
-use Rattle.rational.specs.Rational.{ℚ, ◌*ℚ◌, ◌+ℚ◌}
+use Rattle.frac128.specs.Rational.{ℚ, ◌*ℚ◌, ◌+ℚ◌}
 use Rattle.checked_sum.specs.Steps.{StepFits, StepFitsAt, AllFit, IsFirstWide, IsCheckedSum, partial}
 use Rattle.checked_sum.proofs.SumLaws.{sum_below-same}
 

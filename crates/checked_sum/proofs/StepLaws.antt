@@ -1,9 +1,9 @@
 -- One step of a checked sum, one step more, and what an answer says.
 use Rattle.std.specs.Prelude.{◌≡◌, ℕ, suc, ◌+◌, ◌<◌, [], ◌∷◌, pos}
 use Rattle.std.proofs.Common.{sym, ap, subst, ◌∙◌, inl, inr, arith, below_more}
-use Rattle.rational.specs.Rational.{ℚ, int, ◌+ℚ◌, ◌*ℚ◌}
-use Rattle.rational.proofs.RationalRing.{ring, reads_ℚ}
-use Rattle.checked_sum.specs.Sums.{sum_below}
+use Rattle.frac128.specs.Rational.{ℚ, int, ◌+ℚ◌, ◌*ℚ◌}
+use Rattle.frac128.specs.RationalRing.{ring, reads_ℚ}
+use Rattle.frac128.specs.Sums.{sum_below}
 use Rattle.checked_sum.specs.Steps.{StepFits, StepFitsAt, AllFit, IsFirstWide, partial}
 
 module _ (t a x : ℚ) where

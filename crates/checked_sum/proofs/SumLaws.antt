@@ -1,11 +1,10 @@
 -- The laws of sums by index.
 use Rattle.std.specs.Prelude.{◌≡◌, ℕ, zero, suc, ◌+◌, ◌<◌, [], ◌∷◌, pos}
 use Rattle.std.proofs.Common.{refl, sym, ap, ◌∙◌, arith}
-use Rattle.rational.specs.Rational.{ℚ, int, ◌+ℚ◌, ◌*ℚ◌, neg_ℚ, ◌≤ℚ◌, IsWhole}
-use Rattle.rational.proofs.RationalRing.{ring, reads_ℚ}
-use Rattle.rational.proofs.RationalOrder.{≤ℚ_refl, add-≤ℚ}
-use Rattle.rational.proofs.Integers.{IsWhole-int, IsWhole-+ℚ}
-use Rattle.checked_sum.specs.Sums.{sum_below}
+use Rattle.frac128.specs.Rational.{ℚ, int, ◌+ℚ◌, ◌*ℚ◌, neg_ℚ, ◌≤ℚ◌}
+use Rattle.frac128.specs.RationalRing.{ring, reads_ℚ}
+use Rattle.frac128.specs.RationalOrder.{≤ℚ_refl, add-≤ℚ}
+use Rattle.frac128.specs.Sums.{sum_below}
 
 pub sum_below-add : (n : ℕ) (f g : ℕ → ℚ) → sum_below n (λ k. f k +ℚ g k) ≡ sum_below n f +ℚ sum_below n g
 sum_below-add zero f g = ring [] (search reads_ℚ) tt
@@ -44,8 +43,3 @@ sum_below-split n zero f = let e : 0 + n ≡ n = omega arith in rw e (ring (sum_
 sum_below-split n (suc m) f =
     let e : suc m + n ≡ suc (m + n) = omega arith in
     rw e (ap (λ t. t +ℚ f (m + n)) (sum_below-split n m f) ∙ ring (sum_below n f ∷ sum_below m (λ k. f (k + n)) ∷ f (m + n) ∷ []) (search reads_ℚ) tt)
-
--- whole terms have a whole sum
-pub IsWhole-sum_below : (n : ℕ) (f : ℕ → ℚ) → ((k : ℕ) → k < n → IsWhole (f k)) → IsWhole (sum_below n f)
-IsWhole-sum_below zero f h = IsWhole-int (pos 0)
-IsWhole-sum_below (suc n) f h = IsWhole-+ℚ (sum_below n f) (f n) (IsWhole-sum_below n f (λ k below. h k (omega arith))) (h n (omega arith))

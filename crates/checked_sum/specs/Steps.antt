@@ -2,9 +2,9 @@
 --     StepFits total factor number     no step is made where the factor or the number is 0; else the product has room, and its sum with the total
 --     partial start a x k              the sum before step k
 use Rattle.std.specs.Prelude.{◌≡◌, ◌⊎◌, ℕ, ◌<◌, pos, Result, Ok, Err}
-use Rattle.rational.specs.Rational.{ℚ, int, ◌+ℚ◌, ◌*ℚ◌}
+use Rattle.frac128.specs.Rational.{ℚ, int, ◌+ℚ◌, ◌*ℚ◌}
 use Rattle.frac128.specs.Range.{Fits, SumFits}
-use Rattle.checked_sum.specs.Sums.{sum_below}
+use Rattle.frac128.specs.Sums.{sum_below}
 
 pub record StepHasRoom (total factor number : ℚ) : Type 0 where
   pub product : Fits (factor *ℚ number)

@@ -14,8 +14,8 @@
 //! of the layers above, a row's activity, an objective's value, a reduced cost, a leaf's total, is an instance: it says
 //! how many terms there are and gives the k-th factor and number (`Terms`).
 //!
-//! Below stand `rational`, the numbers of contracts, and `frac128`, the fractions. Beside the definitions stand the laws
-//! of sums by index (`proofs/SumLaws`).
+//! Below stands `frac128`, the numbers of contracts with their sums by index (`sum_below`) and the fractions.
+//! Beside the definitions stand the laws of such sums (`proofs/SumLaws`).
 #![tactic(auto)]
 
 mod sum;

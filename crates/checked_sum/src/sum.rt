@@ -1,6 +1,6 @@
 // The sum of products, or its first step that has no room.
 ghost use Rattle.std.specs.Prelude.{◌≡◌, ◌≢◌, ◌↔◌, ◌<◌, ℕ, pos, IsTrue, OkIff};
-ghost use Rattle.rational.specs.Rational.{ℚ, int, ◌+ℚ◌, ◌*ℚ◌};
+ghost use Rattle.frac128.specs.Rational.{ℚ, int, ◌+ℚ◌, ◌*ℚ◌};
 ghost use Rattle.checked_sum.specs.Steps.{StepFits, IsCheckedSum};
 
 use frac128::{Frac, Wide};

@@ -1,23 +1,15 @@
 // The printing of what `check` says, and the status that it gives.
 ghost use Rattle.std.specs.Prelude.{◌≡◌, ◌<◌, ◌≤◌, ◌⊎◌};
-ghost use Rattle.script_session.specs.Reply.{wants_memory};
 ghost use Rattle.command_files.specs.Checking.{Checks, is_accepted, check_status, Prints};
 
 use crate::checking::check_text;
-use script_session::write_all;
+use script_session::{is_memory_reply, write_all};
 use std::alloc::Global;
 use sym_io::{Sink, Store};
 
 const STATUS_SINK: u8 = 4;
 
 const STATUS_MEMORY: u8 = 5;
-
-/// Whether the bytes are the refusal for want of memory.
-fn tells_memory(reply: &[u8]) -> bool
-    ensures { result ≡ wants_memory reply.now }
-{
-    reply == b"error 90 memory\n".as_slice()
-}
 
 fn tells_accepted(reply: &[u8]) -> bool
     ensures { result ≡ is_accepted reply.now }
@@ -29,7 +21,7 @@ fn tells_accepted(reply: &[u8]) -> bool
 fn status_of_check(reply: &[u8]) -> u8
     ensures { result ≡ check_status reply.now }
 {
-    if tells_memory(reply) {
+    if is_memory_reply(reply) {
         STATUS_MEMORY
     } else if tells_accepted(reply) {
         0

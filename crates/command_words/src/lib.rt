@@ -27,7 +27,7 @@
 //! Contract in one sentence: `read_words` answers exactly what the words ask for, or the first of their faults: no command,
 //! none of its forms, no number where a number stands.
 //!
-//! Nothing stands below but std and `itoa`; above stands `sym_shell`, which answers what is asked.
+//! Below stand the comparison of words (`text_lines`) and `itoa`; above stands `sym_shell`, which answers what is asked.
 #![tactic(auto)]
 
 mod words;

@@ -1,8 +1,10 @@
 // What the words of a line ask for.
-ghost use Rattle.std.specs.Prelude.{◌≡◌, true, map, [], ◌∷◌, bytes_eq};
+ghost use Rattle.std.specs.Prelude.{◌≡◌, true, map, [], ◌∷◌};
 ghost use Rattle.std.specs.List.{list_all};
 ghost use Rattle.command_words.specs.Names.{command_of, command_behind_trim, command_behind_lbobj, begins_name, is_file_name_byte, is_file_name, whole_number_of};
 ghost use Rattle.command_words.specs.Asks.{Trim, no_limit, with_number, asks_of, asks_shown, load_asks, restore_asks, trim_asks, one_limit_asks, two_limits_asks, both_limits_asks, search_asks, begun_asks, solve_asks, warm_asks, filed_asks, file_asks, save_asks, cert_asks, write_asks, quit_asks, known_asks, NamesFile};
+
+use text_lines::is_word;
 
 /// A limit that isn't named.
 const UNLIMITED: u64 = u64::MAX;
@@ -122,13 +124,6 @@ pub enum Asked<'a> {
     NoNumber {
         word: &'a [u8],
     },
-}
-
-/// Whether a word is this one.
-fn is_word(key: &[u8], word: &[u8]) -> bool
-    ensures { result ≡ bytes_eq word.now key.now }
-{
-    word == key
 }
 
 /// The command that a first word names.

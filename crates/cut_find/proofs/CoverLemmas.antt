@@ -4,10 +4,10 @@ use Rattle.std.proofs.lemmas.List.{append-nil, drop_more}
 use Rattle.std.proofs.Common.{refl, sym, ap, subst, ◌∙◌, inl, inr, arith, eq-eqb, ne_eqb, eqb-true}
 use Rattle.std.proofs.lemmas.Bool.{cases_order}
 use Rattle.std.proofs.lemmas.List.Elements.{All-nil, All-head, All-tail, All-push, All-weaker, filter_more}
-use Rattle.rational.specs.Rational.{ℚ, int, ◌+ℚ◌, ◌-ℚ◌, ◌*ℚ◌, neg_ℚ, ◌<ℚ◌}
-use Rattle.rational.proofs.RationalRing.{ring, reads_ℚ}
-use Rattle.rational.proofs.RationalOrder.{<ℚ_irrefl, <ℚ_trans}
-use Rattle.rational.proofs.Comparison.{is_lt-decides}
+use Rattle.frac128.specs.Rational.{ℚ, int, ◌+ℚ◌, ◌-ℚ◌, ◌*ℚ◌, neg_ℚ, ◌<ℚ◌}
+use Rattle.frac128.specs.RationalRing.{ring, reads_ℚ}
+use Rattle.frac128.specs.RationalOrder.{<ℚ_irrefl, <ℚ_trans}
+use Rattle.frac128.proofs.Comparison.{is_lt-decides}
 use Rattle.lp_model.specs.Program.{Program, lower, upper, coefficient}
 use Rattle.lp_model.specs.Sides.{needed_side, side_number}
 use Rattle.lp_model.specs.declared.types.Side.{Side}

@@ -5,8 +5,8 @@ use Rattle.std.specs.declared.cmp.Ordering.TheVariants.{Less, Equal, Greater}
 use Rattle.std.proofs.Common.{refl, sym, ap, subst, ◌∙◌, inl, inr, arith}
 use Rattle.std.proofs.lemmas.List.Elements.{All-nil, All-head, All-tail, All-push}
 use mathlib.Core.Path.{subst₂}
-use Rattle.rational.specs.Rational.{ℚ, int, ◌<ℚ◌, rational_cmp}
-use Rattle.rational.proofs.RationalRing.{zero-+ℚ}
+use Rattle.frac128.specs.Rational.{ℚ, int, ◌<ℚ◌, rational_cmp}
+use Rattle.frac128.specs.RationalRing.{zero-+ℚ}
 use Rattle.frac128.specs.LowestTerms.{quotient_of}
 use Rattle.lp_model.specs.Program.{Program, Point, lower, upper}
 use Rattle.lp_model.specs.Sides.{side_by, needed_side, side_number}

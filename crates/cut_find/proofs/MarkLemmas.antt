@@ -5,15 +5,15 @@ use Rattle.std.proofs.lemmas.Bool.{cases_order}
 use Rattle.std.proofs.lemmas.Int.{ints}
 use Rattle.std.proofs.lemmas.List.{get_or-set_same, get_or-set_other}
 use Rattle.std.proofs.lemmas.List.Elements.{All-push, All-filter}
-use Rattle.rational.specs.Rational.{ℚ, int, ◌+ℚ◌, neg_ℚ, ◌<ℚ◌}
-use Rattle.rational.proofs.RationalRing.{ring, reads_ℚ}
+use Rattle.frac128.specs.Rational.{ℚ, int, ◌+ℚ◌, neg_ℚ, ◌<ℚ◌}
+use Rattle.frac128.specs.RationalRing.{ring, reads_ℚ}
 use Rattle.frac128.specs.LowestTerms.{quotient_of}
 use Rattle.frac128.proofs.Terms.{quotient-neg_ℚ}
 use Rattle.lp_model.specs.Program.{Program}
 use Rattle.lp_model.specs.declared.types.Side.{Side}
 use Rattle.cover_cuts.specs.Covers.{side_coefficient}
 use Rattle.leaf_dual.specs.Wholes.{IsFactor, HasRoomForProduct}
-use Rattle.leaf_dual.proofs.WholeLemmas.{nothing_over, positive_over, negative_over}
+use Rattle.leaf_dual.proofs.WholeLemmas.{nothing_over, positive_over, negative_over, sum_is}
 use Rattle.cut_find.specs.declared.whole_side.Mark.{Mark}
 use Rattle.cut_find.specs.declared.whole_side.WholeSide.{WholeSide}
 use Rattle.cut_find.specs.Greedy.{is_in, places_without}
@@ -21,7 +21,6 @@ use Rattle.cut_find.specs.RowEntries.{AreNone, IsNextEntry}
 use Rattle.cut_find.specs.WholeSides.{IsCandidateColumn, AreCandidateColumns, IsMarkOf, mark_at, AreMarksTo, AreMarksOf, cover_sum, IsWholeCover}
 use Rattle.cut_find.proofs.CoverLemmas.{in_pushed, in_other, without_same, without_other, changed_up, changed_down}
 use Rattle.cut_find.proofs.RowLemmas.{side_none}
-use Rattle.cut_find.proofs.SumLemmas.{quotient-+ℚ}
 
 -- ---- the total
 
@@ -44,12 +43,12 @@ module _ (M : Program) (i : ℕ) (s : Side) (d : ℤ) (positive : pos 0 <ℤ d) 
 
   module _ (total next : ℤ) where
     added : cover_sum M i s ks ≡ quotient_of total d → next ≡ total +ℤ size → cover_sum M i s js ≡ quotient_of next d
-    added sum next_is = changed_by ∙ ap (λ q. q +ℚ quotient_of size d) sum ∙ quotient-+ℚ total size d ∙ ap (λ m. quotient_of m d) (sym next_is)
+    added sum next_is = changed_by ∙ ap (λ q. q +ℚ quotient_of size d) sum ∙ sum_is total size d ∙ ap (λ m. quotient_of m d) (sym next_is)
 
     removed : cover_sum M i s js ≡ quotient_of total d → next ≡ total -ℤ size → cover_sum M i s ks ≡ quotient_of next d
     removed sum next_is =
         let turned : total +ℤ (pos 0 -ℤ size) ≡ next = omega (arith, ints, next_is) in
-        back (cover_sum M i s ks) (quotient_of size d) ∙ (λ t. sym changed_by t +ℚ sym (quotient-neg_ℚ size d) t) ∙ ap (λ q. q +ℚ quotient_of (pos 0 -ℤ size) d) sum ∙ quotient-+ℚ total (pos 0 -ℤ size) d
+        back (cover_sum M i s ks) (quotient_of size d) ∙ (λ t. sym changed_by t +ℚ sym (quotient-neg_ℚ size d) t) ∙ ap (λ q. q +ℚ quotient_of (pos 0 -ℤ size) d) sum ∙ sum_is total (pos 0 -ℤ size) d
         ∙ ap (λ m. quotient_of m d) turned
       where
         back : (a b : ℚ) → a ≡ (a +ℚ b) +ℚ neg_ℚ b

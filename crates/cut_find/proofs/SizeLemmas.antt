@@ -3,9 +3,9 @@ use Rattle.std.specs.Prelude.{◌≡◌, ◌^◌, ℕ, suc, ◌+◌, ◌<◌, �
 use Rattle.std.specs.Int.{w128}
 use Rattle.std.proofs.Common.{FitsSigned, refl, sym, ap, ap₂, subst, ◌∙◌, arith, below_more, to_z, of_z, w64}
 use Rattle.std.proofs.lemmas.Int.{ints}
-use Rattle.rational.specs.Rational.{ℚ, int, ◌<ℚ◌}
-use Rattle.rational.proofs.IntegerRing.{ring_ℤ, reads_ℤ}
-use Rattle.rational.proofs.RationalOrder.{<ℚ_irrefl}
+use Rattle.frac128.specs.Rational.{ℚ, int, ◌<ℚ◌}
+use Rattle.frac128.specs.IntegerRing.{ring_ℤ, reads_ℤ}
+use Rattle.frac128.specs.RationalOrder.{<ℚ_irrefl}
 use Rattle.frac128.specs.LowestTerms.{quotient_of}
 use Rattle.checked_sum.proofs.StepLaws.{skip_number, partial_none, partial_next, fits_next}
 use Rattle.lp_model.specs.Program.{Program, lower, upper}

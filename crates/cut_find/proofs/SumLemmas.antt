@@ -1,13 +1,12 @@
 -- Sums of least contributions over one denominator.
-use Rattle.std.specs.Prelude.{◌≡◌, ◌≢◌, ℕ, zero, suc, ◌-◌, ◌<◌, ℤ, pos, ◌+ℤ◌, ◌<ℤ◌, unsigned_abs, [], ◌∷◌}
+use Rattle.std.specs.Prelude.{◌≡◌, ◌≢◌, ℕ, zero, suc, ◌-◌, ◌<◌, ℤ, pos, ◌<ℤ◌, unsigned_abs, [], ◌∷◌}
 use Rattle.std.proofs.Common.{sym, ap, subst, ◌∙◌, inl, inr, arith}
 use Rattle.std.proofs.lemmas.Bool.{cases_order}
-use Rattle.rational.specs.Rational.{ℚ, int, ◌+ℚ◌, ◌-ℚ◌, ◌<ℚ◌}
-use Rattle.rational.proofs.Lowest.{reduced-+ℚ, reduced-same, reduced-<ℚ, times-<ℤ, cancel-<ℤ}
-use Rattle.rational.proofs.IntegerRing.{ring_ℤ, reads_ℤ}
-use Rattle.rational.proofs.RationalRing.{ring, reads_ℚ}
+use Rattle.frac128.specs.Rational.{ℚ, int, ◌+ℚ◌, ◌-ℚ◌, ◌<ℚ◌}
+use Rattle.frac128.specs.Lowest.{reduced-<ℚ, times-<ℤ, cancel-<ℤ}
+use Rattle.frac128.specs.RationalRing.{ring, reads_ℚ}
 use Rattle.frac128.specs.LowestTerms.{quotient_of}
-use Rattle.checked_sum.specs.Sums.{sum_below}
+use Rattle.frac128.specs.Sums.{sum_below}
 use Rattle.checked_sum.proofs.SumLaws.{sum_below-same}
 use Rattle.leaf_dual.specs.Wholes.{IsFactor, IsTermOver}
 use Rattle.leaf_dual.proofs.WholeLemmas.{term_over}
@@ -34,11 +33,6 @@ sum_changed (suc n) j f g below same =
     inner t r a b = ring (t ∷ r ∷ a ∷ b ∷ []) (search reads_ℚ) tt
 
 -- ---- numbers over a denominator
-
-pub quotient-+ℚ : (a b d : ℤ) → quotient_of a d +ℚ quotient_of b d ≡ quotient_of (a +ℤ b) d
-quotient-+ℚ a b d =
-    reduced-+ℚ a b (unsigned_abs d - 1) (unsigned_abs d - 1)
-    ∙ reduced-same _ _ _ _ (ring_ℤ (a ∷ b ∷ pos (suc (unsigned_abs d - 1)) ∷ []) (search reads_ℤ depth 9) (search reads_ℤ depth 9) tt)
 
 module _ (a b d : ℤ) where
   abbrev e : ℕ

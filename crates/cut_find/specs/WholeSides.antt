@@ -2,7 +2,7 @@
 -- divisors.
 --     a literal that is taken adds the size of its column's coefficient to the sum
 use Rattle.std.specs.Prelude.{◌≡◌, ◌≢◌, ◌⊎◌, ◌^◌, ◌<◌, ◌≤◌, ℕ, ℤ, pos, ◌-ℤ◌, ◌<ℤ◌, unsigned_abs, false, List, [], length, get_or, set, take, All, Option, Some, None, IsSome, Ok}
-use Rattle.rational.specs.Rational.{ℚ, int}
+use Rattle.frac128.specs.Rational.{ℚ, int}
 use Rattle.frac128.specs.LowestTerms.{quotient_of}
 use Rattle.checked_sum.specs.Steps.{AllFit, partial}
 use Rattle.lp_model.specs.Program.{Program, Point, lower, upper}

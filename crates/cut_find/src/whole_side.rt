@@ -1,6 +1,6 @@
 // A side of a row in whole numbers over one denominator.
 ghost use Rattle.std.specs.Prelude.{◌≡◌, ◌<◌, ◌<ℤ◌, ℤ, [], suc, length, pos, IsTrue, IfSome, Some};
-ghost use Rattle.rational.specs.Rational.{int};
+ghost use Rattle.frac128.specs.Rational.{int};
 ghost use Rattle.frac128.specs.LowestTerms.{quotient_of};
 ghost use Rattle.lp_model.specs.Program.{lower, upper};
 ghost use Rattle.lp_model.specs.Sides.{needed_side};
@@ -9,7 +9,8 @@ ghost use Rattle.leaf_dual.specs.Wholes.{IsFactor, IsDenominator};
 ghost use Rattle.cut_find.specs.RowEntries.{AreEntriesOf};
 ghost use Rattle.cut_find.specs.WholeSides.{AreMarksOf, AreSumsTo, IsWholeSide};
 
-use crate::candidates::{RowSide, signed};
+use crate::candidates::RowSide;
+use cover_cuts::signed;
 use frac128::Frac;
 use leaf_dual::{common_multiple, factor_over, whole_factor, wide_product};
 use lp_model::Bound;

@@ -1,7 +1,7 @@
 -- What the bounds prove of the feasible points: the region of each such point is a leaf's, and each leaf closes against the bound.
 use Rattle.std.specs.Prelude.{◌≡◌, ℕ, ◌<◌, IsTrue, List, [], ◌∷◌, length, All, Option, Some, None, ℤ}
 use Rattle.std.proofs.Common.{refl, sym, subst}
-use Rattle.rational.specs.Rational.{ℚ}
+use Rattle.frac128.specs.Rational.{ℚ}
 use Rattle.lp_model.specs.Program.{Program, Point, is_integer, IsFeasible}
 use Rattle.lp_model.specs.Regions.{InRegion}
 use Rattle.lp_model.specs.Formulations.{Formulation, formulation, IsValid}

@@ -2,7 +2,7 @@
 use Rattle.std.specs.Prelude.{◌≡◌, ℕ, List, [], ◌∷◌, ◌++◌, length, map, sum_by, All}
 use Rattle.std.proofs.Common.{refl, sym, ap, subst, ◌∙◌}
 use Rattle.std.proofs.lemmas.List.Elements.{All-cons, All-nil, All-head, All-tail}
-use Rattle.rational.specs.Rational.{ℚ}
+use Rattle.frac128.specs.Rational.{ℚ}
 use Rattle.lp_model.specs.Elements.{of_element, changed_at}
 use Rattle.lp_model.proofs.ChangedLaws.{length-changed_at, map-changed_at, sum_by-changed_at, All-changed_at, of_element-changed_at}
 use Rattle.dual_bounds.specs.NewNumbers.{changed_all}

@@ -3,8 +3,8 @@
 use Rattle.std.specs.Prelude.{◌≡◌, List, [], Option, Some, None, unwrap_or}
 use Rattle.std.proofs.Common.{ap, subst, ◌∙◌, inl, inr}
 use Rattle.std.proofs.lemmas.List.Elements.{All-get_or}
-use Rattle.rational.specs.Rational.{ℚ, int, ceil}
-use Rattle.rational.proofs.RationalOrder.{≤ℚ_antisymm}
+use Rattle.frac128.specs.Rational.{ℚ, int, ceil}
+use Rattle.frac128.specs.RationalOrder.{≤ℚ_antisymm}
 use Rattle.lp_model.specs.Program.{Point, least_value, IsFeasible}
 use Rattle.lp_model.specs.Formulations.{formulation}
 use Rattle.lp_model.specs.declared.types.CutRow.{CutRow}

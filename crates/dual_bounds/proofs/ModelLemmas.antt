@@ -3,7 +3,7 @@ use Rattle.std.specs.Prelude.{◌≡◌, ◌≢◌, ℕ, zero, suc, ◌<◌, fal
 use Rattle.std.specs.Option.{option_map}
 use Rattle.std.proofs.Common.{refl, sym, ap, subst}
 use Rattle.std.proofs.lemmas.List.Elements.{All-weaker}
-use Rattle.rational.specs.Rational.{ℚ, int}
+use Rattle.frac128.specs.Rational.{ℚ, int}
 use Rattle.frac128.specs.Range.{Fits}
 use Rattle.lp_model.specs.Elements.{of_element, changed_at}
 use Rattle.lp_model.specs.Program.{Program, cost, low_side, high_side, is_integer}

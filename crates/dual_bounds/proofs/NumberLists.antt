@@ -4,11 +4,11 @@ use Rattle.std.specs.Option.{option_or}
 use Rattle.std.proofs.Common.{refl, sym, ap, subst, ◌∙◌, arith, inl, inr}
 use Rattle.std.proofs.Math.Seq.{drop-cons}
 use Rattle.std.proofs.lemmas.Int.{ints}
-use Rattle.rational.specs.Rational.{ℚ, int, ceil, ◌≤ℚ◌, rational_le, min_ℚ}
-use Rattle.rational.proofs.RationalOrder.{≤ℚ_refl, ≤ℚ_trans, ≤ℚ_antisymm}
-use Rattle.rational.proofs.Division.{min-≤ℚ, ≤ℚ-min}
-use Rattle.rational.proofs.Rounding.{≤ℚ-int}
-use Rattle.rational.proofs.Integers.{int-≤ℚ-int, IsWhole-int}
+use Rattle.frac128.specs.Rational.{ℚ, int, ceil, ◌≤ℚ◌, rational_le, min_ℚ}
+use Rattle.frac128.specs.RationalOrder.{≤ℚ_refl, ≤ℚ_trans, ≤ℚ_antisymm}
+use Rattle.frac128.proofs.Division.{min-≤ℚ, ≤ℚ-min}
+use Rattle.frac128.proofs.Rounding.{≤ℚ-int}
+use Rattle.frac128.proofs.Integers.{int-≤ℚ-int, IsWhole-int}
 use Rattle.lp_model.specs.Program.{Program, HasWholeObjective}
 use Rattle.leaf_dual.specs.declared.dual.LagValue.TheVariants.{Minus, Num}
 use Rattle.leaf_judging.specs.declared.closing.LeafNumber.{LeafNumber}

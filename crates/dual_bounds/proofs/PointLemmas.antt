@@ -3,7 +3,7 @@ use Rattle.std.specs.Prelude.{◌≡◌, List, [], ◌∷◌, ◌++◌, map, All
 use Rattle.std.specs.Option.{MatchOption}
 use Rattle.std.proofs.Common.{refl, sym, ap, ◌∙◌, inl, inr}
 use Rattle.std.proofs.lemmas.List.Elements.{All-head, All-tail}
-use Rattle.rational.specs.Rational.{ℚ}
+use Rattle.frac128.specs.Rational.{ℚ}
 use Rattle.lp_model.specs.Program.{Program, Point, least_value}
 use Rattle.search_parts.specs.Points.{IsKeepable, lesser, target}
 use Rattle.search_parts.specs.EditedPoints.{AreKeepable, AreValued}

@@ -1,6 +1,6 @@
 -- What the bounds prove, and that after a finished search they are the optimum.
 use Rattle.std.specs.Prelude.{◌≡◌, List, Some}
-use Rattle.rational.specs.Rational.{ℚ, ◌≤ℚ◌}
+use Rattle.frac128.specs.Rational.{ℚ, ◌≤ℚ◌}
 use Rattle.lp_model.specs.Program.{Program, Point, least_value, IsFeasible, IsEmpty}
 use Rattle.lp_model.specs.Formulations.{Formulation, IsValid}
 use Rattle.lp_model.specs.declared.types.RowId.{RowId}

@@ -3,7 +3,7 @@
 --     with_new_costs M costs     the cost of each named column in objective 1 becomes its number, all else stays
 use Rattle.std.specs.Prelude.{◌≡◌, ◌≢◌, ℕ, ◌<◌, List, [], ◌∷◌, map, length, All, AllPairs, Option, Some, None}
 use Rattle.std.specs.Option.{option_map}
-use Rattle.rational.specs.Rational.{ℚ}
+use Rattle.frac128.specs.Rational.{ℚ}
 use Rattle.lp_model.specs.Elements.{changed_at}
 use Rattle.lp_model.specs.Program.{Program, cost, low_side, high_side}
 use Rattle.lp_model.specs.declared.types.RowId.{RowId}

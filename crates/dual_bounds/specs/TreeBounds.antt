@@ -7,7 +7,7 @@
 use Rattle.std.specs.Prelude.{◌≡◌, ◌⊎◌, ℕ, ◌+◌, List, [], ◌∷◌, Option, Some, None, unwrap_or}
 use Rattle.std.specs.List.{AllZip}
 use Rattle.std.specs.Option.{option_or}
-use Rattle.rational.specs.Rational.{ℚ, int, ceil}
+use Rattle.frac128.specs.Rational.{ℚ, int, ceil}
 use Rattle.lp_model.specs.Program.{Program, Point, HasWholeObjective}
 use Rattle.lp_model.specs.Formulations.{Formulation, formulation}
 use Rattle.lp_model.specs.declared.types.CutRow.{CutRow}

@@ -1,6 +1,6 @@
 -- What a walk over the leaves of a tree, and over kept points, makes.
 use Rattle.std.specs.Prelude.{◌≡◌, [], ◌∷◌, ◌++◌, List, Option}
-use Rattle.rational.specs.Rational.{ℚ}
+use Rattle.frac128.specs.Rational.{ℚ}
 use Rattle.lp_model.specs.Program.{Program, Point}
 use Rattle.lp_model.specs.Formulations.{formulation}
 use Rattle.branch_tree.specs.declared.node.RegionLeaf.{RegionLeaf}

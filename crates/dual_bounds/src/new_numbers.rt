@@ -1,7 +1,7 @@
 // Copies of a model with other sides, or with other costs.
 ghost use Rattle.std.specs.Prelude.{◌≡◌, ◌↔◌, ◌<◌, All, length, IsTrue, IfOk};
 ghost use Rattle.std.specs.Option.{option_map};
-ghost use Rattle.rational.specs.Rational.{ℚ};
+ghost use Rattle.frac128.specs.Rational.{ℚ};
 ghost use Rattle.lp_model.specs.Elements.{changed_at};
 ghost use Rattle.lp_model.specs.declared.types.RowId.{RowId as RowPlace};
 ghost use Rattle.lp_model.specs.declared.types.ColId.{ColId as ColPlace};
@@ -12,7 +12,7 @@ use lp_model::{Bound, Col, ColId, List, Model, Row, RowId, show_all};
 use std::alloc::{AllocError, Global};
 
 /// Whether a row with these sides has one of them, or two equal ones, so that another number can stand for them.
-#[tactic(auto, using(rational::proofs::Comparison::comparisons))]
+#[tactic(auto, using(frac128::proofs::Comparison::comparisons))]
 pub fn has_equal_sides(lo: &Bound, hi: &Bound) -> bool
     ensures { IsTrue result ↔ HasEqualSides lo.now hi.now }
 {

@@ -9,6 +9,7 @@ use frac128::Frac;
 use leaf_dual::LagValue;
 use leaf_judging::{LeafNumber, rank};
 use lp_model::Model;
+use model_points::has_whole_objective;
 
 /// What a leaf with this value says by itself, if it is not set aside.
 fn no_value(value: &LagValue) -> Option<LowerBound>
@@ -98,7 +99,7 @@ fn bound_of_numbers(numbers: &[LeafNumber]) -> LowerBound
 fn rounded_value(model: &Model, number: &Frac) -> LowerBound
     ensures { IsRoundedBound model.now (Value number.now) result }
 {
-    if model.has_whole_objective(1) {
+    if has_whole_objective(model, 1) {
         LowerBound::Value(Frac::of_whole(number.ceil()))
     } else {
         LowerBound::Value(*number)

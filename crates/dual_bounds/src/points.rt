@@ -1,7 +1,5 @@
 // The kept points at a model.
-ghost use Rattle.std.specs.Prelude.{◌≡◌, MatchOption};
-ghost use Rattle.lp_model.specs.Program.{least_value};
-ghost use Rattle.search_parts.specs.Points.{IsKeepable};
+ghost use Rattle.std.specs.Prelude.{◌≡◌};
 ghost use Rattle.dual_bounds.specs.TreeBounds.{upper_bound, IsPointBound};
 ghost use Rattle.dual_bounds.specs.Walk.{IsLeastFeasible};
 
@@ -9,21 +7,7 @@ use crate::answers::UpperBound;
 use crate::numbers::least_of_two;
 use frac128::Frac;
 use lp_model::{Model, Point};
-
-/// The value of a point in least form, where it is feasible and no step of its test or value lacks room.
-fn feasible_value(model: &Model, point: &Point) -> Option<Frac>
-    ensures { MatchOption result (¬ IsKeepable model.now point.now) (λ v. IsKeepable model.now point.now × (v ≡ least_value model.now 1 point.now)) }
-{
-    match model.is_feasible(point) {
-        Ok(true) => {}
-        Ok(false) => return None,
-        Err(_) => return None,
-    }
-    match model.value(1, point) {
-        Ok(value) => Some(model.sense().least_form(&value)),
-        Err(_) => None,
-    }
-}
+use search_parts::keepable_value;
 
 /// The least value of those of the points that are feasible.
 fn least_feasible(model: &Model, points: &[Point]) -> Option<Frac>
@@ -31,7 +15,7 @@ fn least_feasible(model: &Model, points: &[Point]) -> Option<Frac>
 {
     let mut least = None;
     for point in points {
-        least = least_of_two(least, &feasible_value(model, point));
+        least = least_of_two(least, &keepable_value(model, point));
     }
     least
 }

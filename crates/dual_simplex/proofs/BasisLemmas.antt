@@ -3,19 +3,19 @@ use Rattle.std.specs.Prelude.{◌≡◌, ℕ, ◌<◌, if◌then◌else◌, Bool
 use Rattle.std.specs.Option.{option_map}
 use Rattle.std.proofs.Common.{refl, sym, ap, subst, ◌∙◌, arith, ⊎_elim}
 use Rattle.std.proofs.lemmas.Bool.{cases_lt, false≢true}
-use Rattle.rational.specs.Rational.{ℚ, int, ceil, floor}
+use Rattle.frac128.specs.Rational.{ℚ, int, ceil, floor}
 use Rattle.lp_model.specs.Program.{Program, lower, upper, is_integer}
 use Rattle.lp_model.specs.Formulations.{Formulation, without_cuts}
 use Rattle.lp_model.specs.Regions.{Path, region_low, region_high}
 use Rattle.lp_model.specs.declared.types.Basis.{Basis}
 use Rattle.lp_model.specs.declared.types.Var.{Var}
-use Rattle.bases.specs.declared.stand.Stand.{Stand}
-use Rattle.bases.specs.declared.stand.Stand.TheVariants.{Low, High, Free}
-use Rattle.bases.specs.Relaxation.{Relaxation, Table, IsArranged}
-use Rattle.bases.specs.Bases.{Found, listed, Lists, IsNamedBy}
-use Rattle.bases.specs.States.{State, IsGood, IsFree}
-use Rattle.bases.specs.Directions.{stand_number}
-use Rattle.bases.proofs.BringIn.{basic_within, nonbasic_within, all_found}
+use Rattle.table_entries.specs.declared.stand.Stand.{Stand}
+use Rattle.table_entries.specs.declared.stand.Stand.TheVariants.{Low, High, Free}
+use Rattle.table_entries.specs.Relaxation.{Relaxation, Table, IsArranged}
+use Rattle.table_entries.specs.Bases.{Found, listed, Lists, IsNamedBy}
+use Rattle.table_entries.specs.States.{State, IsGood, IsFree}
+use Rattle.table_entries.specs.Directions.{stand_number}
+use Rattle.table_entries.proofs.BringIn.{basic_within, nonbasic_within, all_found}
 use Rattle.row_tableau.specs.declared.relax.Relax.{Relax}
 use Rattle.row_tableau.specs.declared.relax.RelaxKind.TheVariants.{Plain}
 use Rattle.row_tableau.specs.Activities.{activity_count, activity_low, activity_high}

@@ -5,19 +5,19 @@ use Rattle.std.specs.List.{range_with_len}
 use Rattle.std.proofs.Common.{refl, sym, ap, subst, ◌∙◌, arith, ⊎_elim}
 use Rattle.std.proofs.lemmas.Bool.{cases_eq, cases_lt, lt-ltb, le-ltb}
 use Rattle.std.proofs.lemmas.List.{length-append, get_or_append_left}
-use Rattle.rational.specs.Rational.{ℚ, int, ceil, floor, max_ℚ, min_ℚ, ◌<ℚ◌}
-use Rattle.rational.proofs.RationalRing.{reads_ℚ}
-use Rattle.rational.proofs.RationalOrder.{zero-<ℚ-one, <ℚ_trans, <ℚ_irrefl, linear_strict}
+use Rattle.frac128.specs.Rational.{ℚ, int, ceil, floor, max_ℚ, min_ℚ, ◌<ℚ◌}
+use Rattle.frac128.specs.RationalRing.{reads_ℚ}
+use Rattle.frac128.specs.RationalOrder.{zero-<ℚ-one, <ℚ_trans, <ℚ_irrefl, linear_strict}
 use Rattle.lp_model.specs.Program.{lower, upper, is_integer}
 use Rattle.lp_model.specs.Formulations.{Formulation}
 use Rattle.lp_model.specs.Regions.{Path, low_after, high_after, low_along, high_along, region_low, region_high}
 use Rattle.lp_model.specs.declared.types.Side.{Side}
 use Rattle.lp_model.specs.declared.types.Side.TheVariants.{Lo, Hi}
-use Rattle.bases.specs.declared.stand.Stand.{Stand}
-use Rattle.bases.specs.declared.stand.Stand.TheVariants.{High, Free}
-use Rattle.bases.specs.States.{sign}
-use Rattle.bases.specs.Directions.{Continues}
-use Rattle.bases.proofs.SumBelowLaws.{if_same, if_other}
+use Rattle.table_entries.specs.declared.stand.Stand.{Stand}
+use Rattle.table_entries.specs.declared.stand.Stand.TheVariants.{High, Free}
+use Rattle.table_entries.specs.States.{sign}
+use Rattle.table_entries.specs.Directions.{Continues}
+use Rattle.table_entries.proofs.SumBelowLaws.{if_same, if_other}
 use Rattle.row_tableau.specs.declared.relax.RelaxKind.TheVariants.{Plain, Directions}
 use Rattle.row_tableau.specs.Activities.{activity_count, activity_low, activity_high}
 use Rattle.row_tableau.specs.Relaxations.{plain}

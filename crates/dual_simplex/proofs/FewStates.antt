@@ -2,18 +2,18 @@
 use Rattle.std.specs.Prelude.{◌≡◌, ◌≢◌, ◌⊎◌, ℕ, zero, suc, ◌+◌, ◌*◌, ◌^◌, ◌<◌, ◌≤◌, ◌==◌, Bool, true, false, if◌then◌else◌, Option, Some, None, is_none, Result, Ok}
 use Rattle.std.proofs.Common.{refl, sym, ap, subst, ◌∙◌, arith, ⊎_elim, inl, inr}
 use Rattle.std.proofs.lemmas.Bool.{cases_eq, false≢true}
-use Rattle.rational.specs.Rational.{ℚ, ◌-ℚ◌}
-use Rattle.bases.specs.declared.stand.Stand.{Stand}
-use Rattle.bases.specs.declared.stand.Stand.TheVariants.{Low, High, Free}
-use Rattle.bases.specs.Relaxation.{Relaxation, IsArranged}
-use Rattle.bases.specs.States.{IsLess, State, Standing, IsGood, key, SameState}
-use Rattle.bases.specs.Directions.{stand_number}
-use Rattle.bases.specs.Bases.{Found}
-use Rattle.bases.proofs.SumBelowLaws.{if_same, if_other}
-use Rattle.bases.proofs.BringIn.{basic_within, nonbasic_within}
-use Rattle.bases.proofs.OneTable.{covered}
-use Rattle.bases.proofs.SameState.{key_same}
-use Rattle.bases.proofs.Parts.{positive_same, not_less_self}
+use Rattle.frac128.specs.Rational.{ℚ, ◌-ℚ◌}
+use Rattle.table_entries.specs.declared.stand.Stand.{Stand}
+use Rattle.table_entries.specs.declared.stand.Stand.TheVariants.{Low, High, Free}
+use Rattle.table_entries.specs.Relaxation.{Relaxation, IsArranged}
+use Rattle.table_entries.specs.States.{IsLess, State, Standing, IsGood, key, SameState}
+use Rattle.table_entries.specs.Directions.{stand_number}
+use Rattle.table_entries.specs.Bases.{Found}
+use Rattle.table_entries.proofs.SumBelowLaws.{if_same, if_other}
+use Rattle.table_entries.proofs.BringIn.{basic_within, nonbasic_within}
+use Rattle.table_entries.proofs.OneTable.{covered}
+use Rattle.table_entries.proofs.SameState.{key_same}
+use Rattle.table_entries.proofs.CostParts.{positive_same, not_less_self}
 use Rattle.basic_solution.specs.Held.{Held, IsLawfulHeld, relaxation, parts, state, table, variables}
 use Rattle.dual_simplex.specs.Moves.{IsMoved}
 use Rattle.dual_simplex.specs.Walks.{Moves, IsWalkEnd, IsWalkAnswer}

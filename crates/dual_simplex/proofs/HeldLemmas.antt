@@ -4,11 +4,11 @@ use Rattle.std.proofs.Common.{refl, sym, ap, subst, ◌∙◌, arith, ⊎_elim, 
 use Rattle.std.proofs.lemmas.Bool.{cases_lt}
 use Rattle.std.proofs.lemmas.Nat.{div-add-mod'}
 use Rattle.std.proofs.Math.Nat.{div-lt_iff_lt-mul, mod-lt}
-use Rattle.rational.specs.Rational.{int}
+use Rattle.frac128.specs.Rational.{int}
 use Rattle.row_tableau.specs.Activities.{activity_coefficient}
-use Rattle.bases.specs.declared.stand.Stand.TheVariants.{Free}
-use Rattle.bases.specs.Relaxation.{Agree}
-use Rattle.bases.specs.States.{sign}
+use Rattle.table_entries.specs.declared.stand.Stand.TheVariants.{Free}
+use Rattle.table_entries.specs.Relaxation.{Agree}
+use Rattle.table_entries.specs.States.{sign}
 use Rattle.row_tableau.specs.declared.relax.Relax.{Relax}
 use Rattle.row_tableau.specs.Relaxations.{relaxation_of}
 use Rattle.row_tableau.specs.Dense.{Dense, table_of, HasFullLists}

@@ -9,10 +9,10 @@ use Rattle.lp_model.specs.WideSteps.{TablePlace, Pivot, Point, Cost, RatioCost, 
 use Rattle.lp_model.specs.declared.types.Var.{Var}
 use Rattle.lp_model.specs.declared.types.WideStep.{WideStep}
 use Rattle.lp_model.specs.declared.types.WideStep.TheVariants as step
-use Rattle.bases.specs.Relaxation.{Table, IsArranged, pivoted}
-use Rattle.bases.specs.Steps.{ExchangeFits, IsFirstWidePivotEntry}
-use Rattle.bases.proofs.Arranged.{IsArranged-pivoted}
-use Rattle.bases.proofs.BringIn.{basic_within, nonbasic_within}
+use Rattle.table_entries.specs.Relaxation.{Table, IsArranged, pivoted}
+use Rattle.table_entries.specs.Steps.{ExchangeFits, IsFirstWidePivotEntry}
+use Rattle.table_entries.proofs.Arranged.{IsArranged-pivoted}
+use Rattle.table_entries.proofs.BringIn.{basic_within, nonbasic_within}
 use Rattle.row_tableau.specs.Variables.{variable_number}
 use Rattle.row_tableau.specs.Answers.{IsPivotPlace, IsWidePivot}
 use Rattle.basic_solution.specs.Held.{Held, IsSided, relaxation, table, variables}

@@ -4,15 +4,15 @@ use Rattle.std.specs.declared.cmp.Ordering.{Ordering}
 use Rattle.std.specs.declared.cmp.Ordering.TheVariants.{Less, Equal, Greater}
 use Rattle.std.proofs.Common.{refl, sym, subst, ◌∙◌, arith, inl, inr, ⊎_elim}
 use Rattle.std.proofs.lemmas.Bool.{cases_lt, cases_order}
-use Rattle.rational.specs.Rational.{ℚ, ◌<ℚ◌}
-use Rattle.rational.proofs.RationalOrder.{<ℚ_trans, <ℚ_irrefl, not_both_ℚ}
+use Rattle.frac128.specs.Rational.{ℚ, ◌<ℚ◌}
+use Rattle.frac128.specs.RationalOrder.{<ℚ_trans, <ℚ_irrefl, not_both_ℚ}
 use Rattle.lp_model.specs.declared.types.WideStep.{WideStep}
-use Rattle.bases.specs.declared.stand.Stand.{Stand}
-use Rattle.bases.specs.declared.stand.Stand.TheVariants.{Low, High, Free}
-use Rattle.bases.specs.Relaxation.{Relaxation, Table, HasNoCrossedSides, Agree, pivoted}
-use Rattle.bases.specs.States.{State, IsOutside}
-use Rattle.bases.proofs.Parts.{less_trans, not_less_self}
-use Rattle.bases.proofs.Least.{less_from_same, enters_once}
+use Rattle.table_entries.specs.declared.stand.Stand.{Stand}
+use Rattle.table_entries.specs.declared.stand.Stand.TheVariants.{Low, High, Free}
+use Rattle.table_entries.specs.Relaxation.{Relaxation, Table, HasNoCrossedSides, Agree, pivoted}
+use Rattle.table_entries.specs.States.{State, IsOutside}
+use Rattle.table_entries.proofs.CostParts.{less_trans, not_less_self}
+use Rattle.table_entries.proofs.Least.{less_from_same, enters_once}
 use Rattle.row_tableau.specs.Answers.{IsWidePivot}
 use Rattle.basic_solution.specs.Held.{Held, IsSided, relaxation, parts, state, table}
 use Rattle.basic_solution.specs.Numbers.{IsWideBasicValue, IsWideCost}

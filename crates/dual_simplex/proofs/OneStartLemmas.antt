@@ -8,11 +8,11 @@ use Rattle.lp_model.specs.WideSteps.{TablePlace, Pivot, Point, Cost, RatioCost, 
 use Rattle.lp_model.specs.declared.types.Basis.{Basis}
 use Rattle.lp_model.specs.declared.types.Var.{Var}
 use Rattle.lp_model.specs.declared.types.WideStep.{WideStep}
-use Rattle.bases.specs.declared.stand.Stand.TheVariants.{Free}
-use Rattle.bases.specs.Relaxation.{Relaxation, Table, IsArranged, Agree}
-use Rattle.bases.specs.Bases.{listed, IsNamedBy, BringsIn, IsStuck, IsOnOpenWay}
-use Rattle.bases.specs.Steps.{ExchangeFits}
-use Rattle.bases.proofs.OneTable.{agree_turned}
+use Rattle.table_entries.specs.declared.stand.Stand.TheVariants.{Free}
+use Rattle.table_entries.specs.Relaxation.{Relaxation, Table, IsArranged, Agree}
+use Rattle.table_entries.specs.Bases.{listed, IsNamedBy, BringsIn, IsStuck, IsOnOpenWay}
+use Rattle.table_entries.specs.Steps.{ExchangeFits}
+use Rattle.table_entries.proofs.OneTable.{agree_turned}
 use Rattle.row_tableau.specs.declared.relax.Relax.{Relax}
 use Rattle.row_tableau.specs.Relaxations.{relaxation_of}
 use Rattle.row_tableau.specs.Dense.{Dense, table_of}

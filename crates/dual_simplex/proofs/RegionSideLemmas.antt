@@ -3,7 +3,7 @@ use Rattle.std.specs.Prelude.{◌≡◌, ℕ, Bool, true, false, if◌then◌els
 use Rattle.std.specs.Option.{option_map}
 use Rattle.std.proofs.Common.{refl, ap, ◌∙◌}
 use Rattle.std.proofs.lemmas.Bool.Decides.{Decides-eqb}
-use Rattle.rational.specs.Rational.{ℚ, int, ceil, floor}
+use Rattle.frac128.specs.Rational.{ℚ, int, ceil, floor}
 use Rattle.lp_model.specs.Program.{Program, lower, upper, is_integer}
 use Rattle.lp_model.specs.Regions.{Path, low_along, high_along, low_after, high_after}
 use Rattle.row_tableau.specs.Tilts.{KeepsFree}

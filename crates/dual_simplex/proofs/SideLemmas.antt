@@ -3,7 +3,7 @@ use Rattle.std.specs.Prelude.{◌≡◌, ℕ, ◌+◌, ◌<◌, ◌≤◌, Some,
 use Rattle.std.proofs.Common.{refl, sym, subst, arith, ⊎_elim, below_more}
 use Rattle.std.proofs.lemmas.Bool.{cases_lt}
 use Rattle.lp_model.specs.declared.types.WideStep.{WideStep}
-use Rattle.bases.proofs.BringIn.{basic_within}
+use Rattle.table_entries.proofs.BringIn.{basic_within}
 use Rattle.basic_solution.specs.Held.{Held, IsSided, relaxation, table, variables}
 use Rattle.basic_solution.specs.Numbers.{ValueFits, IsInside}
 use Rattle.dual_simplex.specs.Answers.{AreInside, IsVisited, IsLeaving}

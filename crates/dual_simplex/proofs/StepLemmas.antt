@@ -4,7 +4,7 @@ use Rattle.std.specs.Option.{IsSomeAnd}
 use Rattle.std.proofs.Common.{inl, inr, ⊎_elim}
 use Rattle.lp_model.specs.WideSteps.{TablePlace, Pivot, Point, Cost, RatioCost, Ratio, table_place}
 use Rattle.lp_model.specs.declared.types.WideStep.{WideStep}
-use Rattle.bases.specs.Steps.{ExchangeFits}
+use Rattle.table_entries.specs.Steps.{ExchangeFits}
 use Rattle.row_tableau.specs.Dense.{HasFullLists}
 use Rattle.row_tableau.specs.Answers.{IsWidePivot}
 use Rattle.row_tableau.specs.Variables.{variable_number}

@@ -2,11 +2,11 @@
 use Rattle.std.specs.Prelude.{◌≡◌, ℕ, zero, suc, ◌<◌, ◌≤◌, ◌==◌, if◌then◌else◌, List}
 use Rattle.std.proofs.Common.{sym, ap, subst, ◌∙◌, arith, inl, inr, ⊎_elim}
 use Rattle.std.proofs.lemmas.Bool.{cases_eq, cases_order}
-use Rattle.rational.specs.Rational.{◌-ℚ◌, ◌*ℚ◌, ◌/ℚ◌, neg_ℚ, inverse}
-use Rattle.bases.specs.Relaxation.{Relaxation, Table, IsArranged, Agree, pivoted}
-use Rattle.bases.specs.Bases.{Found, listed, Lists, IsNamedBy, IsNextOfList, MayLeave, BringsIn, IsStuck, OpenWay, IsOnOpenWay}
-use Rattle.bases.specs.Steps.{PivotStepFits, ExchangeFits}
-use Rattle.bases.proofs.OneTable.{agree_turned, IsArranged-agree, IsArranged-after}
+use Rattle.frac128.specs.Rational.{◌-ℚ◌, ◌*ℚ◌, ◌/ℚ◌, neg_ℚ, inverse}
+use Rattle.table_entries.specs.Relaxation.{Relaxation, Table, IsArranged, Agree, pivoted}
+use Rattle.table_entries.specs.Bases.{Found, listed, Lists, IsNamedBy, IsNextOfList, MayLeave, BringsIn, IsStuck, OpenWay, IsOnOpenWay}
+use Rattle.table_entries.specs.Steps.{PivotStepFits, ExchangeFits}
+use Rattle.table_entries.proofs.OneTable.{agree_turned, IsArranged-agree, IsArranged-after}
 
 -- ---- tables that agree
 

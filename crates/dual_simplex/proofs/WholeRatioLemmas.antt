@@ -3,16 +3,16 @@ use Rattle.std.specs.Prelude.{◌≡◌, ◌≢◌, ℕ, ◌-◌, [], ◌∷◌,
 use Rattle.std.proofs.Common.{refl, sym, ap, subst, ◌∙◌, arith}
 use Rattle.std.proofs.lemmas.Int.{ints}
 use mathlib.Core.Path.{subst₂}
-use Rattle.rational.specs.Rational.{ℚ, int, ◌*ℚ◌, ◌/ℚ◌, neg_ℚ, ◌<ℚ◌}
-use Rattle.rational.proofs.Lowest.{reduced-<ℚ}
-use Rattle.rational.proofs.RationalRing.{ring, reads_ℚ, one-*ℚ}
+use Rattle.frac128.specs.Rational.{ℚ, int, ◌*ℚ◌, ◌/ℚ◌, neg_ℚ, ◌<ℚ◌}
+use Rattle.frac128.specs.Lowest.{reduced-<ℚ}
+use Rattle.frac128.specs.RationalRing.{ring, reads_ℚ, one-*ℚ}
 use Rattle.frac128.specs.Range.{Fits, IsNarrow}
 use Rattle.frac128.specs.LowestTerms.{quotient_of}
 use Rattle.frac128.proofs.Terms.{denominator_is, quotient-neg_ℚ}
 use Rattle.frac128.proofs.SumTerms.{fits_of_narrow}
-use Rattle.bases.specs.declared.stand.Stand.{Stand}
-use Rattle.bases.specs.declared.stand.Stand.TheVariants.{Low, High}
-use Rattle.bases.specs.Relaxation.{reduced_cost}
+use Rattle.table_entries.specs.declared.stand.Stand.{Stand}
+use Rattle.table_entries.specs.declared.stand.Stand.TheVariants.{Low, High}
+use Rattle.table_entries.specs.Relaxation.{reduced_cost}
 use Rattle.table_entries.specs.WholeSteps.{IsShort, magnitude, by_sign}
 use Rattle.table_entries.proofs.ListedLemmas.{zero_number}
 use Rattle.table_entries.proofs.WholeLemmas.{by_sign-short, magnitude_positive, quotient_is}

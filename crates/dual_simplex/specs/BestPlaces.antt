@@ -3,7 +3,7 @@ use Rattle.std.specs.Prelude.{◌≡◌, ◌↔◌, ℕ, ◌≤◌, Bool, true, 
 use Rattle.std.specs.declared.cmp.Ordering.{Ordering}
 use Rattle.std.specs.declared.cmp.Ordering.TheVariants.{Less, Equal, Greater}
 use Rattle.lp_model.specs.declared.types.WideStep.{WideStep}
-use Rattle.bases.specs.declared.stand.Stand.{Stand}
+use Rattle.table_entries.specs.declared.stand.Stand.{Stand}
 use Rattle.basic_solution.specs.Held.{Held}
 use Rattle.dual_simplex.specs.Answers.{IsRatioAnswer, IsEntering}
 use Rattle.dual_simplex.specs.WholeRatios.{IsWholeRatio}

@@ -1,9 +1,9 @@
 -- What walks and lists of multipliers mean.
 use Rattle.std.specs.Prelude.{◌≡◌, ℕ, suc, ◌<◌, ltb, ◌==◌, if◌then◌else◌, List, [], ◌∷◌, pos}
-use Rattle.rational.specs.Rational.{ℚ, int}
+use Rattle.frac128.specs.Rational.{ℚ, int}
 use Rattle.lp_model.specs.declared.types.Var.{Var}
-use Rattle.bases.specs.Relaxation.{Relaxation, left_of}
-use Rattle.bases.specs.States.{SameState}
+use Rattle.table_entries.specs.Relaxation.{Relaxation, left_of}
+use Rattle.table_entries.specs.States.{SameState}
 use Rattle.row_tableau.specs.Dense.{Dense}
 use Rattle.row_tableau.specs.Variables.{variable_number}
 use Rattle.basic_solution.specs.Held.{Held, IsLawfulHeld, relaxation, state, variables}

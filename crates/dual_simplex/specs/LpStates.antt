@@ -1,6 +1,6 @@
 -- The states that the method moves among.
 use Rattle.std.specs.Prelude.{◌≡◌, ℕ, ◌+◌, ◌<◌, pos, Some}
-use Rattle.rational.specs.Rational.{ℚ, int, ◌≤ℚ◌}
+use Rattle.frac128.specs.Rational.{ℚ, int, ◌≤ℚ◌}
 use Rattle.basic_solution.specs.Held.{Held, IsLawfulHeld, relaxation, variables}
 
 -- no variable has its low side above its high one

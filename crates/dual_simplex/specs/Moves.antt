@@ -1,7 +1,7 @@
 -- What a step makes of a state.
 use Rattle.std.specs.Prelude.{◌≡◌, ◌⊎◌, ℕ, ◌<◌, Result, Ok, Err}
-use Rattle.bases.specs.declared.stand.Stand.{Stand}
-use Rattle.bases.specs.Steps.{ExchangeFits}
+use Rattle.table_entries.specs.declared.stand.Stand.{Stand}
+use Rattle.table_entries.specs.Steps.{ExchangeFits}
 use Rattle.row_tableau.specs.Dense.{HasFullLists}
 use Rattle.basic_solution.specs.Held.{Held, table}
 use Rattle.dual_simplex.specs.Answers.{IsFirstOut, May, IsEntered, AreAllInside, HaveValuesTo, AreCompared, IsWideLeaving, IsWideMove}

@@ -1,9 +1,9 @@
 -- The slack basis of a model, and bases to fall back to.
 use Rattle.std.specs.Prelude.{◌≡◌, ◌↔◌, ◌<◌, ℕ, [], length, Option, Some, None}
 use Rattle.lp_model.specs.Formulations.{without_cuts}
-use Rattle.bases.specs.declared.stand.Stand.TheVariants.{High}
-use Rattle.bases.specs.Bases.{Lists, IsNamedBy}
-use Rattle.bases.specs.States.{State, IsGood}
+use Rattle.table_entries.specs.declared.stand.Stand.TheVariants.{High}
+use Rattle.table_entries.specs.Bases.{Lists, IsNamedBy}
+use Rattle.table_entries.specs.States.{State, IsGood}
 use Rattle.row_tableau.specs.Dense.{Dense}
 use Rattle.row_tableau.specs.Variables.{numbers}
 use Rattle.row_tableau.specs.Relaxations.{form_of, plain}

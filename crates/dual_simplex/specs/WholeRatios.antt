@@ -1,7 +1,7 @@
 -- First parts of ratios as whole numbers over one another.
 use Rattle.std.specs.Prelude.{ℕ, ◌<ℤ◌, ℤ, pos, Ok}
 use Rattle.frac128.specs.LowestTerms.{quotient_of}
-use Rattle.bases.specs.declared.stand.Stand.{Stand}
+use Rattle.table_entries.specs.declared.stand.Stand.{Stand}
 use Rattle.table_entries.specs.WholeSteps.{IsShort}
 use Rattle.basic_solution.specs.Held.{Held}
 use Rattle.dual_simplex.specs.Answers.{IsRatioAnswer}

@@ -7,10 +7,10 @@ ghost use Rattle.basic_solution.specs.CutTotals.{AreColumnTotals};
 ghost use Rattle.dual_simplex.specs.Answers.{AreInside, IsVisited, IsLeaving};
 
 use crate::state::LpState;
-use bases::Stand;
 use basic_solution::SidedBasis;
 use lp_model::WideStep;
 use row_tableau::Position;
+use table_entries::Stand;
 
 /// A table of more columns has no totals: values then go by rows. Models have at most 1,001 columns.
 const MOST_TOTALS: usize = 1024;

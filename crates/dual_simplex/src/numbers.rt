@@ -1,6 +1,6 @@
 // What a state gives: the numbers of its point, its multipliers, and the Farkas multipliers of a row.
 ghost use Rattle.std.specs.Prelude.{◌≡◌, ◌<◌};
-ghost use Rattle.bases.specs.States.{farkas_weights};
+ghost use Rattle.table_entries.specs.States.{farkas_weights};
 ghost use Rattle.basic_solution.specs.Held.{relaxation, state, variables};
 ghost use Rattle.basic_solution.specs.Numbers.{IsNumberAnswer, IsMultiplierAnswer};
 

@@ -1,30 +1,20 @@
 // First parts of ratios in whole numbers: where the reduced cost and the entry are numbers over the denominator of the table, that
 // cancels, and two of them are compared without a division.
 ghost use Rattle.std.specs.Prelude.{◌≡◌, ◌≢◌, ◌↔◌, ◌<◌, ◌-ℤ◌, pos, IsTrue, IfSome};
-ghost use Rattle.rational.specs.Rational.{int, ◌<ℚ◌};
+ghost use Rattle.frac128.specs.Rational.{int, ◌<ℚ◌};
 ghost use Rattle.frac128.specs.LowestTerms.{quotient_of};
-ghost use Rattle.table_entries.specs.WholeSteps.{IsShort, by_sign};
+ghost use Rattle.table_entries.specs.WholeSteps.{IsShort};
 ghost use Rattle.basic_solution.specs.Held.{table};
 ghost use Rattle.dual_simplex.specs.WholeRatios.{IsShortRatio, IsWholeRatio};
 
-use bases::Stand;
 use basic_solution::SidedBasis;
-use table_entries::{product, short_number};
+use table_entries::{Stand, by_sign, product, short_number};
 
 /// A number over another one that is above 0.
 #[derive(Clone, Copy, Drop)]
 pub struct WholeRatio {
     pub top: i64,
     pub bottom: i64,
-}
-
-/// The number with the sign of the entry.
-#[inline]
-fn by_sign(entry: i64, number: i64) -> i64
-    requires { IsShort number }
-    ensures { result ≡ by_sign entry number }
-{
-    if entry < 0 { -number } else { number }
 }
 
 /// The number with the other sign.

@@ -1,7 +1,7 @@
 -- Names with numbers that were read one after the other are those that the words are; and those behind a command of bounds.
 use Rattle.std.proofs.Common.{◌≡◌, ℕ, ◌-◌, ◌≤◌, ◌<◌, Bool, true, false, List, [], ◌∷◌, ◌++◌, length, get_or, take, drop, arith, refl, sym, ap, ◌∙◌, append_assoc, Bor, Option, Some, None, if◌then◌else◌}
 use Rattle.std.proofs.lemmas.List.{append-nil}
-use Rattle.rational.specs.Rational.{ℚ}
+use Rattle.frac128.specs.Rational.{ℚ}
 use Rattle.lp_model.specs.Edits.{Named}
 use Rattle.edit_words.specs.Forms.{are_distinct}
 use Rattle.lp_model.specs.declared.types.Edit.TheVariants.{AddCol}

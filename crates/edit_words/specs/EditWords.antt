@@ -3,7 +3,7 @@
 --     pairs_asks words    the same of names with numbers alone
 use Rattle.std.specs.Prelude.{◌≡◌, ℕ, Bool, true, false, List, [], ◌∷◌, map, codes, if◌then◌else◌, Option, Some, None, Result, Ok, Err}
 use Rattle.std.specs.Str.{bytes_eq}
-use Rattle.rational.specs.Rational.{ℚ}
+use Rattle.frac128.specs.Rational.{ℚ}
 use Rattle.frac_text.specs.Parsing.{spelled_number}
 use Rattle.frac_text.specs.Sides.{side_of}
 use Rattle.frac_text.specs.declared.parsing.NumFault.{NumFault}

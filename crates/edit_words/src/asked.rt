@@ -4,12 +4,13 @@ ghost use Rattle.lp_model.specs.declared.types.Edit.TheVariants.{AddCol};
 ghost use Rattle.edit_words.specs.EditWords.{Edits, entries_of, with_entries, is_int_word, sides_edit, cost_asks, cost2_asks, row_asks, bounds_asks, kind_asks, addcol_asks, delcol_asks, delrow_asks, whole_row_edit, whole_row_asks, meaning, formed_asks, edit_asks, IsAskedOf};
 
 use crate::entries::{Entries, entries_in};
-use crate::forms::{fits, is_word};
+use crate::forms::fits;
 use crate::kinds::EditKind;
 use crate::numbers::{lower_in, number_in, side_in, upper_in};
 use frac128::Frac;
 use lp_model::{Bound, Edit, List, Name};
 use std::alloc::{AllocError, Global};
+use text_lines::is_word;
 
 /// What the words behind `edit` ask for.
 #[derive(Drop)]

@@ -1,7 +1,9 @@
 // Forms of words as data, and the words that have one.
-ghost use Rattle.std.specs.Prelude.{◌≡◌, map, bytes_eq};
+ghost use Rattle.std.specs.Prelude.{◌≡◌, map};
 ghost use Rattle.std.specs.List.{list_all};
 ghost use Rattle.edit_words.specs.Forms.{is_name_byte, is_new_name, fits_slot, fits_behind, fits, is_named, are_distinct};
+
+use text_lines::is_word;
 
 /// What may stand in a word's place.
 #[derive(Clone, Copy)]
@@ -22,13 +24,6 @@ pub(crate) enum Slot {
     Lower,
     /// A number, or `none`; far enough above 0 it is none.
     Upper,
-}
-
-/// Whether a word is this one.
-pub(crate) fn is_word(key: &[u8], word: &[u8]) -> bool
-    ensures { result ≡ bytes_eq word.now key.now }
-{
-    word == key
 }
 
 fn is_name_byte(byte: u8) -> bool

@@ -2,7 +2,8 @@
 ghost use Rattle.std.specs.Prelude.{◌≡◌};
 ghost use Rattle.edit_words.specs.EditWords.{edit_kind_of, whole_kind_of, slots_of, has_pairs};
 
-use crate::forms::{Slot, is_word};
+use crate::forms::Slot;
+use text_lines::is_word;
 
 /// What an edit changes, by its first word.
 #[derive(Clone, Copy)]

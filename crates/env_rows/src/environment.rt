@@ -7,7 +7,7 @@ use model_texts::{Words, edit_of, push_edit_fault};
 use search_file::{search_in, text_of};
 use std::alloc::Global;
 use sym_env::{Env, EnvFault, Limits};
-use warm_values::WarmFault;
+use warm_file::WarmFault;
 
 /// The environment, which answers the calls.
 #[derive(Drop)]

@@ -2,7 +2,7 @@
 use Rattle.std.specs.Prelude.{◌≡◌, ℤ, ◌∷◌, ◌++◌}
 use Rattle.std.specs.Fmt.{decimal, signed_decimal}
 use Rattle.std.proofs.Common.{refl, arith}
-use Rattle.rational.specs.Rational.{ℚ, den, int, IsWhole}
+use Rattle.frac128.specs.Rational.{ℚ, den, int, IsWhole}
 use Rattle.frac128.specs.Printing.{printed}
 
 pub printed-whole : (x : ℚ) → IsWhole x → printed x ≡ signed_decimal x.num

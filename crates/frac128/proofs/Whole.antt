@@ -4,11 +4,11 @@ use Rattle.std.proofs.Common.{sym, ap, ap₂, subst, ◌∙◌, arith, lit≤, d
 use Rattle.std.proofs.lemmas.Int.{ints}
 use mathlib.Core.Path.{subst₂}
 use Rattle.std.proofs.Math.Nat.{div-le_self, div-mul_cancel}
-use Rattle.rational.specs.Gcd.{gcd, gcd-one, gcd_comm, IsGcd-gcd}
-use Rattle.rational.specs.Rational.{ℚ, den, int, ◌+ℚ◌, ◌*ℚ◌, neg_ℚ, floor, ceil, floor_quotient}
-use Rattle.rational.proofs.IntegerRing.{ring_ℤ, reads_ℤ}
-use Rattle.rational.proofs.Integers.{int-num, num-neg_ℚ, den-neg_ℚ}
-use Rattle.rational.proofs.RationalRing.{int-+ℤ, int-*ℤ, int-neg_ℤ}
+use Rattle.frac128.specs.Gcd.{gcd, gcd-one, gcd_comm, IsGcd-gcd}
+use Rattle.frac128.specs.Rational.{ℚ, den, int, ◌+ℚ◌, ◌*ℚ◌, neg_ℚ, floor, ceil, floor_quotient}
+use Rattle.frac128.specs.IntegerRing.{ring_ℤ, reads_ℤ}
+use Rattle.frac128.proofs.Integers.{int-num, num-neg_ℚ, den-neg_ℚ}
+use Rattle.frac128.specs.RationalRing.{int-+ℤ, int-*ℤ, int-neg_ℤ}
 use Rattle.frac128.specs.Range.{IsNarrow, Fits, SumFits, left_factor, right_factor, largest}
 use Rattle.frac128.proofs.SumTerms.{OkIff_same, sum_fits}
 

@@ -10,12 +10,12 @@ use Rattle.std.proofs.Math.Nat.{pow-le-pow_right, mul-le-mul_right, mul-lt-mul_o
 use Rattle.std.proofs.Math.ListN.{take-append-drop}
 use Rattle.std.proofs.lemmas.Nat.{pow-add}
 use Rattle.std.proofs.lemmas.Int.{ints, by_lt_z}
-use Rattle.rational.specs.Rational.{ℚ, int, ◌/ℚ◌, neg_ℚ, ◌≤ℚ◌, ◌<ℚ◌, rational_le}
-use Rattle.rational.proofs.Integers.{int-≤ℚ-int}
-use Rattle.rational.proofs.Comparison.{rational_le-decides}
-use Rattle.rational.proofs.RationalRing.{int-*ℤ, int-neg_ℤ, reads_ℚ}
-use Rattle.rational.proofs.RationalOrder.{linear, positive_num, ≤ℚ_trans}
-use Rattle.rational.proofs.Division.{≤ℚ-/ℚ}
+use Rattle.frac128.specs.Rational.{ℚ, int, ◌/ℚ◌, neg_ℚ, ◌≤ℚ◌, ◌<ℚ◌, rational_le}
+use Rattle.frac128.proofs.Integers.{int-≤ℚ-int}
+use Rattle.frac128.proofs.Comparison.{rational_le-decides}
+use Rattle.frac128.specs.RationalRing.{int-*ℤ, int-neg_ℤ, reads_ℚ}
+use Rattle.frac128.specs.RationalOrder.{linear, positive_num, ≤ℚ_trans}
+use Rattle.frac128.proofs.Division.{≤ℚ-/ℚ}
 use Rattle.frac_text.specs.Spelling.{scaled, signed, is_digit, value_of, value_behind, Number, Wide, decimal_reading, quotient_reading, scaled_reading, is_wide_power}
 use Rattle.frac128.specs.Range.{largest}
 use Rattle.frac_text.specs.Parsing.{parsed}

@@ -7,10 +7,10 @@ use Rattle.std.proofs.lemmas.Bool.Decides.{nat_tests, Decides-eqb}
 use Rattle.std.proofs.Math.Nat.{pow-succ', one-le-pow, pow-le-pow_right, mul-le-mul_left, mul-le-mul_right}
 use Rattle.std.proofs.lemmas.Fmt.{decimal_by_steps_wide}
 use Rattle.std.proofs.lemmas.Int.{ints, by_lt_z}
-use Rattle.rational.specs.Rational.{ℚ, den, int, reduced, ◌/ℚ◌, neg_ℚ, IsWhole}
-use Rattle.rational.proofs.Integers.{int-num}
-use Rattle.rational.proofs.Lowest.{reduced_self, reduced-neg_ℚ}
-use Rattle.rational.proofs.RationalRing.{int-neg_ℤ}
+use Rattle.frac128.specs.Rational.{ℚ, den, int, reduced, ◌/ℚ◌, neg_ℚ, IsWhole}
+use Rattle.frac128.proofs.Integers.{int-num}
+use Rattle.frac128.specs.Lowest.{reduced_self, reduced-neg_ℚ}
+use Rattle.frac128.specs.RationalRing.{int-neg_ℤ}
 use Rattle.frac128.specs.Range.{Fits, largest}
 use Rattle.frac128.specs.Printing.{printed}
 use Rattle.frac_text.specs.Spelling.{Number, Wide, NoNumber, reading_of, value_behind, scaled, is_quotient, is_digit, are_digits, is_empty, is_minus, without_sign, value_of, without_zeros, is_slash, is_e, is_point, signed, slash_reading, plain_reading, decimal_reading, scaled_reading, quotient_reading, coefficient_of}

@@ -1,7 +1,7 @@
 -- What `parse` answers, and the parts into which it cuts a spelling.
 use Rattle.std.specs.Prelude.{List, ◌≡◌, ◌≢◌, ◌++◌, ℕ, ℤ, Bool, true, Result, Ok, Err}
 use Rattle.std.specs.List.{list_all}
-use Rattle.rational.specs.Rational.{ℚ}
+use Rattle.frac128.specs.Rational.{ℚ}
 use Rattle.frac128.specs.Range.{with_sign}
 use Rattle.frac_text.specs.Spelling.{Reading, Number, Wide, NoNumber, is_digit, is_slash, is_e, is_point, value_of, coefficient_of, power_of, decimal_reading, quotient_reading, reading_of}
 use Rattle.frac_text.specs.declared.parsing.NumFault.{NumFault}

@@ -9,7 +9,8 @@ ghost use Rattle.frac_text.specs.Spelling.{are_digits, is_digit, is_empty, value
 use frac128::LARGEST;
 use std::cmp::Ordering;
 
-fn is_digit_byte(byte: u8) -> bool
+/// Whether the byte is a decimal digit.
+pub fn is_digit_byte(byte: u8) -> bool
     ensures { result ≡ is_digit byte }
 {
     b'0' <= byte && byte <= b'9'
@@ -24,7 +25,8 @@ pub(crate) fn has_no_byte(bytes: &[u8]) -> bool
     }
 }
 
-pub(crate) fn has_digits_alone(bytes: &[u8]) -> bool
+/// Whether each byte is a decimal digit.
+pub fn has_digits_alone(bytes: &[u8]) -> bool
     ensures { result ≡ list_all is_digit bytes.now }
 {
     for index in 0..bytes.len() {

@@ -19,5 +19,7 @@ mod numeral;
 mod parsing;
 mod spelling;
 
+pub use digits::{has_digits_alone, is_digit_byte};
 pub use numeral::{Numeral, Side};
 pub use parsing::{NumFault, parse};
+pub use spelling::{behind_sign, has_minus};

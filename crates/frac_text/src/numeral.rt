@@ -1,7 +1,7 @@
 // What bytes spell, where a number that is too wide still counts by its size.
 ghost use Rattle.std.specs.Prelude.{◌≡◌, ◌≢◌, pos, ◌+ℤ◌, ◌-ℤ◌, ◌≤ℤ◌, ◌↔◌, IsTrue, true};
 ghost use Rattle.std.specs.List.{list_all};
-ghost use Rattle.rational.specs.Rational.{int, ◌/ℚ◌};
+ghost use Rattle.frac128.specs.Rational.{int, ◌/ℚ◌};
 ghost use Rattle.frac128.specs.Range.{with_sign};
 ghost use Rattle.frac_text.specs.Spelling.{reading_of, is_digit, value_of, scaled};
 ghost use Rattle.frac_text.specs.Parsing.{AreDecimal, AreQuotient, decimal_says, quotient_says, decimal_coefficient, decimal_power};

@@ -1,7 +1,7 @@
 // A fraction from its spelling.
 ghost use Rattle.std.specs.Prelude.{◌≡◌, ◌≢◌, ◌+◌, ◌-◌, ◌*◌, ◌^◌, ◌<◌, ◌≤◌, ◌++◌, ℤ, pos, ◌+ℤ◌, ◌-ℤ◌, unsigned_abs, Ok, MatchOption, true, length};
 ghost use Rattle.std.specs.List.{list_all};
-ghost use Rattle.rational.specs.Rational.{int, ◌/ℚ◌};
+ghost use Rattle.frac128.specs.Rational.{int, ◌/ℚ◌};
 ghost use Rattle.frac128.specs.Range.{largest, with_sign};
 ghost use Rattle.frac_text.specs.Spelling.{is_digit, reading_of, signed, coefficient_of, value_of, without_zeros, scaled_reading};
 ghost use Rattle.frac_text.specs.Parsing.{parsed, decimal_says, quotient_says, AreDecimal, AreQuotient};

@@ -80,7 +80,8 @@ fn cut_at(bytes: &[u8], mark: Mark) -> Cut<'_>
     }
 }
 
-fn has_minus(bytes: &[u8]) -> bool
+/// Whether a minus sign comes first.
+pub fn has_minus(bytes: &[u8]) -> bool
     ensures { result ≡ is_minus bytes.now }
 {
     match bytes {
@@ -89,7 +90,8 @@ fn has_minus(bytes: &[u8]) -> bool
     }
 }
 
-fn behind_sign(bytes: &[u8]) -> &[u8]
+/// The bytes without a sign that comes first.
+pub fn behind_sign(bytes: &[u8]) -> &[u8]
     ensures { result.now ≡ without_sign bytes.now }
 {
     match bytes {

@@ -2,7 +2,7 @@
 use Rattle.std.specs.Prelude.{ℕ, Bool, true, false, if◌then◌else◌, nat_eq, [], ◌∷◌, Option, Some, None, IsSome}
 use Rattle.std.specs.Option.{option_map}
 use Rattle.std.proofs.Common.{refl}
-use Rattle.rational.specs.Rational.{ℚ, int, floor, ceil}
+use Rattle.frac128.specs.Rational.{ℚ, int, floor, ceil}
 use Rattle.lp_model.specs.Program.{Program, lower, upper, is_integer}
 use Rattle.lp_model.specs.Regions.{Path, low_after, high_after, low_along, high_along, region_low, region_high}
 use Rattle.lp_model.specs.declared.types.Side.{Side}

@@ -4,9 +4,9 @@
 use Rattle.std.specs.Prelude.{◌≡◌, ◌≢◌, ◌⊎◌, ℕ, zero, suc, ◌<◌, ◌≤◌, List, [], ◌∷◌, length, get_or, pos, Some, None}
 use Rattle.std.proofs.Common.{refl, sym, ap, subst, ◌∙◌, inl, inr, arith}
 use Rattle.std.proofs.lemmas.Bool.{cases_order, cases_eq}
-use Rattle.rational.specs.Rational.{ℚ, int, ◌+ℚ◌, ◌-ℚ◌, ◌*ℚ◌, neg_ℚ}
-use Rattle.rational.proofs.RationalRing.{ring, reads_ℚ}
-use Rattle.checked_sum.specs.Sums.{sum_below}
+use Rattle.frac128.specs.Rational.{ℚ, int, ◌+ℚ◌, ◌-ℚ◌, ◌*ℚ◌, neg_ℚ}
+use Rattle.frac128.specs.RationalRing.{ring, reads_ℚ}
+use Rattle.frac128.specs.Sums.{sum_below}
 use Rattle.checked_sum.specs.Steps.{StepFits, StepFitsAt, AllFit, partial}
 use Rattle.checked_sum.proofs.StepLaws.{skip_factor}
 use Rattle.lp_model.specs.Elements.{of_element}
@@ -19,6 +19,7 @@ use Rattle.leaf_dual.specs.declared.dual.LagValue.{LagValue}
 use Rattle.leaf_dual.specs.declared.dual.LagValue.TheVariants.{Num}
 use Rattle.leaf_dual.specs.Dual.{needed_side, left_by_rows, cut_side, times, plus, total_below, column_reduced_cost}
 use Rattle.leaf_dual.specs.Answers.{side_number, rows_total, cut_number, LacksCutSide}
+use Rattle.leaf_dual.proofs.EntrySums.{partial_suc}
 use Rattle.leaf_dual.proofs.LikeCuts.{IsLike}
 use Rattle.leaf_dual.proofs.FurtherCut.{plus-none, side-none}
 
@@ -66,9 +67,6 @@ found_or_not g p (suc n) = elim (found_or_not g p n) [
 ]
 
 -- ---- sums
-
-partial_suc : (start : ℚ) (a x : ℕ → ℚ) (k : ℕ) → partial start a x (suc k) ≡ partial start a x k +ℚ a k *ℚ x k
-partial_suc start a x k = ring (start ∷ sum_below k (λ j. a j *ℚ x j) ∷ a k ∷ x k ∷ []) (search reads_ℚ) tt
 
 module _ (g : ℕ → ℕ) (n m : ℕ) (rises : (j k : ℕ) → j < k → k < n → g j < g k) (there : (k : ℕ) → k < n → g k < m) where
   end-within : after g n ≤ m

@@ -2,9 +2,9 @@
 use Rattle.std.specs.Prelude.{◌≡◌, ℕ, zero, suc, ◌+◌, ◌<◌, ◌≤◌, false, nat_eq, List, [], ◌∷◌, length, pos, Ok}
 use Rattle.std.proofs.Common.{refl, sym, ap, subst, ◌∙◌, inl, inr, arith, eq-eqb}
 use Rattle.std.proofs.lemmas.Bool.{cases_order, ne_eqb}
-use Rattle.rational.specs.Rational.{ℚ, int, ◌+ℚ◌, ◌*ℚ◌}
-use Rattle.rational.proofs.RationalRing.{ring, reads_ℚ}
-use Rattle.checked_sum.specs.Sums.{sum_below}
+use Rattle.frac128.specs.Rational.{ℚ, int, ◌+ℚ◌, ◌*ℚ◌}
+use Rattle.frac128.specs.RationalRing.{ring, reads_ℚ}
+use Rattle.frac128.specs.Sums.{sum_below}
 use Rattle.checked_sum.specs.Steps.{StepFits, StepFitsAt, AllFit, IsFirstWide, IsCheckedSum, partial}
 use Rattle.checked_sum.proofs.StepLaws.{skip_number, partial_none, fits_more}
 use Rattle.lp_model.specs.Program.{entry_of}
@@ -15,7 +15,7 @@ use Rattle.leaf_dual.specs.Parts.{entry_row, entry_number}
 
 -- ---- sums whose numbers are 0 from a place on
 
-partial_suc : (start : ℚ) (a x : ℕ → ℚ) (k : ℕ) → partial start a x (suc k) ≡ partial start a x k +ℚ a k *ℚ x k
+pub partial_suc : (start : ℚ) (a x : ℕ → ℚ) (k : ℕ) → partial start a x (suc k) ≡ partial start a x k +ℚ a k *ℚ x k
 partial_suc start a x k = ring (start ∷ sum_below k (λ j. a j *ℚ x j) ∷ a k ∷ x k ∷ []) (search reads_ℚ) tt
 
 fits_suc : (start : ℚ) (a x : ℕ → ℚ) (k : ℕ) → AllFit start a x k → StepFitsAt start a x k → AllFit start a x (suc k)

@@ -3,7 +3,7 @@ use Rattle.std.specs.Prelude.{◌≡◌, ◌^◌, ◌<◌, ◌≤◌, ◌+ℤ◌
 use Rattle.std.specs.Int.{w128}
 use Rattle.std.proofs.Common.{FitsSigned, refl, sym, ap, ap₂, subst, ◌∙◌, arith, to_z, of_z, w64}
 use Rattle.std.proofs.lemmas.Int.{ints}
-use Rattle.rational.proofs.IntegerRing.{ring_ℤ, reads_ℤ}
+use Rattle.frac128.specs.IntegerRing.{ring_ℤ, reads_ℤ}
 use Rattle.leaf_dual.specs.Wholes.{IsFactor, HasRoomForProduct, IsDenominator}
 use Rattle.leaf_dual.proofs.RoomLemmas.{factor_product}
 

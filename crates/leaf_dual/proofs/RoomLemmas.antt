@@ -4,10 +4,10 @@ use Rattle.std.specs.Int.{◌∣◌, IsGcd}
 use Rattle.std.proofs.Common.{sym, ap, ap₂, subst, ◌∙◌, arith}
 use Rattle.std.proofs.Math.Nat.{dvd-mul_right, dvd_of_mul-dvd-mul_right, mul-le-mul_right, mul-le-mul_left, div-mul_cancel}
 use Rattle.std.proofs.lemmas.Int.{unsigned_abs-mul}
-use Rattle.rational.specs.Gcd.{gcd, gcd_pos, gcd-div, IsGcd-gcd, dvd_from_coprime}
-use Rattle.rational.specs.Rational.{ℚ, den, reduced, suc-pred_quotient}
-use Rattle.rational.proofs.IntegerRing.{ring_ℤ, reads_ℤ}
-use Rattle.rational.proofs.Lowest.{cancel_ℤ}
+use Rattle.frac128.specs.Gcd.{gcd, gcd_pos, gcd-div, IsGcd-gcd, dvd_from_coprime}
+use Rattle.frac128.specs.Rational.{ℚ, den, reduced, suc-pred_quotient}
+use Rattle.frac128.specs.IntegerRing.{ring_ℤ, reads_ℤ}
+use Rattle.frac128.specs.Lowest.{cancel_ℤ}
 use mathlib.Core.Path.{subst₂}
 use Rattle.frac128.specs.Range.{IsNarrow, SumFits, largest, left_factor, right_factor}
 use Rattle.leaf_dual.specs.Wholes.{IsFactor}

@@ -1,7 +1,7 @@
 -- The parts of a leaf's number from whole numbers over a denominator.
 use Rattle.std.specs.Prelude.{◌≡◌, ◌≢◌, ℕ, ◌<◌, ◌+ℤ◌, ◌*ℤ◌, ℤ, List, length, Option, None, Ok}
 use Rattle.std.proofs.Common.{refl, ap, ◌∙◌, inl, inr}
-use Rattle.rational.specs.Rational.{ℚ}
+use Rattle.frac128.specs.Rational.{ℚ}
 use Rattle.frac128.specs.LowestTerms.{quotient_of}
 use Rattle.lp_model.specs.Program.{Program}
 use Rattle.lp_model.specs.Regions.{Path, region_low, region_high}

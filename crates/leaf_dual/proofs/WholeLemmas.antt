@@ -5,11 +5,11 @@ use Rattle.std.proofs.Common.{refl, inr, sym, ap, subst, ◌∙◌, arith}
 use Rattle.std.proofs.lemmas.Int.{ints}
 use Rattle.std.proofs.lemmas.Result.{OkIff-at_ok}
 use mathlib.Core.Path.{subst₂}
-use Rattle.rational.specs.Rational.{ℚ, den, reduced, int, ◌+ℚ◌, ◌*ℚ◌, ◌/ℚ◌, ◌<ℚ◌, neg_ℚ}
-use Rattle.rational.proofs.IntegerRing.{ring_ℤ, reads_ℤ}
-use Rattle.rational.proofs.Lowest.{reduced_self, reduced-cross, reduced-same, reduced-+ℚ, reduced-<ℚ}
-use Rattle.rational.proofs.RationalOrder.{<ℚ_irrefl}
-use Rattle.rational.proofs.RationalRing.{int_is, ring, reads_ℚ}
+use Rattle.frac128.specs.Rational.{ℚ, den, reduced, int, ◌+ℚ◌, ◌*ℚ◌, ◌/ℚ◌, ◌<ℚ◌, neg_ℚ}
+use Rattle.frac128.specs.IntegerRing.{ring_ℤ, reads_ℤ}
+use Rattle.frac128.specs.Lowest.{reduced_self, reduced-cross, reduced-same, reduced-+ℚ, reduced-<ℚ}
+use Rattle.frac128.specs.RationalOrder.{<ℚ_irrefl}
+use Rattle.frac128.specs.RationalRing.{int_is, ring, reads_ℚ}
 use Rattle.frac128.specs.Range.{IsNarrow, Fits, SumFits}
 use Rattle.frac128.specs.LowestTerms.{quotient_of}
 use Rattle.frac128.proofs.Terms.{denominator_is, same_quotient, quotient-*ℚ, quotient-/ℚ, quotient-neg_ℚ}
@@ -98,7 +98,7 @@ none_taken x w d h w_is = no_term (neg_ℚ (quotient_of w d)) x d h (ap neg_ℚ 
 -- ---- sums over one denominator
 
 -- the sum of two numbers
-sum_is : (a b d : ℤ) → quotient_of a d +ℚ quotient_of b d ≡ quotient_of (a +ℤ b) d
+pub sum_is : (a b d : ℤ) → quotient_of a d +ℚ quotient_of b d ≡ quotient_of (a +ℤ b) d
 sum_is a b d =
     reduced-+ℚ a b (unsigned_abs d - 1) (unsigned_abs d - 1)
     ∙ reduced-same _ _ _ _ (ring_ℤ (a ∷ b ∷ pos (suc (unsigned_abs d - 1)) ∷ []) (search reads_ℤ depth 9) (search reads_ℤ depth 9) tt)

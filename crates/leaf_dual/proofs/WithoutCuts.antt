@@ -1,9 +1,9 @@
 -- Without cuts a reduced cost is what the rows leave.
 use Rattle.std.specs.Prelude.{◌≡◌, ℕ, [], ◌∷◌, length}
 use Rattle.std.proofs.Common.{ap}
-use Rattle.rational.specs.Rational.{ℚ, ◌-ℚ◌, ◌*ℚ◌}
-use Rattle.rational.proofs.RationalRing.{ring, reads_ℚ}
-use Rattle.checked_sum.specs.Sums.{sum_below}
+use Rattle.frac128.specs.Rational.{ℚ, ◌-ℚ◌, ◌*ℚ◌}
+use Rattle.frac128.specs.RationalRing.{ring, reads_ℚ}
+use Rattle.frac128.specs.Sums.{sum_below}
 use Rattle.lp_model.specs.Program.{Program, coefficient}
 use Rattle.lp_model.specs.Formulations.{without_cuts}
 use Rattle.leaf_dual.specs.Dual.{left_by_rows, left_by_cuts, column_reduced_cost}

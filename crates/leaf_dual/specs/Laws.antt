@@ -1,7 +1,7 @@
 -- What the numbers prove of the points of a region, where no feasible point breaks a cut that counts; and that an answer is
 -- the number, and the only one.
 use Rattle.std.specs.Prelude.{◌↔◌, ◌≡◌, Bool, IsTrue, Result, Ok, ◌++◌, ◌∷◌, [], ℕ, length, All}
-use Rattle.rational.specs.Rational.{ℚ, ◌≤ℚ◌}
+use Rattle.frac128.specs.Rational.{ℚ, ◌≤ℚ◌}
 use Rattle.lp_model.specs.Program.{Point, least_value, IsFeasible, HasWholeObjective}
 use Rattle.lp_model.specs.Regions.{Path, InRegion}
 use Rattle.lp_model.specs.declared.types.CutRow.{CutRow}

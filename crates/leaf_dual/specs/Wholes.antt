@@ -1,6 +1,6 @@
 -- Whole numbers over one denominator: sums of products of them that have room, step by step.
 use Rattle.std.specs.Prelude.{◌≡◌, ◌^◌, ◌<◌, ◌≤◌, ℕ, Bool, true, false, if◌then◌else◌, ◌<ℤ◌, ◌*ℤ◌, ℤ, pos, unsigned_abs, List, length, get_or}
-use Rattle.rational.specs.Rational.{ℚ, ◌*ℚ◌}
+use Rattle.frac128.specs.Rational.{ℚ, ◌*ℚ◌}
 use Rattle.frac128.specs.LowestTerms.{quotient_of}
 use Rattle.lp_model.specs.Cuts.{is_live}
 use Rattle.lp_model.specs.declared.types.CutRow.{CutRow}

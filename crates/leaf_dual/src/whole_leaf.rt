@@ -1,6 +1,6 @@
 // A leaf's number in whole numbers over one denominator, with one greatest common divisor at its end.
 ghost use Rattle.std.specs.Prelude.{◌≡◌, ◌≢◌, ◌<◌, ◌≤◌, ◌<ℤ◌, ℕ, ℤ, List, pos, length, None, Ok, IfSome};
-ghost use Rattle.rational.specs.Rational.{int, neg_ℚ, ◌+ℚ◌, ◌*ℚ◌};
+ghost use Rattle.frac128.specs.Rational.{int, neg_ℚ, ◌+ℚ◌, ◌*ℚ◌};
 ghost use Rattle.checked_sum.specs.Steps.{StepFits, AllFit, partial};
 ghost use Rattle.frac128.specs.LowestTerms.{quotient_of};
 ghost use Rattle.lp_model.specs.Regions.{AreNarrow, region_low, region_high};

@@ -1,6 +1,6 @@
 // Whole numbers whose products have room, and a denominator that fractions have in common.
 ghost use Rattle.std.specs.Prelude.{◌≡◌, ◌*ℤ◌, IfSome};
-ghost use Rattle.rational.specs.Rational.{int};
+ghost use Rattle.frac128.specs.Rational.{int};
 ghost use Rattle.frac128.specs.LowestTerms.{quotient_of};
 ghost use Rattle.leaf_dual.specs.Wholes.{IsFactor, IsDenominator};
 

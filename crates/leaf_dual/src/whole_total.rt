@@ -1,6 +1,6 @@
 // Sums whose terms are products of whole numbers over one denominator, without greatest common divisors.
 ghost use Rattle.std.specs.Prelude.{◌≡◌, ◌<◌, ◌+ℤ◌, ◌*ℤ◌, ℕ, ℤ, IfSome};
-ghost use Rattle.rational.specs.Rational.{ℚ};
+ghost use Rattle.frac128.specs.Rational.{ℚ};
 ghost use Rattle.frac128.specs.LowestTerms.{quotient_of};
 ghost use Rattle.checked_sum.specs.Steps.{AllFit, partial};
 ghost use Rattle.leaf_dual.specs.Wholes.{HasRoomForProduct, IsDenominator, IsFactor, IsTermOver};

@@ -7,8 +7,8 @@ use Rattle.std.specs.Ordering.{MatchOrdering, ordering_then, nat_cmp, is_eq, is_
 use Rattle.std.specs.declared.cmp.Ordering.TheVariants.{Less, Equal, Greater}
 use Rattle.std.proofs.Common.{refl, sym, subst, ap, ◌∙◌, arith, inl, inr}
 use Rattle.std.proofs.lemmas.Cmp.{ranked, nat_cmp_total, tied_itself}
-use Rattle.rational.specs.Rational.{ℚ, ◌<ℚ◌, rational_cmp}
-use Rattle.rational.proofs.Comparison.{rational_ranked, cmp_self}
+use Rattle.frac128.specs.Rational.{ℚ, ◌<ℚ◌, rational_cmp}
+use Rattle.frac128.specs.ComparisonLaws.{rational_ranked, cmp_self}
 use Rattle.leaf_judging.specs.declared.choosing.Candidate.{Candidate}
 use Rattle.leaf_judging.specs.declared.queue.LeafQueue.{LeafQueue}
 use Rattle.leaf_judging.specs.Choosing.{GoesFirst}

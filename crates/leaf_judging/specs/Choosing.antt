@@ -1,6 +1,6 @@
 -- Which leaf is worked next: the open one with the least number, of equals that with the least id.
 use Rattle.std.specs.Prelude.{◌≡◌, ◌⊎◌, ℕ, ◌≤◌, List, [], ◌∷◌, Option, Some, None}
-use Rattle.rational.specs.Rational.{ℚ, ◌<ℚ◌}
+use Rattle.frac128.specs.Rational.{ℚ, ◌<ℚ◌}
 use Rattle.lp_model.specs.Formulations.{Formulation}
 use Rattle.leaf_dual.specs.declared.dual.LagValue.TheVariants.{Minus, Num}
 use Rattle.branch_tree.specs.declared.node.LeafState.TheVariants.{IsOpen, IsClosed}

@@ -3,7 +3,7 @@
 --     NumberCloses M t n                       no feasible point of a leaf with this number has a value below t
 --     IsJudged F t path mult farkas state      the leaf is marked closed exactly where its number closes
 use Rattle.std.specs.Prelude.{◌⊎◌, true, false, [], ◌∷◌, Option, Some, None, Ok, Err}
-use Rattle.rational.specs.Rational.{ℚ}
+use Rattle.frac128.specs.Rational.{ℚ}
 use Rattle.lp_model.specs.Program.{Program, HasWholeObjective}
 use Rattle.lp_model.specs.Regions.{Path, IsEmptyRegion}
 use Rattle.lp_model.specs.Formulations.{Formulation}

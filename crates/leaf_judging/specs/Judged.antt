@@ -1,6 +1,6 @@
 -- All leaves of a tree judged.
 use Rattle.std.specs.Prelude.{◌≡◌, ◌≤◌, List, [], length, Option}
-use Rattle.rational.specs.Rational.{ℚ}
+use Rattle.frac128.specs.Rational.{ℚ}
 use Rattle.lp_model.specs.Formulations.{Formulation}
 use Rattle.branch_tree.specs.Tree.{EachLeaf}
 use Rattle.branch_tree.specs.Plain.{Plain}

@@ -4,7 +4,7 @@ use Rattle.std.specs.List.{list_any, AllZip}
 use Rattle.std.specs.Option.{option_cmp}
 use Rattle.std.specs.Ordering.{ordering_then, nat_cmp, is_eq}
 use Rattle.std.specs.declared.cmp.Ordering.{Ordering}
-use Rattle.rational.specs.Rational.{ℚ, rational_cmp}
+use Rattle.frac128.specs.Rational.{ℚ, rational_cmp}
 use Rattle.lp_model.specs.Regions.{Path}
 use Rattle.lp_model.specs.Formulations.{Formulation}
 use Rattle.branch_tree.specs.Tree.{Tree, Leaf, Split, left_path, right_path, EachLeaf}

@@ -9,6 +9,7 @@ use cover_cuts::CutPool;
 use frac128::Frac;
 use leaf_dual::{LagValue, closes, path_farkas, path_lag};
 use lp_model::{BoundChange, Model, Mult, WideStep};
+use model_points::has_whole_objective;
 
 /// What a leaf's multipliers say of its region.
 #[derive(Clone, Copy, Drop)]
@@ -71,7 +72,7 @@ pub fn number_closes(model: &Model, target: &Option<Frac>, number: &LeafNumber) 
         LeafNumber::Empty => true,
         LeafNumber::Lag(value) => match target {
             None => false,
-            Some(target) => closes(value, target, model.has_whole_objective(1)),
+            Some(target) => closes(value, target, has_whole_objective(model, 1)),
         },
         LeafNumber::Wide(_) => false,
     }

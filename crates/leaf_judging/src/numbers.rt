@@ -61,7 +61,7 @@ impl LeafNumbers {
     /// # Errors
     ///
     /// Only for want of memory: the numbers stay.
-    pub fn put(&mut self, id: u64, number: &LeafNumber) -> Result<(), AllocError>
+    pub(crate) fn put(&mut self, id: u64, number: &LeafNumber) -> Result<(), AllocError>
         ensures put { OnOk result (PutsNumber self.old id number.now self.new) }
         ensures kept { OnErr result (AreSameNumbers self.old self.new) }
     {

@@ -1,24 +1,15 @@
--- What layers above use of models: the answers of the calls, lawful models by place, and whole objectives.
-use Rattle.std.specs.Prelude.{◌≡◌, ◌≢◌, ℕ, [], ◌∷◌, ◌<◌, ◌≤◌, Bool, true, false, IsTrue, length, pos, Ok, None, IsSome}
+-- What layers above use of models: lawful models by place, and whole objectives.
+use Rattle.std.specs.Prelude.{◌≡◌, ◌≢◌, ℕ, [], ◌∷◌, ◌<◌, ◌≤◌, Bool, true, false, IsTrue, length, pos, None, IsSome}
 use Rattle.std.proofs.Common.{refl, sym, ap, subst, ◌∙◌, arith}
 use Rattle.std.specs.Ordering.{eq_by_cmp}
-use Rattle.rational.specs.Rational.{ℚ, int, ◌*ℚ◌, IsWhole, rational_cmp}
-use Rattle.rational.proofs.Comparison.{eq_by_cmp-decides}
-use Rattle.rational.proofs.RationalRing.{ring, reads_ℚ}
-use Rattle.rational.proofs.Integers.{IsWhole-int, IsWhole-+ℚ, IsWhole-*ℚ}
-use Rattle.checked_sum.specs.Sums.{sum_below}
-use Rattle.checked_sum.proofs.SumLaws.{IsWhole-sum_below}
-use Rattle.lp_model.specs.Program.{Program, Point, coordinate, constant, cost, is_integer, lower, upper, low_side, high_side, activity, value, IsFeasible, HasWholeObjective}
+use Rattle.frac128.specs.Rational.{int, ◌*ℚ◌, IsWhole, rational_cmp}
+use Rattle.frac128.proofs.Comparison.{eq_by_cmp-decides}
+use Rattle.frac128.specs.RationalRing.{ring, reads_ℚ}
+use Rattle.frac128.proofs.Integers.{IsWhole-int, IsWhole-+ℚ, IsWhole-*ℚ, IsWhole-sum_below}
+use Rattle.frac128.specs.Sums.{sum_below}
+use Rattle.lp_model.specs.Program.{Program, Point, coordinate, constant, cost, is_integer, lower, upper, low_side, high_side, value, IsFeasible, HasWholeObjective}
 use Rattle.lp_model.specs.Lawful.{row_limit, col_limit, IsRange, IsLawfulColumn, IsLawful}
-use Rattle.lp_model.specs.Answers.{IsValueAnswer, IsActivityAnswer}
 use Rattle.lp_model.proofs.ElementLemmas.{of_element-get, element}
-
--- a value that is answered is the point's value, and an activity the row's
-pub value_answer : (M : Program) (w : ℕ) (x : Point) (v : ℚ) → IsValueAnswer M w x (Ok v) → v ≡ value M w x
-value_answer M w x v answer = answer.1
-
-pub activity_answer : (M : Program) (x : Point) (i : ℕ) (v : ℚ) → IsActivityAnswer M x i (Ok v) → v ≡ activity M x i
-activity_answer M x i v answer = answer.1 ∙ ring (activity M x i ∷ []) (search reads_ℚ) tt
 
 -- ---- lawful models, by place
 

@@ -3,7 +3,7 @@
 --     formulation M cuts, without_cuts M    the model with these cuts, and with none
 --     IsValid F                             no feasible point breaks a cut that counts
 use Rattle.std.specs.Prelude.{ℕ, List, [], pos, Option, Some, None}
-use Rattle.rational.specs.Rational.{ℚ, int}
+use Rattle.frac128.specs.Rational.{ℚ, int}
 use Rattle.lp_model.specs.Elements.{of_element}
 use Rattle.lp_model.specs.Program.{Program, Point, IsFeasible}
 use Rattle.lp_model.specs.Cuts.{MeetsCuts}

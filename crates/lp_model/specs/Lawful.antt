@@ -1,6 +1,6 @@
 -- Which models there are: what every `Model` keeps.
 use Rattle.std.specs.Prelude.{◌≡◌, ◌≢◌, ℕ, suc, ◌<◌, ◌≤◌, Bool, if◌then◌else◌, IsTrue, List, [], ◌∷◌, length, map, All, AllPairs, sum_by, pos, Option, Some, None, IsSome}
-use Rattle.rational.specs.Rational.{ℚ, int, ◌-ℚ◌, neg_ℚ, ◌≤ℚ◌}
+use Rattle.frac128.specs.Rational.{ℚ, int, ◌-ℚ◌, neg_ℚ, ◌≤ℚ◌}
 use Rattle.frac128.specs.Range.{SumFits}
 use Rattle.lp_model.specs.Program.{Program}
 use Rattle.lp_model.specs.Elements.{of_element}

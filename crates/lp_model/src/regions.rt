@@ -1,7 +1,7 @@
 // The bounds of a region: the model's, and the bound changes of a path.
 ghost use Rattle.std.specs.Prelude.{◌≡◌, ◌↔◌, ◌<◌, ℕ, length, IsTrue, if◌then◌else◌};
 ghost use Rattle.std.specs.Option.{option_map};
-ghost use Rattle.rational.specs.Rational.{int, floor, ceil, min_ℚ, max_ℚ};
+ghost use Rattle.frac128.specs.Rational.{int, floor, ceil, min_ℚ, max_ℚ};
 ghost use Rattle.frac128.specs.Range.{IsNarrow};
 ghost use Rattle.lp_model.specs.Program.{lower, upper, is_integer};
 ghost use Rattle.lp_model.specs.Regions.{AreNarrow, tighter_low, tighter_high, low_after, high_after, low_along, high_along, region_low, region_high, IsCrossed, IsEmptyRegion};

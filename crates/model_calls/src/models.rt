@@ -99,7 +99,7 @@ pub fn push_step(got: &mut String, model: &Model, step: WideStep) -> Result<()> 
 
 fn feasibility(alloc: Global, model: &Model, words: &mut Words, got: &mut String) -> Result<()> {
     let point = point_of(alloc, model, words)?;
-    match model.is_feasible(&point) {
+    match model_points::is_feasible(model, &point) {
         Ok(true) => got.push_str("feasible")?,
         Ok(false) => got.push_str("infeasible")?,
         Err(step) => push_step(got, model, step)?,
@@ -130,7 +130,7 @@ fn take_objective(words: &mut Words) -> Result<u8>
 fn value(alloc: Global, model: &Model, words: &mut Words, got: &mut String) -> Result<()> {
     let which = take_objective(words)?;
     let point = point_of(alloc, model, words)?;
-    let value = model.value(which, &point);
+    let value = model_points::value(model, which, &point);
     push_number(got, model, &value)
 }
 
@@ -146,7 +146,7 @@ fn take_row(model: &Model, words: &mut Words) -> Result<u32> {
 fn activity(alloc: Global, model: &Model, words: &mut Words, got: &mut String) -> Result<()> {
     let row = take_row(model, words)?;
     let point = point_of(alloc, model, words)?;
-    let activity = model.activity(row, &point);
+    let activity = model_points::activity(model, row, &point);
     push_number(got, model, &activity)
 }
 
@@ -202,7 +202,7 @@ fn place(model: &Model, words: &mut Words, got: &mut String) -> Result<()> {
 /// Writes that an objective is whole, or the column by which it isn't.
 fn whole(model: &Model, words: &mut Words, got: &mut String) -> Result<()> {
     let which = take_objective(words)?;
-    match model.whole_objective(which) {
+    match model_points::whole_objective(model, which) {
         Ok(()) => got.push_str("whole")?,
         Err(NotWhole { col: Some(col) }) => write!(got, "not by column#{}", col.0)?,
         Err(NotWhole { col: None }) => got.push_str("not by its constant")?,

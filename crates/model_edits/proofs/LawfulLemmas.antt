@@ -4,8 +4,8 @@ use Rattle.std.proofs.Common.{refl, sym, ap, subst, ◌∙◌, arith}
 use Rattle.std.proofs.lemmas.List.{map-append, length_push, length-map, get_or_default}
 use Rattle.std.proofs.lemmas.List.Elements.{All-push, All-map}
 use Rattle.std.proofs.lemmas.List.Quantifiers.{all_pairs_push}
-use Rattle.rational.specs.Rational.{ℚ, int}
-use Rattle.rational.proofs.Comparison.{eq_by_cmp-decides}
+use Rattle.frac128.specs.Rational.{ℚ, int}
+use Rattle.frac128.proofs.Comparison.{eq_by_cmp-decides}
 use Rattle.lp_model.specs.Program.{Program}
 use Rattle.lp_model.specs.Lawful.{AreEntries, IsRange, IsLawfulColumn, row_names, column_names, IsLawful}
 use Rattle.lp_model.specs.Edits.{Named, number_beside, numbers_beside, entries_beside, is_zero, with_entry, edited, adds_col, adds_row, EditFits}

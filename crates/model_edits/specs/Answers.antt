@@ -1,6 +1,6 @@
 -- What the code answers that checks and makes edits.
 use Rattle.std.specs.Prelude.{◌≡◌, ℕ, List, Option, Result, Ok, Err}
-use Rattle.rational.specs.Rational.{ℚ}
+use Rattle.frac128.specs.Rational.{ℚ}
 use Rattle.lp_model.specs.Program.{Program}
 use Rattle.lp_model.specs.Edits.{Named, IsPlaceOf, only_row_names, edited, EditFits}
 use Rattle.lp_model.specs.declared.types.Col.{Col}

@@ -1,6 +1,6 @@
 // Edits of a model that take out a column or a row, or give a row other coefficients.
 ghost use Rattle.std.specs.Prelude.{◌≡◌, ◌⊎◌, ◌++◌, ◌∷◌, [], map, filter, nat_lt, Contains, IfOk, OnOk, IfErr};
-ghost use Rattle.rational.specs.Rational.{ℚ};
+ghost use Rattle.frac128.specs.Rational.{ℚ};
 ghost use Rattle.lp_model.specs.declared.types.RowId.{RowId as Place};
 ghost use Rattle.lp_model.specs.declared.types.Edit.TheVariants.{DelCol, DelRow, ReplaceRow};
 ghost use Rattle.lp_model.specs.Edits.{number_beside, entry_at, entries_without, without_entry, entries_with, replaced_entry, only_row_names, IsPlaceOf};

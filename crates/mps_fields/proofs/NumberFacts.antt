@@ -2,8 +2,8 @@
 use Rattle.std.proofs.Common.{◌≡◌, pos, ap}
 use Rattle.std.specs.Bool.{Decides}
 use Rattle.std.proofs.lemmas.Bool.Decides.{Decides-int_eq}
-use Rattle.rational.specs.Rational.{ℚ, int}
-use Rattle.rational.proofs.Rounding.{num_zero}
+use Rattle.frac128.specs.Rational.{ℚ, int}
+use Rattle.frac128.proofs.Rounding.{num_zero}
 use Rattle.mps_fields.specs.Numbers.{is_zero_number}
 
 num_of_zero : (x : ℚ) → x ≡ int (pos 0) → x.num ≡ pos 0

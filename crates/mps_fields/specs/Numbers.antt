@@ -1,7 +1,7 @@
 -- The numbers of a text, and the limits that BOUNDS states.
 use Rattle.std.specs.Prelude.{ℕ, ◌^◌, Bool, true, false, not, ◌||◌, if◌then◌else◌, List, codes, Option, None, Some, Result, Ok, Err, pos}
 use Rattle.std.specs.Ordering.{int_eq}
-use Rattle.rational.specs.Rational.{ℚ, int, neg_ℚ, rational_le}
+use Rattle.frac128.specs.Rational.{ℚ, int, neg_ℚ, rational_le}
 use Rattle.frac_text.specs.Sides.{numeral_of}
 use Rattle.frac_text.specs.declared.numeral.Side.{Side}
 use Rattle.frac_text.specs.declared.numeral.Side.TheVariants.{Above, Between, Below}

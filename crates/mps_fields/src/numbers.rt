@@ -1,11 +1,10 @@
 // The numbers of a text, and the limits that BOUNDS states.
 ghost use Rattle.std.specs.Prelude.{◌≡◌};
-ghost use Rattle.rational.specs.Rational.{rational_le};
-ghost use Rattle.frac_text.specs.Spelling.{without_sign, is_minus};
+ghost use Rattle.frac128.specs.Rational.{rational_le};
 ghost use Rattle.mps_fields.specs.Numbers.{is_zero_number, limit_of, limit_or_plus, within, limit_at_side, infinite, is_infinite_word, is_misplaced, is_not_number, is_too_wide, finite, is_below_zero};
 
 use crate::words::{BoundKind, is_key};
-use frac_text::{NumFault, Numeral, Side};
+use frac_text::{NumFault, Numeral, Side, behind_sign, has_minus};
 use frac128::Frac;
 
 /// What the number of a bound line states. A number whose magnitude is 10^20 or more is infinite.
@@ -16,16 +15,6 @@ pub enum Limit {
     Minus,
 }
 
-fn without_sign(field: &[u8]) -> &[u8]
-    ensures { result.now ≡ without_sign field.now }
-{
-    match field {
-        [b'+', rest @ ..] => rest,
-        [b'-', rest @ ..] => rest,
-        _ => field,
-    }
-}
-
 /// Whether a number is 0.
 pub fn is_zero(number: &Frac) -> bool
     ensures { result ≡ is_zero_number number.now }
@@ -33,17 +22,11 @@ pub fn is_zero(number: &Frac) -> bool
     *number == Frac::whole(0)
 }
 
-fn is_minus(field: &[u8]) -> bool
-    ensures { result ≡ is_minus field.now }
-{
-    matches!(field, [b'-', ..])
-}
-
 /// Whether a field is `Inf` or `Infinity` with an optional sign.
 fn is_infinite_word(field: &[u8]) -> bool
     ensures { result ≡ is_infinite_word field.now }
 {
-    let word = without_sign(field);
+    let word = behind_sign(field);
     is_key(b"INF", word) || is_key(b"INFINITY", word)
 }
 
@@ -90,7 +73,7 @@ pub fn limit_of(field: &[u8]) -> Result<Limit, NumFault>
     ensures { result ≡ limit_of field.now }
 {
     if is_infinite_word(field) {
-        return Ok(infinite(is_minus(field)));
+        return Ok(infinite(has_minus(field)));
     }
     match Numeral::of(field) {
         Numeral::Number(number) => Ok(limit_at(number)),

@@ -36,14 +36,14 @@ impl<'a> Pair<'a> {
     }
 
     /// Whether the field is no number.
-    pub fn is_not_number(&self) -> bool
+    pub(crate) fn is_not_number(&self) -> bool
         ensures { result ≡ is_not_number (spelled_number self.now.field.now) }
     {
         matches!(self.number, Err(NumFault::NotNumber))
     }
 
     /// Whether the field is a number that has no room.
-    pub fn is_too_wide(&self) -> bool
+    pub(crate) fn is_too_wide(&self) -> bool
         ensures { result ≡ is_too_wide (spelled_number self.now.field.now) }
     {
         matches!(self.number, Err(NumFault::Wide))

@@ -6,10 +6,10 @@ use Rattle.std.specs.Bool.{Decides}
 use Rattle.std.proofs.lemmas.Bool.{and_parts, true≢false, false_from_ne_true}
 use Rattle.std.proofs.lemmas.Bool.Decides.{nat_tests}
 use Rattle.std.proofs.lemmas.Bool.Decides.{Decides-and}
-use Rattle.rational.specs.Rational.{ℚ, int, neg_ℚ, ◌+ℚ◌, ◌-ℚ◌, ◌≤ℚ◌, rational_le}
-use Rattle.rational.proofs.Comparison.{rational_le-decides}
-use Rattle.rational.proofs.RationalOrder.{≤ℚ_of_<ℚ, <ℚ_from_not, linear}
-use Rattle.rational.proofs.RationalRing.{reads_ℚ}
+use Rattle.frac128.specs.Rational.{ℚ, int, neg_ℚ, ◌+ℚ◌, ◌-ℚ◌, ◌≤ℚ◌, rational_le}
+use Rattle.frac128.proofs.Comparison.{rational_le-decides}
+use Rattle.frac128.specs.RationalOrder.{≤ℚ_of_<ℚ, <ℚ_from_not, linear}
+use Rattle.frac128.specs.RationalRing.{reads_ℚ}
 use Rattle.frac128.specs.Range.{Fits, SumFits}
 use Rattle.lp_model.specs.Lawful.{AreNear, IsRange}
 use Rattle.mps_fields.specs.Numbers.{is_negative, absolute}

@@ -3,12 +3,12 @@ use Rattle.std.proofs.Common.{◌≡◌, ℕ, ◌*◌, ◌/◌, ◌<◌, ◌≤�
 use Rattle.std.specs.Prelude.{unsigned_abs}
 use Rattle.std.proofs.Math.Nat.{div_self}
 use Rattle.std.proofs.lemmas.Int.{ints}
-use Rattle.rational.specs.Gcd.{gcd, gcd-mul, gcd-one}
-use Rattle.rational.specs.Rational.{ℚ, int, den, neg_ℚ}
-use Rattle.rational.proofs.RationalOrder.{≤ℚ_refl}
-use Rattle.rational.proofs.IntegerRing.{ring_ℤ, reads_ℤ}
-use Rattle.rational.proofs.Integers.{num-neg_ℚ, den-neg_ℚ}
-use Rattle.rational.proofs.RationalRing.{ring, reads_ℚ, +ℚ-neg_ℚ}
+use Rattle.frac128.specs.Gcd.{gcd, gcd-mul, gcd-one}
+use Rattle.frac128.specs.Rational.{ℚ, int, den, neg_ℚ}
+use Rattle.frac128.specs.RationalOrder.{≤ℚ_refl}
+use Rattle.frac128.specs.IntegerRing.{ring_ℤ, reads_ℤ}
+use Rattle.frac128.proofs.Integers.{num-neg_ℚ, den-neg_ℚ}
+use Rattle.frac128.specs.RationalRing.{ring, reads_ℚ, +ℚ-neg_ℚ}
 use Rattle.frac128.specs.Range.{largest, IsNarrow, Fits, SumFits, left_factor, right_factor}
 use Rattle.lp_model.specs.Lawful.{AreNear, IsRange}
 use Rattle.mps_fields.specs.declared.words.RowKind.{RowKind}

@@ -1,6 +1,6 @@
 -- The sides that RANGES gives a row, and whether their numbers have room.
 use Rattle.std.specs.Prelude.{◌*◌, Bool, ◌&&◌, if◌then◌else◌, nat_le, pos, ◌+ℤ◌, ◌*ℤ◌}
-use Rattle.rational.specs.Rational.{ℚ, den, ◌+ℚ◌, ◌-ℚ◌, neg_ℚ}
+use Rattle.frac128.specs.Rational.{ℚ, den, ◌+ℚ◌, ◌-ℚ◌, neg_ℚ}
 use Rattle.frac128.specs.Range.{largest, is_narrow, left_factor, right_factor}
 use Rattle.mps_fields.specs.Numbers.{is_negative, absolute}
 use Rattle.mps_fields.specs.declared.words.RowKind.{RowKind}

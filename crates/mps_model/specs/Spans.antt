@@ -1,6 +1,6 @@
 -- The kind and bounds of a column on the way through its bound lines.
 use Rattle.std.specs.Prelude.{true, not, ◌&&◌, if◌then◌else◌, None, Some, pos}
-use Rattle.rational.specs.Rational.{int}
+use Rattle.frac128.specs.Rational.{int}
 use Rattle.mps_fields.specs.Numbers.{finite, is_below_zero}
 use Rattle.mps_fields.specs.declared.words.BoundKind.{BoundKind}
 use Rattle.mps_fields.specs.declared.words.BoundKind.TheVariants.{Lower, Upper, Fixed, Unbounded, NoLower, NoUpper, Binary, IntegerLower, IntegerUpper}

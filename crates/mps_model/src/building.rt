@@ -1,6 +1,6 @@
 // The model that the lists of a whole text mean.
 ghost use Rattle.std.specs.Prelude.{◌≡◌, None, true, All, length, map, IfOk, IfSome};
-ghost use Rattle.rational.specs.Rational.{neg_ℚ};
+ghost use Rattle.frac128.specs.Rational.{neg_ℚ};
 ghost use Rattle.lp_model.specs.Lawful.{IsRange};
 ghost use Rattle.mps_sections.specs.Statements.{stated_row_names};
 ghost use Rattle.mps_sections.specs.Limits.{AreNamesApart, StatesWithinLimits};

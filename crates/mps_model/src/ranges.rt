@@ -1,6 +1,6 @@
 // The sides of rows: by the number of RHS, and by that of RANGES where one stands.
 ghost use Rattle.std.specs.Prelude.{◌≡◌, true, false, IfSome, MatchOption};
-ghost use Rattle.rational.specs.Rational.{◌+ℚ◌, ◌-ℚ◌};
+ghost use Rattle.frac128.specs.Rational.{◌+ℚ◌, ◌-ℚ◌};
 ghost use Rattle.mps_fields.specs.Numbers.{is_negative, absolute};
 ghost use Rattle.mps_model.specs.Ranges.{sum_fits, difference_fits, side_fits, are_near, has_room, ranged_low, ranged_high};
 ghost use Rattle.mps_model.specs.Meaning.{low_side_by_kind, high_side_by_kind, low_side_with, high_side_with, range_beside};

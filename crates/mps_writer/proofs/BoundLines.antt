@@ -3,7 +3,7 @@ use Rattle.std.proofs.Common.{◌≡◌, ◌≢◌, ℕ, zero, suc, ◌<◌, Boo
 use Rattle.std.specs.Prelude.{if◌then◌else◌, flat_map, filter, fold, bytes_eq, Option, None, Some, IsTrue, IsSome, All, AllPairs}
 use Rattle.std.proofs.lemmas.Bool.{false≢true}
 use Rattle.std.proofs.lemmas.List.Elements.{All-head, All-tail}
-use Rattle.rational.specs.Rational.{ℚ}
+use Rattle.frac128.specs.Rational.{ℚ}
 use Rattle.lp_model.specs.declared.types.Col.{Col}
 use Rattle.mps_fields.specs.Numbers.{limit}
 use Rattle.mps_sections.specs.declared.statements.BoundLine.{BoundLine}

@@ -5,9 +5,9 @@ use Rattle.std.specs.Fmt.{decimal, signed_decimal}
 use Rattle.std.proofs.lemmas.Bool.{le-ltb, not_from_true, false_from_ne_true, or_from, and_left}
 use Rattle.std.proofs.lemmas.Bool.Decides.{nat_tests, Decides-eqb}
 use Rattle.std.proofs.lemmas.Fmt.{decimal_by_steps_wide}
-use Rattle.rational.specs.Rational.{ℚ, den, int, neg_ℚ, rational_le, IsWhole}
-use Rattle.rational.proofs.Comparison.{rational_le-decides}
-use Rattle.rational.proofs.RationalOrder.{not_both_ℚ}
+use Rattle.frac128.specs.Rational.{ℚ, den, int, neg_ℚ, rational_le, IsWhole}
+use Rattle.frac128.proofs.Comparison.{rational_le-decides}
+use Rattle.frac128.specs.RationalOrder.{not_both_ℚ}
 use Rattle.frac128.specs.Range.{Fits, IsNarrow}
 use Rattle.frac128.proofs.Printed.{printed-whole, printed-fraction}
 use Rattle.frac128.specs.Printing.{printed}

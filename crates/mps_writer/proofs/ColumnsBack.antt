@@ -4,7 +4,7 @@ use Rattle.std.proofs.Common.{◌≡◌, ℕ, ◌+◌, ◌<◌, ◌≤◌, Bool,
 use Rattle.std.specs.Prelude.{if◌then◌else◌, nat_le, nat_lt, bytes_eq, None, Some, codes}
 use Rattle.std.proofs.lemmas.Bool.{or_parts, or_from, or_left, or_right, and_left, and_right, le-ltb, lt-leb, not_from_true}
 use Rattle.std.proofs.lemmas.List.Folds.{list_any-append}
-use Rattle.rational.specs.Rational.{ℚ}
+use Rattle.frac128.specs.Rational.{ℚ}
 use Rattle.frac128.specs.Range.{Fits}
 use Rattle.frac128.specs.Printing.{printed}
 use Rattle.frac_text.specs.Parsing.{spelled_number}

@@ -2,10 +2,10 @@
 use Rattle.std.proofs.Common.{◌≡◌, Bool, true, false, not, ◌&&◌, [], ◌∷◌, refl, sym, ◌∙◌, ap, pos}
 use Rattle.std.specs.Prelude.{if◌then◌else◌, Option, None, Some}
 use Rattle.std.specs.Ordering.{eq_by_cmp}
-use Rattle.rational.specs.Rational.{ℚ, int, neg_ℚ, ◌-ℚ◌, ◌≤ℚ◌, rational_cmp}
-use Rattle.rational.proofs.Comparison.{eq_by_cmp-decides, rational_le-decides}
-use Rattle.rational.proofs.RationalOrder.{linear}
-use Rattle.rational.proofs.RationalRing.{ring, reads_ℚ}
+use Rattle.frac128.specs.Rational.{ℚ, int, neg_ℚ, ◌-ℚ◌, ◌≤ℚ◌, rational_cmp}
+use Rattle.frac128.proofs.Comparison.{eq_by_cmp-decides, rational_le-decides}
+use Rattle.frac128.specs.RationalOrder.{linear}
+use Rattle.frac128.specs.RationalRing.{ring, reads_ℚ}
 use Rattle.lp_model.specs.Lawful.{IsRange}
 use Rattle.mps_fields.specs.Numbers.{is_negative, absolute}
 use Rattle.mps_fields.specs.declared.numbers.Limit.{Limit}

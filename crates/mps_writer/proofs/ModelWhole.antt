@@ -4,8 +4,8 @@ use Rattle.std.specs.Prelude.{if◌then◌else◌, flat_map, Option, None, Some,
 use Rattle.std.specs.Ordering.{eq_by_cmp}
 use Rattle.std.proofs.lemmas.Bool.{and_from}
 use Rattle.std.proofs.lemmas.List.Elements.{All-head, All-tail, All-append}
-use Rattle.rational.specs.Rational.{ℚ, int, neg_ℚ, ◌-ℚ◌, ◌≤ℚ◌, rational_cmp}
-use Rattle.rational.proofs.RationalRing.{ring, reads_ℚ}
+use Rattle.frac128.specs.Rational.{ℚ, int, neg_ℚ, ◌-ℚ◌, ◌≤ℚ◌, rational_cmp}
+use Rattle.frac128.specs.RationalRing.{ring, reads_ℚ}
 use Rattle.lp_model.specs.Program.{Program, constant}
 use Rattle.lp_model.specs.Edits.{is_zero}
 use Rattle.lp_model.specs.Lawful.{AreNear, IsRange, IsLawfulColumn, IsLawful}

@@ -3,8 +3,8 @@ use Rattle.std.proofs.Common.{◌≡◌, ◌≢◌, ℕ, suc, ◌+◌, Bool, tru
 use Rattle.std.specs.Prelude.{if◌then◌else◌, All}
 use Rattle.std.proofs.lemmas.Bool.{and_parts, true≢false}
 use Rattle.std.proofs.lemmas.List.Elements.{All-head, All-tail, All-append, All-map}
-use Rattle.rational.specs.Rational.{ℚ, int}
-use Rattle.rational.proofs.Comparison.{eq_by_cmp-decides}
+use Rattle.frac128.specs.Rational.{ℚ, int}
+use Rattle.frac128.proofs.Comparison.{eq_by_cmp-decides}
 use Rattle.lp_model.specs.Program.{Program}
 use Rattle.lp_model.specs.Elements.{of_element}
 use Rattle.lp_model.specs.Edits.{is_zero}

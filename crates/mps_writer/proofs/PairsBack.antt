@@ -5,7 +5,7 @@ use Rattle.std.proofs.lemmas.Bool.{or_from, false_from_ne_true}
 use Rattle.std.proofs.lemmas.List.Folds.{list_any-append}
 use Rattle.std.proofs.lemmas.List.Elements.{All-head, All-tail}
 use Rattle.std.proofs.lemmas.Slice.Eq.{bytes_eq-Decides}
-use Rattle.rational.specs.Rational.{ℚ}
+use Rattle.frac128.specs.Rational.{ℚ}
 use Rattle.frac128.specs.Range.{Fits}
 use Rattle.mps_fields.specs.Words.{is_key}
 use Rattle.mps_sections.specs.Statements.{StatedModel, is_numbered, is_coefficient, coefficients_in}

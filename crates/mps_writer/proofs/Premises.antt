@@ -3,7 +3,7 @@ use Rattle.std.proofs.Common.{◌≡◌, ℕ, zero, suc, ◌+◌, ◌<◌, ◌�
 use Rattle.std.specs.Prelude.{flat_map, codes, bytes_eq, Some, All}
 use Rattle.std.proofs.lemmas.Bool.{or_left, or_right}
 use Rattle.std.proofs.lemmas.List.Elements.{All-nil, All-cons, All-append}
-use Rattle.rational.specs.Rational.{neg_ℚ}
+use Rattle.frac128.specs.Rational.{neg_ℚ}
 use Rattle.frac128.proofs.Whole.{Fits-neg, Fits-sum}
 use Rattle.lp_model.specs.Program.{Program, constant}
 use Rattle.lp_model.specs.Lawful.{row_limit, IsRange, IsLawful, IsLawfulColumn}

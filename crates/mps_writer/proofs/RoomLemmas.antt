@@ -1,7 +1,7 @@
 -- Entries of rows that are there.
 use Rattle.std.specs.Prelude.{ℕ, suc, ◌<◌, List, [], ◌∷◌, All}
 use Rattle.std.proofs.lemmas.List.Elements.{All-nil, All-cons}
-use Rattle.rational.specs.Rational.{ℚ}
+use Rattle.frac128.specs.Rational.{ℚ}
 use Rattle.lp_model.specs.Lawful.{AreEntries}
 use Rattle.lp_model.specs.declared.types.RowId.{RowId}
 

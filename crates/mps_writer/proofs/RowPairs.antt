@@ -5,8 +5,8 @@ use Rattle.std.specs.Prelude.{if◌then◌else◌, flat_map, bytes_eq, Option, N
 use Rattle.std.proofs.lemmas.Bool.{or_from}
 use Rattle.std.proofs.lemmas.List.Elements.{All-nil, All-cons, All-head, All-tail, All-append}
 use Rattle.std.proofs.lemmas.List.Kept.{AllPairs-cons}
-use Rattle.rational.specs.Rational.{ℚ, int}
-use Rattle.rational.proofs.Comparison.{eq_by_cmp-decides}
+use Rattle.frac128.specs.Rational.{ℚ, int}
+use Rattle.frac128.proofs.Comparison.{eq_by_cmp-decides}
 use Rattle.lp_model.specs.Edits.{is_zero}
 use Rattle.lp_model.specs.declared.types.Row.{Row}
 use Rattle.mps_sections.specs.Statements.{is_numbered}

@@ -1,7 +1,7 @@
 -- The lines of RHS and RANGES are those of their pairs.
 use Rattle.std.proofs.Common.{◌≡◌, List, [], ◌∷◌, ◌++◌, map, refl, sym, ◌∙◌, ap, ℕ}
 use Rattle.std.specs.Prelude.{flat_map, codes, Option, None, Some}
-use Rattle.rational.specs.Rational.{ℚ, neg_ℚ, ◌-ℚ◌}
+use Rattle.frac128.specs.Rational.{ℚ, neg_ℚ, ◌-ℚ◌}
 use Rattle.lp_model.specs.Program.{Program, constant}
 use Rattle.lp_model.specs.declared.types.Row.{Row}
 use Rattle.mps_writer.specs.Canonical.{WrittenLine, number_line, right_side, rhs_line, range_line_of, range_line}

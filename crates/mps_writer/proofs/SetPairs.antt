@@ -6,9 +6,9 @@ use Rattle.std.specs.Bool.{Decides}
 use Rattle.std.specs.Ordering.{eq_by_cmp}
 use Rattle.std.proofs.lemmas.Bool.Decides.{same_from_decides}
 use Rattle.std.proofs.lemmas.List.Elements.{All-nil, All-append}
-use Rattle.rational.specs.Rational.{ℚ, int, neg_ℚ, ◌-ℚ◌, rational_cmp}
-use Rattle.rational.proofs.Comparison.{eq_by_cmp-decides}
-use Rattle.rational.proofs.RationalRing.{ring, reads_ℚ}
+use Rattle.frac128.specs.Rational.{ℚ, int, neg_ℚ, ◌-ℚ◌, rational_cmp}
+use Rattle.frac128.proofs.Comparison.{eq_by_cmp-decides}
+use Rattle.frac128.specs.RationalRing.{ring, reads_ℚ}
 use Rattle.frac128.specs.Range.{Fits}
 use Rattle.frac128.proofs.Whole.{Fits-zero, Fits-neg, Fits-sum}
 use Rattle.lp_model.specs.Program.{Program, constant}

@@ -2,7 +2,7 @@
 use Rattle.std.proofs.Common.{◌≡◌, ℕ, ◌≤◌, true, false, not, ◌||◌, ◌&&◌, List, [], ◌∷◌, ◌++◌, length, refl, ◌∙◌, ap}
 use Rattle.std.specs.Prelude.{None, Some, Ok}
 use Rattle.std.proofs.lemmas.Bool.{or_from, le-ltb, not_from_true}
-use Rattle.rational.specs.Rational.{ℚ}
+use Rattle.frac128.specs.Rational.{ℚ}
 use Rattle.frac128.specs.Range.{Fits}
 use Rattle.frac128.specs.Printing.{printed}
 use Rattle.frac_text.specs.Parsing.{parsed, spelled_number}

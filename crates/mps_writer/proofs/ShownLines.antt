@@ -5,7 +5,7 @@ use Rattle.std.specs.List.{list_all}
 use Rattle.std.specs.Option.{ForSome}
 use Rattle.std.specs.Ordering.{eq_by_cmp}
 use Rattle.std.proofs.lemmas.List.Elements.{All-nil, All-cons, All-head, All-tail, All-append}
-use Rattle.rational.specs.Rational.{ℚ, ◌-ℚ◌, rational_cmp}
+use Rattle.frac128.specs.Rational.{ℚ, ◌-ℚ◌, rational_cmp}
 use Rattle.frac128.specs.Range.{Fits}
 use Rattle.frac128.specs.Printing.{printed}
 use Rattle.lp_model.specs.Program.{Program}

@@ -2,7 +2,7 @@
 -- them; data begin with a blank. Every section has its header, and every bound its line.
 use Rattle.std.specs.Prelude.{ℕ, Bool, true, false, ◌&&◌, if◌then◌else◌, List, [], ◌∷◌, ◌++◌, map, flat_map, codes, pos, Option, None, Some}
 use Rattle.std.specs.Ordering.{eq_by_cmp}
-use Rattle.rational.specs.Rational.{ℚ, int, neg_ℚ, ◌-ℚ◌, rational_cmp}
+use Rattle.frac128.specs.Rational.{ℚ, int, neg_ℚ, ◌-ℚ◌, rational_cmp}
 use Rattle.frac128.specs.Printing.{printed}
 use Rattle.lp_model.specs.Program.{Program, constant}
 use Rattle.lp_model.specs.Lawful.{row_name}

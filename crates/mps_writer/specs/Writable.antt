@@ -2,7 +2,7 @@
 -- objective's is the marker word, and whose finite bounds are below 10^20 in magnitude.
 use Rattle.std.specs.Prelude.{◌≡◌, ℕ, ◌<◌, ◌≤◌, ◌^◌, false, List, length, codes, pos, All}
 use Rattle.std.specs.Option.{ForSome}
-use Rattle.rational.specs.Rational.{ℚ, int, neg_ℚ, ◌<ℚ◌}
+use Rattle.frac128.specs.Rational.{ℚ, int, neg_ℚ, ◌<ℚ◌}
 use Rattle.lp_model.specs.Program.{Program}
 use Rattle.lp_model.specs.Lawful.{row_names, column_names}
 use Rattle.lp_model.specs.declared.types.Col.{Col}

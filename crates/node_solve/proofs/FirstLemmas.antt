@@ -8,10 +8,10 @@ use Rattle.std.proofs.Common.{refl, sym, ap, ap₂, subst, ◌∙◌, arith, ⊎
 use Rattle.std.proofs.lemmas.Bool.{false≢true, cases_lt, lt-ltb, le-ltb, eqb-true}
 use Rattle.std.proofs.lemmas.List.{get_or_append_left, map-append}
 use Rattle.std.proofs.lemmas.List.Elements.{All-nil, All-push}
-use Rattle.rational.specs.Rational.{ℚ, int, ◌+ℚ◌, ◌*ℚ◌, neg_ℚ, ◌<ℚ◌}
-use Rattle.rational.proofs.RationalRing.{ring, reads_ℚ}
-use Rattle.rational.proofs.RationalOrder.{<ℚ_irrefl}
-use Rattle.checked_sum.specs.Sums.{sum_below}
+use Rattle.frac128.specs.Rational.{ℚ, int, ◌+ℚ◌, ◌*ℚ◌, neg_ℚ, ◌<ℚ◌}
+use Rattle.frac128.specs.RationalRing.{ring, reads_ℚ}
+use Rattle.frac128.specs.RationalOrder.{<ℚ_irrefl}
+use Rattle.frac128.specs.Sums.{sum_below}
 use Rattle.lp_model.specs.Program.{Program, lower, upper, cost, in_least_form}
 use Rattle.lp_model.specs.Lawful.{IsLawful}
 use Rattle.lp_model.specs.Regions.{Path}
@@ -25,15 +25,15 @@ use Rattle.lp_model.specs.declared.types.Var.TheVariants.{Col, Row, Cut}
 use Rattle.lp_model.proofs.ElementLemmas.{element, of_element-get}
 use Rattle.cover_cuts.specs.Covers.{IsBinary, AreLiterals}
 use Rattle.cover_cuts.specs.Cuts.{IsPoolOf, cover_terms, literal_term}
-use Rattle.bases.specs.declared.stand.Stand.{Stand}
-use Rattle.bases.specs.declared.stand.Stand.TheVariants.{Low, High, Free}
-use Rattle.bases.specs.Relaxation.{Table, reduced_cost}
-use Rattle.bases.specs.Bases.{Found, listed, Lists, IsNamedBy}
-use Rattle.bases.specs.States.{State, IsGood, LawfulAt, sign, reduced_parts}
-use Rattle.bases.specs.Directions.{stand_number}
-use Rattle.bases.proofs.SumBelowLaws.{if_same, if_other, sum_below-zero}
-use Rattle.bases.proofs.BringIn.{zero_or_not, basic_within, nonbasic_within}
-use Rattle.bases.proofs.ReducedCosts.{reduced_alone-basic}
+use Rattle.table_entries.specs.declared.stand.Stand.{Stand}
+use Rattle.table_entries.specs.declared.stand.Stand.TheVariants.{Low, High, Free}
+use Rattle.table_entries.specs.Relaxation.{Table, reduced_cost}
+use Rattle.table_entries.specs.Bases.{Found, listed, Lists, IsNamedBy}
+use Rattle.table_entries.specs.States.{State, IsGood, LawfulAt, sign, reduced_parts}
+use Rattle.table_entries.specs.Directions.{stand_number}
+use Rattle.table_entries.proofs.SumBelowLaws.{if_same, if_other, sum_below-zero}
+use Rattle.table_entries.proofs.BringIn.{zero_or_not, basic_within, nonbasic_within}
+use Rattle.table_entries.proofs.ReducedCosts.{reduced_alone-basic}
 use Rattle.row_tableau.specs.declared.relax.Relax.{Relax}
 use Rattle.row_tableau.specs.declared.relax.RelaxKind.TheVariants.{Plain}
 use Rattle.row_tableau.specs.Activities.{activity_count, activity_low, activity_high}

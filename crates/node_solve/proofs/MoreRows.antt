@@ -3,19 +3,19 @@
 use Rattle.std.specs.Prelude.{◌≡◌, ℕ, ◌+◌, ◌-◌, ◌<◌, ◌≤◌, ltb, if◌then◌else◌, List, [], ◌∷◌, length, pos}
 use Rattle.std.proofs.Common.{sym, ap, ap₂, ◌∙◌, arith, ⊎_elim}
 use Rattle.std.proofs.lemmas.Bool.{cases_lt, lt-ltb, le-ltb}
-use Rattle.rational.specs.Rational.{ℚ, int, ◌+ℚ◌, ◌*ℚ◌}
-use Rattle.rational.proofs.RationalRing.{ring, reads_ℚ}
-use Rattle.checked_sum.specs.Sums.{sum_below}
+use Rattle.frac128.specs.Rational.{ℚ, int, ◌+ℚ◌, ◌*ℚ◌}
+use Rattle.frac128.specs.RationalRing.{ring, reads_ℚ}
+use Rattle.frac128.specs.Sums.{sum_below}
 use Rattle.checked_sum.proofs.SumLaws.{sum_below-same}
 use Rattle.lp_model.specs.Program.{Program}
 use Rattle.lp_model.specs.Regions.{Path, region_low, region_high}
 use Rattle.lp_model.specs.Formulations.{Formulation, formulation, without_cuts, cut_coefficient}
 use Rattle.lp_model.specs.declared.types.CutRow.{CutRow}
-use Rattle.bases.specs.Relaxation.{Relaxation, Table, Solves, Rows, IsTable, IsArranged, reduced_cost, total_cost}
-use Rattle.bases.proofs.SumBelowLaws.{sum_below-zero}
-use Rattle.bases.proofs.Arranged.{sum_below-split}
-use Rattle.bases.proofs.BringIn.{basic_within, nonbasic_within}
-use Rattle.bases.proofs.Duality.{value-reduced}
+use Rattle.table_entries.specs.Relaxation.{Relaxation, Table, Solves, Rows, IsTable, IsArranged, reduced_cost, total_cost}
+use Rattle.table_entries.proofs.SumBelowLaws.{sum_below-zero}
+use Rattle.table_entries.proofs.Arranged.{sum_below-split}
+use Rattle.table_entries.proofs.BringIn.{basic_within, nonbasic_within}
+use Rattle.table_entries.proofs.Duality.{value-reduced}
 use Rattle.row_tableau.specs.Activities.{activity_count, activity_coefficient, activity_low, activity_high}
 use Rattle.row_tableau.specs.Relaxations.{plain}
 use Rattle.row_tableau.proofs.CutLemmas.{row_activity, row_low, row_high, cut_activity, rows_alone}

@@ -1,12 +1,12 @@
 -- What is answered at a state is one: the point, the multipliers, and the lists of the basis.
 use Rattle.std.specs.Prelude.{◌≡◌, ℕ, ◌<◌, List, pos}
 use Rattle.std.proofs.Common.{refl, sym, subst, ◌∙◌}
-use Rattle.rational.specs.Rational.{ℚ, int}
+use Rattle.frac128.specs.Rational.{ℚ, int}
 use Rattle.lp_model.specs.Program.{Point}
 use Rattle.lp_model.specs.declared.types.Basis.{Basis}
 use Rattle.lp_model.specs.declared.types.Var.{Var}
-use Rattle.bases.specs.Relaxation.{HasNoCrossedSides}
-use Rattle.bases.specs.States.{farkas_weights}
+use Rattle.table_entries.specs.Relaxation.{HasNoCrossedSides}
+use Rattle.table_entries.specs.States.{farkas_weights}
 use Rattle.row_tableau.specs.Variables.{numbers}
 use Rattle.row_tableau.specs.Answers.{IsBasic}
 use Rattle.basic_solution.specs.Held.{Held, IsSided, relaxation, state, variables}

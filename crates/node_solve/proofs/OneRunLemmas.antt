@@ -6,8 +6,8 @@ use Rattle.lp_model.specs.Formulations.{Formulation}
 use Rattle.lp_model.specs.Regions.{Path}
 use Rattle.lp_model.specs.declared.types.Basis.{Basis}
 use Rattle.lp_model.specs.declared.types.WideStep.{WideStep}
-use Rattle.bases.specs.Relaxation.{HasNoCrossedSides}
-use Rattle.bases.specs.Bases.{IsNonsingular}
+use Rattle.table_entries.specs.Relaxation.{HasNoCrossedSides}
+use Rattle.table_entries.specs.Bases.{IsNonsingular}
 use Rattle.row_tableau.specs.declared.relax.Relax.{Relax}
 use Rattle.row_tableau.specs.Relaxations.{form_of, plain, of_kind, relaxation_of}
 use Rattle.row_tableau.specs.Dense.{IsTableauOf}

@@ -11,8 +11,8 @@ use Rattle.std.proofs.lemmas.Bool.{cases_order}
 use Rattle.std.proofs.lemmas.Cmp.{ranked, tied_itself, on_total, then_total, nat_cmp_total}
 use Rattle.std.proofs.lemmas.List.Sums.{sum_by-cons}
 use Rattle.std.proofs.lemmas.List.Sorted.{ranks_by, sorted_far, IsPermutation-sym, IsPermutation-trans, sum_by-IsPermutation}
-use Rattle.rational.specs.Rational.{ℚ, int, ◌+ℚ◌, rational_cmp}
-use Rattle.rational.proofs.Comparison.{same_from_cmp, rational_cmp_total}
+use Rattle.frac128.specs.Rational.{ℚ, int, ◌+ℚ◌, rational_cmp}
+use Rattle.frac128.specs.ComparisonLaws.{same_from_cmp, rational_cmp_total}
 use Rattle.checked_sum.proofs.AnswerLaws.{first_wide_unique}
 use Rattle.lp_model.specs.Program.{Program, Point}
 use Rattle.lp_model.specs.declared.types.Side.{Side}

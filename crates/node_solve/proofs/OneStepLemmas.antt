@@ -2,14 +2,14 @@
 use Rattle.std.specs.Prelude.{◌≡◌, ℕ, true, [], ◌∷◌, length, pos, Ok, Err}
 use Rattle.std.proofs.Common.{refl, sym, ap, subst, ◌∙◌, inl, inr}
 use Rattle.std.proofs.lemmas.Bool.{cases_order}
-use Rattle.rational.specs.Rational.{ℚ, int}
+use Rattle.frac128.specs.Rational.{ℚ, int}
 use Rattle.checked_sum.specs.Steps.{IsFirstWide}
 use Rattle.checked_sum.proofs.AnswerLaws.{first_wide_unique}
 use Rattle.lp_model.specs.Program.{Program, Point, coordinate, constant, cost, value, coefficient, least_value}
 use Rattle.lp_model.specs.Regions.{Path}
 use Rattle.lp_model.specs.Formulations.{Formulation}
-use Rattle.lp_model.specs.Answers.{IsFeasibilityAnswer, IsValueAnswer, IsFirstWideRow, activity_step, value_step}
 use Rattle.lp_model.specs.declared.types.WideStep.{WideStep}
+use Rattle.model_points.specs.Answers.{IsFeasibilityAnswer, IsValueAnswer, IsFirstWideRow, activity_step, value_step}
 use Rattle.leaf_dual.specs.Dual.{Multipliers}
 use Rattle.leaf_dual.specs.Answers.{IsLagAnswer, IsFarkasAnswer}
 use Rattle.leaf_dual.specs.declared.dual.LagValue.{LagValue}

@@ -4,7 +4,7 @@
 use Rattle.std.specs.Prelude.{◌≡◌, ◌≢◌, ◌⊎◌, ℕ, zero, suc, ◌-◌, ◌<◌, ◌≤◌, List, length, Option, Err}
 use Rattle.std.proofs.Common.{refl, sym, ap, ap₂, subst, ◌∙◌, arith, inl, inr, ⊎_elim}
 use Rattle.std.proofs.lemmas.Bool.{cases_order}
-use Rattle.rational.specs.Rational.{ℚ, floor}
+use Rattle.frac128.specs.Rational.{ℚ, floor}
 use Rattle.lp_model.specs.Program.{Program, Point, coordinate}
 use Rattle.lp_model.specs.Lawful.{IsLawful}
 use Rattle.lp_model.specs.Regions.{Path, IsEmptyRegion}
@@ -14,7 +14,7 @@ use Rattle.lp_model.specs.declared.types.Derivation.{Derivation}
 use Rattle.lp_model.specs.declared.types.Basis.{Basis}
 use Rattle.lp_model.specs.declared.types.WideStep.{WideStep}
 use Rattle.lp_model.specs.declared.answers.WideAt.{WideAt}
-use Rattle.bases.specs.Relaxation.{HasNoCrossedSides, multipliers}
+use Rattle.table_entries.specs.Relaxation.{HasNoCrossedSides, multipliers}
 use Rattle.row_tableau.specs.declared.relax.Relax.{Relax}
 use Rattle.row_tableau.specs.declared.relax.RelaxKind.TheVariants.{Plain}
 use Rattle.row_tableau.specs.Relaxations.{plain}

@@ -1,11 +1,11 @@
 -- What the end of a round's run comes to.
 use Rattle.std.specs.Prelude.{◌≡◌, ◌⊎◌, ℕ, true, false, [], Ok, Err}
 use Rattle.std.proofs.Common.{refl, sym, subst, inl, inr}
-use Rattle.rational.specs.Rational.{ℚ, floor}
+use Rattle.frac128.specs.Rational.{ℚ, floor}
 use Rattle.lp_model.specs.Program.{Point, coordinate, least_value}
-use Rattle.lp_model.specs.Answers.{IsFeasibilityAnswer, IsValueAnswer}
 use Rattle.lp_model.specs.declared.types.Basis.{Basis}
 use Rattle.lp_model.specs.declared.types.WideStep.{WideStep}
+use Rattle.model_points.specs.Answers.{IsFeasibilityAnswer, IsValueAnswer}
 use Rattle.leaf_dual.specs.Dual.{Multipliers}
 use Rattle.leaf_dual.specs.Answers.{IsLagAnswer, IsFarkasAnswer}
 use Rattle.leaf_dual.specs.declared.dual.LagValue.{LagValue}

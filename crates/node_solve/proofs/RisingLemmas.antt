@@ -2,9 +2,9 @@
 use Rattle.std.specs.Prelude.{◌≡◌, ℕ, zero, suc, ◌+◌, ◌<◌, ◌≤◌, List, [], ◌∷◌, length, map, All}
 use Rattle.std.proofs.Common.{refl, sym, ap, subst, ◌∙◌, arith}
 use Rattle.std.proofs.lemmas.List.Elements.{All-tail}
-use Rattle.rational.specs.Rational.{ℚ}
+use Rattle.frac128.specs.Rational.{ℚ}
 use Rattle.lp_model.specs.declared.types.Var.{Var}
-use Rattle.bases.specs.Bases.{Lists, listed}
+use Rattle.table_entries.specs.Bases.{Lists, listed}
 use Rattle.row_tableau.specs.Dense.{Dense}
 use Rattle.row_tableau.specs.Variables.{variable_number, numbers}
 use Rattle.basic_solution.specs.Lists.{AreRising, names}

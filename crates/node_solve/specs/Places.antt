@@ -1,7 +1,7 @@
 -- The cuts of a relaxation beside those of a pool: the relaxation has the first that count, and names each by its place among
 -- them; what is kept of a leaf names it by its place in the pool.
 use Rattle.std.specs.Prelude.{◌≡◌, ℕ, zero, suc, if◌then◌else◌, List, [], ◌∷◌, ◌++◌, ◌<◌, ◌≤◌, length, get_or, take, map, All}
-use Rattle.rational.specs.Rational.{ℚ}
+use Rattle.frac128.specs.Rational.{ℚ}
 use Rattle.kept_cuts.specs.Places.{index_among}
 use Rattle.lp_model.specs.declared.types.CutRow.{CutRow}
 use Rattle.lp_model.specs.declared.types.Var.{Var}

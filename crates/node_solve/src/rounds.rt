@@ -330,7 +330,7 @@ fn unstarted(fault: StartFault) -> Solved
 }
 
 /// Whether two numbers are equal.
-#[tactic(auto, using(rational::proofs::Comparison::comparisons))]
+#[tactic(auto, using(frac128::proofs::Comparison::comparisons))]
 fn is_equal(first: &Frac, second: &Frac) -> bool
     ensures { IsTrue result ↔ (first.now ≡ second.now) }
 {

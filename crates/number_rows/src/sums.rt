@@ -1,6 +1,6 @@
 // Sums of products.
 ghost use Rattle.std.specs.Prelude.{get_or, length, pos};
-ghost use Rattle.rational.specs.Rational.{int};
+ghost use Rattle.frac128.specs.Rational.{int};
 
 use crate::words::number_of;
 use anyhow::{Result, bail};

@@ -5,7 +5,6 @@ ghost use Rattle.clap.specs.Walk.{rows_of};
 ghost use Rattle.clap.specs.declared.builder.command.Command.TheViews.{out-Command};
 ghost use Rattle.clap.specs.declared.error.ErrorKind.TheVariants.{OutOfMemory};
 ghost use Rattle.program_words.specs.Forms.{run_app, required_word, check_app, symphony_alone, symphony, TakesWords, asked_by, asked_form, form_shown, argument_text};
-ghost use Rattle.program_words.specs.declared.words.WordsFault.TheVariants.{Memory};
 
 use clap::error::ErrorKind;
 use clap::{Arg, ArgMatches, Command};
@@ -30,14 +29,6 @@ pub enum WordsFault {
     /// Memory was wanting to read them.
     #[error("there is no memory")]
     Memory,
-}
-
-impl From<AllocError> for WordsFault {
-    ghost from_gives = { λ _ fault. fault ≡ Memory };
-
-    fn from(_: AllocError) -> Self {
-        WordsFault::Memory
-    }
 }
 
 /// The form `run`.

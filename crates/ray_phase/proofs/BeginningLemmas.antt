@@ -1,19 +1,19 @@
 -- What the ray phase answers of a model, and of the model without costs.
 use Rattle.std.proofs.Common.{◌≡◌, ℕ, ◌<◌, [], ◌∷◌, ap, subst, ◌∙◌, pos, inr}
 use Rattle.std.specs.Prelude.{length, true, None, Ok, refl}
-use Rattle.rational.specs.Rational.{ℚ, int, ◌*ℚ◌, ◌<ℚ◌}
-use Rattle.rational.proofs.RationalOrder.{<ℚ_irrefl}
-use Rattle.rational.proofs.RationalRing.{ring, reads_ℚ}
-use Rattle.checked_sum.specs.Sums.{sum_below}
+use Rattle.frac128.specs.Rational.{ℚ, int, ◌*ℚ◌, ◌<ℚ◌}
+use Rattle.frac128.specs.RationalOrder.{<ℚ_irrefl}
+use Rattle.frac128.specs.RationalRing.{ring, reads_ℚ}
+use Rattle.frac128.specs.Sums.{sum_below}
 use Rattle.checked_sum.proofs.SumLaws.{sum_below-zero, sum_below-same}
 use Rattle.lp_model.specs.Program.{Program, Point, coordinate, cost, in_least_form}
-use Rattle.lp_model.specs.Laws.{SamePointsLaw}
-use Rattle.lp_model.specs.Rays.{IsRay, IsRayJudged, direction_cost, without_costs}
 use Rattle.lp_model.specs.declared.types.Basis.{Basis}
 use Rattle.lp_model.specs.declared.answers.StopWhy.{StopWhy}
 use Rattle.lp_model.specs.declared.answers.StopWhy.TheVariants as stop
 use Rattle.lp_model.specs.declared.types.Sense.{Sense}
 use Rattle.lp_model.specs.declared.types.Sense.TheVariants.{Min, Max}
+use Rattle.model_points.specs.Laws.{SamePointsLaw}
+use Rattle.model_points.specs.Rays.{IsRay, IsRayJudged, direction_cost, without_costs}
 use Rattle.ray_phase.specs.Answers.{IsDualBasis, IsRayAnswer}
 use Rattle.ray_phase.specs.Beginnings.{HasNoSlackBasis, FindsRay, IsRayStop, StopsBefore}
 use Rattle.ray_phase.specs.declared.phase.RayAnswer.TheVariants as ray

@@ -5,19 +5,19 @@ use Rattle.std.specs.List.{range_with_len}
 use Rattle.std.proofs.Common.{refl, sym, ap, subst, ◌∙◌, arith, ⊎_elim}
 use Rattle.std.proofs.lemmas.Bool.{false≢true, cases_eq, cases_lt, lt-ltb, le-ltb}
 use Rattle.std.proofs.lemmas.List.{length-append, get_or_append_left}
-use Rattle.rational.specs.Rational.{ℚ, int, ◌≤ℚ◌, ◌<ℚ◌, floor, ceil}
-use Rattle.rational.proofs.RationalOrder.{<ℚ_irrefl, not_both_ℚ, ≤ℚ_of_<ℚ, zero-<ℚ-one}
-use Rattle.rational.proofs.RationalRing.{reads_ℚ}
+use Rattle.frac128.specs.Rational.{ℚ, int, ◌≤ℚ◌, ◌<ℚ◌, floor, ceil}
+use Rattle.frac128.specs.RationalOrder.{<ℚ_irrefl, not_both_ℚ, ≤ℚ_of_<ℚ, zero-<ℚ-one}
+use Rattle.frac128.specs.RationalRing.{reads_ℚ}
 use Rattle.lp_model.specs.Program.{Program, lower, upper, is_integer}
 use Rattle.lp_model.specs.Formulations.{Formulation}
 use Rattle.lp_model.specs.Regions.{region_low, region_high}
-use Rattle.bases.specs.declared.stand.Stand.{Stand}
-use Rattle.bases.specs.declared.stand.Stand.TheVariants.{Free}
-use Rattle.bases.specs.Bases.{listed}
-use Rattle.bases.specs.Relaxation.{Relaxation}
-use Rattle.bases.specs.States.{IsFree, Separates, sign}
-use Rattle.bases.specs.Directions.{Continues}
-use Rattle.bases.proofs.SumBelowLaws.{if_same, if_other}
+use Rattle.table_entries.specs.declared.stand.Stand.{Stand}
+use Rattle.table_entries.specs.declared.stand.Stand.TheVariants.{Free}
+use Rattle.table_entries.specs.Bases.{listed}
+use Rattle.table_entries.specs.Relaxation.{Relaxation}
+use Rattle.table_entries.specs.States.{IsFree, Separates, sign}
+use Rattle.table_entries.specs.Directions.{Continues}
+use Rattle.table_entries.proofs.SumBelowLaws.{if_same, if_other}
 use Rattle.row_tableau.specs.declared.relax.RelaxKind.TheVariants.{Plain, Directions}
 use Rattle.row_tableau.specs.Activities.{activity_count, activity_low, activity_high}
 use Rattle.row_tableau.specs.Relaxations.{plain}

@@ -1,19 +1,19 @@
 -- A basis that the ray phase answers is one to fall back to in each region that leaves columns free.
 use Rattle.std.specs.Prelude.{◌≡◌, ℕ, ◌+◌, ◌<◌, true, false, Option, Some, None, IsSome, length, List, []}
 use Rattle.std.proofs.Common.{refl, sym, ap, subst, ◌∙◌}
-use Rattle.rational.specs.Rational.{ℚ}
+use Rattle.frac128.specs.Rational.{ℚ}
 use Rattle.lp_model.specs.Program.{Program}
 use Rattle.lp_model.specs.Formulations.{without_cuts}
 use Rattle.lp_model.specs.Regions.{Path}
 use Rattle.lp_model.specs.declared.types.Basis.{Basis}
 use Rattle.lp_model.specs.declared.types.Var.{Var}
-use Rattle.bases.specs.declared.stand.Stand.{Stand}
-use Rattle.bases.specs.declared.stand.Stand.TheVariants.{Low, High, Free}
-use Rattle.bases.specs.Bases.{Found, Lists, IsNamedBy}
-use Rattle.bases.specs.States.{State, IsGood}
-use Rattle.bases.specs.Relaxation.{Relaxation}
-use Rattle.bases.specs.Directions.{stand_number}
-use Rattle.bases.proofs.BringIn.{basic_within, nonbasic_within}
+use Rattle.table_entries.specs.declared.stand.Stand.{Stand}
+use Rattle.table_entries.specs.declared.stand.Stand.TheVariants.{Low, High, Free}
+use Rattle.table_entries.specs.Bases.{Found, Lists, IsNamedBy}
+use Rattle.table_entries.specs.States.{State, IsGood}
+use Rattle.table_entries.specs.Relaxation.{Relaxation}
+use Rattle.table_entries.specs.Directions.{stand_number}
+use Rattle.table_entries.proofs.BringIn.{basic_within, nonbasic_within}
 use Rattle.row_tableau.specs.declared.relax.Relax.{Relax}
 use Rattle.row_tableau.specs.declared.relax.RelaxKind.TheVariants.{Plain}
 use Rattle.row_tableau.specs.Relaxations.{form_of, plain, of_kind, relaxation_of}

@@ -5,10 +5,10 @@ use Rattle.lp_model.specs.Program.{Program}
 use Rattle.lp_model.specs.Formulations.{without_cuts}
 use Rattle.lp_model.specs.declared.types.Basis.{Basis}
 use Rattle.lp_model.specs.declared.types.Var.{Var}
-use Rattle.bases.specs.Bases.{IsNamedBy, Lists}
-use Rattle.bases.specs.States.{IsGood}
-use Rattle.bases.specs.declared.stand.Stand.TheVariants.{High}
-use Rattle.bases.proofs.BringIn.{nonbasic_within}
+use Rattle.table_entries.specs.Bases.{IsNamedBy, Lists}
+use Rattle.table_entries.specs.States.{IsGood}
+use Rattle.table_entries.specs.declared.stand.Stand.TheVariants.{High}
+use Rattle.table_entries.proofs.BringIn.{nonbasic_within}
 use Rattle.row_tableau.specs.Activities.{activity_count}
 use Rattle.row_tableau.specs.Relaxations.{plain, of_kind}
 use Rattle.row_tableau.specs.Variables.{numbers}

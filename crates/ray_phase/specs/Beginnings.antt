@@ -6,10 +6,10 @@
 -- its own ray phase.
 use Rattle.std.specs.Prelude.{◌≡◌, ◌⊎◌, ℕ, [], None}
 use Rattle.lp_model.specs.Program.{Program, Point}
-use Rattle.lp_model.specs.Rays.{without_costs}
 use Rattle.lp_model.specs.declared.types.Basis.{Basis}
 use Rattle.lp_model.specs.declared.answers.StopWhy.{StopWhy}
 use Rattle.lp_model.specs.declared.answers.StopWhy.TheVariants as stop
+use Rattle.model_points.specs.Rays.{without_costs}
 use Rattle.dual_simplex.specs.SlackBases.{IsLawfulSlackBasis, IsSlackBasisAnswer}
 use Rattle.ray_phase.specs.Answers.{IsRayAnswer}
 use Rattle.ray_phase.specs.declared.phase.RayAnswer.TheVariants as ray

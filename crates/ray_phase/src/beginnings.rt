@@ -7,7 +7,8 @@ ghost use Rattle.ray_phase.specs.Beginnings.{HasNoSlackBasis, IsBeginning};
 
 use crate::phase::{RayAnswer, ray};
 use dual_simplex::slack_basis;
-use lp_model::{Basis, List, Model, PivotPlace, Point, StopWhy, same_points_law};
+use lp_model::{Basis, List, Model, PivotPlace, Point, StopWhy};
+use model_points::{same_points_law, without_costs};
 use std::alloc::{AllocError, Global};
 
 /// How the search of a model begins.
@@ -41,7 +42,7 @@ fn beside_ray(alloc: Global, model: &Model, pivots: u64, direction: Point) -> Be
     ensures { IsBeginning model.now pivots result }
 {
     same_points_law();
-    let Ok(costless) = model.without_costs(alloc) else {
+    let Ok(costless) = without_costs(model, alloc) else {
         drop(direction);
         return Beginning::Memory;
     };

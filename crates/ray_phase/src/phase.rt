@@ -6,13 +6,14 @@ ghost use Rattle.ray_phase.specs.Answers.{IsStart, IsDirectionsState, IsBest, Is
 use crate::lawful::high_variables;
 use dual_simplex::{Lp, LpState};
 use lp_model::{Basis, List, Model, Point, Var, WideAt, WideStep};
+use model_points::{direction_cost, is_ray};
 use row_tableau::{Relax, RelaxKind};
 use std::alloc::{AllocError, Global};
 
 /// What the ray phase finds.
 #[derive(Drop)]
 pub enum RayAnswer {
-    /// A ray of the model, one number for each column, which `Model::is_ray` finds to be one: no step of its cost and of the
+    /// A ray of the model, one number for each column, which `is_ray` finds to be one: no step of its cost and of the
     /// rows' sums lacks room.
     Ray(Point),
     /// The basis of a lawful state of the model's relaxation: that of the last state of the run.
@@ -63,7 +64,7 @@ fn judged(
     ensures { (n : ℕ) (limit : ℕ) → IsRayEnd model.now n limit state.now result }
 {
     let _lawful = model.cols();
-    let cost = match model.direction_cost(&direction) {
+    let cost = match direction_cost(model, &direction) {
         Ok(cost) => cost,
         Err(step) => {
             drop(direction);
@@ -71,7 +72,7 @@ fn judged(
         }
     };
     if cost.is_negative() {
-        return match model.is_ray(&direction) {
+        return match is_ray(model, &direction) {
             Ok(true) => {
                 drop(basis);
                 RayAnswer::Ray(direction)

@@ -5,6 +5,7 @@ use anyhow::{Result, ensure};
 use frac128::Frac;
 use leaf_dual::{LagValue, path_farkas, path_lag};
 use lp_model::{Bound, Model, Mult, Point, Sense, WideStep};
+use model_points::{activity, value};
 use model_texts::{is_narrow_region, push_wide_step};
 use row_tableau::Relax;
 
@@ -42,7 +43,7 @@ fn columns_hold(relax: &Relax<'_>, point: &Point) -> bool
 fn rows_hold(model: &Model, point: &Point) -> Result<bool, WideStep> {
     let mut place = 0u32;
     for row in model.rows() {
-        let activity = match model.activity(place, point) {
+        let activity = match activity(model, place, point) {
             Ok(activity) => activity,
             Err(step) => return Err(step),
         };
@@ -87,7 +88,7 @@ pub fn judge_point(text: &mut String, relax: &Relax<'_>, point: &Point) -> Resul
 
 /// Writes the value of a point, or the step without room, and the end of the line. None: there is no value.
 pub fn push_value(text: &mut String, model: &Model, point: &Point) -> Result<Option<Frac>> {
-    match model.value(1, point) {
+    match value(model, 1, point) {
         Ok(value) => {
             writeln!(text, " {value}")?;
             Ok(Some(value))

@@ -4,6 +4,7 @@ use crate::steps::push_step;
 use anyhow::{Result, bail};
 use frac128::Frac;
 use lp_model::{Basis, Bound, Model, Point};
+use model_points::{activity, value};
 use model_texts::{push_basis, push_point};
 use ray_phase::{RayAnswer, ray};
 use std::alloc::Global;
@@ -30,7 +31,7 @@ fn columns_go_on(model: &Model, direction: &Point) -> bool {
 fn rows_go_on(model: &Model, direction: &Point) -> bool {
     let mut place = 0u32;
     for row in model.rows() {
-        match model.activity(place, direction) {
+        match activity(model, place, direction) {
             Ok(activity) if goes_on(&row.lo, &row.hi, &activity) => {}
             _ => return false,
         }
@@ -41,7 +42,7 @@ fn rows_go_on(model: &Model, direction: &Point) -> bool {
 
 /// Whether objective 1 improves along a direction: its value there, without the constant, is below 0 in least form.
 fn improves(model: &Model, direction: &Point) -> bool {
-    let Ok(value) = model.value(1, direction) else {
+    let Ok(value) = value(model, 1, direction) else {
         return false;
     };
     match value.sub(model.constant(1)) {

@@ -1,7 +1,7 @@
 // The state that a relaxation begins at.
 ghost use Rattle.std.specs.Prelude.{◌≡◌, []};
 ghost use Rattle.lp_model.specs.Regions.{AreNarrow};
-ghost use Rattle.bases.specs.Relaxation.{HasNoCrossedSides};
+ghost use Rattle.table_entries.specs.Relaxation.{HasNoCrossedSides};
 ghost use Rattle.row_tableau.specs.Relaxations.{relaxation_of};
 ghost use Rattle.row_tableau.specs.declared.relax.RelaxKind.TheVariants.{Plain};
 ghost use Rattle.row_tableau.specs.Tilts.{KeepsFree};

@@ -7,8 +7,8 @@ use Rattle.std.specs.List.{All, flat_map}
 use Rattle.std.proofs.Common.{length-take}
 use Rattle.std.proofs.lemmas.Int.{ints}
 use Rattle.std.proofs.lemmas.Bool.Decides.{nat_tests}
-use Rattle.rational.specs.Rational.{ℚ, int}
-use Rattle.rational.proofs.Rounding.{num_zero}
+use Rattle.frac128.specs.Rational.{ℚ, int}
+use Rattle.frac128.proofs.Rounding.{num_zero}
 use Rattle.frac128.specs.Printing.{printed}
 use Rattle.frac128.specs.Range.{Fits}
 use Rattle.lp_model.specs.Elements.{of_element}

@@ -5,7 +5,7 @@ use Rattle.std.proofs.lemmas.Bool.{cases_eq, cases_lt, lt-ltb, le-ltb, ne_eqb}
 use Rattle.std.proofs.lemmas.Nat.{div-add-mod', div_below, mod_below}
 use Rattle.std.proofs.Math.Seq.{drop-cons}
 use Rattle.std.proofs.lemmas.List.{get_or-set_same, get_or-set_other}
-use Rattle.rational.specs.Rational.{ℚ, int}
+use Rattle.frac128.specs.Rational.{ℚ, int}
 use Rattle.lp_model.specs.Program.{Program, coefficient, entry_of, low_side, high_side}
 use Rattle.lp_model.specs.Lawful.{AreEntries, IsLawful, IsLawfulColumn}
 use Rattle.lp_model.specs.CutTerms.{term_of}

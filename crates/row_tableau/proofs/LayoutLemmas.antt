@@ -2,7 +2,7 @@
 use Rattle.std.specs.Prelude.{◌≡◌, ℕ, ◌+◌, ◌*◌, ◌/◌, ◌%◌, ◌^◌, ◌<◌, ◌≤◌, List, get_or, set, length}
 use Rattle.std.proofs.Common.{sym, ap, subst, ◌∙◌, arith}
 use Rattle.std.proofs.Math.Nat.{mul-le-mul_right}
-use Rattle.bases.specs.Steps.{IsFirstWidePivotEntry}
+use Rattle.table_entries.specs.Steps.{IsFirstWidePivotEntry}
 use Rattle.table_entries.specs.FlatSteps.{FlatFits, dense_entry}
 use Rattle.table_entries.specs.Listed.{IsExchangedList}
 use Rattle.table_entries.specs.Parts.{Parts, filled, AreColumnsWritten, IsSwap, swapped}

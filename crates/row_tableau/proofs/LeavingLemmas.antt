@@ -2,9 +2,9 @@
 use Rattle.std.specs.Prelude.{◌≡◌, ◌↔◌, ℕ, ◌+◌, ◌≤◌, pos, Bool, true, false, not, IsTrue, List, Some, None}
 use Rattle.std.proofs.Common.{refl, arith, below_more}
 use Rattle.std.proofs.lemmas.Bool.{false≢true}
-use Rattle.rational.specs.Rational.{int}
-use Rattle.bases.specs.Relaxation.{Table}
-use Rattle.bases.specs.Bases.{Lists, MayLeave}
+use Rattle.frac128.specs.Rational.{int}
+use Rattle.table_entries.specs.Relaxation.{Table}
+use Rattle.table_entries.specs.Bases.{Lists, MayLeave}
 use Rattle.row_tableau.specs.Dense.{Dense, table_of}
 use Rattle.row_tableau.specs.Answers.{IsFirstLeaving}
 

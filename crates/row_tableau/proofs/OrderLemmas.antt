@@ -5,14 +5,14 @@ use Rattle.std.proofs.Common.{refl, sym, ap, subst, ◌∙◌, arith, ⊎_elim, 
 use Rattle.std.proofs.lemmas.List.{append_assoc, append-nil, length-append, get_or_append_left, get_or-append-add}
 use Rattle.std.proofs.lemmas.List.FromFn.{length-range_with_len, get_or-range_with_len}
 use Rattle.std.proofs.lemmas.List.Elements.{filter-append}
-use Rattle.rational.specs.Rational.{ℚ, int}
-use Rattle.bases.specs.Relaxation.{Relaxation}
-use Rattle.bases.specs.declared.stand.Stand.{Stand}
-use Rattle.bases.specs.declared.stand.Stand.TheVariants.{Free}
-use Rattle.bases.specs.States.{IsFree, Separates, sign}
-use Rattle.bases.specs.Bases.{Found, listed, Lists}
-use Rattle.bases.proofs.OneTable.{found_or_not}
-use Rattle.bases.proofs.SumBelowLaws.{if_same, if_other}
+use Rattle.frac128.specs.Rational.{ℚ, int}
+use Rattle.table_entries.specs.Relaxation.{Relaxation}
+use Rattle.table_entries.specs.declared.stand.Stand.{Stand}
+use Rattle.table_entries.specs.declared.stand.Stand.TheVariants.{Free}
+use Rattle.table_entries.specs.States.{IsFree, Separates, sign}
+use Rattle.table_entries.specs.Bases.{Found, listed, Lists}
+use Rattle.table_entries.proofs.OneTable.{found_or_not}
+use Rattle.table_entries.proofs.SumBelowLaws.{if_same, if_other}
 use Rattle.row_tableau.specs.Tilts.{tilted_cost}
 use Rattle.row_tableau.proofs.SignLemmas.{sign_some}
 

@@ -1,12 +1,12 @@
 -- The signs of sides.
 use Rattle.std.specs.Prelude.{◌≡◌, ◌≢◌, [], pos}
 use Rattle.std.proofs.Common.{refl, ap, subst, ◌∙◌}
-use Rattle.rational.specs.Rational.{int, ◌*ℚ◌, ◌<ℚ◌}
-use Rattle.rational.proofs.RationalRing.{ring, reads_ℚ}
-use Rattle.rational.proofs.RationalOrder.{zero-<ℚ-one, <ℚ_irrefl}
-use Rattle.bases.specs.declared.stand.Stand.{Stand}
-use Rattle.bases.specs.declared.stand.Stand.TheVariants.{Low, High, Free}
-use Rattle.bases.specs.States.{sign}
+use Rattle.frac128.specs.Rational.{int, ◌*ℚ◌, ◌<ℚ◌}
+use Rattle.frac128.specs.RationalRing.{ring, reads_ℚ}
+use Rattle.frac128.specs.RationalOrder.{zero-<ℚ-one, <ℚ_irrefl}
+use Rattle.table_entries.specs.declared.stand.Stand.{Stand}
+use Rattle.table_entries.specs.declared.stand.Stand.TheVariants.{Low, High, Free}
+use Rattle.table_entries.specs.States.{sign}
 
 pub low_some : sign Low ≢ int (pos 0)
 low_some e = <ℚ_irrefl (subst (λ t. int (pos 0) <ℚ t) e zero-<ℚ-one)

@@ -3,15 +3,15 @@ use Rattle.std.specs.Prelude.{◌≡◌, ℕ, ◌+◌, ◌-◌, ◌<◌, ◌≤�
 use Rattle.std.specs.List.{range_with_len}
 use Rattle.std.proofs.Common.{refl, sym, ap, subst, ◌∙◌, arith, ⊎_elim}
 use Rattle.std.proofs.lemmas.Bool.{false≢true, cases_lt, lt-ltb, le-ltb}
-use Rattle.rational.specs.Rational.{ℚ, int}
+use Rattle.frac128.specs.Rational.{ℚ, int}
 use Rattle.lp_model.specs.Program.{lower, upper}
 use Rattle.lp_model.specs.Formulations.{Formulation}
 use Rattle.lp_model.specs.Regions.{Path, region_low, region_high}
-use Rattle.bases.specs.declared.stand.Stand.{Stand}
-use Rattle.bases.specs.declared.stand.Stand.TheVariants.{Low, Free}
-use Rattle.bases.specs.Bases.{Lists}
-use Rattle.bases.specs.States.{IsFree}
-use Rattle.bases.specs.Directions.{direction_side}
+use Rattle.table_entries.specs.declared.stand.Stand.{Stand}
+use Rattle.table_entries.specs.declared.stand.Stand.TheVariants.{Low, Free}
+use Rattle.table_entries.specs.Bases.{Lists}
+use Rattle.table_entries.specs.States.{IsFree}
+use Rattle.table_entries.specs.Directions.{direction_side}
 use Rattle.row_tableau.specs.declared.relax.RelaxKind.{RelaxKind}
 use Rattle.row_tableau.specs.declared.relax.RelaxKind.TheVariants.{Plain, CostsZero, Directions}
 use Rattle.row_tableau.specs.Activities.{activity_count, activity_low, activity_high}

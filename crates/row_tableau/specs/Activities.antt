@@ -2,7 +2,7 @@
 --     activity_coefficient F i j    the number of column j in activity i
 --     activity_low F, activity_high F    its sides
 use Rattle.std.specs.Prelude.{ℕ, ◌+◌, ◌-◌, ltb, if◌then◌else◌, length, Option, None}
-use Rattle.rational.specs.Rational.{ℚ}
+use Rattle.frac128.specs.Rational.{ℚ}
 use Rattle.lp_model.specs.Program.{coefficient, low_side, high_side}
 use Rattle.lp_model.specs.Formulations.{Formulation, cut_coefficient, cut_high}
 

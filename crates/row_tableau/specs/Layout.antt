@@ -1,6 +1,6 @@
 -- What a tableau keeps: its lists, and entries of which some rows may not be written.
 use Rattle.std.specs.Prelude.{◌≡◌, ℕ, ◌*◌, ◌/◌, ◌%◌, ◌<◌, List, get_or, length, pos}
-use Rattle.rational.specs.Rational.{ℚ, int}
+use Rattle.frac128.specs.Rational.{ℚ, int}
 use Rattle.lp_model.specs.Formulations.{Formulation}
 use Rattle.table_entries.specs.Parts.{Parts, filled, AreColumnsWritten}
 use Rattle.row_tableau.specs.Activities.{activity_count, activity_coefficient}

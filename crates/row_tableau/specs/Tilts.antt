@@ -1,14 +1,14 @@
 -- How costs are tilted, by the sides that variables have in the model, and the order of the tilts' parts.
 use Rattle.std.specs.Prelude.{◌≡◌, ℕ, ◌+◌, ◌<◌, zero, suc, pos, get_or, ltb, ◌==◌, if◌then◌else◌, not, Bool, true, false, List, ◌++◌, filter, length, Option, Some, None}
 use Rattle.std.specs.List.{range_with_len}
-use Rattle.rational.specs.Rational.{ℚ, int}
-use Rattle.bases.specs.States.{sign}
+use Rattle.frac128.specs.Rational.{ℚ, int}
+use Rattle.table_entries.specs.States.{sign}
 use Rattle.lp_model.specs.Program.{Program, lower, upper}
 use Rattle.lp_model.specs.Formulations.{Formulation}
 use Rattle.row_tableau.specs.Activities.{activity_count, activity_low, activity_high}
 use Rattle.lp_model.specs.Regions.{Path, region_low, region_high}
-use Rattle.bases.specs.declared.stand.Stand.{Stand}
-use Rattle.bases.specs.declared.stand.Stand.TheVariants.{Low, High, Free}
+use Rattle.table_entries.specs.declared.stand.Stand.{Stand}
+use Rattle.table_entries.specs.declared.stand.Stand.TheVariants.{Low, High, Free}
 use Rattle.row_tableau.specs.declared.relax.RelaxKind.{RelaxKind}
 use Rattle.row_tableau.specs.declared.relax.RelaxKind.TheVariants.{Plain, CostsZero, Directions}
 use Rattle.row_tableau.specs.Relaxations.{by_variable, plain, of_kind}

@@ -1,10 +1,10 @@
 // Sides and costs of the variables of a relaxation.
 ghost use Rattle.std.specs.Prelude.{◌≡◌, ◌<◌, ◌+◌, ℕ, length, get_or, pos, IfOk, None};
-ghost use Rattle.rational.specs.Rational.{int};
+ghost use Rattle.frac128.specs.Rational.{int};
 ghost use Rattle.lp_model.specs.Regions.{AreNarrow};
 ghost use Rattle.row_tableau.specs.Activities.{activity_count, activity_low, activity_high};
 ghost use Rattle.row_tableau.specs.Relaxations.{HasFewCuts, form_of, plain, relaxation_of};
-ghost use Rattle.bases.specs.Directions.{direction_side};
+ghost use Rattle.table_entries.specs.Directions.{direction_side};
 
 use crate::relax::{Relax, RelaxKind};
 use frac128::Frac;

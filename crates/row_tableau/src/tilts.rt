@@ -1,14 +1,14 @@
 // How costs are tilted, by the sides that variables have in the model.
 ghost use Rattle.std.specs.Prelude.{◌≡◌, ◌<◌, ◌+◌, ◌++◌, ℕ, length, get_or, IfOk};
-ghost use Rattle.bases.specs.declared.stand.Stand.TheVariants.{Free};
+ghost use Rattle.table_entries.specs.declared.stand.Stand.TheVariants.{Free};
 ghost use Rattle.row_tableau.specs.Activities.{activity_count};
 ghost use Rattle.row_tableau.specs.Relaxations.{HasFewCuts, form_of};
 ghost use Rattle.row_tableau.specs.Tilts.{model_low, model_high, stand_by_sides, free_tilt, tilt_of, has_side, is_sided, sided, unsided, order_of};
 
 use crate::relax::{Relax, RelaxKind};
-use bases::Stand;
 use lp_model::Bound;
 use std::alloc::{AllocError, Global};
+use table_entries::Stand;
 
 /// The low side that a variable has in the model.
 fn model_low(relax: &Relax<'_>, variable: usize) -> Bound

@@ -30,4 +30,5 @@ mod session;
 pub use machine::Machine;
 pub use output::write_all;
 pub use reading::{LINE_LIMIT, PIECE_LENGTH, SCRIPT_LIMIT};
+pub use reply::is_memory_reply;
 pub use run::run_script;

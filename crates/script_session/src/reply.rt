@@ -10,7 +10,7 @@ pub(crate) fn is_error_reply(reply: &[u8]) -> bool
 }
 
 /// The reply is the refusal for want of memory.
-pub(crate) fn is_memory_reply(reply: &[u8]) -> bool
+pub fn is_memory_reply(reply: &[u8]) -> bool
     ensures { result ≡ wants_memory reply.now }
 {
     reply == b"error 90 memory\n".as_slice()

@@ -2,7 +2,7 @@
 use Rattle.std.specs.Prelude.{◌≡◌, ℕ, zero, suc, ◌+◌, ◌*◌, ◌-◌, ◌≤◌, Bool, true, false, if◌then◌else◌, List, [], ◌∷◌, length, Option, Some, None}
 use Rattle.std.specs.Option.{option_map}
 use Rattle.std.proofs.Common.{refl, subst, ap, ◌∙◌, arith}
-use Rattle.rational.specs.Rational.{ℚ, int, floor, ceil}
+use Rattle.frac128.specs.Rational.{ℚ, int, floor, ceil}
 use Rattle.lp_model.specs.Elements.{of_element}
 use Rattle.lp_model.specs.Program.{Program}
 use Rattle.lp_model.specs.Lawful.{IsLawful}

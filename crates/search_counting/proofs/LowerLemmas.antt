@@ -3,10 +3,10 @@ use Rattle.std.specs.Prelude.{◌≡◌, ℕ, ◌+◌, ◌*◌, ◌-◌, ◌<◌
 use Rattle.std.proofs.Common.{refl, sym, subst, ap, ◌∙◌, inl, inr, arith}
 use Rattle.std.proofs.lemmas.Bool.Decides.{eqb_tells}
 use Rattle.std.proofs.lemmas.Int.{ints}
-use Rattle.rational.specs.Rational.{ℚ, int, ◌≤ℚ◌, floor}
-use Rattle.rational.proofs.RationalOrder.{≤ℚ_trans, not_both_ℚ}
-use Rattle.rational.proofs.Rounding.{int-≤ℚ}
-use Rattle.rational.proofs.Integers.{int-≤ℚ-int, IsWhole-int}
+use Rattle.frac128.specs.Rational.{ℚ, int, ◌≤ℚ◌, floor}
+use Rattle.frac128.specs.RationalOrder.{≤ℚ_trans, not_both_ℚ}
+use Rattle.frac128.proofs.Rounding.{int-≤ℚ}
+use Rattle.frac128.proofs.Integers.{int-≤ℚ-int, IsWhole-int}
 use Rattle.lp_model.specs.Program.{Program, Point}
 use Rattle.lp_model.specs.Lawful.{IsLawful}
 use Rattle.lp_model.specs.Regions.{Path, region_low, region_high, tighter_low, tighter_high, IsCrossed, IsEmptyRegion}
@@ -39,7 +39,7 @@ use Rattle.sound_searches.proofs.OpenLemmas.{leaf_at}
 use Rattle.search_counting.specs.Points.{points}
 use Rattle.search_counting.specs.Work.{if_open, sum_open, work, splits, HasRoomFor, splits_of, IsRoomy, Lowers}
 use Rattle.search_counting.specs.Laws.{IsEffective}
-use Rattle.lp_model.proofs.WithinRegionLemmas.{IsWholeBound}
+use Rattle.model_points.proofs.WithinRegionLemmas.{IsWholeBound}
 use Rattle.search_counting.proofs.RegionLemmas.{region_high-whole, floor-less, floor-int}
 use Rattle.search_counting.proofs.PointLemmas.{points-split, points-some, low-left, high-left, low-right, high-right, high-left_other, low-right_other, min-below, max-above}
 use Rattle.search_counting.proofs.LeafLemmas.{once, at_leaf, open-found}

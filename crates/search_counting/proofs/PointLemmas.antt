@@ -5,11 +5,11 @@ use Rattle.std.proofs.Common.{refl, sym, subst, ap, ◌∙◌, inl, inr, arith}
 use Rattle.std.proofs.lemmas.Int.{ints}
 use Rattle.std.proofs.lemmas.Bool.{ne_eqb, false≢true}
 use Rattle.std.proofs.lemmas.Bool.Decides.{eqb_tells}
-use Rattle.rational.specs.Rational.{ℚ, int, ◌≤ℚ◌, ◌<ℚ◌, floor, ceil, min_ℚ, max_ℚ, IsWhole}
-use Rattle.rational.proofs.RationalOrder.{≤ℚ_refl, ≤ℚ_trans, ≤ℚ_antisymm, ≤ℚ_from_not, ≤ℚ_of_<ℚ, ≤ℚ_or_>ℚ, not_both_ℚ}
-use Rattle.rational.proofs.Rounding.{int-≤ℚ, ≤ℚ-int, int-floor, floor-≤ℚ}
-use Rattle.rational.proofs.Integers.{int-≤ℚ-int}
-use Rattle.rational.proofs.Division.{min-≤ℚ, ≤ℚ-min, ≤ℚ-max, max-≤ℚ}
+use Rattle.frac128.specs.Rational.{ℚ, int, ◌≤ℚ◌, ◌<ℚ◌, floor, ceil, min_ℚ, max_ℚ, IsWhole}
+use Rattle.frac128.specs.RationalOrder.{≤ℚ_refl, ≤ℚ_trans, ≤ℚ_antisymm, ≤ℚ_from_not, ≤ℚ_of_<ℚ, ≤ℚ_or_>ℚ, not_both_ℚ}
+use Rattle.frac128.proofs.Rounding.{int-≤ℚ, ≤ℚ-int, int-floor, floor-≤ℚ}
+use Rattle.frac128.proofs.Integers.{int-≤ℚ-int}
+use Rattle.frac128.proofs.Division.{min-≤ℚ, ≤ℚ-min, ≤ℚ-max, max-≤ℚ}
 use Rattle.lp_model.specs.Program.{Program, lower, upper, is_integer}
 use Rattle.lp_model.specs.Lawful.{IsLawful}
 use Rattle.lp_model.specs.Regions.{Path, tighter_low, tighter_high, low_after, high_after, low_along, high_along, region_low, region_high, IsCrossed, IsEmptyRegion, at_most, at_least}
@@ -17,7 +17,7 @@ use Rattle.lp_model.specs.declared.types.BoundChange.{BoundChange}
 use Rattle.branch_tree.specs.Tree.{left_path, right_path}
 use Rattle.search_parts.specs.Checks.{IsFrom, IsUnder}
 use Rattle.search_counting.specs.Points.{whole_numbers_from, numbers_within, product_below, column_points, points}
-use Rattle.lp_model.proofs.WithinRegionLemmas.{IsWholeBound}
+use Rattle.model_points.proofs.WithinRegionLemmas.{IsWholeBound}
 use Rattle.search_counting.proofs.RegionLemmas.{ceil-int, floor-int, region_low-whole, region_high-whole}
 
 -- ---- a path and one more change

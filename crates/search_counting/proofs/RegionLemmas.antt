@@ -3,14 +3,14 @@ use Rattle.std.specs.Prelude.{◌≡◌, ℕ, ◌<◌, if◌then◌else◌, IsTr
 use Rattle.std.specs.Option.{option_map}
 use Rattle.std.proofs.Common.{subst, inl, inr, arith}
 use Rattle.std.proofs.lemmas.Int.{ints}
-use Rattle.rational.specs.Rational.{ℚ, int, ◌≤ℚ◌, ◌<ℚ◌, floor, ceil, IsWhole}
-use Rattle.rational.proofs.RationalOrder.{≤ℚ_refl, ≤ℚ_trans, not_both_ℚ}
-use Rattle.rational.proofs.Rounding.{≤ℚ-int, ≤ℚ-ceil, int-floor, floor-≤ℚ}
-use Rattle.rational.proofs.Integers.{int-≤ℚ-int, int_injective, IsWhole-int, branches}
+use Rattle.frac128.specs.Rational.{ℚ, int, ◌≤ℚ◌, ◌<ℚ◌, floor, ceil, IsWhole}
+use Rattle.frac128.specs.RationalOrder.{≤ℚ_refl, ≤ℚ_trans, not_both_ℚ}
+use Rattle.frac128.proofs.Rounding.{≤ℚ-int, ≤ℚ-ceil, int-floor, floor-≤ℚ}
+use Rattle.frac128.proofs.Integers.{int-≤ℚ-int, int_injective, IsWhole-int, branches}
 use Rattle.lp_model.specs.Program.{Program, lower, upper, is_integer}
 use Rattle.lp_model.specs.Lawful.{IsLawful}
 use Rattle.lp_model.specs.Regions.{Path, region_low, region_high}
-use Rattle.lp_model.proofs.WithinRegionLemmas.{integer_bounded, IsWholeBound, low_along-whole, high_along-whole, first_low, first_high}
+use Rattle.model_points.proofs.WithinRegionLemmas.{integer_bounded, IsWholeBound, low_along-whole, high_along-whole, first_low, first_high}
 
 -- ---- whole numbers
 

@@ -3,7 +3,7 @@
 --     column_points M path j       those of an integer column in the region, and one of any other
 --     points M path                their product over the columns
 use Rattle.std.specs.Prelude.{ℕ, zero, suc, ◌*◌, ℤ, ◌-ℤ◌, int_le, unsigned_abs, if◌then◌else◌, length, Option, Some, None}
-use Rattle.rational.specs.Rational.{ℚ, floor, ceil}
+use Rattle.frac128.specs.Rational.{ℚ, floor, ceil}
 use Rattle.lp_model.specs.Program.{Program, is_integer}
 use Rattle.lp_model.specs.Regions.{Path, region_low, region_high}
 

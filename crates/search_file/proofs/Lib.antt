@@ -1,3 +1,8 @@
+pub mod DepthLemmas
+pub mod LawfulLemmas
+pub mod PoolLemmas
+pub mod TreeLemmas
+pub mod SavedLaws
 pub mod NumberFits
 pub mod StatedLists
 pub mod StatedNodes

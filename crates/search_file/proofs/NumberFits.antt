@@ -3,7 +3,7 @@ use Rattle.std.specs.Prelude.{◌≡◌, ◌≢◌, ℕ, suc, ◌*◌, ◌^◌, 
 use Rattle.std.specs.List.{list_any, before_first, after_first}
 use Rattle.std.proofs.Common.{refl, subst, arith}
 use Rattle.std.proofs.lemmas.Bool.Decides.{nat_tests, Decides-eqb}
-use Rattle.rational.specs.Rational.{ℚ, int, ◌/ℚ◌}
+use Rattle.frac128.specs.Rational.{ℚ, int, ◌/ℚ◌}
 use Rattle.frac128.specs.Range.{IsNarrow, Fits, largest}
 use Rattle.frac128.proofs.Whole.{Fits-int, Fits-zero, Fits-neg}
 use Rattle.frac_text.specs.Spelling.{Reading, Number, Wide, NoNumber, value_of, are_digits, is_minus, without_sign, is_slash, is_decimal, mantissa, point_digits, exponent, exponent_text, coefficient_of, power_of, scaled, is_wide_power, signed, scaled_reading, decimal_reading, is_quotient, quotient_reading, slash_reading, plain_reading, reading_of}

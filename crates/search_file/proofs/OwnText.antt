@@ -12,10 +12,10 @@ use Rattle.branch_tree.specs.declared.node.NodeData.TheVariants.{Split, Leaf}
 use Rattle.search_data.specs.declared.data.SearchData.{SearchData}
 use Rattle.search_parts.specs.Points.{IsKeepable}
 use Rattle.sound_searches.specs.Sound.{PlainSearch, IsSound}
-use Rattle.search_saving.specs.Saved.{saved_data, stated_formulation, IsRestorableNode}
-use Rattle.search_saving.proofs.SavedLaws.{saved}
-use Rattle.warm_values.specs.declared.fault.WarmFault.{WarmFault}
-use Rattle.warm_values.specs.declared.fault.WarmFault.TheVariants.{Bad, Memory}
+use Rattle.search_file.specs.Saved.{saved_data, stated_formulation, IsRestorableNode}
+use Rattle.search_file.proofs.SavedLaws.{saved}
+use Rattle.warm_file.specs.declared.fault.WarmFault.{WarmFault}
+use Rattle.warm_file.specs.declared.fault.WarmFault.TheVariants.{Bad, Memory}
 use Rattle.warm_file.specs.Answers.{IsSearchAnswer}
 use Rattle.warm_file.specs.Searches.{States, IsFault}
 use Rattle.warm_file.proofs.SearchLaws.{no_fault-law}

@@ -4,7 +4,7 @@ use Rattle.std.proofs.Common.{refl, sym, ap, subst, ◌∙◌, arith}
 use Rattle.std.proofs.lemmas.Int.{ints, by_lt_z}
 use Rattle.std.proofs.lemmas.List.{length-map, get_or_default}
 use Rattle.std.proofs.lemmas.List.Elements.{All-map, All-weaker}
-use Rattle.rational.specs.Rational.{ℚ}
+use Rattle.frac128.specs.Rational.{ℚ}
 use Rattle.frac128.specs.Range.{IsNarrow, largest}
 use Rattle.lp_model.specs.Program.{Program}
 use Rattle.lp_model.specs.Formulations.{Formulation, formulation}
@@ -23,12 +23,12 @@ use Rattle.serde_json.specs.Data.{Data}
 use Rattle.serde_json.specs.Find.{as_object}
 use Rattle.search_parts.specs.Lists.{IsThere, IsActivityThere, NamesOnce, AreMultipliers, IsBasis}
 use Rattle.sound_searches.specs.Sound.{PlainSearch}
-use Rattle.search_saving.specs.Saved.{saved_data, uncounted, IsRestorableNode, IsRestorable, Restores}
-use Rattle.search_saving.proofs.SavedLaws.{saved}
-use Rattle.warm_values.specs.Faults.{fault, at_key}
-use Rattle.warm_values.specs.Values.{member}
-use Rattle.warm_values.specs.Rising.{variable_rank}
-use Rattle.warm_values.proofs.Inversions.{next-ok, key-ok, test-ok, member-ok}
+use Rattle.search_file.specs.Saved.{saved_data, uncounted, IsRestorableNode, IsRestorable, Restores}
+use Rattle.search_file.proofs.SavedLaws.{saved}
+use Rattle.warm_file.specs.Faults.{fault, at_key}
+use Rattle.warm_file.specs.Values.{member}
+use Rattle.warm_file.specs.Rising.{variable_rank}
+use Rattle.warm_file.proofs.Inversions.{next-ok, key-ok, test-ok, member-ok}
 use Rattle.warm_file.specs.Models.{model_of}
 use Rattle.warm_file.specs.Searches.{counts, cuts_of, points_of, nodes_of, whole_search, tree_of, search_in, search_of, States}
 use Rattle.warm_file.proofs.SearchLaws.{few-cuts, one_search-law}

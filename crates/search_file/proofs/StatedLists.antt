@@ -4,19 +4,19 @@ use Rattle.std.proofs.Common.{refl, subst, arith}
 use Rattle.std.proofs.lemmas.Bool.Decides.{nat_tests}
 use Rattle.std.proofs.lemmas.List.Elements.{All-nil, All-push}
 use Rattle.std.proofs.lemmas.List.Quantifiers.{all_pairs_push}
-use Rattle.rational.specs.Rational.{ℚ, int}
-use Rattle.rational.proofs.Comparison.{eq_by_cmp-decides}
+use Rattle.frac128.specs.Rational.{ℚ, int}
+use Rattle.frac128.proofs.Comparison.{eq_by_cmp-decides}
 use Rattle.lp_model.specs.Edits.{is_zero}
 use Rattle.lp_model.specs.declared.types.Var.{Var}
 use Rattle.serde_json.specs.Data.{Data}
-use Rattle.warm_values.specs.Faults.{fault, at_item}
-use Rattle.warm_values.specs.Values.{count_of, place_below}
-use Rattle.warm_values.specs.Numbers.{number_of, nonzero_of}
-use Rattle.warm_values.specs.Rising.{is_past, kind_of, row_or_cut, dual_kind_of, count_of_kind, var_of, variable_rank, variable_of, multiplier_at, multiplier_of}
-use Rattle.warm_values.specs.declared.rising.Counts.{Counts}
-use Rattle.warm_values.specs.declared.rising.Kind.{Kind}
-use Rattle.warm_values.specs.declared.rising.Kind.TheVariants as kind
-use Rattle.warm_values.proofs.Inversions.{next-ok, key-ok, test-ok, list-keeps}
+use Rattle.warm_file.specs.Faults.{fault, at_item}
+use Rattle.warm_file.specs.Values.{count_of, place_below}
+use Rattle.warm_file.specs.Numbers.{number_of, nonzero_of}
+use Rattle.warm_file.specs.Rising.{is_past, kind_of, row_or_cut, dual_kind_of, count_of_kind, var_of, variable_rank, variable_of, multiplier_at, multiplier_of}
+use Rattle.warm_file.specs.declared.rising.Counts.{Counts}
+use Rattle.warm_file.specs.declared.rising.Kind.{Kind}
+use Rattle.warm_file.specs.declared.rising.Kind.TheVariants as kind
+use Rattle.warm_file.proofs.Inversions.{next-ok, key-ok, test-ok, list-keeps}
 use Rattle.warm_file.specs.Searches.{variables_of, multipliers_of}
 use Rattle.warm_writer.specs.Writable.{ArePlacesRising, IsVariableThere, IsActivity, AreWritableVariables, IsWritableMultiplier, AreWritableMultipliers}
 

@@ -5,7 +5,7 @@ use Rattle.std.proofs.Common.{refl, subst, arith}
 use Rattle.std.proofs.lemmas.Bool.Decides.{Decides-int_eq}
 use Rattle.std.proofs.lemmas.List.{length_push}
 use Rattle.std.proofs.lemmas.List.Elements.{All-nil, All-push}
-use Rattle.rational.specs.Rational.{ℚ, den}
+use Rattle.frac128.specs.Rational.{ℚ, den}
 use Rattle.frac128.specs.Range.{IsNarrow, Fits, largest}
 use Rattle.frac_text.specs.Spelling.{reading_of}
 use Rattle.frac_text.specs.Parsing.{parsed}
@@ -17,12 +17,12 @@ use Rattle.branch_tree.specs.declared.node.NodeData.{NodeData}
 use Rattle.branch_tree.specs.declared.node.NodeData.TheVariants.{Split, Leaf}
 use Rattle.serde_json.specs.Data.{Data}
 use Rattle.serde_json.specs.Find.{get, as_object}
-use Rattle.warm_values.specs.Faults.{fault, at_item}
-use Rattle.warm_values.specs.Values.{text_in, place_below, member, at_most_items}
-use Rattle.warm_values.specs.Numbers.{numbered, number_of, whole_at, whole_of}
-use Rattle.warm_values.specs.Rising.{col_id}
-use Rattle.warm_values.specs.declared.rising.Counts.{Counts}
-use Rattle.warm_values.proofs.Inversions.{next-ok, key-ok, test-ok, member-ok, list-keeps, at_most-ok}
+use Rattle.warm_file.specs.Faults.{fault, at_item}
+use Rattle.warm_file.specs.Values.{text_in, place_below, member, at_most_items}
+use Rattle.warm_file.specs.Numbers.{numbered, number_of, whole_at, whole_of}
+use Rattle.warm_file.specs.Rising.{col_id}
+use Rattle.warm_file.specs.declared.rising.Counts.{Counts}
+use Rattle.warm_file.proofs.Inversions.{next-ok, key-ok, test-ok, member-ok, list-keeps, at_most-ok}
 use Rattle.warm_file.specs.Searches.{point_limit, point_of, points_of, variables_of, multipliers_of, basis_of, branching_of, split_of, leaf_of, node_of, nodes_of}
 use Rattle.warm_writer.specs.Writable.{IsWritableBasis, IsWritableNode}
 use Rattle.search_file.proofs.NumberFits.{spelled-fits}

@@ -8,9 +8,9 @@ use Rattle.std.specs.declared.alloc.Global.{Global}
 use Rattle.serde_json.specs.Written.{compact_text}
 use Rattle.search_data.specs.declared.data.SearchData.{SearchData}
 use Rattle.sound_searches.specs.Sound.{PlainSearch}
-use Rattle.search_saving.specs.Saved.{saved_data, Restores}
-use Rattle.warm_values.specs.declared.fault.WarmFault.{WarmFault}
-use Rattle.warm_values.specs.declared.fault.WarmFault.TheVariants.{Bad, Memory}
+use Rattle.search_file.specs.Saved.{saved_data, Restores}
+use Rattle.warm_file.specs.declared.fault.WarmFault.{WarmFault}
+use Rattle.warm_file.specs.declared.fault.WarmFault.TheVariants.{Bad, Memory}
 use Rattle.warm_file.specs.Answers.{IsSearchAnswer}
 use Rattle.warm_file.specs.Searches.{States, IsFault}
 use Rattle.warm_writer.specs.Written.{search_json}

@@ -1,11 +1,18 @@
--- What holds of texts of searches.
+-- What holds of every search that is saved and made again, and of texts of searches.
 use Rattle.std.specs.Prelude.{◌≡◌, ℕ, false, List}
 use Rattle.search_data.specs.declared.data.SearchData.{SearchData}
 use Rattle.sound_searches.specs.Laws.{HasNoOpenLeaf}
 use Rattle.sound_searches.specs.Sound.{PlainSearch, IsSound}
-use Rattle.search_saving.specs.Saved.{saved_data, IsRestorable}
 use Rattle.warm_file.specs.Searches.{States}
+use Rattle.search_file.specs.Saved.{saved_data, IsRestorable, Restores}
 use Rattle.search_file.specs.Files.{IsTextOf, IsStatedBy}
+
+-- a search can be made of its data again; what is made has the same data, so each leaf the state that it had, and where no leaf was
+-- open none is
+pub record SavedLaw : Type 0 where
+  pub restorable : (S : PlainSearch) → IsSound S → IsRestorable (saved_data S)
+  pub again : (S new : PlainSearch) → IsSound S → IsSound new → Restores (saved_data S) new → saved_data new ≡ saved_data S
+  pub closed : (S new : PlainSearch) → IsSound S → IsSound new → Restores (saved_data S) new → HasNoOpenLeaf S → HasNoOpenLeaf new
 
 -- a search can be made of whatever a text states; and a search that is found in its own text has the data that it had, so it has no
 -- open leaf where it had none

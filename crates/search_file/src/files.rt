@@ -1,15 +1,15 @@
 // Searches as texts.
 ghost use Rattle.std.specs.Prelude.{◌≡◌, IfErr};
-ghost use Rattle.search_saving.specs.Saved.{saved_data};
+ghost use Rattle.search_file.specs.Saved.{saved_data};
 ghost use Rattle.warm_writer.specs.Writable.{IsWritable};
-ghost use Rattle.warm_values.specs.declared.fault.WarmFault.TheVariants.{Memory};
+ghost use Rattle.warm_file.specs.declared.fault.WarmFault.TheVariants.{Memory};
 ghost use Rattle.search_file.specs.Files.{IsReread, IsTextAnswer, IsSearchFound};
 
-use search_saving::{data_of, search_of};
+use crate::restoring::search_of;
+use crate::saving::data_of;
 use std::alloc::{AllocError, Global};
 use tree_edit::Search;
-use warm_file::read;
-use warm_values::WarmFault;
+use warm_file::{WarmFault, read};
 use warm_writer::write;
 
 /// The text, if it is read again.

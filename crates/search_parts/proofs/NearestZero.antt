@@ -1,11 +1,11 @@
 -- The number that a point gets for a new column: it is allowed where any is, and none that is allowed is nearer to 0.
 use Rattle.std.specs.Prelude.{◌≡◌, Bool, true, false, if◌then◌else◌, not, IsTrue, pos, Option, Some, None}
 use Rattle.std.proofs.Common.{refl, sym, ap, subst}
-use Rattle.rational.specs.Rational.{ℚ, int, ◌≤ℚ◌, ◌<ℚ◌, floor, ceil, rational_le, IsWhole}
-use Rattle.rational.proofs.RationalOrder.{≤ℚ_refl, ≤ℚ_trans, ≤ℚ_of_<ℚ, <ℚ_from_not, <ℚ_irrefl, <ℚ-≤ℚ_trans, not_both_ℚ}
-use Rattle.rational.proofs.Rounding.{int-≤ℚ, ≤ℚ-int, int-floor, floor-≤ℚ, ≤ℚ-ceil}
-use Rattle.rational.proofs.Integers.{int-≤ℚ-int, IsWhole-int}
-use Rattle.rational.proofs.Comparison.{rational_le-decides}
+use Rattle.frac128.specs.Rational.{ℚ, int, ◌≤ℚ◌, ◌<ℚ◌, floor, ceil, rational_le, IsWhole}
+use Rattle.frac128.specs.RationalOrder.{≤ℚ_refl, ≤ℚ_trans, ≤ℚ_of_<ℚ, <ℚ_from_not, <ℚ_irrefl, <ℚ-≤ℚ_trans, not_both_ℚ}
+use Rattle.frac128.proofs.Rounding.{int-≤ℚ, ≤ℚ-int, int-floor, floor-≤ℚ, ≤ℚ-ceil}
+use Rattle.frac128.proofs.Integers.{int-≤ℚ-int, IsWhole-int}
+use Rattle.frac128.proofs.Comparison.{rational_le-decides}
 use Rattle.lp_model.specs.Program.{AtLeast, AtMost, IsAllowed}
 use Rattle.search_parts.specs.EditedPoints.{low_allowed, high_allowed, raised, lowered, holds_none, nearest_zero}
 use Rattle.search_parts.specs.Nearest.{IsNearestZero, NearestLaw}

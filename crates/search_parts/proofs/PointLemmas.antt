@@ -3,9 +3,9 @@ use Rattle.std.specs.Prelude.{◌≡◌, ℕ, zero, suc, ◌+◌, ◌<◌, pos, 
 use Rattle.std.proofs.Common.{refl, sym, subst, ap, ◌∙◌, arith}
 use Rattle.std.proofs.lemmas.List.{length-map}
 use Rattle.std.proofs.lemmas.List.Elements.{All-head, All-tail}
-use Rattle.rational.specs.Rational.{ℚ, int, ◌≤ℚ◌, ◌<ℚ◌}
-use Rattle.rational.proofs.RationalOrder.{≤ℚ_refl, ≤ℚ_trans, <ℚ-≤ℚ_trans, ≤ℚ_of_<ℚ, ≤ℚ_from_not, ≤ℚ_antisymm}
-use Rattle.rational.proofs.Division.{min-≤ℚ, ≤ℚ-min}
+use Rattle.frac128.specs.Rational.{ℚ, int, ◌≤ℚ◌, ◌<ℚ◌}
+use Rattle.frac128.specs.RationalOrder.{≤ℚ_refl, ≤ℚ_trans, <ℚ-≤ℚ_trans, ≤ℚ_of_<ℚ, ≤ℚ_from_not, ≤ℚ_antisymm}
+use Rattle.frac128.proofs.Division.{min-≤ℚ, ≤ℚ-min}
 use Rattle.lp_model.specs.Program.{Program, Point, least_value}
 use Rattle.search_parts.specs.Points.{lesser, target, value_at, IsOldestOf, IsOldestLeast, IsIncumbentAt}
 use borrow.Author.Count.{below_more}

@@ -4,8 +4,8 @@ use Rattle.std.proofs.Common.{refl, sym, ap, ◌∙◌, arith, length-append, in
 use Rattle.std.proofs.lemmas.Bool.{cases_order}
 use Rattle.std.proofs.lemmas.List.{map-append, length-take, length-drop}
 use Rattle.std.proofs.lemmas.List.Elements.{All-append, All-take, All-drop}
-use Rattle.rational.specs.Rational.{ℚ, ◌≤ℚ◌, ◌<ℚ◌}
-use Rattle.rational.proofs.RationalOrder.{not_both_ℚ, ≤ℚ_refl, ≤ℚ-<ℚ_trans, ≤ℚ_of_<ℚ, ≤ℚ_from_not}
+use Rattle.frac128.specs.Rational.{ℚ, ◌≤ℚ◌, ◌<ℚ◌}
+use Rattle.frac128.specs.RationalOrder.{not_both_ℚ, ≤ℚ_refl, ≤ℚ-<ℚ_trans, ≤ℚ_of_<ℚ, ≤ℚ_from_not}
 use Rattle.lp_model.specs.Program.{Program, Point, least_value}
 use Rattle.search_parts.proofs.PointLemmas.{target-value, target-none}
 use Rattle.search_parts.specs.Points.{value_at, target}

@@ -1,6 +1,6 @@
 -- What a result has to be, for a leaf with a path.
 use Rattle.std.specs.Prelude.{ℕ, ◌<◌, IsTrue, ℤ, Option, Some, None, length}
-use Rattle.rational.specs.Rational.{ℚ, int, ◌≤ℚ◌, ◌<ℚ◌}
+use Rattle.frac128.specs.Rational.{ℚ, int, ◌≤ℚ◌, ◌<ℚ◌}
 use Rattle.lp_model.specs.Program.{Program, is_integer}
 use Rattle.lp_model.specs.Regions.{Path, region_low, region_high}
 

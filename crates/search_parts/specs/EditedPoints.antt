@@ -2,7 +2,7 @@
 -- those stay that are feasible in the edited model, in their order.
 use Rattle.std.specs.Prelude.{◌≡◌, ◌⊎◌, Bool, false, not, if◌then◌else◌, List, [], ◌∷◌, ◌++◌, map, pos, Option, Some, None}
 use Rattle.std.specs.Option.{option_map}
-use Rattle.rational.specs.Rational.{ℚ, int, floor, ceil, max_ℚ, min_ℚ, rational_le}
+use Rattle.frac128.specs.Rational.{ℚ, int, floor, ceil, max_ℚ, min_ℚ, rational_le}
 use Rattle.lp_model.specs.Elements.{without_at}
 use Rattle.lp_model.specs.Program.{Program, Point, least_value}
 use Rattle.lp_model.specs.Edits.{col_place}

@@ -1,7 +1,7 @@
 -- One more kept point: it stands last, and beyond 100 the worst goes.
 use Rattle.std.specs.Prelude.{◌≡◌, ℕ, ◌<◌, ◌≤◌, List, [], ◌∷◌, ◌++◌, length, map, Option, Some, None}
 use Rattle.std.specs.List.{remove}
-use Rattle.rational.specs.Rational.{ℚ, ◌≤ℚ◌, ◌<ℚ◌}
+use Rattle.frac128.specs.Rational.{ℚ, ◌≤ℚ◌, ◌<ℚ◌}
 use Rattle.lp_model.specs.Program.{Program, Point, least_value}
 use Rattle.search_parts.specs.declared.points.Joined.{Joined}
 use Rattle.search_parts.specs.Points.{target, value_at, IsOldestLeast}

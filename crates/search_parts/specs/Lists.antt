@@ -1,6 +1,6 @@
 -- Lists of variables that are there, each once.
 use Rattle.std.specs.Prelude.{◌≢◌, ◌<◌, List, length, map, All, AllPairs}
-use Rattle.rational.specs.Rational.{ℚ}
+use Rattle.frac128.specs.Rational.{ℚ}
 use Rattle.lp_model.specs.Formulations.{Formulation}
 use Rattle.lp_model.specs.declared.types.Var.{Var}
 use Rattle.lp_model.specs.declared.types.Var.TheVariants.{Col, Row, Cut}

@@ -1,6 +1,6 @@
 -- What the number means that a point gets for a new column.
 use Rattle.std.specs.Prelude.{Bool, pos, Option}
-use Rattle.rational.specs.Rational.{ℚ, int, ◌≤ℚ◌, ◌<ℚ◌}
+use Rattle.frac128.specs.Rational.{ℚ, int, ◌≤ℚ◌, ◌<ℚ◌}
 use Rattle.lp_model.specs.Program.{IsAllowed}
 use Rattle.search_parts.specs.EditedPoints.{nearest_zero}
 

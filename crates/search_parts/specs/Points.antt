@@ -1,8 +1,8 @@
 -- The kept points of a search, oldest first.
 use Rattle.std.specs.Prelude.{◌≡◌, ℕ, ◌<◌, true, List, [], ◌∷◌, length, All, get_or, pos, Option, Some, None, Ok}
-use Rattle.rational.specs.Rational.{ℚ, int, ◌≤ℚ◌, ◌<ℚ◌, min_ℚ}
+use Rattle.frac128.specs.Rational.{ℚ, int, ◌≤ℚ◌, ◌<ℚ◌, min_ℚ}
 use Rattle.lp_model.specs.Program.{Program, Point, least_value, value}
-use Rattle.lp_model.specs.Answers.{IsFeasibilityAnswer, IsValueAnswer}
+use Rattle.model_points.specs.Answers.{IsFeasibilityAnswer, IsValueAnswer}
 
 -- the point is feasible, and no step of its test or its value lacks room
 pub record IsKeepable (M : Program) (x : Point) : Type 0 where

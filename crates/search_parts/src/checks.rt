@@ -8,17 +8,18 @@ ghost use Rattle.search_parts.specs.Checks.{IsFrom, IsUnder, IsSplitAllowed};
 
 use frac128::Frac;
 use lp_model::{Bound, ColId, Model, Point, Region};
+use model_points::{is_feasible, value};
 
 /// The value of a point in least form, where it is feasible and no step of its test or value lacks room.
 pub fn keepable_value(model: &Model, point: &Point) -> Option<Frac>
     ensures { MatchOption result (¬ IsKeepable model.now point.now) (λ v. IsKeepable model.now point.now × (v ≡ least_value model.now 1 point.now)) }
 {
-    match model.is_feasible(point) {
+    match is_feasible(model, point) {
         Ok(true) => {}
         Ok(false) => return None,
         Err(_) => return None,
     }
-    match model.value(1, point) {
+    match value(model, 1, point) {
         Ok(value) => Some(model.sense().least_form(&value)),
         Err(_) => None,
     }

@@ -18,7 +18,7 @@ pub struct Joined {
 }
 
 /// Whether the two are one number, or both none.
-#[tactic(auto, using(rational::proofs::Comparison::comparisons))]
+#[tactic(auto, using(frac128::proofs::Comparison::comparisons))]
 pub fn is_same_value(first: &Option<Frac>, second: &Option<Frac>) -> bool
     ensures { IsTrue result ↔ (first.now ≡ second.now) }
 {

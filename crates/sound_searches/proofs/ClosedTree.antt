@@ -3,8 +3,8 @@
 use Rattle.std.specs.Prelude.{◌≡◌, ◌⊎◌, true, false, [], ◌∷◌, Option, Some, None}
 use Rattle.std.proofs.Common.{refl, subst, inl, inr}
 use Rattle.std.proofs.lemmas.List.Elements.{All-get_or}
-use Rattle.rational.specs.Rational.{ℚ, ◌≤ℚ◌}
-use Rattle.rational.proofs.RationalOrder.{≤ℚ_trans, not_both_ℚ}
+use Rattle.frac128.specs.Rational.{ℚ, ◌≤ℚ◌}
+use Rattle.frac128.specs.RationalOrder.{≤ℚ_trans, not_both_ℚ}
 use Rattle.lp_model.specs.Program.{Program, Point, least_value, IsFeasible, IsOptimum, IsEmpty}
 use Rattle.lp_model.specs.Regions.{Path, InRegion}
 use Rattle.lp_model.specs.Formulations.{Formulation, IsValid}

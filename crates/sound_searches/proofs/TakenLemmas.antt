@@ -5,10 +5,10 @@ use Rattle.std.proofs.Common.{refl, sym, subst, ap, ◌∙◌, inl, inr, arith, 
 use Rattle.std.proofs.lemmas.Bool.{cases_order}
 use Rattle.std.proofs.lemmas.List.{get_or-map, length-map, length-take, length-drop}
 use Rattle.std.proofs.lemmas.List.Elements.{All-push, All-append, All-take, All-drop, All-cons, All-head, All-tail, All-nil}
-use Rattle.rational.specs.Rational.{ℚ, int, ◌≤ℚ◌, IsWhole}
-use Rattle.rational.proofs.RationalOrder.{≤ℚ_refl, ≤ℚ_trans, ≤ℚ_antisymm, ≤ℚ_or_>ℚ, ≤ℚ_of_<ℚ, not_both_ℚ}
-use Rattle.rational.proofs.Division.{min-≤ℚ, ≤ℚ-min}
-use Rattle.rational.proofs.Integers.{IsWhole-neg_ℚ}
+use Rattle.frac128.specs.Rational.{ℚ, int, ◌≤ℚ◌, IsWhole}
+use Rattle.frac128.specs.RationalOrder.{≤ℚ_refl, ≤ℚ_trans, ≤ℚ_antisymm, ≤ℚ_or_>ℚ, ≤ℚ_of_<ℚ, not_both_ℚ}
+use Rattle.frac128.proofs.Division.{min-≤ℚ, ≤ℚ-min}
+use Rattle.frac128.proofs.Integers.{IsWhole-neg_ℚ}
 use Rattle.lp_model.specs.Program.{Program, Point, value, least_value, in_least_form, IsFeasible}
 use Rattle.lp_model.specs.declared.types.Sense.{Sense}
 use Rattle.lp_model.specs.declared.types.Sense.TheVariants.{Min, Max}

@@ -4,16 +4,16 @@ use Rattle.std.specs.Prelude.{true, ◌-◌, All}
 use Rattle.std.specs.List.{remove}
 use Rattle.std.proofs.lemmas.List.{length-map, length-take, length-drop, length-append}
 use Rattle.std.proofs.lemmas.List.Elements.{All-head}
-use Rattle.rational.specs.Rational.{ℚ}
+use Rattle.frac128.specs.Rational.{ℚ}
 use Rattle.lp_model.specs.Program.{Program, Point, IsOptimum, IsEmpty, value, least_value}
 use Rattle.lp_model.specs.Lawful.{IsLawful}
-use Rattle.lp_model.specs.Rays.{without_costs, IsRayJudged, IsUnbounded}
-use Rattle.lp_model.proofs.UnboundedLemmas.{unbounded}
 use Rattle.lp_model.specs.declared.types.Basis.{Basis}
 use Rattle.lp_model.specs.declared.answers.StopWhy.{StopWhy}
 use Rattle.lp_model.specs.declared.answers.StopWhy.TheVariants as stop
 use Rattle.lp_model.specs.declared.answers.Answer.{Answer}
 use Rattle.lp_model.specs.declared.answers.Answer.TheVariants.{Optimal, Infeasible, Unbounded, Stopped, Memory}
+use Rattle.model_points.specs.Rays.{without_costs, IsRayJudged, IsUnbounded}
+use Rattle.model_points.proofs.UnboundedLemmas.{unbounded}
 use Rattle.ray_phase.specs.Answers.{IsRayAnswer}
 use Rattle.ray_phase.specs.declared.phase.RayAnswer.TheVariants as phase
 use Rattle.branch_tree.specs.Changes.{with_limit}

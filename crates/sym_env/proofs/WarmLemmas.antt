@@ -3,12 +3,12 @@ use Rattle.std.specs.Prelude.{true}
 use Rattle.std.proofs.Common.{◌≡◌, ℕ, ◌<◌, List, [], ◌∷◌, length, sym, ap, subst, refl, inl, inr, arith, Option, Some, None, Ok, Err}
 use Rattle.lp_model.specs.Program.{Program, Point}
 use Rattle.lp_model.specs.Edits.{EditFits}
-use Rattle.lp_model.specs.Rays.{IsRayJudged}
 use Rattle.lp_model.specs.declared.types.Basis.{Basis}
 use Rattle.lp_model.specs.declared.types.Edit.{Edit}
 use Rattle.lp_model.specs.declared.answers.StopWhy.{StopWhy}
 use Rattle.lp_model.specs.declared.answers.Answer.{Answer}
 use Rattle.lp_model.specs.declared.answers.Answer.TheVariants.{Optimal, Infeasible, Unbounded, Stopped, Memory}
+use Rattle.model_points.specs.Rays.{IsRayJudged}
 use Rattle.model_edits.specs.Faults.{IsEditFault}
 use Rattle.model_edits.specs.declared.faults.EditFault.{EditFault}
 use Rattle.ray_phase.specs.declared.phase.RayAnswer.TheVariants as phase

@@ -1,9 +1,9 @@
 -- What is enough for a search to go to the end. The pool is that of the search in the end: a relaxation has at most 200 of its cuts.
 use Rattle.std.specs.Prelude.{ℕ, ◌+◌, ◌*◌, ◌-◌, ◌<◌, ◌≤◌, ◌^◌, List}
 use Rattle.lp_model.specs.Program.{Program, Point}
-use Rattle.lp_model.specs.Rays.{IsRay, without_costs}
 use Rattle.lp_model.specs.declared.types.CutRow.{CutRow}
 use Rattle.lp_model.specs.declared.types.WideStep.{WideStep}
+use Rattle.model_points.specs.Rays.{IsRay, without_costs}
 use Rattle.basic_solution.specs.Held.{Held}
 use Rattle.dual_simplex.specs.Walks.{Moves}
 use Rattle.ray_phase.specs.Answers.{IsStart, IsWideAt}

@@ -4,8 +4,8 @@ use Rattle.std.specs.Option.{option_map}
 use Rattle.std.specs.Coded.{Coded, code_by, coded×, coded_list, coded_option}
 use Rattle.frac128.specs.contracts.frac.Frac.{the_row as frac_row}
 use Rattle.lp_model.specs.Program.{Program, Point}
-use Rattle.lp_model.specs.Rays.{IsRayJudged}
 use Rattle.lp_model.specs.declared.types.CutRow.{CutRow}
+use Rattle.model_points.specs.Rays.{IsRayJudged}
 use Rattle.sound_searches.specs.Laws.{HasNoOpenLeaf}
 use Rattle.sound_searches.specs.Sound.{PlainSearch}
 use Rattle.sound_searches.specs.SearchCode.{search_code}

@@ -1,12 +1,12 @@
 -- What each answer of `solve` and of `warm_solve` says of the model, whatever was done to find it.
 use Rattle.std.specs.Prelude.{◌≡◌, ℕ, ◌-◌, ◌<◌, ◌≤◌, ◌^◌, Option, Some, None}
-use Rattle.rational.specs.Rational.{ℚ, ◌≤ℚ◌}
+use Rattle.frac128.specs.Rational.{ℚ, ◌≤ℚ◌}
 use Rattle.lp_model.specs.Program.{Program, Point, IsFeasible, IsOptimum, IsEmpty, value, least_value, in_least_form}
-use Rattle.lp_model.specs.Rays.{IsUnbounded}
 use Rattle.lp_model.specs.declared.answers.StopWhy.{StopWhy}
 use Rattle.lp_model.specs.declared.answers.StopWhy.TheVariants.{Nodes, Tree, Pivots, Wide}
 use Rattle.lp_model.specs.declared.answers.Answer.{Answer}
 use Rattle.lp_model.specs.declared.answers.Answer.TheVariants.{Optimal, Infeasible, Unbounded, Stopped, Memory}
+use Rattle.model_points.specs.Rays.{IsUnbounded}
 use Rattle.branch_tree.specs.Changes.{with_limit}
 use Rattle.sound_searches.specs.Sound.{PlainSearch}
 use Rattle.search_counting.specs.Work.{whole_points, cap_of, HasRoomFor}

@@ -1,7 +1,7 @@
 // The certificate of a search that went to its end, or that found a point beside a ray.
 ghost use Rattle.std.specs.Prelude.{◌<◌, length, true, IfOk, Ok};
-ghost use Rattle.lp_model.specs.Answers.{IsFeasibilityAnswer};
-ghost use Rattle.lp_model.specs.Rays.{IsRayJudged};
+ghost use Rattle.model_points.specs.Answers.{IsFeasibilityAnswer};
+ghost use Rattle.model_points.specs.Rays.{IsRayJudged};
 ghost use Rattle.sound_searches.specs.Laws.{HasNoOpenLeaf};
 ghost use Rattle.sym_env.specs.Certificates.{IsCertificateText, IsUnboundedTextBy, IsUnboundedText};
 

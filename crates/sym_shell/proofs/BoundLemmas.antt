@@ -1,12 +1,7 @@
 -- What the reply to a command of bounds shows.
-use Rattle.std.proofs.Common.{◌≡◌, ℕ, arith, List, [], ◌∷◌, ◌++◌, refl, subst, sym, ap, ◌∙◌, inl, inr, Option, Some, None, Ok, Err, Result}
-use Rattle.std.specs.Prelude.{IfOk, IfSome, codes}
+use Rattle.std.proofs.Common.{◌≡◌, ℕ, List, [], ◌++◌, refl, subst, sym, ap, ◌∙◌, inl, inr, Option, Some, None, Ok, Err, Result}
+use Rattle.std.specs.Prelude.{IfOk, IfSome}
 use Rattle.std.specs.Option.{option_map}
-use Rattle.rational.specs.Rational.{ℚ}
-use Rattle.frac128.specs.Range.{Fits}
-use Rattle.frac128.specs.Printing.{printed}
-use Rattle.frac_text.proofs.PrintedReads.{reading_of-printed}
-use Rattle.text_lines.specs.Words.{IsWord}
 use Rattle.lp_model.specs.Edits.{Named}
 use Rattle.lp_model.specs.Program.{Program, value, least_value, in_least_form}
 use Rattle.model_edits.specs.Faults.{IsFirstUnknown}
@@ -14,9 +9,7 @@ use Rattle.sound_searches.specs.Sound.{PlainSearch}
 use Rattle.tree_search.proofs.SearchLemmas.{least_again}
 use Rattle.dual_bounds.specs.Laws.{IsTrueLowerBound, IsTrueUpperBound}
 use Rattle.dual_bounds.specs.declared.answers.LowerBound.{LowerBound}
-use Rattle.dual_bounds.specs.declared.answers.LowerBound.TheVariants as lower
 use Rattle.dual_bounds.specs.declared.answers.UpperBound.{UpperBound}
-use Rattle.dual_bounds.specs.declared.answers.UpperBound.TheVariants as upper
 use Rattle.sym_env.specs.Bounds.{IsLowerAnswer, IsUpperAnswer, IsExactLower, IsExactUpper}
 use Rattle.sym_env.specs.Env.{PlainEnv, model_of}
 use Rattle.sym_env.specs.declared.env.EnvFault.{EnvFault}
@@ -25,31 +18,13 @@ use Rattle.command_words.specs.declared.words.OptimumBound.TheVariants.{Lower, U
 use Rattle.command_words.specs.declared.words.NewNumbers.{NewNumbers}
 use Rattle.edit_words.specs.EditWords.{EntriesAsk, AreRead, AreMisused, HasNoNumber, names_in}
 use Rattle.reply_texts.specs.Texts.{bound_text, memory_text}
-use Rattle.sym_shell.specs.Bounding.{asked_model, names_for, AreThere, ArePresent, IsFirstTwoSided, HaveOneNumber, ShowsNumber, IsLowerTold, IsUpperTold, TellsBound, Unknown, TwoSided, Told, Wanting, RepliesToNumbers, RepliesToPairs}
-use Rattle.sym_shell.specs.Placing.{name_at, IsUnplaced, IsOnLine, unplaced_text, IsLowerReply, IsUpperReply, IsBestValue, IsBoundReply}
-use Rattle.sym_shell.specs.Shown.{number_in, number_in_word, lines_shown, value_shown}
-use Rattle.sym_shell.specs.declared.placing.Unplaced.{Unplaced}
-use Rattle.sym_shell.specs.declared.placing.Unplaced.TheVariants as unplaced
-use Rattle.sym_shell.proofs.ShownWords.{printed-plain, tested-plain, words_of-name, words_of-more, joined-one_line, lines_shown-more}
-
--- ---- the number behind `bound`
-
-name_bound : IsWord (codes "bound")
-name_bound = tested-plain (codes "bound") (omega arith) refl
-
-bound-shown : (w : ℚ) → Fits w → value_shown (bound_text (Some w)) ≡ Some w
-unfolding value_shown
-bound-shown w fits =
-    let number : IsWord (printed w) = printed-plain w fits in
-    ap (number_in_word 1)
-    (lines_shown-more (codes "bound" ++ (32 ∷ printed w)) [] (joined-one_line (codes "bound") (printed w) name_bound number.one_line)
-    ∙ ap (λ words. words ∷ lines_shown []) (words_of-more (codes "bound") (printed w) name_bound ∙ ap (λ words. codes "bound" ∷ words) (words_of-name (printed w) number)))
-    ∙ ap number_in (reading_of-printed w fits)
-
-pub shows-number : (w : ℚ) (before after : List ℕ) → Fits w → before ≡ [] → after ≡ before ++ bound_text (Some w) → ShowsNumber w after
-shows-number w before after fits empty is =
-    let told : after ≡ bound_text (Some w) = is ∙ ap (λ t. t ++ bound_text (Some w)) empty in
-    record { shown = ap value_shown told ∙ bound-shown w fits; told = told }
+use Rattle.sym_shell.specs.Bounding.{asked_model, ArePresent, TellsBound, Unknown, TwoSided, Told, Wanting, RepliesToNumbers, RepliesToPairs}
+use Rattle.shell_replies.specs.Names.{names_for, AreThere, IsFirstTwoSided, HaveOneNumber}
+use Rattle.shell_replies.specs.Bounds.{ShowsNumber, IsLowerTold, IsUpperTold}
+use Rattle.sym_shell.specs.Placing.{IsLowerReply, IsUpperReply, IsBestValue, IsBoundReply}
+use Rattle.shell_replies.specs.Placing.{name_at, IsUnplaced, IsOnLine, unplaced_text}
+use Rattle.shell_replies.specs.declared.placing.Unplaced.{Unplaced}
+use Rattle.shell_replies.specs.declared.placing.Unplaced.TheVariants as unplaced
 
 -- a text behind nothing
 pub alone : (before after text : List ℕ) → before ≡ [] → after ≡ before ++ text → after ≡ text

@@ -2,7 +2,7 @@
 use Rattle.std.proofs.Common.{◌≡◌, ◌≢◌, ◌⊎◌, ℕ, List, [], ◌++◌, refl, sym, subst, ap, inl, inr, ◌∙◌, Option, Some, None, Err}
 use Rattle.std.specs.Prelude.{All, Contains, codes, decimal, IsSome}
 use Rattle.std.specs.Option.{option_map}
-use Rattle.rational.specs.Rational.{ℚ}
+use Rattle.frac128.specs.Rational.{ℚ}
 use Rattle.frac128.specs.Printing.{printed}
 use Rattle.lp_model.specs.Edits.{Named}
 use Rattle.lp_model.specs.Program.{Program, Point, value, in_least_form}
@@ -39,11 +39,14 @@ use Rattle.sym_shell.specs.Load.{LoadStep}
 use Rattle.sym_shell.specs.Showing.{Finding, TellsBy, ShowsOptimumBy, ShowsEmptinessBy, ShowsNoEndBy, ShowsNodeStopBy, ShowsTreeStopBy, ShowsPivotStopBy, ShowsWideStopBy, AnswersBy, Optimum, Emptiness, NoEnd, NodeStop, TreeStop, PivotStop, WideStop, Wanting, EndsBy}
 use Rattle.sym_shell.specs.Solve.{limits_of, HasFewNodes, RepliesToSolve, SolveStep}
 use Rattle.sym_shell.specs.Warming.{WentOn, IsTooSmall, RepliesToWarm, WarmStep}
-use Rattle.sym_shell.specs.Editing.{edit_fault_text, AnswersEdit, RepliesToEdit, RepliesToWords}
+use Rattle.sym_shell.specs.Editing.{AnswersEdit, RepliesToEdit, RepliesToWords}
+use Rattle.shell_replies.specs.Faults.{edit_fault_text}
 use Rattle.sym_shell.specs.Editing as editing
-use Rattle.sym_shell.specs.Bounding.{names_for, HasOneNumber, HaveOneNumber, IsLowerTold, IsUpperTold, TellsBound, AnswersBound, IsAtOptimum, RepliesToNumbers, RepliesToPairs, BoundStep}
+use Rattle.sym_shell.specs.Bounding.{TellsBound, AnswersBound, IsAtOptimum, RepliesToNumbers, RepliesToPairs, BoundStep}
+use Rattle.shell_replies.specs.Names.{names_for, HasOneNumber, HaveOneNumber}
+use Rattle.shell_replies.specs.Bounds.{IsLowerTold, IsUpperTold}
 use Rattle.sym_shell.specs.Bounding as bounding
-use Rattle.sym_shell.specs.Shown.{point_shown}
+use Rattle.shell_replies.specs.Shown.{point_shown}
 use Rattle.command_files.specs.Filing.{Writes, Written, TooLong, Failed, IsWrittenModel}
 use Rattle.sym_shell.specs.Certify.{IsHeldText, Certifies, CertStep}
 use Rattle.command_files.specs.Filing as filing

@@ -31,7 +31,8 @@ use Rattle.edit_words.specs.EditWords.{EditAsks, Edits}
 use Rattle.edit_words.specs.EditWords as says
 use Rattle.sym_shell.specs.Unchanged.{IsRefused}
 use Rattle.sym_shell.specs.EnvFaults.{env_fault_text, reply_behind}
-use Rattle.sym_shell.specs.Editing.{edit_fault_text, AnswersEdit, Edited, Faulty, Wanting, RepliesToEdit, RepliesToWords}
+use Rattle.sym_shell.specs.Editing.{AnswersEdit, Edited, Faulty, Wanting, RepliesToEdit, RepliesToWords}
+use Rattle.shell_replies.specs.Faults.{edit_fault_text}
 
 -- ---- a new name is a word
 

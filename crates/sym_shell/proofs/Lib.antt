@@ -6,10 +6,7 @@ pub mod KindLemmas
 pub mod CauseLemmas
 pub mod CertLemmas
 pub mod WriteLemmas
-pub mod PlacingLemmas
 pub mod BoundLemmas
 pub mod RunLemmas
-pub mod ShownWords
-pub mod ShownBack
 pub mod SavingLemmas
 pub mod RestoredLaws

@@ -5,10 +5,10 @@ use Rattle.std.specs.Option.{option_map}
 use Rattle.frac128.specs.Range.{Fits}
 use Rattle.lp_model.specs.Lawful.{IsLawful}
 use Rattle.lp_model.specs.Program.{Program, Point, IsOptimum, value}
-use Rattle.lp_model.specs.Rays.{IsUnbounded}
 use Rattle.lp_model.specs.declared.answers.StopWhy.TheVariants.{Nodes, Tree, Pivots, Wide}
 use Rattle.lp_model.specs.declared.answers.Answer.{Answer}
 use Rattle.lp_model.specs.declared.answers.Answer.TheVariants.{Optimal, Infeasible, Unbounded, Stopped, Memory}
+use Rattle.model_points.specs.Rays.{IsUnbounded}
 use Rattle.word_names.specs.WordNames.{HasWordNames}
 use Rattle.search_counting.specs.Work.{cap_of}
 use Rattle.search_parts.specs.Points.{IsIncumbent}
@@ -25,12 +25,12 @@ use Rattle.sym_env.specs.declared.limits.Limits.{Limits}
 use Rattle.reply_texts.specs.Reports.{AnswerIsShaped, AnswerHasRoom}
 use Rattle.reply_texts.specs.Texts.{optimal_text, stopped_nodes_text, answer_text, no_model_text}
 use Rattle.sym_shell.specs.Answering.{IsAnswerOf, IsTellable, search_text}
-use Rattle.sym_shell.specs.Shown.{point_shown}
+use Rattle.shell_replies.specs.Shown.{point_shown}
 use Rattle.sym_shell.specs.Showing.{Finding, ShowsNoEndBy, AnswersBy, Optimum, Emptiness, NoEnd, NodeStop, TreeStop, PivotStop, WideStop, Wanting}
 use Rattle.sym_shell.specs.Solve.{limits_of, HasFewNodes, AnswersSolve, RepliesToSolve}
 use Rattle.sym_shell.specs.Warming.{WentOn, IsTooSmall, TellsAgain, AnswersWarm, RepliesToWarm}
 use Rattle.sym_shell.specs.State.{HasWords}
-use Rattle.sym_shell.proofs.ShownBack.{point-shown, value-shown}
+use Rattle.shell_replies.proofs.ShownBack.{point-shown, value-shown}
 use Rattle.command_files.proofs.FileLemmas.{on_ok_if, always}
 
 -- ---- whatever search was had

@@ -9,7 +9,7 @@ use Rattle.std.proofs.lemmas.List.Elements.{All-nil, All-cons, All-push}
 use Rattle.text_lines.specs.Lines.{is_newline}
 use Rattle.text_lines.specs.Words.{is_blank, IsWord}
 use Rattle.lp_model.specs.Program.{Program}
-use Rattle.rational.specs.Rational.{ℚ}
+use Rattle.frac128.specs.Rational.{ℚ}
 use Rattle.lp_model.specs.declared.types.Col.{Col}
 use Rattle.lp_model.specs.declared.types.Derivation.{Derivation}
 use Rattle.lp_model.specs.declared.types.Sense.{Sense}
@@ -23,12 +23,12 @@ use Rattle.search_data.specs.declared.data.SearchData.{SearchData}
 use Rattle.sym_io.specs.Files.{Files}
 use Rattle.sound_searches.specs.Sound.{PlainSearch}
 use Rattle.search_file.specs.Files.{IsTextOf, IsTextAnswer, IsStatedBy, IsSearchFound}
-use Rattle.warm_values.specs.Values.{text_in, truth_of, member, at_most_items}
-use Rattle.warm_values.specs.Faults.{fault, at_key}
-use Rattle.warm_values.specs.Numbers.{side_of, number_of, bound_of}
-use Rattle.warm_values.specs.declared.fault.WarmFault.{WarmFault}
-use Rattle.warm_values.specs.declared.fault.WarmFault.TheVariants as warm
-use Rattle.warm_values.proofs.Inversions.{next-ok, key-ok, test-ok, member-ok, list-keeps, at_most-ok}
+use Rattle.warm_file.specs.Values.{text_in, truth_of, member, at_most_items}
+use Rattle.warm_file.specs.Faults.{fault, at_key}
+use Rattle.warm_file.specs.Numbers.{side_of, number_of, bound_of}
+use Rattle.warm_file.specs.declared.fault.WarmFault.{WarmFault}
+use Rattle.warm_file.specs.declared.fault.WarmFault.TheVariants as warm
+use Rattle.warm_file.proofs.Inversions.{next-ok, key-ok, test-ok, member-ok, list-keeps, at_most-ok}
 use Rattle.warm_file.specs.Models.{is_visible, is_lawful_name, is_among, name_of, row_in, row_of, col_in, col_of, room_behind, entries_of, is_bounded, costed_of, bounded_of, sense_of, rows_of, cols_of, program_of, lists_of, model_of as read_model}
 use Rattle.warm_file.specs.Ranges.{are_sides}
 use Rattle.warm_file.specs.Searches.{search_in, search_of, whole_search, cuts_of, points_of, nodes_of, counts, tree_of, States, IsFault}
@@ -38,7 +38,8 @@ use Rattle.sym_env.specs.declared.env.EnvFault.{EnvFault}
 use Rattle.sym_env.specs.declared.env.EnvFault.TheVariants as env_fault
 use Rattle.reply_texts.specs.Texts.{ok_text, no_model_text, memory_text}
 use Rattle.sym_shell.specs.State.{shell_state, HasWords}
-use Rattle.sym_shell.specs.EnvFaults.{env_fault_text, reply_behind, warm_fault_text}
+use Rattle.sym_shell.specs.EnvFaults.{env_fault_text, reply_behind}
+use Rattle.shell_replies.specs.Faults.{warm_fault_text}
 use Rattle.command_files.specs.declared.reading.Refusal.{Refusal}
 use Rattle.command_files.specs.declared.reading.Refusal.TheVariants as refusal
 use Rattle.command_files.specs.Reading.{HasText, ReadsText, refusal_text}

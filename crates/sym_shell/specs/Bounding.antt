@@ -1,51 +1,30 @@
 -- What `lbrhs`, `lbobj`, `ubrhs` and `ubobj` may be answered: a bound on the best value that the model would have with other sides, or with
 -- other costs, from the tree or from the points that are kept. Nothing is solved, and nothing changes.
 --     asked_model numbers M named     the model with the numbers beside the names: for the sides of rows, or as the costs of columns
-use Rattle.std.specs.Prelude.{◌≡◌, ◌⊎◌, ℕ, ◌<◌, List, map, length, get_or, take, All, Contains, Option, Some, None}
-use Rattle.rational.specs.Rational.{ℚ}
-use Rattle.lp_model.specs.Edits.{Named, place_in, row_place, only_row_names}
-use Rattle.lp_model.specs.Lawful.{column_names}
-use Rattle.lp_model.specs.Program.{Program, Point, value, low_side, high_side, in_least_form}
-use Rattle.lp_model.specs.declared.types.RowId.{RowId}
-use Rattle.lp_model.specs.declared.types.ColId.{ColId}
+use Rattle.std.specs.Prelude.{◌≡◌, ◌⊎◌, ℕ, List, Option, Some, None}
+use Rattle.lp_model.specs.Edits.{Named}
+use Rattle.lp_model.specs.Program.{Program, Point, value}
 use Rattle.model_edits.specs.Faults.{IsFirstUnknown}
 use Rattle.sound_searches.specs.Laws.{HasNoOpenLeaf}
 use Rattle.search_parts.specs.Points.{IsIncumbent}
 use Rattle.sound_searches.specs.Sound.{PlainSearch}
 use Rattle.dual_bounds.specs.Laws.{IsTrueLowerBound, IsTrueUpperBound}
-use Rattle.dual_bounds.specs.NewNumbers.{with_new_sides, with_new_costs, HasEqualSides, ArePresentSides, ArePresentCosts}
+use Rattle.dual_bounds.specs.NewNumbers.{with_new_sides, with_new_costs, ArePresentSides, ArePresentCosts}
 use Rattle.dual_bounds.specs.TreeBounds.{IsTreeBoundAt, IsPointBound}
 use Rattle.dual_bounds.specs.declared.answers.LowerBound.{LowerBound}
-use Rattle.dual_bounds.specs.declared.answers.LowerBound.TheVariants as lower
 use Rattle.dual_bounds.specs.declared.answers.UpperBound.{UpperBound}
-use Rattle.dual_bounds.specs.declared.answers.UpperBound.TheVariants as upper
 use Rattle.sym_env.specs.Env.{PlainEnv}
 use Rattle.command_words.specs.declared.words.OptimumBound.{OptimumBound}
 use Rattle.command_words.specs.declared.words.OptimumBound.TheVariants.{Lower, Upper}
 use Rattle.command_words.specs.declared.words.NewNumbers.{NewNumbers}
 use Rattle.command_words.specs.declared.words.NewNumbers.TheVariants.{Sides, Costs}
 use Rattle.edit_words.specs.EditWords.{EntriesAsk, AreRead, AreMisused, HasNoNumber, names_in}
-use Rattle.reply_texts.specs.Texts.{arguments_text, no_model_text, number_text, unknown_name_text, sides_text, bound_text, no_point_text, wide_bound_text, memory_text}
-use Rattle.sym_shell.specs.Shown.{value_shown}
+use Rattle.reply_texts.specs.Texts.{arguments_text, no_model_text, number_text, unknown_name_text, sides_text, bound_text, memory_text}
+use Rattle.shell_replies.specs.Names.{placed_rows, placed_cols, names_for, AreThere, IsFirstTwoSided, HaveOneNumber}
+use Rattle.shell_replies.specs.Bounds.{IsLowerTold, IsUpperTold}
 use Rattle.sym_shell.specs.State.{ShellState}
 
 -- ---- the model that is asked about
-
--- the place of each name among these, as a row's or a column's, with its number
-abbrev pub placed_in : {P : Type 0} → (ℕ → P) → List (List ℕ) → Named → List (P × ℚ)
-placed_in place names named = map (λ e. (place (place_in names e.0), e.1)) named
-
-abbrev pub row_id_at : ℕ → RowId
-row_id_at k = record { 0 = k }
-
-abbrev pub col_id_at : ℕ → ColId
-col_id_at k = record { 0 = k }
-
-abbrev pub placed_rows : Program → Named → List (RowId × ℚ)
-placed_rows M named = placed_in row_id_at (only_row_names M) named
-
-abbrev pub placed_cols : Program → Named → List (ColId × ℚ)
-placed_cols M named = placed_in col_id_at (column_names M) named
 
 abbrev pub asked_model : NewNumbers → Program → Named → Program
 asked_model Sides M named = with_new_sides M (placed_rows M named)
@@ -56,50 +35,7 @@ abbrev pub ArePresent : NewNumbers → Program → Named → Type 0
 ArePresent Sides M named = ArePresentSides M (placed_rows M named)
 ArePresent Costs M named = ArePresentCosts M (placed_cols M named)
 
--- ---- what is wrong with a line
-
--- the names that may stand: those of rows, of which an objective is none, or of columns
-abbrev pub names_for : NewNumbers → Program → List (List ℕ)
-names_for Sides M = only_row_names M
-names_for Costs M = column_names M
-
-abbrev pub AreThere : NewNumbers → Program → Named → Type 0
-AreThere numbers M named = All (Contains (names_for numbers M)) (names_in named)
-
--- the row of the name has one side, or two equal ones
-abbrev pub HasOneNumber : Program → List ℕ → Type 0
-HasOneNumber M row = HasEqualSides (low_side M (row_place M row)) (high_side M (row_place M row))
-
--- the first of the names whose row has two sides that differ
-pub record IsFirstTwoSided (M : Program) (names : List (List ℕ)) (name : List ℕ) : Type 0 where
-  pub place : ℕ
-  pub within : place < length names
-  pub is : name ≡ get_or names place name
-  pub before : All (HasOneNumber M) (take place names)
-  pub differ : ¬ HasOneNumber M name
-
--- each row that is named has such sides; of costs nothing is asked
-abbrev pub HaveOneNumber : NewNumbers → Program → Named → Type 0
-HaveOneNumber Sides M named = All (HasOneNumber M) (names_in named)
-HaveOneNumber Costs M named = Unit {0}
-
 -- ---- what a reply shows
-
--- the number stands behind `bound`, read from the reply's bytes alone
-pub record ShowsNumber (w : ℚ) (reply : List ℕ) : Type 0 where
-  pub shown : value_shown reply ≡ Some w
-  pub told : reply ≡ bound_text (Some w)
-
--- the reply is the text of the bound: its number in the sense of the model M, whose names a step is told by
-abbrev pub IsLowerTold : Program → LowerBound → List ℕ → Type 0
-IsLowerTold M (lower.Value v) reply = ShowsNumber (in_least_form M.sense v) reply
-IsLowerTold M lower.NoValue reply = reply ≡ bound_text None
-IsLowerTold M lower.Infeasible reply = reply ≡ no_point_text
-IsLowerTold M (lower.Wide leaf at_) reply = reply ≡ wide_bound_text M leaf at_
-
-abbrev pub IsUpperTold : Program → UpperBound → List ℕ → Type 0
-IsUpperTold M (upper.Value v) reply = ShowsNumber (in_least_form M.sense v) reply
-IsUpperTold M upper.NoValue reply = reply ≡ bound_text None
 
 -- The reply is the bound of the kept tree at the model M, each kept cut derived again there, with its exact cause. No feasible point of M has a
 -- lower value in least form than the bound's, and M has none where the reply says so.

@@ -33,8 +33,9 @@ use Rattle.sym_shell.specs.Load.{Loads}
 use Rattle.sym_shell.specs.Showing.{Finding, ShowsOptimumBy, ShowsEmptinessBy, ShowsNoEndBy, ShowsNodeStopBy, ShowsTreeStopBy, ShowsPivotStopBy, ShowsWideStopBy, EndsBy}
 use Rattle.sym_shell.specs.Solve.{limits_of, HasFewNodes}
 use Rattle.sym_shell.specs.Warming.{WentOn, IsTooSmall, TellsAgain}
-use Rattle.sym_shell.specs.Editing.{edit_fault_text}
-use Rattle.sym_shell.specs.Bounding.{names_for, AreThere, IsFirstTwoSided, HaveOneNumber, asked_model, TellsBound, IsAtOptimum}
+use Rattle.shell_replies.specs.Faults.{edit_fault_text}
+use Rattle.sym_shell.specs.Bounding.{asked_model, TellsBound, IsAtOptimum}
+use Rattle.shell_replies.specs.Names.{names_for, AreThere, IsFirstTwoSided, HaveOneNumber}
 use Rattle.sym_shell.specs.Certify.{IsHeldText}
 use Rattle.command_files.specs.Filing.{IsWrittenModel}
 use Rattle.sym_shell.specs.Saving.{RestoresFile}

@@ -1,7 +1,6 @@
 pub mod State
 pub mod Unchanged
 pub mod Load
-pub mod Shown
 pub mod Showing
 pub mod Solve
 pub mod Warming

@@ -1,76 +1,16 @@
--- How the names of a line become places, and how a bound is told: of calls that only this crate makes.
-use Rattle.std.specs.Prelude.{◌≡◌, ◌⊎◌, ℕ, ◌<◌, List, [], length, get_or, take, All, Contains, Option, Some, None, Result, Ok, Err}
-use Rattle.rational.specs.Rational.{ℚ}
-use Rattle.lp_model.specs.Edits.{Named}
-use Rattle.lp_model.specs.Elements.{of_element}
+-- How a bound is told: of calls that only this crate makes.
+use Rattle.std.specs.Prelude.{◌≡◌, ◌⊎◌, ℕ, List, Option, Some, None, Result, Ok, Err}
 use Rattle.lp_model.specs.Program.{Program, Point, value}
-use Rattle.lp_model.specs.declared.types.Row.{Row}
-use Rattle.lp_model.specs.declared.types.RowId.{RowId}
-use Rattle.lp_model.specs.declared.types.ColId.{ColId}
-use Rattle.model_edits.specs.Faults.{IsFirstUnknown}
 use Rattle.sound_searches.specs.Laws.{HasNoOpenLeaf}
 use Rattle.search_parts.specs.Points.{IsIncumbent}
 use Rattle.sound_searches.specs.Sound.{PlainSearch}
-use Rattle.dual_bounds.specs.NewNumbers.{HasEqualSides}
 use Rattle.dual_bounds.specs.declared.answers.LowerBound.{LowerBound}
 use Rattle.dual_bounds.specs.declared.answers.UpperBound.{UpperBound}
 use Rattle.sym_env.specs.declared.env.EnvFault.{EnvFault}
 use Rattle.command_words.specs.declared.words.OptimumBound.{OptimumBound}
-use Rattle.command_words.specs.declared.words.NewNumbers.{NewNumbers}
-use Rattle.command_words.specs.declared.words.NewNumbers.TheVariants.{Sides, Costs}
-use Rattle.edit_words.specs.EditWords.{names_in}
-use Rattle.reply_texts.specs.Texts.{unknown_name_text, sides_text, bound_text, memory_text}
-use Rattle.sym_shell.specs.Bounding.{placed_in, placed_rows, placed_cols, names_for, AreThere, HaveOneNumber, IsFirstTwoSided, IsLowerTold, IsUpperTold, TellsBound}
-use Rattle.sym_shell.specs.declared.placing.Unplaced.{Unplaced}
-use Rattle.sym_shell.specs.declared.placing.Unplaced.TheVariants.{Unknown, TwoSided, Memory}
-
--- ---- names
-
-abbrev pub name_at : Named → ℕ → List ℕ
-name_at named k = get_or (names_in named) k []
-
--- each name is one of these, and stands as its place; or this one is the first that is none
-abbrev pub IsPlacedIn : {P : Type 0} → (ℕ → P) → List (List ℕ) → Named → Result (List (P × ℚ)) Unplaced → Type 0
-IsPlacedIn place names named (Ok places) = All (Contains names) (names_in named) × (places ≡ placed_in place names named)
-IsPlacedIn place names named (Err (Unknown k)) = (k < length named) × IsFirstUnknown names (names_in named) (name_at named k)
-IsPlacedIn place names named (Err (TwoSided k)) = ⊥
-IsPlacedIn place names named (Err Memory) = Unit {0}
-
--- the row at the place has one side, or two equal ones
-abbrev pub HasOneNumberAt : List Row → RowId × ℚ → Type 0
-HasOneNumberAt rows e = HasEqualSides (of_element None (λ r. r.lo) rows e.0.0) (of_element None (λ r. r.hi) rows e.0.0)
-
--- the first that has two sides which differ, if one has
-abbrev pub IsFirstTwoSidedAt : List Row → List (RowId × ℚ) → Option ℕ → Type 0
-IsFirstTwoSidedAt rows sides None = All (HasOneNumberAt rows) sides
-IsFirstTwoSidedAt rows sides (Some k) = (k < length sides) × All (HasOneNumberAt rows) (take k sides) × ((d : RowId × ℚ) → ¬ HasOneNumberAt rows (get_or sides k d))
-
--- why names are no places of rows, or of columns, at which numbers may stand
-abbrev pub IsUnplaced : NewNumbers → Program → Named → Unplaced → Type 0
-IsUnplaced numbers M named (Unknown k) = (k < length named) × IsFirstUnknown (names_for numbers M) (names_in named) (name_at named k)
-IsUnplaced numbers M named (TwoSided k) = (k < length named) × (numbers ≡ Sides) × AreThere numbers M named × IsFirstTwoSided M (names_in named) (name_at named k)
-IsUnplaced numbers M named Memory = Unit {0}
-
-abbrev pub ArePlacedSides : Program → Named → Result (List (RowId × ℚ)) Unplaced → Type 0
-ArePlacedSides M named (Ok sides) = AreThere Sides M named × HaveOneNumber Sides M named × (sides ≡ placed_rows M named)
-ArePlacedSides M named (Err u) = IsUnplaced Sides M named u
-
-abbrev pub ArePlacedCosts : Program → Named → Result (List (ColId × ℚ)) Unplaced → Type 0
-ArePlacedCosts M named (Ok costs) = AreThere Costs M named × (costs ≡ placed_cols M named)
-ArePlacedCosts M named (Err u) = IsUnplaced Costs M named u
-
--- the name is on the line
-abbrev pub IsOnLine : Named → Unplaced → Type 0
-IsOnLine named (Unknown k) = k < length named
-IsOnLine named (TwoSided k) = k < length named
-IsOnLine named Memory = Unit {0}
-
-abbrev pub unplaced_text : Named → Unplaced → List ℕ
-unplaced_text named (Unknown k) = unknown_name_text (name_at named k)
-unplaced_text named (TwoSided k) = sides_text (name_at named k)
-unplaced_text named Memory = memory_text
-
--- ---- bounds
+use Rattle.reply_texts.specs.Texts.{bound_text, memory_text}
+use Rattle.shell_replies.specs.Bounds.{IsLowerTold, IsUpperTold}
+use Rattle.sym_shell.specs.Bounding.{TellsBound}
 
 abbrev pub IsLowerReply : Program → Result LowerBound EnvFault → List ℕ → Type 0
 IsLowerReply M (Ok bound) reply = IsLowerTold M bound reply

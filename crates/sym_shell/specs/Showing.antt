@@ -4,15 +4,15 @@
 --     Enough             what would have been enough for the search to go to the end
 --     Small              that its tree was too small
 use Rattle.std.specs.Prelude.{◌≡◌, ◌⊎◌, ℕ, ◌<◌, ◌≤◌, List, Option, Some}
-use Rattle.rational.specs.Rational.{ℚ}
+use Rattle.frac128.specs.Rational.{ℚ}
 use Rattle.lp_model.specs.Program.{Program, Point, IsOptimum, IsEmpty, value}
-use Rattle.lp_model.specs.Rays.{IsRay, IsUnbounded}
 use Rattle.lp_model.specs.declared.answers.PivotPlace.{PivotPlace}
 use Rattle.lp_model.specs.declared.answers.WideAt.{WideAt}
 use Rattle.lp_model.specs.declared.answers.StopWhy.{StopWhy}
 use Rattle.lp_model.specs.declared.answers.StopWhy.TheVariants.{Nodes, Tree, Pivots, Wide}
 use Rattle.lp_model.specs.declared.answers.Answer.{Answer}
 use Rattle.lp_model.specs.declared.answers.Answer.TheVariants.{Optimal, Infeasible, Unbounded, Stopped}
+use Rattle.model_points.specs.Rays.{IsRay, IsUnbounded}
 use Rattle.ray_phase.specs.Answers.{IsRayAnswer}
 use Rattle.ray_phase.specs.declared.phase.RayAnswer.TheVariants as phase
 use Rattle.search_counting.specs.Work.{cap_of}
@@ -25,7 +25,7 @@ use Rattle.sym_env.specs.declared.held.Held.TheVariants.{Nothing, Finished}
 use Rattle.sym_env.specs.declared.held.Held.TheVariants as holding
 use Rattle.sym_env.specs.declared.limits.Limits.{Limits}
 use Rattle.reply_texts.specs.Texts.{answer_text, memory_text}
-use Rattle.sym_shell.specs.Shown.{point_shown, value_shown}
+use Rattle.shell_replies.specs.Shown.{point_shown, value_shown}
 
 abbrev pub Finding : Type 1
 Finding = Answer → PlainSearch → Type 0

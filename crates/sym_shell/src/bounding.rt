@@ -4,51 +4,18 @@ ghost use Rattle.dual_bounds.specs.NewNumbers.{with_new_sides, with_new_costs, A
 ghost use Rattle.sym_env.specs.Env.{model_of};
 ghost use Rattle.command_words.specs.declared.words.NewNumbers.TheVariants.{Sides, Costs};
 ghost use Rattle.edit_words.specs.EditWords.{names_in, pairs_asks};
-ghost use Rattle.sym_shell.specs.Bounding.{ShowsNumber, IsLowerTold, IsUpperTold, RepliesToNumbers, RepliesToPairs};
+ghost use Rattle.sym_shell.specs.Bounding.{RepliesToNumbers, RepliesToPairs};
 ghost use Rattle.sym_shell.specs.Placing.{IsLowerReply, IsUpperReply, IsBoundReply};
 
-use crate::placing::{placed_costs, placed_sides, write_unplaced};
 use command_words::{NewNumbers, OptimumBound};
 use dual_bounds::{LowerBound, UpperBound};
 use edit_words::{Entries, read_pairs};
 use frac128::Frac;
 use lp_model::{ColId, Model, Name, RowId};
-use reply_texts::{write_bound, write_no_number, write_wide_bound};
+use reply_texts::write_no_number;
+use shell_replies::{placed_costs, placed_sides, write_lower, write_unplaced, write_upper};
 use std::alloc::{AllocError, Global};
 use sym_env::{Env, EnvFault};
-
-/// A number in the model's own sense.
-fn write_number(reply: &mut Vec<u8>, number: Frac) -> Result<(), AllocError>
-    requires { reply.old.items ≡ [] }
-    ensures { OnOk result (ShowsNumber number reply.new.items) }
-{
-    number.has_room();
-    write_bound(reply, &Some(number))
-}
-
-/// What the tree proves.
-fn write_lower(reply: &mut Vec<u8>, model: &Model, bound: &LowerBound) -> Result<(), AllocError>
-    requires { reply.old.items ≡ [] }
-    ensures { OnOk result (IsLowerTold model.now bound.now reply.new.items) }
-{
-    match bound {
-        LowerBound::Value(least) => write_number(reply, model.sense().least_form(least)),
-        LowerBound::NoValue => write_bound(reply, &None),
-        LowerBound::Infeasible => reply.extend_from_slice(b"bound infeasible\n"),
-        LowerBound::Wide { leaf, step } => write_wide_bound(reply, model, *leaf, step),
-    }
-}
-
-/// The best of the points.
-fn write_upper(reply: &mut Vec<u8>, model: &Model, bound: &UpperBound) -> Result<(), AllocError>
-    requires { reply.old.items ≡ [] }
-    ensures { OnOk result (IsUpperTold model.now bound.now reply.new.items) }
-{
-    match bound {
-        UpperBound::Value(least) => write_number(reply, model.sense().least_form(least)),
-        UpperBound::NoValue => write_bound(reply, &None),
-    }
-}
 
 /// A lower bound, or that there was no memory for it.
 fn tell_lower(

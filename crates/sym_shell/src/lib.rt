@@ -26,7 +26,6 @@ mod answering;
 mod bounding;
 mod ends;
 mod laws;
-mod placing;
 mod program;
 mod refusing;
 mod saving;

@@ -1,39 +1,10 @@
-// The reply where a call of the environment, or the text of a search, is refused.
+// The reply where a call of the environment is refused.
 ghost use Rattle.std.specs.Prelude.{◌≡◌, ◌++◌, true, is_err, IfOk, OnErr};
-ghost use Rattle.sym_shell.specs.Editing.{edit_fault_text};
-ghost use Rattle.sym_shell.specs.EnvFaults.{env_fault_text, reply_behind, warm_fault_text};
+ghost use Rattle.sym_shell.specs.EnvFaults.{env_fault_text, reply_behind};
 
-use model_edits::EditFault;
-use reply_texts::{
-    write_bounds, write_faulty_search, write_limit, write_sides, write_taken, write_unknown_name,
-};
+use shell_replies::write_edit_fault;
 use std::alloc::AllocError;
 use sym_env::EnvFault;
-use warm_values::WarmFault;
-
-/// Which fault an edit has.
-fn write_edit_fault(reply: &mut Vec<u8>, fault: &EditFault) -> Result<(), AllocError>
-    ensures { IfOk result (λ _. reply.new.items ≡ reply.old.items ++ edit_fault_text fault.now) }
-{
-    match fault {
-        EditFault::NoSuch(name) => write_unknown_name(reply, name.as_slice()),
-        EditFault::Duplicate(name) => write_taken(reply, name.as_slice()),
-        EditFault::Limit(limit) => write_limit(reply, *limit),
-        EditFault::IntegerUnbounded(name) => write_bounds(reply, name.as_slice()),
-        EditFault::Ranged(name) => write_sides(reply, name.as_slice()),
-        EditFault::Memory => reply.extend_from_slice(b"error 90 memory\n"),
-    }
-}
-
-/// Why a text states no search.
-pub(crate) fn write_warm_fault(reply: &mut Vec<u8>, fault: WarmFault) -> Result<(), AllocError>
-    ensures { IfOk result (λ _. reply.new.items ≡ reply.old.items ++ warm_fault_text fault) }
-{
-    match fault {
-        WarmFault::Bad { place, code } => write_faulty_search(reply, place.as_slice(), code),
-        WarmFault::Memory => reply.extend_from_slice(b"error 90 memory\n"),
-    }
-}
 
 /// Why a call of the environment is refused.
 pub(crate) fn write_env_fault(reply: &mut Vec<u8>, fault: EnvFault) -> Result<(), AllocError>

@@ -6,9 +6,9 @@ ghost use Rattle.sym_env.specs.Env.{PlainEnv};
 ghost use Rattle.sym_shell.specs.State.{shell_state};
 ghost use Rattle.sym_shell.specs.Saving.{AnswersSave};
 
-use crate::refusing::write_warm_fault;
 use command_files::write_file;
 use search_file::text_of;
+use shell_replies::write_warm_fault;
 use std::alloc::{AllocError, Global};
 use sym_io::Store;
 use tree_edit::Search;

@@ -21,7 +21,7 @@ ghost use Rattle.sym_shell.specs.Shell.{is_quit};
 
 use crate::answering::tell_answer;
 use crate::bounding::bound_by_words;
-use crate::refusing::{tell_done, write_env_fault, write_warm_fault};
+use crate::refusing::{tell_done, write_env_fault};
 use crate::saving::write_search;
 use command_files::{read_model, read_text, write_file, write_model, write_refusal};
 use command_words::{Asked, NewNumbers, OptimumBound, read_words};
@@ -30,6 +30,7 @@ use lp_model::{Edit, Model};
 use reply_texts::{write_no_number, write_unknown};
 use script_session::Machine;
 use search_file::search_in;
+use shell_replies::write_warm_fault;
 use std::alloc::{AllocError, Global};
 use sym_env::{Env, Limits};
 use sym_io::Store;

@@ -5,11 +5,11 @@ use Rattle.std.proofs.lemmas.Bool.{false≢true, cases_eq, cases_lt, ltb-true}
 use Rattle.std.proofs.lemmas.Int.{ints}
 use Rattle.std.proofs.Math.Nat.{mul-le-mul_left}
 use Rattle.std.proofs.lemmas.List.{get_or_past, get_or-replicate, length-replicate}
-use Rattle.rational.specs.Rational.{int}
-use Rattle.rational.proofs.RationalRing.{int_is}
+use Rattle.frac128.specs.Rational.{int}
+use Rattle.frac128.specs.RationalRing.{int_is}
 use Rattle.frac128.specs.LowestTerms.{quotient_of}
-use Rattle.bases.specs.Relaxation.{updated}
-use Rattle.bases.proofs.SumBelowLaws.{if_same, if_other}
+use Rattle.table_entries.specs.Relaxation.{updated}
+use Rattle.table_entries.proofs.SumBelowLaws.{if_same, if_other}
 use Rattle.table_entries.specs.FlatSteps.{dense_entry}
 use Rattle.table_entries.specs.WholeSteps.{IsShort, IsShortOver, magnitude, whole_number_at, is_unwritten}
 use Rattle.table_entries.specs.Listed.{Listed, IsListed, IsExchangedList, ArePartsExchanged}

@@ -7,17 +7,17 @@ use Rattle.std.proofs.lemmas.Nat.{div-mul-add, mod-mul-add}
 use Rattle.std.proofs.lemmas.List.{length-map, ext_get_or, get_or_push, get_or_append_left, length-append}
 use Rattle.std.proofs.lemmas.Int.{ints}
 use Rattle.std.proofs.lemmas.Result.{OkIff-at_ok}
-use Rattle.rational.specs.Rational.{ℚ, den, int, ◌/ℚ◌}
-use Rattle.rational.proofs.Lowest.{reduced-cross, cancel_ℤ}
-use Rattle.rational.proofs.RationalRing.{int_is}
-use Rattle.rational.proofs.IntegerRing.{ring_ℤ, reads_ℤ}
-use Rattle.rational.proofs.Integers.{int-num, IsWhole-int}
+use Rattle.frac128.specs.Rational.{ℚ, den, int, ◌/ℚ◌}
+use Rattle.frac128.specs.Lowest.{reduced-cross, cancel_ℤ}
+use Rattle.frac128.specs.RationalRing.{int_is}
+use Rattle.frac128.specs.IntegerRing.{ring_ℤ, reads_ℤ}
+use Rattle.frac128.proofs.Integers.{int-num, IsWhole-int}
 use Rattle.frac128.specs.Range.{IsNarrow, Fits}
 use Rattle.frac128.specs.LowestTerms.{quotient_of}
 use Rattle.frac128.proofs.Terms.{same_quotient, quotient-/ℚ}
 use Rattle.frac128.proofs.SumTerms.{fits_of_narrow}
-use Rattle.bases.specs.Relaxation.{pivoted_entry}
-use Rattle.bases.specs.Steps.{PivotStepFits, EntryFits, step_value}
+use Rattle.table_entries.specs.Relaxation.{pivoted_entry}
+use Rattle.table_entries.specs.Steps.{PivotStepFits, EntryFits, step_value}
 use Rattle.table_entries.specs.FlatSteps.{dense_entry, FlatFits, flat_value}
 use Rattle.table_entries.specs.WholeSteps.{IsShort, IsWholeStep, magnitude, whole_number_at, is_unwritten, AreShort, AreWithin, AreWritten}
 use Rattle.table_entries.specs.Listed.{Listed, over, listed_costs, AreOver, IsListed, IsStored, IsShortWhole, IsExchangedList, ArePartsExchanged}

@@ -6,11 +6,11 @@ use Rattle.std.proofs.lemmas.Nat.{div-mul-add, mod-mul-add}
 use Rattle.std.proofs.Math.Nat.{div-lt_iff_lt-mul, mod-lt}
 use Rattle.std.proofs.lemmas.List.{ext_get_or}
 use Rattle.std.proofs.lemmas.List.FromFn.{length-map-range_with_len, get_or-map-range_with_len}
-use Rattle.rational.specs.Rational.{ℚ, int, ◌-ℚ◌, ◌*ℚ◌, ◌/ℚ◌, neg_ℚ, inverse}
+use Rattle.frac128.specs.Rational.{ℚ, int, ◌-ℚ◌, ◌*ℚ◌, ◌/ℚ◌, neg_ℚ, inverse}
 use Rattle.frac128.specs.LowestTerms.{quotient_of}
-use Rattle.bases.specs.Relaxation.{pivoted_entry}
-use Rattle.bases.specs.Steps.{PivotStepFits, EntryFits}
-use Rattle.bases.proofs.Pivot.{pivoted-other}
+use Rattle.table_entries.specs.Relaxation.{pivoted_entry}
+use Rattle.table_entries.specs.Steps.{PivotStepFits, EntryFits}
+use Rattle.table_entries.proofs.Pivot.{pivoted-other}
 use Rattle.table_entries.specs.FlatSteps.{dense_entry}
 use Rattle.table_entries.specs.WholeSteps.{IsShort, whole_number_at, is_unwritten}
 use Rattle.table_entries.specs.Listed.{Listed, IsListed, IsExchangedList}

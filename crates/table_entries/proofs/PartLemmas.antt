@@ -2,15 +2,15 @@
 use Rattle.std.specs.Prelude.{◌≡◌, ◌≢◌, ℕ, ◌+◌, ◌-◌, ◌<◌, ◌≤◌, ◌==◌, if◌then◌else◌, [], ◌∷◌, ℤ, pos}
 use Rattle.std.proofs.Common.{sym, ap, subst, ◌∙◌, ⊎_elim, arith}
 use Rattle.std.proofs.lemmas.Bool.{cases_eq, cases_lt, lt-ltb, le-ltb}
-use Rattle.rational.specs.Rational.{ℚ, int, ◌+ℚ◌, ◌-ℚ◌, ◌*ℚ◌, ◌/ℚ◌, neg_ℚ, inverse}
-use Rattle.rational.proofs.RationalRing.{ring, reads_ℚ}
-use Rattle.rational.proofs.Rounding.{*ℚ-inverse}
-use Rattle.checked_sum.specs.Sums.{sum_below}
+use Rattle.frac128.specs.Rational.{ℚ, int, ◌+ℚ◌, ◌-ℚ◌, ◌*ℚ◌, ◌/ℚ◌, neg_ℚ, inverse}
+use Rattle.frac128.specs.RationalRing.{ring, reads_ℚ}
+use Rattle.frac128.proofs.Rounding.{*ℚ-inverse}
+use Rattle.frac128.specs.Sums.{sum_below}
 use Rattle.checked_sum.proofs.SumLaws.{sum_below-add, sum_below-scale, sum_below-same}
-use Rattle.bases.specs.Relaxation.{pivoted_entry, updated}
-use Rattle.bases.proofs.SumBelowLaws.{if_same, if_other}
-use Rattle.bases.proofs.Exchange.{moved}
-use Rattle.bases.proofs.Pivot.{unit, pivoted-row, pivoted-other}
+use Rattle.table_entries.specs.Relaxation.{pivoted_entry, updated}
+use Rattle.table_entries.proofs.SumBelowLaws.{if_same, if_other}
+use Rattle.table_entries.proofs.Exchange.{moved}
+use Rattle.table_entries.proofs.Pivot.{unit, pivoted-row, pivoted-other}
 use Rattle.table_entries.specs.Parts.{slot_entry, unwritten_entry, swapped}
 
 -- ---- weights by place, moved by the row that leaves

@@ -4,8 +4,8 @@ use Rattle.std.proofs.Common.{sym, ap, subst, ◌∙◌, ⊎_elim, arith, FitsSi
 use Rattle.std.proofs.Math.Nat.{mul-le-mul_left}
 use Rattle.std.proofs.lemmas.Int.{ints, fits_signed_from_abs}
 use Rattle.std.proofs.lemmas.Bool.{cases_eq, lt-ltb, le-ltb}
-use Rattle.rational.proofs.IntegerRing.{ring_ℤ, reads_ℤ}
-use Rattle.bases.proofs.SumBelowLaws.{if_same, if_other}
+use Rattle.frac128.specs.IntegerRing.{ring_ℤ, reads_ℤ}
+use Rattle.table_entries.proofs.SumBelowLaws.{if_same, if_other}
 use Rattle.table_entries.specs.WholeSteps.{IsShort, whole_number_at, is_unwritten}
 use Rattle.table_entries.specs.Listed.{Listed}
 use Rattle.table_entries.specs.Parts.{slot_number, row_coefficient, combined, weight, IsLight}

@@ -5,13 +5,13 @@ use Rattle.std.proofs.lemmas.Bool.{cases_lt}
 use Rattle.std.proofs.Math.Nat.{mul-le-mul_right, mul-le-mul_left}
 use Rattle.std.proofs.lemmas.Int.{ints, unsigned_abs-mul}
 use Rattle.std.proofs.lemmas.List.{length-map}
-use Rattle.rational.specs.Rational.{int, ◌+ℚ◌, ◌*ℚ◌}
-use Rattle.rational.proofs.IntegerRing.{ring_ℤ, reads_ℤ}
-use Rattle.rational.proofs.RationalRing.{*ℚ_comm}
+use Rattle.frac128.specs.Rational.{int, ◌+ℚ◌, ◌*ℚ◌}
+use Rattle.frac128.specs.IntegerRing.{ring_ℤ, reads_ℤ}
+use Rattle.frac128.specs.RationalRing.{*ℚ_comm}
 use Rattle.frac128.specs.LowestTerms.{quotient_of}
-use Rattle.checked_sum.specs.Sums.{sum_below}
+use Rattle.frac128.specs.Sums.{sum_below}
 use Rattle.checked_sum.proofs.SumLaws.{sum_below-same}
-use Rattle.bases.specs.Steps.{PivotStepFits}
+use Rattle.table_entries.specs.Steps.{PivotStepFits}
 use Rattle.table_entries.specs.FlatSteps.{dense_entry}
 use Rattle.table_entries.specs.WholeSteps.{IsShort, whole_number_at}
 use Rattle.table_entries.specs.Listed.{Listed, IsListed}

@@ -4,12 +4,12 @@ use Rattle.std.proofs.Common.{refl, sym, ap, subst, ◌∙◌, ⊎_elim, arith, 
 use Rattle.std.proofs.lemmas.Bool.{cases_eq, le-ltb}
 use Rattle.std.proofs.lemmas.Nat.{div-add-mod'}
 use Rattle.std.proofs.lemmas.List.{ext_get_or, get_or-set_same, get_or-set_other}
-use Rattle.rational.specs.Rational.{ℚ, int, ◌*ℚ◌}
-use Rattle.rational.proofs.RationalRing.{*ℚ_comm}
+use Rattle.frac128.specs.Rational.{ℚ, int, ◌*ℚ◌}
+use Rattle.frac128.specs.RationalRing.{*ℚ_comm}
 use Rattle.frac128.specs.LowestTerms.{quotient_of}
 use Rattle.checked_sum.proofs.SumLaws.{sum_below-same}
-use Rattle.bases.proofs.SumBelowLaws.{if_other}
-use Rattle.bases.proofs.Pivot.{unit, sum_unit}
+use Rattle.table_entries.proofs.SumBelowLaws.{if_other}
+use Rattle.table_entries.proofs.Pivot.{unit, sum_unit}
 use Rattle.table_entries.specs.FlatSteps.{dense_entry}
 use Rattle.table_entries.specs.WholeSteps.{whole_number_at, is_unwritten}
 use Rattle.table_entries.specs.Listed.{Listed, IsListed}

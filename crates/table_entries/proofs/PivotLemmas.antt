@@ -5,10 +5,10 @@ use Rattle.std.proofs.lemmas.Bool.{cases_eq}
 use Rattle.std.proofs.lemmas.Nat.{div-mul-add, mod-mul-add, div-add-mod'}
 use Rattle.std.proofs.Math.Nat.{mul-le-mul_right}
 use Rattle.std.proofs.lemmas.List.{get_or-set_same, get_or-set_other, get_or_default, length-set}
-use Rattle.rational.specs.Rational.{ℚ, int}
-use Rattle.bases.specs.Relaxation.{pivoted_entry, updated}
-use Rattle.bases.proofs.SumBelowLaws.{if_same, if_other}
-use Rattle.bases.specs.Steps.{PivotStepFits, step_value, EntryFits}
+use Rattle.frac128.specs.Rational.{ℚ, int}
+use Rattle.table_entries.specs.Relaxation.{pivoted_entry, updated}
+use Rattle.table_entries.proofs.SumBelowLaws.{if_same, if_other}
+use Rattle.table_entries.specs.Steps.{PivotStepFits, step_value, EntryFits}
 use Rattle.table_entries.specs.FlatSteps.{dense_entry, FlatFits, flat_value}
 
 module _ (n r s : ℕ) (entries : List ℚ) (i k : ℕ) (k_within : k < n) where

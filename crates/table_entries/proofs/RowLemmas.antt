@@ -5,12 +5,12 @@ use Rattle.std.proofs.lemmas.Bool.Decides.{Decides-eqb}
 use Rattle.std.proofs.lemmas.Nat.{div-mul-add, div-add-mod'}
 use Rattle.std.proofs.Math.Nat.{div-lt_iff_lt-mul, mod-lt}
 use Rattle.std.proofs.lemmas.List.{get_or-set_same, get_or-set_other}
-use Rattle.rational.specs.Rational.{ℚ, int, ◌+ℚ◌, ◌*ℚ◌, ◌/ℚ◌, neg_ℚ}
-use Rattle.rational.proofs.RationalRing.{ring_ℚ, reads_ℚ}
+use Rattle.frac128.specs.Rational.{ℚ, int, ◌+ℚ◌, ◌*ℚ◌, ◌/ℚ◌, neg_ℚ}
+use Rattle.frac128.specs.RationalRing.{ring_ℚ, reads_ℚ}
 use Rattle.frac128.specs.Range.{Fits, SumFits}
 use Rattle.frac128.proofs.Whole.{Fits-zero, Fits-neg, SumFits-zero}
-use Rattle.bases.specs.Relaxation.{pivoted_entry}
-use Rattle.bases.specs.Steps.{PivotStepFits, step_value, EntryFits}
+use Rattle.table_entries.specs.Relaxation.{pivoted_entry}
+use Rattle.table_entries.specs.Steps.{PivotStepFits, step_value, EntryFits}
 use Rattle.table_entries.specs.FlatSteps.{dense_entry, FlatFits, flat_value}
 use Rattle.table_entries.specs.RowSteps.{MovedFits, moved_value}
 use Rattle.table_entries.proofs.PivotLemmas.{flat_within}

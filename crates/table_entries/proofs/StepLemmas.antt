@@ -2,8 +2,8 @@
 use Rattle.std.specs.Prelude.{◌≡◌, ℕ, ◌+◌, ◌/◌, ◌%◌, ◌<◌, ◌==◌, List, get_or, set, length, pos}
 use Rattle.std.proofs.Common.{sym, ap, subst, ◌∙◌, below_more, arith}
 use Rattle.std.proofs.lemmas.List.{get_or-set_same, get_or-set_other, get_or_default}
-use Rattle.rational.specs.Rational.{ℚ, int}
-use Rattle.bases.specs.Steps.{PivotStepFits, step_value}
+use Rattle.frac128.specs.Rational.{ℚ, int}
+use Rattle.table_entries.specs.Steps.{PivotStepFits, step_value}
 use Rattle.table_entries.specs.FlatSteps.{dense_entry, FlatFits, flat_value}
 
 module _ (columns row place : ℕ) (entries next : List ℚ) (at : ℕ) (pivot in_row in_place entry written : ℚ)

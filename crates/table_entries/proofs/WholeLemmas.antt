@@ -5,19 +5,19 @@ use Rattle.std.proofs.Common.{refl, sym, ap, ap₂, subst, ◌∙◌, ⊎_elim, 
 use Rattle.std.proofs.Math.Nat.{dvd-mul_right, dvd_of_mul-dvd-mul_right, mul-le-mul_right, mul-le-mul_left, div-mul_cancel}
 use Rattle.std.proofs.lemmas.Nat.Gcd.{dvd_trans}
 use Rattle.std.proofs.lemmas.Int.{ints, unsigned_abs-mul}
-use Rattle.rational.specs.Gcd.{gcd, gcd_pos, gcd-div, IsGcd-gcd, dvd_from_coprime}
-use Rattle.rational.specs.Rational.{ℚ, den, reduced, suc-pred_quotient, int, ◌+ℚ◌, ◌-ℚ◌, ◌*ℚ◌, ◌/ℚ◌, neg_ℚ, inverse}
-use Rattle.rational.proofs.IntegerRing.{ring_ℤ, reads_ℤ}
-use Rattle.rational.proofs.Lowest.{reduced-cross, reduced-same, reduced-+ℚ, cancel_ℤ}
-use Rattle.rational.proofs.RationalRing.{int_is, ring, reads_ℚ, one-*ℚ}
-use Rattle.rational.proofs.RationalOrder.{product_positive}
-use Rattle.rational.proofs.Rounding.{*ℚ-inverse}
+use Rattle.frac128.specs.Gcd.{gcd, gcd_pos, gcd-div, IsGcd-gcd, dvd_from_coprime}
+use Rattle.frac128.specs.Rational.{ℚ, den, reduced, suc-pred_quotient, int, ◌+ℚ◌, ◌-ℚ◌, ◌*ℚ◌, ◌/ℚ◌, neg_ℚ, inverse}
+use Rattle.frac128.specs.IntegerRing.{ring_ℤ, reads_ℤ}
+use Rattle.frac128.specs.Lowest.{reduced-cross, reduced-same, reduced-+ℚ, cancel_ℤ}
+use Rattle.frac128.specs.RationalRing.{int_is, ring, reads_ℚ, one-*ℚ}
+use Rattle.frac128.specs.RationalOrder.{product_positive}
+use Rattle.frac128.proofs.Rounding.{*ℚ-inverse}
 use Rattle.frac128.specs.Range.{IsNarrow, Fits, SumFits, largest, left_factor, right_factor}
 use mathlib.Core.Path.{subst₂, subst₃}
 use Rattle.frac128.specs.LowestTerms.{quotient_of}
 use Rattle.frac128.proofs.Terms.{denominator_is, same_quotient, quotient-*ℚ, quotient-neg_ℚ}
 use Rattle.frac128.proofs.SumTerms.{fits_of_narrow}
-use Rattle.bases.specs.Steps.{DifferenceFits, PivotStepFits}
+use Rattle.table_entries.specs.Steps.{DifferenceFits, PivotStepFits}
 use Rattle.table_entries.specs.WholeSteps.{IsShort, magnitude, by_sign, IsWholeStep}
 
 -- ---- signs

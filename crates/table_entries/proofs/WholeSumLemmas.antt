@@ -2,10 +2,10 @@
 use Rattle.std.specs.Prelude.{◌≡◌, ℕ, ◌+◌, ◌-◌, ◌^◌, ◌≤◌, suc, [], ◌∷◌, ℤ, pos, ◌<ℤ◌, ◌+ℤ◌, ◌*ℤ◌, unsigned_abs}
 use Rattle.std.proofs.Common.{inr, sym, ap, subst, ◌∙◌, arith}
 use Rattle.std.proofs.lemmas.Int.{ints}
-use Rattle.rational.specs.Rational.{ℚ, reduced, int, ◌+ℚ◌, ◌*ℚ◌}
-use Rattle.rational.proofs.IntegerRing.{ring_ℤ, reads_ℤ}
-use Rattle.rational.proofs.Lowest.{reduced-cross, reduced-same, reduced-+ℚ}
-use Rattle.rational.proofs.RationalRing.{int_is, ring, reads_ℚ, *ℚ_comm}
+use Rattle.frac128.specs.Rational.{ℚ, reduced, int, ◌+ℚ◌, ◌*ℚ◌}
+use Rattle.frac128.specs.IntegerRing.{ring_ℤ, reads_ℤ}
+use Rattle.frac128.specs.Lowest.{reduced-cross, reduced-same, reduced-+ℚ}
+use Rattle.frac128.specs.RationalRing.{int_is, ring, reads_ℚ, *ℚ_comm}
 use Rattle.frac128.specs.Range.{IsNarrow, Fits, SumFits}
 use Rattle.frac128.specs.LowestTerms.{quotient_of}
 use Rattle.frac128.proofs.Terms.{quotient-*ℚ, same_quotient}

@@ -1,7 +1,7 @@
 -- Entries that stand in a list, row by row, and the steps of an exchange.
 use Rattle.std.specs.Prelude.{ℕ, ◌+◌, ◌*◌, ◌/◌, ◌%◌, ◌==◌, List, get_or, pos}
-use Rattle.rational.specs.Rational.{ℚ, int}
-use Rattle.bases.specs.Steps.{PivotStepFits, step_value}
+use Rattle.frac128.specs.Rational.{ℚ, int}
+use Rattle.table_entries.specs.Steps.{PivotStepFits, step_value}
 
 -- the entry of a row and a place in a list of rows
 abbrev pub dense_entry : ℕ → List ℚ → ℕ → ℕ → ℚ

@@ -1,3 +1,9 @@
+pub mod Relaxation
+pub mod States
+pub mod Directions
+pub mod Bases
+pub mod Steps
+pub mod Laws
 pub mod FlatSteps
 pub mod WholeSteps
 pub mod Listed

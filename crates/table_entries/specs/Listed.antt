@@ -1,9 +1,9 @@
 -- What a contract sees of the entries of a table, in a list, row by row.
 use Rattle.std.specs.Prelude.{◌≡◌, ℕ, ◌+◌, ◌*◌, ◌<◌, ◌≤◌, ◌<ℤ◌, ℤ, Bool, true, false, List, length, get_or, map, pos}
-use Rattle.rational.specs.Rational.{ℚ, int, IsWhole}
+use Rattle.frac128.specs.Rational.{ℚ, int, IsWhole}
 use Rattle.frac128.specs.LowestTerms.{quotient_of}
-use Rattle.bases.specs.Relaxation.{pivoted_entry}
-use Rattle.bases.specs.Steps.{EntryFits}
+use Rattle.table_entries.specs.Relaxation.{pivoted_entry}
+use Rattle.table_entries.specs.Steps.{EntryFits}
 use Rattle.table_entries.specs.FlatSteps.{dense_entry, FlatFits, flat_value}
 use Rattle.table_entries.specs.WholeSteps.{IsShort, AreShort, AreWithin, magnitude, whole_number_at, is_unwritten}
 

@@ -2,9 +2,9 @@
 -- times the entry of the column there. All rows together are the whole table.
 use Rattle.std.specs.Prelude.{◌≡◌, ◌≢◌, ℕ, zero, suc, ◌+◌, ◌-◌, ◌*◌, ◌/◌, ◌%◌, ◌^◌, ◌<◌, ◌≤◌, ◌==◌, ltb, if◌then◌else◌, Bool, true, false, List, length, map, ℤ, pos, ◌<ℤ◌, ◌+ℤ◌, ◌*ℤ◌, unsigned_abs}
 use Rattle.std.specs.List.{range_with_len}
-use Rattle.rational.specs.Rational.{ℚ, int, ◌*ℚ◌}
-use Rattle.checked_sum.specs.Sums.{sum_below}
-use Rattle.bases.specs.Relaxation.{updated}
+use Rattle.frac128.specs.Rational.{ℚ, int, ◌*ℚ◌}
+use Rattle.frac128.specs.Sums.{sum_below}
+use Rattle.table_entries.specs.Relaxation.{updated}
 use Rattle.table_entries.specs.FlatSteps.{dense_entry}
 use Rattle.table_entries.specs.WholeSteps.{magnitude, whole_number_at, is_unwritten, AreWithin}
 use Rattle.table_entries.specs.Listed.{Listed, IsListed}

@@ -1,8 +1,8 @@
 -- Entries that are whole numbers over one common denominator, and those after an exchange, whose denominator is the magnitude of the pivot's number.
 use Rattle.std.specs.Prelude.{◌≡◌, ℕ, ◌+◌, ◌*◌, ◌/◌, ◌%◌, ◌^◌, ◌<◌, ◌==◌, Bool, false, ℤ, pos, negsuc, neg_ℤ, ◌<ℤ◌, unsigned_abs, List, length, get_or}
-use Rattle.rational.specs.Rational.{ℚ}
+use Rattle.frac128.specs.Rational.{ℚ}
 use Rattle.frac128.specs.LowestTerms.{quotient_of}
-use Rattle.bases.specs.Steps.{PivotStepFits, step_value}
+use Rattle.table_entries.specs.Steps.{PivotStepFits, step_value}
 
 -- a whole number below 2 ^ 62
 abbrev pub IsShort : ℤ → Type 0

@@ -1,6 +1,6 @@
 -- Terms of a sum that are products of whole numbers over one denominator.
 use Rattle.std.specs.Prelude.{◌≡◌, ◌^◌, ◌≤◌, ℤ, ◌*ℤ◌, unsigned_abs}
-use Rattle.rational.specs.Rational.{ℚ, ◌*ℚ◌}
+use Rattle.frac128.specs.Rational.{ℚ, ◌*ℚ◌}
 use Rattle.frac128.specs.LowestTerms.{quotient_of}
 use Rattle.table_entries.specs.WholeSteps.{IsShort}
 

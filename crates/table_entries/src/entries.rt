@@ -1,7 +1,7 @@
 // The entries of a table after an exchange, one by one.
 ghost use Rattle.std.specs.Prelude.{◌≡◌, ◌≢◌, ◌<◌, ◌≤◌, ◌+◌, ◌*◌, ◌^◌, ℕ, pos, length, get_or, OkIff, OnOk, IfErr};
-ghost use Rattle.rational.specs.Rational.{int};
-ghost use Rattle.bases.specs.Steps.{PivotStepFits, step_value};
+ghost use Rattle.frac128.specs.Rational.{int};
+ghost use Rattle.table_entries.specs.Steps.{PivotStepFits, step_value};
 ghost use Rattle.table_entries.specs.FlatSteps.{FlatFits, flat_value};
 
 use crate::rows::write_by_rows;

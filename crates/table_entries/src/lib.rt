@@ -1,6 +1,30 @@
-//! The entries of a table, exchanged in place, and sums of whole numbers over one denominator.
+//! Relaxations, the tables of their bases, and the states of the dual simplex method: definitions and laws. The entries
+//! of a table, exchanged in place, and sums of whole numbers over one denominator.
 //!
-//! The entries stand in a list, row by row, one at each place. In an exchange of row `R` and place `S` they become
+//! A relaxation has columns, and activities that its rows and cuts make of them. Its variables are numbered, the columns
+//! first and the activities after them. Each has a low side, a high side, both or none, and a cost:
+//!
+//! ```text
+//! activity i = sum over columns j of coefficient i j * x j,      low v <= x v <= high v,      the sum of cost v * x v least
+//! ```
+//!
+//! A basis is as many variables as there are activities, such that its *table* gives each of them by the others, in each
+//! assignment that solves the relaxation and in no other (`IsTable`):
+//!
+//! ```text
+//! x (basic i) = sum over places k of entry i k * x (nonbasic k)
+//! reduced cost of k = c (nonbasic k) + sum over rows i of c (basic i) * entry i k
+//! ```
+//!
+//! A table says nothing of elimination: it has one meaning for all assignments, and a basis has one table. A state is a
+//! table whose nonbasic variables stand at their low or high sides, or at 0 where they have none. It is lawful where each
+//! reduced cost, perturbed and read part by part, has the sign of its side (C. E. Lemke, 1954; A. Charnes, 1952, for the
+//! perturbation). Then the point that it gives has the least value of all that are within the sides of the nonbasic
+//! variables, and a step of the dual simplex method leads to another lawful state with a greater key.
+//!
+//! Of relaxations, bases and states there is no code but the laws of `laws`, each a function whose contract is the statement.
+//!
+//! The entries of a table stand in a list, row by row, one at each place. In an exchange of row `R` and place `S` they become
 //!
 //! ```text
 //! 1 / t(R,S) for (R,S),   -t(R,K) / t(R,S) for (R,K),   t(I,S) / t(R,S) for (I,S),   t(I,K) - t(I,S) * (t(R,K) / t(R,S)) else
@@ -33,18 +57,27 @@
 //!
 //! Public contract: after `exchange` each entry is the one above and each step to it has room, or the first that has none
 //! is named and no entry changes. Where `whole_sum` answers, each step of the sum has room and the answer is the sum.
-//! Memory is taken by `PartEntries::new` alone. What the rows and places stand for is not known here. Below stand
-//! `bases`, for what an exchange is, and `checked_sum`; above, `row_tableau`.
+//! Memory is taken by `PartEntries::new` alone. What the rows and places stand for is not known where the entries are
+//! exchanged. Below stand `frac128`, for the numbers and which steps have room, and `checked_sum`, for the sums; above,
+//! `row_tableau`.
 #![tactic(auto)]
 
 mod entries;
+mod laws;
 mod parts;
 mod rows;
+mod stand;
 mod table_entries;
 mod whole_sums;
 mod wholes;
 
 pub use entries::{WideEntry, flat_index};
+pub use laws::{
+    directions_law, entering_law, exchange_law, farkas_law, next_state_law, no_ray_law,
+    no_state_twice_law, one_table_law, ray_law, separation_law, step_law, strong_duality_law,
+    stuck_law, weak_duality_law,
+};
 pub use parts::PartEntries;
+pub use stand::Stand;
 pub use whole_sums::{WholeTerm, WholeTerms, quotient, whole_number, whole_sum};
-pub use wholes::{product, short_number};
+pub use wholes::{by_sign, product, short_number};

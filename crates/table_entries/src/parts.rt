@@ -4,7 +4,7 @@
 // numbers of such a row are short. Then each step of an exchange has room in a row that is not written, as it has in one
 // that is. Where a number reaches the limit, all rows are written, and stay so.
 ghost use Rattle.std.specs.Prelude.{◌≡◌, ◌≢◌, ◌↔◌, ◌<◌, ◌≤◌, ◌+◌, ◌*◌, ◌^◌, ◌<ℤ◌, ℕ, true, false, length, get_or, pos, IsTrue, IfSome, OnOk, OnErr, IfErr, IfOk};
-ghost use Rattle.rational.specs.Rational.{int};
+ghost use Rattle.frac128.specs.Rational.{int};
 ghost use Rattle.frac128.specs.LowestTerms.{quotient_of};
 ghost use Rattle.table_entries.specs.FlatSteps.{dense_entry};
 ghost use Rattle.table_entries.specs.FlatSteps.{FlatFits};

@@ -1,9 +1,9 @@
 // The entries of a table after an exchange, row by row. Each quotient of the leaving row is formed once, and an entry that
 // keeps its number takes no arithmetic.
 ghost use Rattle.std.specs.Prelude.{◌≡◌, ◌≢◌, ◌<◌, ◌+◌, ◌*◌, ◌^◌, ℕ, pos, length, get_or, OkIff, OnOk, OnErr};
-ghost use Rattle.rational.specs.Rational.{int};
-ghost use Rattle.bases.specs.Relaxation.{pivoted_entry};
-ghost use Rattle.bases.specs.Steps.{EntryFits};
+ghost use Rattle.frac128.specs.Rational.{int};
+ghost use Rattle.table_entries.specs.Relaxation.{pivoted_entry};
+ghost use Rattle.table_entries.specs.Steps.{EntryFits};
 ghost use Rattle.table_entries.specs.FlatSteps.{dense_entry};
 ghost use Rattle.table_entries.specs.RowSteps.{MovedFits, moved_value};
 

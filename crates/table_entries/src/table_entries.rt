@@ -1,6 +1,6 @@
 // The entries of a table, as whole numbers over one denominator as long as those are short, and else as fractions.
 ghost use Rattle.std.specs.Prelude.{◌≡◌, ◌≢◌, ◌↔◌, ◌<◌, ◌≤◌, ◌+◌, ◌*◌, ◌^◌, ◌<ℤ◌, ℕ, true, false, length, get_or, set, pos, vec_capacity, IsTrue, IfSome, OnOk, OnErr, IfErr, IfOk};
-ghost use Rattle.rational.specs.Rational.{int};
+ghost use Rattle.frac128.specs.Rational.{int};
 ghost use Rattle.frac128.specs.LowestTerms.{quotient_of};
 ghost use Rattle.table_entries.specs.FlatSteps.{FlatFits};
 ghost use Rattle.table_entries.specs.WholeSteps.{IsShort, whole_number_at};
@@ -111,7 +111,7 @@ fn write_fractions(denominator: i64, numbers: &[i64], next: &mut [Frac])
 
 impl TableEntries {
     /// The entries that these fractions are.
-    pub fn new(alloc: Global, fractions: Vec<Frac>) -> Result<TableEntries, AllocError>
+    pub(crate) fn new(alloc: Global, fractions: Vec<Frac>) -> Result<TableEntries, AllocError>
         ensures list { IfOk result (λ t. t.list ≡ fractions.items) }
         ensures denominator { IfOk result (λ t. t.denominator ≡ pos 1) }
     {
@@ -152,7 +152,7 @@ impl TableEntries {
     }
 
     /// The entry at an index of the list.
-    pub fn at(&self, at: usize) -> Frac
+    pub(crate) fn at(&self, at: usize) -> Frac
         requires { at < length self.now.list }
         ensures { result ≡ get_or self.now.list at (int (pos 0)) }
     {
@@ -164,7 +164,7 @@ impl TableEntries {
     }
 
     /// Whether the entry at an index of the list is 0.
-    pub fn is_zero(&self, at: usize) -> bool
+    pub(crate) fn is_zero(&self, at: usize) -> bool
         requires { at < length self.now.list }
         ensures { IsTrue result ↔ get_or self.now.list at (int (pos 0)) ≡ int (pos 0) }
     {
@@ -176,7 +176,7 @@ impl TableEntries {
     }
 
     /// Whether the entries are kept as whole numbers over one denominator.
-    pub fn is_whole(&self) -> bool
+    pub(crate) fn is_whole(&self) -> bool
         ensures value { result ≡ self.now.is_whole }
         ensures lawful { IsTrue result → IsListed self.now }
     {
@@ -184,7 +184,7 @@ impl TableEntries {
     }
 
     /// The common denominator of the entries where they are kept as whole numbers, and else 1.
-    pub fn denominator(&self) -> i64
+    pub(crate) fn denominator(&self) -> i64
         ensures positive { pos 0 <ℤ result }
         ensures short { IsShort result }
         ensures value { self.now.is_whole ≡ true → result ≡ self.now.denominator }
@@ -193,7 +193,7 @@ impl TableEntries {
     }
 
     /// The entry at an index of the list, as a number over this denominator, if it is kept so.
-    pub fn number_over(&self, at: usize, denominator: i64) -> Option<i64>
+    pub(crate) fn number_over(&self, at: usize, denominator: i64) -> Option<i64>
         requires { at < length self.now.list }
         ensures short { IfSome result (λ n. IsShort n) }
         ensures value { IfSome result (λ n. get_or self.now.list at (int (pos 0)) ≡ quotient_of n denominator) }
@@ -206,7 +206,7 @@ impl TableEntries {
     }
 
     /// The number at an index of the list.
-    pub fn number(&self, at: usize) -> i64
+    pub(crate) fn number(&self, at: usize) -> i64
         requires whole { self.now.is_whole ≡ true }
         requires within { at < length self.now.list }
         ensures value { result ≡ whole_number_at self.now.numbers at }
@@ -216,14 +216,14 @@ impl TableEntries {
     }
 
     /// A list of the numbers.
-    pub fn copied_numbers(&self, alloc: Global) -> Result<Vec<i64>, AllocError>
+    pub(crate) fn copied_numbers(&self, alloc: Global) -> Result<Vec<i64>, AllocError>
         ensures { IfOk result (λ v. v.items ≡ self.now.numbers) }
     {
         Vec::from_slice(alloc, &self.numbers)
     }
 
     /// Writes a number at an index of the list.
-    pub fn write(&mut self, at: usize, number: i64)
+    pub(crate) fn write(&mut self, at: usize, number: i64)
         requires whole { self.old.is_whole ≡ true }
         requires short { IsShort number }
         requires within { at < length self.old.list }
@@ -238,7 +238,7 @@ impl TableEntries {
 
     /// Exchanges the rows that are written over a common denominator. False where that can't be done, or where a number
     /// after it is not below the limit; then nothing changes.
-    pub fn exchange_part(
+    pub(crate) fn exchange_part(
         &mut self,
         rows: usize,
         columns: usize,
@@ -330,7 +330,7 @@ impl TableEntries {
 
     /// Exchanges a row and a place of so many rows and columns, or finds the first entry whose step has no room; then no
     /// entry changes.
-    pub fn exchange(
+    pub(crate) fn exchange(
         &mut self,
         rows: usize,
         columns: usize,

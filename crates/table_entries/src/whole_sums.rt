@@ -1,6 +1,6 @@
 // Sums whose factors are whole numbers over one denominator, added as whole numbers.
 ghost use Rattle.std.specs.Prelude.{◌≡◌, ◌<◌, ◌<ℤ◌, ◌+ℤ◌, ◌*ℤ◌, ℕ, pos, IfSome};
-ghost use Rattle.rational.specs.Rational.{ℚ, int};
+ghost use Rattle.frac128.specs.Rational.{ℚ, int};
 ghost use Rattle.frac128.specs.LowestTerms.{quotient_of};
 ghost use Rattle.checked_sum.specs.Steps.{AllFit, partial};
 ghost use Rattle.table_entries.specs.WholeSteps.{IsShort};

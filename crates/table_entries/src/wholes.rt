@@ -9,7 +9,7 @@ pub const LIMIT: i64 = 1 << 62;
 
 /// The number with the sign of the pivot.
 #[inline]
-fn by_sign(pivot: i64, number: i64) -> i64
+pub fn by_sign(pivot: i64, number: i64) -> i64
     requires { IsShort number }
     ensures { result ≡ by_sign pivot number }
 {

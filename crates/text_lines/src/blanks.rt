@@ -1,5 +1,5 @@
 // The words of a line, which stand between its blanks.
-ghost use Rattle.std.specs.Prelude.{◌≡◌, ◌<◌, ◌∷◌, ◌++◌, ℕ, true, length, map, IfOk, IfNone, IfSome, OnOk};
+ghost use Rattle.std.specs.Prelude.{◌≡◌, ◌<◌, ◌∷◌, ◌++◌, ℕ, true, length, map, IfOk, IfNone, IfSome, OnOk, bytes_eq};
 ghost use Rattle.text_lines.specs.Words.{is_blank, HasNoBlank, word_in, words_of};
 
 use std::alloc::{AllocError, Global};
@@ -51,6 +51,13 @@ fn push_words<'a>(words: &mut Vec<&'a [u8]>, line: &'a [u8]) -> Result<(), Alloc
         rest = more;
     }
     push_word(words, rest)
+}
+
+/// Whether the word is this one, byte for byte.
+pub fn is_word(key: &[u8], word: &[u8]) -> bool
+    ensures { result ≡ bytes_eq word.now key.now }
+{
+    word == key
 }
 
 /// The words of a line, each a part of it. Fails for want of memory alone.

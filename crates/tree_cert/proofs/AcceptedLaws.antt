@@ -4,10 +4,10 @@ use Rattle.std.proofs.Common.{◌≡◌, ◌≢◌, ℕ, ◌<◌, List, [], ◌�
 use Rattle.std.specs.Prelude.{All, AllPairs, IsTrue, true, Option, Some, None, Ok}
 use Rattle.std.proofs.lemmas.List.Elements.{All-append}
 use Rattle.std.proofs.lemmas.List.Elements.{All-get_or}
-use Rattle.rational.specs.Rational.{ℚ, neg_ℚ}
+use Rattle.frac128.specs.Rational.{ℚ, neg_ℚ}
 use Rattle.lp_model.specs.Program.{Program, Point, value, least_value, in_least_form, is_integer}
 use Rattle.lp_model.specs.Lawful.{IsLawful as IsLawfulModel, column_names}
-use Rattle.rational.proofs.RationalRing.{ring, reads_ℚ}
+use Rattle.frac128.specs.RationalRing.{ring, reads_ℚ}
 use Rattle.lp_model.specs.declared.types.Sense.{Sense}
 use Rattle.lp_model.specs.declared.types.Sense.TheVariants.{Min, Max}
 use Rattle.lp_model.specs.Regions.{Path, IsEmptyRegion}
@@ -40,8 +40,6 @@ use Rattle.cert_text.specs.Tree.{CertTree, certificate_nodes}
 use Rattle.cert_text.specs.Tree.{Bound as CertBound, Farkas as CertFarkas, Empty as CertEmpty, Split as CertSplit}
 use Rattle.cert_check.specs.Places.{place_among}
 use Rattle.lp_model.specs.Edits.{Named, only_row_names}
-use Rattle.lp_model.specs.Answers.{IsFeasibilityAnswer}
-use Rattle.lp_model.specs.Rays.{IsRayJudged}
 use Rattle.cert_check.specs.Cuts.{rows_of, formulation_by, IsCutJudged, AreCutsJudged}
 use Rattle.cert_check.specs.Mults.{AreMults}
 use Rattle.cert_check.specs.Verdict.{IsNumberJudged, IsFarkasJudged, IsNodeJudged, IsPointJudged, IsFeasibleJudged, IsDirectionJudged, IsClaimJudged, visits, AreVisits, IsVisitJudged, IsVerdict}
@@ -51,6 +49,8 @@ use Rattle.tree_cert.specs.Certificates.{claim_of, point_numbers, IsReason, IsTr
 use Rattle.tree_cert.specs.Cuts.{named_cuts, used_number, mults_named, node_mults, IsOfFirst}
 use Rattle.tree_cert.specs.Marked.{NodeNamesFirst}
 use Rattle.lp_model.specs.Lawful.{column_name}
+use Rattle.model_points.specs.Answers.{IsFeasibilityAnswer}
+use Rattle.model_points.specs.Rays.{IsRayJudged}
 use Rattle.tree_cert.proofs.NameLaws.{all_cons, all_none, all_first, all_rest, column_place, column_there, numbers_named, numbers_read}
 use Rattle.tree_cert.proofs.MultLaws.{all_split, renamed, mults_read, mults_are}
 use Rattle.tree_cert.proofs.ChosenLaws.{lag_chosen, farkas_chosen}

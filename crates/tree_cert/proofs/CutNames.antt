@@ -4,7 +4,7 @@ use Rattle.std.specs.Prelude.{IsTrue, IsSome, All, AllPairs, Contains, None}
 use Rattle.std.specs.Option.{option_map}
 use Rattle.std.proofs.lemmas.List.{length-map, get_or_default}
 use Rattle.std.proofs.lemmas.List.Elements.{All-map}
-use Rattle.rational.specs.Rational.{neg_ℚ}
+use Rattle.frac128.specs.Rational.{neg_ℚ}
 use Rattle.lp_model.specs.Program.{Program}
 use Rattle.lp_model.specs.Elements.{of_element}
 use Rattle.lp_model.specs.Lawful.{IsLawful, column_names, column_name, row_name}

@@ -3,7 +3,7 @@ use Rattle.std.proofs.Common.{◌≡◌, ◌≢◌, ℕ, zero, suc, ◌*◌, ◌
 use Rattle.std.specs.Prelude.{not, ◌==◌, nat_lt, ℤ, pos, negsuc, Result, Ok, Err}
 use Rattle.std.specs.List.{list_any, before_first, after_first}
 use Rattle.std.proofs.lemmas.Bool.Decides.{nat_tests}
-use Rattle.rational.specs.Rational.{ℚ, int, ◌/ℚ◌}
+use Rattle.frac128.specs.Rational.{ℚ, int, ◌/ℚ◌}
 use Rattle.frac128.specs.Range.{Fits, largest}
 use Rattle.frac_text.specs.Spelling.{Reading, Number, Wide, NoNumber, are_digits, is_slash, is_minus, without_sign, value_of, coefficient_of, power_of, mantissa, exponent, exponent_text, point_digits, is_decimal, is_quotient, scaled, signed, scaled_reading, decimal_reading, quotient_reading, slash_reading, plain_reading, unsigned_reading, reading_of}
 use Rattle.frac_text.specs.Parsing.{parsed}

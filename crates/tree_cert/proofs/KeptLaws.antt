@@ -299,7 +299,7 @@ claim_room [] all = tt
 claim_room (claim ∷ claims) all = All-head HasClaimRoom claim claims all
 
 point_good : (points : List Named) → All GoodNamed points → GoodNamed (first_named points)
-point_good [] all = record { words = All-nil (λ (e : List ℕ × Rattle.rational.specs.Rational.ℚ). IsWord e.0); room = All-nil (λ (e : List ℕ × Rattle.rational.specs.Rational.ℚ). Rattle.frac128.specs.Range.Fits e.1) }
+point_good [] all = record { words = All-nil (λ (e : List ℕ × Rattle.frac128.specs.Rational.ℚ). IsWord e.0); room = All-nil (λ (e : List ℕ × Rattle.frac128.specs.Rational.ℚ). Rattle.frac128.specs.Range.Fits e.1) }
 point_good (named ∷ points) all = All-head GoodNamed named points all
 
 point_room : (claim : Claim) (named : Named) → HasFractions named → HasPointRoom claim named

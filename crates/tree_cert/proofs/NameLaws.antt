@@ -4,8 +4,8 @@ use Rattle.std.specs.Prelude.{All, AllPairs, Contains, bytes_eq, pos}
 use Rattle.std.proofs.lemmas.List.{length-map, drop_more, drop_all, get_or_default}
 use Rattle.std.proofs.lemmas.Slice.Eq.{bytes_eq-Decides}
 use Rattle.std.proofs.lemmas.Bool.{false_from_ne_true}
-use Rattle.rational.specs.Rational.{ℚ, int}
-use Rattle.rational.proofs.Comparison.{eq_by_cmp-decides}
+use Rattle.frac128.specs.Rational.{ℚ, int}
+use Rattle.frac128.proofs.Comparison.{eq_by_cmp-decides}
 use Rattle.lp_model.specs.Program.{Program, Point}
 use Rattle.lp_model.specs.Elements.{of_element}
 use Rattle.lp_model.specs.Lawful.{column_names}

@@ -7,7 +7,7 @@ use Rattle.std.proofs.lemmas.Bool.{cases_eq}
 use Rattle.std.proofs.lemmas.List.{length-set, length-replicate, get_or-replicate, get_or-set_same, get_or-set_other, map-append}
 use Rattle.std.proofs.lemmas.List.Elements.{All-append}
 use Rattle.std.proofs.lemmas.List.Kept.{AllPairs-cons}
-use Rattle.rational.specs.Rational.{ℚ}
+use Rattle.frac128.specs.Rational.{ℚ}
 use Rattle.lp_model.specs.Cuts.{is_live}
 use Rattle.lp_model.specs.Lawful.{row_name}
 use Rattle.lp_model.specs.Regions.{Path}

@@ -9,7 +9,7 @@ use Rattle.std.proofs.lemmas.Fmt.{decimal_by_steps_wide}
 use Rattle.std.proofs.lemmas.List.Elements.{All-nil, All-cons, All-head, All-tail, All-append}
 use Rattle.std.proofs.lemmas.List.Splits.{slice_split_none, slice_split_at}
 use Rattle.std.proofs.Math.Seq.{get_or-append-add}
-use Rattle.rational.specs.Rational.{ℚ, den, IsWhole}
+use Rattle.frac128.specs.Rational.{ℚ, den, IsWhole}
 use Rattle.frac128.specs.Range.{Fits, IsNarrow}
 use Rattle.frac128.specs.Printing.{printed}
 use Rattle.frac128.proofs.Printed.{printed-whole, printed-fraction}

@@ -4,7 +4,7 @@
 --                                leaf, with names in the place of places
 --     unbounded_certificate M x d  the model is unbounded, by the point x and the ray d
 use Rattle.std.specs.Prelude.{◌≡◌, ℕ, ◌<◌, if◌then◌else◌, IsTrue, List, [], ◌∷◌, length, All, AllPairs, Option, Some, None}
-use Rattle.rational.specs.Rational.{ℚ}
+use Rattle.frac128.specs.Rational.{ℚ}
 use Rattle.lp_model.specs.Program.{Program, Point, value}
 use Rattle.lp_model.specs.Edits.{Named, is_zero}
 use Rattle.lp_model.specs.Regions.{Path, IsEmptyRegion}

@@ -4,7 +4,7 @@
 --                                  count is left out
 --     NameCuts n nodes             the numbers of cuts that the nodes name are those from 1 to n
 use Rattle.std.specs.Prelude.{◌≡◌, ◌⊎◌, ℕ, suc, ◌<◌, ◌≤◌, Bool, if◌then◌else◌, List, [], ◌∷◌, ◌++◌, map, All}
-use Rattle.rational.specs.Rational.{ℚ}
+use Rattle.frac128.specs.Rational.{ℚ}
 use Rattle.lp_model.specs.Program.{Program}
 use Rattle.lp_model.specs.Elements.{of_element}
 use Rattle.lp_model.specs.Cuts.{is_live}

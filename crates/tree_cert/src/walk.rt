@@ -1,7 +1,5 @@
 // The walk through the nodes of a tree.
-ghost use Rattle.std.specs.Prelude.{◌≡◌, suc, ◌<◌, ◌+ℤ◌, ◌++◌, ◌∷◌, [], pos, length, IfOk};
-ghost use Rattle.frac128.specs.Range.{IsNarrow};
-ghost use Rattle.lp_model.specs.Regions.{at_least};
+ghost use Rattle.std.specs.Prelude.{◌≡◌, suc, ◌<◌, ◌++◌, ◌∷◌, [], length, IfOk};
 ghost use Rattle.lp_model.specs.Formulations.{formulation};
 ghost use Rattle.leaf_dual.specs.Dual.{HavePlaces};
 ghost use Rattle.cert_check.specs.Walk.{after_leaf};
@@ -10,17 +8,10 @@ ghost use Rattle.tree_cert.specs.Walked.{path_after, IsNodeOf, AreNodesOf, IsFit
 use crate::leaf::leaf_node;
 use crate::names::column_name;
 use branch_tree::Node;
+use cert_check::second_child;
 use cert_text::CertNode;
 use lp_model::{BoundChange, CutRow, List, Model, Side};
 use std::alloc::{AllocError, Global};
-
-/// The change to the second child of a split, whose first child is that of the change.
-fn second_child(first: &BoundChange) -> BoundChange
-    requires { IsNarrow (first.now.v +ℤ pos 1) }
-    ensures { result ≡ at_least first.now.col.0 (first.now.v +ℤ pos 1) }
-{
-    BoundChange::at_least(first.col, first.v + 1)
-}
 
 /// From the path to a leaf to that of the node behind it.
 fn turn(path: &mut Vec<BoundChange>) -> Result<(), AllocError>

@@ -1,8 +1,8 @@
 // The certificate of a finished search, and that of a model with a ray.
 ghost use Rattle.std.specs.Prelude.{◌≡◌, suc, true, IfOk, length, Option, Ok};
 ghost use Rattle.lp_model.specs.Program.{Point};
-ghost use Rattle.lp_model.specs.Answers.{IsFeasibilityAnswer};
-ghost use Rattle.lp_model.specs.Rays.{IsRayJudged};
+ghost use Rattle.model_points.specs.Answers.{IsFeasibilityAnswer};
+ghost use Rattle.model_points.specs.Rays.{IsRayJudged};
 ghost use Rattle.sound_searches.specs.Laws.{HasNoOpenLeaf};
 ghost use Rattle.sound_searches.specs.Sound.{IsSound, formulation_of};
 ghost use Rattle.search_parts.specs.Points.{IsIncumbent};

@@ -1,7 +1,7 @@
 -- A leaf that closes by its data, and is marked so, is judged. What is answered where it does not close, or a basis does not fit.
 use Rattle.std.specs.Prelude.{◌≡◌, ℕ, Option, Some, None, Result, Ok, Err, OnOk, OnErr}
 use Rattle.std.proofs.Common.{refl, sym, subst}
-use Rattle.rational.specs.Rational.{ℚ}
+use Rattle.frac128.specs.Rational.{ℚ}
 use Rattle.lp_model.specs.Program.{Point}
 use Rattle.lp_model.specs.Regions.{Path}
 use Rattle.lp_model.specs.Formulations.{Formulation}

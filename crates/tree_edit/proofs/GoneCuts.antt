@@ -3,7 +3,7 @@ use Rattle.std.specs.Prelude.{◌≡◌, ◌≢◌, ℕ, suc, ◌-◌, Bool, tru
 use Rattle.std.proofs.Common.{refl, sym, ap, subst, arith}
 use Rattle.std.proofs.lemmas.List.Elements.{All-filter, filter_passes, All-cons, All-nil}
 use Rattle.std.proofs.lemmas.List.Kept.{AllPairs-filter}
-use Rattle.rational.specs.Rational.{ℚ}
+use Rattle.frac128.specs.Rational.{ℚ}
 use Rattle.lp_model.specs.Program.{Program}
 use Rattle.lp_model.specs.Edits.{edited, EditFits}
 use Rattle.lp_model.specs.Formulations.{formulation}

@@ -1,7 +1,7 @@
 -- The queue after a leaf is closed, stays with its multipliers and its state, or is split.
 use Rattle.std.specs.Prelude.{◌≡◌, ◌≢◌, ℕ, ◌+◌, ◌<◌, [], Option, Some, None, ℤ}
 use Rattle.std.proofs.Common.{refl, sym, subst, ap, ◌∙◌, arith, inl, inr}
-use Rattle.rational.specs.Rational.{ℚ}
+use Rattle.frac128.specs.Rational.{ℚ}
 use Rattle.lp_model.specs.Regions.{Path}
 use Rattle.lp_model.specs.Formulations.{Formulation}
 use Rattle.lp_model.specs.declared.types.Basis.{Basis}

@@ -2,7 +2,7 @@
 use Rattle.std.specs.Prelude.{ℕ, ◌+◌, ◌-◌, List}
 use Rattle.std.proofs.Common.{sym, subst, arith}
 use Rattle.std.proofs.lemmas.List.Elements.{All-nil}
-use Rattle.rational.specs.Rational.{ℚ}
+use Rattle.frac128.specs.Rational.{ℚ}
 use Rattle.lp_model.specs.Formulations.{Formulation}
 use Rattle.branch_tree.specs.Tree.{Leaf, Split, HasNarrowSplits}
 use Rattle.branch_tree.specs.Plain.{Plain, trimmed, splits_at}

@@ -1,6 +1,6 @@
 -- What each search keeps beside its model, its tree and its points.
 use Rattle.std.specs.Prelude.{◌≡◌, List, map}
-use Rattle.rational.specs.Rational.{ℚ}
+use Rattle.frac128.specs.Rational.{ℚ}
 use Rattle.lp_model.specs.Program.{least_value}
 use Rattle.leaf_judging.specs.declared.numbers.LeafNumbers.{LeafNumbers}
 use Rattle.leaf_judging.specs.declared.queue.LeafQueue.{LeafQueue}

@@ -8,7 +8,7 @@ use Rattle.leaf_dual.specs.Dual.{Multipliers}
 use Rattle.search_parts.specs.declared.points.Joined.{Joined}
 use Rattle.tree_edit.specs.declared.splitting.Child.{Child}
 use Rattle.leaf_judging.specs.declared.choosing.Candidate.{Candidate}
-use Rattle.rational.specs.Rational.{ℚ}
+use Rattle.frac128.specs.Rational.{ℚ}
 use Rattle.branch_tree.specs.declared.node.LeafData.{LeafData}
 use Rattle.leaf_judging.specs.declared.closing.LeafNumber.{LeafNumber}
 use Rattle.leaf_judging.specs.Closing.{IsNumber, ClosesBy}

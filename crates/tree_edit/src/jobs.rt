@@ -3,8 +3,8 @@ ghost use Rattle.std.specs.Prelude.{IfOk};
 ghost use Rattle.sound_searches.specs.Jobs.{IsJobAnswer};
 ghost use Rattle.sound_searches.specs.Placing.{IsOpenPlace};
 
-use crate::search::{Search, copies};
-use branch_tree::Job;
+use crate::search::Search;
+use branch_tree::{Job, copy_lists};
 use lp_model::Region;
 use std::alloc::AllocError;
 
@@ -17,7 +17,7 @@ impl Search {
         let Some(kept) = self.tree.leaf(id) else {
             unreachable!()
         };
-        match copies(self.alloc, &kept.mult, &kept.basis) {
+        match copy_lists(self.alloc, &kept.mult, &kept.basis) {
             Ok((mult, basis)) => Ok(Some(Job {
                 id,
                 region,

@@ -17,7 +17,7 @@ use branch_tree::Tree;
 use cover_cuts::{CutPool, PoolFault};
 use frac128::Frac;
 use leaf_judging::{LeafIndex, LeafNumber, LeafNumbers, LeafQueue, judge_all};
-use lp_model::{Basis, CutId, Derivation, Model, Mult, Point};
+use lp_model::{CutId, Derivation, Model, Point};
 use search_parts::oldest_least;
 use std::alloc::{AllocError, Global};
 use std::mem;
@@ -100,23 +100,6 @@ fn clear(alloc: Global, pool: &mut CutPool, points: &mut Vec<Point>, values: &mu
     drop(mem::replace(pool, CutPool::new(alloc)));
     drop(mem::replace(points, Vec::new(alloc)));
     *values = Vec::new(alloc);
-}
-
-/// Copies of multipliers and of a basis.
-pub(crate) fn copies(alloc: Global, mult: &Mult, basis: &Basis) -> Result<(Mult, Basis), AllocError>
-    ensures mult { IfOk result (λ both. both.0 ≡ mult.now) }
-    ensures basis { IfOk result (λ both. both.1 ≡ basis.now) }
-{
-    let Ok(mult) = mult.copy(alloc) else {
-        return Err(AllocError);
-    };
-    match basis.copy(alloc) {
-        Ok(basis) => Ok((mult, basis)),
-        Err(error) => {
-            drop(mult);
-            Err(error)
-        }
-    }
 }
 
 impl Search {

@@ -11,8 +11,8 @@ ghost use Rattle.leaf_judging.specs.Queued.{IsNew, AddsBoth, IsSameQueue};
 ghost use Rattle.tree_edit.specs.PlacingSteps.{IsNumberedChild, child_candidate};
 ghost use Rattle.sound_searches.specs.Sound.{formulation_of};
 
-use crate::search::{Search, copies};
-use branch_tree::{LeafData, Tree};
+use crate::search::Search;
+use branch_tree::{LeafData, Tree, copy_lists};
 use leaf_judging::{
     Candidate, LeafNumber, LeafNumbers, LeafQueue, as_candidate, number_of, rank, state_by,
 };
@@ -215,7 +215,7 @@ impl Search {
         let Ok(path) = child_path(self.alloc, region, change) else {
             return Err(AllocError);
         };
-        match copies(self.alloc, mult, basis) {
+        match copy_lists(self.alloc, mult, basis) {
             Ok((mult, basis)) => Ok(self.judged_child(path, mult, basis)),
             Err(error) => {
                 drop(path);

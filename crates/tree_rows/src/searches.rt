@@ -11,7 +11,7 @@ use lp_model::{Model, Point};
 use model_calls::{has_section, numbers_of, push_answer, push_step, section, take_number};
 use model_texts::{Words, edit_of, point_of, push_point};
 use search_counting::cap;
-use search_saving::{data_of, search_of};
+use search_file::{data_of, search_of};
 use std::alloc::{AllocError, Global};
 use std::mem::replace;
 use tree_edit::{Search, Taken};

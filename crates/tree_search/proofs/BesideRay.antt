@@ -2,11 +2,10 @@
 use Rattle.std.specs.Prelude.{◌≡◌, ℕ, suc, ◌<◌, List, [], ◌∷◌, pos, Option, None, IsSome}
 use Rattle.std.proofs.Common.{sym, ap, subst, ◌∙◌, inl, inr}
 use Rattle.std.proofs.lemmas.List.Elements.{All-weaker}
-use Rattle.rational.specs.Rational.{ℚ, int, ◌*ℚ◌, ◌<ℚ◌}
-use Rattle.checked_sum.specs.Sums.{sum_below}
+use Rattle.frac128.specs.Rational.{ℚ, int, ◌*ℚ◌, ◌<ℚ◌}
+use Rattle.frac128.specs.Sums.{sum_below}
 use Rattle.checked_sum.specs.Steps.{AllFit}
 use Rattle.lp_model.specs.Program.{Program}
-use Rattle.lp_model.specs.Rays.{without_costs}
 use Rattle.lp_model.specs.Regions.{Path}
 use Rattle.lp_model.specs.Sides.{needed_side, side_number}
 use Rattle.lp_model.specs.Formulations.{formulation}
@@ -14,7 +13,8 @@ use Rattle.lp_model.specs.declared.types.CutRow.{CutRow}
 use Rattle.lp_model.specs.declared.types.Derivation.{Derivation}
 use Rattle.lp_model.specs.declared.types.Literal.{Literal}
 use Rattle.lp_model.specs.declared.types.Side.{Side}
-use Rattle.lp_model.proofs.SamePointsLemmas.{same_points}
+use Rattle.model_points.specs.Rays.{without_costs}
+use Rattle.model_points.proofs.SamePointsLemmas.{same_points}
 use Rattle.cover_cuts.specs.Covers.{signed_by_side, side_coefficient, side_limit, IsBinary, AreLiterals, literal_number, number_else, least_number, IsPosed, Fails}
 use Rattle.cover_cuts.specs.Answers.{CoverSumFits, DerivesWithRoom}
 use Rattle.cover_cuts.specs.Cuts.{IsCutOf, IsPoolOf}

@@ -1,10 +1,10 @@
 -- A search step by step: what was placed so far, and where it ends or stops.
 use Rattle.std.specs.Prelude.{◌≡◌, ℕ, suc, ◌+◌, ◌<◌, ◌≤◌, List, Some}
 use Rattle.std.proofs.Common.{refl, sym, subst, ◌∙◌, inl, inr, arith}
-use Rattle.lp_model.specs.Rays.{IsUnbounded}
 use Rattle.lp_model.specs.declared.types.Derivation.{Derivation}
 use Rattle.lp_model.specs.declared.answers.StopWhy.{StopWhy}
 use Rattle.lp_model.specs.declared.answers.StopWhy.TheVariants as why
+use Rattle.model_points.specs.Rays.{IsUnbounded}
 use Rattle.branch_tree.specs.Numbered.{IsNumbered}
 use Rattle.sound_searches.specs.Laws.{HasNoOpenLeaf}
 use Rattle.sound_searches.specs.Pool.{AddsCuts, AddsAny}

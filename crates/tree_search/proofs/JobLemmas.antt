@@ -3,9 +3,9 @@ use Rattle.std.specs.Prelude.{◌≡◌, ◌<◌, IsTrue, [], ◌∷◌, ◌++�
 use Rattle.std.proofs.Common.{sym, subst, ◌∙◌}
 use Rattle.lp_model.specs.Program.{Program, is_integer}
 use Rattle.lp_model.specs.Regions.{Path, at_most, at_least}
-use Rattle.lp_model.specs.Rays.{without_costs}
 use Rattle.lp_model.specs.declared.types.BoundChange.{BoundChange}
-use Rattle.lp_model.proofs.SamePointsLemmas.{same_points}
+use Rattle.model_points.specs.Rays.{without_costs}
+use Rattle.model_points.proofs.SamePointsLemmas.{same_points}
 use Rattle.branch_tree.specs.Tree.{Tree, Leaf, Split, left_path, right_path, EachLeaf, SplitsLawfully}
 use Rattle.branch_tree.specs.declared.node.Job.{Job}
 use Rattle.branch_tree.proofs.PathLaws.{path-found}

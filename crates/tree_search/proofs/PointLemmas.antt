@@ -2,13 +2,13 @@
 use Rattle.std.specs.Prelude.{◌≡◌, ℕ, ◌++◌, Some, Ok}
 use Rattle.std.proofs.Common.{refl, sym, ap, subst}
 use Rattle.lp_model.specs.Program.{Point, value, IsFeasible}
-use Rattle.lp_model.specs.Answers.{IsValueAnswer}
 use Rattle.lp_model.specs.Lawful.{IsLawful}
-use Rattle.lp_model.specs.Rays.{IsRay, IsUnbounded}
 use Rattle.lp_model.specs.Regions.{InRegion}
 use Rattle.lp_model.specs.declared.types.Basis.{Basis}
-use Rattle.lp_model.proofs.SamePointsLemmas.{same_points}
-use Rattle.lp_model.proofs.UnboundedLemmas.{unbounded}
+use Rattle.model_points.specs.Answers.{IsValueAnswer}
+use Rattle.model_points.specs.Rays.{IsRay, IsUnbounded}
+use Rattle.model_points.proofs.SamePointsLemmas.{same_points}
+use Rattle.model_points.proofs.UnboundedLemmas.{unbounded}
 use Rattle.leaf_dual.specs.Dual.{Multipliers}
 use Rattle.branch_tree.specs.Numbered.{IsNumbered}
 use Rattle.branch_tree.specs.declared.node.Job.{Job}

@@ -2,15 +2,15 @@
 -- fall below each number.
 use Rattle.std.specs.Prelude.{◌≡◌, ℕ, ◌<◌, IsTrue, [], ◌∷◌, length, pos, Ok}
 use Rattle.std.proofs.Common.{sym, subst, ap, ◌∙◌, inl, inr}
-use Rattle.rational.specs.Rational.{ℚ, int, floor, ◌+ℚ◌, ◌*ℚ◌, ◌≤ℚ◌, ◌<ℚ◌}
-use Rattle.rational.proofs.RationalRing.{ring, reads_ℚ}
-use Rattle.rational.proofs.RationalOrder.{≤ℚ_trans, ≤ℚ_or_>ℚ, not_both_ℚ}
-use Rattle.rational.proofs.Rounding.{floor-≤ℚ}
+use Rattle.frac128.specs.Rational.{ℚ, int, floor, ◌+ℚ◌, ◌*ℚ◌, ◌≤ℚ◌, ◌<ℚ◌}
+use Rattle.frac128.specs.RationalRing.{ring, reads_ℚ}
+use Rattle.frac128.specs.RationalOrder.{≤ℚ_trans, ≤ℚ_or_>ℚ, not_both_ℚ}
+use Rattle.frac128.proofs.Rounding.{floor-≤ℚ}
 use Rattle.lp_model.specs.Program.{Point, coordinate, is_integer, least_value, IsFeasible}
 use Rattle.lp_model.specs.Formulations.{Formulation, IsValid}
-use Rattle.lp_model.specs.Rays.{IsRay, direction_cost}
 use Rattle.lp_model.specs.Regions.{Path, IsOnSide, InRegion}
-use Rattle.lp_model.proofs.UnboundedLemmas.{moved, coordinate-moved, feasible-moved, least-moved, far, far-positive, far-below}
+use Rattle.model_points.specs.Rays.{IsRay, direction_cost}
+use Rattle.model_points.proofs.UnboundedLemmas.{moved, coordinate-moved, feasible-moved, least-moved, far, far-positive, far-below}
 use Rattle.leaf_dual.specs.Dual.{Multipliers}
 use Rattle.leaf_dual.specs.Answers.{IsLagAnswer}
 use Rattle.leaf_dual.specs.declared.dual.LagValue.TheVariants.{Num}

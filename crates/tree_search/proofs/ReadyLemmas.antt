@@ -1,9 +1,9 @@
 -- After a result was placed the search can be worked on as before.
 use Rattle.std.specs.Prelude.{◌≡◌, ℕ, List}
 use Rattle.std.proofs.Common.{sym, subst, ap, ◌∙◌}
-use Rattle.lp_model.specs.Rays.{IsRay, without_costs}
 use Rattle.lp_model.specs.declared.types.Basis.{Basis}
 use Rattle.lp_model.specs.declared.types.Derivation.{Derivation}
+use Rattle.model_points.specs.Rays.{IsRay, without_costs}
 use Rattle.branch_tree.specs.declared.node.NodeResult.{NodeResult}
 use Rattle.branch_tree.specs.declared.node.NodeResult.TheVariants.{Close, Split as SplitAt, PointAndClose, Keep}
 use Rattle.sound_searches.specs.declared.taken.Taken.{Taken}

@@ -1,19 +1,19 @@
 -- What a leaf's relaxation without costs shows of the search's own model: lists, splits, Farkas numbers and points.
 use Rattle.std.specs.Prelude.{◌≡◌, ℕ, ◌<◌, List, [], ◌∷◌, length, pos, ℤ, Ok}
 use Rattle.std.proofs.Common.{sym, subst, ◌∙◌, inl, inr}
-use Rattle.rational.specs.Rational.{ℚ, int, neg_ℚ, ◌-ℚ◌, ◌*ℚ◌}
-use Rattle.checked_sum.specs.Sums.{sum_below}
+use Rattle.frac128.specs.Rational.{ℚ, int, neg_ℚ, ◌-ℚ◌, ◌*ℚ◌}
+use Rattle.frac128.specs.Sums.{sum_below}
 use Rattle.checked_sum.specs.Steps.{AllFit, StepFitsAt}
 use Rattle.lp_model.specs.Program.{Program, Point, coordinate, value, low_side, high_side, Within}
-use Rattle.lp_model.specs.Answers.{RowPasses, IsValueAnswer}
 use Rattle.lp_model.specs.Formulations.{formulation, cut_coefficient}
 use Rattle.lp_model.specs.declared.types.CutRow.{CutRow}
-use Rattle.lp_model.specs.Rays.{without_costs}
 use Rattle.lp_model.specs.Regions.{Path}
 use Rattle.lp_model.specs.declared.types.Basis.{Basis}
 use Rattle.lp_model.specs.declared.types.Var.{Var}
 use Rattle.lp_model.specs.declared.types.Var.TheVariants.{Col, Row, Cut}
-use Rattle.lp_model.proofs.SamePointsLemmas.{same_points}
+use Rattle.model_points.specs.Answers.{RowPasses, IsValueAnswer}
+use Rattle.model_points.specs.Rays.{without_costs}
+use Rattle.model_points.proofs.SamePointsLemmas.{same_points}
 use Rattle.leaf_dual.specs.Dual.{Multipliers, multiplier, cut_weight, left_by_rows, left_by_cuts, column_reduced_cost, column_side, needed_side, times, plus, total_below, rows_number, cuts_number, dual_number}
 use Rattle.leaf_dual.specs.Answers.{side_number, RowEntriesFit, CutEntriesFit, EntriesFit, ColumnTermFits, ColumnFits, LacksSide, IsDualAnswer, cuts_total}
 use Rattle.leaf_dual.specs.declared.dual.LagValue.TheVariants.{Minus, Num}

@@ -9,7 +9,7 @@ use Rattle.lp_model.specs.Regions.{Path}
 use Rattle.lp_model.specs.WideSteps.{TablePlace, Pivot, Point as PointPlace, Cost, RatioCost, Ratio, table_place}
 use Rattle.lp_model.specs.declared.types.Basis.{Basis}
 use Rattle.lp_model.specs.declared.types.WideStep.{WideStep}
-use Rattle.bases.specs.declared.stand.Stand.{Stand}
+use Rattle.table_entries.specs.declared.stand.Stand.{Stand}
 use Rattle.row_tableau.specs.declared.relax.Relax.{Relax}
 use Rattle.row_tableau.specs.Answers.{IsPivotPlace}
 use Rattle.basic_solution.specs.Held.{Held, IsLawfulHeld}

@@ -2,12 +2,12 @@
 use Rattle.std.specs.Prelude.{◌≡◌, List, [], take, Option, Some, None, Result, Ok, Err, IfOk, OnErr}
 use Rattle.std.proofs.Common.{refl, sym, ap, subst, ◌∙◌, inl, inr}
 use Rattle.lp_model.specs.Program.{Point}
-use Rattle.lp_model.specs.Answers.{IsValueAnswer}
 use Rattle.lp_model.specs.declared.types.Basis.{Basis}
 use Rattle.lp_model.specs.declared.answers.PivotPlace.{PivotPlace}
 use Rattle.lp_model.specs.declared.answers.WideAt.{WideAt}
 use Rattle.lp_model.specs.declared.answers.StopWhy.TheVariants as why
 use Rattle.lp_model.specs.declared.types.Derivation.{Derivation}
+use Rattle.model_points.specs.Answers.{IsValueAnswer}
 use Rattle.leaf_dual.specs.Dual.{Multipliers}
 use Rattle.branch_tree.specs.declared.node.Job.{Job}
 use Rattle.branch_tree.specs.declared.node.NodeResult.{NodeResult}

@@ -1,7 +1,7 @@
 -- The bound of a search with an open leaf: the least number of an open leaf, rounded up where the objective is whole.
 use Rattle.std.specs.Prelude.{◌≡◌, ◌⊎◌, ℕ, Option, Some, None, Result, Ok, Err}
 use Rattle.std.specs.Option.{option_map}
-use Rattle.rational.specs.Rational.{ℚ, int, ceil, ◌≤ℚ◌}
+use Rattle.frac128.specs.Rational.{ℚ, int, ceil, ◌≤ℚ◌}
 use Rattle.lp_model.specs.Program.{Program, Point, IsFeasible, HasWholeObjective, least_value, in_least_form}
 use Rattle.leaf_dual.specs.declared.dual.LagValue.TheVariants.{Minus, Num}
 use Rattle.lp_model.specs.Regions.{Path}

@@ -1,7 +1,6 @@
 -- Why a search stops, as seen from its start, and what is enough for it to go to the end.
 use Rattle.std.specs.Prelude.{◌≡◌, ◌⊎◌, ℕ, ◌-◌, ◌<◌, ◌≤◌, List, length, Some, Err}
 use Rattle.lp_model.specs.Program.{Program, Point}
-use Rattle.lp_model.specs.Answers.{IsValueAnswer}
 use Rattle.lp_model.specs.Regions.{Path}
 use Rattle.lp_model.specs.declared.types.Basis.{Basis}
 use Rattle.lp_model.specs.declared.types.WideStep.{WideStep}
@@ -19,6 +18,7 @@ use Rattle.node_solve.specs.Works.{IsRunWide}
 use Rattle.tree_search.specs.Steps.{worked_model}
 use Rattle.lp_model.specs.Formulations.{Formulation}
 use Rattle.lp_model.specs.declared.types.CutRow.{CutRow}
+use Rattle.model_points.specs.Answers.{IsValueAnswer}
 use Rattle.node_solve.specs.Places.{with_cut_variables}
 use Rattle.kept_cuts.specs.Kept.{derivations_of}
 use Rattle.tree_search.specs.Room.{IsSelection, IsWorkedRegion, HasMoves, HasRoomAt, HasRoomForValues}

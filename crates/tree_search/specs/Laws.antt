@@ -1,10 +1,10 @@
 -- What the bound of a search that stopped says of its model, and why a leaf stays open beside a ray.
 use Rattle.std.specs.Prelude.{Some, Ok}
-use Rattle.rational.specs.Rational.{ℚ, ◌≤ℚ◌}
+use Rattle.frac128.specs.Rational.{ℚ, ◌≤ℚ◌}
 use Rattle.lp_model.specs.Program.{Point, IsFeasible, least_value, in_least_form}
 use Rattle.lp_model.specs.Formulations.{Formulation, IsValid}
-use Rattle.lp_model.specs.Rays.{IsRay}
 use Rattle.lp_model.specs.Regions.{Path, InRegion}
+use Rattle.model_points.specs.Rays.{IsRay}
 use Rattle.leaf_dual.specs.Dual.{Multipliers}
 use Rattle.leaf_dual.specs.Answers.{IsLagAnswer}
 use Rattle.leaf_dual.specs.declared.dual.LagValue.TheVariants.{Num}

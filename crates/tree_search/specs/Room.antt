@@ -6,15 +6,15 @@
 use Rattle.std.specs.Prelude.{◌≡◌, ◌⊎◌, ℕ, ◌+◌, ◌<◌, ◌≤◌, List, [], ◌∷◌, length, get_or, Err}
 use Rattle.std.specs.Option.{IsSomeAnd}
 use Rattle.lp_model.specs.Program.{Program, Point}
-use Rattle.lp_model.specs.Answers.{IsFeasibilityAnswer, IsValueAnswer}
 use Rattle.lp_model.specs.Formulations.{Formulation}
 use Rattle.lp_model.specs.declared.types.CutRow.{CutRow}
 use Rattle.lp_model.specs.Regions.{Path, AreNarrow, IsEmptyRegion}
 use Rattle.lp_model.specs.WideSteps.{TablePlace, Pivot, Point as PointPlace, Cost, RatioCost, Ratio, table_place}
 use Rattle.lp_model.specs.declared.types.WideStep.{WideStep}
-use Rattle.bases.specs.declared.stand.Stand.{Stand}
-use Rattle.bases.specs.Relaxation.{multipliers}
-use Rattle.bases.specs.States.{Standing, farkas_weights}
+use Rattle.model_points.specs.Answers.{IsFeasibilityAnswer, IsValueAnswer}
+use Rattle.table_entries.specs.declared.stand.Stand.{Stand}
+use Rattle.table_entries.specs.Relaxation.{multipliers}
+use Rattle.table_entries.specs.States.{Standing, farkas_weights}
 use Rattle.row_tableau.specs.declared.relax.Relax.{Relax}
 use Rattle.row_tableau.specs.Variables.{variable_number}
 use Rattle.row_tableau.specs.Answers.{IsPivotNamed}

@@ -1,15 +1,15 @@
 -- What a search on a model comes to: its end, or where it stopped; and what that shows.
 use Rattle.std.specs.Prelude.{◌≡◌, ◌⊎◌, ℕ, ◌+◌, ◌<◌, ◌≤◌, [], Option, Some, None}
 use Rattle.std.specs.Option.{option_map}
-use Rattle.rational.specs.Rational.{ℚ}
+use Rattle.frac128.specs.Rational.{ℚ}
 use Rattle.lp_model.specs.Program.{Program, Point, IsFeasible, IsOptimum, IsEmpty, value, in_least_form}
-use Rattle.lp_model.specs.Rays.{IsUnbounded}
 use Rattle.lp_model.specs.Regions.{Path, InRegion}
 use Rattle.lp_model.specs.declared.types.Basis.{Basis}
 use Rattle.lp_model.specs.declared.answers.StopWhy.{StopWhy}
 use Rattle.lp_model.specs.declared.answers.StopWhy.TheVariants as why
 use Rattle.lp_model.specs.declared.answers.Answer.{Answer}
 use Rattle.lp_model.specs.declared.answers.Answer.TheVariants as answer
+use Rattle.model_points.specs.Rays.{IsUnbounded}
 use Rattle.search_parts.specs.Points.{target, IsIncumbent}
 use Rattle.sound_searches.specs.Calls.{IsOpenLeaf}
 use Rattle.sound_searches.specs.Laws.{HasNoOpenLeaf, IsNoBetter}

@@ -6,9 +6,7 @@
 --     PointAtNext, StopsAtNext                     the leaf that goes first has a point beside a ray; no result is placed there
 use Rattle.std.specs.Prelude.{◌≡◌, ◌⊎◌, ℕ, zero, suc, ◌+◌, ◌≤◌, ℤ, List, [], Option, Some, None, Err}
 use Rattle.lp_model.specs.Program.{Program, Point}
-use Rattle.lp_model.specs.Answers.{IsValueAnswer}
 use Rattle.lp_model.specs.Regions.{Path}
-use Rattle.lp_model.specs.Rays.{IsRay, without_costs}
 use Rattle.lp_model.specs.declared.types.Basis.{Basis}
 use Rattle.lp_model.specs.declared.types.ColId.{ColId}
 use Rattle.lp_model.specs.declared.answers.PivotPlace.{PivotPlace}
@@ -32,6 +30,8 @@ use Rattle.dual_simplex.specs.SlackBases.{IsRootBasis}
 use Rattle.node_solve.specs.Rounds.{Work, IsWorked}
 use Rattle.node_solve.specs.Places.{live_cuts, live_places, basis_in_relaxation, basis_in_pool}
 use Rattle.lp_model.specs.declared.types.Derivation.{Derivation}
+use Rattle.model_points.specs.Answers.{IsValueAnswer}
+use Rattle.model_points.specs.Rays.{IsRay, without_costs}
 use Rattle.std.specs.declared.alloc.Global.{Global}
 use Rattle.std.specs.declared.vec.Vec.{Vec}
 use Rattle.kept_cuts.specs.Kept.{derivations_of}

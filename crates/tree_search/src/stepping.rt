@@ -1,7 +1,6 @@
 // One step of a search: the leaf that goes first is worked, and what comes of it is placed.
 ghost use Rattle.std.specs.Prelude.{◌≡◌, ◌<◌, ◌≤◌, ◌+◌, [], length, IfOk, OnOk, OnErr, Some, None, Ok, Err};
 ghost use Rattle.lp_model.specs.Program.{value};
-ghost use Rattle.lp_model.specs.Answers.{IsValueAnswer};
 ghost use Rattle.lp_model.specs.Lawful.{IsLawful};
 ghost use Rattle.branch_tree.specs.Numbered.{IsNumbered};
 ghost use Rattle.branch_tree.specs.declared.node.NodeResult.TheVariants.{PointAndClose};
@@ -14,6 +13,7 @@ ghost use Rattle.sound_searches.specs.Pool.{AddsCut, AddsCuts, AddsSome, AddsAny
 ghost use Rattle.node_solve.specs.Places.{live_cuts, live_places, basis_in_relaxation};
 ghost use Rattle.node_solve.specs.declared.working.Worked.TheVariants.{Done, Pivots, Wide};
 ghost use Rattle.lp_model.specs.declared.answers.StopWhy.TheVariants as why;
+ghost use Rattle.model_points.specs.Answers.{IsValueAnswer};
 ghost use Rattle.tree_search.specs.declared.stepping.Stepped.TheVariants.{Stopped};
 ghost use Rattle.tree_search.specs.Steps.{FoundCuts, kept_basis, IsNextJob, KeepsOpen, IsPlacedBy, IsRayWay};
 ghost use Rattle.tree_search.specs.Stepping.{IsReady, Steps, WorksBy, worked_with};
@@ -25,6 +25,7 @@ use kept_cuts::{copy_derivation, derivations};
 use lp_model::{
     Basis, CutRow, Derivation, List, Mult, PivotPlace, Point, Region, StopWhy, WideAt, WideStep,
 };
+use model_points::value;
 use node_solve::{LiveCuts, Worked, basis_in_pool, basis_in_relaxation, work};
 use std::alloc::{AllocError, Global};
 use tree_edit::{Search, Taken};
@@ -413,7 +414,7 @@ fn keep_point(
     ensures kept { OnErr result (search.new ≡ search.old) }
 {
     known(search);
-    match search.model().value(1, &point) {
+    match value(search.model(), 1, &point) {
         Err(step) => stop_by_value(alloc, search, limits, job, point, mult, basis, step),
         Ok(_) => {
             let stepped = keep_found(search, limits, &job, point, mult, basis);

@@ -1,18 +1,18 @@
 -- The constants, the rows and the columns that are read behind the names of the objectives make a model.
 use Rattle.std.specs.Prelude.{◌≡◌, ◌≢◌, ℕ, List, [], ◌∷◌, length, codes, false, Result, Ok, Err}
 use Rattle.std.proofs.Common.{refl, sym, subst, ap, ◌∙◌}
-use Rattle.rational.specs.Rational.{ℚ}
+use Rattle.frac128.specs.Rational.{ℚ}
 use Rattle.lp_model.specs.Program.{Program}
 use Rattle.lp_model.specs.Lawful.{IsLawful}
 use Rattle.lp_model.specs.declared.types.Sense.{Sense}
 use Rattle.lp_model.specs.declared.types.Row.{Row}
 use Rattle.lp_model.specs.declared.types.Col.{Col}
 use Rattle.serde_json.specs.Data.{Data}
-use Rattle.warm_values.specs.Faults.{Fault, behind, SaysFault}
-use Rattle.warm_values.specs.Values.{member}
-use Rattle.warm_values.specs.Numbers.{number_of}
-use Rattle.warm_values.specs.declared.fault.WarmFault.{WarmFault}
-use Rattle.warm_values.proofs.Inversions.{next-ok}
+use Rattle.warm_file.specs.Faults.{Fault, behind, SaysFault}
+use Rattle.warm_file.specs.Values.{member}
+use Rattle.warm_file.specs.Numbers.{number_of}
+use Rattle.warm_file.specs.declared.fault.WarmFault.{WarmFault}
+use Rattle.warm_file.proofs.Inversions.{next-ok}
 use Rattle.warm_file.specs.Models.{rows_of, cols_of, lists_of, program_of}
 use Rattle.warm_file.specs.Joined.{both_of, rows_and_cols_of}
 use Rattle.warm_file.proofs.JoinLemmas.{three-ok, three-bad}

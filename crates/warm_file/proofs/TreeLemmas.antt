@@ -1,18 +1,18 @@
 -- The points and the nodes are read first, and make a search with the model and the cuts.
 use Rattle.std.specs.Prelude.{◌≡◌, Bool, true, false, if◌then◌else◌, List, codes, Result, Ok, Err}
 use Rattle.std.proofs.Common.{refl, sym, subst, length}
-use Rattle.rational.specs.Rational.{ℚ}
+use Rattle.frac128.specs.Rational.{ℚ}
 use Rattle.lp_model.specs.Program.{Program}
 use Rattle.lp_model.specs.declared.types.Derivation.{Derivation}
 use Rattle.branch_tree.specs.declared.node.NodeData.{NodeData}
 use Rattle.search_data.specs.Trees.{is_one_tree}
 use Rattle.search_data.specs.declared.data.SearchData.{SearchData}
 use Rattle.serde_json.specs.Data.{Data}
-use Rattle.warm_values.specs.Faults.{Fault, fault, behind, at_key, SaysFault}
-use Rattle.warm_values.specs.Values.{member}
-use Rattle.warm_values.specs.declared.fault.WarmFault.{WarmFault}
-use Rattle.warm_values.specs.declared.rising.Counts.{Counts}
-use Rattle.warm_values.proofs.Saying.{says-first, says-next}
+use Rattle.warm_file.specs.Faults.{Fault, fault, behind, at_key, SaysFault}
+use Rattle.warm_file.specs.Values.{member}
+use Rattle.warm_file.specs.declared.fault.WarmFault.{WarmFault}
+use Rattle.warm_file.specs.declared.rising.Counts.{Counts}
+use Rattle.warm_file.proofs.Saying.{says-first, says-next}
 use Rattle.warm_file.specs.Searches.{points_of, nodes_of, counts, whole_search, one_tree_of, tree_of}
 
 abbrev Parts : Type 0

@@ -6,8 +6,8 @@ use Rattle.lp_model.specs.declared.types.Row.{Row}
 use Rattle.lp_model.specs.declared.types.Col.{Col}
 use Rattle.search_data.specs.declared.data.SearchData.{SearchData}
 use Rattle.serde_json.specs.Data.{Data}
-use Rattle.warm_values.specs.Faults.{Fault, behind}
-use Rattle.warm_values.specs.Values.{member}
+use Rattle.warm_file.specs.Faults.{Fault, behind}
+use Rattle.warm_file.specs.Values.{member}
 use Rattle.warm_file.specs.Models.{name_of, rows_of, cols_of, program_of}
 use Rattle.warm_file.specs.Searches.{cuts_of, tree_of}
 

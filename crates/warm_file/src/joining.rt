@@ -1,13 +1,14 @@
 // Parts that are read one behind the other.
 ghost use Rattle.std.specs.Prelude.{Result as Said};
 ghost use Rattle.serde_json.specs.View.{view};
-ghost use Rattle.warm_values.specs.Faults.{Fault, SaysFault};
-ghost use Rattle.warm_values.specs.Values.{member};
+ghost use Rattle.warm_file.specs.Faults.{Fault, SaysFault};
+ghost use Rattle.warm_file.specs.Values.{member};
 ghost use Rattle.warm_file.specs.Joined.{both_of};
 
+use crate::fault::WarmFault;
+use crate::parts::{Part, member};
 use serde_json::Value;
 use std::alloc::Global;
-use warm_values::{Part, WarmFault, member};
 
 /// What two parts state, the second read behind the first: both values, or the first fault.
 pub(crate) fn both<A: Drop, B: Drop>(

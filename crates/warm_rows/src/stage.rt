@@ -3,8 +3,7 @@ use anyhow::{Result, bail, ensure};
 use lp_model::Name;
 use row_texts::{Stage, bytes_of, compare, lines_of};
 use std::alloc::{AllocError, Global};
-use warm_file::read;
-use warm_values::WarmFault;
+use warm_file::{WarmFault, read};
 use warm_writer::write;
 
 /// The bytes of a warm file, and how what was got of them differs from what the row wants.

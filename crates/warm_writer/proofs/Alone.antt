@@ -4,9 +4,9 @@ use Rattle.std.proofs.Common.{refl, sym, subst, ◌∙◌, append_assoc, append-
 use Rattle.serde_json.specs.Data.{Data}
 use Rattle.serde_json.specs.Find.{get}
 use Rattle.serde_json.specs.View.{items_of}
-use Rattle.warm_values.specs.Faults.{Fault, or_fault, behind, at_key, at_item}
-use Rattle.warm_values.specs.Values.{member, each, list_of, at_most_items}
-use Rattle.warm_values.proofs.Inversions.{next-ok, key-ok, there-ok}
+use Rattle.warm_file.specs.Faults.{Fault, or_fault, behind, at_key, at_item}
+use Rattle.warm_file.specs.Values.{member, each, list_of, at_most_items}
+use Rattle.warm_file.proofs.Inversions.{next-ok, key-ok, there-ok}
 use Rattle.warm_writer.specs.Written.{list_json}
 
 -- where it is stated without fault, it is x

@@ -5,11 +5,11 @@ use Rattle.lp_model.specs.declared.types.Side.{Side}
 use Rattle.lp_model.specs.declared.types.Side.TheVariants.{Lo, Hi}
 use Rattle.lp_model.specs.declared.types.Literal.{Literal}
 use Rattle.lp_model.specs.declared.types.Derivation.{Derivation}
-use Rattle.warm_values.specs.Faults.{behind, or_fault}
-use Rattle.warm_values.specs.Values.{list_of, place_below}
-use Rattle.warm_values.specs.Rising.{is_past, literal_of}
+use Rattle.warm_file.specs.Faults.{behind, or_fault}
+use Rattle.warm_file.specs.Values.{list_of, place_below}
+use Rattle.warm_file.specs.Rising.{is_past, literal_of}
 use Rattle.warm_file.specs.Searches.{row_side_of, cut_of}
-use Rattle.warm_values.proofs.Saying.{ok-next, ok-then, under-ok}
+use Rattle.warm_file.proofs.Saying.{ok-next, ok-then, under-ok}
 use Rattle.warm_writer.specs.Written.{place_json, list_json, row_side_word, literal_json, cut_json}
 use Rattle.warm_writer.specs.Writable.{IsWritableCut}
 use Rattle.warm_writer.proofs.PointBack.{place-back}

@@ -4,8 +4,8 @@ use Rattle.std.specs.Prelude.{◌≡◌, ◌≢◌, ℕ, suc, ◌+◌, ◌≤◌
 use Rattle.std.proofs.Common.{refl, sym, ap, ap₂, subst, ◌∙◌, append_assoc, arith}
 use Rattle.std.proofs.lemmas.List.{map-append, length_push}
 use Rattle.std.proofs.lemmas.List.Sums.{sum_by-append, sum_by_push}
-use Rattle.rational.specs.Rational.{ℚ, int}
-use Rattle.rational.proofs.Comparison.{eq_by_cmp-decides}
+use Rattle.frac128.specs.Rational.{ℚ, int}
+use Rattle.frac128.proofs.Comparison.{eq_by_cmp-decides}
 use Rattle.frac128.specs.Range.{Fits}
 use Rattle.lp_model.specs.Edits.{is_zero}
 use Rattle.lp_model.specs.Program.{Program}
@@ -16,13 +16,13 @@ use Rattle.lp_model.specs.declared.types.RowId.{RowId}
 use Rattle.lp_model.specs.declared.types.Row.{Row}
 use Rattle.lp_model.specs.declared.types.Col.{Col}
 use Rattle.serde_json.specs.Data.{boolean}
-use Rattle.warm_values.specs.Faults.{or_fault, behind}
-use Rattle.warm_values.specs.Values.{truth_of, at_most_items}
-use Rattle.warm_values.specs.Numbers.{number_of, is_far, bound_of}
-use Rattle.warm_values.specs.Rising.{row_id, is_past, row_entry_of}
+use Rattle.warm_file.specs.Faults.{or_fault, behind}
+use Rattle.warm_file.specs.Values.{truth_of, at_most_items}
+use Rattle.warm_file.specs.Numbers.{number_of, is_far, bound_of}
+use Rattle.warm_file.specs.Rising.{row_id, is_past, row_entry_of}
 use Rattle.warm_file.specs.Models.{is_lawful_name, is_among, name_of, row_of, entries_in, room_behind, entries_of, is_bounded, costed_of, bounded_of, col_of, sense_of, rows_of, cols_of, lists_of, program_of, model_of}
 use Rattle.warm_file.proofs.RangeLemmas.{are_sides-decides}
-use Rattle.warm_values.proofs.Saying.{ok-next, ok-then, ok-else}
+use Rattle.warm_file.proofs.Saying.{ok-next, ok-then, ok-else}
 use Rattle.warm_writer.specs.Written.{number_json, name_json, side_json, list_json, row_json, row_entry_json, col_json, sense_json, model_json}
 use Rattle.lp_model.specs.Fitting.{SidesFit, ColumnNumbersFit, ModelFits}
 use Rattle.warm_writer.specs.Writable.{IsWritableModel}

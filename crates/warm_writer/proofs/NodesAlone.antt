@@ -3,7 +3,7 @@ use Rattle.std.specs.Prelude.{◌≡◌, ℕ, if◌then◌else◌, nat_lt, List,
 use Rattle.std.specs.Fmt.{signed_decimal}
 use Rattle.std.specs.Ordering.{int_eq}
 use Rattle.std.proofs.Common.{refl, sym, ap, ◌∙◌, arith}
-use Rattle.rational.specs.Rational.{ℚ, int}
+use Rattle.frac128.specs.Rational.{ℚ, int}
 use Rattle.frac128.specs.Range.{IsNarrow, Fits, largest}
 use Rattle.frac128.proofs.Printed.{printed-int}
 use Rattle.lp_model.specs.Edits.{is_zero}
@@ -17,11 +17,11 @@ use Rattle.branch_tree.specs.declared.node.NodeData.{NodeData}
 use Rattle.branch_tree.specs.declared.node.NodeData.TheVariants.{Split, Leaf}
 use Rattle.serde_json.specs.Data.{Data, string}
 use Rattle.serde_json.specs.Find.{get}
-use Rattle.warm_values.specs.Faults.{fault, or_fault, behind, at_key}
-use Rattle.warm_values.specs.Values.{place_below, list_of}
-use Rattle.warm_values.specs.Numbers.{number_of, nonzero_of, whole_of}
-use Rattle.warm_values.specs.Rising.{kind_of, dual_kind_of, variable_of, multiplier_of, literal_of}
-use Rattle.warm_values.specs.declared.rising.Counts.{Counts}
+use Rattle.warm_file.specs.Faults.{fault, or_fault, behind, at_key}
+use Rattle.warm_file.specs.Values.{place_below, list_of}
+use Rattle.warm_file.specs.Numbers.{number_of, nonzero_of, whole_of}
+use Rattle.warm_file.specs.Rising.{kind_of, dual_kind_of, variable_of, multiplier_of, literal_of}
+use Rattle.warm_file.specs.declared.rising.Counts.{Counts}
 use Rattle.warm_file.specs.Searches.{row_side_of, cut_of, variables_of, multipliers_of, basis_of, branching_of, split_of, state_of, leaf_of, node_of}
 use Rattle.warm_writer.specs.Written.{number_json, place_json, list_json, two_json, variable_json, multiplier_json, state_word, row_side_word, literal_json, cut_json, split_json, leaf_json, node_json}
 use Rattle.warm_writer.specs.Writable.{HasNarrowSplit, NodeFits}

@@ -4,7 +4,7 @@ use Rattle.std.specs.Fmt.{signed_decimal}
 use Rattle.std.specs.Ordering.{int_eq}
 use Rattle.std.proofs.Common.{refl, sym, ap, ◌∙◌, arith}
 use Rattle.std.proofs.lemmas.Bool.Decides.{Decides-int_eq}
-use Rattle.rational.specs.Rational.{ℚ, int}
+use Rattle.frac128.specs.Rational.{ℚ, int}
 use Rattle.frac128.specs.Range.{IsNarrow, Fits, largest}
 use Rattle.frac128.proofs.Printed.{printed-int}
 use Rattle.lp_model.specs.declared.types.ColId.{ColId}
@@ -17,12 +17,12 @@ use Rattle.branch_tree.specs.declared.node.NodeData.{NodeData}
 use Rattle.branch_tree.specs.declared.node.NodeData.TheVariants.{Split, Leaf}
 use Rattle.serde_json.specs.Data.{Data, string}
 use Rattle.serde_json.specs.Find.{get}
-use Rattle.warm_values.specs.Faults.{or_fault, behind, at_key}
-use Rattle.warm_values.specs.Numbers.{number_of, whole_of}
-use Rattle.warm_values.specs.Rising.{is_past, variable_rank, kind_of, dual_kind_of, variable_of, multiplier_of}
-use Rattle.warm_values.specs.declared.rising.Counts.{Counts}
+use Rattle.warm_file.specs.Faults.{or_fault, behind, at_key}
+use Rattle.warm_file.specs.Numbers.{number_of, whole_of}
+use Rattle.warm_file.specs.Rising.{is_past, variable_rank, kind_of, dual_kind_of, variable_of, multiplier_of}
+use Rattle.warm_file.specs.declared.rising.Counts.{Counts}
 use Rattle.warm_file.specs.Searches.{variables_of, multipliers_of, basis_of, branching_of, split_of, state_of, leaf_of, node_of}
-use Rattle.warm_values.proofs.Saying.{ok-next, ok-then, ok-else, under-ok}
+use Rattle.warm_file.proofs.Saying.{ok-next, ok-then, ok-else, under-ok}
 use Rattle.warm_writer.specs.Written.{place_json, list_json, two_json, variable_json, multiplier_json, state_word, split_json, leaf_json, node_json}
 use Rattle.warm_writer.specs.Writable.{IsVariableThere, IsActivity, AreWritableVariables, IsWritableMultiplier, AreWritableMultipliers, IsWritableBasis, IsWritableNode, NodeFits}
 use Rattle.warm_writer.proofs.PartsBack.{number-back, nonzero-back}

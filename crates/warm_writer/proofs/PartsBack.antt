@@ -2,7 +2,7 @@
 use Rattle.std.specs.Option.{ForSome}
 use Rattle.std.specs.Prelude.{◌≡◌, ℕ, true, false, not, ◌&&◌, if◌then◌else◌, List, [], ◌∷◌, ◌++◌, map, length, codes, Option, Some, None, Result, Ok}
 use Rattle.std.proofs.Common.{refl, sym, ap, ◌∙◌, append_assoc, append-nil}
-use Rattle.rational.specs.Rational.{ℚ}
+use Rattle.frac128.specs.Rational.{ℚ}
 use Rattle.frac128.specs.Range.{Fits}
 use Rattle.frac_text.specs.Parsing.{parsed}
 use Rattle.frac_text.proofs.PrintedReads.{reading_of-printed}
@@ -11,9 +11,9 @@ use Rattle.lp_model.specs.declared.types.Row.{Row}
 use Rattle.serde_json.specs.Data.{Data}
 use Rattle.serde_json.specs.View.{items_of}
 use Rattle.warm_writer.proofs.NameLemmas.{name-is-text}
-use Rattle.warm_values.specs.Faults.{Fault, fault, or_fault, behind, at_key, at_item}
-use Rattle.warm_values.specs.Values.{each, list_of}
-use Rattle.warm_values.specs.Numbers.{numbered, number_of, nonzero_of, side_of}
+use Rattle.warm_file.specs.Faults.{Fault, fault, or_fault, behind, at_key, at_item}
+use Rattle.warm_file.specs.Values.{each, list_of}
+use Rattle.warm_file.specs.Numbers.{numbered, number_of, nonzero_of, side_of}
 use Rattle.warm_file.specs.Ranges.{are_sides}
 use Rattle.warm_file.specs.Models.{is_lawful_name, is_among, name_of, row_of}
 use Rattle.warm_writer.specs.Written.{number_json, name_json, side_json, list_json, row_json}

@@ -2,18 +2,18 @@
 use Rattle.std.specs.Prelude.{◌≡◌, ℕ, zero, suc, ◌+◌, ◌<◌, ◌≤◌, Bool, true, false, if◌then◌else◌, nat_lt, nat_eq, List, [], ◌∷◌, ◌++◌, length, map, pos, All, Ok}
 use Rattle.std.proofs.Common.{refl, sym, ap, ◌∙◌, arith}
 use Rattle.std.proofs.lemmas.Bool.Decides.{nat_tests}
-use Rattle.rational.specs.Rational.{ℚ, int}
-use Rattle.rational.proofs.Comparison.{eq_by_cmp-decides}
+use Rattle.frac128.specs.Rational.{ℚ, int}
+use Rattle.frac128.proofs.Comparison.{eq_by_cmp-decides}
 use Rattle.frac128.specs.Range.{Fits}
 use Rattle.lp_model.specs.Edits.{is_zero}
 use Rattle.lp_model.specs.declared.types.ColId.{ColId}
 use Rattle.serde_json.specs.Data.{Data, array}
 use Rattle.serde_json.specs.View.{items_of}
-use Rattle.warm_values.specs.Faults.{fault, or_fault, behind}
-use Rattle.warm_values.specs.Values.{list_of, place_below}
-use Rattle.warm_values.specs.Rising.{col_id, entry_behind, is_past, number_beside_place, col_entry_of}
+use Rattle.warm_file.specs.Faults.{fault, or_fault, behind}
+use Rattle.warm_file.specs.Values.{list_of, place_below}
+use Rattle.warm_file.specs.Rising.{col_id, entry_behind, is_past, number_beside_place, col_entry_of}
 use Rattle.warm_file.specs.Searches.{dense_numbers_from, point_of}
-use Rattle.warm_values.proofs.Saying.{ok-next, ok-then, under-ok}
+use Rattle.warm_file.proofs.Saying.{ok-next, ok-then, under-ok}
 use Rattle.warm_writer.specs.Written.{number_json, place_json, two_json, list_json, nonzero_from, entry_json, point_json}
 use Rattle.warm_writer.proofs.PartsBack.{nonzero-back, AreRead, read-here, read-none, list-back}
 use Rattle.warm_writer.proofs.Splits.{past-push}

@@ -3,7 +3,7 @@ use Rattle.std.specs.Option.{ForSome}
 use Rattle.std.specs.Prelude.{◌≡◌, ℕ, Bool, true, false, not, ◌&&◌, if◌then◌else◌, List, [], ◌∷◌, length, get_or, map, pos, codes, All, Option, Ok}
 use Rattle.std.specs.Str.{is_utf8}
 use Rattle.std.proofs.Common.{refl, sym, ap, ap₂, ◌∙◌, arith}
-use Rattle.rational.specs.Rational.{ℚ, int}
+use Rattle.frac128.specs.Rational.{ℚ, int}
 use Rattle.frac128.specs.Range.{Fits}
 use Rattle.lp_model.specs.Program.{Program}
 use Rattle.lp_model.specs.Fitting.{SidesFit, ColumnNumbersFit, ModelFits}
@@ -15,10 +15,10 @@ use Rattle.search_data.specs.declared.data.SearchData.{SearchData}
 use Rattle.search_data.specs.Trees.{is_one_tree}
 use Rattle.lp_model.specs.declared.types.Derivation.{Derivation}
 use Rattle.serde_json.specs.Data.{boolean, null, string}
-use Rattle.warm_values.specs.Faults.{or_fault, behind, at_key}
-use Rattle.warm_values.specs.Values.{truth_of, at_most_items}
-use Rattle.warm_values.specs.Numbers.{number_of, is_far, side_of, near_of, bound_of}
-use Rattle.warm_values.specs.Rising.{row_entry_of}
+use Rattle.warm_file.specs.Faults.{or_fault, behind, at_key}
+use Rattle.warm_file.specs.Values.{truth_of, at_most_items}
+use Rattle.warm_file.specs.Numbers.{number_of, is_far, side_of, near_of, bound_of}
+use Rattle.warm_file.specs.Rising.{row_entry_of}
 use Rattle.warm_file.specs.Ranges.{are_sides}
 use Rattle.warm_file.specs.Models.{is_lawful_name, is_among, name_of, row_of, room_behind, entries_of, is_bounded, costed_of, bounded_of, col_of, sense_of, rows_of, cols_of, lists_of, program_of, model_of}
 use Rattle.warm_file.specs.Searches.{version_of, cut_of, point_of, node_of, cuts_of, points_of, nodes_of, counts, whole_search, tree_of, search_of}

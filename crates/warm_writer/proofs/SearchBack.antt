@@ -1,15 +1,15 @@
 -- What is written of a search is read back.
 use Rattle.std.specs.Prelude.{◌≡◌, List, length, codes, All, Ok}
 use Rattle.std.proofs.Common.{refl, sym, ap, ◌∙◌, arith}
-use Rattle.rational.specs.Rational.{ℚ}
+use Rattle.frac128.specs.Rational.{ℚ}
 use Rattle.frac128.specs.Range.{Fits}
 use Rattle.search_data.specs.declared.data.SearchData.{SearchData}
 use Rattle.search_data.proofs.TreeLaws.{one_tree-decides}
-use Rattle.warm_values.specs.Faults.{or_fault, behind}
-use Rattle.warm_values.specs.Values.{at_most_items}
+use Rattle.warm_file.specs.Faults.{or_fault, behind}
+use Rattle.warm_file.specs.Values.{at_most_items}
 use Rattle.warm_file.specs.Models.{model_of}
 use Rattle.warm_file.specs.Searches.{version_of, cut_of, point_of, node_of, cuts_of, points_of, nodes_of, counts, tree_of, search_of}
-use Rattle.warm_values.proofs.Saying.{ok-next, ok-then}
+use Rattle.warm_file.proofs.Saying.{ok-next, ok-then}
 use Rattle.warm_writer.specs.Written.{place_json, list_json, model_json, cut_json, point_json, node_json, search_json}
 use Rattle.warm_writer.specs.Writable.{IsWritableCut, IsWritableNode, NodeFits, IsWritable, SearchFits}
 use Rattle.warm_writer.proofs.CutBack.{cut-back}

@@ -6,10 +6,10 @@ use Rattle.std.proofs.lemmas.List.{length-append, get_or_append_left}
 use Rattle.std.proofs.Math.Seq.{get_or-append_seam}
 use Rattle.serde_json.specs.Data.{Data}
 use Rattle.serde_json.specs.Find.{get}
-use Rattle.warm_values.specs.Faults.{Fault, at_key}
-use Rattle.warm_values.specs.Values.{list_of, member, at_most_items}
-use Rattle.warm_values.specs.Rising.{is_past}
-use Rattle.warm_values.proofs.Saying.{ok-there, ok-then, under-ok}
+use Rattle.warm_file.specs.Faults.{Fault, at_key}
+use Rattle.warm_file.specs.Values.{list_of, member, at_most_items}
+use Rattle.warm_file.specs.Rising.{is_past}
+use Rattle.warm_file.proofs.Saying.{ok-there, ok-then, under-ok}
 use Rattle.warm_writer.specs.Written.{list_json}
 use Rattle.warm_writer.proofs.PartsBack.{AreRead, read-here, read-none, list-back}
 

@@ -1,5 +1,5 @@
 use Rattle.std.proofs.Common.{◌≡◌, ◌<◌, ℕ, ℤ, get_or, pos}
-use Rattle.rational.specs.Rational.{int}
+use Rattle.frac128.specs.Rational.{int}
 use Rattle.basic_solution.specs.RowTotals.{IsSmallNumber}
 use Rattle.basic_solution.proofs.priced.are_small.Given as goal
 

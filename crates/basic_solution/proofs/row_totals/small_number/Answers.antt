@@ -2,8 +2,8 @@ use Rattle.std.proofs.Common.{◌≡◌, ◌∙◌, sym, ap, arith, to_z, of_z}
 use Rattle.std.specs.Int.{w128}
 use Rattle.std.proofs.lemmas.Int.{ints}
 use Rattle.std.proofs.lemmas.Option.{IfSome_then}
-use Rattle.rational.specs.Rational.{int}
-use Rattle.rational.proofs.Integers.{int-num}
+use Rattle.frac128.specs.Rational.{int}
+use Rattle.frac128.proofs.Integers.{int-num}
 use Rattle.basic_solution.proofs.row_totals.small_number.Goals as goal
 
 pub returns-then-is_whole-clause-value : goal.returns-then-is_whole-clause-value

@@ -1,6 +1,6 @@
 use Rattle.std.proofs.Common.{◌≡◌, ◌↔◌, IsTrue, ap₂, subst, ◌∙◌, ◌*ℤ◌, to_z, of_z, w64}
 use Rattle.std.specs.Int.{w128}
-use Rattle.rational.specs.Rational.{◌<ℚ◌}
+use Rattle.frac128.specs.Rational.{◌<ℚ◌}
 use Rattle.frac128.specs.LowestTerms.{quotient_of}
 use Rattle.table_entries.specs.WholeSteps.{IsShort}
 use Rattle.basic_solution.proofs.RowTotalLemmas.{below_decided}

@@ -1,6 +1,6 @@
 use Rattle.std.proofs.Common.{inr, refl, subst, Ok}
 use Rattle.std.proofs.lemmas.Bool.{iff_false}
-use Rattle.lp_model.specs.Answers.{IsValueAnswer}
+use Rattle.model_points.specs.Answers.{IsValueAnswer}
 use Rattle.cert_check.proofs.judging.judge_value.Goals as goal
 
 pub returns-in-Err : goal.returns-in-Err

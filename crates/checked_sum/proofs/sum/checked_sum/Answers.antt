@@ -1,5 +1,5 @@
 use Rattle.std.proofs.Common.{rules, ◌≡◌, ◌∙◌, arith, sym, subst, pos}
-use Rattle.rational.specs.Rational.{int, ◌+ℚ◌, ◌*ℚ◌}
+use Rattle.frac128.specs.Rational.{int, ◌+ℚ◌, ◌*ℚ◌}
 use Rattle.checked_sum.specs.Steps.{StepFits}
 use Rattle.checked_sum.proofs.StepLaws.{skip_number, partial_none, partial_next, fits_next}
 use Rattle.checked_sum.proofs.sum.checked_sum.Goals as goal

@@ -1,5 +1,5 @@
 use Rattle.std.proofs.Common.{ℕ, subst, length, pos, Ok, Err}
-use Rattle.rational.specs.Rational.{int}
+use Rattle.frac128.specs.Rational.{int}
 use Rattle.checked_sum.specs.Steps.{IsCheckedSum}
 use Rattle.checked_sum.proofs.AnswerLaws.{wide_at}
 use Rattle.cover_cuts.specs.Covers.{side_coefficient, contribution_number}

@@ -1,6 +1,6 @@
 use Rattle.std.proofs.Common.{◌∙◌, ◌≤◌, ◌++◌, ◌∷◌, [], ap, arith, length, map, ℕ}
 use Rattle.std.proofs.lemmas.List.{take_all}
-use Rattle.rational.specs.Rational.{ℚ}
+use Rattle.frac128.specs.Rational.{ℚ}
 use Rattle.cut_find.proofs.CandidateLemmas.{columns_more}
 use Rattle.cut_find.proofs.candidates.columns_of.Goals as goal
 

@@ -1,6 +1,6 @@
 use Rattle.std.proofs.Common.{◌≡◌, ◌∙◌, ◌+◌, ℕ, List, sym, ap, subst, arith, suc, [], length}
 use Rattle.std.proofs.lemmas.List.{length-replicate, with_items_is}
-use Rattle.rational.specs.Rational.{ℚ}
+use Rattle.frac128.specs.Rational.{ℚ}
 use Rattle.cut_find.specs.RowEntries.{AreRowsTo}
 use Rattle.cut_find.proofs.ColumnLemmas.{no_rows}
 use Rattle.cut_find.proofs.row_entries.row_entries.Goals as goal

@@ -1,7 +1,7 @@
 use Rattle.std.proofs.Common.{◌≡◌, ◌<◌, ◌+◌, ◌≤◌, length, drop, ap, sym, ◌∙◌, arith}
 use Rattle.std.specs.Prelude.{Option}
 use Rattle.std.proofs.lemmas.List.{drop_all}
-use Rattle.rational.specs.Rational.{ℚ}
+use Rattle.frac128.specs.Rational.{ℚ}
 use Rattle.leaf_judging.specs.Choosing.{finite_number}
 use Rattle.dual_bounds.specs.TreeBounds.{least_of_two, least_of_numbers}
 use Rattle.dual_bounds.proofs.NumberLists.{least-here, least-none, least-assoc}

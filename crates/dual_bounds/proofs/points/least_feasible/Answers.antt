@@ -17,7 +17,7 @@ loop-point-preserved c =
     let small : i < length points = omega (arith, c.loop-point-test.true) in
     let one : take (i + 1) points ≡ take i points ++ x ∷ [] = take_more points i x small ∙ ap (λ b. take i points ++ b ∷ []) (sym c.point-item.is) in
     subst (λ (xs : List Point). IsLeastFeasible M xs c.least_of_two-least.result) (sym one)
-    (feasible-more M (take i points) x c.loop-point.least c.feasible_value.result c.least_of_two-least.result c.loop-point.invariant c.feasible_value.ensures c.least_of_two-least.ensures)
+    (feasible-more M (take i points) x c.loop-point.least c.keepable_value.result c.least_of_two-least.result c.loop-point.invariant c.keepable_value.ensures c.least_of_two-least.ensures)
 
 pub returns : goal.returns
 returns c =

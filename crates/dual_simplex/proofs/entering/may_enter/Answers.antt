@@ -1,5 +1,5 @@
 use Rattle.std.proofs.Common.{subst, IsTrue, ◌↔◌}
-use Rattle.bases.specs.States.{MayEnter}
+use Rattle.table_entries.specs.States.{MayEnter}
 use Rattle.basic_solution.specs.Held.{table}
 use Rattle.dual_simplex.proofs.entering.may_enter.Goals as goal
 

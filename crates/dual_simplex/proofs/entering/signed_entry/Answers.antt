@@ -1,8 +1,8 @@
 use Rattle.std.proofs.Common.{sym, subst, ◌∙◌, ◌≡◌, ◌<ℤ◌, pos, to_z, of_z, w64}
 use Rattle.table_entries.proofs.ReadLemmas.{short_read}
-use Rattle.rational.specs.Rational.{int}
+use Rattle.frac128.specs.Rational.{int}
 use Rattle.frac128.specs.LowestTerms.{quotient_of}
-use Rattle.bases.specs.States.{MayEnter}
+use Rattle.table_entries.specs.States.{MayEnter}
 use Rattle.std.specs.Prelude.{◌↔◌}
 use Rattle.table_entries.specs.WholeSteps.{IsShort}
 use Rattle.dual_simplex.proofs.SignedEntry.{enters_alike}

@@ -1,5 +1,5 @@
 use Rattle.basic_solution.specs.Held.{relaxation, state}
-use Rattle.bases.proofs.Lag.{farkas_of}
+use Rattle.table_entries.proofs.Lag.{farkas_of}
 use Rattle.dual_simplex.proofs.laws.blocked_law.Goals as goal
 
 pub returns : goal.returns

@@ -1,8 +1,8 @@
 use Rattle.std.proofs.Common.{◌∙◌, subst, inl, inr}
-use Rattle.rational.specs.Rational.{◌/ℚ◌, ◌*ℚ◌}
+use Rattle.frac128.specs.Rational.{◌/ℚ◌, ◌*ℚ◌}
 use Rattle.frac128.specs.Range.{Fits}
-use Rattle.bases.specs.Relaxation.{reduced_cost}
-use Rattle.bases.specs.States.{sign}
+use Rattle.table_entries.specs.Relaxation.{reduced_cost}
+use Rattle.table_entries.specs.States.{sign}
 use Rattle.basic_solution.specs.Held.{relaxation, table, parts}
 use Rattle.dual_simplex.proofs.RatioLemmas.{none_answer}
 use Rattle.dual_simplex.proofs.ratio.ratio_part.Goals as goal

@@ -2,7 +2,7 @@ use Rattle.std.specs.Prelude.{◌+ℤ◌}
 use Rattle.std.specs.Int.{w128}
 use Rattle.std.proofs.Common.{◌≡◌, ◌∙◌, ap, sym, subst}
 use Rattle.std.proofs.lemmas.Int.{to_z-of_z}
-use Rattle.rational.specs.Rational.{int}
+use Rattle.frac128.specs.Rational.{int}
 use Rattle.frac128.specs.Range.{IsNarrow}
 use Rattle.frac128.proofs.ReadLemmas.{narrow_read}
 use Rattle.frac128.proofs.frac.whole_sum.Goals as goal

@@ -1,8 +1,8 @@
 use Rattle.std.proofs.Common.{ℕ, length, subst, pos, ◌+ℤ◌, ◌-ℤ◌}
 use Rattle.std.specs.Prelude.{◌≤ℤ◌, ◌^◌}
 use Rattle.std.specs.Bool.{Decides, one_answer}
-use Rattle.rational.specs.Rational.{int}
-use Rattle.rational.proofs.Comparison.{rational_le-decides}
+use Rattle.frac128.specs.Rational.{int}
+use Rattle.frac128.proofs.Comparison.{rational_le-decides}
 use Rattle.frac128.specs.Range.{with_sign}
 use Rattle.frac_text.specs.Spelling.{scaled, value_of}
 use Rattle.frac_text.specs.Sides.{HasDigits}

@@ -1,7 +1,7 @@
 use Rattle.std.proofs.Common.{◌≡◌, ◌∙◌, ap, sym, subst, to_z, of_z}
 use Rattle.std.specs.Int.{w128}
 use Rattle.std.proofs.lemmas.Bool.{false≢true}
-use Rattle.rational.specs.Rational.{int, ceil, ◌≤ℚ◌}
+use Rattle.frac128.specs.Rational.{int, ceil, ◌≤ℚ◌}
 use Rattle.frac128.specs.Range.{IsNarrow}
 use Rattle.frac128.proofs.ReadLemmas.{narrow_read}
 use Rattle.leaf_dual.proofs.dual.reaches_rounded.Goals as goal

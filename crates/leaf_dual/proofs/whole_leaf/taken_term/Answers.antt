@@ -1,6 +1,6 @@
 use Rattle.std.proofs.Common.{◌≡◌, ◌∙◌, sym, ap, subst, arith, pos, ◌-ℤ◌, to_z, of_z, w64}
 use Rattle.std.proofs.lemmas.Int.{ints}
-use Rattle.rational.specs.Rational.{int}
+use Rattle.frac128.specs.Rational.{int}
 use Rattle.leaf_dual.specs.Wholes.{IsFactor}
 use Rattle.leaf_dual.proofs.ReadLemmas.{factor_read, negative_factor}
 use Rattle.leaf_dual.proofs.WholeLemmas.{taken_over, none_taken}

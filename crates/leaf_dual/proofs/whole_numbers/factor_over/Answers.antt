@@ -2,7 +2,7 @@ use Rattle.std.proofs.Common.{◌≡◌, ◌∙◌, sym, ap, arith, pos, ◌*ℤ
 use Rattle.std.specs.Int.{w128}
 use Rattle.std.proofs.lemmas.Int.{ints}
 use Rattle.std.proofs.lemmas.Option.{IfSome_then}
-use Rattle.rational.specs.Rational.{den}
+use Rattle.frac128.specs.Rational.{den}
 use Rattle.leaf_dual.proofs.ReadLemmas.{factor_read, factor_again, denominator_again, product_made, product_read}
 use Rattle.leaf_dual.proofs.WholeLemmas.{over_scale}
 use Rattle.leaf_dual.proofs.whole_numbers.factor_over.Goals as goal

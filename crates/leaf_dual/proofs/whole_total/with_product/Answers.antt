@@ -1,6 +1,6 @@
 use Rattle.std.proofs.Common.{sym, ap, ◌∙◌, ◌≡◌, arith, ◌+ℤ◌, ◌*ℤ◌, ℤ, [], ◌∷◌, pos}
 use Rattle.std.proofs.lemmas.Int.{ints}
-use Rattle.rational.proofs.IntegerRing.{ring_ℤ, reads_ℤ}
+use Rattle.frac128.specs.IntegerRing.{ring_ℤ, reads_ℤ}
 use Rattle.leaf_dual.proofs.ReadLemmas.{factor_again, room_read, room_again, sum_fits, sum_read}
 use Rattle.leaf_dual.proofs.whole_total.with_product.Goals as goal
 

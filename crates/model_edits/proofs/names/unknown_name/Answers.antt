@@ -1,6 +1,6 @@
 use Rattle.std.proofs.Common.{◌≡◌, ℕ, List, map, sym, subst}
 use Rattle.std.specs.Prelude.{◌⊎◌}
-use Rattle.rational.specs.Rational.{ℚ}
+use Rattle.frac128.specs.Rational.{ℚ}
 use Rattle.model_edits.specs.declared.faults.EditFault.TheVariants.{NoSuch, Memory}
 use Rattle.model_edits.proofs.EditLaws.{unknown_of_place}
 use Rattle.model_edits.proofs.names.unknown_name.Goals as goal

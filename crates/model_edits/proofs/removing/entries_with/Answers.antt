@@ -1,6 +1,6 @@
 use Rattle.std.specs.Prelude.{filter, nat_lt}
 use Rattle.std.proofs.Common.{◌∙◌, ◌++◌, ap, append_assoc}
-use Rattle.rational.specs.Rational.{ℚ}
+use Rattle.frac128.specs.Rational.{ℚ}
 use Rattle.lp_model.specs.declared.types.RowId.{RowId}
 use Rattle.lp_model.specs.Edits.{entry_at}
 use Rattle.model_edits.proofs.removing.entries_with.Goals as goal

@@ -1,6 +1,6 @@
 use Rattle.std.proofs.Common.{◌∙◌}
 use Rattle.std.proofs.lemmas.Bool.Decides.{same_from_decides}
-use Rattle.rational.proofs.Comparison.{is_le-decides, rational_le-decides}
+use Rattle.frac128.proofs.Comparison.{is_le-decides, rational_le-decides}
 use Rattle.mps_fields.proofs.numbers.is_at_most.Goals as goal
 
 pub returns : goal.returns

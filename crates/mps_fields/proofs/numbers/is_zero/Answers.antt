@@ -1,8 +1,8 @@
 use Rattle.std.proofs.Common.{pos, ap, ◌∙◌}
 use Rattle.std.specs.Ordering.{eq_by_cmp}
 use Rattle.std.proofs.lemmas.Bool.Decides.{same_from_decides}
-use Rattle.rational.specs.Rational.{int, rational_cmp}
-use Rattle.rational.proofs.Comparison.{eq_by_cmp-decides}
+use Rattle.frac128.specs.Rational.{int, rational_cmp}
+use Rattle.frac128.proofs.Comparison.{eq_by_cmp-decides}
 use Rattle.mps_fields.proofs.NumberFacts.{is_zero-decides}
 use Rattle.mps_fields.proofs.numbers.is_zero.Goals as goal
 

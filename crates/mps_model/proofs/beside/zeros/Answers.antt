@@ -1,6 +1,6 @@
 use Rattle.std.proofs.Common.{◌<◌, ℕ, List, [], ◌++◌, ◌∷◌, length, map, pos, ap, sym, ◌∙◌, arith}
 use Rattle.std.proofs.lemmas.List.{take_all, map_more}
-use Rattle.rational.specs.Rational.{ℚ, int}
+use Rattle.frac128.specs.Rational.{ℚ, int}
 use Rattle.mps_model.proofs.BesideSteps.{zeros_beside}
 use Rattle.mps_model.proofs.beside.zeros.Goals as goal
 

@@ -1,5 +1,5 @@
 use Rattle.std.proofs.Common.{◌≡◌, List, ℕ, map, take, pos}
-use Rattle.rational.specs.Rational.{int}
+use Rattle.frac128.specs.Rational.{int}
 use Rattle.mps_model.proofs.beside.zeros.Given as goal
 
 abbrev pub invariant-loop-name : goal.invariant-loop-name

@@ -1,6 +1,6 @@
 use Rattle.std.proofs.Common.{subst, sym}
 use Rattle.std.specs.Prelude.{Option}
-use Rattle.rational.specs.Rational.{ℚ}
+use Rattle.frac128.specs.Rational.{ℚ}
 use Rattle.lp_model.specs.Lawful.{IsRange}
 use Rattle.mps_model.specs.Meaning.{low_side_with}
 use Rattle.mps_model.proofs.RangeRoom.{sides_with-range}

@@ -1,5 +1,5 @@
 use Rattle.std.proofs.Common.{◌≡◌, true, false, ◌&&◌, ap, sym, ◌∙◌}
-use Rattle.rational.specs.Rational.{◌+ℚ◌, ◌-ℚ◌, neg_ℚ}
+use Rattle.frac128.specs.Rational.{◌+ℚ◌, ◌-ℚ◌, neg_ℚ}
 use Rattle.mps_model.specs.Ranges.{sum_fits}
 use Rattle.mps_model.proofs.ranges.are_near.Goals as goal
 

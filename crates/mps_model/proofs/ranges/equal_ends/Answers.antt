@@ -1,6 +1,6 @@
 use Rattle.std.proofs.Common.{◌≡◌, true, false, ap, sym, ◌∙◌}
 use Rattle.std.specs.Prelude.{if◌then◌else◌}
-use Rattle.rational.specs.Rational.{◌+ℚ◌}
+use Rattle.frac128.specs.Rational.{◌+ℚ◌}
 use Rattle.mps_fields.specs.Numbers.{is_negative}
 use Rattle.mps_model.proofs.ranges.equal_ends.Goals as goal
 

@@ -1,6 +1,6 @@
 use Rattle.std.proofs.Common.{◌++◌, ◌<◌, List, ℕ, length, ap, sym, subst, ◌∙◌}
 use Rattle.std.specs.Prelude.{All}
-use Rattle.rational.specs.Rational.{ℚ}
+use Rattle.frac128.specs.Rational.{ℚ}
 use Rattle.lp_model.specs.declared.types.RowId.{RowId}
 use Rattle.mps_writer.specs.Canonical.{number_line, entry_lines, written_text}
 use Rattle.mps_writer.proofs.PutLaws.{handed_on, lines_put}

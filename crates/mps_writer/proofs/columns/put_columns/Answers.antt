@@ -1,6 +1,6 @@
 use Rattle.std.proofs.Common.{◌++◌, ◌<◌, List, length, refl, sym, subst, arith}
 use Rattle.std.specs.Prelude.{flat_map, All}
-use Rattle.rational.specs.Rational.{ℚ}
+use Rattle.frac128.specs.Rational.{ℚ}
 use Rattle.lp_model.specs.declared.types.RowId.{RowId}
 use Rattle.lp_model.specs.declared.types.Col.{Col}
 use Rattle.mps_writer.specs.Canonical.{column_lines, written_text}

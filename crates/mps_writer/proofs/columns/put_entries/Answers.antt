@@ -1,5 +1,5 @@
 use Rattle.std.proofs.Common.{◌∷◌, [], ◌++◌, ◌<◌, List, ℕ, length, map, refl, ap, sym, subst, ◌∙◌, arith}
-use Rattle.rational.specs.Rational.{ℚ}
+use Rattle.frac128.specs.Rational.{ℚ}
 use Rattle.lp_model.specs.Lawful.{row_name}
 use Rattle.lp_model.specs.declared.types.RowId.{RowId}
 use Rattle.mps_writer.specs.Canonical.{WrittenLine, entry_line, written_text}

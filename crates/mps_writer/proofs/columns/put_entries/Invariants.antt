@@ -1,5 +1,5 @@
 use Rattle.std.proofs.Common.{◌≡◌, ◌++◌, drop, map}
-use Rattle.rational.specs.Rational.{ℚ}
+use Rattle.frac128.specs.Rational.{ℚ}
 use Rattle.lp_model.specs.Lawful.{row_name}
 use Rattle.lp_model.specs.declared.types.RowId.{RowId}
 use Rattle.mps_writer.specs.Canonical.{entry_line, written_text}

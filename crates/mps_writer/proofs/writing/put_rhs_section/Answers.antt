@@ -1,6 +1,6 @@
 use Rattle.std.proofs.Common.{◌≡◌, ◌∷◌, [], ◌++◌, List, ℕ, ap, ◌∙◌}
 use Rattle.std.specs.Prelude.{codes, flat_map}
-use Rattle.rational.specs.Rational.{ℚ, neg_ℚ}
+use Rattle.frac128.specs.Rational.{ℚ, neg_ℚ}
 use Rattle.lp_model.specs.Program.{constant}
 use Rattle.lp_model.specs.declared.types.Row.{Row}
 use Rattle.mps_writer.specs.Canonical.{WrittenLine, Header, number_line, rhs_line, written_text}

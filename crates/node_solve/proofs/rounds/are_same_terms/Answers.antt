@@ -1,6 +1,6 @@
 use Rattle.std.proofs.Common.{◌≡◌, refl, sym, ap, ◌∙◌, arith, length, get_or, below_more}
 use Rattle.std.proofs.lemmas.Bool.{false≢true}
-use Rattle.rational.specs.Rational.{ℚ}
+use Rattle.frac128.specs.Rational.{ℚ}
 use Rattle.lp_model.specs.declared.types.ColId.{ColId}
 use Rattle.lp_model.proofs.ElementLemmas.{get_or-read}
 use Rattle.node_solve.proofs.TaskLemmas.{is_not, is_so, terms_are}

@@ -1,10 +1,10 @@
 use Rattle.std.specs.Prelude.{◌≡◌, IfOk}
 use Rattle.std.proofs.Common.{subst, sym}
 use Rattle.lp_model.specs.Program.{Program}
-use Rattle.lp_model.specs.Rays.{without_costs}
 use Rattle.ray_phase.specs.Answers.{IsRayAnswer}
 use Rattle.ray_phase.specs.Beginnings.{StopsBefore}
 use Rattle.lp_model.specs.declared.answers.StopWhy.TheVariants as stop
+use Rattle.model_points.specs.Rays.{without_costs}
 use Rattle.ray_phase.proofs.BeginningLemmas.{no-costless-ray, stop-pivots, stops-beside}
 use Rattle.ray_phase.proofs.beginnings.beside_ray.Goals as goal
 

@@ -1,9 +1,9 @@
 use Rattle.std.proofs.Common.{sym, subst, ◌∙◌, inl, inr, pos, Ok}
 use Rattle.std.proofs.lemmas.Bool.{false≢true}
-use Rattle.rational.specs.Rational.{int, ◌<ℚ◌}
-use Rattle.rational.proofs.RationalOrder.{≤ℚ_from_not}
-use Rattle.lp_model.specs.Rays.{direction_cost, IsRayJudged}
-use Rattle.lp_model.proofs.RayLemmas.{judged_rightly}
+use Rattle.frac128.specs.Rational.{int, ◌<ℚ◌}
+use Rattle.frac128.specs.RationalOrder.{≤ℚ_from_not}
+use Rattle.model_points.specs.Rays.{direction_cost, IsRayJudged}
+use Rattle.model_points.proofs.RayLemmas.{judged_rightly}
 use Rattle.ray_phase.specs.Answers.{IsRayEnd}
 use Rattle.ray_phase.specs.declared.phase.RayAnswer.TheVariants.{DualBasis}
 use Rattle.ray_phase.proofs.DirectionLemmas.{count_rows, model_ray, lawful_basis, optimum_of, wide_end}

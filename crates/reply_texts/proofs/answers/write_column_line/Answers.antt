@@ -1,7 +1,7 @@
 use Rattle.std.proofs.Common.{◌≡◌, ℕ, List, ◌++◌, ap, sym, ◌∙◌, subst, IsTrue, false, pos}
 use Rattle.std.specs.Prelude.{codes, IfOk}
 use Rattle.frac128.specs.Printing.{printed}
-use Rattle.rational.specs.Rational.{int}
+use Rattle.frac128.specs.Rational.{int}
 use Rattle.reply_texts.proofs.TextLemmas.{join, join_piece, nothing_more, zero-no_line, other-line}
 use Rattle.reply_texts.proofs.answers.write_column_line.Goals as goal
 

@@ -1,5 +1,5 @@
 use Rattle.std.proofs.Common.{pos}
-use Rattle.rational.specs.Rational.{int}
+use Rattle.frac128.specs.Rational.{int}
 use Rattle.row_tableau.specs.Relaxations.{relaxation_of}
 use Rattle.row_tableau.proofs.SideListLemmas.{size_more, values_more}
 use Rattle.row_tableau.proofs.sides_of.costs.Goals as goal

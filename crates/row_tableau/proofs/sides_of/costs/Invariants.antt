@@ -1,5 +1,5 @@
 use Rattle.std.proofs.Common.{◌≡◌, ◌<◌, ◌+◌, ℕ, length, get_or, pos}
-use Rattle.rational.specs.Rational.{int}
+use Rattle.frac128.specs.Rational.{int}
 use Rattle.row_tableau.specs.Activities.{activity_count}
 use Rattle.row_tableau.specs.Relaxations.{form_of, relaxation_of}
 use Rattle.row_tableau.proofs.sides_of.costs.Given as goal

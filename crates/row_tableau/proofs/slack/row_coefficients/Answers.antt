@@ -1,6 +1,6 @@
 use Rattle.std.proofs.Common.{◌≡◌, ◌≢◌, ◌<◌, ◌*◌, ◌+◌, ◌∙◌, sym, ap, subst, arith, length, get_or, pos, ℕ, ◌≤◌}
 use Rattle.std.proofs.lemmas.List.{with_items_is}
-use Rattle.rational.specs.Rational.{int}
+use Rattle.frac128.specs.Rational.{int}
 use Rattle.lp_model.specs.Program.{coefficient, entry_of}
 use Rattle.lp_model.proofs.ElementLemmas.{of_element-read}
 use Rattle.lp_model.proofs.ModelLaws.{few_columns}

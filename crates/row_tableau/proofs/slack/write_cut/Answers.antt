@@ -1,6 +1,6 @@
 use Rattle.std.proofs.Common.{◌≡◌, ◌<◌, ◌≤◌, ◌*◌, ◌+◌, [], refl, sym, ap, subst, arith, length, drop, get_or, pos, ◌∙◌}
 use Rattle.std.proofs.lemmas.List.{drop_all}
-use Rattle.rational.specs.Rational.{int}
+use Rattle.frac128.specs.Rational.{int}
 use Rattle.lp_model.specs.CutTerms.{term_of}
 use Rattle.row_tableau.proofs.CutLemmas.{cut_more, cut_others, cut_past}
 use Rattle.row_tableau.proofs.slack.write_cut.Goals as goal

@@ -1,6 +1,6 @@
 use Rattle.std.proofs.Common.{◌≡◌, ◌<◌, ◌+◌, ◌*◌, ◌∙◌, ℕ, ap, ap₂, sym, subst, arith, length, get_or, pos}
 use Rattle.std.proofs.lemmas.Result.{IfOk-weaker}
-use Rattle.rational.specs.Rational.{int}
+use Rattle.frac128.specs.Rational.{int}
 use Rattle.lp_model.proofs.ModelLaws.{few_rows, few_columns}
 use Rattle.row_tableau.specs.Activities.{activity_count}
 use Rattle.row_tableau.specs.Relaxations.{form_of}

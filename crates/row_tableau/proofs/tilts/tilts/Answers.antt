@@ -1,6 +1,6 @@
 use Rattle.std.proofs.Common.{◌≡◌, ◌<◌, ◌+◌, ◌∙◌, ◌++◌, [], ◌∷◌, ℕ, sym, subst, ap, arith, length, get_or, below_more}
 use Rattle.std.proofs.lemmas.List.{get_or_push, get_or_append_left, length-append}
-use Rattle.bases.specs.declared.stand.Stand.TheVariants.{Free}
+use Rattle.table_entries.specs.declared.stand.Stand.TheVariants.{Free}
 use Rattle.row_tableau.specs.Relaxations.{form_of}
 use Rattle.row_tableau.specs.Tilts.{tilt_of}
 use Rattle.row_tableau.proofs.tilts.tilts.Goals as goal

@@ -1,7 +1,7 @@
 use Rattle.std.specs.Int.{w128}
 use Rattle.std.proofs.lemmas.Int.{to_z-of_z}
 use Rattle.std.proofs.Common.{rules, FitsSigned, ◌↔◌, ◌≤ℤ◌, IsTrue, subst, sym}
-use Rattle.rational.proofs.Rounding.{≤ℚ-int}
+use Rattle.frac128.proofs.Rounding.{≤ℚ-int}
 use Rattle.search_parts.proofs.checks.is_from.Goals as goal
 
 pub returns-in-Some-clause-from : goal.returns-in-Some-clause-from

@@ -1,6 +1,6 @@
 use Rattle.std.proofs.Common.{◌≡◌, ◌↔◌, ◌∙◌, List, IsTrue, ap, subst}
 use Rattle.std.specs.Prelude.{map}
-use Rattle.rational.specs.Rational.{ℚ}
+use Rattle.frac128.specs.Rational.{ℚ}
 use Rattle.lp_model.specs.Formulations.{formulation}
 use Rattle.lp_model.specs.declared.types.Var.{Var}
 use Rattle.search_parts.specs.Lists.{IsActivityThere, NamesOnce}

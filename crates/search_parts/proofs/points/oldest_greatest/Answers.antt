@@ -1,5 +1,5 @@
 use Rattle.std.proofs.Common.{◌≡◌, ◌+◌, ◌<◌, refl, sym, subst, length, pos, IsTrue, arith}
-use Rattle.rational.specs.Rational.{int, ◌<ℚ◌}
+use Rattle.frac128.specs.Rational.{int, ◌<ℚ◌}
 use Rattle.lp_model.proofs.ElementLemmas.{get_or-read}
 use Rattle.search_parts.specs.Points.{value_at}
 use Rattle.search_parts.specs.Joining.{IsOldestGreatestOf}

@@ -2,9 +2,9 @@ use Rattle.std.specs.Prelude.{ℕ, Vec, true, Ok, IfOk}
 use Rattle.std.specs.Option.{option_copied}
 use Rattle.std.specs.declared.alloc.Global.{Global}
 use Rattle.std.proofs.Common.{sym, subst}
-use Rattle.lp_model.specs.Answers.{IsFeasibilityAnswer}
 use Rattle.lp_model.specs.Program.{Program}
-use Rattle.lp_model.specs.Rays.{IsRayJudged}
+use Rattle.model_points.specs.Answers.{IsFeasibilityAnswer}
+use Rattle.model_points.specs.Rays.{IsRayJudged}
 use Rattle.search_parts.specs.Points.{IsIncumbent}
 use Rattle.tree_cert.proofs.AcceptedLaws.{incumbent-keepable}
 use Rattle.sym_env.specs.Certificates.{IsUnboundedTextBy}

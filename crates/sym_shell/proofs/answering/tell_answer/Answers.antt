@@ -4,7 +4,8 @@ use Rattle.std.proofs.Common.{◌≡◌, ◌++◌, ◌∙◌, ap, subst, sym}
 use Rattle.sym_env.specs.Env.{model_of}
 use Rattle.reply_texts.specs.Texts.{no_model_text}
 use Rattle.sym_shell.specs.Answering.{IsAnswerOf, IsTellable, search_text}
-use Rattle.sym_shell.proofs.AnswerLemmas.{both, text-written}
+use Rattle.sym_shell.proofs.AnswerLemmas.{both}
+use Rattle.shell_replies.proofs.TextLemmas.{text-written}
 use Rattle.sym_shell.proofs.answering.tell_answer.Goals as goal
 
 pub unreachable-requires : goal.unreachable-requires

@@ -1,13 +1,13 @@
 use Rattle.std.proofs.Common.{◌≡◌, ◌∙◌, List, ap, subst, sym}
-use Rattle.rational.specs.Rational.{ℚ}
+use Rattle.frac128.specs.Rational.{ℚ}
 use Rattle.lp_model.specs.Program.{Program}
 use Rattle.lp_model.specs.declared.types.ColId.{ColId}
 use Rattle.dual_bounds.specs.NewNumbers.{with_new_costs, AreNewCosts, ArePresentCosts}
 use Rattle.command_words.specs.declared.words.NewNumbers.TheVariants.{Costs}
-use Rattle.sym_shell.specs.Bounding.{placed_cols}
-use Rattle.sym_shell.specs.Placing.{unplaced_text}
-use Rattle.sym_shell.proofs.BoundLemmas.{alone, numbers-told, unplaced-told}
-use Rattle.sym_shell.proofs.PlacingLemmas.{new-costs}
+use Rattle.shell_replies.specs.Names.{placed_cols}
+use Rattle.shell_replies.specs.Placing.{unplaced_text}
+use Rattle.sym_shell.proofs.BoundLemmas.{alone, numbers-told, unplaced-told, on-line}
+use Rattle.shell_replies.proofs.PlacingLemmas.{new-costs}
 use Rattle.command_files.proofs.FileLemmas.{on_ok, on_ok_if}
 use Rattle.sym_shell.proofs.bounding.bound_by_costs.Goals as goal
 
@@ -26,6 +26,9 @@ returns-in-Ok c =
     (numbers-told c.args.env.now c.args.model.now c.requires.model c.args.which Costs named c.bound_with_costs.new.reply.items (λ N. with_new_costs N costs) (λ N. ArePresentCosts N costs) h.0 tt
     (λ N e. ap (with_new_costs N) (same N e)) (λ N e standing. subst (ArePresentCosts N) (sym (same N e)) standing))
     c.bound_with_costs.ensures
+
+pub write_unplaced-requires : goal.write_unplaced-requires
+write_unplaced-requires c = on-line Costs c.args.model.now c.args.named.now c.in-Err.unplaced c.in-Err.ensures
 
 pub returns-in-Err : goal.returns-in-Err
 returns-in-Err c =

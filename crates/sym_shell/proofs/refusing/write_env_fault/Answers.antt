@@ -2,7 +2,7 @@ use Rattle.std.specs.Prelude.{IfOk}
 use Rattle.std.proofs.Common.{◌≡◌, ◌++◌, subst, sym}
 use Rattle.reply_texts.specs.Texts.{no_model_text, no_answer_text, memory_text}
 use Rattle.sym_shell.specs.EnvFaults.{env_fault_text}
-use Rattle.sym_shell.proofs.AnswerLemmas.{text-written}
+use Rattle.shell_replies.proofs.TextLemmas.{text-written}
 use Rattle.sym_shell.proofs.refusing.write_env_fault.Goals as goal
 
 pub returns-in-NoModel : goal.returns-in-NoModel

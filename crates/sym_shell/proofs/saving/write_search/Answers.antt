@@ -1,7 +1,7 @@
 use Rattle.std.proofs.Common.{◌++◌, refl, subst, ap, inl, inr, ◌∙◌}
 use Rattle.reply_texts.specs.Texts.{memory_text}
 use Rattle.search_file.specs.Files.{IsTextAnswer}
-use Rattle.sym_shell.specs.EnvFaults.{warm_fault_text}
+use Rattle.shell_replies.specs.Faults.{warm_fault_text}
 use Rattle.sym_shell.proofs.SavingLemmas.{search-written, search-untold}
 use Rattle.command_files.proofs.FileLemmas.{on_ok, on_ok_if, on_err, always}
 use Rattle.sym_shell.proofs.saving.write_search.Goals as goal

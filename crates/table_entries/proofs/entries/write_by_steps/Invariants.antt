@@ -1,5 +1,5 @@
 use Rattle.std.proofs.Common.{◌≡◌, ◌<◌, ◌*◌, ◌+◌, ℕ, pos, get_or}
-use Rattle.rational.specs.Rational.{int}
+use Rattle.frac128.specs.Rational.{int}
 use Rattle.table_entries.specs.FlatSteps.{FlatFits, flat_value}
 use Rattle.table_entries.proofs.entries.write_by_steps.Given as goal
 

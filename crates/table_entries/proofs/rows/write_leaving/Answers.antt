@@ -1,6 +1,6 @@
 use Rattle.std.proofs.Common.{◌≡◌, ◌≢◌, ◌<◌, ◌+◌, ◌*◌, ◌∙◌, sym, subst, arith, length, pos}
-use Rattle.rational.specs.Rational.{int}
-use Rattle.bases.specs.Relaxation.{pivoted_entry}
+use Rattle.frac128.specs.Rational.{int}
+use Rattle.table_entries.specs.Relaxation.{pivoted_entry}
 use Rattle.table_entries.specs.FlatSteps.{dense_entry}
 use Rattle.table_entries.proofs.StepLemmas.{read_at}
 use Rattle.table_entries.proofs.RowLemmas.{row_more, fits_more, leaving_fits, leaving_fits_back, leaving_value}

@@ -1,6 +1,6 @@
 use Rattle.std.proofs.Common.{◌≡◌, ◌≢◌, ◌<◌, ◌*◌, ◌+◌, ◌∙◌, refl, sym, subst, arith, length, pos}
-use Rattle.rational.specs.Rational.{int}
-use Rattle.bases.specs.Relaxation.{pivoted_entry}
+use Rattle.frac128.specs.Rational.{int}
+use Rattle.table_entries.specs.Relaxation.{pivoted_entry}
 use Rattle.table_entries.specs.FlatSteps.{dense_entry}
 use Rattle.table_entries.proofs.StepLemmas.{read_at}
 use Rattle.table_entries.proofs.RowLemmas.{moved_fits, moved_fits_back, moved_is, row_more, others_kept, fits_more}

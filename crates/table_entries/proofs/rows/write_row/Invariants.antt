@@ -1,7 +1,7 @@
 use Rattle.std.proofs.Common.{◌≡◌, ◌≢◌, ◌<◌, ◌*◌, ◌+◌, ℕ, pos, get_or}
-use Rattle.rational.specs.Rational.{int}
-use Rattle.bases.specs.Relaxation.{pivoted_entry}
-use Rattle.bases.specs.Steps.{EntryFits}
+use Rattle.frac128.specs.Rational.{int}
+use Rattle.table_entries.specs.Relaxation.{pivoted_entry}
+use Rattle.table_entries.specs.Steps.{EntryFits}
 use Rattle.table_entries.specs.FlatSteps.{dense_entry}
 use Rattle.table_entries.proofs.rows.write_row.Given as goal
 

@@ -2,7 +2,7 @@ use Rattle.std.proofs.Common.{◌≡◌, ◌<◌, ◌≤◌, ◌∙◌, sym, ap,
 use Rattle.std.specs.Int.{w128}
 use Rattle.std.proofs.lemmas.Int.{ints}
 use Rattle.std.proofs.lemmas.List.{get_or_default}
-use Rattle.rational.specs.Rational.{int}
+use Rattle.frac128.specs.Rational.{int}
 use Rattle.table_entries.specs.Listed.{IsShortWhole}
 use Rattle.table_entries.proofs.ListedLemmas.{number_size, number_pushed}
 use Rattle.table_entries.proofs.table_entries.whole_numbers.Goals as goal

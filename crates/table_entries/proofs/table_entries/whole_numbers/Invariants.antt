@@ -1,5 +1,5 @@
 use Rattle.std.proofs.Common.{◌≡◌, ◌<◌, ◌≤◌, ℕ, length, get_or, pos, vec_capacity}
-use Rattle.rational.specs.Rational.{int}
+use Rattle.frac128.specs.Rational.{int}
 use Rattle.table_entries.specs.WholeSteps.{whole_number_at}
 use Rattle.table_entries.specs.Listed.{IsShortWhole}
 use Rattle.table_entries.proofs.table_entries.whole_numbers.Given as goal

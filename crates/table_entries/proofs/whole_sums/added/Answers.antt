@@ -1,6 +1,6 @@
 use Rattle.std.proofs.Common.{sym, ap, ap₂, subst, ◌∙◌, ◌≡◌, ◌≤◌, ◌^◌, arith, ◌+ℤ◌, ◌*ℤ◌, ℤ, [], ◌∷◌, pos, unsigned_abs, to_z, of_z, w64}
 use Rattle.std.proofs.lemmas.Int.{ints}
-use Rattle.rational.proofs.IntegerRing.{ring_ℤ, reads_ℤ}
+use Rattle.frac128.specs.IntegerRing.{ring_ℤ, reads_ℤ}
 use Rattle.table_entries.specs.WholeSteps.{IsShort}
 use Rattle.table_entries.specs.WholeSums.{HasMargin}
 use Rattle.table_entries.proofs.ReadLemmas.{short_read, short_again, product_read}

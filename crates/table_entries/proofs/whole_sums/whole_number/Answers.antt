@@ -1,8 +1,8 @@
 use Rattle.std.proofs.Common.{sym, ap, ◌∙◌, ◌≡◌, arith, to_z, of_z, w64}
 use Rattle.std.specs.Int.{w128}
 use Rattle.std.proofs.lemmas.Int.{ints}
-use Rattle.rational.specs.Rational.{int}
-use Rattle.rational.proofs.Integers.{int-num}
+use Rattle.frac128.specs.Rational.{int}
+use Rattle.frac128.proofs.Integers.{int-num}
 use Rattle.table_entries.specs.WholeSteps.{IsShort}
 use Rattle.table_entries.specs.Listed.{IsShortWhole}
 use Rattle.table_entries.proofs.whole_sums.whole_number.Goals as goal

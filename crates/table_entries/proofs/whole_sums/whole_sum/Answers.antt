@@ -1,6 +1,6 @@
 use Rattle.std.proofs.Common.{sym, ap, ap₂, subst, ◌∙◌, ◌≡◌, ◌≤◌, ◌<ℤ◌, ◌+ℤ◌, ◌*ℤ◌, arith, pos, unsigned_abs, ◌^◌, to_z, of_z, w64}
 use Rattle.std.specs.Int.{w128}
-use Rattle.rational.specs.Rational.{int}
+use Rattle.frac128.specs.Rational.{int}
 use Rattle.frac128.specs.LowestTerms.{quotient_of}
 use Rattle.checked_sum.specs.Steps.{StepFitsAt, partial}
 use Rattle.checked_sum.proofs.StepLaws.{partial_none}

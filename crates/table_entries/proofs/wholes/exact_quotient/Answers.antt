@@ -2,7 +2,7 @@ use Rattle.std.proofs.Common.{◌≡◌, ◌∙◌, ap, arith, [], ◌∷◌, �
 use Rattle.std.specs.Int.{w128}
 use Rattle.std.proofs.lemmas.Int.{ints}
 use Rattle.std.proofs.lemmas.Option.{IfSome_then}
-use Rattle.rational.proofs.IntegerRing.{ring_ℤ, reads_ℤ}
+use Rattle.frac128.specs.IntegerRing.{ring_ℤ, reads_ℤ}
 use Rattle.table_entries.proofs.wholes.exact_quotient.Goals as goal
 
 by_one : (q : ℤ) → q *ℤ pos 1 ≡ q

@@ -1,5 +1,5 @@
 use Rattle.std.proofs.Common.{◌++◌, ◌∷◌, [], List, ℕ, arith, refl}
-use Rattle.rational.specs.Rational.{ℚ}
+use Rattle.frac128.specs.Rational.{ℚ}
 use Rattle.frac128.specs.Range.{Fits}
 use Rattle.frac128.specs.Printing.{printed}
 use Rattle.lp_model.specs.Edits.{Named}

@@ -1,5 +1,5 @@
 use Rattle.std.proofs.Common.{List, subst}
-use Rattle.rational.specs.Rational.{ℚ}
+use Rattle.frac128.specs.Rational.{ℚ}
 use Rattle.search_parts.specs.Joining.{IsLeastValue}
 use Rattle.tree_edit.proofs.EditedSearch.{kept-parts, has-parts}
 use Rattle.tree_edit.proofs.parts.with_kept.Goals as goal

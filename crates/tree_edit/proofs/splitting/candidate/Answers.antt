@@ -1,6 +1,6 @@
 use Rattle.std.specs.Prelude.{Option}
 use Rattle.std.proofs.Common.{◌∙◌, ap}
-use Rattle.rational.specs.Rational.{ℚ}
+use Rattle.frac128.specs.Rational.{ℚ}
 use Rattle.leaf_judging.specs.Queued.{candidate_of}
 use Rattle.tree_edit.proofs.splitting.candidate.Goals as goal
 

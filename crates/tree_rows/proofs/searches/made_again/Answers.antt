@@ -1,6 +1,6 @@
 use Rattle.std.proofs.Common.{sym, subst}
-use Rattle.search_saving.specs.Saved.{IsRestorable}
-use Rattle.search_saving.proofs.SavedLaws.{saved}
+use Rattle.search_file.specs.Saved.{IsRestorable}
+use Rattle.search_file.proofs.SavedLaws.{saved}
 use Rattle.tree_rows.proofs.searches.made_again.Goals as goal
 
 pub search_of-requires : goal.search_of-requires

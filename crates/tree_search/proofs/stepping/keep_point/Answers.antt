@@ -1,7 +1,7 @@
 use Rattle.std.specs.Prelude.{Ok, Err}
 use Rattle.std.proofs.Common.{refl, subst}
 use Rattle.lp_model.specs.Program.{value}
-use Rattle.lp_model.specs.Answers.{IsValueAnswer}
+use Rattle.model_points.specs.Answers.{IsValueAnswer}
 use Rattle.tree_search.proofs.stepping.keep_point.Goals as goal
 
 pub stop_by_value-requires-clause-value : goal.stop_by_value-requires-clause-value

@@ -1,5 +1,5 @@
 use Rattle.serde_json.specs.View.{view}
-use Rattle.warm_values.specs.Values.{member}
+use Rattle.warm_file.specs.Values.{member}
 use Rattle.warm_file.proofs.joining.two_members.Goals as goal
 
 pub returns : goal.returns

@@ -1,7 +1,7 @@
 use Rattle.std.proofs.Common.{[], ◌∷◌, codes}
 use Rattle.serde_json.specs.View.{view}
-use Rattle.warm_values.specs.Values.{member}
-use Rattle.warm_values.proofs.Saying.{says-first, says-next}
+use Rattle.warm_file.specs.Values.{member}
+use Rattle.warm_file.proofs.Saying.{says-first, says-next}
 use Rattle.warm_file.specs.Models.{name_of, program_of}
 use Rattle.warm_file.proofs.ModelLaws.{two-names}
 use Rattle.warm_file.proofs.models.read_behind_name.Goals as goal

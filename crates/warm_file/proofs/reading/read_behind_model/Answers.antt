@@ -1,8 +1,8 @@
 use Rattle.std.proofs.Common.{◌∙◌, ap, sym, subst, codes, length, Err}
 use Rattle.serde_json.specs.View.{view}
-use Rattle.warm_values.specs.Faults.{SaysFault}
-use Rattle.warm_values.specs.Values.{member}
-use Rattle.warm_values.proofs.Saying.{says-first, says-next}
+use Rattle.warm_file.specs.Faults.{SaysFault}
+use Rattle.warm_file.specs.Values.{member}
+use Rattle.warm_file.proofs.Saying.{says-first, says-next}
 use Rattle.warm_file.specs.Searches.{cuts_of}
 use Rattle.warm_file.proofs.SearchLaws.{few-cuts}
 use Rattle.warm_file.proofs.reading.read_behind_model.Goals as goal

@@ -1,8 +1,8 @@
 use Rattle.std.proofs.Common.{◌∙◌, sym, ap}
 use Rattle.serde_json.specs.View.{view}
-use Rattle.warm_values.specs.Rising.{col_entry_of}
-use Rattle.warm_values.specs.Values.{list_of}
-use Rattle.warm_values.proofs.Saying.{says-first, ok-next, ok-is}
+use Rattle.warm_file.specs.Rising.{col_entry_of}
+use Rattle.warm_file.specs.Values.{list_of}
+use Rattle.warm_file.proofs.Saying.{says-first, ok-next, ok-is}
 use Rattle.warm_file.specs.Searches.{dense_numbers_from, point_of}
 use Rattle.warm_file.proofs.searches.read_point.Goals as goal
 

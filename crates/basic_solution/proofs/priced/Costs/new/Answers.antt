@@ -1,5 +1,5 @@
 use Rattle.std.proofs.Common.{◌≤◌, List, length, subst}
-use Rattle.rational.specs.Rational.{ℚ}
+use Rattle.frac128.specs.Rational.{ℚ}
 use Rattle.basic_solution.specs.RowTotals.{AreSmallNumbers, AreFreeFrom}
 use Rattle.basic_solution.proofs.priced.Costs.new.Goals as goal
 

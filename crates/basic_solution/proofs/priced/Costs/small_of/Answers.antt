@@ -1,7 +1,7 @@
 use Rattle.std.proofs.Common.{◌≡◌, ◌∙◌, ◌<◌, ℕ, ℤ, List, length, get_or, pos, sym, ap, subst, arith, to_z, of_z, w64}
 use Rattle.std.specs.Int.{w128}
 use Rattle.std.proofs.lemmas.Int.{ints}
-use Rattle.rational.specs.Rational.{ℚ, int}
+use Rattle.frac128.specs.Rational.{ℚ, int}
 use Rattle.basic_solution.specs.RowTotals.{IsSmallNumber, AreSmallNumbers}
 use Rattle.basic_solution.proofs.ReadLemmas.{small_narrowed}
 use Rattle.basic_solution.proofs.priced.Costs.small_of.Goals as goal

@@ -1,6 +1,6 @@
 use Rattle.std.proofs.Common.{◌∙◌, sym, arith}
 use Rattle.std.proofs.lemmas.Bool.{false≢true}
-use Rattle.bases.specs.States.{reduced_parts}
+use Rattle.table_entries.specs.States.{reduced_parts}
 use Rattle.basic_solution.specs.Held.{relaxation, parts, table}
 use Rattle.basic_solution.proofs.SignLemmas.{above_here, below_here, is_none_here, asked_later}
 use Rattle.basic_solution.proofs.sided.SidedBasis.asked.Goals as goal

@@ -1,7 +1,7 @@
-use Rattle.rational.specs.Rational.{ℚ}
+use Rattle.frac128.specs.Rational.{ℚ}
 use Rattle.std.proofs.Common.{ℕ, ◌≡◌, ◌<◌, ◌≤◌, ◌∙◌, suc, sym, ap, subst, arith, length, get_or}
 use Rattle.std.proofs.lemmas.Bool.{false≢true}
-use Rattle.bases.specs.States.{reduced_parts}
+use Rattle.table_entries.specs.States.{reduced_parts}
 use Rattle.basic_solution.specs.Held.{relaxation, parts, table}
 use Rattle.basic_solution.proofs.SignLemmas.{above_here, below_here, none_more}
 use Rattle.basic_solution.proofs.AskedLemmas.{turn_read, none_at_all}

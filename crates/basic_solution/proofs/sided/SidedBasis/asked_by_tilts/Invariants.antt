@@ -1,5 +1,5 @@
 use Rattle.std.proofs.Common.{suc}
-use Rattle.bases.specs.States.{reduced_parts}
+use Rattle.table_entries.specs.States.{reduced_parts}
 use Rattle.basic_solution.specs.Held.{relaxation, parts, table}
 use Rattle.basic_solution.proofs.SignLemmas.{NoneBelow}
 use Rattle.basic_solution.proofs.sided.SidedBasis.asked_by_tilts.Given as goal

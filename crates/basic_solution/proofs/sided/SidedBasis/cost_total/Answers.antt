@@ -1,6 +1,6 @@
 use Rattle.std.proofs.Common.{sym, ap, subst, ◌∙◌, ◌≡◌, ◌<◌, ◌≤◌, ◌+◌, ◌*◌, ◌^◌, ◌<ℤ◌, ◌+ℤ◌, ◌*ℤ◌, pos, unsigned_abs, length, arith, below_more, to_z, of_z, w64}
 use Rattle.std.specs.Int.{w128}
-use Rattle.rational.specs.Rational.{int}
+use Rattle.frac128.specs.Rational.{int}
 use Rattle.frac128.specs.LowestTerms.{quotient_of}
 use Rattle.checked_sum.specs.Steps.{partial}
 use Rattle.checked_sum.proofs.StepLaws.{partial_none}

@@ -1,6 +1,6 @@
 use Rattle.std.proofs.Common.{sym, ap, ◌∙◌, ◌≡◌, ◌<◌, ◌≤◌, ◌+◌, ◌-◌, ℕ, length, pos, arith}
 use Rattle.std.proofs.lemmas.Option.{IfSome_then}
-use Rattle.rational.specs.Rational.{int}
+use Rattle.frac128.specs.Rational.{int}
 use Rattle.lp_model.specs.CutTerms.{term_of}
 use Rattle.lp_model.specs.Formulations.{formulation}
 use Rattle.lp_model.proofs.ElementLemmas.{of_element-get}

@@ -1,6 +1,6 @@
 use Rattle.std.proofs.Common.{◌≢◌, ◌<◌, ◌∙◌, pos, refl, sym, subst, arith}
-use Rattle.rational.specs.Rational.{int}
-use Rattle.bases.specs.Steps.{ExchangeFits}
+use Rattle.frac128.specs.Rational.{int}
+use Rattle.table_entries.specs.Steps.{ExchangeFits}
 use Rattle.lp_model.specs.Formulations.{formulation}
 use Rattle.row_tableau.specs.Answers.{IsWidePivot}
 use Rattle.basic_solution.specs.Held.{Held, IsSided, table}

@@ -1,5 +1,5 @@
 use Rattle.std.proofs.Common.{◌≡◌, ◌≤◌, sym, subst, arith}
-use Rattle.bases.specs.States.{farkas_weights}
+use Rattle.table_entries.specs.States.{farkas_weights}
 use Rattle.basic_solution.specs.Held.{relaxation, state, variables}
 use Rattle.basic_solution.specs.Lists.{AreMultipliersBelow}
 use Rattle.basic_solution.proofs.ListLemmas.{multipliers_none, multipliers_all}

@@ -1,4 +1,4 @@
-use Rattle.bases.specs.States.{farkas_weights}
+use Rattle.table_entries.specs.States.{farkas_weights}
 use Rattle.basic_solution.specs.Held.{relaxation, state}
 use Rattle.basic_solution.specs.Lists.{AreMultipliersBelow}
 use Rattle.basic_solution.proofs.sided.SidedBasis.farkas_list.Given as goal

@@ -1,6 +1,6 @@
 use Rattle.std.proofs.Common.{◌≡◌, ◌<◌, ◌∙◌, ap, subst}
-use Rattle.rational.specs.Rational.{◌*ℚ◌, neg_ℚ}
-use Rattle.bases.specs.States.{sign}
+use Rattle.frac128.specs.Rational.{◌*ℚ◌, neg_ℚ}
+use Rattle.table_entries.specs.States.{sign}
 use Rattle.basic_solution.specs.Held.{IsSided, table}
 use Rattle.basic_solution.proofs.PointLemmas.{weight_leaving, weight_basic, weight_nonbasic}
 use Rattle.basic_solution.proofs.sided.SidedBasis.farkas_of.Goals as goal

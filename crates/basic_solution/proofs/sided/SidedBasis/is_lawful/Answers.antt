@@ -1,6 +1,6 @@
 use Rattle.std.proofs.Common.{◌<◌, ◌∙◌, ℕ, sym, arith, get_or, below_more}
 use Rattle.std.proofs.lemmas.Bool.{false≢true}
-use Rattle.bases.specs.declared.stand.Stand.TheVariants.{Free}
+use Rattle.table_entries.specs.declared.stand.Stand.TheVariants.{Free}
 use Rattle.basic_solution.specs.Held.{variables}
 use Rattle.basic_solution.specs.Numbers.{CostsFit}
 use Rattle.basic_solution.specs.Slack.{IsPlaced}

@@ -1,10 +1,10 @@
 use Rattle.std.proofs.Common.{◌↔◌, ◌∙◌, IsTrue, sym, subst, get_or}
 use Rattle.std.proofs.lemmas.Bool.{false≢true}
-use Rattle.bases.specs.declared.stand.Stand.TheVariants.{Free}
-use Rattle.bases.specs.States.{LawfulAt, reduced_parts}
+use Rattle.table_entries.specs.declared.stand.Stand.TheVariants.{Free}
+use Rattle.table_entries.specs.States.{LawfulAt, reduced_parts}
 use Rattle.basic_solution.specs.Held.{relaxation, parts, table}
 use Rattle.basic_solution.specs.Slack.{CanStand}
-use Rattle.bases.proofs.Signs.{asked_once}
+use Rattle.table_entries.proofs.Signs.{asked_once}
 use Rattle.basic_solution.proofs.sided.SidedBasis.is_placed.Goals as goal
 
 pub asked-requires-clause-cost : goal.asked-requires-clause-cost

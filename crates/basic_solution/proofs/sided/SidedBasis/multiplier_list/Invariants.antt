@@ -1,5 +1,5 @@
 use Rattle.std.proofs.Common.{◌<◌, ◌≤◌, ℕ}
-use Rattle.bases.specs.Relaxation.{multipliers}
+use Rattle.table_entries.specs.Relaxation.{multipliers}
 use Rattle.basic_solution.specs.Held.{relaxation, table}
 use Rattle.basic_solution.specs.Numbers.{MultiplierFits}
 use Rattle.basic_solution.specs.Lists.{AreMultipliersBelow}

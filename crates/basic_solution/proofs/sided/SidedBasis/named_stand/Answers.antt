@@ -1,6 +1,6 @@
 use Rattle.std.proofs.Common.{◌∙◌, sym, ap, subst}
 use Rattle.std.proofs.lemmas.Bool.{false≢true}
-use Rattle.bases.specs.Bases.{Lists}
+use Rattle.table_entries.specs.Bases.{Lists}
 use Rattle.row_tableau.specs.Dense.{table_of}
 use Rattle.row_tableau.specs.Variables.{numbers}
 use Rattle.basic_solution.specs.Held.{table}

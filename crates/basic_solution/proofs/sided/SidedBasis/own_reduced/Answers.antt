@@ -1,8 +1,8 @@
 use Rattle.std.proofs.Common.{◌≡◌, ◌∙◌, ◌<◌, ap, sym, subst, get_or}
-use Rattle.bases.specs.declared.stand.Stand.TheVariants.{Free}
-use Rattle.rational.specs.Rational.{◌*ℚ◌}
-use Rattle.bases.specs.Relaxation.{reduced_cost}
-use Rattle.bases.specs.States.{sign}
+use Rattle.table_entries.specs.declared.stand.Stand.TheVariants.{Free}
+use Rattle.frac128.specs.Rational.{◌*ℚ◌}
+use Rattle.table_entries.specs.Relaxation.{reduced_cost}
+use Rattle.table_entries.specs.States.{sign}
 use Rattle.basic_solution.specs.Held.{relaxation, table, variables, own_cost}
 use Rattle.basic_solution.proofs.PartLemmas.{tilt_read, own_basic, own_here, own_elsewhere}
 use Rattle.basic_solution.proofs.sided.SidedBasis.own_reduced.Goals as goal

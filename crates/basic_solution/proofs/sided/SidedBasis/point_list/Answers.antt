@@ -1,8 +1,8 @@
 use Rattle.std.proofs.Common.{◌≡◌, ◌<◌, ◌+◌, ◌∙◌, ◌++◌, [], ◌∷◌, ℕ, sym, ap, subst, arith, length, pos, below_more}
 use Rattle.std.proofs.lemmas.List.{get_or_push, get_or_append_left, length-append}
-use Rattle.rational.specs.Rational.{int}
+use Rattle.frac128.specs.Rational.{int}
 use Rattle.lp_model.specs.Program.{coordinate}
-use Rattle.bases.specs.Relaxation.{point}
+use Rattle.table_entries.specs.Relaxation.{point}
 use Rattle.basic_solution.specs.Held.{relaxation, state, table}
 use Rattle.basic_solution.specs.Numbers.{NumberFits}
 use Rattle.basic_solution.proofs.sided.SidedBasis.point_list.Goals as goal

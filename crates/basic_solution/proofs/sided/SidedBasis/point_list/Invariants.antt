@@ -1,6 +1,6 @@
 use Rattle.std.proofs.Common.{◌≡◌, ◌<◌, ℕ, length}
 use Rattle.lp_model.specs.Program.{coordinate}
-use Rattle.bases.specs.Relaxation.{point}
+use Rattle.table_entries.specs.Relaxation.{point}
 use Rattle.basic_solution.specs.Held.{relaxation, state, table}
 use Rattle.basic_solution.specs.Numbers.{NumberFits}
 use Rattle.basic_solution.proofs.sided.SidedBasis.point_list.Given as goal

@@ -2,7 +2,7 @@ use Rattle.std.proofs.Common.{◌<◌, ◌≡◌, ◌∙◌, ap₂, sym, subst, 
 use Rattle.std.specs.Int.{w128}
 use Rattle.frac128.specs.LowestTerms.{quotient_of}
 use Rattle.table_entries.specs.WholeSums.{HasMargin}
-use Rattle.bases.specs.States.{basic_value}
+use Rattle.table_entries.specs.States.{basic_value}
 use Rattle.basic_solution.specs.Held.{relaxation, state, table}
 use Rattle.basic_solution.specs.Breach.{IsBreach}
 use Rattle.basic_solution.proofs.SideLemmas.{row_breach_of, breach_at}

@@ -1,6 +1,6 @@
 use Rattle.std.proofs.Common.{◌≡◌, ◌∙◌, sym, subst, pos}
-use Rattle.rational.specs.Rational.{int}
-use Rattle.bases.specs.Steps.{at_basic}
+use Rattle.frac128.specs.Rational.{int}
+use Rattle.table_entries.specs.Steps.{at_basic}
 use Rattle.table_entries.specs.FlatSteps.{dense_entry}
 use Rattle.basic_solution.specs.Held.{relaxation, table}
 use Rattle.basic_solution.proofs.PointLemmas.{no_saved, own_saved}

@@ -1,6 +1,6 @@
 use Rattle.std.proofs.Common.{◌<◌, ◌∙◌, sym, ap, subst, arith, get_or, set}
 use Rattle.std.proofs.lemmas.List.{length-set, get_or-set_same, get_or-set_other}
-use Rattle.bases.specs.declared.stand.Stand.TheVariants.{Free}
+use Rattle.table_entries.specs.declared.stand.Stand.TheVariants.{Free}
 use Rattle.lp_model.specs.Formulations.{formulation}
 use Rattle.basic_solution.specs.Held.{Held}
 use Rattle.basic_solution.proofs.SlackLemmas.{restood_sided}

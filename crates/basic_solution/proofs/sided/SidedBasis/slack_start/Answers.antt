@@ -1,5 +1,5 @@
 use Rattle.std.proofs.Common.{◌∙◌, refl, sym, ap, length, get_or, pos}
-use Rattle.rational.specs.Rational.{int}
+use Rattle.frac128.specs.Rational.{int}
 use Rattle.row_tableau.specs.Relaxations.{form_of}
 use Rattle.basic_solution.specs.Held.{Held}
 use Rattle.basic_solution.proofs.SlackLemmas.{slack_sided, slack_state}

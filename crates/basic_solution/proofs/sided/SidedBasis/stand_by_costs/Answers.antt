@@ -1,6 +1,6 @@
 use Rattle.std.proofs.Common.{◌≡◌, ◌<◌, sym, ap, subst, arith, get_or, below_more}
-use Rattle.bases.specs.declared.stand.Stand.TheVariants.{Free}
-use Rattle.bases.specs.Relaxation.{reduced_cost}
+use Rattle.table_entries.specs.declared.stand.Stand.TheVariants.{Free}
+use Rattle.table_entries.specs.Relaxation.{reduced_cost}
 use Rattle.basic_solution.specs.Held.{relaxation, table}
 use Rattle.basic_solution.specs.Slack.{IsPlaced}
 use Rattle.basic_solution.proofs.AskedLemmas.{restood_trans, restood_back, restood_placed, restood_misplaced}

@@ -1,5 +1,5 @@
 use Rattle.std.proofs.Common.{◌<◌, ℕ, get_or}
-use Rattle.bases.specs.declared.stand.Stand.TheVariants.{Free}
+use Rattle.table_entries.specs.declared.stand.Stand.TheVariants.{Free}
 use Rattle.basic_solution.specs.Slack.{IsRestood, IsPlaced}
 use Rattle.basic_solution.proofs.sided.SidedBasis.stand_by_costs.Given as goal
 

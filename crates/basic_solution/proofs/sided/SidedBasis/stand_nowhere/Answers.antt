@@ -1,5 +1,5 @@
 use Rattle.std.proofs.Common.{◌≡◌, ◌<◌, ◌∙◌, ap, arith, get_or, below_more}
-use Rattle.bases.specs.declared.stand.Stand.TheVariants.{Free}
+use Rattle.table_entries.specs.declared.stand.Stand.TheVariants.{Free}
 use Rattle.basic_solution.proofs.AskedLemmas.{restood_trans}
 use Rattle.basic_solution.proofs.sided.SidedBasis.stand_nowhere.Goals as goal
 

@@ -1,6 +1,6 @@
 use Rattle.std.proofs.Common.{◌≡◌, ◌∙◌, sym, subst, pos}
-use Rattle.rational.specs.Rational.{int}
-use Rattle.bases.specs.Steps.{at_nonbasic}
+use Rattle.frac128.specs.Rational.{int}
+use Rattle.table_entries.specs.Steps.{at_nonbasic}
 use Rattle.basic_solution.specs.Held.{relaxation, table, state}
 use Rattle.basic_solution.proofs.PointLemmas.{no_standing, own_standing}
 use Rattle.basic_solution.proofs.sided.SidedBasis.standing.Goals as goal

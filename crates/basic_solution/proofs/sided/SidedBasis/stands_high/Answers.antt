@@ -1,5 +1,5 @@
 use Rattle.std.proofs.Common.{◌≡◌, ◌<◌, ◌∙◌, sym, subst}
-use Rattle.bases.specs.declared.stand.Stand.TheVariants.{Low, High, Free}
+use Rattle.table_entries.specs.declared.stand.Stand.TheVariants.{Low, High, Free}
 use Rattle.basic_solution.specs.Held.{IsSided, table}
 use Rattle.basic_solution.proofs.ListLemmas.{basic_not_high, place_high, place_not_high}
 use Rattle.basic_solution.proofs.sided.SidedBasis.stands_high.Goals as goal

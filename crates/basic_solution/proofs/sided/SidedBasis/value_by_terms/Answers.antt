@@ -1,5 +1,5 @@
 use Rattle.std.proofs.Common.{refl, subst, pos}
-use Rattle.rational.specs.Rational.{int}
+use Rattle.frac128.specs.Rational.{int}
 use Rattle.table_entries.proofs.ReadLemmas.{short_again, positive_again}
 use Rattle.basic_solution.specs.Held.{IsSided, table}
 use Rattle.basic_solution.proofs.PointLemmas.{value_answer, value_refusal}

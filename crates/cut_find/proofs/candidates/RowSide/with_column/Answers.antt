@@ -1,6 +1,6 @@
 use Rattle.std.proofs.Common.{◌≡◌, ◌∙◌, sym, ap, arith, ◌+◌, ◌≤◌, ◌^◌, ◌+ℤ◌, ◌*ℤ◌, unsigned_abs, Some, to_z, of_z, w64}
 use Rattle.std.specs.Int.{w128}
-use Rattle.rational.specs.Rational.{int}
+use Rattle.frac128.specs.Rational.{int}
 use Rattle.frac128.specs.LowestTerms.{quotient_of}
 use Rattle.lp_model.specs.Program.{lower, upper}
 use Rattle.lp_model.specs.Sides.{needed_side}

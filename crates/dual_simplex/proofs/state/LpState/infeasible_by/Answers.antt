@@ -1,6 +1,6 @@
 use Rattle.std.proofs.Common.{◌<◌, sym, subst, IfOk}
-use Rattle.bases.specs.Relaxation.{multipliers}
-use Rattle.bases.specs.States.{farkas_weights}
+use Rattle.table_entries.specs.Relaxation.{multipliers}
+use Rattle.table_entries.specs.States.{farkas_weights}
 use Rattle.dual_simplex.specs.LpStates.{IsLpState}
 use Rattle.basic_solution.specs.Held.{relaxation, state, table}
 use Rattle.basic_solution.specs.Lists.{AreListedMultipliers, AreMultipliersAnswer}

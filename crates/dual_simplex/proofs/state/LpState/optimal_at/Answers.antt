@@ -1,5 +1,5 @@
 use Rattle.std.proofs.Common.{subst, Ok, inl, inr}
-use Rattle.bases.specs.Relaxation.{multipliers}
+use Rattle.table_entries.specs.Relaxation.{multipliers}
 use Rattle.dual_simplex.specs.LpStates.{IsLpState}
 use Rattle.basic_solution.specs.Held.{relaxation, table}
 use Rattle.basic_solution.specs.Lists.{AreMultipliersAnswer, IsWideActivity}

@@ -1,5 +1,5 @@
 use Rattle.std.proofs.Common.{◌∙◌, sym, subst, Some, None, Ok, Err, inl, inr}
-use Rattle.bases.specs.Steps.{ExchangeFits}
+use Rattle.table_entries.specs.Steps.{ExchangeFits}
 use Rattle.row_tableau.specs.Answers.{IsWidePivot}
 use Rattle.basic_solution.specs.Held.{table}
 use Rattle.basic_solution.specs.Exchanges.{IsMove}

@@ -1,8 +1,8 @@
 use Rattle.std.specs.Prelude.{Bool, Decides}
 use Rattle.std.proofs.Common.{◌∙◌, sym, subst}
 use Rattle.std.proofs.lemmas.Bool.Decides.{same_from_decides}
-use Rattle.rational.specs.Rational.{◌≤ℚ◌}
-use Rattle.rational.proofs.Comparison.{is_le-decides, rational_le-decides}
+use Rattle.frac128.specs.Rational.{◌≤ℚ◌}
+use Rattle.frac128.proofs.Comparison.{is_le-decides, rational_le-decides}
 use Rattle.frac128.proofs.frac.Frac.is_at_most.Goals as goal
 
 pub returns-clause-test : goal.returns-clause-test

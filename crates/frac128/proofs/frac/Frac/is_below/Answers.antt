@@ -1,7 +1,7 @@
 use Rattle.std.specs.Prelude.{Bool, Decides}
 use Rattle.std.proofs.Common.{sym, subst}
-use Rattle.rational.specs.Rational.{◌<ℚ◌}
-use Rattle.rational.proofs.Comparison.{is_lt-decides}
+use Rattle.frac128.specs.Rational.{◌<ℚ◌}
+use Rattle.frac128.proofs.Comparison.{is_lt-decides}
 use Rattle.frac128.proofs.frac.Frac.is_below.Goals as goal
 
 pub returns : goal.returns

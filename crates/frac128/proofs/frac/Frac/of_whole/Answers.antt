@@ -1,7 +1,7 @@
 use Rattle.std.proofs.Common.{arith, sym, unsigned_abs}
 use Rattle.std.proofs.lemmas.Int.{to_z-of_z, ints}
-use Rattle.rational.specs.Gcd.{gcd-one}
-use Rattle.rational.proofs.RationalRing.{int_is}
+use Rattle.frac128.specs.Gcd.{gcd-one}
+use Rattle.frac128.specs.RationalRing.{int_is}
 use Rattle.frac128.proofs.frac.Frac.of_whole.Goals as goal
 
 pub invariant_of-result : goal.invariant_of-result

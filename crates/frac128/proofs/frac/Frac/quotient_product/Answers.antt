@@ -2,7 +2,7 @@ use Rattle.std.proofs.Common.{rules, sym, subst, pos, ◌≡◌, ◌∙◌, unsi
 use Rattle.std.specs.Prelude.{◌*ℤ◌, int_div}
 use Rattle.std.specs.Int.{w128}
 use Rattle.std.proofs.lemmas.Int.{to_z-of_z}
-use Rattle.rational.specs.Gcd.{gcd}
+use Rattle.frac128.specs.Gcd.{gcd}
 use mathlib.Core.Path.{subst₂}
 use Rattle.frac128.specs.Range.{IsNarrow}
 use Rattle.frac128.specs.LowestTerms.{IsLowestTerms, quotient_of}

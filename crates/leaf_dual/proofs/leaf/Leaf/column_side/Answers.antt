@@ -1,5 +1,5 @@
 use Rattle.std.proofs.Common.{◌≡◌, ◌∙◌, ap, pos, Some, true, false}
-use Rattle.rational.specs.Rational.{int, ◌<ℚ◌}
+use Rattle.frac128.specs.Rational.{int, ◌<ℚ◌}
 use Rattle.lp_model.specs.Regions.{region_low, region_high}
 use Rattle.lp_model.proofs.SideLemmas.{needed-positive, needed-negative, needed-zero}
 use Rattle.leaf_dual.proofs.leaf.Leaf.column_side.Goals as goal

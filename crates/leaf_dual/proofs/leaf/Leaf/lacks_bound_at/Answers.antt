@@ -1,6 +1,6 @@
 use Rattle.std.proofs.Common.{pos}
 use Rattle.std.proofs.lemmas.Bool.{false≢true}
-use Rattle.rational.specs.Rational.{int}
+use Rattle.frac128.specs.Rational.{int}
 use Rattle.lp_model.specs.Regions.{region_low, region_high}
 use Rattle.lp_model.specs.Formulations.{formulation}
 use Rattle.leaf_dual.specs.Dual.{multiplier, cut_weight, column_reduced_cost}

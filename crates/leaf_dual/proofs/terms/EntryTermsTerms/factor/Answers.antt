@@ -1,5 +1,5 @@
 use Rattle.std.proofs.Common.{sym, ap, ◌∙◌}
-use Rattle.rational.specs.Rational.{neg_ℚ}
+use Rattle.frac128.specs.Rational.{neg_ℚ}
 use Rattle.lp_model.proofs.ElementLemmas.{of_element-get}
 use Rattle.leaf_dual.specs.Dual.{multiplier}
 use Rattle.leaf_dual.proofs.terms.EntryTermsTerms.factor.Goals as goal

@@ -1,5 +1,5 @@
 use Rattle.std.proofs.Common.{pos, sym, ap, ◌∙◌}
-use Rattle.rational.specs.Rational.{int}
+use Rattle.frac128.specs.Rational.{int}
 use Rattle.lp_model.proofs.ElementLemmas.{of_element-get}
 use Rattle.leaf_dual.proofs.terms.EntryTermsTerms.number.Goals as goal
 

@@ -1,6 +1,6 @@
 use Rattle.std.proofs.Common.{◌≡◌, ◌∙◌, sym, ap, subst, pos, get_or, to_z, of_z, w64}
 use Rattle.std.proofs.lemmas.Option.{IfSome_then}
-use Rattle.rational.specs.Rational.{int, neg_ℚ}
+use Rattle.frac128.specs.Rational.{int, neg_ℚ}
 use Rattle.frac128.specs.LowestTerms.{quotient_of}
 use Rattle.lp_model.proofs.ElementLemmas.{of_element-get}
 use Rattle.leaf_dual.specs.Dual.{multiplier}

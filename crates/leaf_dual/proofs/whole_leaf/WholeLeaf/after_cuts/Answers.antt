@@ -1,7 +1,7 @@
 use Rattle.std.proofs.Common.{◌≡◌, ◌∙◌, ◌+◌, ℕ, sym, ap, subst, arith, length, [], pos, to_z, of_z}
 use Rattle.std.specs.Int.{w128}
-use Rattle.rational.specs.Rational.{ℚ, int, neg_ℚ}
-use Rattle.rational.proofs.RationalRing.{ring, reads_ℚ}
+use Rattle.frac128.specs.Rational.{ℚ, int, neg_ℚ}
+use Rattle.frac128.specs.RationalRing.{ring, reads_ℚ}
 use Rattle.frac128.specs.LowestTerms.{quotient_of}
 use Rattle.checked_sum.specs.Steps.{AllFit, partial}
 use Rattle.checked_sum.proofs.StepLaws.{partial_none, partial_next, fits_next}

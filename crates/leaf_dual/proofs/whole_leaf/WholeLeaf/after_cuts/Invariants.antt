@@ -1,5 +1,5 @@
 use Rattle.std.proofs.Common.{◌≡◌, ◌≤◌, ◌-◌, length}
-use Rattle.rational.specs.Rational.{neg_ℚ}
+use Rattle.frac128.specs.Rational.{neg_ℚ}
 use Rattle.frac128.specs.LowestTerms.{quotient_of}
 use Rattle.checked_sum.specs.Steps.{AllFit, partial}
 use Rattle.lp_model.specs.Formulations.{cut_coefficient}

@@ -1,7 +1,7 @@
 use Rattle.std.proofs.Common.{◌≡◌, ◌∙◌, sym, ap, subst, arith, pos, to_z, of_z, w64}
 use Rattle.std.proofs.lemmas.Int.{ints}
 use Rattle.std.proofs.lemmas.Option.{IfSome_then}
-use Rattle.rational.specs.Rational.{neg_ℚ}
+use Rattle.frac128.specs.Rational.{neg_ℚ}
 use Rattle.frac128.specs.LowestTerms.{quotient_of}
 use Rattle.lp_model.specs.Formulations.{cut_coefficient}
 use Rattle.leaf_dual.specs.Dual.{cut_weight}

@@ -1,6 +1,6 @@
 use Rattle.std.proofs.Common.{ap, ◌∙◌}
 use Rattle.std.specs.Prelude.{Option}
-use Rattle.rational.specs.Rational.{ℚ}
+use Rattle.frac128.specs.Rational.{ℚ}
 use Rattle.leaf_judging.specs.Queued.{candidate_of}
 use Rattle.leaf_judging.proofs.judging.Against.mark_of.Goals as goal
 

@@ -1,5 +1,5 @@
 use Rattle.std.proofs.Common.{◌∙◌, pos}
-use Rattle.rational.specs.Rational.{int}
+use Rattle.frac128.specs.Rational.{int}
 use Rattle.lp_model.specs.Program.{entry_of}
 use Rattle.lp_model.proofs.ElementLemmas.{of_element-read}
 use Rattle.lp_model.proofs.model.Model.coefficient.Goals as goal

@@ -1,5 +1,5 @@
 use Rattle.std.proofs.Common.{◌∙◌, if◌then◌else◌, nat_eq, pos}
-use Rattle.rational.specs.Rational.{int}
+use Rattle.frac128.specs.Rational.{int}
 use Rattle.lp_model.proofs.ElementLemmas.{of_element-read}
 use Rattle.lp_model.proofs.model.Model.cost_at.Goals as goal
 

@@ -1,6 +1,6 @@
 use Rattle.std.proofs.Common.{◌≡◌, ◌∙◌, false, None, if◌then◌else◌}
 use Rattle.std.specs.Option.{option_map}
-use Rattle.rational.specs.Rational.{int, floor}
+use Rattle.frac128.specs.Rational.{int, floor}
 use Rattle.lp_model.specs.Program.{upper, is_integer}
 use Rattle.lp_model.specs.Regions.{high_along}
 use Rattle.lp_model.proofs.ElementLemmas.{of_element-read}

@@ -1,6 +1,6 @@
 use Rattle.std.proofs.Common.{◌≡◌, ◌∙◌, false, None, if◌then◌else◌}
 use Rattle.std.specs.Option.{option_map}
-use Rattle.rational.specs.Rational.{int, ceil}
+use Rattle.frac128.specs.Rational.{int, ceil}
 use Rattle.lp_model.specs.Program.{lower, is_integer}
 use Rattle.lp_model.specs.Regions.{low_along}
 use Rattle.lp_model.proofs.ElementLemmas.{of_element-read}

@@ -1,7 +1,7 @@
 use Rattle.std.proofs.Common.{◌≡◌, refl, sym, ap, subst, arith, length}
 use Rattle.lp_model.specs.Regions.{AreNarrow}
 use Rattle.lp_model.specs.Formulations.{formulation}
-use Rattle.bases.specs.Relaxation.{HasNoCrossedSides}
+use Rattle.table_entries.specs.Relaxation.{HasNoCrossedSides}
 use Rattle.row_tableau.specs.declared.relax.RelaxKind.TheVariants.{Plain}
 use Rattle.row_tableau.specs.Relaxations.{plain}
 use Rattle.row_tableau.proofs.OrderedLemmas.{region_ordered}

@@ -1,6 +1,6 @@
 use Rattle.std.proofs.Common.{◌<◌, ◌≢◌, sym, subst, pos}
-use Rattle.rational.specs.Rational.{int}
-use Rattle.bases.specs.Steps.{IsFirstWidePivotEntry}
+use Rattle.frac128.specs.Rational.{int}
+use Rattle.table_entries.specs.Steps.{IsFirstWidePivotEntry}
 use Rattle.row_tableau.specs.Dense.{Dense, table_of}
 use Rattle.row_tableau.specs.Answers.{IsWidePivot}
 use Rattle.row_tableau.proofs.tableau.Tableau.exchange_named.Goals as goal

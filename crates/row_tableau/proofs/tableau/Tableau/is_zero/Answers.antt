@@ -1,5 +1,5 @@
 use Rattle.std.proofs.Common.{◌≡◌, ◌↔◌, IsTrue, pos, subst}
-use Rattle.rational.specs.Rational.{int}
+use Rattle.frac128.specs.Rational.{int}
 use Rattle.row_tableau.proofs.LayoutLemmas.{slots_written, slots_long, row_there, place_there, entry_is}
 use Rattle.row_tableau.proofs.tableau.Tableau.is_zero.Goals as goal
 

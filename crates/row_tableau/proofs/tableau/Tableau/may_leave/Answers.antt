@@ -1,7 +1,7 @@
 use Rattle.std.specs.Prelude.{not}
 use Rattle.std.proofs.Common.{◌∙◌, sym, ap, subst}
 use Rattle.std.proofs.lemmas.Bool.{false≢true}
-use Rattle.bases.specs.Bases.{Lists}
+use Rattle.table_entries.specs.Bases.{Lists}
 use Rattle.row_tableau.specs.Dense.{table_of}
 use Rattle.row_tableau.specs.Variables.{numbers}
 use Rattle.row_tableau.proofs.LeavingLemmas.{unlisted_leaves}

@@ -1,5 +1,5 @@
 use Rattle.std.proofs.Common.{◌++◌, ap, ◌∙◌}
-use Rattle.sym_shell.specs.EnvFaults.{warm_fault_text}
+use Rattle.shell_replies.specs.Faults.{warm_fault_text}
 use Rattle.sym_shell.specs.Saving.{Taken}
 use Rattle.sym_shell.proofs.SavingLemmas.{restored-words, text-untaken}
 use Rattle.command_files.proofs.FileLemmas.{on_ok, on_ok_if}

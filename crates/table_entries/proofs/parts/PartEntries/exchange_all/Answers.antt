@@ -1,6 +1,6 @@
 use Rattle.std.proofs.Common.{ℕ, ◌≡◌, ◌≢◌, ◌<◌, ◌*◌, ◌∙◌, sym, ap, subst, length, false, pos, List, Result, Ok, Err, OnOk, OnErr, IfErr}
 use Rattle.std.proofs.lemmas.Bool.{false≢true}
-use Rattle.rational.specs.Rational.{ℚ, int}
+use Rattle.frac128.specs.Rational.{ℚ, int}
 use Rattle.table_entries.specs.FlatSteps.{dense_entry, FlatFits}
 use Rattle.table_entries.specs.Listed.{IsExchangedList}
 use Rattle.table_entries.specs.Parts.{Parts, filled}

@@ -1,7 +1,7 @@
 use Rattle.std.proofs.Common.{ℕ, ◌≡◌, ◌<◌, ◌∙◌, sym, ap, subst, arith, get_or, length, false, pos, to_z, of_z, w64}
 use Rattle.std.proofs.lemmas.Int.{ints}
 use Rattle.std.proofs.lemmas.List.{get_or_default}
-use Rattle.rational.specs.Rational.{int}
+use Rattle.frac128.specs.Rational.{int}
 use Rattle.frac128.specs.LowestTerms.{quotient_of}
 use Rattle.table_entries.specs.FlatSteps.{dense_entry}
 use Rattle.table_entries.specs.WholeSteps.{IsShort, is_unwritten}

@@ -1,6 +1,6 @@
 use Rattle.std.proofs.Common.{sym, ap, subst, ◌∙◌, ◌≢◌, ◌+◌, ◌*◌, ◌<◌, ℕ, length, get_or, pos}
 use Rattle.std.specs.Prelude.{OnOk, IfErr}
-use Rattle.rational.specs.Rational.{int}
+use Rattle.frac128.specs.Rational.{int}
 use Rattle.table_entries.specs.FlatSteps.{FlatFits}
 use Rattle.table_entries.specs.Listed.{IsExchangedList}
 use Rattle.table_entries.proofs.table_entries.TableEntries.exchange.Goals as goal

@@ -1,6 +1,6 @@
 use Rattle.std.proofs.Common.{sym, ap, subst, arith, ◌∙◌, ◌≡◌, ◌≢◌, ◌≤◌, ◌+◌, ◌*◌, length, get_or, pos, vec_capacity, false}
 use Rattle.std.proofs.lemmas.List.{with_items_is}
-use Rattle.rational.specs.Rational.{int}
+use Rattle.frac128.specs.Rational.{int}
 use Rattle.table_entries.specs.Listed.{listed_costs, IsExchangedList}
 use Rattle.table_entries.proofs.ListedLemmas.{listed_fractions, fractions_exchanged}
 use Rattle.table_entries.proofs.table_entries.TableEntries.exchange_fractions.Goals as goal

@@ -1,7 +1,7 @@
 use Rattle.std.proofs.Common.{sym, ap, subst, subst₂, ◌∙◌, arith, ◌≡◌, ◌≢◌, ◌<◌, ◌+◌, ◌*◌, length, get_or, pos, to_z, of_z, w64}
 use Rattle.std.proofs.lemmas.Int.{ints}
 use Rattle.std.proofs.lemmas.List.{with_items_is, get_or_default}
-use Rattle.rational.specs.Rational.{int}
+use Rattle.frac128.specs.Rational.{int}
 use Rattle.table_entries.specs.WholeSteps.{IsShort, AreShort, AreWithin, magnitude, whole_number_at, AreWritten}
 use Rattle.table_entries.specs.Listed.{over, AreOver}
 use Rattle.table_entries.proofs.ReadLemmas.{short_read, short_again, short_as, positive_again}

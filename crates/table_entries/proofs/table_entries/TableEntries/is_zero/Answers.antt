@@ -1,6 +1,6 @@
 use Rattle.std.proofs.Common.{sym, ap, subst, ◌∙◌, ◌≡◌, ◌<◌, length, get_or, true, pos}
 use Rattle.std.proofs.lemmas.List.{get_or_default, length-map}
-use Rattle.rational.specs.Rational.{int}
+use Rattle.frac128.specs.Rational.{int}
 use Rattle.frac128.specs.LowestTerms.{quotient_of}
 use Rattle.table_entries.specs.WholeSteps.{IsShort, whole_number_at}
 use Rattle.table_entries.specs.Listed.{over}

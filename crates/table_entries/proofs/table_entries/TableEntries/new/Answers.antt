@@ -1,6 +1,6 @@
 use Rattle.std.proofs.Common.{sym, ap, subst, ◌∙◌, ◌≡◌, length, get_or, pos, vec_capacity, arith}
 use Rattle.std.proofs.lemmas.Bool.{eqb-true}
-use Rattle.rational.specs.Rational.{int}
+use Rattle.frac128.specs.Rational.{int}
 use Rattle.table_entries.specs.Listed.{IsShortWhole}
 use Rattle.table_entries.proofs.ListedLemmas.{new_listed, new_stored}
 use Rattle.table_entries.proofs.table_entries.TableEntries.new.Goals as goal

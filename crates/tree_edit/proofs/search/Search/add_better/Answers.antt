@@ -1,6 +1,6 @@
 use Rattle.std.proofs.Common.{◌≡◌, ◌∙◌, ◌++◌, ◌∷◌, [], List, refl, sym, subst, ap}
 use Rattle.std.specs.Prelude.{Option}
-use Rattle.rational.specs.Rational.{ℚ}
+use Rattle.frac128.specs.Rational.{ℚ}
 use Rattle.branch_tree.specs.Leaves.{with_states}
 use Rattle.branch_tree.specs.Numbered.{NumberedTree}
 use Rattle.branch_tree.specs.Changes.{with_leaf_states}

@@ -7,10 +7,10 @@ use Rattle.tree_edit.proofs.search.Search.child.Goals as goal
 pub judged_child-requires : goal.judged_child-requires
 judged_child-requires c = subst (λ (path : Path). AreNarrow path) (sym c.in-Ok.ensures) c.requires
 
-pub returns-in-Ok-copies : goal.returns-in-Ok-copies
-returns-in-Ok-copies c =
+pub returns-in-Ok-copy_lists : goal.returns-in-Ok-copy_lists
+returns-in-Ok-copy_lists c =
     let S : PlainSearch = c.args.self.now in
     let path : c.in-Ok.path ≡ c.args.region.now ++ c.args.change ∷ [] = c.in-Ok.ensures in
-    let mult : c.in-Ok-copies.mult ≡ c.args.mult.now = c.in-Ok-copies.ensures.mult in
-    let basis : c.in-Ok-copies.basis ≡ c.args.basis.now = c.in-Ok-copies.ensures.basis in
+    let mult : c.in-Ok-copy_lists.mult ≡ c.args.mult.now = c.in-Ok-copy_lists.ensures.mult in
+    let basis : c.in-Ok-copy_lists.basis ≡ c.args.basis.now = c.in-Ok-copy_lists.ensures.basis in
     subst (λ P. P) (λ k. IsNumberedChild S (path k) (mult k) (basis k) c.judged_child.result) c.judged_child.ensures

@@ -1,5 +1,5 @@
 use Rattle.std.proofs.Common.{List, subst}
-use Rattle.rational.specs.Rational.{ℚ}
+use Rattle.frac128.specs.Rational.{ℚ}
 use Rattle.sound_searches.specs.Sound.{PlainSearch}
 use Rattle.search_parts.specs.Joining.{Joins}
 use Rattle.tree_edit.specs.PlacingSteps.{JoinsPoint}

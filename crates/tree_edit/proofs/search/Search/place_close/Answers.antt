@@ -1,7 +1,7 @@
 use Rattle.std.specs.Prelude.{Option}
 use Rattle.std.proofs.Common.{refl, subst}
 use Rattle.std.proofs.lemmas.Result.{IfOk-weaker}
-use Rattle.rational.specs.Rational.{ℚ}
+use Rattle.frac128.specs.Rational.{ℚ}
 use Rattle.leaf_judging.specs.Closing.{ClosesBy}
 use Rattle.search_parts.specs.Points.{target}
 use Rattle.sound_searches.specs.declared.taken.Taken.{Taken}

@@ -1,5 +1,5 @@
 use Rattle.std.proofs.Common.{◌≡◌, ◌∙◌, List, refl, subst, ap, pos}
-use Rattle.rational.specs.Rational.{ℚ, int}
+use Rattle.frac128.specs.Rational.{ℚ, int}
 use Rattle.lp_model.proofs.ElementLemmas.{get_or-read}
 use Rattle.search_parts.specs.Points.{IsOldestLeast, target, value_at}
 use Rattle.sound_searches.specs.Sound.{PlainSearch}

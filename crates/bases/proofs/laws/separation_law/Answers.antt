@@ -1,5 +1,0 @@
-use Rattle.bases.proofs.Walk.{Separates-perturbed}
-use Rattle.bases.proofs.laws.separation_law.Goals as goal
-
-pub returns : goal.returns
-returns c = λ p tilt rank tilted once. Separates-perturbed p tilt rank tilted once

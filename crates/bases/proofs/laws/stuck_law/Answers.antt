@@ -1,5 +1,0 @@
-use Rattle.bases.proofs.BringIn.{stuck_not_basis}
-use Rattle.bases.proofs.laws.stuck_law.Goals as goal
-
-pub returns : goal.returns
-returns c = λ p list d is stuck basis. stuck_not_basis p list d is stuck basis.0 basis.1 basis.2

@@ -1,5 +1,0 @@
-use Rattle.bases.proofs.Lag.{lag-≤ℚ}
-use Rattle.bases.proofs.laws.weak_duality_law.Goals as goal
-
-pub returns : goal.returns
-returns c = λ p y z x lag within. lag-≤ℚ p y z x lag within

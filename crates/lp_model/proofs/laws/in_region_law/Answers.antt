@@ -1,5 +1,0 @@
-use Rattle.lp_model.proofs.WithinRegionLemmas.{within_bounds, inside}
-use Rattle.lp_model.proofs.laws.in_region_law.Goals as goal
-
-pub returns : goal.returns
-returns c = λ M path x names within. (within_bounds M path x within, inside M path x within names)

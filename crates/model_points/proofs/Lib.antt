@@ -1,0 +1,6 @@
+pub mod AnswerLemmas
+pub mod GoesOnLemmas
+pub mod RayLemmas
+pub mod UnboundedLemmas
+pub mod SamePointsLemmas
+pub mod WithinRegionLemmas

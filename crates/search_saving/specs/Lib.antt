@@ -1,4 +1,0 @@
-pub mod Lawful
-pub mod Depth
-pub mod Saved
-pub mod Laws

@@ -1,0 +1,5 @@
+pub mod TextLemmas
+pub mod ShownWords
+pub mod ShownBack
+pub mod PlacingLemmas
+pub mod NumberLemmas

@@ -1,0 +1,5 @@
+pub mod Shown
+pub mod Names
+pub mod Placing
+pub mod Bounds
+pub mod Faults

@@ -1,6 +1,0 @@
-use Rattle.std.proofs.Common.{All, take}
-use Rattle.sym_shell.specs.Placing.{HasOneNumberAt}
-use Rattle.sym_shell.proofs.placing.first_two_sided.Given as goal
-
-abbrev pub invariant-loop-index : goal.invariant-loop-index
-invariant-loop-index l = All (HasOneNumberAt l.rows) (take l.index l.sides)

@@ -1,5 +1,0 @@
-pub mod Saying
-pub mod EachLemmas
-pub mod TupleLemmas
-pub mod Inversions
-pub mod PastLemmas

@@ -1,6 +1,0 @@
-use Rattle.warm_values.specs.Rising.{row_entry_of}
-use Rattle.warm_values.proofs.rising.EntriesElementTuple2RowIdFrac.read.Goals as goal
-
-pub returns : goal.returns
-unfolding row_entry_of
-returns c = c.read_rising.ensures
