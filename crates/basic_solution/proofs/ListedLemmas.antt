@@ -1,7 +1,9 @@
 -- States that keep what a relaxation gives, and lists that are brought in.
-use Rattle.std.specs.Prelude.{◌≡◌, ℕ, ◌+◌, ◌<◌, ltb, if◌then◌else◌, Bool, true, false, List, map, get_or, length, pos, Option, Some, None, Result, Ok, Err}
+use Rattle.std.specs.Prelude.{◌≡◌, ℕ, ◌+◌, ◌<◌, ◌≤◌, ltb, if◌then◌else◌, Bool, true, false, List, map, get_or, length, replicate, pos, Option, Some, None, Result, Ok, Err}
 use Rattle.std.specs.Option.{IsSomeAnd}
-use Rattle.std.proofs.Common.{refl, sym, ap, subst, ◌∙◌, inr}
+use Rattle.std.proofs.Common.{refl, sym, ap, subst, ◌∙◌, inr, ⊎_elim}
+use Rattle.std.proofs.lemmas.Bool.{cases_lt}
+use Rattle.std.proofs.lemmas.List.{get_or_past, get_or-replicate, length-replicate}
 use Rattle.frac128.specs.Rational.{int}
 use Rattle.row_tableau.specs.Activities.{activity_coefficient}
 use Rattle.lp_model.specs.declared.types.Var.{Var}
@@ -115,6 +117,9 @@ keeps_trans s t u a b = record {
 
 pub nowhere_on : (s t : Held) → t.tableau.columns ≡ s.tableau.columns → t.stands ≡ s.stands → StandsNowhere s → StandsNowhere t
 nowhere_on s t columns stands h = λ k w. subst (λ l. get_or l k Free ≡ Free) (sym stands) (h k (subst (λ n. k < n) columns w))
+
+pub none_stand : (n k : ℕ) → get_or (replicate n Free) k Free ≡ Free
+none_stand n k = ⊎_elim (get_or-replicate n k Free Free) (λ past. get_or_past (replicate n Free) k Free (subst (λ m. m ≤ k) (sym (length-replicate n Free)) past)) (cases_lt k n)
 
 -- ---- numbers of variables
 

@@ -1,9 +1,9 @@
 // States at a list of basic variables.
-ghost use Rattle.std.specs.Prelude.{◌≡◌, ◌↔◌, ◌<◌, ℕ, IsTrue};
+ghost use Rattle.std.specs.Prelude.{◌≡◌, ◌⊎◌, ◌↔◌, ◌<◌, ℕ, false, IsTrue, Ok};
 ghost use Rattle.row_tableau.specs.Variables.{numbers};
 ghost use Rattle.basic_solution.specs.Held.{relaxation, table};
 ghost use Rattle.basic_solution.specs.Slack.{IsRestood};
-ghost use Rattle.basic_solution.specs.ListedStates.{IsStandBy, StandBy, Keeps, StandsNowhere, IsBroughtTo, IsLawfulAnswer, IsPlaceAnswer, IsStoodAt, LeadsOn};
+ghost use Rattle.basic_solution.specs.ListedStates.{IsStandBy, StandBy, Keeps, StandsNowhere, StandsAsListed, IsBroughtTo, IsLawfulAnswer, IsPlaceAnswer, IsStoodAt, LeadsOn};
 
 use crate::sided::SidedBasis;
 use lp_model::{Basis, Var, WideStep};
@@ -106,6 +106,7 @@ impl SidedBasis<'_> {
         ensures kept { Keeps self.old self.new }
         ensures way { LeadsOn list.now self.old self.new }
         ensures answer { IsStoodAt self.old list.now result self.new }
+        ensures stands { result ≡ Ok false → StandsNowhere self.new ⊎ StandsAsListed list.now self.new }
     {
         self.stand_nowhere();
         match self.bring_in(list) {

@@ -7,6 +7,7 @@ ghost use Rattle.row_tableau.specs.declared.relax.RelaxKind.TheVariants.{Directi
 ghost use Rattle.row_tableau.specs.Relaxations.{HasFewCuts};
 ghost use Rattle.basic_solution.specs.Held.{relaxation, table};
 ghost use Rattle.row_tableau.specs.Tilts.{KeepsFree};
+ghost use Rattle.basic_solution.specs.ListedStates.{StandsNowhere};
 ghost use Rattle.basic_solution.specs.Slack.{IsSlackState, IsSlackAnswer, IsPlaced, IsMisplaced, IsStandAnswer, IsRestood};
 
 use crate::priced::Costs;
@@ -23,7 +24,8 @@ impl<'a> SidedBasis<'a> {
         requires narrow { AreNarrow relax.now.region.now }
         requires few { HasFewCuts relax.now }
         requires sides { KeepsFree relax.now.model.now relax.now.region.now }
-        ensures { IfOk result (IsSlackState relax.now) }
+        ensures state { IfOk result (IsSlackState relax.now) }
+        ensures nowhere { IfOk result StandsNowhere }
     {
         let low = match lows(alloc, relax) {
             Ok(low) => low,
@@ -72,7 +74,8 @@ impl<'a> SidedBasis<'a> {
         requires narrow { AreNarrow relax.now.region.now }
         requires few { HasFewCuts relax.now }
         requires sides { KeepsFree relax.now.model.now relax.now.region.now }
-        ensures { IfOk result (IsSlackState relax.now) }
+        ensures state { IfOk result (IsSlackState relax.now) }
+        ensures nowhere { IfOk result StandsNowhere }
     {
         match SidedBasis::slack_start(alloc, relax) {
             Ok(mut basis) => {

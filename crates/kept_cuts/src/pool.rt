@@ -1,5 +1,5 @@
 // The cuts of a pool after an edit of the model.
-ghost use Rattle.std.specs.Prelude.{◌≡◌, ◌<◌, ◌++◌, ◌∷◌, [], length, map, IfOk};
+ghost use Rattle.std.specs.Prelude.{◌≡◌, ◌<◌, ◌++◌, ◌∷◌, [], length, map, IfOk, MatchResult};
 ghost use Rattle.lp_model.specs.Elements.{place_after};
 ghost use Rattle.lp_model.specs.Edits.{EditFits, edited};
 ghost use Rattle.lp_model.specs.declared.types.CutRow.{CutRow};
@@ -131,10 +131,10 @@ pub fn gone_with(
     Ok(gone)
 }
 
-/// Adds the cut of a derivation to a pool that has room.
+/// Adds the cut of a derivation to a pool that has room. For want of memory the pool stays as it is.
 pub fn add_derivation(pool: &mut CutPool, model: &Model, from: Derivation) -> Result<(), AllocError>
     requires { length pool.old < 10000 }
-    ensures { IfOk result (λ _. (c : CutRow) × ((pool.new ≡ pool.old ++ c ∷ []) × (c.from ≡ from) × IsCutOf model.now c)) }
+    ensures { MatchResult result (λ _. (c : CutRow) × ((pool.new ≡ pool.old ++ c ∷ []) × (c.from ≡ from) × IsCutOf model.now c)) (λ _. pool.new ≡ pool.old) }
 {
     match pool.add(model, from) {
         Ok(_) => Ok(()),

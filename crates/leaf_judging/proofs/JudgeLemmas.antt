@@ -113,7 +113,7 @@ zipped-push R [] (z ∷ ys) x y h r = absurd h
 zipped-push R (z ∷ xs) [] x y h r = absurd h
 zipped-push R (z ∷ xs) (w ∷ ys) x y h r = (h.0, zipped-push R xs ys x y h.1 r)
 
-length-placed : (path : Path) (t : Plain) → length (region_leaves path t) ≡ leaf_count t
+pub length-placed : (path : Path) (t : Plain) → length (region_leaves path t) ≡ leaf_count t
 length-placed path (Leaf l) = refl
 length-placed path (Split kept j v left right) =
     ap length (region_leaves-split path kept j v left right)

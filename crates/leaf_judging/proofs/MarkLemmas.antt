@@ -1,7 +1,7 @@
 -- A walk that judges leaves by the numbers that are kept of them.
-use Rattle.std.specs.Prelude.{◌≡◌, List, [], ◌∷◌, ◌++◌, All, Option, Some}
+use Rattle.std.specs.Prelude.{◌≡◌, ◌+◌, List, [], ◌∷◌, ◌++◌, length, All, Option, Some}
 use Rattle.std.specs.List.{AllZip}
-use Rattle.std.proofs.Common.{refl, sym, subst, append_assoc}
+use Rattle.std.proofs.Common.{refl, sym, subst, ap, arith, append_assoc, length-append}
 use Rattle.std.proofs.lemmas.List.{append-nil}
 use Rattle.std.proofs.lemmas.List.Elements.{All-map, All-head, All-tail}
 use Rattle.frac128.specs.Rational.{ℚ}
@@ -57,3 +57,13 @@ module _ (F : Formulation) (t : Option ℚ) (numbers : LeafNumbers) where
   marked done (l ∷ more) old new all marks walk =
       subst (λ ls. AreMarked ls new) (append_assoc done (l ∷ []) more)
       (marked (done ++ l ∷ []) more walk.0 new (All-tail IsKept l more all) (marked-one done l old walk.0 (All-head IsKept l more all) marks walk.1.0) walk.1.1)
+
+-- a walk puts down a state for each leaf
+pub marked-count : (more : List RegionLeaf) (old new : Marking) → Visits MarksLeaf more old new → length new.states.items ≡ length old.states.items + length more
+marked-count [] old new walk = let same = ap (λ (m : Marking). length m.states.items) walk in omega (arith, same)
+marked-count (l ∷ more) old new walk =
+    let step = walk.1.0 in
+    let rest = marked-count more walk.0 new walk.1.1 in
+    let longer = ap length step.states_are in
+    let one = length-append old.states.items (step.state ∷ []) in
+    omega (arith, rest, longer, one)

@@ -1,10 +1,10 @@
 // Leaves judged, all of a tree: each leaf's number once, and its state by that number as often as the target changes.
-ghost use Rattle.std.specs.Prelude.{IfOk, OnOk, OnErr, ◌≡◌, List};
+ghost use Rattle.std.specs.Prelude.{IfOk, OnOk, OnErr, ◌≡◌, List, length};
 ghost use Rattle.lp_model.specs.Regions.{AreNarrow};
 ghost use Rattle.lp_model.specs.Formulations.{formulation};
 ghost use Rattle.lp_model.specs.declared.types.CutRow.{CutRow};
 ghost use Rattle.branch_tree.specs.Tree.{HasNarrowSplits};
-ghost use Rattle.branch_tree.specs.Leaves.{with_states};
+ghost use Rattle.branch_tree.specs.Leaves.{leaf_count, with_states};
 ghost use Rattle.leaf_judging.specs.Judged.{AreStates, JudgesAll};
 ghost use Rattle.leaf_judging.specs.Queued.{IsQueueOf};
 ghost use Rattle.leaf_judging.specs.Numbers.{AreNumbersOf};
@@ -162,6 +162,7 @@ pub fn judge_again(
     numbers: &LeafNumbers,
 ) -> Result<Marks, AllocError>
     requires narrow { HasNarrowSplits tree.now.root }
+    ensures count { IfOk result (λ m. length m.states.items ≡ leaf_count tree.now.root) }
     ensures states { IfOk result (λ m. (cuts : List CutRow) → AreNumbersOf (formulation model.now cuts) tree.now.root numbers.now → AreStates (formulation model.now cuts) target.now tree.now.root m.states.items) }
     ensures queue { IfOk result (λ m. (cuts : List CutRow) → AreNumbersOf (formulation model.now cuts) tree.now.root numbers.now → IsQueueOf (formulation model.now cuts) (with_states m.states.items tree.now.root) m.queue) }
 {
@@ -209,6 +210,7 @@ pub fn judge_tree(
     tree: &Tree,
 ) -> Result<Judged, AllocError>
     requires { HasNarrowSplits tree.now.root }
+    ensures count { IfOk result (λ j. length j.states.items ≡ leaf_count tree.now.root) }
     ensures states { IfOk result (λ j. AreStates (formulation model.now pool.now) target.now tree.now.root j.states.items) }
     ensures numbers { IfOk result (λ j. AreNumbersOf (formulation model.now pool.now) tree.now.root j.index.numbers) }
     ensures queue { IfOk result (λ j. IsQueueOf (formulation model.now pool.now) (with_states j.states.items tree.now.root) j.index.queue) }

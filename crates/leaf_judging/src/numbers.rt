@@ -2,7 +2,9 @@
 ghost use Rattle.std.specs.Prelude.{◌≡◌, ◌≢◌, IsSome, Some, None, OnOk, OnErr};
 ghost use Rattle.std.specs.BTreeMap.{get, Updates, IsUnchanged};
 ghost use Rattle.std.specs.Ordering.{nat_cmp};
+ghost use Rattle.leaf_dual.specs.declared.dual.LagValue.TheVariants.{Minus};
 ghost use Rattle.leaf_judging.specs.declared.closing.LeafNumber.{LeafNumber};
+ghost use Rattle.leaf_judging.specs.declared.closing.LeafNumber.TheVariants.{Lag};
 ghost use Rattle.leaf_judging.specs.Numbers.{kept_number, PutsNumber, KeepsOtherNumbers, KeepsOtherTwo, HasBoth, AreSameNumbers};
 
 use crate::closing::LeafNumber;
@@ -48,7 +50,8 @@ impl LeafNumbers {
 
     /// The number that is kept under the id, and where there is none that of a leaf of which nothing is known.
     pub fn number_or_minus(&self, id: u64) -> LeafNumber
-        ensures { (n : LeafNumber) → kept_number self.now id ≡ Some n → result ≡ n }
+        ensures kept { (n : LeafNumber) → kept_number self.now id ≡ Some n → result ≡ n }
+        ensures unknown { kept_number self.now id ≡ None → result ≡ Lag Minus }
     {
         match self.kept.get(&id) {
             Some(number) => *number,

@@ -1,5 +1,5 @@
 // A sink into memory.
-ghost use Rattle.std.specs.Prelude.{◌≡◌, ◌≤◌, [], true, Some, IsErr, OnErr};
+ghost use Rattle.std.specs.Prelude.{◌≡◌, ◌≤◌, [], true, length, Some, Ok, IsErr, OnOk, OnErr};
 ghost use Rattle.std.specs.Io.{WritesAtMost};
 ghost use Rattle.std.specs.Io.KnownBytes.{WriteAppends};
 ghost use Rattle.sym_io.specs.Faults.{Rose, RoseOnZero};
@@ -48,6 +48,8 @@ impl Sink for MemSink {
     fn write(&mut self, bytes: &[u8]) -> Result<usize, Failed>
         ensures planned { call_fails (sink_plan self.old) ≡ true → IsErr result }
         ensures counted { sink_plan self.new ≡ next_call (sink_plan self.old) }
+        ensures whole { OnOk result (result ≡ Ok (length bytes.now)) }
+        ensures still { OnOk result (sink_faults self.new ≡ sink_faults self.old) }
         ensures bound { WritesAtMost result bytes.now }
         ensures bytes { WriteAppends (Some (bytes_written self.old)) (Some (bytes_written self.new)) result bytes.now }
         ensures later { sink_faults self.old ≤ sink_faults self.new }

@@ -1,5 +1,5 @@
 // A store in memory.
-ghost use Rattle.std.specs.Prelude.{◌≡◌, ◌≤◌, ◌↔◌, true, Some, Err, IsErr, OnOk, OnErr};
+ghost use Rattle.std.specs.Prelude.{◌≡◌, ◌≢◌, ◌≤◌, ◌↔◌, true, Some, Err, IsErr, OnOk, OnErr};
 ghost use Rattle.std.specs.FinMap as map;
 ghost use Rattle.sym_io.specs.declared.traits.StoreFault.TheVariants.{Failed as StoreFailed};
 ghost use Rattle.sym_io.specs.Faults.{Rose};
@@ -70,6 +70,7 @@ impl Store for MemStore {
     fn get(&mut self, alloc: Global, name: &str) -> Result<Vec<u8>, StoreFault>
         ensures planned { (result ≡ Err StoreFailed) ↔ (call_fails (store_plan self.old) ≡ true) }
         ensures counted { store_plan self.new ≡ next_call (store_plan self.old) }
+        ensures still { result ≢ Err StoreFailed → store_faults self.new ≡ store_faults self.old }
         ensures answer { Gets (Some (files_kept self.old)) name.now (store_faults self.old) (store_faults self.new) result }
         ensures kept { Some (files_kept self.new) ≡ Some (files_kept self.old) }
         ensures later { store_faults self.old ≤ store_faults self.new }
@@ -93,6 +94,7 @@ impl Store for MemStore {
     fn put(&mut self, name: &str, bytes: &[u8]) -> Result<(), Failed>
         ensures planned { call_fails (store_plan self.old) ≡ true → IsErr result }
         ensures counted { store_plan self.new ≡ next_call (store_plan self.old) }
+        ensures still { OnOk result (store_faults self.new ≡ store_faults self.old) }
         ensures answer { Puts (Some (files_kept self.old)) (Some (files_kept self.new)) name.now bytes.now result }
         ensures later { store_faults self.old ≤ store_faults self.new }
         ensures failed { OnErr result (Rose (store_faults self.old) (store_faults self.new)) }

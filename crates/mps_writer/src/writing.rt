@@ -3,13 +3,12 @@ ghost use Rattle.std.specs.Prelude.{◌≡◌, ◌++◌, IfOk, None};
 ghost use Rattle.mps_model.specs.Faults.{MeantModel};
 ghost use Rattle.mps_writer.specs.Canonical.{canonical_text, written_text, sense_word, opening_lines, rows_lines, columns_lines, rhs_lines, ranges_lines, bounds_lines};
 ghost use Rattle.mps_writer.specs.Writable.{IsWritableMps};
-ghost use Rattle.mps_writer.specs.Laws.{IsReadBack};
+ghost use Rattle.mps_writer.specs.Laws.{ReadBackLaw};
 
 use crate::columns::{put_bounds, put_columns};
 use crate::puts::{put_header, put_nonzero, put_two, put_word};
 use crate::rows::{put_ranges, put_right_sides, put_rows};
 use lp_model::{Model, Sense, show_model};
-use mps_model::{MpsFault, read};
 use std::alloc::{AllocError, Global};
 
 fn sense_word(sense: Sense) -> &'static [u8]
@@ -139,13 +138,7 @@ pub fn write(alloc: Global, model: &Model) -> Result<Vec<u8>, AllocError>
     }
 }
 
-/// A law: what `write` writes, `read` reads as the model that was written.
-pub fn read_back(alloc: Global, model: &Model) -> Result<Model, MpsFault>
-    requires { IsWritableMps model.now }
-    ensures { IsReadBack model.now result }
-{
-    match write(alloc, model) {
-        Ok(text) => read(alloc, text.as_slice(), None),
-        Err(_) => Err(MpsFault::Memory),
-    }
-}
+/// A law: what `write` writes of a writable model, `read` reads as that model.
+pub fn read_back_law()
+    ensures { ReadBackLaw }
+{}

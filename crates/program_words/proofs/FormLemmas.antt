@@ -8,8 +8,8 @@ use Rattle.clap.specs.declared.error.Error.{Error}
 use Rattle.clap.specs.declared.error.ErrorKind.{ErrorKind}
 use Rattle.clap.specs.declared.error.ErrorKind.TheVariants.{OutOfMemory}
 use Rattle.clap.proofs.OnLiterals.{clap_on_literals}
-use Rattle.program_words.specs.Forms.{AskedForm, Script, symphony, TakesWords, asked_by, asked_form}
-use Rattle.program_words.specs.Laws.{AsksCheck, AsksScript, CheckLaw, IsPlainWord, RunLaw}
+use Rattle.program_words.specs.Forms.{AskedForm, IsNameAlone, Script, symphony, TakesWords, asked_by, asked_form}
+use Rattle.program_words.specs.Laws.{AsksCheck, AsksScript, CheckLaw, IsPlainWord, NoFormLaw, RunLaw}
 use Rattle.program_words.proofs.PlainLemmas.{check_alone, check_asks, no_flag}
 
 is_simple_app : is_simple symphony ≡ true
@@ -54,6 +54,22 @@ run_form name word form = record {
   taken = ap (λ (bytes : Text). fault_of symphony (string_bytes name ∷ bytes ∷ [])) form ∙ run_alone (string_bytes name);
   script = ap (λ (bytes : Text). asked_by (subcommand_of symphony (string_bytes name ∷ bytes ∷ []))) form ∙ run_asks (string_bytes name);
 }
+
+-- one word alone is refused
+alone_fault : (name : Text) → fault_of symphony (name ∷ []) ≡ [] → ⊥
+unfolding clap_on_literals
+alone_fault name none = absurd (cc)
+
+pub name_refused : (words : List (String Global)) → IsNameAlone words → TakesWords words → ⊥
+unfolding TakesWords
+name_refused words alone takes = alone_fault (codes "symphony") (ap (fault_of symphony) (sym alone) ∙ takes)
+
+no_form : (name : String Global) → TakesWords (name ∷ []) → ⊥
+unfolding TakesWords
+no_form name takes = alone_fault (string_bytes name) takes
+
+pub no_form_law : NoFormLaw
+no_form_law name = no_form name
 
 pub run_law : RunLaw
 run_law [] form = absurd form

@@ -1,5 +1,5 @@
 -- The words of the command line, as `clap` reads them.
-use Rattle.std.specs.Prelude.{◌≡◌, ℕ, List, [], map, codes, String, true, if◌then◌else◌, unwrap_or, Option, Some, None}
+use Rattle.std.specs.Prelude.{◌≡◌, ℕ, List, [], ◌∷◌, map, codes, String, true, if◌then◌else◌, unwrap_or, Option, Some, None}
 use Rattle.std.specs.Str.{bytes_eq}
 use Rattle.std.specs.String.{string_bytes}
 use Rattle.std.specs.declared.alloc.Global.{Global}
@@ -60,3 +60,7 @@ asked_form words = asked_by (subcommand_of symphony (map string_bytes words))
 abbrev pub form_shown : Form → AskedForm
 form_shown form.Run = Script
 form_shown (form.Check model cert) = Check model.now cert.now
+
+-- the program's name and nothing behind it
+abbrev pub IsNameAlone : List (String Global) → Type 0
+IsNameAlone words = map string_bytes words ≡ codes "symphony" ∷ []

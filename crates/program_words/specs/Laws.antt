@@ -1,4 +1,4 @@
--- Words that are taken for sure.
+-- Words that are taken, or refused, for sure.
 use Rattle.std.specs.Prelude.{◌≡◌, ◌≢◌, ℕ, List, [], ◌∷◌, codes, String}
 use Rattle.std.specs.String.{string_bytes}
 use Rattle.std.specs.declared.alloc.Global.{Global}
@@ -35,3 +35,7 @@ pub record AsksCheck (words : List (String Global)) (model cert : List ℕ) : Ty
 -- `check` and two plain words behind the program's name ask for the check of the second by the first
 abbrev pub CheckLaw : Type 0
 CheckLaw = (words : List (String Global)) (model cert : List ℕ) → IsCheckForm words model cert → AsksCheck words model cert
+
+-- one word alone, which is the program's name, is refused: there has to be a form
+abbrev pub NoFormLaw : Type 0
+NoFormLaw = (name : String Global) → ¬ TakesWords (name ∷ [])

@@ -1,5 +1,5 @@
-// Words that are taken for sure, as clauses of calls that do nothing.
-ghost use Rattle.program_words.specs.Laws.{CheckLaw, RunLaw};
+// Words that are taken, or refused, for sure, as clauses of calls that do nothing.
+ghost use Rattle.program_words.specs.Laws.{CheckLaw, NoFormLaw, RunLaw};
 
 /// The word `run` behind the program's name asks for the script.
 pub fn run_law()
@@ -9,4 +9,9 @@ pub fn run_law()
 /// The word `check` and two plain words behind the program's name ask for that check.
 pub fn check_law()
     ensures { CheckLaw }
+{}
+
+/// The program's name alone is refused.
+pub fn no_form_law()
+    ensures { NoFormLaw }
 {}

@@ -11,7 +11,7 @@
 //!
 //! Contract in one sentence: `form_of` answers what the words ask for (`asked_form`, a function of what `clap` finds in
 //! them), and refuses them exactly where `clap` finds a fault (`TakesWords`). The laws say without `clap` which words ask
-//! for which form for sure.
+//! for which form for sure, and that the program's name alone has none.
 //!
 //! `words_of` makes the words of what the system hands over.
 //!
@@ -23,5 +23,5 @@ mod laws;
 mod words;
 
 pub use arguments::words_of;
-pub use laws::{check_law, run_law};
+pub use laws::{check_law, no_form_law, run_law};
 pub use words::{Form, WordsFault, form_of};

@@ -17,7 +17,7 @@ use Rattle.script_session.specs.Stand.{Stand}
 use Rattle.script_session.specs.declared.session.Flow.TheVariants.{Open, Ended}
 use Rattle.script_session.specs.declared.session.Stop.{Stop}
 use Rattle.script_session.specs.declared.session.Stop.TheVariants as stop
-use Rattle.script_session.specs.declared.reading.TheConstants.{SCRIPT_LIMIT, PIECE_LENGTH}
+use Rattle.script_session.specs.Limits.{script_limit, piece_length}
 use Rattle.script_session.proofs.SessionLemmas.{Serves-none, Serves-append, Serves-Breaks, Serves-Halts}
 use Rattle.script_session.proofs.ScriptLemmas.{whole_lines-none, Reads-append, Reads-more, Reads-Finishes, Reads-Begins, nil_right}
 use Rattle.script_session.proofs.PieceLemmas.{Stands, Stands-start}
@@ -122,7 +122,7 @@ module _ {M : Type 0} (ends : Command → Bool) (step : Stand M → Request → 
   }
 
   -- what was read before this may be, and has no line that ends the script
-  last_read : (left left' : Option (List ℕ)) (old now : Moment M) (count : ℕ) (pending bytes : List ℕ) (r : ReadsOn ends step left left' old now count pending) → count ≤ SCRIPT_LIMIT → length bytes ≤ PIECE_LENGTH → IsLastRead ends (r.taken ++ bytes)
+  last_read : (left left' : Option (List ℕ)) (old now : Moment M) (count : ℕ) (pending bytes : List ℕ) (r : ReadsOn ends step left left' old now count pending) → count ≤ script_limit → length bytes ≤ piece_length → IsLastRead ends (r.taken ++ bytes)
   last_read left left' old now count pending bytes r le short = record {
     front = r.taken;
     piece = bytes;
@@ -133,7 +133,7 @@ module _ {M : Type 0} (ends : Command → Bool) (step : Stand M → Request → 
   }
 
   -- nothing was read after what was taken so far
-  read_nothing : (result : Result (Unit {0}) Stop) (left left' left'' : Option (List ℕ)) (old now new : Moment M) (count : ℕ) (pending : List ℕ) (r : ReadsOn ends step left left' old now count pending) → count ≤ SCRIPT_LIMIT → Consumes left' left'' [] → ServesTaken ends step result left'' r.taken old new → ServesScript ends step result left left'' old new
+  read_nothing : (result : Result (Unit {0}) Stop) (left left' left'' : Option (List ℕ)) (old now new : Moment M) (count : ℕ) (pending : List ℕ) (r : ReadsOn ends step left left' old now count pending) → count ≤ script_limit → Consumes left' left'' [] → ServesTaken ends step result left'' r.taken old new → ServesScript ends step result left left'' old new
   read_nothing result left left' left'' old now new count pending r le consumed h = record {
     taken = r.taken;
     consumed = subst (λ (taken : List ℕ). Consumes left left'' taken) (append-nil r.taken) (Consumes-append left left' left'' r.taken [] r.consumed consumed);
@@ -142,7 +142,7 @@ module _ {M : Type 0} (ends : Command → Bool) (step : Stand M → Request → 
   }
 
   -- these bytes were read after what was taken so far
-  read_bytes : (result : Result (Unit {0}) Stop) (left left' left'' : Option (List ℕ)) (old now new : Moment M) (count : ℕ) (pending bytes : List ℕ) (r : ReadsOn ends step left left' old now count pending) → count ≤ SCRIPT_LIMIT → length bytes ≤ PIECE_LENGTH → Consumes left' left'' bytes → ServesTaken ends step result left'' (r.taken ++ bytes) old new → ServesScript ends step result left left'' old new
+  read_bytes : (result : Result (Unit {0}) Stop) (left left' left'' : Option (List ℕ)) (old now new : Moment M) (count : ℕ) (pending bytes : List ℕ) (r : ReadsOn ends step left left' old now count pending) → count ≤ script_limit → length bytes ≤ piece_length → Consumes left' left'' bytes → ServesTaken ends step result left'' (r.taken ++ bytes) old new → ServesScript ends step result left left'' old new
   read_bytes result left left' left'' old now new count pending bytes r le short consumed h = record {
     taken = r.taken ++ bytes;
     consumed = Consumes-append left left' left'' r.taken bytes r.consumed consumed;
@@ -151,7 +151,7 @@ module _ {M : Type 0} (ends : Command → Bool) (step : Stand M → Request → 
   }
 
   -- the source has failed
-  pub read_failed : (left left' left'' : Option (List ℕ)) (old now : Moment M) (count : ℕ) (pending : List ℕ) → ReadsOn ends step left left' old now count pending → count ≤ SCRIPT_LIMIT → Keeps left' left'' → ServesScript ends step (Err stop.Source) left left'' old now
+  pub read_failed : (left left' left'' : Option (List ℕ)) (old now : Moment M) (count : ℕ) (pending : List ℕ) → ReadsOn ends step left left' old now count pending → count ≤ script_limit → Keeps left' left'' → ServesScript ends step (Err stop.Source) left left'' old now
   read_failed left left' left'' old now count pending r le keeps =
       read_nothing (Err stop.Source) left left' left'' old now now count pending r le (Consumes-kept left' left'' keeps) (
         subst (λ requests. Serves step old requests now) (sym (whole_taken ends r.taken r.stands.done pending r.stands.reads r.clean)) r.stands.serves,
@@ -159,7 +159,7 @@ module _ {M : Type 0} (ends : Command → Bool) (step : Stand M → Request → 
         ending_taken ends r.taken r.stands.done pending r.stands.reads r.clean,
       )
 
-  rest_served : (result : Result (Unit {0}) Stop) (left' : Option (List ℕ)) (taken pending : List ℕ) (old now new : Moment M) → Stands ends step old taken now pending → length taken ≤ SCRIPT_LIMIT → IsAtEnd left' → ServesRest ends step result now pending new → ServesTaken ends step result left' taken old new
+  rest_served : (result : Result (Unit {0}) Stop) (left' : Option (List ℕ)) (taken pending : List ℕ) (old now new : Moment M) → Stands ends step old taken now pending → length taken ≤ script_limit → IsAtEnd left' → ServesRest ends step result now pending new → ServesTaken ends step result left' taken old new
   rest_served (Ok done) left' taken pending old now new s fits end h = (
     subst (λ requests. Serves step old requests new) (sym (all_taken ends taken s.done pending s.reads)) (Serves-append step old now new s.done (script_requests ends pending) s.serves h),
     inl end,
@@ -185,7 +185,7 @@ module _ {M : Type 0} (ends : Command → Bool) (step : Stand M → Request → 
   rest_served (Err stop.TooLong) left' taken pending old now new s fits end h = absurd h
 
   -- the script is at its end
-  pub read_at_end : (result : Result (Unit {0}) Stop) (left left' left'' : Option (List ℕ)) (old now new : Moment M) (count : ℕ) (pending : List ℕ) → ReadsOn ends step left left' old now count pending → count ≤ SCRIPT_LIMIT → Consumes left' left'' [] → IsAtEnd left'' → ServesRest ends step result now pending new → ServesScript ends step result left left'' old new
+  pub read_at_end : (result : Result (Unit {0}) Stop) (left left' left'' : Option (List ℕ)) (old now new : Moment M) (count : ℕ) (pending : List ℕ) → ReadsOn ends step left left' old now count pending → count ≤ script_limit → Consumes left' left'' [] → IsAtEnd left'' → ServesRest ends step result now pending new → ServesScript ends step result left left'' old new
   read_at_end result left left' left'' old now new count pending r le consumed end h =
       read_nothing result left left' left'' old now new count pending r le consumed
       (rest_served result left'' r.taken pending old now new r.stands (let counted = r.length_is in omega arith) end h)
@@ -208,26 +208,26 @@ module _ {M : Type 0} (ends : Command → Bool) (step : Stand M → Request → 
   cut : (front bytes piece others : List ℕ) → bytes ≡ piece ++ others → front ++ bytes ≡ (front ++ piece) ++ others
   cut front bytes piece others parts = ap (λ xs. front ++ xs) parts ∙ sym (append_assoc front piece others)
 
-  ended_served : (left' : Option (List ℕ)) (front pending bytes piece others pending' : List ℕ) (old now new : Moment M) → Stands ends step old front now pending → bytes ≡ piece ++ others → length (front ++ piece) ≤ SCRIPT_LIMIT → ServesPiece ends step (Ok Ended) now (pending ++ piece) new pending' → ServesTaken ends step (Ok tt) left' (front ++ bytes) old new
+  ended_served : (left' : Option (List ℕ)) (front pending bytes piece others pending' : List ℕ) (old now new : Moment M) → Stands ends step old front now pending → bytes ≡ piece ++ others → length (front ++ piece) ≤ script_limit → ServesPiece ends step (Ok Ended) now (pending ++ piece) new pending' → ServesTaken ends step (Ok tt) left' (front ++ bytes) old new
   ended_served left' front pending bytes piece others pending' old now new s parts fits h =
       let e = cut front bytes piece others parts in
       let q = Reads-Finishes ends (front ++ piece) (pending ++ piece) s.done h.0 (Reads-more ends front s.done pending piece s.reads) h.2 in (
         subst (λ requests. Serves step old requests new) (sym (ap (script_requests ends) e ∙ q.all others)) (Serves-append step old now new s.done h.0 s.serves h.1),
         inr (ap (has_ending ends) e ∙ q.ending others),
-        inr (ap (λ xs. has_ending ends (take SCRIPT_LIMIT xs)) e ∙ ap (has_ending ends) (front_then SCRIPT_LIMIT (front ++ piece) others fits) ∙ q.ending _),
+        inr (ap (λ xs. has_ending ends (take script_limit xs)) e ∙ ap (has_ending ends) (front_then script_limit (front ++ piece) others fits) ∙ q.ending _),
       )
 
   -- a line that ends the script has come
-  pub read_ended : (left left' left'' : Option (List ℕ)) (old now new : Moment M) (count : ℕ) (pending bytes piece others pending' : List ℕ) → ReadsOn ends step left left' old now count pending → count ≤ SCRIPT_LIMIT → length bytes ≤ PIECE_LENGTH → Consumes left' left'' bytes → bytes ≡ piece ++ others → count + length piece ≤ SCRIPT_LIMIT → ServesPiece ends step (Ok Ended) now (pending ++ piece) new pending' → ServesScript ends step (Ok tt) left left'' old new
+  pub read_ended : (left left' left'' : Option (List ℕ)) (old now new : Moment M) (count : ℕ) (pending bytes piece others pending' : List ℕ) → ReadsOn ends step left left' old now count pending → count ≤ script_limit → length bytes ≤ piece_length → Consumes left' left'' bytes → bytes ≡ piece ++ others → count + length piece ≤ script_limit → ServesPiece ends step (Ok Ended) now (pending ++ piece) new pending' → ServesScript ends step (Ok tt) left left'' old new
   read_ended left left' left'' old now new count pending bytes piece others pending' r le short consumed parts room h =
       read_bytes (Ok tt) left left' left'' old now new count pending bytes r le short consumed
       (ended_served left'' r.taken pending bytes piece others pending' old now new r.stands parts (let counted = r.length_is in omega (arith, length-append r.taken piece)) h)
 
-  overlong_served : (left' : Option (List ℕ)) (front pending bytes piece others pending' : List ℕ) (old now new : Moment M) → Stands ends step old front now pending → bytes ≡ piece ++ others → length (front ++ piece) ≡ SCRIPT_LIMIT → 0 < length others → ServesPiece ends step (Ok Open) now (pending ++ piece) new pending' → ServesTaken ends step (Err stop.TooLong) left' (front ++ bytes) old new
+  overlong_served : (left' : Option (List ℕ)) (front pending bytes piece others pending' : List ℕ) (old now new : Moment M) → Stands ends step old front now pending → bytes ≡ piece ++ others → length (front ++ piece) ≡ script_limit → 0 < length others → ServesPiece ends step (Ok Open) now (pending ++ piece) new pending' → ServesTaken ends step (Err stop.TooLong) left' (front ++ bytes) old new
   overlong_served left' front pending bytes piece others pending' old now new s parts full some h =
       let e = cut front bytes piece others parts in
       let next = Reads-append ends (front ++ piece) (pending ++ piece) pending' s.done h.0 (Reads-more ends front s.done pending piece s.reads) h.2 in
-      let kept = ap (take SCRIPT_LIMIT) e ∙ front_is SCRIPT_LIMIT (front ++ piece) others full in
+      let kept = ap (take script_limit) e ∙ front_is script_limit (front ++ piece) others full in
       let long = ap length e in (
         subst (λ requests. Serves step old requests new) (sym (ap (whole_requests ends) kept ∙ whole_taken ends (front ++ piece) (s.done ++ h.0) pending' next h.3)) (Serves-append step old now new s.done h.0 s.serves h.1),
         (
@@ -237,30 +237,30 @@ module _ {M : Type 0} (ends : Command → Bool) (step : Stand M → Request → 
       )
 
   -- a byte too many has come
-  pub read_overlong : (left left' left'' : Option (List ℕ)) (old now new : Moment M) (count : ℕ) (pending bytes piece others pending' : List ℕ) → ReadsOn ends step left left' old now count pending → count ≤ SCRIPT_LIMIT → length bytes ≤ PIECE_LENGTH → Consumes left' left'' bytes → bytes ≡ piece ++ others → count + length piece ≡ SCRIPT_LIMIT → 0 < length others → ServesPiece ends step (Ok Open) now (pending ++ piece) new pending' → ServesScript ends step (Err stop.TooLong) left left'' old new
+  pub read_overlong : (left left' left'' : Option (List ℕ)) (old now new : Moment M) (count : ℕ) (pending bytes piece others pending' : List ℕ) → ReadsOn ends step left left' old now count pending → count ≤ script_limit → length bytes ≤ piece_length → Consumes left' left'' bytes → bytes ≡ piece ++ others → count + length piece ≡ script_limit → 0 < length others → ServesPiece ends step (Ok Open) now (pending ++ piece) new pending' → ServesScript ends step (Err stop.TooLong) left left'' old new
   read_overlong left left' left'' old now new count pending bytes piece others pending' r le short consumed parts full some h =
       read_bytes (Err stop.TooLong) left left' left'' old now new count pending bytes r le short consumed
       (overlong_served left'' r.taken pending bytes piece others pending' old now new r.stands parts (let counted = r.length_is in omega (arith, length-append r.taken piece)) some h)
 
   -- what the whole lines among the bytes that may be ask begins with what was answered
-  first_asked : (front pending bytes piece others : List ℕ) (done next : List Request) → Reads ends front done pending → Begins ends (pending ++ piece) next → bytes ≡ piece ++ others → length (front ++ piece) ≤ SCRIPT_LIMIT → (rest : List Request) × (whole_requests ends (take SCRIPT_LIMIT (front ++ bytes)) ≡ (done ++ next) ++ rest)
+  first_asked : (front pending bytes piece others : List ℕ) (done next : List Request) → Reads ends front done pending → Begins ends (pending ++ piece) next → bytes ≡ piece ++ others → length (front ++ piece) ≤ script_limit → (rest : List Request) × (whole_requests ends (take script_limit (front ++ bytes)) ≡ (done ++ next) ++ rest)
   first_asked front pending bytes piece others done next reads begins parts fits =
       let all = Reads-Begins ends (front ++ piece) (pending ++ piece) done next (Reads-more ends front done pending piece reads) begins in
-      let found = all.whole (take (SCRIPT_LIMIT - length (front ++ piece)) others) in
-      (found.0, ap (λ xs. whole_requests ends (take SCRIPT_LIMIT xs)) (cut front bytes piece others parts) ∙ ap (whole_requests ends) (front_then SCRIPT_LIMIT (front ++ piece) others fits) ∙ found.1)
+      let found = all.whole (take (script_limit - length (front ++ piece)) others) in
+      (found.0, ap (λ xs. whole_requests ends (take script_limit xs)) (cut front bytes piece others parts) ∙ ap (whole_requests ends) (front_then script_limit (front ++ piece) others fits) ∙ found.1)
 
-  stopped_served : (fault : Stop) (left' : Option (List ℕ)) (front pending bytes piece others pending' : List ℕ) (old now new : Moment M) → Stands ends step old front now pending → bytes ≡ piece ++ others → length (front ++ piece) ≤ SCRIPT_LIMIT → ServesPiece ends step (Err fault) now (pending ++ piece) new pending' → ServesTaken ends step (Err fault) left' (front ++ bytes) old new
+  stopped_served : (fault : Stop) (left' : Option (List ℕ)) (front pending bytes piece others pending' : List ℕ) (old now new : Moment M) → Stands ends step old front now pending → bytes ≡ piece ++ others → length (front ++ piece) ≤ script_limit → ServesPiece ends step (Err fault) now (pending ++ piece) new pending' → ServesTaken ends step (Err fault) left' (front ++ bytes) old new
   stopped_served stop.Sink left' front pending bytes piece others pending' old now new s parts fits h =
       let found = first_asked front pending bytes piece others s.done h.0 s.reads h.2 parts fits in
-      (whole_requests ends (take SCRIPT_LIMIT (front ++ bytes)), s.done ++ h.0, found.0, inl refl, found.1, Serves-Breaks step old now new s.done h.0 s.serves h.1)
+      (whole_requests ends (take script_limit (front ++ bytes)), s.done ++ h.0, found.0, inl refl, found.1, Serves-Breaks step old now new s.done h.0 s.serves h.1)
   stopped_served stop.Memory left' front pending bytes piece others pending' old now new s parts fits h =
       let found = first_asked front pending bytes piece others s.done h.0 s.reads h.2 parts fits in
-      (whole_requests ends (take SCRIPT_LIMIT (front ++ bytes)), s.done ++ h.0, found.0, inl refl, found.1, Serves-Halts step old now new s.done h.0 s.serves h.1)
+      (whole_requests ends (take script_limit (front ++ bytes)), s.done ++ h.0, found.0, inl refl, found.1, Serves-Halts step old now new s.done h.0 s.serves h.1)
   stopped_served stop.Source left' front pending bytes piece others pending' old now new s parts fits h = absurd h
   stopped_served stop.TooLong left' front pending bytes piece others pending' old now new s parts fits h = absurd h
 
   -- a line was cut short
-  pub read_stopped : (fault : Stop) (left left' left'' : Option (List ℕ)) (old now new : Moment M) (count : ℕ) (pending bytes piece others pending' : List ℕ) → ReadsOn ends step left left' old now count pending → count ≤ SCRIPT_LIMIT → length bytes ≤ PIECE_LENGTH → Consumes left' left'' bytes → bytes ≡ piece ++ others → count + length piece ≤ SCRIPT_LIMIT → ServesPiece ends step (Err fault) now (pending ++ piece) new pending' → ServesScript ends step (Err fault) left left'' old new
+  pub read_stopped : (fault : Stop) (left left' left'' : Option (List ℕ)) (old now new : Moment M) (count : ℕ) (pending bytes piece others pending' : List ℕ) → ReadsOn ends step left left' old now count pending → count ≤ script_limit → length bytes ≤ piece_length → Consumes left' left'' bytes → bytes ≡ piece ++ others → count + length piece ≤ script_limit → ServesPiece ends step (Err fault) now (pending ++ piece) new pending' → ServesScript ends step (Err fault) left left'' old new
   read_stopped fault left left' left'' old now new count pending bytes piece others pending' r le short consumed parts room h =
       read_bytes (Err fault) left left' left'' old now new count pending bytes r le short consumed
       (stopped_served fault left'' r.taken pending bytes piece others pending' old now new r.stands parts (let counted = r.length_is in omega (arith, length-append r.taken piece)) h)

@@ -15,7 +15,7 @@ use Rattle.script_session.specs.Session.{Reads, Finishes}
 use Rattle.script_session.specs.Run.{Outside, Answers, IsCutOff, IsCutShort, IsAll, IsAnswerable, EndsAs, Finished, SourceFailed, SinkFailed, MemoryWanted, TooLong}
 use Rattle.script_session.specs.Stand.{Transcript}
 use Rattle.script_session.specs.Told.{allowed_requests, IsRunOf, ToldLaw}
-use Rattle.script_session.specs.declared.reading.TheConstants.{SCRIPT_LIMIT}
+use Rattle.script_session.specs.Limits.{script_limit}
 use Rattle.script_session.proofs.ReadLemmas.{whole_taken, ending_taken}
 use Rattle.script_session.proofs.ScriptLemmas.{Reads-start, Reads-append, Reads-Finishes, Reads-line, Finishes-line, nil_right}
 
@@ -105,29 +105,29 @@ module _ (ends : Command → Bool) where
   taken_all input taken rest left' e end (inr ended) =
       ap (script_requests ends) e ∙ sym (ending_same taken rest ended) ∙ ending_same taken [] ended ∙ ap (script_requests ends) (append-nil taken)
 
-  allowed_short : (input : List ℕ) → length input ≤ SCRIPT_LIMIT → allowed_requests ends input ≡ script_requests ends input
-  allowed_short input le = ap (λ (b : Bool). if b then script_requests ends input else whole_requests ends (take SCRIPT_LIMIT input)) (fits_test (length input) SCRIPT_LIMIT le)
+  allowed_short : (input : List ℕ) → length input ≤ script_limit → allowed_requests ends input ≡ script_requests ends input
+  allowed_short input le = ap (λ (b : Bool). if b then script_requests ends input else whole_requests ends (take script_limit input)) (fits_test (length input) script_limit le)
 
   allowed_within : (input : List ℕ) → IsWithinLimit ends input → allowed_requests ends input ≡ script_requests ends input
   allowed_within input (inl fits) = allowed_short input fits
   allowed_within input (inr ended) =
-      elim (nat_le (length input) SCRIPT_LIMIT) as (λ b. (if b then script_requests ends input else whole_requests ends (take SCRIPT_LIMIT input)) ≡ script_requests ends input) [
+      elim (nat_le (length input) script_limit) as (λ b. (if b then script_requests ends input else whole_requests ends (take script_limit input)) ≡ script_requests ends input) [
         | true ↦ refl
-        | false ↦ ending_same (take SCRIPT_LIMIT input) (drop SCRIPT_LIMIT input) ended ∙ ap (script_requests ends) (take-append-drop SCRIPT_LIMIT input)
+        | false ↦ ending_same (take script_limit input) (drop script_limit input) ended ∙ ap (script_requests ends) (take-append-drop script_limit input)
       ]
 
   -- what may be answered of what was taken may be answered of all
-  allowed_first : (input taken rest : List ℕ) → input ≡ taken ++ rest → (others : List Request) × (allowed_requests ends input ≡ whole_requests ends (take SCRIPT_LIMIT taken) ++ others)
+  allowed_first : (input taken rest : List ℕ) → input ≡ taken ++ rest → (others : List Request) × (allowed_requests ends input ≡ whole_requests ends (take script_limit taken) ++ others)
   allowed_first input taken rest e =
-      elim (nat_le (length input) SCRIPT_LIMIT) as (λ b. (others : List Request) × ((if b then script_requests ends input else whole_requests ends (take SCRIPT_LIMIT input)) ≡ whole_requests ends (take SCRIPT_LIMIT taken) ++ others)) [
+      elim (nat_le (length input) script_limit) as (λ b. (others : List Request) × ((if b then script_requests ends input else whole_requests ends (take script_limit input)) ≡ whole_requests ends (take script_limit taken) ++ others)) [
         | true ↦
-            let found = script_more (take SCRIPT_LIMIT taken) (drop SCRIPT_LIMIT taken ++ rest) in
-            let same = e ∙ ap (λ xs. xs ++ rest) (sym (take-append-drop SCRIPT_LIMIT taken)) ∙ append_assoc (take SCRIPT_LIMIT taken) (drop SCRIPT_LIMIT taken) rest in
+            let found = script_more (take script_limit taken) (drop script_limit taken ++ rest) in
+            let same = e ∙ ap (λ xs. xs ++ rest) (sym (take-append-drop script_limit taken)) ∙ append_assoc (take script_limit taken) (drop script_limit taken) rest in
             (found.0, ap (script_requests ends) same ∙ found.1)
         | false ↦
-            let front = front_of SCRIPT_LIMIT taken rest in
-            let found = whole_more (take SCRIPT_LIMIT taken) front.0 in
-            (found.0, ap (λ xs. whole_requests ends (take SCRIPT_LIMIT xs)) e ∙ ap (whole_requests ends) front.1 ∙ found.1)
+            let front = front_of script_limit taken rest in
+            let found = whole_more (take script_limit taken) front.0 in
+            (found.0, ap (λ xs. whole_requests ends (take script_limit xs)) e ∙ ap (whole_requests ends) front.1 ∙ found.1)
       ]
 
   answerable_first : (input taken rest : List ℕ) (left' : Option (List ℕ)) (asked first others : List Request) → input ≡ taken ++ rest → (IsAtEnd left' → rest ≡ []) → IsAnswerable ends left' taken asked → asked ≡ first ++ others → (more : List Request) × (allowed_requests ends input ≡ first ++ more)
@@ -141,18 +141,18 @@ module _ (ends : Command → Bool) where
 
   within_all : (input taken rest : List ℕ) (left' : Option (List ℕ)) → input ≡ taken ++ rest → (IsAtEnd left' → rest ≡ []) → IsAll ends left' taken → IsWithinLimit ends taken → IsWithinLimit ends input
   within_all input taken rest left' e end all (inr ended) =
-      let front = front_of SCRIPT_LIMIT taken rest in
-      inr (ap (λ xs. has_ending ends (take SCRIPT_LIMIT xs)) e ∙ ap (has_ending ends) front.1 ∙ ending_more (take SCRIPT_LIMIT taken) front.0 ended)
+      let front = front_of script_limit taken rest in
+      inr (ap (λ xs. has_ending ends (take script_limit xs)) e ∙ ap (has_ending ends) front.1 ∙ ending_more (take script_limit taken) front.0 ended)
   within_all input taken rest left' e end (inl over) (inl fits) =
       let long = ap length (e ∙ ap (λ xs. taken ++ xs) (end over) ∙ append-nil taken) in
       inl (omega arith)
   within_all input taken rest left' e end (inr ended) (inl fits) =
-      let front = front_of SCRIPT_LIMIT taken rest in
-      let whole = take_all SCRIPT_LIMIT taken fits in
-      inr (ap (λ xs. has_ending ends (take SCRIPT_LIMIT xs)) e ∙ ap (has_ending ends) front.1 ∙ ending_more (take SCRIPT_LIMIT taken) front.0 (ap (has_ending ends) whole ∙ ended))
+      let front = front_of script_limit taken rest in
+      let whole = take_all script_limit taken fits in
+      inr (ap (λ xs. has_ending ends (take script_limit xs)) e ∙ ap (has_ending ends) front.1 ∙ ending_more (take script_limit taken) front.0 (ap (has_ending ends) whole ∙ ended))
 
-  overlong_front : (input taken rest : List ℕ) → input ≡ taken ++ rest → IsOverlong ends taken → take SCRIPT_LIMIT input ≡ take SCRIPT_LIMIT taken
-  overlong_front input taken rest e h = let long = h.0 in ap (take SCRIPT_LIMIT) e ∙ take-append-le SCRIPT_LIMIT taken rest (omega arith)
+  overlong_front : (input taken rest : List ℕ) → input ≡ taken ++ rest → IsOverlong ends taken → take script_limit input ≡ take script_limit taken
+  overlong_front input taken rest e h = let long = h.0 in ap (take script_limit) e ∙ take-append-le script_limit taken rest (omega arith)
 
 told : (input taken : List ℕ) (left' : Option (List ℕ)) → Consumes (Some input) left' taken → (rest : List ℕ) × (input ≡ taken ++ rest) × (IsAtEnd left' → rest ≡ [])
 told input taken None h = absurd h
@@ -224,7 +224,7 @@ module _ {S : Type 0} (step : S → Request → List ℕ → S → Type 0) (ends
         until_too_long = λ six. absurd (omega arith);
       }
 
-  too_long : (replies : List (List ℕ)) → Answers step (whole_requests ends (take SCRIPT_LIMIT taken)) old before new after replies → IsOverlong ends taken → status ≡ 6 → IsRunOf step ends input old before new after status
+  too_long : (replies : List (List ℕ)) → Answers step (whole_requests ends (take script_limit taken)) old before new after replies → IsOverlong ends taken → status ≡ 6 → IsRunOf step ends input old before new after status
   too_long replies answers overlong is =
       let front = overlong_front ends input taken rest e overlong in
       let long = ap length e in

@@ -1,4 +1,5 @@
 -- A reader starts with Run, which says what the clauses of `run_script` mean.
+pub mod Limits
 pub mod Request
 pub mod Script
 pub mod Stand

@@ -4,7 +4,7 @@ use Rattle.std.specs.Prelude.{◌≡◌, ℕ, ◌<◌, ◌≤◌, ◌⊎◌, Boo
 use Rattle.std.specs.List.{concat}
 use Rattle.std.specs.Io.KnownBytes.{Appends, Consumes, IsAtEnd}
 use Rattle.sym_io.specs.Faults.{Rose}
-use Rattle.script_session.specs.declared.reading.TheConstants.{SCRIPT_LIMIT, PIECE_LENGTH}
+use Rattle.script_session.specs.Limits.{script_limit, piece_length}
 use Rattle.script_session.specs.Reply.{status_of}
 use Rattle.script_session.specs.Request.{Command, Request}
 use Rattle.script_session.specs.Script.{script_requests, whole_requests, has_ending, IsWithinLimit, IsOverlong}
@@ -62,8 +62,8 @@ pub record IsLastRead (ends : Command → Bool) (taken : List ℕ) : Type 0 wher
   pub front : List ℕ
   pub piece : List ℕ
   pub parts : taken ≡ front ++ piece
-  pub one_read : length piece ≤ PIECE_LENGTH
-  pub within : length front ≤ SCRIPT_LIMIT
+  pub one_read : length piece ≤ piece_length
+  pub within : length front ≤ script_limit
   pub unended : has_ending ends front ≡ false
 
 -- nothing is left to be asked: the source is at its end, or a line has ended the script
@@ -74,8 +74,8 @@ IsAll ends left' taken = IsAtEnd left' ⊎ (has_ending ends taken ≡ true)
 -- last line counts too; before it, a line whose end hasn't come is none.
 abbrev pub IsAnswerable : (Command → Bool) → Option (List ℕ) → List ℕ → List Request → Type 0
 IsAnswerable ends left' taken asked =
-    (asked ≡ whole_requests ends (take SCRIPT_LIMIT taken))
-    ⊎ (IsAtEnd left' × (length taken ≤ SCRIPT_LIMIT) × (asked ≡ script_requests ends taken))
+    (asked ≡ whole_requests ends (take script_limit taken))
+    ⊎ (IsAtEnd left' × (length taken ≤ script_limit) × (asked ≡ script_requests ends taken))
 
 -- ---- how a run ends
 
@@ -85,13 +85,13 @@ IsAnswerable ends left' taken asked =
 pub data EndsAs {S : Type 0} (step : S → Request → List ℕ → S → Type 0) (ends : Command → Bool) (taken : List ℕ) (old : S) (before : Outside) (new : S) (after : Outside) (status : ℕ) : Type 0 where
   Finished : (replies : List (List ℕ)) → Answers step (script_requests ends taken) old before new after replies → IsAll ends after.left taken → IsWithinLimit ends taken
       → status ≡ status_of replies → EndsAs step ends taken old before new after status
-  SourceFailed : (replies : List (List ℕ)) → Answers step (whole_requests ends taken) old before new after replies → length taken ≤ SCRIPT_LIMIT → has_ending ends taken ≡ false
+  SourceFailed : (replies : List (List ℕ)) → Answers step (whole_requests ends taken) old before new after replies → length taken ≤ script_limit → has_ending ends taken ≡ false
       → Rose before.source_faults after.source_faults → status ≡ 3 → EndsAs step ends taken old before new after status
   SinkFailed : (asked : List Request) → IsAnswerable ends after.left taken asked → IsCutOff step asked old before new after
       → Rose before.sink_faults after.sink_faults → status ≡ 4 → EndsAs step ends taken old before new after status
   MemoryWanted : (asked : List Request) → IsAnswerable ends after.left taken asked → IsCutShort step asked old before new after
       → status ≡ 5 → EndsAs step ends taken old before new after status
-  TooLong : (replies : List (List ℕ)) → Answers step (whole_requests ends (take SCRIPT_LIMIT taken)) old before new after replies → IsOverlong ends taken
+  TooLong : (replies : List (List ℕ)) → Answers step (whole_requests ends (take script_limit taken)) old before new after replies → IsOverlong ends taken
       → status ≡ 6 → EndsAs step ends taken old before new after status
 
 -- a run from old, which left new: these bytes were taken, and no count of faults fell

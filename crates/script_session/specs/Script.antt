@@ -3,7 +3,7 @@ use Rattle.std.specs.Prelude.{◌≡◌, ℕ, Bool, false, ◌||◌, not, List, 
 use Rattle.std.specs.List.{filter, list_any}
 use Rattle.text_lines.specs.Lines.{Line, lines_of, text_of}
 use Rattle.text_lines.specs.Words.{words_of}
-use Rattle.script_session.specs.declared.reading.TheConstants.{LINE_LIMIT, SCRIPT_LIMIT}
+use Rattle.script_session.specs.Limits.{line_limit, script_limit}
 pub use Rattle.script_session.specs.Request.{Command, Request}
 use Rattle.script_session.specs.Request.{Overlong, Words}
 
@@ -26,7 +26,7 @@ is_end_text ends text = not (is_silent text) && ends (words_of text)
 
 -- the line has more bytes than it may
 abbrev pub is_long_line : Line → Bool
-is_long_line line = nat_lt LINE_LIMIT (length line.bytes)
+is_long_line line = nat_lt line_limit (length line.bytes)
 
 -- what a line asks, if it asks for a reply: one that is too long does, even if it is a comment or blank
 abbrev pub line_requests : Line → List Request
@@ -59,8 +59,8 @@ has_ending ends script = list_any (is_end ends) (whole_lines script)
 
 -- a script that fits, or that ended before it didn't
 abbrev pub IsWithinLimit : (Command → Bool) → List ℕ → Type 0
-IsWithinLimit ends input = (length input ≤ SCRIPT_LIMIT) ⊎ (has_ending ends (take SCRIPT_LIMIT input) ≡ true)
+IsWithinLimit ends input = (length input ≤ script_limit) ⊎ (has_ending ends (take script_limit input) ≡ true)
 
 -- a script with a byte too many, and no line before it that ends the script
 abbrev pub IsOverlong : (Command → Bool) → List ℕ → Type 0
-IsOverlong ends input = (SCRIPT_LIMIT < length input) × (has_ending ends (take SCRIPT_LIMIT input) ≡ false)
+IsOverlong ends input = (script_limit < length input) × (has_ending ends (take script_limit input) ≡ false)

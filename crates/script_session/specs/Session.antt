@@ -3,7 +3,7 @@ use Rattle.std.specs.Prelude.{◌≡◌, ℕ, ◌<◌, ◌≤◌, Bool, true, fa
 use Rattle.std.specs.List.{list_any, concat}
 use Rattle.std.specs.Io.KnownBytes.{Appends, Consumes}
 use Rattle.sym_io.specs.Files.{Files}
-use Rattle.script_session.specs.declared.reading.TheConstants.{SCRIPT_LIMIT}
+use Rattle.script_session.specs.Limits.{script_limit}
 use Rattle.script_session.specs.declared.session.Session.{Session}
 use Rattle.script_session.specs.declared.session.Flow.{Flow}
 use Rattle.script_session.specs.declared.session.Flow.TheVariants.{Open, Ended}
@@ -111,8 +111,8 @@ ServesRest ends step (Err stop.TooLong) old pending new = ⊥
 -- what the answer to a script says of the bytes that were taken, where left is what the source tells then
 abbrev pub ServesTaken : {M : Type 0} → (Command → Bool) → (Stand M → Request → List ℕ → Stand M → Type 0) → Result (Unit {0}) Stop → Option (List ℕ) → List ℕ → Moment M → Moment M → Type 0
 ServesTaken ends step (Ok done) left taken old new = Serves step old (script_requests ends taken) new × IsAll ends left taken × IsWithinLimit ends taken
-ServesTaken ends step (Err stop.Source) left taken old new = Serves step old (whole_requests ends taken) new × (length taken ≤ SCRIPT_LIMIT) × (has_ending ends taken ≡ false)
-ServesTaken ends step (Err stop.TooLong) left taken old new = Serves step old (whole_requests ends (take SCRIPT_LIMIT taken)) new × IsOverlong ends taken
+ServesTaken ends step (Err stop.Source) left taken old new = Serves step old (whole_requests ends taken) new × (length taken ≤ script_limit) × (has_ending ends taken ≡ false)
+ServesTaken ends step (Err stop.TooLong) left taken old new = Serves step old (whole_requests ends (take script_limit taken)) new × IsOverlong ends taken
 ServesTaken ends step (Err stop.Sink) left taken old new = (asked first rest : List Request) × IsAnswerable ends left taken asked × (asked ≡ first ++ rest) × Breaks step old first new
 ServesTaken ends step (Err stop.Memory) left taken old new = (asked first rest : List Request) × IsAnswerable ends left taken asked × (asked ≡ first ++ rest) × Halts step old first new
 

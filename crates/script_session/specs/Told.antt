@@ -1,6 +1,6 @@
 -- What a run says of all that its source has at the start, where the source tells it: what is to come counts too.
 use Rattle.std.specs.Prelude.{◌≡◌, ℕ, ◌<◌, Bool, List, take, length, Some, if◌then◌else◌, nat_le}
-use Rattle.script_session.specs.declared.reading.TheConstants.{SCRIPT_LIMIT}
+use Rattle.script_session.specs.Limits.{script_limit}
 use Rattle.script_session.specs.Reply.{status_of}
 use Rattle.script_session.specs.Request.{Command, Request}
 use Rattle.script_session.specs.Script.{script_requests, whole_requests, IsWithinLimit, IsOverlong}
@@ -8,7 +8,7 @@ use Rattle.script_session.specs.Run.{Outside, Answers, IsCutOff, IsCutShort, IsR
 
 -- What a run may answer: of a script that is too long, what the whole lines of the bytes that may be ask.
 abbrev pub allowed_requests : (Command → Bool) → List ℕ → List Request
-allowed_requests ends input = if nat_le (length input) SCRIPT_LIMIT then script_requests ends input else whole_requests ends (take SCRIPT_LIMIT input)
+allowed_requests ends input = if nat_le (length input) script_limit then script_requests ends input else whole_requests ends (take script_limit input)
 
 -- by its status, what a run has done with a script of these bytes
 pub record IsRunOf {S : Type 0} (step : S → Request → List ℕ → S → Type 0) (ends : Command → Bool) (input : List ℕ) (old : S) (before : Outside) (new : S) (after : Outside) (status : ℕ) : Type 0 where
@@ -17,7 +17,7 @@ pub record IsRunOf {S : Type 0} (step : S → Request → List ℕ → S → Typ
   pub until_sink_failed : status ≡ 4 → IsCutOff step (allowed_requests ends input) old before new after
   pub until_memory_wanted : status ≡ 5 → IsCutShort step (allowed_requests ends input) old before new after
   pub too_long : status ≡ 6 → IsOverlong ends input
-  pub until_too_long : status ≡ 6 → (replies : List (List ℕ)) × Answers step (whole_requests ends (take SCRIPT_LIMIT input)) old before new after replies
+  pub until_too_long : status ≡ 6 → (replies : List (List ℕ)) × Answers step (whole_requests ends (take script_limit input)) old before new after replies
 
 -- a run of a source that tells its bytes is a run of those
 abbrev pub ToldLaw : Type 1

@@ -1,10 +1,11 @@
 -- What a run of the program is, by what its words ask for.
-use Rattle.std.specs.Prelude.{◌≡◌, ℕ, List, codes, Option, Some}
+use Rattle.std.specs.Prelude.{◌≡◌, ◌⊎◌, ℕ, List, codes, String, Option, Some}
+use Rattle.std.specs.declared.alloc.Global.{Global}
 use Rattle.sym_io.specs.Files.{Files}
 use Rattle.script_session.specs.Request.{RequestStep}
 use Rattle.script_session.specs.Run.{Outside, IsRun}
 use Rattle.script_session.specs.Told.{IsRunOf}
-use Rattle.program_words.specs.Forms.{AskedForm, Script, Check}
+use Rattle.program_words.specs.Forms.{AskedForm, Script, Check, TakesWords, asked_form}
 use Rattle.sym_shell.specs.Causes.{IsAnswered}
 use Rattle.command_files.specs.Checking.{Checks, check_status, Prints}
 use Rattle.sym_shell.specs.Shell.{quits}
@@ -59,6 +60,10 @@ pub record Untouched (around : Around) : Type 0 where
   pub ends : around.after ≡ around.before
   pub files : around.files' ≡ around.files
   pub faults : around.faults' ≡ around.faults
+
+-- words that are taken: what they ask for is done, or nothing at all for want of memory to read them
+abbrev pub RunsWords : List (String Global) → Around → ℕ → Type 0
+RunsWords words around status = TakesWords words → RunsAs (asked_form words) around status ⊎ ((status ≡ 5) × Untouched around)
 
 -- ---- where the source tells its bytes
 

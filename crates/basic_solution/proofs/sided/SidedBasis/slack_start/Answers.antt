@@ -2,6 +2,8 @@ use Rattle.std.proofs.Common.{◌∙◌, refl, sym, ap, length, get_or, pos}
 use Rattle.frac128.specs.Rational.{int}
 use Rattle.row_tableau.specs.Relaxations.{form_of}
 use Rattle.basic_solution.specs.Held.{Held}
+use Rattle.table_entries.specs.declared.stand.Stand.TheVariants.{Free}
+use Rattle.basic_solution.proofs.ListedLemmas.{none_stand}
 use Rattle.basic_solution.proofs.SlackLemmas.{slack_sided, slack_state}
 use Rattle.basic_solution.proofs.sided.SidedBasis.slack_start.Goals as goal
 
@@ -23,8 +25,11 @@ invariant_of-result c =
     c.in-Ok-tilts.ensures.length c.in-Ok-tilts.ensures.items c.in-Ok-order.ensures (sym c.in-Ok-vec.stands.ok.0 ∙ c.in-Ok-vec.ensures.len ∙ ap length c.cols.ensures.items)
     c.requires.sides
 
-pub returns : goal.returns
-returns c =
+pub returns-clause-nowhere : goal.returns-clause-nowhere
+returns-clause-nowhere c = λ k w. ap (λ stands. get_or stands k Free) (c.in-Ok-vec.ensures.items_if_clones_equal (λ y e. e)) ∙ none_stand _ k
+
+pub returns-clause-state : goal.returns-clause-state
+returns-clause-state c =
     let relax = c.args.relax.now in
     let s : Held = record {
       form = form_of relax;

@@ -1,4 +1,4 @@
-use Rattle.std.proofs.Common.{refl, ap, subst, Ok, inl}
+use Rattle.std.proofs.Common.{refl, ap, subst, Ok, inl, inr}
 use Rattle.row_tableau.specs.Dense.{Dense}
 use Rattle.row_tableau.specs.Variables.{numbers}
 use Rattle.row_tableau.specs.Answers.{IsLeftOff}
@@ -54,3 +54,17 @@ returns-clause-answer c =
     (subst (λ b. IsBroughtTo c.stand_nowhere.new.self list (Ok b) reached) c.in-Ok-true.field-0-test c.in-Ok-true.ensures.answer)
     (λ k w. subst (λ high. StandBy (numbers after.tableau high) after k) c.as_slice.ensures (c.stand_by.ensures.stands k w)))
     c.is_lawful.result c.is_lawful.ensures
+
+pub returns-in-Ok-false-clause-stands : goal.returns-in-Ok-false-clause-stands
+returns-in-Ok-false-clause-stands c = λ answer.
+    inl (nowhere_on c.stand_nowhere.new.self c.bring_in.new.self c.bring_in.ensures.kept.columns c.bring_in.ensures.stands c.stand_nowhere.ensures.nowhere)
+
+pub returns-clause-stands : goal.returns-clause-stands
+returns-clause-stands c = λ answer.
+    let list = c.args.list.now in
+    let reached = c.bring_in.new.self in
+    let after = c.stand_by.new.self in
+    inr
+    (at_list list reached after c.stand_by.ensures.same
+    (subst (λ b. IsBroughtTo c.stand_nowhere.new.self list (Ok b) reached) c.in-Ok-true.field-0-test c.in-Ok-true.ensures.answer)
+    (λ k w. subst (λ high. StandBy (numbers after.tableau high) after k) c.as_slice.ensures (c.stand_by.ensures.stands k w)))

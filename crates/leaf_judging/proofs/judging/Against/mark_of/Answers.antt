@@ -8,7 +8,7 @@ pub returns : goal.returns
 returns c =
     record {
       number = c.number_or_minus-number.result;
-      number_is = c.number_or_minus-number.ensures;
+      number_is = c.number_or_minus-number.ensures.kept;
       says = c.state_by-state.ensures;
       candidate_is = c.as_candidate-candidate.ensures ∙ ap (λ (r : Option ℚ). candidate_of c.state_by-state.result r c.args.id) c.rank.ensures;
     }

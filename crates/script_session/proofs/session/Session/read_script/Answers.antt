@@ -5,7 +5,7 @@ use Rattle.std.proofs.lemmas.List.{length-take-le}
 use Rattle.script_session.specs.Request.{RequestStep}
 use Rattle.script_session.specs.Session.{moment_of, ServesPiece, ServesRest}
 use Rattle.script_session.specs.declared.session.Flow.{Flow}
-use Rattle.script_session.specs.declared.reading.TheConstants.{PIECE_LENGTH}
+use Rattle.script_session.specs.Limits.{piece_length}
 use Rattle.script_session.proofs.CauseLemmas.{later_on, rose_on, sink_cause_on, piece_cause, rest_cause}
 use Rattle.script_session.proofs.ReadLemmas.{ReadsOn-start, ReadsOn-more, read_failed, read_at_end, read_ended, read_overlong, read_stopped, front_parts}
 use Rattle.script_session.proofs.session.Session.read_script.Goals as goal
@@ -57,7 +57,7 @@ returns-in-Err-clause-served g c =
     let others = drop c.min.result bytes in
     let parts = front_parts c.min.result count c.read.new.buf (omega arith) in
     let bound = c.in-Ok.ensures.bound in
-    let short : length bytes ≤ PIECE_LENGTH = omega arith in
+    let short : length bytes ≤ piece_length = omega arith in
     let long : length piece ≡ c.min.result = length-take-le c.min.result c.read.new.buf (omega arith) in
     read_stopped g.M.Machine.ends (RequestStep g.M.Machine.step) c.in-Err.stop left left' left'' old now new c.loop-count.taken kept bytes piece others c.feed.new.pending.items c.loop-count.invariant.reads c.loop-count.invariant.limit short c.in-Ok.ensures.bytes.0 parts (omega arith) c.in-Err.ensures.served
 
@@ -76,7 +76,7 @@ returns-in-Ok-Ended-clause-served g c =
     let others = drop c.min.result bytes in
     let parts = front_parts c.min.result count c.read.new.buf (omega arith) in
     let bound = c.in-Ok.ensures.bound in
-    let short : length bytes ≤ PIECE_LENGTH = omega arith in
+    let short : length bytes ≤ piece_length = omega arith in
     let long : length piece ≡ c.min.result = length-take-le c.min.result c.read.new.buf (omega arith) in
     let served = subst (λ (flow : Flow). ServesPiece g.M.Machine.ends (RequestStep g.M.Machine.step) (Ok flow) now (kept ++ piece) new c.feed.new.pending.items) c.in-Ok-Ended.field-0-is c.in-Ok-Ended.ensures.served in
     read_ended g.M.Machine.ends (RequestStep g.M.Machine.step) left left' left'' old now new c.loop-count.taken kept bytes piece others c.feed.new.pending.items c.loop-count.invariant.reads c.loop-count.invariant.limit short c.in-Ok.ensures.bytes.0 parts (omega arith) served
@@ -96,7 +96,7 @@ returns-then-count-room-clause-served g c =
     let others = drop c.min.result bytes in
     let parts = front_parts c.min.result count c.read.new.buf (omega arith) in
     let bound = c.in-Ok.ensures.bound in
-    let short : length bytes ≤ PIECE_LENGTH = omega arith in
+    let short : length bytes ≤ piece_length = omega arith in
     let long : length piece ≡ c.min.result = length-take-le c.min.result c.read.new.buf (omega arith) in
     let served = subst (λ (flow : Flow). ServesPiece g.M.Machine.ends (RequestStep g.M.Machine.step) (Ok flow) now (kept ++ piece) new c.feed.new.pending.items) c.in-Ok-Open.field-0-is c.in-Ok-Open.ensures.served in
     let some : 0 < length others = omega (arith, length-drop c.min.result bytes) in
@@ -117,7 +117,7 @@ loop-count-preserved g c =
     let others = drop c.min.result bytes in
     let parts = front_parts c.min.result count c.read.new.buf (omega arith) in
     let bound = c.in-Ok.ensures.bound in
-    let short : length bytes ≤ PIECE_LENGTH = omega arith in
+    let short : length bytes ≤ piece_length = omega arith in
     let long : length piece ≡ c.min.result = length-take-le c.min.result c.read.new.buf (omega arith) in
     let served = subst (λ (flow : Flow). ServesPiece g.M.Machine.ends (RequestStep g.M.Machine.step) (Ok flow) now (kept ++ piece) new c.feed.new.pending.items) c.in-Ok-Open.field-0-is c.in-Ok-Open.ensures.served in
     let same : c.min.result ≡ count = omega arith in

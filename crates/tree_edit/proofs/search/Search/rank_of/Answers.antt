@@ -9,4 +9,4 @@ pub returns : goal.returns
 returns c =
     let i = c.self.inside in
     subst (λ (S : PlainSearch). HasRank (formulation_of S) S.tree.root (record { rank = c.rank.result; id = c.args.id })) c.self.view_is
-    (kept-rank (formulation i.model i.pool) i.tree.root i.numbers c.args.id c.number_or_minus.result c.rank.result c.self.invariant.numbers_are c.number_or_minus.ensures c.rank.ensures)
+    (kept-rank (formulation i.model i.pool) i.tree.root i.numbers c.args.id c.number_or_minus.result c.rank.result c.self.invariant.numbers_are c.number_or_minus.ensures.kept c.rank.ensures)
