@@ -1,6 +1,6 @@
 -- The walk: nodes with places, and the path behind a leaf.
 use Rattle.std.proofs.Common.{◌≡◌, ℕ, ◌+◌, ◌<◌, List, [], ◌∷◌, ◌++◌, length, take, get_or, refl, sym, ap, subst, ◌∙◌, arith, below_more}
-use Rattle.std.specs.Prelude.{pos, ◌+ℤ◌}
+use Rattle.std.specs.Prelude.{pos, ◌+ℤ◌, All}
 use Rattle.std.proofs.lemmas.List.{take_more, length-append, get_or_append_left}
 use Rattle.std.proofs.Math.Seq.{get_or-append_seam}
 use Rattle.lp_model.specs.Program.{Program}
@@ -9,7 +9,7 @@ use Rattle.lp_model.specs.declared.types.Side.TheVariants.{Lo, Hi}
 use Rattle.lp_model.specs.declared.types.BoundChange.{BoundChange}
 use Rattle.cert_text.specs.declared.cert.CertNode.{CertNode}
 use Rattle.cert_check.specs.declared.judging.NodeWithPlaces.{NodeWithPlaces}
-use Rattle.cert_check.specs.Walk.{IsPlace, AreNodesPlaced, turned_change, in_front, after_leaf}
+use Rattle.cert_check.specs.Walk.{IsPlace, AreNodesPlaced, CanTurn, turned_change, in_front, after_leaf}
 
 module _ (M : Program) (cuts : ℕ) (node : CertNode) (one : NodeWithPlaces) (here : IsPlace M cuts node one) where
   placed_last : (ns : List CertNode) (ps : List NodeWithPlaces) → AreNodesPlaced M cuts ns ps → AreNodesPlaced M cuts (ns ++ node ∷ []) (ps ++ one ∷ [])
@@ -43,3 +43,10 @@ in_front-some d (e ∷ path) c = refl
 pub after_leaf-high : (path : Path) (c : BoundChange) → c.side ≡ Hi → after_leaf (path ++ c ∷ []) ≡ path ++ at_least c.col.0 (c.v +ℤ pos 1) ∷ []
 after_leaf-high [] c high = ap (λ s. turned_change s c) high
 after_leaf-high (d ∷ path) c high = ap (in_front d) (after_leaf-high path c high) ∙ in_front-some d path (at_least c.col.0 (c.v +ℤ pos 1))
+
+pub turns-fewer : (path : Path) (c : BoundChange) → All CanTurn (path ++ c ∷ []) → All CanTurn path × CanTurn c
+turns-fewer path c all =
+    let long = length-append path (c ∷ []) in (
+      λ k d below. subst CanTurn (get_or_append_left path (c ∷ []) d k below) (all k d (omega (arith, below, long))),
+      subst CanTurn (get_or-append_seam path c [] c) (all (length path) c (omega (arith, long))),
+    )

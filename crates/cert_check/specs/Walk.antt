@@ -28,7 +28,7 @@ use Rattle.cert_check.specs.Cuts.{AreCutsFound}
 use Rattle.cert_check.specs.Accepted.{AreNames, point_of}
 use Rattle.cert_check.specs.Verdict.{IsNumberJudged, IsFarkasJudged, IsEmptyJudged, IsKindJudged, visits, IsVisitJudged, IsJudgedAt}
 use Rattle.cert_text.specs.Whole.{IsNarrowNode}
-use Rattle.cert_check.specs.Tight.{IsTrail, room}
+use Rattle.tight_regions.specs.Tight.{IsTrail, room}
 
 -- ---- nodes with places
 

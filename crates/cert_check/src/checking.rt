@@ -6,7 +6,7 @@ ghost use Rattle.lp_model.specs.Regions.{AreNarrow, at_least};
 ghost use Rattle.lp_model.specs.Formulations.{formulation};
 ghost use Rattle.leaf_dual.specs.Dual.{HavePlaces};
 ghost use Rattle.cert_check.specs.Walk.{IsPlace, AreNodesPlaced, IsBufferOf, IsPlacedJudged, CanTurn, after_leaf, after_node, IsWalked, IsNodesVerdict, IsPointOf, has_tree};
-ghost use Rattle.cert_check.specs.Tight.{IsTrail, path_of_trail, room};
+ghost use Rattle.tight_regions.specs.Tight.{IsTrail, path_of_trail, depth_of, room};
 ghost use Rattle.cert_check.specs.Verdict.{WhereThere, IsFeasibleJudged, IsDirectionJudged, IsClaimJudged, IsHeadJudged, IsVerdict};
 ghost use Rattle.cert_check.specs.Cuts.{AreCutsFound};
 ghost use Rattle.lp_model.specs.Lawful.{column_names};
@@ -25,11 +25,11 @@ use crate::judging::{
 };
 use crate::mults::multipliers;
 use crate::names::{column_place, point};
-use crate::trail::Trail;
 use crate::verdict::{Judgement, Verdict};
 use cert_text::{Cert, CertNode, Claim};
 use lp_model::{BoundChange, CutRow, Model, Point, Side};
 use std::alloc::{AllocError, Global};
+use tight_regions::Trail;
 
 /// The most cuts of a certificate: the place of a cut has 32 bits.
 const MOST_CUTS: usize = 4_294_967_296;
@@ -214,10 +214,10 @@ fn turn(trail: &mut Trail)
     requires turns { All CanTurn (path_of_trail trail.old) }
     ensures trail { IsTrail trail.new }
     ensures path { path_of_trail trail.new ≡ after_leaf (path_of_trail trail.old) }
-    ensures within { trail.new.depth ≤ trail.old.depth }
+    ensures within { depth_of trail.new ≤ depth_of trail.old }
     ensures room { room trail.new ≡ room trail.old }
 {
-    while trail.depth > 0 {
+    while trail.depth() > 0 {
         let last = trail.pop();
         match last.side {
             Side::Lo => {}
@@ -232,11 +232,11 @@ fn turn(trail: &mut Trail)
 /// From a node's path to that of the node behind it.
 fn step_on(trail: &mut Trail, node: &NodeWithPlaces)
     requires trail { IsTrail trail.old }
-    requires room { trail.old.depth < room trail.old }
+    requires room { depth_of trail.old < room trail.old }
     requires turns { All CanTurn (path_of_trail trail.old) }
     ensures trail { IsTrail trail.new }
     ensures path { path_of_trail trail.new ≡ after_node node.now (path_of_trail trail.old) }
-    ensures within { trail.new.depth ≤ trail.old.depth + 1 }
+    ensures within { depth_of trail.new ≤ depth_of trail.old + 1 }
     ensures room { room trail.new ≡ room trail.old }
 {
     match node {

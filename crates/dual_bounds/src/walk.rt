@@ -1,7 +1,8 @@
 // A walk over the leaves of a tree, which lists their numbers at a model.
 ghost use Rattle.std.specs.Prelude.{IfOk, OnOk};
-ghost use Rattle.lp_model.specs.Regions.{AreNarrow};
+ghost use Rattle.lp_model.specs.Regions.{Path, AreNarrow};
 ghost use Rattle.lp_model.specs.Formulations.{formulation};
+ghost use Rattle.tight_regions.specs.SameBounds.{SameBounds};
 ghost use Rattle.branch_tree.specs.Tree.{HasNarrowSplits};
 ghost use Rattle.dual_bounds.specs.TreeBounds.{IsTreeBound, IsTreeBoundAt};
 
@@ -26,19 +27,19 @@ pub(crate) struct Listing<'a> {
 impl Listing<'_> {
     ghost use Rattle.dual_bounds.specs.Walk.{ListsLeaf};
 
-    /// Puts a leaf's number behind the others.
+    /// Puts a leaf's number, which is that of each path with the region's bounds, behind the others.
     fn list_leaf(
         &mut self,
         id: u64,
-        path: &[BoundChange],
+        region: &[BoundChange],
         kept: &LeafData,
     ) -> Result<(), AllocError>
-        requires { AreNarrow path.now }
-        ensures { OnOk result (ListsLeaf self.old (record { id = id; region = path.now; kept = kept.now }) self.new) }
+        requires { AreNarrow region.now }
+        ensures { OnOk result ((path : Path) → SameBounds region.now path → ListsLeaf self.old (record { id = id; region = path; kept = kept.now }) self.new) }
     {
         // without this name the proof isn't told the type of the number's value
         let _named = LagValue::Minus;
-        let number = number_of(self.model, self.pool, path, &kept.mult, &kept.farkas);
+        let number = number_of(self.model, self.pool, region, &kept.mult, &kept.farkas);
         self.numbers.push(number)?;
         Ok(())
     }
@@ -49,8 +50,13 @@ impl LeafVisitor for Listing<'_> {
 
     ghost step = { ListsLeaf };
 
-    fn visit(&mut self, id: u64, path: &[BoundChange], kept: &LeafData) -> Result<(), AllocError> {
-        self.list_leaf(id, path, kept)
+    fn visit(
+        &mut self,
+        id: u64,
+        region: &[BoundChange],
+        kept: &LeafData,
+    ) -> Result<(), AllocError> {
+        self.list_leaf(id, region, kept)
     }
 }
 

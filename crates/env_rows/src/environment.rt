@@ -1,12 +1,15 @@
 // The environment of a row, and what its calls are answered.
 use crate::answers::push_answer;
 use anyhow::{Result, bail};
+use cert_commands::held_certificate;
+use kept_env::{Env, EnvFault};
 use lp_model::{Answer, Edit, Model};
 use model_calls::{Callee, take_number};
 use model_texts::{Words, edit_of, push_edit_fault};
 use search_file::{search_in, text_of};
 use std::alloc::Global;
-use sym_env::{Env, EnvFault, Limits};
+use sym_env::{solve, warm_solve};
+use tree_search::Limits;
 use warm_file::WarmFault;
 
 /// The environment, which answers the calls.
@@ -127,7 +130,7 @@ impl Environment {
 
     fn solve(&mut self, line: &str, got: &mut String) -> Result<()> {
         let limits = limits_of(self.alloc, line)?;
-        let found = self.env.solve(&limits);
+        let found = solve(self.alloc, &mut self.env, &limits);
         let pushed = self.push_found(got, &found);
         drop(found);
         pushed
@@ -135,7 +138,7 @@ impl Environment {
 
     fn warm(&mut self, line: &str, got: &mut String) -> Result<()> {
         let limits = limits_of(self.alloc, line)?;
-        let found = self.env.warm_solve(&limits);
+        let found = warm_solve(self.alloc, &mut self.env, &limits);
         let pushed = self.push_found(got, &found);
         drop(found);
         pushed
@@ -193,7 +196,7 @@ impl Environment {
 
     /// How many bytes the certificate's text has.
     fn cert(&self, got: &mut String) -> Result<()> {
-        let cert = self.env.cert();
+        let cert = held_certificate(self.alloc, &self.env);
         let pushed = push_length(got, &cert);
         drop(cert);
         pushed

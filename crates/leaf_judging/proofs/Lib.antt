@@ -3,3 +3,4 @@ pub mod QueueLemmas
 pub mod QueueLists
 pub mod NumberLemmas
 pub mod MarkLemmas
+pub mod SameNumber

@@ -1,8 +1,10 @@
 // Leaves judged, all of a tree: each leaf's number once, and its state by that number as often as the target changes.
 ghost use Rattle.std.specs.Prelude.{IfOk, OnOk, OnErr, ◌≡◌, List, length};
-ghost use Rattle.lp_model.specs.Regions.{AreNarrow};
+ghost use Rattle.lp_model.specs.Regions.{Path, AreNarrow};
 ghost use Rattle.lp_model.specs.Formulations.{formulation};
 ghost use Rattle.lp_model.specs.declared.types.CutRow.{CutRow};
+ghost use Rattle.tight_regions.specs.SameBounds.{SameBounds};
+ghost use Rattle.branch_tree.specs.declared.node.LeafData.{LeafData};
 ghost use Rattle.branch_tree.specs.Tree.{HasNarrowSplits};
 ghost use Rattle.branch_tree.specs.Leaves.{leaf_count, with_states};
 ghost use Rattle.leaf_judging.specs.Judged.{AreStates, JudgesAll};
@@ -30,17 +32,17 @@ pub(crate) struct Numbering<'a> {
 impl Numbering<'_> {
     ghost use Rattle.leaf_judging.specs.Numbers.{NumbersLeaf};
 
-    /// Puts down a leaf's number.
+    /// Puts down a leaf's number, which is that of each path with the region's bounds.
     fn number_leaf(
         &mut self,
         id: u64,
-        path: &[BoundChange],
+        region: &[BoundChange],
         kept: &LeafData,
     ) -> Result<(), AllocError>
-        requires { AreNarrow path.now }
-        ensures { OnOk result (NumbersLeaf self.old (record { id = id; region = path.now; kept = kept.now }) self.new) }
+        requires { AreNarrow region.now }
+        ensures { OnOk result ((path : Path) → SameBounds region.now path → NumbersLeaf self.old (record { id = id; region = path; kept = kept.now }) self.new) }
     {
-        let number = number_of(self.model, self.pool, path, &kept.mult, &kept.farkas);
+        let number = number_of(self.model, self.pool, region, &kept.mult, &kept.farkas);
         self.numbers.put(id, &number)
     }
 }
@@ -50,8 +52,13 @@ impl LeafVisitor for Numbering<'_> {
 
     ghost step = { NumbersLeaf };
 
-    fn visit(&mut self, id: u64, path: &[BoundChange], kept: &LeafData) -> Result<(), AllocError> {
-        self.number_leaf(id, path, kept)
+    fn visit(
+        &mut self,
+        id: u64,
+        region: &[BoundChange],
+        kept: &LeafData,
+    ) -> Result<(), AllocError> {
+        self.number_leaf(id, region, kept)
     }
 }
 
@@ -119,14 +126,9 @@ pub(crate) struct Marking<'a> {
 impl Marking<'_> {
     ghost use Rattle.leaf_judging.specs.Numbers.{MarksLeaf};
 
-    /// Marks the leaf with the id by its number.
-    fn mark_leaf(
-        &mut self,
-        id: u64,
-        path: &[BoundChange],
-        kept: &LeafData,
-    ) -> Result<(), AllocError>
-        ensures { OnOk result (MarksLeaf self.old (record { id = id; region = path.now; kept = kept.now }) self.new) }
+    /// Marks the leaf with the id by its number. Its region and what it keeps count by the number alone.
+    fn mark_leaf(&mut self, id: u64) -> Result<(), AllocError>
+        ensures { OnOk result ((path : Path) (kept : LeafData) → MarksLeaf self.old (record { id = id; region = path; kept = kept }) self.new) }
     {
         let mark = self.against.mark_of(id);
         self.queue.add(&mark.candidate)?;
@@ -140,8 +142,13 @@ impl LeafVisitor for Marking<'_> {
 
     ghost step = { MarksLeaf };
 
-    fn visit(&mut self, id: u64, path: &[BoundChange], kept: &LeafData) -> Result<(), AllocError> {
-        self.mark_leaf(id, path, kept)
+    fn visit(
+        &mut self,
+        id: u64,
+        _region: &[BoundChange],
+        _kept: &LeafData,
+    ) -> Result<(), AllocError> {
+        self.mark_leaf(id)
     }
 }
 

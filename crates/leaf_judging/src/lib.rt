@@ -17,7 +17,8 @@
 //! a leaf without one before all, of equals the least id (specs/Closing, Judged, Choosing, Queued, Numbers). The tree may be
 //! any that is handed in, so that a caller can judge the tree after a change before it makes the change. A number depends on
 //! the model, its cuts, the region and the multipliers alone, so it is kept under the leaf's id, and for another target `judge_again`
-//! compares the numbers that are kept, and computes none. What is taken grows as the tree does.
+//! compares the numbers that are kept, and computes none. A region counts by its bounds alone (proofs/SameNumber), so a leaf is
+//! judged by the tightest changes of its path, however long that is. What is taken grows as the tree does.
 //!
 //! Below stand the trees (`branch_tree`), the numbers of multipliers (`leaf_dual`), the pools of cuts (`cover_cuts`) and the
 //! models (`lp_model`). Above stands

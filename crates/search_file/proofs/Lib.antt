@@ -1,4 +1,3 @@
-pub mod DepthLemmas
 pub mod LawfulLemmas
 pub mod PoolLemmas
 pub mod TreeLemmas

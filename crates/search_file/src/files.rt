@@ -49,8 +49,7 @@ pub fn text_of(alloc: Global, search: &Search) -> Result<Vec<u8>, WarmFault>
 }
 
 /// The search that a text states, or the first fault of the text. Nothing in it is believed but the model: cuts are derived, points
-/// are tested and leaves are judged at that model. A tree with more than 4,000 splits one below the other is want of memory
-/// (`search_of`).
+/// are tested and leaves are judged at that model.
 pub fn search_in(alloc: Global, text: &[u8]) -> Result<Search, WarmFault>
     ensures { IsSearchFound text.now result }
 {

@@ -8,7 +8,6 @@
 //! point      stays exactly where it is feasible, and no step of its test or its value lacks room
 //! split      one that is not on an integer column is one leaf, with its multipliers and its basis
 //! leaf       is judged by its lists, whatever state is stated
-//! tree       with more than 4,000 splits one below the other is not made: that is want of memory
 //!
 //! text_of(search)  = write(data_of(search)), where that is read again
 //! search_in(text)  = search_of(read(text))
@@ -27,7 +26,6 @@
 //! `warm_writer`); above stands the environment.
 #![tactic(auto)]
 
-mod depth;
 mod files;
 mod lawful;
 mod laws;

@@ -3,11 +3,9 @@
 ghost use Rattle.std.specs.Prelude.{◌≡◌, ◌≤◌, length, All, IfOk};
 ghost use Rattle.branch_tree.specs.Limits.{node_limit};
 ghost use Rattle.branch_tree.specs.Preorder.{DataTree, data_nodes, IsOneTree, numbered_tree, HasNodeBound};
-ghost use Rattle.search_file.specs.Depth.{IsShallow};
 ghost use Rattle.search_file.specs.Lawful.{lawful_tree};
 ghost use Rattle.search_file.specs.Saved.{IsPoolFrom, IsRestorable, Restores};
 
-use crate::depth::is_deep;
 use crate::lawful::lawful_nodes;
 use branch_tree::{NodeData, Tree};
 use cover_cuts::CutPool;
@@ -39,25 +37,15 @@ fn pool_of(alloc: Global, model: &Model, cuts: &[Derivation]) -> Result<CutPool,
     Ok(pool)
 }
 
-/// The tree of nodes, in which each split that is not on an integer column is one open leaf. One that is too deep counts as one for
-/// which there is no memory.
+/// The tree of nodes, in which each split that is not on an integer column is one open leaf.
 fn tree_of(alloc: Global, model: &Model, nodes: &[NodeData]) -> Result<Tree, AllocError>
     requires whole { IsOneTree nodes.now }
     requires bounds { All HasNodeBound nodes.now }
-    ensures tree { IfOk result (λ tree. (t : DataTree) → data_nodes t ≡ nodes.now → tree ≡ numbered_tree node_limit (lawful_tree model.now t)) }
-    ensures shallow { IfOk result (λ _. IsShallow model.now nodes.now) }
+    ensures { IfOk result (λ tree. (t : DataTree) → data_nodes t ≡ nodes.now → tree ≡ numbered_tree node_limit (lawful_tree model.now t)) }
 {
     let Ok(kept) = lawful_nodes(alloc, model, nodes) else {
         return Err(AllocError);
     };
-    let Ok(deep) = is_deep(alloc, kept.as_slice()) else {
-        drop(kept);
-        return Err(AllocError);
-    };
-    if deep {
-        drop(kept);
-        return Err(AllocError);
-    }
     Tree::from_preorder(alloc, NODE_LIMIT, kept)
 }
 
@@ -66,7 +54,6 @@ fn parts_of(alloc: Global, stated: &SearchData) -> Result<(CutPool, Tree), Alloc
     requires { IsRestorable stated.now }
     ensures pool { IfOk result (λ both. IsPoolFrom stated.now.model stated.now.cuts both.0) }
     ensures tree { IfOk result (λ both. (t : DataTree) → data_nodes t ≡ stated.now.nodes → both.1 ≡ numbered_tree node_limit (lawful_tree stated.now.model t)) }
-    ensures shallow { IfOk result (λ _. IsShallow stated.now.model stated.now.nodes) }
 {
     let Ok(pool) = pool_of(alloc, &stated.model, stated.cuts.as_slice()) else {
         return Err(AllocError);
@@ -80,13 +67,10 @@ fn parts_of(alloc: Global, stated: &SearchData) -> Result<(CutPool, Tree), Alloc
 
 /// A search of the stated model, with the stated cuts, those of the stated points that may be kept, and the stated tree, in which
 /// each split that is not on an integer column is one leaf. Its ids are 1, 2 and so on in preorder, and it may have 1,000,000 nodes.
-/// Cuts, points and leaves are judged at the model. A tree with more than 4,000 splits one below the other is not made: that is
-/// want of memory, since the calls that walk a tree go one call deeper a level and the machine's stack ends somewhere. Where there is
-/// no memory the data is let go.
+/// Cuts, points and leaves are judged at the model. Where there is no memory the data is let go.
 pub fn search_of(alloc: Global, stated: SearchData) -> Result<Search, AllocError>
     requires { IsRestorable stated }
-    ensures restores { IfOk result (λ s. Restores stated s) }
-    ensures shallow { IfOk result (λ _. IsShallow stated.model stated.nodes) }
+    ensures { IfOk result (λ s. Restores stated s) }
 {
     match parts_of(alloc, &stated) {
         Ok((pool, tree)) => {

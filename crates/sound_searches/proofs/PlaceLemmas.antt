@@ -6,17 +6,21 @@ use Rattle.lp_model.specs.Regions.{Path, AreNarrow}
 use Rattle.lp_model.specs.Formulations.{Formulation}
 use Rattle.branch_tree.specs.Tree.{Leaf, Split, left_path, right_path, EachLeaf}
 use Rattle.branch_tree.specs.Plain.{LeafKept, Plain, leaf_below, leaves_with, data_of, path_of}
+use Rattle.branch_tree.specs.Numbered.{IsNumbered}
 use Rattle.branch_tree.specs.Changes.{HasLeaf}
 use Rattle.branch_tree.specs.declared.node.LeafData.{LeafData}
 use Rattle.branch_tree.specs.declared.node.LeafState.TheVariants.{IsOpen}
+use Rattle.branch_tree.specs.declared.node.Job.{Job}
 use Rattle.branch_tree.specs.declared.node.NodeResult.{NodeResult}
 use Rattle.branch_tree.specs.declared.node.NodeResult.TheVariants.{Close, Split as SplitAt, PointAndClose, Keep}
+use Rattle.branch_tree.proofs.HeldLemmas.{data-one}
 use Rattle.branch_tree.proofs.PathLaws.{narrow_paths, path-found, each-found}
 use Rattle.sound_searches.specs.declared.taken.Taken.{Taken}
 use Rattle.sound_searches.specs.declared.taken.Taken.TheVariants.{Stale, Refused, Reopened, Full, Closed, Split as SplitTaken, Kept}
 use Rattle.search_parts.specs.Lists.{HasLists, HasNodeLists}
 use Rattle.sound_searches.specs.Sound.{PlainSearch, formulation_of, IsSound}
 use Rattle.sound_searches.specs.Calls.{IsLeafAt}
+use Rattle.sound_searches.specs.Jobs.{IsJobOf}
 use Rattle.sound_searches.specs.Placing.{TakesResult, IsStale, IsOpenPlace, Takes}
 use Rattle.sound_searches.proofs.SoundLemmas.{is_at}
 
@@ -52,6 +56,17 @@ module _ (S : PlainSearch) (id : ℕ) (kept : LeafData) (sound : IsSound S) (has
     leaf = record { has = has; at = is_at id path S.tree.root has (sym at) };
     narrow = narrow-found S id path sound (sym at);
   }
+
+-- so of a job, whose leaf is open
+pub job-place : (S : PlainSearch) → IsSound S → IsNumbered S.tree → (id : ℕ) (job : Job) → IsJobOf S id job → IsOpenPlace S id job.region
+job-place S sound numbered id job is =
+    let has : HasLeaf S.tree id =
+    subst (λ o. MatchOption o (leaves_with id S.tree.root ≡ 0) (λ _. leaves_with id S.tree.root ≡ 1)) is.leaf.data_is (data-one id S.tree.root (let n = numbered.distinct id in omega (arith, n))) in
+    record {
+      is_open = record { kept = is.kept; leaf = is.leaf; state = is.state };
+      leaf = record { has = has; at = is_at id job.region S.tree.root has is.leaf.path_is };
+      narrow = narrow-found S id job.region sound is.leaf.path_is;
+    }
 
 -- ---- the answer
 

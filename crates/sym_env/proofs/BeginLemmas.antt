@@ -9,7 +9,7 @@ use Rattle.ray_phase.specs.Laws.{RootBasisLaw}
 use Rattle.ray_phase.proofs.BeginningLemmas.{dual_basis, is_ray}
 use Rattle.tree_search.specs.Steps.{IsBesideRay, IsFirstFor}
 use Rattle.tree_search.specs.declared.searching.Ways.TheVariants.{Own}
-use Rattle.sym_env.specs.Beginnings.{BeginsWith}
+use Rattle.tree_search.specs.Beginnings.{BeginsWith}
 
 pub first-own : RootBasisLaw → (S : PlainSearch) (pivots : ℕ) (first : Basis) → BeginsWith S.model pivots Own first → IsFirstFor Own S first
 first-own f S pivots first (inl slack) = f S.model first (inr slack)

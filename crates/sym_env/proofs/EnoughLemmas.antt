@@ -24,10 +24,10 @@ use Rattle.tree_search.specs.declared.searching.Ended.TheVariants as ended
 use Rattle.tree_search.specs.declared.searching.Ways.{Ways}
 use Rattle.tree_search.specs.declared.searching.Ways.TheVariants.{Own, Rays}
 use Rattle.ray_phase.specs.Beginnings.{IsRayStop, FindsRay, StopsBefore}
-use Rattle.sym_env.specs.Beginnings.{BeginsWith}
-use Rattle.sym_env.specs.Enough.{IsRayPhaseEnough, AreRelaxationsEnough, IsEnoughBeside, IsEnough, IsKeptEnough, IsEnoughFrom}
-use Rattle.sym_env.specs.Truth.{HasEnded}
-use Rattle.sym_env.specs.declared.limits.Limits.{Limits}
+use Rattle.tree_search.specs.Beginnings.{BeginsWith}
+use Rattle.tree_search.specs.Enough.{IsRayPhaseEnough, AreRelaxationsEnough, IsEnoughBeside, IsEnough, IsKeptEnough, IsEnoughFrom}
+use Rattle.tree_search.specs.Truth.{HasEnded}
+use Rattle.tree_search.specs.declared.limits.Limits.{Limits}
 use Rattle.ray_phase.proofs.BeginningLemmas.{dual_basis, is_ray}
 
 -- ---- the search

@@ -1,7 +1,5 @@
-pub mod CertLemmas
 pub mod BeginLemmas
 pub mod EnoughLemmas
 pub mod TruthLemmas
 pub mod SolveLemmas
 pub mod WarmLemmas
-pub mod TrimLemmas

@@ -16,12 +16,12 @@ use Rattle.tree_search.specs.declared.searching.Ways.{Ways}
 use Rattle.tree_search.proofs.ExtendLemmas.{extends-self, extends-on, extends-added}
 use Rattle.tree_search.proofs.KeepLemmas.{added-model}
 use Rattle.ray_phase.specs.Beginnings.{StopsBefore}
-use Rattle.sym_env.specs.Beginnings.{BeginsWith}
-use Rattle.sym_env.specs.Enough.{IsEnoughFrom}
-use Rattle.sym_env.specs.Solves.{StopsFirst, Searches, WantsBefore, WantsWithin, Solved}
-use Rattle.sym_env.specs.Truth.{HasEnded}
-use Rattle.sym_env.specs.Warm.{Went}
-use Rattle.sym_env.specs.declared.limits.Limits.{Limits}
+use Rattle.tree_search.specs.Beginnings.{BeginsWith}
+use Rattle.tree_search.specs.Enough.{IsEnoughFrom}
+use Rattle.tree_search.specs.Solves.{StopsFirst, Searches, WantsBefore, WantsWithin, Solved}
+use Rattle.tree_search.specs.Truth.{HasEnded}
+use Rattle.tree_search.specs.Warm.{Went}
+use Rattle.tree_search.specs.declared.limits.Limits.{Limits}
 use Rattle.sym_env.proofs.EnoughLemmas.{enough-for, at-end, goes-on}
 
 module _ (l : Limits) (S : PlainSearch) (sound : IsSound S) where

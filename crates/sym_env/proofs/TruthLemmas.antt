@@ -1,5 +1,5 @@
 -- What a search answers is true of its model, whether it begins with a fresh root or goes on.
-use Rattle.std.proofs.Common.{◌≡◌, ◌⊎◌, ℕ, suc, ◌+◌, ◌<◌, ◌≤◌, List, [], ◌∷◌, ◌++◌, length, map, take, drop, sym, ap, subst, refl, ◌∙◌, inl, inr, arith, Option, Some, None, Ok}
+use Rattle.std.proofs.Common.{◌≡◌, ◌⊎◌, ℕ, suc, ◌<◌, ◌≤◌, List, [], ◌∷◌, ◌++◌, length, map, take, drop, sym, ap, subst, refl, ◌∙◌, inl, inr, arith, Option, Some, None, Ok}
 use Rattle.std.specs.Prelude.{true, ◌-◌, All}
 use Rattle.std.specs.List.{remove}
 use Rattle.std.proofs.lemmas.List.{length-map, length-take, length-drop, length-append}
@@ -40,13 +40,12 @@ use Rattle.tree_search.specs.declared.searching.Ended.{Ended}
 use Rattle.tree_search.specs.declared.searching.Ended.TheVariants as ended
 use Rattle.tree_search.specs.declared.searching.Ways.{Ways}
 use Rattle.ray_phase.specs.Beginnings.{IsRayStop, StopsBefore}
-use Rattle.sym_env.specs.Env.{PlainEnv, HasPointAndRay, IsHeld}
-use Rattle.sym_env.specs.Solves.{Course, NothingOpen, StopsFirst, Searches, WantsBefore, WantsWithin, SolvesModel, SaysUnbounded, HasRayFor, held_by, IsOldest, SolvesEnv}
-use Rattle.sym_env.specs.Truth.{IsCount, IsBound, IsFoundValue, IsEarlyBy, IsTrueBy, IsSmallTree, IsTrueAnswer, IsTrueOfKept}
-use Rattle.sym_env.specs.Warm.{Resumes, BesidePoint, GoesOn, Warms, Still, SomeOpen}
-use Rattle.sym_env.specs.declared.held.Held.{Held}
-use Rattle.sym_env.specs.declared.held.Held.TheVariants.{Unbounded as Beside}
-use Rattle.sym_env.specs.declared.limits.Limits.{Limits}
+use Rattle.kept_env.specs.Env.{PlainEnv, HasPointAndRay, IsHeld, with_answer}
+use Rattle.tree_search.specs.Solves.{Course, NothingOpen, StopsFirst, Searches, WantsBefore, WantsWithin, SolvesModel, SolvesFrom, SaysUnbounded, HasRayFor, HasRayFrom}
+use Rattle.kept_env.specs.Worked.{held_by, IsOldest, WorksEnv}
+use Rattle.tree_search.specs.Truth.{IsCount, IsBound, IsFoundValue, IsEarlyBy, IsTrueBy, IsSmallTree, IsTrueAnswer, IsTrueOfKept}
+use Rattle.tree_search.specs.Warm.{Resumes, BesidePoint, GoesOn, Warms, Still, SomeOpen}
+use Rattle.tree_search.specs.declared.limits.Limits.{Limits}
 use Rattle.ray_phase.proofs.BeginningLemmas.{is_ray, judged_ray}
 
 -- the laws of searches that are used
@@ -230,10 +229,6 @@ solves-oldest M l old answer S (inr wants) = subst (IsOldest S) (sym wants.wants
 
 -- ---- what is held
 
--- where it is held that the model is unbounded, it keeps a point beside the ray
-pub keeps-beside : (search : Option PlainSearch) (held : Held) (S : PlainSearch) (d : Point) → search ≡ Some S → held ≡ Beside d → IsHeld search held → HasPointAndRay S d
-keeps-beside search held S d there is kept = subst (λ T. T) (λ i. IsHeld (there i) (is i)) kept
-
 -- with one more there are some
 some-more : {A : Type 0} (xs : List A) (x : A) → 0 < length (xs ++ x ∷ [])
 some-more xs x = let l = length-append xs (x ∷ []) in omega (arith, l)
@@ -336,8 +331,8 @@ solves-held M l old answer direction S (inl s) has =
     })
 solves-held M l old answer direction S (inr wants) has = subst (λ a. IsHeld (Some S) (held_by a direction)) (sym wants.wants) tt
 
-pub solves-env : (l : Limits) (old : PlainEnv) (S T : PlainSearch) (answer : Answer) (direction : Option Point) (held : Held) → old.search ≡ Some S → SolvesModel S.model l S answer T → HasRayFor S.model l.pivots answer direction → held ≡ held_by answer direction
-    → SolvesEnv old.search l old (Ok answer) (record { search = Some T; held = held })
-solves-env l old S T answer direction held there solves has is =
-    subst (λ o. SolvesEnv o l old (Ok answer) (record { search = Some T; held = held })) (sym there)
-    (record { search = T; solves = solves; oldest = solves-oldest S.model l S answer T solves; direction = direction; has_ray = has; env_is = ap (λ h. record { search = Some T; held = h }) is })
+pub solves-env : (l : Limits) (old new : PlainEnv) (S T : PlainSearch) (answer : Answer) (direction : Option Point) → old.search ≡ Some S → SolvesFrom l S answer T → HasRayFrom l S answer direction → new ≡ with_answer T (held_by answer direction)
+    → WorksEnv (SolvesFrom l) (HasRayFrom l) old.search old (Ok answer) new
+solves-env l old new S T answer direction there solves has is =
+    subst (λ o. WorksEnv (SolvesFrom l) (HasRayFrom l) o old (Ok answer) new) (sym there)
+    (record { search = T; found = solves; oldest = solves-oldest S.model l S answer T solves; direction = direction; has_ray = has; env_is = is })

@@ -1,19 +1,13 @@
--- What a search that goes on answers, and what is held of it; and what an edit does to an environment.
+-- What a search that goes on answers, and what is held of it.
 use Rattle.std.specs.Prelude.{true}
-use Rattle.std.proofs.Common.{◌≡◌, ℕ, ◌<◌, List, [], ◌∷◌, length, sym, ap, subst, refl, inl, inr, arith, Option, Some, None, Ok, Err}
+use Rattle.std.proofs.Common.{◌≡◌, ℕ, ◌<◌, List, [], ◌∷◌, length, sym, ap, subst, refl, inl, inr, arith, Option, Some, None, Ok}
 use Rattle.lp_model.specs.Program.{Program, Point}
-use Rattle.lp_model.specs.Edits.{EditFits}
 use Rattle.lp_model.specs.declared.types.Basis.{Basis}
-use Rattle.lp_model.specs.declared.types.Edit.{Edit}
 use Rattle.lp_model.specs.declared.answers.StopWhy.{StopWhy}
 use Rattle.lp_model.specs.declared.answers.Answer.{Answer}
 use Rattle.lp_model.specs.declared.answers.Answer.TheVariants.{Optimal, Infeasible, Unbounded, Stopped, Memory}
 use Rattle.model_points.specs.Rays.{IsRayJudged}
-use Rattle.model_edits.specs.Faults.{IsEditFault}
-use Rattle.model_edits.specs.declared.faults.EditFault.{EditFault}
-use Rattle.ray_phase.specs.declared.phase.RayAnswer.TheVariants as phase
 use Rattle.sound_searches.specs.Calls.{search_with_limit}
-use Rattle.sound_searches.specs.Edited.{Follows}
 use Rattle.sound_searches.specs.Laws.{HasNoOpenLeaf}
 use Rattle.search_parts.specs.Points.{target}
 use Rattle.sound_searches.specs.Sound.{PlainSearch}
@@ -22,17 +16,13 @@ use Rattle.tree_search.specs.Search.{IsFinishedAnswer}
 use Rattle.tree_search.specs.declared.searching.Ended.TheVariants as ended
 use Rattle.tree_search.specs.declared.searching.Ways.TheVariants.{Own}
 use Rattle.ray_phase.specs.Beginnings.{HasNoSlackBasis, IsRayStop, StopsBefore}
-use Rattle.sym_env.specs.Beginnings.{BeginsWith}
-use Rattle.sym_env.specs.Editing.{EditsEnv}
-use Rattle.sym_env.specs.Env.{PlainEnv, IsHeld}
-use Rattle.sym_env.specs.Solves.{SaysUnbounded, HasRayFor, held_by, IsOldest}
-use Rattle.sym_env.specs.Truth.{HasEnded}
-use Rattle.sym_env.specs.Warm.{Went, Resumes, BesidePoint, GoesOn, Warms, Still, SomeOpen, PlacesNone, WarmsEnv}
-use Rattle.sym_env.specs.declared.env.EnvFault.{EnvFault}
-use Rattle.sym_env.specs.declared.env.EnvFault.TheVariants as fault
-use Rattle.sym_env.specs.declared.held.Held.{Held}
-use Rattle.sym_env.specs.declared.held.Held.TheVariants.{Nothing}
-use Rattle.sym_env.specs.declared.limits.Limits.{Limits}
+use Rattle.tree_search.specs.Beginnings.{BeginsWith}
+use Rattle.kept_env.specs.Env.{PlainEnv, IsHeld, with_answer}
+use Rattle.tree_search.specs.Solves.{SaysUnbounded, HasRayFor, HasRayFrom}
+use Rattle.kept_env.specs.Worked.{held_by, IsOldest, WorksEnv}
+use Rattle.tree_search.specs.Truth.{HasEnded}
+use Rattle.tree_search.specs.Warm.{Went, Resumes, BesidePoint, GoesOn, Warms, Still, SomeOpen, PlacesNone, WarmsFrom}
+use Rattle.tree_search.specs.declared.limits.Limits.{Limits}
 use Rattle.ray_phase.proofs.BeginningLemmas.{judged_ray}
 use Rattle.sym_env.proofs.TruthLemmas.{open-not_none, told-oldest, course-oldest, IsFinishedKind, course-finished, course-points, held-so}
 
@@ -114,30 +104,15 @@ module _ (l : Limits) (begun : PlainSearch) (answer : Answer) (S : PlainSearch) 
         is_ray = subst (λ N. IsRayJudged N d (Ok true)) (sym model) (judged_ray begun.model l.pivots d (subst (HasRayFor begun.model l.pivots answer) is has));
       })
 
-pub warms-env : (l : Limits) (old : PlainEnv) (S T : PlainSearch) (answer : Answer) (direction : Option Point) (held : Held) → old.search ≡ Some S → Warms l (search_with_limit S l.tree) answer T → T.model ≡ S.model
-    → Extends S.tree.root T.tree.root → HasRayFor S.model l.pivots answer direction → held ≡ held_by answer direction → WarmsEnv old.search l old (Ok answer) (record { search = Some T; held = held })
-warms-env l old S T answer direction held there how model extends has is =
-    subst (λ o. WarmsEnv o l old (Ok answer) (record { search = Some T; held = held })) (sym there)
+pub warms-env : (l : Limits) (old new : PlainEnv) (S T : PlainSearch) (answer : Answer) (direction : Option Point) → old.search ≡ Some S → Warms l (search_with_limit S l.tree) answer T → T.model ≡ S.model → Extends S.tree.root T.tree.root
+    → HasRayFrom l S answer direction → new ≡ with_answer T (held_by answer direction) → WorksEnv (WarmsFrom l) (HasRayFrom l) old.search old (Ok answer) new
+warms-env l old new S T answer direction there how model extends has is =
+    subst (λ o. WorksEnv (WarmsFrom l) (HasRayFrom l) o old (Ok answer) new) (sym there)
     (record {
       search = T;
-      warms = how;
-      model = model;
-      extends = extends;
-      again = warms-again l (search_with_limit S l.tree) answer T how;
+      found = record { warms = how; model = model; extends = extends; again = warms-again l (search_with_limit S l.tree) answer T how };
       oldest = warms-oldest l (search_with_limit S l.tree) answer T how;
       direction = direction;
       has_ray = has;
-      env_is = ap (λ h. record { search = Some T; held = h }) is;
+      env_is = is;
     })
-
--- ---- edits
-
-pub edits-env : (e : Edit) (old : PlainEnv) (S T : PlainSearch) (held : Held) (u : Unit {0}) → old.search ≡ Some S → EditFits S.model e → Follows S e T → held ≡ Nothing
-    → EditsEnv old.search e old (Ok u) (record { search = Some T; held = held })
-edits-env e old S T held u there fits follows is =
-    subst (λ o. EditsEnv o e old (Ok u) (record { search = Some T; held = held })) (sym there)
-    (record { fits = fits; search = T; follows = follows; env_is = ap (λ h. record { search = Some T; held = h }) is })
-
-pub refuses-env : (e : Edit) (old new : PlainEnv) (S : PlainSearch) (bad : EditFault) → old.search ≡ Some S → new ≡ old → IsEditFault S.model e bad → EditsEnv old.search e old (Err (fault.Edit bad)) new
-refuses-env e old new S bad there kept cause =
-    subst (λ o. EditsEnv o e old (Err (fault.Edit bad)) new) (sym there) (record { kept = kept; bad = bad; is = refl; cause = cause })

@@ -4,20 +4,19 @@ ghost use Rattle.sound_searches.specs.Calls.{IsFresh};
 ghost use Rattle.tree_search.specs.Steps.{HasOpenLeaf, IsWayFor, IsFirstFor, IsRayWay};
 ghost use Rattle.tree_search.specs.declared.searching.Ways.TheVariants.{Own};
 ghost use Rattle.ray_phase.specs.Beginnings.{BeginsBeside};
-ghost use Rattle.sym_env.specs.Beginnings.{BeginsWith};
-ghost use Rattle.sym_env.specs.Enough.{IsEnough, IsEnoughFrom};
-ghost use Rattle.sym_env.specs.Solves.{Solved, SolvesModel, SaysUnbounded, HasRayFor};
-ghost use Rattle.sym_env.specs.Truth.{IsTrueAnswer, HasEnded};
-ghost use Rattle.sym_env.specs.Warm.{Went};
+ghost use Rattle.tree_search.specs.Beginnings.{BeginsWith};
+ghost use Rattle.tree_search.specs.Enough.{IsEnough, IsEnoughFrom};
+ghost use Rattle.tree_search.specs.Solves.{Solved, SolvesModel, SaysUnbounded, HasRayFor};
+ghost use Rattle.tree_search.specs.Truth.{IsTrueAnswer, HasEnded};
+ghost use Rattle.tree_search.specs.Warm.{Went};
 
-use crate::limits::Limits;
 use lp_model::{Answer, Basis, Model, Point};
 use ray_phase::{Beginning, find_beginning, no_ray_law, root_law};
 use search_counting::{cap_law, left_law, roomy_law, too_few_nodes_law};
 use sound_searches::empty_law;
 use std::alloc::{AllocError, Global};
 use tree_edit::Search;
-use tree_search::{Ways, answer_of, search_on, stop_bound_law, stopped};
+use tree_search::{Limits, Ways, answer_of, search_on, stop_bound_law, stopped};
 
 /// What a search shows, and the ray beside which it was made, if there is one.
 #[derive(Drop)]
@@ -158,7 +157,7 @@ fn solve_again(alloc: Global, search: &mut Search, limits: &Limits) -> Solution
 }
 
 /// Solves the search's model. What is answered is true of it.
-pub(crate) fn solve(alloc: Global, search: &mut Search, limits: &Limits) -> Solution
+pub(crate) fn solve_search(alloc: Global, search: &mut Search, limits: &Limits) -> Solution
     ensures solves { SolvesModel search.old.model limits.now search.old result.answer search.new }
     ensures ray { HasRayFor search.old.model limits.now.pivots result.answer result.ray }
     ensures complete { IsEnough search.old.model search.new.cuts limits.now → HasEnded result.answer }

@@ -3,13 +3,12 @@ ghost use Rattle.std.specs.Prelude.{◌≡◌, ◌<◌, length};
 ghost use Rattle.sound_searches.specs.Calls.{search_with_limit};
 ghost use Rattle.tree_search.specs.Steps.{HasOpenLeaf};
 ghost use Rattle.ray_phase.specs.Beginnings.{HasNoSlackBasis};
-ghost use Rattle.sym_env.specs.Enough.{IsKeptEnough, IsEnoughFrom};
-ghost use Rattle.sym_env.specs.Solves.{HasRayFor};
-ghost use Rattle.sym_env.specs.Truth.{IsTrueOfKept, HasEnded};
-ghost use Rattle.sym_env.specs.Warm.{Resumes, Warms};
+ghost use Rattle.tree_search.specs.Enough.{IsKeptEnough, IsEnoughFrom};
+ghost use Rattle.tree_search.specs.Solves.{HasRayFor};
+ghost use Rattle.tree_search.specs.Truth.{IsTrueOfKept, HasEnded};
+ghost use Rattle.tree_search.specs.Warm.{Resumes, Warms};
 ghost use Rattle.tree_search.specs.Extends.{Extends};
 
-use crate::limits::Limits;
 use crate::solving::{Solution, search_own, search_without_point};
 use dual_simplex::slack_basis;
 use lp_model::{Answer, StopWhy};
@@ -18,7 +17,7 @@ use search_counting::{cap_law, left_law};
 use sound_searches::empty_law;
 use std::alloc::{AllocError, Global};
 use tree_edit::Search;
-use tree_search::{finished, stop_bound_law, stopped};
+use tree_search::{Limits, finished, stop_bound_law, stopped};
 
 /// Goes on where the slack state is not lawful and a point is kept: beside a ray the objective has no end.
 fn resume_by_ray_phase(alloc: Global, search: &mut Search, limits: &Limits) -> Solution
@@ -114,7 +113,7 @@ fn warm_limited(alloc: Global, search: &mut Search, limits: &Limits) -> Solution
 }
 
 /// Goes on with the search. What is answered is true of its model.
-pub(crate) fn warm(alloc: Global, search: &mut Search, limits: &Limits) -> Solution
+pub(crate) fn warm_search(alloc: Global, search: &mut Search, limits: &Limits) -> Solution
     ensures warms { Warms limits.now (search_with_limit search.old limits.now.tree) result.answer search.new }
     ensures model { search.new.model ≡ search.old.model }
     ensures extends { Extends search.old.tree.root search.new.tree.root }

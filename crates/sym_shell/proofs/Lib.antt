@@ -1,12 +1,7 @@
-pub mod ReplyLemmas
-pub mod AnswerLemmas
-pub mod StepLemmas
-pub mod EditLemmas
-pub mod KindLemmas
+pub mod OwnLemmas
+pub mod LawLemmas
+pub mod HeadlineLemmas
 pub mod CauseLemmas
-pub mod CertLemmas
-pub mod WriteLemmas
-pub mod BoundLemmas
+pub mod StepLemmas
 pub mod RunLemmas
-pub mod SavingLemmas
 pub mod RestoredLaws

@@ -12,10 +12,10 @@ use Rattle.program_words.specs.Forms.{Script, TakesWords}
 use Rattle.program_words.specs.Laws.{IsRunForm, AsksScript, IsCheckForm, AsksCheck}
 use Rattle.program_words.proofs.FormLemmas.{run_law, check_law}
 use Rattle.sym_shell.specs.Causes.{IsAnswered}
-use Rattle.sym_env.specs.Env.{PlainEnv, no_model}
+use Rattle.kept_env.specs.Env.{PlainEnv, no_model}
 use Rattle.sym_shell.specs.Run.{around, RunsAs, ShellToldLaw}
 use Rattle.sym_shell.specs.Shell.{state_of, quits, ShellStep}
-use Rattle.sym_shell.specs.State.{ShellState, shell_state}
+use Rattle.command_family.specs.State.{ShellState, shell_state}
 use Rattle.sym_shell.proofs.CauseLemmas.{step-causes}
 
 answered : (old : Stand PlainEnv) (words : Command) (reply : List ℕ) (new : Stand PlainEnv) → ShellStep old words reply new → IsAnswered (state_of old) words reply (state_of new)

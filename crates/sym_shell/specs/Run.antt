@@ -9,8 +9,8 @@ use Rattle.program_words.specs.Forms.{AskedForm, Script, Check, TakesWords, aske
 use Rattle.sym_shell.specs.Causes.{IsAnswered}
 use Rattle.command_files.specs.Checking.{Checks, check_status, Prints}
 use Rattle.sym_shell.specs.Shell.{quits}
-use Rattle.sym_env.specs.Env.{PlainEnv, no_model}
-use Rattle.sym_shell.specs.State.{ShellState, shell_state}
+use Rattle.kept_env.specs.Env.{PlainEnv, no_model}
+use Rattle.command_family.specs.State.{ShellState, shell_state}
 
 -- the line for words that are refused
 abbrev pub usage : List ℕ

@@ -2,8 +2,8 @@
 use Rattle.std.specs.Prelude.{ℕ, Bool, true, false, List}
 use Rattle.command_words.specs.Asks.{Asks, Quit, asks_of}
 use Rattle.script_session.specs.Stand.{Stand}
-use Rattle.sym_shell.specs.State.{ShellState, shell_state}
-use Rattle.sym_env.specs.Env.{PlainEnv}
+use Rattle.kept_env.specs.Env.{PlainEnv}
+use Rattle.command_family.specs.State.{ShellState, shell_state}
 use Rattle.sym_shell.specs.Step.{Step}
 
 abbrev pub state_of : Stand PlainEnv → ShellState

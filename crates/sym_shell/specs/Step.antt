@@ -1,35 +1,46 @@
--- What a command may be answered, and what it does to the state.
+-- What a command may be answered, and what it does to the state: the sum of the families.
 use Rattle.std.specs.Prelude.{ℕ, List}
 use Rattle.command_words.specs.Asks.{Asks, Load, Solve, Warm, Edit, Trim, Save, Restore, Bound, Cert, Write, Quit, Unknown, Misused, NoNumber, asks_of}
-use Rattle.edit_words.specs.EditWords.{edit_asks, pairs_asks}
-use Rattle.sym_shell.specs.State.{ShellState}
-use Rattle.reply_texts.specs.Texts.{unknown_text, arguments_text, number_text}
-use Rattle.sym_shell.specs.Unchanged.{IsRefused, IsQuit}
-use Rattle.sym_shell.specs.Load.{LoadStep}
-use Rattle.sym_shell.specs.Solve.{limits_of, SolveStep}
-use Rattle.sym_shell.specs.Warming.{WarmStep}
-use Rattle.sym_shell.specs.Editing.{EditStep}
-use Rattle.sym_shell.specs.Saving.{TrimStep, SaveStep, RestoreStep}
-use Rattle.sym_shell.specs.Bounding.{BoundStep}
-use Rattle.sym_shell.specs.Certify.{CertStep}
-use Rattle.sym_shell.specs.Writing.{WriteStep}
+use Rattle.command_family.specs.Family.{Family}
+use Rattle.command_family.specs.State.{ShellState}
+use Rattle.file_commands.specs.Family.{filings}
+use Rattle.file_commands.specs.Family as files
+use Rattle.edit_commands.specs.Family.{changes, Change}
+use Rattle.edit_commands.specs.Family as edits
+use Rattle.bound_commands.specs.Family.{bounds}
+use Rattle.bound_commands.specs.Family as bounding
+use Rattle.cert_commands.specs.Family.{certificates}
+use Rattle.cert_commands.specs.Family as certs
+use Rattle.search_replies.specs.Family.{searches}
+use Rattle.search_replies.specs.Family as search
+use Rattle.sym_shell.specs.Own.{own}
+use Rattle.sym_shell.specs.Own as rest
+
+-- a family, and what it is asked
+pub record FamilyAsks : Type 1 where
+  pub family : Family
+  pub asks : family.Asks
+
+-- which family answers what is asked, and what that is to it
+abbrev pub in_family : Asks → FamilyAsks
+in_family (Load file intupper) = record { family = filings; asks = files.Load file intupper }
+in_family (Solve nodes pivots) = record { family = searches; asks = search.Solve nodes pivots }
+in_family (Warm nodes pivots) = record { family = searches; asks = search.Warm nodes pivots }
+in_family (Edit words) = record { family = changes; asks = Change words }
+in_family (Trim depth) = record { family = changes; asks = edits.Trim depth }
+in_family (Save file) = record { family = filings; asks = files.Save file }
+in_family (Restore file) = record { family = filings; asks = files.Restore file }
+in_family (Bound which numbers words) = record { family = bounds; asks = bounding.Bound which numbers words }
+in_family (Cert file) = record { family = certificates; asks = certs.Cert file }
+in_family (Write file) = record { family = filings; asks = files.Write file }
+in_family Quit = record { family = own; asks = rest.Quit }
+in_family (Unknown word) = record { family = own; asks = rest.Unknown word }
+in_family Misused = record { family = own; asks = rest.Misused }
+in_family (NoNumber word) = record { family = own; asks = rest.NoNumber word }
 
 -- what is asked is answered so
 abbrev pub AnswersTo : Asks → ShellState → List ℕ → ShellState → Type 0
-AnswersTo (Load file intupper) old reply new = LoadStep old file intupper reply new
-AnswersTo (Solve nodes pivots) old reply new = SolveStep old (limits_of nodes pivots) reply new
-AnswersTo (Warm nodes pivots) old reply new = WarmStep old (limits_of nodes pivots) reply new
-AnswersTo (Edit words) old reply new = EditStep old (edit_asks words) reply new
-AnswersTo (Trim depth) old reply new = TrimStep old depth reply new
-AnswersTo (Save file) old reply new = SaveStep old file reply new
-AnswersTo (Restore file) old reply new = RestoreStep old file reply new
-AnswersTo (Bound which numbers words) old reply new = BoundStep old which numbers (pairs_asks words) reply new
-AnswersTo (Cert file) old reply new = CertStep old file reply new
-AnswersTo (Write file) old reply new = WriteStep old file reply new
-AnswersTo Quit old reply new = IsQuit old reply new
-AnswersTo (Unknown word) old reply new = IsRefused old (unknown_text word) reply new
-AnswersTo Misused old reply new = IsRefused old arguments_text reply new
-AnswersTo (NoNumber word) old reply new = IsRefused old (number_text word) reply new
+AnswersTo asks old reply new = (in_family asks).family.Step (in_family asks).asks old reply new
 
 -- From old, the command of these words may be answered with this reply, and leave new.
 unfoldable pub Step : ShellState → List (List ℕ) → List ℕ → ShellState → Type 0

@@ -39,7 +39,7 @@ fn run_commands<R: Source, W: Sink, S: Store>(
 {
     let mut shell = Shell::new(alloc);
     let status = run_script(alloc, &mut shell, script, out, store);
-    drop(shell);
+    shell.end();
     status
 }
 

@@ -13,3 +13,4 @@ pub mod SaidLaws
 pub mod KeptLaws
 pub mod NamesLaws
 pub mod PutLaws
+pub mod SameReason

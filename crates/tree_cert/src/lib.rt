@@ -23,7 +23,8 @@
 //! model's are (`names_law`, `unbounded_names_law`), and in what some text states (`print_law`), cuts among it. So `read_cert`
 //! reads back what was printed. A cut that does not count is left out, and so is its multiplier.
 //!
-//! The walk keeps the path to a node and no stack of its own, and memory is linear in the tree.
+//! The walk keeps the path to a node and no stack of its own, and memory is linear in the tree. Beside the path it keeps the
+//! region by its tightest changes (`tight_regions`): a leaf is judged by at most two changes for each column, however deep it is.
 //!
 //! Below stand the search (`tree_edit`) and the checker (`cert_check`). Above stands the command that writes a certificate.
 #![tactic(auto)]

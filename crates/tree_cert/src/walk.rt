@@ -1,6 +1,10 @@
-// The walk through the nodes of a tree.
+// The walk through the nodes of a tree, with one trail: the path to the node, and beside it the region by its tightest changes
+// alone, which a leaf is judged by.
 ghost use Rattle.std.specs.Prelude.{◌≡◌, suc, ◌<◌, ◌++◌, ◌∷◌, [], length, IfOk};
+ghost use Rattle.lp_model.specs.Regions.{Path, AreNarrow};
 ghost use Rattle.lp_model.specs.Formulations.{formulation};
+ghost use Rattle.tight_regions.specs.Tight.{IsTrail, path_of_trail};
+ghost use Rattle.tight_regions.specs.SameBounds.{SameBounds};
 ghost use Rattle.leaf_dual.specs.Dual.{HavePlaces};
 ghost use Rattle.cert_check.specs.Walk.{after_leaf};
 ghost use Rattle.tree_cert.specs.Walked.{path_after, IsNodeOf, AreNodesOf, IsFit, AreFit, HasTurns};
@@ -12,57 +16,68 @@ use cert_check::second_child;
 use cert_text::CertNode;
 use lp_model::{BoundChange, CutRow, List, Model, Side};
 use std::alloc::{AllocError, Global};
+use tight_regions::Trail;
 
-/// From the path to a leaf to that of the node behind it.
-fn turn(path: &mut Vec<BoundChange>) -> Result<(), AllocError>
-    requires { HasTurns path.old.items }
-    ensures { IfOk result (λ _. path.new.items ≡ after_leaf path.old.items) }
+/// From the path to a leaf to that of the node behind it. The change to a second child takes the place of the first's, so no
+/// memory is taken.
+fn turn(trail: &mut Trail)
+    requires trail { IsTrail trail.old }
+    requires turns { HasTurns (path_of_trail trail.old) }
+    ensures trail { IsTrail trail.new }
+    ensures path { path_of_trail trail.new ≡ after_leaf (path_of_trail trail.old) }
 {
-    while let Some(last) = path.pop() {
+    while trail.depth() > 0 {
+        let last = trail.pop();
         match last.side {
             Side::Lo => {}
             Side::Hi => {
-                path.push(second_child(&last))?;
-                return Ok(());
+                trail.push(second_child(&last));
+                return;
             }
         }
     }
-    Ok(())
 }
 
 /// From the path to a node to that of the node behind it.
-fn step_on(path: &mut Vec<BoundChange>, node: &Node) -> Result<(), AllocError>
-    requires { HasTurns path.old.items }
-    ensures { IfOk result (λ _. path.new.items ≡ path_after path.old.items node.now) }
+fn step_on(trail: &mut Trail, node: &Node) -> Result<(), AllocError>
+    requires trail { IsTrail trail.old }
+    requires turns { HasTurns (path_of_trail trail.old) }
+    ensures trail { IfOk result (λ _. IsTrail trail.new) }
+    ensures path { IfOk result (λ _. path_of_trail trail.new ≡ path_after (path_of_trail trail.old) node.now) }
 {
     match node {
         Node::Split { col, v, .. } => {
-            path.push(BoundChange::at_most(*col, *v))?;
+            trail.grow()?;
+            trail.push(BoundChange::at_most(*col, *v));
             Ok(())
         }
-        Node::Leaf { .. } => turn(path),
+        Node::Leaf { .. } => {
+            turn(trail);
+            Ok(())
+        }
     }
 }
 
-/// The certificate's node for a node with this path. It names the cuts that count by their places, from 1.
+/// The certificate's node for a node of this region, which is that of each path with the region's bounds. It names the cuts
+/// that count by their places, from 1.
 fn cert_node(
     alloc: Global,
     model: &Model,
     cuts: &[CutRow],
-    path: &[BoundChange],
+    region: &[BoundChange],
     node: &Node,
 ) -> Result<CertNode, AllocError>
-    requires turns { HasTurns path.now }
+    requires narrow { AreNarrow region.now }
     requires places { HavePlaces cuts.now }
     requires fit { IsFit (formulation model.now cuts.now) node.now }
-    ensures { IfOk result (λ c. IsNodeOf (formulation model.now cuts.now) suc path.now node.now c) }
+    ensures { IfOk result (λ c. (path : Path) → SameBounds region.now path → IsNodeOf (formulation model.now cuts.now) suc path node.now c) }
 {
     match node {
         Node::Split { col, v, .. } => match column_name(alloc, model, *col) {
             Ok(name) => Ok(CertNode::Split { col: name, v: *v }),
             Err(error) => Err(error),
         },
-        Node::Leaf { kept, .. } => leaf_node(alloc, model, cuts, path, kept),
+        Node::Leaf { kept, .. } => leaf_node(alloc, model, cuts, region, kept),
     }
 }
 
@@ -77,16 +92,16 @@ pub(crate) fn cert_nodes(
     requires fit { AreFit (formulation model.now cuts.now) nodes.now }
     ensures { IfOk result (λ certs. AreNodesOf (formulation model.now cuts.now) suc [] nodes.now certs) }
 {
-    let mut path = Vec::new(alloc);
+    let mut trail = Trail::new(alloc, 0)?;
     let mut certs = List::new(alloc);
     for node in nodes {
-        let Ok(cert) = cert_node(alloc, model, cuts, &path, node) else {
+        let Ok(cert) = cert_node(alloc, model, cuts, trail.region(), node) else {
             return Err(AllocError);
         };
         let Ok(()) = certs.push(cert) else {
             return Err(AllocError);
         };
-        let Ok(()) = step_on(&mut path, node) else {
+        let Ok(()) = step_on(&mut trail, node) else {
             return Err(AllocError);
         };
     }

@@ -16,11 +16,12 @@ ghost use Rattle.leaf_judging.specs.Queued.{HasRank, HasMultipliers};
 ghost use Rattle.tree_edit.specs.PlacingSteps.{JoinsPoint, ClosesByNumber, StaysOpen};
 ghost use Rattle.sound_searches.specs.declared.taken.Taken.TheVariants.{Refused};
 ghost use Rattle.sound_searches.specs.Placing.{TakesPoint, HasLeafAt, search_with_leaf, TakesClose, TakesPointClose, PutsJudged, TakesPointKeep, TakesBasis, IsStale, IsOpenPlace, Takes, closed_data, with_basis};
+ghost use Rattle.sound_searches.specs.Jobs.{IsJobOf};
 ghost use Rattle.sound_searches.specs.Sound.{formulation_of};
 
 use crate::search::Search;
 use crate::splitting::Split;
-use branch_tree::{LeafData, LeafState, NodeResult, Tree};
+use branch_tree::{Job, LeafData, LeafState, NodeResult, Tree};
 use frac128::Frac;
 use leaf_judging::{
     Candidate, LeafNumber, LeafQueue, Marks, judge_again, number_closes, number_of, rank,
@@ -489,6 +490,18 @@ impl Search {
                 Err(error)
             }
         }
+    }
+}
+
+impl Search {
+    /// Places the result of a job of this search: what `place` does on its leaf, whose region the job has.
+    pub fn place_done(&mut self, job: &Job, done: NodeResult) -> Result<Taken, AllocError>
+        requires { IsJobOf self.old job.now.id job.now }
+        ensures taken { IfOk result (λ taken. Takes self.old job.now.id done self.new taken) }
+        ensures kept { OnErr result (self.new ≡ self.old) }
+    {
+        let _numbered = self.tree.nodes();
+        self.place_open(job.id, &job.region, done)
     }
 }
 

@@ -4,6 +4,7 @@ ghost use Rattle.std.specs.Prelude.{◌≡◌, ◌≢◌, ◌↔◌, IsTrue, ◌
 ghost use Rattle.frac128.specs.Range.{largest};
 ghost use Rattle.branch_tree.specs.Tree.{left_path, right_path};
 ghost use Rattle.lp_model.specs.Regions.{AreNarrow, at_most, at_least};
+ghost use Rattle.tight_regions.specs.SameBounds.{SameBounds};
 ghost use Rattle.branch_tree.specs.Changes.{HasLeaf, HasRoom};
 ghost use Rattle.sound_searches.specs.Placing.{HasLeafAt, IsSplitSound, TakesSplit, tree_with_split};
 ghost use Rattle.leaf_judging.specs.Numbers.{HasBoth, KeepsOtherTwo};
@@ -20,6 +21,7 @@ use lp_model::{Basis, BoundChange, ColId, List, Mult, Region};
 use search_parts::{are_multipliers, is_basis, is_split_allowed};
 use sound_searches::Taken;
 use std::alloc::{AllocError, Global};
+use tight_regions::tightest;
 
 /// A split of a leaf.
 #[derive(Drop)]
@@ -180,6 +182,18 @@ fn child_path(alloc: Global, region: &Region, change: BoundChange) -> Result<Reg
     }
 }
 
+/// A region with the same bounds by the tightest changes of a path, at most two for each column: a path may be as long as the
+/// tree is deep.
+fn tight_region(alloc: Global, region: &Region) -> Result<Region, AllocError>
+    ensures bounds { IfOk result (λ tight. SameBounds tight region.now) }
+    ensures narrow { IfOk result (λ tight. AreNarrow region.now → AreNarrow tight) }
+{
+    match tightest(alloc, region.as_slice()) {
+        Ok(tight) => Ok(List::from_vec(tight)),
+        Err(error) => Err(error),
+    }
+}
+
 impl Search {
     /// The child with a path and these lists, judged.
     fn judged_child(&self, path: Region, mult: Mult, basis: Basis) -> Child
@@ -299,16 +313,25 @@ impl Search {
         }
     }
 
-    /// Splits the leaf with the id by a split that fits.
-    fn place_fitting(&mut self, id: u64, region: &Region, split: Split) -> Result<Taken, AllocError>
+    /// Splits the leaf with the id by a split that fits. The children are judged by a tight region, which has the bounds of the
+    /// leaf's own.
+    fn place_fitting(
+        &mut self,
+        id: u64,
+        region: &Region,
+        tight: &Region,
+        split: Split,
+    ) -> Result<Taken, AllocError>
         requires leaf { HasLeafAt self.old.tree id region.now }
         requires narrow { AreNarrow region.now }
+        requires tight { AreNarrow tight.now }
+        requires bounds { SameBounds tight.now region.now }
         requires sound { IsSplitSound (formulation_of self.old) region.now split.col.0 split.v split.mult split.basis }
         requires room { (neg_ℤ (pos largest) ≤ℤ split.v) × (split.v <ℤ pos largest) }
         ensures taken { IfOk result (λ taken. TakesSplit self.old id region.now split.col.0 split.v split.mult split.basis self.new taken) }
         ensures kept { OnErr result (self.new ≡ self.old) }
     {
-        match self.children(region, &split) {
+        match self.children(tight, &split) {
             Ok((left, right)) => {
                 let branching = Branching { split, left, right };
                 self.split_leaf(id, region, branching)
@@ -320,7 +343,8 @@ impl Search {
         }
     }
 
-    /// Splits the leaf with the id, if the split fits the model and the leaf.
+    /// Splits the leaf with the id, if the split fits the model and the leaf. Both are looked at by the tightest changes of the
+    /// leaf's path.
     pub(crate) fn place_split(
         &mut self,
         id: u64,
@@ -332,8 +356,12 @@ impl Search {
         ensures taken { IfOk result (λ taken. TakesSplit self.old id region.now split.col.0 split.v split.mult split.basis self.new taken) }
         ensures kept { OnErr result (self.new ≡ self.old) }
     {
-        match self.split_fits(region, &split) {
-            Ok(true) => self.place_fitting(id, region, split),
+        let Ok(tight) = tight_region(self.alloc, region) else {
+            drop(split);
+            return Err(AllocError);
+        };
+        match self.split_fits(&tight, &split) {
+            Ok(true) => self.place_fitting(id, region, &tight, split),
             Ok(false) => {
                 drop(split);
                 Ok(Taken::Refused)

@@ -9,6 +9,7 @@
 #![tactic(auto)]
 
 mod begun;
+mod chains;
 mod searches;
 mod solving;
 mod told;

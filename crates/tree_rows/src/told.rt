@@ -18,6 +18,7 @@ pub fn read(
         "region" => region(tree, model, take_number(words)?, got),
         "node" => node(tree, model, take_number(words)?, got),
         "nodes" => nodes(tree, got),
+        "size" => size(tree, got),
         "next-ids" => next_ids(tree, got),
         _ => bail!("no call: `{word}`"),
     }
@@ -115,6 +116,13 @@ fn nodes(tree: &Tree, got: &mut String) -> Result<()> {
     let pushed = push_nodes(got, tree.nodes(), &nodes);
     drop(nodes);
     pushed
+}
+
+/// Writes how many nodes there are in preorder.
+fn size(tree: &Tree, got: &mut String) -> Result<()> {
+    let nodes = tree.preorder()?;
+    write!(got, "{}", nodes.len())?;
+    Ok(())
 }
 
 /// Writes the ids that a split would give.

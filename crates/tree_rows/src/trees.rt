@@ -1,5 +1,5 @@
 // What a tree by itself answers.
-use crate::told;
+use crate::{chains, told};
 use anyhow::{Result, ensure};
 use branch_tree::{Tree, TreeFault};
 use lp_model::{Basis, ColId, Model, Mult};
@@ -9,6 +9,7 @@ use std::alloc::Global;
 
 /// Makes a call of a tree by the words behind it, and writes its answer.
 fn answer(
+    alloc: Global,
     tree: &mut Tree,
     model: &Model,
     word: &str,
@@ -19,6 +20,8 @@ fn answer(
         "limit" => tree.set_limit(take_number(words)?),
         "trim" => tree.trim_depth(take_number(words)?),
         "collapse" => collapse(tree, take_number(words)?, got)?,
+        "chain" => chains::chain(alloc, tree, words, got)?,
+        "again" => chains::again(alloc, tree)?,
         _ => told::read(tree, model, word, words, got)?,
     }
     Ok(())
@@ -37,7 +40,7 @@ pub fn call(
         return split(alloc, tree, model, line, got);
     }
     let mut words = section(alloc, line, "")?;
-    answer(tree, model, word, &mut words, got)?;
+    answer(alloc, tree, model, word, &mut words, got)?;
     words.end()
 }
 
@@ -87,7 +90,7 @@ fn split(
 }
 
 /// Writes the ids of the two leaves, or why there are none.
-fn push_ids(got: &mut String, answer: &Result<(u64, u64), TreeFault>) -> Result<()> {
+pub fn push_ids(got: &mut String, answer: &Result<(u64, u64), TreeFault>) -> Result<()> {
     match answer {
         Ok((left, right)) => write!(got, "{left} {right}")?,
         Err(TreeFault::Full) => got.push_str("full")?,

@@ -6,3 +6,8 @@ pub mod Bounds
 pub mod Search
 pub mod Stepping
 pub mod Laws
+pub mod Beginnings
+pub mod Truth
+pub mod Enough
+pub mod Solves
+pub mod Warm

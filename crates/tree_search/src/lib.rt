@@ -18,16 +18,22 @@
 //! goes to the end. `answer_of` says what that shows: an optimum, that no point is feasible, that the objective has no end,
 //! or a bound that no feasible point beats.
 //!
-//! Below stand the work on a leaf (`node_solve`), the searches (`tree_edit`) and their counting (`search_counting`). Above
-//! stands the environment, which finds the first basis.
+//! What is made of this above is defined here, over searches and models alone: with which relaxations a search begins (specs/Beginnings),
+//! what is done to a fresh one (specs/Solves) and to one that goes on (specs/Warm), what each answer says of the model (specs/Truth),
+//! and what is enough for an end (specs/Enough).
+//!
+//! Below stand the work on a leaf (`node_solve`), the searches (`tree_edit`) and their counting (`search_counting`), and the ray phase,
+//! whose definitions the beginnings cite. Above stands the environment, which finds the first basis.
 #![tactic(auto)]
 
 mod answering;
 mod bounds;
 mod laws;
+mod limits;
 mod searching;
 mod stepping;
 
 pub use answering::{answer_of, finished, stopped};
 pub use laws::{open_law, stop_bound_law};
+pub use limits::Limits;
 pub use searching::{Ended, Searched, Ways, search_on};

@@ -192,7 +192,7 @@ fn keep_basis(
         return Err(AllocError);
     };
     known(search);
-    let taken = match search.place(job.id, NodeResult::Keep { point: None, basis }) {
+    let taken = match search.place_done(job, NodeResult::Keep { point: None, basis }) {
         Ok(taken) => taken,
         Err(error) => {
             drop(cuts);
@@ -297,7 +297,7 @@ fn place_result(
     ensures kept { OnErr result (search.new ≡ search.old) }
 {
     known(search);
-    let taken = match search.place(job.id, done) {
+    let taken = match search.place_done(job, done) {
         Ok(taken) => taken,
         Err(error) => return Err(error),
     };
@@ -387,7 +387,7 @@ fn keep_found(
         point: Some(point),
         basis,
     };
-    let taken = match search.place(job.id, kept) {
+    let taken = match search.place_done(job, kept) {
         Ok(taken) => taken,
         Err(error) => return Err(error),
     };

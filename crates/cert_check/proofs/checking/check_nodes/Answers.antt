@@ -1,11 +1,8 @@
 use Rattle.std.proofs.Common.{◌∙◌, ◌+◌, refl, sym, subst, arith}
 use Rattle.cert_check.specs.declared.verdict.Judgement.TheVariants.{Passes, Breaks, NoRoom}
-use Rattle.lp_model.specs.Regions.{AreNarrow}
 use Rattle.lp_model.specs.Formulations.{formulation}
-use Rattle.cert_check.specs.Walk.{IsPlacedJudged}
-use Rattle.cert_check.specs.Tight.{path_of_trail}
+use Rattle.tight_regions.specs.Tight.{path_of_trail}
 use Rattle.cert_check.proofs.SameRegion.{judged-same}
-use Rattle.cert_check.proofs.TrailLemmas.{trail-bounds, trail-narrow}
 use Rattle.cert_check.proofs.VerdictSteps.{Goes, goes_first, goes_narrow, goes_turns, goes_next, goes_wrong, goes_all, place_here}
 use Rattle.cert_check.proofs.checking.check_nodes.Goals as goal
 
@@ -21,8 +18,7 @@ pub judge-requires-clause-narrow : goal.judge-requires-clause-narrow
 judge-requires-clause-narrow c =
     let t = c.requires.tree in
     let trail = c.loop-index.trail in
-    subst AreNarrow (sym c.region.ensures.region)
-    (trail-narrow trail c.loop-index.invariant.trail (goes_narrow (formulation c.args.model.now c.args.cuts.now) c.args.claim.now t.0 c.loop-index.index (path_of_trail trail) (c.loop-index.invariant.goes t.0 t.1)))
+    c.region.ensures.narrow (goes_narrow (formulation c.args.model.now c.args.cuts.now) c.args.claim.now t.0 c.loop-index.index (path_of_trail trail) (c.loop-index.invariant.goes t.0 t.1))
 
 pub judge-requires-clause-placed : goal.judge-requires-clause-placed
 judge-requires-clause-placed c =
@@ -41,8 +37,7 @@ returns-in-Breaks-clause-verdict c = λ tree walked.
     let trail = c.loop-index.trail in
     let node = c.index-nodes-index.result in
     let j = Breaks c.in-Breaks.why in
-    let same = trail-bounds trail c.loop-index.invariant.trail in
-    let judged = judged-same F _ (path_of_trail trail) same claim node j (subst (λ R. IsPlacedJudged F claim R node j) c.region.ensures.region c.in-Breaks.ensures) in
+    let judged = judged-same F _ (path_of_trail trail) c.region.ensures.bounds claim node j c.in-Breaks.ensures in
     goes_wrong F claim tree c.args.nodes.now walked c.loop-index.index (path_of_trail trail) c.loop-index-test.true (c.loop-index.invariant.goes tree walked) node j c.index-nodes-index.is judged
 
 pub returns-in-NoRoom-clause-verdict : goal.returns-in-NoRoom-clause-verdict
@@ -52,8 +47,7 @@ returns-in-NoRoom-clause-verdict c = λ tree walked.
     let trail = c.loop-index.trail in
     let node = c.index-nodes-index.result in
     let j = NoRoom c.in-NoRoom.step in
-    let same = trail-bounds trail c.loop-index.invariant.trail in
-    let judged = judged-same F _ (path_of_trail trail) same claim node j (subst (λ R. IsPlacedJudged F claim R node j) c.region.ensures.region c.in-NoRoom.ensures) in
+    let judged = judged-same F _ (path_of_trail trail) c.region.ensures.bounds claim node j c.in-NoRoom.ensures in
     goes_wrong F claim tree c.args.nodes.now walked c.loop-index.index (path_of_trail trail) c.loop-index-test.true (c.loop-index.invariant.goes tree walked) node j c.index-nodes-index.is judged
 
 pub loop-index-preserved : goal.loop-index-preserved
@@ -66,8 +60,7 @@ loop-index-preserved c = record {
       let claim = c.args.claim.now in
       let trail = c.loop-index.trail in
       let node = c.index-nodes-index.result in
-      let same = trail-bounds trail c.loop-index.invariant.trail in
-      let judged = judged-same F _ (path_of_trail trail) same claim node Passes (subst (λ R. IsPlacedJudged F claim R node Passes) c.region.ensures.region c.in-Passes.ensures) in
+      let judged = judged-same F _ (path_of_trail trail) c.region.ensures.bounds claim node Passes c.in-Passes.ensures in
       subst (Goes F claim tree (c.loop-index.index + 1)) (sym c.step_on.ensures.path)
       (goes_next F claim tree c.args.nodes.now walked c.loop-index.index (path_of_trail trail) c.loop-index-test.true (c.loop-index.invariant.goes tree walked) node c.index-nodes-index.is judged);
 }

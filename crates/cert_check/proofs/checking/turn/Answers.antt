@@ -1,9 +1,8 @@
 use Rattle.std.proofs.Common.{◌∙◌, ◌++◌, ◌∷◌, [], ap, sym, subst, arith}
 use Rattle.std.specs.Prelude.{All}
 use Rattle.cert_check.specs.Walk.{CanTurn, after_leaf}
-use Rattle.cert_check.specs.Tight.{path_of_trail}
-use Rattle.cert_check.proofs.TrailLemmas.{turns-fewer}
-use Rattle.cert_check.proofs.WalkLemmas.{after_leaf-low, after_leaf-high}
+use Rattle.tight_regions.specs.Tight.{path_of_trail}
+use Rattle.cert_check.proofs.WalkLemmas.{turns-fewer, after_leaf-low, after_leaf-high}
 use Rattle.cert_check.proofs.checking.turn.Goals as goal
 
 pub loop-trail-preserved : goal.loop-trail-preserved

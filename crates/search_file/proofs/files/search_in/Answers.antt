@@ -5,4 +5,4 @@ pub search_of-requires : goal.search_of-requires
 search_of-requires c = text-restorable c.args.text.now c.in-Ok.stated c.in-Ok.ensures
 
 pub returns-in-Ok-search_of : goal.returns-in-Ok-search_of
-returns-in-Ok-search_of c = record { stated = c.in-Ok.stated; states = c.in-Ok.ensures; restores = c.in-Ok-search_of.ensures.restores }
+returns-in-Ok-search_of c = record { stated = c.in-Ok.stated; states = c.in-Ok.ensures; restores = c.in-Ok-search_of.ensures }

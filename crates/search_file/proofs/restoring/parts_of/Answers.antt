@@ -23,7 +23,4 @@ pub returns-clause-pool : goal.returns-clause-pool
 returns-clause-pool c = subst (λ (ds : List Derivation). IsPoolFrom c.args.stated.now.model ds c.in-Ok.pool) c.as_slice.ensures c.in-Ok.ensures
 
 pub returns-clause-tree : goal.returns-clause-tree
-returns-clause-tree c t is = c.in-Ok-tree_of.ensures.tree t (is ∙ sym c.as_slice-2.ensures)
-
-pub returns-clause-shallow : goal.returns-clause-shallow
-returns-clause-shallow c t is = c.in-Ok-tree_of.ensures.shallow t (is ∙ sym c.as_slice-2.ensures)
+returns-clause-tree c t is = c.in-Ok-tree_of.ensures t (is ∙ sym c.as_slice-2.ensures)

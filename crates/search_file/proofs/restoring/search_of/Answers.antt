@@ -11,7 +11,6 @@ use Rattle.sound_searches.specs.Sound.{PlainSearch, IsSoundTree}
 use Rattle.search_parts.specs.EditedPoints.{AreKeepable}
 use Rattle.sound_searches.specs.Parts.{IsOfParts}
 use Rattle.search_file.specs.Saved.{uncounted, stated_formulation, IsRestorableNode, Restores}
-use Rattle.search_file.proofs.DepthLemmas.{ok-any}
 use Rattle.search_file.proofs.TreeLemmas.{stated-many, restorable-same, restored-sound}
 use Rattle.search_file.proofs.restoring.search_of.Goals as goal
 
@@ -35,8 +34,8 @@ if_ok : {A E : Type 0} {P Q : A → Type 0} (r : Result A E) → ((a : A) → P 
 if_ok (Ok a) w h = w a h
 if_ok (Err e) w h = h
 
-pub returns-in-Ok-clause-restores : goal.returns-in-Ok-clause-restores
-returns-in-Ok-clause-restores c =
+pub returns-in-Ok : goal.returns-in-Ok
+returns-in-Ok c =
     let s = c.args.stated in
     let pool = c.in-Ok.pool in
     let tree = c.in-Ok.tree in
@@ -48,6 +47,3 @@ returns-in-Ok-clause-restores c =
       points = subst (λ P. P) (λ j. AreKeepable s.model (c.as_slice.ensures j) (sym made.parts.points_are j)) made.keepable;
       tree = λ t is. subst (λ P. P) (λ j. JudgesAll (formulation (sym made.parts.model j) (sym made.parts.cuts_are j)) (target (sym made.parts.model j) (sym made.parts.points_are j)) (c.in-Ok.ensures.tree t is j) S.tree) made.parts.tree;
     }) c.of_parts.ensures
-
-pub returns-in-Ok-clause-shallow : goal.returns-in-Ok-clause-shallow
-returns-in-Ok-clause-shallow c = ok-any c.of_parts.result c.in-Ok.ensures.shallow

@@ -3,9 +3,7 @@ use Rattle.std.specs.Prelude.{All, IfOk, Result, Ok, Err}
 use Rattle.branch_tree.specs.Limits.{node_limit}
 use Rattle.branch_tree.specs.Numbered.{NumberedTree}
 use Rattle.branch_tree.specs.Preorder.{DataTree, data_nodes, numbered_tree, HasNodeBound}
-use Rattle.search_file.specs.Depth.{tree_depth, IsShallow}
 use Rattle.search_file.specs.Lawful.{lawful_tree, lawful_behind}
-use Rattle.search_file.proofs.DepthLemmas.{shallow-told, ok-any}
 use Rattle.search_file.proofs.LawfulLemmas.{lawful-nodes, all-lawful}
 use Rattle.search_file.proofs.restoring.tree_of.Goals as goal
 
@@ -26,17 +24,9 @@ if_ok : {A E : Type 0} {P Q : A → Type 0} (r : Result A E) → ((a : A) → P 
 if_ok (Ok a) w h = w a h
 if_ok (Err e) w h = h
 
-pub returns-clause-tree : goal.returns-clause-tree
-returns-clause-tree c =
+pub returns : goal.returns
+returns c =
     let M = c.args.model.now in
     let kept = c.in-Ok.kept in
     if_ok {P = λ (T : NumberedTree). (t : DataTree) → data_nodes t ≡ kept → T ≡ numbered_tree node_limit t} {Q = λ (T : NumberedTree). (t : DataTree) → data_nodes t ≡ c.args.nodes.now → T ≡ numbered_tree node_limit (lawful_tree M t)} c.from_preorder.result
     (λ T h t is. h (lawful_tree M t) (sym (c.in-Ok.ensures ∙ ap (lawful_behind M 0) (sym is) ∙ lawful-nodes M t))) c.from_preorder.ensures
-
-pub returns-clause-shallow : goal.returns-clause-shallow
-returns-clause-shallow c =
-    let M = c.args.model.now in
-    let shallow : IsShallow M c.args.nodes.now =
-    λ t is. shallow-told c.in-Ok-is_deep.deep (tree_depth (lawful_tree M t)) c.if-deep.false
-    (c.in-Ok-is_deep.ensures (lawful_tree M t) (sym (c.as_slice.ensures ∙ c.in-Ok.ensures ∙ ap (lawful_behind M 0) (sym is) ∙ lawful-nodes M t))) in
-    ok-any c.from_preorder.result shallow

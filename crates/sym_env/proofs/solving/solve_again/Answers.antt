@@ -2,9 +2,9 @@ use Rattle.std.specs.Prelude.{◌≡◌}
 use Rattle.std.proofs.Common.{ap, subst, ◌∙◌}
 use Rattle.lp_model.specs.Program.{Program}
 use Rattle.sound_searches.specs.Sound.{PlainSearch}
-use Rattle.sym_env.specs.Enough.{IsEnough}
-use Rattle.sym_env.specs.Solves.{HasRayFor}
-use Rattle.sym_env.specs.Truth.{HasEnded}
+use Rattle.tree_search.specs.Enough.{IsEnough}
+use Rattle.tree_search.specs.Solves.{HasRayFor}
+use Rattle.tree_search.specs.Truth.{HasEnded}
 use Rattle.sym_env.proofs.solving.solve_again.Goals as goal
 
 pub returns-in-Ok-clause-ray : goal.returns-in-Ok-clause-ray

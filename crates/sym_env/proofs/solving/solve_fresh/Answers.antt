@@ -1,4 +1,3 @@
-use Rattle.std.specs.Prelude.{Some}
 use Rattle.std.proofs.Common.{subst}
 use Rattle.sound_searches.specs.Calls.{IsNext}
 use Rattle.tree_search.proofs.StepLemmas.{next-open_leaf}

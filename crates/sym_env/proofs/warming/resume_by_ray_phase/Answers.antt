@@ -1,10 +1,9 @@
 use Rattle.std.proofs.Common.{subst, sym, refl, inr}
 use Rattle.ray_phase.specs.Answers.{IsRayAnswer}
-use Rattle.ray_phase.specs.declared.phase.RayAnswer.TheVariants as phase
 use Rattle.lp_model.specs.declared.answers.StopWhy.TheVariants as stop
 use Rattle.tree_search.proofs.ExtendLemmas.{extends-self}
 use Rattle.ray_phase.specs.Beginnings.{IsRayStop}
-use Rattle.sym_env.specs.Warm.{BesidePoint}
+use Rattle.tree_search.specs.Warm.{BesidePoint}
 use Rattle.ray_phase.proofs.BeginningLemmas.{stop-pivots}
 use Rattle.sym_env.proofs.SolveLemmas.{wants-first, stopped-first, stopped-never}
 use Rattle.sym_env.proofs.TruthLemmas.{stop-bounded}

@@ -1,10 +1,9 @@
-use Rattle.std.specs.Prelude.{Some, None}
 use Rattle.std.proofs.Common.{subst, refl}
 use Rattle.branch_tree.specs.Numbered.{IsNumbered}
 use Rattle.sound_searches.specs.Calls.{IsNext}
 use Rattle.tree_search.proofs.ExtendLemmas.{extends-self}
 use Rattle.tree_search.proofs.StepLemmas.{next-open_leaf, no-leaf_open}
-use Rattle.sym_env.specs.Warm.{Still, SomeOpen}
+use Rattle.tree_search.specs.Warm.{Still, SomeOpen}
 use Rattle.sym_env.proofs.WarmLemmas.{finished-bounded, finished-ended}
 use Rattle.sym_env.proofs.warming.warm_limited.Goals as goal
 

@@ -1,7 +1,6 @@
 use Rattle.std.proofs.Common.{subst}
 use Rattle.lp_model.specs.Formulations.{Formulation, formulation}
 use Rattle.tree_cert.specs.Walked.{IsFit}
-use Rattle.tree_cert.proofs.TreeWalk.{turns-narrow}
 use Rattle.tree_cert.proofs.walk.cert_node.Goals as goal
 
 pub column_name-requires : goal.column_name-requires
@@ -10,7 +9,7 @@ column_name-requires c =
     (subst (IsFit F) c.in-Split.is c.requires.fit).0
 
 pub leaf_node-requires-clause-narrow : goal.leaf_node-requires-clause-narrow
-leaf_node-requires-clause-narrow c = turns-narrow c.args.path.now c.requires.turns
+leaf_node-requires-clause-narrow c = c.requires.narrow
 
 pub leaf_node-requires-clause-places : goal.leaf_node-requires-clause-places
 leaf_node-requires-clause-places c = c.requires.places

@@ -15,19 +15,19 @@ unreachable-requires c =
     let b = c.in-Ok.basis in
     let same : b ≡ kept_basis S c.args.basis.now = c.in-Ok.ensures.basis in
     let there : IsBasis (formulation_of S) b = subst (IsBasis (formulation_of S)) (sym same) c.requires.basis in
-    c.in_default-taken.not-Kept (keep-taken S c.known.ensures.sound c.known.ensures.numbered c.args.job.now c.requires.job c.place.new.self b there c.in-Ok-place.taken c.in-Ok-place.ensures.taken)
+    c.in_default-taken.not-Kept (keep-taken S c.known.ensures.sound c.known.ensures.numbered c.args.job.now c.requires.job c.place_done.new.self b there c.in-Ok-place_done.taken c.in-Ok-place_done.ensures.taken)
 
 pub returns-clause-keeps : goal.returns-clause-keeps
 returns-clause-keeps c =
     let S = c.args.search.now in
-    let T = c.place.new.self in
+    let T = c.place_done.new.self in
     let job = c.args.job.now in
     let b = c.in-Ok.basis in
     let same : b ≡ kept_basis S c.args.basis.now = c.in-Ok.ensures.basis in
     let there : IsBasis (formulation_of S) b = subst (IsBasis (formulation_of S)) (sym same) c.requires.basis in
-    let kept : c.in-Ok-place.taken ≡ Kept = keep-taken S c.known.ensures.sound c.known.ensures.numbered job c.requires.job T b there c.in-Ok-place.taken c.in-Ok-place.ensures.taken in
+    let kept : c.in-Ok-place_done.taken ≡ Kept = keep-taken S c.known.ensures.sound c.known.ensures.numbered job c.requires.job T b there c.in-Ok-place_done.taken c.in-Ok-place_done.ensures.taken in
     subst (λ a. KeepsOpen S job [] None a T) same
-    (keep-open S c.known.ensures.sound c.known.ensures.numbered job c.requires.job T b there (subst (Takes S job.id (Keep None b) T) kept c.in-Ok-place.ensures.taken))
+    (keep-open S c.known.ensures.sound c.known.ensures.numbered job c.requires.job T b there (subst (Takes S job.id (Keep None b) T) kept c.in-Ok-place_done.ensures.taken))
 
 pub returns-clause-cuts : goal.returns-clause-cuts
 returns-clause-cuts c = c.in-Ok.ensures.cuts

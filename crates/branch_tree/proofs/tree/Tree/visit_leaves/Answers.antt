@@ -1,14 +1,19 @@
-use Rattle.std.proofs.Common.{rules, ◌≡◌, [], sym, subst}
-use Rattle.lp_model.specs.Regions.{Path, AreNarrow}
-use Rattle.branch_tree.specs.Tree.{EachLeaf, HasNarrowSplits}
-use Rattle.branch_tree.specs.Branches.{plain_branch}
+use Rattle.std.proofs.Common.{[], sym, subst}
+use Rattle.std.proofs.lemmas.Result.{IfOk-weaker}
+use Rattle.branch_tree.specs.Tree.{HasNarrowSplits}
+use Rattle.branch_tree.specs.Leaves.{region_leaves}
+use Rattle.branch_tree.specs.Visits.{Visits}
 use Rattle.branch_tree.specs.Numbered.{NumberedTree}
-use Rattle.branch_tree.proofs.PathLaws.{narrow_paths}
+use Rattle.branch_tree.specs.Held.{plain_of}
 use Rattle.branch_tree.proofs.tree.Tree.visit_leaves.Goals as goal
 
-pub walk-requires-clause-narrow : goal.walk-requires-clause-narrow
-walk-requires-clause-narrow g c =
-    let root = plain_branch c.self.inside.root in
-    let none : c.new-path.result.items ≡ [] = search rules in
-    let narrow : HasNarrowSplits root = subst (λ (T : NumberedTree). HasNarrowSplits T.root) (sym c.self.view_is) c.requires in
-    subst (λ (p : Path). EachLeaf (λ q l. AreNarrow q) p root) (sym none) (narrow_paths [] root narrow tt)
+pub visit_below-requires : goal.visit_below-requires
+visit_below-requires g c =
+    (c.self.inside.still_open, (plain_of c.self.inside, (c.self.invariant.nodes, subst (λ (T : NumberedTree). HasNarrowSplits T.root) (sym c.self.view_is) c.requires)))
+
+pub returns-clause-visits : goal.returns-clause-visits
+returns-clause-visits g c =
+    IfOk-weaker c.visit_below.result _ _
+    (λ _ visits. subst (λ (T : NumberedTree). Visits g.V.LeafVisitor.step (region_leaves [] T.root) c.args.visitor.now c.visit_below.new.visitor) c.self.view_is
+    (visits c.self.inside.still_open (plain_of c.self.inside) c.self.invariant.nodes (subst (λ (T : NumberedTree). HasNarrowSplits T.root) (sym c.self.view_is) c.requires)))
+    c.visit_below.ensures

@@ -1,7 +1,7 @@
 use Rattle.std.proofs.Common.{◌≡◌, ◌≤◌, ap, subst, length, arith, Ok}
 use Rattle.std.proofs.lemmas.Result.{IfOk-at_ok, IfOk-weaker}
 use Rattle.cert_check.specs.Cuts.{AreCutsFound}
-use Rattle.cert_check.specs.Tight.{IsTrail, room}
+use Rattle.tight_regions.specs.Tight.{IsTrail, room}
 use Rattle.cert_check.specs.Walk.{AreNodesPlaced, IsPointOf, IsBufferOf}
 use Rattle.cert_check.specs.declared.checking.RegionBuf.{RegionBuf}
 use Rattle.cert_check.proofs.checking.RegionBuf.new.Goals as goal

@@ -7,7 +7,7 @@ use Rattle.leaf_judging.proofs.judging.Marking.mark_leaf.Goals as goal
 pub returns : goal.returns
 returns c =
     let is = c.mark_of-mark.ensures in
-    record {
+    λ path kept. record {
       same = refl;
       number = is.number;
       number_is = is.number_is;

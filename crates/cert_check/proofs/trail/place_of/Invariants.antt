@@ -1,6 +1,0 @@
-use Rattle.std.proofs.Common.{◌≡◌, ◌+◌, drop}
-use Rattle.cert_check.specs.Tight.{rival_place}
-use Rattle.cert_check.proofs.trail.place_of.Given as goal
-
-abbrev pub invariant-loop-place : goal.invariant-loop-place
-invariant-loop-place l = rival_place l.region l.change ≡ l.place + rival_place (drop l.place l.region) l.change

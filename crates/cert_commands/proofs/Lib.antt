@@ -1,0 +1,3 @@
+pub mod CertificateLemmas
+pub mod CertLemmas
+pub mod CauseLemmas

@@ -1,0 +1,51 @@
+-- What an environment's certificate is.
+use Rattle.std.specs.Prelude.{◌≡◌, ℕ, List, Vec, Option, Some, None, Result, Ok, Err}
+use Rattle.std.specs.declared.alloc.Global.{Global}
+use Rattle.sound_searches.specs.Sound.{PlainSearch}
+use Rattle.cert_text.specs.Text.{MeantCertificate as States}
+use Rattle.cert_check.specs.Verdict.{IsVerdict}
+use Rattle.cert_check.specs.Laws.{IsTrueClaim}
+use Rattle.cert_text.specs.declared.cert.Cert.{Cert}
+use Rattle.cert_check.specs.declared.verdict.Verdict.TheVariants.{Accepted}
+use Rattle.lp_model.specs.Program.{Program, Point}
+use Rattle.cert_text.specs.declared.cert.Claim.TheVariants as claim
+use Rattle.search_parts.specs.Points.{IsIncumbent}
+use Rattle.tree_cert.specs.Certificates.{IsCertificateOf, unbounded_certificate}
+use Rattle.tree_cert.specs.CertText.{HasWordNames, cert_text}
+use Rattle.kept_env.specs.declared.held.Held.{Held}
+use Rattle.kept_env.specs.declared.held.Held.TheVariants.{Nothing, Finished, Unbounded}
+use Rattle.kept_env.specs.declared.env.EnvFault.{EnvFault}
+use Rattle.kept_env.specs.declared.env.EnvFault.TheVariants.{NoModel, NoAnswer, Memory}
+
+-- The bytes are the text of the search's certificate, which is accepted for the search's model, so that its claim is true. They
+-- read as that certificate where each name of the model is a word of a line.
+pub record IsCertificateText (S : PlainSearch) (text : List ℕ) : Type 0 where
+  pub cert : Cert
+  pub exact : IsCertificateOf S cert
+  pub is : text ≡ cert_text cert
+  pub stated : HasWordNames S.model → States text cert
+  pub accepted : IsVerdict S.model cert (Accepted cert.claim)
+  pub true_claim : IsTrueClaim S.model cert.claim
+
+-- The bytes are the text of the certificate that the model is unbounded, by this point and this ray. It is accepted for the model, so
+-- that the model is unbounded. They read as that certificate where each name of the model is a word of a line.
+pub record IsUnboundedTextBy (M : Program) (point ray : Point) (text : List ℕ) : Type 0 where
+  pub is : text ≡ cert_text (unbounded_certificate M point ray)
+  pub stated : HasWordNames M → States text (unbounded_certificate M point ray)
+  pub accepted : IsVerdict M (unbounded_certificate M point ray) (Accepted claim.Unbounded)
+  pub true_claim : IsTrueClaim M claim.Unbounded
+
+-- so by the search's incumbent and this ray
+pub record IsUnboundedText (S : PlainSearch) (ray : Point) (text : List ℕ) : Type 0 where
+  pub point : Point
+  pub incumbent : IsIncumbent S.model S.points (Some point)
+  pub text_is : IsUnboundedTextBy S.model point ray text
+
+-- what is answered, by what is held
+abbrev pub IsCertAnswer : Option PlainSearch → Held → Result (Vec ℕ Global) EnvFault → Type 0
+IsCertAnswer None held result = result ≡ Err NoModel
+IsCertAnswer (Some S) Nothing result = result ≡ Err NoAnswer
+IsCertAnswer (Some S) Finished (Ok text) = IsCertificateText S text.items
+IsCertAnswer (Some S) Finished (Err fault) = fault ≡ Memory
+IsCertAnswer (Some S) (Unbounded ray) (Ok text) = IsUnboundedText S ray text.items
+IsCertAnswer (Some S) (Unbounded ray) (Err fault) = fault ≡ Memory

@@ -1,0 +1,91 @@
+// The certificate of a search that went to its end, or that found a point beside a ray; and of what an environment holds.
+ghost use Rattle.std.specs.Prelude.{◌<◌, length, true, IfOk, Ok};
+ghost use Rattle.model_points.specs.Answers.{IsFeasibilityAnswer};
+ghost use Rattle.model_points.specs.Rays.{IsRayJudged};
+ghost use Rattle.sound_searches.specs.Laws.{HasNoOpenLeaf};
+ghost use Rattle.cert_commands.specs.Certificates.{IsCertificateText, IsUnboundedTextBy, IsUnboundedText, IsCertAnswer};
+
+use cert_check::{accepted_law, verdict_law};
+use kept_env::{Env, EnvFault, Held};
+use lp_model::{Model, Point};
+use std::alloc::{AllocError, Global};
+use tree_cert::{certificate, names_law, print_cert, unbounded_certificate, unbounded_names_law};
+use tree_edit::Search;
+
+/// The text of the certificate of a search without an open leaf.
+fn certificate_text(alloc: Global, search: &Search) -> Result<Vec<u8>, AllocError>
+    requires finished { HasNoOpenLeaf search.now }
+    ensures { IfOk result (λ text. IsCertificateText search.now text.items) }
+{
+    let _sound = search.points();
+    names_law();
+    verdict_law();
+    accepted_law();
+    let cert = match certificate(alloc, search) {
+        Ok(cert) => cert,
+        Err(AllocError) => return Err(AllocError),
+    };
+    let text = print_cert(alloc, &cert);
+    drop(cert);
+    text
+}
+
+/// The text of the certificate that a model is unbounded, by this point and this ray.
+fn unbounded_text_by(
+    alloc: Global,
+    model: &Model,
+    point: &Point,
+    ray: &Point,
+) -> Result<Vec<u8>, AllocError>
+    requires point { IsFeasibilityAnswer model.now point.now (Ok true) }
+    requires ray { IsRayJudged model.now ray.now (Ok true) }
+    ensures { IfOk result (λ text. IsUnboundedTextBy model.now point.now ray.now text.items) }
+{
+    unbounded_names_law();
+    verdict_law();
+    accepted_law();
+    let cert = match unbounded_certificate(alloc, model, point, ray) {
+        Ok(cert) => cert,
+        Err(AllocError) => return Err(AllocError),
+    };
+    let text = print_cert(alloc, &cert);
+    drop(cert);
+    text
+}
+
+/// The text of the certificate that the search's model is unbounded, by the incumbent and this ray.
+fn unbounded_text(alloc: Global, search: &Search, ray: &Point) -> Result<Vec<u8>, AllocError>
+    requires point { 0 < length search.now.points }
+    requires ray { IsRayJudged search.now.model ray.now (Ok true) }
+    ensures { IfOk result (λ text. IsUnboundedText search.now ray.now text.items) }
+{
+    let _sound = search.points();
+    match search.incumbent() {
+        None => unreachable!(),
+        Some(point) => unbounded_text_by(alloc, search.model(), point, ray),
+    }
+}
+
+/// The text of the certificate of the answer that is held.
+///
+/// # Errors
+///
+/// Where no model is loaded, or no answer is held; else only for want of memory.
+pub fn held_certificate(alloc: Global, env: &Env) -> Result<Vec<u8>, EnvFault>
+    ensures { IsCertAnswer env.now.search env.now.held result }
+{
+    let Some(search) = env.search() else {
+        return Err(EnvFault::NoModel);
+    };
+    match env.held() {
+        Held::Nothing => Err(EnvFault::NoAnswer),
+        Held::Finished => match certificate_text(alloc, search) {
+            Ok(text) => Ok(text),
+            Err(AllocError) => Err(EnvFault::Memory),
+        },
+        Held::Unbounded(ray) => match unbounded_text(alloc, search, ray) {
+            Ok(text) => Ok(text),
+            Err(AllocError) => Err(EnvFault::Memory),
+        },
+    }
+}

@@ -1,0 +1,5 @@
+pub mod Load
+pub mod Writing
+pub mod Saving
+pub mod Family
+pub mod Laws

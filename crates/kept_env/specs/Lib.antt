@@ -1,0 +1,4 @@
+pub mod Env
+pub mod Editing
+pub mod Trimming
+pub mod Worked

@@ -1,0 +1,43 @@
+// Which answer an environment holds.
+ghost use Rattle.std.specs.Prelude.{◌≡◌};
+ghost use Rattle.kept_env.specs.Worked.{held_beside, held_by};
+
+use lp_model::{Answer, Point};
+
+/// Which answer an environment holds.
+#[derive(Drop)]
+pub enum Held {
+    /// None: no search went to its end since the model was loaded or edited, or since the last one began.
+    Nothing,
+    /// That of the search that stands, which has no open leaf.
+    Finished,
+    /// That the model is unbounded, by this ray and the point that the search keeps.
+    Unbounded(Point),
+}
+
+/// That the model is unbounded is held with its ray.
+fn held_beside(ray: Option<Point>) -> Held
+    ensures { result ≡ held_beside ray }
+{
+    match ray {
+        Some(ray) => Held::Unbounded(ray),
+        None => Held::Nothing,
+    }
+}
+
+/// Which answer may be held of a search that was worked and has shown this, with the ray that was found beside it.
+pub fn held_by(answer: &Answer, ray: Option<Point>) -> Held
+    ensures { result ≡ held_by answer.now ray }
+{
+    match answer {
+        Answer::Optimal { .. } | Answer::Infeasible { .. } => {
+            drop(ray);
+            Held::Finished
+        }
+        Answer::Unbounded { .. } => held_beside(ray),
+        Answer::Stopped { .. } | Answer::Memory => {
+            drop(ray);
+            Held::Nothing
+        }
+    }
+}

@@ -1,0 +1,56 @@
+-- What `warm` may answer of the search that is kept.
+use Rattle.std.specs.Prelude.{◌≡◌, ◌⊎◌, ◌-◌, ℕ, List, Option, Some, None, Result, IfOk, IfSome}
+use Rattle.lp_model.specs.declared.answers.Answer.{Answer}
+use Rattle.lp_model.specs.declared.answers.Answer.TheVariants.{Memory}
+use Rattle.branch_tree.specs.Changes.{with_limit}
+use Rattle.search_counting.specs.Work.{whole_points, HasRoomFor}
+use Rattle.sound_searches.specs.Calls.{search_with_limit}
+use Rattle.sound_searches.specs.Laws.{HasNoOpenLeaf}
+use Rattle.sound_searches.specs.Sound.{PlainSearch}
+use Rattle.tree_search.specs.Extends.{Extends}
+use Rattle.tree_search.specs.Enough.{IsKeptEnough}
+use Rattle.tree_search.specs.Solves.{HasRayFrom}
+use Rattle.tree_search.specs.Warm.{Warms, WarmsFrom, PlacesNone}
+use Rattle.tree_search.specs.Truth.{IsTrueOfKept, HasEnded}
+use Rattle.tree_search.specs.declared.limits.Limits.{Limits}
+use Rattle.kept_env.specs.Env.{PlainEnv, pool_in}
+use Rattle.kept_env.specs.declared.env.EnvFault.{EnvFault}
+use Rattle.kept_env.specs.Worked.{WorksEnv}
+use Rattle.reply_texts.specs.Texts.{answer_text, no_model_text, memory_text}
+use Rattle.command_family.specs.State.{ShellState}
+use Rattle.search_replies.specs.Showing.{AnswersBy}
+
+-- the search went on from S: open leaves became trees, and every other node stays
+pub record WentOn (S : PlainSearch) (l : Limits) (answer : Answer) (T : PlainSearch) : Type 0 where
+  pub warms : Warms l (search_with_limit S l.tree) answer T
+  pub model : T.model ≡ S.model
+  pub extends : Extends S.tree.root T.tree.root
+
+-- what is known where the search of an environment went on
+pub record IsWarmed (l : Limits) (old : PlainEnv) (result : Result Answer EnvFault) (new : PlainEnv) : Type 0 where
+  pub warms : WorksEnv (WarmsFrom l) (HasRayFrom l) old.search old result new
+  pub true_answer : IfOk result (λ answer. IfSome old.search (λ S. IsTrueOfKept S l answer))
+  pub complete : IfOk result (λ answer. IfSome old.search (λ S. IsKeptEnough S (pool_in new.search) l → HasEnded answer))
+
+-- the tree has no room for the most splits
+abbrev pub IsTooSmall : PlainSearch → Limits → Type 0
+IsTooSmall S l = ¬ HasRoomFor (whole_points S.model - 1) (with_limit S.tree l.tree)
+
+-- what a search that goes on may be answered; where there is no memory it has the results that were placed
+abbrev pub AnswersWarm : PlainSearch → Limits → List ℕ → PlainEnv → Type 0
+AnswersWarm S l reply env = AnswersBy (WentOn S l) (WentOn S l Memory) (IsKeptEnough S (pool_in env.search) l) (IsTooSmall S l) S.model l reply env
+
+-- after a search that closed every leaf nothing is placed: the reply is the text of an answer without a result, or memory was wanting
+abbrev pub TellsAgain : PlainSearch → List ℕ → Type 0
+TellsAgain S reply = HasNoOpenLeaf S → (answer : Answer) × (PlacesNone answer × (reply ≡ answer_text S.model answer))
+
+-- of the environment's search, if there is one
+abbrev pub RepliesToWarm : PlainEnv → Option PlainSearch → Limits → List ℕ → PlainEnv → Type 0
+RepliesToWarm old None l reply env = ((reply ≡ no_model_text) ⊎ (reply ≡ memory_text)) × (env ≡ old)
+RepliesToWarm old (Some S) l reply env = AnswersWarm S l reply env × TellsAgain S reply
+
+-- the files stay
+pub record WarmStep (old : ShellState) (l : Limits) (reply : List ℕ) (new : ShellState) : Type 0 where
+  pub files : new.files ≡ old.files
+  pub faults : new.faults ≡ old.faults
+  pub answer : RepliesToWarm old.env old.env.search l reply new.env

@@ -1,0 +1,73 @@
+// The reply to a search of the environment's model.
+ghost use Rattle.std.specs.Prelude.{◌≡◌, ◌++◌, [], ℕ, List, IfOk, OnOk, OnErr};
+ghost use Rattle.kept_env.specs.Env.{PlainEnv, model_of};
+ghost use Rattle.command_family.specs.State.{HasWords};
+ghost use Rattle.search_replies.specs.Answering.{IsAnswerOf, IsTellable, search_text};
+ghost use Rattle.search_replies.specs.Solve.{limits_of, IsSolved, RepliesToSolve};
+ghost use Rattle.search_replies.specs.Warming.{IsWarmed, RepliesToWarm};
+
+use kept_env::{Env, EnvFault};
+use lp_model::Answer;
+use reply_texts::{answer_has_room, write_answer};
+use std::alloc::AllocError;
+
+/// What a search of the environment's model has answered, or that there is no model.
+fn tell_answer(
+    reply: &mut Vec<u8>,
+    env: &Env,
+    answer: &Result<Answer, EnvFault>,
+) -> Result<(), AllocError>
+    requires { IsAnswerOf answer.now (model_of env.now) }
+    ensures tellable { IsTellable answer.now (model_of env.now) }
+    ensures text { IfOk result (λ _. reply.new.items ≡ reply.old.items ++ search_text answer.now (model_of env.now)) }
+{
+    match answer {
+        Err(_) => reply.extend_from_slice(b"error 04 no model\n"),
+        Ok(answer) => match env.model() {
+            None => unreachable!(),
+            Some(model) => {
+                answer_has_room(answer);
+                let _lawful = model.cols();
+                write_answer(reply, model, answer)
+            }
+        },
+    }
+}
+
+/// The reply to `solve`, where this was answered and this is the environment afterwards.
+pub fn tell_solved(
+    reply: &mut Vec<u8>,
+    env: &Env,
+    answer: Result<Answer, EnvFault>,
+) -> Result<(), AllocError>
+    requires empty { reply.old.items ≡ [] }
+    requires answer { IsAnswerOf answer (model_of env.now) }
+    ensures answered { (old : PlainEnv) → (nodes : ℕ) → (pivots : ℕ) → IsSolved (limits_of nodes pivots) old answer env.now → HasWords old
+        → OnOk result (RepliesToSolve old old.search (limits_of nodes pivots) reply.new.items env.now) }
+    ensures unfinished { (old : PlainEnv) → (nodes : ℕ) → (pivots : ℕ) → IsSolved (limits_of nodes pivots) old answer env.now → HasWords old
+        → OnErr result ((bytes : List ℕ) × RepliesToSolve old old.search (limits_of nodes pivots) bytes env.now) }
+    ensures words { (old : PlainEnv) → (nodes : ℕ) → (pivots : ℕ) → IsSolved (limits_of nodes pivots) old answer env.now → HasWords old → HasWords env.now }
+{
+    let told = tell_answer(reply, env, &answer);
+    drop(answer);
+    told
+}
+
+/// The reply to `warm`, where this was answered and this is the environment afterwards.
+pub fn tell_warmed(
+    reply: &mut Vec<u8>,
+    env: &Env,
+    answer: Result<Answer, EnvFault>,
+) -> Result<(), AllocError>
+    requires empty { reply.old.items ≡ [] }
+    requires answer { IsAnswerOf answer (model_of env.now) }
+    ensures answered { (old : PlainEnv) → (nodes : ℕ) → (pivots : ℕ) → IsWarmed (limits_of nodes pivots) old answer env.now → HasWords old
+        → OnOk result (RepliesToWarm old old.search (limits_of nodes pivots) reply.new.items env.now) }
+    ensures unfinished { (old : PlainEnv) → (nodes : ℕ) → (pivots : ℕ) → IsWarmed (limits_of nodes pivots) old answer env.now → HasWords old
+        → OnErr result ((bytes : List ℕ) × RepliesToWarm old old.search (limits_of nodes pivots) bytes env.now) }
+    ensures words { (old : PlainEnv) → (nodes : ℕ) → (pivots : ℕ) → IsWarmed (limits_of nodes pivots) old answer env.now → HasWords old → HasWords env.now }
+{
+    let told = tell_answer(reply, env, &answer);
+    drop(answer);
+    told
+}

@@ -1,0 +1,33 @@
+-- Each family is lawful, and which of them work on the search.
+use Rattle.std.proofs.Common.{◌≢◌, ℕ, refl}
+use Rattle.command_words.specs.Asks.{Asks, Load, Solve, Warm, Edit, Trim, Save, Restore, Bound, Cert, Write, Quit, Unknown, Misused, NoNumber}
+use Rattle.command_family.specs.Family.{IsLawful}
+use Rattle.file_commands.proofs.CauseLemmas.{filings-lawful}
+use Rattle.edit_commands.proofs.CauseLemmas.{changes-lawful}
+use Rattle.bound_commands.proofs.CauseLemmas.{bounds-lawful}
+use Rattle.cert_commands.proofs.CauseLemmas.{certificates-lawful}
+use Rattle.search_replies.proofs.CauseLemmas.{searches-lawful}
+use Rattle.sym_shell.specs.Step.{in_family}
+use Rattle.sym_shell.proofs.OwnLemmas.{own-lawful}
+
+pub lawful : (asks : Asks) → IsLawful (in_family asks).family
+lawful (Load file intupper) = filings-lawful
+lawful (Solve nodes pivots) = searches-lawful
+lawful (Warm nodes pivots) = searches-lawful
+lawful (Edit words) = changes-lawful
+lawful (Trim depth) = changes-lawful
+lawful (Save file) = filings-lawful
+lawful (Restore file) = filings-lawful
+lawful (Bound which numbers words) = bounds-lawful
+lawful (Cert file) = certificates-lawful
+lawful (Write file) = filings-lawful
+lawful Quit = own-lawful
+lawful (Unknown word) = own-lawful
+lawful Misused = own-lawful
+lawful (NoNumber word) = own-lawful
+
+-- `solve` and `warm` alone work on the search
+pub works-not : (asks : Asks) → ((nodes pivots : ℕ) → asks ≢ Solve nodes pivots) → ((nodes pivots : ℕ) → asks ≢ Warm nodes pivots) → ¬ ((in_family asks).family.Works (in_family asks).asks)
+works-not (Solve nodes pivots) other another works = other nodes pivots refl
+works-not (Warm nodes pivots) other another works = another nodes pivots refl
+works-not asks other another works = works

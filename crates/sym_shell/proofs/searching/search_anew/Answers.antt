@@ -1,0 +1,23 @@
+use Rattle.search_replies.specs.Solve.{limits_of}
+use Rattle.search_replies.proofs.ReplyLemmas.{is-solved, solved-shaped}
+use Rattle.sym_shell.proofs.searching.search_anew.Goals as goal
+
+pub tell_solved-requires-clause-answer : goal.tell_solved-requires-clause-answer
+tell_solved-requires-clause-answer c =
+    solved-shaped (limits_of c.args.nodes c.args.pivots) c.args.env.now c.solve-answer.new.env c.solve-answer.result
+    (is-solved c.args.nodes c.args.pivots c.limits_of.result c.limits_of.ensures c.args.env.now c.solve-answer.new.env c.solve-answer.result c.solve-answer.ensures.solves c.solve-answer.ensures.true_answer c.solve-answer.ensures.complete)
+
+pub returns-clause-answered : goal.returns-clause-answered
+returns-clause-answered c =
+    c.tell_solved.ensures.answered c.args.env.now c.args.nodes c.args.pivots
+    (is-solved c.args.nodes c.args.pivots c.limits_of.result c.limits_of.ensures c.args.env.now c.solve-answer.new.env c.solve-answer.result c.solve-answer.ensures.solves c.solve-answer.ensures.true_answer c.solve-answer.ensures.complete) c.requires.words
+
+pub returns-clause-unfinished : goal.returns-clause-unfinished
+returns-clause-unfinished c =
+    c.tell_solved.ensures.unfinished c.args.env.now c.args.nodes c.args.pivots
+    (is-solved c.args.nodes c.args.pivots c.limits_of.result c.limits_of.ensures c.args.env.now c.solve-answer.new.env c.solve-answer.result c.solve-answer.ensures.solves c.solve-answer.ensures.true_answer c.solve-answer.ensures.complete) c.requires.words
+
+pub returns-clause-words : goal.returns-clause-words
+returns-clause-words c =
+    c.tell_solved.ensures.words c.args.env.now c.args.nodes c.args.pivots
+    (is-solved c.args.nodes c.args.pivots c.limits_of.result c.limits_of.ensures c.args.env.now c.solve-answer.new.env c.solve-answer.result c.solve-answer.ensures.solves c.solve-answer.ensures.true_answer c.solve-answer.ensures.complete) c.requires.words

@@ -1,0 +1,23 @@
+use Rattle.search_replies.specs.Solve.{limits_of}
+use Rattle.search_replies.proofs.ReplyLemmas.{is-warmed, warmed-shaped}
+use Rattle.sym_shell.proofs.searching.search_on.Goals as goal
+
+pub tell_warmed-requires-clause-answer : goal.tell_warmed-requires-clause-answer
+tell_warmed-requires-clause-answer c =
+    warmed-shaped (limits_of c.args.nodes c.args.pivots) c.args.env.now c.warm_solve-answer.new.env c.warm_solve-answer.result
+    (is-warmed c.args.nodes c.args.pivots c.limits_of.result c.limits_of.ensures c.args.env.now c.warm_solve-answer.new.env c.warm_solve-answer.result c.warm_solve-answer.ensures.warms c.warm_solve-answer.ensures.true_answer c.warm_solve-answer.ensures.complete)
+
+pub returns-clause-answered : goal.returns-clause-answered
+returns-clause-answered c =
+    c.tell_warmed.ensures.answered c.args.env.now c.args.nodes c.args.pivots
+    (is-warmed c.args.nodes c.args.pivots c.limits_of.result c.limits_of.ensures c.args.env.now c.warm_solve-answer.new.env c.warm_solve-answer.result c.warm_solve-answer.ensures.warms c.warm_solve-answer.ensures.true_answer c.warm_solve-answer.ensures.complete) c.requires.words
+
+pub returns-clause-unfinished : goal.returns-clause-unfinished
+returns-clause-unfinished c =
+    c.tell_warmed.ensures.unfinished c.args.env.now c.args.nodes c.args.pivots
+    (is-warmed c.args.nodes c.args.pivots c.limits_of.result c.limits_of.ensures c.args.env.now c.warm_solve-answer.new.env c.warm_solve-answer.result c.warm_solve-answer.ensures.warms c.warm_solve-answer.ensures.true_answer c.warm_solve-answer.ensures.complete) c.requires.words
+
+pub returns-clause-words : goal.returns-clause-words
+returns-clause-words c =
+    c.tell_warmed.ensures.words c.args.env.now c.args.nodes c.args.pivots
+    (is-warmed c.args.nodes c.args.pivots c.limits_of.result c.limits_of.ensures c.args.env.now c.warm_solve-answer.new.env c.warm_solve-answer.result c.warm_solve-answer.ensures.warms c.warm_solve-answer.ensures.true_answer c.warm_solve-answer.ensures.complete) c.requires.words

@@ -1,0 +1,65 @@
+-- What each answer of `solve` and of `warm_solve` says of the model, whatever was done to find it.
+use Rattle.std.specs.Prelude.{◌≡◌, ℕ, ◌-◌, ◌<◌, ◌≤◌, ◌^◌, Option, Some, None}
+use Rattle.frac128.specs.Rational.{ℚ, ◌≤ℚ◌}
+use Rattle.lp_model.specs.Program.{Program, Point, IsFeasible, IsOptimum, IsEmpty, value, least_value, in_least_form}
+use Rattle.lp_model.specs.declared.answers.StopWhy.{StopWhy}
+use Rattle.lp_model.specs.declared.answers.StopWhy.TheVariants.{Nodes, Tree, Pivots, Wide}
+use Rattle.lp_model.specs.declared.answers.Answer.{Answer}
+use Rattle.lp_model.specs.declared.answers.Answer.TheVariants.{Optimal, Infeasible, Unbounded, Stopped, Memory}
+use Rattle.model_points.specs.Rays.{IsUnbounded}
+use Rattle.branch_tree.specs.Changes.{with_limit}
+use Rattle.sound_searches.specs.Sound.{PlainSearch}
+use Rattle.search_counting.specs.Work.{whole_points, cap_of, HasRoomFor}
+use Rattle.tree_search.specs.declared.limits.Limits.{Limits}
+
+-- no more results than the limit allows, nor than a search of the model can place
+pub record IsCount (M : Program) (l : Limits) (n : ℕ) : Type 0 where
+  pub within_limit : n ≤ l.nodes
+  pub within_cap : n ≤ cap_of M
+
+-- no feasible point is better than the bound, if there is one; both are in the model's own sense
+abbrev pub IsBound : Program → Option ℚ → Type 0
+IsBound M None = Unit {0}
+IsBound M (Some bound) = (x : Point) → IsFeasible M x → in_least_form M.sense bound ≤ℚ least_value M 1 x
+
+-- some feasible point has the best value, if there is one
+abbrev pub IsFoundValue : Program → Option ℚ → Type 0
+IsFoundValue M None = Unit {0}
+IsFoundValue M (Some best) = (x : Point) × (IsFeasible M x × (best ≡ value M 1 x))
+
+-- The search stopped after n results, fewer than it could place: all that the limit allows, or with a tree that was too small. Only so
+-- few were placed where it stopped for another cause.
+abbrev pub IsEarlyBy : Type 0 → Program → Limits → StopWhy → ℕ → Type 0
+IsEarlyBy Small M l Nodes n = (n ≡ l.nodes) × (n < cap_of M)
+IsEarlyBy Small M l Tree n = (n < l.nodes) × ((n < cap_of M) × Small)
+IsEarlyBy Small M l (Pivots place) n = (n ≤ l.nodes) × (n < cap_of M)
+IsEarlyBy Small M l (Wide at_) n = (n ≤ l.nodes) × (n < cap_of M)
+
+abbrev pub IsTrueBy : Type 0 → Program → Limits → Answer → Type 0
+IsTrueBy Small M l (Optimal v x n) = (IsOptimum M x × (v ≡ value M 1 x)) × IsCount M l n
+IsTrueBy Small M l (Infeasible n) = IsEmpty M × IsCount M l n
+IsTrueBy Small M l (Unbounded n) = IsUnbounded M × IsCount M l n
+IsTrueBy Small M l (Stopped why n bound best) = (IsBound M bound × IsFoundValue M best) × IsEarlyBy Small M l why n
+IsTrueBy Small M l Memory = Unit {0}
+
+-- a new tree is too small where it may have fewer nodes than the most results
+abbrev pub IsSmallTree : Program → Limits → Type 0
+IsSmallTree M l = l.tree ≤ 2 ^ 63 → l.tree < cap_of M
+
+abbrev pub IsEarly : Program → Limits → StopWhy → ℕ → Type 0
+IsEarly M l why n = IsEarlyBy (IsSmallTree M l) M l why n
+
+abbrev pub IsTrueAnswer : Program → Limits → Answer → Type 0
+IsTrueAnswer M l answer = IsTrueBy (IsSmallTree M l) M l answer
+
+-- one that goes on is too small where it has no room for the most splits
+abbrev pub IsTrueOfKept : PlainSearch → Limits → Answer → Type 0
+IsTrueOfKept S l answer = IsTrueBy (¬ HasRoomFor (whole_points S.model - 1) (with_limit S.tree l.tree)) S.model l answer
+
+-- the search went to its end, or there was no memory
+abbrev pub HasEnded : Answer → Type 0
+HasEnded (Optimal v x n) = Unit {0}
+HasEnded (Infeasible n) = Unit {0}
+HasEnded (Unbounded n) = Unit {0}
+HasEnded (Stopped why n bound best) = ⊥
+HasEnded Memory = Unit {0}
