@@ -10,7 +10,7 @@ use edit_words::{Entries, read_pairs};
 use frac128::Frac;
 use kept_env::Env;
 use lp_model::Name;
-use reply_texts::write_no_number;
+use reply_texts::{ARGUMENTS_REPLY, MEMORY_REPLY, NO_MODEL_REPLY, write_no_number};
 use shell_replies::{placed_costs, placed_sides, write_unplaced};
 use std::alloc::{AllocError, Global};
 use tree_edit::Search;
@@ -65,7 +65,7 @@ fn bound_by_numbers(
     ensures { OnOk result (RepliesToNumbers which numbers env.now.search named.now reply.new.items) }
 {
     let Some(search) = env.search() else {
-        return reply.extend_from_slice(b"error 04 no model\n");
+        return reply.extend_from_slice(NO_MODEL_REPLY);
     };
     match numbers {
         NewNumbers::Sides => bound_by_sides(alloc, search, which, named, reply),
@@ -91,8 +91,8 @@ pub fn bound(
             drop(named);
             told
         }
-        Entries::Misused => reply.extend_from_slice(b"error 03 arguments\n"),
+        Entries::Misused => reply.extend_from_slice(ARGUMENTS_REPLY),
         Entries::NoNumber { word } => write_no_number(reply, word),
-        Entries::Memory => reply.extend_from_slice(b"error 90 memory\n"),
+        Entries::Memory => reply.extend_from_slice(MEMORY_REPLY),
     }
 }

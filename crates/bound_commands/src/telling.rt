@@ -7,6 +7,7 @@ use command_words::OptimumBound;
 use dual_bounds::{LowerBound, UpperBound, lb_new_obj, lb_new_rhs, ub_new_obj, ub_new_rhs};
 use frac128::Frac;
 use lp_model::{ColId, Model, RowId};
+use reply_texts::MEMORY_REPLY;
 use shell_replies::{write_lower, write_upper};
 use std::alloc::{AllocError, Global};
 use tree_edit::Search;
@@ -22,7 +23,7 @@ fn tell_lower(
 {
     match answer {
         Ok(bound) => write_lower(reply, model, bound),
-        Err(_) => reply.extend_from_slice(b"error 90 memory\n"),
+        Err(_) => reply.extend_from_slice(MEMORY_REPLY),
     }
 }
 
@@ -37,7 +38,7 @@ fn tell_upper(
 {
     match answer {
         Ok(bound) => write_upper(reply, model, bound),
-        Err(_) => reply.extend_from_slice(b"error 90 memory\n"),
+        Err(_) => reply.extend_from_slice(MEMORY_REPLY),
     }
 }
 

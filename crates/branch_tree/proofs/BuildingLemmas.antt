@@ -12,7 +12,7 @@ use Rattle.branch_tree.specs.Table.{node_at, AreBelow, IsTable, AreLive, PutsNod
 use Rattle.branch_tree.specs.Stored.{root_id, left_up, right_up, split_node, Stands}
 use Rattle.branch_tree.specs.Numbered.{IsCounted}
 use Rattle.branch_tree.specs.Held.{Means}
-use Rattle.branch_tree.specs.Rebuilt.{second, right_of, roots_left, roots_of, planned_of, built_node, ways_behind, one_if_open_leaf, IsEmptyFor, ArePlanned, IsBuilt}
+use Rattle.branch_tree.specs.private.Rebuilt.{second, right_of, roots_left, roots_of, planned_of, built_node, ways_behind, one_if_open_leaf, IsEmptyFor, ArePlanned, IsBuilt}
 use Rattle.branch_tree.specs.declared.building.Planned.{Planned}
 use Rattle.branch_tree.specs.declared.lists.Lists.{Lists}
 use Rattle.branch_tree.specs.declared.node.LeafData.{LeafData}

@@ -14,7 +14,7 @@ use Rattle.branch_tree.specs.declared.table.NodeTable.{NodeTable}
 use Rattle.branch_tree.specs.Table.{node_at, IsTable, PutsNode}
 use Rattle.branch_tree.specs.Stored.{root_id, up_of, left_up, right_up, split_node, Stands, renamed, with_child, collapsed_node}
 use Rattle.branch_tree.specs.Held.{IsOf, CanCollapse}
-use Rattle.branch_tree.specs.Due.{AreDue, nodes_among, node_total, open_total, AreCut}
+use Rattle.branch_tree.specs.private.Due.{AreDue, nodes_among, node_total, open_total, AreCut}
 use Rattle.branch_tree.proofs.CountLemmas.{same_cases, same_other}
 use Rattle.branch_tree.proofs.IdLemmas.{splits-collapsed}
 use Rattle.branch_tree.proofs.StoredLemmas.{same_self, stands-elsewhere, root_node, root-found}

@@ -13,7 +13,7 @@ use Rattle.branch_tree.specs.declared.stored.TreeNode.{TreeNode}
 use Rattle.branch_tree.specs.declared.stored.NodeKind.TheVariants as node
 use Rattle.branch_tree.specs.Table.{PutsNode}
 use Rattle.branch_tree.specs.Stored.{root_id, left_up, right_up, Stands}
-use Rattle.branch_tree.specs.Due.{AreDue, nodes_among, node_total, open_total, AreCut}
+use Rattle.branch_tree.specs.private.Due.{AreDue, nodes_among, node_total, open_total, AreCut}
 use Rattle.branch_tree.proofs.CountLemmas.{same_other}
 use Rattle.branch_tree.proofs.StoredLemmas.{same_self, stands-without, root_node, root-found, IsLeafTree, leaf-tree, IsSplitTree, split-tree}
 

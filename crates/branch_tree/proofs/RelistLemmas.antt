@@ -18,7 +18,7 @@ use Rattle.branch_tree.specs.declared.tree.Tree.TheInside.{Inside}
 use Rattle.branch_tree.specs.Table.{key_of, node_under, node_with, node_at, AreRising, AreBelow, IsTable, IsLive, AreLive, PutsNode}
 use Rattle.branch_tree.specs.Stored.{root_id, left_up, right_up, split_node, Stands}
 use Rattle.branch_tree.specs.Held.{plain_of, numbered_of, Means, IsHeld}
-use Rattle.branch_tree.specs.Relisted.{up_left_by, node_left_by, lists_left_by, tree_left_by}
+use Rattle.branch_tree.specs.private.Relisted.{up_left_by, node_left_by, lists_left_by, tree_left_by}
 use Rattle.branch_tree.proofs.CountLemmas.{nodes-splits}
 use Rattle.branch_tree.proofs.TableLemmas.{rising-at, key_of-at, key_of-none, with-same, some-with, found_in, change-others, change-here, change-live}
 

@@ -8,8 +8,8 @@ use Rattle.branch_tree.specs.Tree.{Leaf, Split}
 use Rattle.branch_tree.specs.Plain.{Plain}
 use Rattle.branch_tree.specs.Numbered.{NumberedTree}
 use Rattle.branch_tree.specs.Following.{same_var, column_after, split_without, without_variable, tree_without, split_left, branch_left, tree_left}
-use Rattle.branch_tree.specs.Splicing.{spliced}
-use Rattle.branch_tree.specs.Relisted.{lists_left_by, tree_left_by, spliced_on}
+use Rattle.branch_tree.specs.private.Splicing.{spliced}
+use Rattle.branch_tree.specs.private.Relisted.{lists_left_by, tree_left_by, spliced_on}
 use Rattle.branch_tree.specs.declared.following.Removed.TheVariants.{Variable, Cuts}
 use Rattle.branch_tree.specs.declared.gone.GoneCuts.{GoneCuts}
 

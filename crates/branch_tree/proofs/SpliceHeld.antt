@@ -9,8 +9,8 @@ use Rattle.branch_tree.specs.declared.lists.Lists.{Lists}
 use Rattle.branch_tree.specs.declared.tree.Tree.TheInside.{Inside}
 use Rattle.branch_tree.specs.Table.{node_at, AreBelow, IsTable, AreLive}
 use Rattle.branch_tree.specs.Held.{plain_of, numbered_of, IsOf, Means, IsHeld}
-use Rattle.branch_tree.specs.Splicing.{spliced}
-use Rattle.branch_tree.specs.Spliced.{IsReady}
+use Rattle.branch_tree.specs.private.Splicing.{spliced}
+use Rattle.branch_tree.specs.private.Spliced.{IsReady}
 use Rattle.branch_tree.proofs.CountLemmas.{nodes-splits}
 use Rattle.branch_tree.proofs.CollapseHeld.{of-swept}
 use Rattle.branch_tree.proofs.SplicedLaws.{splits-spliced, numbered-spliced}

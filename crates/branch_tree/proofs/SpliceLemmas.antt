@@ -7,10 +7,10 @@ use Rattle.lp_model.specs.Regions.{at_most, at_least}
 use Rattle.branch_tree.specs.Tree.{Leaf, Split, node_count}
 use Rattle.branch_tree.specs.Leaves.{open_count}
 use Rattle.branch_tree.specs.Plain.{Plain, one_if_same, nodes_with}
-use Rattle.branch_tree.specs.Splicing.{spliced}
-use Rattle.branch_tree.specs.Moved.{with_up}
+use Rattle.branch_tree.specs.private.Splicing.{spliced}
+use Rattle.branch_tree.specs.private.Moved.{with_up}
 use Rattle.branch_tree.specs.Stored.{root_id, up_of, left_up, right_up, split_node, Stands, renamed, with_child, plain_from}
-use Rattle.branch_tree.specs.Spliced.{allowing, Around, Here, InLeft, InRight, filled, way_in, nodes_around, splits_over}
+use Rattle.branch_tree.specs.private.Spliced.{allowing, Around, Here, InLeft, InRight, filled, way_in, nodes_around, splits_over}
 use Rattle.branch_tree.specs.declared.stored.Up.{Up}
 use Rattle.branch_tree.specs.declared.stored.TreeNode.{TreeNode}
 use Rattle.branch_tree.proofs.CountLemmas.{same_cases}

@@ -13,10 +13,10 @@ use Rattle.branch_tree.specs.declared.stored.TreeNode.{TreeNode}
 use Rattle.branch_tree.specs.declared.table.NodeTable.{NodeTable}
 use Rattle.branch_tree.specs.Table.{node_at, IsTable, PutsNode}
 use Rattle.branch_tree.specs.Stored.{root_id, up_of, left_up, right_up, split_node, Stands, with_child}
-use Rattle.branch_tree.specs.Moved.{with_up}
+use Rattle.branch_tree.specs.private.Moved.{with_up}
 use Rattle.branch_tree.specs.Held.{IsOf}
-use Rattle.branch_tree.specs.Due.{AreDue, nodes_among, node_total, open_total, AreCut}
-use Rattle.branch_tree.specs.Spliced.{filled, way_in, nodes_around, Spot, staying, going, before, after, CanSplice}
+use Rattle.branch_tree.specs.private.Due.{AreDue, nodes_among, node_total, open_total, AreCut}
+use Rattle.branch_tree.specs.private.Spliced.{filled, way_in, nodes_around, Spot, staying, going, before, after, CanSplice}
 use Rattle.branch_tree.proofs.CountLemmas.{same_other, nodes-splits}
 use Rattle.branch_tree.proofs.StoredLemmas.{same_self, stands-elsewhere, root-found, root-there}
 use Rattle.branch_tree.proofs.DueLemmas.{reverse-push}

@@ -15,9 +15,9 @@ use Rattle.branch_tree.specs.declared.table.NodeTable.{NodeTable}
 use Rattle.branch_tree.specs.Table.{node_at}
 use Rattle.branch_tree.specs.Stored.{root_id, left_up, right_up, Stands, with_child, plain_from}
 use Rattle.branch_tree.specs.Held.{IsOf}
-use Rattle.branch_tree.specs.Due.{AreDue, nodes_among, node_total}
-use Rattle.branch_tree.specs.Splicing.{spliced}
-use Rattle.branch_tree.specs.Spliced.{allowing, filled, way_in, nodes_around, Spot, staying, before, after, CanSplice, due_ids, nodes_due, splits_over, splits_among, IsReady, IsSplicing}
+use Rattle.branch_tree.specs.private.Due.{AreDue, nodes_among, node_total}
+use Rattle.branch_tree.specs.private.Splicing.{spliced}
+use Rattle.branch_tree.specs.private.Spliced.{allowing, filled, way_in, nodes_around, Spot, staying, before, after, CanSplice, due_ids, nodes_due, splits_over, splits_among, IsReady, IsSplicing}
 use Rattle.branch_tree.proofs.CountLemmas.{same_other}
 use Rattle.branch_tree.proofs.StoredLemmas.{same_self, stands-elsewhere, root_node, root-found, root-there, read_back, IsLeafTree, leaf-tree, IsSplitTree, split-tree}
 use Rattle.branch_tree.proofs.DueLemmas.{reverse-push, IsNext, next_due, due_ends, due-length}

@@ -5,8 +5,8 @@ use Rattle.std.proofs.lemmas.Bool.{eqb-true, eqb-false}
 use Rattle.branch_tree.specs.Tree.{Leaf, Split, split_count, EachSplit}
 use Rattle.branch_tree.specs.Plain.{SplitKept, Plain, one_if_same, nodes_with}
 use Rattle.branch_tree.specs.Numbered.{NumberedTree, IsNumbered}
-use Rattle.branch_tree.specs.Splicing.{spliced, spliced_tree}
-use Rattle.branch_tree.specs.Spliced.{splits_over}
+use Rattle.branch_tree.specs.private.Splicing.{spliced, spliced_tree}
+use Rattle.branch_tree.specs.private.Spliced.{splits_over}
 use Rattle.branch_tree.proofs.CountLemmas.{nodes-splits}
 
 -- a split after it, beside whether it is on the column

@@ -10,7 +10,7 @@ use Rattle.branch_tree.specs.Leaves.{leaf_count, open_count, one_if_open, with_s
 use Rattle.branch_tree.specs.Table.{node_at, AreBelow, IsTable, AreLive, PutsNode}
 use Rattle.branch_tree.specs.Stored.{root_id, left_up, right_up, leaf_node, split_node, Stands}
 use Rattle.branch_tree.specs.Held.{IsOf, plain_of, numbered_of, Means, IsHeld}
-use Rattle.branch_tree.specs.StateWalk.{node_with_state, children_of, TakesStates}
+use Rattle.branch_tree.specs.private.StateWalk.{node_with_state, children_of, TakesStates}
 use Rattle.branch_tree.specs.declared.lists.Due.{Due}
 use Rattle.branch_tree.specs.declared.lists.Lists.{Lists}
 use Rattle.branch_tree.specs.declared.node.LeafState.{LeafState}

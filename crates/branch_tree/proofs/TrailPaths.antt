@@ -6,7 +6,7 @@ use Rattle.tight_regions.specs.declared.trail.Trail.{Trail}
 use Rattle.tight_regions.specs.Tight.{IsTrail, path_of_trail}
 use Rattle.branch_tree.specs.declared.stored.NodeKind.{NodeKind}
 use Rattle.branch_tree.specs.declared.stored.NodeKind.TheVariants as node
-use Rattle.branch_tree.specs.Paths.{IsNarrowAt}
+use Rattle.branch_tree.specs.private.Paths.{IsNarrowAt}
 
 pub path-long : (t : Trail) → IsTrail t → length (path_of_trail t) ≡ t.depth
 path-long t is = length-take-le t.depth t.path.items is.within

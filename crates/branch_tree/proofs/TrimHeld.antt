@@ -7,8 +7,8 @@ use Rattle.branch_tree.specs.Plain.{Plain}
 use Rattle.branch_tree.specs.Numbered.{NumberedTree, IsNumbered}
 use Rattle.branch_tree.specs.Changes.{after_trim}
 use Rattle.branch_tree.specs.Following.{tree_merged}
-use Rattle.branch_tree.specs.Collapsing.{chosen_count}
-use Rattle.branch_tree.specs.Trimming.{after_chosen, CanTrim}
+use Rattle.branch_tree.specs.private.Collapsing.{chosen_count}
+use Rattle.branch_tree.specs.private.Trimming.{after_chosen, CanTrim}
 use Rattle.branch_tree.specs.Table.{node_at, AreBelow, IsTable, AreLive}
 use Rattle.branch_tree.specs.Held.{plain_of, numbered_of, IsOf, Means, IsHeld}
 use Rattle.branch_tree.specs.declared.walks.Chosen.{Chosen}

@@ -6,12 +6,12 @@ use Rattle.std.proofs.lemmas.List.{reverse-append, length-reverse, append-nil, a
 use Rattle.branch_tree.specs.Tree.{Leaf, Split, node_count, split_count}
 use Rattle.branch_tree.specs.Plain.{Plain, one_if_same, splits_with, nodes_with, collapsed}
 use Rattle.branch_tree.specs.Leaves.{open_count}
-use Rattle.branch_tree.specs.Collapsing.{is_chosen, chosen_count, chosen_collapsed, chosen_ids}
-use Rattle.branch_tree.specs.Trimming.{is_split_kind, is_chosen_kind, children_due, AreTreesDue, ids_due, CanTrim}
+use Rattle.branch_tree.specs.private.Collapsing.{is_chosen, chosen_count, chosen_collapsed, chosen_ids}
+use Rattle.branch_tree.specs.private.Trimming.{is_split_kind, is_chosen_kind, children_due, AreTreesDue, ids_due, CanTrim}
 use Rattle.branch_tree.specs.Table.{node_at, AreBelow}
 use Rattle.branch_tree.specs.Stored.{root_id, left_up, right_up, Stands, with_child, plain_from}
 use Rattle.branch_tree.specs.Held.{IsOf, CanCollapse}
-use Rattle.branch_tree.specs.Due.{nodes_among, node_total}
+use Rattle.branch_tree.specs.private.Due.{nodes_among, node_total}
 use Rattle.branch_tree.specs.declared.walks.Chosen.{Chosen}
 use Rattle.branch_tree.specs.declared.lists.Due.{Due}
 use Rattle.branch_tree.specs.declared.lists.Lists.{Lists}

@@ -18,7 +18,7 @@ use Rattle.branch_tree.specs.Held.{plain_of, IsHeld}
 use Rattle.branch_tree.specs.declared.node.LeafData.{LeafData}
 use Rattle.branch_tree.specs.declared.stored.NodeKind.TheVariants as node
 use Rattle.branch_tree.specs.declared.tree.Tree.TheInside.{Inside}
-use Rattle.branch_tree.specs.Paths.{LeadsUp, changes_of}
+use Rattle.branch_tree.specs.private.Paths.{LeadsUp, changes_of}
 use Rattle.branch_tree.proofs.CountLemmas.{same_cases}
 use Rattle.branch_tree.proofs.LeafLemmas.{leaf_below-none, path_below-left, path_below-right}
 use Rattle.branch_tree.proofs.HeldLemmas.{data-held, found-held}

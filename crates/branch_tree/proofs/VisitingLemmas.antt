@@ -16,7 +16,7 @@ use Rattle.branch_tree.specs.declared.visiting.DueNode.{DueNode}
 use Rattle.branch_tree.specs.Table.{node_at}
 use Rattle.branch_tree.specs.Stored.{root_id, left_up, right_up, Stands, plain_from}
 use Rattle.branch_tree.specs.Held.{IsOf}
-use Rattle.branch_tree.specs.Paths.{own_change, path_to, due_below, VisitsNode, IsNarrowAt}
+use Rattle.branch_tree.specs.private.Paths.{own_change, path_to, due_below, VisitsNode, IsNarrowAt}
 use Rattle.branch_tree.proofs.PathLaws.{narrow_paths}
 use Rattle.branch_tree.proofs.StoredLemmas.{root_node, root-found, read_back}
 use Rattle.branch_tree.proofs.VisitLemmas.{region_leaves-split}

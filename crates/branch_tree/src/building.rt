@@ -2,7 +2,7 @@
 // right child begins is known once its left child's nodes are counted, and then from the first one on, since ids rise.
 ghost use Rattle.std.specs.Prelude.{◌≡◌, ◌≤◌, ◌^◌, ◌++◌, ◌∷◌, [], length, reverse, All, IfOk};
 ghost use Rattle.branch_tree.specs.Preorder.{DataTree, data_nodes, IsOneTree, numbered_tree, HasNodeBound};
-ghost use Rattle.branch_tree.specs.Rebuilt.{right_of, roots_left, planned_of, built_node, ways_behind, one_if_open_leaf, IsEmptyFor, ArePlanned, IsBuilt};
+ghost use Rattle.branch_tree.specs.private.Rebuilt.{right_of, roots_left, planned_of, built_node, ways_behind, one_if_open_leaf, IsEmptyFor, ArePlanned, IsBuilt};
 
 use crate::lists::Lists;
 use crate::node::NodeData;

@@ -2,8 +2,8 @@
 ghost use Rattle.std.specs.Prelude.{◌≡◌, ℕ, ◌<◌, Some, None, IfOk, OnOk, slice_index_or, vec_len};
 ghost use Rattle.std.specs.Option.{option_map};
 ghost use Rattle.slab.specs.Slab.{slab_len};
-ghost use Rattle.branch_tree.specs.Removing.{HasCounts};
-ghost use Rattle.branch_tree.specs.Relisted.{column_left_by, up_left_by, split_left_by, kind_left_by, node_left_by, tree_left_by};
+ghost use Rattle.branch_tree.specs.private.Removing.{HasCounts};
+ghost use Rattle.branch_tree.specs.private.Relisted.{column_left_by, up_left_by, split_left_by, kind_left_by, node_left_by, tree_left_by};
 ghost use Rattle.branch_tree.specs.Table.{node_at, IsTable, AreLive, PutsNode};
 ghost use Rattle.branch_tree.specs.declared.table.IdKey.{IdKey};
 

@@ -6,8 +6,8 @@ ghost use Rattle.branch_tree.specs.Plain.{Plain};
 ghost use Rattle.branch_tree.specs.Stored.{with_child};
 ghost use Rattle.branch_tree.specs.Held.{IsOf};
 ghost use Rattle.branch_tree.specs.Table.{node_at, IsTable, PutsNode};
-ghost use Rattle.branch_tree.specs.Splicing.{spliced, spliced_tree};
-ghost use Rattle.branch_tree.specs.Spliced.{allowing, nodes_around, Spot, after, CanSplice, due_ids, nodes_due, IsReady, IsSplicing};
+ghost use Rattle.branch_tree.specs.private.Splicing.{spliced, spliced_tree};
+ghost use Rattle.branch_tree.specs.private.Spliced.{allowing, nodes_around, Spot, after, CanSplice, due_ids, nodes_due, IsReady, IsSplicing};
 ghost use Rattle.branch_tree.specs.declared.stored.Up.{Up};
 
 use crate::cutting::cut_below;

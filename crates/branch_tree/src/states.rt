@@ -5,7 +5,7 @@ ghost use Rattle.branch_tree.specs.Leaves.{leaf_count, with_states};
 ghost use Rattle.branch_tree.specs.Changes.{with_leaf_states};
 ghost use Rattle.branch_tree.specs.Table.{node_at, AreRising, AreLive};
 ghost use Rattle.branch_tree.specs.Held.{IsOf};
-ghost use Rattle.branch_tree.specs.StateWalk.{children_of, TakesStates};
+ghost use Rattle.branch_tree.specs.private.StateWalk.{children_of, TakesStates};
 
 use crate::lists::Due;
 use crate::node::LeafState;

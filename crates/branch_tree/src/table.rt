@@ -12,8 +12,8 @@ ghost use Rattle.branch_tree.specs.declared.stored.SplitNode.{SplitNode};
 ghost use Rattle.branch_tree.specs.declared.stored.TreeNode.{TreeNode};
 ghost use Rattle.branch_tree.specs.Leaves.{one_if_open};
 ghost use Rattle.branch_tree.specs.Stored.{leaf_of, split_of, with_child};
-ghost use Rattle.branch_tree.specs.Moved.{with_up};
-ghost use Rattle.branch_tree.specs.StateWalk.{node_with_state};
+ghost use Rattle.branch_tree.specs.private.Moved.{with_up};
+ghost use Rattle.branch_tree.specs.private.StateWalk.{node_with_state};
 ghost use Rattle.branch_tree.specs.Table.{key_of, node_at, AreRising, AreBelow, IsTable, IsLive, AreLive, PutsNode};
 
 use crate::node::{LeafData, LeafState};

@@ -3,10 +3,10 @@ ghost use Rattle.std.specs.Prelude.{◌≡◌, ◌≤◌, ℕ, ◌+◌, [], Some
 ghost use Rattle.branch_tree.specs.Plain.{Plain};
 ghost use Rattle.branch_tree.specs.Changes.{after_trim};
 ghost use Rattle.branch_tree.specs.Following.{tree_merged};
-ghost use Rattle.branch_tree.specs.Collapsing.{chosen_count, chosen_collapsed};
+ghost use Rattle.branch_tree.specs.private.Collapsing.{chosen_count, chosen_collapsed};
 ghost use Rattle.branch_tree.specs.Held.{IsOf};
 ghost use Rattle.branch_tree.specs.Table.{AreBelow};
-ghost use Rattle.branch_tree.specs.Trimming.{is_chosen_kind, is_split_kind, children_due, CanTrim, after_chosen};
+ghost use Rattle.branch_tree.specs.private.Trimming.{is_chosen_kind, is_split_kind, children_due, CanTrim, after_chosen};
 
 use crate::cutting::collapse_at;
 use crate::lists::{Due, Lists};

@@ -5,7 +5,7 @@ ghost use Rattle.lp_model.specs.Regions.{Path};
 ghost use Rattle.branch_tree.specs.Plain.{leaves_with, path_of};
 ghost use Rattle.branch_tree.specs.Changes.{HasLeaf};
 ghost use Rattle.branch_tree.specs.Table.{node_at, AreRising};
-ghost use Rattle.branch_tree.specs.Paths.{LeadsUp, changes_of};
+ghost use Rattle.branch_tree.specs.private.Paths.{LeadsUp, changes_of};
 
 use crate::stored::{NodeKind, Up};
 use crate::table::NodeTable;

@@ -10,7 +10,7 @@ ghost use Rattle.branch_tree.specs.Leaves.{region_leaves};
 ghost use Rattle.branch_tree.specs.Visits.{Visits};
 ghost use Rattle.branch_tree.specs.Numbered.{IsNumbered};
 ghost use Rattle.branch_tree.specs.Held.{IsOf};
-ghost use Rattle.branch_tree.specs.Paths.{path_to, due_below, VisitsNode, IsNarrowAt};
+ghost use Rattle.branch_tree.specs.private.Paths.{path_to, due_below, VisitsNode, IsNarrowAt};
 
 use crate::stored::{NodeKind, TreeNode, Up};
 use crate::table::NodeTable;

@@ -9,7 +9,7 @@ use Rattle.lp_model.specs.Regions.{Path, InRegion}
 use Rattle.lp_model.specs.Formulations.{Formulation, IsValid}
 use Rattle.lp_model.proofs.RegionLemmas.{empty_region}
 use Rattle.model_points.proofs.UnboundedLemmas.{unbounded}
-use Rattle.leaf_dual.specs.Dual.{Multipliers}
+use Rattle.leaf_dual.specs.Dual.{Multipliers, lag, ReachesIn}
 use Rattle.leaf_dual.proofs.WeakDuality.{farkas-none, reached-bound}
 use Rattle.branch_tree.specs.Tree.{Tree, SplitsLawfully, EachLeaf}
 use Rattle.branch_tree.proofs.TreeLemmas.{point_in_one_leaf, leaf_with_both}
@@ -21,7 +21,7 @@ use Rattle.cert_text.specs.declared.cert.CertNode.TheVariants.{Split, Bound, Far
 use Rattle.cert_text.specs.declared.cert.Cert.{Cert}
 use Rattle.cert_check.specs.Places.{with_places}
 use Rattle.cert_check.specs.Mults.{mults_of}
-use Rattle.cert_check.specs.Accepted.{ReachesValue, Closes, HasPoint, HasRay, IsClosedTree, HasClosedTree, Accepts, point_of}
+use Rattle.cert_check.specs.Accepted.{Closes, HasPoint, HasRay, IsClosedTree, HasClosedTree, Accepts, point_of}
 use Rattle.cert_check.specs.Laws.{IsTrueClaim}
 use Rattle.cert_check.specs.Cuts.{formulation_by, CutStands}
 use Rattle.cert_check.proofs.ValidCuts.{valid}
@@ -29,7 +29,7 @@ use Rattle.cert_check.proofs.ValidCuts.{valid}
 module _ (F : Formulation) (is_valid : IsValid F) where
   module _ (y : Point) (feasible : IsFeasible F.model y) (path : Path) (inside : InRegion path y) where
     -- no feasible point of a region whose number reaches a value is below it
-    reaches_value-bound : (mult : Multipliers) (t : ℚ) → ReachesValue F path mult t → t ≤ℚ least_value F.model 1 y
+    reaches_value-bound : (mult : Multipliers) (t : ℚ) → ReachesIn F.model (lag F path mult) t → t ≤ℚ least_value F.model 1 y
     reaches_value-bound mult t reaches =
         elim reaches [
           | inl plain ↦ reached-bound F path mult y is_valid feasible inside t false (λ never. let f : false ≡ true = never in absurd cc) plain

@@ -4,23 +4,23 @@ use Rattle.std.proofs.Common.{sym, subst}
 use Rattle.lp_model.specs.Program.{in_least_form}
 use Rattle.lp_model.specs.Regions.{Path}
 use Rattle.lp_model.specs.Formulations.{Formulation}
-use Rattle.leaf_dual.specs.Dual.{Multipliers, farkas, IsPositiveNumber}
+use Rattle.leaf_dual.specs.Dual.{Multipliers, farkas, IsPositiveNumber, ReachesIn}
 use Rattle.leaf_dual.proofs.WeakDuality.{lag_answer-is, farkas_answer-is}
 use Rattle.cert_text.specs.declared.cert.Claim.{Claim}
 use Rattle.cert_text.specs.declared.cert.Claim.TheVariants.{Optimal, Infeasible, Unbounded}
 use Rattle.cert_check.specs.declared.verdict.Judgement.TheVariants.{Passes, Breaks}
 use Rattle.cert_check.specs.Accepted.{ReachesClaim}
-use Rattle.cert_check.specs.Verdict.{NumberReaches, IsNumberJudged, IsFarkasJudged}
+use Rattle.cert_check.specs.Verdict.{IsNumberJudged, IsFarkasJudged}
 use Rattle.cert_check.specs.LeafJudging.{LeavesLaw}
 
 module _ (F : Formulation) (path : Path) (mult : Multipliers) where
   pub bound-passes : (claim : Claim) → IsNumberJudged F claim path mult Passes → ReachesClaim F claim path mult
-  bound-passes (Optimal v) (q, (answer, reaches)) = subst (λ w. NumberReaches F.model w (in_least_form F.model.sense v)) (lag_answer-is F path mult q answer) reaches
+  bound-passes (Optimal v) (q, (answer, reaches)) = subst (λ w. ReachesIn F.model w (in_least_form F.model.sense v)) (lag_answer-is F path mult q answer) reaches
   bound-passes Infeasible e = absurd cc
   bound-passes Unbounded e = absurd cc
 
   pub bound-breaks : (claim : Claim) (why : ℕ) → IsNumberJudged F claim path mult (Breaks why) → ¬ ReachesClaim F claim path mult
-  bound-breaks (Optimal v) why (q, (answer, (none, is))) reaches = none (subst (λ w. NumberReaches F.model w (in_least_form F.model.sense v)) (sym (lag_answer-is F path mult q answer)) reaches)
+  bound-breaks (Optimal v) why (q, (answer, (none, is))) reaches = none (subst (λ w. ReachesIn F.model w (in_least_form F.model.sense v)) (sym (lag_answer-is F path mult q answer)) reaches)
   bound-breaks Infeasible why e reaches = reaches
   bound-breaks Unbounded why e reaches = reaches
 

@@ -4,7 +4,7 @@ use Rattle.std.proofs.Common.{refl, sym, subst, ◌∙◌, inl, inr}
 use Rattle.std.proofs.lemmas.List.Elements.{All-nil, All-cons, All-head, All-tail, All-append}
 use Rattle.lp_model.specs.Program.{Program, is_integer}
 use Rattle.lp_model.specs.Lawful.{column_names}
-use Rattle.lp_model.specs.Edits.{Named}
+use Rattle.lp_model.specs.Edits.{Named, place_in}
 use Rattle.lp_model.specs.Regions.{Path}
 use Rattle.lp_model.specs.Formulations.{Formulation}
 use Rattle.model_points.proofs.AnswerLemmas.{feasible_answer}
@@ -19,7 +19,7 @@ use Rattle.cert_text.specs.declared.cert.Cert.{Cert}
 use Rattle.cert_check.specs.declared.verdict.Judgement.TheVariants.{Breaks}
 use Rattle.cert_check.specs.declared.verdict.Verdict.TheVariants.{Rejected}
 use Rattle.cert_text.specs.Tree.{CertTree, Bound, Farkas, Empty, Split}
-use Rattle.cert_check.specs.Places.{place_among, with_places}
+use Rattle.cert_check.specs.Places.{with_places}
 use Rattle.cert_check.specs.Mults.{mults_of}
 use Rattle.cert_check.specs.Cuts.{formulation_by, CutStands}
 use Rattle.cert_check.specs.Accepted.{point_of, Closes, HasPoint, HasRay, IsClosedTree, HasClosedTree, Accepts}
@@ -37,14 +37,14 @@ module _ (F : Formulation) (claim : Claim) where
 
   -- the split is on an integer column, the leaf closes
   abbrev IsTrueNode : Path × CertNode → Type 0
-  IsTrueNode (path, node.Split col v) = (place_among (column_names M) col < length M.cols) × IsTrue (is_integer M (place_among (column_names M) col))
+  IsTrueNode (path, node.Split col v) = (place_in (column_names M) col < length M.cols) × IsTrue (is_integer M (place_in (column_names M) col))
   IsTrueNode (path, node.Bound mults) = Closes F claim path (node.Bound mults)
   IsTrueNode (path, node.Farkas mults) = Closes F claim path (node.Farkas mults)
   IsTrueNode (path, node.Empty) = Closes F claim path node.Empty
 
   node-true : (path : Path) (n : CertNode) (why : ℕ) → IsTrueNode (path, n) → IsNodeJudged F claim path n (Breaks why) → ⊥
   node-true path (node.Split col v) why here (inl judged) = judged.1.0 here.1
-  node-true path (node.Split col v) why here (inr judged) = judged.0 (column_known M col (place_among (column_names M) col) (here.0, refl))
+  node-true path (node.Split col v) why here (inr judged) = judged.0 (column_known M col (place_in (column_names M) col) (here.0, refl))
   node-true path (node.Bound mults) why closes (inl judged) = bound-breaks F path (mults_of M mults) claim why judged.1 closes.1
   node-true path (node.Bound mults) why closes (inr judged) = judged.0 closes.0
   node-true path (node.Farkas mults) why closes (inl judged) = farkas-breaks F path (mults_of M mults) why judged.1 closes.1
@@ -56,7 +56,7 @@ module _ (F : Formulation) (claim : Claim) where
   tree-true path (Farkas mults) lawful closes = All-cons IsTrueNode (path, node.Farkas mults) [] closes (All-nil IsTrueNode)
   tree-true path Empty lawful closes = All-cons IsTrueNode (path, node.Empty) [] closes (All-nil IsTrueNode)
   tree-true path (Split col v left right) lawful closes =
-      let j = place_among (column_names M) col in
+      let j = place_in (column_names M) col in
       All-cons IsTrueNode (path, node.Split col v) (visits M (left_path path j v) left ++ visits M (right_path path j v) right) lawful.0
       (All-append IsTrueNode (visits M (left_path path j v) left) (visits M (right_path path j v) right) (tree-true (left_path path j v) left lawful.1.0 closes.0) (tree-true (right_path path j v) right lawful.1.1 closes.1))
 

@@ -16,11 +16,11 @@ use Rattle.cert_text.specs.declared.cert.CertNode.TheVariants as node
 use Rattle.cert_check.specs.declared.judging.NodeWithPlaces.{NodeWithPlaces}
 use Rattle.cert_check.specs.declared.judging.NodeWithPlaces.TheVariants as node_place
 use Rattle.cert_text.specs.Tree.{Bound, Farkas, Empty, CertTree, Split, certificate_nodes}
-use Rattle.cert_check.specs.Places.{place_among}
 use Rattle.cert_check.specs.Verdict.{visits}
 use Rattle.cert_text.specs.Whole.{IsNarrowNode}
 use Rattle.cert_check.specs.Walk.{CanTurn, after_leaf, after_node, IsPlace}
 use Rattle.cert_check.proofs.WalkLemmas.{after_leaf-low, after_leaf-high}
+use Rattle.lp_model.specs.Edits.{place_in}
 
 -- a split above: the walk is in its first child, and the second one is due, or it is in the second one
 pub data Frame : Type 0 where
@@ -127,8 +127,8 @@ nodes_of M path (Farkas mults) = refl
 nodes_of M path Empty = refl
 nodes_of M path (Split col v left right) =
     ap (λ ns. node.Split col v ∷ ns)
-    (map-append (λ p. p.1) (visits M (left_path path (place_among (column_names M) col) v) left) (visits M (right_path path (place_among (column_names M) col) v) right)
-    ∙ (λ i. nodes_of M (left_path path (place_among (column_names M) col) v) left i ++ nodes_of M (right_path path (place_among (column_names M) col) v) right i))
+    (map-append (λ p. p.1) (visits M (left_path path (place_in (column_names M) col) v) left) (visits M (right_path path (place_in (column_names M) col) v) right)
+    ∙ (λ i. nodes_of M (left_path path (place_in (column_names M) col) v) left i ++ nodes_of M (right_path path (place_in (column_names M) col) v) right i))
 
 some_left : {A : Type 0} (all : List A) (k : ℕ) → k < length all → drop k all ≡ [] → ⊥
 some_left all k below e = let l = length-drop k all in let z = ap length e in omega (arith, l, z, below)
@@ -165,11 +165,11 @@ behind_leaf M all k frames room left path at = record {
 
 behind_split : (M : Program) (all : List (Path × CertNode)) (k : ℕ) (frames : List Frame) (col : List ℕ) (v : ℤ) (left right : CertTree) → HasRoom frames →
     IsNarrow v × IsNarrow (v +ℤ pos 1) →
-    drop (k + 1) all ≡ (visits M (left_path (path_of frames) (place_among (column_names M) col) v) left ++ visits M (right_path (path_of frames) (place_among (column_names M) col) v) right) ++ due M frames →
-    (path : Path) → path ≡ path_of frames → Stands M all (k + 1) (left_path path (place_among (column_names M) col) v)
+    drop (k + 1) all ≡ (visits M (left_path (path_of frames) (place_in (column_names M) col) v) left ++ visits M (right_path (path_of frames) (place_in (column_names M) col) v) right) ++ due M frames →
+    (path : Path) → path ≡ path_of frames → Stands M all (k + 1) (left_path path (place_in (column_names M) col) v)
 unfolding HasRoom left_at path_of due
 behind_split M all k frames col v left right room narrow e path at =
-    let j = place_among (column_names M) col in
+    let j = place_in (column_names M) col in
     record {
       frames = First j v right ∷ frames;
       tree = Some left;
@@ -191,7 +191,7 @@ module _ (M : Program) (cuts : ℕ) (all : List (Path × CertNode)) (k : ℕ) (p
   leaf_behind n leaf next node_place.Empty place named = behind_leaf M all k frames room next path at
 
   split_behind : (col : List ℕ) (v : ℤ) (left right : CertTree) →
-      drop (k + 1) all ≡ (visits M (left_path (path_of frames) (place_among (column_names M) col) v) left ++ visits M (right_path (path_of frames) (place_among (column_names M) col) v) right) ++ due M frames →
+      drop (k + 1) all ≡ (visits M (left_path (path_of frames) (place_in (column_names M) col) v) left ++ visits M (right_path (path_of frames) (place_in (column_names M) col) v) right) ++ due M frames →
       (p : NodeWithPlaces) → IsNarrow v × IsNarrow (v +ℤ pos 1) → IsPlace M cuts (node.Split col v) p → (p ≡ node_place.Misnamed → ⊥) → Stands M all (k + 1) (after_node p path)
   split_behind col v left right next node_place.Misnamed narrow place named = absurd (named refl)
   split_behind col v left right next (node_place.Split j w) narrow place named =

@@ -4,7 +4,7 @@ use Rattle.std.specs.Prelude.{All}
 use Rattle.std.proofs.lemmas.List.{get_or_append_left, get_or-append-add, length-map}
 use Rattle.lp_model.specs.Program.{Program}
 use Rattle.lp_model.specs.Lawful.{column_names}
-use Rattle.lp_model.specs.Edits.{Named}
+use Rattle.lp_model.specs.Edits.{Named, place_in}
 use Rattle.lp_model.specs.Regions.{Path}
 use Rattle.lp_model.specs.Formulations.{Formulation}
 use Rattle.branch_tree.specs.Tree.{SplitsLawfully, EachLeaf, left_path, right_path}
@@ -18,7 +18,7 @@ use Rattle.cert_text.specs.declared.cert.CertNode.TheVariants as node
 use Rattle.cert_check.specs.declared.verdict.Judgement.TheVariants.{Passes, Breaks}
 use Rattle.cert_check.specs.declared.verdict.Verdict.TheVariants.{Accepted}
 use Rattle.cert_text.specs.Tree.{CertTree, Bound, Farkas, Empty, Split}
-use Rattle.cert_check.specs.Places.{place_among, with_places}
+use Rattle.cert_check.specs.Places.{with_places}
 use Rattle.cert_check.specs.Mults.{AreMults, mults_of}
 use Rattle.cert_check.specs.Cuts.{formulation_by}
 use Rattle.cert_check.specs.Accepted.{Closes, HasPoint, HasRay, IsClosedTree, HasClosedTree, Accepts}
@@ -74,7 +74,7 @@ module _ (F : Formulation) (claim : Claim) where
   tree_lawful path (Farkas mults) all = tt
   tree_lawful path Empty all = tt
   tree_lawful path (Split col v left right) all =
-      let j = place_among (column_names M) col in
+      let j = place_in (column_names M) col in
       let first = all_first P (path, node.Split col v) _ all in
       let rest = all_rest P (path, node.Split col v) _ all in (
         elim first [
@@ -92,7 +92,7 @@ module _ (F : Formulation) (claim : Claim) where
   tree_closes path (Farkas mults) all = farkas_closes F claim path mults (all_first P (path, node.Farkas mults) [] all)
   tree_closes path Empty all = all_first P (path, node.Empty) [] all
   tree_closes path (Split col v left right) all =
-      let j = place_among (column_names M) col in
+      let j = place_in (column_names M) col in
       let rest = all_rest P (path, node.Split col v) _ all in (
         tree_closes (left_path path j v) left (all_left P (visits M (left_path path j v) left) (visits M (right_path path j v) right) rest),
         tree_closes (right_path path j v) right (all_right P (visits M (left_path path j v) left) (visits M (right_path path j v) right) rest),

@@ -3,15 +3,15 @@
 --     lag, farkas        the numbers of a leaf's multipliers in a region, with the costs and without (leaf_dual)
 --     CutStands          a cut's names are known, and it derives (specs/Cuts)
 --     SplitsLawfully, EachLeaf each split is on an integer column; what holds of each leaf and its path (branch_tree)
-use Rattle.std.specs.Prelude.{◌≡◌, ◌≢◌, ◌⊎◌, ℕ, true, false, List, [], map, length, All, AllPairs, Contains}
+use Rattle.std.specs.Prelude.{◌≡◌, ◌≢◌, ◌⊎◌, ℕ, List, [], map, length, All, AllPairs, Contains}
 use Rattle.frac128.specs.Rational.{ℚ}
-use Rattle.lp_model.specs.Program.{Program, Point, value, in_least_form, IsFeasible, HasWholeObjective}
+use Rattle.lp_model.specs.Program.{Program, Point, value, in_least_form, IsFeasible}
 use Rattle.lp_model.specs.Lawful.{column_names}
 use Rattle.lp_model.specs.Edits.{Named, number_beside}
 use Rattle.lp_model.specs.Regions.{Path, IsEmptyRegion}
 use Rattle.lp_model.specs.Formulations.{Formulation}
 use Rattle.model_points.specs.Rays.{IsRay}
-use Rattle.leaf_dual.specs.Dual.{Multipliers, lag, farkas, IsPositiveNumber, Reaches}
+use Rattle.leaf_dual.specs.Dual.{Multipliers, lag, farkas, IsPositiveNumber, ReachesIn}
 use Rattle.branch_tree.specs.Tree.{SplitsLawfully, EachLeaf}
 use Rattle.cert_text.specs.declared.cert.Claim.{Claim}
 use Rattle.cert_text.specs.declared.cert.Claim.TheVariants.{Optimal, Infeasible, Unbounded}
@@ -36,13 +36,9 @@ point_of M named = map (λ c. number_beside c.name named) M.cols
 
 -- ---- leaves
 
--- the multipliers' number in the region is at least t, or, in a whole objective, t is whole and the number's ceiling is
-abbrev pub ReachesValue : Formulation → Path → Multipliers → ℚ → Type 0
-ReachesValue F path mult t = Reaches (lag F path mult) t false ⊎ (HasWholeObjective F.model 1 × Reaches (lag F path mult) t true)
-
 -- the claimed value is reached, where one is claimed
 abbrev pub ReachesClaim : Formulation → Claim → Path → Multipliers → Type 0
-ReachesClaim F (Optimal v) path mult = ReachesValue F path mult (in_least_form F.model.sense v)
+ReachesClaim F (Optimal v) path mult = ReachesIn F.model (lag F path mult) (in_least_form F.model.sense v)
 ReachesClaim F Infeasible path mult = ⊥
 ReachesClaim F Unbounded path mult = ⊥
 

@@ -7,8 +7,7 @@ use Rattle.lp_model.specs.declared.types.Var.TheVariants as var
 use Rattle.leaf_dual.specs.Dual.{Multipliers}
 use Rattle.cert_text.specs.declared.cert.CertMult.{CertMult}
 use Rattle.cert_text.specs.declared.cert.CertMult.TheVariants.{Row, Cut}
-use Rattle.cert_check.specs.Places.{place_among}
-use Rattle.lp_model.specs.Edits.{only_row_names}
+use Rattle.lp_model.specs.Edits.{only_row_names, place_in}
 
 -- a row's name is known; a cut's number, from 1, is one of n
 abbrev pub IsMultiplierThere : Program → ℕ → CertMult → Type 0
@@ -27,7 +26,7 @@ pub record AreMults (M : Program) (n : ℕ) (mults : List CertMult) : Type 0 whe
   pub once : AllPairs Differ mults
 
 abbrev pub mult_of : Program → CertMult → Var × ℚ
-mult_of M (Row name v) = (var.Row (record { 0 = place_among (only_row_names M) name }), v)
+mult_of M (Row name v) = (var.Row (record { 0 = place_in (only_row_names M) name }), v)
 mult_of M (Cut k v) = (var.Cut (record { 0 = k - 1 }), v)
 
 abbrev pub mults_of : Program → List CertMult → Multipliers

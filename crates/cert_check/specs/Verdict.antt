@@ -11,14 +11,14 @@
 -- or has a step of arithmetic without room.
 use Rattle.std.specs.Prelude.{◌≡◌, ◌≢◌, ◌⊎◌, ℕ, suc, ◌++◌, true, false, IsTrue, List, [], ◌∷◌, length, Contains, All, Ok, Err}
 use Rattle.frac128.specs.Rational.{ℚ}
-use Rattle.lp_model.specs.Program.{Program, Point, is_integer, in_least_form, HasWholeObjective}
+use Rattle.lp_model.specs.Program.{Program, Point, is_integer, in_least_form}
 use Rattle.lp_model.specs.Lawful.{column_names}
-use Rattle.lp_model.specs.Edits.{Named}
+use Rattle.lp_model.specs.Edits.{Named, place_in}
 use Rattle.lp_model.specs.Regions.{Path, IsEmptyRegion}
 use Rattle.lp_model.specs.Formulations.{Formulation}
 use Rattle.model_points.specs.Answers.{IsValueAnswer, IsFeasibilityAnswer}
 use Rattle.model_points.specs.Rays.{IsRayJudged}
-use Rattle.leaf_dual.specs.Dual.{Multipliers, IsPositiveNumber, Reaches}
+use Rattle.leaf_dual.specs.Dual.{Multipliers, IsPositiveNumber, ReachesIn}
 use Rattle.leaf_dual.specs.Answers.{IsLagAnswer, IsFarkasAnswer}
 use Rattle.leaf_dual.specs.declared.dual.LagValue.{LagValue}
 use Rattle.branch_tree.specs.Tree.{left_path, right_path}
@@ -33,7 +33,6 @@ use Rattle.cert_check.specs.declared.verdict.Judgement.TheVariants.{Passes, Brea
 use Rattle.cert_check.specs.declared.verdict.Verdict.{Verdict}
 use Rattle.cert_check.specs.declared.verdict.Verdict.TheVariants.{Accepted, Rejected, Wide}
 use Rattle.cert_text.specs.Tree.{CertTree, Bound, Farkas, Empty, Split, certificate_nodes}
-use Rattle.cert_check.specs.Places.{place_among}
 use Rattle.cert_check.specs.Mults.{AreMults, mults_of}
 use Rattle.cert_check.specs.Cuts.{formulation_by, AreCutsJudged}
 use Rattle.cert_check.specs.Accepted.{AreNames, point_of}
@@ -44,13 +43,9 @@ WhereThere there P j = (there × P j) ⊎ ((¬ there) × (j ≡ Breaks 1))
 
 -- ---- a leaf's number
 
--- a number that was answered is at least t, or rounded up in a whole objective is
-abbrev pub NumberReaches : Program → LagValue → ℚ → Type 0
-NumberReaches M q t = Reaches q t false ⊎ (HasWholeObjective M 1 × Reaches q t true)
-
 abbrev pub IsBoundJudged : Formulation → ℚ → Path → Multipliers → Judgement → Type 0
-IsBoundJudged F t path mult Passes = (q : LagValue) × (IsLagAnswer F path mult (Ok q) × NumberReaches F.model q t)
-IsBoundJudged F t path mult (Breaks why) = (q : LagValue) × (IsLagAnswer F path mult (Ok q) × ((¬ NumberReaches F.model q t) × (why ≡ 7)))
+IsBoundJudged F t path mult Passes = (q : LagValue) × (IsLagAnswer F path mult (Ok q) × ReachesIn F.model q t)
+IsBoundJudged F t path mult (Breaks why) = (q : LagValue) × (IsLagAnswer F path mult (Ok q) × ((¬ ReachesIn F.model q t) × (why ≡ 7)))
 IsBoundJudged F t path mult (NoRoom step) = IsLagAnswer F path mult (Err step)
 
 -- where no value is claimed a number reaches nothing
@@ -78,7 +73,7 @@ IsKindJudged M col (NoRoom step) = ⊥
 
 abbrev pub IsSplitJudged : Program → List ℕ → Judgement → Type 0
 IsSplitJudged M col j =
-    (Contains (column_names M) col × IsKindJudged M (place_among (column_names M) col) j) ⊎ ((¬ Contains (column_names M) col) × (j ≡ Breaks 1))
+    (Contains (column_names M) col × IsKindJudged M (place_in (column_names M) col) j) ⊎ ((¬ Contains (column_names M) col) × (j ≡ Breaks 1))
 
 abbrev pub IsNodeJudged : Formulation → Claim → Path → CertNode → Judgement → Type 0
 IsNodeJudged F claim path (node.Split col v) j = IsSplitJudged F.model col j
@@ -133,8 +128,8 @@ visits M path (Farkas mults) = (path, node.Farkas mults) ∷ []
 visits M path Empty = (path, node.Empty) ∷ []
 visits M path (Split col v left right) =
     (path, node.Split col v)
-    ∷ (visits M (left_path path (place_among (column_names M) col) v) left
-    ++ visits M (right_path path (place_among (column_names M) col) v) right)
+    ∷ (visits M (left_path path (place_in (column_names M) col) v) left
+    ++ visits M (right_path path (place_in (column_names M) col) v) right)
 
 abbrev pub IsVisitJudged : Formulation → Claim → (Path × CertNode) → Judgement → Type 0
 IsVisitJudged F claim visit j = IsNodeJudged F claim visit.0 visit.1 j

@@ -1,6 +1,6 @@
 -- The walk through a certificate's nodes in preorder: the path to each, and the nodes with their names as places.
 use Rattle.std.specs.Prelude.{◌≡◌, ℕ, Bool, true, false, ◌<◌, ◌≤◌, ◌++◌, List, [], ◌∷◌, length, get_or, All, Contains, pos, ◌+ℤ◌, Option, MatchOption}
-use Rattle.lp_model.specs.Edits.{Named}
+use Rattle.lp_model.specs.Edits.{Named, place_in}
 use Rattle.frac128.specs.Range.{IsNarrow}
 use Rattle.lp_model.specs.Program.{Program, Point}
 use Rattle.lp_model.specs.Lawful.{column_names}
@@ -22,7 +22,6 @@ use Rattle.cert_check.specs.declared.judging.NodeWithPlaces.{NodeWithPlaces}
 use Rattle.cert_check.specs.declared.judging.NodeWithPlaces.TheVariants.{Misnamed, Split, Bound, Farkas, Empty}
 use Rattle.cert_check.specs.declared.checking.RegionBuf.{RegionBuf}
 use Rattle.cert_text.specs.Tree.{CertTree, certificate_nodes}
-use Rattle.cert_check.specs.Places.{place_among}
 use Rattle.cert_check.specs.Mults.{AreMults, mults_of}
 use Rattle.cert_check.specs.Cuts.{AreCutsFound}
 use Rattle.cert_check.specs.Accepted.{AreNames, point_of}
@@ -35,7 +34,7 @@ use Rattle.tight_regions.specs.Tight.{IsTrail, room}
 -- the node with its names and the numbers of some cuts as places; Misnamed where one is unknown or stands twice
 abbrev pub IsPlace : Program → ℕ → CertNode → NodeWithPlaces → Type 0
 IsPlace M cuts (node.Split col v) Misnamed = ¬ Contains (column_names M) col
-IsPlace M cuts (node.Split col v) (Split place w) = (place.0 < length M.cols) × (place.0 ≡ place_among (column_names M) col) × (w ≡ v)
+IsPlace M cuts (node.Split col v) (Split place w) = (place.0 < length M.cols) × (place.0 ≡ place_in (column_names M) col) × (w ≡ v)
 IsPlace M cuts (node.Bound mults) Misnamed = ¬ AreMults M cuts mults
 IsPlace M cuts (node.Bound mults) (Bound mult) = AreMults M cuts mults × (mult ≡ mults_of M mults)
 IsPlace M cuts (node.Farkas mults) Misnamed = ¬ AreMults M cuts mults

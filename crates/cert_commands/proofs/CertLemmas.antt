@@ -5,6 +5,8 @@ use Rattle.std.specs.declared.alloc.Global.{Global}
 use Rattle.std.specs.Option.{option_map}
 use Rattle.lp_model.specs.Program.{Point}
 use Rattle.word_names.specs.WordNames.{HasWordNames}
+use Rattle.word_names.specs.ScriptModels.{IsScriptModel}
+use Rattle.word_names.proofs.ScriptNames.{script-words}
 use Rattle.sound_searches.specs.Sound.{PlainSearch}
 use Rattle.sym_io.specs.Files.{Files}
 use Rattle.cert_commands.specs.Certificates.{IsCertificateText, IsUnboundedText, IsCertAnswer}
@@ -14,7 +16,7 @@ use Rattle.kept_env.specs.declared.env.EnvFault.TheVariants as env_fault
 use Rattle.kept_env.specs.declared.held.Held.{Held}
 use Rattle.kept_env.specs.declared.held.Held.TheVariants.{Nothing, Finished, Unbounded}
 use Rattle.command_family.specs.Unchanged.{IsTold}
-use Rattle.command_family.specs.State.{shell_state, HasWords}
+use Rattle.command_family.specs.State.{shell_state, HasScriptModel}
 use Rattle.command_files.specs.Filing.{Writes}
 use Rattle.command_files.specs.Filing as filing
 use Rattle.command_files.proofs.FileLemmas.{writes-as}
@@ -30,7 +32,7 @@ read-unbounded S ray text names is = record { is = is; stated = is.text_is.state
 
 -- ---- the answer that is held
 
-module _ (env : PlainEnv) (words : HasWords env) (files files' : Option Files) (faults faults' : ℕ) (name reply : List ℕ) where
+module _ (env : PlainEnv) (script : HasScriptModel env) (files files' : Option Files) (faults faults' : ℕ) (name reply : List ℕ) where
   abbrev Told : Option PlainSearch → Held → Type 0
   Told search held = Certifies search held (shell_state env files faults) name reply (shell_state env files' faults')
 
@@ -40,13 +42,13 @@ module _ (env : PlainEnv) (words : HasWords env) (files files' : Option Files) (
   -- the certificate was made, and its text written
   pub cert-written : (r : Result (Vec ℕ Global) EnvFault) (text : Vec ℕ Global) (bytes : List ℕ) → r ≡ Ok text → IsCertAnswer env.search env.held r → bytes ≡ text.items → faults ≤ faults'
       → Writes (λ written. written ≡ bytes) name files faults reply files' faults' → CertStep (shell_state env files faults) name reply (shell_state env files' faults')
-  cert-written r text bytes is answer same later writes = step later (by env.search env.held words (subst (IsCertAnswer env.search env.held) is answer))
+  cert-written r text bytes is answer same later writes = step later (by env.search env.held script (subst (IsCertAnswer env.search env.held) is answer))
     where
-      by : (search : Option PlainSearch) (held : Held) → IfSome (option_map (λ (S : PlainSearch). S.model) search) HasWordNames → IsCertAnswer search held (Ok text) → Told search held
+      by : (search : Option PlainSearch) (held : Held) → IfSome (option_map (λ (S : PlainSearch). S.model) search) IsScriptModel → IsCertAnswer search held (Ok text) → Told search held
       by None held w h = absurd (cc)
       by (Some S) Nothing w h = absurd (cc)
-      by (Some S) Finished w h = writes-as (λ written. written ≡ bytes) (IsHeldText S Finished) name files faults reply files' faults' (λ t e. subst (IsReadCertificate S) (sym (e ∙ same)) (read-certificate S text.items w h)) writes
-      by (Some S) (Unbounded ray) w h = writes-as (λ written. written ≡ bytes) (IsHeldText S (Unbounded ray)) name files faults reply files' faults' (λ t e. subst (IsReadUnbounded S ray) (sym (e ∙ same)) (read-unbounded S ray text.items w h)) writes
+      by (Some S) Finished w h = writes-as (λ written. written ≡ bytes) (IsHeldText S Finished) name files faults reply files' faults' (λ t e. subst (IsReadCertificate S) (sym (e ∙ same)) (read-certificate S text.items (script-words S.model w) h)) writes
+      by (Some S) (Unbounded ray) w h = writes-as (λ written. written ≡ bytes) (IsHeldText S (Unbounded ray)) name files faults reply files' faults' (λ t e. subst (IsReadUnbounded S ray) (sym (e ∙ same)) (read-unbounded S ray text.items (script-words S.model w) h)) writes
 
 -- there is none, or there was no memory
 module _ (env : PlainEnv) (files : Option Files) (faults : ℕ) (name reply : List ℕ) where

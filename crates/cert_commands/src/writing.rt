@@ -2,7 +2,7 @@
 ghost use Rattle.std.specs.Prelude.{◌≡◌, true, [], OnOk, OnErr};
 ghost use Rattle.command_words.specs.Names.{is_file_name};
 ghost use Rattle.reply_texts.specs.Texts.{memory_text};
-ghost use Rattle.command_family.specs.State.{shell_state, HasWords};
+ghost use Rattle.command_family.specs.State.{shell_state, HasScriptModel};
 ghost use Rattle.cert_commands.specs.Certify.{CertStep};
 
 use crate::certificates::held_certificate;
@@ -20,7 +20,7 @@ pub fn cert<S: Store>(
     name: &[u8],
     reply: &mut Vec<u8>,
 ) -> Result<(), AllocError>
-    requires words { HasWords env.now }
+    requires script { HasScriptModel env.now }
     requires name { is_file_name name.now ≡ true }
     requires empty { reply.old.items ≡ [] }
     ensures answered { OnOk result (CertStep (shell_state env.now (S.files store.old) (S.faults store.old)) name.now reply.new.items

@@ -3,15 +3,11 @@
 --     partial start a x k              the sum before step k
 use Rattle.std.specs.Prelude.{◌≡◌, ◌⊎◌, ℕ, ◌<◌, pos, Result, Ok, Err}
 use Rattle.frac128.specs.Rational.{ℚ, int, ◌+ℚ◌, ◌*ℚ◌}
-use Rattle.frac128.specs.Range.{Fits, SumFits}
+use Rattle.frac128.specs.Range.{ProductSumFits}
 use Rattle.frac128.specs.Sums.{sum_below}
 
-pub record StepHasRoom (total factor number : ℚ) : Type 0 where
-  pub product : Fits (factor *ℚ number)
-  pub sum : SumFits total (factor *ℚ number)
-
 abbrev pub StepFits : ℚ → ℚ → ℚ → Type 0
-StepFits total factor number = (factor ≡ int (pos 0)) ⊎ ((number ≡ int (pos 0)) ⊎ StepHasRoom total factor number)
+StepFits total factor number = (factor ≡ int (pos 0)) ⊎ ((number ≡ int (pos 0)) ⊎ ProductSumFits total factor number)
 
 abbrev pub partial : ℚ → (ℕ → ℚ) → (ℕ → ℚ) → ℕ → ℚ
 partial start a x k = start +ℚ sum_below k (λ j. a j *ℚ x j)

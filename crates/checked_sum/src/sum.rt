@@ -28,19 +28,12 @@ pub trait Terms {
         ensures { result ≡ factor self.now index };
 }
 
-/// Whether the number is 0.
-fn is_zero(number: &Frac) -> bool
-    ensures { IsTrue result ↔ number.now ≡ int (pos 0) }
-{
-    number.is_zero()
-}
-
 /// The total and the product of a number that is not 0, if there is room for both. A factor 0 makes no step.
 fn add_product(total: &Frac, factor: &Frac, number: &Frac) -> Result<Frac, Wide>
     requires { number.now ≢ int (pos 0) }
     ensures { OkIff result (StepFits total.now factor.now number.now) (total.now +ℚ factor.now *ℚ number.now) }
 {
-    if is_zero(factor) {
+    if factor.is_zero() {
         return Ok(*total);
     }
     match factor.mul(number) {
@@ -56,7 +49,7 @@ pub fn checked_sum<T: Terms>(start: &Frac, terms: &T) -> Result<Frac, usize>
     let mut total = *start;
     for index in 0..terms.count() {
         let number = terms.number(index);
-        if is_zero(&number) {
+        if number.is_zero() {
             continue;
         }
         match add_product(&total, &terms.factor(index), &number) {

@@ -20,7 +20,7 @@ use Rattle.cert_text.specs.declared.cert.Claim.TheVariants.{Optimal, Infeasible,
 use Rattle.cert_text.specs.declared.cert.Cert.{Cert}
 use Rattle.cert_check.specs.declared.verdict.Verdict.{Verdict}
 use Rattle.cert_check.specs.declared.verdict.Verdict.TheVariants.{Accepted, Rejected, Wide}
-use Rattle.command_files.specs.Reading.{HasText, IsMissing, IsTooLong, ReadsFile, refusal_text}
+use Rattle.command_files.specs.Reading.{HasText, IsUnread, IsTooLong, ReadsFile, refusal_text}
 use Rattle.reply_texts.specs.Places.{step_text}
 use Rattle.reply_texts.specs.Texts.{arguments_text, store_text, file_too_long_text, cert_fault_text, memory_text}
 use Rattle.command_files.specs.declared.reading.Refusal.{Refusal}
@@ -31,7 +31,7 @@ use Rattle.command_files.specs.declared.reading.Refusal.TheVariants as refusal
 -- the causes of each answer to reading a file's certificate, where the count of faults goes from before to after
 abbrev pub ReadsCert : Option Files → List ℕ → ℕ → ℕ → Result Cert Refusal → Type 0
 ReadsCert files name before after (Ok cert) = HasText files name (λ text. States text cert)
-ReadsCert files name before after (Err refusal.Store) = Rose before after ⊎ IsMissing files name
+ReadsCert files name before after (Err refusal.Store) = IsUnread files name before after
 ReadsCert files name before after (Err refusal.FileTooLong) = IsTooLong files name
 ReadsCert files name before after (Err (refusal.Faulty line code)) = HasText files name (λ text. FaultyCertificate text line code)
 ReadsCert files name before after (Err refusal.Memory) = Unit {0}

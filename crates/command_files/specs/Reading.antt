@@ -17,6 +17,10 @@ MayHold files name text = IfSome files (λ known. file known name ≡ Some text)
 abbrev pub IsMissing : Option Files → List ℕ → Type 0
 IsMissing files name = IsSomeAnd files (λ known. file known name ≡ None)
 
+-- the store told one fault more, or has no such file
+abbrev pub IsUnread : Option Files → List ℕ → ℕ → ℕ → Type 0
+IsUnread files name before after = Rose before after ⊎ IsMissing files name
+
 abbrev pub IsTooLong : Option Files → List ℕ → Type 0
 IsTooLong files name = IfSome files (λ known. IsSomeAnd (file known name) (λ text. MAX_FILE_LENGTH < length text))
 
@@ -34,7 +38,7 @@ IsFaulty intupper line code text = FaultyModel text intupper (record { line = li
 -- the causes of each answer to reading a file's model, where the count of faults goes from before to after
 abbrev pub ReadsFile : Option Files → List ℕ → Option ℕ → ℕ → ℕ → Result Program Refusal → Type 0
 ReadsFile files name intupper before after (Ok M) = HasText files name (λ text. MeantModel text intupper M)
-ReadsFile files name intupper before after (Err refusal.Store) = Rose before after ⊎ IsMissing files name
+ReadsFile files name intupper before after (Err refusal.Store) = IsUnread files name before after
 ReadsFile files name intupper before after (Err refusal.FileTooLong) = IsTooLong files name
 ReadsFile files name intupper before after (Err (refusal.Faulty line code)) = HasText files name (IsFaulty intupper line code)
 ReadsFile files name intupper before after (Err refusal.Memory) = Unit {0}
@@ -42,7 +46,7 @@ ReadsFile files name intupper before after (Err refusal.Memory) = Unit {0}
 -- the causes of each answer to reading a file
 abbrev pub ReadsText : Option Files → List ℕ → ℕ → ℕ → Result (Vec ℕ Global) Refusal → Type 0
 ReadsText files name before after (Ok bytes) = HasText files name (λ text. text ≡ bytes.items)
-ReadsText files name before after (Err refusal.Store) = Rose before after ⊎ IsMissing files name
+ReadsText files name before after (Err refusal.Store) = IsUnread files name before after
 ReadsText files name before after (Err refusal.FileTooLong) = IsTooLong files name
 ReadsText files name before after (Err (refusal.Faulty line code)) = ⊥
 ReadsText files name before after (Err refusal.Memory) = Unit {0}

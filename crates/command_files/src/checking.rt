@@ -12,7 +12,7 @@ use cert_text::{Cert, CertFault, Claim, read_cert};
 use command_words::is_file_name_word;
 use frac128::Frac;
 use lp_model::{Model, WideStep};
-use reply_texts::write_step;
+use reply_texts::{ARGUMENTS_REPLY, MEMORY_REPLY, write_step};
 use std::alloc::{AllocError, Global};
 use sym_io::Store;
 
@@ -130,7 +130,7 @@ fn write_judged(
     accepted_law();
     match judged(alloc, model, cert) {
         Ok(verdict) => write_verdict(reply, model, &verdict),
-        Err(AllocError) => reply.extend_from_slice(b"error 90 memory\n"),
+        Err(AllocError) => reply.extend_from_slice(MEMORY_REPLY),
     }
 }
 
@@ -197,7 +197,7 @@ pub fn check_text<S: Store>(
     if is_file_name_word(model.as_bytes()) && is_file_name_word(cert.as_bytes()) {
         check_files(alloc, model, cert, store, &mut reply)?;
     } else {
-        reply.extend_from_slice(b"error 03 arguments\n")?;
+        reply.extend_from_slice(ARGUMENTS_REPLY)?;
     }
     Ok(reply)
 }

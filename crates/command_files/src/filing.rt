@@ -7,6 +7,7 @@ ghost use Rattle.command_files.specs.Filing.{IsWrittenModel};
 
 use command_words::file_name;
 use lp_model::Model;
+use reply_texts::{FILE_TOO_LONG_REPLY, MEMORY_REPLY, OK_REPLY, STORE_REPLY};
 use std::alloc::{AllocError, Global};
 use sym_io::{MAX_FILE_LENGTH, Store};
 
@@ -24,12 +25,12 @@ pub fn write_file<S: Store>(
     ensures later { S.faults store.old ≤ S.faults store.new }
 {
     if text.len() > MAX_FILE_LENGTH {
-        return reply.extend_from_slice(b"error 21 file too long\n");
+        return reply.extend_from_slice(FILE_TOO_LONG_REPLY);
     }
-    reply.extend_from_slice(b"ok\n")?;
+    reply.extend_from_slice(OK_REPLY)?;
     if store.put(file_name(name), text).is_err() {
         reply.clear();
-        reply.extend_from_slice(b"error 20 store\n")?;
+        reply.extend_from_slice(STORE_REPLY)?;
     }
     Ok(())
 }
@@ -50,6 +51,6 @@ pub fn write_model<S: Store>(
 {
     match mps_writer::write(alloc, model) {
         Ok(bytes) => write_file(store, name, &bytes, reply),
-        Err(_) => reply.extend_from_slice(b"error 90 memory\n"),
+        Err(_) => reply.extend_from_slice(MEMORY_REPLY),
     }
 }

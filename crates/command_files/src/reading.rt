@@ -1,7 +1,7 @@
 // Reading files from a store.
-ghost use Rattle.std.specs.Prelude.{◌≡◌, ◌≤◌, true, IfOk};
+ghost use Rattle.std.specs.Prelude.{◌≡◌, ◌<◌, ◌≤◌, ◌^◌, true, IfOk, IfSome};
 ghost use Rattle.command_words.specs.Names.{is_file_name};
-ghost use Rattle.word_names.specs.WordNames.{HasWordNames};
+ghost use Rattle.word_names.specs.ScriptModels.{IsScriptModel};
 ghost use Rattle.command_files.specs.Reading.{ReadsFile, ReadsText};
 
 use command_words::file_name;
@@ -61,7 +61,7 @@ pub fn read_text<S: Store>(alloc: Global, store: &mut S, name: &[u8]) -> Result<
     Ok(text)
 }
 
-/// The model of the named file, whose names are words of a reply. An integer column without an upper bound has `intupper`, if
+/// The model of the named file, which is one that scripts may have. An integer column without an upper bound has `intupper`, if
 /// that is handed in.
 pub fn read_model<S: Store>(
     alloc: Global,
@@ -71,7 +71,7 @@ pub fn read_model<S: Store>(
 ) -> Result<Model, Refusal>
     requires { is_file_name name.now ≡ true }
     ensures answer { ReadsFile (S.files store.old) name.now intupper (S.faults store.old) (S.faults store.new) result }
-    ensures words { IfOk result (λ m. HasWordNames m) }
+    ensures script { IfOk result (λ m. IsScriptModel m) }
     ensures kept { S.files store.new ≡ S.files store.old }
     ensures later { S.faults store.old ≤ S.faults store.new }
 {
@@ -79,6 +79,7 @@ pub fn read_model<S: Store>(
         Ok(text) => text,
         Err(fault) => return Err(Refusal::from(fault)),
     };
+    bound_is_near(intupper);
     let model = read(alloc, &text, intupper);
     drop(text);
     match model {
@@ -86,3 +87,18 @@ pub fn read_model<S: Store>(
         Err(fault) => Err(Refusal::from(fault)),
     }
 }
+
+/// A bound of 64 bits is below 10^20. Nothing is done.
+fn bound_is_near(bound: Option<u64>)
+    ensures { IfSome bound (λ n. n < 10 ^ 20) }
+{
+    match bound {
+        Some(n) => number_is_near(n),
+        None => (),
+    }
+}
+
+/// A number of 64 bits is below 10^20. Nothing is done.
+fn number_is_near(n: u64)
+    ensures { n < 10 ^ 20 }
+{}

@@ -4,7 +4,9 @@ ghost use Rattle.command_files.specs.Checking.{cert_refusal_text};
 ghost use Rattle.command_files.specs.Reading.{refusal_text};
 
 use crate::reading::Refusal;
-use reply_texts::{write_faulty_certificate, write_faulty_model};
+use reply_texts::{
+    FILE_TOO_LONG_REPLY, MEMORY_REPLY, STORE_REPLY, write_faulty_certificate, write_faulty_model,
+};
 use std::alloc::AllocError;
 
 /// Why a file's model is refused.
@@ -12,10 +14,10 @@ pub fn write_refusal(reply: &mut Vec<u8>, refusal: Refusal) -> Result<(), AllocE
     ensures { IfOk result (λ _. reply.new.items ≡ reply.old.items ++ refusal_text refusal) }
 {
     match refusal {
-        Refusal::Store => reply.extend_from_slice(b"error 20 store\n"),
-        Refusal::FileTooLong => reply.extend_from_slice(b"error 21 file too long\n"),
+        Refusal::Store => reply.extend_from_slice(STORE_REPLY),
+        Refusal::FileTooLong => reply.extend_from_slice(FILE_TOO_LONG_REPLY),
         Refusal::Faulty { line, code } => write_faulty_model(reply, line, code),
-        Refusal::Memory => reply.extend_from_slice(b"error 90 memory\n"),
+        Refusal::Memory => reply.extend_from_slice(MEMORY_REPLY),
     }
 }
 
@@ -24,9 +26,9 @@ pub(crate) fn write_cert_refusal(reply: &mut Vec<u8>, refusal: Refusal) -> Resul
     ensures { IfOk result (λ _. reply.new.items ≡ reply.old.items ++ cert_refusal_text refusal) }
 {
     match refusal {
-        Refusal::Store => reply.extend_from_slice(b"error 20 store\n"),
-        Refusal::FileTooLong => reply.extend_from_slice(b"error 21 file too long\n"),
+        Refusal::Store => reply.extend_from_slice(STORE_REPLY),
+        Refusal::FileTooLong => reply.extend_from_slice(FILE_TOO_LONG_REPLY),
         Refusal::Faulty { line, code } => write_faulty_certificate(reply, line, code),
-        Refusal::Memory => reply.extend_from_slice(b"error 90 memory\n"),
+        Refusal::Memory => reply.extend_from_slice(MEMORY_REPLY),
     }
 }

@@ -247,7 +247,7 @@ err_once : (e f : WideStep) (r : Answer) → r ≡ Err e → r ≡ Err f → e �
 err_once e f r h g = cc
 
 -- the slack basis has one table
-slack_agree : (relax : Relax) (x y : Held) → IsSlackState relax x → IsSlackState relax y → Agree (relaxation_of relax).columns (relaxation_of relax).activities (table x) (table y)
+pub slack_agree : (relax : Relax) (x y : Held) → IsSlackState relax x → IsSlackState relax y → Agree (relaxation_of relax).columns (relaxation_of relax).activities (table x) (table y)
 slack_agree relax x y a b =
     let columns : x.tableau.columns ≡ y.tableau.columns = a.is.tableau.columns ∙ sym b.is.tableau.columns in
     let form : x.form ≡ y.form = a.is.form ∙ sym b.is.form in

@@ -19,7 +19,7 @@ use Rattle.table_entries.proofs.WholeLemmas.{by_sign-short, magnitude_positive, 
 use Rattle.basic_solution.specs.Held.{Held, relaxation, table, parts}
 use Rattle.basic_solution.specs.RowTotals.{IsCostTotal}
 use Rattle.dual_simplex.specs.Answers.{PartFits}
-use Rattle.dual_simplex.specs.WholeRatios.{IsWholeRatio}
+use Rattle.dual_simplex.specs.private.WholeRatios.{IsWholeRatio}
 
 pub own_sign : (n : ℤ) → by_sign n n ≡ magnitude n
 own_sign (pos n) = refl

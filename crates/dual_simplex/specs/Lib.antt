@@ -1,7 +1,5 @@
 pub mod LpStates
 pub mod Answers
-pub mod WholeRatios
-pub mod BestPlaces
 pub mod Moves
 pub mod Walks
 pub mod Laws
@@ -9,3 +7,4 @@ pub mod Solves
 pub mod ListLaws
 pub mod Starts
 pub mod SlackBases
+pub mod private

@@ -5,7 +5,7 @@ ghost use Rattle.frac128.specs.Rational.{int, ◌<ℚ◌};
 ghost use Rattle.frac128.specs.LowestTerms.{quotient_of};
 ghost use Rattle.table_entries.specs.WholeSteps.{IsShort};
 ghost use Rattle.basic_solution.specs.Held.{table};
-ghost use Rattle.dual_simplex.specs.WholeRatios.{IsShortRatio, IsWholeRatio};
+ghost use Rattle.dual_simplex.specs.private.WholeRatios.{IsShortRatio, IsWholeRatio};
 
 use basic_solution::SidedBasis;
 use table_entries::{Stand, by_sign, product, short_number};

@@ -1,33 +1,43 @@
--- What the reply to a trim shows, and the names of the model that it leaves.
+-- What the reply to a trim shows, and the model that it leaves.
 use Rattle.std.proofs.Common.{◌≡◌, ℕ, true, List, refl, subst, sym, ap, ◌∙◌, inl, inr, Option, Some, None, Ok, Err, Result}
 use Rattle.std.specs.Prelude.{IfSome, is_err}
 use Rattle.std.specs.Option.{option_map}
 use Rattle.lp_model.specs.Program.{Program}
-use Rattle.word_names.specs.WordNames.{HasWordNames}
+use Rattle.word_names.specs.ScriptModels.{IsScriptModel}
 use Rattle.sound_searches.specs.Sound.{PlainSearch}
+use Rattle.list_order.specs.Ordered.{IsInOrder}
+use Rattle.list_order.proofs.EditOrder.{trim-order}
 use Rattle.kept_env.specs.Env.{PlainEnv, model_of}
 use Rattle.kept_env.specs.Trimming.{TrimsEnv}
 use Rattle.kept_env.specs.declared.env.EnvFault.{EnvFault}
 use Rattle.kept_env.specs.declared.env.EnvFault.TheVariants as env_fault
 use Rattle.reply_texts.specs.Texts.{ok_text, no_model_text, memory_text}
 use Rattle.command_family.specs.EnvFaults.{env_fault_text, reply_behind}
-use Rattle.command_family.specs.State.{HasWords}
+use Rattle.command_family.specs.State.{HasScriptModel, HasOrder}
 use Rattle.edit_commands.specs.Trimming.{Trimmed, Untrimmed, RepliesToTrim}
 
-same-model : (old new : PlainEnv) (S T : PlainSearch) → old.search ≡ Some S → new.search ≡ Some T → T.model ≡ S.model → HasWords old → HasWords new
+same-model : (old new : PlainEnv) (S T : PlainSearch) → old.search ≡ Some S → new.search ≡ Some T → T.model ≡ S.model → HasScriptModel old → HasScriptModel new
 same-model old new S T there made same words =
     let first : model_of old ≡ Some S.model = ap (option_map (λ (R : PlainSearch). R.model)) there in
     let second : model_of new ≡ Some S.model = ap (option_map (λ (R : PlainSearch). R.model)) made ∙ ap Some same in
-    subst (λ (m : Option Program). IfSome m HasWordNames) (first ∙ sym second) words
+    subst (λ (m : Option Program). IfSome m IsScriptModel) (first ∙ sym second) words
 
 module _ (old new : PlainEnv) (depth : ℕ) (r : Result (Unit {0}) EnvFault) (trims : TrimsEnv old.search depth old r new) where
-  pub trims-words : HasWords old → HasWords new
-  trims-words words = by old.search refl r trims
+  pub trims-script : HasScriptModel old → HasScriptModel new
+  trims-script words = by old.search refl r trims
     where
-      by : (search : Option PlainSearch) → old.search ≡ search → (r : Result (Unit {0}) EnvFault) → TrimsEnv search depth old r new → HasWords new
-      by None none r h = subst HasWords (sym h.1) words
+      by : (search : Option PlainSearch) → old.search ≡ search → (r : Result (Unit {0}) EnvFault) → TrimsEnv search depth old r new → HasScriptModel new
+      by None none r h = subst HasScriptModel (sym h.1) words
       by (Some S) some (Ok done) h = same-model old new S h.search some (ap (λ (e : PlainEnv). e.search) h.env_is) h.trims.model words
-      by (Some S) some (Err f) h = subst HasWords (sym h.1) words
+      by (Some S) some (Err f) h = subst HasScriptModel (sym h.1) words
+
+  pub trims-order : HasOrder old → HasOrder new
+  trims-order order = by old.search refl r trims
+    where
+      by : (search : Option PlainSearch) → old.search ≡ search → (r : Result (Unit {0}) EnvFault) → TrimsEnv search depth old r new → HasOrder new
+      by None none r h = subst HasOrder (sym h.1) order
+      by (Some S) some (Ok done) h = subst HasOrder (sym h.env_is) (trim-order S depth h.search h.trims (subst (λ (o : Option PlainSearch). IfSome o IsInOrder) some order))
+      by (Some S) some (Err f) h = subst HasOrder (sym h.1) order
 
   trim-made : (done : Unit {0}) (reply : List ℕ) → r ≡ Ok done → reply ≡ ok_text → RepliesToTrim old.search depth old reply new
   trim-made done reply is told = by old.search (subst (λ o. TrimsEnv old.search depth old o new) is trims)

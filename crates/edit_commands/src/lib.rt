@@ -9,7 +9,7 @@
 //! (`changes_law`): each reply has its cause, no count of faults falls, and all but `ok` leaves the environment as it was.
 //!
 //! Public contract in one sentence: `edit` and `trim` write the reply of one step of that family and leave the environment that it says,
-//! each name of whose model is still a word of a line. Below stand the environment (`kept_env`) and what the words behind `edit` say
+//! whose model is still one that scripts may have. Below stand the environment (`kept_env`) and what the words behind `edit` say
 //! (`edit_words`); above, the shell.
 #![tactic(auto)]
 

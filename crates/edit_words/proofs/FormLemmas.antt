@@ -1,9 +1,7 @@
 -- Words from the first one on.
 use Rattle.std.proofs.Common.{◌≡◌, ℕ, ◌+◌, ◌-◌, ◌≤◌, ◌<◌, List, [], ◌∷◌, length, get_or, take, drop, arith, sym, ap, refl, Bor, Option}
 use Rattle.std.specs.Prelude.{map, Bool, true, false, not, ◌&&◌, ◌||◌, bytes_eq}
-use Rattle.std.specs.List.{list_all}
 use Rattle.std.proofs.lemmas.Grind.{common_steps}
-use Rattle.std.proofs.lemmas.List.{drop_more, drop_all}
 use Rattle.edit_words.specs.declared.kinds.EditKind.{EditKind}
 use Rattle.edit_words.specs.declared.forms.Slot.{Slot}
 use Rattle.edit_words.specs.Forms.{is_named, are_distinct, fits}
@@ -203,15 +201,6 @@ unfolding are_distinct
 are_distinct_first [] h = absurd (omega arith)
 are_distinct_first (a ∷ []) h = absurd (omega arith)
 are_distinct_first (a ∷ b ∷ more) h = (λ i. not (is_named a.now (nows (sym (back-two a b more) i))) && are_distinct (nows (sym (back-two a b more) i)))
-
--- ---- the bytes of a name
-
--- whether all bytes from one place on pass
-pub bytes_next : (passes : ℕ → Bool) (bytes : List ℕ) (k : ℕ) → k < length bytes → list_all passes (drop k bytes) ≡ (passes (get_or bytes k 0) && list_all passes (drop (k + 1) bytes))
-bytes_next passes bytes k below = ap (list_all passes) (drop_more bytes k 0 below)
-
-pub bytes_none : (passes : ℕ → Bool) (bytes : List ℕ) (k : ℕ) → length bytes ≤ k → list_all passes (drop k bytes) ≡ true
-bytes_none passes bytes k past = ap (list_all passes) (drop_all k bytes past)
 
 -- ---- a slot without a word
 

@@ -9,7 +9,8 @@ use Rattle.text_lines.specs.Words.{Words}
 use Rattle.edit_words.specs.declared.kinds.EditKind.{EditKind}
 use Rattle.edit_words.specs.declared.kinds.EditKind.TheVariants as kind
 use Rattle.edit_words.specs.declared.asked.RowPlace.TheVariants.{Last, Same}
-use Rattle.edit_words.specs.Forms.{is_new_name, fits}
+use Rattle.lp_model.specs.Names.{is_lawful_name}
+use Rattle.edit_words.specs.Forms.{fits}
 use Rattle.edit_words.specs.NewNames.{BringsName, IsNewName}
 use Rattle.edit_words.specs.EditWords.{EditAsks, Edits, Misused, NoNumber, EntriesAsk, AreRead, AreMisused, HasNoNumber, number_in, side_in, lower_in, upper_in, entries_of, with_read, with_entries, is_int_word, sides_edit, cost_asks, cost2_asks, row_asks, bounds_asks, kind_asks, addcol_asks, delcol_asks, delrow_asks, whole_row_edit, whole_row_asks, edit_kind_of, slots_of, has_pairs, meaning, formed_asks, edit_asks}
 
@@ -97,7 +98,7 @@ addrow-named [] fit = tt
 addrow-named (a ∷ []) fit = tt
 addrow-named (a ∷ b ∷ []) fit = tt
 addrow-named (name ∷ lo ∷ hi ∷ rest) fit =
-    let new : IsNewName name = left (is_new_name name) _ fit in
+    let new : IsNewName name = left (is_lawful_name name) _ fit in
     read-named lo (side_in lo) (λ l. with_read hi (side_in hi) (λ h. with_entries (entries_of rest) (λ named. Edits (whole_row_edit Last name l h named)))) (λ l.
     read-named hi (side_in hi) (λ h. with_entries (entries_of rest) (λ named. Edits (whole_row_edit Last name l h named))) (λ h.
     entries-named (entries_of rest) (λ named. Edits (whole_row_edit Last name l h named)) (λ named. new)))
@@ -111,7 +112,7 @@ addcol-named (a ∷ b ∷ c ∷ []) fit = tt
 addcol-named (a ∷ b ∷ c ∷ e ∷ []) fit = tt
 addcol-named (a ∷ b ∷ c ∷ e ∷ f ∷ []) fit = tt
 addcol-named (name ∷ which ∷ lo ∷ up ∷ cost ∷ cost2 ∷ rest) fit =
-    let new : IsNewName name = left (is_new_name name) _ fit in
+    let new : IsNewName name = left (is_lawful_name name) _ fit in
     read-named lo (lower_in lo) (λ l. with_read up (upper_in up) (λ u. with_read cost (number_in cost) (λ c. with_read cost2 (number_in cost2) (λ d.
     with_entries (entries_of rest) (λ named. Edits (AddCol name (is_int_word which) l u c d named)))))) (λ l.
     read-named up (upper_in up) (λ u. with_read cost (number_in cost) (λ c. with_read cost2 (number_in cost2) (λ d.

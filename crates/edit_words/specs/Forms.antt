@@ -1,26 +1,18 @@
 -- Forms of words as data: a slot for each word, and whether names with numbers follow. A command says its form in a line.
 --     fits slots pairs words     the words have the form: their count, its key words and new names, each name with a number once
-use Rattle.std.specs.Prelude.{ℕ, Bool, true, false, not, ◌&&◌, ◌||◌, List, [], ◌∷◌, length, nat_le, codes}
-use Rattle.std.specs.List.{list_all}
+use Rattle.std.specs.Prelude.{ℕ, Bool, true, false, not, ◌&&◌, ◌||◌, List, [], ◌∷◌, codes}
 use Rattle.std.specs.Str.{bytes_eq}
+use Rattle.lp_model.specs.Names.{is_lawful_name}
 use Rattle.text_lines.specs.Words.{Words}
 use Rattle.edit_words.specs.declared.forms.Slot.{Slot}
 use Rattle.edit_words.specs.declared.forms.Slot.TheVariants.{Kind, Sides, Known, New, Number, NumberOrNone, Lower, Upper}
-
--- the bytes from `!` to `~`
-abbrev pub is_name_byte : ℕ → Bool
-is_name_byte byte = nat_le 33 byte && nat_le byte 126
-
--- 1 to 255 of them
-abbrev pub is_new_name : List ℕ → Bool
-is_new_name word = nat_le 1 (length word) && nat_le (length word) 255 && list_all is_name_byte word
 
 -- the word may stand in the slot; whether it is a number is asked later
 abbrev pub fits_slot : Slot → List ℕ → Bool
 fits_slot Kind word = bytes_eq word (codes "int") || bytes_eq word (codes "cont")
 fits_slot Sides word = bytes_eq word (codes "lo") || bytes_eq word (codes "hi") || bytes_eq word (codes "both")
 fits_slot Known word = true
-fits_slot New word = is_new_name word
+fits_slot New word = is_lawful_name word
 fits_slot Number word = true
 fits_slot NumberOrNone word = true
 fits_slot Lower word = true

@@ -1,3 +1,4 @@
 pub mod Forms
 pub mod EditWords
 pub mod NewNames
+pub mod NewBounds

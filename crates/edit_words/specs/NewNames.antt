@@ -2,7 +2,7 @@
 use Rattle.std.specs.Prelude.{◌≡◌, true, ℕ, List}
 use Rattle.lp_model.specs.declared.types.Edit.{Edit}
 use Rattle.lp_model.specs.declared.types.Edit.TheVariants.{SetCost, SetCost2, SetRow, SetColBounds, SetKind, AddCol, DelCol, AddRow, DelRow, ReplaceRow}
-use Rattle.edit_words.specs.Forms.{is_new_name}
+use Rattle.lp_model.specs.Names.{is_lawful_name}
 
 -- the name that the edit brings, if it brings one, is so
 abbrev pub BringsName : (List ℕ → Type 0) → Edit → Type 0
@@ -18,4 +18,4 @@ BringsName P (DelRow row) = Unit {0}
 BringsName P (ReplaceRow row lo hi named) = Unit {0}
 
 abbrev pub IsNewName : List ℕ → Type 0
-IsNewName word = is_new_name word ≡ true
+IsNewName word = is_lawful_name word ≡ true

@@ -1,8 +1,8 @@
 // Forms of words as data, and the words that have one.
 ghost use Rattle.std.specs.Prelude.{◌≡◌, map};
-ghost use Rattle.std.specs.List.{list_all};
-ghost use Rattle.edit_words.specs.Forms.{is_name_byte, is_new_name, fits_slot, fits_behind, fits, is_named, are_distinct};
+ghost use Rattle.edit_words.specs.Forms.{fits_slot, fits_behind, fits, is_named, are_distinct};
 
+use lp_model::is_lawful_name;
 use text_lines::is_word;
 
 /// What may stand in a word's place.
@@ -26,29 +26,6 @@ pub(crate) enum Slot {
     Upper,
 }
 
-fn is_name_byte(byte: u8) -> bool
-    ensures { result ≡ is_name_byte byte }
-{
-    matches!(byte, b'!'..=b'~')
-}
-
-fn has_name_bytes(word: &[u8]) -> bool
-    ensures { result ≡ list_all is_name_byte word.now }
-{
-    for byte in word {
-        if !is_name_byte(*byte) {
-            return false;
-        }
-    }
-    true
-}
-
-fn is_new_name(word: &[u8]) -> bool
-    ensures { result ≡ is_new_name word.now }
-{
-    1 <= word.len() && word.len() <= 255 && has_name_bytes(word)
-}
-
 /// Whether the word may stand there, numbers aside.
 fn fits_slot(slot: Slot, word: &[u8]) -> bool
     ensures { result ≡ fits_slot slot word.now }
@@ -57,7 +34,7 @@ fn fits_slot(slot: Slot, word: &[u8]) -> bool
         Slot::Kind => is_word(b"int", word) || is_word(b"cont", word),
         Slot::Sides => { is_word(b"lo", word) || is_word(b"hi", word) || is_word(b"both", word) }
         Slot::Known => true,
-        Slot::New => is_new_name(word),
+        Slot::New => is_lawful_name(word),
         Slot::Number => true,
         Slot::NumberOrNone => true,
         Slot::Lower => true,

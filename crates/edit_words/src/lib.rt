@@ -19,14 +19,19 @@
 //! Contract in one sentence: `read_edit` answers exactly the edit that the words ask for, and `read_pairs` the names with numbers, or
 //! the first of their faults: none of the forms, then the first word in a number's place that is none there.
 //!
-//! Below stand `frac_text`, which says what a number is, and `lp_model`, which has the edits. Above stands `sym_shell`.
+//! What an edit brings is what a model of a script may have (`new_parts_law`), and such a model stays one (`edited_model_law`).
+//!
+//! Below stand `frac_text`, which says what a number is, `lp_model`, which has the edits, and `word_names`, which says what a model of a
+//! script is. Above stands `sym_shell`.
 #![tactic(auto)]
 
 mod asked;
 mod entries;
 mod forms;
 mod kinds;
+mod laws;
 mod numbers;
 
 pub use asked::{EditAsked, read_edit};
 pub use entries::{Entries, read_pairs};
+pub use laws::{edited_model_law, new_parts_law};

@@ -1,14 +1,10 @@
 // The numbers of an edit: costs, sides and bounds.
 ghost use Rattle.std.specs.Prelude.{◌≡◌, Some};
-ghost use Rattle.frac_text.specs.Sides.{side_of};
 ghost use Rattle.edit_words.specs.EditWords.{is_none_word, number_in, side_in, lower_in, upper_in, lower_read, upper_read};
 
 use frac_text::{Side, parse};
 use frac128::Frac;
 use lp_model::Bound;
-
-/// A bound of this magnitude on its own side of 0 is none.
-const FAR: i128 = 100_000_000_000_000_000_000;
 
 fn is_none_word(word: &[u8]) -> bool
     ensures { result ≡ is_none_word word.now }
@@ -41,25 +37,11 @@ pub(crate) fn side_in(word: &[u8]) -> Option<Bound>
     }
 }
 
-/// Where a number stands beside `FAR` and its negative.
-fn side_of(number: &Frac) -> Side
-    ensures { result ≡ side_of number.now }
-{
-    let far = Frac::of_whole(FAR);
-    if far.is_at_most(number) {
-        Side::Above
-    } else if number.is_at_most(&far.neg()) {
-        Side::Below
-    } else {
-        Side::Between
-    }
-}
-
 /// A lower bound from its number: none far below 0, and no bound far above.
 fn lower_from(number: Frac) -> Option<Bound>
     ensures { result ≡ lower_read (Some number) }
 {
-    match side_of(&number) {
+    match Side::of(&number) {
         Side::Below => Some(None),
         Side::Above => None,
         Side::Between => Some(Some(number)),
@@ -70,7 +52,7 @@ fn lower_from(number: Frac) -> Option<Bound>
 fn upper_from(number: Frac) -> Option<Bound>
     ensures { result ≡ upper_read (Some number) }
 {
-    match side_of(&number) {
+    match Side::of(&number) {
         Side::Above => Some(None),
         Side::Below => None,
         Side::Between => Some(Some(number)),

@@ -167,13 +167,8 @@ impl Environment {
             got.push_str("no model")?;
             return Ok(());
         };
-        match text_of(self.alloc, search) {
-            Ok(text) => {
-                self.saved = text;
-                Ok(())
-            }
-            Err(fault) => push_warm_fault(got, &fault),
-        }
+        self.saved = text_of(self.alloc, search)?;
+        Ok(())
     }
 
     /// Takes the text that is given.

@@ -7,7 +7,7 @@ use Rattle.sound_searches.specs.Sound.{PlainSearch}
 use Rattle.search_file.specs.Files.{IsTextOf}
 use Rattle.kept_env.specs.Env.{model_of}
 use Rattle.reply_texts.specs.Texts.{ok_text}
-use Rattle.command_files.specs.Filing.{Writes, Written, TooLong, Failed, IsWrittenModel}
+use Rattle.command_files.specs.Filing.{Writes, Written, TooLong, Failed}
 use Rattle.command_files.specs.Filing as filing
 use Rattle.command_files.specs.Reading.{ReadsFile, refusal_text}
 use Rattle.command_files.specs.declared.reading.Refusal.{Refusal}
@@ -17,9 +17,9 @@ use Rattle.command_family.specs.Kinds.{Done, NoModel, StoreFailed, FileTooLong, 
 use Rattle.command_family.specs.State.{ShellState}
 use Rattle.command_family.proofs.ReplyLemmas.{not_error, not_done}
 use Rattle.file_commands.specs.Load.{LoadStep}
-use Rattle.file_commands.specs.Saving.{AnswersSave, RepliesToSave, SaveStep, RefusesFile, RestoreStep}
+use Rattle.file_commands.specs.Saving.{RepliesToSave, SaveStep, RefusesFile, RestoreStep}
 use Rattle.file_commands.specs.Saving as saving
-use Rattle.file_commands.specs.Writing.{WritesModel, WriteStep}
+use Rattle.file_commands.specs.Writing.{IsModelText, WritesModel, WriteStep}
 use Rattle.file_commands.specs.Family.{FileAsks, Load, Write, Save, Restore, FileStep, filings}
 
 module _ (old : ShellState) (reply : List ℕ) (new : ShellState) where
@@ -44,7 +44,7 @@ module _ (old : ShellState) (reply : List ℕ) (new : ShellState) where
 
   -- ---- the model that is present, as a file
 
-  model_cause : (file : List ℕ) (M : Program) → model_of old.env ≡ Some M → Writes (IsWrittenModel M) file old.files old.faults reply new.files new.faults → HasCause filings (Write file) old reply new
+  model_cause : (file : List ℕ) (M : Program) → model_of old.env ≡ Some M → Writes (IsModelText M) file old.files old.faults reply new.files new.faults → HasCause filings (Write file) old reply new
   model_cause file M present (Written text is short sets told) = record { kind = Done; is = ([], told); cause = record { model = M; present = present; is = (text, (is, short, sets)) } }
   model_cause file M present (TooLong text is long kept told) = record { kind = FileTooLong; is = (codes "file too long\n", told); cause = record { model = M; present = present; is = (told, (text, (is, long))) } }
   model_cause file M present (Failed text is short rose kept told) = record { kind = StoreFailed; is = (codes "store\n", told); cause = record { model = M; present = present; is = (told, (text, (is, short, rose))) } }
@@ -76,20 +76,12 @@ module _ (old : ShellState) (reply : List ℕ) (new : ShellState) where
   save_cause : (file : List ℕ) → SaveStep old file reply new → HasCause filings (Save file) old reply new
   save_cause file h = by old.env.search refl h.answer
     where
-      shown : (S : PlainSearch) → old.env.search ≡ Some S → AnswersSave S old file reply new → HasCause filings (Save file) old reply new
-      shown S present (saving.Filed writes) = filed_cause file S present writes
-      shown S present (saving.Untold place code bad told kept) = record {
-        kind = FaultySearch;
-        is = (codes "warm place " ++ place ++ codes " code " ++ decimal code ++ codes "\n", told);
-        cause = (place, (code, (told, record { search = S; present = present; is = bad })));
-      }
-
       by : (search : Option PlainSearch) → old.env.search ≡ search → RepliesToSave search old file reply new → HasCause filings (Save file) old reply new
       by None none t = elim t.told [
         | inl told ↦ record { kind = NoModel; is = (codes "no model\n", told); cause = (told, none) }
         | inr told ↦ record { kind = WantsMemory; is = (codes "memory\n", told); cause = told }
       ]
-      by (Some S) present h = shown S present h
+      by (Some S) present h = filed_cause file S present h
 
   -- ---- the search of a file
 

@@ -1,7 +1,6 @@
 pub mod LoadLemmas
 pub mod WriteLemmas
 pub mod SaveLemmas
-pub mod StatedNames
 pub mod RestoreLemmas
 pub mod RestoredLaws
 pub mod CauseLemmas

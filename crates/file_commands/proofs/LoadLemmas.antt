@@ -1,12 +1,14 @@
--- What the reply to `load` tells, and the names of the model that it leaves.
-use Rattle.std.proofs.Common.{◌≡◌, ◌⊎◌, ℕ, ◌≤◌, List, refl, ap, sym, subst, ◌∙◌, inl, inr, Option, Some, Ok, Err, Result}
+-- What the reply to `load` tells, and the model that it leaves.
+use Rattle.std.proofs.Common.{◌≡◌, ◌⊎◌, ℕ, ◌≤◌, List, arith, refl, ap, sym, subst, ◌∙◌, inl, inr, Option, Some, Ok, Err, Result}
 use Rattle.std.specs.Prelude.{true, is_err, OnOk, OnErr, IfErr, IfSome}
 use Rattle.std.specs.Option.{option_map}
 use Rattle.sym_io.specs.Files.{Files}
 use Rattle.lp_model.specs.Program.{Program}
 use Rattle.mps_model.specs.Faults.{MeantModel}
-use Rattle.word_names.specs.WordNames.{HasWordNames}
+use Rattle.word_names.specs.ScriptModels.{IsScriptModel}
 use Rattle.sound_searches.specs.Sound.{PlainSearch}
+use Rattle.list_order.specs.Ordered.{IsInOrder}
+use Rattle.list_order.proofs.TakenOrder.{fresh-order}
 use Rattle.kept_env.specs.Env.{PlainEnv, Holds}
 use Rattle.kept_env.specs.declared.env.EnvFault.{EnvFault}
 use Rattle.kept_env.specs.declared.env.EnvFault.TheVariants.{Memory}
@@ -14,7 +16,7 @@ use Rattle.reply_texts.specs.Texts.{ok_text, memory_text}
 use Rattle.command_files.specs.Reading.{HasText}
 use Rattle.command_files.specs.declared.reading.Refusal.TheVariants as refusal
 use Rattle.command_family.specs.EnvFaults.{env_fault_text, reply_behind}
-use Rattle.command_family.specs.State.{shell_state, HasWords}
+use Rattle.command_family.specs.State.{shell_state, HasScriptModel, HasOrder}
 use Rattle.file_commands.specs.Load.{LoadStep}
 
 -- the reply tells whether it was
@@ -33,17 +35,27 @@ pub wants-step : (old new : PlainEnv) (files files' : Option Files) (faults faul
     → LoadStep (shell_state old files faults) name intupper memory_text (shell_state new files' faults')
 wants-step old new files files' faults faults' name intupper kept later same = record { files = kept; later = later; answer = inr (record { refusal = refusal.Memory; told = refl; cause = tt; kept = same }) }
 
-pub holds-words : (M : Program) (env : PlainEnv) → HasWordNames M → Holds M env → HasWords env
-holds-words M env names h = subst (λ (m : Option Program). IfSome m HasWordNames) (sym (ap (option_map (λ (S : PlainSearch). S.model)) h.search_is ∙ ap Some h.fresh.model)) names
+pub holds-script : (M : Program) (env : PlainEnv) → IsScriptModel M → Holds M env → HasScriptModel env
+holds-script M env names h = subst (λ (m : Option Program). IfSome m IsScriptModel) (sym (ap (option_map (λ (S : PlainSearch). S.model)) h.search_is ∙ ap Some h.fresh.model)) names
+
+holds-order : (M : Program) (env : PlainEnv) → Holds M env → HasOrder env
+holds-order M env h = subst (λ (o : Option PlainSearch). IfSome o IsInOrder) (sym h.search_is) (fresh-order.fresh M 1000000 h.search h.fresh (omega arith))
 
 -- what the environment's call did, with the reply behind it
 module _ (r : Result (Unit {0}) EnvFault) (old new : PlainEnv) (M : Program) (loaded : OnOk r (Holds M new)) (kept : OnErr r (new ≡ old)) where
-  pub load-words : HasWordNames M → HasWords old → HasWords new
-  load-words names words = by r loaded kept
+  pub load-script : IsScriptModel M → HasScriptModel old → HasScriptModel new
+  load-script names words = by r loaded kept
     where
-      by : (o : Result (Unit {0}) EnvFault) → OnOk o (Holds M new) → OnErr o (new ≡ old) → HasWords new
-      by (Ok done) h k = holds-words M new names h
-      by (Err f) h k = subst HasWords (sym k) words
+      by : (o : Result (Unit {0}) EnvFault) → OnOk o (Holds M new) → OnErr o (new ≡ old) → HasScriptModel new
+      by (Ok done) h k = holds-script M new names h
+      by (Err f) h k = subst HasScriptModel (sym k) words
+
+  pub load-order : HasOrder old → HasOrder new
+  load-order order = by r loaded kept
+    where
+      by : (o : Result (Unit {0}) EnvFault) → OnOk o (Holds M new) → OnErr o (new ≡ old) → HasOrder new
+      by (Ok done) h k = holds-order M new h
+      by (Err f) h k = subst HasOrder (sym k) order
 
   pub load-told : (before after : List ℕ) → before ≡ ok_text → IfErr r (λ f. f ≡ Memory) → after ≡ reply_behind r before → ((after ≡ ok_text) × Holds M new) ⊎ ((after ≡ memory_text) × (new ≡ old))
   load-told before after is = by r loaded kept

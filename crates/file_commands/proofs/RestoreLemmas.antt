@@ -1,25 +1,36 @@
--- What the reply to `restore` tells, and the names of the model that it leaves.
+-- What the reply to `restore` tells, and the model that it leaves.
 use Rattle.std.proofs.Common.{◌≡◌, ◌⊎◌, ℕ, ◌≤◌, List, subst, sym, ◌∙◌, refl, inl, inr, Option, Err}
 use Rattle.std.specs.Prelude.{Vec}
 use Rattle.std.specs.declared.alloc.Global.{Global}
 use Rattle.sym_io.specs.Files.{Files}
-use Rattle.word_names.specs.WordNames.{HasWordNames}
+use Rattle.lp_model.specs.Lawful.{IsLawful}
+use Rattle.word_names.specs.ScriptModels.{IsScriptModel}
 use Rattle.sound_searches.specs.Sound.{PlainSearch}
-use Rattle.search_file.specs.Files.{IsSearchFound}
+use Rattle.search_file.specs.Files.{IsStatedBy, IsSearchFound}
+use Rattle.search_file.proofs.OrderLaws.{stated-order}
 use Rattle.warm_file.specs.Searches.{IsFault}
 use Rattle.warm_file.specs.declared.fault.WarmFault.{WarmFault}
 use Rattle.warm_file.specs.declared.fault.WarmFault.TheVariants as warm
+use Rattle.warm_file.proofs.StatedModels.{stated-model}
 use Rattle.kept_env.specs.Env.{PlainEnv, without_answer}
 use Rattle.reply_texts.specs.Texts.{memory_text}
 use Rattle.shell_replies.specs.Faults.{warm_fault_text}
 use Rattle.command_files.specs.Reading.{HasText, ReadsText, refusal_text}
 use Rattle.command_files.specs.declared.reading.Refusal.{Refusal}
 use Rattle.command_files.specs.declared.reading.Refusal.TheVariants as refusal
-use Rattle.command_family.specs.State.{shell_state, HasWords}
+use Rattle.command_family.specs.State.{shell_state, HasScriptModel, HasOrder}
 use Rattle.file_commands.specs.Saving.{RestoresTo, TakesText, Taken, Faulty, Wanting, RestoresFile, RefusesFile, NoFile, LongFile, NoSearch, Unread, RestoreStep}
 
-pub search-words : (S : PlainSearch) (env : PlainEnv) → HasWordNames S.model → env ≡ without_answer S → HasWords env
-search-words S env names is = subst HasWords (sym is) names
+pub search-script : (S : PlainSearch) (env : PlainEnv) → IsScriptModel S.model → env ≡ without_answer S → HasScriptModel env
+search-script S env script is = subst HasScriptModel (sym is) script
+
+-- the model of a search that is made of what a text states
+pub restored-script : (text : List ℕ) (S : PlainSearch) → IsStatedBy text S → IsScriptModel S.model
+restored-script text S h = subst IsScriptModel (sym h.restores.model) (stated-model text h.stated h.states)
+
+-- and its lists
+pub restored-order : (text : List ℕ) (S : PlainSearch) (env : PlainEnv) → IsStatedBy text S → IsLawful S.model → env ≡ without_answer S → HasOrder env
+restored-order text S env stated lawful is = subst HasOrder (sym is) (stated-order text S stated lawful)
 
 -- the text states no search, or there was no memory
 pub text-untaken : (text : List ℕ) (env : PlainEnv) (reply : List ℕ) (f : WarmFault) → IsSearchFound text (Err f) → reply ≡ warm_fault_text f → TakesText text env reply env

@@ -5,18 +5,17 @@ use Rattle.sym_io.specs.Files.{Sets}
 use Rattle.sym_io.specs.declared.traits.TheConstants.{MAX_FILE_LENGTH}
 use Rattle.lp_model.specs.Program.{Program}
 use Rattle.sound_searches.specs.Sound.{PlainSearch}
-use Rattle.search_file.specs.Files.{own_text, IsTextOf}
+use Rattle.search_file.specs.Files.{IsTextOf}
 use Rattle.warm_file.specs.Searches.{IsFault}
 use Rattle.kept_env.specs.Env.{model_of}
 use Rattle.reply_texts.specs.Texts.{no_model_text, store_text, file_too_long_text, mps_text, warm_text, memory_text}
-use Rattle.command_files.specs.Filing.{IsWrittenModel}
-use Rattle.command_files.specs.Reading.{HasText, IsMissing, IsTooLong, IsFaulty}
+use Rattle.command_files.specs.Reading.{HasText, IsUnread, IsTooLong, IsFaulty}
 use Rattle.command_family.specs.Family.{Family}
 use Rattle.command_family.specs.Kinds.{Kind, Done, NoModel, StoreFailed, FileTooLong, FaultyText, FaultySearch, WantsMemory}
 use Rattle.command_family.specs.State.{ShellState}
 use Rattle.file_commands.specs.Load.{Loads, LoadStep}
 use Rattle.file_commands.specs.Saving.{SaveStep, RestoresFile, RestoreStep}
-use Rattle.file_commands.specs.Writing.{WriteStep}
+use Rattle.file_commands.specs.Writing.{IsModelText, WriteStep}
 
 pub data FileAsks : Type 0 where
   -- the model of a file, where an integer column without an upper bound has this one, if there is one
@@ -40,7 +39,7 @@ FileStep (Restore file) old reply new = RestoreStep old file reply new
 abbrev pub LoadCause : List ℕ → Option ℕ → Kind → ShellState → List ℕ → ShellState → Type 0
 -- the model that the file's text means is present from now on
 LoadCause file intupper Done old reply new = Loads old file intupper reply new
-LoadCause file intupper StoreFailed old reply new = (reply ≡ store_text) × (Rose old.faults new.faults ⊎ IsMissing old.files file)
+LoadCause file intupper StoreFailed old reply new = (reply ≡ store_text) × IsUnread old.files file old.faults new.faults
 LoadCause file intupper FileTooLong old reply new = (reply ≡ file_too_long_text) × IsTooLong old.files file
 LoadCause file intupper FaultyText old reply new = (line : ℕ) × ((code : ℕ) × ((reply ≡ mps_text line code) × HasText old.files file (IsFaulty intupper line code)))
 LoadCause file intupper WantsMemory old reply new = reply ≡ memory_text
@@ -54,11 +53,11 @@ pub record Wrote (old : ShellState) (P : Program → Type 0) : Type 0 where
 
 -- what a reply to `write` says for sure
 abbrev pub WriteCause : List ℕ → Kind → ShellState → List ℕ → ShellState → Type 0
--- the file has the canonical text of the model
-WriteCause file Done old reply new = Wrote old (λ M. (text : List ℕ) × (IsWrittenModel M text × (length text ≤ MAX_FILE_LENGTH) × Sets old.files new.files file text))
+-- the file has the canonical text of the model, which means it, unless a row is named by the marker word
+WriteCause file Done old reply new = Wrote old (λ M. (text : List ℕ) × (IsModelText M text × (length text ≤ MAX_FILE_LENGTH) × Sets old.files new.files file text))
 WriteCause file NoModel old reply new = (reply ≡ no_model_text) × (old.env.search ≡ None)
-WriteCause file StoreFailed old reply new = Wrote old (λ M. (reply ≡ store_text) × ((text : List ℕ) × (IsWrittenModel M text × (length text ≤ MAX_FILE_LENGTH) × Rose old.faults new.faults)))
-WriteCause file FileTooLong old reply new = Wrote old (λ M. (reply ≡ file_too_long_text) × ((text : List ℕ) × (IsWrittenModel M text × (MAX_FILE_LENGTH < length text))))
+WriteCause file StoreFailed old reply new = Wrote old (λ M. (reply ≡ store_text) × ((text : List ℕ) × (IsModelText M text × (length text ≤ MAX_FILE_LENGTH) × Rose old.faults new.faults)))
+WriteCause file FileTooLong old reply new = Wrote old (λ M. (reply ≡ file_too_long_text) × ((text : List ℕ) × (IsModelText M text × (MAX_FILE_LENGTH < length text))))
 WriteCause file WantsMemory old reply new = reply ≡ memory_text
 WriteCause file other old reply new = ⊥
 
@@ -75,8 +74,6 @@ SaveCause file Done old reply new = Saved old (λ S. (text : List ℕ) × (IsTex
 SaveCause file NoModel old reply new = (reply ≡ no_model_text) × (old.env.search ≡ None)
 SaveCause file StoreFailed old reply new = Saved old (λ S. (reply ≡ store_text) × ((text : List ℕ) × (IsTextOf S text × (length text ≤ MAX_FILE_LENGTH) × Rose old.faults new.faults)))
 SaveCause file FileTooLong old reply new = Saved old (λ S. (reply ≡ file_too_long_text) × ((text : List ℕ) × (IsTextOf S text × (MAX_FILE_LENGTH < length text))))
--- the first fault of the text that the search would have, which states none
-SaveCause file FaultySearch old reply new = (place : List ℕ) × ((code : ℕ) × ((reply ≡ warm_text place code) × Saved old (λ S. IsFault (own_text S) place code)))
 SaveCause file WantsMemory old reply new = reply ≡ memory_text
 SaveCause file other old reply new = ⊥
 
@@ -84,7 +81,7 @@ SaveCause file other old reply new = ⊥
 abbrev pub RestoreCause : List ℕ → Kind → ShellState → List ℕ → ShellState → Type 0
 -- the search that the file's text states is present from now on
 RestoreCause file Done old reply new = RestoresFile old file reply new
-RestoreCause file StoreFailed old reply new = (reply ≡ store_text) × (Rose old.faults new.faults ⊎ IsMissing old.files file)
+RestoreCause file StoreFailed old reply new = (reply ≡ store_text) × IsUnread old.files file old.faults new.faults
 RestoreCause file FileTooLong old reply new = (reply ≡ file_too_long_text) × IsTooLong old.files file
 -- the first fault of the file's text
 RestoreCause file FaultySearch old reply new = (place : List ℕ) × ((code : ℕ) × ((reply ≡ warm_text place code) × HasText old.files file (λ text. IsFault text place code)))

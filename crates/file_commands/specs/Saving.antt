@@ -1,28 +1,22 @@
 -- What `save F` and `restore F` may be answered, and what they leave.
 use Rattle.std.specs.Prelude.{◌≡◌, ◌⊎◌, ℕ, ◌≤◌, List, Option, Some, None}
-use Rattle.sym_io.specs.Faults.{Rose}
 use Rattle.sound_searches.specs.Sound.{PlainSearch}
-use Rattle.search_file.specs.Files.{own_text, IsTextOf, IsStatedBy}
+use Rattle.search_file.specs.Files.{IsTextOf, IsStatedBy}
 use Rattle.warm_file.specs.Searches.{IsFault}
 use Rattle.kept_env.specs.Env.{PlainEnv}
 use Rattle.kept_env.specs.declared.held.Held.TheVariants.{Nothing}
 use Rattle.reply_texts.specs.Texts.{ok_text, no_model_text, store_text, file_too_long_text, warm_text, memory_text}
 use Rattle.command_family.specs.State.{ShellState}
-use Rattle.command_files.specs.Reading.{HasText, IsMissing, IsTooLong}
+use Rattle.command_files.specs.Reading.{HasText, IsUnread, IsTooLong}
 use Rattle.command_files.specs.Filing.{Writes}
 use Rattle.command_family.specs.Unchanged.{IsTold}
 
 -- ---- save
 
--- the text of the search stands in the file, or why it does not; a text that states no search is not written, and its first fault is told
-pub data AnswersSave (S : PlainSearch) (old : ShellState) (name reply : List ℕ) (new : ShellState) : Type 0 where
-  Filed : Writes (IsTextOf S) name old.files old.faults reply new.files new.faults → AnswersSave S old name reply new
-  Untold : (place : List ℕ) (code : ℕ) → IsFault (own_text S) place code → reply ≡ warm_text place code → new.files ≡ old.files → AnswersSave S old name reply new
-
--- of the environment's search, if there is one
+-- the text of the environment's search, if there is one, stands in the file, or why it does not: it has a text that states it
 abbrev pub RepliesToSave : Option PlainSearch → ShellState → List ℕ → List ℕ → ShellState → Type 0
 RepliesToSave None old name reply new = IsTold old no_model_text reply new
-RepliesToSave (Some S) old name reply new = AnswersSave S old name reply new
+RepliesToSave (Some S) old name reply new = Writes (IsTextOf S) name old.files old.faults reply new.files new.faults
 
 -- the environment stays
 pub record SaveStep (old : ShellState) (name reply : List ℕ) (new : ShellState) : Type 0 where
@@ -51,7 +45,7 @@ pub data TakesText (text : List ℕ) (old : PlainEnv) (reply : List ℕ) (new : 
 
 -- why the file's search is not taken
 pub data RefusesFile (old : ShellState) (name reply : List ℕ) (new : ShellState) : Type 0 where
-  NoFile : Rose old.faults new.faults ⊎ IsMissing old.files name → reply ≡ store_text → RefusesFile old name reply new
+  NoFile : IsUnread old.files name old.faults new.faults → reply ≡ store_text → RefusesFile old name reply new
   LongFile : IsTooLong old.files name → reply ≡ file_too_long_text → RefusesFile old name reply new
   NoSearch : (place : List ℕ) (code : ℕ) → HasText old.files name (λ text. IsFault text place code) → reply ≡ warm_text place code → RefusesFile old name reply new
   Unread : reply ≡ memory_text → RefusesFile old name reply new

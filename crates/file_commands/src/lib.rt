@@ -13,7 +13,7 @@
 //! `read_warm_start`. A search without an open leaf that is saved and restored has none (`restored_law`).
 //!
 //! Public contract in one sentence: each call writes the reply of one step of that family, by the store's files and count of failures before
-//! and after, and leaves the environment that it says, each name of whose model is still a word of a line. Below stand the environment
+//! and after, and leaves the environment that it says, whose model is still one that scripts may have. Below stand the environment
 //! (`kept_env`), the reading and writing of models' files (`command_files`) and the texts of searches (`search_file`); above, the shell.
 #![tactic(auto)]
 

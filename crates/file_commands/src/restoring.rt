@@ -2,11 +2,12 @@
 ghost use Rattle.std.specs.Prelude.{◌≡◌, true, [], OnOk, OnErr};
 ghost use Rattle.command_words.specs.Names.{is_file_name};
 ghost use Rattle.reply_texts.specs.Texts.{memory_text};
-ghost use Rattle.command_family.specs.State.{shell_state, HasWords};
+ghost use Rattle.command_family.specs.State.{shell_state, HasScriptModel, HasOrder};
 ghost use Rattle.file_commands.specs.Saving.{TakesText, RestoreStep};
 
 use command_files::{read_text, write_refusal};
 use kept_env::Env;
+use reply_texts::OK_REPLY;
 use search_file::search_in;
 use shell_replies::write_warm_fault;
 use std::alloc::{AllocError, Global};
@@ -22,12 +23,14 @@ pub fn restore<S: Store>(
 ) -> Result<(), AllocError>
     requires name { is_file_name name.now ≡ true }
     requires empty { reply.old.items ≡ [] }
-    requires words { HasWords env.old }
+    requires script { HasScriptModel env.old }
+    requires order { HasOrder env.old }
     ensures answered { OnOk result (RestoreStep (shell_state env.old (S.files store.old) (S.faults store.old)) name.now reply.new.items
         (shell_state env.new (S.files store.new) (S.faults store.new))) }
     ensures unfinished { OnErr result (RestoreStep (shell_state env.old (S.files store.old) (S.faults store.old)) name.now memory_text
         (shell_state env.new (S.files store.new) (S.faults store.new))) }
-    ensures words { HasWords env.new }
+    ensures script { HasScriptModel env.new }
+    ensures order { HasOrder env.new }
 {
     match read_text(alloc, store, name) {
         Ok(text) => take_text(alloc, env, &text, reply),
@@ -44,14 +47,17 @@ fn take_text(
     reply: &mut Vec<u8>,
 ) -> Result<(), AllocError>
     requires empty { reply.old.items ≡ [] }
-    requires words { HasWords env.old }
+    requires script { HasScriptModel env.old }
+    requires order { HasOrder env.old }
     ensures answered { OnOk result (TakesText text.now env.old reply.new.items env.new) }
     ensures unfinished { OnErr result (env.new ≡ env.old) }
-    ensures words { HasWords env.new }
+    ensures script { HasScriptModel env.new }
+    ensures order { HasOrder env.new }
 {
-    reply.extend_from_slice(b"ok\n")?;
+    reply.extend_from_slice(OK_REPLY)?;
     match search_in(alloc, text) {
         Ok(search) => {
+            let _lawful = search.model().cols();
             env.restore(search);
             Ok(())
         }

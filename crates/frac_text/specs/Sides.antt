@@ -7,10 +7,14 @@ use Rattle.frac_text.specs.declared.numeral.Side.TheVariants.{Above, Between, Be
 use Rattle.frac_text.specs.declared.numeral.Numeral.{Numeral}
 use Rattle.frac_text.specs.declared.numeral.Numeral.TheVariants.{Number as NumberRead, Wide as WideRead, NotNumber}
 
+-- a bound of this magnitude on its own side of 0 bounds nothing
+abbrev pub far : ℚ
+far = int (pos (10 ^ 20))
+
 abbrev pub side_of : ℚ → Side
 side_of x =
-    if rational_le (int (pos (10 ^ 20))) x then Above
-    else if rational_le x (neg_ℚ (int (pos (10 ^ 20)))) then Below
+    if rational_le far x then Above
+    else if rational_le x (neg_ℚ far) then Below
     else Between
 
 abbrev pub numeral_of : Reading → Numeral
@@ -20,7 +24,7 @@ numeral_of NoNumber = NotNumber
 
 -- whether a magnitude is 10^20 or more
 abbrev pub reaches : ℚ → Bool
-reaches x = rational_le (int (pos (10 ^ 20))) x
+reaches x = rational_le far x
 
 abbrev pub side_from : Bool → Bool → Side
 side_from minus reached = if reached then (if minus then Below else Above) else Between

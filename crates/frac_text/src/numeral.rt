@@ -5,14 +5,17 @@ ghost use Rattle.frac128.specs.Rational.{int, ◌/ℚ◌};
 ghost use Rattle.frac128.specs.Range.{with_sign};
 ghost use Rattle.frac_text.specs.Spelling.{reading_of, is_digit, value_of, scaled};
 ghost use Rattle.frac_text.specs.Parsing.{AreDecimal, AreQuotient, decimal_says, quotient_says, decimal_coefficient, decimal_power};
-ghost use Rattle.frac_text.specs.Sides.{numeral_of, side_from, reaches};
+ghost use Rattle.frac_text.specs.Sides.{side_of, numeral_of, side_from, reaches};
 
 use crate::digits::{compare_digits, significant};
 use crate::parsing::{decimal, exponent, mantissa, quotient};
 use crate::spelling::{DecimalParts, Parts, QuotientParts, parts_of};
 use frac128::Frac;
 
-/// Where a number stands that is too wide for a `Frac`.
+/// A bound of this magnitude, 10^20, on its own side of 0 bounds nothing.
+pub const FAR: i128 = 100_000_000_000_000_000_000;
+
+/// Where a number stands beside `FAR` and its negative.
 #[derive(Clone, Copy)]
 pub enum Side {
     /// At 10^20 or above.
@@ -21,6 +24,22 @@ pub enum Side {
     Between,
     /// At -10^20 or below.
     Below,
+}
+
+impl Side {
+    /// Where the number stands.
+    pub fn of(number: &Frac) -> Side
+        ensures { result ≡ side_of number.now }
+    {
+        let far = Frac::of_whole(FAR);
+        if far.is_at_most(number) {
+            Side::Above
+        } else if number.is_at_most(&far.neg()) {
+            Side::Below
+        } else {
+            Side::Between
+        }
+    }
 }
 
 /// What bytes spell.

@@ -1,5 +1,6 @@
 // The cuts of a pool after an edit of the model.
 ghost use Rattle.std.specs.Prelude.{◌≡◌, ◌<◌, ◌++◌, ◌∷◌, [], length, map, IfOk, MatchResult};
+ghost use Rattle.lp_model.specs.Limits.{pool_limit};
 ghost use Rattle.lp_model.specs.Elements.{place_after};
 ghost use Rattle.lp_model.specs.Edits.{EditFits, edited};
 ghost use Rattle.lp_model.specs.declared.types.CutRow.{CutRow};
@@ -102,7 +103,7 @@ fn derivation_after(
 
 /// Notes the place of a cut that goes.
 fn note(gone: &mut Vec<CutId>, goes: bool, place: usize) -> Result<(), AllocError>
-    requires { place < 10000 }
+    requires { place < pool_limit }
     ensures { IfOk result (λ _. gone.new.items ≡ gone.old.items ++ one_if goes place) }
 {
     if !goes {
@@ -133,7 +134,7 @@ pub fn gone_with(
 
 /// Adds the cut of a derivation to a pool that has room. For want of memory the pool stays as it is.
 pub fn add_derivation(pool: &mut CutPool, model: &Model, from: Derivation) -> Result<(), AllocError>
-    requires { length pool.old < 10000 }
+    requires { length pool.old < pool_limit }
     ensures { MatchResult result (λ _. (c : CutRow) × ((pool.new ≡ pool.old ++ c ∷ []) × (c.from ≡ from) × IsCutOf model.now c)) (λ _. pool.new ≡ pool.old) }
 {
     match pool.add(model, from) {
@@ -153,7 +154,7 @@ fn keep(
     from: &Derivation,
 ) -> Result<(), AllocError>
     requires fits { EditFits old.now edit.now }
-    requires room { length after.old < 10000 }
+    requires room { length after.old < pool_limit }
     ensures { IfOk result (λ _. KeepsCut old.now edit.now new.now from.now after.old after.new) }
 {
     if goes_with(old, edit, from) {
@@ -206,7 +207,7 @@ fn keep_cut(
     requires fits { EditFits old.now edit.now }
     requires edited { new.now ≡ edited old.now edit.now }
     requires cut { IsCutOf old.now cut.now }
-    requires room { length after.old < 10000 }
+    requires room { length after.old < pool_limit }
     ensures { IfOk result (λ _. KeepsCut old.now edit.now new.now cut.now.from after.old after.new) }
 {
     if !spares(old, edit, &cut.from) {

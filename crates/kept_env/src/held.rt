@@ -1,4 +1,4 @@
-// Which answer an environment holds.
+// Which answer an environment holds, and which it may hold of a search that was worked.
 ghost use Rattle.std.specs.Prelude.{◌≡◌};
 ghost use Rattle.kept_env.specs.Worked.{held_beside, held_by};
 
@@ -7,11 +7,12 @@ use lp_model::{Answer, Point};
 /// Which answer an environment holds.
 #[derive(Drop)]
 pub enum Held {
-    /// None: no search went to its end since the model was loaded or edited, or since the last one began.
+    /// None: no search went to its end since the model was loaded or edited, since the search was trimmed or restored, or since the last one
+    /// began to be worked.
     Nothing,
     /// That of the search that stands, which has no open leaf.
     Finished,
-    /// That the model is unbounded, by this ray and the point that the search keeps.
+    /// That the model is unbounded, by this ray and the incumbent, which the search keeps.
     Unbounded(Point),
 }
 
@@ -25,7 +26,8 @@ fn held_beside(ray: Option<Point>) -> Held
     }
 }
 
-/// Which answer may be held of a search that was worked and has shown this, with the ray that was found beside it.
+/// Which answer may be held of a search that was worked and has shown this, with the ray beside which it was worked, if there was one: what
+/// stopped, or wanted memory, is not held.
 pub fn held_by(answer: &Answer, ray: Option<Point>) -> Held
     ensures { result ≡ held_by answer.now ray }
 {

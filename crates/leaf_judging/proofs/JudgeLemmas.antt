@@ -8,7 +8,7 @@ use Rattle.lp_model.specs.Program.{Program, HasWholeObjective}
 use Rattle.lp_model.specs.Regions.{Path}
 use Rattle.lp_model.specs.Formulations.{Formulation}
 use Rattle.lp_model.specs.declared.types.WideStep.{WideStep}
-use Rattle.leaf_dual.specs.Dual.{Multipliers, IsPositiveNumber, Reaches}
+use Rattle.leaf_dual.specs.Dual.{Multipliers, IsPositiveNumber, Reaches, ReachesIn}
 use Rattle.leaf_dual.specs.Answers.{IsLagAnswer, IsFarkasAnswer}
 use Rattle.leaf_dual.specs.declared.dual.LagValue.{LagValue}
 use Rattle.leaf_dual.specs.declared.dual.LagValue.TheVariants.{Minus, Num}
@@ -24,7 +24,7 @@ use Rattle.branch_tree.specs.declared.node.RegionLeaf.{RegionLeaf}
 use Rattle.branch_tree.proofs.VisitLemmas.{region_leaves-split}
 use Rattle.leaf_judging.specs.declared.closing.LeafNumber.{LeafNumber}
 use Rattle.leaf_judging.specs.declared.closing.LeafNumber.TheVariants.{Empty, Lag, Wide}
-use Rattle.leaf_judging.specs.Closing.{IsRefuted, IsNumber, NumberCloses, ReachesIn, IsJudged, IsJudgedLeaf}
+use Rattle.leaf_judging.specs.Closing.{IsRefuted, IsNumber, NumberCloses, IsJudged, IsJudgedLeaf}
 use Rattle.leaf_judging.specs.Choosing.{finite_number}
 
 -- ---- whole objectives

@@ -4,3 +4,4 @@ pub mod QueueLists
 pub mod NumberLemmas
 pub mod MarkLemmas
 pub mod SameNumber
+pub mod FreeLemmas

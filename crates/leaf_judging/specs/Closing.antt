@@ -2,12 +2,12 @@
 --     IsNumber F path mult farkas n            what a leaf's multipliers and Farkas multipliers say of its region
 --     NumberCloses M t n                       no feasible point of a leaf with this number has a value below t
 --     IsJudged F t path mult farkas state      the leaf is marked closed exactly where its number closes
-use Rattle.std.specs.Prelude.{◌⊎◌, true, false, [], ◌∷◌, Option, Some, None, Ok, Err}
+use Rattle.std.specs.Prelude.{◌⊎◌, [], ◌∷◌, Option, Some, None, Ok, Err}
 use Rattle.frac128.specs.Rational.{ℚ}
-use Rattle.lp_model.specs.Program.{Program, HasWholeObjective}
+use Rattle.lp_model.specs.Program.{Program}
 use Rattle.lp_model.specs.Regions.{Path, IsEmptyRegion}
 use Rattle.lp_model.specs.Formulations.{Formulation}
-use Rattle.leaf_dual.specs.Dual.{Multipliers, IsPositiveNumber, Reaches}
+use Rattle.leaf_dual.specs.Dual.{Multipliers, IsPositiveNumber, ReachesIn}
 use Rattle.leaf_dual.specs.Answers.{IsLagAnswer, IsFarkasAnswer}
 use Rattle.leaf_dual.specs.declared.dual.LagValue.{LagValue}
 use Rattle.branch_tree.specs.declared.node.LeafState.{LeafState}
@@ -29,10 +29,6 @@ abbrev pub IsNumber : Formulation → Path → Multipliers → Multipliers → L
 IsNumber F path mult farkas Empty = IsSetAside F path farkas
 IsNumber F path mult farkas (Lag v) = (¬ IsSetAside F path farkas) × IsLagAnswer F path mult (Ok v)
 IsNumber F path mult farkas (Wide step) = (¬ IsSetAside F path farkas) × IsLagAnswer F path mult (Err step)
-
--- the number is at least t, or, where the objective is whole and t is, its ceiling is
-abbrev pub ReachesIn : Program → LagValue → ℚ → Type 0
-ReachesIn M v t = Reaches v t false ⊎ (HasWholeObjective M 1 × Reaches v t true)
 
 abbrev pub NumberCloses : Program → Option ℚ → LeafNumber → Type 0
 NumberCloses M t Empty = Unit {0}

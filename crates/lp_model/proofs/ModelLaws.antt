@@ -8,7 +8,8 @@ use Rattle.frac128.specs.RationalRing.{ring, reads_ℚ}
 use Rattle.frac128.proofs.Integers.{IsWhole-int, IsWhole-+ℚ, IsWhole-*ℚ, IsWhole-sum_below}
 use Rattle.frac128.specs.Sums.{sum_below}
 use Rattle.lp_model.specs.Program.{Program, Point, coordinate, constant, cost, is_integer, lower, upper, low_side, high_side, value, IsFeasible, HasWholeObjective}
-use Rattle.lp_model.specs.Lawful.{row_limit, col_limit, IsRange, IsLawfulColumn, IsLawful}
+use Rattle.lp_model.specs.Lawful.{IsRange, IsLawfulColumn, IsLawful}
+use Rattle.lp_model.specs.Limits.{row_limit, col_limit}
 use Rattle.lp_model.proofs.ElementLemmas.{of_element-get, element}
 
 -- ---- lawful models, by place

@@ -1,21 +1,12 @@
 -- Which models there are: what every `Model` keeps.
-use Rattle.std.specs.Prelude.{◌≡◌, ◌≢◌, ℕ, suc, ◌<◌, ◌≤◌, Bool, if◌then◌else◌, IsTrue, List, [], ◌∷◌, length, map, All, AllPairs, sum_by, pos, Option, Some, None, IsSome}
+use Rattle.std.specs.Prelude.{◌≡◌, ◌≢◌, ℕ, suc, ◌<◌, ◌≤◌, Bool, IsTrue, List, [], ◌∷◌, length, map, All, AllPairs, sum_by, pos, Option, Some, None, IsSome}
 use Rattle.frac128.specs.Rational.{ℚ, int, ◌-ℚ◌, neg_ℚ, ◌≤ℚ◌}
 use Rattle.frac128.specs.Range.{SumFits}
 use Rattle.lp_model.specs.Program.{Program}
 use Rattle.lp_model.specs.Elements.{of_element}
+use Rattle.lp_model.specs.Limits.{row_limit, col_limit, entry_limit}
 use Rattle.lp_model.specs.declared.types.RowId.{RowId}
 use Rattle.lp_model.specs.declared.types.Col.{Col}
-
--- how many rows, columns and entries there may be: more in a model that was widened
-abbrev pub row_limit : Bool → ℕ
-row_limit wide = if wide then 502 else 500
-
-abbrev pub col_limit : Bool → ℕ
-col_limit wide = if wide then 1001 else 1000
-
-abbrev pub entry_limit : Bool → ℕ
-entry_limit wide = if wide then 52002 else 50000
 
 -- hi - lo and hi - (hi - lo) have room
 pub record AreNear (lo hi : ℚ) : Type 0 where

@@ -1,5 +1,5 @@
 -- What the objects in memory tell: their bytes, their plan of failing calls, and their faults so far.
-use Rattle.std.specs.Prelude.{ℕ, ◌+◌, List, [], ◌∷◌, drop, Vec, String}
+use Rattle.std.specs.Prelude.{ℕ, ◌+◌, ◌-◌, List, [], ◌∷◌, take, drop, Vec, String}
 use Rattle.std.specs.FinMap as map
 use Rattle.std.specs.String.{string_bytes}
 use Rattle.std.specs.declared.alloc.Global.{Global}
@@ -13,6 +13,10 @@ use Rattle.memory_ends.specs.Plan.{failures}
 -- the bytes that are left
 abbrev pub bytes_left : MemSource → List ℕ
 bytes_left source = drop source.position source.bytes.items
+
+-- the bytes that the last read has handed out
+abbrev pub last_piece : MemSource → List ℕ
+last_piece source = take source.last (drop (source.position - source.last) source.bytes.items)
 
 abbrev pub source_plan : MemSource → FaultPlan
 source_plan source = source.plan

@@ -19,8 +19,11 @@ fn copy_front(from: &[u8], to: &mut [u8]) -> usize
 pub struct MemSource {
     bytes: Vec<u8>,
     position: usize,
+    /// How many bytes the last read has handed out.
+    last: usize,
     plan: FaultPlan,
     ghost in_range: { position ≤ vec_len bytes },
+    ghost read: { last ≤ position },
 }
 
 impl MemSource {
@@ -35,6 +38,7 @@ impl MemSource {
         MemSource {
             bytes,
             position: 0,
+            last: 0,
             plan: FaultPlan::new(failing),
         }
     }
@@ -45,10 +49,13 @@ impl Source for MemSource {
     ghost use Rattle.std.specs.Io.{ReadsAtMost};
     ghost use Rattle.std.specs.Io.KnownBytes.{ReadConsumes};
     ghost use Rattle.sym_io.specs.Faults.{Rose};
-    ghost use Rattle.memory_ends.specs.Memory.{bytes_left, source_plan, source_faults};
+    ghost use Rattle.memory_ends.specs.Memory.{bytes_left, last_piece, source_plan, source_faults};
+    ghost use Rattle.sym_io.specs.Pieces.{handed_out};
     ghost use Rattle.memory_ends.specs.Plan.{call_fails, next_call};
 
     ghost left = { λ source. Some (bytes_left source) };
+
+    ghost handed = { λ source. Some (last_piece source) };
 
     ghost faults = { source_faults };
 
@@ -57,15 +64,18 @@ impl Source for MemSource {
         ensures counted { source_plan self.new ≡ next_call (source_plan self.old) }
         ensures bound { ReadsAtMost result buf.new }
         ensures bytes { ReadConsumes (Some (bytes_left self.old)) (Some (bytes_left self.new)) result buf.new }
+        ensures piece { last_piece self.new ≡ handed_out result buf.new }
         ensures later { source_faults self.old ≤ source_faults self.new }
         ensures failed { OnErr result (Rose (source_faults self.old) (source_faults self.new)) }
     {
+        self.last = 0;
         match self.plan.begin_call() {
             Ok(()) => {}
             Err(failed) => return Err(failed),
         }
         let count = copy_front(&self.bytes[self.position..], buf);
         self.position += count;
+        self.last = count;
         Ok(count)
     }
 }

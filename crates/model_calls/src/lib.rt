@@ -9,9 +9,11 @@
 #![tactic(auto)]
 
 mod calls;
+mod derivations;
 mod models;
 mod sections;
 
 pub use calls::{Callee, Calls};
+pub use derivations::derivation_of;
 pub use models::{call, push_answer, push_step};
 pub use sections::{has_section, numbers_of, section, take_number};

@@ -8,7 +8,7 @@ use Rattle.lp_model.specs.Elements.{of_element, without_at}
 use Rattle.lp_model.specs.Program.{Program}
 use Rattle.lp_model.specs.Lawful.{IsRange, IsLawfulColumn, AreWithinLimits, row_names, column_names, entry_count, IsLawful}
 use Rattle.lp_model.specs.Edits.{Named, number_beside, IsBounded, HasRange, side_or, with_sides, without_entry, replaced_entry, col_place, row_place, only_row_names, with_col, edited, subject, EditFits, KeepsLimits, AreKnown, IsNameTaken, HasSubject, IsPlaceOf}
-use Rattle.model_edits.specs.Changes.{column_changed, column_edit, IsBoundedAfter}
+use Rattle.model_edits.specs.private.Changes.{column_changed, column_edit, IsBoundedAfter}
 use Rattle.model_edits.specs.Faults.{EditBad, IsEditFault, PassesLimit}
 use Rattle.model_edits.specs.declared.changing.ColChange.{ColChange}
 use Rattle.model_edits.specs.declared.changing.ColChange.TheVariants.{Cost, Cost2, Bounds, Kind}

@@ -2,7 +2,8 @@
 --     EditBad M e f     f is the first fault of the edit, in the order unknown name, taken name, limit, missing bound, sides
 use Rattle.std.specs.Prelude.{◌≡◌, ◌⊎◌, ℕ, ◌<◌, ◌≤◌, Bool, List, length, get_or, take, All, Contains}
 use Rattle.lp_model.specs.Program.{Program}
-use Rattle.lp_model.specs.Lawful.{row_limit, col_limit, entry_limit, entry_count}
+use Rattle.lp_model.specs.Lawful.{entry_count}
+use Rattle.lp_model.specs.Limits.{row_limit, col_limit, entry_limit}
 use Rattle.lp_model.specs.Edits.{edited, subject, HasSubject, names_beside, known_names, IsBounded, HasRange, AreKnown, IsNameTaken, KeepsLimits}
 use Rattle.lp_model.specs.declared.types.Edit.{Edit}
 use Rattle.model_edits.specs.declared.faults.EditFault.{EditFault}

@@ -1,3 +1,3 @@
 pub mod Faults
-pub mod Changes
 pub mod Answers
+pub mod private

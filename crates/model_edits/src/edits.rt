@@ -11,7 +11,10 @@ use crate::faults::{EditFault, duplicate, integer_unbounded, ranged};
 use crate::names::{count_beside, entries_beside, has_name, is_same, number_beside, unknown_name};
 use crate::removing::{del_col, del_row, replace_row};
 use frac128::Frac;
-use lp_model::{Bound, Col, Edit, List, Model, Name, Row, RowId, copy_name, is_range, is_zero};
+use lp_model::{
+    Bound, COL_LIMIT, Col, ENTRY_LIMIT, Edit, List, Model, Name, ROW_LIMIT, Row, RowId, copy_name,
+    is_range, is_zero,
+};
 use std::alloc::{AllocError, Global};
 
 /// The model after an edit. A refused edit leaves the model as it was.
@@ -129,15 +132,19 @@ fn add_row_of(
 pub(crate) fn passed_limit(wide: bool, rows: usize, columns: usize, entries: usize) -> Option<u64>
     ensures { MatchOption result (AreWithinLimits wide rows columns entries) (PassesLimit wide rows columns entries) }
 {
-    let row_limit = if wide { 502 } else { 500 };
+    let row_limit = if wide { ROW_LIMIT + 2 } else { ROW_LIMIT };
     if rows > row_limit {
         return Some(row_limit as u64);
     }
-    let col_limit = if wide { 1001 } else { 1000 };
+    let col_limit = if wide { COL_LIMIT + 1 } else { COL_LIMIT };
     if columns > col_limit {
         return Some(col_limit as u64);
     }
-    let entry_limit = if wide { 52002 } else { 50000 };
+    let entry_limit = if wide {
+        ENTRY_LIMIT + 2002
+    } else {
+        ENTRY_LIMIT
+    };
     if entries > entry_limit {
         return Some(entry_limit as u64);
     }

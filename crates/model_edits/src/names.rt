@@ -5,7 +5,7 @@ ghost use Rattle.model_edits.specs.Faults.{IsFirstUnknown, IsUnknownName};
 
 use crate::faults::{EditFault, no_such};
 use frac128::Frac;
-use lp_model::{List, Name, Named, RowId, is_zero, place_of};
+use lp_model::{HasName, List, Name, RowId, is_zero, place_of};
 use std::alloc::{AllocError, Global};
 
 /// Whether two names have the same bytes.
@@ -16,7 +16,7 @@ pub fn is_same(first: &Name, second: &Name) -> bool
 }
 
 /// Whether one of the items has the name.
-pub fn has_name<T: Named>(items: &[T], name: &Name) -> bool
+pub fn has_name<T: HasName>(items: &[T], name: &Name) -> bool
     ensures { IsTrue result ↔ Contains (map T.name items.now) name.now }
 {
     place_of(items, name.as_slice()).is_some()
@@ -35,7 +35,7 @@ pub fn number_beside(name: &Name, named: &[(Name, Frac)]) -> Frac
 }
 
 /// The place of the first name that none of the items has.
-pub fn first_unknown<T: Named>(items: &[T], named: &[(Name, Frac)]) -> Option<usize>
+pub fn first_unknown<T: HasName>(items: &[T], named: &[(Name, Frac)]) -> Option<usize>
     ensures { MatchOption result (All (Contains (map T.name items.now)) (map (λ e. e.0) named.now)) (λ k. (k < length named.now) × IsFirstUnknown (map T.name items.now) (map (λ e. e.0) named.now) (get_or (map (λ e. e.0) named.now) k [])) }
 {
     for (place, (name, _)) in named.iter().enumerate() {
@@ -47,7 +47,7 @@ pub fn first_unknown<T: Named>(items: &[T], named: &[(Name, Frac)]) -> Option<us
 }
 
 /// The fault of the first name that none of the items has.
-pub(crate) fn unknown_name<T: Named>(items: &[T], named: &[(Name, Frac)]) -> Option<EditFault>
+pub(crate) fn unknown_name<T: HasName>(items: &[T], named: &[(Name, Frac)]) -> Option<EditFault>
     ensures { MatchOption result (All (Contains (map T.name items.now)) (map (λ e. e.0) named.now)) (IsUnknownName (map T.name items.now) (map (λ e. e.0) named.now)) }
 {
     match first_unknown(items, named) {
@@ -57,7 +57,7 @@ pub(crate) fn unknown_name<T: Named>(items: &[T], named: &[(Name, Frac)]) -> Opt
 }
 
 /// The places and the numbers of the items whose number is not 0.
-pub fn entries_beside<T: Named>(
+pub fn entries_beside<T: HasName>(
     alloc: Global,
     items: &[T],
     named: &[(Name, Frac)],
@@ -79,7 +79,7 @@ pub fn entries_beside<T: Named>(
 }
 
 /// How many of the items have a number that is not 0.
-pub fn count_beside<T: Named>(items: &[T], named: &[(Name, Frac)]) -> usize
+pub fn count_beside<T: HasName>(items: &[T], named: &[(Name, Frac)]) -> usize
     ensures count { result ≡ length (entries_beside 0 (map T.name items.now) named.now) }
     ensures few { result ≤ length items.now }
 {

@@ -9,7 +9,8 @@ use Rattle.frac128.specs.Rational.{int, ◌*ℚ◌, floor, ceil}
 use Rattle.frac128.specs.Sums.{sum_below}
 use Rattle.lp_model.specs.Elements.{of_element}
 use Rattle.lp_model.specs.Program.{Program, Point, coordinate, coefficient, entry_of, lower, upper, is_integer, low_side, high_side, Within, IsAllowed, ColumnHolds, RowHolds, IsFeasible}
-use Rattle.lp_model.specs.Lawful.{col_limit, entry_limit, IsLawfulColumn, IsLawful}
+use Rattle.lp_model.specs.Lawful.{IsLawfulColumn, IsLawful}
+use Rattle.lp_model.specs.Limits.{col_limit, entry_limit}
 use Rattle.lp_model.specs.Regions.{Path, low_along, high_along, region_low, region_high, IsCrossed, IsEmptyRegion}
 use Rattle.lp_model.specs.declared.types.Col.{Col}
 use Rattle.model_points.specs.Rays.{without_cost, without_costs}

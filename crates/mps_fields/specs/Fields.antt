@@ -2,6 +2,7 @@
 use Rattle.std.specs.Prelude.{ℕ, ◌-◌, Bool, true, false, ◌&&◌, ◌||◌, ◌==◌, if◌then◌else◌, nat_le, nat_lt, List, [], ◌∷◌, length, map, Option, None, Some}
 use Rattle.std.specs.List.{list_any}
 use Rattle.frac_text.specs.Parsing.{spelled_number}
+use Rattle.lp_model.specs.Limits.{name_limit}
 use Rattle.lp_model.specs.declared.types.Sense.{Sense}
 use Rattle.mps_text.specs.Text.{Entry}
 use Rattle.mps_fields.specs.Words.{among, word, section_of, is_ended, sense_of, takes_number}
@@ -56,9 +57,9 @@ bound_field e = word (length e.words - 1) e
 abbrev pub has_count : Entry → ℕ → ℕ → Bool
 has_count e fewest most = nat_le fewest (length e.words) && nat_le (length e.words) most
 
--- a row or column name of more than 255 bytes
+-- a row or column name of more bytes than one may have
 abbrev pub is_long_name : List ℕ → Bool
-is_long_name name = nat_lt 255 (length name)
+is_long_name name = nat_lt name_limit (length name)
 
 abbrev pub is_unknown_sense : Option Sense → Bool
 is_unknown_sense None = true

@@ -2,7 +2,7 @@
 use Rattle.std.specs.Prelude.{ℕ, ◌^◌, Bool, true, false, not, ◌||◌, if◌then◌else◌, List, codes, Option, None, Some, Result, Ok, Err, pos}
 use Rattle.std.specs.Ordering.{int_eq}
 use Rattle.frac128.specs.Rational.{ℚ, int, neg_ℚ, rational_le}
-use Rattle.frac_text.specs.Sides.{numeral_of}
+use Rattle.frac_text.specs.Sides.{side_of, numeral_of}
 use Rattle.frac_text.specs.declared.numeral.Side.{Side}
 use Rattle.frac_text.specs.declared.numeral.Side.TheVariants.{Above, Between, Below}
 use Rattle.frac_text.specs.declared.numeral.Numeral.{Numeral}
@@ -51,11 +51,14 @@ is_too_wide (Err TooWide) = true
 abbrev pub is_infinite_word : List ℕ → Bool
 is_infinite_word field = is_key (codes "INF") (without_sign field) || is_key (codes "INFINITY") (without_sign field)
 
-abbrev pub within : ℚ → Limit
-within x =
-    if rational_le (int (pos (10 ^ 20))) x then Plus
-    else if rational_le x (neg_ℚ (int (pos (10 ^ 20)))) then Minus
-    else Finite x
+-- the limit that a number states that stands so
+abbrev pub limit_beside : Side → ℚ → Limit
+limit_beside Above x = Plus
+limit_beside Below x = Minus
+limit_beside Between x = Finite x
+
+abbrev pub limit_at : ℚ → Limit
+limit_at x = limit_beside (side_of x) x
 
 -- a number that is too wide counts by the side at which it stands
 abbrev pub limit_at_side : Side → Result Limit NumFault
@@ -64,7 +67,7 @@ limit_at_side Below = Ok Minus
 limit_at_side Between = Err TooWide
 
 abbrev pub limit_read : Numeral → Result Limit NumFault
-limit_read (Number x) = Ok (within x)
+limit_read (Number x) = Ok (limit_at x)
 limit_read (Wide side) = limit_at_side side
 limit_read NoNumber = Err NotNumber
 

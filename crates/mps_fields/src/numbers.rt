@@ -1,7 +1,7 @@
 // The numbers of a text, and the limits that BOUNDS states.
 ghost use Rattle.std.specs.Prelude.{◌≡◌};
 ghost use Rattle.frac128.specs.Rational.{rational_le};
-ghost use Rattle.mps_fields.specs.Numbers.{is_zero_number, limit_of, limit_or_plus, within, limit_at_side, infinite, is_infinite_word, is_misplaced, is_not_number, is_too_wide, finite, is_below_zero};
+ghost use Rattle.mps_fields.specs.Numbers.{is_zero_number, limit_of, limit_or_plus, limit_at, limit_at_side, infinite, is_infinite_word, is_misplaced, is_not_number, is_too_wide, finite, is_below_zero};
 
 use crate::words::{BoundKind, is_key};
 use frac_text::{NumFault, Numeral, Side, behind_sign, has_minus};
@@ -45,15 +45,12 @@ fn is_at_most(number: &Frac, other: &Frac) -> bool
 
 /// What a number with room states as a limit.
 fn limit_at(number: Frac) -> Limit
-    ensures { result ≡ within number }
+    ensures { result ≡ limit_at number }
 {
-    let infinity = Frac::of_whole(100_000_000_000_000_000_000);
-    if is_at_most(&infinity, &number) {
-        Limit::Plus
-    } else if is_at_most(&number, &infinity.neg()) {
-        Limit::Minus
-    } else {
-        Limit::Finite(number)
+    match Side::of(&number) {
+        Side::Above => Limit::Plus,
+        Side::Below => Limit::Minus,
+        Side::Between => Limit::Finite(number),
     }
 }
 

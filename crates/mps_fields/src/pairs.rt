@@ -5,6 +5,7 @@ ghost use Rattle.mps_fields.specs.Fields.{has_count, is_long_name, pairs, column
 
 use crate::pair::{Pair, Pairs};
 use crate::words::LineKind;
+use lp_model::NAME_LIMIT;
 use mps_text::{Fields, Record};
 
 /// Whether a line has at least and at most so many fields.
@@ -73,9 +74,9 @@ pub fn pairs_on<'a>(kind: LineKind, entry: &Record<'a>) -> Pairs<'a>
     }
 }
 
-/// Whether a name has more than 255 bytes.
+/// Whether a name has more than `NAME_LIMIT` bytes.
 pub fn is_long(name: &[u8]) -> bool
     ensures { result ≡ is_long_name name.now }
 {
-    name.len() > 255
+    name.len() > NAME_LIMIT
 }

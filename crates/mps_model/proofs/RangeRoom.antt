@@ -2,33 +2,20 @@
 -- the high one.
 use Rattle.std.proofs.Common.{◌≡◌, ℕ, ◌≤◌, Bool, true, false, not, [], ◌∷◌, refl, sym, ◌∙◌, ap, pos, arith}
 use Rattle.std.specs.Prelude.{nat_le, if◌then◌else◌, Option, None, Some, IfSome}
-use Rattle.std.specs.Bool.{Decides}
 use Rattle.std.proofs.lemmas.Bool.{and_parts, true≢false, false_from_ne_true}
-use Rattle.std.proofs.lemmas.Bool.Decides.{nat_tests}
-use Rattle.std.proofs.lemmas.Bool.Decides.{Decides-and}
 use Rattle.frac128.specs.Rational.{ℚ, int, neg_ℚ, ◌+ℚ◌, ◌-ℚ◌, ◌≤ℚ◌, rational_le}
 use Rattle.frac128.proofs.Comparison.{rational_le-decides}
 use Rattle.frac128.specs.RationalOrder.{≤ℚ_of_<ℚ, <ℚ_from_not, linear}
 use Rattle.frac128.specs.RationalRing.{reads_ℚ}
-use Rattle.frac128.specs.Range.{Fits, SumFits}
+use Rattle.frac128.specs.Range.{Fits, SumFits, sum_fits}
+use Rattle.frac128.proofs.RoomTests.{sum_fits-decides}
 use Rattle.lp_model.specs.Lawful.{AreNear, IsRange}
 use Rattle.mps_fields.specs.Numbers.{is_negative, absolute}
 use Rattle.mps_fields.specs.declared.words.RowKind.{RowKind}
 use Rattle.mps_fields.specs.declared.words.RowKind.TheVariants.{Free, AtMost, AtLeast, Equal}
-use Rattle.mps_model.specs.Ranges.{ranged_low, ranged_high, sum_fits, difference_fits, side_fits, are_near, has_room}
+use Rattle.mps_model.specs.Ranges.{ranged_low, ranged_high, difference_fits, side_fits, are_near, has_room}
 use Rattle.mps_model.specs.Meaning.{low_side_with, high_side_with}
 use Rattle.mps_model.proofs.RowRanges.{sides_range}
-
-le-decides : (a b : ℕ) → Decides (nat_le a b) (a ≤ b)
-le-decides a b = ((λ e. grind (arith, nat_tests)), (λ h. grind (arith, nat_tests)))
-
-pub sum_fits-decides : (x y : ℚ) → Decides (sum_fits x y) (SumFits x y)
-unfolding sum_fits
-sum_fits-decides x y =
-    let d = Decides-and _ _ (Decides-and _ _ (Decides-and _ _ (le-decides _ _) (le-decides _ _)) (le-decides _ _)) (le-decides _ _) in (
-      (λ e. let p = d.0 e in record { left = p.0.0.0; right = p.0.0.1; total = p.0.1; denominator = p.1 }),
-      (λ f. d.1 (((f.left, f.right), f.total), f.denominator)),
-    )
 
 near_where : (lo hi : ℚ) → are_near lo hi ≡ true → AreNear lo hi
 near_where lo hi e =

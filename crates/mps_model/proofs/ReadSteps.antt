@@ -7,18 +7,17 @@ use Rattle.mps_text.specs.declared.lines.LineFault.{LineFault}
 use Rattle.mps_sections.specs.Shown.{flaw_shown}
 use Rattle.mps_sections.specs.declared.statements.BoundLine.{BoundLine}
 use Rattle.mps_sections.specs.declared.statements.ColumnLines.{ColumnLines}
-use Rattle.mps_sections.specs.ReadingOf.{AreSectionsOf, IsLineFault, OnLine, NoEnd}
+use Rattle.mps_sections.specs.ReadingOf.{AreSectionsOf, IsLineFault}
 use Rattle.mps_sections.specs.declared.statements.Sections.{Sections}
 use Rattle.mps_model.specs.Meaning.{span_of, model_of}
 use Rattle.mps_model.specs.declared.spans.Span.{Span}
-use Rattle.mps_model.specs.Faults.{column_flaw, sections_flaw, flaw_of_whole, FaultyModel, OnLine as FaultyOnLine, NoEnd as FaultyNoEnd, InWhole}
+use Rattle.mps_model.specs.Faults.{column_flaw, sections_flaw, flaw_of_whole, FaultyModel, InLines, InWhole}
 use Rattle.mps_model.specs.Answers.{IsModelAnswer, IsSectionsAnswer}
 use Rattle.mps_model.specs.declared.reader.MpsFault.{MpsFault}
 use Rattle.mps_model.specs.declared.reader.MpsFault.TheVariants.{Bad, Memory}
 
 pub of_line : (text : List ℕ) (intupper : Option ℕ) (flaw : Flaw) → IsLineFault text flaw → FaultyModel text intupper flaw
-of_line text intupper flaw (OnLine h) = FaultyOnLine h
-of_line text intupper flaw (NoEnd h is) = FaultyNoEnd h is
+of_line text intupper flaw h = InLines h
 
 flaw_stated : (text : List ℕ) (intupper : Option ℕ) (s : Sections) (found : Option Flaw) (w : AreSectionsOf text s) → sections_flaw s intupper ≡ found → flaw_of_whole w.entries intupper ≡ found
 unfolding flaw_of_whole

@@ -1,7 +1,7 @@
 -- The sides that RANGES gives a row, and whether their numbers have room.
-use Rattle.std.specs.Prelude.{◌*◌, Bool, ◌&&◌, if◌then◌else◌, nat_le, pos, ◌+ℤ◌, ◌*ℤ◌}
-use Rattle.frac128.specs.Rational.{ℚ, den, ◌+ℚ◌, ◌-ℚ◌, neg_ℚ}
-use Rattle.frac128.specs.Range.{largest, is_narrow, left_factor, right_factor}
+use Rattle.std.specs.Prelude.{Bool, ◌&&◌, if◌then◌else◌}
+use Rattle.frac128.specs.Rational.{ℚ, ◌+ℚ◌, ◌-ℚ◌, neg_ℚ}
+use Rattle.frac128.specs.Range.{sum_fits}
 use Rattle.mps_fields.specs.Numbers.{is_negative, absolute}
 use Rattle.mps_fields.specs.declared.words.RowKind.{RowKind}
 use Rattle.mps_fields.specs.declared.words.RowKind.TheVariants.{AtMost, AtLeast}
@@ -22,12 +22,6 @@ ranged_high AtLeast x r = x +ℚ absolute r
 ranged_high kind x r = if is_negative r then x else x +ℚ r
 
 -- ---- room
-
--- the four numbers on the way to the sum have room
-unfoldable pub sum_fits : ℚ → ℚ → Bool
-sum_fits x y =
-    is_narrow (x.num *ℤ pos (left_factor x y)) && is_narrow (y.num *ℤ pos (right_factor x y))
-    && is_narrow (x.num *ℤ pos (left_factor x y) +ℤ y.num *ℤ pos (right_factor x y)) && nat_le (den x * left_factor x y) largest
 
 abbrev pub difference_fits : ℚ → ℚ → Bool
 difference_fits x y = sum_fits x (neg_ℚ y)

@@ -6,7 +6,7 @@ ghost use Rattle.mps_sections.specs.Statements.{stated_row_names};
 ghost use Rattle.mps_sections.specs.Limits.{AreNamesApart, StatesWithinLimits};
 ghost use Rattle.mps_model.specs.Meaning.{row_with, row_of, row_numbers_beside, column_of, model_of, span_of, beside_objective, beside_second};
 ghost use Rattle.mps_model.specs.Ranges.{has_room};
-ghost use Rattle.mps_model.specs.Tables.{IsRowTableOf};
+ghost use Rattle.mps_model.specs.private.Tables.{IsRowTableOf};
 ghost use Rattle.mps_model.specs.Faults.{column_flaw, range_flaw};
 
 use crate::beside::{beside_objective, beside_second, entries_of, numbers_beside};

@@ -2,7 +2,8 @@
 ghost use Rattle.std.specs.Prelude.{◌≡◌, true, false, IfSome, MatchOption};
 ghost use Rattle.frac128.specs.Rational.{◌+ℚ◌, ◌-ℚ◌};
 ghost use Rattle.mps_fields.specs.Numbers.{is_negative, absolute};
-ghost use Rattle.mps_model.specs.Ranges.{sum_fits, difference_fits, side_fits, are_near, has_room, ranged_low, ranged_high};
+ghost use Rattle.frac128.specs.Range.{sum_fits};
+ghost use Rattle.mps_model.specs.Ranges.{difference_fits, side_fits, are_near, has_room, ranged_low, ranged_high};
 ghost use Rattle.mps_model.specs.Meaning.{low_side_by_kind, high_side_by_kind, low_side_with, high_side_with, range_beside};
 
 use frac128::Frac;

@@ -3,7 +3,7 @@ ghost use Rattle.std.specs.Prelude.{◌≡◌, map};
 ghost use Rattle.mps_sections.specs.Limits.{StatesWithinLimits};
 ghost use Rattle.mps_sections.specs.Shown.{flaw_shown};
 ghost use Rattle.mps_model.specs.Meaning.{span_of};
-ghost use Rattle.mps_model.specs.Tables.{IsRowTableOf};
+ghost use Rattle.mps_model.specs.private.Tables.{IsRowTableOf};
 ghost use Rattle.mps_model.specs.Faults.{sections_flaw};
 ghost use Rattle.mps_model.specs.declared.reader.MpsFault.TheVariants.{Bad};
 ghost use Rattle.mps_model.specs.Answers.{IsModelAnswer, IsSectionsAnswer};

@@ -4,7 +4,7 @@ ghost use Rattle.mps_sections.specs.Statements.{stated_row_names};
 ghost use Rattle.mps_sections.specs.Limits.{AreNamesApart};
 ghost use Rattle.mps_sections.specs.Shown.{flaw_shown};
 ghost use Rattle.mps_model.specs.Faults.{code_of_range, range_flaw};
-ghost use Rattle.mps_model.specs.Tables.{IsRowTableOf};
+ghost use Rattle.mps_model.specs.private.Tables.{IsRowTableOf};
 
 use crate::beside::numbers_beside;
 use crate::names::{Names, names_of_rows};

@@ -2,6 +2,7 @@
 use Rattle.std.specs.Prelude.{◌≡◌, ℕ, ◌+◌, Bool, true, false, not, ◌&&◌, ◌||◌, if◌then◌else◌, nat_le, nat_lt, List, [], ◌∷◌, ◌++◌, length, map, codes, bytes_eq, Option, None, Some, Ok, Err}
 use Rattle.std.specs.List.{list_any}
 use Rattle.mps_text.specs.Text.{Entry, Flaw, Item}
+use Rattle.lp_model.specs.Limits.{row_limit, col_limit, entry_limit}
 use Rattle.lp_model.specs.declared.types.Sense.{Sense}
 use Rattle.mps_fields.specs.Fields.{has_count, is_long_name, is_unknown_sense, has_unknown_sense, has_twice, has_long, has_not_number, has_too_wide, is_end, Pair, column_pairs, set_pairs, bound_column, bound_field}
 use Rattle.mps_fields.specs.Words.{is_key, among, word, section_of, section_rank, bars, is_rows, is_columns, is_name_section, is_sense_section, line_kind, sense_of, row_kind, bound_kind, takes_number}
@@ -93,7 +94,7 @@ row_tests s e =
     -- a row name twice
     ∷ (9, is_known s (word 1 e))
     -- the 501st row
-    ∷ (10, has_sides (row_kind (word 0 e)) && nat_le 500 (length s.rows))
+    ∷ (10, has_sides (row_kind (word 0 e)) && nat_le (row_limit false) (length s.rows))
     ∷ []
 
 -- ---- COLUMNS
@@ -139,9 +140,9 @@ place_tests s name found =
     -- one row twice in one column, whose earlier lines are the last ones
     ∷ (15, has_twice found || (is_last s.columns name && has_again (numbers_of_last s.columns) found))
     -- the 1,001st column
-    ∷ (16, not (is_column s.columns name) && nat_le 1000 (length s.columns))
+    ∷ (16, not (is_column s.columns name) && nat_le (col_limit false) (length s.columns))
     -- the 50,001st non-zero number beside a row with sides
-    ∷ (17, nat_lt 50000 (s.count + length (coefficients_in s.rows (map read_pair found))))
+    ∷ (17, nat_lt (entry_limit false) (s.count + length (coefficients_in s.rows (map read_pair found))))
     ∷ []
 
 abbrev pub column_tests : StatedModel → Entry → List Test

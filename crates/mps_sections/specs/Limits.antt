@@ -1,6 +1,7 @@
 -- What the lines of a text without fault keep: few rows, columns and coefficients, names that differ, also those of the rows
 -- of type N, and no row of type N that has sides.
 use Rattle.std.specs.Prelude.{◌≡◌, ◌≢◌, ℕ, ◌≤◌, true, false, List, length, map, sum_by, AllPairs}
+use Rattle.lp_model.specs.Limits.{row_limit, col_limit, entry_limit}
 use Rattle.mps_fields.specs.Words.{among}
 use Rattle.mps_sections.specs.Statements.{is_row_name, coefficients_in, stated_row_names}
 use Rattle.mps_sections.specs.declared.statements.Sections.{Sections}
@@ -23,9 +24,9 @@ abbrev pub coefficient_count : List RowLine → List ColumnLines → ℕ
 coefficient_count sided found = sum_by (λ c. length (coefficients_in sided c.numbers)) found
 
 pub record StatesWithinLimits (s : Sections) : Type 0 where
-  pub few_rows : length s.rows ≤ 500
-  pub few_columns : length s.columns ≤ 1000
-  pub few_coefficients : coefficient_count s.rows s.columns ≤ 50000
+  pub few_rows : length s.rows ≤ row_limit false
+  pub few_columns : length s.columns ≤ col_limit false
+  pub few_coefficients : coefficient_count s.rows s.columns ≤ entry_limit false
   pub rows_apart : AreNamesApart (stated_row_names s.rows)
   pub columns_apart : AreNamesApart (names_of_columns s.columns)
   pub objectives_differ : AreNamesApart s.objectives

@@ -1,5 +1,5 @@
 // What a text has stated so far, and the fault of a line that comes next.
-ghost use Rattle.std.specs.Prelude.{◌≡◌, ◌+◌, ◌≤◌, [], ◌∷◌, ◌++◌, true, IfOk, OnOk, length, map, nat_lt, not, ◌&&◌, ◌||◌, option_to_list, Some};
+ghost use Rattle.std.specs.Prelude.{◌≡◌, ◌+◌, ◌≤◌, [], ◌∷◌, ◌++◌, true, IfOk, OnOk, length, map, nat_lt, not, ◌&&◌, ◌||◌, option_to_list, Some, false};
 ghost use Rattle.std.specs.List.{list_any};
 ghost use Rattle.mps_text.specs.Reading.{entry_of_record};
 ghost use Rattle.mps_fields.specs.Words.{word, is_marker, section_rank, is_rows, is_columns, is_name_section, is_sense_section, line_kind as kind_of_line};
@@ -7,6 +7,7 @@ ghost use Rattle.mps_sections.specs.Statements.{StatedModel, stated, sections_in
 ghost use Rattle.mps_fields.specs.Fields.{has_count as has_fields, column_pairs as pairs_in_column, set_pairs as pairs_behind_set, bound_column as column_of_bound, bound_field, has_twice, has_unknown_sense as is_without_sense, has_not_number, has_too_wide};
 ghost use Rattle.mps_sections.specs.HeaderTests.{is_asked};
 ghost use Rattle.mps_sections.specs.Faults.{least, has_sense, most_fields, tests_of, section_tests, sense_tests, row_tests, marker_tests, column_tests, set_tests, rhs_tests, range_tests, bound_tests, place_tests, pair_tests, has_again, is_ranged_again, has_free_row, has_unknown, is_late, lacks_section, code_in};
+ghost use Rattle.lp_model.specs.Limits.{entry_limit};
 
 use crate::columns::Columns;
 use crate::names::{copied, count_coefficients};
@@ -14,7 +15,7 @@ use crate::numbered::Numbered;
 use crate::ranges::Ranges;
 use crate::rows::Rows;
 use crate::statements::{BoundLine, Sections};
-use lp_model::{List, Sense};
+use lp_model::{COL_LIMIT, ENTRY_LIMIT, List, ROW_LIMIT, Sense};
 use mps_fields::{
     BoundKind, LineKind, Pairs, RowKind, Section, first_word, has_count, has_unknown_sense,
     header_sense, is_key, is_long, is_misplaced, is_no_limit, is_wide_limit, limit_of,
@@ -37,7 +38,7 @@ pub(crate) struct Tables {
     pub sides: Numbered,
     pub ranges: Ranges,
     pub bounds: List<BoundLine>,
-    ghost few: { count ≤ 50000 },
+    ghost few: { count ≤ entry_limit false },
 }
 
 /// Which of the headers are looked for: those behind which a section can no longer come, that of ROWS, or that of COLUMNS.
@@ -287,7 +288,7 @@ impl Tables {
         };
         if self.rows.contains(name) {
             Some(9)
-        } else if !matches!(kind, RowKind::Free) && self.rows.sided.as_slice().len() >= 500 {
+        } else if !matches!(kind, RowKind::Free) && self.rows.sided.as_slice().len() >= ROW_LIMIT {
             Some(10)
         } else {
             None
@@ -324,9 +325,10 @@ impl Tables {
     /// Whether the pairs have too many coefficients. They have two at most, so most lines need no count here.
     #[tactic(auto, using(crate::proofs::PairCounts::two_at_most))]
     fn has_too_many(&self, pairs: &Pairs) -> bool
-        ensures { result ≡ nat_lt 50000 (self.now.count + length (coefficients_in self.now.rows.sided (map read_pair (pairs_shown pairs.now)))) }
+        ensures { result ≡ nat_lt (entry_limit false) (self.now.count + length (coefficients_in self.now.rows.sided (map read_pair (pairs_shown pairs.now)))) }
     {
-        self.count > 49998 && self.count + count_coefficients(&self.rows, pairs) > 50000
+        let limit = ENTRY_LIMIT as u64;
+        self.count > limit - 2 && self.count + count_coefficients(&self.rows, pairs) > limit
     }
 
     /// The least fault of a column's line by the columns before it.
@@ -341,7 +343,7 @@ impl Tables {
         if pairs.has_twice() | (last & self.columns.has_again(pairs)) {
             return Some(15);
         }
-        if !stands & (self.columns.len() >= 1000) {
+        if !stands & (self.columns.len() >= COL_LIMIT) {
             return Some(16);
         }
         if self.has_too_many(pairs) {
@@ -538,7 +540,7 @@ impl Tables {
         pairs: &Pairs,
     ) -> Result<(), AllocError>
         requires pairs { pairs_shown pairs.now ≡ pairs_in_column (entry_of_record entry.now) }
-        requires few { self.old.count + length (coefficients_in self.old.rows.sided (map read_pair (pairs_in_column (entry_of_record entry.now)))) ≤ 50000 }
+        requires few { self.old.count + length (coefficients_in self.old.rows.sided (map read_pair (pairs_in_column (entry_of_record entry.now)))) ≤ entry_limit false }
         ensures { OnOk result (held self.new ≡ after_kind LineKind.Column (held self.old) (entry_of_record entry.now)) }
     {
         let name = first_word(entry);

@@ -11,11 +11,12 @@ use Rattle.frac128.specs.RationalOrder.{not_both_ℚ}
 use Rattle.frac128.specs.Range.{Fits, IsNarrow}
 use Rattle.frac128.proofs.Printed.{printed-whole, printed-fraction}
 use Rattle.frac128.specs.Printing.{printed}
-use Rattle.frac_text.specs.Sides.{numeral_of}
+use Rattle.frac_text.specs.Sides.{far, numeral_of}
+use Rattle.frac_text.specs.declared.numeral.Side.TheVariants.{Above, Between, Below}
 use Rattle.frac_text.specs.Spelling.{reading_of, is_minus, without_sign}
 use Rattle.frac_text.proofs.PrintedReads.{reading_of-printed}
 use Rattle.mps_fields.specs.Words.{is_key, upper_case, line_kind}
-use Rattle.mps_fields.specs.Numbers.{within, limit_read, infinite, limit_of, limit_or_plus, limit, is_infinite_word, is_not_number, is_too_wide, is_misplaced}
+use Rattle.mps_fields.specs.Numbers.{limit_beside, limit_at, limit_read, infinite, limit_of, limit_or_plus, limit, is_infinite_word, is_not_number, is_too_wide, is_misplaced}
 use Rattle.mps_sections.specs.Statements.{StatedModel, is_column}
 use Rattle.mps_sections.specs.Faults.{least, tests_of, bound_tests, code_in}
 use Rattle.mps_fields.specs.Fields.{is_long_name}
@@ -34,11 +35,11 @@ use Rattle.mps_writer.proofs.RowsBack.{none_from}
 
 -- ---- limits
 
-within_near : (x : ℚ) → IsNear x → within x ≡ Finite x
-within_near x near =
-    ap (λ b. if b then Plus else if rational_le x (neg_ℚ (int (pos (10 ^ 20)))) then Minus else Finite x)
-    (false_from_ne_true (rational_le (int (pos (10 ^ 20))) x) (λ e. not_both_ℚ ((rational_le-decides (int (pos (10 ^ 20))) x).0 e) near.below))
-    ∙ ap (λ b. if b then Minus else Finite x) (false_from_ne_true (rational_le x (neg_ℚ (int (pos (10 ^ 20))))) (λ e. not_both_ℚ ((rational_le-decides x (neg_ℚ (int (pos (10 ^ 20))))).0 e) near.above))
+limit_near : (x : ℚ) → IsNear x → limit_at x ≡ Finite x
+limit_near x near =
+    ap (λ b. limit_beside (if b then Above else if rational_le x (neg_ℚ far) then Below else Between) x)
+    (false_from_ne_true (rational_le far x) (λ e. not_both_ℚ ((rational_le-decides far x).0 e) near.below))
+    ∙ ap (λ b. limit_beside (if b then Below else Between) x) (false_from_ne_true (rational_le x (neg_ℚ far)) (λ e. not_both_ℚ ((rational_le-decides x (neg_ℚ far)).0 e) near.above))
 
 -- ---- what is printed is no word for infinity: behind a sign it begins with a digit, and those with a letter
 
@@ -94,7 +95,7 @@ printed_finite x fits = at (den x == 1) refl
 pub limit_printed : (x : ℚ) → Fits x → IsNear x → limit_of (printed x) ≡ Ok (Finite x)
 limit_printed x fits near =
     ap (λ b. if b then Ok (infinite (is_minus (printed x))) else limit_read (numeral_of (reading_of (printed x)))) (printed_finite x fits)
-    ∙ ap (λ r. limit_read (numeral_of r)) (reading_of-printed x fits) ∙ ap Ok (within_near x near)
+    ∙ ap (λ r. limit_read (numeral_of r)) (reading_of-printed x fits) ∙ ap Ok (limit_near x near)
 
 -- ---- lines
 

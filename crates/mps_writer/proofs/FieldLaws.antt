@@ -11,6 +11,7 @@ use Rattle.frac128.specs.Rational.{ℚ, den, IsWhole}
 use Rattle.frac128.specs.Range.{Fits, IsNarrow}
 use Rattle.frac128.specs.Printing.{printed}
 use Rattle.frac128.proofs.Printed.{printed-whole, printed-fraction}
+use Rattle.lp_model.specs.Names.{is_name_byte, is_lawful_name}
 use Rattle.text_lines.specs.Lines.{HasNoNewline, is_newline}
 use Rattle.text_lines.specs.Words.{is_blank, HasNoBlank}
 use Rattle.mps_text.specs.Text.{is_strange}
@@ -41,20 +42,17 @@ field_newline word f = each not_newline word f.visible
 
 -- ---- key words
 
-abbrev pub is_visible : ℕ → Bool
-is_visible byte = nat_le 33 byte && nat_le byte 126
-
-visible : (byte : ℕ) → is_visible byte ≡ true → IsVisible byte
+visible : (byte : ℕ) → is_name_byte byte ≡ true → IsVisible byte
 visible byte e = let p = and_parts (nat_le 33 byte) (nat_le byte 126) e in record { from = leb-true 33 byte p.0; to = leb-true byte 126 p.1 }
 
-all_visible : (bytes : List ℕ) → list_all is_visible bytes ≡ true → All IsVisible bytes
+all_visible : (bytes : List ℕ) → list_all is_name_byte bytes ≡ true → All IsVisible bytes
 all_visible [] e = All-nil IsVisible
-all_visible (byte ∷ bytes) e = let p = and_parts (is_visible byte) (list_all is_visible bytes) e in All-cons IsVisible byte bytes (visible byte p.0) (all_visible bytes p.1)
+all_visible (byte ∷ bytes) e = let p = and_parts (is_name_byte byte) (list_all is_name_byte bytes) e in All-cons IsVisible byte bytes (visible byte p.0) (all_visible bytes p.1)
 
 -- a key word, by tests that compute
-pub key_field : (word : List ℕ) → (nat_le 1 (length word) && nat_le (length word) 255) && list_all is_visible word ≡ true → IsField word
+pub key_field : (word : List ℕ) → is_lawful_name word ≡ true → IsField word
 key_field word e =
-    let p = and_parts (nat_le 1 (length word) && nat_le (length word) 255) (list_all is_visible word) e in
+    let p = and_parts (nat_le 1 (length word) && nat_le (length word) 255) (list_all is_name_byte word) e in
     let q = and_parts (nat_le 1 (length word)) (nat_le (length word) 255) p.0 in
     let some = leb-true 1 (length word) q.0 in
     record { some = omega (arith, some); short = leb-true (length word) 255 q.1; visible = all_visible word p.1 }

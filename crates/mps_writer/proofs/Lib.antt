@@ -28,3 +28,4 @@ pub mod BoundLines
 pub mod OwnNumbers
 pub mod ModelWhole
 pub mod Means
+pub mod ScriptWritable

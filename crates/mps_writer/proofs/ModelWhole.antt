@@ -21,7 +21,7 @@ use Rattle.mps_model.specs.Ranges.{difference_fits, are_near, has_room}
 use Rattle.mps_model.specs.Meaning.{row_number_beside, range_beside, high_side_with, row_with, row_of, span_of, column_of, model_of}
 use Rattle.mps_model.specs.Faults.{code_on, row_named, range_code, range_flaw, column_code, column_flaw, flaw_or, sections_flaw}
 use Rattle.mps_model.specs.declared.spans.Span.{Span}
-use Rattle.mps_model.proofs.RangeRoom.{sum_fits-decides}
+use Rattle.frac128.proofs.RoomTests.{sum_fits-decides}
 use Rattle.mps_writer.specs.Canonical.{right_side, column_lines}
 use Rattle.lp_model.specs.Fitting.{ModelFits}
 use Rattle.mps_writer.specs.Writable.{IsWritableMps}

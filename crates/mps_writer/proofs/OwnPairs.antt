@@ -10,7 +10,8 @@ use Rattle.frac128.specs.Rational.{ℚ}
 use Rattle.frac128.specs.Range.{Fits}
 use Rattle.lp_model.specs.Program.{Program}
 use Rattle.lp_model.specs.Edits.{is_zero}
-use Rattle.lp_model.specs.Lawful.{row_name, col_limit, entry_limit, AreEntries, IsLawfulColumn, IsLawful}
+use Rattle.lp_model.specs.Lawful.{row_name, AreEntries, IsLawfulColumn, IsLawful}
+use Rattle.lp_model.specs.Limits.{col_limit, entry_limit}
 use Rattle.lp_model.proofs.ElementLemmas.{of_element-get, element}
 use Rattle.lp_model.specs.declared.types.RowId.{RowId}
 use Rattle.lp_model.specs.declared.types.Row.{Row}

@@ -6,7 +6,8 @@ use Rattle.std.proofs.lemmas.List.Elements.{All-nil, All-cons, All-append}
 use Rattle.frac128.specs.Rational.{neg_ℚ}
 use Rattle.frac128.proofs.Whole.{Fits-neg, Fits-sum}
 use Rattle.lp_model.specs.Program.{Program, constant}
-use Rattle.lp_model.specs.Lawful.{row_limit, IsRange, IsLawful, IsLawfulColumn}
+use Rattle.lp_model.specs.Lawful.{IsRange, IsLawful, IsLawfulColumn}
+use Rattle.lp_model.specs.Limits.{row_limit}
 use Rattle.lp_model.specs.declared.types.Row.{Row}
 use Rattle.lp_model.specs.declared.types.Col.{Col}
 use Rattle.mps_sections.specs.Statements.{is_column}

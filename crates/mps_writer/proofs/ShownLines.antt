@@ -19,7 +19,8 @@ use Rattle.lp_model.specs.declared.types.Col.{Col}
 use Rattle.mps_text.specs.Text.{is_comment_line}
 use Rattle.mps_writer.specs.Canonical.{WrittenLine, Header, Data, sense_word, opening_lines, side_type, row_type, row_line, objective_line, entry_line, number_line, entry_lines, number_lines, own_lines, has_no_number, marker_line, column_lines, right_side, rhs_line, range_line_of, range_line, lower_line, upper_line, bound_lines}
 use Rattle.mps_writer.specs.Writable.{IsField}
-use Rattle.mps_writer.proofs.FieldLaws.{is_visible, key_field, number_field}
+use Rattle.lp_model.specs.Names.{is_lawful_name}
+use Rattle.mps_writer.proofs.FieldLaws.{key_field, number_field}
 use Rattle.mps_writer.proofs.RecordLaws.{IsShown}
 
 abbrev pub AreShown : List WrittenLine → Type 0
@@ -61,7 +62,7 @@ data_four a b c d h k l m = record { fields = All-cons IsField a (b ∷ c ∷ d 
 
 -- ---- headers
 
-pub header_shown : (word : List ℕ) → (nat_le 1 (length word) && nat_le (length word) 255) && list_all is_visible word ≡ true → is_comment_line (word ++ []) ≡ false → IsShown (Header (word ∷ []))
+pub header_shown : (word : List ℕ) → is_lawful_name word ≡ true → is_comment_line (word ++ []) ≡ false → IsShown (Header (word ∷ []))
 header_shown word e plain = record { fields = All-cons IsField word [] (key_field word e) (All-nil IsField); some = omega arith; few = omega arith; begins = plain }
 
 pub opening_shown : (sense : Sense) → AreShown (opening_lines sense)

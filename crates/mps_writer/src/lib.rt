@@ -13,6 +13,7 @@
 //! Public contract: `write` answers the canonical text, and that text means the model where it is writable (`IsWritableMps`: not
 //! widened, names of 1 to 255 bytes from `!` to `~`, no row or objective named like the marker word, finite bounds below 10^20);
 //! the other answer is want of memory. So `read` answers the model of it, or want of memory (`read_back_law`).
+//! A model that scripts may have is writable but for the marker word (`script_writable_law`).
 //!
 //! Below stands `mps_model`, which reads; above stand the environment's callers.
 #![tactic(auto)]
@@ -22,4 +23,4 @@ mod puts;
 mod rows;
 mod writing;
 
-pub use writing::{read_back_law, write};
+pub use writing::{read_back_law, script_writable_law, write};

@@ -3,7 +3,7 @@ ghost use Rattle.std.specs.Prelude.{◌≡◌, ◌++◌, IfOk, None};
 ghost use Rattle.mps_model.specs.Faults.{MeantModel};
 ghost use Rattle.mps_writer.specs.Canonical.{canonical_text, written_text, sense_word, opening_lines, rows_lines, columns_lines, rhs_lines, ranges_lines, bounds_lines};
 ghost use Rattle.mps_writer.specs.Writable.{IsWritableMps};
-ghost use Rattle.mps_writer.specs.Laws.{ReadBackLaw};
+ghost use Rattle.mps_writer.specs.Laws.{ReadBackLaw, ScriptWritableLaw};
 
 use crate::columns::{put_bounds, put_columns};
 use crate::puts::{put_header, put_nonzero, put_two, put_word};
@@ -141,4 +141,9 @@ pub fn write(alloc: Global, model: &Model) -> Result<Vec<u8>, AllocError>
 /// A law: what `write` writes of a writable model, `read` reads as that model.
 pub fn read_back_law()
     ensures { ReadBackLaw }
+{}
+
+/// A law: a model that scripts may have is writable, unless one of its rows or objectives is named by the marker word.
+pub fn script_writable_law()
+    ensures { ScriptWritableLaw }
 {}

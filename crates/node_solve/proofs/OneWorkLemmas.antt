@@ -43,7 +43,7 @@ use Rattle.node_solve.specs.declared.working.Worked.TheVariants.{Done, Pivots, W
 use Rattle.node_solve.proofs.EndLemmas.{not_whole}
 use Rattle.node_solve.proofs.OneStepLemmas.{refuted_fits, one_farkas_step, fractional_fits, keepable_fits, one_optimum_step}
 use Rattle.node_solve.proofs.OneRunLemmas.{wide_start_other, run_kept, run_uncrossed, run_one, run_longer}
-use Rattle.node_solve.proofs.OneEndLemmas.{one_point, one_multipliers, one_basis, one_farkas}
+use Rattle.dual_simplex.proofs.OneEndLemmas.{one_point, one_multipliers, one_basis, one_farkas}
 use Rattle.node_solve.proofs.OneCutsLemmas.{one_separates}
 
 -- one column is the first that is fractional

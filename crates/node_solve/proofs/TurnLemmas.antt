@@ -16,7 +16,7 @@ use Rattle.node_solve.specs.declared.working.Own.{Own}
 use Rattle.node_solve.specs.declared.working.Worked.{Worked}
 use Rattle.node_solve.specs.declared.working.Worked.TheVariants.{Done, Pivots, Wide, Memory}
 use Rattle.node_solve.proofs.EndLemmas.{state_of, shape_is}
-use Rattle.node_solve.proofs.OneEndLemmas.{one_point}
+use Rattle.dual_simplex.proofs.OneEndLemmas.{one_point}
 
 module _ (W : Work) (r : Round) where
   pub optimum_shape : (x : Point) (mult : Multipliers) (basis : Basis) → EndsAt W r (IsOptimumAt W x mult basis) → length x ≡ length W.model.cols

@@ -3,6 +3,7 @@
 use Rattle.std.specs.Prelude.{◌≡◌, ℕ, zero, suc, if◌then◌else◌, List, [], ◌∷◌, ◌++◌, ◌<◌, ◌≤◌, length, get_or, take, map, All}
 use Rattle.frac128.specs.Rational.{ℚ}
 use Rattle.kept_cuts.specs.Places.{index_among}
+use Rattle.lp_model.specs.Limits.{pool_limit}
 use Rattle.lp_model.specs.declared.types.CutRow.{CutRow}
 use Rattle.lp_model.specs.declared.types.Var.{Var}
 use Rattle.lp_model.specs.declared.types.Var.TheVariants.{Col, Row, Cut}
@@ -40,7 +41,7 @@ AreOwnPlaces places = (i : ℕ) → i < length places → get_or places i 0 ≡ 
 
 -- places of a pool with at most 10,000 cuts
 abbrev pub ArePoolPlaces : List ℕ → Type 0
-ArePoolPlaces places = All (λ p. p < 10000) places
+ArePoolPlaces places = All (λ p. p < pool_limit) places
 
 -- ---- names
 

@@ -1,6 +1,7 @@
 -- What the code of the work holds: a task and its rounds.
 use Rattle.std.specs.Prelude.{◌≡◌, ◌≤◌, ◌+◌, IsTrue, length, All, Result, Ok, Err}
 use Rattle.std.specs.declared.alloc.AllocError.{AllocError}
+use Rattle.lp_model.specs.Limits.{pool_limit}
 use Rattle.lp_model.specs.Regions.{AreNarrow, IsEmptyRegion}
 use Rattle.cover_cuts.specs.Cuts.{IsPoolOf}
 use Rattle.dual_simplex.specs.SlackBases.{IsRootBasis}
@@ -50,4 +51,4 @@ pub record IsKeptRound (W : Work) (r : HeldRound) : Type 0 where
   pub few : length r.cuts ≤ 200
   pub each : length r.places.items ≡ length r.cuts
   pub there : ArePoolPlaces r.places.items
-  pub room : length W.pool + length r.added.items ≤ 10000
+  pub room : length W.pool + length r.added.items ≤ pool_limit

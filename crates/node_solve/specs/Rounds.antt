@@ -5,6 +5,7 @@
 --     IsWorked W worked        what the work answers: a result, with the rounds and the run that led to it; or where the run of
 --                              the last round stopped
 use Rattle.std.specs.Prelude.{◌≡◌, ◌⊎◌, ℕ, zero, suc, ◌+◌, ◌-◌, ◌<◌, Bool, true, false, List, [], ◌∷◌, ◌++◌, length, get_or, drop, IsTrue, Option, Some, None}
+use Rattle.lp_model.specs.Limits.{pool_limit}
 use Rattle.lp_model.specs.Program.{Program, Point}
 use Rattle.lp_model.specs.Formulations.{Formulation, formulation}
 use Rattle.lp_model.specs.declared.types.CutRow.{CutRow}
@@ -79,7 +80,7 @@ pub record IsAddable (W : Work) (r : Round) (c : CutRow) : Type 0 where
   pub live : IsTrue c.live
   pub other : ¬ HasRowOf r.cuts c
   pub room : length r.cuts < 200
-  pub pool_room : length W.pool + length r.added < 10000
+  pub pool_room : length W.pool + length r.added < pool_limit
 
 abbrev pub round_with : Work → Round → CutRow → Round
 round_with W r c = record { cuts = r.cuts ++ c ∷ []; places = r.places ++ (length W.pool + length r.added) ∷ []; added = r.added ++ c.from ∷ []; list = r.list }

@@ -1,6 +1,7 @@
 // The cuts of a relaxation: lent by the pool as long as they are its first ones, and copied where another one is added.
 ghost use Rattle.std.specs.Prelude.{◌≡◌, ◌<◌, ◌≤◌, [], ◌∷◌, ◌++◌, length, IfOk, IfSome};
 ghost use Rattle.node_solve.specs.Places.{live_cuts, live_places, places_from, IsFirstCount};
+ghost use Rattle.lp_model.specs.Limits.{pool_limit};
 
 use crate::places::{CUT_LIMIT, LiveCuts, push_copy};
 use cover_cuts::CutPool;
@@ -157,7 +158,7 @@ pub struct FirstCuts<'a> {
 pub(crate) fn first_cuts<'a>(alloc: Global, pool: &'a CutPool) -> Result<FirstCuts<'a>, AllocError>
     ensures cuts { IfOk result (λ first. first.cuts ≡ live_cuts 200 pool.now) }
     ensures places { IfOk result (λ first. first.places.items ≡ live_places 200 0 pool.now) }
-    ensures few { length pool.now ≤ 10000 }
+    ensures few { length pool.now ≤ pool_limit }
 {
     let rows = pool.rows();
     match first_count(rows) {

@@ -3,6 +3,7 @@ ghost use Rattle.std.specs.Prelude.{◌≡◌, ◌≤◌, ◌+◌, ◌-◌, ◌+
 ghost use Rattle.branch_tree.specs.declared.node.NodeResult.TheVariants.{Close, Split, PointAndClose, Keep};
 ghost use Rattle.kept_cuts.specs.Places.{index_among};
 ghost use Rattle.node_solve.specs.Places.{live_cuts, live_places, ArePoolPlaces, AreOwnPlaces, var_in_relaxation, var_in_pool, basis_in_relaxation, basis_in_pool, mult_in_pool, result_in_pool, with_cut_variables};
+ghost use Rattle.lp_model.specs.Limits.{pool_limit};
 
 use branch_tree::NodeResult;
 use cover_cuts::CutPool;
@@ -64,7 +65,7 @@ impl LiveCuts {
     pub fn new(alloc: Global, pool: &CutPool) -> Result<LiveCuts, AllocError>
         ensures cuts { IfOk result (λ live. live.cuts.items ≡ live_cuts 200 pool.now) }
         ensures places { IfOk result (λ live. live.places.items ≡ live_places 200 0 pool.now) }
-        ensures few { length pool.now ≤ 10000 }
+        ensures few { length pool.now ≤ pool_limit }
     {
         let rows = pool.rows();
         let mut cuts = Vec::new(alloc);

@@ -13,13 +13,10 @@ use cut_find::separate;
 use dual_simplex::{Lp, LpState, StartFault};
 use frac128::Frac;
 use kept_cuts::copy_derivation;
-use lp_model::{Basis, ColId, CutRow, Derivation, Model, Mult, Point, WideStep};
+use lp_model::{Basis, ColId, CutRow, Derivation, Model, Mult, POOL_LIMIT, Point, WideStep};
 use row_tableau::{Relax, RelaxKind};
 use std::alloc::{AllocError, Global};
 use std::mem;
-
-/// How many cuts a pool may have.
-const POOL_LIMIT: usize = 10_000;
 
 /// How many covers a round looks for.
 const ROUND_LIMIT: usize = 20;

@@ -1,3 +1,5 @@
 pub mod PlainLemmas
 pub mod FormLemmas
 pub mod FindLemmas
+pub mod NumberLemmas
+pub mod BenchLemmas

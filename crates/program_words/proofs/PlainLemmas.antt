@@ -30,7 +30,7 @@ no_flag (b ∷ rest) plain = let other = is_other b plain in record {
 }
 
 -- a walk between two words of which none was an option
-abbrev between : Held → ℕ → Walk
+abbrev pub between : Held → ℕ → Walk
 between h position = record { held = h; waiting = idle; position = position; is_trailing = false; stopped = None }
 
 word_is : (c : List Rule) (h : Held) (position : ℕ) (word : Text) → IsNoFlag word → word_met c [] false idle position word h ≡ (h, value)
@@ -39,12 +39,12 @@ word_is c h position word plain = rw (plain.sign, plain.long, plain.short) refl
 no_fault : (s : Shape) (h : Held) (word : Text) → IsNoFlag word → word_fault s [] false idle word h ≡ []
 no_fault s h word plain = rw (plain.sign, plain.long, plain.short) refl
 
-walked_on : (c : List Rule) (h : Held) (position : ℕ) (word : Text) → IsNoFlag word
+pub walked_on : (c : List Rule) (h : Held) (position : ℕ) (word : Text) → IsNoFlag word
     → walked c [] (between h position) word ≡ to_positional c (arg_by_index c position) word (between h position) h
 unfolding walked
 walked_on c h position word plain = ap (λ met. after_step c word (between h position) met.0 met.1) (word_is c h position word plain)
 
-turned_on : (s : Shape) (h : Held) (position : ℕ) (word : Text) → IsNoFlag word
+pub turned_on : (s : Shape) (h : Held) (position : ℕ) (word : Text) → IsNoFlag word
     → turn_fault s [] (between h position) word ≡ step_fault s position h value
 turned_on s h position word plain =
     ap₂ (λ faults met. or_else faults (step_fault s position met.0 met.1)) (no_fault s h word plain) (word_is s.rules h position word plain)

@@ -4,8 +4,9 @@ ghost use Rattle.clap.specs.Words.{app_of, kind_of, with_rule, with_subcommand, 
 ghost use Rattle.clap.specs.Walk.{rows_of};
 ghost use Rattle.clap.specs.declared.builder.command.Command.TheViews.{out-Command};
 ghost use Rattle.clap.specs.declared.error.ErrorKind.TheVariants.{OutOfMemory};
-ghost use Rattle.program_words.specs.Forms.{run_app, required_word, check_app, symphony_alone, symphony, TakesWords, asked_by, asked_form, form_shown, argument_text};
+ghost use Rattle.program_words.specs.Forms.{run_app, required_word, check_app, required_number, bench_app, symphony_alone, symphony, TakesWords, asked_by, asked_form, form_shown, argument_text, argument_number};
 
+use clap::builder::ValueParser;
 use clap::error::ErrorKind;
 use clap::{Arg, ArgMatches, Command};
 use std::alloc::{AllocError, Global};
@@ -17,7 +18,17 @@ pub enum Form<'a> {
     /// To answer the commands of a script.
     Run,
     /// To check a certificate, both being names of files.
-    Check { model: &'a str, cert: &'a str },
+    Check {
+        model: &'a str,
+        cert: &'a str,
+    },
+    /// To solve the model of a seed with so many rows and columns, placing so many results at most.
+    Bench {
+        seed: u64,
+        rows: u64,
+        cols: u64,
+        nodes: u64,
+    },
 }
 
 /// Why the words have no form.
@@ -63,6 +74,39 @@ fn check_command<'a>(alloc: Global) -> Result<Command<'a>, AllocError>
     with_word(alloc, command, "CERT")
 }
 
+/// The command with one more word that has to be there, a whole number from `low` to `high`.
+fn with_number<'a>(
+    alloc: Global,
+    command: Command<'a>,
+    name: &'a str,
+    low: u64,
+    high: u64,
+) -> Result<Command<'a>, AllocError>
+    requires { (out-Command command).has_globals ≡ false }
+    ensures app { IfOk result (λ longer. app_of longer ≡ with_rule (app_of command.entry) (required_number name.now low high)) }
+    ensures local { IfOk result (λ longer. (out-Command longer).has_globals ≡ false) }
+{
+    let number = ValueParser::unsigned(low, high);
+    command.arg(Arg::new(alloc, name).required(true).value_parser(number))
+}
+
+/// The form `bench SEED ROWS COLS NODES`.
+fn bench_command<'a>(alloc: Global) -> Result<Command<'a>, AllocError>
+    ensures app { IfOk result (λ command. app_of command ≡ bench_app) }
+    ensures local { IfOk result (λ command. (out-Command command).has_globals ≡ false) }
+{
+    let Ok(command) = with_number(alloc, Command::new(alloc, "bench"), "SEED", 0, u64::MAX) else {
+        return Err(AllocError);
+    };
+    let Ok(command) = with_number(alloc, command, "ROWS", 1, 100) else {
+        return Err(AllocError);
+    };
+    let Ok(command) = with_number(alloc, command, "COLS", 1, 40) else {
+        return Err(AllocError);
+    };
+    with_number(alloc, command, "NODES", 0, u64::MAX)
+}
+
 /// The program's name without subcommands. Help and the version are no subcommands or flags: other words have the usage
 /// line.
 fn bare_command_line<'a>(alloc: Global) -> Command<'a>
@@ -82,9 +126,9 @@ fn run_command_line<'a>(alloc: Global) -> Result<Command<'a>, AllocError>
     bare_command_line(alloc).subcommand(run_command(alloc))
 }
 
-/// The command line: the program's name and a subcommand for each form.
-fn command_line<'a>(alloc: Global) -> Result<Command<'a>, AllocError>
-    ensures { IfOk result (λ command. app_of command ≡ symphony) }
+/// The program's name with the subcommands `run` and `check`.
+fn check_command_line<'a>(alloc: Global) -> Result<Command<'a>, AllocError>
+    ensures { IfOk result (λ command. app_of command ≡ with_subcommand (with_subcommand symphony_alone run_app.top) check_app.top) }
 {
     let Ok(check) = check_command(alloc) else {
         return Err(AllocError);
@@ -96,6 +140,20 @@ fn command_line<'a>(alloc: Global) -> Result<Command<'a>, AllocError>
     command.subcommand(check)
 }
 
+/// The command line: the program's name and a subcommand for each form.
+fn command_line<'a>(alloc: Global) -> Result<Command<'a>, AllocError>
+    ensures { IfOk result (λ command. app_of command ≡ symphony) }
+{
+    let Ok(bench) = bench_command(alloc) else {
+        return Err(AllocError);
+    };
+    let Ok(command) = check_command_line(alloc) else {
+        drop(bench);
+        return Err(AllocError);
+    };
+    command.subcommand(bench)
+}
+
 /// The value of an argument, or no text where it has none.
 fn value_of<'a>(matches: &ArgMatches<'a>, name: &str) -> &'a str
     ensures { result.now ≡ argument_text name.now (rows_of (found_of matches.now)) }
@@ -103,6 +161,16 @@ fn value_of<'a>(matches: &ArgMatches<'a>, name: &str) -> &'a str
     match matches.get_str(name) {
         Some(value) => value,
         None => "",
+    }
+}
+
+/// The whole number of 64 bits that the value of an argument spells, or 0 where it spells none.
+fn number_of(matches: &ArgMatches<'_>, name: &str) -> u64
+    ensures { result ≡ argument_number name.now (rows_of (found_of matches.now)) }
+{
+    match value_of(matches, name).parse::<u64>() {
+        Ok(number) => number,
+        Err(_) => 0,
     }
 }
 
@@ -116,6 +184,13 @@ fn form_in<'a>(matches: &ArgMatches<'a>) -> Form<'a>
                 Form::Check {
                     model: value_of(values, "MODEL"),
                     cert: value_of(values, "CERT"),
+                }
+            } else if name == "bench" {
+                Form::Bench {
+                    seed: number_of(values, "SEED"),
+                    rows: number_of(values, "ROWS"),
+                    cols: number_of(values, "COLS"),
+                    nodes: number_of(values, "NODES"),
                 }
             } else {
                 Form::Run

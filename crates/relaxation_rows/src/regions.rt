@@ -15,28 +15,9 @@ fn names_integers(model: &Model, region: &[BoundChange]) -> bool
     match region.split_first() {
         None => true,
         Some((change, rest)) => {
-            is_integer_there(model, change.col.0 as usize) && names_integers(model, rest)
+            model.is_integer(change.col.0 as usize) && names_integers(model, rest)
         }
     }
-}
-
-/// Whether a column is integer.
-fn is_integer(model: &Model, col: usize) -> bool
-    requires { col < length model.now.cols }
-    ensures { result ≡ is_integer model.now col }
-{
-    model.cols()[col].int
-}
-
-/// Whether there is such a column and it is integer.
-fn is_integer_there(model: &Model, col: usize) -> bool
-    ensures there { IsTrue result → col < length model.now.cols }
-    ensures kind { IsTrue result → IsTrue (is_integer model.now col) }
-{
-    if col < model.cols().len() {
-        return is_integer(model, col);
-    }
-    false
 }
 
 /// Nothing happens: a region whose changes are of integer columns, which have bounds, leaves columns without bounds free.

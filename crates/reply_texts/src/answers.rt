@@ -7,6 +7,7 @@ ghost use Rattle.reply_texts.specs.Reports.{AnswerIsShaped, AnswerHasRoom};
 ghost use Rattle.reply_texts.specs.Texts.{value_line, column_line, column_lines, optimal_text, infeasible_text, unbounded_text, number_or_none, known_text, stopped_pivots_text, stopped_wide_text, stopped_text, answer_text};
 
 use crate::blocks::{write_block, write_step_line};
+use crate::fixed::MEMORY_REPLY;
 use crate::pieces::{write_count_line, write_two};
 use frac128::Frac;
 use lp_model::{Answer, Col, Model, PivotPlace, Point, StopWhy, WideAt};
@@ -246,7 +247,7 @@ pub fn write_answer(reply: &mut Vec<u8>, model: &Model, answer: &Answer) -> Resu
             bound,
             best,
         } => write_stopped(reply, model, why, *placed, bound, best),
-        Answer::Memory => reply.extend_from_slice(b"error 90 memory\n"),
+        Answer::Memory => reply.extend_from_slice(MEMORY_REPLY),
     }
 }
 

@@ -12,6 +12,7 @@
 mod answers;
 mod blocks;
 mod bounds;
+mod fixed;
 mod names;
 mod pieces;
 mod refusals;
@@ -19,6 +20,10 @@ mod steps;
 
 pub use answers::{answer_has_room, write_answer};
 pub use bounds::{write_bound, write_wide_bound};
+pub use fixed::{
+    ARGUMENTS_REPLY, FILE_TOO_LONG_REPLY, MEMORY_REPLY, NO_ANSWER_REPLY, NO_MODEL_REPLY, OK_REPLY,
+    STORE_REPLY,
+};
 pub use refusals::{
     write_bounds, write_faulty_certificate, write_faulty_model, write_faulty_search, write_limit,
     write_no_number, write_sides, write_taken, write_unknown, write_unknown_name,

@@ -1,12 +1,12 @@
 -- A script as it is read, piece by piece.
 use Rattle.std.proofs.Common.{◌≡◌, ℕ, ◌≤◌, ◌<◌, ◌+◌, ◌-◌, List, [], ◌∷◌, ◌++◌, length, take, drop, refl, sym, ◌∙◌, ap, append_assoc, append-nil, subst, arith, Option, Some, None, true, false, Bool, length-append, inl, inr}
-use Rattle.std.specs.Prelude.{Result, Ok, Err, if◌then◌else◌}
+use Rattle.std.specs.Prelude.{Result, Ok, Err, IfSome, if◌then◌else◌}
 use Rattle.std.specs.Io.KnownBytes.{Consumes, Keeps, IsAtEnd}
 use Rattle.std.specs.List.{list_any}
 use Rattle.std.proofs.lemmas.List.{take-append-drop, take-take}
 use Rattle.std.proofs.lemmas.List.Elements.{All-nil}
 use Rattle.std.proofs.Math.Seq.{take-append_seam, take-append-add}
-use Rattle.script_session.specs.Run.{IsLastRead}
+use Rattle.script_session.specs.Run.{IsLastRead, IsPrompt}
 use Rattle.script_session.specs.Request.{Command, Request}
 use Rattle.text_lines.specs.Lines.{HasNoNewline, is_newline, last_line}
 use Rattle.text_lines.proofs.LineLemmas.{lines-nothing, lines-last}
@@ -18,7 +18,7 @@ use Rattle.script_session.specs.declared.session.Flow.TheVariants.{Open, Ended}
 use Rattle.script_session.specs.declared.session.Stop.{Stop}
 use Rattle.script_session.specs.declared.session.Stop.TheVariants as stop
 use Rattle.script_session.specs.Limits.{script_limit, piece_length}
-use Rattle.script_session.proofs.SessionLemmas.{Serves-none, Serves-append, Serves-Breaks, Serves-Halts}
+use Rattle.script_session.proofs.SessionLemmas.{Serves-none, Serves-append, Serves-Breaks-behind, Serves-Halts-behind}
 use Rattle.script_session.proofs.ScriptLemmas.{whole_lines-none, Reads-append, Reads-more, Reads-Finishes, Reads-Begins, nil_right}
 use Rattle.script_session.proofs.PieceLemmas.{Stands, Stands-start}
 
@@ -87,16 +87,9 @@ module _ (ends : Command → Bool) where
   all_taken : (bytes : List ℕ) (done : List Request) (pending : List ℕ) → Reads ends bytes done pending → script_requests ends bytes ≡ done ++ script_requests ends pending
   all_taken bytes done pending r = ap (script_requests ends) (sym (append-nil bytes)) ∙ r.all [] ∙ ap (λ xs. done ++ script_requests ends xs) (append-nil pending)
 
-  -- where nothing was read
-  pub IsLastRead-none : IsLastRead ends []
-  IsLastRead-none = record {
-    front = [];
-    piece = [];
-    parts = refl;
-    one_read = omega arith;
-    within = omega arith;
-    unended = ending-rest [] (All-nil (λ byte. is_newline byte ≡ false));
-  }
+  -- what the whole lines ask has its replies
+  prompt : (front : List ℕ) (done : List Request) (pending : List ℕ) (replies : List (List ℕ)) → Reads ends front done pending → HasNoNewline pending → length done ≤ length replies → IsPrompt ends front replies
+  prompt front done pending replies r clean le = subst (λ (requests : List Request). length requests ≤ length replies) (sym (whole_taken front done pending r clean)) le
 
 module _ {M : Type 0} (ends : Command → Bool) (step : Stand M → Request → List ℕ → Stand M → Type 0) where
   pub rest_failed : (fault : Stop) (old new : Moment M) (pending : List ℕ) → HasNoNewline pending → 0 < length pending → ServesLine ends step (Err fault) old (last_line pending) new → ServesRest ends step (Err fault) old pending new
@@ -122,73 +115,75 @@ module _ {M : Type 0} (ends : Command → Bool) (step : Stand M → Request → 
   }
 
   -- what was read before this may be, and has no line that ends the script
-  last_read : (left left' : Option (List ℕ)) (old now : Moment M) (count : ℕ) (pending bytes : List ℕ) (r : ReadsOn ends step left left' old now count pending) → count ≤ script_limit → length bytes ≤ piece_length → IsLastRead ends (r.taken ++ bytes)
-  last_read left left' old now count pending bytes r le short = record {
-    front = r.taken;
+  last_read : (left left' handed : Option (List ℕ)) (old now : Moment M) (count : ℕ) (pending bytes : List ℕ) (r : ReadsOn ends step left left' old now count pending) → count ≤ script_limit → length bytes ≤ piece_length → IfSome handed (λ last. last ≡ bytes) → IsLastRead ends handed r.taken (r.taken ++ bytes)
+  last_read left left' handed old now count pending bytes r le short out = record {
     piece = bytes;
     parts = refl;
+    handed = out;
     one_read = short;
     within = let counted = r.length_is in omega arith;
     unended = ending_taken ends r.taken r.stands.done pending r.stands.reads r.clean;
   }
 
   -- nothing was read after what was taken so far
-  read_nothing : (result : Result (Unit {0}) Stop) (left left' left'' : Option (List ℕ)) (old now new : Moment M) (count : ℕ) (pending : List ℕ) (r : ReadsOn ends step left left' old now count pending) → count ≤ script_limit → Consumes left' left'' [] → ServesTaken ends step result left'' r.taken old new → ServesScript ends step result left left'' old new
-  read_nothing result left left' left'' old now new count pending r le consumed h = record {
+  read_nothing : (result : Result (Unit {0}) Stop) (left left' left'' handed : Option (List ℕ)) (old now new : Moment M) (count : ℕ) (pending : List ℕ) (r : ReadsOn ends step left left' old now count pending) → count ≤ script_limit → Consumes left' left'' [] → IfSome handed (λ last. last ≡ []) → ServesTaken ends step result left'' r.taken r.taken old new → ServesScript ends step result left left'' handed old new
+  read_nothing result left left' left'' handed old now new count pending r le consumed out h = record {
+    front = r.taken;
     taken = r.taken;
     consumed = subst (λ (taken : List ℕ). Consumes left left'' taken) (append-nil r.taken) (Consumes-append left left' left'' r.taken [] r.consumed consumed);
-    last = subst (λ (taken : List ℕ). IsLastRead ends taken) (append-nil r.taken) (last_read left left' old now count pending [] r le (omega arith));
+    last = subst (λ (taken : List ℕ). IsLastRead ends handed r.taken taken) (append-nil r.taken) (last_read left left' handed old now count pending [] r le (omega arith) out);
     served = h;
   }
 
   -- these bytes were read after what was taken so far
-  read_bytes : (result : Result (Unit {0}) Stop) (left left' left'' : Option (List ℕ)) (old now new : Moment M) (count : ℕ) (pending bytes : List ℕ) (r : ReadsOn ends step left left' old now count pending) → count ≤ script_limit → length bytes ≤ piece_length → Consumes left' left'' bytes → ServesTaken ends step result left'' (r.taken ++ bytes) old new → ServesScript ends step result left left'' old new
-  read_bytes result left left' left'' old now new count pending bytes r le short consumed h = record {
+  read_bytes : (result : Result (Unit {0}) Stop) (left left' left'' handed : Option (List ℕ)) (old now new : Moment M) (count : ℕ) (pending bytes : List ℕ) (r : ReadsOn ends step left left' old now count pending) → count ≤ script_limit → length bytes ≤ piece_length → Consumes left' left'' bytes → IfSome handed (λ last. last ≡ bytes) → ServesTaken ends step result left'' r.taken (r.taken ++ bytes) old new → ServesScript ends step result left left'' handed old new
+  read_bytes result left left' left'' handed old now new count pending bytes r le short consumed out h = record {
+    front = r.taken;
     taken = r.taken ++ bytes;
     consumed = Consumes-append left left' left'' r.taken bytes r.consumed consumed;
-    last = last_read left left' old now count pending bytes r le short;
+    last = last_read left left' handed old now count pending bytes r le short out;
     served = h;
   }
 
   -- the source has failed
-  pub read_failed : (left left' left'' : Option (List ℕ)) (old now : Moment M) (count : ℕ) (pending : List ℕ) → ReadsOn ends step left left' old now count pending → count ≤ script_limit → Keeps left' left'' → ServesScript ends step (Err stop.Source) left left'' old now
-  read_failed left left' left'' old now count pending r le keeps =
-      read_nothing (Err stop.Source) left left' left'' old now now count pending r le (Consumes-kept left' left'' keeps) (
+  pub read_failed : (left left' left'' handed : Option (List ℕ)) (old now : Moment M) (count : ℕ) (pending : List ℕ) → ReadsOn ends step left left' old now count pending → count ≤ script_limit → Keeps left' left'' → IfSome handed (λ last. last ≡ []) → ServesScript ends step (Err stop.Source) left left'' handed old now
+  read_failed left left' left'' handed old now count pending r le keeps out =
+      read_nothing (Err stop.Source) left left' left'' handed old now now count pending r le (Consumes-kept left' left'' keeps) out (
         subst (λ requests. Serves step old requests now) (sym (whole_taken ends r.taken r.stands.done pending r.stands.reads r.clean)) r.stands.serves,
         (let counted = r.length_is in omega arith),
         ending_taken ends r.taken r.stands.done pending r.stands.reads r.clean,
       )
 
-  rest_served : (result : Result (Unit {0}) Stop) (left' : Option (List ℕ)) (taken pending : List ℕ) (old now new : Moment M) → Stands ends step old taken now pending → length taken ≤ script_limit → IsAtEnd left' → ServesRest ends step result now pending new → ServesTaken ends step result left' taken old new
-  rest_served (Ok done) left' taken pending old now new s fits end h = (
+  rest_served : (result : Result (Unit {0}) Stop) (left' : Option (List ℕ)) (taken pending : List ℕ) (old now new : Moment M) → Stands ends step old taken now pending → HasNoNewline pending → length taken ≤ script_limit → IsAtEnd left' → ServesRest ends step result now pending new → ServesTaken ends step result left' taken taken old new
+  rest_served (Ok done) left' taken pending old now new s clean fits end h = (
     subst (λ requests. Serves step old requests new) (sym (all_taken ends taken s.done pending s.reads)) (Serves-append step old now new s.done (script_requests ends pending) s.serves h),
     inl end,
     inl fits,
   )
-  rest_served (Err stop.Sink) left' taken pending old now new s fits end h = (
+  rest_served (Err stop.Sink) left' taken pending old now new s clean fits end h = let cut = Serves-Breaks-behind step old now new s.done (script_requests ends pending) s.serves h in (
     script_requests ends taken,
     s.done ++ script_requests ends pending,
     [],
     inr (end, fits, refl),
     all_taken ends taken s.done pending s.reads ∙ sym (nil_right _),
-    Serves-Breaks step old now new s.done (script_requests ends pending) s.serves h,
+    (cut.0, prompt ends taken s.done pending cut.0.replies s.reads clean cut.1),
   )
-  rest_served (Err stop.Memory) left' taken pending old now new s fits end h = (
+  rest_served (Err stop.Memory) left' taken pending old now new s clean fits end h = let cut = Serves-Halts-behind step old now new s.done h.0 s.serves h.3 in (
     script_requests ends taken,
     s.done ++ h.0,
     h.1,
     inr (end, fits, refl),
     all_taken ends taken s.done pending s.reads ∙ ap (λ requests. s.done ++ requests) h.2 ∙ sym (append_assoc s.done h.0 h.1),
-    Serves-Halts step old now new s.done h.0 s.serves h.3,
+    (cut.0, prompt ends taken s.done pending cut.0.replies s.reads clean cut.1),
   )
-  rest_served (Err stop.Source) left' taken pending old now new s fits end h = absurd h
-  rest_served (Err stop.TooLong) left' taken pending old now new s fits end h = absurd h
+  rest_served (Err stop.Source) left' taken pending old now new s clean fits end h = absurd h
+  rest_served (Err stop.TooLong) left' taken pending old now new s clean fits end h = absurd h
 
   -- the script is at its end
-  pub read_at_end : (result : Result (Unit {0}) Stop) (left left' left'' : Option (List ℕ)) (old now new : Moment M) (count : ℕ) (pending : List ℕ) → ReadsOn ends step left left' old now count pending → count ≤ script_limit → Consumes left' left'' [] → IsAtEnd left'' → ServesRest ends step result now pending new → ServesScript ends step result left left'' old new
-  read_at_end result left left' left'' old now new count pending r le consumed end h =
-      read_nothing result left left' left'' old now new count pending r le consumed
-      (rest_served result left'' r.taken pending old now new r.stands (let counted = r.length_is in omega arith) end h)
+  pub read_at_end : (result : Result (Unit {0}) Stop) (left left' left'' handed : Option (List ℕ)) (old now new : Moment M) (count : ℕ) (pending : List ℕ) → ReadsOn ends step left left' old now count pending → count ≤ script_limit → Consumes left' left'' [] → IsAtEnd left'' → IfSome handed (λ last. last ≡ []) → ServesRest ends step result now pending new → ServesScript ends step result left left'' handed old new
+  read_at_end result left left' left'' handed old now new count pending r le consumed end out h =
+      read_nothing result left left' left'' handed old now new count pending r le consumed out
+      (rest_served result left'' r.taken pending old now new r.stands r.clean (let counted = r.length_is in omega arith) end h)
 
   -- the script goes on
   pub ReadsOn-more : (left left' left'' : Option (List ℕ)) (old now new : Moment M) (count n : ℕ) (pending piece pending' : List ℕ) → ReadsOn ends step left left' old now count pending → Consumes left' left'' piece → length piece ≡ n → ServesPiece ends step (Ok Open) now (pending ++ piece) new pending' → ReadsOn ends step left left'' old new (count + n) pending'
@@ -208,7 +203,7 @@ module _ {M : Type 0} (ends : Command → Bool) (step : Stand M → Request → 
   cut : (front bytes piece others : List ℕ) → bytes ≡ piece ++ others → front ++ bytes ≡ (front ++ piece) ++ others
   cut front bytes piece others parts = ap (λ xs. front ++ xs) parts ∙ sym (append_assoc front piece others)
 
-  ended_served : (left' : Option (List ℕ)) (front pending bytes piece others pending' : List ℕ) (old now new : Moment M) → Stands ends step old front now pending → bytes ≡ piece ++ others → length (front ++ piece) ≤ script_limit → ServesPiece ends step (Ok Ended) now (pending ++ piece) new pending' → ServesTaken ends step (Ok tt) left' (front ++ bytes) old new
+  ended_served : (left' : Option (List ℕ)) (front pending bytes piece others pending' : List ℕ) (old now new : Moment M) → Stands ends step old front now pending → bytes ≡ piece ++ others → length (front ++ piece) ≤ script_limit → ServesPiece ends step (Ok Ended) now (pending ++ piece) new pending' → ServesTaken ends step (Ok tt) left' front (front ++ bytes) old new
   ended_served left' front pending bytes piece others pending' old now new s parts fits h =
       let e = cut front bytes piece others parts in
       let q = Reads-Finishes ends (front ++ piece) (pending ++ piece) s.done h.0 (Reads-more ends front s.done pending piece s.reads) h.2 in (
@@ -218,12 +213,12 @@ module _ {M : Type 0} (ends : Command → Bool) (step : Stand M → Request → 
       )
 
   -- a line that ends the script has come
-  pub read_ended : (left left' left'' : Option (List ℕ)) (old now new : Moment M) (count : ℕ) (pending bytes piece others pending' : List ℕ) → ReadsOn ends step left left' old now count pending → count ≤ script_limit → length bytes ≤ piece_length → Consumes left' left'' bytes → bytes ≡ piece ++ others → count + length piece ≤ script_limit → ServesPiece ends step (Ok Ended) now (pending ++ piece) new pending' → ServesScript ends step (Ok tt) left left'' old new
-  read_ended left left' left'' old now new count pending bytes piece others pending' r le short consumed parts room h =
-      read_bytes (Ok tt) left left' left'' old now new count pending bytes r le short consumed
+  pub read_ended : (left left' left'' handed : Option (List ℕ)) (old now new : Moment M) (count : ℕ) (pending bytes piece others pending' : List ℕ) → ReadsOn ends step left left' old now count pending → count ≤ script_limit → length bytes ≤ piece_length → Consumes left' left'' bytes → IfSome handed (λ last. last ≡ bytes) → bytes ≡ piece ++ others → count + length piece ≤ script_limit → ServesPiece ends step (Ok Ended) now (pending ++ piece) new pending' → ServesScript ends step (Ok tt) left left'' handed old new
+  read_ended left left' left'' handed old now new count pending bytes piece others pending' r le short consumed out parts room h =
+      read_bytes (Ok tt) left left' left'' handed old now new count pending bytes r le short consumed out
       (ended_served left'' r.taken pending bytes piece others pending' old now new r.stands parts (let counted = r.length_is in omega (arith, length-append r.taken piece)) h)
 
-  overlong_served : (left' : Option (List ℕ)) (front pending bytes piece others pending' : List ℕ) (old now new : Moment M) → Stands ends step old front now pending → bytes ≡ piece ++ others → length (front ++ piece) ≡ script_limit → 0 < length others → ServesPiece ends step (Ok Open) now (pending ++ piece) new pending' → ServesTaken ends step (Err stop.TooLong) left' (front ++ bytes) old new
+  overlong_served : (left' : Option (List ℕ)) (front pending bytes piece others pending' : List ℕ) (old now new : Moment M) → Stands ends step old front now pending → bytes ≡ piece ++ others → length (front ++ piece) ≡ script_limit → 0 < length others → ServesPiece ends step (Ok Open) now (pending ++ piece) new pending' → ServesTaken ends step (Err stop.TooLong) left' front (front ++ bytes) old new
   overlong_served left' front pending bytes piece others pending' old now new s parts full some h =
       let e = cut front bytes piece others parts in
       let next = Reads-append ends (front ++ piece) (pending ++ piece) pending' s.done h.0 (Reads-more ends front s.done pending piece s.reads) h.2 in
@@ -237,9 +232,9 @@ module _ {M : Type 0} (ends : Command → Bool) (step : Stand M → Request → 
       )
 
   -- a byte too many has come
-  pub read_overlong : (left left' left'' : Option (List ℕ)) (old now new : Moment M) (count : ℕ) (pending bytes piece others pending' : List ℕ) → ReadsOn ends step left left' old now count pending → count ≤ script_limit → length bytes ≤ piece_length → Consumes left' left'' bytes → bytes ≡ piece ++ others → count + length piece ≡ script_limit → 0 < length others → ServesPiece ends step (Ok Open) now (pending ++ piece) new pending' → ServesScript ends step (Err stop.TooLong) left left'' old new
-  read_overlong left left' left'' old now new count pending bytes piece others pending' r le short consumed parts full some h =
-      read_bytes (Err stop.TooLong) left left' left'' old now new count pending bytes r le short consumed
+  pub read_overlong : (left left' left'' handed : Option (List ℕ)) (old now new : Moment M) (count : ℕ) (pending bytes piece others pending' : List ℕ) → ReadsOn ends step left left' old now count pending → count ≤ script_limit → length bytes ≤ piece_length → Consumes left' left'' bytes → IfSome handed (λ last. last ≡ bytes) → bytes ≡ piece ++ others → count + length piece ≡ script_limit → 0 < length others → ServesPiece ends step (Ok Open) now (pending ++ piece) new pending' → ServesScript ends step (Err stop.TooLong) left left'' handed old new
+  read_overlong left left' left'' handed old now new count pending bytes piece others pending' r le short consumed out parts full some h =
+      read_bytes (Err stop.TooLong) left left' left'' handed old now new count pending bytes r le short consumed out
       (overlong_served left'' r.taken pending bytes piece others pending' old now new r.stands parts (let counted = r.length_is in omega (arith, length-append r.taken piece)) some h)
 
   -- what the whole lines among the bytes that may be ask begins with what was answered
@@ -249,18 +244,20 @@ module _ {M : Type 0} (ends : Command → Bool) (step : Stand M → Request → 
       let found = all.whole (take (script_limit - length (front ++ piece)) others) in
       (found.0, ap (λ xs. whole_requests ends (take script_limit xs)) (cut front bytes piece others parts) ∙ ap (whole_requests ends) (front_then script_limit (front ++ piece) others fits) ∙ found.1)
 
-  stopped_served : (fault : Stop) (left' : Option (List ℕ)) (front pending bytes piece others pending' : List ℕ) (old now new : Moment M) → Stands ends step old front now pending → bytes ≡ piece ++ others → length (front ++ piece) ≤ script_limit → ServesPiece ends step (Err fault) now (pending ++ piece) new pending' → ServesTaken ends step (Err fault) left' (front ++ bytes) old new
-  stopped_served stop.Sink left' front pending bytes piece others pending' old now new s parts fits h =
+  stopped_served : (fault : Stop) (left' : Option (List ℕ)) (front pending bytes piece others pending' : List ℕ) (old now new : Moment M) → Stands ends step old front now pending → HasNoNewline pending → bytes ≡ piece ++ others → length (front ++ piece) ≤ script_limit → ServesPiece ends step (Err fault) now (pending ++ piece) new pending' → ServesTaken ends step (Err fault) left' front (front ++ bytes) old new
+  stopped_served stop.Sink left' front pending bytes piece others pending' old now new s clean parts fits h =
       let found = first_asked front pending bytes piece others s.done h.0 s.reads h.2 parts fits in
-      (whole_requests ends (take script_limit (front ++ bytes)), s.done ++ h.0, found.0, inl refl, found.1, Serves-Breaks step old now new s.done h.0 s.serves h.1)
-  stopped_served stop.Memory left' front pending bytes piece others pending' old now new s parts fits h =
+      let cut = Serves-Breaks-behind step old now new s.done h.0 s.serves h.1 in
+      (whole_requests ends (take script_limit (front ++ bytes)), s.done ++ h.0, found.0, inl refl, found.1, (cut.0, prompt ends front s.done pending cut.0.replies s.reads clean cut.1))
+  stopped_served stop.Memory left' front pending bytes piece others pending' old now new s clean parts fits h =
       let found = first_asked front pending bytes piece others s.done h.0 s.reads h.2 parts fits in
-      (whole_requests ends (take script_limit (front ++ bytes)), s.done ++ h.0, found.0, inl refl, found.1, Serves-Halts step old now new s.done h.0 s.serves h.1)
-  stopped_served stop.Source left' front pending bytes piece others pending' old now new s parts fits h = absurd h
-  stopped_served stop.TooLong left' front pending bytes piece others pending' old now new s parts fits h = absurd h
+      let cut = Serves-Halts-behind step old now new s.done h.0 s.serves h.1 in
+      (whole_requests ends (take script_limit (front ++ bytes)), s.done ++ h.0, found.0, inl refl, found.1, (cut.0, prompt ends front s.done pending cut.0.replies s.reads clean cut.1))
+  stopped_served stop.Source left' front pending bytes piece others pending' old now new s clean parts fits h = absurd h
+  stopped_served stop.TooLong left' front pending bytes piece others pending' old now new s clean parts fits h = absurd h
 
   -- a line was cut short
-  pub read_stopped : (fault : Stop) (left left' left'' : Option (List ℕ)) (old now new : Moment M) (count : ℕ) (pending bytes piece others pending' : List ℕ) → ReadsOn ends step left left' old now count pending → count ≤ script_limit → length bytes ≤ piece_length → Consumes left' left'' bytes → bytes ≡ piece ++ others → count + length piece ≤ script_limit → ServesPiece ends step (Err fault) now (pending ++ piece) new pending' → ServesScript ends step (Err fault) left left'' old new
-  read_stopped fault left left' left'' old now new count pending bytes piece others pending' r le short consumed parts room h =
-      read_bytes (Err fault) left left' left'' old now new count pending bytes r le short consumed
-      (stopped_served fault left'' r.taken pending bytes piece others pending' old now new r.stands parts (let counted = r.length_is in omega (arith, length-append r.taken piece)) h)
+  pub read_stopped : (fault : Stop) (left left' left'' handed : Option (List ℕ)) (old now new : Moment M) (count : ℕ) (pending bytes piece others pending' : List ℕ) → ReadsOn ends step left left' old now count pending → count ≤ script_limit → length bytes ≤ piece_length → Consumes left' left'' bytes → IfSome handed (λ last. last ≡ bytes) → bytes ≡ piece ++ others → count + length piece ≤ script_limit → ServesPiece ends step (Err fault) now (pending ++ piece) new pending' → ServesScript ends step (Err fault) left left'' handed old new
+  read_stopped fault left left' left'' handed old now new count pending bytes piece others pending' r le short consumed out parts room h =
+      read_bytes (Err fault) left left' left'' handed old now new count pending bytes r le short consumed out
+      (stopped_served fault left'' r.taken pending bytes piece others pending' old now new r.stands r.clean parts (let counted = r.length_is in omega (arith, length-append r.taken piece)) h)

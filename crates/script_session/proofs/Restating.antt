@@ -23,7 +23,7 @@ module _ {S T : Type 0} (f : S → T) (step : S → Command → List ℕ → S �
     output = h.output;
   }
 
-  IsCutOff-through : (requests : List Request) (old : S) (before : Outside) (new : S) (after : Outside) → IsCutOff (RequestStep step) requests old before new after → IsCutOff (RequestStep other) requests (f old) before (f new) after
+  abbrev IsCutOff-through : (requests : List Request) (old : S) (before : Outside) (new : S) (after : Outside) → IsCutOff (RequestStep step) requests old before new after → IsCutOff (RequestStep other) requests (f old) before (f new) after
   IsCutOff-through requests old before new after h = record {
     first = h.first;
     rest = h.rest;
@@ -38,7 +38,7 @@ module _ {S T : Type 0} (f : S → T) (step : S → Command → List ℕ → S �
     output = h.output;
   }
 
-  IsCutShort-through : (requests : List Request) (old : S) (before : Outside) (new : S) (after : Outside) → IsCutShort (RequestStep step) requests old before new after → IsCutShort (RequestStep other) requests (f old) before (f new) after
+  abbrev IsCutShort-through : (requests : List Request) (old : S) (before : Outside) (new : S) (after : Outside) → IsCutShort (RequestStep step) requests old before new after → IsCutShort (RequestStep other) requests (f old) before (f new) after
   IsCutShort-through requests old before new after h = record {
     first = h.first;
     rest = h.rest;
@@ -50,20 +50,21 @@ module _ {S T : Type 0} (f : S → T) (step : S → Command → List ℕ → S �
     output = h.output;
   }
 
-  EndsAs-through : (ends : Command → Bool) (taken : List ℕ) (old : S) (before : Outside) (new : S) (after : Outside) (status : ℕ) → EndsAs (RequestStep step) ends taken old before new after status → EndsAs (RequestStep other) ends taken (f old) before (f new) after status
-  EndsAs-through ends taken old before new after status (Finished replies answers all within is) = Finished replies (Answers-through _ old before new after replies answers) all within is
-  EndsAs-through ends taken old before new after status (SourceFailed replies answers within unended rose is) = SourceFailed replies (Answers-through _ old before new after replies answers) within unended rose is
-  EndsAs-through ends taken old before new after status (SinkFailed asked answerable cut rose is) = SinkFailed asked answerable (IsCutOff-through asked old before new after cut) rose is
-  EndsAs-through ends taken old before new after status (MemoryWanted asked answerable cut is) = MemoryWanted asked answerable (IsCutShort-through asked old before new after cut) is
-  EndsAs-through ends taken old before new after status (TooLong replies answers overlong is) = TooLong replies (Answers-through _ old before new after replies answers) overlong is
+  EndsAs-through : (ends : Command → Bool) (front taken : List ℕ) (old : S) (before : Outside) (new : S) (after : Outside) (status : ℕ) → EndsAs (RequestStep step) ends front taken old before new after status → EndsAs (RequestStep other) ends front taken (f old) before (f new) after status
+  EndsAs-through ends front taken old before new after status (Finished replies answers all within is) = Finished replies (Answers-through _ old before new after replies answers) all within is
+  EndsAs-through ends front taken old before new after status (SourceFailed replies answers within unended rose is) = SourceFailed replies (Answers-through _ old before new after replies answers) within unended rose is
+  EndsAs-through ends front taken old before new after status (SinkFailed asked answerable cut prompt rose is) = SinkFailed asked answerable (IsCutOff-through asked old before new after cut) prompt rose is
+  EndsAs-through ends front taken old before new after status (MemoryWanted asked answerable cut prompt is) = MemoryWanted asked answerable (IsCutShort-through asked old before new after cut) prompt is
+  EndsAs-through ends front taken old before new after status (TooLong replies answers overlong is) = TooLong replies (Answers-through _ old before new after replies answers) overlong is
 
   -- so a run over machines is one over the other states
   pub IsRun-through : (ends : Command → Bool) (old : S) (before : Outside) (new : S) (after : Outside) (status : ℕ) → IsRun (RequestStep step) ends old before new after status → IsRun (RequestStep other) ends (f old) before (f new) after status
   IsRun-through ends old before new after status h = record {
+    front = h.front;
     taken = h.taken;
     consumed = h.consumed;
     last = h.last;
-    ended = EndsAs-through ends h.taken old before new after status h.ended;
+    ended = EndsAs-through ends h.front h.taken old before new after status h.ended;
     source_later = h.source_later;
     sink_later = h.sink_later;
   }

@@ -27,11 +27,12 @@ module _ {M : Type 0} (ends : Command → Bool) (step : Stand M → Request → 
       ∙ ap (λ refused. final_status (list_any wants_memory h.replies) refused) (h.refused ∙ ap (λ b. b || list_any is_error h.replies) unrefused)
 
   -- the script came to its end
-  pub run_ended : (left left' : Option (List ℕ)) (sources sources' sinks sinks' : ℕ) (old new : Moment M) (status : ℕ) → ServesScript ends step (Ok tt) left left' old new → old.wanted ≡ false → old.refused ≡ false → status ≡ final_status new.wanted new.refused → sources ≤ sources' → sinks ≤ sinks'
-      → IsRun step ends old.state (outside left sources old.written sinks) new.state (outside left' sources' new.written sinks') status
-  run_ended left left' sources sources' sinks sinks' old new status h unwanted unrefused is source_later sink_later =
+  pub run_ended : (left left' handed handed' : Option (List ℕ)) (sources sources' sinks sinks' : ℕ) (old new : Moment M) (status : ℕ) → ServesScript ends step (Ok tt) left left' handed' old new → old.wanted ≡ false → old.refused ≡ false → status ≡ final_status new.wanted new.refused → sources ≤ sources' → sinks ≤ sinks'
+      → IsRun step ends old.state (outside left handed sources old.written sinks) new.state (outside left' handed' sources' new.written sinks') status
+  run_ended left left' handed handed' sources sources' sinks sinks' old new status h unwanted unrefused is source_later sink_later =
       let served = h.served.0 in
       record {
+        front = h.front;
         taken = h.taken;
         consumed = h.consumed;
         last = h.last;
@@ -41,24 +42,25 @@ module _ {M : Type 0} (ends : Command → Bool) (step : Stand M → Request → 
       }
 
   -- it was stopped
-  stopped_as : (fault : Stop) (left left' : Option (List ℕ)) (sources sources' sinks sinks' : ℕ) (taken : List ℕ) (old new : Moment M) (status : ℕ) → ServesTaken ends step (Err fault) left' taken old new → SourceCause {T = Unit {0}} (Err fault) sources sources' → SinkCause {T = Unit {0}} (Err fault) sinks sinks' → status ≡ stop_status fault
-      → EndsAs step ends taken old.state (outside left sources old.written sinks) new.state (outside left' sources' new.written sinks') status
-  stopped_as stop.Source left left' sources sources' sinks sinks' taken old new status h source sink is =
+  stopped_as : (fault : Stop) (left left' handed handed' : Option (List ℕ)) (sources sources' sinks sinks' : ℕ) (front taken : List ℕ) (old new : Moment M) (status : ℕ) → ServesTaken ends step (Err fault) left' front taken old new → SourceCause {T = Unit {0}} (Err fault) sources sources' → SinkCause {T = Unit {0}} (Err fault) sinks sinks' → status ≡ stop_status fault
+      → EndsAs step ends front taken old.state (outside left handed sources old.written sinks) new.state (outside left' handed' sources' new.written sinks') status
+  stopped_as stop.Source left left' handed handed' sources sources' sinks sinks' front taken old new status h source sink is =
       SourceFailed h.0.replies (record { transcript = h.0.run; output = h.0.output }) h.1 h.2 source is
-  stopped_as stop.Sink left left' sources sources' sinks sinks' taken old new status h source sink is =
-      SinkFailed h.0 h.3 (record { first = h.1; rest = h.2; parts = h.4; replies = h.5.replies; broken = h.5.broken; transcript = h.5.run; bytes = h.5.bytes; unwritten = h.5.unwritten; front = h.5.front; some = h.5.some; output = h.5.output }) sink is
-  stopped_as stop.Memory left left' sources sources' sinks sinks' taken old new status h source sink is =
-      MemoryWanted h.0 h.3 (record { first = h.1; rest = h.2; parts = h.4; replies = h.5.replies; missing = h.5.missing; one = h.5.one; transcript = h.5.run; output = h.5.output }) is
-  stopped_as stop.TooLong left left' sources sources' sinks sinks' taken old new status h source sink is =
+  stopped_as stop.Sink left left' handed handed' sources sources' sinks sinks' front taken old new status h source sink is =
+      SinkFailed h.0 h.3 (record { first = h.1; rest = h.2; parts = h.4; replies = h.5.0.replies; broken = h.5.0.broken; transcript = h.5.0.run; bytes = h.5.0.bytes; unwritten = h.5.0.unwritten; front = h.5.0.front; some = h.5.0.some; output = h.5.0.output }) h.5.1 sink is
+  stopped_as stop.Memory left left' handed handed' sources sources' sinks sinks' front taken old new status h source sink is =
+      MemoryWanted h.0 h.3 (record { first = h.1; rest = h.2; parts = h.4; replies = h.5.0.replies; missing = h.5.0.missing; one = h.5.0.one; transcript = h.5.0.run; output = h.5.0.output }) h.5.1 is
+  stopped_as stop.TooLong left left' handed handed' sources sources' sinks sinks' front taken old new status h source sink is =
       TooLong h.0.replies (record { transcript = h.0.run; output = h.0.output }) h.1 is
 
-  pub run_stopped : (fault : Stop) (left left' : Option (List ℕ)) (sources sources' sinks sinks' : ℕ) (old new : Moment M) (status : ℕ) → ServesScript ends step (Err fault) left left' old new → SourceCause {T = Unit {0}} (Err fault) sources sources' → SinkCause {T = Unit {0}} (Err fault) sinks sinks' → status ≡ stop_status fault → sources ≤ sources' → sinks ≤ sinks'
-      → IsRun step ends old.state (outside left sources old.written sinks) new.state (outside left' sources' new.written sinks') status
-  run_stopped fault left left' sources sources' sinks sinks' old new status h source sink is source_later sink_later = record {
+  pub run_stopped : (fault : Stop) (left left' handed handed' : Option (List ℕ)) (sources sources' sinks sinks' : ℕ) (old new : Moment M) (status : ℕ) → ServesScript ends step (Err fault) left left' handed' old new → SourceCause {T = Unit {0}} (Err fault) sources sources' → SinkCause {T = Unit {0}} (Err fault) sinks sinks' → status ≡ stop_status fault → sources ≤ sources' → sinks ≤ sinks'
+      → IsRun step ends old.state (outside left handed sources old.written sinks) new.state (outside left' handed' sources' new.written sinks') status
+  run_stopped fault left left' handed handed' sources sources' sinks sinks' old new status h source sink is source_later sink_later = record {
+    front = h.front;
     taken = h.taken;
     consumed = h.consumed;
     last = h.last;
-    ended = stopped_as fault left left' sources sources' sinks sinks' h.taken old new status h.served source sink is;
+    ended = stopped_as fault left left' handed handed' sources sources' sinks sinks' h.front h.taken old new status h.served source sink is;
     source_later = source_later;
     sink_later = sink_later;
   }

@@ -1,5 +1,5 @@
 -- Sessions one after another.
-use Rattle.std.proofs.Common.{◌≡◌, ℕ, List, [], ◌∷◌, ◌++◌, refl, sym, ◌∙◌, ap, append_assoc, append-nil, arith, Bool, true, false, ◌||◌, subst}
+use Rattle.std.proofs.Common.{◌≡◌, ◌≤◌, ℕ, length, length-append, List, [], ◌∷◌, ◌++◌, refl, sym, ◌∙◌, ap, append_assoc, append-nil, arith, Bool, true, false, ◌||◌, subst}
 use Rattle.std.specs.List.{list_any, concat}
 use Rattle.std.specs.Io.KnownBytes.{Appends}
 use Rattle.std.proofs.lemmas.List.Folds.{concat-append}
@@ -15,6 +15,13 @@ Transcript-append step a b c [] us [] vs h k = subst (λ s. Transcript step s us
 Transcript-append step a b c [] us (r ∷ rs) vs h k = absurd h
 Transcript-append step a b c (q ∷ qs) us [] vs h k = absurd h
 Transcript-append step a b c (q ∷ qs) us (r ∷ rs) vs h k = (h.0, h.1, Transcript-append step h.0 b c qs us rs vs h.2 k)
+
+-- each request has its reply
+pub Transcript-length : {S Q R : Type 0} (step : S → Q → R → S → Type 0) (old new : S) (qs : List Q) (rs : List R) → Transcript step old qs rs new → length qs ≡ length rs
+Transcript-length step old new [] [] h = refl
+Transcript-length step old new [] (r ∷ rs) h = absurd h
+Transcript-length step old new (q ∷ qs) [] h = absurd h
+Transcript-length step old new (q ∷ qs) (r ∷ rs) h = let more = Transcript-length step h.0 new qs rs h.2 in omega arith
 
 or_assoc : (a b c : Bool) → (a || b) || c ≡ a || (b || c)
 or_assoc true b c = refl
@@ -52,26 +59,39 @@ module _ {M : Type 0} (step : Stand M → Request → List ℕ → Stand M → T
     refused = k.refused ∙ ap (λ w. w || list_any is_error k.replies) h.refused ∙ any-append is_error a.refused h.replies k.replies;
   }
 
+  -- and every request before those has its reply, whole
+  pub Serves-Breaks-behind : (a b c : Moment M) (qs us : List Request) → Serves step a qs b → Breaks step b us c → (cut : Breaks step a (qs ++ us) c) × (length qs ≤ length cut.replies)
+  Serves-Breaks-behind a b c qs us h k = (
+    record {
+      replies = h.replies ++ k.replies;
+      broken = k.broken;
+      run = subst (λ rs. Transcript step a.state (qs ++ us) rs c.state) (sym (append_assoc h.replies k.replies (k.broken ∷ []))) (Transcript-append step a.state b.state c.state qs us h.replies (k.replies ++ k.broken ∷ []) h.run k.run);
+      bytes = k.bytes;
+      unwritten = k.unwritten;
+      front = k.front;
+      some = k.some;
+      output = subst (λ bytes. Appends a.written c.written bytes) (sym (whole_behind h.replies k.replies k.bytes)) (Appends-append a.written b.written c.written (concat h.replies) (concat k.replies ++ k.bytes) h.output k.output);
+    },
+    (let each = Transcript-length step a.state b.state qs h.replies h.run in omega (arith, length-append h.replies k.replies)),
+  )
+
   pub Serves-Breaks : (a b c : Moment M) (qs us : List Request) → Serves step a qs b → Breaks step b us c → Breaks step a (qs ++ us) c
-  Serves-Breaks a b c qs us h k = record {
-    replies = h.replies ++ k.replies;
-    broken = k.broken;
-    run = subst (λ rs. Transcript step a.state (qs ++ us) rs c.state) (sym (append_assoc h.replies k.replies (k.broken ∷ []))) (Transcript-append step a.state b.state c.state qs us h.replies (k.replies ++ k.broken ∷ []) h.run k.run);
-    bytes = k.bytes;
-    unwritten = k.unwritten;
-    front = k.front;
-    some = k.some;
-    output = subst (λ bytes. Appends a.written c.written bytes) (sym (whole_behind h.replies k.replies k.bytes)) (Appends-append a.written b.written c.written (concat h.replies) (concat k.replies ++ k.bytes) h.output k.output);
-  }
+  Serves-Breaks a b c qs us h k = (Serves-Breaks-behind a b c qs us h k).0
+
+  pub Serves-Halts-behind : (a b c : Moment M) (qs us : List Request) → Serves step a qs b → Halts step b us c → (cut : Halts step a (qs ++ us) c) × (length qs ≤ length cut.replies)
+  Serves-Halts-behind a b c qs us h k = (
+    record {
+      replies = h.replies ++ k.replies;
+      missing = k.missing;
+      run = subst (λ rs. Transcript step a.state (qs ++ us) rs c.state) (sym (append_assoc h.replies k.replies k.missing)) (Transcript-append step a.state b.state c.state qs us h.replies (k.replies ++ k.missing) h.run k.run);
+      output = subst (λ bytes. Appends a.written c.written bytes) (sym (concat-append h.replies k.replies)) (Appends-append a.written b.written c.written (concat h.replies) (concat k.replies) h.output k.output);
+      one = k.one;
+    },
+    (let each = Transcript-length step a.state b.state qs h.replies h.run in omega (arith, length-append h.replies k.replies)),
+  )
 
   pub Serves-Halts : (a b c : Moment M) (qs us : List Request) → Serves step a qs b → Halts step b us c → Halts step a (qs ++ us) c
-  Serves-Halts a b c qs us h k = record {
-    replies = h.replies ++ k.replies;
-    missing = k.missing;
-    run = subst (λ rs. Transcript step a.state (qs ++ us) rs c.state) (sym (append_assoc h.replies k.replies k.missing)) (Transcript-append step a.state b.state c.state qs us h.replies (k.replies ++ k.missing) h.run k.run);
-    output = subst (λ bytes. Appends a.written c.written bytes) (sym (concat-append h.replies k.replies)) (Appends-append a.written b.written c.written (concat h.replies) (concat k.replies) h.output k.output);
-    one = k.one;
-  }
+  Serves-Halts a b c qs us h k = (Serves-Halts-behind a b c qs us h k).0
 
   -- one request, whose reply was written
   pub Serves-one : (old new : Moment M) (request : Request) (reply : List ℕ) → step old.state request reply new.state → Appends old.written new.written reply → new.wanted ≡ (old.wanted || wants_memory reply) → new.refused ≡ (old.refused || is_error reply) → Serves step old (request ∷ []) new

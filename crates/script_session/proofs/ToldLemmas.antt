@@ -244,9 +244,9 @@ told_law S step ends input old before new after status from run =
     let t = told input run.taken after.left consumed in
     by t.0 t.1 t.2 run.ended
   where
-    by : (rest : List ℕ) → input ≡ run.taken ++ rest → (IsAtEnd after.left → rest ≡ []) → EndsAs step ends run.taken old before new after status → IsRunOf step ends input old before new after status
+    by : (rest : List ℕ) → input ≡ run.taken ++ rest → (IsAtEnd after.left → rest ≡ []) → EndsAs step ends run.front run.taken old before new after status → IsRunOf step ends input old before new after status
     by rest e end (Finished replies answers all within is) = finished step ends input run.taken rest after.left old before new after status e end replies answers all within is
     by rest e end (SourceFailed replies answers within unended rose is) = source_failed step ends input run.taken rest after.left old before new after status e end is
-    by rest e end (SinkFailed asked answerable cut rose is) = sink_failed step ends input run.taken rest after.left old before new after status e end asked answerable cut is
-    by rest e end (MemoryWanted asked answerable cut is) = memory_wanted step ends input run.taken rest after.left old before new after status e end asked answerable cut is
+    by rest e end (SinkFailed asked answerable cut prompt rose is) = sink_failed step ends input run.taken rest after.left old before new after status e end asked answerable cut is
+    by rest e end (MemoryWanted asked answerable cut prompt is) = memory_wanted step ends input run.taken rest after.left old before new after status e end asked answerable cut is
     by rest e end (TooLong replies answers overlong is) = too_long step ends input run.taken rest after.left old before new after status e end replies answers overlong is

@@ -1,6 +1,6 @@
 -- What a run of a script is: one definition for every status, over the bytes that were taken from the source, whether the
 -- source tells them or not.
-use Rattle.std.specs.Prelude.{◌≡◌, ℕ, ◌<◌, ◌≤◌, ◌⊎◌, Bool, true, false, List, [], ◌∷◌, ◌++◌, length, take, Option}
+use Rattle.std.specs.Prelude.{◌≡◌, ℕ, ◌<◌, ◌≤◌, ◌⊎◌, Bool, true, false, List, [], ◌∷◌, ◌++◌, length, take, Option, IfSome}
 use Rattle.std.specs.List.{concat}
 use Rattle.std.specs.Io.KnownBytes.{Appends, Consumes, IsAtEnd}
 use Rattle.sym_io.specs.Faults.{Rose}
@@ -10,16 +10,17 @@ use Rattle.script_session.specs.Request.{Command, Request}
 use Rattle.script_session.specs.Script.{script_requests, whole_requests, has_ending, IsWithinLimit, IsOverlong}
 use Rattle.script_session.specs.Stand.{Transcript}
 
--- The two ends of a run at a moment: the bytes that are left, where the source tells them, the bytes that are written, where
--- the sink tells them, and how often each has failed.
+-- The two ends of a run at a moment: the bytes that are left and the piece that the last read has handed out, where the source
+-- tells them, the bytes that are written, where the sink tells them, and how often each has failed.
 pub record Outside : Type 0 where
   pub left : Option (List ℕ)
+  pub handed : Option (List ℕ)
   pub source_faults : ℕ
   pub written : Option (List ℕ)
   pub sink_faults : ℕ
 
-abbrev pub outside : Option (List ℕ) → ℕ → Option (List ℕ) → ℕ → Outside
-outside left source_faults written sink_faults = record { left = left; source_faults = source_faults; written = written; sink_faults = sink_faults }
+abbrev pub outside : Option (List ℕ) → Option (List ℕ) → ℕ → Option (List ℕ) → ℕ → Outside
+outside left handed source_faults written sink_faults = record { left = left; handed = handed; source_faults = source_faults; written = written; sink_faults = sink_faults }
 
 -- ---- what is answered and written
 
@@ -56,15 +57,20 @@ pub record IsCutShort {S : Type 0} (step : S → Request → List ℕ → S → 
 
 -- ---- what was taken
 
--- The bytes before the last read are no more than may be and have no line that ends the script: nothing is read after the
--- read that brought a byte too many, or such a line.
-pub record IsLastRead (ends : Command → Bool) (taken : List ℕ) : Type 0 where
-  pub front : List ℕ
+-- The last read has handed out this piece, none where it found the end or failed. The bytes before it are no more than may be and
+-- have no line that ends the script: nothing is read after the read that brought a byte too many, or such a line.
+pub record IsLastRead (ends : Command → Bool) (handed' : Option (List ℕ)) (front taken : List ℕ) : Type 0 where
   pub piece : List ℕ
   pub parts : taken ≡ front ++ piece
+  pub handed : IfSome handed' (λ last. last ≡ piece)
   pub one_read : length piece ≤ piece_length
   pub within : length front ≤ script_limit
   pub unended : has_ending ends front ≡ false
+
+-- All that the lines ask which earlier reads have ended is answered by replies that were written whole. So a reply is written before
+-- the next read: a sink may fail at any reply, and then no later piece was asked for.
+abbrev pub IsPrompt : (Command → Bool) → List ℕ → List (List ℕ) → Type 0
+IsPrompt ends front replies = length (whole_requests ends front) ≤ length replies
 
 -- nothing is left to be asked: the source is at its end, or a line has ended the script
 abbrev pub IsAll : (Command → Bool) → Option (List ℕ) → List ℕ → Type 0
@@ -79,26 +85,27 @@ IsAnswerable ends left' taken asked =
 
 -- ---- how a run ends
 
--- From old a run has answered the bytes that were taken, left new, and ends with this status: the script came to its end,
--- though memory may have been wanting for a reply; the source or the sink failed; the run itself had no memory; or a byte
--- too many came.
-pub data EndsAs {S : Type 0} (step : S → Request → List ℕ → S → Type 0) (ends : Command → Bool) (taken : List ℕ) (old : S) (before : Outside) (new : S) (after : Outside) (status : ℕ) : Type 0 where
+-- From old a run has answered the bytes that were taken, the last read's behind a front, left new, and ends with this status: the
+-- script came to its end, though memory may have been wanting for a reply; the source or the sink failed; the run itself had no
+-- memory; or a byte too many came.
+pub data EndsAs {S : Type 0} (step : S → Request → List ℕ → S → Type 0) (ends : Command → Bool) (front taken : List ℕ) (old : S) (before : Outside) (new : S) (after : Outside) (status : ℕ) : Type 0 where
   Finished : (replies : List (List ℕ)) → Answers step (script_requests ends taken) old before new after replies → IsAll ends after.left taken → IsWithinLimit ends taken
-      → status ≡ status_of replies → EndsAs step ends taken old before new after status
+      → status ≡ status_of replies → EndsAs step ends front taken old before new after status
   SourceFailed : (replies : List (List ℕ)) → Answers step (whole_requests ends taken) old before new after replies → length taken ≤ script_limit → has_ending ends taken ≡ false
-      → Rose before.source_faults after.source_faults → status ≡ 3 → EndsAs step ends taken old before new after status
-  SinkFailed : (asked : List Request) → IsAnswerable ends after.left taken asked → IsCutOff step asked old before new after
-      → Rose before.sink_faults after.sink_faults → status ≡ 4 → EndsAs step ends taken old before new after status
-  MemoryWanted : (asked : List Request) → IsAnswerable ends after.left taken asked → IsCutShort step asked old before new after
-      → status ≡ 5 → EndsAs step ends taken old before new after status
+      → Rose before.source_faults after.source_faults → status ≡ 3 → EndsAs step ends front taken old before new after status
+  SinkFailed : (asked : List Request) → IsAnswerable ends after.left taken asked → (cut : IsCutOff step asked old before new after) → IsPrompt ends front cut.replies
+      → Rose before.sink_faults after.sink_faults → status ≡ 4 → EndsAs step ends front taken old before new after status
+  MemoryWanted : (asked : List Request) → IsAnswerable ends after.left taken asked → (cut : IsCutShort step asked old before new after) → IsPrompt ends front cut.replies
+      → status ≡ 5 → EndsAs step ends front taken old before new after status
   TooLong : (replies : List (List ℕ)) → Answers step (whole_requests ends (take script_limit taken)) old before new after replies → IsOverlong ends taken
-      → status ≡ 6 → EndsAs step ends taken old before new after status
+      → status ≡ 6 → EndsAs step ends front taken old before new after status
 
 -- a run from old, which left new: these bytes were taken, and no count of faults fell
 pub record IsRun {S : Type 0} (step : S → Request → List ℕ → S → Type 0) (ends : Command → Bool) (old : S) (before : Outside) (new : S) (after : Outside) (status : ℕ) : Type 0 where
+  pub front : List ℕ
   pub taken : List ℕ
   pub consumed : Consumes before.left after.left taken
-  pub last : IsLastRead ends taken
-  pub ended : EndsAs step ends taken old before new after status
+  pub last : IsLastRead ends after.handed front taken
+  pub ended : EndsAs step ends front taken old before new after status
   pub source_later : before.source_faults ≤ after.source_faults
   pub sink_later : before.sink_faults ≤ after.sink_faults

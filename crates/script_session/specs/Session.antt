@@ -13,7 +13,7 @@ use Rattle.script_session.specs.Request.{Command, Request}
 use Rattle.text_lines.specs.Lines.{Line, HasNoNewline}
 use Rattle.script_session.specs.Script.{is_end, line_requests, script_requests, whole_requests, has_ending, IsWithinLimit, IsOverlong}
 use Rattle.script_session.specs.Reply.{wants_memory, is_error}
-use Rattle.script_session.specs.Run.{IsLastRead, IsAll, IsAnswerable}
+use Rattle.script_session.specs.Run.{IsLastRead, IsPrompt, IsAll, IsAnswerable}
 use Rattle.script_session.specs.Stand.{Stand, stand, Transcript}
 
 -- a machine beside its store, what the sink holds, and whether want of memory and a refusal were answered
@@ -108,17 +108,20 @@ ServesRest ends step (Err stop.Memory) old pending new = (first rest : List Requ
 ServesRest ends step (Err stop.Source) old pending new = ⊥
 ServesRest ends step (Err stop.TooLong) old pending new = ⊥
 
--- what the answer to a script says of the bytes that were taken, where left is what the source tells then
-abbrev pub ServesTaken : {M : Type 0} → (Command → Bool) → (Stand M → Request → List ℕ → Stand M → Type 0) → Result (Unit {0}) Stop → Option (List ℕ) → List ℕ → Moment M → Moment M → Type 0
-ServesTaken ends step (Ok done) left taken old new = Serves step old (script_requests ends taken) new × IsAll ends left taken × IsWithinLimit ends taken
-ServesTaken ends step (Err stop.Source) left taken old new = Serves step old (whole_requests ends taken) new × (length taken ≤ script_limit) × (has_ending ends taken ≡ false)
-ServesTaken ends step (Err stop.TooLong) left taken old new = Serves step old (whole_requests ends (take script_limit taken)) new × IsOverlong ends taken
-ServesTaken ends step (Err stop.Sink) left taken old new = (asked first rest : List Request) × IsAnswerable ends left taken asked × (asked ≡ first ++ rest) × Breaks step old first new
-ServesTaken ends step (Err stop.Memory) left taken old new = (asked first rest : List Request) × IsAnswerable ends left taken asked × (asked ≡ first ++ rest) × Halts step old first new
+-- what the answer to a script says of the bytes that were taken, the last read's behind a front, where left is what the source tells then
+abbrev pub ServesTaken : {M : Type 0} → (Command → Bool) → (Stand M → Request → List ℕ → Stand M → Type 0) → Result (Unit {0}) Stop → Option (List ℕ) → List ℕ → List ℕ → Moment M → Moment M → Type 0
+ServesTaken ends step (Ok done) left front taken old new = Serves step old (script_requests ends taken) new × IsAll ends left taken × IsWithinLimit ends taken
+ServesTaken ends step (Err stop.Source) left front taken old new = Serves step old (whole_requests ends taken) new × (length taken ≤ script_limit) × (has_ending ends taken ≡ false)
+ServesTaken ends step (Err stop.TooLong) left front taken old new = Serves step old (whole_requests ends (take script_limit taken)) new × IsOverlong ends taken
+ServesTaken ends step (Err stop.Sink) left front taken old new =
+    (asked first rest : List Request) × IsAnswerable ends left taken asked × (asked ≡ first ++ rest) × ((cut : Breaks step old first new) × IsPrompt ends front cut.replies)
+ServesTaken ends step (Err stop.Memory) left front taken old new =
+    (asked first rest : List Request) × IsAnswerable ends left taken asked × (asked ≡ first ++ rest) × ((cut : Halts step old first new) × IsPrompt ends front cut.replies)
 
--- what it says of a script: these bytes were taken
-pub record ServesScript {M : Type 0} (ends : Command → Bool) (step : Stand M → Request → List ℕ → Stand M → Type 0) (result : Result (Unit {0}) Stop) (left left' : Option (List ℕ)) (old new : Moment M) : Type 0 where
+-- what it says of a script: these bytes were taken, the last read's behind a front, which the source tells as handed'
+pub record ServesScript {M : Type 0} (ends : Command → Bool) (step : Stand M → Request → List ℕ → Stand M → Type 0) (result : Result (Unit {0}) Stop) (left left' handed' : Option (List ℕ)) (old new : Moment M) : Type 0 where
+  pub front : List ℕ
   pub taken : List ℕ
   pub consumed : Consumes left left' taken
-  pub last : IsLastRead ends taken
-  pub served : ServesTaken ends step result left' taken old new
+  pub last : IsLastRead ends handed' front taken
+  pub served : ServesTaken ends step result left' front taken old new

@@ -26,7 +26,7 @@ impl Session {
         out: &mut W,
         store: &mut S,
     ) -> Result<(), Stop>
-        ensures served { ServesScript M.ends (RequestStep M.step) result (R.left script.old) (R.left script.new)
+        ensures served { ServesScript M.ends (RequestStep M.step) result (R.left script.old) (R.left script.new) (R.handed script.new)
             (moment_of self.old machine.old (W.written out.old) (S.files store.old) (S.faults store.old))
             (moment_of self.new machine.new (W.written out.new) (S.files store.new) (S.faults store.new)) }
         ensures source_cause { SourceCause result (R.faults script.old) (R.faults script.new) }

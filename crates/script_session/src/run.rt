@@ -30,8 +30,8 @@ pub fn run_script<M: Machine, R: Source, W: Sink, S: Store>(
 ) -> u8
     ensures known { (result ≢ 2) × (result < 7) }
     ensures ran { IsRun (RequestStep M.step) M.ends
-        (stand machine.old (S.files store.old) (S.faults store.old)) (outside (R.left script.old) (R.faults script.old) (W.written out.old) (W.faults out.old))
-        (stand machine.new (S.files store.new) (S.faults store.new)) (outside (R.left script.new) (R.faults script.new) (W.written out.new) (W.faults out.new))
+        (stand machine.old (S.files store.old) (S.faults store.old)) (outside (R.left script.old) (R.handed script.old) (R.faults script.old) (W.written out.old) (W.faults out.old))
+        (stand machine.new (S.files store.new) (S.faults store.new)) (outside (R.left script.new) (R.handed script.new) (R.faults script.new) (W.written out.new) (W.faults out.new))
         result }
     ensures store_later { S.faults store.old ≤ S.faults store.new }
 {

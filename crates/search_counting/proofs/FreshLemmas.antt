@@ -14,31 +14,38 @@ use Rattle.search_counting.specs.Work.{whole_points, cap_of, HasRoomFor, splits_
 use Rattle.search_counting.proofs.RoomLemmas.{room-fewer}
 use Rattle.search_counting.proofs.CapLemmas.{splits-cap}
 
-pub fresh-roomy : (M : Program) (nodes : ℕ) (S : PlainSearch) → IsFresh M nodes S → cap_of M ≤ nodes → nodes ≤ 2 ^ 63 → HasRoomFor (whole_points M - 1) S.tree
-fresh-roomy M nodes S fresh within few =
+pub first-roomy : (M : Program) (nodes : ℕ) → cap_of M ≤ nodes → 1 + 3 * (whole_points M - 1) < 2 ^ 64 → HasRoomFor (whole_points M - 1) (first_tree nodes)
+first-roomy M nodes within left = record { nodes = nodes_fit (whole_points M) within; ids = ids_fit (whole_points M) left }
+  where
+    nodes_fit : (p : ℕ) → max 1 (2 * p - 1) ≤ nodes → 1 + 2 * (p - 1) ≤ nodes
+    nodes_fit p h = omega (arith, h)
+
+    ids_fit : (p : ℕ) → 1 + 3 * (p - 1) < 2 ^ 64 → 1 + 0 + 3 * (p - 1) < 2 ^ 64
+    ids_fit p h = omega (arith, h)
+
+-- the judging of its leaf takes no room
+fresh-room : (M : Program) (nodes n : ℕ) (S : PlainSearch) → IsFresh M nodes S → HasRoomFor n (first_tree nodes) → HasRoomFor n S.tree
+fresh-room M nodes n S fresh h =
     let splits : split_count (with_states fresh.tree.states (first_tree nodes).root) ≡ 0 = split_count-states fresh.tree.states (first_tree nodes).root in
     let count : node_count (with_states fresh.tree.states (first_tree nodes).root) ≡ split_count (with_states fresh.tree.states (first_tree nodes).root) + split_count (with_states fresh.tree.states (first_tree nodes).root) + 1 =
     nodes-splits (with_states fresh.tree.states (first_tree nodes).root) in
-    let room : HasRoomFor (whole_points M - 1) (with_leaf_states (first_tree nodes) fresh.tree.states) = record {
-      nodes = nodes_fit (node_count (with_states fresh.tree.states (first_tree nodes).root)) (split_count (with_states fresh.tree.states (first_tree nodes).root)) (whole_points M) splits count within;
-      ids = ids_fit (split_count (with_states fresh.tree.states (first_tree nodes).root)) (whole_points M) splits within;
+    let room : HasRoomFor n (with_leaf_states (first_tree nodes) fresh.tree.states) = record {
+      nodes = nodes_fit (node_count (with_states fresh.tree.states (first_tree nodes).root)) (split_count (with_states fresh.tree.states (first_tree nodes).root)) splits count h.nodes;
+      ids = ids_fit (split_count (with_states fresh.tree.states (first_tree nodes).root)) splits h.ids;
     } in
-    subst (HasRoomFor (whole_points M - 1)) (sym fresh.tree.tree) room
+    subst (HasRoomFor n) (sym fresh.tree.tree) room
   where
-    nodes_fit : (c s p : ℕ) → s ≡ 0 → c ≡ s + s + 1 → max 1 (2 * p - 1) ≤ nodes → c + 2 * (p - 1) ≤ nodes
-    nodes_fit c s p e f h = omega (arith, e, f, h)
+    nodes_fit : (c s : ℕ) → s ≡ 0 → c ≡ s + s + 1 → 1 + 2 * n ≤ nodes → c + 2 * n ≤ nodes
+    nodes_fit c s e f h = omega (arith, e, f, h)
 
-    ids_fit : (s p : ℕ) → s ≡ 0 → max 1 (2 * p - 1) ≤ nodes → 1 + s + 3 * (p - 1) < 2 ^ 64
-    ids_fit s p e h = omega (arith, e, h, few)
+    ids_fit : (s : ℕ) → s ≡ 0 → 1 + 0 + 3 * n < 2 ^ 64 → 1 + s + 3 * n < 2 ^ 64
+    ids_fit s e h = omega (arith, e, h)
 
--- a new search whose tree has no room for all splits may have fewer nodes than the cap
-pub fresh-small : (M : Program) (nodes : ℕ) (S : PlainSearch) → IsFresh M nodes S → IsSound S → IsLawful M → nodes ≤ 2 ^ 63 → (¬ IsRoomy S) → nodes < cap_of M
-fresh-small M nodes S fresh sound lawful few unroomy = less nodes (cap_of M) not
-  where
-    not : cap_of M ≤ nodes → ⊥
-    not within =
-        let room : HasRoomFor (whole_points S.model - 1) S.tree = subst (λ P. HasRoomFor (whole_points P - 1) S.tree) (sym fresh.model) (fresh-roomy M nodes S fresh within few) in
-        unroomy (room-fewer S.tree (whole_points S.model - 1) (splits_of S) (splits-cap S.model S.tree.root (subst IsLawful (sym fresh.model) lawful) sound.tree.lawful) room)
+pub fresh-roomy : (M : Program) (nodes : ℕ) (S : PlainSearch) → IsFresh M nodes S → cap_of M ≤ nodes → 1 + 3 * (whole_points M - 1) < 2 ^ 64 → HasRoomFor (whole_points M - 1) S.tree
+fresh-roomy M nodes S fresh within left = fresh-room M nodes (whole_points M - 1) S fresh (first-roomy M nodes within left)
 
-    less : (a b : ℕ) → (b ≤ a → ⊥) → a < b
-    less a b h = grind arith
+-- a new search whose tree has no room for all splits began without it
+pub fresh-small : (M : Program) (nodes : ℕ) (S : PlainSearch) → IsFresh M nodes S → IsSound S → IsLawful M → (¬ IsRoomy S) → ¬ HasRoomFor (whole_points M - 1) (first_tree nodes)
+fresh-small M nodes S fresh sound lawful unroomy first =
+    let room : HasRoomFor (whole_points S.model - 1) S.tree = subst (λ P. HasRoomFor (whole_points P - 1) S.tree) (sym fresh.model) (fresh-room M nodes (whole_points M - 1) S fresh first) in
+    unroomy (room-fewer S.tree (whole_points S.model - 1) (splits_of S) (splits-cap S.model S.tree.root (subst IsLawful (sym fresh.model) lawful) sound.tree.lawful) room)

@@ -1,12 +1,12 @@
 -- Laws of regions, and of what a search can still place.
-use Rattle.std.specs.Prelude.{◌≡◌, ℕ, ◌+◌, ◌-◌, ◌^◌, ◌<◌, ◌≤◌, IsTrue, ℤ, [], length}
+use Rattle.std.specs.Prelude.{◌≡◌, ℕ, ◌+◌, ◌*◌, ◌-◌, ◌^◌, ◌<◌, ◌≤◌, IsTrue, ℤ, [], length}
 use Rattle.lp_model.specs.Program.{Program, is_integer}
 use Rattle.lp_model.specs.Lawful.{IsLawful}
 use Rattle.lp_model.specs.Regions.{Path, IsEmptyRegion}
 use Rattle.branch_tree.specs.Tree.{left_path, right_path, SplitsLawfully}
 use Rattle.branch_tree.specs.Plain.{Plain}
 use Rattle.branch_tree.specs.Numbered.{IsNumbered}
-use Rattle.branch_tree.specs.Changes.{HasRoom}
+use Rattle.branch_tree.specs.Changes.{HasRoom, first_tree}
 use Rattle.branch_tree.specs.declared.node.LeafData.{LeafData}
 use Rattle.branch_tree.specs.declared.node.LeafState.TheVariants.{IsOpen}
 use Rattle.branch_tree.specs.declared.node.NodeResult.{NodeResult}
@@ -65,10 +65,11 @@ RoomLaw =
 
 -- ---- new searches
 
--- one whose tree may have as many nodes as the cap says has room for one split fewer than the model has points
+-- one whose tree may have as many nodes as the cap says, and three ids beside the first for each of those splits, has room for one split
+-- fewer than the model has points
 abbrev pub RoomyLaw : Type 0
-RoomyLaw = (M : Program) (nodes : ℕ) (S : PlainSearch) → IsFresh M nodes S → cap_of M ≤ nodes → nodes ≤ 2 ^ 63 → HasRoomFor (whole_points M - 1) S.tree
+RoomyLaw = (M : Program) (nodes : ℕ) (S : PlainSearch) → IsFresh M nodes S → cap_of M ≤ nodes → 1 + 3 * (whole_points M - 1) < 2 ^ 64 → HasRoomFor (whole_points M - 1) S.tree
 
--- one whose tree has no room for all its splits may have fewer nodes than the cap says
-abbrev pub TooFewNodesLaw : Type 0
-TooFewNodesLaw = (M : Program) (nodes : ℕ) (S : PlainSearch) → IsFresh M nodes S → IsSound S → IsLawful M → nodes ≤ 2 ^ 63 → (¬ IsRoomy S) → nodes < cap_of M
+-- one whose tree has no room for all its splits began without room for so many
+abbrev pub TooSmallLaw : Type 0
+TooSmallLaw = (M : Program) (nodes : ℕ) (S : PlainSearch) → IsFresh M nodes S → IsSound S → IsLawful M → (¬ IsRoomy S) → ¬ HasRoomFor (whole_points M - 1) (first_tree nodes)

@@ -1,5 +1,5 @@
 // Laws of regions and of what a search can still place, as clauses of calls that do nothing.
-ghost use Rattle.search_counting.specs.Laws.{ChildrenLaw, SomePointLaw, CapLaw, SplitCapLaw, LowersLaw, LeftLaw, RoomLaw, RoomyLaw, TooFewNodesLaw};
+ghost use Rattle.search_counting.specs.Laws.{ChildrenLaw, SomePointLaw, CapLaw, SplitCapLaw, LowersLaw, LeftLaw, RoomLaw, RoomyLaw, TooSmallLaw};
 
 /// The two children of a split on an integer column have together the points of their parent.
 pub fn split_law()
@@ -36,12 +36,12 @@ pub fn room_law()
     ensures { RoomLaw }
 {}
 
-/// A new search whose tree may have as many nodes as the model's cap has room for each split.
+/// A new search whose tree may have as many nodes as the model's cap, and three ids for each split, has room for each of them.
 pub fn roomy_law()
     ensures { RoomyLaw }
 {}
 
-/// A new search whose tree has no room for each split may have fewer nodes than the model's cap.
-pub fn too_few_nodes_law()
-    ensures { TooFewNodesLaw }
+/// A new search whose tree has no room for each split began without room for the most splits.
+pub fn too_small_law()
+    ensures { TooSmallLaw }
 {}

@@ -23,5 +23,5 @@ mod laws;
 pub use counting::cap;
 pub use laws::{
     cap_law, left_law, lowers_law, room_law, roomy_law, some_point_law, split_cap_law, split_law,
-    too_few_nodes_law,
+    too_small_law,
 };

@@ -7,3 +7,4 @@ pub mod StatedLists
 pub mod StatedNodes
 pub mod RestorableLaws
 pub mod OwnText
+pub mod OrderLaws

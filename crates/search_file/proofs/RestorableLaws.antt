@@ -124,13 +124,13 @@ text-restorable text s h = stated-restorable h.value s h.stated
 
 -- ---- a search in its own text
 
-own-data : (S new : PlainSearch) (text : List ℕ) → S.model.wide ≡ false → IsTextOf S text → IsStatedBy text new → Restores (saved_data S) new
-own-data S new text plain is found =
-    subst (λ s. Restores s new) (one_search-law text found.stated (saved_data S) found.states (is.states plain)) found.restores
+own-data : (S new : PlainSearch) (text : List ℕ) → IsTextOf S text → IsStatedBy text new → Restores (saved_data S) new
+own-data S new text is found =
+    subst (λ s. Restores s new) (one_search-law text found.stated (saved_data S) found.states is.states) found.restores
 
 pub in-own-text : FileLaw
 in-own-text = record {
   restorable = text-restorable;
-  again = λ S new text sound made plain is found. saved.again S new sound made (own-data S new text plain is found);
-  closed = λ S new text sound made plain is found. saved.closed S new sound made (own-data S new text plain is found);
+  again = λ S new text sound made is found. saved.again S new sound made (own-data S new text is found);
+  closed = λ S new text sound made is found. saved.closed S new sound made (own-data S new text is found);
 }

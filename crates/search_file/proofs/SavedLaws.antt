@@ -11,7 +11,7 @@ use Rattle.lp_model.specs.Program.{Program, Point}
 use Rattle.lp_model.specs.Regions.{Path}
 use Rattle.lp_model.specs.Formulations.{Formulation, formulation}
 use Rattle.lp_model.specs.declared.types.CutRow.{CutRow}
-use Rattle.branch_tree.specs.Limits.{node_limit}
+use Rattle.lp_model.specs.Limits.{node_limit}
 use Rattle.branch_tree.specs.Tree.{Leaf, Split, left_path, right_path, EachLeaf, SplitsLawfully, node_count}
 use Rattle.branch_tree.specs.Plain.{Plain}
 use Rattle.branch_tree.specs.Leaves.{leaf_count, with_state, with_states}

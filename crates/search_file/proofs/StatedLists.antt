@@ -1,5 +1,5 @@
 -- Lists of variables and of multipliers that are stated without fault: they name what is there, each once, in order.
-use Rattle.std.specs.Prelude.{◌≡◌, ◌≢◌, ℕ, zero, suc, ◌+◌, ◌<◌, Bool, true, false, if◌then◌else◌, nat_lt, List, [], ◌∷◌, ◌++◌, length, get_or, pos, Ok}
+use Rattle.std.specs.Prelude.{◌≡◌, ◌≢◌, ℕ, zero, suc, ◌<◌, Bool, true, false, if◌then◌else◌, nat_lt, List, [], ◌∷◌, ◌++◌, length, get_or, pos, Ok}
 use Rattle.std.proofs.Common.{refl, subst, arith}
 use Rattle.std.proofs.lemmas.Bool.Decides.{nat_tests}
 use Rattle.std.proofs.lemmas.List.Elements.{All-nil, All-push}
@@ -44,7 +44,7 @@ past-below place (a ∷ b ∷ more) k rising past zero d below =
 past-below place (a ∷ b ∷ more) k rising past (suc i) d below =
     past-below place (b ∷ more) k (λ n m e lt within. rising (suc n) (suc m) e (omega arith) (omega arith)) past i d (omega arith)
 
-rising-push : {A : Type 0} (place : A → ℕ) (before : List A) (a : A) → ArePlacesRising place before → is_past place before (place a) ≡ true → ArePlacesRising place (before ++ a ∷ [])
+pub rising-push : {A : Type 0} (place : A → ℕ) (before : List A) (a : A) → ArePlacesRising place before → is_past place before (place a) ≡ true → ArePlacesRising place (before ++ a ∷ [])
 rising-push place before a rising past = all_pairs_push (λ x y. place x < place y) before a rising (past-below place before (place a) rising past)
 
 -- ---- variables

@@ -12,7 +12,7 @@ use Rattle.frac_text.specs.Parsing.{parsed}
 use Rattle.frac_text.specs.declared.parsing.NumFault.{NumFault}
 use Rattle.lp_model.specs.declared.types.ColId.{ColId}
 use Rattle.lp_model.specs.declared.types.Basis.{Basis}
-use Rattle.branch_tree.specs.Limits.{node_limit}
+use Rattle.lp_model.specs.Limits.{node_limit, point_limit}
 use Rattle.branch_tree.specs.declared.node.NodeData.{NodeData}
 use Rattle.branch_tree.specs.declared.node.NodeData.TheVariants.{Split, Leaf}
 use Rattle.serde_json.specs.Data.{Data}
@@ -23,7 +23,7 @@ use Rattle.warm_file.specs.Numbers.{numbered, number_of, whole_at, whole_of}
 use Rattle.warm_file.specs.Rising.{col_id}
 use Rattle.warm_file.specs.declared.rising.Counts.{Counts}
 use Rattle.warm_file.proofs.Inversions.{next-ok, key-ok, test-ok, member-ok, list-keeps, at_most-ok}
-use Rattle.warm_file.specs.Searches.{point_limit, point_of, points_of, variables_of, multipliers_of, basis_of, branching_of, split_of, leaf_of, node_of, nodes_of}
+use Rattle.warm_file.specs.Searches.{point_of, points_of, variables_of, multipliers_of, basis_of, branching_of, split_of, leaf_of, node_of, nodes_of}
 use Rattle.warm_writer.specs.Writable.{IsWritableBasis, IsWritableNode}
 use Rattle.search_file.proofs.NumberFits.{spelled-fits}
 use Rattle.search_file.proofs.StatedLists.{placed, variables-stated, multipliers-stated}

@@ -15,7 +15,7 @@ use Rattle.lp_model.specs.declared.types.CutRow.{CutRow}
 use Rattle.lp_model.specs.declared.types.Derivation.{Derivation}
 use Rattle.cover_cuts.specs.Cuts.{IsPoolOf}
 use Rattle.leaf_dual.specs.Dual.{Multipliers}
-use Rattle.branch_tree.specs.Limits.{node_limit}
+use Rattle.lp_model.specs.Limits.{node_limit, pool_limit, point_limit}
 use Rattle.branch_tree.specs.Preorder.{DataTree, data_nodes, without_ids, numbered_tree, IsOneTree}
 use Rattle.branch_tree.specs.declared.node.NodeData.{NodeData}
 use Rattle.branch_tree.specs.declared.node.NodeData.TheVariants.{Split, Leaf}
@@ -54,8 +54,8 @@ IsRestorableNode F (Split col v mult basis) = IsRestorableSplit F v mult basis
 IsRestorableNode F (Leaf kept) = HasLists F kept
 
 pub record IsRestorable (s : SearchData) : Type 0 where
-  pub few_cuts : length s.cuts ≤ 10000
-  pub few_points : length s.points ≤ 100
+  pub few_cuts : length s.cuts ≤ pool_limit
+  pub few_points : length s.points ≤ point_limit
   pub tree : IsOneTree s.nodes
   pub nodes : All (IsRestorableNode (stated_formulation s)) s.nodes
 

@@ -1,9 +1,8 @@
 // Searches as texts.
-ghost use Rattle.std.specs.Prelude.{◌≡◌, IfErr};
+ghost use Rattle.std.specs.Prelude.{◌≡◌, IfOk};
 ghost use Rattle.search_file.specs.Saved.{saved_data};
 ghost use Rattle.warm_writer.specs.Writable.{IsWritable};
-ghost use Rattle.warm_file.specs.declared.fault.WarmFault.TheVariants.{Memory};
-ghost use Rattle.search_file.specs.Files.{IsReread, IsTextAnswer, IsSearchFound};
+ghost use Rattle.search_file.specs.Files.{own_text, IsTextOf, IsSearchFound};
 
 use crate::restoring::search_of;
 use crate::saving::data_of;
@@ -12,40 +11,16 @@ use tree_edit::Search;
 use warm_file::{WarmFault, read};
 use warm_writer::write;
 
-/// The text, if it is read again.
-fn reread(alloc: Global, text: Vec<u8>) -> Result<Vec<u8>, WarmFault>
-    ensures { IsReread text.items result }
+/// The text of a search: its model, its cuts, its points, and its nodes in preorder with their lists and states. Where the data of
+/// the search is writable the text states it, and no other.
+pub fn text_of(alloc: Global, search: &Search) -> Result<Vec<u8>, AllocError>
+    ensures text { IfOk result (λ text. text.items ≡ own_text search.now) }
+    ensures states { IsWritable (saved_data search.now) → IfOk result (λ text. IsTextOf search.now text.items) }
 {
-    match read(alloc, &text) {
-        Ok(again) => {
-            drop(again);
-            Ok(text)
-        }
-        Err(fault) => {
-            drop(text);
-            Err(fault)
-        }
-    }
-}
-
-/// The text of a search: its model, its cuts, its points, and its nodes in preorder with their lists and states. A text that would
-/// not be read again is not answered, but its first fault is: a name that can't be told, a list that is not in order.
-pub fn text_of(alloc: Global, search: &Search) -> Result<Vec<u8>, WarmFault>
-    ensures text { IsTextAnswer search.now result }
-    ensures writable { IsWritable (saved_data search.now) → IfErr result (λ fault. fault ≡ Memory) }
-{
-    let _sound = search.tree();
-    let _lawful = search.model().cols();
-    let stated = match data_of(alloc, search) {
-        Ok(stated) => stated,
-        Err(AllocError) => return Err(WarmFault::Memory),
-    };
+    let stated = data_of(alloc, search)?;
     let written = write(alloc, &stated);
     drop(stated);
-    match written {
-        Ok(text) => reread(alloc, text),
-        Err(AllocError) => Err(WarmFault::Memory),
-    }
+    written
 }
 
 /// The search that a text states, or the first fault of the text. Nothing in it is believed but the model: cuts are derived, points

@@ -1,6 +1,5 @@
 // The nodes of a tree whose splits are on integer columns.
 ghost use Rattle.std.specs.Prelude.{◌≡◌, ◌+◌, ◌<◌, ◌^◌, IfOk};
-ghost use Rattle.lp_model.specs.Program.{is_integer};
 ghost use Rattle.branch_tree.specs.Plain.{open_data};
 ghost use Rattle.branch_tree.specs.declared.node.NodeData.TheVariants.{Leaf};
 ghost use Rattle.search_file.specs.Lawful.{is_lawful_node, merged_node, trees_out, lawful_behind, PutsNode};
@@ -9,23 +8,12 @@ use branch_tree::{LeafData, LeafState, NodeData, copy_lists};
 use lp_model::{Basis, List, Model, Mult};
 use std::alloc::{AllocError, Global};
 
-/// Whether the column is there and integer.
-fn is_integer(model: &Model, col: usize) -> bool
-    ensures { result ≡ is_integer model.now col }
-{
-    let cols = model.cols();
-    if col >= cols.len() {
-        return false;
-    }
-    cols[col].int
-}
-
 /// Whether the node is a leaf, or a split on an integer column.
 fn is_lawful(model: &Model, node: &NodeData) -> bool
     ensures { result ≡ is_lawful_node model.now node.now }
 {
     match node {
-        NodeData::Split { col, .. } => is_integer(model, col.0 as usize),
+        NodeData::Split { col, .. } => model.is_integer(col.0 as usize),
         NodeData::Leaf(_) => true,
     }
 }

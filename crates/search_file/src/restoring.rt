@@ -1,7 +1,7 @@
 // A search made of its data. Cuts are derived and points tested at the stated model, and leaves are judged, so no state, point or
 // cut of the data is believed.
 ghost use Rattle.std.specs.Prelude.{◌≡◌, ◌≤◌, length, All, IfOk};
-ghost use Rattle.branch_tree.specs.Limits.{node_limit};
+ghost use Rattle.lp_model.specs.Limits.{node_limit, pool_limit};
 ghost use Rattle.branch_tree.specs.Preorder.{DataTree, data_nodes, IsOneTree, numbered_tree, HasNodeBound};
 ghost use Rattle.search_file.specs.Lawful.{lawful_tree};
 ghost use Rattle.search_file.specs.Saved.{IsPoolFrom, IsRestorable, Restores};
@@ -10,17 +10,14 @@ use crate::lawful::lawful_nodes;
 use branch_tree::{NodeData, Tree};
 use cover_cuts::CutPool;
 use kept_cuts::{add_derivation, copy_derivation};
-use lp_model::{Derivation, Model};
+use lp_model::{Derivation, Model, NODE_LIMIT};
 use search_data::SearchData;
 use std::alloc::{AllocError, Global};
 use tree_edit::Search;
 
-/// How many nodes a search that is made of data may have.
-const NODE_LIMIT: u64 = 1_000_000;
-
 /// A pool of the cuts of derivations, in their order. Each counts where it derives at the model.
 fn pool_of(alloc: Global, model: &Model, cuts: &[Derivation]) -> Result<CutPool, AllocError>
-    requires { length cuts.now ≤ 10000 }
+    requires { length cuts.now ≤ pool_limit }
     ensures { IfOk result (λ pool. IsPoolFrom model.now cuts.now pool) }
 {
     let mut pool = CutPool::new(alloc);

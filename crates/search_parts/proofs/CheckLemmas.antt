@@ -23,7 +23,3 @@ under-ceil q v = (
   (λ h. <ℚ_from_not (int v) q (λ at. let k : ceil q ≤ℤ v = (≤ℚ-int q v).0 at in absurd (omega (arith, ints)))),
   (λ h. by_lt_z v (ceil q) (λ k. k) (λ k. not_both_ℚ ((≤ℚ-int q v).1 k) h)),
 )
-
-pub integer-read : (M : Program) (cols : List Col) (j : ℕ) (c : Col) → cols ≡ M.cols → j < length cols → c ≡ get_or cols j c → (get_or cols j c).int ≡ is_integer M j
-integer-read M cols j c are below is =
-    ap (λ (d : Col). d.int) (sym is) ∙ of_element-read false (λ (d : Col). d.int) M.cols cols j c are (subst (λ cs. j < length cs) are below) is

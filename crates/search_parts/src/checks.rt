@@ -61,16 +61,6 @@ fn is_under(high: &Bound, v: i128) -> bool
     }
 }
 
-/// Whether the column is there and integer.
-fn is_integer(model: &Model, col: ColId) -> bool
-    ensures there { IsTrue result → col.0 < length model.now.cols }
-    ensures integer { IsTrue result ↔ (col.0 < length model.now.cols) × IsTrue (is_integer model.now col.0) }
-{
-    let cols = model.cols();
-    let place = col.0 as usize;
-    place < cols.len() && cols[place].int
-}
-
 /// Whether a leaf with this region may be split: the column is there and integer, and has a number up to `v` and one
 /// above `v`.
 pub fn is_split_allowed(model: &Model, region: &Region, col: ColId, v: i128) -> bool
@@ -78,10 +68,10 @@ pub fn is_split_allowed(model: &Model, region: &Region, col: ColId, v: i128) -> 
     ensures allowed { IsTrue result ↔ IsSplitAllowed model.now region.now col.0 v }
     ensures room { IsTrue result → (neg_ℤ (pos largest) ≤ℤ v) × (v <ℤ pos largest) }
 {
-    if !is_integer(model, col) {
+    let place = col.0 as usize;
+    if !model.is_integer(place) {
         return false;
     }
-    let place = col.0 as usize;
     let low = model.region_low(region.as_slice(), place);
     let high = model.region_high(region.as_slice(), place);
     is_from(&low, v) && is_under(&high, v)

@@ -2,7 +2,7 @@
 ghost use Rattle.std.specs.Prelude.{◌≡◌, ◌≢◌, ◌↔◌, ◌<◌, IsTrue, true, All, AllPairs, Contains, IfOk, length, map};
 ghost use Rattle.lp_model.specs.Formulations.{formulation};
 ghost use Rattle.search_parts.specs.Lists.{IsThere, IsActivityThere, NamesOnce, AreMultipliers, IsBasis, HasLists};
-ghost use Rattle.search_parts.specs.Marks.{mark_index};
+ghost use Rattle.search_parts.specs.private.Marks.{mark_index};
 
 use branch_tree::LeafData;
 use cover_cuts::CutPool;
@@ -42,12 +42,7 @@ fn mark_index(var: &Var) -> usize
     ensures mark { result ≡ mark_index var.now }
     ensures within { result < MARKS }
 {
-    let place = match var {
-        Var::Col(col) => 3 * col.0 as usize,
-        Var::Row(row) => 3 * row.0 as usize + 1,
-        Var::Cut(cut) => 3 * cut.0 as usize + 2,
-    };
-    place % MARKS
+    var.key() as usize % MARKS
 }
 
 /// Whether the variable is among these, of which one has its mark if it is.

@@ -4,12 +4,10 @@ ghost use Rattle.search_parts.specs.Points.{IsOldestLeast, lesser};
 ghost use Rattle.search_parts.specs.Joining.{IsOldestGreatestOf, IsWorst, IsPlaceWithin, list_without, IsLeastValue, Joins};
 
 use frac128::Frac;
+use lp_model::POINT_LIMIT;
 use std::alloc::{AllocError, Global};
 
-/// How many points a search keeps.
-const POINT_LIMIT: usize = 100;
-
-/// The values of the kept points and of one more, without the worst beyond 100.
+/// The values of the kept points and of one more, without the worst beyond `POINT_LIMIT`.
 #[derive(Drop)]
 pub struct Joined {
     pub values: Vec<Frac>,
@@ -104,7 +102,7 @@ pub fn least_of(values: &[Frac]) -> Option<Frac>
     }
 }
 
-/// The values and one more, without the worst beyond 100.
+/// The values and one more, without the worst beyond `POINT_LIMIT`.
 pub fn join_value(alloc: Global, values: &[Frac], value: Frac) -> Result<Joined, AllocError>
     ensures { IfOk result (λ joined. Joins values.now value joined) }
 {

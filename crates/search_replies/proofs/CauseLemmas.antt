@@ -8,6 +8,7 @@ use Rattle.lp_model.specs.Program.{Program, value}
 use Rattle.lp_model.specs.declared.answers.Answer.{Answer}
 use Rattle.lp_model.specs.declared.answers.Answer.TheVariants.{Memory}
 use Rattle.sound_searches.specs.Sound.{PlainSearch}
+use Rattle.tree_search.specs.Truth.{IsTooSmall}
 use Rattle.tree_search.specs.Enough.{IsEnough, IsKeptEnough}
 use Rattle.tree_search.specs.Solves.{Solved, SolvesModel}
 use Rattle.tree_search.specs.declared.limits.Limits.{Limits}
@@ -22,7 +23,7 @@ use Rattle.command_family.specs.State.{ShellState}
 use Rattle.command_family.proofs.ReplyLemmas.{not_error}
 use Rattle.search_replies.specs.Showing.{Finding, TellsBy, ShowsOptimumBy, ShowsEmptinessBy, ShowsNoEndBy, ShowsNodeStopBy, ShowsTreeStopBy, ShowsPivotStopBy, ShowsWideStopBy, AnswersBy, Optimum, Emptiness, NoEnd, NodeStop, TreeStop, PivotStop, WideStop, Wanting, EndsBy}
 use Rattle.search_replies.specs.Solve.{limits_of, HasFewNodes, RepliesToSolve}
-use Rattle.search_replies.specs.Warming.{WentOn, IsTooSmall, RepliesToWarm}
+use Rattle.search_replies.specs.Warming.{WentOn, RepliesToWarm}
 use Rattle.search_replies.specs.Family.{SearchAsks, Solve, Warm, SearchStep, OfSearch, Searched, searches, CompleteLaw}
 use Rattle.search_replies.proofs.ReplyLemmas.{solves-model}
 
@@ -161,7 +162,8 @@ pub searches-complete : CompleteLaw
 searches-complete old reply new = record {
   complete = λ S nodes pivots step present enough. completes old reply new S nodes pivots step present enough;
   complete_warm = λ S nodes pivots step present enough. completes_warm old reply new S nodes pivots step present enough;
-  again = λ S nodes pivots step present. (warmed old reply new S nodes pivots step present).1;
+  again = λ S nodes pivots step present. (warmed old reply new S nodes pivots step present).1.0;
+  beside_ray = λ S nodes pivots step present. (warmed old reply new S nodes pivots step present).1.1;
 }
 
 pub searches-lawful : IsLawful searches

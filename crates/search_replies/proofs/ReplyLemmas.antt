@@ -1,6 +1,6 @@
 -- What the reply to a search shows.
-use Rattle.std.proofs.Common.{◌≡◌, ℕ, ◌<◌, ◌≤◌, ◌^◌, arith, List, [], ◌++◌, refl, subst, sym, ap, ◌∙◌, inl, inr, Option, Some, None, Ok, Err, Result}
-use Rattle.std.specs.Prelude.{OnOk, OnErr, IfOk, IfSome, length}
+use Rattle.std.proofs.Common.{◌≡◌, ℕ, ◌+◌, ◌<◌, ◌≤◌, ◌^◌, arith, List, [], ◌++◌, refl, subst, sym, ap, ◌∙◌, inl, inr, ⊎_elim, Option, Some, None, Ok, Err, Result}
+use Rattle.std.specs.Prelude.{◌*◌, ◌-◌, max, OnOk, OnErr, IfOk, IfSome, length}
 use Rattle.std.specs.Option.{option_map}
 use Rattle.frac128.specs.Range.{Fits}
 use Rattle.sym_io.specs.Files.{Files}
@@ -11,13 +11,21 @@ use Rattle.lp_model.specs.declared.answers.Answer.{Answer}
 use Rattle.lp_model.specs.declared.answers.Answer.TheVariants.{Optimal, Infeasible, Unbounded, Stopped, Memory}
 use Rattle.model_points.specs.Rays.{IsUnbounded}
 use Rattle.word_names.specs.WordNames.{HasWordNames}
+use Rattle.word_names.specs.ScriptModels.{IsScriptModel}
+use Rattle.word_names.proofs.ScriptNames.{script-words}
+use Rattle.lp_model.specs.Limits.{node_limit}
+use Rattle.branch_tree.specs.Numbered.{IsNumbered}
+use Rattle.list_order.specs.Ordered.{IsInOrder}
+use Rattle.search_order.proofs.SearchOrder.{search-order}
 use Rattle.ray_phase.proofs.BeginningLemmas.{is_ray}
-use Rattle.search_counting.specs.Work.{cap_of}
+use Rattle.branch_tree.specs.Changes.{first_tree}
+use Rattle.search_counting.specs.Work.{whole_points, cap_of, HasRoomFor}
+use Rattle.search_counting.proofs.FreshLemmas.{first-roomy}
 use Rattle.search_parts.specs.Points.{IsIncumbent}
 use Rattle.sound_searches.specs.Sound.{PlainSearch}
 use Rattle.tree_search.specs.Enough.{IsEnough, IsKeptEnough}
 use Rattle.tree_search.specs.Solves.{Solved, SolvesModel, SolvesFrom, HasRayFor, HasRayFrom}
-use Rattle.tree_search.specs.Truth.{IsCount, IsTrueBy, IsSmallTree, IsTrueAnswer, IsTrueOfKept, HasEnded}
+use Rattle.tree_search.specs.Truth.{IsCount, IsTrueBy, IsTrueAnswer, IsTrueOfKept, HasEnded, IsTooSmall}
 use Rattle.tree_search.specs.Warm.{WarmsFrom}
 use Rattle.tree_search.specs.declared.limits.Limits.{Limits}
 use Rattle.kept_env.specs.Env.{PlainEnv, model_of, pool_in}
@@ -27,12 +35,12 @@ use Rattle.reply_texts.specs.Reports.{AnswerIsShaped, AnswerHasRoom}
 use Rattle.reply_texts.specs.Texts.{optimal_text, stopped_nodes_text, answer_text, no_model_text}
 use Rattle.shell_replies.specs.Shown.{point_shown}
 use Rattle.shell_replies.proofs.ShownBack.{point-shown, value-shown}
-use Rattle.command_family.specs.State.{shell_state, HasWords}
+use Rattle.command_family.specs.State.{shell_state, HasScriptModel, HasOrder}
 use Rattle.command_family.proofs.ReplyLemmas.{on_ok_if, always}
 use Rattle.search_replies.specs.Answering.{IsAnswerOf, IsTellable, search_text}
 use Rattle.search_replies.specs.Showing.{Finding, ShowsNoEndBy, AnswersBy, Optimum, Emptiness, NoEnd, NodeStop, TreeStop, PivotStop, WideStop, Wanting}
 use Rattle.search_replies.specs.Solve.{limits_of, IsSolved, HasFewNodes, AnswersSolve, RepliesToSolve, SolveStep}
-use Rattle.search_replies.specs.Warming.{IsWarmed, WentOn, IsTooSmall, TellsAgain, AnswersWarm, RepliesToWarm, WarmStep}
+use Rattle.search_replies.specs.Warming.{IsWarmed, WentOn, TellsAgain, TellsNoEnd, AnswersWarm, RepliesToWarm, WarmStep}
 
 -- ---- whatever search was had
 
@@ -175,13 +183,23 @@ solves-has l old answer new s = record {
   env_is = s.env_is;
 }
 
--- a tree that has no room is too small
+-- a new tree without room for the most splits may have fewer nodes than the most results
+small-nodes : (M : Program) (l : Limits) → l.tree ≤ 2 ^ 63 → (¬ HasRoomFor (whole_points M - 1) (first_tree l.tree)) → HasFewNodes M l
+small-nodes M l few small = less l.tree (cap_of M) (λ within. small (first-roomy M l.tree within (left (whole_points M) within)))
+  where
+    less : (a b : ℕ) → (b ≤ a → ⊥) → a < b
+    less a b h = grind arith
+
+    left : (p : ℕ) → max 1 (2 * p - 1) ≤ l.tree → 1 + 3 * (p - 1) < 2 ^ 64
+    left p h = omega (arith, h, few)
+
+-- so it is told
 true-small : (M : Program) (l : Limits) → l.tree ≤ 2 ^ 63 → (answer : Answer) → IsTrueAnswer M l answer → IsTrueBy (HasFewNodes M l) M l answer
 true-small M l few (Optimal v x n) is = is
 true-small M l few (Infeasible n) is = is
 true-small M l few (Unbounded n) is = is
 true-small M l few (Stopped Nodes n bound best) is = is
-true-small M l few (Stopped Tree n bound best) is = (is.0, (is.1.0, (is.1.1.0, is.1.1.1 few)))
+true-small M l few (Stopped Tree n bound best) is = (is.0, (is.1.0, (is.1.1.0, small-nodes M l few is.1.1.1)))
 true-small M l few (Stopped (Pivots place) n bound best) is = is
 true-small M l few (Stopped (Wide at_) n bound best) is = is
 true-small M l few Memory is = tt
@@ -215,11 +233,11 @@ warms-has l old answer new s =
 has-model : (Found : Finding) (Left : PlainSearch → Type 0) (M : Program) (l : Limits) (answer : Answer) (new : PlainEnv) → Has Found Left M l answer new → model_of new ≡ Some M
 has-model Found Left M l answer new s = ap model_of s.env_is ∙ ap Some s.model
 
-model-words : (old new : PlainEnv) (S : PlainSearch) → old.search ≡ Some S → model_of new ≡ Some S.model → HasWords old → HasWords new
-model-words old new S some same words = subst (λ (m : Option Program). IfSome m HasWordNames) (ap (option_map (λ (S : PlainSearch). S.model)) some ∙ sym same) words
+model-script : (old new : PlainEnv) (S : PlainSearch) → old.search ≡ Some S → model_of new ≡ Some S.model → HasScriptModel old → HasScriptModel new
+model-script old new S some same script = subst (λ (m : Option Program). IfSome m IsScriptModel) (ap (option_map (λ (S : PlainSearch). S.model)) some ∙ sym same) script
 
-plain-names : (new : PlainEnv) (M : Program) → model_of new ≡ Some M → HasWords new → HasWordNames M
-plain-names new M is words = subst (λ (m : Option Program). IfSome m HasWordNames) is words
+plain-names : (new : PlainEnv) (M : Program) → model_of new ≡ Some M → HasScriptModel new → HasWordNames M
+plain-names new M is script = script-words M (subst (λ (m : Option Program). IfSome m IsScriptModel) is script)
 
 -- ---- with what the environment's call says
 
@@ -245,7 +263,7 @@ module _ (l : Limits) (old new : PlainEnv) (r : Result Answer EnvFault) (solved 
       by (Err f) search h t = tt
       by (Ok answer) None h t = let clash = h.0 in absurd (cc)
       by (Ok answer) (Some S) h t =
-          subst (IsAnswerOf (Ok answer)) (sym (has-model (Solved S.model l) (SolvesModel S.model l S Memory) S.model l answer new (solves-has l S answer new h))) (true-shaped (IsSmallTree S.model l) S.model l answer t)
+          subst (IsAnswerOf (Ok answer)) (sym (has-model (Solved S.model l) (SolvesModel S.model l S Memory) S.model l answer new (solves-has l S answer new h))) (true-shaped (¬ HasRoomFor (whole_points S.model - 1) (first_tree l.tree)) S.model l answer t)
 
 module _ (l : Limits) (old new : PlainEnv) (r : Result Answer EnvFault) (warmed : IsWarmed l old r new) where
   pub warmed-shaped : IsAnswerOf r (model_of new)
@@ -260,7 +278,7 @@ module _ (l : Limits) (old new : PlainEnv) (r : Result Answer EnvFault) (warmed 
 pub few-nodes : (nodes pivots : ℕ) → (limits_of nodes pivots).tree ≤ 2 ^ 63
 few-nodes nodes pivots = omega arith
 
-module _ (l : Limits) (few : l.tree ≤ 2 ^ 63) (old new : PlainEnv) (r : Result Answer EnvFault) (solved : IsSolved l old r new) (words : HasWords old) where
+module _ (l : Limits) (few : l.tree ≤ 2 ^ 63) (old new : PlainEnv) (r : Result Answer EnvFault) (solved : IsSolved l old r new) (script : HasScriptModel old) where
   shows : (answer : Answer) (M : Program) → r ≡ Ok answer → model_of new ≡ Some M → IsLawful M → AnswerHasRoom answer → RepliesToSolve old old.search l (answer_text M answer) new
   shows answer M ok present lawful room =
       by old.search refl (subst (λ o. WorksEnv (SolvesFrom l) (HasRayFrom l) old.search old o new) ok solved.solves) (subst (λ o. IfOk o (λ a. IfSome old.search (λ S. IsTrueAnswer S.model l a))) ok solved.true_answer)
@@ -273,7 +291,7 @@ module _ (l : Limits) (few : l.tree ≤ 2 ^ 63) (old new : PlainEnv) (r : Result
           let has = solves-has l S answer new h in
           let stays : model_of new ≡ Some S.model = has-model (Solved S.model l) (SolvesModel S.model l S Memory) S.model l answer new has in
           let same : S.model ≡ M = cc in
-          let plain : HasWordNames S.model = plain-names new S.model stays (model-words old new S some stays words) in
+          let plain : HasWordNames S.model = plain-names new S.model stays (model-script old new S some stays script) in
           subst (λ N. AnswersSolve S l (answer_text N answer) new) same
           (answers (Solved S.model l) (SolvesModel S.model l S Memory) (IsEnough S.model (pool_in new.search) l) (HasFewNodes S.model l) S.model l (subst IsLawful (sym same) lawful) plain answer new room (true-small S.model l few answer t) e has)
 
@@ -301,15 +319,15 @@ module _ (l : Limits) (few : l.tree ≤ 2 ^ 63) (old new : PlainEnv) (r : Result
   pub solve-untold : {E : Type 0} (written : Result (Unit {0}) E) → IsTellable r (model_of new) → OnErr written ((bytes : List ℕ) × RepliesToSolve old old.search l bytes new)
   solve-untold written sure = always written (search_text r (model_of new), solve-whole sure)
 
-  pub solve-words : HasWords new
-  solve-words = by r old.search refl solved.solves
+  pub solve-script : HasScriptModel new
+  solve-script = by r old.search refl solved.solves
     where
-      by : (o : Result Answer EnvFault) (search : Option PlainSearch) → old.search ≡ search → WorksEnv (SolvesFrom l) (HasRayFrom l) search old o new → HasWords new
-      by o None none h = subst HasWords (sym h.1) words
-      by (Ok answer) (Some S) some h = model-words old new S some (has-model (Solved S.model l) (SolvesModel S.model l S Memory) S.model l answer new (solves-has l S answer new h)) words
+      by : (o : Result Answer EnvFault) (search : Option PlainSearch) → old.search ≡ search → WorksEnv (SolvesFrom l) (HasRayFrom l) search old o new → HasScriptModel new
+      by o None none h = subst HasScriptModel (sym h.1) script
+      by (Ok answer) (Some S) some h = model-script old new S some (has-model (Solved S.model l) (SolvesModel S.model l S Memory) S.model l answer new (solves-has l S answer new h)) script
       by (Err f) (Some S) some h = absurd h
 
-module _ (l : Limits) (old new : PlainEnv) (r : Result Answer EnvFault) (warmed : IsWarmed l old r new) (words : HasWords old) where
+module _ (l : Limits) (old new : PlainEnv) (r : Result Answer EnvFault) (warmed : IsWarmed l old r new) (script : HasScriptModel old) where
   warm-shows : (answer : Answer) (M : Program) → r ≡ Ok answer → model_of new ≡ Some M → IsLawful M → AnswerHasRoom answer → RepliesToWarm old old.search l (answer_text M answer) new
   warm-shows answer M ok present lawful room =
       by old.search refl (subst (λ o. WorksEnv (WarmsFrom l) (HasRayFrom l) old.search old o new) ok warmed.warms) (subst (λ o. IfOk o (λ a. IfSome old.search (λ S. IsTrueOfKept S l a))) ok warmed.true_answer)
@@ -322,10 +340,11 @@ module _ (l : Limits) (old new : PlainEnv) (r : Result Answer EnvFault) (warmed 
           let has = warms-has l S answer new h in
           let stays : model_of new ≡ Some S.model = has-model (WentOn S l) (WentOn S l Memory) S.model l answer new has in
           let same : S.model ≡ M = cc in
-          let plain : HasWordNames S.model = plain-names new S.model stays (model-words old new S some stays words) in
+          let plain : HasWordNames S.model = plain-names new S.model stays (model-script old new S some stays script) in
           let again : TellsAgain S (answer_text S.model answer) = λ none. (answer, ((h.found.again none).0, refl)) in
-          subst (λ N. AnswersWarm S l (answer_text N answer) new × TellsAgain S (answer_text N answer)) same
-          (answers (WentOn S l) (WentOn S l Memory) (IsKeptEnough S (pool_in new.search) l) (IsTooSmall S l) S.model l (subst IsLawful (sym same) lawful) plain answer new room t e has, again)
+          let no_end : TellsNoEnd S l (answer_text S.model answer) = λ kept ray. ⊎_elim (λ e. inl (ap (answer_text S.model) e)) (λ e. inr (ap (answer_text S.model) e)) (h.found.beside kept ray) in
+          subst (λ N. AnswersWarm S l (answer_text N answer) new × (TellsAgain S (answer_text N answer) × TellsNoEnd S l (answer_text N answer))) same
+          (answers (WentOn S l) (WentOn S l Memory) (IsKeptEnough S (pool_in new.search) l) (IsTooSmall S l) S.model l (subst IsLawful (sym same) lawful) plain answer new room t e has, (again, no_end))
 
   none-warmed : (fault : EnvFault) (reply : List ℕ) → r ≡ Err fault → reply ≡ no_model_text → RepliesToWarm old old.search l reply new
   none-warmed fault reply fails e = by old.search (subst (λ o. WorksEnv (WarmsFrom l) (HasRayFrom l) old.search old o new) fails warmed.warms)
@@ -350,12 +369,12 @@ module _ (l : Limits) (old new : PlainEnv) (r : Result Answer EnvFault) (warmed 
   pub warm-untold : {E : Type 0} (written : Result (Unit {0}) E) → IsTellable r (model_of new) → OnErr written ((bytes : List ℕ) × RepliesToWarm old old.search l bytes new)
   warm-untold written sure = always written (search_text r (model_of new), warm-whole sure)
 
-  pub warm-words : HasWords new
-  warm-words = by r old.search refl warmed.warms
+  pub warm-script : HasScriptModel new
+  warm-script = by r old.search refl warmed.warms
     where
-      by : (o : Result Answer EnvFault) (search : Option PlainSearch) → old.search ≡ search → WorksEnv (WarmsFrom l) (HasRayFrom l) search old o new → HasWords new
-      by o None none h = subst HasWords (sym h.1) words
-      by (Ok answer) (Some S) some h = model-words old new S some (has-model (WentOn S l) (WentOn S l Memory) S.model l answer new (warms-has l S answer new h)) words
+      by : (o : Result Answer EnvFault) (search : Option PlainSearch) → old.search ≡ search → WorksEnv (WarmsFrom l) (HasRayFrom l) search old o new → HasScriptModel new
+      by o None none h = subst HasScriptModel (sym h.1) script
+      by (Ok answer) (Some S) some h = model-script old new S some (has-model (WentOn S l) (WentOn S l Memory) S.model l answer new (warms-has l S answer new h)) script
       by (Err f) (Some S) some h = absurd h
 
 -- ---- the files stay
@@ -365,3 +384,24 @@ solve-step old new files faults l reply solves = record { files = refl; faults =
 
 pub warm-step : (old new : PlainEnv) (files : Option Files) (faults : ℕ) (l : Limits) (reply : List ℕ) → RepliesToWarm old old.search l reply new → WarmStep (shell_state old files faults) l reply (shell_state new files faults)
 warm-step old new files faults l reply warms = record { files = refl; faults = refl; answer = warms }
+
+-- ---- the lists of the search stay in order
+
+module _ (l : Limits) (few : l.tree ≤ node_limit) (old new : PlainEnv) (r : Result Answer EnvFault) (order : HasOrder old) where
+  pub solve-order : IsSolved l old r new → HasOrder new
+  solve-order solved = by r old.search refl solved.solves
+    where
+      by : (o : Result Answer EnvFault) (search : Option PlainSearch) → old.search ≡ search → WorksEnv (SolvesFrom l) (HasRayFrom l) search old o new → HasOrder new
+      by o None none h = subst HasOrder (sym h.1) order
+      by (Ok answer) (Some S) some h = subst HasOrder (sym h.env_is) (search-order.solves S.model l S answer h.search h.found few (subst (λ (o : Option PlainSearch). IfSome o IsInOrder) some order))
+      by (Err f) (Some S) some h = absurd h
+
+  pub warm-order : IsWarmed l old r new → IfSome old.search (λ S. IsNumbered S.tree) → HasOrder new
+  warm-order warmed numbered = by r old.search refl warmed.warms
+    where
+      by : (o : Result Answer EnvFault) (search : Option PlainSearch) → old.search ≡ search → WorksEnv (WarmsFrom l) (HasRayFrom l) search old o new → HasOrder new
+      by o None none h = subst HasOrder (sym h.1) order
+      by (Ok answer) (Some S) some h =
+          subst HasOrder (sym h.env_is)
+          (search-order.warms l S answer h.search h.found few (subst (λ (o : Option PlainSearch). IfSome o (λ T. IsNumbered T.tree)) some numbered) (subst (λ (o : Option PlainSearch). IfSome o IsInOrder) some order))
+      by (Err f) (Some S) some h = absurd h

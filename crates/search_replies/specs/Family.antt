@@ -2,6 +2,7 @@
 use Rattle.std.specs.Prelude.{◌≡◌, ℕ, List, Some, None}
 use Rattle.lp_model.specs.Program.{Program}
 use Rattle.sound_searches.specs.Sound.{PlainSearch}
+use Rattle.tree_search.specs.Truth.{IsTooSmall}
 use Rattle.tree_search.specs.Enough.{IsEnough, IsKeptEnough}
 use Rattle.tree_search.specs.Solves.{Solved}
 use Rattle.tree_search.specs.declared.limits.Limits.{Limits}
@@ -12,7 +13,7 @@ use Rattle.command_family.specs.Kinds.{Kind, Optimal, Infeasible, Unbounded, Sto
 use Rattle.command_family.specs.State.{ShellState}
 use Rattle.search_replies.specs.Showing.{Finding, ShowsOptimumBy, ShowsEmptinessBy, ShowsNoEndBy, ShowsNodeStopBy, ShowsTreeStopBy, ShowsPivotStopBy, ShowsWideStopBy, EndsBy}
 use Rattle.search_replies.specs.Solve.{limits_of, HasFewNodes, SolveStep}
-use Rattle.search_replies.specs.Warming.{WentOn, IsTooSmall, TellsAgain, WarmStep}
+use Rattle.search_replies.specs.Warming.{WentOn, TellsAgain, TellsNoEnd, WarmStep}
 
 pub data SearchAsks : Type 0 where
   -- the model that is present, from a fresh root
@@ -71,6 +72,8 @@ pub record IsComplete (old : ShellState) (reply : List ℕ) (new : ShellState) :
       → EndsBy (WentOn S (limits_of nodes pivots)) S.model (limits_of nodes pivots) reply new.env
   -- `warm` after a search that closed every leaf places no result
   pub again : (S : PlainSearch) (nodes pivots : ℕ) → SearchStep (Warm nodes pivots) old reply new → old.env.search ≡ Some S → TellsAgain S reply
+  -- where its ray phase finds a ray beside a kept point, the objective has no end, and `warm` places no result
+  pub beside_ray : (S : PlainSearch) (nodes pivots : ℕ) → SearchStep (Warm nodes pivots) old reply new → old.env.search ≡ Some S → TellsNoEnd S (limits_of nodes pivots) reply
 
 -- whatever the state, and whatever was answered
 abbrev pub CompleteLaw : Type 0

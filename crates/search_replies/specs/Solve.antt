@@ -3,7 +3,7 @@ use Rattle.std.specs.Prelude.{◌≡◌, ◌⊎◌, ◌<◌, ℕ, List, Option, 
 use Rattle.lp_model.specs.Program.{Program}
 use Rattle.lp_model.specs.declared.answers.Answer.{Answer}
 use Rattle.lp_model.specs.declared.answers.Answer.TheVariants.{Memory}
-use Rattle.branch_tree.specs.Limits.{node_limit}
+use Rattle.lp_model.specs.Limits.{node_limit}
 use Rattle.search_counting.specs.Work.{cap_of}
 use Rattle.sound_searches.specs.Sound.{PlainSearch}
 use Rattle.tree_search.specs.Enough.{IsEnough}

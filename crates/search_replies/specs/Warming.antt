@@ -1,9 +1,8 @@
 -- What `warm` may answer of the search that is kept.
-use Rattle.std.specs.Prelude.{◌≡◌, ◌⊎◌, ◌-◌, ℕ, List, Option, Some, None, Result, IfOk, IfSome}
+use Rattle.std.specs.Prelude.{◌≡◌, ◌⊎◌, ◌<◌, ℕ, List, length, Option, Some, None, Result, IfOk, IfSome}
 use Rattle.lp_model.specs.declared.answers.Answer.{Answer}
 use Rattle.lp_model.specs.declared.answers.Answer.TheVariants.{Memory}
-use Rattle.branch_tree.specs.Changes.{with_limit}
-use Rattle.search_counting.specs.Work.{whole_points, HasRoomFor}
+use Rattle.ray_phase.specs.Beginnings.{FindsRay}
 use Rattle.sound_searches.specs.Calls.{search_with_limit}
 use Rattle.sound_searches.specs.Laws.{HasNoOpenLeaf}
 use Rattle.sound_searches.specs.Sound.{PlainSearch}
@@ -11,12 +10,12 @@ use Rattle.tree_search.specs.Extends.{Extends}
 use Rattle.tree_search.specs.Enough.{IsKeptEnough}
 use Rattle.tree_search.specs.Solves.{HasRayFrom}
 use Rattle.tree_search.specs.Warm.{Warms, WarmsFrom, PlacesNone}
-use Rattle.tree_search.specs.Truth.{IsTrueOfKept, HasEnded}
+use Rattle.tree_search.specs.Truth.{IsTooSmall, IsTrueOfKept, HasEnded}
 use Rattle.tree_search.specs.declared.limits.Limits.{Limits}
 use Rattle.kept_env.specs.Env.{PlainEnv, pool_in}
 use Rattle.kept_env.specs.declared.env.EnvFault.{EnvFault}
 use Rattle.kept_env.specs.Worked.{WorksEnv}
-use Rattle.reply_texts.specs.Texts.{answer_text, no_model_text, memory_text}
+use Rattle.reply_texts.specs.Texts.{answer_text, unbounded_text, no_model_text, memory_text}
 use Rattle.command_family.specs.State.{ShellState}
 use Rattle.search_replies.specs.Showing.{AnswersBy}
 
@@ -32,10 +31,6 @@ pub record IsWarmed (l : Limits) (old : PlainEnv) (result : Result Answer EnvFau
   pub true_answer : IfOk result (λ answer. IfSome old.search (λ S. IsTrueOfKept S l answer))
   pub complete : IfOk result (λ answer. IfSome old.search (λ S. IsKeptEnough S (pool_in new.search) l → HasEnded answer))
 
--- the tree has no room for the most splits
-abbrev pub IsTooSmall : PlainSearch → Limits → Type 0
-IsTooSmall S l = ¬ HasRoomFor (whole_points S.model - 1) (with_limit S.tree l.tree)
-
 -- what a search that goes on may be answered; where there is no memory it has the results that were placed
 abbrev pub AnswersWarm : PlainSearch → Limits → List ℕ → PlainEnv → Type 0
 AnswersWarm S l reply env = AnswersBy (WentOn S l) (WentOn S l Memory) (IsKeptEnough S (pool_in env.search) l) (IsTooSmall S l) S.model l reply env
@@ -44,10 +39,14 @@ AnswersWarm S l reply env = AnswersBy (WentOn S l) (WentOn S l Memory) (IsKeptEn
 abbrev pub TellsAgain : PlainSearch → List ℕ → Type 0
 TellsAgain S reply = HasNoOpenLeaf S → (answer : Answer) × (PlacesNone answer × (reply ≡ answer_text S.model answer))
 
+-- beside a kept point a ray shows that the objective has no end: nothing is placed, or memory was wanting
+abbrev pub TellsNoEnd : PlainSearch → Limits → List ℕ → Type 0
+TellsNoEnd S l reply = 0 < length S.points → FindsRay S.model l.pivots → (reply ≡ unbounded_text 0) ⊎ (reply ≡ memory_text)
+
 -- of the environment's search, if there is one
 abbrev pub RepliesToWarm : PlainEnv → Option PlainSearch → Limits → List ℕ → PlainEnv → Type 0
 RepliesToWarm old None l reply env = ((reply ≡ no_model_text) ⊎ (reply ≡ memory_text)) × (env ≡ old)
-RepliesToWarm old (Some S) l reply env = AnswersWarm S l reply env × TellsAgain S reply
+RepliesToWarm old (Some S) l reply env = AnswersWarm S l reply env × (TellsAgain S reply × TellsNoEnd S l reply)
 
 -- the files stay
 pub record WarmStep (old : ShellState) (l : Limits) (reply : List ℕ) (new : ShellState) : Type 0 where

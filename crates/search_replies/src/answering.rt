@@ -1,14 +1,15 @@
 // The reply to a search of the environment's model.
-ghost use Rattle.std.specs.Prelude.{◌≡◌, ◌++◌, [], ℕ, List, IfOk, OnOk, OnErr};
+ghost use Rattle.std.specs.Prelude.{◌≡◌, ◌++◌, [], ℕ, List, IfOk, IfSome, OnOk, OnErr};
+ghost use Rattle.branch_tree.specs.Numbered.{IsNumbered};
 ghost use Rattle.kept_env.specs.Env.{PlainEnv, model_of};
-ghost use Rattle.command_family.specs.State.{HasWords};
+ghost use Rattle.command_family.specs.State.{HasScriptModel, HasOrder};
 ghost use Rattle.search_replies.specs.Answering.{IsAnswerOf, IsTellable, search_text};
 ghost use Rattle.search_replies.specs.Solve.{limits_of, IsSolved, RepliesToSolve};
 ghost use Rattle.search_replies.specs.Warming.{IsWarmed, RepliesToWarm};
 
 use kept_env::{Env, EnvFault};
 use lp_model::Answer;
-use reply_texts::{answer_has_room, write_answer};
+use reply_texts::{NO_MODEL_REPLY, answer_has_room, write_answer};
 use std::alloc::AllocError;
 
 /// What a search of the environment's model has answered, or that there is no model.
@@ -22,7 +23,7 @@ fn tell_answer(
     ensures text { IfOk result (λ _. reply.new.items ≡ reply.old.items ++ search_text answer.now (model_of env.now)) }
 {
     match answer {
-        Err(_) => reply.extend_from_slice(b"error 04 no model\n"),
+        Err(_) => reply.extend_from_slice(NO_MODEL_REPLY),
         Ok(answer) => match env.model() {
             None => unreachable!(),
             Some(model) => {
@@ -42,11 +43,12 @@ pub fn tell_solved(
 ) -> Result<(), AllocError>
     requires empty { reply.old.items ≡ [] }
     requires answer { IsAnswerOf answer (model_of env.now) }
-    ensures answered { (old : PlainEnv) → (nodes : ℕ) → (pivots : ℕ) → IsSolved (limits_of nodes pivots) old answer env.now → HasWords old
+    ensures answered { (old : PlainEnv) → (nodes : ℕ) → (pivots : ℕ) → IsSolved (limits_of nodes pivots) old answer env.now → HasScriptModel old
         → OnOk result (RepliesToSolve old old.search (limits_of nodes pivots) reply.new.items env.now) }
-    ensures unfinished { (old : PlainEnv) → (nodes : ℕ) → (pivots : ℕ) → IsSolved (limits_of nodes pivots) old answer env.now → HasWords old
+    ensures unfinished { (old : PlainEnv) → (nodes : ℕ) → (pivots : ℕ) → IsSolved (limits_of nodes pivots) old answer env.now → HasScriptModel old
         → OnErr result ((bytes : List ℕ) × RepliesToSolve old old.search (limits_of nodes pivots) bytes env.now) }
-    ensures words { (old : PlainEnv) → (nodes : ℕ) → (pivots : ℕ) → IsSolved (limits_of nodes pivots) old answer env.now → HasWords old → HasWords env.now }
+    ensures script { (old : PlainEnv) → (nodes : ℕ) → (pivots : ℕ) → IsSolved (limits_of nodes pivots) old answer env.now → HasScriptModel old → HasScriptModel env.now }
+    ensures order { (old : PlainEnv) → (nodes : ℕ) → (pivots : ℕ) → IsSolved (limits_of nodes pivots) old answer env.now → HasOrder old → HasOrder env.now }
 {
     let told = tell_answer(reply, env, &answer);
     drop(answer);
@@ -61,11 +63,13 @@ pub fn tell_warmed(
 ) -> Result<(), AllocError>
     requires empty { reply.old.items ≡ [] }
     requires answer { IsAnswerOf answer (model_of env.now) }
-    ensures answered { (old : PlainEnv) → (nodes : ℕ) → (pivots : ℕ) → IsWarmed (limits_of nodes pivots) old answer env.now → HasWords old
+    ensures answered { (old : PlainEnv) → (nodes : ℕ) → (pivots : ℕ) → IsWarmed (limits_of nodes pivots) old answer env.now → HasScriptModel old
         → OnOk result (RepliesToWarm old old.search (limits_of nodes pivots) reply.new.items env.now) }
-    ensures unfinished { (old : PlainEnv) → (nodes : ℕ) → (pivots : ℕ) → IsWarmed (limits_of nodes pivots) old answer env.now → HasWords old
+    ensures unfinished { (old : PlainEnv) → (nodes : ℕ) → (pivots : ℕ) → IsWarmed (limits_of nodes pivots) old answer env.now → HasScriptModel old
         → OnErr result ((bytes : List ℕ) × RepliesToWarm old old.search (limits_of nodes pivots) bytes env.now) }
-    ensures words { (old : PlainEnv) → (nodes : ℕ) → (pivots : ℕ) → IsWarmed (limits_of nodes pivots) old answer env.now → HasWords old → HasWords env.now }
+    ensures script { (old : PlainEnv) → (nodes : ℕ) → (pivots : ℕ) → IsWarmed (limits_of nodes pivots) old answer env.now → HasScriptModel old → HasScriptModel env.now }
+    ensures order { (old : PlainEnv) → (nodes : ℕ) → (pivots : ℕ) → IsWarmed (limits_of nodes pivots) old answer env.now → IfSome old.search (λ S. IsNumbered S.tree)
+        → HasOrder old → HasOrder env.now }
 {
     let told = tell_answer(reply, env, &answer);
     drop(answer);

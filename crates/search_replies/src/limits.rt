@@ -2,10 +2,8 @@
 ghost use Rattle.std.specs.Prelude.{◌≡◌};
 ghost use Rattle.search_replies.specs.Solve.{limits_of};
 
+use lp_model::NODE_LIMIT;
 use tree_search::Limits;
-
-/// How many nodes the tree of a search may have.
-const NODE_LIMIT: u64 = 1_000_000;
 
 /// How far a search may go that may place so many results and make so many simplex steps in each relaxation.
 pub fn limits_of(nodes: u64, pivots: u64) -> Limits

@@ -4,7 +4,8 @@ ghost use Rattle.shell_replies.specs.Faults.{edit_fault_text, warm_fault_text};
 
 use model_edits::EditFault;
 use reply_texts::{
-    write_bounds, write_faulty_search, write_limit, write_sides, write_taken, write_unknown_name,
+    MEMORY_REPLY, write_bounds, write_faulty_search, write_limit, write_sides, write_taken,
+    write_unknown_name,
 };
 use std::alloc::AllocError;
 use warm_file::WarmFault;
@@ -19,7 +20,7 @@ pub fn write_edit_fault(reply: &mut Vec<u8>, fault: &EditFault) -> Result<(), Al
         EditFault::Limit(limit) => write_limit(reply, *limit),
         EditFault::IntegerUnbounded(name) => write_bounds(reply, name.as_slice()),
         EditFault::Ranged(name) => write_sides(reply, name.as_slice()),
-        EditFault::Memory => reply.extend_from_slice(b"error 90 memory\n"),
+        EditFault::Memory => reply.extend_from_slice(MEMORY_REPLY),
     }
 }
 
@@ -29,6 +30,6 @@ pub fn write_warm_fault(reply: &mut Vec<u8>, fault: WarmFault) -> Result<(), All
 {
     match fault {
         WarmFault::Bad { place, code } => write_faulty_search(reply, place.as_slice(), code),
-        WarmFault::Memory => reply.extend_from_slice(b"error 90 memory\n"),
+        WarmFault::Memory => reply.extend_from_slice(MEMORY_REPLY),
     }
 }

@@ -6,8 +6,8 @@ ghost use Rattle.shell_replies.specs.Placing.{IsPlacedIn, IsFirstTwoSidedAt, Are
 
 use dual_bounds::has_equal_sides;
 use frac128::Frac;
-use lp_model::{ColId, List, Model, Name, Named, Row, RowId, place_of};
-use reply_texts::{write_sides, write_unknown_name};
+use lp_model::{ColId, HasName, List, Model, Name, Row, RowId, place_of};
+use reply_texts::{MEMORY_REPLY, write_sides, write_unknown_name};
 use std::alloc::{AllocError, Global};
 
 /// Why the names of a line are no places.
@@ -50,7 +50,7 @@ impl Place for ColId {
 }
 
 /// The place of each name among the items, with its number.
-fn placed<T: Named, P: Place>(
+fn placed<T: HasName, P: Place>(
     alloc: Global,
     items: &[T],
     named: &[(Name, Frac)],
@@ -130,6 +130,6 @@ pub fn write_unplaced(
     match unplaced {
         Unplaced::Unknown(place) => write_unknown_name(reply, named[place].0.as_slice()),
         Unplaced::TwoSided(place) => write_sides(reply, named[place].0.as_slice()),
-        Unplaced::Memory => reply.extend_from_slice(b"error 90 memory\n"),
+        Unplaced::Memory => reply.extend_from_slice(MEMORY_REPLY),
     }
 }

@@ -1,5 +1,6 @@
 -- A search as a plain record, and what each search keeps.
 use Rattle.std.specs.Prelude.{◌≤◌, List, length, All}
+use Rattle.lp_model.specs.Limits.{point_limit, pool_limit}
 use Rattle.lp_model.specs.Program.{Program, Point}
 use Rattle.lp_model.specs.Formulations.{Formulation, formulation}
 use Rattle.lp_model.specs.declared.types.CutRow.{CutRow}
@@ -29,12 +30,12 @@ pub record IsSoundTree (F : Formulation) (t : Plain) : Type 0 where
   pub lists : HasNodeLists F t
 
 -- Leaves are marked closed exactly where they close against the least value of the kept points. Each kept point is
--- feasible, and at most 100 are kept. A cut counts exactly where it derives at the model with room for each step, its row is
+-- feasible, and at most `point_limit` are kept. A cut counts exactly where it derives at the model with room for each step, its row is
 -- its derivation's, and at most 10,000 are kept.
 pub record IsSound (S : PlainSearch) : Type 0 where
   pub tree : IsSoundTree (formulation_of S) S.tree.root
   pub judged : AreJudged (formulation_of S) (target S.model S.points) S.tree.root
   pub points : All (IsKeepable S.model) S.points
-  pub few : length S.points ≤ 100
+  pub few : length S.points ≤ point_limit
   pub pool : IsPoolOf S.model S.cuts
-  pub few_cuts : length S.cuts ≤ 10000
+  pub few_cuts : length S.cuts ≤ pool_limit

@@ -51,7 +51,7 @@ enough-for none S pool nodes pivots (Rays Z) first beside e =
 
 -- what is enough for a solve is enough from its fresh root
 pub from-fresh : RoomyLaw → (l : Limits) (S : PlainSearch) (pool : List CutRow) → IsFresh S.model l.tree S → IsEnough S.model pool l → IsEnoughFrom S pool l.nodes l.pivots
-from-fresh law l S pool begins e = record { results = e.results; room = law S.model l.tree S begins e.tree e.few; ray_phase = e.ray_phase; own = e.own; beside = e.beside }
+from-fresh law l S pool begins e = record { results = e.results; room = law S.model l.tree S begins e.tree e.ids; ray_phase = e.ray_phase; own = e.own; beside = e.beside }
 
 -- and what is enough to go on, from the kept tree with the limit on its nodes
 pub from-kept : (l : Limits) (S : PlainSearch) (pool : List CutRow) → IsKeptEnough S pool l → IsEnoughFrom (search_with_limit S l.tree) pool l.nodes l.pivots
@@ -59,7 +59,7 @@ from-kept l S pool e = record {
   results = e.results;
   room = record {
     nodes = nodes_fit (node_count S.tree.root) (whole_points S.model) e.nodes;
-    ids = ids_fit S.tree.last (split_count S.tree.root) (whole_points S.model) e.ids;
+    ids = e.ids;
   };
   ray_phase = e.ray_phase;
   own = e.own;
@@ -68,9 +68,6 @@ from-kept l S pool e = record {
   where
     nodes_fit : (c p : ℕ) → c + max 1 (2 * p - 1) ≤ l.tree → c + 2 * (p - 1) ≤ l.tree
     nodes_fit c p h = omega (arith, h)
-
-    ids_fit : (a s p : ℕ) → a + s + 3 * max 1 (2 * p - 1) < 2 ^ 64 → a + s + 3 * (p - 1) < 2 ^ 64
-    ids_fit a s p h = omega (arith, h)
 
 pub at-end : (S : PlainSearch) (e : Ended) (n : ℕ) (answer : Answer) → IsAtEnd e → IsAnswerAtEnd S e n answer → HasEnded answer
 at-end S ended.Finished n (Optimal v x m) h told = tt

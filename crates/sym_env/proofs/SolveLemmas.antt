@@ -1,5 +1,6 @@
 -- What was done in a search, put together.
-use Rattle.std.proofs.Common.{refl, ◌∙◌}
+use Rattle.std.proofs.Common.{◌≡◌, ℕ, refl, sym, ap, subst, ◌∙◌, inl, inr}
+use Rattle.std.specs.Prelude.{take}
 use Rattle.lp_model.specs.declared.types.Basis.{Basis}
 use Rattle.lp_model.specs.declared.answers.Answer.{Answer}
 use Rattle.lp_model.specs.declared.answers.Answer.TheVariants.{Memory}
@@ -8,6 +9,8 @@ use Rattle.sound_searches.specs.Calls.{IsFresh}
 use Rattle.sound_searches.specs.Sound.{PlainSearch, IsSound}
 use Rattle.ray_phase.specs.Laws.{NoRayFoundLaw}
 use Rattle.tree_search.specs.Causes.{IsAtEnd}
+use Rattle.tree_search.specs.Extends.{Extends}
+use Rattle.tree_search.specs.GivingUp.{cuts_found, LeavesNext}
 use Rattle.tree_search.specs.Causes as search
 use Rattle.tree_search.specs.Search.{Finds, GivesUp, IsAnswerAtEnd, IsStoppedAnswer}
 use Rattle.tree_search.specs.Steps.{HasOpenLeaf}
@@ -24,13 +27,22 @@ use Rattle.tree_search.specs.Warm.{Went}
 use Rattle.tree_search.specs.declared.limits.Limits.{Limits}
 use Rattle.sym_env.proofs.EnoughLemmas.{enough-for, at-end, goes-on}
 
+-- what is left without memory has the model, and every node
+left-model : (ways : Ways) (first : Basis) (pivots : ℕ) (S T : PlainSearch) → LeavesNext ways first pivots S T → T.model ≡ S.model
+left-model ways first pivots S T (inl same) = ap (λ (N : PlainSearch). N.model) same
+left-model ways first pivots S T (inr h) = added-model S (take h.adds.0 (cuts_found h.worked)) T h.adds.1
+
+left-extends : (ways : Ways) (first : Basis) (pivots : ℕ) (S T : PlainSearch) → LeavesNext ways first pivots S T → Extends S.tree.root T.tree.root
+left-extends ways first pivots S T (inl same) = subst (λ (N : PlainSearch). Extends S.tree.root N.tree.root) (sym same) (extends-self S.tree.root)
+left-extends ways first pivots S T (inr h) = extends-added (take h.adds.0 (cuts_found h.worked)) S T h.adds.1
+
 module _ (l : Limits) (S : PlainSearch) (sound : IsSound S) where
   pub gave-up : (ways : Ways) (first : Basis) → BeginsWith S.model l.pivots ways first → (T : PlainSearch) → GivesUp ways first l.nodes l.pivots S T → Went l S Memory T
   gave-up ways first b T gives = record {
     sound = sound;
     course = WantsWithin ways first b gives refl;
-    model = added-model gives.mid gives.adds.0 T gives.adds.1 ∙ gives.goes.model;
-    extends = extends-on S.tree.root gives.mid.tree.root T.tree.root gives.goes.extends (extends-added gives.adds.0 gives.mid T gives.adds.1);
+    model = left-model ways first l.pivots gives.mid T gives.adds ∙ gives.goes.model;
+    extends = extends-on S.tree.root gives.mid.tree.root T.tree.root gives.goes.extends (left-extends ways first l.pivots gives.mid T gives.adds);
   }
 
   pub searched-so : (ways : Ways) (first : Basis) → BeginsWith S.model l.pivots ways first → HasOpenLeaf S → (T : PlainSearch) (searched : Searched) (answer : Answer) → Finds ways first l.nodes l.pivots S T searched

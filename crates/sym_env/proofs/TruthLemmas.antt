@@ -16,7 +16,7 @@ use Rattle.model_points.specs.Rays.{without_costs, IsRayJudged, IsUnbounded}
 use Rattle.model_points.proofs.UnboundedLemmas.{unbounded}
 use Rattle.ray_phase.specs.Answers.{IsRayAnswer}
 use Rattle.ray_phase.specs.declared.phase.RayAnswer.TheVariants as phase
-use Rattle.branch_tree.specs.Changes.{with_limit}
+use Rattle.branch_tree.specs.Changes.{first_tree, with_limit}
 use Rattle.branch_tree.specs.declared.node.Job.{Job}
 use Rattle.branch_tree.specs.declared.node.LeafData.{LeafData}
 use Rattle.branch_tree.specs.declared.node.LeafState.TheVariants.{IsOpen, IsClosed}
@@ -27,14 +27,14 @@ use Rattle.search_parts.specs.Joining.{IsWorst, AddsPoint}
 use Rattle.search_parts.specs.Points.{IsKeepable}
 use Rattle.sound_searches.specs.Sound.{PlainSearch, IsSound}
 use Rattle.sound_searches.proofs.OpenLemmas.{leaf_at}
-use Rattle.search_counting.specs.Laws.{CapLaw, LeftLaw, TooFewNodesLaw}
+use Rattle.search_counting.specs.Laws.{CapLaw, LeftLaw, TooSmallLaw}
 use Rattle.search_counting.specs.Work.{whole_points, cap_of, HasRoomFor, work_of, splits_of, IsRoomy}
 use Rattle.search_counting.proofs.CapLemmas.{splits-cap}
 use Rattle.search_counting.proofs.RoomLemmas.{room-fewer}
 use Rattle.tree_search.specs.Bounds.{IsBoundOf}
 use Rattle.tree_search.specs.Causes.{HasCause}
 use Rattle.tree_search.specs.Laws.{StopBoundLaw}
-use Rattle.tree_search.specs.Search.{StopsFor, FindsPoint, Ends, IsLeft, IsValueFound, IsAnswerAtEnd, IsFinishedAnswer, IsStoppedAnswer}
+use Rattle.tree_search.specs.Search.{StopsFor, FindsPoint, Ends, IsLeft, IsAnswerAtEnd, IsFinishedAnswer, IsStoppedAnswer}
 use Rattle.tree_search.specs.Steps.{HasOpenLeaf, IsNextJob, Goes, StepAtNext, ValueAtNext}
 use Rattle.tree_search.specs.declared.searching.Ended.{Ended}
 use Rattle.tree_search.specs.declared.searching.Ended.TheVariants as ended
@@ -43,7 +43,7 @@ use Rattle.ray_phase.specs.Beginnings.{IsRayStop, StopsBefore}
 use Rattle.kept_env.specs.Env.{PlainEnv, HasPointAndRay, IsHeld, with_answer}
 use Rattle.tree_search.specs.Solves.{Course, NothingOpen, StopsFirst, Searches, WantsBefore, WantsWithin, SolvesModel, SolvesFrom, SaysUnbounded, HasRayFor, HasRayFrom}
 use Rattle.kept_env.specs.Worked.{held_by, IsOldest, WorksEnv}
-use Rattle.tree_search.specs.Truth.{IsCount, IsBound, IsFoundValue, IsEarlyBy, IsTrueBy, IsSmallTree, IsTrueAnswer, IsTrueOfKept}
+use Rattle.tree_search.specs.Truth.{IsCount, IsBound, IsFoundValue, IsEarlyBy, IsTrueBy, IsTrueAnswer, IsTrueOfKept}
 use Rattle.tree_search.specs.Warm.{Resumes, BesidePoint, GoesOn, Warms, Still, SomeOpen}
 use Rattle.tree_search.specs.declared.limits.Limits.{Limits}
 use Rattle.ray_phase.proofs.BeginningLemmas.{is_ray, judged_ray}
@@ -59,7 +59,7 @@ is-bound : StopBoundLaw → (S : PlainSearch) (bound : Option ℚ) → IsBoundOf
 is-bound law S None h = tt
 is-bound law S (Some b) h = λ x feasible. law S b x h feasible
 
-is-found : (M : Program) (best : Option ℚ) → IsValueFound M best → IsFoundValue M best
+is-found : (M : Program) (best : Option ℚ) → IsFoundValue M best → IsFoundValue M best
 is-found M None h = tt
 is-found M (Some b) h = h
 
@@ -179,14 +179,14 @@ module _ (laws : Laws) (l : Limits) (fresh : PlainSearch) (lawful : IsLawful fre
   true-warmed answer S (Still none kept told) = finished answer told
   true-warmed answer S (SomeOpen open_leaf how) = true-resumed open_leaf answer S how
 
-pub true-answer : Laws → TooFewNodesLaw → (l : Limits) (M : Program) (old : PlainSearch) (answer : Answer) (S : PlainSearch) → IsLawful M → SolvesModel M l old answer S → IsTrueAnswer M l answer
-true-answer laws few_nodes l M old answer S lawful (inr wants) = subst (IsTrueAnswer M l) (sym wants.wants) tt
-true-answer laws few_nodes l M old answer S lawful (inl s) =
+pub true-answer : Laws → TooSmallLaw → (l : Limits) (M : Program) (old : PlainSearch) (answer : Answer) (S : PlainSearch) → IsLawful M → SolvesModel M l old answer S → IsTrueAnswer M l answer
+true-answer laws too_small l M old answer S lawful (inr wants) = subst (IsTrueAnswer M l) (sym wants.wants) tt
+true-answer laws too_small l M old answer S lawful (inl s) =
     let same : s.fresh.model ≡ M = s.begins.model in
     let own : IsLawful s.fresh.model = subst IsLawful (sym same) lawful in
     let begins : IsFresh s.fresh.model l.tree s.fresh = subst (λ N. IsFresh N l.tree s.fresh) (sym same) s.begins in
     subst (λ N. IsTrueAnswer N l answer) same
-    (true-course laws l s.fresh own s.sound (IsSmallTree s.fresh.model l) (λ unroomy few. few_nodes s.fresh.model l.tree s.fresh begins s.sound own few unroomy)
+    (true-course laws l s.fresh own s.sound (¬ HasRoomFor (whole_points s.fresh.model - 1) (first_tree l.tree)) (too_small s.fresh.model l.tree s.fresh begins s.sound own)
     (λ none. begins.points) answer S (s.model ∙ sym same) (subst (λ N. Course N l s.fresh answer S) (sym same) s.course))
 
 -- a search that goes on is too small where it has no room for the most splits

@@ -12,7 +12,7 @@ ghost use Rattle.tree_search.specs.Warm.{Went};
 
 use lp_model::{Answer, Basis, Model, Point};
 use ray_phase::{Beginning, find_beginning, no_ray_law, root_law};
-use search_counting::{cap_law, left_law, roomy_law, too_few_nodes_law};
+use search_counting::{cap_law, left_law, roomy_law, too_small_law};
 use sound_searches::empty_law;
 use std::alloc::{AllocError, Global};
 use tree_edit::Search;
@@ -167,7 +167,7 @@ pub(crate) fn solve_search(alloc: Global, search: &mut Search, limits: &Limits) 
     empty_law();
     cap_law();
     left_law();
-    too_few_nodes_law();
+    too_small_law();
     stop_bound_law();
     solve_again(alloc, search, limits)
 }

@@ -1,15 +1,19 @@
 -- What a step's reply says for sure, by the laws of the family that answers.
-use Rattle.std.proofs.Common.{ℕ, List, refl, subst}
+use Rattle.std.proofs.Common.{ℕ, List, [], refl, subst}
 use Rattle.command_words.specs.Asks.{Asks, asks_of}
 use Rattle.command_family.specs.Family as family
-use Rattle.command_family.specs.State.{ShellState}
+use Rattle.command_family.specs.State.{ShellState, HasScriptModel}
 use Rattle.command_family.proofs.FamilyLemmas.{family-causes}
 use Rattle.bound_commands.specs.Family as bounds
 use Rattle.bound_commands.proofs.CauseLemmas.{bounds-unchanged, bounds-exact}
 use Rattle.search_replies.specs.Family.{IsComplete}
 use Rattle.search_replies.proofs.CauseLemmas.{searches-complete}
 use Rattle.sym_shell.specs.Step.{in_family, AnswersTo, Step}
-use Rattle.sym_shell.specs.Causes.{HasCauses}
+use Rattle.kept_env.specs.Env.{IsEnv}
+use Rattle.command_family.specs.Kinds.{Done}
+use Rattle.sym_shell.specs.Causes.{cause_in, HasCauses, IsAnswered}
+use Rattle.sym_shell.specs.Kept.{HasSoundSearch}
+use Rattle.sym_shell.proofs.RestoredLaws.{closed-again}
 use Rattle.sym_shell.proofs.LawLemmas.{lawful, works-not}
 use Rattle.sym_shell.proofs.HeadlineLemmas.{promises}
 
@@ -27,11 +31,25 @@ step-causes old words reply new h =
       complete = λ S nodes pivots asked present enough. ends.complete S nodes pivots (subst (λ a. AnswersTo a old reply new) asked h) present enough;
       complete_warm = λ S nodes pivots asked present enough. ends.complete_warm S nodes pivots (subst (λ a. AnswersTo a old reply new) asked h) present enough;
       again = λ S nodes pivots asked present. ends.again S nodes pivots (subst (λ a. AnswersTo a old reply new) asked h) present;
-      exact = λ x asked.
-          bounds-exact asked.which asked.numbers asked.behind old reply new (subst (λ a. AnswersTo a old reply new) asked.asked h) x
-          (record { named = asked.named; search = asked.search; reads = asked.reads; present = asked.present; is = asked.is });
+      beside_ray = λ S nodes pivots asked present. ends.beside_ray S nodes pivots (subst (λ a. AnswersTo a old reply new) asked h) present;
+      exact = λ which numbers behind asked x read. bounds-exact which numbers behind old reply new (subst (λ a. AnswersTo a old reply new) asked h) x read;
       bounds = λ which numbers behind asked. bounds-unchanged (bounds.Bound which numbers behind) old reply new (subst (λ a. AnswersTo a old reply new) asked h);
       kept = found.kept;
       refused = found.refused;
       wanted = λ wanting other another. found.wanted wanting (works-not asks other another);
+    }
+
+-- a step that leaves what is sound is one as the product promises it
+pub step-answered : (old : ShellState) (words : List (List ℕ)) (reply : List ℕ) (new : ShellState) → Step old words reply new → HasSoundSearch new.env → IsEnv new.env → HasScriptModel new.env → IsAnswered old words reply new
+step-answered old words reply new h kept held script =
+    let causes = step-causes old words reply new h in
+    record {
+      step = h;
+      causes = causes;
+      sound = kept;
+      held = held;
+      script = script;
+      restored = λ name S asked closed done.
+          closed-again old name S reply new closed kept
+          (subst (λ a. cause_in a Done old reply new) asked (causes.only Done ([], done)));
     }

@@ -1,7 +1,7 @@
 pub mod OwnLemmas
 pub mod LawLemmas
 pub mod HeadlineLemmas
+pub mod RestoredLaws
 pub mod CauseLemmas
 pub mod StepLemmas
 pub mod RunLemmas
-pub mod RestoredLaws

@@ -1,22 +1,25 @@
 -- What each reply says for sure. Want of memory alone is free: where a cause holds, the reply is its line or `error 90 memory`.
-use Rattle.std.specs.Prelude.{◌≡◌, ◌≢◌, ◌⊎◌, ℕ, List, Some}
+use Rattle.std.specs.Prelude.{◌≡◌, ◌≢◌, ◌⊎◌, ℕ, List, Some, IfSome}
 use Rattle.lp_model.specs.Program.{Point, value}
+use Rattle.sound_searches.specs.Laws.{HasNoOpenLeaf}
 use Rattle.sound_searches.specs.Sound.{PlainSearch}
 use Rattle.tree_search.specs.Enough.{IsEnough, IsKeptEnough}
 use Rattle.tree_search.specs.Solves.{Solved}
-use Rattle.kept_env.specs.Env.{model_of, pool_in}
-use Rattle.command_words.specs.Asks.{Asks, Solve, Warm, Bound, asks_of}
+use Rattle.kept_env.specs.Env.{IsEnv, model_of, pool_in}
+use Rattle.command_words.specs.Asks.{Asks, Solve, Warm, Restore, Bound, asks_of}
 use Rattle.command_words.specs.declared.words.OptimumBound.{OptimumBound}
 use Rattle.command_words.specs.declared.words.NewNumbers.{NewNumbers}
 use Rattle.reply_texts.specs.Texts.{ok_text, bound_text, memory_text}
 use Rattle.command_family.specs.Kinds.{Kind, Is, IsError}
-use Rattle.command_family.specs.State.{ShellState}
+use Rattle.command_family.specs.State.{ShellState, HasScriptModel}
 use Rattle.bound_commands.specs.Bounding.{IsAtOptimum}
 use Rattle.search_replies.specs.Showing.{EndsBy}
 use Rattle.search_replies.specs.Solve.{limits_of}
-use Rattle.search_replies.specs.Warming.{WentOn, TellsAgain}
+use Rattle.search_replies.specs.Warming.{WentOn, TellsAgain, TellsNoEnd}
 use Rattle.sym_shell.specs.Step.{in_family, Step}
-use Rattle.sym_shell.specs.Headline.{BoundRead, Headline}
+use Rattle.bound_commands.specs.Family.{BoundRead}
+use Rattle.sym_shell.specs.Headline.{Headline}
+use Rattle.sym_shell.specs.Kept.{HasSoundSearch, HasClosedSearch}
 
 -- what a reply of a kind to what is asked says for sure, as the family has it that answers
 abbrev pub cause_in : Asks → Kind → ShellState → List ℕ → ShellState → Type 0
@@ -40,8 +43,11 @@ pub record HasCauses (old : ShellState) (words : List (List ℕ)) (reply : List 
       → EndsBy (WentOn S (limits_of nodes pivots)) S.model (limits_of nodes pivots) reply new.env
   -- `warm` after a search that closed every leaf places no result
   pub again : (S : PlainSearch) (nodes pivots : ℕ) → asks_of words ≡ Warm nodes pivots → old.env.search ≡ Some S → TellsAgain S reply
+  -- where its ray phase finds a ray beside a kept point, the objective has no end, and `warm` places no result
+  pub beside_ray : (S : PlainSearch) (nodes pivots : ℕ) → asks_of words ≡ Warm nodes pivots → old.env.search ≡ Some S → TellsNoEnd S (limits_of nodes pivots) reply
   -- a bound at the sides, or at the costs, that stand is the best value, right after a search has found it and closed every leaf
-  pub exact : (x : Point) (asked : BoundRead old words (λ which numbers S named. IsAtOptimum numbers S named x)) → (reply ≡ bound_text (Some (value asked.search.model 1 x))) ⊎ (reply ≡ memory_text)
+  pub exact : (which : OptimumBound) (numbers : NewNumbers) (behind : List (List ℕ)) → asks_of words ≡ Bound which numbers behind
+      → (x : Point) (read : BoundRead old behind (λ S named. IsAtOptimum numbers S named x)) → (reply ≡ bound_text (Some (value read.search.model 1 x))) ⊎ (reply ≡ memory_text)
   -- a command of bounds changes nothing
   pub bounds : (which : OptimumBound) (numbers : NewNumbers) (behind : List (List ℕ)) → asks_of words ≡ Bound which numbers behind → new ≡ old
   -- every reply but `ok` leaves the model
@@ -50,7 +56,16 @@ pub record HasCauses (old : ShellState) (words : List (List ℕ)) (reply : List 
   pub refused : (k : Kind) → IsError k → Is k reply → new.env ≡ old.env
   pub wanted : reply ≡ memory_text → ((nodes pivots : ℕ) → asks_of words ≢ Solve nodes pivots) → ((nodes pivots : ℕ) → asks_of words ≢ Warm nodes pivots) → new.env ≡ old.env
 
--- a step, which says what each command may be answered, and what the reply says for sure
+-- A step, which says what each command may be answered, and what the reply says for sure. Whatever was answered, what the environment has from
+-- then on is sound.
 pub record IsAnswered (old : ShellState) (words : List (List ℕ)) (reply : List ℕ) (new : ShellState) : Type 0 where
   pub step : Step old words reply new
   pub causes : HasCauses old words reply new
+  -- cuts count exactly where they derive, leaves are judged by such cuts, points are feasible
+  pub sound : HasSoundSearch new.env
+  -- an answer is held only of a search without an open leaf, or of one with a point beside a ray
+  pub held : IsEnv new.env
+  -- the model, if there is one, is one that scripts may have: its names are words, its bounds are near, and it is not widened
+  pub script : HasScriptModel new.env
+  -- a search without an open leaf that was saved has none after it is restored, so that `warm` places no result then (`again`)
+  pub restored : (file : List ℕ) (S : PlainSearch) → asks_of words ≡ Restore file → HasClosedSearch old.files file S → reply ≡ ok_text → IfSome new.env.search HasNoOpenLeaf

@@ -1,19 +1,36 @@
 -- What holds of a search that is saved, restored and gone on with.
-use Rattle.std.specs.Prelude.{◌≡◌, ℕ, false, List, Some, Ok}
-use Rattle.lp_model.specs.declared.answers.Answer.{Answer}
+use Rattle.std.specs.Prelude.{◌≡◌, ℕ, List, Some}
+use Rattle.sym_io.specs.Files.{Files}
 use Rattle.sound_searches.specs.Laws.{HasNoOpenLeaf}
-use Rattle.sound_searches.specs.Sound.{PlainSearch, IsSound}
-use Rattle.search_file.specs.Files.{IsTextOf}
-use Rattle.tree_search.specs.Solves.{HasRayFrom}
-use Rattle.tree_search.specs.Warm.{PlacesNone, WarmsFrom}
-use Rattle.tree_search.specs.declared.limits.Limits.{Limits}
-use Rattle.kept_env.specs.Env.{PlainEnv}
-use Rattle.kept_env.specs.Worked.{WorksEnv}
-use Rattle.file_commands.specs.Saving.{RestoresTo}
+use Rattle.sound_searches.specs.Sound.{PlainSearch}
+use Rattle.command_words.specs.Asks.{Save, Restore, Warm, asks_of}
+use Rattle.reply_texts.specs.Texts.{ok_text}
+use Rattle.command_family.specs.State.{ShellState}
+use Rattle.search_replies.specs.Warming.{TellsAgain}
+use Rattle.sym_shell.specs.Causes.{IsAnswered}
+use Rattle.sym_shell.specs.Kept.{HasSoundSearch}
 
--- where no leaf of the search was open when its text was written, none is after that text is restored, and no result is placed
-pub record RestoredLaw : Type 0 where
-  pub closed : (S T : PlainSearch) (text : List ℕ) (restored : PlainEnv) → IsSound S → IsSound T → S.model.wide ≡ false → IsTextOf S text
-      → RestoresTo text restored → restored.search ≡ Some T → HasNoOpenLeaf S → HasNoOpenLeaf T
-  pub still : (S T : PlainSearch) (text : List ℕ) (restored : PlainEnv) (l : Limits) (answer : Answer) (new : PlainEnv) → IsSound S → IsSound T → S.model.wide ≡ false
-      → IsTextOf S text → RestoresTo text restored → restored.search ≡ Some T → HasNoOpenLeaf S → WorksEnv (WarmsFrom l) (HasRayFrom l) restored.search restored (Ok answer) new → PlacesNone answer
+-- `save` of the search S as a file, `restore` of that file and `warm`, one after the other, the first two answered `ok`: from one state to the
+-- next, over a store that tells its files
+pub record IsSavedAndRestored (S : PlainSearch) (before saved restored : ShellState) (reply : List ℕ) (after : ShellState) : Type 0 where
+  pub file : List ℕ
+  pub nodes : ℕ
+  pub pivots : ℕ
+  pub known : Files
+  pub told : before.files ≡ Some known
+  pub present : before.env.search ≡ Some S
+  pub sound : HasSoundSearch before.env
+  pub saving : List (List ℕ)
+  pub restoring : List (List ℕ)
+  pub going_on : List (List ℕ)
+  pub saves : asks_of saving ≡ Save file
+  pub restores : asks_of restoring ≡ Restore file
+  pub goes_on : asks_of going_on ≡ Warm nodes pivots
+  pub is_saved : IsAnswered before saving ok_text saved
+  pub is_restored : IsAnswered saved restoring ok_text restored
+  pub is_answered : IsAnswered restored going_on reply after
+
+-- then, where no leaf of S was open, `warm` places no result: its reply is that of an answer without one, of the model that was restored
+abbrev pub RestoredLaw : Type 0
+RestoredLaw = (S : PlainSearch) (before saved restored : ShellState) (reply : List ℕ) (after : ShellState) → IsSavedAndRestored S before saved restored reply after
+    → HasNoOpenLeaf S → (T : PlainSearch) × ((restored.env.search ≡ Some T) × HasNoOpenLeaf T × TellsAgain T reply)

@@ -1,6 +1,7 @@
 pub mod Own
 pub mod Step
 pub mod Headline
+pub mod Kept
 pub mod Causes
 pub mod Shell
 pub mod Run

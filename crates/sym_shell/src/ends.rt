@@ -8,9 +8,12 @@ ghost use Rattle.std.specs.IoError.{error_kind};
 ghost use Rattle.std.specs.Process.{exit_status};
 ghost use Rattle.std.specs.Vec.Iter.{into_iter_items};
 ghost use Rattle.std.specs.declared.io.ErrorKind.TheVariants.{OutOfMemory};
+ghost use Rattle.std.specs.Io.KnownBytes.{Appends};
+ghost use Rattle.sym_io.specs.Faults.{Rose};
+ghost use Rattle.script_session.specs.Output.{WritesFront};
 ghost use Rattle.script_session.specs.Run.{outside};
 ghost use Rattle.program_words.specs.Forms.{TakesWords};
-ghost use Rattle.sym_shell.specs.Run.{around, RunsWords};
+ghost use Rattle.sym_shell.specs.Run.{around, RunsWords, IsRefusedRead, usage};
 
 use crate::program::{STATUS_MEMORY, run};
 use program_words::words_of;
@@ -34,9 +37,16 @@ fn run_read<R: Source, W: Sink, S: Store>(
     ensures nothing { IfOk read (λ arguments. into_iter_items arguments ≡ [] → (exit_status result ≡ 2) ⊎ (exit_status result ≡ 5)) }
     ensures unread { IfErr read (λ _. (exit_status result ≡ 2) ⊎ (exit_status result ≡ 5)) }
     ensures memory { IfErr read (λ error. error_kind error ≡ OutOfMemory → exit_status result ≡ 5) }
+
+    // Words that are refused, and none at all: as of `run`. Nothing is read, and no file is written.
+    ensures usage_line { exit_status result ≡ 2 → Appends (W.written out.old) (W.written out.new) usage ⊎ (Rose (W.faults out.old) (W.faults out.new) × WritesFront (W.written out.old) (W.written out.new) usage) }
+    ensures unwritten { IsRefusedRead (λ arguments. into_iter_items arguments) read → exit_status result ≡ 5 → W.written out.new ≡ W.written out.old }
+    ensures untouched { IsRefusedRead (λ arguments. into_iter_items arguments) read → (R.left script.new ≡ R.left script.old) × (R.handed script.new ≡ R.handed script.old) × (R.faults script.new ≡ R.faults script.old)
+        × (S.files store.new ≡ S.files store.old) × (S.faults store.new ≡ S.faults store.old) }
+
     ensures ran { IfOk read (λ arguments. 0 < length (into_iter_items arguments) → RunsWords (into_iter_items arguments) (around
-        (outside (R.left script.old) (R.faults script.old) (W.written out.old) (W.faults out.old))
-        (outside (R.left script.new) (R.faults script.new) (W.written out.new) (W.faults out.new))
+        (outside (R.left script.old) (R.handed script.old) (R.faults script.old) (W.written out.old) (W.faults out.old))
+        (outside (R.left script.new) (R.handed script.new) (R.faults script.new) (W.written out.new) (W.faults out.new))
         (S.files store.old) (S.files store.new) (S.faults store.old) (S.faults store.new)) (exit_status result)) }
 {
     match words_of(alloc, read) {

@@ -14,9 +14,11 @@
 //! `Step` fixes each reply's bytes and the state that it leaves (the environment, the files, the store's count of faults). What a reply says for
 //! sure, and with it the headline, is `HasCauses`: `optimal` shows a feasible point that no feasible point beats, `infeasible` means that
 //! there is none, `unbounded` that the objective has no end, no feasible point passes the bound of a search that stopped, nor a bound at
-//! other sides or costs, the certificate that was written is accepted for the model, and what was written of a model is its canonical
-//! text. Each family shows it of its own replies; `Headline` says it in one place, without a family's name. `check MODEL CERT` prints
-//! the verdict on a certificate's file (`Checks` of `command_files`).
+//! other sides or costs, the certificate that was written is accepted for the model, what was written of a model is its canonical
+//! text, what was saved is the text of the search, and a search that is restored is made of what the file's text states, its cuts derived
+//! anew, its points tested and its leaves judged. Each family says it of its own replies, once; `Headline` has in one place which kind
+//! of reply comes of which commands. And whatever was answered, the search that the environment has then is sound (`IsAnswered`).
+//! `check MODEL CERT` prints the verdict on a certificate's file (`Checks` of `command_files`).
 //!
 //! Contract in one sentence: `run` writes the replies of one `Step` after the other, for all of the script's commands or,
 //! where something failed, for its first ones, or what a check says, and its status says which. `run_program` calls it with the

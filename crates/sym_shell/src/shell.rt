@@ -1,9 +1,9 @@
 // The machine behind the script: the environment, and which family of commands answers a line.
-ghost use Rattle.std.specs.Prelude.{◌≡◌, [], OnOk, OnErr, ℕ, List};
+ghost use Rattle.std.specs.Prelude.{◌≡◌, []};
 ghost use Rattle.command_words.specs.Asks.{asks_shown, NamesFile};
 ghost use Rattle.kept_env.specs.Env.{no_model};
-ghost use Rattle.command_family.specs.State.{shell_state, HasWords};
-ghost use Rattle.sym_shell.specs.Step.{AnswersTo};
+ghost use Rattle.command_family.specs.State.{shell_state, HasScriptModel, HasOrder};
+ghost use Rattle.sym_shell.specs.Step.{AnswersTo, Tells};
 ghost use Rattle.sym_shell.specs.Shell.{is_quit};
 
 use crate::searching::{search_anew, search_on};
@@ -13,20 +13,20 @@ use command_words::{Asked, read_words};
 use edit_commands::{edit, trim};
 use file_commands::{load, restore, save, write};
 use kept_env::Env;
-use reply_texts::{write_no_number, write_unknown};
+use reply_texts::{ARGUMENTS_REPLY, OK_REPLY, write_no_number, write_unknown};
 use script_session::Machine;
 use std::alloc::{AllocError, Global};
 use sym_io::Store;
 
-/// The solver's state between commands: the environment, each name of whose model is a word of a line. Contracts see a
-/// `PlainEnv`.
+/// The solver's state between commands: the environment, whose model is one that scripts may have, and whose lists stand in order, so that
+/// its search has a text. Contracts see a `PlainEnv`.
 pub(crate) struct Shell {
     env: Env,
 }
 
 impl std::marker::Model for Shell {
     ghost use Rattle.kept_env.specs.Env.{PlainEnv, env_code};
-    ghost use Rattle.command_family.specs.State.{HasWords};
+    ghost use Rattle.command_family.specs.State.{HasScriptModel, HasOrder};
 
     ghost Value = { PlainEnv };
 
@@ -34,7 +34,7 @@ impl std::marker::Model for Shell {
 
     ghost view = { λ s. s.env };
 
-    ghost invariant = { λ s. HasWords s.env };
+    ghost invariant = { λ s. HasScriptModel s.env × HasOrder s.env };
 }
 
 impl Shell {
@@ -64,12 +64,12 @@ fn answer_asked<S: Store>(
 ) -> Result<(), AllocError>
     requires named { NamesFile (asks_shown asked) }
     requires empty { reply.old.items ≡ [] }
-    requires words { HasWords env.old }
-    ensures answered { OnOk result (AnswersTo (asks_shown asked.entry) (shell_state env.old (S.files store.old) (S.faults store.old)) reply.new.items
-        (shell_state env.new (S.files store.new) (S.faults store.new))) }
-    ensures unfinished { OnErr result ((bytes : List ℕ) × AnswersTo (asks_shown asked.entry) (shell_state env.old (S.files store.old) (S.faults store.old)) bytes
-        (shell_state env.new (S.files store.new) (S.faults store.new))) }
-    ensures words { HasWords env.new }
+    requires script { HasScriptModel env.old }
+    requires order { HasOrder env.old }
+    ensures answered { Tells result (λ bytes. AnswersTo (asks_shown asked.entry) (shell_state env.old (S.files store.old) (S.faults store.old)) bytes
+        (shell_state env.new (S.files store.new) (S.faults store.new))) reply.new.items }
+    ensures script { HasScriptModel env.new }
+    ensures order { HasOrder env.new }
 {
     match asked {
         Asked::Load { file, intupper } => load(alloc, env, store, file, intupper, reply),
@@ -86,9 +86,9 @@ fn answer_asked<S: Store>(
         } => bound(alloc, env, which, numbers, words, reply),
         Asked::Cert { file } => cert(alloc, env, store, file, reply),
         Asked::Write { file } => write(alloc, env, store, file, reply),
-        Asked::Quit => reply.extend_from_slice(b"ok\n"),
+        Asked::Quit => reply.extend_from_slice(OK_REPLY),
         Asked::Unknown { word } => write_unknown(reply, word),
-        Asked::Misused => reply.extend_from_slice(b"error 03 arguments\n"),
+        Asked::Misused => reply.extend_from_slice(ARGUMENTS_REPLY),
         Asked::NoNumber { word } => write_no_number(reply, word),
     }
 }
@@ -111,7 +111,10 @@ impl Machine for Shell {
         words: &[&[u8]],
         reply: &mut Vec<u8>,
     ) -> Result<(), AllocError> {
-        answer_asked(alloc, &mut self.env, store, read_words(words), reply)
+        let told = answer_asked(alloc, &mut self.env, store, read_words(words), reply);
+        let _sound = self.env.search();
+        let _held = self.env.held();
+        told
     }
 }
 

@@ -12,7 +12,7 @@ use Rattle.frac128.proofs.Whole.{Fits-zero, Fits-neg, SumFits-zero}
 use Rattle.table_entries.specs.Relaxation.{pivoted_entry}
 use Rattle.table_entries.specs.Steps.{PivotStepFits, step_value, EntryFits}
 use Rattle.table_entries.specs.FlatSteps.{dense_entry, FlatFits, flat_value}
-use Rattle.table_entries.specs.RowSteps.{MovedFits, moved_value}
+use Rattle.table_entries.specs.private.RowSteps.{MovedFits, moved_value}
 use Rattle.table_entries.proofs.PivotLemmas.{flat_within}
 
 -- ---- numbers

@@ -5,7 +5,7 @@ ghost use Rattle.frac128.specs.Rational.{int};
 ghost use Rattle.table_entries.specs.Relaxation.{pivoted_entry};
 ghost use Rattle.table_entries.specs.Steps.{EntryFits};
 ghost use Rattle.table_entries.specs.FlatSteps.{dense_entry};
-ghost use Rattle.table_entries.specs.RowSteps.{MovedFits, moved_value};
+ghost use Rattle.table_entries.specs.private.RowSteps.{MovedFits, moved_value};
 
 use crate::entries::{exchanged, flat_index};
 use frac128::{Frac, Wide};

@@ -38,8 +38,7 @@ use Rattle.cert_check.specs.declared.verdict.Judgement.TheVariants.{Passes}
 use Rattle.cert_check.specs.declared.verdict.Verdict.TheVariants.{Accepted}
 use Rattle.cert_text.specs.Tree.{CertTree, certificate_nodes}
 use Rattle.cert_text.specs.Tree.{Bound as CertBound, Farkas as CertFarkas, Empty as CertEmpty, Split as CertSplit}
-use Rattle.cert_check.specs.Places.{place_among}
-use Rattle.lp_model.specs.Edits.{Named, only_row_names}
+use Rattle.lp_model.specs.Edits.{Named, only_row_names, place_in}
 use Rattle.cert_check.specs.Cuts.{rows_of, formulation_by, IsCutJudged, AreCutsJudged}
 use Rattle.cert_check.specs.Mults.{AreMults}
 use Rattle.cert_check.specs.Verdict.{IsNumberJudged, IsFarkasJudged, IsNodeJudged, IsPointJudged, IsFeasibleJudged, IsDirectionJudged, IsClaimJudged, visits, AreVisits, IsVisitJudged, IsVerdict}
@@ -47,7 +46,7 @@ use Rattle.cert_text.specs.Whole.{IsNarrowNode, HasNoPoint, HasNoRay, HasNoCuts,
 use Rattle.cert_check.proofs.PlaceLemmas.{rows_differ}
 use Rattle.tree_cert.specs.Certificates.{claim_of, point_numbers, IsReason, IsTreeOf, IsProofOf, IsCertificateOf, unbounded_certificate}
 use Rattle.tree_cert.specs.Cuts.{named_cuts, used_number, mults_named, node_mults, IsOfFirst}
-use Rattle.tree_cert.specs.Marked.{NodeNamesFirst}
+use Rattle.tree_cert.specs.private.Marked.{NodeNamesFirst}
 use Rattle.lp_model.specs.Lawful.{column_name}
 use Rattle.model_points.specs.Answers.{IsFeasibilityAnswer}
 use Rattle.model_points.specs.Rays.{IsRayJudged}
@@ -163,7 +162,7 @@ module _ (F : Formulation) (lawful_model : IsLawfulModel F.model) (used : List �
     tree-passes path (Split kept j v left right) (CertSplit col w first second) within lawful lists judged closed like =
         subst (λ name. All P (visits F.model path (CertSplit name w first second))) (sym like.0)
         (subst (λ u. All P (visits F.model path (CertSplit (column_name F.model j) u first second))) (sym like.1.0)
-        (all_cons P (path, node.Split (column_name F.model j) v) (below (place_among (column_names F.model) (column_name F.model j)))
+        (all_cons P (path, node.Split (column_name F.model j) v) (below (place_in (column_names F.model) (column_name F.model j)))
         (inl (column_there F.model columns_once j lawful.0.0, subst (λ k. IsTrue (is_integer F.model k)) (sym place) lawful.0.1))
         (subst (λ k. All P (below k)) (sym place)
         (All-append P (visits F.model (left_path path j v) first) (visits F.model (right_path path j v) second) (tree-passes (left_path path j v) left first parts.0 lawful.1.0 lists.1.0 judged.0 closed.0 like.1.1.0)
@@ -175,7 +174,7 @@ module _ (F : Formulation) (lawful_model : IsLawfulModel F.model) (used : List �
         below : ℕ → List (Path × CertNode)
         below k = visits F.model (left_path path k v) first ++ visits F.model (right_path path k v) second
 
-        place : place_among (column_names F.model) (column_name F.model j) ≡ j
+        place : place_in (column_names F.model) (column_name F.model j) ≡ j
         place = column_place F.model columns_once j lawful.0.0
 
         parts : All (λ c. Within (node_mults c)) (certificate_nodes first) × All (λ c. Within (node_mults c)) (certificate_nodes second)

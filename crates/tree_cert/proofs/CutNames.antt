@@ -8,7 +8,7 @@ use Rattle.frac128.specs.Rational.{neg_ℚ}
 use Rattle.lp_model.specs.Program.{Program}
 use Rattle.lp_model.specs.Elements.{of_element}
 use Rattle.lp_model.specs.Lawful.{IsLawful, column_names, column_name, row_name}
-use Rattle.lp_model.specs.Edits.{only_row_names}
+use Rattle.lp_model.specs.Edits.{only_row_names, place_in}
 use Rattle.lp_model.specs.Cuts.{is_live}
 use Rattle.lp_model.specs.declared.types.Side.{Side}
 use Rattle.lp_model.specs.declared.types.Side.TheVariants.{Lo, Hi}
@@ -23,12 +23,11 @@ use Rattle.cover_cuts.specs.Answers.{DerivesWithRoom}
 use Rattle.cover_cuts.specs.Cuts.{cover_terms, cover_high, IsCutOf, IsPoolOf}
 use Rattle.cert_text.specs.declared.cert.NamedCut.{NamedCut}
 use Rattle.cert_check.specs.declared.verdict.Judgement.TheVariants.{Passes}
-use Rattle.cert_check.specs.Places.{place_among}
 use Rattle.cert_check.specs.Cuts.{literal_names, AreCutNames, literal_of, derivation_of, row_of_cut, rows_of, IsCutJudged}
 use Rattle.cert_check.proofs.PairLemmas.{place_is}
 use Rattle.cert_check.proofs.PlaceLemmas.{rows_differ}
 use Rattle.tree_cert.specs.Cuts.{named_literal, named_cut, no_derivation, derivation_at, named_cuts}
-use Rattle.tree_cert.specs.Marked.{IsDerivationThere}
+use Rattle.tree_cert.specs.private.Marked.{IsDerivationThere}
 use Rattle.tree_cert.proofs.NameLaws.{element-get, contains_at, all_cons, all_none, all_first, all_rest, once_cons, once_none, column_place, column_there}
 use Rattle.tree_cert.proofs.ChosenLaws.{live_there}
 
@@ -112,7 +111,7 @@ module _ (M : Program) (lawful : IsLawful M) where
   row_within : (k : ℕ) → k < length M.rows → k < length (only_row_names M)
   row_within k there = let l = length-map M.rows (λ r. r.name) in omega (arith, l, there)
 
-  row_back : (k : ℕ) → k < length M.rows → place_among (only_row_names M) (row_name M k) ≡ k
+  row_back : (k : ℕ) → k < length M.rows → place_in (only_row_names M) (row_name M k) ≡ k
   row_back k there = sym (place_is (only_row_names M) (row_name M k) k rows_once (row_within k there) (element-get [] (λ r. r.name) M.rows k))
 
   literal_back : (l : Literal) → l.col.0 < length M.cols → literal_of M (named_literal M l) ≡ l
@@ -141,7 +140,7 @@ module _ (M : Program) (lawful : IsLawful M) where
       let past : suc j ≤ l.col.0 = all_first (λ l. suc j ≤ l.col.0) l ls behind in
       all_cons (λ n. column_name M j ≢ n) (column_name M l.col.0) (literal_names (map (named_literal M) ls))
       (λ same.
-      let place : j ≡ l.col.0 = sym (column_place M columns_once j here) ∙ ap (place_among (column_names M)) same ∙ column_place M columns_once l.col.0 own in
+      let place : j ≡ l.col.0 = sym (column_place M columns_once j here) ∙ ap (place_in (column_names M)) same ∙ column_place M columns_once l.col.0 own in
       omega (arith, place, past))
       (names_apart j here ls (all_rest (λ l. l.col.0 < length M.cols) l ls there) (all_rest (λ l. suc j ≤ l.col.0) l ls behind))
 

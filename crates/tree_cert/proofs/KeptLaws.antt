@@ -22,7 +22,7 @@ use Rattle.cert_text.specs.Whole.{TakesAll, IsNarrowNode, HasNoPoint, HasNoRay, 
 use Rattle.cert_text.proofs.DueLemmas.{takes-more, whole_tree}
 use Rattle.cert_text.proofs.TextLemmas.{taken_more}
 use Rattle.tree_cert.specs.CertText.{HasCutWords, HasNodeWords, HasCertWords, cert_text}
-use Rattle.tree_cert.specs.Printed.{HasFractions, HasClaimRoom, HasPointRoom, HasRayRoom, HasNodeRoom, HasCertRoom}
+use Rattle.tree_cert.specs.private.Printed.{HasFractions, HasClaimRoom, HasPointRoom, HasRayRoom, HasNodeRoom, HasCertRoom}
 use Rattle.tree_cert.proofs.SaidLaws.{GoodNamed, GoodNode, Good, line-good}
 use Rattle.tree_cert.proofs.PrintedLaws.{printed_states}
 

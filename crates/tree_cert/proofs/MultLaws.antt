@@ -6,7 +6,7 @@ use Rattle.std.proofs.lemmas.List.Elements.{All-append}
 use Rattle.std.proofs.lemmas.List.Kept.{AllPairs-cons}
 use Rattle.std.proofs.lemmas.Bool.Decides.{Decides-eqb}
 use Rattle.frac128.specs.Rational.{ℚ}
-use Rattle.lp_model.specs.Edits.{only_row_names}
+use Rattle.lp_model.specs.Edits.{only_row_names, place_in}
 use Rattle.lp_model.specs.Lawful.{row_name}
 use Rattle.lp_model.specs.Cuts.{is_live}
 use Rattle.lp_model.specs.Formulations.{Formulation}
@@ -19,7 +19,6 @@ use Rattle.kept_cuts.specs.Places.{index_among}
 use Rattle.search_parts.specs.Lists.{IsActivityThere, AreMultipliers}
 use Rattle.cert_text.specs.declared.cert.CertMult.{CertMult}
 use Rattle.cert_text.specs.declared.cert.CertMult.TheVariants as mult
-use Rattle.cert_check.specs.Places.{place_among}
 use Rattle.cert_check.specs.Mults.{IsMultiplierThere, Differ, AreMults, mult_of, mults_of}
 use Rattle.cert_check.proofs.PairLemmas.{place_is}
 use Rattle.tree_cert.specs.Cuts.{used_number, cut_named, mult_named, mults_named, IsOfFirst}
@@ -99,7 +98,7 @@ module _ (F : Formulation) (once : AllPairs (λ a b. a ≢ b) (only_row_names F.
   row_is : (k : ℕ) → get_or (only_row_names F.model) k [] ≡ row_name F.model k
   row_is k = element-get [] (λ r. r.name) F.model.rows k
 
-  row_back : (k : ℕ) → k < length F.model.rows → place_among (only_row_names F.model) (row_name F.model k) ≡ k
+  row_back : (k : ℕ) → k < length F.model.rows → place_in (only_row_names F.model) (row_name F.model k) ≡ k
   row_back k there = sym (place_is (only_row_names F.model) (row_name F.model k) k once (row_within k there) (row_is k))
 
   read_cut : (k : ℕ) (v : ℚ) → mults_of F.model (cut_named F.cuts number k v) ≡ renamed_cut F.cuts used k v
@@ -159,7 +158,7 @@ module _ (F : Formulation) (once : AllPairs (λ a b. a ≢ b) (only_row_names F.
   row_apart : (row : RowId) (v : ℚ) → row.0 < length F.model.rows → (y : Var) (w : ℚ) → IsActivityThere F y → Row row ≢ y → All (IsOfFirst n) (mult_named F number y w) → All (Differ (mult.Row (row_name F.model row.0) v)) (mult_named F number y w)
   row_apart row v here (Row other) w there differ within =
       all_cons (Differ (mult.Row (row_name F.model row.0) v)) (mult.Row (row_name F.model other.0) w) []
-      (λ same. differ (ap (λ k. Row (record { 0 = k })) (sym (row_back row.0 here) ∙ ap (place_among (only_row_names F.model)) same ∙ row_back other.0 there)))
+      (λ same. differ (ap (λ k. Row (record { 0 = k })) (sym (row_back row.0 here) ∙ ap (place_in (only_row_names F.model)) same ∙ row_back other.0 there)))
       (all_none (Differ (mult.Row (row_name F.model row.0) v)))
   row_apart row v here (ColVar col) w there differ within = absurd there
   row_apart row v here (Cut cut) w there differ within = by (is_live F.cuts cut.0)

@@ -9,12 +9,11 @@ use Rattle.frac128.proofs.Comparison.{eq_by_cmp-decides}
 use Rattle.lp_model.specs.Program.{Program, Point}
 use Rattle.lp_model.specs.Elements.{of_element}
 use Rattle.lp_model.specs.Lawful.{column_names}
-use Rattle.lp_model.specs.Edits.{Named, number_beside, is_zero}
+use Rattle.lp_model.specs.Edits.{Named, number_beside, is_zero, place_in}
 use Rattle.lp_model.proofs.NameLemmas.{get_or-map}
 use Rattle.lp_model.specs.declared.types.Col.{Col}
 use Rattle.lp_model.specs.declared.types.Var.{Var}
 use Rattle.leaf_dual.specs.Dual.{Multipliers}
-use Rattle.cert_check.specs.Places.{place_among}
 use Rattle.cert_check.specs.Accepted.{AreNames, point_of}
 use Rattle.cert_check.proofs.PairLemmas.{place_is}
 use Rattle.tree_cert.specs.Certificates.{unless_zero, nonzero_numbers}
@@ -79,7 +78,7 @@ module _ (M : Program) (once : AllPairs (λ a b. a ≢ b) (column_names M)) (j :
   column_within : j < length (column_names M)
   column_within = let l = length-map M.cols (λ c. c.name) in omega (arith, l, there)
 
-  pub column_place : place_among (column_names M) (column_name M j) ≡ j
+  pub column_place : place_in (column_names M) (column_name M j) ≡ j
   column_place = sym (place_is (column_names M) (column_name M j) j once column_within (element-get [] (λ c. c.name) M.cols j))
 
   pub column_there : Contains (column_names M) (column_name M j)

@@ -32,7 +32,7 @@ use Rattle.cert_text.specs.Tree.{CertTree, certificate_nodes}
 use Rattle.cert_text.specs.Tree.{Bound as CertBound, Farkas as CertFarkas, Empty as CertEmpty, Split as CertSplit}
 use Rattle.tree_cert.specs.Certificates.{nonzero_numbers, point_numbers, IsReason, IsTreeOf, IsCertificateOf, unbounded_certificate}
 use Rattle.tree_cert.specs.Cuts.{named_literal, named_cut, derivation_at, named_cuts, used_number, mult_named, mults_named}
-use Rattle.tree_cert.specs.Marked.{IsDerivationThere}
+use Rattle.tree_cert.specs.private.Marked.{IsDerivationThere}
 use Rattle.lp_model.specs.Lawful.{row_name, column_name}
 use Rattle.text_lines.specs.Words.{IsWord}
 use Rattle.word_names.specs.WordNames.{HasWordNames}

@@ -36,7 +36,7 @@ use Rattle.cert_text.specs.Text.{MeantCertificate}
 use Rattle.cert_text.specs.Whole.{IsNarrowNode, IsCertificate}
 use Rattle.text_lines.specs.Words.{IsWord, Words}
 use Rattle.tree_cert.specs.CertText.{named_words, all_mult_words, literal_word, literal_words, side_word, cut_words, claim_words, node_words, point_lines, ray_lines, cert_lines, line_text, lines_text, cert_text, HasNameWords, IsMultWord, HasCutWords, HasNodeWords, HasCertWords}
-use Rattle.tree_cert.specs.Printed.{HasFractions, MultFits, HasClaimRoom, HasPointRoom, HasRayRoom, HasNodeRoom, HasCertRoom}
+use Rattle.tree_cert.specs.private.Printed.{HasFractions, MultFits, HasClaimRoom, HasPointRoom, HasRayRoom, HasNodeRoom, HasCertRoom}
 use Rattle.tree_cert.proofs.WordLaws.{plain_word, decimal_word, word-cons, cut_number, signed_word, number_word, line-says, lines-cut}
 use Rattle.tree_cert.proofs.StatedLaws.{SayAll, all_statements, cut_statements, point_statements, ray_statements, cert_statements, states}
 

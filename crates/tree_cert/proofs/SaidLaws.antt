@@ -30,7 +30,7 @@ use Rattle.cert_text.specs.Lines.{begins_blank, ends_blank, with_named, beside, 
 use Rattle.frac_text.specs.Parsing.{spelled_number}
 use Rattle.cert_text.specs.Whole.{IsNarrowNode}
 use Rattle.tree_cert.specs.CertText.{HasNameWords, IsMultWord, HasCutWords, HasNodeWords}
-use Rattle.tree_cert.specs.Printed.{HasFractions, MultFits, HasClaimRoom, HasNodeRoom}
+use Rattle.tree_cert.specs.private.Printed.{HasFractions, MultFits, HasClaimRoom, HasNodeRoom}
 use Rattle.tree_cert.proofs.FitLaws.{FitsOk, number-fits}
 
 pub record GoodNamed (named : Named) : Type 0 where

@@ -21,7 +21,7 @@ use Rattle.cert_text.specs.Tree.{Bound as CertBound, Farkas as CertFarkas, Empty
 use Rattle.cert_check.specs.Walk.{turned_change, in_front, after_leaf}
 use Rattle.cert_check.proofs.WalkLemmas.{after_leaf-low, after_leaf-high}
 use Rattle.tree_cert.specs.Certificates.{IsTreeOf}
-use Rattle.tree_cert.specs.Walked.{path_after, IsNodeOf, AreNodesOf, IsFit, AreFit, HasTurns, AreOfTree}
+use Rattle.tree_cert.specs.private.Walked.{path_after, IsNodeOf, AreNodesOf, IsFit, AreFit, HasTurns, AreOfTree}
 
 -- ---- paths
 

@@ -28,8 +28,8 @@ use Rattle.cert_text.specs.Tree.{CertTree, certificate_nodes}
 use Rattle.cert_text.specs.Tree.{Bound as CertBound, Farkas as CertFarkas, Empty as CertEmpty, Split as CertSplit}
 use Rattle.tree_cert.specs.Certificates.{IsTreeOf, IsProofOf}
 use Rattle.tree_cert.specs.Cuts.{named_cuts, used_number, mult_named, mults_named, node_mults, IsOfFirst, IsOfCut, NameNumber, StandsAmong}
-use Rattle.tree_cert.specs.Marked.{mark_of, marks_of, marks_in, NodeNamesFirst, place_if, places_of, count_with, counts_of, count_all, renumbered, renumbered_node}
-use Rattle.tree_cert.specs.Walked.{AreOfTree}
+use Rattle.tree_cert.specs.private.Marked.{mark_of, marks_of, marks_in, NodeNamesFirst, place_if, places_of, count_with, counts_of, count_all, renumbered, renumbered_node}
+use Rattle.tree_cert.specs.private.Walked.{AreOfTree}
 use Rattle.tree_cert.proofs.NameLaws.{all_cons, all_none, all_first, all_rest}
 use Rattle.tree_cert.proofs.MultLaws.{all_split, other_index, same_index}
 use Rattle.tree_cert.proofs.ChosenLaws.{live_there}

@@ -4,7 +4,7 @@ ghost use Rattle.lp_model.specs.Formulations.{formulation};
 ghost use Rattle.search_parts.specs.Lists.{IsActivityThere, AreMultipliers};
 ghost use Rattle.tree_cert.specs.Certificates.{unless_zero, nonzero_numbers};
 ghost use Rattle.tree_cert.specs.Cuts.{named_literal, named_cut, derivation_at, named_cuts, cut_named, mult_named, mults_named};
-ghost use Rattle.tree_cert.specs.Marked.{IsDerivationThere};
+ghost use Rattle.tree_cert.specs.private.Marked.{IsDerivationThere};
 ghost use Rattle.lp_model.specs.Lawful.{row_name, column_name};
 
 use cert_text::{CertMult, NamedCut};

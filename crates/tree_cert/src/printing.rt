@@ -7,7 +7,7 @@ ghost use Rattle.cert_text.specs.Text.{MeantCertificate};
 ghost use Rattle.cert_text.specs.Whole.{IsCertificate};
 ghost use Rattle.tree_cert.specs.CertText.{named_words, mult_words, all_mult_words, sign_of, literal_word, literal_words, side_word, cut_words, claim_words, node_words, point_lines, ray_lines, line_text, lines_text, cert_text, HasCertWords};
 ghost use Rattle.text_lines.specs.Words.{spaced};
-ghost use Rattle.tree_cert.specs.Printed.{HasFractions, MultFits, HasNodeRoom, HasClaimRoom, HasPointRoom, HasRayRoom, HasCertRoom};
+ghost use Rattle.tree_cert.specs.private.Printed.{HasFractions, MultFits, HasNodeRoom, HasClaimRoom, HasPointRoom, HasRayRoom, HasCertRoom};
 
 use cert_text::{Cert, CertMult, CertNode, Claim, NamedCut};
 use frac128::Frac;

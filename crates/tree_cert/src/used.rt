@@ -1,7 +1,8 @@
 // The cuts that the nodes of a certificate name, and their numbers.
 ghost use Rattle.std.specs.Prelude.{◌≡◌, ◌<◌, ◌≤◌, ◌-◌, ◌++◌, ◌∷◌, [], length, map, set, true, false, replicate, IfOk, All};
 ghost use Rattle.tree_cert.specs.Cuts.{node_mults, IsOfFirst};
-ghost use Rattle.tree_cert.specs.Marked.{mark_of, marks_of, marks_in, NodeNamesFirst, place_if, places_of, count_with, counts_of, renumbered, renumbered_node};
+ghost use Rattle.tree_cert.specs.private.Marked.{mark_of, marks_of, marks_in, NodeNamesFirst, place_if, places_of, count_with, counts_of, renumbered, renumbered_node};
+ghost use Rattle.lp_model.specs.Limits.{pool_limit};
 
 use cert_text::{CertMult, CertNode};
 use lp_model::List;
@@ -92,7 +93,7 @@ fn places_of(alloc: Global, marks: &[bool]) -> Result<Vec<usize>, AllocError>
 
 /// How many there are with a further one, if it is marked.
 fn count_with(count: u32, marked: bool) -> u32
-    requires { count < 10000 }
+    requires { count < pool_limit }
     ensures { result ≡ count_with count marked }
 {
     if marked { count + 1 } else { count }
@@ -100,7 +101,7 @@ fn count_with(count: u32, marked: bool) -> u32
 
 /// How many places before each are marked.
 fn counts_of(alloc: Global, marks: &[bool]) -> Result<Vec<u32>, AllocError>
-    requires { length marks.now ≤ 10000 }
+    requires { length marks.now ≤ pool_limit }
     ensures { IfOk result (λ counts. counts.items ≡ counts_of 0 marks.now) }
 {
     let mut counts = Vec::new(alloc);
@@ -116,7 +117,7 @@ fn counts_of(alloc: Global, marks: &[bool]) -> Result<Vec<u32>, AllocError>
 
 /// The cuts that nodes name, which name each by its place in a pool of this size, from 1.
 pub(crate) fn used_by(alloc: Global, size: usize, nodes: &[CertNode]) -> Result<Used, AllocError>
-    requires few { size ≤ 10000 }
+    requires few { size ≤ pool_limit }
     requires within { All (NodeNamesFirst size) nodes.now }
     ensures places { IfOk result (λ used. used.places.items ≡ places_of 0 (marks_in (replicate size false) nodes.now)) }
     ensures counts { IfOk result (λ used. used.counts.items ≡ counts_of 0 (marks_in (replicate size false) nodes.now)) }

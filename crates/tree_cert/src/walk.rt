@@ -7,7 +7,7 @@ ghost use Rattle.tight_regions.specs.Tight.{IsTrail, path_of_trail};
 ghost use Rattle.tight_regions.specs.SameBounds.{SameBounds};
 ghost use Rattle.leaf_dual.specs.Dual.{HavePlaces};
 ghost use Rattle.cert_check.specs.Walk.{after_leaf};
-ghost use Rattle.tree_cert.specs.Walked.{path_after, IsNodeOf, AreNodesOf, IsFit, AreFit, HasTurns};
+ghost use Rattle.tree_cert.specs.private.Walked.{path_after, IsNodeOf, AreNodesOf, IsFit, AreFit, HasTurns};
 
 use crate::leaf::leaf_node;
 use crate::names::column_name;

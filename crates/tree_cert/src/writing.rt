@@ -10,7 +10,7 @@ ghost use Rattle.cert_check.specs.Verdict.{IsVerdict};
 ghost use Rattle.cert_text.specs.Whole.{IsCertificate};
 ghost use Rattle.cert_text.specs.declared.cert.Claim.TheVariants.{Unbounded};
 ghost use Rattle.cert_check.specs.declared.verdict.Verdict.TheVariants.{Accepted};
-ghost use Rattle.tree_cert.specs.Walked.{AreOfTree};
+ghost use Rattle.tree_cert.specs.private.Walked.{AreOfTree};
 ghost use Rattle.tree_cert.specs.Certificates.{claim_of, point_numbers, IsProofOf, IsCertificateOf, unbounded_certificate};
 
 use crate::names::{named_cuts, nonzero_numbers};

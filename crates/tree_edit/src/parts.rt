@@ -1,5 +1,6 @@
 // A search made of its parts.
 ghost use Rattle.std.specs.Prelude.{◌≡◌, ◌≤◌, All, length, map, IfOk};
+ghost use Rattle.lp_model.specs.Limits.{point_limit};
 ghost use Rattle.lp_model.specs.Program.{least_value};
 ghost use Rattle.lp_model.specs.Formulations.{formulation};
 ghost use Rattle.cover_cuts.specs.Cuts.{IsPoolOf};
@@ -27,7 +28,7 @@ pub(crate) fn with_kept(
     requires pool { IsPoolOf model pool }
     requires tree { IsSoundTree (formulation model pool) tree.root }
     requires points { All (IsKeepable model) kept.points.items }
-    requires few { length kept.points.items ≤ 100 }
+    requires few { length kept.points.items ≤ point_limit }
     requires values { kept.values.items ≡ map (least_value model 1) kept.points.items }
     ensures { IfOk result (λ s. HasParts model pool tree kept.points.items s) }
 {
@@ -56,7 +57,7 @@ pub(crate) fn with_kept(
 }
 
 impl Search {
-    /// A search of a model with its cuts, a tree whose leaves are judged, and those of the points, at most 100, that may be kept:
+    /// A search of a model with its cuts, a tree whose leaves are judged, and those of the points, at most `POINT_LIMIT`, that may be kept:
     /// they are feasible, and no step of their test or their value lacks room.
     pub fn of_parts(
         alloc: Global,
@@ -67,7 +68,7 @@ impl Search {
     ) -> Result<Search, AllocError>
         requires pool { IsPoolOf model pool }
         requires tree { IsSoundTree (formulation model pool) tree.root }
-        requires few { length points.now ≤ 100 }
+        requires few { length points.now ≤ point_limit }
         ensures { IfOk result (λ s. IsOfParts model pool tree points.now s) }
     {
         match keepable_points(alloc, &model, points) {

@@ -3,6 +3,7 @@ ghost use Rattle.std.specs.Prelude.{◌≡◌, ◌⊎◌, [], None, IfOk, IfErr,
 ghost use Rattle.cover_cuts.specs.declared.pool.PoolFault.TheVariants.{Full, Memory};
 ghost use Rattle.sound_searches.specs.Pool.{AddsCut};
 ghost use Rattle.std.specs.Option.{option_copied};
+ghost use Rattle.lp_model.specs.Limits.{node_limit, pool_limit};
 ghost use Rattle.lp_model.specs.Formulations.{without_cuts};
 ghost use Rattle.branch_tree.specs.Leaves.{open_count};
 ghost use Rattle.branch_tree.specs.Changes.{first_tree};
@@ -11,19 +12,17 @@ ghost use Rattle.sound_searches.specs.Sound.{IsSound};
 ghost use Rattle.leaf_judging.specs.Judged.{JudgesAll};
 ghost use Rattle.leaf_judging.specs.Queued.{IsQueueOf};
 ghost use Rattle.leaf_judging.specs.Numbers.{AreNumbersOf};
+ghost use Rattle.sound_searches.specs.Free.{IsNextFree};
 ghost use Rattle.sound_searches.specs.Calls.{IsNext, IsFresh, search_with_limit, IsLeafNumberAnswer};
 
 use branch_tree::Tree;
 use cover_cuts::{CutPool, PoolFault};
 use frac128::Frac;
 use leaf_judging::{LeafIndex, LeafNumber, LeafNumbers, LeafQueue, judge_all};
-use lp_model::{CutId, Derivation, Model, Point};
+use lp_model::{CutId, Derivation, Model, NODE_LIMIT, Point};
 use search_parts::oldest_least;
 use std::alloc::{AllocError, Global};
 use std::mem;
-
-/// How many nodes a new search may have.
-const NODE_LIMIT: u64 = 1_000_000;
 
 /// A search by branching: a model, its cuts, a tree whose leaves are judged, and the feasible points that were kept, oldest
 /// first.
@@ -105,7 +104,7 @@ fn clear(alloc: Global, pool: &mut CutPool, points: &mut Vec<Point>, values: &mu
 impl Search {
     /// A search with one leaf, which is judged, no cut and no point. There will be at most 1,000,000 nodes.
     pub fn new(alloc: Global, model: Model) -> Result<Search, AllocError>
-        ensures { IfOk result (λ s. IsFresh model 1000000 s) }
+        ensures { IfOk result (λ s. IsFresh model node_limit s) }
     {
         match judged_tree(alloc, &model, NODE_LIMIT) {
             Ok((tree, index)) => Ok(Search {
@@ -185,7 +184,7 @@ impl Search {
         ensures place { IfOk result (λ id. id.0 ≡ length self.old.cuts) }
         ensures added { OnOk result (AddsCut self.old derivation self.new) }
         ensures kept { OnErr result (self.new ≡ self.old) }
-        ensures fault { IfErr result (λ f. (f ≡ Memory) ⊎ ((f ≡ Full) × (length self.old.cuts ≡ 10000))) }
+        ensures fault { IfErr result (λ f. (f ≡ Memory) ⊎ ((f ≡ Full) × (length self.old.cuts ≡ pool_limit))) }
     {
         self.pool.add(&self.model, derivation)
     }
@@ -241,6 +240,17 @@ impl Search {
         ensures { IsNext self.now result }
     {
         match self.queue.first() {
+            None => None,
+            Some(first) => Some(first.id),
+        }
+    }
+
+    /// The id of the open leaf with the least number of those that nobody holds, in the same order. `held` has for each worker
+    /// the id of the leaf that it holds, or none.
+    pub fn next_free_leaf(&self, held: &[Option<u64>]) -> Option<u64>
+        ensures { IsNextFree self.now held.now result }
+    {
+        match self.queue.first_free(held) {
             None => None,
             Some(first) => Some(first.id),
         }

@@ -28,11 +28,11 @@ use Rattle.basic_solution.specs.Lists.{IsBasisOf}
 use Rattle.node_solve.specs.Works.{IsRunWide}
 use Rattle.node_solve.specs.Rounds.{Round, MakesRounds, EndsRounds, IsWorked}
 use Rattle.node_solve.specs.Places.{live_cuts, live_places, basis_in_relaxation, basis_in_pool, with_cut_variables}
-use Rattle.node_solve.specs.Laws.{AreAt}
+use Rattle.node_solve.specs.Laws.{AreAt, AreLive}
 use Rattle.node_solve.proofs.AddedLemmas.{more-cuts}
 use Rattle.node_solve.proofs.EndLemmas.{state_of}
 use Rattle.node_solve.proofs.ListLemmas.{basis_there}
-use Rattle.node_solve.proofs.LiveLemmas.{live-few, live-at}
+use Rattle.node_solve.proofs.LiveLemmas.{live-few, live-all, live-at}
 use Rattle.node_solve.proofs.PoolLemmas.{basis-back}
 use Rattle.node_solve.proofs.TakenLemmas.{IsPointIn, done_point}
 use Rattle.node_solve.specs.declared.working.Worked.{Worked}
@@ -102,7 +102,7 @@ selection-of : (M : Program) (cuts pool : List CutRow) → cuts ≡ live_cuts 20
 selection-of M cuts pool same =
     let few = live-few 200 pool in
     let count : length cuts ≡ length (live_cuts 200 pool) = ap length same in
-    record { model = refl; cuts = subst (λ l. AreAmong l pool) (sym same) (among-live 200 pool); few = omega (arith, few, count) }
+    record { model = refl; cuts = subst (λ l. AreAmong l pool) (sym same) (among-live 200 pool); live = subst AreLive (sym same) (live-all 200 pool); few = omega (arith, few, count) }
 
 run-weaker : (F : Formulation) (path : Path) (list first : Basis) (limit : ℕ) (P Q : Held → Type 0) → ((s : Held) → P s → Q s) → (basis : Basis) (step : WideStep) → IsRunWide F path list first limit P basis step → IsRunWide F path list first limit Q basis step
 run-weaker F path list first limit P Q w basis step (inl h) = inl h

@@ -7,13 +7,14 @@ use Rattle.lp_model.specs.declared.answers.StopWhy.TheVariants as why
 use Rattle.model_points.specs.Rays.{IsUnbounded}
 use Rattle.branch_tree.specs.Numbered.{IsNumbered}
 use Rattle.sound_searches.specs.Laws.{HasNoOpenLeaf}
-use Rattle.sound_searches.specs.Pool.{AddsCuts, AddsAny}
+use Rattle.sound_searches.specs.Pool.{AddsCuts}
 use Rattle.sound_searches.specs.Sound.{PlainSearch, IsSound}
 use Rattle.search_counting.specs.Work.{work_of, IsRoomy}
 use Rattle.tree_search.specs.Steps.{HasOpenLeaf, PlacesMany, Goes, StopsAtNext}
 use Rattle.tree_search.specs.Search.{StopsFor, GivesUp}
 use Rattle.tree_search.specs.Stepping.{IsReady, Steps, Comes}
 use Rattle.tree_search.specs.Extends.{Extends}
+use Rattle.tree_search.specs.GivingUp.{LeavesNext}
 use Rattle.tree_search.specs.declared.searching.Ended.TheVariants.{Finished, Unbounded, Stopped}
 use Rattle.tree_search.specs.declared.stepping.Limits.{Limits}
 use Rattle.tree_search.specs.declared.stepping.Stepped.TheVariants as stepped
@@ -45,7 +46,7 @@ module _ (limits : Limits) (nodes : ℕ) (old : PlainSearch) where
     goes sound = record { model = h.model; placed = h.placed; extends = h.extends; work = h.work; room = h.room; sound = sound }
 
     -- without memory in the next step
-    pub gives-up : (T : PlainSearch) → IsSound S → AddsAny S T → GivesUp limits.ways limits.first.now nodes limits.pivots old T
+    pub gives-up : (T : PlainSearch) → IsSound S → LeavesNext limits.ways limits.first.now limits.pivots S T → GivesUp limits.ways limits.first.now nodes limits.pivots old T
     gives-up T sound adds = record { placed = n; within_limit = h.limit; mid = S; goes = goes sound; adds = adds }
 
     below : (n ≡ nodes → ⊥) → n < nodes

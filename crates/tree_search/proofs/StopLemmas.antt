@@ -1,6 +1,7 @@
 -- Why no result is placed, where the cuts that were found are in the pool; and what a step comes to from the search before them.
-use Rattle.std.specs.Prelude.{◌≡◌, List, [], take, Option, Some, None, Result, Ok, Err, IfOk, OnErr}
+use Rattle.std.specs.Prelude.{◌≡◌, List, [], length, Option, Some, None, Result, Ok, Err, IfOk, OnErr}
 use Rattle.std.proofs.Common.{refl, sym, ap, subst, ◌∙◌, inl, inr}
+use Rattle.std.proofs.Math.Seq.{take-length}
 use Rattle.lp_model.specs.Program.{Point}
 use Rattle.lp_model.specs.declared.types.Basis.{Basis}
 use Rattle.lp_model.specs.declared.answers.PivotPlace.{PivotPlace}
@@ -12,15 +13,17 @@ use Rattle.leaf_dual.specs.Dual.{Multipliers}
 use Rattle.branch_tree.specs.declared.node.Job.{Job}
 use Rattle.branch_tree.specs.declared.node.NodeResult.{NodeResult}
 use Rattle.branch_tree.specs.declared.node.NodeResult.TheVariants.{Close, Split as SplitAt, PointAndClose, Keep}
-use Rattle.sound_searches.specs.Pool.{AddsCuts, AddsSome, AddsAny}
+use Rattle.sound_searches.specs.Pool.{AddsCuts, AddsSome}
 use Rattle.sound_searches.specs.Sound.{PlainSearch}
 use Rattle.kept_cuts.specs.Kept.{derivations_of}
 use Rattle.node_solve.specs.Places.{live_cuts, live_places, basis_in_relaxation, basis_in_pool}
 use Rattle.node_solve.specs.declared.working.Worked.{Worked}
 use Rattle.node_solve.specs.declared.working.Worked.TheVariants.{Done, Pivots, Wide}
 use Rattle.tree_search.specs.Steps.{FoundCuts, kept_basis, IsRayWay, IsPlacedBy, KeepsOpen}
+use Rattle.tree_search.specs.GivingUp.{cuts_found, LeavesNext}
 use Rattle.tree_search.specs.Stepping.{WorksBy, Steps, worked_with}
 use Rattle.tree_search.specs.declared.stepping.Outcome.{Outcome}
+use Rattle.tree_search.specs.declared.stepping.Outcome.TheVariants as outcome
 use Rattle.tree_search.specs.declared.stepping.Limits.{Limits}
 use Rattle.tree_search.specs.declared.searching.Ways.{Ways}
 use Rattle.tree_search.specs.declared.searching.Ways.TheVariants.{Own, Rays}
@@ -116,14 +119,28 @@ pub on_err : {A E : Type 0} (result : Result A E) (P : Type 0) → P → OnErr r
 on_err (Ok a) P h = tt
 on_err (Err e) P h = h
 
-pub some-any : (S : PlainSearch) (ds : List Derivation) (T : PlainSearch) → AddsSome S ds T → AddsAny S T
-some-any S ds T (n, adds) = (take n ds, adds)
-
 module _ (limits : Limits) (job : Job) (of : FoundCuts → Worked) (begin : PlainSearch) (vec : FoundCuts) (works : WorksBy limits begin job (of vec)) (S : PlainSearch) (adds : AddsCuts begin vec.items S) (T : PlainSearch) where
   pub step-since : {E : Type 0} (result : Result Stepped E) → IfOk result (λ s. (from : PlainSearch) (found : FoundCuts) → WorksBy limits from job (of found) → AddsCuts from found.items S → Steps limits from T s) → IfOk result (λ s. Steps limits begin T s)
   step-since (Ok s) h = h begin vec works adds
   step-since (Err e) h = tt
 
-pub any-since : {A E : Type 0} (begin : PlainSearch) (ds : List Derivation) (S T : PlainSearch) → AddsCuts begin ds S → (result : Result A E) → OnErr result (T ≡ S) → OnErr result (AddsAny begin T)
-any-since begin ds S T adds (Ok a) h = tt
-any-since begin ds S T adds (Err e) h = (ds, subst (AddsCuts begin ds) (sym h) adds)
+-- all of the cuts are some of them
+all-some : (S : PlainSearch) (ds : List Derivation) (T : PlainSearch) → AddsCuts S ds T → AddsSome S ds T
+all-some S ds T adds = (length ds, subst (λ es. AddsCuts S es T) (sym (take-length ds)) adds)
+
+pub some-since : {A E : Type 0} (begin : PlainSearch) (ds : List Derivation) (S T : PlainSearch) → AddsCuts begin ds S → (result : Result A E) → OnErr result (T ≡ S) → OnErr result (AddsSome begin ds T)
+some-since begin ds S T adds (Ok a) h = tt
+some-since begin ds S T adds (Err e) h = all-some begin ds T (subst (AddsCuts begin ds) (sym h) adds)
+
+-- the cuts of the work that comes to this
+found-with : (came : Outcome) (found : FoundCuts) → cuts_found (worked_with came found) ≡ found.items
+found-with (outcome.Done done) found = refl
+found-with (outcome.Pivots basis) found = refl
+found-with (outcome.Wide at) found = refl
+
+-- without memory after the work, its first cuts may be there
+pub leaves-after : {A E : Type 0} (limits : Limits) (S T : PlainSearch) (job : Job) (came : Outcome) (found : FoundCuts) → WorksBy limits S job (worked_with came found)
+    → (result : Result A E) → OnErr result (AddsSome S found.items T) → OnErr result (LeavesNext limits.ways limits.first.now limits.pivots S T)
+leaves-after limits S T job came found works (Ok a) h = tt
+leaves-after limits S T job came found works (Err e) h =
+    inr (record { job = job; worked = worked_with came found; works = works; adds = subst (λ ds. AddsSome S ds T) (sym (found-with came found)) h })

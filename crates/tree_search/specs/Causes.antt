@@ -93,7 +93,7 @@ HasOwnValues Own pool M = Unit {0}
 HasOwnValues (Rays Z) pool M = HasRoomForValues Z.now pool M
 
 -- as many results as any search of the model can place, room for one split fewer than it has points, more moves than any run
--- of its relaxations with at most 200 cuts of the pool has, and room for each of their steps. The pool is the one at the end.
+-- of its relaxations with at most 200 cuts of the pool that count has, and room for each of their steps. The pool is the one at the end.
 pub record IsEnoughForSearch (S : PlainSearch) (pool : List CutRow) (ways : Ways) (nodes pivots : ℕ) : Type 0 where
   pub results : cap_of S.model ≤ nodes
   pub room : HasRoomFor (whole_points S.model - 1) S.tree

@@ -1,4 +1,4 @@
--- What is enough for a search to go to the end. The pool is that of the search in the end: a relaxation has at most 200 of its cuts.
+-- What is enough for a search to go to the end. The pool is that of the search in the end: a relaxation has at most 200 of its cuts that count.
 use Rattle.std.specs.Prelude.{ℕ, ◌+◌, ◌*◌, ◌-◌, ◌<◌, ◌≤◌, ◌^◌, List}
 use Rattle.lp_model.specs.Program.{Program, Point}
 use Rattle.lp_model.specs.declared.types.CutRow.{CutRow}
@@ -19,7 +19,7 @@ pub record IsRayPhaseEnough (M : Program) (pivots : ℕ) : Type 0 where
   pub moves : (s : Held) → IsStart M s → (n : ℕ) (after : Held) → Moves n s after → n < pivots
   pub steps : (s : Held) → IsStart M s → (n : ℕ) (after : Held) → Moves n s after → (step : WideStep) → ¬ IsWideAt M n pivots after step
 
--- the same of the model's relaxations, each with any at most 200 cuts of the pool and from any list
+-- the same of the model's relaxations, each with any at most 200 cuts of the pool that count and from any list
 pub record AreRelaxationsEnough (M : Program) (pool : List CutRow) (pivots : ℕ) : Type 0 where
   pub moves : HasMoves M pool pivots
   pub steps : HasRoomAt M pool
@@ -30,21 +30,22 @@ pub record IsEnoughBeside (M : Program) (pool : List CutRow) (pivots : ℕ) : Ty
   pub relaxations : AreRelaxationsEnough (without_costs M) pool pivots
   pub values : HasRoomForValues (without_costs M) pool M
 
--- as many results as any search of the model can place, as many nodes, more moves than any run has, and room for each step
+-- as many results as any search of the model can place, as many nodes, three ids beside the first for each split that it can make, more
+-- moves than any run has, and room for each step
 pub record IsEnough (M : Program) (pool : List CutRow) (l : Limits) : Type 0 where
   pub results : cap_of M ≤ l.nodes
   pub tree : cap_of M ≤ l.tree
-  pub few : l.tree ≤ 2 ^ 63
+  pub ids : 1 + 3 * (whole_points M - 1) < 2 ^ 64
   pub ray_phase : HasNoSlackBasis M → IsRayPhaseEnough M l.pivots
   pub own : ((d : Point) → ¬ IsRay M d) → AreRelaxationsEnough M pool l.pivots
   pub beside : (d : Point) → IsRay M d → IsEnoughBeside M pool l.pivots
 
 -- the same of a search that goes on: as many results as any search of its model can place, as many nodes beside those that there are,
--- and for each of them three ids beside those that were given and one for each split
+-- and for each split that it can make three ids beside those that were given and one for each split that there is
 pub record IsKeptEnough (S : PlainSearch) (pool : List CutRow) (l : Limits) : Type 0 where
   pub results : cap_of S.model ≤ l.nodes
   pub nodes : node_count S.tree.root + cap_of S.model ≤ l.tree
-  pub ids : S.tree.last + split_count S.tree.root + 3 * cap_of S.model < 2 ^ 64
+  pub ids : S.tree.last + split_count S.tree.root + 3 * (whole_points S.model - 1) < 2 ^ 64
   pub ray_phase : HasNoSlackBasis S.model → IsRayPhaseEnough S.model l.pivots
   pub own : ((d : Point) → ¬ IsRay S.model d) → AreRelaxationsEnough S.model pool l.pivots
   pub beside : (d : Point) → IsRay S.model d → IsEnoughBeside S.model pool l.pivots

@@ -4,10 +4,12 @@ pub mod Room
 pub mod Causes
 pub mod Bounds
 pub mod Search
+pub mod GivingUp
 pub mod Stepping
 pub mod Laws
 pub mod Beginnings
 pub mod Truth
 pub mod Enough
+pub mod EnoughLaws
 pub mod Solves
 pub mod Warm

@@ -1,6 +1,6 @@
--- What the relaxations of a model with at most 200 cuts of a pool ask for, whatever their order: moves, and room for each step.
+-- What the relaxations of a model with at most 200 cuts of a pool that count ask for, whatever their order: moves, and room for each step.
 --     IsWorkedRegion M path     a region of integer columns that is not seen to be empty
---     IsSelection F pool        a model with at most 200 cuts of the pool, in its order
+--     IsSelection M pool F      the model with at most 200 cuts of the pool that count, in its order
 --     HasMoves M pool limit     no run of its relaxations has as many moves as the limit
 --     HasRoomAt M pool          no step at any basis of its relaxations is without room
 use Rattle.std.specs.Prelude.{◌≡◌, ◌⊎◌, ℕ, ◌+◌, ◌<◌, ◌≤◌, List, [], ◌∷◌, length, get_or, Err}
@@ -26,6 +26,7 @@ use Rattle.basic_solution.specs.Numbers.{IsWidePoint, IsWideCostTerm, IsOut}
 use Rattle.dual_simplex.specs.Answers.{IsWideRatio, May}
 use Rattle.basic_solution.specs.Lists.{IsPointOfHeld, AreListedMultipliers}
 use Rattle.dual_simplex.specs.Walks.{Moves}
+use Rattle.node_solve.specs.Laws.{AreLive}
 use Rattle.node_solve.specs.Runs.{NamesIntegers, IsPlainOf}
 
 pub record IsWorkedRegion (M : Program) (path : Path) : Type 0 where
@@ -42,6 +43,7 @@ AreAmong (c ∷ cuts) (d ∷ pool) = ((c ≡ d) × AreAmong cuts pool) ⊎ AreAm
 pub record IsSelection (M : Program) (pool : List CutRow) (F : Formulation) : Type 0 where
   pub model : F.model ≡ M
   pub cuts : AreAmong F.cuts pool
+  pub live : AreLive F.cuts
   pub few : length F.cuts ≤ 200
 
 -- ---- moves

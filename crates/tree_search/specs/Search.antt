@@ -14,12 +14,13 @@ use Rattle.search_parts.specs.Points.{target, IsIncumbent}
 use Rattle.sound_searches.specs.Calls.{IsOpenLeaf}
 use Rattle.sound_searches.specs.Laws.{HasNoOpenLeaf, IsNoBetter}
 use Rattle.sound_searches.specs.Sound.{PlainSearch}
-use Rattle.sound_searches.specs.Pool.{AddsAny}
 use Rattle.search_counting.specs.Work.{cap_of}
+use Rattle.tree_search.specs.Truth.{IsFoundValue}
 use Rattle.tree_search.specs.Bounds.{IsBoundOf}
 use Rattle.tree_search.specs.Steps.{HasOpenLeaf, Goes, PointAtNext, StopsAtNext}
 use Rattle.tree_search.specs.Causes.{HasCause}
 use Rattle.tree_search.specs.Extends.{Extends}
+use Rattle.tree_search.specs.GivingUp.{LeavesNext}
 use Rattle.tree_search.specs.declared.searching.Ways.{Ways}
 use Rattle.tree_search.specs.declared.searching.Ended.{Ended}
 use Rattle.tree_search.specs.declared.searching.Ended.TheVariants.{Finished, Unbounded, Stopped}
@@ -79,20 +80,16 @@ pub record Finds (ways : Ways) (first : Basis) (nodes pivots : ℕ) (old new : P
   pub extends : Extends old.tree.root new.tree.root
   pub cause : HasCause old new.cuts ways first nodes pivots searched.ended
 
--- without memory: results were placed, no more than the limit allows, and maybe further cuts were added; the search can go on
+-- without memory: results were placed, no more than the limit allows, and then maybe cuts were added that the work on the next leaf found;
+-- the search can go on
 pub record GivesUp (ways : Ways) (first : Basis) (nodes pivots : ℕ) (old new : PlainSearch) : Type 0 where
   pub placed : ℕ
   pub within_limit : placed ≤ nodes
   pub mid : PlainSearch
   pub goes : Goes ways first pivots placed old mid
-  pub adds : AddsAny mid new
+  pub adds : LeavesNext ways first pivots mid new
 
 -- ---- what an end shows
-
--- the best value is that of a feasible point, if there is one
-abbrev pub IsValueFound : Program → Option ℚ → Type 0
-IsValueFound M None = Unit {0}
-IsValueFound M (Some best) = (x : Point) × (IsFeasible M x × (best ≡ value M 1 x))
 
 -- no leaf is open, and the best kept point is an optimum
 pub record FindsOptimum (S : PlainSearch) (v : ℚ) (x : Point) : Type 0 where
@@ -126,7 +123,7 @@ pub record StopsWith (S : PlainSearch) (bound best : Option ℚ) : Type 0 where
   pub cover : (x : Point) → IsFeasible S.model x → IsInOpenLeaf S x ⊎ IsNoBetter S.model (target S.model S.points) x
   pub bound_is : IsBoundOf S bound
   pub best_is : best ≡ best_value S
-  pub found : IsValueFound S.model best
+  pub found : IsFoundValue S.model best
 
 -- ---- answers
 

@@ -1,5 +1,5 @@
 -- What each answer of `solve` and of `warm_solve` says of the model, whatever was done to find it.
-use Rattle.std.specs.Prelude.{◌≡◌, ℕ, ◌-◌, ◌<◌, ◌≤◌, ◌^◌, Option, Some, None}
+use Rattle.std.specs.Prelude.{◌≡◌, ℕ, ◌-◌, ◌<◌, ◌≤◌, Option, Some, None}
 use Rattle.frac128.specs.Rational.{ℚ, ◌≤ℚ◌}
 use Rattle.lp_model.specs.Program.{Program, Point, IsFeasible, IsOptimum, IsEmpty, value, least_value, in_least_form}
 use Rattle.lp_model.specs.declared.answers.StopWhy.{StopWhy}
@@ -7,7 +7,7 @@ use Rattle.lp_model.specs.declared.answers.StopWhy.TheVariants.{Nodes, Tree, Piv
 use Rattle.lp_model.specs.declared.answers.Answer.{Answer}
 use Rattle.lp_model.specs.declared.answers.Answer.TheVariants.{Optimal, Infeasible, Unbounded, Stopped, Memory}
 use Rattle.model_points.specs.Rays.{IsUnbounded}
-use Rattle.branch_tree.specs.Changes.{with_limit}
+use Rattle.branch_tree.specs.Changes.{first_tree, with_limit}
 use Rattle.sound_searches.specs.Sound.{PlainSearch}
 use Rattle.search_counting.specs.Work.{whole_points, cap_of, HasRoomFor}
 use Rattle.tree_search.specs.declared.limits.Limits.{Limits}
@@ -42,19 +42,16 @@ IsTrueBy Small M l (Unbounded n) = IsUnbounded M × IsCount M l n
 IsTrueBy Small M l (Stopped why n bound best) = (IsBound M bound × IsFoundValue M best) × IsEarlyBy Small M l why n
 IsTrueBy Small M l Memory = Unit {0}
 
--- a new tree is too small where it may have fewer nodes than the most results
-abbrev pub IsSmallTree : Program → Limits → Type 0
-IsSmallTree M l = l.tree ≤ 2 ^ 63 → l.tree < cap_of M
-
-abbrev pub IsEarly : Program → Limits → StopWhy → ℕ → Type 0
-IsEarly M l why n = IsEarlyBy (IsSmallTree M l) M l why n
-
+-- a tree is too small where it begins without room for the most splits: a new one, or one that goes on
 abbrev pub IsTrueAnswer : Program → Limits → Answer → Type 0
-IsTrueAnswer M l answer = IsTrueBy (IsSmallTree M l) M l answer
+IsTrueAnswer M l answer = IsTrueBy (¬ HasRoomFor (whole_points M - 1) (first_tree l.tree)) M l answer
 
 -- one that goes on is too small where it has no room for the most splits
+abbrev pub IsTooSmall : PlainSearch → Limits → Type 0
+IsTooSmall S l = ¬ HasRoomFor (whole_points S.model - 1) (with_limit S.tree l.tree)
+
 abbrev pub IsTrueOfKept : PlainSearch → Limits → Answer → Type 0
-IsTrueOfKept S l answer = IsTrueBy (¬ HasRoomFor (whole_points S.model - 1) (with_limit S.tree l.tree)) S.model l answer
+IsTrueOfKept S l answer = IsTrueBy (IsTooSmall S l) S.model l answer
 
 -- the search went to its end, or there was no memory
 abbrev pub HasEnded : Answer → Type 0

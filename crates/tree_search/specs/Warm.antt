@@ -18,7 +18,7 @@ use Rattle.tree_search.specs.Extends.{Extends}
 use Rattle.tree_search.specs.Search.{IsFinishedAnswer}
 use Rattle.tree_search.specs.Steps.{HasOpenLeaf}
 use Rattle.tree_search.specs.declared.searching.Ways.TheVariants.{Own}
-use Rattle.ray_phase.specs.Beginnings.{HasNoSlackBasis, IsRayStop}
+use Rattle.ray_phase.specs.Beginnings.{HasNoSlackBasis, FindsRay, IsRayStop}
 use Rattle.tree_search.specs.Beginnings.{BeginsWith}
 use Rattle.tree_search.specs.Solves.{Course}
 use Rattle.tree_search.specs.declared.limits.Limits.{Limits}
@@ -65,3 +65,5 @@ pub record WarmsFrom (l : Limits) (old : PlainSearch) (answer : Answer) (S : Pla
   pub extends : Extends old.tree.root S.tree.root
   -- after a search that closed every leaf nothing is placed
   pub again : HasNoOpenLeaf old → PlacesNone answer × (S ≡ search_with_limit old l.tree)
+  -- beside a kept point a ray shows that the objective has no end, and nothing is placed
+  pub beside : 0 < length old.points → FindsRay old.model l.pivots → (answer ≡ Unbounded 0) ⊎ (answer ≡ Memory)

@@ -34,6 +34,6 @@ mod searching;
 mod stepping;
 
 pub use answering::{answer_of, finished, stopped};
-pub use laws::{open_law, stop_bound_law};
+pub use laws::{enough_met_law, open_law, stop_bound_law};
 pub use limits::Limits;
 pub use searching::{Ended, Searched, Ways, search_on};

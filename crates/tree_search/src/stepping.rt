@@ -1,5 +1,6 @@
 // One step of a search: the leaf that goes first is worked, and what comes of it is placed.
 ghost use Rattle.std.specs.Prelude.{◌≡◌, ◌<◌, ◌≤◌, ◌+◌, [], length, IfOk, OnOk, OnErr, Some, None, Ok, Err};
+ghost use Rattle.lp_model.specs.Limits.{pool_limit};
 ghost use Rattle.lp_model.specs.Program.{value};
 ghost use Rattle.lp_model.specs.Lawful.{IsLawful};
 ghost use Rattle.branch_tree.specs.Numbered.{IsNumbered};
@@ -9,13 +10,14 @@ ghost use Rattle.sound_searches.specs.Jobs.{IsJobOf};
 ghost use Rattle.search_parts.specs.Lists.{IsBasis};
 ghost use Rattle.sound_searches.specs.Sound.{PlainSearch, IsSound, formulation_of};
 ghost use Rattle.kept_cuts.specs.Kept.{derivations_of};
-ghost use Rattle.sound_searches.specs.Pool.{AddsCut, AddsCuts, AddsSome, AddsAny};
+ghost use Rattle.sound_searches.specs.Pool.{AddsCut, AddsCuts, AddsSome};
 ghost use Rattle.node_solve.specs.Places.{live_cuts, live_places, basis_in_relaxation};
 ghost use Rattle.node_solve.specs.declared.working.Worked.TheVariants.{Done, Pivots, Wide};
 ghost use Rattle.lp_model.specs.declared.answers.StopWhy.TheVariants as why;
 ghost use Rattle.model_points.specs.Answers.{IsValueAnswer};
 ghost use Rattle.tree_search.specs.declared.stepping.Stepped.TheVariants.{Stopped};
 ghost use Rattle.tree_search.specs.Steps.{FoundCuts, kept_basis, IsNextJob, KeepsOpen, IsPlacedBy, IsRayWay};
+ghost use Rattle.tree_search.specs.GivingUp.{LeavesNext};
 ghost use Rattle.tree_search.specs.Stepping.{IsReady, Steps, WorksBy, worked_with};
 
 use crate::searching::Ways;
@@ -118,7 +120,7 @@ fn work_on(alloc: Global, search: &Search, limits: &Limits<'_>, job: &Job) -> Wo
 
 /// Adds a cut that was found. There is room in the pool.
 fn add_cut(search: &mut Search, from: Derivation) -> Result<(), AllocError>
-    requires { length search.old.cuts < 10000 }
+    requires { length search.old.cuts < pool_limit }
     ensures adds { OnOk result (AddsCut search.old from search.new) }
     ensures kept { OnErr result (search.new ≡ search.old) }
 {
@@ -131,7 +133,7 @@ fn add_cut(search: &mut Search, from: Derivation) -> Result<(), AllocError>
 
 /// Adds the cuts that were found, in order. Where there is no memory the first of them stay.
 fn add_cuts(search: &mut Search, found: &[Derivation]) -> Result<(), AllocError>
-    requires { length search.old.cuts + length found.now ≤ 10000 }
+    requires { length search.old.cuts + length found.now ≤ pool_limit }
     ensures adds { OnOk result (AddsCuts search.old found.now search.new) }
     ensures some { OnErr result (AddsSome search.old found.now search.new) }
 {
@@ -509,7 +511,7 @@ fn after_work(
     requires ready { IsReady limits.now search.old }
     requires works { WorksBy limits.now search.old job (worked_with outcome found) }
     ensures steps { IfOk result (λ stepped. Steps limits.now search.old search.new stepped) }
-    ensures some { OnErr result (AddsAny search.old search.new) }
+    ensures some { OnErr result (AddsSome search.old found.items search.new) }
 {
     known(search);
     let added = add_cuts(search, &found);
@@ -534,7 +536,7 @@ pub(crate) fn step(
     requires ready { IsReady limits.now search.old }
     requires next { IsNext search.old (Some id) }
     ensures steps { IfOk result (λ stepped. Steps limits.now search.old search.new stepped) }
-    ensures some { OnErr result (AddsAny search.old search.new) }
+    ensures leaves { OnErr result (LeavesNext limits.now.ways limits.now.first.now limits.now.pivots search.old search.new) }
 {
     let job = match next_job(search, id) {
         Ok(job) => job,

@@ -2,7 +2,7 @@
 use Rattle.std.specs.Prelude.{◌≡◌, ℕ, ◌+◌, ◌-◌, ◌<◌, false, List, length, get_or, take}
 use Rattle.std.proofs.Common.{sym, ap, ◌∙◌, arith}
 use Rattle.std.proofs.lemmas.List.Sums.{sum_by_more}
-use Rattle.lp_model.specs.Lawful.{entry_limit}
+use Rattle.lp_model.specs.Limits.{entry_limit}
 use Rattle.lp_model.specs.declared.types.Col.{Col}
 use Rattle.warm_file.specs.Models.{entries_in, room_behind}
 

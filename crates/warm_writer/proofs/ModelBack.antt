@@ -9,7 +9,8 @@ use Rattle.frac128.proofs.Comparison.{eq_by_cmp-decides}
 use Rattle.frac128.specs.Range.{Fits}
 use Rattle.lp_model.specs.Edits.{is_zero}
 use Rattle.lp_model.specs.Program.{Program}
-use Rattle.lp_model.specs.Lawful.{AreEntries, IsRange, IsLawfulColumn, row_names, row_limit, col_limit, entry_limit}
+use Rattle.lp_model.specs.Lawful.{AreEntries, IsRange, IsLawfulColumn, row_names}
+use Rattle.lp_model.specs.Limits.{row_limit, col_limit, entry_limit}
 use Rattle.lp_model.specs.declared.types.Sense.{Sense}
 use Rattle.lp_model.specs.declared.types.Sense.TheVariants.{Min, Max}
 use Rattle.lp_model.specs.declared.types.RowId.{RowId}
@@ -20,7 +21,8 @@ use Rattle.warm_file.specs.Faults.{or_fault, behind}
 use Rattle.warm_file.specs.Values.{truth_of, at_most_items}
 use Rattle.warm_file.specs.Numbers.{number_of, is_far, bound_of}
 use Rattle.warm_file.specs.Rising.{row_id, is_past, row_entry_of}
-use Rattle.warm_file.specs.Models.{is_lawful_name, is_among, name_of, row_of, entries_in, room_behind, entries_of, is_bounded, costed_of, bounded_of, col_of, sense_of, rows_of, cols_of, lists_of, program_of, model_of}
+use Rattle.lp_model.specs.Names.{is_lawful_name}
+use Rattle.warm_file.specs.Models.{is_among, name_of, row_of, entries_in, room_behind, entries_of, is_bounded, costed_of, bounded_of, col_of, sense_of, rows_of, cols_of, lists_of, program_of, model_of}
 use Rattle.warm_file.proofs.RangeLemmas.{are_sides-decides}
 use Rattle.warm_file.proofs.Saying.{ok-next, ok-then, ok-else}
 use Rattle.warm_writer.specs.Written.{number_json, name_json, side_json, list_json, row_json, row_entry_json, col_json, sense_json, model_json}
@@ -96,7 +98,7 @@ two-items (a ∷ b ∷ c ∷ l) z e = absurd (omega arith)
 pub rows-back : (M : Program) → IsWritableModel M → ModelFits M → rows_of M.obj M.obj2 (list_json row_json M.rows) ≡ Ok M.rows
 unfolding rows_of
 rows-back M w f =
-    let few : length M.rows ≤ 500 = subst (λ wide. length M.rows ≤ row_limit wide) w.plain w.lawful.limits.few_rows in
+    let few : length M.rows ≤ 500 = subst (λ wide. length M.rows ≤ row_limit wide) w.script.plain w.lawful.limits.few_rows in
     list-splits (at_most_items 500 (row_of M.obj M.obj2)) row_json M.rows
     (λ before after r e.
     let names : M.obj ∷ M.obj2 ∷ (map (λ (s : Row). s.name) before ++ r.name ∷ map (λ (s : Row). s.name) after) ≡ row_names M =
@@ -105,26 +107,26 @@ rows-back M w f =
     let fit = all-here M.rows before after r e SidesFit f.rows in
     let below = long M.rows before after r e in
     few-back 500 (row_of M.obj M.obj2) before (row_json r) r (omega arith)
-    (row-back M.obj M.obj2 before r (all-here (row_names M) taken (map (λ (s : Row). s.name) after) r.name names (λ (name : List ℕ). is_lawful_name name ≡ true) w.row_names)
+    (row-back M.obj M.obj2 before r (all-here (row_names M) taken (map (λ (s : Row). s.name) after) r.name names (λ (name : List ℕ). is_lawful_name name ≡ true) w.script.row_names)
     (names-free (row_names M) taken (map (λ (s : Row). s.name) after) r.name names w.lawful.rows_distinct) fit.lo fit.hi
     ((are_sides-decides r.lo r.hi).1 (all-here M.rows before after r e (λ (s : Row). IsRange s.lo s.hi) w.lawful.ranges))))
 
 pub cols-back : (M : Program) → IsWritableModel M → ModelFits M → cols_of (length M.rows) (list_json col_json M.cols) ≡ Ok M.cols
 unfolding cols_of
 cols-back M w f =
-    let few : length M.cols ≤ 1000 = subst (λ wide. length M.cols ≤ col_limit wide) w.plain w.lawful.limits.few_columns in
-    let entries : sum_by (λ (c : Col). length c.rows) M.cols ≤ 50000 = subst (λ wide. sum_by (λ (c : Col). length c.rows) M.cols ≤ entry_limit wide) w.plain w.lawful.limits.few_entries in
+    let few : length M.cols ≤ 1000 = subst (λ wide. length M.cols ≤ col_limit wide) w.script.plain w.lawful.limits.few_columns in
+    let entries : sum_by (λ (c : Col). length c.rows) M.cols ≤ 50000 = subst (λ wide. sum_by (λ (c : Col). length c.rows) M.cols ≤ entry_limit wide) w.script.plain w.lawful.limits.few_entries in
     list-splits (at_most_items 1000 (col_of (length M.rows))) col_json M.cols
     (λ before after c e.
     let names : map (λ (s : Col). s.name) before ++ c.name ∷ map (λ (s : Col). s.name) after ≡ map (λ (s : Col). s.name) M.cols =
     sym (map-append (λ (s : Col). s.name) before (c ∷ after)) ∙ ap (λ l. map (λ (s : Col). s.name) l) e in
-    let near = all-here M.cols before after c e (λ (s : Col). (is_far s.lo ≡ false) × (is_far s.up ≡ false)) w.bounds in
+    let near = all-here M.cols before after c e (λ (s : Col). (is_far s.lo ≡ false) × (is_far s.up ≡ false)) w.script.bounds in
     let below = long M.cols before after c e in
     let first : sum_by (λ (s : Col). length s.rows) (before ++ c ∷ []) ≡ entries_in before + length c.rows = sum_by_push (λ (s : Col). length s.rows) before c in
     let total : sum_by (λ (s : Col). length s.rows) ((before ++ c ∷ []) ++ after) ≡ sum_by (λ (s : Col). length s.rows) (before ++ c ∷ []) + entries_in after = sum_by-append (λ (s : Col). length s.rows) (before ++ c ∷ []) after in
     let whole : sum_by (λ (s : Col). length s.rows) ((before ++ c ∷ []) ++ after) ≡ sum_by (λ (s : Col). length s.rows) M.cols = ap (λ l. sum_by (λ (s : Col). length s.rows) l) (append_assoc before (c ∷ []) after ∙ e) in
     few-back 1000 (col_of (length M.rows)) before (col_json c) c (omega arith)
-    (col-back (length M.rows) before c (all-here M.cols before after c e (λ (s : Col). is_lawful_name s.name ≡ true) w.column_names)
+    (col-back (length M.rows) before c (all-here M.cols before after c e (λ (s : Col). is_lawful_name s.name ≡ true) w.script.column_names)
     (names-free (map (λ (s : Col). s.name) M.cols) (map (λ (s : Col). s.name) before) (map (λ (s : Col). s.name) after) c.name names w.lawful.columns_distinct)
     (all-here M.cols before after c e (IsLawfulColumn (length M.rows)) w.lawful.columns) (all-here M.cols before after c e ColumnNumbersFit f.columns) near.0 near.1 (omega arith)))
 
@@ -136,11 +138,11 @@ model-back M w f =
     let first = get_or M.consts 0 z in
     let second = get_or M.consts 1 z in
     let rest = map (λ (s : Row). s.name) M.rows in
-    let obj_named = all-here (row_names M) [] (M.obj2 ∷ rest) M.obj refl (λ (name : List ℕ). is_lawful_name name ≡ true) w.row_names in
-    let obj2_named = all-here (row_names M) (M.obj ∷ []) rest M.obj2 refl (λ (name : List ℕ). is_lawful_name name ≡ true) w.row_names in
+    let obj_named = all-here (row_names M) [] (M.obj2 ∷ rest) M.obj refl (λ (name : List ℕ). is_lawful_name name ≡ true) w.script.row_names in
+    let obj2_named = all-here (row_names M) (M.obj ∷ []) rest M.obj2 refl (λ (name : List ℕ). is_lawful_name name ≡ true) w.script.row_names in
     let obj2_free = names-free (row_names M) (M.obj ∷ []) rest M.obj2 refl w.lawful.rows_distinct in
     let same : record { sense = M.sense; obj = M.obj; obj2 = M.obj2; consts = first ∷ second ∷ []; rows = M.rows; cols = M.cols; wide = false } ≡ M =
-    ap₂ (λ k b. record { sense = M.sense; obj = M.obj; obj2 = M.obj2; consts = k; rows = M.rows; cols = M.cols; wide = b }) (two-items M.consts z two) (sym w.plain) in
+    ap₂ (λ k b. record { sense = M.sense; obj = M.obj; obj2 = M.obj2; consts = k; rows = M.rows; cols = M.cols; wide = b }) (two-items M.consts z two) (sym w.script.plain) in
     ok-next _ _ M.sense M (member-back (codes "sense") sense_of (model_json M) (sense_json M.sense) M.sense refl (sense-back M.sense))
     (ok-next _ _ M.obj M (member-back (codes "obj") (name_of []) (model_json M) (name_json M.obj) M.obj refl (name-back [] M.obj obj_named refl))
     (ok-next _ _ M.obj2 M (member-back (codes "obj2") (name_of (M.obj ∷ [])) (model_json M) (name_json M.obj2) M.obj2 refl (name-back (M.obj ∷ []) M.obj2 obj2_named obj2_free))

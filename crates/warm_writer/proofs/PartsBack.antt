@@ -15,7 +15,8 @@ use Rattle.warm_file.specs.Faults.{Fault, fault, or_fault, behind, at_key, at_it
 use Rattle.warm_file.specs.Values.{each, list_of}
 use Rattle.warm_file.specs.Numbers.{numbered, number_of, nonzero_of, side_of}
 use Rattle.warm_file.specs.Ranges.{are_sides}
-use Rattle.warm_file.specs.Models.{is_lawful_name, is_among, name_of, row_of}
+use Rattle.lp_model.specs.Names.{is_lawful_name}
+use Rattle.warm_file.specs.Models.{is_among, name_of, row_of}
 use Rattle.warm_writer.specs.Written.{number_json, name_json, side_json, list_json, row_json}
 
 -- ---- numbers and sides

@@ -20,7 +20,8 @@ use Rattle.warm_file.specs.Values.{truth_of, at_most_items}
 use Rattle.warm_file.specs.Numbers.{number_of, is_far, side_of, near_of, bound_of}
 use Rattle.warm_file.specs.Rising.{row_entry_of}
 use Rattle.warm_file.specs.Ranges.{are_sides}
-use Rattle.warm_file.specs.Models.{is_lawful_name, is_among, name_of, row_of, room_behind, entries_of, is_bounded, costed_of, bounded_of, col_of, sense_of, rows_of, cols_of, lists_of, program_of, model_of}
+use Rattle.lp_model.specs.Names.{is_lawful_name}
+use Rattle.warm_file.specs.Models.{is_among, name_of, row_of, room_behind, entries_of, is_bounded, costed_of, bounded_of, col_of, sense_of, rows_of, cols_of, lists_of, program_of, model_of}
 use Rattle.warm_file.specs.Searches.{version_of, cut_of, point_of, node_of, cuts_of, points_of, nodes_of, counts, whole_search, tree_of, search_of}
 use Rattle.warm_writer.specs.Written.{place_json, number_json, name_json, side_json, list_json, row_json, row_entry_json, col_json, sense_json, model_json, cut_json, point_json, node_json, search_json}
 use Rattle.warm_writer.specs.Writable.{HasNarrowSplit, NodeFits, SearchFits, HasSearchShape}

@@ -1,1 +1,2 @@
 pub mod WordNames
+pub mod ScriptModels

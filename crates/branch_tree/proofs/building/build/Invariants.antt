@@ -1,6 +1,6 @@
 use Rattle.std.proofs.Common.{length}
 use Rattle.branch_tree.specs.Preorder.{DataTree}
-use Rattle.branch_tree.specs.Rebuilt.{ArePlanned}
+use Rattle.branch_tree.specs.private.Rebuilt.{ArePlanned}
 use Rattle.branch_tree.proofs.BuildingLemmas.{Builds}
 use Rattle.branch_tree.proofs.building.build.Given as goal
 

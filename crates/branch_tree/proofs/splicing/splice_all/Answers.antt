@@ -1,7 +1,7 @@
 use Rattle.std.proofs.Common.{◌∷◌, refl, sym, ap, ◌∙◌}
 use Rattle.std.proofs.lemmas.List.{nil_from_length}
-use Rattle.branch_tree.specs.Splicing.{spliced}
-use Rattle.branch_tree.specs.Spliced.{due_ids}
+use Rattle.branch_tree.specs.private.Splicing.{spliced}
+use Rattle.branch_tree.specs.private.Spliced.{due_ids}
 use Rattle.branch_tree.proofs.SpliceWalk.{due_ids-push, splicing-begins, splicing-same, splicing-ends}
 use Rattle.branch_tree.proofs.splicing.splice_all.Goals as goal
 

@@ -1,8 +1,8 @@
 use Rattle.std.proofs.Common.{◌≡◌, vec_capacity}
 use Rattle.branch_tree.specs.Plain.{Plain}
 use Rattle.branch_tree.specs.Table.{node_at}
-use Rattle.branch_tree.specs.Splicing.{spliced}
-use Rattle.branch_tree.specs.Spliced.{due_ids, nodes_due, IsReady, IsSplicing}
+use Rattle.branch_tree.specs.private.Splicing.{spliced}
+use Rattle.branch_tree.specs.private.Spliced.{due_ids, nodes_due, IsReady, IsSplicing}
 use Rattle.branch_tree.proofs.splicing.splice_all.Given as goal
 
 abbrev pub invariant-loop-due : goal.invariant-loop-due

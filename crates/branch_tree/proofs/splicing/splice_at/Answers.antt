@@ -1,8 +1,8 @@
 use Rattle.std.proofs.Common.{◌≡◌, ◌+◌, [], ◌∷◌, vec_capacity, is_some, IsSome, sym, ap, subst, ◌∙◌, arith}
 use Rattle.slab.specs.Slab.{slab_len}
 use Rattle.branch_tree.specs.Table.{node_at}
-use Rattle.branch_tree.specs.Due.{node_total, AreCut}
-use Rattle.branch_tree.specs.Spliced.{going}
+use Rattle.branch_tree.specs.private.Due.{node_total, AreCut}
+use Rattle.branch_tree.specs.private.Spliced.{going}
 use Rattle.branch_tree.proofs.SpliceTable.{node-found, stay-found, stay-apart, parent-there, are-cut, spliced-around, spliced-of}
 use Rattle.branch_tree.proofs.splicing.splice_at.Goals as goal
 

@@ -1,5 +1,5 @@
 use Rattle.std.proofs.Common.{◌∷◌, refl, sym, ap, ◌∙◌, arith}
-use Rattle.branch_tree.specs.Spliced.{due_ids}
+use Rattle.branch_tree.specs.private.Spliced.{due_ids}
 use Rattle.branch_tree.proofs.SpliceWalk.{due_ids-push, due_ids-length, step-leaf, step-split, step-room, spot, can-splice, step-splice}
 use Rattle.branch_tree.proofs.splicing.splice_next.Goals as goal
 

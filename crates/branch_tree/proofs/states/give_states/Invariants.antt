@@ -2,7 +2,7 @@ use Rattle.std.proofs.Common.{◌≡◌, ◌-◌, ◌*◌, length, vec_capacity}
 use Rattle.slab.specs.Slab.{slab_len}
 use Rattle.branch_tree.specs.Plain.{Plain}
 use Rattle.branch_tree.specs.Table.{node_at, IsTable, AreLive}
-use Rattle.branch_tree.specs.StateWalk.{TakesStates}
+use Rattle.branch_tree.specs.private.StateWalk.{TakesStates}
 use Rattle.branch_tree.proofs.StateWalkLemmas.{GivesStates}
 use Rattle.branch_tree.proofs.states.give_states.Given as goal
 

@@ -2,7 +2,7 @@ use Rattle.std.proofs.Common.{◌≡◌, ◌+◌, [], reverse, vec_capacity}
 use Rattle.slab.specs.Slab.{slab_len}
 use Rattle.branch_tree.specs.Plain.{Plain}
 use Rattle.branch_tree.specs.Table.{node_at, AreBelow}
-use Rattle.branch_tree.specs.Trimming.{CanTrim}
+use Rattle.branch_tree.specs.private.Trimming.{CanTrim}
 use Rattle.branch_tree.proofs.TrimLemmas.{size_due, TrimSoFar}
 use Rattle.branch_tree.proofs.trimming.collapse_all.Given as goal
 

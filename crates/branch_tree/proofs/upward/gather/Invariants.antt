@@ -2,7 +2,7 @@ use Rattle.std.proofs.Common.{◌-◌, length}
 use Rattle.slab.specs.Slab.{slab_len}
 use Rattle.lp_model.specs.Regions.{Path}
 use Rattle.branch_tree.specs.Table.{node_at}
-use Rattle.branch_tree.specs.Paths.{LeadsUp}
+use Rattle.branch_tree.specs.private.Paths.{LeadsUp}
 use Rattle.branch_tree.proofs.UpwardLemmas.{IsGathered}
 use Rattle.branch_tree.proofs.upward.gather.Given as goal
 

@@ -2,7 +2,7 @@ use Rattle.std.proofs.Common.{◌≡◌, ◌∙◌, ap, reverse}
 use Rattle.std.proofs.lemmas.Result.{IfOk-weaker}
 use Rattle.lp_model.specs.Regions.{Path}
 use Rattle.branch_tree.specs.Table.{node_at}
-use Rattle.branch_tree.specs.Paths.{LeadsUp, changes_of}
+use Rattle.branch_tree.specs.private.Paths.{LeadsUp, changes_of}
 use Rattle.branch_tree.proofs.upward.region_above.Goals as goal
 
 pub returns-in-Ok : goal.returns-in-Ok

@@ -1,5 +1,5 @@
 use Rattle.std.proofs.Common.{◌≡◌, ◌+◌, ◌≤◌, ◌++◌, length, reverse, vec_len, vec_capacity}
-use Rattle.branch_tree.specs.Paths.{changes_of}
+use Rattle.branch_tree.specs.private.Paths.{changes_of}
 use Rattle.branch_tree.proofs.upward.turned.Given as goal
 
 abbrev pub invariant-loop-turn : goal.invariant-loop-turn

@@ -5,7 +5,7 @@ use Rattle.lp_model.specs.Regions.{Path}
 use Rattle.tight_regions.specs.Tight.{path_of_trail}
 use Rattle.branch_tree.specs.Tree.{node_count}
 use Rattle.branch_tree.specs.Table.{node_at}
-use Rattle.branch_tree.specs.Paths.{due_below, VisitsNode}
+use Rattle.branch_tree.specs.private.Paths.{due_below, VisitsNode}
 use Rattle.branch_tree.proofs.TrailPaths.{path-long, narrow-region}
 use Rattle.branch_tree.proofs.VisitingLemmas.{visited-none, visited-all, node-coming, narrow-coming, visit-step, visit-smaller}
 use Rattle.branch_tree.proofs.visiting.visit_below.Goals as goal

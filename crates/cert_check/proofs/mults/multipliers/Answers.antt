@@ -2,7 +2,7 @@ use Rattle.std.proofs.Common.{◌≡◌, ◌∙◌, subst, sym, true, false, IsT
 use Rattle.std.specs.Prelude.{◌≢◌, All, AllPairs, MatchOption}
 use Rattle.leaf_dual.specs.Dual.{Multipliers}
 use Rattle.cert_check.specs.Mults.{IsMultiplierThere, mults_of}
-use Rattle.cert_check.specs.PlaceKeys.{place_keys}
+use Rattle.cert_check.specs.private.PlaceKeys.{place_keys}
 use Rattle.cert_check.proofs.MultLemmas.{keys-once, mults-once}
 use Rattle.cert_check.proofs.mults.multipliers.Goals as goal
 

@@ -1,5 +1,5 @@
 use Rattle.std.proofs.Common.{◌≢◌, AllPairs, take}
-use Rattle.cert_check.specs.PlaceKeys.{place_keys}
+use Rattle.cert_check.specs.private.PlaceKeys.{place_keys}
 use Rattle.cert_check.proofs.SeenLemmas.{Sees}
 use Rattle.cert_check.proofs.mults.stand_once.Given as goal
 

@@ -13,7 +13,7 @@ returns-clause-answered g c =
     let later = g.S.Store.faults c.write_file-told.new.store in
     let reply = c.write_file-told.new.reply.items in
     on_ok c.write_file-told.result
-    (cert-written c.args.env.now c.requires.words files after faults later c.args.name.now reply c.held_certificate.result c.in-Ok.text c.deref.result.now c.in-Ok.is c.held_certificate.ensures c.deref.ensures.value c.write_file-told.ensures.later)
+    (cert-written c.args.env.now c.requires.script files after faults later c.args.name.now reply c.held_certificate.result c.in-Ok.text c.deref.result.now c.in-Ok.is c.held_certificate.ensures c.deref.ensures.value c.write_file-told.ensures.later)
     c.write_file-told.ensures.answered
 
 pub returns-clause-unfinished : goal.returns-clause-unfinished
@@ -23,7 +23,7 @@ returns-clause-unfinished g c =
     let after = g.S.Store.files c.write_file-told.new.store in
     let later = g.S.Store.faults c.write_file-told.new.store in
     on_err c.write_file-told.result
-    (cert-written c.args.env.now c.requires.words files after faults later c.args.name.now memory_text c.held_certificate.result c.in-Ok.text c.deref.result.now c.in-Ok.is c.held_certificate.ensures c.deref.ensures.value c.write_file-told.ensures.later)
+    (cert-written c.args.env.now c.requires.script files after faults later c.args.name.now memory_text c.held_certificate.result c.in-Ok.text c.deref.result.now c.in-Ok.is c.held_certificate.ensures c.deref.ensures.value c.write_file-told.ensures.later)
     c.write_file-told.ensures.unfinished
 
 pub returns-in-Err-clause-answered : goal.returns-in-Err-clause-answered

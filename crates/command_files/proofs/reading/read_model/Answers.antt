@@ -1,13 +1,13 @@
 use Rattle.std.specs.Prelude.{ℕ, List, Err}
 use Rattle.std.proofs.Common.{subst, sym}
 use Rattle.mps_model.specs.Faults.{MeantModel}
-use Rattle.mps_model.proofs.WordNames.{meant-word_names}
+use Rattle.mps_model.proofs.ScriptModels.{meant-script}
 use Rattle.command_files.specs.Reading.{ReadsFile, HasText}
 use Rattle.command_files.proofs.ReadLemmas.{model-missing, text-read, model-faulty}
 use Rattle.command_files.proofs.reading.read_model.Goals as goal
 
-pub returns-in-Ok-model-clause-words : goal.returns-in-Ok-model-clause-words
-returns-in-Ok-model-clause-words g c = meant-word_names c.deref.result.now c.args.intupper c.in-Ok-model.model c.in-Ok-model.ensures
+pub returns-in-Ok-model-clause-script : goal.returns-in-Ok-model-clause-script
+returns-in-Ok-model-clause-script g c = meant-script c.deref.result.now c.args.intupper c.in-Ok-model.model c.bound_is_near.ensures c.in-Ok-model.ensures
 
 pub returns-in-Err-clause-answer : goal.returns-in-Err-clause-answer
 returns-in-Err-clause-answer g c =

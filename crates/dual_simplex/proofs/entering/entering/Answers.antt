@@ -1,5 +1,5 @@
 use Rattle.std.proofs.Common.{◌≡◌, ◌≤◌, ◌+◌, subst, arith, Some, None, Ok}
-use Rattle.dual_simplex.specs.BestPlaces.{IsBestBelow}
+use Rattle.dual_simplex.specs.private.BestPlaces.{IsBestBelow}
 use Rattle.dual_simplex.proofs.EnterLemmas.{none_entered, wide_among, best_of_all}
 use Rattle.dual_simplex.proofs.entering.entering.Goals as goal
 

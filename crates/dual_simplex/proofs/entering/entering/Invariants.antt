@@ -1,5 +1,5 @@
 use Rattle.std.proofs.Common.{Ok}
-use Rattle.dual_simplex.specs.BestPlaces.{IsBestBelow}
+use Rattle.dual_simplex.specs.private.BestPlaces.{IsBestBelow}
 use Rattle.dual_simplex.proofs.entering.entering.Given as goal
 
 abbrev pub invariant-loop-place : goal.invariant-loop-place

@@ -1,6 +1,6 @@
 use Rattle.std.proofs.Common.{refl, sym, subst, true, false}
 use Rattle.basic_solution.specs.Held.{table}
-use Rattle.dual_simplex.specs.BestPlaces.{IsKept}
+use Rattle.dual_simplex.specs.private.BestPlaces.{IsKept}
 use Rattle.dual_simplex.proofs.entering.stays.Goals as goal
 
 pub returns-in-Less : goal.returns-in-Less

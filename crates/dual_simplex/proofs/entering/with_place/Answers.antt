@@ -1,6 +1,6 @@
 use Rattle.std.proofs.Common.{◌∙◌, sym, subst, Ok}
 use Rattle.std.proofs.lemmas.Bool.{false≢true}
-use Rattle.dual_simplex.specs.BestPlaces.{IsBestBelow}
+use Rattle.dual_simplex.specs.private.BestPlaces.{IsBestBelow}
 use Rattle.dual_simplex.proofs.EnterLemmas.{skip_best, first_place}
 use Rattle.dual_simplex.proofs.entering.with_place.Goals as goal
 

@@ -1,11 +1,14 @@
 use Rattle.std.proofs.Common.{◌∙◌, sym}
 use Rattle.reply_texts.specs.Texts.{ok_text}
 use Rattle.command_family.proofs.ReplyLemmas.{on_ok_if, on_err, ok-told}
-use Rattle.edit_commands.proofs.EditLemmas.{edits-words, edit-told, edit-untold}
+use Rattle.edit_commands.proofs.EditLemmas.{edits-script, edits-order, edit-told, edit-untold}
 use Rattle.edit_commands.proofs.editing.change.Goals as goal
 
-pub returns-clause-words : goal.returns-clause-words
-returns-clause-words c = edits-words c.args.env.now c.edit-done.new.self c.args.edit c.edit-done.result c.edit-done.ensures.edits c.requires.named c.requires.words
+pub returns-clause-script : goal.returns-clause-script
+returns-clause-script c = edits-script c.args.env.now c.edit-done.new.self c.args.edit c.edit-done.result c.edit-done.ensures.edits c.requires.named c.requires.near c.requires.script
+
+pub returns-clause-order : goal.returns-clause-order
+returns-clause-order c = edits-order c.args.env.now c.edit-done.new.self c.args.edit c.edit-done.result c.edit-done.ensures.edits c.requires.order
 
 pub returns-clause-answered : goal.returns-clause-answered
 returns-clause-answered c =

@@ -1,7 +1,7 @@
 use Rattle.std.proofs.Common.{◌++◌, map, refl, subst, sym, ap, ◌∙◌, inl}
 use Rattle.std.specs.Prelude.{OnOk, OnErr}
 use Rattle.edit_words.specs.EditWords.{EditAsks, edit_asks}
-use Rattle.edit_words.proofs.NameLemmas.{IsNamedNew, asked-named}
+use Rattle.edit_words.proofs.BoundLemmas.{new-parts}
 use Rattle.reply_texts.specs.Texts.{arguments_text, number_text, memory_text}
 use Rattle.edit_commands.specs.Editing.{RepliesToWords}
 use Rattle.command_family.proofs.ReplyLemmas.{told, on_ok_if, always}
@@ -9,7 +9,10 @@ use Rattle.edit_commands.proofs.EditLemmas.{unread}
 use Rattle.edit_commands.proofs.editing.edit.Goals as goal
 
 pub change-requires-clause-named : goal.change-requires-clause-named
-change-requires-clause-named c = subst IsNamedNew c.in-Edits.ensures.asked (asked-named (map (λ word. word.now) c.args.words.now))
+change-requires-clause-named c = (new-parts (map (λ word. word.now) c.args.words.now) c.in-Edits.edit c.in-Edits.ensures.asked).0
+
+pub change-requires-clause-near : goal.change-requires-clause-near
+change-requires-clause-near c = (new-parts (map (λ word. word.now) c.args.words.now) c.in-Edits.edit c.in-Edits.ensures.asked).1
 
 pub returns-in-Edits-clause-answered : goal.returns-in-Edits-clause-answered
 returns-in-Edits-clause-answered c =

@@ -1,11 +1,14 @@
 use Rattle.std.proofs.Common.{◌∙◌, sym}
 use Rattle.reply_texts.specs.Texts.{ok_text}
 use Rattle.command_family.proofs.ReplyLemmas.{on_ok_if, on_err, ok-told}
-use Rattle.edit_commands.proofs.TrimLemmas.{trims-words, trim-told, trim-untold}
+use Rattle.edit_commands.proofs.TrimLemmas.{trims-script, trims-order, trim-told, trim-untold}
 use Rattle.edit_commands.proofs.trimming.trim.Goals as goal
 
-pub returns-clause-words : goal.returns-clause-words
-returns-clause-words c = trims-words c.args.env.now c.trim-done.new.self c.args.depth c.trim-done.result c.trim-done.ensures.trims c.requires.words
+pub returns-clause-script : goal.returns-clause-script
+returns-clause-script c = trims-script c.args.env.now c.trim-done.new.self c.args.depth c.trim-done.result c.trim-done.ensures.trims c.requires.script
+
+pub returns-clause-order : goal.returns-clause-order
+returns-clause-order c = trims-order c.args.env.now c.trim-done.new.self c.args.depth c.trim-done.result c.trim-done.ensures.trims c.requires.order
 
 pub returns-clause-answered : goal.returns-clause-answered
 returns-clause-answered c =

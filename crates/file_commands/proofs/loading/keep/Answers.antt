@@ -1,11 +1,14 @@
 use Rattle.std.proofs.Common.{◌∙◌, sym}
 use Rattle.reply_texts.specs.Texts.{ok_text}
 use Rattle.command_family.proofs.ReplyLemmas.{on_ok_if, on_err, ok-told}
-use Rattle.file_commands.proofs.LoadLemmas.{load-words, load-told, load-untold}
+use Rattle.file_commands.proofs.LoadLemmas.{load-script, load-order, load-told, load-untold}
 use Rattle.file_commands.proofs.loading.keep.Goals as goal
 
-pub returns-clause-words : goal.returns-clause-words
-returns-clause-words c = load-words c.load-done.result c.args.env.now c.load-done.new.self c.args.model c.load-done.ensures.loaded c.load-done.ensures.kept c.requires.named c.requires.words
+pub returns-clause-script : goal.returns-clause-script
+returns-clause-script c = load-script c.load-done.result c.args.env.now c.load-done.new.self c.args.model c.load-done.ensures.loaded c.load-done.ensures.kept c.requires.model c.requires.script
+
+pub returns-clause-order : goal.returns-clause-order
+returns-clause-order c = load-order c.load-done.result c.args.env.now c.load-done.new.self c.args.model c.load-done.ensures.loaded c.load-done.ensures.kept c.requires.order
 
 pub returns-clause-kept : goal.returns-clause-kept
 returns-clause-kept c =

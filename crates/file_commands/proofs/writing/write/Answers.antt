@@ -12,7 +12,7 @@ returns-in-Some-clause-answered g c =
     let after = g.S.Store.files c.write_model.new.store in
     let later = g.S.Store.faults c.write_model.new.store in
     let reply = c.write_model.new.reply.items in
-    on_ok c.write_model.result (model-written c.args.env.now files after faults later c.args.name.now reply c.in-Some.model.now (sym c.model.ensures ∙ ap option_copied c.in-Some.is) c.write_model.ensures.later) c.write_model.ensures.answered
+    on_ok c.write_model.result (model-written c.args.env.now files after faults later c.args.name.now reply c.in-Some.model.now c.requires.script (sym c.model.ensures ∙ ap option_copied c.in-Some.is) c.write_model.ensures.later) c.write_model.ensures.answered
 
 pub returns-in-Some-clause-unfinished : goal.returns-in-Some-clause-unfinished
 returns-in-Some-clause-unfinished g c =
@@ -20,7 +20,7 @@ returns-in-Some-clause-unfinished g c =
     let faults = g.S.Store.faults c.args.store.now in
     let after = g.S.Store.files c.write_model.new.store in
     let later = g.S.Store.faults c.write_model.new.store in
-    on_err c.write_model.result (model-written c.args.env.now files after faults later c.args.name.now memory_text c.in-Some.model.now (sym c.model.ensures ∙ ap option_copied c.in-Some.is) c.write_model.ensures.later) c.write_model.ensures.unfinished
+    on_err c.write_model.result (model-written c.args.env.now files after faults later c.args.name.now memory_text c.in-Some.model.now c.requires.script (sym c.model.ensures ∙ ap option_copied c.in-Some.is) c.write_model.ensures.later) c.write_model.ensures.unfinished
 
 pub returns-in-None-clause-answered : goal.returns-in-None-clause-answered
 returns-in-None-clause-answered g c =

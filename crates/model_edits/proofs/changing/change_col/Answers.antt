@@ -1,7 +1,7 @@
 use Rattle.std.proofs.Common.{◌∙◌, sym, subst, ◌<◌, length}
 use Rattle.lp_model.specs.Elements.{changed_at}
 use Rattle.lp_model.proofs.ChangedLaws.{changed_at-set}
-use Rattle.model_edits.specs.Changes.{column_changed}
+use Rattle.model_edits.specs.private.Changes.{column_changed}
 use Rattle.model_edits.proofs.changing.change_col.Goals as goal
 
 pub returns : goal.returns

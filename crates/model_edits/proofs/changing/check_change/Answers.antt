@@ -2,7 +2,7 @@ use Rattle.std.proofs.Common.{refl, ◌≡◌, ◌∙◌, sym, ap, arith, length
 use Rattle.std.proofs.lemmas.Bool.{false≢true}
 use Rattle.std.proofs.lemmas.List.{length-map}
 use Rattle.lp_model.specs.declared.types.Col.{Col}
-use Rattle.model_edits.specs.Changes.{IsBoundedAfter, column_edit}
+use Rattle.model_edits.specs.private.Changes.{IsBoundedAfter, column_edit}
 use Rattle.model_edits.specs.declared.faults.EditFault.TheVariants.{IntegerUnbounded}
 use Rattle.model_edits.proofs.EditLaws.{fault_told}
 use Rattle.model_edits.proofs.EditedLaws.{column-fits, column-fault, column-told}

@@ -4,7 +4,7 @@ use Rattle.lp_model.specs.Elements.{changed_at}
 use Rattle.lp_model.specs.Lawful.{IsLawful}
 use Rattle.lp_model.specs.Edits.{with_col}
 use Rattle.lp_model.specs.declared.types.Col.{Col}
-use Rattle.model_edits.specs.Changes.{column_changed}
+use Rattle.model_edits.specs.private.Changes.{column_changed}
 use Rattle.model_edits.proofs.EditedLaws.{column-lawful, edited-column}
 use Rattle.model_edits.proofs.changing.set_col.Goals as goal
 

@@ -7,7 +7,7 @@ use Rattle.model_edits.proofs.names.count_beside.Goals.{then-not-is_zero, else-n
 
 pub loop-item-preserved : goal.loop-item-preserved
 loop-item-preserved g c =
-    let f = g.T.Named.name in
+    let f = g.T.HasName.name in
     let items = c.args.items.now in
     let named = c.args.named.now in
     let i = c.loop-item.item-index in

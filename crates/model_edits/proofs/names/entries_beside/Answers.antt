@@ -13,9 +13,9 @@ loop-place-preserved g c =
       | then-not-is_zero+in-Ok w ↦
           w.entries-is ∙ w.in-Ok.ensures.pushed
           ∙ ap (λ es. es ++ (record { 0 = c.loop-place.place }, number) ∷ []) c.loop-place.invariant
-          ∙ sym (entry_more g.T.Named.name c.args.items.now c.args.named.now c.loop-place.place item c.loop-place-test.true c.index-items-place.is number number_is (sym c.is_zero.ensures.test ∙ w.if-not-is_zero.true))
+          ∙ sym (entry_more g.T.HasName.name c.args.items.now c.args.named.now c.loop-place.place item c.loop-place-test.true c.index-items-place.is number number_is (sym c.is_zero.ensures.test ∙ w.if-not-is_zero.true))
       | else-not-is_zero w ↦
-          w.entries-is ∙ c.loop-place.invariant ∙ sym (zero_more g.T.Named.name c.args.items.now c.args.named.now c.loop-place.place item c.loop-place-test.true c.index-items-place.is number number_is (sym c.is_zero.ensures.test ∙ w.if-not-is_zero.false))
+          w.entries-is ∙ c.loop-place.invariant ∙ sym (zero_more g.T.HasName.name c.args.items.now c.args.named.now c.loop-place.place item c.loop-place-test.true c.index-items-place.is number number_is (sym c.is_zero.ensures.test ∙ w.if-not-is_zero.false))
     ]
 
 pub overflow_cast-place : goal.overflow_cast-place

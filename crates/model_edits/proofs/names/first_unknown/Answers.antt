@@ -7,7 +7,7 @@ use Rattle.model_edits.proofs.names.first_unknown.Goals as goal
 
 pub loop-place-preserved : goal.loop-place-preserved
 loop-place-preserved g c =
-    let known = Contains (map g.T.Named.name c.args.items.now) in
+    let known = Contains (map g.T.HasName.name c.args.items.now) in
     let k = c.loop-place.place in
     let named = c.args.named.now in
     let here : get_or (map (λ e. e.0) named) k [] ≡ c.index-named-place.result.0 = get_or-map (λ e. e.0) named k c.index-named-place.result [] c.loop-place-test.true c.index-named-place.is in
@@ -19,11 +19,11 @@ returns g c =
     let k = c.loop-place.place in
     let named = c.args.named.now in
     let past : length (map (λ e. e.0) named) ≤ k = let e = length-map named (λ e. e.0) in omega arith in
-    subst (All (Contains (map g.T.Named.name c.args.items.now))) (take_all k (map (λ e. e.0) named) past) c.loop-place.invariant
+    subst (All (Contains (map g.T.HasName.name c.args.items.now))) (take_all k (map (λ e. e.0) named) past) c.loop-place.invariant
 
 pub returns-then-not-has_name : goal.returns-then-not-has_name
 returns-then-not-has_name g c =
-    let known = map g.T.Named.name c.args.items.now in
+    let known = map g.T.HasName.name c.args.items.now in
     let k = c.loop-place.place in
     let named = c.args.named.now in
     let here : get_or (map (λ e. e.0) named) k [] ≡ c.index-named-place.result.0 = get_or-map (λ e. e.0) named k c.index-named-place.result [] c.loop-place-test.true c.index-named-place.is in

@@ -1,6 +1,6 @@
 use Rattle.std.proofs.Common.{◌≡◌, true, false, ◌&&◌, ap, sym, ◌∙◌}
 use Rattle.frac128.specs.Rational.{◌+ℚ◌, ◌-ℚ◌, neg_ℚ}
-use Rattle.mps_model.specs.Ranges.{sum_fits}
+use Rattle.frac128.specs.Range.{sum_fits}
 use Rattle.mps_model.proofs.ranges.are_near.Goals as goal
 
 pub returns-in-Some : goal.returns-in-Some

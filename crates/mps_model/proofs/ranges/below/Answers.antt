@@ -1,7 +1,7 @@
 use Rattle.std.proofs.Common.{◌≡◌, true, false, ap, subst, ◌∙◌}
 use Rattle.std.specs.Prelude.{MatchOption}
 use Rattle.frac128.specs.Rational.{ℚ, ◌+ℚ◌, neg_ℚ}
-use Rattle.mps_model.specs.Ranges.{sum_fits}
+use Rattle.frac128.specs.Range.{sum_fits}
 use Rattle.mps_model.proofs.ranges.below.Goals as goal
 
 pub returns : goal.returns

@@ -1,6 +1,6 @@
 use Rattle.std.proofs.Common.{◌≡◌, ◌∙◌, sym, subst, ap}
 use Rattle.std.specs.Prelude.{All, IfOk, Result, Ok, Err}
-use Rattle.branch_tree.specs.Limits.{node_limit}
+use Rattle.lp_model.specs.Limits.{node_limit}
 use Rattle.branch_tree.specs.Numbered.{NumberedTree}
 use Rattle.branch_tree.specs.Preorder.{DataTree, data_nodes, numbered_tree, HasNodeBound}
 use Rattle.search_file.specs.Lawful.{lawful_tree, lawful_behind}

@@ -1,7 +1,7 @@
 use Rattle.std.proofs.Common.{◌≡◌, ◌<◌, IsTrue, ap, ◌∙◌, true, false, get_or, set, length, length-set, arith}
 use Rattle.lp_model.specs.declared.types.Var.TheVariants.{Col}
 use Rattle.lp_model.specs.declared.types.Var.{Var}
-use Rattle.search_parts.specs.Marks.{mark_index}
+use Rattle.search_parts.specs.private.Marks.{mark_index}
 use Rattle.search_parts.proofs.ListLemmas.{once-more}
 use Rattle.search_parts.proofs.MarkLemmas.{marked-before, marked-more}
 use Rattle.search_parts.proofs.lists.is_once.Goals as goal

@@ -1,6 +1,6 @@
 use Rattle.std.proofs.Common.{◌≡◌, ◌≢◌, ℕ, ◌<◌, get_or, length}
 use Rattle.lp_model.specs.declared.types.Var.{Var}
-use Rattle.search_parts.specs.Marks.{mark_index}
+use Rattle.search_parts.specs.private.Marks.{mark_index}
 use Rattle.search_parts.proofs.MarkLemmas.{AreMarked}
 use Rattle.search_parts.proofs.lists.is_once.Given as goal
 

@@ -5,6 +5,6 @@ use Rattle.shell_replies.proofs.placing.placed.Given as goal
 
 abbrev pub invariant-loop-index : goal.invariant-loop-index
 invariant-loop-index g l = record {
-  there : All (Contains (map g.T.Named.name l.items)) (take l.index (names_in l.named));
-  places : l.places ≡ placed_in g.P.Place.at_place (map g.T.Named.name l.items) (take l.index l.named);
+  there : All (Contains (map g.T.HasName.name l.items)) (take l.index (names_in l.named));
+  places : l.places ≡ placed_in g.P.Place.at_place (map g.T.HasName.name l.items) (take l.index l.named);
 }

@@ -12,4 +12,4 @@ returns-clause-true_answer c =
       left = c.left_law.ensures;
       bound = c.stop_bound_law.ensures;
     } in
-    true-answer laws c.too_few_nodes_law.ensures c.args.limits.now S.model S c.solve_again.result.answer c.solve_again.new.search (subst IsLawful c.model.ensures c.cols-lawful.ensures.lawful) c.solve_again.ensures.solves
+    true-answer laws c.too_small_law.ensures c.args.limits.now S.model S c.solve_again.result.answer c.solve_again.new.search (subst IsLawful c.model.ensures c.cols-lawful.ensures.lawful) c.solve_again.ensures.solves

@@ -10,14 +10,19 @@ tell_solved-requires-clause-answer c =
 pub returns-clause-answered : goal.returns-clause-answered
 returns-clause-answered c =
     c.tell_solved.ensures.answered c.args.env.now c.args.nodes c.args.pivots
-    (is-solved c.args.nodes c.args.pivots c.limits_of.result c.limits_of.ensures c.args.env.now c.solve-answer.new.env c.solve-answer.result c.solve-answer.ensures.solves c.solve-answer.ensures.true_answer c.solve-answer.ensures.complete) c.requires.words
+    (is-solved c.args.nodes c.args.pivots c.limits_of.result c.limits_of.ensures c.args.env.now c.solve-answer.new.env c.solve-answer.result c.solve-answer.ensures.solves c.solve-answer.ensures.true_answer c.solve-answer.ensures.complete) c.requires.script
 
 pub returns-clause-unfinished : goal.returns-clause-unfinished
 returns-clause-unfinished c =
     c.tell_solved.ensures.unfinished c.args.env.now c.args.nodes c.args.pivots
-    (is-solved c.args.nodes c.args.pivots c.limits_of.result c.limits_of.ensures c.args.env.now c.solve-answer.new.env c.solve-answer.result c.solve-answer.ensures.solves c.solve-answer.ensures.true_answer c.solve-answer.ensures.complete) c.requires.words
+    (is-solved c.args.nodes c.args.pivots c.limits_of.result c.limits_of.ensures c.args.env.now c.solve-answer.new.env c.solve-answer.result c.solve-answer.ensures.solves c.solve-answer.ensures.true_answer c.solve-answer.ensures.complete) c.requires.script
 
-pub returns-clause-words : goal.returns-clause-words
-returns-clause-words c =
-    c.tell_solved.ensures.words c.args.env.now c.args.nodes c.args.pivots
-    (is-solved c.args.nodes c.args.pivots c.limits_of.result c.limits_of.ensures c.args.env.now c.solve-answer.new.env c.solve-answer.result c.solve-answer.ensures.solves c.solve-answer.ensures.true_answer c.solve-answer.ensures.complete) c.requires.words
+pub returns-clause-script : goal.returns-clause-script
+returns-clause-script c =
+    c.tell_solved.ensures.script c.args.env.now c.args.nodes c.args.pivots
+    (is-solved c.args.nodes c.args.pivots c.limits_of.result c.limits_of.ensures c.args.env.now c.solve-answer.new.env c.solve-answer.result c.solve-answer.ensures.solves c.solve-answer.ensures.true_answer c.solve-answer.ensures.complete) c.requires.script
+
+pub returns-clause-order : goal.returns-clause-order
+returns-clause-order c =
+    c.tell_solved.ensures.order c.args.env.now c.args.nodes c.args.pivots
+    (is-solved c.args.nodes c.args.pivots c.limits_of.result c.limits_of.ensures c.args.env.now c.solve-answer.new.env c.solve-answer.result c.solve-answer.ensures.solves c.solve-answer.ensures.true_answer c.solve-answer.ensures.complete) c.requires.order

@@ -10,14 +10,19 @@ tell_warmed-requires-clause-answer c =
 pub returns-clause-answered : goal.returns-clause-answered
 returns-clause-answered c =
     c.tell_warmed.ensures.answered c.args.env.now c.args.nodes c.args.pivots
-    (is-warmed c.args.nodes c.args.pivots c.limits_of.result c.limits_of.ensures c.args.env.now c.warm_solve-answer.new.env c.warm_solve-answer.result c.warm_solve-answer.ensures.warms c.warm_solve-answer.ensures.true_answer c.warm_solve-answer.ensures.complete) c.requires.words
+    (is-warmed c.args.nodes c.args.pivots c.limits_of.result c.limits_of.ensures c.args.env.now c.warm_solve-answer.new.env c.warm_solve-answer.result c.warm_solve-answer.ensures.warms c.warm_solve-answer.ensures.true_answer c.warm_solve-answer.ensures.complete) c.requires.script
 
 pub returns-clause-unfinished : goal.returns-clause-unfinished
 returns-clause-unfinished c =
     c.tell_warmed.ensures.unfinished c.args.env.now c.args.nodes c.args.pivots
-    (is-warmed c.args.nodes c.args.pivots c.limits_of.result c.limits_of.ensures c.args.env.now c.warm_solve-answer.new.env c.warm_solve-answer.result c.warm_solve-answer.ensures.warms c.warm_solve-answer.ensures.true_answer c.warm_solve-answer.ensures.complete) c.requires.words
+    (is-warmed c.args.nodes c.args.pivots c.limits_of.result c.limits_of.ensures c.args.env.now c.warm_solve-answer.new.env c.warm_solve-answer.result c.warm_solve-answer.ensures.warms c.warm_solve-answer.ensures.true_answer c.warm_solve-answer.ensures.complete) c.requires.script
 
-pub returns-clause-words : goal.returns-clause-words
-returns-clause-words c =
-    c.tell_warmed.ensures.words c.args.env.now c.args.nodes c.args.pivots
-    (is-warmed c.args.nodes c.args.pivots c.limits_of.result c.limits_of.ensures c.args.env.now c.warm_solve-answer.new.env c.warm_solve-answer.result c.warm_solve-answer.ensures.warms c.warm_solve-answer.ensures.true_answer c.warm_solve-answer.ensures.complete) c.requires.words
+pub returns-clause-script : goal.returns-clause-script
+returns-clause-script c =
+    c.tell_warmed.ensures.script c.args.env.now c.args.nodes c.args.pivots
+    (is-warmed c.args.nodes c.args.pivots c.limits_of.result c.limits_of.ensures c.args.env.now c.warm_solve-answer.new.env c.warm_solve-answer.result c.warm_solve-answer.ensures.warms c.warm_solve-answer.ensures.true_answer c.warm_solve-answer.ensures.complete) c.requires.script
+
+pub returns-clause-order : goal.returns-clause-order
+returns-clause-order c =
+    c.tell_warmed.ensures.order c.args.env.now c.args.nodes c.args.pivots
+    (is-warmed c.args.nodes c.args.pivots c.limits_of.result c.limits_of.ensures c.args.env.now c.warm_solve-answer.new.env c.warm_solve-answer.result c.warm_solve-answer.ensures.warms c.warm_solve-answer.ensures.true_answer c.warm_solve-answer.ensures.complete) c.known_ids.ensures c.requires.order

@@ -1,5 +1,5 @@
 use Rattle.std.proofs.Common.{◌≡◌, sym, subst}
-use Rattle.table_entries.specs.RowSteps.{MovedFits, moved_value}
+use Rattle.table_entries.specs.private.RowSteps.{MovedFits, moved_value}
 use Rattle.table_entries.proofs.RowLemmas.{unmoved_factor, unmoved_after}
 use Rattle.table_entries.proofs.rows.moved.Goals as goal
 

@@ -3,7 +3,7 @@ use Rattle.std.proofs.lemmas.List.{take_more, map-append}
 use Rattle.lp_model.specs.declared.types.CutRow.{CutRow}
 use Rattle.lp_model.proofs.ElementLemmas.{of_element-get}
 use Rattle.tree_cert.specs.Cuts.{named_cut, no_derivation, derivation_at, named_cuts}
-use Rattle.tree_cert.specs.Marked.{IsDerivationThere}
+use Rattle.tree_cert.specs.private.Marked.{IsDerivationThere}
 use Rattle.tree_cert.proofs.names.named_cuts.Goals as goal
 
 pub push_named_cut-requires : goal.push_named_cut-requires

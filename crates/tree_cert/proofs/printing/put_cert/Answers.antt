@@ -1,7 +1,7 @@
 use Rattle.std.proofs.Common.{◌≡◌, subst, ap, ◌∙◌, map, ◌++◌}
 use Rattle.std.specs.Prelude.{All, codes}
 use Rattle.tree_cert.specs.CertText.{cut_words, node_words, lines_text}
-use Rattle.tree_cert.specs.Printed.{HasNodeRoom}
+use Rattle.tree_cert.specs.private.Printed.{HasNodeRoom}
 use Rattle.tree_cert.proofs.PutLaws.{text_last, if_ok}
 use Rattle.tree_cert.proofs.printing.put_cert.Goals as goal
 

@@ -3,7 +3,7 @@ use Rattle.std.specs.Prelude.{codes, IfOk}
 use Rattle.frac128.specs.Printing.{printed}
 use Rattle.cert_text.specs.declared.cert.Claim.{Claim}
 use Rattle.tree_cert.specs.CertText.{claim_words, line_text}
-use Rattle.tree_cert.specs.Printed.{HasClaimRoom}
+use Rattle.tree_cert.specs.private.Printed.{HasClaimRoom}
 use Rattle.tree_cert.proofs.PutLaws.{piece_last, behind_last, if_ok}
 use Rattle.tree_cert.proofs.printing.put_claim.Goals as goal
 

@@ -2,7 +2,7 @@ use Rattle.std.proofs.Common.{◌++◌, List, arith, refl}
 use Rattle.cert_text.specs.declared.cert.CertMult.{CertMult}
 use Rattle.tree_cert.specs.CertText.{mult_words, all_mult_words}
 use Rattle.text_lines.specs.Words.{spaced}
-use Rattle.tree_cert.specs.Printed.{MultFits}
+use Rattle.tree_cert.specs.private.Printed.{MultFits}
 use Rattle.tree_cert.proofs.PutLaws.{put_next, put_end, all_next, all_end, mult_step}
 use Rattle.tree_cert.proofs.printing.put_mults.Goals as goal
 

@@ -2,7 +2,7 @@ use Rattle.std.proofs.Common.{◌≡◌, ◌++◌, take, drop}
 use Rattle.std.specs.Prelude.{All}
 use Rattle.tree_cert.specs.CertText.{all_mult_words}
 use Rattle.text_lines.specs.Words.{spaced}
-use Rattle.tree_cert.specs.Printed.{MultFits}
+use Rattle.tree_cert.specs.private.Printed.{MultFits}
 use Rattle.tree_cert.proofs.printing.put_mults.Given as goal
 
 abbrev pub invariant-loop-mult : goal.invariant-loop-mult

@@ -4,7 +4,7 @@ use Rattle.text_lines.specs.Words.{spaced}
 use Rattle.cert_text.specs.declared.cert.CertMult.{CertMult}
 use Rattle.cert_text.specs.declared.cert.CertNode.{CertNode}
 use Rattle.tree_cert.specs.CertText.{all_mult_words, node_words, line_text}
-use Rattle.tree_cert.specs.Printed.{MultFits, HasNodeRoom}
+use Rattle.tree_cert.specs.private.Printed.{MultFits, HasNodeRoom}
 use Rattle.tree_cert.proofs.PutLaws.{piece_last, behind_last, if_ok}
 use Rattle.tree_cert.proofs.printing.put_node.Goals as goal
 

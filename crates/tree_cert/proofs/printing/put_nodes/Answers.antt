@@ -1,7 +1,7 @@
 use Rattle.std.proofs.Common.{◌++◌, ◌∷◌, [], map, List, arith, refl}
 use Rattle.cert_text.specs.declared.cert.CertNode.{CertNode}
 use Rattle.tree_cert.specs.CertText.{node_words, line_text, lines_text}
-use Rattle.tree_cert.specs.Printed.{HasNodeRoom}
+use Rattle.tree_cert.specs.private.Printed.{HasNodeRoom}
 use Rattle.tree_cert.proofs.PutLaws.{put_next, put_end, all_next, all_end, line_step, line_put}
 use Rattle.tree_cert.proofs.printing.put_nodes.Goals as goal
 

@@ -1,7 +1,7 @@
 use Rattle.std.proofs.Common.{◌≡◌, ◌++◌, take, drop, map}
 use Rattle.std.specs.Prelude.{All}
 use Rattle.tree_cert.specs.CertText.{node_words, lines_text}
-use Rattle.tree_cert.specs.Printed.{HasNodeRoom}
+use Rattle.tree_cert.specs.private.Printed.{HasNodeRoom}
 use Rattle.tree_cert.proofs.printing.put_nodes.Given as goal
 
 abbrev pub invariant-loop-node : goal.invariant-loop-node

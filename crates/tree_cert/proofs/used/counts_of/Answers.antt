@@ -1,6 +1,6 @@
 use Rattle.std.proofs.Common.{◌≡◌, ◌+◌, ◌≤◌, ◌∷◌, ◌++◌, [], false, length, get_or, take, sym, ap, ◌∙◌, arith}
 use Rattle.std.proofs.lemmas.List.{take_all, take_more, length-take-le}
-use Rattle.tree_cert.specs.Marked.{count_with, counts_of, count_all}
+use Rattle.tree_cert.specs.private.Marked.{count_with, counts_of, count_all}
 use Rattle.tree_cert.proofs.UsedLaws.{counts-push, count-push, count-few}
 use Rattle.tree_cert.proofs.used.counts_of.Goals as goal
 

@@ -1,5 +1,5 @@
 use Rattle.std.proofs.Common.{◌≡◌, take}
-use Rattle.tree_cert.specs.Marked.{counts_of, count_all}
+use Rattle.tree_cert.specs.private.Marked.{counts_of, count_all}
 use Rattle.tree_cert.proofs.used.counts_of.Given as goal
 
 abbrev pub invariant-loop-place : goal.invariant-loop-place

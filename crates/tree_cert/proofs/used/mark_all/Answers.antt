@@ -2,7 +2,7 @@ use Rattle.std.proofs.Common.{◌≡◌, length, take, sym, ap, subst, ◌∙◌
 use Rattle.std.proofs.lemmas.List.{take_all}
 use Rattle.kept_cuts.proofs.KeptLemmas.{take-next}
 use Rattle.tree_cert.specs.Cuts.{IsOfFirst}
-use Rattle.tree_cert.specs.Marked.{mark_of, marks_of}
+use Rattle.tree_cert.specs.private.Marked.{mark_of, marks_of}
 use Rattle.tree_cert.proofs.UsedLaws.{marks-push, marks-length}
 use Rattle.tree_cert.proofs.used.mark_all.Goals as goal
 

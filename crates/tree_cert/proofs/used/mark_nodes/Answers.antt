@@ -3,7 +3,7 @@ use Rattle.std.specs.Prelude.{All}
 use Rattle.std.proofs.lemmas.List.{take_all}
 use Rattle.kept_cuts.proofs.KeptLemmas.{take-next}
 use Rattle.tree_cert.specs.Cuts.{node_mults, IsOfFirst}
-use Rattle.tree_cert.specs.Marked.{marks_of, marks_in, NodeNamesFirst}
+use Rattle.tree_cert.specs.private.Marked.{marks_of, marks_in, NodeNamesFirst}
 use Rattle.tree_cert.proofs.UsedLaws.{nodes-push, nodes-length}
 use Rattle.tree_cert.proofs.used.mark_nodes.Goals as goal
 

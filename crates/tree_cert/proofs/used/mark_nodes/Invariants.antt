@@ -1,5 +1,5 @@
 use Rattle.std.proofs.Common.{◌≡◌, take}
-use Rattle.tree_cert.specs.Marked.{marks_in}
+use Rattle.tree_cert.specs.private.Marked.{marks_in}
 use Rattle.tree_cert.proofs.used.mark_nodes.Given as goal
 
 abbrev pub invariant-loop-node : goal.invariant-loop-node

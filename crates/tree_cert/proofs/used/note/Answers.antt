@@ -1,6 +1,6 @@
 use Rattle.std.proofs.Common.{◌∙◌, ◌++◌, sym, ap}
 use Rattle.std.proofs.lemmas.List.{append-nil}
-use Rattle.tree_cert.specs.Marked.{place_if}
+use Rattle.tree_cert.specs.private.Marked.{place_if}
 use Rattle.tree_cert.proofs.used.note.Goals as goal
 
 pub returns-then-not-marked : goal.returns-then-not-marked

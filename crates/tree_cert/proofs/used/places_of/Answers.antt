@@ -1,6 +1,6 @@
 use Rattle.std.proofs.Common.{◌≡◌, ◌+◌, ◌++◌, false, length, get_or, take, sym, ap, ◌∙◌, arith}
 use Rattle.std.proofs.lemmas.List.{take_all, take_more, length-take-le}
-use Rattle.tree_cert.specs.Marked.{place_if, places_of}
+use Rattle.tree_cert.specs.private.Marked.{place_if, places_of}
 use Rattle.tree_cert.proofs.UsedLaws.{places-push}
 use Rattle.tree_cert.proofs.used.places_of.Goals as goal
 

@@ -1,5 +1,5 @@
 use Rattle.std.proofs.Common.{◌≡◌, take}
-use Rattle.tree_cert.specs.Marked.{places_of}
+use Rattle.tree_cert.specs.private.Marked.{places_of}
 use Rattle.tree_cert.proofs.used.places_of.Given as goal
 
 abbrev pub invariant-loop-place : goal.invariant-loop-place

@@ -2,7 +2,7 @@ use Rattle.std.proofs.Common.{◌≡◌, suc, ◌+◌, ◌-◌, ◌∷◌, ◌++
 use Rattle.std.specs.Prelude.{IfOk}
 use Rattle.cert_text.specs.declared.cert.CertMult.{CertMult}
 use Rattle.cert_text.specs.declared.cert.CertMult.TheVariants as mult
-use Rattle.tree_cert.specs.Marked.{renumbered}
+use Rattle.tree_cert.specs.private.Marked.{renumbered}
 use Rattle.tree_cert.proofs.used.push_renumbered.Goals as goal
 
 pub returns-in-Ok : goal.returns-in-Ok

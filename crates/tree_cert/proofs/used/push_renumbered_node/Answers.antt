@@ -2,7 +2,7 @@ use Rattle.std.proofs.Common.{◌≡◌, ◌∷◌, ◌++◌, [], map, sym, ap, 
 use Rattle.std.specs.Prelude.{IfOk}
 use Rattle.cert_text.specs.declared.cert.CertNode.{CertNode}
 use Rattle.cert_text.specs.declared.cert.CertNode.TheVariants as node
-use Rattle.tree_cert.specs.Marked.{renumbered, renumbered_node}
+use Rattle.tree_cert.specs.private.Marked.{renumbered, renumbered_node}
 use Rattle.tree_cert.proofs.used.push_renumbered_node.Goals as goal
 
 pub returns-in-Ok-renumbered_mults : goal.returns-in-Ok-renumbered_mults

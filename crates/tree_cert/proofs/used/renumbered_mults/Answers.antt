@@ -1,7 +1,7 @@
 use Rattle.std.proofs.Common.{length, sym, subst, arith}
 use Rattle.cert_check.proofs.PairLemmas.{pushed_more, pushed_all}
 use Rattle.tree_cert.specs.Cuts.{IsOfFirst}
-use Rattle.tree_cert.specs.Marked.{renumbered}
+use Rattle.tree_cert.specs.private.Marked.{renumbered}
 use Rattle.tree_cert.proofs.used.renumbered_mults.Goals as goal
 
 pub push_renumbered-requires : goal.push_renumbered-requires

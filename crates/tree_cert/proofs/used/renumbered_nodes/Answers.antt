@@ -1,6 +1,6 @@
 use Rattle.std.proofs.Common.{length, sym, subst, arith}
 use Rattle.cert_check.proofs.PairLemmas.{pushed_more, pushed_all}
-use Rattle.tree_cert.specs.Marked.{NodeNamesFirst, renumbered_node}
+use Rattle.tree_cert.specs.private.Marked.{NodeNamesFirst, renumbered_node}
 use Rattle.tree_cert.proofs.used.renumbered_nodes.Goals as goal
 
 pub push_renumbered_node-requires : goal.push_renumbered_node-requires

@@ -1,5 +1,5 @@
 use Rattle.std.proofs.Common.{◌≡◌, map, take}
-use Rattle.tree_cert.specs.Marked.{renumbered_node}
+use Rattle.tree_cert.specs.private.Marked.{renumbered_node}
 use Rattle.tree_cert.proofs.used.renumbered_nodes.Given as goal
 
 abbrev pub invariant-loop-node : goal.invariant-loop-node

@@ -1,7 +1,7 @@
 use Rattle.std.proofs.Common.{◌≡◌, ◌∙◌, false, length, sym, ap, subst}
 use Rattle.std.specs.Prelude.{All, replicate}
 use Rattle.std.proofs.lemmas.List.{length-replicate, with_items_is}
-use Rattle.tree_cert.specs.Marked.{marks_in, NodeNamesFirst, places_of, counts_of}
+use Rattle.tree_cert.specs.private.Marked.{marks_in, NodeNamesFirst, places_of, counts_of}
 use Rattle.tree_cert.proofs.used.used_by.Goals as goal
 
 pub mark_nodes-requires : goal.mark_nodes-requires

@@ -1,6 +1,6 @@
 use Rattle.std.proofs.Common.{subst}
 use Rattle.lp_model.specs.Formulations.{Formulation, formulation}
-use Rattle.tree_cert.specs.Walked.{IsFit}
+use Rattle.tree_cert.specs.private.Walked.{IsFit}
 use Rattle.tree_cert.proofs.walk.cert_node.Goals as goal
 
 pub column_name-requires : goal.column_name-requires

@@ -1,7 +1,7 @@
 use Rattle.std.proofs.Common.{suc, ◌++◌, subst, sym, arith}
 use Rattle.lp_model.specs.Formulations.{Formulation, formulation}
 use Rattle.tight_regions.specs.Tight.{path_of_trail}
-use Rattle.tree_cert.specs.Walked.{HasTurns, AreNodesOf}
+use Rattle.tree_cert.specs.private.Walked.{HasTurns, AreNodesOf}
 use Rattle.tree_cert.proofs.TreeWalk.{turns-narrow, turns-after, fit_here, fit_next, made_next, made_all}
 use Rattle.tree_cert.proofs.walk.cert_nodes.Goals as goal
 

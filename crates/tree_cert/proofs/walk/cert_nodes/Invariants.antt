@@ -2,7 +2,7 @@ use Rattle.std.proofs.Common.{suc, List, [], ◌++◌, drop}
 use Rattle.lp_model.specs.Formulations.{formulation}
 use Rattle.cert_text.specs.declared.cert.CertNode.{CertNode}
 use Rattle.tight_regions.specs.Tight.{IsTrail, path_of_trail}
-use Rattle.tree_cert.specs.Walked.{AreNodesOf, AreFit, HasTurns}
+use Rattle.tree_cert.specs.private.Walked.{AreNodesOf, AreFit, HasTurns}
 use Rattle.tree_cert.proofs.walk.cert_nodes.Given as goal
 
 abbrev pub invariant-loop-node : goal.invariant-loop-node

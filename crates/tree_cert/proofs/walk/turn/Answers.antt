@@ -2,7 +2,7 @@ use Rattle.std.proofs.Common.{◌++◌, ◌∷◌, [], ap, sym, subst, ◌∙◌
 use Rattle.cert_check.specs.Walk.{after_leaf}
 use Rattle.cert_check.proofs.WalkLemmas.{after_leaf-low, after_leaf-high}
 use Rattle.tight_regions.specs.Tight.{path_of_trail}
-use Rattle.tree_cert.specs.Walked.{HasTurns}
+use Rattle.tree_cert.specs.private.Walked.{HasTurns}
 use Rattle.tree_cert.proofs.TreeWalk.{turns-front}
 use Rattle.tree_cert.proofs.walk.turn.Goals as goal
 

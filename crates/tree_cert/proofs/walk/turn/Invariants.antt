@@ -1,7 +1,7 @@
 use Rattle.std.proofs.Common.{◌≡◌}
 use Rattle.cert_check.specs.Walk.{after_leaf}
 use Rattle.tight_regions.specs.Tight.{IsTrail, path_of_trail, depth_of}
-use Rattle.tree_cert.specs.Walked.{HasTurns}
+use Rattle.tree_cert.specs.private.Walked.{HasTurns}
 use Rattle.tree_cert.proofs.walk.turn.Given as goal
 
 abbrev pub invariant-loop-trail : goal.invariant-loop-trail

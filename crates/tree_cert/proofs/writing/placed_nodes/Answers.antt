@@ -4,7 +4,7 @@ use Rattle.branch_tree.specs.Plain.{preorder}
 use Rattle.sound_searches.specs.Sound.{formulation_of}
 use Rattle.std.proofs.lemmas.Result.{IfOk-weaker}
 use Rattle.cert_text.specs.declared.cert.CertNode.{CertNode}
-use Rattle.tree_cert.specs.Walked.{AreFit, AreNodesOf, AreOfTree}
+use Rattle.tree_cert.specs.private.Walked.{AreFit, AreNodesOf, AreOfTree}
 use Rattle.tree_cert.proofs.TreeWalk.{sound-fit, of_tree}
 use Rattle.tree_cert.proofs.writing.placed_nodes.Goals as goal
 

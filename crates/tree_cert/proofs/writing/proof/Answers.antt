@@ -3,7 +3,7 @@ use Rattle.std.specs.Prelude.{All, replicate}
 use Rattle.sound_searches.specs.Sound.{formulation_of}
 use Rattle.tree_cert.specs.Certificates.{IsProofOf}
 use Rattle.tree_cert.specs.Cuts.{derivation_at, named_cuts}
-use Rattle.tree_cert.specs.Marked.{marks_in, NodeNamesFirst, places_of, counts_of, renumbered_node, IsDerivationThere}
+use Rattle.tree_cert.specs.private.Marked.{marks_in, NodeNamesFirst, places_of, counts_of, renumbered_node, IsDerivationThere}
 use Rattle.tree_cert.proofs.CutNames.{used_there, used_within}
 use Rattle.tree_cert.proofs.UsedLaws.{names_first, used_live, counts_size, proof_of}
 use Rattle.tree_cert.proofs.writing.proof.Goals as goal

@@ -1,5 +1,5 @@
 use Rattle.std.proofs.Common.{refl, subst, sym}
-use Rattle.tree_search.specs.Search.{IsValueFound}
+use Rattle.tree_search.specs.Truth.{IsFoundValue}
 use Rattle.tree_search.proofs.SearchLemmas.{value-found, cover}
 use Rattle.search_counting.proofs.LeafLemmas.{once}
 use Rattle.tree_search.proofs.answering.stopped.Goals as goal
@@ -13,6 +13,6 @@ returns-in-Ok c =
         cover = cover S c.known.ensures.sound (once S.tree c.known.ensures.numbered);
         bound_is = c.in-Ok.ensures;
         best_is = c.best_value.ensures;
-        found = subst (IsValueFound S.model) (sym c.best_value.ensures) (value-found S c.known.ensures.sound);
+        found = subst (IsFoundValue S.model) (sym c.best_value.ensures) (value-found S c.known.ensures.sound);
       },
     )

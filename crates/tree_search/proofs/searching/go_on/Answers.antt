@@ -33,4 +33,4 @@ returns-clause-comes c =
 
 pub returns-in-Err-clause-unfinished : goal.returns-in-Err-clause-unfinished
 returns-in-Err-clause-unfinished c =
-    gives-up c.args.limits.now c.args.nodes c.args.search.now c.loop-id.placed c.loop-id.search c.loop-id.invariant c.step.new.search c.known.ensures.sound c.in-Err.ensures.some
+    gives-up c.args.limits.now c.args.nodes c.args.search.now c.loop-id.placed c.loop-id.search c.loop-id.invariant c.step.new.search c.known.ensures.sound c.in-Err.ensures.leaves

@@ -1,11 +1,11 @@
 use Rattle.std.specs.Prelude.{length}
 use Rattle.std.proofs.Common.{ap, subst, arith}
-use Rattle.sound_searches.specs.Pool.{AddsCuts}
+use Rattle.sound_searches.specs.Pool.{AddsCuts, AddsSome}
 use Rattle.tree_search.specs.Steps.{work_next}
 use Rattle.tree_search.specs.Stepping.{worked_with}
 use Rattle.tree_search.proofs.FoundLemmas.{found-fits}
 use Rattle.tree_search.proofs.ReadyLemmas.{ready-added}
-use Rattle.tree_search.proofs.StopLemmas.{some-any, step-since, any-since}
+use Rattle.tree_search.proofs.StopLemmas.{step-since, some-since}
 use Rattle.tree_search.proofs.stepping.after_work.Goals as goal
 
 pub add_cuts-added-requires : goal.add_cuts-added-requires
@@ -18,7 +18,7 @@ add_cuts-added-requires c =
 
 pub returns-in-Err-clause-some : goal.returns-in-Err-clause-some
 returns-in-Err-clause-some c =
-    some-any c.args.search.now c.deref.result.now c.add_cuts-added.new.search c.in-Err.ensures.some
+    subst (λ ds. AddsSome c.args.search.now ds c.add_cuts-added.new.search) c.deref.ensures.value c.in-Err.ensures.some
 
 pub place_outcome-requires-clause-ready : goal.place_outcome-requires-clause-ready
 place_outcome-requires-clause-ready c = ready-added c.args.limits.now c.args.search.now c.deref.result.now c.add_cuts-added.new.search c.in-Ok.ensures.adds c.requires.ready
@@ -38,4 +38,6 @@ returns-in-Ok-clause-steps c =
 
 pub returns-in-Ok-clause-some : goal.returns-in-Ok-clause-some
 returns-in-Ok-clause-some c =
-    any-since c.args.search.now c.deref.result.now c.add_cuts-added.new.search c.place_outcome.new.search c.in-Ok.ensures.adds c.place_outcome.result c.place_outcome.ensures.kept
+    let S = c.args.search.now in
+    let T = c.add_cuts-added.new.search in
+    some-since S c.args.found.items T c.place_outcome.new.search (subst (λ ds. AddsCuts S ds T) c.deref.ensures.value c.in-Ok.ensures.adds) c.place_outcome.result c.place_outcome.ensures.kept

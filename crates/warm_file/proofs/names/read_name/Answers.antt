@@ -1,7 +1,8 @@
 use Rattle.std.proofs.Common.{◌≡◌, ◌∙◌, sym, ap, true, false}
 use Rattle.std.specs.Prelude.{◌&&◌, not, List, ℕ}
 use Rattle.warm_file.proofs.Saying.{says-there, says-missing, says-else, ok-there, ok-then, ok-is}
-use Rattle.warm_file.specs.Models.{is_lawful_name, is_among, name_of}
+use Rattle.lp_model.specs.Names.{is_lawful_name}
+use Rattle.warm_file.specs.Models.{is_among, name_of}
 use Rattle.warm_file.proofs.names.read_name.Goals as goal
 
 pub returns-in_default : goal.returns-in_default

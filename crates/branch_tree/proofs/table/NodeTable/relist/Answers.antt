@@ -2,7 +2,7 @@ use Rattle.std.proofs.Common.{◌<◌, ◌≤◌, length, slice_index_or, ap, su
 use Rattle.std.specs.Option.{option_map}
 use Rattle.branch_tree.specs.declared.table.IdKey.{IdKey}
 use Rattle.branch_tree.specs.Table.{node_under, node_at, PutsNode}
-use Rattle.branch_tree.specs.Relisted.{node_left_by}
+use Rattle.branch_tree.specs.private.Relisted.{node_left_by}
 use Rattle.branch_tree.proofs.RelistLemmas.{relisted-more, relisted-all}
 use Rattle.branch_tree.proofs.table.NodeTable.relist.Goals as goal
 

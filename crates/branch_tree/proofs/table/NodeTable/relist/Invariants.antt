@@ -1,6 +1,6 @@
 use Rattle.std.proofs.Common.{◌≡◌}
 use Rattle.slab.specs.Slab.{slab_len}
-use Rattle.branch_tree.specs.Relisted.{node_left_by}
+use Rattle.branch_tree.specs.private.Relisted.{node_left_by}
 use Rattle.branch_tree.specs.Table.{node_at, IsTable, AreLive}
 use Rattle.branch_tree.proofs.RelistLemmas.{AreRelisted}
 use Rattle.branch_tree.proofs.table.NodeTable.relist.Given as goal

@@ -2,7 +2,7 @@ use Rattle.std.proofs.Common.{◌≡◌, ◌<◌, Some, None, length, refl, sym,
 use Rattle.std.specs.Option.{option_copied}
 use Rattle.slab.specs.Slab.{get, Updates}
 use Rattle.branch_tree.specs.declared.stored.TreeNode.{TreeNode}
-use Rattle.branch_tree.specs.Relisted.{node_left_by}
+use Rattle.branch_tree.specs.private.Relisted.{node_left_by}
 use Rattle.branch_tree.proofs.RelistLemmas.{entry-node, entry-live, entry-puts}
 use Rattle.branch_tree.proofs.table.NodeTable.relist_at.Goals as goal
 

@@ -2,7 +2,7 @@ use Rattle.std.proofs.Common.{◌≡◌, Some, IsSome, refl, subst, sym, ap, ◌
 use Rattle.std.specs.Option.{option_map}
 use Rattle.slab.specs.Slab.{get}
 use Rattle.branch_tree.specs.declared.stored.TreeNode.{TreeNode}
-use Rattle.branch_tree.specs.StateWalk.{node_with_state}
+use Rattle.branch_tree.specs.private.StateWalk.{node_with_state}
 use Rattle.branch_tree.specs.Table.{node_under}
 use Rattle.branch_tree.proofs.TableLemmas.{some-with, with-same, change-here, change-others, change-found, change-live}
 use Rattle.branch_tree.proofs.table.NodeTable.set_state.Goals as goal

@@ -2,7 +2,7 @@ use Rattle.std.proofs.Common.{◌≡◌, Some, IsSome, subst, sym, ap, ◌∙◌
 use Rattle.std.specs.Option.{option_map}
 use Rattle.slab.specs.Slab.{get}
 use Rattle.branch_tree.specs.declared.stored.TreeNode.{TreeNode}
-use Rattle.branch_tree.specs.Moved.{with_up}
+use Rattle.branch_tree.specs.private.Moved.{with_up}
 use Rattle.branch_tree.specs.Table.{node_under}
 use Rattle.branch_tree.proofs.TableLemmas.{some-with, with-same, change-here, change-others, change-found}
 use Rattle.branch_tree.proofs.table.NodeTable.set_up.Goals as goal

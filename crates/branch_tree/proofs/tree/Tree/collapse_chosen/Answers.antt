@@ -1,7 +1,7 @@
 use Rattle.std.proofs.Common.{◌≡◌, ◌∙◌, ap}
 use Rattle.branch_tree.specs.Numbered.{NumberedTree}
 use Rattle.branch_tree.specs.Held.{plain_of, numbered_of}
-use Rattle.branch_tree.specs.Trimming.{after_chosen}
+use Rattle.branch_tree.specs.private.Trimming.{after_chosen}
 use Rattle.branch_tree.proofs.HeldLemmas.{held, seen}
 use Rattle.branch_tree.proofs.TrimHeld.{can-trim, means-chosen}
 use Rattle.branch_tree.proofs.tree.Tree.collapse_chosen.Goals as goal

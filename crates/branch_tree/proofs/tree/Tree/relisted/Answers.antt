@@ -1,5 +1,5 @@
 use Rattle.std.proofs.Common.{ap, ◌∙◌}
-use Rattle.branch_tree.specs.Relisted.{tree_left_by}
+use Rattle.branch_tree.specs.private.Relisted.{tree_left_by}
 use Rattle.branch_tree.proofs.HeldLemmas.{held, seen}
 use Rattle.branch_tree.proofs.RelistLemmas.{means-relisted}
 use Rattle.branch_tree.proofs.tree.Tree.relisted.Goals as goal

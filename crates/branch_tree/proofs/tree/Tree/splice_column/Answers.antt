@@ -1,6 +1,6 @@
 use Rattle.std.proofs.Common.{ap, ◌∙◌}
 use Rattle.branch_tree.specs.Held.{plain_of}
-use Rattle.branch_tree.specs.Splicing.{spliced_tree}
+use Rattle.branch_tree.specs.private.Splicing.{spliced_tree}
 use Rattle.branch_tree.proofs.HeldLemmas.{held, seen}
 use Rattle.branch_tree.proofs.SpliceHeld.{is-ready, means-splice}
 use Rattle.branch_tree.proofs.tree.Tree.splice_column.Goals as goal

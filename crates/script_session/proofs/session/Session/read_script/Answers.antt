@@ -1,5 +1,5 @@
 use Rattle.std.proofs.Common.{◌≡◌, ◌≤◌, ℕ, ◌<◌, List, [], ◌++◌, length, take, drop, length-drop, sym, subst, arith}
-use Rattle.std.specs.Prelude.{Ok, Err}
+use Rattle.std.specs.Prelude.{Ok, Err, IfSome}
 use Rattle.std.specs.Io.KnownBytes.{Consumes}
 use Rattle.std.proofs.lemmas.List.{length-take-le}
 use Rattle.script_session.specs.Request.{RequestStep}
@@ -25,28 +25,32 @@ returns-in_default-clause-served g c =
     let left = g.R.Source.left c.args.script.now in
     let left' = g.R.Source.left c.loop-count.script in
     let left'' = g.R.Source.left c.read.new.self in
+    let handed = g.R.Source.handed c.read.new.self in
     let old = moment_of c.args.self.now c.args.machine.now (g.W.Sink.written c.args.out.now) (g.S.Store.files c.args.store.now) (g.S.Store.faults c.args.store.now) in
     let now = moment_of c.loop-count.self c.loop-count.machine (g.W.Sink.written c.loop-count.out) (g.S.Store.files c.loop-count.store) (g.S.Store.faults c.loop-count.store) in
-    read_failed g.M.Machine.ends (RequestStep g.M.Machine.step) left left' left'' old now c.loop-count.taken c.loop-count.pending.items c.loop-count.invariant.reads c.loop-count.invariant.limit c.in_default.ensures.bytes
+    read_failed g.M.Machine.ends (RequestStep g.M.Machine.step) left left' left'' handed old now c.loop-count.taken c.loop-count.pending.items c.loop-count.invariant.reads c.loop-count.invariant.limit c.in_default.ensures.bytes c.in_default.ensures.piece
 
 pub returns-then-count-eq0-clause-served : goal.returns-then-count-eq0-clause-served
 returns-then-count-eq0-clause-served g c =
     let left = g.R.Source.left c.args.script.now in
     let left' = g.R.Source.left c.loop-count.script in
     let left'' = g.R.Source.left c.read.new.self in
+    let handed = g.R.Source.handed c.read.new.self in
     let old = moment_of c.args.self.now c.args.machine.now (g.W.Sink.written c.args.out.now) (g.S.Store.files c.args.store.now) (g.S.Store.faults c.args.store.now) in
     let now = moment_of c.loop-count.self c.loop-count.machine (g.W.Sink.written c.loop-count.out) (g.S.Store.files c.loop-count.store) (g.S.Store.faults c.loop-count.store) in
     let new = moment_of c.serve_rest.new.self c.serve_rest.new.machine (g.W.Sink.written c.serve_rest.new.out) (g.S.Store.files c.serve_rest.new.store) (g.S.Store.faults c.serve_rest.new.store) in
     let kept = c.loop-count.pending.items in
     let nothing : Consumes left' left'' [] = subst (λ (n : ℕ). Consumes left' left'' (take n c.read.new.buf)) c.if-count-eq0.true c.in-Ok.ensures.bytes.0 in
+    let out : IfSome handed (λ last. last ≡ []) = subst (λ (n : ℕ). IfSome handed (λ last. last ≡ take n c.read.new.buf)) c.if-count-eq0.true c.in-Ok.ensures.piece in
     let served = subst (λ (rest : List ℕ). ServesRest g.M.Machine.ends (RequestStep g.M.Machine.step) c.serve_rest.result now rest new) c.deref.ensures.value c.serve_rest.ensures.served in
-    read_at_end g.M.Machine.ends (RequestStep g.M.Machine.step) c.serve_rest.result left left' left'' old now new c.loop-count.taken kept c.loop-count.invariant.reads c.loop-count.invariant.limit nothing (c.in-Ok.ensures.bytes.1 c.if-count-eq0.true (omega arith)) served
+    read_at_end g.M.Machine.ends (RequestStep g.M.Machine.step) c.serve_rest.result left left' left'' handed old now new c.loop-count.taken kept c.loop-count.invariant.reads c.loop-count.invariant.limit nothing (c.in-Ok.ensures.bytes.1 c.if-count-eq0.true (omega arith)) out served
 
 pub returns-in-Err-clause-served : goal.returns-in-Err-clause-served
 returns-in-Err-clause-served g c =
     let left = g.R.Source.left c.args.script.now in
     let left' = g.R.Source.left c.loop-count.script in
     let left'' = g.R.Source.left c.read.new.self in
+    let handed = g.R.Source.handed c.read.new.self in
     let old = moment_of c.args.self.now c.args.machine.now (g.W.Sink.written c.args.out.now) (g.S.Store.files c.args.store.now) (g.S.Store.faults c.args.store.now) in
     let now = moment_of c.loop-count.self c.loop-count.machine (g.W.Sink.written c.loop-count.out) (g.S.Store.files c.loop-count.store) (g.S.Store.faults c.loop-count.store) in
     let new = moment_of c.feed.new.self c.feed.new.machine (g.W.Sink.written c.feed.new.out) (g.S.Store.files c.feed.new.store) (g.S.Store.faults c.feed.new.store) in
@@ -59,13 +63,14 @@ returns-in-Err-clause-served g c =
     let bound = c.in-Ok.ensures.bound in
     let short : length bytes ≤ piece_length = omega arith in
     let long : length piece ≡ c.min.result = length-take-le c.min.result c.read.new.buf (omega arith) in
-    read_stopped g.M.Machine.ends (RequestStep g.M.Machine.step) c.in-Err.stop left left' left'' old now new c.loop-count.taken kept bytes piece others c.feed.new.pending.items c.loop-count.invariant.reads c.loop-count.invariant.limit short c.in-Ok.ensures.bytes.0 parts (omega arith) c.in-Err.ensures.served
+    read_stopped g.M.Machine.ends (RequestStep g.M.Machine.step) c.in-Err.stop left left' left'' handed old now new c.loop-count.taken kept bytes piece others c.feed.new.pending.items c.loop-count.invariant.reads c.loop-count.invariant.limit short c.in-Ok.ensures.bytes.0 c.in-Ok.ensures.piece parts (omega arith) c.in-Err.ensures.served
 
 pub returns-in-Ok-Ended-clause-served : goal.returns-in-Ok-Ended-clause-served
 returns-in-Ok-Ended-clause-served g c =
     let left = g.R.Source.left c.args.script.now in
     let left' = g.R.Source.left c.loop-count.script in
     let left'' = g.R.Source.left c.read.new.self in
+    let handed = g.R.Source.handed c.read.new.self in
     let old = moment_of c.args.self.now c.args.machine.now (g.W.Sink.written c.args.out.now) (g.S.Store.files c.args.store.now) (g.S.Store.faults c.args.store.now) in
     let now = moment_of c.loop-count.self c.loop-count.machine (g.W.Sink.written c.loop-count.out) (g.S.Store.files c.loop-count.store) (g.S.Store.faults c.loop-count.store) in
     let new = moment_of c.feed.new.self c.feed.new.machine (g.W.Sink.written c.feed.new.out) (g.S.Store.files c.feed.new.store) (g.S.Store.faults c.feed.new.store) in
@@ -79,13 +84,14 @@ returns-in-Ok-Ended-clause-served g c =
     let short : length bytes ≤ piece_length = omega arith in
     let long : length piece ≡ c.min.result = length-take-le c.min.result c.read.new.buf (omega arith) in
     let served = subst (λ (flow : Flow). ServesPiece g.M.Machine.ends (RequestStep g.M.Machine.step) (Ok flow) now (kept ++ piece) new c.feed.new.pending.items) c.in-Ok-Ended.field-0-is c.in-Ok-Ended.ensures.served in
-    read_ended g.M.Machine.ends (RequestStep g.M.Machine.step) left left' left'' old now new c.loop-count.taken kept bytes piece others c.feed.new.pending.items c.loop-count.invariant.reads c.loop-count.invariant.limit short c.in-Ok.ensures.bytes.0 parts (omega arith) served
+    read_ended g.M.Machine.ends (RequestStep g.M.Machine.step) left left' left'' handed old now new c.loop-count.taken kept bytes piece others c.feed.new.pending.items c.loop-count.invariant.reads c.loop-count.invariant.limit short c.in-Ok.ensures.bytes.0 c.in-Ok.ensures.piece parts (omega arith) served
 
 pub returns-then-count-room-clause-served : goal.returns-then-count-room-clause-served
 returns-then-count-room-clause-served g c =
     let left = g.R.Source.left c.args.script.now in
     let left' = g.R.Source.left c.loop-count.script in
     let left'' = g.R.Source.left c.read.new.self in
+    let handed = g.R.Source.handed c.read.new.self in
     let old = moment_of c.args.self.now c.args.machine.now (g.W.Sink.written c.args.out.now) (g.S.Store.files c.args.store.now) (g.S.Store.faults c.args.store.now) in
     let now = moment_of c.loop-count.self c.loop-count.machine (g.W.Sink.written c.loop-count.out) (g.S.Store.files c.loop-count.store) (g.S.Store.faults c.loop-count.store) in
     let new = moment_of c.feed.new.self c.feed.new.machine (g.W.Sink.written c.feed.new.out) (g.S.Store.files c.feed.new.store) (g.S.Store.faults c.feed.new.store) in
@@ -100,13 +106,14 @@ returns-then-count-room-clause-served g c =
     let long : length piece ≡ c.min.result = length-take-le c.min.result c.read.new.buf (omega arith) in
     let served = subst (λ (flow : Flow). ServesPiece g.M.Machine.ends (RequestStep g.M.Machine.step) (Ok flow) now (kept ++ piece) new c.feed.new.pending.items) c.in-Ok-Open.field-0-is c.in-Ok-Open.ensures.served in
     let some : 0 < length others = omega (arith, length-drop c.min.result bytes) in
-    read_overlong g.M.Machine.ends (RequestStep g.M.Machine.step) left left' left'' old now new c.loop-count.taken kept bytes piece others c.feed.new.pending.items c.loop-count.invariant.reads c.loop-count.invariant.limit short c.in-Ok.ensures.bytes.0 parts (omega arith) some served
+    read_overlong g.M.Machine.ends (RequestStep g.M.Machine.step) left left' left'' handed old now new c.loop-count.taken kept bytes piece others c.feed.new.pending.items c.loop-count.invariant.reads c.loop-count.invariant.limit short c.in-Ok.ensures.bytes.0 c.in-Ok.ensures.piece parts (omega arith) some served
 
 pub loop-count-preserved : goal.loop-count-preserved
 loop-count-preserved g c =
     let left = g.R.Source.left c.args.script.now in
     let left' = g.R.Source.left c.loop-count.script in
     let left'' = g.R.Source.left c.read.new.self in
+    let handed = g.R.Source.handed c.read.new.self in
     let old = moment_of c.args.self.now c.args.machine.now (g.W.Sink.written c.args.out.now) (g.S.Store.files c.args.store.now) (g.S.Store.faults c.args.store.now) in
     let now = moment_of c.loop-count.self c.loop-count.machine (g.W.Sink.written c.loop-count.out) (g.S.Store.files c.loop-count.store) (g.S.Store.faults c.loop-count.store) in
     let new = moment_of c.feed.new.self c.feed.new.machine (g.W.Sink.written c.feed.new.out) (g.S.Store.files c.feed.new.store) (g.S.Store.faults c.feed.new.store) in

@@ -1,0 +1,4 @@
+pub mod StateOrder
+pub mod PoolOrder
+pub mod CutOrder
+pub mod WorkedOrder

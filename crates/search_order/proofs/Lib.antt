@@ -1,0 +1,2 @@
+pub mod GoneOn
+pub mod SearchOrder

@@ -1,7 +1,0 @@
-use Rattle.std.proofs.Common.{◌≡◌, drop}
-use Rattle.std.specs.List.{list_all}
-use Rattle.warm_file.specs.Models.{is_visible}
-use Rattle.warm_file.proofs.names.are_visible.Given as goal
-
-abbrev pub invariant-loop-byte : goal.invariant-loop-byte
-invariant-loop-byte l = list_all is_visible l.text ≡ list_all is_visible (drop l.byte-index l.text)
