@@ -1,68 +1,15 @@
 // Derivations and cuts as words by the names of a model.
-use anyhow::{Result, bail};
 use frac128::Frac;
-use lp_model::{ColId, CutRow, Derivation, List, Literal, Model, RowId, Side, Var};
-use model_texts::{Words, column_of, push_variable, variable_of};
-use std::alloc::{AllocError, Global};
-
-/// The row that a word names.
-fn row_of(model: &Model, word: &str) -> Result<RowId> {
-    match variable_of(model, word)? {
-        Var::Row(row) => Ok(row),
-        _ => bail!("no row: `{word}`"),
-    }
-}
-
-fn side_of(word: &str) -> Result<Side> {
-    match word {
-        "lo" => Ok(Side::Lo),
-        "hi" => Ok(Side::Hi),
-        _ => bail!("no side: `{word}`"),
-    }
-}
-
-/// The literal `X` or `-X`.
-fn literal_of(model: &Model, word: &str) -> Result<Literal> {
-    let (plus, name) = match word.strip_prefix("-") {
-        Some(name) => (false, name),
-        None => (true, word),
-    };
-    let col = column_of(model, name)?;
-    Ok(Literal { col, plus })
-}
-
-/// The literals that the words left say.
-fn literals_of(alloc: Global, model: &Model, words: &mut Words) -> Result<List<Literal>> {
-    let mut literals = List::new(alloc);
-    for _ in 0..words.most() {
-        if words.is_done() {
-            break;
-        }
-        let word = words.next("literal")?;
-        literals.push(literal_of(model, &word)?)?;
-    }
-    Ok(literals)
-}
-
-/// The derivation that a text says: `A hi X -Y`.
-pub fn derivation_of(alloc: Global, model: &Model, text: &str) -> Result<Derivation> {
-    let mut words = Words::new(alloc, text)?;
-    let row = row_of(model, &words.next("row")?)?;
-    let side = side_of(&words.next("side")?)?;
-    let literals = literals_of(alloc, model, &mut words)?;
-    Ok(Derivation {
-        row,
-        side,
-        literals,
-    })
-}
+use lp_model::{ColId, CutRow, Derivation, Literal, Model, Side, Var};
+use model_texts::push_variable;
+use std::alloc::AllocError;
 
 fn push_literal(text: &mut String, model: &Model, literal: &Literal) -> Result<(), AllocError> {
     text.push_str(if literal.plus { " " } else { " -" })?;
     push_variable(text, model, Var::Col(literal.col))
 }
 
-/// Writes a derivation, as `derivation_of` reads it.
+/// Writes a derivation, as `derivation_of` of `model_calls` reads it.
 fn push_derivation(
     text: &mut String,
     model: &Model,

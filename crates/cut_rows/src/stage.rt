@@ -2,11 +2,11 @@
 use crate::answers::{
     push_added, push_cut_of, push_found, push_kept, push_leaf_number, push_liveness, push_validity,
 };
-use crate::derivations::derivation_of;
 use anyhow::{Result, bail, ensure};
 use cover_cuts::CutPool;
 use frac128::Frac;
 use lp_model::{Derivation, Model, Sense};
+use model_calls::derivation_of;
 use model_texts::{apply_line, empty_model, model_of};
 use row_texts::{Stage, bytes_of};
 use std::alloc::Global;

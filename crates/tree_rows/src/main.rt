@@ -12,7 +12,6 @@ mod begun;
 mod chains;
 mod searches;
 mod solving;
-mod told;
 mod trees;
 
 use crate::begun::Begun;

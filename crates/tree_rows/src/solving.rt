@@ -3,7 +3,6 @@ ghost use Rattle.std.specs.Prelude.{IfOk};
 ghost use Rattle.dual_simplex.specs.SlackBases.{IsLawfulSlackBasis};
 
 use crate::searches::push_some;
-use crate::told::push_region;
 use anyhow::{Result, bail};
 use dual_simplex::slack_basis;
 use frac128::Frac;
@@ -11,6 +10,7 @@ use lp_model::{Answer, Basis, Model, Region, StopWhy};
 use model_calls::{push_step, take_number};
 use model_texts::{Words, push_basis, push_point};
 use ray_phase::root_law;
+use search_calls::push_region;
 use std::alloc::Global;
 use tree_edit::Search;
 use tree_search::{Ways, answer_of, search_on};

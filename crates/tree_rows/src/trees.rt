@@ -1,10 +1,11 @@
 // What a tree by itself answers.
-use crate::{chains, told};
+use crate::chains;
 use anyhow::{Result, ensure};
 use branch_tree::{Tree, TreeFault};
-use lp_model::{Basis, ColId, Model, Mult};
+use lp_model::{ColId, Model};
 use model_calls::{section, take_number};
-use model_texts::{Words, basis_of, column_of, multipliers_of};
+use model_texts::Words;
+use search_calls::{basis_in, multipliers_in, read_tree, take_split};
 use std::alloc::Global;
 
 /// Makes a call of a tree by the words behind it, and writes its answer.
@@ -22,7 +23,7 @@ fn answer(
         "collapse" => collapse(tree, take_number(words)?, got)?,
         "chain" => chains::chain(alloc, tree, words, got)?,
         "again" => chains::again(alloc, tree)?,
-        _ => told::read(tree, model, word, words, got)?,
+        _ => read_tree(tree, model, word, words, got)?,
     }
     Ok(())
 }
@@ -42,27 +43,6 @@ pub fn call(
     let mut words = section(alloc, line, "")?;
     answer(alloc, tree, model, word, &mut words, got)?;
     words.end()
-}
-
-/// The multipliers of a section.
-pub fn multipliers_in(alloc: Global, model: &Model, line: &str, key: &str) -> Result<Mult> {
-    let mut words = section(alloc, line, key)?;
-    multipliers_of(alloc, model, &mut words)
-}
-
-/// The basis of the section `basis`.
-pub fn basis_in(alloc: Global, model: &Model, line: &str) -> Result<Basis> {
-    let mut words = section(alloc, line, "basis")?;
-    basis_of(alloc, model, &mut words)
-}
-
-/// Takes `COLUMN at V`, to the end.
-pub fn take_split(model: &Model, words: &mut Words) -> Result<(ColId, i128)> {
-    let col = column_of(model, &words.next("column")?)?;
-    ensure!(words.takes("at"), "no `at`");
-    let v = words.next("number")?.parse::<i128>()?;
-    words.end()?;
-    Ok((col, v))
 }
 
 /// Takes `ID COLUMN at V` of the front of a line.
