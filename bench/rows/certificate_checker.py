@@ -457,7 +457,7 @@ def rows_of(path):
 
 def main(words):
     if len(words) == 2:
-        print(reply(open(words[0], "rb").read(), open(words[1], encoding="latin-1").read()))
+        print(reply(open(words[0], "rb").read(), open(words[1], encoding="latin-1", newline="").read()))
         return
     number_, differ = 0, 0
     for name, files, said, wanted in rows_of(words[0]):

@@ -20,7 +20,7 @@ use Rattle.row_tableau.specs.Dense.{Dense}
 use Rattle.row_tableau.specs.Variables.{variable_number, numbers}
 use Rattle.row_tableau.specs.Answers.{IsPivotPlace, IsProper, IsBroughtIn}
 use Rattle.basic_solution.specs.Held.{Held, IsSided, relaxation, parts, table, variables}
-use Rattle.basic_solution.specs.Slack.{IsOf, IsRestood}
+use Rattle.basic_solution.specs.Slack.{IsStateOfRelax, IsRestood}
 use Rattle.basic_solution.specs.ListedStates.{IsStandBy, StandBy, StandsAsListed, StandsNowhere, Keeps, IsExchangePlace, IsWideExchange, IsBroughtTo, IsLawfulAnswer, IsStoodAt, LeadsOn}
 
 -- ---- the same relaxation
@@ -75,8 +75,8 @@ module _ (s t : Held) (keeps : Keeps s t) where
     table = held_table sided;
   }
 
-  pub keeps_of : (relax : Relax) → IsOf relax s → IsOf relax t
-  keeps_of relax is = subst (IsOf relax) held_on_is (record {
+  pub keeps_of : (relax : Relax) → IsStateOfRelax relax s → IsStateOfRelax relax t
+  keeps_of relax is = subst (IsStateOfRelax relax) held_on_is (record {
     form = is.form;
     tableau = keeps.basis (relaxation_of relax) is.tableau;
     rows = keeps.rows ∙ is.rows;

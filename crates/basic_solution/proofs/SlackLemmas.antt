@@ -29,7 +29,7 @@ use Rattle.row_tableau.specs.Relaxations.{form_of, plain, of_kind, relaxation_of
 use Rattle.row_tableau.specs.Dense.{IsTableauOf}
 use Rattle.basic_solution.specs.Held.{Held, HasShape, IsSided, IsLawfulHeld, relaxation, parts, state, table, variables, own_cost}
 use Rattle.row_tableau.specs.Tilts.{tilt_of, order_of, tilted_cost, parts_of, KeepsFree}
-use Rattle.basic_solution.specs.Slack.{IsOf, IsSlackState, CanStand, IsPlaced, IsMisplaced, IsRestood}
+use Rattle.basic_solution.specs.Slack.{IsStateOfRelax, IsSlackState, CanStand, IsPlaced, IsMisplaced, IsRestood}
 use Rattle.basic_solution.proofs.SignLemmas.{stands_of, can_of}
 use Rattle.table_entries.proofs.Signs.{asked_once, asked_same}
 use Rattle.row_tableau.proofs.OrderLemmas.{separated}
@@ -55,7 +55,7 @@ activity_free Directions F path i = ap (λ b. if b then in_least_form F.model.se
 
 -- ---- a state of a relaxation
 
-module _ (relax : Relax) (s : Held) (is : IsOf relax s) where
+module _ (relax : Relax) (s : Held) (is : IsStateOfRelax relax s) where
   abbrev F : Formulation
   F = form_of relax
 
@@ -138,9 +138,9 @@ restood_sided s stands size sided = record {
   table = sided.table;
 }
 
-pub restood_of : (relax : Relax) (s t : Held) → IsRestood s t → IsOf relax s → IsOf relax t
+pub restood_of : (relax : Relax) (s t : Held) → IsRestood s t → IsStateOfRelax relax s → IsStateOfRelax relax t
 restood_of relax s t e is =
-    subst (IsOf relax) (sym e) (record { form = is.form; tableau = is.tableau; rows = is.rows; low = is.low; high = is.high; cost = is.cost; tilt = is.tilt; order = is.order })
+    subst (IsStateOfRelax relax) (sym e) (record { form = is.form; tableau = is.tableau; rows = is.rows; low = is.low; high = is.high; cost = is.cost; tilt = is.tilt; order = is.order })
 
 -- ---- the slack state
 

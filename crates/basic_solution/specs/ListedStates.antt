@@ -16,7 +16,7 @@ use Rattle.row_tableau.specs.Variables.{numbers}
 use Rattle.row_tableau.specs.Answers.{IsPivotNamed, IsProper, IsLeftOff}
 use Rattle.basic_solution.specs.Held.{Held, IsSided, IsLawfulHeld, relaxation, table, variables}
 use Rattle.basic_solution.specs.Numbers.{CostsFit, IsWideCost}
-use Rattle.basic_solution.specs.Slack.{IsOf, IsPlaced}
+use Rattle.basic_solution.specs.Slack.{IsStateOfRelax, IsPlaced}
 
 -- a variable that is not basic stands high where the list names it, and else low, or at 0 where it has no side
 abbrev pub IsStandBy : Relaxation → List ℕ → ℕ → Stand → Type 0
@@ -34,8 +34,8 @@ pub record StandsAsListed (list : Basis) (s : Held) : Type 0 where
 
 -- the list is a basis, and the states of the relaxation that stand at it are lawful
 pub record IsLawfulBasis (relax : Relax) (list : Basis) : Type 0 where
-  pub basis : (s : Held) → IsOf relax s → IsNonsingular (relaxation_of relax) (numbers s.tableau list.basic)
-  pub lawful : (s : Held) → IsSided s → IsOf relax s → StandsAsListed list s → IsLawfulHeld s
+  pub basis : (s : Held) → IsStateOfRelax relax s → IsNonsingular (relaxation_of relax) (numbers s.tableau list.basic)
+  pub lawful : (s : Held) → IsSided s → IsStateOfRelax relax s → StandsAsListed list s → IsLawfulHeld s
 
 -- ---- one list
 

@@ -12,7 +12,7 @@ use Rattle.basic_solution.specs.Held.{Held, IsLawfulHeld, relaxation, parts, tab
 use Rattle.row_tableau.specs.Tilts.{tilt_of, order_of}
 
 -- the tableau is one of the relaxation, and sides, costs, tilts and the order of the parts are the relaxation's
-pub record IsOf (relax : Relax) (s : Held) : Type 0 where
+pub record IsStateOfRelax (relax : Relax) (s : Held) : Type 0 where
   pub form : s.form ≡ form_of relax
   pub tableau : IsTableauOf (relaxation_of relax) s.tableau
   pub rows : s.tableau.rows ≡ length relax.model.now.rows
@@ -24,7 +24,7 @@ pub record IsOf (relax : Relax) (s : Held) : Type 0 where
 
 -- and the table is that of the slack basis
 pub record IsSlackState (relax : Relax) (s : Held) : Type 0 where
-  pub is : IsOf relax s
+  pub is : IsStateOfRelax relax s
   pub slack : Agree s.tableau.columns s.tableau.activities (table s) (slack_table (relaxation s))
 
 -- the lawful slack state; None: wherever its columns stand, no state at the slack basis is lawful

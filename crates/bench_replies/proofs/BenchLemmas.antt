@@ -11,9 +11,9 @@ use Rattle.tree_search.specs.Truth.{IsTrueAnswer, HasEnded}
 use Rattle.kept_env.specs.Env.{PlainEnv, Holds, model_of, pool_in, with_answer}
 use Rattle.kept_env.specs.Worked.{Worked, WorksEnv, held_by}
 use Rattle.kept_env.specs.declared.env.EnvFault.{EnvFault}
-use Rattle.search_replies.specs.Solve.{IsSolved}
+use Rattle.search_replies.specs.Solve.{IsSolvedEnv}
 use Rattle.bench_replies.specs.Benches.{IsCertified, IsBenchOf, bench_limits, cert_line, head_line, is_finished}
-use Rattle.bench_replies.specs.Telling.{WritesAll, WritesCert, WritesLines, WritesOf, is_wanting}
+use Rattle.bench_replies.specs.private.Telling.{WritesAll, WritesCert, WritesLines, WritesOf, is_wanting}
 
 -- what is held of an answer is what is certified of it
 cert-told : (M : Program) (pivots : ℕ) (S : PlainSearch) (answer : Answer) (ray : Option Point) (old new : List ℕ) → HasRayFor M pivots answer ray → is_wanting answer ≡ false → WritesCert (Some S) (held_by answer ray) old new
@@ -60,7 +60,7 @@ module _ (M : Program) (rows cols nodes : ℕ) (S : PlainSearch) (model : S.mode
         absurd (cc)
   ]
 
-pub benched : (M : Program) (rows cols nodes : ℕ) (old new : PlainEnv) (r : Result Answer EnvFault) → Holds M old → IsSolved (bench_limits nodes) old r new → (before after : List ℕ) → before ≡ [] → WritesLines rows cols new r before after
+pub benched : (M : Program) (rows cols nodes : ℕ) (old new : PlainEnv) (r : Result Answer EnvFault) → Holds M old → IsSolvedEnv (bench_limits nodes) old r new → (before after : List ℕ) → before ≡ [] → WritesLines rows cols new r before after
     → IsBenchOf M rows cols nodes after
 benched M rows cols nodes old new (Err f) holds solved before after empty written = absurd written
 benched M rows cols nodes old new (Ok answer) holds solved before after empty written =

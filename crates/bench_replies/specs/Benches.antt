@@ -1,6 +1,7 @@
 -- What `bench` prints.
 --     IsBenched seed rows cols nodes text       the text is the three lines of a solve of the seed's model from a fresh root
 use Rattle.std.specs.Prelude.{◌≡◌, ◌⊎◌, ℕ, Bool, true, false, if◌then◌else◌, List, [], ◌∷◌, ◌++◌, codes, decimal}
+use Rattle.command_words.specs.declared.options.SearchOptions.{SearchOptions}
 use Rattle.lp_model.specs.Program.{Program, Point}
 use Rattle.lp_model.specs.declared.answers.Answer.{Answer}
 use Rattle.lp_model.specs.declared.answers.Answer.TheVariants.{Optimal, Infeasible, Unbounded, Stopped, Memory}
@@ -45,9 +46,12 @@ IsCertified S (Unbounded n) = (ray : Point) × (text : List ℕ) × IsUnboundedT
 IsCertified S (Stopped why n bound best) = Unit {0}
 IsCertified S Memory = ⊥
 
--- so many results may be placed, and so many simplex steps made in each relaxation as 64 bits count
+-- so many results may be placed, and so many simplex steps made in each relaxation as 64 bits count; one worker makes the search
+abbrev pub bench_options : ℕ → SearchOptions
+bench_options nodes = record { nodes = nodes; pivots = 18446744073709551615; workers = 1; seed = 0 }
+
 abbrev pub bench_limits : ℕ → Limits
-bench_limits nodes = limits_of nodes 18446744073709551615
+bench_limits nodes = limits_of (bench_options nodes)
 
 -- the text is that of a solve of M from a fresh root, M having so many rows and columns: this was found, it is true of M, and with
 -- enough of all it is the end

@@ -1,2 +1,2 @@
 pub mod Benches
-pub mod Telling
+pub mod private

@@ -7,6 +7,7 @@ ghost use Rattle.bench_replies.specs.Benches.{IsBenchOf, IsBenched};
 
 use crate::telling::write_lines;
 use bench_models::bench_model;
+use command_words::SearchOptions;
 use kept_env::Env;
 use search_replies::limits_of;
 use std::alloc::{AllocError, Global};
@@ -46,7 +47,13 @@ fn solve_bench(
     requires { text.old.items ≡ [] }
     ensures { (M : Program) → Holds M env.old → IfOk result (λ _. IsBenchOf M rows cols nodes text.new.items) }
 {
-    let answer = solve(alloc, env, &limits_of(nodes, u64::MAX));
+    let options = SearchOptions {
+        nodes,
+        pivots: u64::MAX,
+        workers: 1,
+        seed: 0,
+    };
+    let answer = solve(alloc, env, &limits_of(options));
     let told = write_lines(alloc, text, env, rows, cols, &answer);
     drop(answer);
     told

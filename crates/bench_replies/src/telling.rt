@@ -5,7 +5,7 @@ ghost use Rattle.reply_texts.specs.Texts.{answer_text};
 ghost use Rattle.search_replies.specs.Answering.{IsAnswerOf};
 ghost use Rattle.kept_env.specs.Env.{model_of};
 ghost use Rattle.bench_replies.specs.Benches.{head_line, IsFirstLine};
-ghost use Rattle.bench_replies.specs.Telling.{is_wanting, WritesFirst, WritesCert, WritesLines};
+ghost use Rattle.bench_replies.specs.private.Telling.{is_wanting, WritesFirst, WritesCert, WritesLines};
 
 use cert_commands::held_certificate;
 use kept_env::{Env, EnvFault};

@@ -2,11 +2,9 @@
 use Rattle.std.proofs.Common.{◌≡◌, ◌∷◌, ℕ, List, [], ◌++◌, refl, subst, sym, ap, ◌∙◌, inl, inr, Option, Some, None, Ok, Err, Result}
 use Rattle.std.specs.Prelude.{IfOk}
 use Rattle.frac128.specs.Rational.{ℚ}
-use Rattle.frac128.specs.RationalRing.{ring, reads_ℚ}
 use Rattle.lp_model.specs.Edits.{Named}
 use Rattle.lp_model.specs.Program.{Program, value, least_value, in_least_form}
-use Rattle.lp_model.specs.declared.types.Sense.{Sense}
-use Rattle.lp_model.specs.declared.types.Sense.TheVariants.{Min, Max}
+use Rattle.lp_model.proofs.SenseLemmas.{own-least}
 use Rattle.sound_searches.specs.Sound.{PlainSearch}
 use Rattle.dual_bounds.specs.Laws.{IsTrueLowerBound, IsTrueUpperBound, IsExactLower, IsExactUpper}
 use Rattle.dual_bounds.specs.TreeBounds.{IsTreeBoundAt, IsPointBound}
@@ -24,7 +22,7 @@ use Rattle.shell_replies.specs.Placing.{name_at, IsUnplaced, IsOnLine, unplaced_
 use Rattle.shell_replies.specs.declared.placing.Unplaced.{Unplaced}
 use Rattle.shell_replies.specs.declared.placing.Unplaced.TheVariants as unplaced
 use Rattle.bound_commands.specs.Bounding.{asked_model, ArePresent, AnswersBound, Unknown, TwoSided, Told, Wanting, RepliesToNumbers, RepliesToPairs}
-use Rattle.bound_commands.specs.Placing.{IsLowerReply, IsUpperReply, IsBestValue, IsBoundReply}
+use Rattle.bound_commands.specs.private.Placing.{IsLowerReply, IsUpperReply, IsBestValue, IsBoundReply}
 
 -- a text behind nothing
 pub alone : (before after text : List ℕ) → before ≡ [] → after ≡ before ++ text → after ≡ text
@@ -32,21 +30,16 @@ alone before after text empty is = is ∙ ap (λ t. t ++ text) empty
 
 -- ---- of a search
 
--- a value in least form, in the model's own sense again
-least-again : (s : Sense) (v : ℚ) → in_least_form s (in_least_form s v) ≡ v
-least-again Min v = refl
-least-again Max v = ring (v ∷ []) (search reads_ℚ) tt
-
 -- the number of a bound that is the best value
 lower-best : (S : PlainSearch) (bound : LowerBound) (reply : List ℕ) → IsLowerTold S.model bound reply → IsExactLower S bound → IsBestValue S reply
 lower-best S bound reply told exact closed x best =
     let shows : ShowsNumber (in_least_form S.model.sense (least_value S.model 1 x)) reply = subst (λ b. IsLowerTold S.model b reply) (exact closed x best) told in
-    shows.told ∙ ap (λ w. bound_text (Some w)) (least-again S.model.sense (value S.model 1 x))
+    shows.told ∙ ap (λ w. bound_text (Some w)) (own-least S.model.sense (value S.model 1 x))
 
 upper-best : (S : PlainSearch) (bound : UpperBound) (reply : List ℕ) → IsUpperTold S.model bound reply → IsExactUpper S bound → IsBestValue S reply
 upper-best S bound reply told exact closed x best =
     let shows : ShowsNumber (in_least_form S.model.sense (least_value S.model 1 x)) reply = subst (λ b. IsUpperTold S.model b reply) (exact closed x best) told in
-    shows.told ∙ ap (λ w. bound_text (Some w)) (least-again S.model.sense (value S.model 1 x))
+    shows.told ∙ ap (λ w. bound_text (Some w)) (own-least S.model.sense (value S.model 1 x))
 
 module _ (S : PlainSearch) (M : Program) (own : Type 0) (reply : List ℕ) where
   pub lower-told : {E : Type 0} (answer : Result LowerBound E) → IfOk answer (λ bound. IsTreeBoundAt M S.cuts S.tree.root bound) → IfOk answer (λ bound. IsTrueLowerBound M bound) → IfOk answer (λ bound. own → IsExactLower S bound)

@@ -18,17 +18,17 @@ use Rattle.reply_texts.specs.Places.{step_text}
 use Rattle.reply_texts.specs.Texts.{memory_text, bound_text}
 use Rattle.shell_replies.specs.Names.{names_for, HasOneNumber, HaveOneNumber}
 use Rattle.shell_replies.specs.Bounds.{IsLowerTold, IsUpperTold}
-use Rattle.command_family.specs.Family.{HasCause, IsLawful}
+use Rattle.command_family.specs.Family.{HasCause, IsLawfulFamily}
 use Rattle.command_family.specs.Kinds.{BoundShown, WrongArguments, NoModel, UnknownName, WrongNumber, BadSides, WantsMemory, Is}
 use Rattle.command_family.specs.State.{ShellState}
 use Rattle.bound_commands.specs.Bounding.{asked_model, TellsBound, AnswersBound, IsAtOptimum, RepliesToNumbers, RepliesToPairs, BoundStep}
 use Rattle.bound_commands.specs.Bounding as bounding
-use Rattle.bound_commands.specs.Family.{BoundsAsks, Bound, BoundsStep, SaysNumbers, bounds}
+use Rattle.bound_commands.specs.Family.{BoundsAsks, Bound, BoundsStep, SaysNumbers, boundings}
 use Rattle.bound_commands.specs.Laws.{UnchangedLaw, BestValueLaw}
 
 module _ (old : ShellState) (reply : List ℕ) (new : ShellState) (which : OptimumBound) (numbers : NewNumbers) (behind : List (List ℕ)) where
   abbrev Caused : Type 0
-  Caused = HasCause bounds (Bound which numbers behind) old reply new
+  Caused = HasCause boundings (Bound which numbers behind) old reply new
 
   wants : reply ≡ memory_text → Caused
   wants told = record { kind = WantsMemory; is = (codes "memory\n", told); cause = told }
@@ -84,13 +84,13 @@ module _ (old : ShellState) (reply : List ℕ) (new : ShellState) (which : Optim
     | inr told ↦ wants told
   ]
 
-caused : (asks : BoundsAsks) (old : ShellState) (reply : List ℕ) (new : ShellState) → BoundsStep asks old reply new → HasCause bounds asks old reply new
+caused : (asks : BoundsAsks) (old : ShellState) (reply : List ℕ) (new : ShellState) → BoundsStep asks old reply new → HasCause boundings asks old reply new
 caused (Bound which numbers behind) old reply new h = pairs_cause old reply new which numbers behind (pairs_asks behind) refl h.answer
 
 pub bounds-unchanged : UnchangedLaw
 bounds-unchanged (Bound which numbers behind) old reply new h = h.unchanged
 
-pub bounds-lawful : IsLawful bounds
+pub bounds-lawful : IsLawfulFamily boundings
 bounds-lawful = record {
   caused = caused;
   later = λ asks old reply new h. subst (λ (s : ShellState). old.faults ≤ s.faults) (sym (bounds-unchanged asks old reply new h)) (omega arith);

@@ -9,7 +9,7 @@ use Rattle.sound_searches.specs.Laws.{HasNoOpenLeaf}
 use Rattle.search_parts.specs.Points.{IsIncumbent}
 use Rattle.sound_searches.specs.Sound.{PlainSearch}
 use Rattle.dual_bounds.specs.Laws.{IsTrueLowerBound, IsTrueUpperBound}
-use Rattle.dual_bounds.specs.NewNumbers.{with_new_sides, with_new_costs, ArePresentSides, ArePresentCosts}
+use Rattle.dual_bounds.specs.NewNumbers.{with_new_numbers, ArePresentNumbers}
 use Rattle.dual_bounds.specs.TreeBounds.{IsTreeBoundAt, IsPointBound}
 use Rattle.dual_bounds.specs.declared.answers.LowerBound.{LowerBound}
 use Rattle.dual_bounds.specs.declared.answers.UpperBound.{UpperBound}
@@ -17,23 +17,21 @@ use Rattle.kept_env.specs.Env.{PlainEnv}
 use Rattle.command_words.specs.declared.words.OptimumBound.{OptimumBound}
 use Rattle.command_words.specs.declared.words.OptimumBound.TheVariants.{Lower, Upper}
 use Rattle.command_words.specs.declared.words.NewNumbers.{NewNumbers}
-use Rattle.command_words.specs.declared.words.NewNumbers.TheVariants.{Sides, Costs}
+use Rattle.command_words.specs.declared.words.NewNumbers.TheVariants.{Sides}
 use Rattle.edit_words.specs.EditWords.{EntriesAsk, AreRead, AreMisused, HasNoNumber, names_in}
 use Rattle.reply_texts.specs.Texts.{arguments_text, no_model_text, number_text, unknown_name_text, sides_text, bound_text, memory_text}
-use Rattle.shell_replies.specs.Names.{placed_rows, placed_cols, names_for, AreThere, IsFirstTwoSided, HaveOneNumber}
+use Rattle.shell_replies.specs.Names.{placed_numbers, names_for, AreThere, IsFirstTwoSided, HaveOneNumber}
 use Rattle.shell_replies.specs.Bounds.{IsLowerTold, IsUpperTold}
 use Rattle.command_family.specs.State.{ShellState}
 
 -- ---- the model that is asked about
 
 abbrev pub asked_model : NewNumbers → Program → Named → Program
-asked_model Sides M named = with_new_sides M (placed_rows M named)
-asked_model Costs M named = with_new_costs M (placed_cols M named)
+asked_model numbers M named = with_new_numbers M (placed_numbers numbers M named)
 
 -- the numbers are those that stand
 abbrev pub ArePresent : NewNumbers → Program → Named → Type 0
-ArePresent Sides M named = ArePresentSides M (placed_rows M named)
-ArePresent Costs M named = ArePresentCosts M (placed_cols M named)
+ArePresent numbers M named = ArePresentNumbers M (placed_numbers numbers M named)
 
 -- ---- what a reply shows
 

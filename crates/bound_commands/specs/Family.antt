@@ -58,5 +58,5 @@ abbrev pub BoundsCause : BoundsAsks → Kind → ShellState → List ℕ → She
 BoundsCause (Bound which numbers behind) kind old reply new = BoundCause which numbers behind kind old reply
 
 -- nothing is worked
-abbrev pub bounds : Family
-bounds = record { Asks = BoundsAsks; Step = BoundsStep; CauseOf = BoundsCause; Works = λ asks. ⊥ }
+abbrev pub boundings : Family
+boundings = record { Asks = BoundsAsks; Step = BoundsStep; CauseOf = BoundsCause; Works = λ asks. ⊥ }

@@ -1,4 +1,4 @@
 pub mod Bounding
-pub mod Placing
 pub mod Family
 pub mod Laws
+pub mod private

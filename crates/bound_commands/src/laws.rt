@@ -1,11 +1,11 @@
 // Each law is the contract of a function that does nothing.
-ghost use Rattle.command_family.specs.Family.{IsLawful};
-ghost use Rattle.bound_commands.specs.Family.{bounds};
+ghost use Rattle.command_family.specs.Family.{IsLawfulFamily};
+ghost use Rattle.bound_commands.specs.Family.{boundings};
 ghost use Rattle.bound_commands.specs.Laws.{UnchangedLaw, BestValueLaw};
 
 /// The commands of bounds are a lawful family.
 pub fn bounds_law()
-    ensures { IsLawful bounds }
+    ensures { IsLawfulFamily boundings }
 {}
 
 /// Nothing changes.

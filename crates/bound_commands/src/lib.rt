@@ -14,7 +14,7 @@
 //! M. Güzelsoy, The SYMPHONY Callable Library for Mixed Integer Programming, 2005; the manual's `sym_get_lb_for_new_rhs`,
 //! `sym_get_lb_for_new_obj`, `sym_get_ub_for_new_rhs` and `sym_get_ub_for_new_obj`.)
 //!
-//! What each may be answered, and what a reply of each kind says for sure, is the family `bounds` (specs/Family). It is lawful
+//! What each may be answered, and what a reply of each kind says for sure, is the family `boundings` (specs/Family). It is lawful
 //! (`bounds_law`), and nothing changes (`unchanged_law`).
 //!
 //! Public contract: `bound` writes a reply that `BoundStep` has (`RepliesToPairs` in specs/Bounding). Below stand the environment

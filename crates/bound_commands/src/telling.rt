@@ -1,12 +1,11 @@
-// The bound of a search's model with other sides or costs, as a reply.
+// The bound of a search's model with other numbers, as a reply.
 ghost use Rattle.std.specs.Prelude.{◌≡◌, [], OnOk};
-ghost use Rattle.dual_bounds.specs.NewNumbers.{with_new_sides, with_new_costs, AreNewSides, AreNewCosts, ArePresentSides, ArePresentCosts};
-ghost use Rattle.bound_commands.specs.Placing.{IsLowerReply, IsUpperReply, IsBoundReply};
+ghost use Rattle.dual_bounds.specs.NewNumbers.{with_new_numbers, AreNewNumbers, ArePresentNumbers};
+ghost use Rattle.bound_commands.specs.private.Placing.{IsLowerReply, IsUpperReply, IsBoundReply};
 
 use command_words::OptimumBound;
-use dual_bounds::{LowerBound, UpperBound, lb_new_obj, lb_new_rhs, ub_new_obj, ub_new_rhs};
-use frac128::Frac;
-use lp_model::{ColId, Model, RowId};
+use dual_bounds::{LowerBound, OtherNumbers, UpperBound, lower_bound_with, upper_bound_with};
+use lp_model::Model;
 use reply_texts::MEMORY_REPLY;
 use shell_replies::{write_lower, write_upper};
 use std::alloc::{AllocError, Global};
@@ -42,55 +41,27 @@ fn tell_upper(
     }
 }
 
-/// The bound of the search's model with these sides.
-pub(crate) fn bound_with_sides(
+/// The bound of the search's model with these numbers.
+pub(crate) fn bound_with(
     alloc: Global,
     search: &Search,
     which: OptimumBound,
-    sides: &[(RowId, Frac)],
+    numbers: &OtherNumbers,
     reply: &mut Vec<u8>,
 ) -> Result<(), AllocError>
-    requires sides { AreNewSides search.now.model sides.now }
+    requires numbers { AreNewNumbers search.now.model numbers.now }
     requires empty { reply.old.items ≡ [] }
-    ensures { OnOk result (IsBoundReply which search.now (with_new_sides search.now.model sides.now) (ArePresentSides search.now.model sides.now) reply.new.items) }
+    ensures { OnOk result (IsBoundReply which search.now (with_new_numbers search.now.model numbers.now) (ArePresentNumbers search.now.model numbers.now) reply.new.items) }
 {
     match which {
         OptimumBound::Lower => {
-            let answer = lb_new_rhs(alloc, search, sides);
+            let answer = lower_bound_with(alloc, search, numbers);
             let told = tell_lower(reply, search.model(), &answer);
             drop(answer);
             told
         }
         OptimumBound::Upper => {
-            let answer = ub_new_rhs(alloc, search, sides);
-            let told = tell_upper(reply, search.model(), &answer);
-            drop(answer);
-            told
-        }
-    }
-}
-
-/// The bound of the search's model with these costs.
-pub(crate) fn bound_with_costs(
-    alloc: Global,
-    search: &Search,
-    which: OptimumBound,
-    costs: &[(ColId, Frac)],
-    reply: &mut Vec<u8>,
-) -> Result<(), AllocError>
-    requires costs { AreNewCosts search.now.model costs.now }
-    requires empty { reply.old.items ≡ [] }
-    ensures { OnOk result (IsBoundReply which search.now (with_new_costs search.now.model costs.now) (ArePresentCosts search.now.model costs.now) reply.new.items) }
-{
-    match which {
-        OptimumBound::Lower => {
-            let answer = lb_new_obj(alloc, search, costs);
-            let told = tell_lower(reply, search.model(), &answer);
-            drop(answer);
-            told
-        }
-        OptimumBound::Upper => {
-            let answer = ub_new_obj(alloc, search, costs);
+            let answer = upper_bound_with(alloc, search, numbers);
             let told = tell_upper(reply, search.model(), &answer);
             drop(answer);
             told

@@ -8,7 +8,7 @@ use Rattle.branch_tree.specs.Tree.{Leaf, Split, EachSplit, node_count, split_cou
 use Rattle.branch_tree.specs.Plain.{nodes_with}
 use Rattle.branch_tree.specs.Leaves.{open_count, one_if_open}
 use Rattle.branch_tree.specs.Preorder.{SplitData, DataTree, data_nodes, numbered_from, HasNodeBound}
-use Rattle.branch_tree.specs.Table.{node_at, AreBelow, IsTable, AreLive, PutsNode}
+use Rattle.branch_tree.specs.Table.{node_at, AreBelow, IsNodeTable, AreLive, PutsNode}
 use Rattle.branch_tree.specs.Stored.{root_id, left_up, right_up, split_node, Stands}
 use Rattle.branch_tree.specs.Numbered.{IsCounted}
 use Rattle.branch_tree.specs.Held.{Means}
@@ -106,7 +106,7 @@ pub record Builds (T : DataTree) (t : NodeTable) (ways : List (Option Up)) (rest
   pub finish : (h : ℕ → Option TreeNode) → ((k : ℕ) → k < id → h k ≡ node_at t k) → AllStand h (numbered id due) → Stands h None (numbered_from 1 T)
   pub zero : node_at t 0 ≡ None
   pub none : (k : ℕ) → id ≤ k → node_at t k ≡ None
-  pub table : IsTable t
+  pub table : IsNodeTable t
   pub below : AreBelow id t.keys.items
   pub live : AreLive t.nodes t.keys.items
   pub stored : slab_len t.nodes + 1 ≡ id
@@ -168,7 +168,7 @@ module _ (T : DataTree) (t : NodeTable) (ways : List (Option Up)) (rest fewer : 
 -- ---- one step, where the first tree that is due is known
 
 module _ (T : DataTree) (t new : NodeTable) (ways : List (Option Up)) (rest fewer : List Planned) (next : Planned) (id opens : ℕ) (h : Builds T t ways rest id opens) (up : Option Up) (others : List DataBelow)
-    (put : PutsNode (node_at t) id (Some (built_node id up next)) (node_at new)) (table : IsTable new) (below : AreBelow (id + 1) new.keys.items) (live : AreLive t.nodes t.keys.items → AreLive new.nodes new.keys.items)
+    (put : PutsNode (node_at t) id (Some (built_node id up next)) (node_at new)) (table : IsNodeTable new) (below : AreBelow (id + 1) new.keys.items) (live : AreLive t.nodes t.keys.items → AreLive new.nodes new.keys.items)
     (stored : slab_len new.nodes ≡ slab_len t.nodes + 1) (room : new.nodes.capacity ≡ t.nodes.capacity) (long : vec_len new.keys ≡ vec_len t.keys + 1) (spare : vec_capacity new.keys ≡ vec_capacity t.keys) where
   build-leaf : (kept : LeafData) (left : List (Option Up)) → reverse left ≡ map (λ (d : DataBelow). d.0) others → h.due ≡ (up, Leaf kept) ∷ others → next ∷ reverse fewer ≡ planned_of id (LeafNode kept ∷ nodes_due others) → Builds T new left fewer (id + 1) (opens + one_if_open kept.state)
   build-leaf kept left ways_are whole front = record {
@@ -287,7 +287,7 @@ module _ (T : DataTree) (t : NodeTable) (ways : List (Option Up)) (rest fewer : 
       omega (arith, h.opened, one, all, nodes-numbered 1 T))
 
   module _ (new : NodeTable) (less more : List (Option Up)) (up : Option Up) (way : ways ≡ less ++ up ∷ []) (more_is : more ≡ ways_behind id next.node less)
-      (put : PutsNode (node_at t) id (Some (built_node id up next)) (node_at new)) (table : IsTable new) (below : AreBelow (id + 1) new.keys.items) (live : AreLive t.nodes t.keys.items → AreLive new.nodes new.keys.items)
+      (put : PutsNode (node_at t) id (Some (built_node id up next)) (node_at new)) (table : IsNodeTable new) (below : AreBelow (id + 1) new.keys.items) (live : AreLive t.nodes t.keys.items → AreLive new.nodes new.keys.items)
       (stored : slab_len new.nodes ≡ slab_len t.nodes + 1) (room : new.nodes.capacity ≡ t.nodes.capacity) (long : vec_len new.keys ≡ vec_len t.keys + 1) (spare : vec_capacity new.keys ≡ vec_capacity t.keys) where
     -- the way that was taken is that to the first tree
     ways-first : (d : DataBelow) (others : List DataBelow) → h.due ≡ d ∷ others → (up ≡ d.0) × (reverse less ≡ map (λ (d : DataBelow). d.0) others)

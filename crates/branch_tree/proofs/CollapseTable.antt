@@ -11,9 +11,9 @@ use Rattle.branch_tree.specs.Leaves.{open_count}
 use Rattle.branch_tree.specs.declared.stored.Up.{Up}
 use Rattle.branch_tree.specs.declared.stored.TreeNode.{TreeNode}
 use Rattle.branch_tree.specs.declared.table.NodeTable.{NodeTable}
-use Rattle.branch_tree.specs.Table.{node_at, IsTable, PutsNode}
+use Rattle.branch_tree.specs.Table.{node_at, IsNodeTable, PutsNode}
 use Rattle.branch_tree.specs.Stored.{root_id, up_of, left_up, right_up, split_node, Stands, renamed, with_child, collapsed_node}
-use Rattle.branch_tree.specs.Held.{IsOf, CanCollapse}
+use Rattle.branch_tree.specs.Held.{HoldsTree, CanCollapse}
 use Rattle.branch_tree.specs.private.Due.{AreDue, nodes_among, node_total, open_total, AreCut}
 use Rattle.branch_tree.proofs.CountLemmas.{same_cases, same_other}
 use Rattle.branch_tree.proofs.IdLemmas.{splits-collapsed}
@@ -151,7 +151,7 @@ module _ (t : NodeTable) (root opens : ℕ) (ids : List ℕ) (room id new : ℕ)
 
     -- and the table once it is
     module _ (new_t : NodeTable) (gone : (k : ℕ) → 0 < nodes_among k (the-split.left ∷ the-split.right ∷ []) → node_at new_t k ≡ None) (stay : (k : ℕ) → nodes_among k (the-split.left ∷ the-split.right ∷ []) ≡ 0 → node_at new_t k ≡ g k)
-        (table : IsTable new_t) (len0 : ℕ) (len_is : len0 ≡ slab_len t.nodes) (len : slab_len new_t.nodes + node_total (the-split.left ∷ the-split.right ∷ []) ≡ len0) (longer : vec_len new_t.keys ≡ vec_len t.keys + 1) (capacity : vec_capacity new_t.keys ≡ vec_capacity t.keys)
+        (table : IsNodeTable new_t) (len0 : ℕ) (len_is : len0 ≡ slab_len t.nodes) (len : slab_len new_t.nodes + node_total (the-split.left ∷ the-split.right ∷ []) ≡ len0) (longer : vec_len new_t.keys ≡ vec_len t.keys + 1) (capacity : vec_capacity new_t.keys ≡ vec_capacity t.keys)
         (root' opens' : ℕ) (rooted : root' ≡ renamed id new root) (opened : opens' + open_total (the-split.left ∷ the-split.right ∷ []) ≡ opens + 1) where
       leafless : leaves_with id T ≡ 0
       leafless = omega (arith, h.split, h.once id)
@@ -159,7 +159,7 @@ module _ (t : NodeTable) (root opens : ℕ) (ids : List ℕ) (room id new : ℕ)
       new-there : 0 < nodes_with new (collapsed id new T)
       new-there = omega (arith, the-split.ids new, the-split.part new, h.fresh, same_self new)
 
-      pub collapsed-of : IsOf new_t root' opens' (collapsed id new T)
+      pub collapsed-of : HoldsTree new_t root' opens' (collapsed id new T)
       unfolding leafless new-there
       collapsed-of =
           let s = the-split in

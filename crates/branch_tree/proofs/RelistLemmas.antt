@@ -15,9 +15,9 @@ use Rattle.branch_tree.specs.declared.stored.TreeNode.{TreeNode}
 use Rattle.branch_tree.specs.declared.table.IdKey.{IdKey}
 use Rattle.branch_tree.specs.declared.table.NodeTable.{NodeTable}
 use Rattle.branch_tree.specs.declared.tree.Tree.TheInside.{Inside}
-use Rattle.branch_tree.specs.Table.{key_of, node_under, node_with, node_at, AreRising, AreBelow, IsTable, IsLive, AreLive, PutsNode}
+use Rattle.branch_tree.specs.Table.{key_of, node_under, node_with, node_at, AreRisingIds, AreBelow, IsNodeTable, IsLive, AreLive, PutsNode}
 use Rattle.branch_tree.specs.Stored.{root_id, left_up, right_up, split_node, Stands}
-use Rattle.branch_tree.specs.Held.{plain_of, numbered_of, Means, IsHeld}
+use Rattle.branch_tree.specs.Held.{plain_of, numbered_of, Means, IsHeldTree}
 use Rattle.branch_tree.specs.private.Relisted.{up_left_by, node_left_by, lists_left_by, tree_left_by}
 use Rattle.branch_tree.proofs.CountLemmas.{nodes-splits}
 use Rattle.branch_tree.proofs.TableLemmas.{rising-at, key_of-at, key_of-none, with-same, some-with, found_in, change-others, change-here, change-live}
@@ -34,7 +34,7 @@ module _ (old : Slab TreeNode) (es : List IdKey) (live : AreLive old es) (p : �
   pub entry-node : (n : TreeNode) × ((get old x.key ≡ Some n) × (n.id ≡ x.id))
   entry-node = some-with x.id (get old x.key) (subst (λ e. IsLive old e) (sym is) (live-at old es live p x within))
 
-  module _ (rising : AreRising es) (f : TreeNode → TreeNode) (same : (n : TreeNode) → (f n).id ≡ n.id) (new : Slab TreeNode) (n : TreeNode) (was : Some n ≡ get old x.key) (u : Updates old new x.key (Some (f n))) where
+  module _ (rising : AreRisingIds es) (f : TreeNode → TreeNode) (same : (n : TreeNode) → (f n).id ≡ n.id) (new : Slab TreeNode) (n : TreeNode) (was : Some n ≡ get old x.key) (u : Updates old new x.key (Some (f n))) where
     entry-at : key_of x.id es ≡ Some x.key
     entry-at =
         let here : (get_or es p x).id ≡ x.id = ap (λ (e : IdKey). e.id) (sym is) in
@@ -70,7 +70,7 @@ module _ (f : TreeNode → TreeNode) (old : ℕ → Option TreeNode) (es : List 
   pub relisted-none : AreRelisted f old old es 0
   relisted-none = record { front = λ k d lt within. absurd (omega (arith, lt)); back = λ id apart. refl }
 
-  pub relisted-more : (now new : ℕ → Option TreeNode) (p : ℕ) → AreRising es → p < length es → AreRelisted f old now es p
+  pub relisted-more : (now new : ℕ → Option TreeNode) (p : ℕ) → AreRisingIds es → p < length es → AreRelisted f old now es p
       → ((d : IdKey) → PutsNode now (get_or es p d).id (option_map f (now (get_or es p d).id)) new) → AreRelisted f old new es (p + 1)
   relisted-more now new p rising within h put = record {
     front = λ k d lt inside.
@@ -155,7 +155,7 @@ module _ (g : Removed) where
   }
 
   -- the fields mean it
-  module _ (i : Inside) (h : IsHeld i) (new : NodeTable) (all : (id : ℕ) → node_at new id ≡ option_map (node_left_by g) (node_at i.table id)) (table : IsTable new) (live : AreLive new.nodes new.keys.items)
+  module _ (i : Inside) (h : IsHeldTree i) (new : NodeTable) (all : (id : ℕ) → node_at new id ≡ option_map (node_left_by g) (node_at i.table id)) (table : IsNodeTable new) (live : AreLive new.nodes new.keys.items)
       (len : slab_len new.nodes ≡ slab_len i.table.nodes) (keys : new.keys ≡ i.table.keys) where
     pub means-relisted : Means (record { table = new; root = i.root; last = i.last; count = i.count; still_open = i.still_open; limit = i.limit; lists = i.lists; alloc = i.alloc }) (lists_left_by g (plain_of i))
     means-relisted =

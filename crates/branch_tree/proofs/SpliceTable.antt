@@ -11,12 +11,12 @@ use Rattle.branch_tree.specs.Leaves.{open_count}
 use Rattle.branch_tree.specs.declared.stored.Up.{Up}
 use Rattle.branch_tree.specs.declared.stored.TreeNode.{TreeNode}
 use Rattle.branch_tree.specs.declared.table.NodeTable.{NodeTable}
-use Rattle.branch_tree.specs.Table.{node_at, IsTable, PutsNode}
+use Rattle.branch_tree.specs.Table.{node_at, IsNodeTable, PutsNode}
 use Rattle.branch_tree.specs.Stored.{root_id, up_of, left_up, right_up, split_node, Stands, with_child}
 use Rattle.branch_tree.specs.private.Moved.{with_up}
-use Rattle.branch_tree.specs.Held.{IsOf}
+use Rattle.branch_tree.specs.Held.{HoldsTree}
 use Rattle.branch_tree.specs.private.Due.{AreDue, nodes_among, node_total, open_total, AreCut}
-use Rattle.branch_tree.specs.private.Spliced.{filled, way_in, nodes_around, Spot, staying, going, before, after, CanSplice}
+use Rattle.branch_tree.specs.private.Spliced.{filled, way_in, nodes_around, Spot, staying, going, tree_before, tree_after, CanSplice}
 use Rattle.branch_tree.proofs.CountLemmas.{same_other, nodes-splits}
 use Rattle.branch_tree.proofs.StoredLemmas.{same_self, stands-elsewhere, root-found, root-there}
 use Rattle.branch_tree.proofs.DueLemmas.{reverse-push}
@@ -43,13 +43,13 @@ module _ (t : NodeTable) (root opens : ℕ) (cut : List ℕ) (room id stay go : 
   unfolding split-stands
   node-found = ap (node_at t) (sym h.named) ∙ split-stands.0
 
-  pub parts : (k : ℕ) → nodes_with k (before s) ≡ nodes_around k s.around + (one_if_same id k + (nodes_with k (staying s) + nodes_with k (going s)))
+  pub parts : (k : ℕ) → nodes_with k (tree_before s) ≡ nodes_around k s.around + (one_if_same id k + (nodes_with k (staying s) + nodes_with k (going s)))
   parts k = let named : one_if_same s.kept.id k ≡ one_if_same id k = ap (λ i. one_if_same i k) h.named in omega (arith, filled-nodes k s.around the-split, both-sides (nodes_with k) s.v s.left s.right, named)
 
-  pub counts : node_count (before s) ≡ node_count (after s) + (node_count (going s) + 1)
+  pub counts : node_count (tree_before s) ≡ node_count (tree_after s) + (node_count (going s) + 1)
   counts = omega (arith, filled-count s.around the-split (staying s), both-sides node_count s.v s.left s.right)
 
-  pub opened-before : open_count (before s) ≡ open_count (after s) + open_count (going s)
+  pub opened-before : open_count (tree_before s) ≡ open_count (tree_after s) + open_count (going s)
   opened-before = omega (arith, filled-open s.around the-split (staying s), both-sides open_count s.v s.left s.right)
 
   stay-stands : (up : Option Up) × Stands (node_at t) up (staying s)
@@ -100,7 +100,7 @@ module _ (t : NodeTable) (root opens : ℕ) (cut : List ℕ) (room id stay go : 
     parent-there way is =
         let some : 0 < nodes_around way.parent s.around = parent-around way is in
         let ne : (way.parent ≢ id) × (way.parent ≢ stay) = around-apart way.parent some in
-        subst (λ o. IsSome o) (sym (still way.parent ne.0 ne.1)) (node-there (node_at t) way.parent None (before s) h.nodes.stands (omega (arith, parts way.parent, some)))
+        subst (λ o. IsSome o) (sym (still way.parent ne.0 ne.1)) (node-there (node_at t) way.parent None (tree_before s) h.nodes.stands (omega (arith, parts way.parent, some)))
 
     -- ---- and is its parent's child
 
@@ -109,19 +109,19 @@ module _ (t : NodeTable) (root opens : ℕ) (cut : List ℕ) (room id stay go : 
       unfolding n-up around-apart still
       linked-around k some = by n.up refl
         where
-          inside : 0 < nodes_with k (before s)
+          inside : 0 < nodes_with k (tree_before s)
           inside = omega (arith, parts k, some)
 
           as_before : node_at b k ≡ node_at t k
           as_before = still k (around-apart k some).0 (around-apart k some).1
 
           by : (o : Option Up) → n.up ≡ o → node_at d k ≡ option_map (with_child id stay) (node_at t k)
-          by None is = ap (λ x. node_at x k) (at_top is).0 ∙ as_before ∙ sym (no_child id stay (node_at t) the-node node-found k (λ change e. let no : None ≡ Some (up_of k change) = sym is ∙ n-up ∙ e in absurd (cc)) None (before s) h.nodes.stands inside)
+          by None is = ap (λ x. node_at x k) (at_top is).0 ∙ as_before ∙ sym (no_child id stay (node_at t) the-node node-found k (λ change e. let no : None ≡ Some (up_of k change) = sym is ∙ n-up ∙ e in absurd (cc)) None (tree_before s) h.nodes.stands inside)
           by (Some way) is =
               elim (cases_eq k way.parent) [
                 | inl same ↦ ap (node_at d) same ∙ (below way is).0.changed ∙ ap (option_map (with_child id stay)) (ap (node_at b) (sym same) ∙ as_before)
                 | inr other ↦ (below way is).0.others k other ∙ as_before
-                    ∙ sym (no_child id stay (node_at t) the-node node-found k (λ change e. let both : Some way ≡ Some (up_of k change) = sym is ∙ n-up ∙ e in let same : way ≡ up_of k change = cc in absurd (other (sym (ap (λ (u : Up). u.parent) same)))) None (before s) h.nodes.stands inside)
+                    ∙ sym (no_child id stay (node_at t) the-node node-found k (λ change e. let both : Some way ≡ Some (up_of k change) = sym is ∙ n-up ∙ e in let same : way ≡ up_of k change = cc in absurd (other (sym (ap (λ (u : Up). u.parent) same)))) None (tree_before s) h.nodes.stands inside)
               ]
 
       -- elsewhere what the table had before
@@ -168,7 +168,7 @@ module _ (t : NodeTable) (root opens : ℕ) (cut : List ℕ) (room id stay go : 
         pub spliced-around : (k : ℕ) → 0 < nodes_around k s.around → node_at e k ≡ option_map (with_child id stay) (node_at t k)
         spliced-around k some = left k (omega (arith, parts k, h.once k, some)) ∙ linked-around k some
 
-        rooted-after : root_id (after s) ≡ top
+        rooted-after : root_id (tree_after s) ≡ top
         unfolding n-up
         rooted-after =
             elim (place-cases s.around) [
@@ -176,13 +176,13 @@ module _ (t : NodeTable) (root opens : ℕ) (cut : List ℕ) (room id stay go : 
               | inr inside ↦ inside.root (staying s) the-split ∙ h.nodes.rooted ∙ sym (below inside.way (n-up ∙ inside.is)).1
             ]
 
-        stands-after : Stands (node_at e) None (after s)
+        stands-after : Stands (node_at e) None (tree_after s)
         stands-after =
             stands-filled the-split (staying s) (node_at t) (node_at e) s.around None (h.once s.kept.id)
             (λ k some. spliced-around k some ∙ (λ i. option_map (with_child (sym h.named i) (sym h.stays i)) (node_at t k)))
             (stands-elsewhere (node_at d) (node_at e) the-way (staying s) (λ k some. left k (omega (arith, parts k, h.once k, some))) stay-linked) h.nodes.stands
 
-        only-after : (k : ℕ) → nodes_with k (after s) ≡ 0 → node_at e k ≡ None
+        only-after : (k : ℕ) → nodes_with k (tree_after s) ≡ 0 → node_at e k ≡ None
         unfolding linked-else still stay-there
         only-after k none =
             let zero : nodes_around k s.around + nodes_with k (staying s) ≡ 0 = omega (arith, none, filled-nodes k s.around (staying s)) in
@@ -194,7 +194,7 @@ module _ (t : NodeTable) (root opens : ℕ) (cut : List ℕ) (room id stay go : 
               ]
             ]
 
-        pub spliced-of : IsTable e → slab_len e.nodes + node_total (going s ∷ []) + 1 ≡ slab_len t.nodes → e.keys ≡ t.keys → (opens' : ℕ) → opens' + open_total (going s ∷ []) ≡ opens → IsOf e top opens' (after s)
+        pub spliced-of : IsNodeTable e → slab_len e.nodes + node_total (going s ∷ []) + 1 ≡ slab_len t.nodes → e.keys ≡ t.keys → (opens' : ℕ) → opens' + open_total (going s ∷ []) ≡ opens → HoldsTree e top opens' (tree_after s)
         unfolding rooted-after stands-after only-after
         spliced-of table len keys opens' opened = record {
           rooted = rooted-after;
@@ -203,5 +203,5 @@ module _ (t : NodeTable) (root opens : ℕ) (cut : List ℕ) (room id stay go : 
           table = table;
           stored = omega (arith, len, counts, h.nodes.stored);
           opened = omega (arith, opened, opened-before, h.nodes.opened);
-          spare = subst (λ (k : _). vec_len k + split_count (after s) ≤ vec_capacity k) (sym keys) (omega (arith, counts, nodes-splits (before s), nodes-splits (after s), h.nodes.spare));
+          spare = subst (λ (k : _). vec_len k + split_count (tree_after s) ≤ vec_capacity k) (sym keys) (omega (arith, counts, nodes-splits (tree_before s), nodes-splits (tree_after s), h.nodes.spare));
         }

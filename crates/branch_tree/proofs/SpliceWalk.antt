@@ -14,10 +14,10 @@ use Rattle.branch_tree.specs.declared.stored.NodeKind.TheVariants as node
 use Rattle.branch_tree.specs.declared.table.NodeTable.{NodeTable}
 use Rattle.branch_tree.specs.Table.{node_at}
 use Rattle.branch_tree.specs.Stored.{root_id, left_up, right_up, Stands, with_child, plain_from}
-use Rattle.branch_tree.specs.Held.{IsOf}
+use Rattle.branch_tree.specs.Held.{HoldsTree}
 use Rattle.branch_tree.specs.private.Due.{AreDue, nodes_among, node_total}
 use Rattle.branch_tree.specs.private.Splicing.{spliced}
-use Rattle.branch_tree.specs.private.Spliced.{allowing, filled, way_in, nodes_around, Spot, staying, before, after, CanSplice, due_ids, nodes_due, splits_over, splits_among, IsReady, IsSplicing}
+use Rattle.branch_tree.specs.private.Spliced.{allowing, filled, way_in, nodes_around, Spot, staying, tree_before, tree_after, CanSplice, due_ids, nodes_due, splits_over, splits_among, HasRoomToSplice, IsSplicing}
 use Rattle.branch_tree.proofs.CountLemmas.{same_other}
 use Rattle.branch_tree.proofs.StoredLemmas.{same_self, stands-elsewhere, root_node, root-found, root-there, read_back, IsLeafTree, leaf-tree, IsSplitTree, split-tree}
 use Rattle.branch_tree.proofs.DueLemmas.{reverse-push, IsNext, next_due, due_ends, due-length}
@@ -61,7 +61,7 @@ due-renamed f g id new (i ∷ ids) (t ∷ ts) none same h = (
 
 -- ---- the beginning and the end
 
-pub splicing-begins : (t : NodeTable) (root opens : ℕ) (lists more : Lists) (j : ℕ) (T : Plain) → IsReady t root opens lists T → vec_capacity more.due ≡ vec_capacity lists.due → more.cut ≡ lists.cut → due_ids more.due.items ≡ root ∷ [] → IsSplicing t root opens (due_ids more.due.items) more j (spliced j T)
+pub splicing-begins : (t : NodeTable) (root opens : ℕ) (lists more : Lists) (j : ℕ) (T : Plain) → HasRoomToSplice t root opens lists T → vec_capacity more.due ≡ vec_capacity lists.due → more.cut ≡ lists.cut → due_ids more.due.items ≡ root ∷ [] → IsSplicing t root opens (due_ids more.due.items) more j (spliced j T)
 splicing-begins t root opens lists more j T h due cut ids = record {
   now = T;
   rest = T ∷ [];
@@ -92,11 +92,11 @@ splicing-same t root opens ids same lists more j target h is due cut = record {
   roomy = let room = ap vec_capacity cut in omega (arith, h.roomy, room);
 }
 
-pub splicing-ends : (t : NodeTable) (root opens : ℕ) (ids : List ℕ) (lists : Lists) (j : ℕ) (T : Plain) → IsSplicing t root opens ids lists j T → ids ≡ [] → IsOf t root opens T
+pub splicing-ends : (t : NodeTable) (root opens : ℕ) (ids : List ℕ) (lists : Lists) (j : ℕ) (T : Plain) → IsSplicing t root opens ids lists j T → ids ≡ [] → HoldsTree t root opens T
 splicing-ends t root opens ids lists j T h none =
     let ends : h.rest ≡ [] = due_ends (node_at t) h.rest (subst (λ l. AreDue (node_at t) l h.rest) none h.due) in
     let zero : splits_over j h.now ≡ 0 = h.sought ∙ ap (splits_among j) ends in
-    subst (IsOf t root opens) (sym (spliced-none j h.now zero) ∙ h.left) h.nodes
+    subst (HoldsTree t root opens) (sym (spliced-none j h.now zero) ∙ h.left) h.nodes
 
 -- ---- a step
 
@@ -221,7 +221,7 @@ module _ (t : NodeTable) (root opens id : ℕ) (ids : List ℕ) (lists : Lists) 
           let p = placed id h.now next-there in
           stands-once (node_at t) (way_in p.around None) next.up p.tree next.tree (stands-at (node_at t) None p.around p.tree (subst (λ u. Stands (node_at t) None u) p.whole h.nodes.stands)) next.stands (p.rooted ∙ sym next.rooted)
 
-      now-is : h.now ≡ before spot
+      now-is : h.now ≡ tree_before spot
       unfolding st kept next-there spot tree-is
       now-is = let p = placed id h.now next-there in p.whole ∙ ap (filled p.around) (tree-is ∙ st.whole)
 
@@ -232,23 +232,23 @@ module _ (t : NodeTable) (root opens id : ℕ) (ids : List ℕ) (lists : Lists) 
         pub can-splice : CanSplice t root opens lists.cut.items (vec_capacity lists.cut) id stay go spot
         unfolding st kept spot now-is side-id
         can-splice = record {
-          nodes = subst (IsOf t root opens) now-is h.nodes;
-          once = λ k. let same : nodes_with k h.now ≡ nodes_with k (before spot) = ap (nodes_with k) now-is in omega (arith, same, h.once k);
+          nodes = subst (HoldsTree t root opens) now-is h.nodes;
+          once = λ k. let same : nodes_with k h.now ≡ nodes_with k (tree_before spot) = ap (nodes_with k) now-is in omega (arith, same, h.once k);
           named = next.rooted;
           stays = side-id st.left st.right sn.left sn.right st.left_id st.right_id ∙ sym stays;
           goes = side-id st.right st.left sn.right sn.left st.right_id st.left_id ∙ sym goes;
           nothing = h.cut;
-          roomy = let same : node_count h.now ≡ node_count (before spot) = ap node_count now-is in omega (arith, same, h.roomy);
+          roomy = let same : node_count h.now ≡ node_count (tree_before spot) = ap node_count now-is in omega (arith, same, h.roomy);
         }
 
-        pub step-splice : j ≡ sn.col.0 → (new : NodeTable) (root' opens' : ℕ) → IsOf new root' opens' (after spot) → ((k : ℕ) → 0 < nodes_around k spot.around → node_at new k ≡ option_map (with_child id stay) (node_at t k))
+        pub step-splice : j ≡ sn.col.0 → (new : NodeTable) (root' opens' : ℕ) → HoldsTree new root' opens' (tree_after spot) → ((k : ℕ) → 0 < nodes_around k spot.around → node_at new k ≡ option_map (with_child id stay) (node_at t k))
             → (more : Lists) → vec_capacity more.due ≡ vec_capacity lists.due → more.cut.items ≡ [] → vec_capacity more.cut ≡ vec_capacity lists.cut → (due : List ℕ) → due ≡ stay ∷ ids → IsStepped (node_at t) (id ∷ ids) (vec_capacity lists.due) new root' opens' due more j target
         unfolding st kept spot now-is side-id next-among next-total next-sought stepped
         step-splice on new root' opens' of others more room cut size due order =
             let whole : Plain = Split kept sn.col.0 sn.v st.left st.right in
             let stayed : Plain = staying spot in
             let was : (k : ℕ) → nodes_with k h.now ≡ nodes_around k spot.around + nodes_with k whole = λ k. ap (nodes_with k) now-is ∙ filled-nodes k spot.around whole in
-            let is : (k : ℕ) → nodes_with k (after spot) ≡ nodes_around k spot.around + nodes_with k stayed = λ k. filled-nodes k spot.around stayed in
+            let is : (k : ℕ) → nodes_with k (tree_after spot) ≡ nodes_around k spot.around + nodes_with k stayed = λ k. filled-nodes k spot.around stayed in
             let among : (k : ℕ) → nodes_with k next.tree ≡ nodes_with k whole = λ k. ap (nodes_with k) st.whole in
             let sides : (k : ℕ) → nodes_with k stayed ≤ nodes_with k whole = λ k. omega (arith, both-sides (nodes_with k) sn.v st.left st.right) in
             let total : node_count next.tree ≡ node_count whole = ap node_count st.whole in
@@ -264,17 +264,17 @@ module _ (t : NodeTable) (root opens id : ℕ) (ids : List ℕ) (lists : Lists) 
             ) in
             let made : spliced j stayed ≡ spliced j whole = splices in
             let s : IsSplicing new root' opens' due more j target = record {
-              now = after spot;
+              now = tree_after spot;
               rest = stayed ∷ next.rest;
               nodes = of;
               once = λ k. omega (arith, is k, was k, sides k, h.once k);
               left = filled-spliced j spot.around stayed whole made ∙ ap (spliced j) (sym now-is) ∙ h.left;
               due = subst (λ l. AreDue (node_at new) l (stayed ∷ next.rest)) (sym order) dues;
               apart = λ k. omega (arith, is k, was k, among k, next-among k);
-              sought = let now : splits_over j h.now ≡ splits_over j (before spot) = ap (splits_over j) now-is in omega (arith, now, filled-over j spot.around whole stayed, next-sought, over);
+              sought = let now : splits_over j h.now ≡ splits_over j (tree_before spot) = ap (splits_over j) now-is in omega (arith, now, filled-over j spot.around whole stayed, next-sought, over);
               few = omega (arith, next-total, total, counted, h.few, room);
               cut = cut;
-              roomy = let now : node_count h.now ≡ node_count (before spot) = ap node_count now-is in omega (arith, now, filled-count spot.around whole stayed, counted, h.roomy, size);
+              roomy = let now : node_count h.now ≡ node_count (tree_before spot) = ap node_count now-is in omega (arith, now, filled-count spot.around whole stayed, counted, h.roomy, size);
             } in
             stepped new root' opens' more due s room (omega (arith, next-total, total, counted))
           where

@@ -7,9 +7,9 @@ use Rattle.slab.specs.Slab.{slab_len}
 use Rattle.branch_tree.specs.Tree.{Leaf, Split, node_count, split_count}
 use Rattle.branch_tree.specs.Plain.{SplitKept, LeafKept, Plain, one_if_same, nodes_with}
 use Rattle.branch_tree.specs.Leaves.{leaf_count, open_count, one_if_open, with_states}
-use Rattle.branch_tree.specs.Table.{node_at, AreBelow, IsTable, AreLive, PutsNode}
+use Rattle.branch_tree.specs.Table.{node_at, AreBelow, IsNodeTable, AreLive, PutsNode}
 use Rattle.branch_tree.specs.Stored.{root_id, left_up, right_up, leaf_node, split_node, Stands}
-use Rattle.branch_tree.specs.Held.{IsOf, plain_of, numbered_of, Means, IsHeld}
+use Rattle.branch_tree.specs.Held.{HoldsTree, plain_of, numbered_of, Means, IsHeldTree}
 use Rattle.branch_tree.specs.private.StateWalk.{node_with_state, children_of, TakesStates}
 use Rattle.branch_tree.specs.declared.lists.Due.{Due}
 use Rattle.branch_tree.specs.declared.lists.Lists.{Lists}
@@ -294,7 +294,7 @@ gives-few T states f due next opens h = omega (arith, h.opened, open_count-le (w
 
 -- where nothing is due any more
 pub gives-all : (t new : NodeTable) (root room : ℕ) (empty due : List Due) (T : Plain) (states : List LeafState) (next opens : ℕ) → TakesStates t root empty room (length states) T → GivesStates T states (node_at new) due next opens → due ≡ []
-    → IsTable new → slab_len new.nodes ≡ slab_len t.nodes → new.keys ≡ t.keys → IsOf new root opens (with_states states T)
+    → IsNodeTable new → slab_len new.nodes ≡ slab_len t.nodes → new.keys ≡ t.keys → HoldsTree new root opens (with_states states T)
 gives-all t new root room empty due T states next opens takes h none table stored keys =
     let ends : h.below ≡ [] = nothing h.below (sym (ap reverse none) ∙ h.due_is) in
     let opened : opens + 0 ≡ open_count (with_states states T) = subst (λ l. opens + open_below (given (drop next states) l) ≡ open_count (with_states states T)) ends h.opened in
@@ -314,7 +314,7 @@ gives-all t new root room empty due T states next opens takes h none table store
 
 -- ---- of a tree that is held
 
-module _ (i : Inside) (h : IsHeld i) (states : List LeafState) (enough : leaf_count (plain_of i) ≤ length states) where
+module _ (i : Inside) (h : IsHeldTree i) (states : List LeafState) (enough : leaf_count (plain_of i) ≤ length states) where
   pub takes-held : TakesStates i.table i.root i.lists.due.items (vec_capacity i.lists.due) (length states) (plain_of i)
   takes-held = record {
     opens = i.still_open;
@@ -326,7 +326,7 @@ module _ (i : Inside) (h : IsHeld i) (states : List LeafState) (enough : leaf_co
     fits = omega (arith, h.counted.numbered.few, h.counted.numbered.left);
   }
 
-  pub means-states : (new : NodeTable) (opens : ℕ) → IsOf new i.root opens (with_states states (plain_of i)) → (AreLive i.table.nodes i.table.keys.items → AreLive new.nodes new.keys.items) → new.keys ≡ i.table.keys → (lists : Lists) → lists.cut ≡ i.lists.cut → lists.due.items ≡ []
+  pub means-states : (new : NodeTable) (opens : ℕ) → HoldsTree new i.root opens (with_states states (plain_of i)) → (AreLive i.table.nodes i.table.keys.items → AreLive new.nodes new.keys.items) → new.keys ≡ i.table.keys → (lists : Lists) → lists.cut ≡ i.lists.cut → lists.due.items ≡ []
       → vec_capacity lists.due ≡ vec_capacity i.lists.due → Means (record { table = new; root = i.root; last = i.last; count = i.count; still_open = opens; limit = i.limit; lists = lists; alloc = i.alloc }) (with_states states (plain_of i))
   means-states new opens of live keys lists cut due room = record {
     nodes = of;

@@ -7,7 +7,7 @@ use Rattle.slab.specs.Slab.{Slab, get, Updates}
 use Rattle.branch_tree.specs.declared.stored.TreeNode.{TreeNode}
 use Rattle.branch_tree.specs.declared.table.IdKey.{IdKey}
 use Rattle.branch_tree.specs.declared.table.NodeTable.{NodeTable}
-use Rattle.branch_tree.specs.Table.{key_of, node_with, node_under, node_at, AreAbove, AreBelow, AreRising, IsTable, IsLive, AreLive, PutsNode}
+use Rattle.branch_tree.specs.Table.{key_of, node_with, node_under, node_at, AreAbove, AreBelow, AreRisingIds, IsNodeTable, IsLive, AreLive, PutsNode}
 
 -- ---- the map
 
@@ -16,19 +16,19 @@ above-at id [] h k d within = absurd (omega arith)
 above-at id (e ∷ es) h zero d within = h.0
 above-at id (e ∷ es) h (suc k) d within = above-at id es h.1 k d (omega arith)
 
-pub rising-at : (es : List IdKey) → AreRising es → (i k : ℕ) (d : IdKey) → i < k → k < length es → (get_or es i d).id < (get_or es k d).id
+pub rising-at : (es : List IdKey) → AreRisingIds es → (i k : ℕ) (d : IdKey) → i < k → k < length es → (get_or es i d).id < (get_or es k d).id
 rising-at [] h i k d lt within = absurd (omega arith)
 rising-at (e ∷ es) h i zero d lt within = absurd (omega arith)
 rising-at (e ∷ es) h zero (suc k) d lt within = above-at e.id es h.0 k d (omega arith)
 rising-at (e ∷ es) h (suc i) (suc k) d lt within = rising-at es h.1 i k d (omega arith) (omega arith)
 
 -- an id is greater than one before it by as many places at least
-pub rising-apart : (es : List IdKey) → AreRising es → (n i : ℕ) (d : IdKey) → i + n < length es → (get_or es i d).id + n ≤ (get_or es (i + n) d).id
+pub rising-apart : (es : List IdKey) → AreRisingIds es → (n i : ℕ) (d : IdKey) → i + n < length es → (get_or es i d).id + n ≤ (get_or es (i + n) d).id
 rising-apart es h zero i d within = let same : (get_or es (i + 0) d).id ≡ (get_or es i d).id = ap (λ k. (get_or es k d).id) (omega arith) in omega (arith, same)
 rising-apart es h (suc n) i d within = omega (arith, rising-apart es h n i d (omega arith), rising-at es h (i + n) (i + suc n) d (omega arith) within)
 
 -- so is the last one, and it is no less than its place
-module _ (es : List IdKey) (h : AreRising es) (id : ℕ) (d : IdKey) (some : 0 < length es) (le : id ≤ (get_or es (length es - 1) d).id) where
+module _ (es : List IdKey) (h : AreRisingIds es) (id : ℕ) (d : IdKey) (some : 0 < length es) (le : id ≤ (get_or es (length es - 1) d).id) where
   pub last-few : length es - 1 - ((get_or es (length es - 1) d).id - id) ≤ id
   last-few =
       let top : (get_or es (0 + (length es - 1)) d).id ≡ (get_or es (length es - 1) d).id = ap (λ k. (get_or es k d).id) (omega arith) in
@@ -41,7 +41,7 @@ module _ (es : List IdKey) (h : AreRising es) (id : ℕ) (d : IdKey) (some : 0 <
       omega (arith, rising-apart es h (length es - 1 - k) k d (omega (arith, lt)), top, here, le, lt)
 
 -- each entry from the place on that is the id has that id or a greater one
-pub from-own : (es : List IdKey) → AreRising es → (id k : ℕ) (d : IdKey) → id ≤ k → k < length es → id ≤ (get_or es k d).id
+pub from-own : (es : List IdKey) → AreRisingIds es → (id k : ℕ) (d : IdKey) → id ≤ k → k < length es → id ≤ (get_or es k d).id
 from-own es h id k d le within =
     let top : (get_or es (0 + k) d).id ≡ (get_or es k d).id = ap (λ i. (get_or es i d).id) (omega arith) in
     omega (arith, rising-apart es h k 0 d (omega (arith, within)), top, le)
@@ -91,7 +91,7 @@ module _ (new : IdKey) where
   above-push id [] h lt = (lt, tt)
   above-push id (e ∷ es) h lt = (h.0, above-push id es h.1 lt)
 
-  pub rising-push : (es : List IdKey) → AreRising es → AreBelow new.id es → AreRising (es ++ new ∷ [])
+  pub rising-push : (es : List IdKey) → AreRisingIds es → AreBelow new.id es → AreRisingIds (es ++ new ∷ [])
   rising-push [] h b = (tt, tt)
   rising-push (e ∷ es) h b = (above-push e.id es h.0 b.0, rising-push es h.1 b.1)
 
@@ -179,9 +179,9 @@ module _ (nodes : Slab TreeNode) where
   above-swept id [] h = tt
   above-swept id (e ∷ es) h = swept_case (λ l. AreAbove id l) e es (λ live. (h.0, above-swept id es h.1)) (λ dead. above-swept id es h.1)
 
-  pub rising-swept : (es : List IdKey) → AreRising es → AreRising (swept nodes es)
+  pub rising-swept : (es : List IdKey) → AreRisingIds es → AreRisingIds (swept nodes es)
   rising-swept [] h = tt
-  rising-swept (e ∷ es) h = swept_case AreRising e es (λ live. (above-swept e.id es h.0, rising-swept es h.1)) (λ dead. rising-swept es h.1)
+  rising-swept (e ∷ es) h = swept_case AreRisingIds e es (λ live. (above-swept e.id es h.0, rising-swept es h.1)) (λ dead. rising-swept es h.1)
 
   pub below-swept : (id : ℕ) (es : List IdKey) → AreBelow id es → AreBelow id (swept nodes es)
   below-swept id [] h = tt
@@ -192,7 +192,7 @@ module _ (nodes : Slab TreeNode) where
   live-swept (e ∷ es) = swept_case (λ l. AreLive nodes l) e es (λ live. (live, live-swept es)) (λ dead. live-swept es)
 
   -- each id finds what it found
-  pub under-swept : (id : ℕ) (es : List IdKey) → AreRising es → node_under nodes id (key_of id (swept nodes es)) ≡ node_under nodes id (key_of id es)
+  pub under-swept : (id : ℕ) (es : List IdKey) → AreRisingIds es → node_under nodes id (key_of id (swept nodes es)) ≡ node_under nodes id (key_of id es)
   under-swept id [] h = refl
   under-swept id (e ∷ es) h =
       swept_case (λ l. node_under nodes id (key_of id l) ≡ node_under nodes id (key_of id (e ∷ es))) e es
@@ -204,7 +204,7 @@ module _ (nodes : Slab TreeNode) where
       (λ other. under-swept id es h.1))
 
   -- and a node that is found keeps its key
-  pub key_of-swept : (id k : ℕ) (es : List IdKey) → AreRising es → key_of id es ≡ Some k → IsSome (node_with id (get nodes k)) → key_of id (swept nodes es) ≡ Some k
+  pub key_of-swept : (id k : ℕ) (es : List IdKey) → AreRisingIds es → key_of id es ≡ Some k → IsSome (node_with id (get nodes k)) → key_of id (swept nodes es) ≡ Some k
   key_of-swept id k [] h is there = absurd (cc)
   key_of-swept id k (e ∷ es) h is there =
       swept_case (λ l. key_of id l ≡ Some k) e es
@@ -226,9 +226,9 @@ module _ (old new : Slab TreeNode) (key : ℕ) (n : TreeNode) (es more : List Id
   entry : IdKey
   entry = record { id = n.id; key = key }
 
-  pub insert-rising : AreRising es → AreRising more
+  pub insert-rising : AreRisingIds es → AreRisingIds more
   unfolding entry
-  insert-rising h = subst AreRising (sym is) (rising-push entry es h below)
+  insert-rising h = subst AreRisingIds (sym is) (rising-push entry es h below)
 
   pub insert-below : AreBelow (n.id + 1) more
   unfolding entry
@@ -355,7 +355,7 @@ swept-all nodes old new place kept h all = h.front ∙ ap (swept nodes) (take_al
 
 -- ---- a search by halves
 
-module _ (keys : List IdKey) (h : AreRising keys) (m : ℕ) (within : m < length keys) (id : ℕ) (e : IdKey) where
+module _ (keys : List IdKey) (h : AreRisingIds keys) (m : ℕ) (within : m < length keys) (id : ℕ) (e : IdKey) where
   -- what holds at a place holds at those before it
   pub below-before : (get_or keys m e).id < id → (k : ℕ) (d : IdKey) → k < m + 1 → (get_or keys k d).id < id
   below-before lt k d less =
@@ -375,7 +375,7 @@ module _ (keys : List IdKey) (h : AreRising keys) (m : ℕ) (within : m < length
       ]
 
 -- no entry has the id, where those before a place have smaller ones, those behind it are not smaller, and the one there is another
-pub key_of-absent : (id : ℕ) (keys : List IdKey) (p : ℕ) (d : IdKey) → AreRising keys → ((k : ℕ) (e : IdKey) → k < p → (get_or keys k e).id < id) → ((k : ℕ) (e : IdKey) → p ≤ k → k < length keys → id ≤ (get_or keys k e).id)
+pub key_of-absent : (id : ℕ) (keys : List IdKey) (p : ℕ) (d : IdKey) → AreRisingIds keys → ((k : ℕ) (e : IdKey) → k < p → (get_or keys k e).id < id) → ((k : ℕ) (e : IdKey) → p ≤ k → k < length keys → id ≤ (get_or keys k e).id)
     → (p < length keys → (get_or keys p d).id ≢ id) → key_of id keys ≡ None
 key_of-absent id keys p d h before after here =
     key_of-none id keys d (λ k within is. elim (cases_lt k p) [
@@ -395,15 +395,15 @@ swept-step_dead nodes old new place kept x h within is dead = swept-dead nodes o
 
 -- the table once its dead entries are gone
 pub record IsSwept (old new : NodeTable) : Type 0 where
-  pub table : IsTable new
+  pub table : IsNodeTable new
   pub same : (id : ℕ) → node_at new id ≡ node_at old id
   pub live : AreLive new.nodes new.keys.items
   pub below : (id : ℕ) → AreBelow id old.keys.items → AreBelow id new.keys.items
 
-pub swept-table : (old new : NodeTable) → IsTable old → new.nodes ≡ old.nodes → new.keys.items ≡ swept old.nodes old.keys.items → IsSwept old new
+pub swept-table : (old new : NodeTable) → IsNodeTable old → new.nodes ≡ old.nodes → new.keys.items ≡ swept old.nodes old.keys.items → IsSwept old new
 swept-table old new h nodes keys = record {
   table = record {
-    rising = subst AreRising (sym keys) (rising-swept old.nodes old.keys.items h.rising);
+    rising = subst AreRisingIds (sym keys) (rising-swept old.nodes old.keys.items h.rising);
     found = λ k n is.
         let was : get old.nodes k ≡ Some n = ap (λ s. get s k) (sym nodes) ∙ is in
         ap (key_of n.id) keys ∙ key_of-swept old.nodes n.id k old.keys.items h.rising (h.found k n was) (ap is_some (ap (node_with n.id) was ∙ with-same n.id n refl));

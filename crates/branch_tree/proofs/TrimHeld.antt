@@ -9,8 +9,8 @@ use Rattle.branch_tree.specs.Changes.{after_trim}
 use Rattle.branch_tree.specs.Following.{tree_merged}
 use Rattle.branch_tree.specs.private.Collapsing.{chosen_count}
 use Rattle.branch_tree.specs.private.Trimming.{after_chosen, CanTrim}
-use Rattle.branch_tree.specs.Table.{node_at, AreBelow, IsTable, AreLive}
-use Rattle.branch_tree.specs.Held.{plain_of, numbered_of, IsOf, Means, IsHeld}
+use Rattle.branch_tree.specs.Table.{node_at, AreBelow, IsNodeTable, AreLive}
+use Rattle.branch_tree.specs.Held.{plain_of, numbered_of, HoldsTree, Means, IsHeldTree}
 use Rattle.branch_tree.specs.declared.walks.Chosen.{Chosen}
 use Rattle.branch_tree.specs.declared.walks.Chosen.TheVariants.{AtDepth, OnColumn}
 use Rattle.branch_tree.specs.declared.table.NodeTable.{NodeTable}
@@ -46,7 +46,7 @@ module _ (T : NumberedTree) (n : IsNumbered T) where
   fewer-chosen (OnColumn col) depth =
       subst (λ (t : NumberedTree). node_count t.root ≤ node_count T.root) (sym (is-merge T col depth)) (omega (arith, splits-merged col T.last T.root, nodes-splits T.root, nodes-splits (tree_merged col T).root))
 
-module _ (i : Inside) (h : IsHeld i) (chosen : Chosen) (depth : ℕ) where
+module _ (i : Inside) (h : IsHeldTree i) (chosen : Chosen) (depth : ℕ) where
   pub can-trim : CanTrim i.table i.root i.still_open i.lists chosen depth i.last (plain_of i)
   can-trim = record {
     nodes = h.nodes;
@@ -61,7 +61,7 @@ module _ (i : Inside) (h : IsHeld i) (chosen : Chosen) (depth : ℕ) where
     few = omega (arith, h.counted.numbered.few, h.counted.numbered.left);
   }
 
-  pub means-chosen : (a b : NodeTable) (root opens last : ℕ) → IsOf a root opens (after_chosen (numbered_of i) chosen depth).root → last ≡ i.last + chosen_count chosen depth (plain_of i) → AreBelow (last + 1) a.keys.items → IsTable b → ((k : ℕ) → node_at b k ≡ node_at a k)
+  pub means-chosen : (a b : NodeTable) (root opens last : ℕ) → HoldsTree a root opens (after_chosen (numbered_of i) chosen depth).root → last ≡ i.last + chosen_count chosen depth (plain_of i) → AreBelow (last + 1) a.keys.items → IsNodeTable b → ((k : ℕ) → node_at b k ≡ node_at a k)
       → AreLive b.nodes b.keys.items → ((k : ℕ) → AreBelow k a.keys.items → AreBelow k b.keys.items) → b.nodes ≡ a.nodes → vec_len b.keys ≤ vec_len a.keys → vec_capacity b.keys ≡ vec_capacity a.keys → (lists : Lists) → lists.due.items ≡ [] → lists.cut.items ≡ []
       → vec_capacity lists.due ≡ vec_capacity i.lists.due → vec_capacity lists.cut ≡ vec_capacity i.lists.cut → (count : ℕ) → count ≡ slab_len b.nodes
       → Means (record { table = b; root = root; last = last; count = count; still_open = opens; limit = i.limit; lists = lists; alloc = i.alloc }) (after_chosen (numbered_of i) chosen depth).root

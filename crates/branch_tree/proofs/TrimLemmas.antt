@@ -10,7 +10,7 @@ use Rattle.branch_tree.specs.private.Collapsing.{is_chosen, chosen_count, chosen
 use Rattle.branch_tree.specs.private.Trimming.{is_split_kind, is_chosen_kind, children_due, AreTreesDue, ids_due, CanTrim}
 use Rattle.branch_tree.specs.Table.{node_at, AreBelow}
 use Rattle.branch_tree.specs.Stored.{root_id, left_up, right_up, Stands, with_child, plain_from}
-use Rattle.branch_tree.specs.Held.{IsOf, CanCollapse}
+use Rattle.branch_tree.specs.Held.{HoldsTree, CanCollapse}
 use Rattle.branch_tree.specs.private.Due.{nodes_among, node_total}
 use Rattle.branch_tree.specs.declared.walks.Chosen.{Chosen}
 use Rattle.branch_tree.specs.declared.lists.Due.{Due}
@@ -93,7 +93,7 @@ open-splits (Split kept j v left right) = omega (arith, open-splits left, open-s
 pub record TrimSoFar (chosen : Chosen) (depth last0 : ℕ) (T0 : Plain) (t : NodeTable) (root opens : ℕ) (ds : List Due) (last : ℕ) : Type 0 where
   pub tree : Plain
   pub rest : List Plain
-  pub nodes : IsOf t root opens tree
+  pub nodes : HoldsTree t root opens tree
   pub once : (k : ℕ) → nodes_with k tree ≤ 1
   pub given : (k : ℕ) → last < k → nodes_with k tree ≡ 0
   pub part : (k : ℕ) → nodes_among k rest ≤ nodes_with k tree
@@ -146,8 +146,8 @@ module _ (chosen : Chosen) (depth last0 : ℕ) (T0 : Plain) (t : NodeTable) (roo
       let ids : chosen_ids chosen depth h.tree ≡ [] = h.ids ∙ ap (λ l. ids_due chosen (reverse l) h.rest) none in
       count-ids chosen depth h.tree ∙ ap length ids
 
-  pub trim-all : due ≡ [] → IsOf t root opens (chosen_collapsed chosen depth last0 T0)
-  trim-all none = subst (λ T. IsOf t root opens T) (sym (chosen-none chosen depth last h.tree (trim-none_left none)) ∙ h.target) h.nodes
+  pub trim-all : due ≡ [] → HoldsTree t root opens (chosen_collapsed chosen depth last0 T0)
+  trim-all none = subst (λ T. HoldsTree t root opens T) (sym (chosen-none chosen depth last h.tree (trim-none_left none)) ∙ h.target) h.nodes
 
   pub trim-last : due ≡ [] → last ≡ last0 + chosen_count chosen depth T0
   trim-last none = omega (arith, h.steps, trim-none_left none)
@@ -267,7 +267,7 @@ module _ (chosen : Chosen) (depth last0 : ℕ) (T0 : Plain) (t : NodeTable) (roo
         }
 
         -- and the others are as they were
-        module _ (a : NodeTable) (top now : ℕ) (of : IsOf a top now (collapsed d.id (last + 1) h.tree))
+        module _ (a : NodeTable) (top now : ℕ) (of : HoldsTree a top now (collapsed d.id (last + 1) h.tree))
             (stays : (k : ℕ) → 0 < nodes_with k (collapsed d.id (last + 1) h.tree) → k ≢ last + 1 → node_at a k ≡ option_map (with_child d.id (last + 1)) (node_at t k)) where
           parts : IsCollapsing (node_at t) d.id (last + 1) h.tree
           parts = collapsing (node_at t) d.id (last + 1) None h.tree h.nodes.stands one-split (h.once d.id)

@@ -14,7 +14,7 @@ use Rattle.branch_tree.specs.declared.stored.TreeNode.{TreeNode}
 use Rattle.branch_tree.specs.declared.upward.Turn.{Turn}
 use Rattle.branch_tree.specs.Stored.{change_of, left_up, right_up, leaf_node, split_node, root_id, Stands, leaf_of, leaf_of_kind}
 use Rattle.branch_tree.specs.Table.{node_at}
-use Rattle.branch_tree.specs.Held.{plain_of, IsHeld}
+use Rattle.branch_tree.specs.Held.{plain_of, IsHeldTree}
 use Rattle.branch_tree.specs.declared.node.LeafData.{LeafData}
 use Rattle.branch_tree.specs.declared.stored.NodeKind.TheVariants as node
 use Rattle.branch_tree.specs.declared.tree.Tree.TheInside.{Inside}
@@ -142,7 +142,7 @@ pub record IsRegionOf (i : Inside) (id : ℕ) (n : TreeNode) : Type 0 where
   pub path_is : path_of id (plain_of i) ≡ Some (reverse changes)
   pub few : length changes ≤ slab_len i.table.nodes
 
-module _ (i : Inside) (h : IsHeld i) (id : ℕ) where
+module _ (i : Inside) (h : IsHeldTree i) (id : ℕ) where
   pub no-leaf-held : leaf_of (node_at i.table id) ≡ None → leaves_with id (plain_of i) ≡ 0
   no-leaf-held none =
       let lw = leaves_with id (plain_of i) in
@@ -167,6 +167,6 @@ module _ (i : Inside) (h : IsHeld i) (id : ℕ) where
       }
 
 -- the region that the leaf's node leads to
-pub region-answer : (i : Inside) (h : IsHeld i) (id : ℕ) (n : TreeNode) (kept : LeafData) → node_at i.table id ≡ Some n → n.kind ≡ node.Leaf kept
+pub region-answer : (i : Inside) (h : IsHeldTree i) (id : ℕ) (n : TreeNode) (kept : LeafData) → node_at i.table id ≡ Some n → n.kind ≡ node.Leaf kept
     → (region : Path) → ((changes : Path) → LeadsUp (node_at i.table) n.up changes → region ≡ reverse changes) → Some region ≡ path_of id (plain_of i)
 region-answer i h id n kept found is region each = let r = region-held i h id n kept found is in ap (λ p. Some p) (each r.changes r.leads) ∙ sym r.path_is

@@ -15,7 +15,7 @@ use Rattle.branch_tree.specs.declared.table.NodeTable.{NodeTable}
 use Rattle.branch_tree.specs.declared.visiting.DueNode.{DueNode}
 use Rattle.branch_tree.specs.Table.{node_at}
 use Rattle.branch_tree.specs.Stored.{root_id, left_up, right_up, Stands, plain_from}
-use Rattle.branch_tree.specs.Held.{IsOf}
+use Rattle.branch_tree.specs.Held.{HoldsTree}
 use Rattle.branch_tree.specs.private.Paths.{own_change, path_to, due_below, VisitsNode, IsNarrowAt}
 use Rattle.branch_tree.proofs.PathLaws.{narrow_paths}
 use Rattle.branch_tree.proofs.StoredLemmas.{root_node, root-found, read_back}
@@ -92,7 +92,7 @@ module _ {V : Type 0} (step : V → RegionLeaf → V → Type 0) where
     pub few : nodes_coming rest ≤ node_count T
     pub visits : (new : V) → Visits step (leaves_coming rest) now new → Visits step (region_leaves [] T) old new
 
-  pub visited-none : (t : NodeTable) (root opens : ℕ) (T : Plain) (path : Path) (due : List DueNode) (v : V) → IsOf t root opens T → HasNarrowSplits T → path ≡ [] → due ≡ record { id = root; above = 0 } ∷ [] → AreVisited (node_at t) path due v v T
+  pub visited-none : (t : NodeTable) (root opens : ℕ) (T : Plain) (path : Path) (due : List DueNode) (v : V) → HoldsTree t root opens T → HasNarrowSplits T → path ≡ [] → due ≡ record { id = root; above = 0 } ∷ [] → AreVisited (node_at t) path due v v T
   visited-none t root opens T path due v of narrow empty one = record {
     rest = ([], T) ∷ [];
     coming = subst (λ l. AreComing (node_at t) path (length path) l (([], T) ∷ [])) (sym (ap reverse one))

@@ -4,7 +4,7 @@ ghost use Rattle.std.specs.Option.{option_map};
 ghost use Rattle.slab.specs.Slab.{slab_len};
 ghost use Rattle.branch_tree.specs.private.Removing.{HasCounts};
 ghost use Rattle.branch_tree.specs.private.Relisted.{column_left_by, up_left_by, split_left_by, kind_left_by, node_left_by, tree_left_by};
-ghost use Rattle.branch_tree.specs.Table.{node_at, IsTable, AreLive, PutsNode};
+ghost use Rattle.branch_tree.specs.Table.{node_at, IsNodeTable, AreLive, PutsNode};
 ghost use Rattle.branch_tree.specs.declared.table.IdKey.{IdKey};
 
 use crate::copying::split_of_lists;
@@ -86,11 +86,11 @@ impl NodeTable {
     /// Changes the lists of the node of one entry. Where there is no memory it stays as it was.
     fn relist_at(&mut self, alloc: Global, place: usize, gone: &Removed) -> Result<(), AllocError>
         requires counts { HasCounts gone.now }
-        requires table { IsTable self.old }
+        requires table { IsNodeTable self.old }
         requires live { AreLive self.old.nodes self.old.keys.items }
         requires within { place < vec_len self.old.keys }
         ensures put { OnOk result ((d : IdKey) → PutsNode (node_at self.old) (slice_index_or self.old.keys.items place d).id (option_map (node_left_by gone.now) (node_at self.old (slice_index_or self.old.keys.items place d).id)) (node_at self.new)) }
-        ensures table { IsTable self.new }
+        ensures table { IsNodeTable self.new }
         ensures live { AreLive self.new.nodes self.new.keys.items }
         ensures len { slab_len self.new.nodes ≡ slab_len self.old.nodes }
         ensures keys { self.new.keys ≡ self.old.keys }
@@ -109,10 +109,10 @@ impl NodeTable {
     /// Changes the lists of each node. Where there is no memory those before one are changed.
     pub(crate) fn relist(&mut self, alloc: Global, gone: &Removed) -> Result<(), AllocError>
         requires counts { HasCounts gone.now }
-        requires table { IsTable self.old }
+        requires table { IsNodeTable self.old }
         requires live { AreLive self.old.nodes self.old.keys.items }
         ensures all { OnOk result ((id : ℕ) → node_at self.new id ≡ option_map (node_left_by gone.now) (node_at self.old id)) }
-        ensures table { IsTable self.new }
+        ensures table { IsNodeTable self.new }
         ensures live { AreLive self.new.nodes self.new.keys.items }
         ensures len { slab_len self.new.nodes ≡ slab_len self.old.nodes }
         ensures keys { self.new.keys ≡ self.old.keys }

@@ -4,10 +4,10 @@ ghost use Rattle.std.specs.Prelude.{◌≡◌, ℕ, ◌<◌, [], ◌∷◌, None
 ghost use Rattle.slab.specs.Slab.{slab_len};
 ghost use Rattle.branch_tree.specs.Plain.{Plain};
 ghost use Rattle.branch_tree.specs.Stored.{with_child};
-ghost use Rattle.branch_tree.specs.Held.{IsOf};
-ghost use Rattle.branch_tree.specs.Table.{node_at, IsTable, PutsNode};
+ghost use Rattle.branch_tree.specs.Held.{HoldsTree};
+ghost use Rattle.branch_tree.specs.Table.{node_at, IsNodeTable, PutsNode};
 ghost use Rattle.branch_tree.specs.private.Splicing.{spliced, spliced_tree};
-ghost use Rattle.branch_tree.specs.private.Spliced.{allowing, nodes_around, Spot, after, CanSplice, due_ids, nodes_due, IsReady, IsSplicing};
+ghost use Rattle.branch_tree.specs.private.Spliced.{allowing, nodes_around, Spot, tree_after, CanSplice, due_ids, nodes_due, HasRoomToSplice, IsSplicing};
 ghost use Rattle.branch_tree.specs.declared.stored.Up.{Up};
 
 use crate::cutting::cut_below;
@@ -29,9 +29,9 @@ fn sides(split: &SplitNode) -> (u64, u64)
 
 /// Puts a node into another one's place as a child of its parent, or as the root where it has none.
 fn relink(table: &mut NodeTable, root: &mut u64, up: Option<Up>, old: u64, new: u64)
-    requires table { IsTable table.old }
+    requires table { IsNodeTable table.old }
     requires there { (way : Up) → up ≡ Some way → IsSome (node_at table.old way.parent) }
-    ensures table { IsTable table.new }
+    ensures table { IsNodeTable table.new }
     ensures top { up ≡ None → (table.new ≡ table.old) × (root.new ≡ new) }
     ensures below { (way : Up) → up ≡ Some way → PutsNode (node_at table.old) way.parent (option_map (with_child old new) (node_at table.old way.parent)) (node_at table.new) × (root.new ≡ root.old) }
     ensures len { slab_len table.new.nodes ≡ slab_len table.old.nodes }
@@ -55,7 +55,7 @@ fn splice_at(
     go: u64,
 )
     requires { (s : Spot) × CanSplice table.old root.old opens.old cut.old.items (vec_capacity cut.old) id stay go s }
-    ensures tree { (s : Spot) → CanSplice table.old root.old opens.old cut.old.items (vec_capacity cut.old) id stay go s → IsOf table.new root.new opens.new (after s) }
+    ensures tree { (s : Spot) → CanSplice table.old root.old opens.old cut.old.items (vec_capacity cut.old) id stay go s → HoldsTree table.new root.new opens.new (tree_after s) }
     ensures others { (s : Spot) → CanSplice table.old root.old opens.old cut.old.items (vec_capacity cut.old) id stay go s → (k : ℕ) → 0 < nodes_around k s.around → node_at table.new k ≡ option_map (with_child id stay) (node_at table.old k) }
     ensures keys { table.new.keys ≡ table.old.keys }
     ensures empty { cut.new.items ≡ [] }
@@ -111,8 +111,8 @@ fn splice_next(
 
 /// Takes each split on a column out. The entries of the nodes that go are dead.
 fn splice_all(table: &mut NodeTable, root: &mut u64, opens: &mut u64, lists: &mut Lists, col: u32)
-    requires { (T : Plain) × IsReady table.old root.old opens.old lists.old T }
-    ensures tree { (T : Plain) → IsReady table.old root.old opens.old lists.old T → IsOf table.new root.new opens.new (spliced col T) }
+    requires { (T : Plain) × HasRoomToSplice table.old root.old opens.old lists.old T }
+    ensures tree { (T : Plain) → HasRoomToSplice table.old root.old opens.old lists.old T → HoldsTree table.new root.new opens.new (spliced col T) }
     ensures keys { table.new.keys ≡ table.old.keys }
     ensures due { lists.new.due.items ≡ [] }
     ensures cut { lists.new.cut.items ≡ [] }

@@ -3,8 +3,8 @@ ghost use Rattle.std.specs.Prelude.{◌≡◌, ◌≤◌, [], length, vec_capaci
 ghost use Rattle.branch_tree.specs.Plain.{Plain};
 ghost use Rattle.branch_tree.specs.Leaves.{leaf_count, with_states};
 ghost use Rattle.branch_tree.specs.Changes.{with_leaf_states};
-ghost use Rattle.branch_tree.specs.Table.{node_at, AreRising, AreLive};
-ghost use Rattle.branch_tree.specs.Held.{IsOf};
+ghost use Rattle.branch_tree.specs.Table.{node_at, AreRisingIds, AreLive};
+ghost use Rattle.branch_tree.specs.Held.{HoldsTree};
 ghost use Rattle.branch_tree.specs.private.StateWalk.{children_of, TakesStates};
 
 use crate::lists::Due;
@@ -15,7 +15,7 @@ use crate::tree::Tree;
 
 /// The ids of the children of a split, and `None` at a leaf.
 fn children_of(table: &NodeTable, id: u64) -> Option<(u64, u64)>
-    requires { AreRising table.now.keys.items }
+    requires { AreRisingIds table.now.keys.items }
     ensures { result ≡ children_of (node_at table.now id) }
 {
     let Some(node) = table.get(id) else {
@@ -30,7 +30,7 @@ fn children_of(table: &NodeTable, id: u64) -> Option<(u64, u64)>
 /// Gives the leaves below the root these states, from left to right, and answers how many of them are open.
 fn give_states(table: &mut NodeTable, due: &mut Vec<Due>, root: u64, states: &[LeafState]) -> u64
     requires tree { (T : Plain) × TakesStates table.old root due.old.items (vec_capacity due.old) (length states.now) T }
-    ensures tree { (T : Plain) → TakesStates table.old root due.old.items (vec_capacity due.old) (length states.now) T → IsOf table.new root result (with_states states.now T) }
+    ensures tree { (T : Plain) → TakesStates table.old root due.old.items (vec_capacity due.old) (length states.now) T → HoldsTree table.new root result (with_states states.now T) }
     ensures live { AreLive table.old.nodes table.old.keys.items → AreLive table.new.nodes table.new.keys.items }
     ensures keys { table.new.keys ≡ table.old.keys }
     ensures empty { due.new.items ≡ [] }

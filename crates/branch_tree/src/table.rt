@@ -14,7 +14,7 @@ ghost use Rattle.branch_tree.specs.Leaves.{one_if_open};
 ghost use Rattle.branch_tree.specs.Stored.{leaf_of, split_of, with_child};
 ghost use Rattle.branch_tree.specs.private.Moved.{with_up};
 ghost use Rattle.branch_tree.specs.private.StateWalk.{node_with_state};
-ghost use Rattle.branch_tree.specs.Table.{key_of, node_at, AreRising, AreBelow, IsTable, IsLive, AreLive, PutsNode};
+ghost use Rattle.branch_tree.specs.Table.{key_of, node_at, AreRisingIds, AreBelow, IsNodeTable, IsLive, AreLive, PutsNode};
 
 use crate::node::{LeafData, LeafState};
 use crate::stored::{NodeKind, TreeNode, Up, is_open};
@@ -30,7 +30,7 @@ pub(crate) struct IdKey {
 
 /// How many entries have a smaller id for sure: each entry in front of the last one has an id that is smaller by one at least.
 fn least_place(keys: &[IdKey], id: u64) -> usize
-    requires { AreRising keys.now }
+    requires { AreRisingIds keys.now }
     ensures within { result ≤ length keys.now }
     ensures few { result ≤ id }
     ensures before { (k : ℕ) (d : IdKey) → k < result → (slice_index_or keys.now k d).id < id }
@@ -47,7 +47,7 @@ fn least_place(keys: &[IdKey], id: u64) -> usize
 /// How many entries have an id below this one. Ids rise, so that only the places are looked at that the ids that are gone leave
 /// open: where none is gone, one.
 fn place_of(keys: &[IdKey], id: u64) -> usize
-    requires { AreRising keys.now }
+    requires { AreRisingIds keys.now }
     ensures within { result ≤ length keys.now }
     ensures before { (k : ℕ) (d : IdKey) → k < result → (slice_index_or keys.now k d).id < id }
     ensures after { (k : ℕ) (d : IdKey) → result ≤ k → k < length keys.now → id ≤ (slice_index_or keys.now k d).id }
@@ -67,7 +67,7 @@ fn place_of(keys: &[IdKey], id: u64) -> usize
 
 /// The key beside the id.
 fn key_of(keys: &[IdKey], id: u64) -> Option<usize>
-    requires { AreRising keys.now }
+    requires { AreRisingIds keys.now }
     ensures { result ≡ key_of id keys.now }
 {
     match keys.get(place_of(keys, id)) {
@@ -149,7 +149,7 @@ pub(crate) struct NodeTable {
 impl NodeTable {
     /// No node.
     pub(crate) fn new(alloc: Global) -> NodeTable
-        ensures table { IsTable result }
+        ensures table { IsNodeTable result }
         ensures keys { result.keys.items ≡ [] }
         ensures len { slab_len result.nodes ≡ 0 }
         ensures empty { (id : ℕ) → node_at result id ≡ None }
@@ -177,7 +177,7 @@ impl NodeTable {
 
     /// The node with the id.
     pub(crate) fn get(&self, id: u64) -> Option<&TreeNode>
-        requires { AreRising self.now.keys.items }
+        requires { AreRisingIds self.now.keys.items }
         ensures { option_copied result ≡ node_at self.now id }
     {
         let Some(key) = key_of(self.keys.as_slice(), id) else {
@@ -191,7 +191,7 @@ impl NodeTable {
 
     /// The key of a node that is there.
     fn key(&self, id: u64) -> usize
-        requires rising { AreRising self.now.keys.items }
+        requires rising { AreRisingIds self.now.keys.items }
         requires there { IsSome (node_at self.now id) }
         ensures key { key_of id self.now.keys.items ≡ Some result }
         ensures there { node_at self.now id ≡ get self.now.nodes result }
@@ -204,9 +204,9 @@ impl NodeTable {
 
     /// Puts another node into the place of the one with its id.
     pub(crate) fn set(&mut self, node: TreeNode)
-        requires table { IsTable self.old }
+        requires table { IsNodeTable self.old }
         requires there { IsSome (node_at self.old node.id) }
-        ensures table { IsTable self.new }
+        ensures table { IsNodeTable self.new }
         ensures put { PutsNode (node_at self.old) node.id (Some node) (node_at self.new) }
         ensures len { slab_len self.new.nodes ≡ slab_len self.old.nodes }
         ensures room { self.new.nodes.capacity ≡ self.old.nodes.capacity }
@@ -219,9 +219,9 @@ impl NodeTable {
 
     /// Gives a split another child in the place of an old one.
     pub(crate) fn set_child(&mut self, id: u64, old: u64, new: u64)
-        requires table { IsTable self.old }
+        requires table { IsNodeTable self.old }
         requires there { IsSome (node_at self.old id) }
-        ensures table { IsTable self.new }
+        ensures table { IsNodeTable self.new }
         ensures put { PutsNode (node_at self.old) id (option_map (with_child old new) (node_at self.old id)) (node_at self.new) }
         ensures len { slab_len self.new.nodes ≡ slab_len self.old.nodes }
         ensures keys { self.new.keys ≡ self.old.keys }
@@ -232,9 +232,9 @@ impl NodeTable {
 
     /// Gives a leaf another state.
     pub(crate) fn set_state(&mut self, id: u64, state: LeafState)
-        requires table { IsTable self.old }
+        requires table { IsNodeTable self.old }
         requires there { IsSome (node_at self.old id) }
-        ensures table { IsTable self.new }
+        ensures table { IsNodeTable self.new }
         ensures put { PutsNode (node_at self.old) id (option_map (node_with_state state) (node_at self.old id)) (node_at self.new) }
         ensures len { slab_len self.new.nodes ≡ slab_len self.old.nodes }
         ensures live { AreLive self.old.nodes self.old.keys.items → AreLive self.new.nodes self.new.keys.items }
@@ -246,9 +246,9 @@ impl NodeTable {
 
     /// Takes a node out. Its entry in the map is dead until the next sweep.
     pub(crate) fn take(&mut self, id: u64) -> TreeNode
-        requires table { IsTable self.old }
+        requires table { IsNodeTable self.old }
         requires there { IsSome (node_at self.old id) }
-        ensures table { IsTable self.new }
+        ensures table { IsNodeTable self.new }
         ensures node { node_at self.old id ≡ Some result }
         ensures put { PutsNode (node_at self.old) id None (node_at self.new) }
         ensures len { slab_len self.new.nodes + 1 ≡ slab_len self.old.nodes }
@@ -261,11 +261,11 @@ impl NodeTable {
 
     /// Puts a node with a new id behind the others. There is room for it.
     pub(crate) fn insert(&mut self, node: TreeNode)
-        requires table { IsTable self.old }
+        requires table { IsNodeTable self.old }
         requires new { AreBelow node.id self.old.keys.items }
         requires nodes { HasRoomFor self.old.nodes 1 }
         requires keys { vec_len self.old.keys < vec_capacity self.old.keys }
-        ensures table { IsTable self.new }
+        ensures table { IsNodeTable self.new }
         ensures put { PutsNode (node_at self.old) node.id (Some node) (node_at self.new) }
         ensures below { AreBelow (node.id + 1) self.new.keys.items }
         ensures live { AreLive self.old.nodes self.old.keys.items → AreLive self.new.nodes self.new.keys.items }
@@ -291,8 +291,8 @@ impl NodeTable {
 
     /// Takes the dead entries out of the map.
     pub(crate) fn sweep(&mut self)
-        requires { IsTable self.old }
-        ensures table { IsTable self.new }
+        requires { IsNodeTable self.old }
+        ensures table { IsNodeTable self.new }
         ensures same { (id : ℕ) → node_at self.new id ≡ node_at self.old id }
         ensures live { AreLive self.new.nodes self.new.keys.items }
         ensures below { (id : ℕ) → AreBelow id self.old.keys.items → AreBelow id self.new.keys.items }
@@ -313,7 +313,7 @@ impl NodeTable {
 
     /// The data of the leaf with the id.
     pub(crate) fn leaf(&self, id: u64) -> Option<&LeafData>
-        requires { AreRising self.now.keys.items }
+        requires { AreRisingIds self.now.keys.items }
         ensures { option_copied result ≡ leaf_of (node_at self.now id) }
     {
         let Some(node) = self.get(id) else {
@@ -327,7 +327,7 @@ impl NodeTable {
 
     /// Whether the leaf with the id is open, as one or none, and the way to it.
     pub(crate) fn leaf_parts(&self, id: u64) -> (u64, Option<Up>)
-        requires rising { AreRising self.now.keys.items }
+        requires rising { AreRisingIds self.now.keys.items }
         requires there { IsSome (leaf_of (node_at self.now id)) }
         ensures open { (kept : LeafData) → leaf_of (node_at self.now id) ≡ Some kept → result.0 ≡ one_if_open kept.state }
         ensures up { (node : TreeNode) → node_at self.now id ≡ Some node → result.1 ≡ node.up }
@@ -343,7 +343,7 @@ impl NodeTable {
 
     /// Whether a split has the id.
     pub(crate) fn has_split(&self, id: u64) -> bool
-        requires { AreRising self.now.keys.items }
+        requires { AreRisingIds self.now.keys.items }
         ensures { IsTrue result ↔ IsSome (split_of (node_at self.now id)) }
     {
         let Some(node) = self.get(id) else {
@@ -357,7 +357,7 @@ impl NodeTable {
 
     /// The children of a split.
     pub(crate) fn children(&self, id: u64) -> (u64, u64)
-        requires rising { AreRising self.now.keys.items }
+        requires rising { AreRisingIds self.now.keys.items }
         requires there { IsSome (split_of (node_at self.now id)) }
         ensures { (split : SplitNode) → split_of (node_at self.now id) ≡ Some split → result ≡ (split.left, split.right) }
     {
@@ -393,9 +393,9 @@ fn move_at(nodes: &mut Slab<TreeNode>, key: usize, up: Option<Up>)
 impl NodeTable {
     /// Gives a node another way from its parent.
     pub(crate) fn set_up(&mut self, id: u64, up: Option<Up>)
-        requires table { IsTable self.old }
+        requires table { IsNodeTable self.old }
         requires there { IsSome (node_at self.old id) }
-        ensures table { IsTable self.new }
+        ensures table { IsNodeTable self.new }
         ensures put { PutsNode (node_at self.old) id (option_map (with_up up) (node_at self.old id)) (node_at self.new) }
         ensures len { slab_len self.new.nodes ≡ slab_len self.old.nodes }
         ensures keys { self.new.keys ≡ self.old.keys }

@@ -4,7 +4,7 @@ ghost use Rattle.branch_tree.specs.Plain.{Plain};
 ghost use Rattle.branch_tree.specs.Changes.{after_trim};
 ghost use Rattle.branch_tree.specs.Following.{tree_merged};
 ghost use Rattle.branch_tree.specs.private.Collapsing.{chosen_count, chosen_collapsed};
-ghost use Rattle.branch_tree.specs.Held.{IsOf};
+ghost use Rattle.branch_tree.specs.Held.{HoldsTree};
 ghost use Rattle.branch_tree.specs.Table.{AreBelow};
 ghost use Rattle.branch_tree.specs.private.Trimming.{is_chosen_kind, is_split_kind, children_due, CanTrim, after_chosen};
 
@@ -61,7 +61,7 @@ fn collapse_all(
     last: u64,
 ) -> u64
     requires tree { (T : Plain) × CanTrim table.old root.old opens.old lists.old chosen depth last T }
-    ensures tree { (T : Plain) → CanTrim table.old root.old opens.old lists.old chosen depth last T → IsOf table.new root.new opens.new (chosen_collapsed chosen depth last T) }
+    ensures tree { (T : Plain) → CanTrim table.old root.old opens.old lists.old chosen depth last T → HoldsTree table.new root.new opens.new (chosen_collapsed chosen depth last T) }
     ensures last { (T : Plain) → CanTrim table.old root.old opens.old lists.old chosen depth last T → result ≡ last + chosen_count chosen depth T }
     ensures below { AreBelow (result + 1) table.new.keys.items }
     ensures due { lists.new.due.items ≡ [] }

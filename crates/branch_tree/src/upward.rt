@@ -4,7 +4,7 @@ ghost use Rattle.slab.specs.Slab.{slab_len};
 ghost use Rattle.lp_model.specs.Regions.{Path};
 ghost use Rattle.branch_tree.specs.Plain.{leaves_with, path_of};
 ghost use Rattle.branch_tree.specs.Changes.{HasLeaf};
-ghost use Rattle.branch_tree.specs.Table.{node_at, AreRising};
+ghost use Rattle.branch_tree.specs.Table.{node_at, AreRisingIds};
 ghost use Rattle.branch_tree.specs.private.Paths.{LeadsUp, changes_of};
 
 use crate::stored::{NodeKind, Up};
@@ -38,7 +38,7 @@ fn gather(
     table: &NodeTable,
     from: Option<Up>,
 ) -> Result<SmallVec<Turn, 16>, AllocError>
-    requires rising { AreRising table.now.keys.items }
+    requires rising { AreRisingIds table.now.keys.items }
     requires way { (cs : Path) × (LeadsUp (node_at table.now) from cs × (length cs ≤ slab_len table.now.nodes)) }
     ensures { IfOk result (λ turns. (cs : Path) → LeadsUp (node_at table.now) from cs → changes_of turns.items ≡ cs) }
 {
@@ -74,7 +74,7 @@ fn turned(alloc: Global, gathered: SmallVec<Turn, 16>) -> Result<Region, AllocEr
 
 /// The path of a node with this way up.
 fn region_above(alloc: Global, table: &NodeTable, up: Option<Up>) -> Result<Region, AllocError>
-    requires rising { AreRising table.now.keys.items }
+    requires rising { AreRisingIds table.now.keys.items }
     requires way { (cs : Path) × (LeadsUp (node_at table.now) up cs × (length cs ≤ slab_len table.now.nodes)) }
     ensures { IfOk result (λ region. (cs : Path) → LeadsUp (node_at table.now) up cs → region ≡ reverse cs) }
 {

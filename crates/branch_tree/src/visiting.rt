@@ -9,7 +9,7 @@ ghost use Rattle.branch_tree.specs.Plain.{Plain};
 ghost use Rattle.branch_tree.specs.Leaves.{region_leaves};
 ghost use Rattle.branch_tree.specs.Visits.{Visits};
 ghost use Rattle.branch_tree.specs.Numbered.{IsNumbered};
-ghost use Rattle.branch_tree.specs.Held.{IsOf};
+ghost use Rattle.branch_tree.specs.Held.{HoldsTree};
 ghost use Rattle.branch_tree.specs.private.Paths.{path_to, due_below, VisitsNode, IsNarrowAt};
 
 use crate::stored::{NodeKind, TreeNode, Up};
@@ -87,8 +87,8 @@ fn visit_below<V: LeafVisitor>(
     root: u64,
     visitor: &mut V,
 ) -> Result<(), AllocError>
-    requires { (opens : ℕ) × ((T : Plain) × (IsOf table.now root opens T × HasNarrowSplits T)) }
-    ensures { OnOk result ((opens : ℕ) (T : Plain) → IsOf table.now root opens T → HasNarrowSplits T → Visits V.step (region_leaves [] T) visitor.old visitor.new) }
+    requires { (opens : ℕ) × ((T : Plain) × (HoldsTree table.now root opens T × HasNarrowSplits T)) }
+    ensures { OnOk result ((opens : ℕ) (T : Plain) → HoldsTree table.now root opens T → HasNarrowSplits T → Visits V.step (region_leaves [] T) visitor.old visitor.new) }
 {
     let mut trail = Trail::new(alloc, 0)?;
     let mut due = Vec::new(alloc);

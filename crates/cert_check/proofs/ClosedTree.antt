@@ -91,6 +91,11 @@ module _ (F : Formulation) (is_valid : IsValid F) where
 closed_tree-claim : (M : Program) (claim : Claim) (point : Named) → HasPoint M claim point → (cuts : List NamedCut) → All (CutStands M) cuts → (nodes : List CertNode) → IsClosedTree (formulation_by M cuts) claim nodes → IsTrueClaim M claim
 closed_tree-claim M claim point has cuts stand nodes t = tree-claim (formulation_by M cuts) (valid M cuts stand) (with_places M t.tree) t.splits claim point has t.leaves
 
+-- no feasible point of a model has a value below one against which a lawful tree closes
+pub closed_tree-bound : (M : Program) (cuts : List NamedCut) → All (CutStands M) cuts → (v : ℚ) (nodes : List CertNode) → IsClosedTree (formulation_by M cuts) (Optimal v) nodes
+    → (y : Point) → IsFeasible M y → in_least_form M.sense v ≤ℚ least_value M 1 y
+closed_tree-bound M cuts stand v nodes t y feasible = tree-bound (formulation_by M cuts) (valid M cuts stand) (with_places M t.tree) t.splits v t.leaves y feasible
+
 parts-claim : (M : Program) (claim : Claim) (point ray : Named) (cuts : List NamedCut) (nodes : List CertNode) → HasPoint M claim point → HasRay M claim ray → All (CutStands M) cuts → HasClosedTree (formulation_by M cuts) claim nodes → IsTrueClaim M claim
 parts-claim M (Optimal v) point ray cuts nodes has no_ray stand tree = closed_tree-claim M (Optimal v) point has cuts stand nodes tree
 parts-claim M Infeasible point ray cuts nodes has no_ray stand tree = closed_tree-claim M Infeasible point has cuts stand nodes tree

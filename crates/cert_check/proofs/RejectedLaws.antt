@@ -23,11 +23,13 @@ use Rattle.cert_check.specs.Places.{with_places}
 use Rattle.cert_check.specs.Mults.{mults_of}
 use Rattle.cert_check.specs.Cuts.{formulation_by, CutStands}
 use Rattle.cert_check.specs.Accepted.{point_of, Closes, HasPoint, HasRay, IsClosedTree, HasClosedTree, Accepts}
+use Rattle.cert_check.specs.Trees.{JudgedTree}
 use Rattle.cert_check.specs.Verdict.{IsNodeJudged, IsClaimJudged, IsHeadJudged, visits, AreTreeVisits, AreVisits, IsJudgedAt, IsFirstFailing, IsVerdict}
 use Rattle.cert_check.proofs.PlaceLemmas.{column_known}
 use Rattle.cert_check.proofs.LeafLemmas.{bound-breaks, farkas-breaks}
 use Rattle.cert_check.proofs.OneVerdict.{tree_visits_one}
 use Rattle.cert_check.proofs.CutVerdicts.{cuts_judged}
+use Rattle.cert_check.proofs.VerdictLaws.{closed_tree}
 
 -- ---- nodes
 
@@ -103,3 +105,10 @@ first-true M cert accepts visited are n why (inr node) = nodes-breaks (formulati
 
 pub not_accepted : (M : Program) (cert : Cert) (n why : ℕ) → IsVerdict M cert (Rejected n why) → Accepts M cert → ⊥
 not_accepted M cert n why verdict accepts = first-true M cert accepts verdict.visited verdict.are n why verdict.is
+
+-- a tree that stands by itself
+pub tree_judged : (F : Formulation) (claim : Claim) (nodes : List CertNode) → JudgedTree F claim nodes
+tree_judged F claim nodes = record {
+  accepted = λ told v. (v.is.0, closed_tree F claim nodes (visits F.model [] v.tree) (record { tree = v.tree; nodes_are = v.nodes_are; are = refl }) v.is.1);
+  rejected = λ number why v closed. tree-breaks F claim nodes (visits F.model [] v.tree) number why closed (record { tree = v.tree; nodes_are = v.nodes_are; are = refl }) v.is;
+}

@@ -120,7 +120,7 @@ module _ (M : Program) where
   ray_passes Unbounded point ray (inl (first, inl good)) none = record { names = good.0; is_ray = good.1.0 }
 
 module _ (F : Formulation) where
-  closed_tree : (claim : Claim) (nodes : List CertNode) (visited : List (Path × CertNode)) → AreTreeVisits F.model nodes visited → All (λ p. IsVisitJudged F claim p Passes) visited → IsClosedTree F claim nodes
+  pub closed_tree : (claim : Claim) (nodes : List CertNode) (visited : List (Path × CertNode)) → AreTreeVisits F.model nodes visited → All (λ p. IsVisitJudged F claim p Passes) visited → IsClosedTree F claim nodes
   closed_tree claim nodes visited t all =
       let pass = subst (All (λ p. IsVisitJudged F claim p Passes)) t.are all in
       record { tree = t.tree; nodes_are = t.nodes_are; splits = tree_lawful F claim [] t.tree pass; leaves = tree_closes F claim [] t.tree pass }

@@ -8,10 +8,11 @@ ghost use Rattle.leaf_dual.specs.Dual.{HavePlaces};
 ghost use Rattle.cert_check.specs.Walk.{IsPlace, AreNodesPlaced, IsBufferOf, IsPlacedJudged, CanTurn, after_leaf, after_node, IsWalked, IsNodesVerdict, IsPointOf, has_tree};
 ghost use Rattle.tight_regions.specs.Tight.{IsTrail, path_of_trail, depth_of, room};
 ghost use Rattle.cert_check.specs.Verdict.{WhereThere, IsFeasibleJudged, IsDirectionJudged, IsClaimJudged, IsHeadJudged, IsVerdict};
+ghost use Rattle.cert_check.specs.Trees.{IsTreeVerdict};
 ghost use Rattle.cert_check.specs.Cuts.{AreCutsFound};
 ghost use Rattle.lp_model.specs.Lawful.{column_names};
 ghost use Rattle.cert_check.specs.Accepted.{AreNames, point_of};
-ghost use Rattle.cert_text.specs.Whole.{IsCertificate};
+ghost use Rattle.cert_text.specs.Whole.{IsCertificate, AreOneTree, IsNarrowNode};
 ghost use Rattle.lp_model.specs.Edits.{Named};
 ghost use Rattle.cert_text.specs.Tree.{CertTree};
 ghost use Rattle.cert_text.specs.declared.cert.CertNode.{CertNode};
@@ -286,6 +287,33 @@ fn check_nodes(
         }
     }
     Verdict::Accepted(*claim)
+}
+
+/// Whether the nodes of a tree that stands by itself close against the claim, by the rows of the model and of cuts: the first node
+/// that does not hold, or has a step of arithmetic without room. Memory is linear in the nodes.
+pub fn check_tree(
+    alloc: Global,
+    model: &Model,
+    cuts: &[CutRow],
+    claim: &Claim,
+    nodes: &[CertNode],
+) -> Result<Verdict, AllocError>
+    requires places { HavePlaces cuts.now }
+    requires tree { AreOneTree nodes.now }
+    requires narrow { All IsNarrowNode nodes.now }
+    ensures { IfOk result (IsTreeVerdict (formulation model.now cuts.now) claim.now nodes.now) }
+{
+    let placed = match placed_nodes(alloc, model, cuts.len(), nodes) {
+        Ok(placed) => placed,
+        Err(error) => return Err(error),
+    };
+    match Trail::new(alloc, nodes.len()) {
+        Ok(mut trail) => Ok(check_nodes(model, cuts, claim, &placed, &mut trail)),
+        Err(error) => {
+            drop(placed);
+            Err(error)
+        }
+    }
 }
 
 /// A point that is claimed to be feasible.

@@ -7,7 +7,7 @@ use Rattle.kept_env.specs.declared.held.Held.{Held}
 use Rattle.kept_env.specs.declared.held.Held.TheVariants.{Nothing, Finished, Unbounded}
 use Rattle.command_files.specs.Filing.{Writes, Written, TooLong, Failed, Wanting}
 use Rattle.reply_texts.specs.Texts.{memory_text}
-use Rattle.command_family.specs.Family.{HasCause, IsLawful}
+use Rattle.command_family.specs.Family.{HasCause, IsLawfulFamily}
 use Rattle.command_family.specs.Kinds.{Done, NoModel, NoAnswer, StoreFailed, FileTooLong, WantsMemory}
 use Rattle.command_family.specs.State.{ShellState}
 use Rattle.cert_commands.specs.Certify.{IsHeldText, Certifies}
@@ -60,7 +60,7 @@ same-env (Cert file) old reply new h = h.env
 later-faults : (asks : CertAsks) (old : ShellState) (reply : List ℕ) (new : ShellState) → CertsStep asks old reply new → old.faults ≤ new.faults
 later-faults (Cert file) old reply new h = h.later
 
-pub certificates-lawful : IsLawful certificates
+pub certificates-lawful : IsLawfulFamily certificates
 certificates-lawful = record {
   caused = caused;
   later = later-faults;

@@ -1,12 +1,14 @@
--- How many trees are due behind one more node.
-use Rattle.std.proofs.Common.{◌≡◌, ℕ, zero, suc, ◌-◌, ◌<◌, List, [], ◌∷◌, ◌++◌, length, refl, sym, ap, subst, ◌∙◌, append_assoc, arith}
-use Rattle.std.specs.Prelude.{ℤ}
+-- How many trees are due behind one more node, and behind a whole tree.
+use Rattle.std.proofs.Common.{◌≡◌, ℕ, zero, suc, ◌-◌, ◌<◌, List, [], ◌∷◌, ◌++◌, length, refl, sym, ap, subst, ◌∙◌, append_assoc, append-nil, arith}
+use Rattle.std.specs.Prelude.{ℤ, ◌==◌}
+use Rattle.std.proofs.lemmas.Bool.Decides.{Decides-eqb}
 use Rattle.cert_text.specs.declared.cert.CertNode.{CertNode}
 use Rattle.cert_text.specs.declared.cert.CertNode.TheVariants.{Split, Bound, Farkas, Empty}
 use Rattle.cert_text.specs.Tree.{CertTree, certificate_nodes}
 use Rattle.cert_text.specs.Tree.{Bound as TreeBound, Farkas as TreeFarkas, Empty as TreeEmpty, Split as TreeSplit}
 use Rattle.cert_text.specs.Text.{due_after}
 use Rattle.cert_text.specs.Whole.{TakesAll}
+use Rattle.cert_text.specs.Laws.{WholeTreeLaw}
 
 pub due_after-more : (due : ℕ) (nodes : List CertNode) (n : CertNode) → due_after due (nodes ++ n ∷ []) ≡ due_after (due_after due nodes) (n ∷ [])
 due_after-more due [] n = refl
@@ -64,12 +66,37 @@ forest (suc due) (Empty ∷ nodes) takes done = with_leaf due TreeEmpty Empty no
 
 first_tree : (nodes : List CertNode) (trees : List CertTree) → length trees ≡ 1 → all_nodes trees ≡ nodes → (t : CertTree) × (certificate_nodes t ≡ nodes)
 first_tree nodes [] count are = absurd (omega (arith, count))
-first_tree nodes (t ∷ []) count are = (t, sym (nil_right (certificate_nodes t)) ∙ are)
-  where
-    nil_right : (l : List CertNode) → l ++ [] ≡ l
-    nil_right [] = refl
-    nil_right (x ∷ l) = ap (λ m. x ∷ m) (nil_right l)
+first_tree nodes (t ∷ []) count are = (t, sym (append-nil (certificate_nodes t)) ∙ are)
 first_tree nodes (t ∷ s ∷ trees) count are = absurd (omega (arith, count))
 
 pub whole_tree : (nodes : List CertNode) → TakesAll 1 nodes → due_after 1 nodes ≡ 0 → (t : CertTree) × (certificate_nodes t ≡ nodes)
 whole_tree nodes takes done = let f = forest 1 nodes takes done in first_tree nodes f.trees f.count f.are
+
+-- ---- the nodes of a tree
+
+takes_tree : (tree : CertTree) (due : ℕ) (rest : List CertNode) → TakesAll due rest → TakesAll (suc due) (certificate_nodes tree ++ rest)
+takes_tree (TreeBound mults) due rest h = h
+takes_tree (TreeFarkas mults) due rest h = h
+takes_tree TreeEmpty due rest h = h
+takes_tree (TreeSplit col v left right) due rest h =
+    subst (TakesAll (suc (suc due))) (sym (append_assoc (certificate_nodes left) (certificate_nodes right) rest)) (takes_tree left (suc due) (certificate_nodes right ++ rest) (takes_tree right due rest h))
+
+due_tree : (tree : CertTree) (due : ℕ) (rest : List CertNode) → due_after (suc due) (certificate_nodes tree ++ rest) ≡ due_after due rest
+due_tree (TreeBound mults) due rest = ap (λ d. due_after d rest) (one_less due)
+due_tree (TreeFarkas mults) due rest = ap (λ d. due_after d rest) (one_less due)
+due_tree TreeEmpty due rest = ap (λ d. due_after d rest) (one_less due)
+due_tree (TreeSplit col v left right) due rest =
+    ap (due_after (suc (suc due))) (append_assoc (certificate_nodes left) (certificate_nodes right) rest) ∙ due_tree left (suc due) (certificate_nodes right ++ rest) ∙ due_tree right due rest
+
+module _ (nodes : List CertNode) (tree : CertTree) (whole : certificate_nodes tree ≡ nodes) where
+  pub takes_whole : TakesAll 1 nodes
+  takes_whole = subst (TakesAll 1) (append-nil (certificate_nodes tree) ∙ whole) (takes_tree tree 0 [] tt)
+
+  pub due_whole : due_after 1 nodes ≡ 0
+  due_whole = ap (due_after 1) (sym whole ∙ sym (append-nil (certificate_nodes tree))) ∙ due_tree tree 0 []
+
+pub whole_decides : WholeTreeLaw
+whole_decides = record {
+  sound = λ nodes takes e. let t = whole_tree nodes takes ((Decides-eqb (due_after 1 nodes) 0).0 e) in record { tree = t.0; nodes_are = t.1 };
+  complete = λ nodes one. (takes_whole nodes one.tree one.nodes_are, ap (λ (d : ℕ). d == 0) (due_whole nodes one.tree one.nodes_are));
+}

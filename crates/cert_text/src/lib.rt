@@ -39,6 +39,6 @@ mod reader;
 mod reading;
 
 pub use cert::{Cert, CertMult, CertNode, Claim, NamedCut};
-pub use laws::text_law;
+pub use laws::{text_law, whole_tree_law};
 pub use line::{LineWord, Statement};
 pub use reader::{CertFault, read_cert};

@@ -1,3 +1,4 @@
 pub mod NameLemmas
 pub mod NumberLemmas
+pub mod OptionLemmas
 pub mod FormLemmas

@@ -1,7 +1,9 @@
 -- What the words of a line ask for: a command with what it is given, or which fault they have.
-use Rattle.std.specs.Prelude.{◌≡◌, true, ℕ, ◌-◌, ◌^◌, ◌&&◌, List, [], ◌∷◌, map, codes, if◌then◌else◌, Option, Some, None}
+use Rattle.std.specs.Prelude.{◌≡◌, true, ℕ, ◌≤◌, ◌&&◌, List, [], ◌∷◌, map, codes, if◌then◌else◌, Option, Some, None}
 use Rattle.std.specs.Str.{bytes_eq}
 use Rattle.command_words.specs.Names.{command_of, is_file_name, whole_number_of}
+use Rattle.command_words.specs.Options.{no_option, any_option, are_options, option_number, with_option}
+use Rattle.command_words.specs.declared.options.SearchOptions.{SearchOptions}
 use Rattle.command_words.specs.declared.words.OptimumBound.{OptimumBound}
 use Rattle.command_words.specs.declared.words.NewNumbers.{NewNumbers}
 use Rattle.command_words.specs.declared.words.CommandName.{CommandName}
@@ -16,10 +18,10 @@ use Rattle.command_words.specs.declared.words.Asked.TheVariants as asked
 pub data Asks : Type 0 where
   -- the model of this file, each integer column without an upper bound having this one
   Load : (file : List ℕ) (intupper : Option ℕ) → Asks
-  -- a search of the model that is present, which may place so many results, and make so many simplex steps in each relaxation
-  Solve : (nodes pivots : ℕ) → Asks
+  -- a search of the model that is present, which may go so far, by so many workers
+  Solve : (options : SearchOptions) → Asks
   -- the same, going on from the search that is kept
-  Warm : (nodes pivots : ℕ) → Asks
+  Warm : (options : SearchOptions) → Asks
   -- an edit of the model that is present, as these words behind `edit` say it
   Edit : (words : List (List ℕ)) → Asks
   -- each split of the tree at this depth, the root being at 0, as one leaf
@@ -42,10 +44,6 @@ pub data Asks : Type 0 where
   -- the words have a form of the command, but this one, in a number's place, is none
   NoNumber : (word : List ℕ) → Asks
 
--- a limit that isn't named
-abbrev pub no_limit : ℕ
-no_limit = 2 ^ 64 - 1
-
 -- what is asked with the number that a word is
 abbrev pub with_number : List ℕ → Option ℕ → (ℕ → Asks) → Asks
 with_number word None asks = NoNumber word
@@ -58,37 +56,22 @@ load_asks (file ∷ key ∷ number ∷ []) =
     if is_file_name file && bytes_eq key (codes "intupper") then with_number number (whole_number_of number) (λ n. Load file (Some n)) else Misused
 load_asks arguments = Misused
 
--- ---- searches, by what is asked with a limit on results and one on steps
+-- ---- searches, by what is asked with the options
 
--- `nodes N` and `pivots N`
-abbrev pub one_limit_asks : (ℕ → ℕ → Asks) → List ℕ → List ℕ → Asks
-one_limit_asks asks key number =
-    if bytes_eq key (codes "nodes") then with_number number (whole_number_of number) (λ n. asks n no_limit)
-    else if bytes_eq key (codes "pivots") then with_number number (whole_number_of number) (λ n. asks no_limit n)
-    else Misused
+-- with these options and those of the words, of which the word that stands first is looked at first
+unfoldable pub options_asks : (SearchOptions → Asks) → SearchOptions → List (List ℕ) → Asks
+options_asks asks options [] = asks options
+options_asks asks options (key ∷ []) = asks options
+options_asks asks options (key ∷ number ∷ more) = with_number number (option_number key number) (λ n. options_asks asks (with_option key n options) more)
 
--- the word that stands first is looked at first
-abbrev pub two_limits_asks : List ℕ → List ℕ → (ℕ → ℕ → Asks) → Asks
-two_limits_asks number more asks = with_number number (whole_number_of number) (λ n. with_number more (whole_number_of more) (asks n))
-
--- `nodes N pivots N` and `pivots N nodes N`
-abbrev pub both_limits_asks : (ℕ → ℕ → Asks) → List ℕ → List ℕ → List ℕ → List ℕ → Asks
-both_limits_asks asks key number other more =
-    if bytes_eq key (codes "nodes") && bytes_eq other (codes "pivots") then two_limits_asks number more asks
-    else if bytes_eq key (codes "pivots") && bytes_eq other (codes "nodes") then two_limits_asks number more (λ n m. asks m n)
-    else Misused
-
--- the options in any order, each once at most
-abbrev pub search_asks : (ℕ → ℕ → Asks) → List (List ℕ) → Asks
-search_asks asks [] = asks no_limit no_limit
-search_asks asks (key ∷ number ∷ []) = one_limit_asks asks key number
-search_asks asks (key ∷ number ∷ other ∷ more ∷ []) = both_limits_asks asks key number other more
-search_asks asks arguments = Misused
+-- the options in any order, each once at most; what isn't named is without a limit, and by one worker
+abbrev pub search_asks : (SearchOptions → Asks) → List (List ℕ) → Asks
+search_asks asks arguments = if are_options any_option arguments then options_asks asks no_option arguments else Misused
 
 -- what a search is asked by that begins so
-abbrev pub begun_asks : Beginning → ℕ → ℕ → Asks
-begun_asks beginning.Anew nodes pivots = Solve nodes pivots
-begun_asks beginning.Kept nodes pivots = Warm nodes pivots
+abbrev pub begun_asks : Beginning → SearchOptions → Asks
+begun_asks beginning.Anew options = Solve options
+begun_asks beginning.Kept options = Warm options
 
 -- `solve` and `warm` with their options
 abbrev pub solve_asks : List (List ℕ) → Asks
@@ -165,8 +148,8 @@ asks_of (word ∷ arguments) = command_asks (command_of word) word arguments
 -- what an answer of the reader of words stands for
 abbrev pub asks_shown : Asked → Asks
 asks_shown (asked.Load file intupper) = Load file.now intupper
-asks_shown (asked.Solve nodes pivots) = Solve nodes pivots
-asks_shown (asked.Warm nodes pivots) = Warm nodes pivots
+asks_shown (asked.Solve options) = Solve options
+asks_shown (asked.Warm options) = Warm options
 asks_shown (asked.Edit words) = Edit (map (λ word. word.now) words.now)
 asks_shown (asked.Trim depth) = Trim depth
 asks_shown (asked.Save file) = Save file.now
@@ -179,19 +162,19 @@ asks_shown (asked.Unknown word) = Unknown word.now
 asks_shown asked.Misused = Misused
 asks_shown (asked.NoNumber word) = NoNumber word.now
 
--- the file that is asked for has a file name
-abbrev pub NamesFile : Asks → Type 0
-NamesFile (Load file intupper) = is_file_name file ≡ true
-NamesFile (Solve nodes pivots) = Unit {0}
-NamesFile (Warm nodes pivots) = Unit {0}
-NamesFile (Edit words) = Unit {0}
-NamesFile (Trim depth) = Unit {0}
-NamesFile (Save file) = is_file_name file ≡ true
-NamesFile (Restore file) = is_file_name file ≡ true
-NamesFile (Bound which numbers words) = Unit {0}
-NamesFile (Cert file) = is_file_name file ≡ true
-NamesFile (Write file) = is_file_name file ≡ true
-NamesFile Quit = Unit {0}
-NamesFile (Unknown word) = Unit {0}
-NamesFile Misused = Unit {0}
-NamesFile (NoNumber word) = Unit {0}
+-- the file that is asked for has a file name, and a search some worker
+abbrev pub IsAskable : Asks → Type 0
+IsAskable (Load file intupper) = is_file_name file ≡ true
+IsAskable (Solve options) = 1 ≤ options.workers
+IsAskable (Warm options) = 1 ≤ options.workers
+IsAskable (Edit words) = Unit {0}
+IsAskable (Trim depth) = Unit {0}
+IsAskable (Save file) = is_file_name file ≡ true
+IsAskable (Restore file) = is_file_name file ≡ true
+IsAskable (Bound which numbers words) = Unit {0}
+IsAskable (Cert file) = is_file_name file ≡ true
+IsAskable (Write file) = is_file_name file ≡ true
+IsAskable Quit = Unit {0}
+IsAskable (Unknown word) = Unit {0}
+IsAskable Misused = Unit {0}
+IsAskable (NoNumber word) = Unit {0}

@@ -7,7 +7,9 @@
 //! load F intupper N      the same, each integer column without an upper bound having the bound N
 //! solve                  a search without a limit
 //! solve nodes N          a search that may place N results
-//! solve pivots N         one that may make N simplex steps in each relaxation; both options may stand, in any order
+//! solve pivots N         one that may make N simplex steps in each relaxation
+//! solve workers K seed S one that K workers share, whose turn it is being said by the words of the seed S
+//!                        these options may stand together, in any order
 //! warm                   the search that is kept goes on, with the same options
 //! edit ..                an edit of the model; `edit_words` reads the words behind it
 //! trim                   the tree is cut down to its root
@@ -21,8 +23,8 @@
 //! quit                   the end of the script
 //! ```
 //!
-//! F is a file name: 1 to 255 letters, digits, `.`, `_` and `-`, not beginning with `.` or `-`. N and D are whole numbers of 64
-//! bits, in decimal digits without a sign or a leading zero. Words are compared byte for byte.
+//! F is a file name: 1 to 255 letters, digits, `.`, `_` and `-`, not beginning with `.` or `-`. N, D, K and S are whole numbers
+//! of 64 bits, in decimal digits without a sign or a leading zero; K isn't 0. Words are compared byte for byte.
 //!
 //! Contract in one sentence: `read_words` answers exactly what the words ask for, or the first of their faults: no command,
 //! none of its forms, no number where a number stands.
@@ -30,8 +32,10 @@
 //! Below stand the comparison of words (`text_lines`) and `itoa`; above stands `sym_shell`, which answers what is asked.
 #![tactic(auto)]
 
+mod options;
 mod words;
 
+pub use options::SearchOptions;
 pub use words::{
     Asked, CommandName, NewNumbers, OptimumBound, file_name, is_file_name_word, read_words,
 };

@@ -2,12 +2,10 @@
 ghost use Rattle.std.specs.Prelude.{◌≡◌, true, map, [], ◌∷◌};
 ghost use Rattle.std.specs.List.{list_all};
 ghost use Rattle.command_words.specs.Names.{command_of, command_behind_trim, command_behind_lbobj, begins_name, is_file_name_byte, is_file_name, whole_number_of};
-ghost use Rattle.command_words.specs.Asks.{Trim, no_limit, with_number, asks_of, asks_shown, load_asks, restore_asks, trim_asks, one_limit_asks, two_limits_asks, both_limits_asks, search_asks, begun_asks, solve_asks, warm_asks, filed_asks, file_asks, save_asks, cert_asks, write_asks, quit_asks, known_asks, NamesFile};
+ghost use Rattle.command_words.specs.Asks.{Trim, with_number, asks_of, asks_shown, load_asks, restore_asks, trim_asks, search_asks, begun_asks, solve_asks, warm_asks, filed_asks, file_asks, save_asks, cert_asks, write_asks, quit_asks, known_asks, IsAskable};
 
+use crate::options::{ANY_OPTION, NO_OPTION, SearchOptions, are_options, options_asked};
 use text_lines::is_word;
-
-/// A limit that isn't named.
-const UNLIMITED: u64 = u64::MAX;
 
 /// Which bound on a model's best value, in least form.
 #[derive(Clone, Copy)]
@@ -45,7 +43,7 @@ pub enum CommandName {
 
 /// Where a search begins.
 #[derive(Clone, Copy)]
-enum Beginning {
+pub(crate) enum Beginning {
     /// At a fresh root.
     Anew,
     /// At the search that is kept.
@@ -71,16 +69,13 @@ pub enum Asked<'a> {
         file: &'a [u8],
         intupper: Option<u64>,
     },
-    /// A search of the model that is present, which may place `nodes` results, and make `pivots` simplex steps in each of its
-    /// relaxations.
+    /// A search of the model that is present.
     Solve {
-        nodes: u64,
-        pivots: u64,
+        options: SearchOptions,
     },
     /// The same, going on from the search that is kept.
     Warm {
-        nodes: u64,
-        pivots: u64,
+        options: SearchOptions,
     },
     /// An edit of the model that is present, as these words behind `edit` say it.
     Edit {
@@ -226,7 +221,7 @@ pub fn file_name(word: &[u8]) -> &str
 }
 
 /// The whole number of 64 bits that a word is in decimal digits, without a sign or a leading zero.
-fn whole_number(word: &[u8]) -> Option<u64>
+pub(crate) fn whole_number(word: &[u8]) -> Option<u64>
     ensures { result ≡ whole_number_of word.now }
 {
     let Ok(text) = str::from_utf8(word) else {
@@ -284,103 +279,24 @@ fn load_asked<'a>(arguments: &[&'a [u8]]) -> Asked<'a>
     }
 }
 
-/// A search that begins so, with these limits.
-fn search_asked<'a>(beginning: Beginning, nodes: u64, pivots: u64) -> Asked<'a>
-    ensures { asks_shown result ≡ begun_asks beginning nodes pivots }
+/// A search that begins so, with these options.
+pub(crate) fn search_asked<'a>(beginning: Beginning, options: SearchOptions) -> Asked<'a>
+    ensures { asks_shown result ≡ begun_asks beginning options }
 {
     match beginning {
-        Beginning::Anew => Asked::Solve { nodes, pivots },
-        Beginning::Kept => Asked::Warm { nodes, pivots },
-    }
-}
-
-/// What `nodes N` asks for behind `solve` or `warm`, with this word as N.
-fn nodes_limited(beginning: Beginning, number: &[u8]) -> Asked<'_>
-    ensures { asks_shown result ≡ with_number number.now (whole_number_of number.now) (λ n. begun_asks beginning n no_limit) }
-{
-    match whole_number(number) {
-        Some(nodes) => search_asked(beginning, nodes, UNLIMITED),
-        None => Asked::NoNumber { word: number },
-    }
-}
-
-/// What `pivots N` asks for behind `solve` or `warm`, with this word as N.
-fn pivots_limited(beginning: Beginning, number: &[u8]) -> Asked<'_>
-    ensures { asks_shown result ≡ with_number number.now (whole_number_of number.now) (λ n. begun_asks beginning no_limit n) }
-{
-    match whole_number(number) {
-        Some(pivots) => search_asked(beginning, UNLIMITED, pivots),
-        None => Asked::NoNumber { word: number },
-    }
-}
-
-/// What a search with one option asks for.
-fn one_limit<'a>(beginning: Beginning, key: &[u8], number: &'a [u8]) -> Asked<'a>
-    ensures { asks_shown result ≡ one_limit_asks (begun_asks beginning) key.now number.now }
-{
-    if is_word(b"nodes", key) {
-        nodes_limited(beginning, number)
-    } else if is_word(b"pivots", key) {
-        pivots_limited(beginning, number)
-    } else {
-        Asked::Misused
-    }
-}
-
-/// What `nodes N pivots N` asks for, with these words as numbers.
-fn nodes_first<'a>(beginning: Beginning, number: &'a [u8], more: &'a [u8]) -> Asked<'a>
-    ensures { asks_shown result ≡ two_limits_asks number.now more.now (begun_asks beginning) }
-{
-    let Some(nodes) = whole_number(number) else {
-        return Asked::NoNumber { word: number };
-    };
-    match whole_number(more) {
-        Some(pivots) => search_asked(beginning, nodes, pivots),
-        None => Asked::NoNumber { word: more },
-    }
-}
-
-/// What `pivots N nodes N` asks for, with these words as numbers.
-fn pivots_first<'a>(beginning: Beginning, number: &'a [u8], more: &'a [u8]) -> Asked<'a>
-    ensures { asks_shown result ≡ two_limits_asks number.now more.now (λ n m. begun_asks beginning m n) }
-{
-    let Some(pivots) = whole_number(number) else {
-        return Asked::NoNumber { word: number };
-    };
-    match whole_number(more) {
-        Some(nodes) => search_asked(beginning, nodes, pivots),
-        None => Asked::NoNumber { word: more },
-    }
-}
-
-/// What a search with two options asks for.
-fn both_limits<'a>(
-    beginning: Beginning,
-    key: &[u8],
-    number: &'a [u8],
-    other: &[u8],
-    more: &'a [u8],
-) -> Asked<'a>
-    ensures { asks_shown result ≡ both_limits_asks (begun_asks beginning) key.now number.now other.now more.now }
-{
-    if is_word(b"nodes", key) & is_word(b"pivots", other) {
-        nodes_first(beginning, number, more)
-    } else if is_word(b"pivots", key) & is_word(b"nodes", other) {
-        pivots_first(beginning, number, more)
-    } else {
-        Asked::Misused
+        Beginning::Anew => Asked::Solve { options },
+        Beginning::Kept => Asked::Warm { options },
     }
 }
 
 /// What a search with these further words asks for.
-fn limited_search<'a>(beginning: Beginning, arguments: &[&'a [u8]]) -> Asked<'a>
+fn optioned_search<'a>(beginning: Beginning, arguments: &[&'a [u8]]) -> Asked<'a>
     ensures { asks_shown result ≡ search_asks (begun_asks beginning) (map (λ word. word.now) arguments.now) }
 {
-    match arguments {
-        [] => search_asked(beginning, UNLIMITED, UNLIMITED),
-        [key, number] => one_limit(beginning, key, number),
-        [key, number, other, more] => both_limits(beginning, key, number, other, more),
-        _ => Asked::Misused,
+    if are_options(ANY_OPTION, arguments) {
+        options_asked(beginning, NO_OPTION, arguments)
+    } else {
+        Asked::Misused
     }
 }
 
@@ -388,14 +304,14 @@ fn limited_search<'a>(beginning: Beginning, arguments: &[&'a [u8]]) -> Asked<'a>
 fn solve_asked<'a>(arguments: &[&'a [u8]]) -> Asked<'a>
     ensures { asks_shown result ≡ solve_asks (map (λ word. word.now) arguments.now) }
 {
-    limited_search(Beginning::Anew, arguments)
+    optioned_search(Beginning::Anew, arguments)
 }
 
 /// What `warm` with these further words asks for.
 fn warm_asked<'a>(arguments: &[&'a [u8]]) -> Asked<'a>
     ensures { asks_shown result ≡ warm_asks (map (λ word. word.now) arguments.now) }
 {
-    limited_search(Beginning::Kept, arguments)
+    optioned_search(Beginning::Kept, arguments)
 }
 
 /// A file that is to hold this.
@@ -540,7 +456,7 @@ fn command_asked<'a>(command: CommandName, arguments: &'a [&'a [u8]]) -> Asked<'
 /// What the words of a line ask for. A line that is answered has a word.
 pub fn read_words<'a>(words: &'a [&'a [u8]]) -> Asked<'a>
     ensures asked { asks_shown result ≡ asks_of (map (λ word. word.now) words.now) }
-    ensures named { NamesFile (asks_shown result) }
+    ensures askable { IsAskable (asks_shown result) }
 {
     let [word, arguments @ ..] = words else {
         return Asked::Misused;

@@ -21,8 +21,9 @@ use Rattle.dual_bounds.specs.declared.answers.LowerBound.{LowerBound}
 use Rattle.dual_bounds.specs.declared.answers.LowerBound.TheVariants.{Value, NoValue, Infeasible, Wide}
 use Rattle.dual_bounds.specs.declared.answers.UpperBound.{UpperBound}
 use Rattle.dual_bounds.specs.NewNumbers.{with_new_sides, with_new_costs}
+use Rattle.dual_bounds.specs.declared.new_numbers.OtherNumbers.TheVariants.{Sides, Costs}
 use Rattle.dual_bounds.specs.TreeBounds.{IsTreeBoundAt, IsPointBound, upper_bound}
-use Rattle.dual_bounds.specs.Laws.{IsTrueLowerBound, IsTrueUpperBound, TreeBoundLaw, PointBoundLaw, NewSidesLaw, NewCostsLaw}
+use Rattle.dual_bounds.specs.Laws.{IsTrueLowerBound, IsTrueUpperBound, TreeBoundLaw, PointBoundLaw, NewNumbersLaw}
 use Rattle.dual_bounds.proofs.CutLemmas.{pool-valid}
 use Rattle.dual_bounds.proofs.ModelLemmas.{costs-integer}
 use Rattle.dual_bounds.proofs.NumberLists.{AllClose, BoundCloses, bound-closes}
@@ -67,13 +68,11 @@ each_split-weaker : {S L : Type 0} (P Q : ℕ → ℤ → Type 0) → ((j : ℕ)
 each_split-weaker P Q w (Leaf kept) h = tt
 each_split-weaker P Q w (Split kept j v left right) h = (w j v h.0, (each_split-weaker P Q w left h.1.0, each_split-weaker P Q w right h.1.1))
 
-pub new-sides : NewSidesLaw
-new-sides S sides bound sound h =
+pub new-numbers : NewNumbersLaw
+new-numbers S (Sides sides) bound sound h =
     let M = with_new_sides S.model sides in
     tree-bound (formulation M h.again) S.tree.root bound (pool-valid M h.again h.derived.pool) sound.tree.lawful h.is
-
-pub new-costs : NewCostsLaw
-new-costs S costs bound sound h =
+new-numbers S (Costs costs) bound sound h =
     let M = with_new_costs S.model costs in
     let lawful : SplitsLawfully M S.tree.root =
     each_split-weaker (λ j v. (j < length S.model.cols) × IsTrue (is_integer S.model j)) (λ j v. (j < length M.cols) × IsTrue (is_integer M j)) (λ j v k. costs-integer S.model costs j k) S.tree.root sound.tree.lawful in

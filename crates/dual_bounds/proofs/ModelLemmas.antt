@@ -13,7 +13,8 @@ use Rattle.lp_model.specs.declared.types.Row.{Row}
 use Rattle.lp_model.specs.declared.types.ColId.{ColId}
 use Rattle.lp_model.specs.declared.types.Col.{Col}
 use Rattle.dual_bounds.specs.NewNumbers.{with_side, with_cost, row_index, col_index, with_new_sides, with_new_costs, AreNewSides, AreNewCosts, IsSideNow}
-use Rattle.dual_bounds.specs.Laws.{PresentSidesLaw, PresentCostsLaw}
+use Rattle.dual_bounds.specs.Laws.{PresentNumbersLaw}
+use Rattle.dual_bounds.specs.declared.new_numbers.OtherNumbers.TheVariants.{Sides, Costs}
 use Rattle.dual_bounds.proofs.ChangedLists.{All-unmap, length-changed_all, map-changed_all, sum_by-changed_all, of_element-changed_all, All-changed_all, changed_all-same}
 use Rattle.dual_bounds.proofs.RangeLemmas.{row-ranged}
 
@@ -76,19 +77,17 @@ rows-same v [] k lo hi = refl
 rows-same v (r ∷ rows) zero lo hi = λ i. record r { lo = side-same r.lo v lo i; hi = side-same r.hi v hi i } ∷ rows
 rows-same v (r ∷ rows) (suc k) lo hi = ap (λ l. r ∷ l) (rows-same v rows k lo hi)
 
-pub sides-present : PresentSidesLaw
-sides-present M sides now =
-    ap (λ (rows : List Row). record M { rows = rows }) (changed_all-same row_index with_side sides M.rows
-    (All-weaker (λ (e : RowId × ℚ). IsSideNow (low_side M e.0.0) e.1 × IsSideNow (high_side M e.0.0) e.1) (λ (e : RowId × ℚ). changed_at (with_side e.1) M.rows e.0.0 ≡ M.rows)
-    (λ e h. rows-same e.1 M.rows e.0.0 h.0 h.1) sides now))
-
 cols-same : (v : ℚ) (cols : List Col) (k : ℕ) → of_element (int (pos 0)) (λ (c : Col). c.cost) cols k ≡ v → changed_at (with_cost v) cols k ≡ cols
 cols-same v [] k e = refl
 cols-same v (c ∷ cols) zero e = λ i. record c { cost = sym e i } ∷ cols
 cols-same v (c ∷ cols) (suc k) e = ap (λ l. c ∷ l) (cols-same v cols k e)
 
-pub costs-present : PresentCostsLaw
-costs-present M costs now =
+pub numbers-present : PresentNumbersLaw
+numbers-present M (Sides sides) now =
+    ap (λ (rows : List Row). record M { rows = rows }) (changed_all-same row_index with_side sides M.rows
+    (All-weaker (λ (e : RowId × ℚ). IsSideNow (low_side M e.0.0) e.1 × IsSideNow (high_side M e.0.0) e.1) (λ (e : RowId × ℚ). changed_at (with_side e.1) M.rows e.0.0 ≡ M.rows)
+    (λ e h. rows-same e.1 M.rows e.0.0 h.0 h.1) sides now))
+numbers-present M (Costs costs) now =
     ap (λ (cols : List Col). record M { cols = cols }) (changed_all-same col_index with_cost costs M.cols
     (All-weaker (λ (e : ColId × ℚ). cost M 1 e.0.0 ≡ e.1) (λ (e : ColId × ℚ). changed_at (with_cost e.1) M.cols e.0.0 ≡ M.cols)
     (λ e h. cols-same e.1 M.cols e.0.0 h) costs now))

@@ -9,7 +9,7 @@ use Rattle.search_parts.specs.Points.{IsKeepable, lesser, target}
 use Rattle.search_parts.specs.EditedPoints.{AreKeepable, AreValued}
 use Rattle.search_parts.proofs.KeepableLemmas.{valued-more}
 use Rattle.dual_bounds.specs.TreeBounds.{least_of_two}
-use Rattle.dual_bounds.specs.Walk.{IsLeastFeasible}
+use Rattle.dual_bounds.specs.private.Walk.{IsLeastFeasible}
 use Rattle.dual_bounds.proofs.NumberLists.{least-none, least-assoc}
 
 module _ (M : Program) where

@@ -11,7 +11,7 @@ use Rattle.frac128.specs.IntegerRing.{ring_ℤ, reads_ℤ}
 use Rattle.frac128.proofs.Integers.{num-neg_ℚ, den-neg_ℚ}
 use Rattle.frac128.specs.RationalRing.{ring, reads_ℚ, +ℚ-neg_ℚ}
 use Rattle.frac128.specs.Range.{largest, IsNarrow, Fits, SumFits, left_factor, right_factor}
-use Rattle.lp_model.specs.Lawful.{AreNear, IsRange}
+use Rattle.lp_model.specs.Lawful.{AreSubtractable, IsRange}
 use Rattle.lp_model.specs.declared.types.Row.{Row}
 use Rattle.dual_bounds.specs.NewNumbers.{with_side}
 
@@ -64,7 +64,7 @@ plus_zero x fits =
       denominator = subst (λ n. den x * n ≤ largest) (sym left) (omega arith);
     }
 
-near_itself : (x : ℚ) → Fits x → AreNear x x
+near_itself : (x : ℚ) → Fits x → AreSubtractable x x
 near_itself x fits =
     let zero : neg_ℚ (int (pos 0)) ≡ int (pos 0) = ring [] (search reads_ℚ) tt in
     record { width = minus_itself x fits; back = subst (λ z. SumFits x z) (sym (ap neg_ℚ (+ℚ-neg_ℚ x) ∙ zero)) (plus_zero x fits) }

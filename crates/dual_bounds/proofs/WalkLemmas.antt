@@ -18,7 +18,7 @@ use Rattle.leaf_judging.specs.declared.closing.LeafNumber.{LeafNumber}
 use Rattle.leaf_judging.specs.Closing.{IsNumber, ClosesBy}
 use Rattle.leaf_judging.proofs.JudgeLemmas.{closes_same, zipped-push}
 use Rattle.dual_bounds.specs.declared.walk.Listing.{Listing}
-use Rattle.dual_bounds.specs.Walk.{ListsLeaf}
+use Rattle.dual_bounds.specs.private.Walk.{ListsLeaf}
 use Rattle.dual_bounds.specs.TreeBounds.{AreLeafNumbers}
 use Rattle.dual_bounds.proofs.NumberLists.{AllClose}
 

@@ -1,22 +1,21 @@
 -- What the bounds prove, and that after a finished search they are the optimum.
 use Rattle.std.specs.Prelude.{◌≡◌, List, Some}
-use Rattle.frac128.specs.Rational.{ℚ, ◌≤ℚ◌}
+use Rattle.frac128.specs.Rational.{◌≤ℚ◌}
 use Rattle.lp_model.specs.Program.{Program, Point, least_value, IsFeasible, IsEmpty}
 use Rattle.lp_model.specs.Formulations.{Formulation, IsValid}
-use Rattle.lp_model.specs.declared.types.RowId.{RowId}
-use Rattle.lp_model.specs.declared.types.ColId.{ColId}
 use Rattle.lp_model.specs.declared.types.CutRow.{CutRow}
 use Rattle.branch_tree.specs.Tree.{SplitsLawfully}
 use Rattle.branch_tree.specs.Plain.{Plain}
 use Rattle.search_parts.specs.Points.{IsIncumbent}
 use Rattle.sound_searches.specs.Sound.{PlainSearch, IsSound}
 use Rattle.sound_searches.specs.Laws.{HasNoOpenLeaf}
-use Rattle.dual_bounds.specs.NewNumbers.{with_new_sides, with_new_costs, ArePresentSides, ArePresentCosts}
+use Rattle.dual_bounds.specs.NewNumbers.{with_new_numbers, ArePresentNumbers}
 use Rattle.dual_bounds.specs.TreeBounds.{IsTreeBound, IsTreeBoundAt, IsPointBound}
 use Rattle.dual_bounds.specs.declared.answers.LowerBound.{LowerBound}
 use Rattle.dual_bounds.specs.declared.answers.LowerBound.TheVariants as lower
 use Rattle.dual_bounds.specs.declared.answers.UpperBound.{UpperBound}
 use Rattle.dual_bounds.specs.declared.answers.UpperBound.TheVariants as upper
+use Rattle.dual_bounds.specs.declared.new_numbers.OtherNumbers.{OtherNumbers}
 
 -- no feasible point has a value below the bound, and there is none where it says so
 abbrev pub IsTrueLowerBound : Program → LowerBound → Type 0
@@ -37,23 +36,15 @@ TreeBoundLaw = (F : Formulation) (t : Plain) (bound : LowerBound) → IsValid F 
 abbrev pub PointBoundLaw : Type 0
 PointBoundLaw = (M : Program) (points : List Point) (bound : UpperBound) → IsPointBound M points bound → IsTrueUpperBound M bound
 
--- the tree and the cuts of a search prove their bound of the search's model with other sides, and with other costs
-abbrev pub NewSidesLaw : Type 0
-NewSidesLaw =
-    (S : PlainSearch) (sides : List (RowId × ℚ)) (bound : LowerBound) → IsSound S
-    → IsTreeBoundAt (with_new_sides S.model sides) S.cuts S.tree.root bound → IsTrueLowerBound (with_new_sides S.model sides) bound
+-- the tree and the cuts of a search prove their bound of the search's model with other sides, or with other costs
+abbrev pub NewNumbersLaw : Type 0
+NewNumbersLaw =
+    (S : PlainSearch) (numbers : OtherNumbers) (bound : LowerBound) → IsSound S
+    → IsTreeBoundAt (with_new_numbers S.model numbers) S.cuts S.tree.root bound → IsTrueLowerBound (with_new_numbers S.model numbers) bound
 
-abbrev pub NewCostsLaw : Type 0
-NewCostsLaw =
-    (S : PlainSearch) (costs : List (ColId × ℚ)) (bound : LowerBound) → IsSound S
-    → IsTreeBoundAt (with_new_costs S.model costs) S.cuts S.tree.root bound → IsTrueLowerBound (with_new_costs S.model costs) bound
-
--- a model with the sides, and with the costs, that it has is itself
-abbrev pub PresentSidesLaw : Type 0
-PresentSidesLaw = (M : Program) (sides : List (RowId × ℚ)) → ArePresentSides M sides → with_new_sides M sides ≡ M
-
-abbrev pub PresentCostsLaw : Type 0
-PresentCostsLaw = (M : Program) (costs : List (ColId × ℚ)) → ArePresentCosts M costs → with_new_costs M costs ≡ M
+-- a model with the sides, or with the costs, that it has is itself
+abbrev pub PresentNumbersLaw : Type 0
+PresentNumbersLaw = (M : Program) (numbers : OtherNumbers) → ArePresentNumbers M numbers → with_new_numbers M numbers ≡ M
 
 -- where no leaf is open, the bound is the value of the incumbent, which is the optimum
 abbrev pub IsExactLower : PlainSearch → LowerBound → Type 0

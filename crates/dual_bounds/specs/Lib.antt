@@ -1,4 +1,4 @@
 pub mod NewNumbers
 pub mod TreeBounds
-pub mod Walk
 pub mod Laws
+pub mod private

@@ -1,6 +1,7 @@
 -- Models with other sides or other costs.
---     with_new_sides M sides     each side that a named row has becomes its number, all else stays
---     with_new_costs M costs     the cost of each named column in objective 1 becomes its number, all else stays
+--     with_new_sides M sides         each side that a named row has becomes its number, all else stays
+--     with_new_costs M costs         the cost of each named column in objective 1 becomes its number, all else stays
+--     with_new_numbers M numbers     the one or the other
 use Rattle.std.specs.Prelude.{◌≡◌, ◌≢◌, ℕ, ◌<◌, List, [], ◌∷◌, map, length, All, AllPairs, Option, Some, None}
 use Rattle.std.specs.Option.{option_map}
 use Rattle.frac128.specs.Rational.{ℚ}
@@ -10,6 +11,8 @@ use Rattle.lp_model.specs.declared.types.RowId.{RowId}
 use Rattle.lp_model.specs.declared.types.Row.{Row}
 use Rattle.lp_model.specs.declared.types.ColId.{ColId}
 use Rattle.lp_model.specs.declared.types.Col.{Col}
+use Rattle.dual_bounds.specs.declared.new_numbers.OtherNumbers.{OtherNumbers}
+use Rattle.dual_bounds.specs.declared.new_numbers.OtherNumbers.TheVariants.{Sides, Costs}
 
 -- the list with each of the named elements changed by the number beside its name
 abbrev pub changed_all : {A K : Type 0} → (K → ℕ) → (ℚ → A → A) → List (K × ℚ) → List A → List A
@@ -35,6 +38,10 @@ with_new_sides M sides = record M { rows = changed_all row_index with_side sides
 abbrev pub with_new_costs : Program → List (ColId × ℚ) → Program
 with_new_costs M costs = record M { cols = changed_all col_index with_cost costs M.cols }
 
+abbrev pub with_new_numbers : Program → OtherNumbers → Program
+with_new_numbers M (Sides sides) = with_new_sides M sides
+with_new_numbers M (Costs costs) = with_new_costs M costs
+
 -- ---- which numbers may be given
 
 -- not two sides that differ
@@ -57,6 +64,10 @@ pub record AreNewSides (M : Program) (sides : List (RowId × ℚ)) : Type 0 wher
 abbrev pub AreNewCosts : Program → List (ColId × ℚ) → Type 0
 AreNewCosts M costs = AreNamedOnce (length M.cols) (map (λ (e : ColId × ℚ). e.0.0) costs)
 
+abbrev pub AreNewNumbers : Program → OtherNumbers → Type 0
+AreNewNumbers M (Sides sides) = AreNewSides M sides
+AreNewNumbers M (Costs costs) = AreNewCosts M costs
+
 -- ---- the numbers that there are
 
 -- the side is this number, if there is one
@@ -69,3 +80,7 @@ ArePresentSides M sides = All (λ (e : RowId × ℚ). IsSideNow (low_side M e.0.
 
 abbrev pub ArePresentCosts : Program → List (ColId × ℚ) → Type 0
 ArePresentCosts M costs = All (λ (e : ColId × ℚ). cost M 1 e.0.0 ≡ e.1) costs
+
+abbrev pub ArePresentNumbers : Program → OtherNumbers → Type 0
+ArePresentNumbers M (Sides sides) = ArePresentSides M sides
+ArePresentNumbers M (Costs costs) = ArePresentCosts M costs

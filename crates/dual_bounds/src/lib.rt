@@ -12,10 +12,10 @@
 //! each cut is derived again at M', as by an edit, and one that does not derive there counts as 0. A leaf that has no number at
 //! M', since a side or a bound is missing or a step of arithmetic has no room, leaves nothing to say: the first such leaf is told.
 //! (T. K. Ralphs, M. Güzelsoy, The SYMPHONY Callable Library for Mixed Integer Programming, 2005; the manual's
-//! `sym_get_lb_for_new_rhs`, `sym_get_ub_for_new_rhs` and `sym_get_ub_for_new_obj`.)
+//! `sym_get_lb_for_new_rhs`, `sym_get_lb_for_new_obj`, `sym_get_ub_for_new_rhs` and `sym_get_ub_for_new_obj`.)
 //!
-//! Public contract: the calls answer exactly these bounds (`IsTreeBoundAt`, `IsPointBound` in specs/TreeBounds) at the model with
-//! the new numbers (specs/NewNumbers), and leave the search as it is. No feasible point is below a lower bound, some feasible
+//! Public contract: two calls, each for sides or for costs, answer exactly these bounds (`IsTreeBoundAt`, `IsPointBound` in
+//! specs/TreeBounds) at the model with the new numbers (specs/NewNumbers), and leave the search as it is. No feasible point is below a lower bound, some feasible
 //! point has an upper one, and after a finished search both are its optimum at the numbers that there are (specs/Laws).
 //!
 //! A lower bound costs what it costs to derive the cuts and to judge the tree once, and takes memory for the cuts and for one
@@ -33,9 +33,8 @@ mod points;
 mod walk;
 
 pub use answers::{LowerBound, UpperBound};
-pub use bounds::{lb_new_obj, lb_new_rhs, ub_new_obj, ub_new_rhs};
+pub use bounds::{lower_bound_with, upper_bound_with};
 pub use laws::{
-    exact_law, new_costs_law, new_sides_law, one_bound_law, point_bound_law, present_costs_law,
-    present_sides_law, tree_bound_law,
+    exact_law, new_numbers_law, one_bound_law, point_bound_law, present_numbers_law, tree_bound_law,
 };
-pub use new_numbers::has_equal_sides;
+pub use new_numbers::{OtherNumbers, has_equal_sides};

@@ -5,11 +5,20 @@ ghost use Rattle.frac128.specs.Rational.{ℚ};
 ghost use Rattle.lp_model.specs.Elements.{changed_at};
 ghost use Rattle.lp_model.specs.declared.types.RowId.{RowId as RowPlace};
 ghost use Rattle.lp_model.specs.declared.types.ColId.{ColId as ColPlace};
-ghost use Rattle.dual_bounds.specs.NewNumbers.{changed_all, with_side, with_cost, row_index, col_index, with_new_sides, with_new_costs, HasEqualSides, AreNewSides, AreNewCosts};
+ghost use Rattle.dual_bounds.specs.NewNumbers.{changed_all, with_side, with_cost, row_index, col_index, with_new_sides, with_new_costs, with_new_numbers, HasEqualSides, AreNewSides, AreNewCosts, AreNewNumbers};
 
 use frac128::Frac;
 use lp_model::{Bound, Col, ColId, List, Model, Row, RowId, show_all};
 use std::alloc::{AllocError, Global};
+
+/// Other numbers for a model.
+#[derive(Drop)]
+pub enum OtherNumbers {
+    /// Numbers for the sides of rows.
+    Sides(List<(RowId, Frac)>),
+    /// Costs of columns in objective 1, in the model's own sense.
+    Costs(List<(ColId, Frac)>),
+}
 
 /// Whether a row with these sides has one of them, or two equal ones, so that another number can stand for them.
 #[tactic(auto, using(frac128::proofs::Comparison::comparisons))]
@@ -104,7 +113,7 @@ fn cols_with(cols: List<Col>, costs: &[(ColId, Frac)]) -> List<Col>
 }
 
 /// A copy of the model with these numbers for the sides of the named rows.
-pub(crate) fn model_with_sides(
+fn model_with_sides(
     alloc: Global,
     model: &Model,
     sides: &[(RowId, Frac)],
@@ -120,7 +129,7 @@ pub(crate) fn model_with_sides(
 }
 
 /// A copy of the model with these costs of the named columns.
-pub(crate) fn model_with_costs(
+fn model_with_costs(
     alloc: Global,
     model: &Model,
     costs: &[(ColId, Frac)],
@@ -132,4 +141,19 @@ pub(crate) fn model_with_costs(
     let (rows, cols) = changed.take_lists(alloc);
     changed.put_lists(rows, cols_with(cols, costs));
     Ok(changed)
+}
+
+/// A copy of the model with these numbers.
+pub(crate) fn model_with_numbers(
+    alloc: Global,
+    model: &Model,
+    numbers: &OtherNumbers,
+) -> Result<Model, AllocError>
+    requires { AreNewNumbers model.now numbers.now }
+    ensures { IfOk result (λ m. m ≡ with_new_numbers model.now numbers.now) }
+{
+    match numbers {
+        OtherNumbers::Sides(sides) => model_with_sides(alloc, model, sides.as_slice()),
+        OtherNumbers::Costs(costs) => model_with_costs(alloc, model, costs.as_slice()),
+    }
 }

@@ -7,7 +7,7 @@ ghost use Rattle.dual_bounds.specs.declared.answers.LowerBound.TheVariants.{Valu
 use crate::answers::LowerBound;
 use frac128::Frac;
 use leaf_dual::LagValue;
-use leaf_judging::{LeafNumber, rank};
+use leaf_judging::{LeafNumber, finite_number};
 use lp_model::Model;
 use model_points::has_whole_objective;
 
@@ -70,7 +70,7 @@ fn least_of_numbers(numbers: &[LeafNumber]) -> Option<Frac>
 {
     let mut least = None;
     for number in numbers {
-        least = least_of_two(least, &rank(number));
+        least = least_of_two(least, &finite_number(number));
     }
     least
 }

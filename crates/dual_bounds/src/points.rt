@@ -1,7 +1,7 @@
 // The kept points at a model.
 ghost use Rattle.std.specs.Prelude.{◌≡◌};
 ghost use Rattle.dual_bounds.specs.TreeBounds.{upper_bound, IsPointBound};
-ghost use Rattle.dual_bounds.specs.Walk.{IsLeastFeasible};
+ghost use Rattle.dual_bounds.specs.private.Walk.{IsLeastFeasible};
 
 use crate::answers::UpperBound;
 use crate::numbers::least_of_two;

@@ -25,7 +25,7 @@ pub(crate) struct Listing<'a> {
 }
 
 impl Listing<'_> {
-    ghost use Rattle.dual_bounds.specs.Walk.{ListsLeaf};
+    ghost use Rattle.dual_bounds.specs.private.Walk.{ListsLeaf};
 
     /// Puts a leaf's number, which is that of each path with the region's bounds, behind the others.
     fn list_leaf(
@@ -46,7 +46,7 @@ impl Listing<'_> {
 }
 
 impl LeafVisitor for Listing<'_> {
-    ghost use Rattle.dual_bounds.specs.Walk.{ListsLeaf};
+    ghost use Rattle.dual_bounds.specs.private.Walk.{ListsLeaf};
 
     ghost step = { ListsLeaf };
 

@@ -24,7 +24,7 @@ use Rattle.row_tableau.specs.Variables.{numbers}
 use Rattle.basic_solution.specs.Held.{Held, IsLawfulHeld, relaxation, state, table}
 use Rattle.row_tableau.specs.Dense.{IsTableauOf}
 use Rattle.row_tableau.specs.Tilts.{model_low, model_high, has_side, is_sided, tilt_of, order_of, parts_of, KeepsFree}
-use Rattle.basic_solution.specs.Slack.{IsOf, IsSlackState, CanStand}
+use Rattle.basic_solution.specs.Slack.{IsStateOfRelax, IsSlackState, CanStand}
 use Rattle.basic_solution.specs.Lists.{AreRising, IsBasisOf}
 use Rattle.basic_solution.specs.ListedStates.{IsStandBy, IsLawfulBasis}
 use Rattle.dual_simplex.specs.SlackBases.{IsRootOf, IsLawfulSlackBasis}
@@ -171,14 +171,14 @@ module _ (F : Formulation) where
 -- ---- the slack basis
 
 -- two states of relaxations of one model number the variables alike
-numbers_alike : (a b : Relax) (s t : Held) → IsOf a s → IsOf b t → form_of a ≡ form_of b → (list : List Var) → numbers s.tableau list ≡ numbers t.tableau list
+numbers_alike : (a b : Relax) (s t : Held) → IsStateOfRelax a s → IsStateOfRelax b t → form_of a ≡ form_of b → (list : List Var) → numbers s.tableau list ≡ numbers t.tableau list
 numbers_alike a b s t s_is t_is same list = numbers_same s.tableau t.tableau
     (columns_is a s s_is ∙ ap (λ F. length F.model.cols) same ∙ sym (columns_is b t t_is))
     (s_is.rows ∙ ap (λ F. length F.model.rows) same ∙ sym t_is.rows)
     (activities_is a s s_is ∙ ap activity_count same ∙ sym (activities_is b t t_is))
     list
 
-module _ (F : Formulation) (start : Relax) (s : Held) (is : IsOf start s) (form : form_of start ≡ F) (kind : start.kind ≡ Plain) (region : start.region.now ≡ []) (kept : IsLawfulHeld s) (basis : Basis) (lists : IsBasisOf s basis) where
+module _ (F : Formulation) (start : Relax) (s : Held) (is : IsStateOfRelax start s) (form : form_of start ≡ F) (kind : start.kind ≡ Plain) (region : start.region.now ≡ []) (kept : IsLawfulHeld s) (basis : Basis) (lists : IsBasisOf s basis) where
   good_root : IsGood (plain F []) (parts_of Plain F []) (state s)
   good_root = subst (λ X. X) (λ i. IsGood (of_kind (kind i) (plain (form i) (region i))) (parts_of (kind i) (form i) (region i)) (state s)) (good_of start s is kept)
 
@@ -201,7 +201,7 @@ module _ (F : Formulation) (start : Relax) (s : Held) (is : IsOf start s) (form 
     good_there : IsGood (relaxation_of relax) (parts_of relax.kind (form_of relax) path) there_state
     good_there = subst (λ X. X) (λ i. IsGood (relaxation_is i) (parts_of (sym plain_kind i) (sym same i) path) there_state) (good_in F path keeps (state s) good_root)
 
-    alike : (t : Held) → IsOf relax t → (list : List Var) → numbers s.tableau list ≡ numbers t.tableau list
+    alike : (t : Held) → IsStateOfRelax relax t → (list : List Var) → numbers s.tableau list ≡ numbers t.tableau list
     alike t t_is list = numbers_alike start relax s t is t_is (form ∙ sym same) list
 
     stands_there : StandsAt relax basis there_state

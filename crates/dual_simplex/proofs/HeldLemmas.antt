@@ -13,7 +13,7 @@ use Rattle.row_tableau.specs.declared.relax.Relax.{Relax}
 use Rattle.row_tableau.specs.Relaxations.{relaxation_of}
 use Rattle.row_tableau.specs.Dense.{Dense, table_of, HasFullLists}
 use Rattle.basic_solution.specs.Held.{Held, HasShape, relaxation, parts, table, variables}
-use Rattle.basic_solution.specs.Slack.{IsOf}
+use Rattle.basic_solution.specs.Slack.{IsStateOfRelax}
 use Rattle.dual_simplex.specs.Starts.{IsReached}
 
 pub same_list : {A : Type 0} (d : A) (xs ys : List A) → length xs ≡ length ys → ((k : ℕ) → k < length xs → get_or xs k d ≡ get_or ys k d) → xs ≡ ys
@@ -27,7 +27,7 @@ same_list d (x ∷ xs) (y ∷ ys) e h =
 
 -- ---- what is said of the relaxation
 
-module _ (relax : Relax) (s t : Held) (s_is : IsOf relax s) (t_is : IsOf relax t) (s_shape : HasShape s) (t_shape : HasShape t) where
+module _ (relax : Relax) (s t : Held) (s_is : IsStateOfRelax relax s) (t_is : IsStateOfRelax relax t) (s_shape : HasShape s) (t_shape : HasShape t) where
   columns_are : s.tableau.columns ≡ t.tableau.columns
   columns_are = s_is.tableau.columns ∙ sym t_is.tableau.columns
 

@@ -21,7 +21,7 @@ use Rattle.row_tableau.specs.Answers.{IsProper, IsPivotPlace, IsWidePivot}
 use Rattle.row_tableau.proofs.EntryLemmas.{proper_from_basis}
 use Rattle.basic_solution.specs.Held.{Held, IsSided, relaxation, table, variables}
 use Rattle.basic_solution.specs.Numbers.{CostsFit, IsWideCost}
-use Rattle.basic_solution.specs.Slack.{IsOf, IsSlackState}
+use Rattle.basic_solution.specs.Slack.{IsStateOfRelax, IsSlackState}
 use Rattle.basic_solution.specs.ListedStates.{IsStandBy, StandsAsListed, StandsNowhere, IsExchangePlace, IsUnlawfulAt, IsWidePlacing, IsLawfulAnswer, IsStoodAt, LeadsOn}
 use Rattle.basic_solution.proofs.ListedLemmas.{numbers_same}
 use Rattle.dual_simplex.specs.Starts.{IsReached, IsLeftBehind, IsStarted, IsWideStart}
@@ -78,33 +78,33 @@ pub data StoodAs (relax : Relax) (list : Basis) (x z c : Held) (r : Result Bool 
       → BringsIn (relaxation_of relax).columns (relaxation_of relax).activities (numbers x.tableau list.basic) (table c) row place → IsWidePivot c.tableau row place e → StoodAs relax list x z c r
   as_named : StandsAsListed list c → IsLawfulAnswer c r → StoodAs relax list x z c r
 
-module _ (relax : Relax) (list : Basis) (x : Held) (x_is : IsOf relax x) where
+module _ (relax : Relax) (list : Basis) (x : Held) (x_is : IsStateOfRelax relax x) where
   abbrev p : Relaxation
   p = relaxation_of relax
 
   abbrev L : List ℕ
   L = numbers x.tableau list.basic
 
-  same_numbers : (c : Held) → IsOf relax c → (l : List Var) → numbers c.tableau l ≡ numbers x.tableau l
+  same_numbers : (c : Held) → IsStateOfRelax relax c → (l : List Var) → numbers c.tableau l ≡ numbers x.tableau l
   same_numbers c is l = numbers_same c.tableau x.tableau (is.tableau.columns ∙ sym x_is.tableau.columns) (is.rows ∙ sym x_is.rows) (is.tableau.activities ∙ sym x_is.tableau.activities) l
 
-  proper_here : (c : Held) → IsOf relax c → IsProper c.tableau (numbers c.tableau list.basic) → IsProper x.tableau L
+  proper_here : (c : Held) → IsStateOfRelax relax c → IsProper c.tableau (numbers c.tableau list.basic) → IsProper x.tableau L
   proper_here c is h = proper_there c.tableau x.tableau (numbers c.tableau list.basic) L (is.tableau.columns ∙ sym x_is.tableau.columns) (is.tableau.activities ∙ sym x_is.tableau.activities) (same_numbers c is list.basic) h
 
-  proper_back : (c : Held) → IsOf relax c → IsProper x.tableau L → IsProper c.tableau (numbers c.tableau list.basic)
+  proper_back : (c : Held) → IsStateOfRelax relax c → IsProper x.tableau L → IsProper c.tableau (numbers c.tableau list.basic)
   proper_back c is h = proper_there x.tableau c.tableau L (numbers c.tableau list.basic) (x_is.tableau.columns ∙ sym is.tableau.columns) (x_is.tableau.activities ∙ sym is.tableau.activities) (sym (same_numbers c is list.basic)) h
 
-  named_here : (c : Held) → IsOf relax c → StandsAsListed list c → IsNamedBy p.activities L (table c)
+  named_here : (c : Held) → IsStateOfRelax relax c → StandsAsListed list c → IsNamedBy p.activities L (table c)
   named_here c is at = subst (λ X. X) (λ i. IsNamedBy (is.tableau.activities i) (same_numbers c is list.basic i) (table c)) at.named
 
-  named_proper : (c : Held) → IsOf relax c → StandsAsListed list c → IsProper x.tableau L
+  named_proper : (c : Held) → IsStateOfRelax relax c → StandsAsListed list c → IsProper x.tableau L
   named_proper c is at = proper_there c.tableau x.tableau L L (is.tableau.columns ∙ sym x_is.tableau.columns) (is.tableau.activities ∙ sym x_is.tableau.activities) refl
       (proper_from_basis p c.tableau L is.tableau (table c, is.tableau.is, named_here c is at))
 
-  way_here : (z c : Held) → IsOf relax z → LeadsOn list z c → IsOnOpenWay p.columns p.activities L (table z) (table c)
+  way_here : (z c : Held) → IsStateOfRelax relax z → LeadsOn list z c → IsOnOpenWay p.columns p.activities L (table z) (table c)
   way_here z c is way = subst (λ X. X) (λ i. IsOnOpenWay (is.tableau.columns i) (is.tableau.activities i) (same_numbers z is list.basic i) (table z) (table c)) way
 
-  module _ (z c : Held) (z_is : IsOf relax z) (c_is : IsOf relax c) where
+  module _ (z c : Held) (z_is : IsStateOfRelax relax z) (c_is : IsStateOfRelax relax c) where
     stopped_as : (e : WideStep) (o : Option TablePlace) → table_place e ≡ o → StandsNowhere c → IsSomeAnd o (IsExchangePlace list c) → StoodAs relax list x z c (Err e)
     stopped_as e None is nowhere h = absurd h
     stopped_as e (Some (Pivot r v i k)) is nowhere h =
@@ -132,7 +132,7 @@ pub record IsOneStand (relax : Relax) (a b : Held) (r q : Result Bool WideStep) 
   pub agree : Agree (relaxation_of relax).columns (relaxation_of relax).activities (table a) (table b)
   pub same : ¬ (r ≡ Ok false) → a ≡ b
 
-module _ (relax : Relax) (list : Basis) (x y a b : Held) (x_is : IsOf relax x) (y_is : IsOf relax y) (start : Agree (relaxation_of relax).columns (relaxation_of relax).activities (table x) (table y))
+module _ (relax : Relax) (list : Basis) (x y a b : Held) (x_is : IsStateOfRelax relax x) (y_is : IsStateOfRelax relax y) (start : Agree (relaxation_of relax).columns (relaxation_of relax).activities (table x) (table y))
     (a_at : IsReached relax a) (b_at : IsReached relax b) (a_way : LeadsOn list x a) (b_way : LeadsOn list y b) where
   abbrev rel : Relaxation
   rel = relaxation_of relax

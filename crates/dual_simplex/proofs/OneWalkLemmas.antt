@@ -6,7 +6,7 @@ use Rattle.table_entries.specs.Relaxation.{HasNoCrossedSides}
 use Rattle.row_tableau.specs.declared.relax.Relax.{Relax}
 use Rattle.row_tableau.specs.Relaxations.{relaxation_of}
 use Rattle.basic_solution.specs.Held.{Held, IsLawfulHeld, relaxation}
-use Rattle.basic_solution.specs.Slack.{IsOf}
+use Rattle.basic_solution.specs.Slack.{IsStateOfRelax}
 use Rattle.basic_solution.proofs.ExchangeLemmas.{sided_of}
 use Rattle.dual_simplex.specs.Moves.{IsMoved}
 use Rattle.dual_simplex.specs.Walks.{Moves}
@@ -19,10 +19,10 @@ moved_kept zero s after kept moves = subst IsLawfulHeld (sym moves) kept
 moved_kept (suc n) s after kept (mid, (moves, moved)) = kept_after mid after (moved_kept n s mid kept moves) moved.row moved.side moved.place moved.out moved.enters moved.move
 
 module _ (relax : Relax) (ordered : HasNoCrossedSides (relaxation_of relax)) where
-  pub uncrossed_at : (s : Held) → IsOf relax s → IsLawfulHeld s → HasNoCrossedSides (relaxation s)
+  pub uncrossed_at : (s : Held) → IsStateOfRelax relax s → IsLawfulHeld s → HasNoCrossedSides (relaxation s)
   uncrossed_at s is kept = uncrossed s kept (ordered_of relax s is ordered) (free_of relax s is)
 
-  module _ (s : Held) (is : IsOf relax s) (kept : IsLawfulHeld s) where
+  module _ (s : Held) (is : IsStateOfRelax relax s) (kept : IsLawfulHeld s) where
     pub moves_one : (n : ℕ) (a b : Held) → Moves n s a → Moves n s b → a ≡ b
     moves_one zero a b here there = here ∙ sym there
     moves_one (suc n) a b (m, (moves, moved)) (l, (other, also)) =

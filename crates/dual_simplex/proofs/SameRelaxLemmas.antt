@@ -11,7 +11,7 @@ use Rattle.row_tableau.specs.Dense.{IsTableauOf}
 use Rattle.row_tableau.specs.Variables.{numbers}
 use Rattle.row_tableau.specs.Tilts.{tilt_of, order_of}
 use Rattle.basic_solution.specs.Held.{Held}
-use Rattle.basic_solution.specs.Slack.{IsOf, IsSlackState}
+use Rattle.basic_solution.specs.Slack.{IsStateOfRelax, IsSlackState}
 use Rattle.basic_solution.specs.ListedStates.{IsLawfulBasis}
 use Rattle.dual_simplex.specs.Starts.{IsReached, IsLeftBehind, IsStarted, IsWideStart}
 
@@ -28,7 +28,7 @@ module _ (r t : Relax) (same : AreSame r t) where
   relaxation_is : relaxation_of r ≡ relaxation_of t
   relaxation_is = λ i. of_kind (same.kind i) (plain (same.form i) (same.region i))
 
-  pub of_other : (s : Held) → IsOf r s → IsOf t s
+  pub of_other : (s : Held) → IsStateOfRelax r s → IsStateOfRelax t s
   of_other s is = record {
     form = is.form ∙ same.form;
     tableau = subst (λ p. IsTableauOf p s.tableau) relaxation_is is.tableau;

@@ -11,7 +11,7 @@ use Rattle.edit_words.specs.EditWords.{EditAsks, Edits, edit_asks}
 use Rattle.edit_words.specs.EditWords as says
 use Rattle.reply_texts.specs.Texts.{ok_text}
 use Rattle.shell_replies.specs.Faults.{edit_fault_text}
-use Rattle.command_family.specs.Family.{HasCause, IsLawful}
+use Rattle.command_family.specs.Family.{HasCause, IsLawfulFamily}
 use Rattle.command_family.specs.Kinds.{Done, WrongArguments, NoModel, UnknownName, TakenName, WrongNumber, OverLimit, NoBounds, BadSides, WantsMemory}
 use Rattle.command_family.specs.State.{ShellState}
 use Rattle.command_family.proofs.ReplyLemmas.{not_error, not_done}
@@ -101,7 +101,7 @@ module _ (old : ShellState) (reply : List ℕ) (new : ShellState) where
   same-faults (Change behind) h = subst (λ n. old.faults ≤ n) (sym h.faults) (omega arith)
   same-faults (Trim depth) h = subst (λ n. old.faults ≤ n) (sym h.faults) (omega arith)
 
-pub changes-lawful : IsLawful changes
+pub changes-lawful : IsLawfulFamily changes
 changes-lawful = record {
   caused = λ asks old reply new h. caused old reply new asks h;
   later = λ asks old reply new h. same-faults old reply new asks h;

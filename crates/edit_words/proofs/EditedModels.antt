@@ -29,9 +29,6 @@ record IsScriptColumn (c : Col) : Type 0 where
 abbrev HasLawfulName : Row → Type 0
 HasLawfulName r = IsLawfulName r.name
 
-new-lawful : (word : List ℕ) → IsNewName word → IsLawfulName word
-new-lawful word h = h
-
 kept-at : {A : Type 0} (P : A → Type 0) (f : A → A) → ((a : A) → P a → P (f a)) → (xs : List A) (k : ℕ) → All P xs → All P (changed_at f xs k)
 kept-at P f keeps [] k all = all
 kept-at P f keeps (a ∷ as_) zero all = All-cons P (f a) as_ (keeps a (All-head P a as_ all)) (All-tail P a as_ all)
@@ -49,7 +46,7 @@ columns-kept M (SetKind col integer) all new near =
     kept-at IsScriptColumn (λ (c : Col). record c { int = integer }) (λ c h. record { named = h.named; lower = h.lower; upper = h.upper }) M.cols (col_place M col) all
 columns-kept M (AddCol name integer lo up cost cost2 named) all new near =
     All-push IsScriptColumn M.cols (record { name = name; int = integer; lo = lo; up = up; cost = cost; cost2 = cost2; rows = entries_beside 0 (map (λ r. r.name) M.rows) named }) all
-    (record { named = new-lawful name new; lower = near.0; upper = near.1 })
+    (record { named = new; lower = near.0; upper = near.1 })
 columns-kept M (DelCol col) all new near = All-without_at IsScriptColumn M.cols (col_place M col) all
 columns-kept M (AddRow name lo hi named) all new near =
     All-map IsScriptColumn (λ (c : Col). with_entry (length M.rows) (number_beside c.name named) c) M.cols
@@ -69,7 +66,7 @@ rows-kept M (SetColBounds col lo up) all new = all
 rows-kept M (SetKind col integer) all new = all
 rows-kept M (AddCol name integer lo up cost cost2 named) all new = all
 rows-kept M (DelCol col) all new = all
-rows-kept M (AddRow name lo hi named) all new = All-push HasLawfulName M.rows (record { name = name; lo = lo; hi = hi }) all (new-lawful name new)
+rows-kept M (AddRow name lo hi named) all new = All-push HasLawfulName M.rows (record { name = name; lo = lo; hi = hi }) all new
 rows-kept M (DelRow row) all new = All-without_at HasLawfulName M.rows (row_place M row) all
 rows-kept M (ReplaceRow row lo hi named) all new = kept-at HasLawfulName (with_sides (Some lo) (Some hi)) (λ r h. h) M.rows (row_place M row) all
 

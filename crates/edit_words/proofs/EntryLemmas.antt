@@ -3,7 +3,7 @@ use Rattle.std.proofs.Common.{◌≡◌, ℕ, ◌-◌, ◌≤◌, ◌<◌, Bool,
 use Rattle.std.proofs.lemmas.List.{append-nil}
 use Rattle.frac128.specs.Rational.{ℚ}
 use Rattle.lp_model.specs.Edits.{Named}
-use Rattle.edit_words.specs.Forms.{are_distinct}
+use Rattle.edit_words.specs.Forms.{are_distinct_pairs}
 use Rattle.lp_model.specs.declared.types.Edit.TheVariants.{AddCol}
 use Rattle.edit_words.specs.declared.asked.RowPlace.{RowPlace}
 use Rattle.text_lines.specs.Words.{Words}
@@ -64,12 +64,12 @@ unfolding pairs_asks
 no_pairs [] none = refl
 no_pairs (a ∷ more) none = absurd (omega arith)
 
-pub named_twice : (words : List (Bor (List ℕ))) → are_distinct (nows words) ≡ false → pairs_asks (nows words) ≡ AreMisused
+pub named_twice : (words : List (Bor (List ℕ))) → are_distinct_pairs (nows words) ≡ false → pairs_asks (nows words) ≡ AreMisused
 unfolding pairs_asks
 named_twice [] twice = refl
 named_twice (a ∷ more) twice = ap (λ (b : Bool). if b then entries_of (nows (a ∷ more)) else AreMisused) twice
 
-pub distinct_pairs : (words : List (Bor (List ℕ))) → ¬ (length words ≡ 0) → are_distinct (nows words) ≡ true → pairs_asks (nows words) ≡ entries_of (nows words)
+pub distinct_pairs : (words : List (Bor (List ℕ))) → ¬ (length words ≡ 0) → are_distinct_pairs (nows words) ≡ true → pairs_asks (nows words) ≡ entries_of (nows words)
 unfolding pairs_asks
 distinct_pairs [] some distinct = absurd (some refl)
 distinct_pairs (a ∷ more) some distinct = ap (λ (b : Bool). if b then entries_of (nows (a ∷ more)) else AreMisused) distinct

@@ -4,7 +4,7 @@ use Rattle.std.specs.Prelude.{map, Bool, true, false, not, ◌&&◌, ◌||◌, b
 use Rattle.std.proofs.lemmas.Grind.{common_steps}
 use Rattle.edit_words.specs.declared.kinds.EditKind.{EditKind}
 use Rattle.edit_words.specs.declared.forms.Slot.{Slot}
-use Rattle.edit_words.specs.Forms.{is_named, are_distinct, fits}
+use Rattle.edit_words.specs.Forms.{is_named, are_distinct_pairs, fits}
 use Rattle.edit_words.specs.declared.asked.RowPlace.{RowPlace}
 use Rattle.edit_words.specs.EditWords.{Misused, cost_asks, cost2_asks, row_asks, bounds_asks, kind_asks, addcol_asks, delcol_asks, delrow_asks, whole_row_asks, edit_kind_of, formed_asks, edit_asks}
 
@@ -189,18 +189,18 @@ is_named_first name [] h = absurd (omega arith)
 is_named_first name (a ∷ []) h = absurd (omega arith)
 is_named_first name (a ∷ b ∷ more) h = (λ i. bytes_eq a.now name || is_named name (nows (sym (back-two a b more) i)))
 
-pub are_distinct_one : (words : List (Bor (List ℕ))) → ¬ (length words ≡ 0) → length words < 2 → are_distinct (nows words) ≡ false
-unfolding are_distinct
+pub are_distinct_one : (words : List (Bor (List ℕ))) → ¬ (length words ≡ 0) → length words < 2 → are_distinct_pairs (nows words) ≡ false
+unfolding are_distinct_pairs
 are_distinct_one [] some few = absurd (some refl)
 are_distinct_one (a ∷ []) some few = refl
 are_distinct_one (a ∷ b ∷ more) some few = absurd (omega arith)
 
 pub are_distinct_first : (words : List (Bor (List ℕ))) → 2 ≤ length words
-    → are_distinct (nows words) ≡ (not (is_named (get_or words 0 some_word).now (nows (take (length words - 2) (drop 2 words)))) && are_distinct (nows (take (length words - 2) (drop 2 words))))
-unfolding are_distinct
+    → are_distinct_pairs (nows words) ≡ (not (is_named (get_or words 0 some_word).now (nows (take (length words - 2) (drop 2 words)))) && are_distinct_pairs (nows (take (length words - 2) (drop 2 words))))
+unfolding are_distinct_pairs
 are_distinct_first [] h = absurd (omega arith)
 are_distinct_first (a ∷ []) h = absurd (omega arith)
-are_distinct_first (a ∷ b ∷ more) h = (λ i. not (is_named a.now (nows (sym (back-two a b more) i))) && are_distinct (nows (sym (back-two a b more) i)))
+are_distinct_first (a ∷ b ∷ more) h = (λ i. not (is_named a.now (nows (sym (back-two a b more) i))) && are_distinct_pairs (nows (sym (back-two a b more) i)))
 
 -- ---- a slot without a word
 

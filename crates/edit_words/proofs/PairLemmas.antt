@@ -8,7 +8,7 @@ use Rattle.frac128.specs.Rational.{ℚ}
 use Rattle.lp_model.specs.Edits.{Named}
 use Rattle.lp_model.proofs.NameLemmas.{not_same}
 use Rattle.text_lines.specs.Words.{Words}
-use Rattle.edit_words.specs.Forms.{is_named, are_distinct}
+use Rattle.edit_words.specs.Forms.{is_named, are_distinct_pairs}
 use Rattle.edit_words.specs.EditWords.{EntriesAsk, AreRead, AreMisused, HasNoNumber, number_in, with_first, entries_of, names_in, pairs_asks}
 
 abbrev named_in : EntriesAsk → Named
@@ -52,15 +52,15 @@ apart name (first ∷ word ∷ rest) named none read =
     by differs (Some x) AreMisused rec is = let clash : AreMisused ≡ AreRead named = is in absurd (cc)
     by differs (Some x) (HasNoNumber other) rec is = let clash : HasNoNumber other ≡ AreRead named = is in absurd (cc)
 
-entries-distinct : (words : Words) (named : Named) → are_distinct words ≡ true → entries_of words ≡ AreRead named → AllPairs (λ a b. a ≢ b) (names_in named)
-unfolding are_distinct entries_of
+entries-distinct : (words : Words) (named : Named) → are_distinct_pairs words ≡ true → entries_of words ≡ AreRead named → AllPairs (λ a b. a ≢ b) (names_in named)
+unfolding are_distinct_pairs entries_of
 entries-distinct [] named once read = subst (λ (n : Named). AllPairs (λ a b. a ≢ b) (names_in n)) (ap named_in read) (λ i j d early late. absurd (omega arith))
 entries-distinct (name ∷ []) named once read = let clash : AreMisused ≡ AreRead named = read in absurd (cc)
 entries-distinct (name ∷ word ∷ rest) named once read =
-    let both : (not (is_named name rest) && are_distinct rest) ≡ true = once in
+    let both : (not (is_named name rest) && are_distinct_pairs rest) ≡ true = once in
     by (number_in word) (entries_of rest)
-    (λ tail is. apart name rest tail (is_false (is_named name rest) (both_left (not (is_named name rest)) (are_distinct rest) both)) is)
-    (λ tail is. entries-distinct rest tail (both_right (not (is_named name rest)) (are_distinct rest) both) is) read
+    (λ tail is. apart name rest tail (is_false (is_named name rest) (both_left (not (is_named name rest)) (are_distinct_pairs rest) both)) is)
+    (λ tail is. entries-distinct rest tail (both_right (not (is_named name rest)) (are_distinct_pairs rest) both) is) read
   where
     by : (o : Option ℚ) (more : EntriesAsk) → ((tail : Named) → more ≡ AreRead tail → All (λ other. name ≢ other) (names_in tail)) → ((tail : Named) → more ≡ AreRead tail → AllPairs (λ a b. a ≢ b) (names_in tail))
         → with_first name word o more ≡ AreRead named → AllPairs (λ a b. a ≢ b) (names_in named)
@@ -73,8 +73,8 @@ entries-distinct (name ∷ word ∷ rest) named once read =
 pub pairs-distinct : (words : Words) (named : Named) → pairs_asks words ≡ AreRead named → AllPairs (λ a b. a ≢ b) (names_in named)
 unfolding pairs_asks
 pairs-distinct [] named read = let clash : AreMisused ≡ AreRead named = read in absurd (cc)
-pairs-distinct (word ∷ words) named read = by (are_distinct (word ∷ words)) refl read
+pairs-distinct (word ∷ words) named read = by (are_distinct_pairs (word ∷ words)) refl read
   where
-    by : (b : Bool) → are_distinct (word ∷ words) ≡ b → (if b then entries_of (word ∷ words) else AreMisused) ≡ AreRead named → AllPairs (λ a b. a ≢ b) (names_in named)
+    by : (b : Bool) → are_distinct_pairs (word ∷ words) ≡ b → (if b then entries_of (word ∷ words) else AreMisused) ≡ AreRead named → AllPairs (λ a b. a ≢ b) (names_in named)
     by true once is = entries-distinct (word ∷ words) named once is
     by false once is = let clash : AreMisused ≡ AreRead named = is in absurd (cc)

@@ -13,7 +13,7 @@ use Rattle.text_lines.specs.Words.{Words}
 use Rattle.lp_model.specs.Edits.{Named}
 use Rattle.lp_model.specs.declared.types.Edit.{Edit}
 use Rattle.lp_model.specs.declared.types.Edit.TheVariants.{SetCost, SetCost2, SetRow, SetColBounds, SetKind, AddCol, DelCol, AddRow, DelRow, ReplaceRow}
-use Rattle.edit_words.specs.Forms.{are_distinct, fits}
+use Rattle.edit_words.specs.Forms.{are_distinct_pairs, fits}
 use Rattle.edit_words.specs.declared.forms.Slot.{Slot}
 use Rattle.edit_words.specs.declared.forms.Slot.TheVariants as slot
 use Rattle.edit_words.specs.declared.kinds.EditKind.{EditKind}
@@ -155,7 +155,7 @@ names_in named = map (λ e. e.0) named
 -- the words behind a command of bounds: one name with a number at least, each name once
 unfoldable pub pairs_asks : Words → EntriesAsk
 pairs_asks [] = AreMisused
-pairs_asks (word ∷ words) = if are_distinct (word ∷ words) then entries_of (word ∷ words) else AreMisused
+pairs_asks (word ∷ words) = if are_distinct_pairs (word ∷ words) then entries_of (word ∷ words) else AreMisused
 
 -- ---- edits, from what their words say
 

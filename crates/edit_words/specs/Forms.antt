@@ -25,14 +25,14 @@ is_named name (first ∷ []) = false
 is_named name (first ∷ number ∷ rest) = bytes_eq first name || is_named name rest
 
 -- the words are names with numbers, each name once
-unfoldable pub are_distinct : Words → Bool
-are_distinct [] = true
-are_distinct (name ∷ []) = false
-are_distinct (name ∷ number ∷ rest) = not (is_named name rest) && are_distinct rest
+unfoldable pub are_distinct_pairs : Words → Bool
+are_distinct_pairs [] = true
+are_distinct_pairs (name ∷ []) = false
+are_distinct_pairs (name ∷ number ∷ rest) = not (is_named name rest) && are_distinct_pairs rest
 
 -- the words behind the slots
 abbrev pub fits_behind : Bool → Words → Bool
-fits_behind true words = are_distinct words
+fits_behind true words = are_distinct_pairs words
 fits_behind false [] = true
 fits_behind false (word ∷ words) = false
 

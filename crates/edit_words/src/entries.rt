@@ -2,7 +2,7 @@
 ghost use Rattle.std.specs.Prelude.{◌≡◌, ◌∷◌, ◌++◌, [], map, IfOk};
 ghost use Rattle.edit_words.specs.EditWords.{entries_of, pairs_asks, IsEntriesOf};
 
-use crate::forms::are_distinct;
+use crate::forms::are_distinct_pairs;
 use crate::numbers::number_in;
 use frac128::Frac;
 use lp_model::{List, Name};
@@ -69,7 +69,7 @@ pub(crate) fn entries_in<'a>(alloc: Global, words: &[&'a [u8]]) -> Entries<'a>
 pub fn read_pairs<'a>(alloc: Global, words: &[&'a [u8]]) -> Entries<'a>
     ensures { IsEntriesOf (pairs_asks (map (λ word. word.now) words.now)) result }
 {
-    if words.is_empty() || !are_distinct(words) {
+    if words.is_empty() || !are_distinct_pairs(words) {
         return Entries::Misused;
     }
     entries_in(alloc, words)

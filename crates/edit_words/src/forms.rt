@@ -1,6 +1,6 @@
 // Forms of words as data, and the words that have one.
 ghost use Rattle.std.specs.Prelude.{◌≡◌, map};
-ghost use Rattle.edit_words.specs.Forms.{fits_slot, fits_behind, fits, is_named, are_distinct};
+ghost use Rattle.edit_words.specs.Forms.{fits_slot, fits_behind, fits, is_named, are_distinct_pairs};
 
 use lp_model::is_lawful_name;
 use text_lines::is_word;
@@ -54,13 +54,13 @@ fn is_named(name: &[u8], pairs: &[&[u8]]) -> bool
 }
 
 /// Whether the words are names with numbers, each name once.
-#[tactic(auto, unfolding(crate::specs::Forms::are_distinct), using(crate::proofs::FormLemmas::are_distinct_one, crate::proofs::FormLemmas::are_distinct_first))]
-pub(crate) fn are_distinct(words: &[&[u8]]) -> bool
-    ensures { result ≡ are_distinct (map (λ word. word.now) words.now) }
+#[tactic(auto, unfolding(crate::specs::Forms::are_distinct_pairs), using(crate::proofs::FormLemmas::are_distinct_one, crate::proofs::FormLemmas::are_distinct_first))]
+pub(crate) fn are_distinct_pairs(words: &[&[u8]]) -> bool
+    ensures { result ≡ are_distinct_pairs (map (λ word. word.now) words.now) }
 {
     match words {
         [] => true,
-        [name, _, rest @ ..] => !is_named(name, rest) && are_distinct(rest),
+        [name, _, rest @ ..] => !is_named(name, rest) && are_distinct_pairs(rest),
         _ => false,
     }
 }
@@ -70,7 +70,7 @@ fn fits_behind(pairs: bool, words: &[&[u8]]) -> bool
     ensures { result ≡ fits_behind pairs (map (λ word. word.now) words.now) }
 {
     if pairs {
-        are_distinct(words)
+        are_distinct_pairs(words)
     } else {
         words.is_empty()
     }

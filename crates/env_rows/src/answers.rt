@@ -52,20 +52,20 @@ pub fn push_answer(got: &mut String, model: &Model, answer: &Answer) -> Result<(
         Answer::Optimal {
             value,
             point,
-            placed,
+            results,
         } => {
-            write!(got, "optimal {value} nodes {placed} at")?;
+            write!(got, "optimal {value} nodes {results} at")?;
             push_point(got, model, point)?;
         }
-        Answer::Infeasible { placed } => write!(got, "infeasible nodes {placed}")?,
-        Answer::Unbounded { placed } => write!(got, "unbounded nodes {placed}")?,
+        Answer::Infeasible { results } => write!(got, "infeasible nodes {results}")?,
+        Answer::Unbounded { results } => write!(got, "unbounded nodes {results}")?,
         Answer::Stopped {
             why,
-            placed,
+            results,
             bound,
             best,
         } => {
-            write!(got, "stopped {} {placed} bound", cause(why))?;
+            write!(got, "stopped {} {results} bound", cause(why))?;
             push_some(got, bound)?;
             got.push_str(" best")?;
             push_some(got, best)?;

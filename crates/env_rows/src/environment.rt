@@ -1,4 +1,6 @@
 // The environment of a row, and what its calls are answered.
+ghost use Rattle.std.specs.Prelude.{◌≤◌, IfOk};
+
 use crate::answers::push_answer;
 use anyhow::{Result, bail};
 use cert_commands::held_certificate;
@@ -21,13 +23,13 @@ pub struct Environment {
     saved: Vec<u8>,
 }
 
-/// The limits that the words name; one that isn't named is the greatest.
-fn limits_in(words: &mut Words) -> Result<Limits> {
-    let mut limits = Limits {
-        nodes: u64::MAX,
-        pivots: u64::MAX,
-        tree: 1_000_000,
-    };
+/// The limits that the words name; one that isn't named is the greatest. One worker makes the search.
+fn limits_in(words: &mut Words) -> Result<Limits>
+    ensures { IfOk result (λ limits. 1 ≤ limits.workers) }
+{
+    let mut nodes = u64::MAX;
+    let mut pivots = u64::MAX;
+    let mut tree = 1_000_000;
     for _ in 0..words.most() {
         if words.is_done() {
             break;
@@ -35,14 +37,20 @@ fn limits_in(words: &mut Words) -> Result<Limits> {
         let key = words.next("limit")?;
         let number = take_number(words)?;
         match key.as_str() {
-            "nodes" => limits.nodes = number,
-            "pivots" => limits.pivots = number,
-            "tree" => limits.tree = number,
+            "nodes" => nodes = number,
+            "pivots" => pivots = number,
+            "tree" => tree = number,
             _ => bail!("no limit: `{key}`"),
         }
     }
     words.end()?;
-    Ok(limits)
+    Ok(Limits {
+        nodes,
+        pivots,
+        tree,
+        workers: 1,
+        seed: 0,
+    })
 }
 
 /// Writes bytes, which are to be UTF-8.
@@ -78,7 +86,9 @@ fn push_fault(got: &mut String, fault: &EnvFault) -> Result<()> {
 }
 
 /// The limits that a line says.
-fn limits_of(alloc: Global, line: &str) -> Result<Limits> {
+fn limits_of(alloc: Global, line: &str) -> Result<Limits>
+    ensures { IfOk result (λ limits. 1 ≤ limits.workers) }
+{
     let mut words = Words::new(alloc, line)?;
     limits_in(&mut words)
 }

@@ -12,7 +12,7 @@ use Rattle.command_files.specs.Filing as filing
 use Rattle.command_files.specs.Reading.{ReadsFile, refusal_text}
 use Rattle.command_files.specs.declared.reading.Refusal.{Refusal}
 use Rattle.command_files.specs.declared.reading.Refusal.TheVariants as refusal
-use Rattle.command_family.specs.Family.{HasCause, IsLawful}
+use Rattle.command_family.specs.Family.{HasCause, IsLawfulFamily}
 use Rattle.command_family.specs.Kinds.{Done, NoModel, StoreFailed, FileTooLong, FaultyText, FaultySearch, WantsMemory}
 use Rattle.command_family.specs.State.{ShellState}
 use Rattle.command_family.proofs.ReplyLemmas.{not_error, not_done}
@@ -123,7 +123,7 @@ module _ (old : ShellState) (reply : List ℕ) (new : ShellState) where
   keeps (Save file) h ok kept = kept h.env
   keeps (Restore file) h ok kept = elim h.answer [ inl restores ↦ ok restores.ok | inr refused ↦ kept refused.0 ]
 
-pub filings-lawful : IsLawful filings
+pub filings-lawful : IsLawfulFamily filings
 filings-lawful = record {
   caused = λ asks old reply new h. caused old reply new asks h;
   later = λ asks old reply new h. later old reply new asks h;

@@ -6,7 +6,7 @@ use Rattle.sound_searches.specs.Sound.{PlainSearch, IsSound}
 use Rattle.search_file.specs.Files.{IsTextOf, IsStatedBy}
 use Rattle.search_file.proofs.RestorableLaws.{in-own-text}
 use Rattle.kept_env.specs.Env.{PlainEnv}
-use Rattle.file_commands.specs.Laws.{RestoredLaw}
+use Rattle.file_commands.specs.Laws.{RestoredSearchLaw}
 use Rattle.file_commands.specs.Saving.{RestoresTo}
 
 module _ (S T : PlainSearch) (text : List ℕ) (restored : PlainEnv) (sound : IsSound S) (made : IsSound T) (own : IsTextOf S text)
@@ -17,5 +17,5 @@ module _ (S T : PlainSearch) (text : List ℕ) (restored : PlainEnv) (sound : Is
       let same : restores.search ≡ T = cc in
       in-own-text.closed S T text sound made own (subst (λ U. IsStatedBy text U) same restores.stated) closed
 
-pub after-restore : RestoredLaw
+pub after-restore : RestoredSearchLaw
 after-restore = record { closed = λ S T text restored sound made own restores there closed. restored-closed S T text restored sound made own restores there closed }

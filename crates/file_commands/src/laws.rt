@@ -1,14 +1,14 @@
 // Each law is the contract of a function that does nothing.
-ghost use Rattle.command_family.specs.Family.{IsLawful};
+ghost use Rattle.command_family.specs.Family.{IsLawfulFamily};
 ghost use Rattle.file_commands.specs.Family.{filings};
-ghost use Rattle.file_commands.specs.Laws.{RestoredLaw};
+ghost use Rattle.file_commands.specs.Laws.{RestoredSearchLaw};
 
 /// The commands of files are a lawful family.
 pub fn filings_law()
-    ensures { IsLawful filings }
+    ensures { IsLawfulFamily filings }
 {}
 
 /// A search without an open leaf that is saved and restored has none.
 pub fn restored_law()
-    ensures { RestoredLaw }
+    ensures { RestoredSearchLaw }
 {}

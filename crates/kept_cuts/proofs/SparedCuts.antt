@@ -26,7 +26,7 @@ use Rattle.cover_cuts.specs.Covers.{signed_by_side, signed_side, side_limit, IsB
 use Rattle.cover_cuts.specs.Answers.{DerivesWithRoom}
 use Rattle.cover_cuts.specs.Cuts.{cover_terms, cover_high, IsCutOf}
 use Rattle.kept_cuts.specs.Kept.{goes_with, derivation_after, KeepsCut}
-use Rattle.kept_cuts.specs.Spared.{spares}
+use Rattle.kept_cuts.specs.private.Spared.{spares}
 
 -- ---- what a derivation reads
 

@@ -1,3 +1,3 @@
 pub mod Places
 pub mod Kept
-pub mod Spared
+pub mod private

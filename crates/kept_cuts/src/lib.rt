@@ -5,7 +5,7 @@
 //! where it derives at the edited model with room for each step.
 //!
 //! Public contract: `pool_after` makes these cuts (`IsPoolAfter` in specs/Kept), and `gone_with` gives the places of those
-//! that go, by which they go from the lists of a tree (`branch_tree`). A cut whose derivation the edit spares (specs/Spared) is
+//! that go, by which they go from the lists of a tree (`branch_tree`). A cut whose derivation the edit spares (specs/private/Spared) is
 //! taken over as it stands; the others are derived again.
 //!
 //! Below stand pools of cuts (`cover_cuts`), trees (`branch_tree`) and models (`lp_model`). Above stands the search.

@@ -76,7 +76,7 @@ closes_same F path mult farkas t (Wide step) Empty is also closes = absurd (is.0
 closes_same F path mult farkas t (Wide step) (Lag w) is also closes = absurd (wide_alone F path mult step w is.1 also.1)
 closes_same F path mult farkas t (Wide step) (Wide other) is also closes = absurd closes
 
--- and one rank
+-- and one number
 pub rank_same : (F : Formulation) (path : Path) (mult farkas : Multipliers) (n k : LeafNumber) → IsNumber F path mult farkas n → IsNumber F path mult farkas k → finite_number n ≡ finite_number k
 rank_same F path mult farkas Empty Empty is also = refl
 rank_same F path mult farkas Empty (Lag w) is also = absurd (also.0 is)

@@ -25,8 +25,8 @@ ids-first i j o e h = by o (ranked i j o e) h
     by Greater k g = cc
 
 -- what goes no later in the order of the candidates goes first
-pub goes_first : (c d : Candidate) → is_gt (candidate_cmp c d) ≡ false → GoesFirst c.rank c.id d.rank d.id
-goes_first c d h = by c.rank d.rank h
+pub goes_first : (c d : Candidate) → is_gt (candidate_cmp c d) ≡ false → GoesFirst c.leaf_number c.id d.leaf_number d.id
+goes_first c d h = by c.leaf_number d.leaf_number h
   where
     by : (p q : Option ℚ) → is_gt (ordering_then (option_cmp rational_cmp p q) (nat_cmp c.id d.id)) ≡ false → GoesFirst p c.id q d.id
     by None None g = ids-first c.id d.id (nat_cmp c.id d.id) refl g
@@ -49,13 +49,13 @@ ids-same i j o e h = by o (ranked i j o e) h
     by Equal k g = k
     by Greater k g = cc
 
-parts-same : (c d : Candidate) → c.rank ≡ d.rank → c.id ≡ d.id → c ≡ d
-parts-same c d r i = λ k. record { rank = r k; id = i k }
+parts-same : (c d : Candidate) → c.leaf_number ≡ d.leaf_number → c.id ≡ d.id → c ≡ d
+parts-same c d r i = λ k. record { leaf_number = r k; id = i k }
 
 pub same-from : (c d : Candidate) → is_eq (candidate_cmp c d) ≡ true → c ≡ d
-same-from c d h = by c.rank d.rank refl refl h
+same-from c d h = by c.leaf_number d.leaf_number refl refl h
   where
-    by : (p q : Option ℚ) → c.rank ≡ p → d.rank ≡ q → is_eq (ordering_then (option_cmp rational_cmp p q) (nat_cmp c.id d.id)) ≡ true → c ≡ d
+    by : (p q : Option ℚ) → c.leaf_number ≡ p → d.leaf_number ≡ q → is_eq (ordering_then (option_cmp rational_cmp p q) (nat_cmp c.id d.id)) ≡ true → c ≡ d
     by None None e f g = parts-same c d (e ∙ sym f) (ids-same c.id d.id (nat_cmp c.id d.id) refl g)
     by None (Some q) e f g = cc
     by (Some p) None e f g = cc
@@ -67,7 +67,7 @@ same-from c d h = by c.rank d.rank refl refl h
         numbers Greater k g = cc
 
 self-same : (c : Candidate) → is_eq (candidate_cmp c c) ≡ true
-self-same c = by c.rank
+self-same c = by c.leaf_number
   where
     by : (p : Option ℚ) → is_eq (ordering_then (option_cmp rational_cmp p p) (nat_cmp c.id c.id)) ≡ true
     by None = ap is_eq (tied_itself nat_cmp_total c.id)

@@ -16,7 +16,7 @@ use Rattle.branch_tree.specs.declared.node.RegionLeaf.{RegionLeaf}
 use Rattle.leaf_judging.specs.declared.choosing.Candidate.{Candidate}
 use Rattle.leaf_judging.specs.declared.queue.LeafQueue.{LeafQueue}
 use Rattle.leaf_judging.specs.Choosing.{IsCandidate}
-use Rattle.leaf_judging.specs.Queued.{Has, HasNone, IsThat, Adds, SomeLeaf, SomeZip, IsQueued, IsQueueOf, IsRank, IsChildCandidate, candidate_of, leaf_in, AreQueued}
+use Rattle.leaf_judging.specs.Queued.{Has, HasNone, IsThat, Adds, SomeLeaf, SomeZip, IsQueued, IsQueueOf, IsFiniteNumber, IsChildCandidate, candidate_of, leaf_in, AreQueued}
 use Rattle.leaf_judging.proofs.JudgeLemmas.{placed-split, zipped-push, each-tree}
 
 -- ---- lists
@@ -41,12 +41,12 @@ some-last R Q (z ∷ xs) (w ∷ ys) x y h q = inr (some-last R Q xs ys x y h.1 q
 
 -- ---- one leaf
 
-module _ (F : Formulation) (path : Path) (id : ℕ) (kept : LeafData) (r : Option ℚ) (is : IsRank F path kept r) where
+module _ (F : Formulation) (path : Path) (id : ℕ) (kept : LeafData) (r : Option ℚ) (is : IsFiniteNumber F path kept r) where
   pub child-candidate : (d : Option Candidate) → d ≡ candidate_of kept.state r id → IsChildCandidate F path (record { id = id; kept = kept }) d
   child-candidate d e = subst (IsChildCandidate F path (record { id = id; kept = kept })) (sym e) (by kept.state refl)
     where
       by : (s : LeafState) → kept.state ≡ s → IsChildCandidate F path (record { id = id; kept = kept }) (candidate_of s r id)
-      by IsOpen o = record { state = o; number = is.0; number_is = is.1.0; id = refl; rank_is = is.1.1 }
+      by IsOpen o = record { state = o; number = is.0; number_is = is.1.0; id = refl; leaf_number_is = is.1.1 }
       by IsClosed o = o
 
 -- ---- one more leaf

@@ -24,13 +24,13 @@ GoesFirst None i (Some q) j = Unit {0}
 GoesFirst (Some p) i None j = ⊥
 GoesFirst (Some p) i (Some q) j = (p <ℚ q) ⊎ ((p ≡ q) × (i ≤ j))
 
--- the open leaf has this id and rank
+-- the open leaf has this id and number
 pub record IsCandidate (F : Formulation) (leaf : RegionLeaf) (c : Candidate) : Type 0 where
   pub state : leaf.kept.state ≡ IsOpen
   pub number : LeafNumber
   pub number_is : IsNumber F leaf.region leaf.kept.mult leaf.kept.farkas number
   pub id : c.id ≡ leaf.id
-  pub rank_is : c.rank ≡ finite_number number
+  pub leaf_number_is : c.leaf_number ≡ finite_number number
 
 -- the candidate is one of the open leaves
 abbrev pub IsOneOf : Formulation → List RegionLeaf → Candidate → Type 0
@@ -41,7 +41,7 @@ IsOneOf F (l ∷ leaves) c = IsCandidate F l c ⊎ IsOneOf F leaves c
 abbrev pub GoesBeforeAll : Formulation → Candidate → List RegionLeaf → Type 0
 GoesBeforeAll F c [] = Unit {0}
 GoesBeforeAll F c (l ∷ leaves) =
-    ((l.kept.state ≡ IsClosed) ⊎ ((d : Candidate) × (IsCandidate F l d × GoesFirst c.rank c.id d.rank d.id))) × GoesBeforeAll F c leaves
+    ((l.kept.state ≡ IsClosed) ⊎ ((d : Candidate) × (IsCandidate F l d × GoesFirst c.leaf_number c.id d.leaf_number d.id))) × GoesBeforeAll F c leaves
 
 abbrev pub AreClosed : List RegionLeaf → Type 0
 AreClosed [] = Unit {0}

@@ -22,9 +22,9 @@ use Rattle.leaf_judging.specs.Choosing.{finite_number, GoesFirst, IsCandidate}
 
 -- ---- queues
 
--- the lesser rank first, none before all, of equals the lesser id
+-- the lesser number first, none before all, of equals the lesser id
 abbrev pub candidate_cmp : Candidate → Candidate → Ordering
-candidate_cmp c d = ordering_then (option_cmp rational_cmp c.rank d.rank) (nat_cmp c.id d.id)
+candidate_cmp c d = ordering_then (option_cmp rational_cmp c.leaf_number d.leaf_number) (nat_cmp c.id d.id)
 
 -- the candidate is in the queue
 unfoldable pub Has : LeafQueue → Candidate → Type 0
@@ -35,7 +35,7 @@ HasNone queue = (c : Candidate) → ¬ Has queue c
 
 -- it is in the queue, and goes no later than each that is
 abbrev pub IsFrontOf : LeafQueue → Candidate → Type 0
-IsFrontOf queue c = Has queue c × ((d : Candidate) → Has queue d → GoesFirst c.rank c.id d.rank d.id)
+IsFrontOf queue c = Has queue c × ((d : Candidate) → Has queue d → GoesFirst c.leaf_number c.id d.leaf_number d.id)
 
 abbrev pub IsThat : Option Candidate → Candidate → Type 0
 IsThat None c = ⊥
@@ -80,12 +80,12 @@ pub record IsQueueOf (F : Formulation) (t : Plain) (queue : LeafQueue) : Type 0 
 -- ---- one leaf
 
 -- the number of a leaf with this path and these data, if it has one
-abbrev pub IsRank : Formulation → Path → LeafData → Option ℚ → Type 0
-IsRank F path kept r = (n : LeafNumber) × (IsNumber F path kept.mult kept.farkas n × (r ≡ finite_number n))
+abbrev pub IsFiniteNumber : Formulation → Path → LeafData → Option ℚ → Type 0
+IsFiniteNumber F path kept r = (n : LeafNumber) × (IsNumber F path kept.mult kept.farkas n × (r ≡ finite_number n))
 
--- each leaf with the id has this rank
-abbrev pub HasRank : Formulation → Plain → Candidate → Type 0
-HasRank F t c = EachLeaf (λ p l. l.id ≡ c.id → IsRank F p l.kept c.rank) [] t
+-- each leaf with the id has this number
+abbrev pub HasFiniteNumber : Formulation → Plain → Candidate → Type 0
+HasFiniteNumber F t c = EachLeaf (λ p l. l.id ≡ c.id → IsFiniteNumber F p l.kept c.leaf_number) [] t
 
 -- each leaf with the id has these multipliers
 abbrev pub HasMultipliers : ℕ → LeafData → Plain → Type 0
@@ -101,7 +101,7 @@ IsChildCandidate F path l None = l.kept.state ≡ IsClosed
 IsChildCandidate F path l (Some c) = IsCandidate F (region_leaf (path, l)) c
 
 abbrev pub candidate_of : LeafState → Option ℚ → ℕ → Option Candidate
-candidate_of IsOpen r id = Some (record { rank = r; id = id })
+candidate_of IsOpen r id = Some (record { leaf_number = r; id = id })
 candidate_of IsClosed r id = None
 
 -- ---- lists of leaves

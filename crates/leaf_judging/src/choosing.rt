@@ -13,23 +13,23 @@ use leaf_dual::LagValue;
 /// each number.
 #[derive(Clone, Copy, PartialEq, Eq, PartialOrd, Ord, Drop)]
 pub struct Candidate {
-    pub rank: Option<Frac>,
+    pub leaf_number: Option<Frac>,
     pub id: u64,
 }
 
 /// The number, if there is one.
-pub fn rank(number: &LeafNumber) -> Option<Frac>
+pub fn finite_number(number: &LeafNumber) -> Option<Frac>
     ensures { result ≡ finite_number number.now }
 {
     match number {
         LeafNumber::Empty => None,
-        LeafNumber::Lag(value) => rank_of(value),
+        LeafNumber::Lag(value) => finite_number_of(value),
         LeafNumber::Wide(_) => None,
     }
 }
 
 /// The number, if there is one.
-fn rank_of(value: &LagValue) -> Option<Frac>
+fn finite_number_of(value: &LagValue) -> Option<Frac>
     ensures { result ≡ finite_number (Lag value.now) }
 {
     match value {
@@ -38,12 +38,12 @@ fn rank_of(value: &LagValue) -> Option<Frac>
     }
 }
 
-/// A leaf with this rank and id as a candidate, if it is open.
-pub fn as_candidate(state: &LeafState, rank: Option<Frac>, id: u64) -> Option<Candidate>
-    ensures { result ≡ candidate_of state.now rank id }
+/// A leaf with this number and id as a candidate, if it is open.
+pub fn as_candidate(state: &LeafState, leaf_number: Option<Frac>, id: u64) -> Option<Candidate>
+    ensures { result ≡ candidate_of state.now leaf_number id }
 {
     match state {
         LeafState::IsClosed => None,
-        LeafState::IsOpen => Some(Candidate { rank, id }),
+        LeafState::IsOpen => Some(Candidate { leaf_number, id }),
     }
 }

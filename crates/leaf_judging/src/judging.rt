@@ -11,7 +11,7 @@ ghost use Rattle.leaf_judging.specs.Judged.{AreStates, JudgesAll};
 ghost use Rattle.leaf_judging.specs.Queued.{IsQueueOf};
 ghost use Rattle.leaf_judging.specs.Numbers.{AreNumbersOf};
 
-use crate::choosing::{Candidate, as_candidate, rank};
+use crate::choosing::{Candidate, as_candidate, finite_number};
 use crate::closing::{number_of, state_by};
 use crate::numbers::LeafNumbers;
 use crate::queue::LeafQueue;
@@ -110,7 +110,7 @@ impl Against<'_> {
     {
         let number = self.numbers.number_or_minus(id);
         let state = state_by(self.model, self.target, &number);
-        let candidate = as_candidate(&state, rank(&number), id);
+        let candidate = as_candidate(&state, finite_number(&number), id);
         Mark { state, candidate }
     }
 }

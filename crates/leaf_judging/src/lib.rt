@@ -31,7 +31,7 @@ mod judging;
 mod numbers;
 mod queue;
 
-pub use choosing::{Candidate, as_candidate, rank};
+pub use choosing::{Candidate, as_candidate, finite_number};
 pub use closing::{LeafNumber, number_closes, number_of, state_by};
 pub use judging::{Judged, LeafIndex, Marks, judge_again, judge_all, judge_tree};
 pub use numbers::LeafNumbers;

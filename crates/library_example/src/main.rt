@@ -7,7 +7,7 @@
 
 use anyhow::{Result, bail};
 use cert_commands::held_certificate;
-use dual_bounds::{LowerBound, has_equal_sides, lb_new_rhs};
+use dual_bounds::{LowerBound, OtherNumbers, has_equal_sides, lower_bound_with};
 use frac128::Frac;
 use kept_env::Env;
 use lp_model::{Answer, Edit, List};
@@ -44,6 +44,8 @@ const LIMITS: Limits = Limits {
     nodes: u64::MAX,
     pivots: u64::MAX,
     tree: 1_000_000,
+    workers: 1,
+    seed: 0,
 };
 
 /// Prints what was found, with the numbers of an optimum that are not 0.
@@ -70,7 +72,9 @@ fn bound_at(alloc: Global, search: &Search, name: &str, side: i64) -> Result<Low
     if !has_equal_sides(&row.lo, &row.hi) {
         bail!("two sides that differ");
     }
-    Ok(lb_new_rhs(alloc, search, &[(place, Frac::whole(side))])?)
+    let sides = List::from_slice(alloc, &[(place, Frac::whole(side))])?;
+    let numbers = OtherNumbers::Sides(sides);
+    Ok(lower_bound_with(alloc, search, &numbers)?)
 }
 
 /// Prints that bound.

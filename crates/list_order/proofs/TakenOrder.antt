@@ -25,7 +25,7 @@ use Rattle.branch_tree.proofs.CountLemmas.{same_other}
 use Rattle.kept_cuts.specs.Kept.{derivations_of}
 use Rattle.sound_searches.specs.declared.taken.Taken.{Taken}
 use Rattle.sound_searches.specs.declared.taken.Taken.TheVariants.{Stale, Refused, Reopened, Full, Closed, Split, Kept}
-use Rattle.sound_searches.specs.Placing.{TakesPoint, search_with_leaf, TakesClose, TakesPointClose, PutsJudged, TakesKeep, TakesPointKeep, IsChild, split_node, search_with_split, TakesSplit, closed_data, with_basis, TakesResult, TakesOpen, Takes}
+use Rattle.sound_searches.specs.Placing.{TakesPoint, search_with_leaf, TakesClose, TakesPointClose, PutsJudged, TakesKeep, TakesPointKeep, IsChild, split_with_leaves, search_with_split, TakesSplit, closed_data, with_basis, TakesResult, TakesOpen, Takes}
 use Rattle.sound_searches.specs.Pool.{search_with_cut, AddsCut, AddsCuts}
 use Rattle.sound_searches.specs.Sound.{PlainSearch, formulation_of}
 use Rattle.list_order.specs.Order.{AreInOrder, IsBasisInOrder, IsResultInOrder}
@@ -90,7 +90,7 @@ module _ (M : Program) (S : PlainSearch) (h : IsKeptInOrder M S) where
       → node_count S.tree.root + 2 ≤ S.tree.limit → IsKeptInOrder M (search_with_split S id j v mult basis left right)
   put-split id j v mult basis left right m b l r room =
       let last : ℕ = S.tree.last in
-      let new : Plain = split_node last id j v mult basis left right in
+      let new : Plain = split_with_leaves last id j v mult basis left right in
       record {
         order = record {
           lists = order-replaced id new (record { mult = m; basis = b }, (l, r)) S.tree.root o.lists;

@@ -15,7 +15,7 @@
 //!
 //! Public contract: the laws of specs/Laws, one for each of these relations (`fresh_order_law`, `place_order_law`, `pool_order_law`,
 //! `edit_order_law`, `trim_order_law`). Below stand searches and their relations (`sound_searches`); above, what the work on a leaf
-//! gives (`result_order`), whole searches (`search_order`), and their texts (`file_order`).
+//! gives (`result_order`), whole searches (`search_order`), and their texts (`search_file`).
 #![tactic(auto)]
 
 mod laws;

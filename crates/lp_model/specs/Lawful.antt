@@ -9,7 +9,7 @@ use Rattle.lp_model.specs.declared.types.RowId.{RowId}
 use Rattle.lp_model.specs.declared.types.Col.{Col}
 
 -- hi - lo and hi - (hi - lo) have room
-pub record AreNear (lo hi : ℚ) : Type 0 where
+pub record AreSubtractable (lo hi : ℚ) : Type 0 where
   pub width : SumFits hi (neg_ℚ lo)
   pub back : SumFits hi (neg_ℚ (hi -ℚ lo))
 
@@ -18,7 +18,7 @@ abbrev pub IsRange : Option ℚ → Option ℚ → Type 0
 IsRange None None = ⊥
 IsRange None (Some h) = Unit {0}
 IsRange (Some l) None = Unit {0}
-IsRange (Some l) (Some h) = (l ≤ℚ h) × AreNear l h
+IsRange (Some l) (Some h) = (l ≤ℚ h) × AreSubtractable l h
 
 -- the rows of the entries rise, from `from` on and below `to`, and no number is 0
 abbrev pub AreEntries : ℕ → ℕ → List (RowId × ℚ) → Type 0

@@ -40,27 +40,27 @@ pub enum StopWhy {
     Wide(WideAt),
 }
 
-/// What is found of a model. `placed` counts the results that were placed.
+/// What is found of a model. `results` counts the results that were placed.
 #[derive(Drop)]
 pub enum Answer {
     /// No feasible point beats this one, whose value in objective 1 is given.
     Optimal {
         value: Frac,
         point: Point,
-        placed: u64,
+        results: u64,
     },
     /// There is no feasible point.
     Infeasible {
-        placed: u64,
+        results: u64,
     },
     /// There is a feasible point, and objective 1 has no end.
     Unbounded {
-        placed: u64,
+        results: u64,
     },
     /// The search stopped. No feasible point is better than the bound; the best value is that of a feasible point.
     Stopped {
         why: StopWhy,
-        placed: u64,
+        results: u64,
         bound: Option<Frac>,
         best: Option<Frac>,
     },

@@ -1,3 +1,2 @@
 pub mod Faults
-pub mod Answers
 pub mod private

@@ -6,7 +6,7 @@ ghost use Rattle.lp_model.specs.Lawful.{column_names};
 ghost use Rattle.lp_model.specs.Edits.{side_or, with_sides, only_row_names, IsPlaceOf};
 ghost use Rattle.model_edits.specs.declared.faults.EditFault.TheVariants.{NoSuch, Memory};
 ghost use Rattle.model_edits.specs.private.Changes.{column_changed, column_edit, IsBoundedAfter};
-ghost use Rattle.model_edits.specs.Answers.{IsPlaceCheck, IsEditAnswer};
+ghost use Rattle.model_edits.specs.private.Answers.{IsPlaceCheck, IsEditAnswer};
 
 use crate::faults::{EditFault, integer_unbounded, no_such, ranged};
 use frac128::Frac;

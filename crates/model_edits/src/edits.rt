@@ -4,7 +4,7 @@ ghost use Rattle.lp_model.specs.declared.types.Edit.TheVariants.{AddCol, AddRow}
 ghost use Rattle.lp_model.specs.Lawful.{AreWithinLimits, row_names};
 ghost use Rattle.lp_model.specs.Edits.{with_entry, number_beside, edited, adds_col, adds_row, EditFits};
 ghost use Rattle.model_edits.specs.Faults.{PassesLimit, IsEditFault};
-ghost use Rattle.model_edits.specs.Answers.{IsEditCheck, IsEditAnswer};
+ghost use Rattle.model_edits.specs.private.Answers.{IsEditCheck, IsEditAnswer};
 
 use crate::changing::{ColChange, set_col, set_row};
 use crate::faults::{EditFault, duplicate, integer_unbounded, ranged};

@@ -5,7 +5,7 @@ ghost use Rattle.lp_model.specs.declared.types.RowId.{RowId as Place};
 ghost use Rattle.lp_model.specs.declared.types.Edit.TheVariants.{DelCol, DelRow, ReplaceRow};
 ghost use Rattle.lp_model.specs.Edits.{number_beside, entry_at, entries_without, without_entry, entries_with, replaced_entry, only_row_names, IsPlaceOf};
 ghost use Rattle.model_edits.specs.declared.faults.EditFault.TheVariants.{NoSuch, Memory};
-ghost use Rattle.model_edits.specs.Answers.{IsReplacementCheck, IsEditAnswer};
+ghost use Rattle.model_edits.specs.private.Answers.{IsReplacementCheck, IsEditAnswer};
 
 use crate::changing::{change_row, col_at, row_at};
 use crate::edits::{count_entries, passed_limit, with_entries};

@@ -9,15 +9,15 @@ use Rattle.frac128.specs.RationalOrder.{≤ℚ_of_<ℚ, <ℚ_from_not, linear}
 use Rattle.frac128.specs.RationalRing.{reads_ℚ}
 use Rattle.frac128.specs.Range.{Fits, SumFits, sum_fits}
 use Rattle.frac128.proofs.RoomTests.{sum_fits-decides}
-use Rattle.lp_model.specs.Lawful.{AreNear, IsRange}
+use Rattle.lp_model.specs.Lawful.{AreSubtractable, IsRange}
 use Rattle.mps_fields.specs.Numbers.{is_negative, absolute}
 use Rattle.mps_fields.specs.declared.words.RowKind.{RowKind}
 use Rattle.mps_fields.specs.declared.words.RowKind.TheVariants.{Free, AtMost, AtLeast, Equal}
-use Rattle.mps_model.specs.Ranges.{ranged_low, ranged_high, difference_fits, side_fits, are_near, has_room}
+use Rattle.mps_model.specs.Ranges.{ranged_low, ranged_high, difference_fits, side_fits, are_subtractable, has_room}
 use Rattle.mps_model.specs.Meaning.{low_side_with, high_side_with}
 use Rattle.mps_model.proofs.RowRanges.{sides_range}
 
-near_where : (lo hi : ℚ) → are_near lo hi ≡ true → AreNear lo hi
+near_where : (lo hi : ℚ) → are_subtractable lo hi ≡ true → AreSubtractable lo hi
 near_where lo hi e =
     let parts = and_parts (difference_fits hi lo) (difference_fits hi (hi -ℚ lo)) e in
     record { width = (sum_fits-decides hi (neg_ℚ lo)).0 parts.0; back = (sum_fits-decides hi (neg_ℚ (hi -ℚ lo))).0 parts.1 }
@@ -67,7 +67,7 @@ ends_ordered Equal x r = equal_ordered x r
 -- sides with room are a range
 pub ranged_range : (kind : RowKind) (x r : ℚ) → has_room kind x r ≡ true → IsRange (Some (ranged_low kind x r)) (Some (ranged_high kind x r))
 ranged_range kind x r e =
-    let parts = and_parts (side_fits kind x r) (are_near (ranged_low kind x r) (ranged_high kind x r)) e in
+    let parts = and_parts (side_fits kind x r) (are_subtractable (ranged_low kind x r) (ranged_high kind x r)) e in
     (ends_ordered kind x r, near_where (ranged_low kind x r) (ranged_high kind x r) parts.1)
 
 pub sides_with-range : (kind : RowKind) (x : ℚ) (range : Option ℚ) → Fits x → IfSome range (λ r. has_room kind x r ≡ true) → IsRange (low_side_with kind x range) (high_side_with kind x range)
@@ -76,7 +76,7 @@ sides_with-range kind x (Some r) fits room = ranged_range kind x r (room)
 
 -- a side that is needed has room
 pub side_has_room : (kind : RowKind) (x r : ℚ) → has_room kind x r ≡ true → side_fits kind x r ≡ true
-side_has_room kind x r e = (and_parts (side_fits kind x r) (are_near (ranged_low kind x r) (ranged_high kind x r)) e).0
+side_has_room kind x r e = (and_parts (side_fits kind x r) (are_subtractable (ranged_low kind x r) (ranged_high kind x r)) e).0
 
 pub sum_has_room : (x y : ℚ) → SumFits x y → sum_fits x y ≡ true
 sum_has_room x y fits = (sum_fits-decides x y).1 fits

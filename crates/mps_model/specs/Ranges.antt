@@ -33,8 +33,8 @@ side_fits AtLeast x r = sum_fits x (absolute r)
 side_fits kind x r = sum_fits x r
 
 -- hi - lo and hi - (hi - lo) have room
-abbrev pub are_near : ℚ → ℚ → Bool
-are_near lo hi = difference_fits hi lo && difference_fits hi (hi -ℚ lo)
+abbrev pub are_subtractable : ℚ → ℚ → Bool
+are_subtractable lo hi = difference_fits hi lo && difference_fits hi (hi -ℚ lo)
 
 abbrev pub has_room : RowKind → ℚ → ℚ → Bool
-has_room kind x r = side_fits kind x r && are_near (ranged_low kind x r) (ranged_high kind x r)
+has_room kind x r = side_fits kind x r && are_subtractable (ranged_low kind x r) (ranged_high kind x r)

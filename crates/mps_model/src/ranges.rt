@@ -3,7 +3,7 @@ ghost use Rattle.std.specs.Prelude.{◌≡◌, true, false, IfSome, MatchOption}
 ghost use Rattle.frac128.specs.Rational.{◌+ℚ◌, ◌-ℚ◌};
 ghost use Rattle.mps_fields.specs.Numbers.{is_negative, absolute};
 ghost use Rattle.frac128.specs.Range.{sum_fits};
-ghost use Rattle.mps_model.specs.Ranges.{difference_fits, side_fits, are_near, has_room, ranged_low, ranged_high};
+ghost use Rattle.mps_model.specs.Ranges.{difference_fits, side_fits, are_subtractable, has_room, ranged_low, ranged_high};
 ghost use Rattle.mps_model.specs.Meaning.{low_side_by_kind, high_side_by_kind, low_side_with, high_side_with, range_beside};
 
 use frac128::Frac;
@@ -97,8 +97,8 @@ fn ends(kind: RowKind, number: &Frac, range: &Frac) -> Option<(Frac, Frac)>
 }
 
 /// Whether `high - low` and `high - (high - low)` have room.
-fn are_near(low: &Frac, high: &Frac) -> bool
-    ensures { result ≡ are_near low.now high.now }
+fn are_subtractable(low: &Frac, high: &Frac) -> bool
+    ensures { result ≡ are_subtractable low.now high.now }
 {
     let turned = low.neg();
     match sum_of(high, &turned) {
@@ -115,7 +115,7 @@ pub(crate) fn has_room(kind: RowKind, number: &Frac, range: &Frac) -> bool
     ensures { result ≡ has_room kind number.now range.now }
 {
     match ends(kind, number, range) {
-        Some(sides) => are_near(&sides.0, &sides.1),
+        Some(sides) => are_subtractable(&sides.0, &sides.1),
         None => false,
     }
 }

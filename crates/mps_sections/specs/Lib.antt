@@ -4,4 +4,4 @@ pub mod Shown
 pub mod ReadingOf
 pub mod Sets
 pub mod Limits
-pub mod HeaderTests
+pub mod private

@@ -5,7 +5,7 @@ ghost use Rattle.mps_text.specs.Reading.{entry_of_record};
 ghost use Rattle.mps_fields.specs.Words.{word, is_marker, section_rank, is_rows, is_columns, is_name_section, is_sense_section, line_kind as kind_of_line};
 ghost use Rattle.mps_sections.specs.Statements.{StatedModel, stated, sections_in, coefficients_in, read_pair, stated_sense, as_bound};
 ghost use Rattle.mps_fields.specs.Fields.{has_count as has_fields, column_pairs as pairs_in_column, set_pairs as pairs_behind_set, bound_column as column_of_bound, bound_field, has_twice, has_unknown_sense as is_without_sense, has_not_number, has_too_wide};
-ghost use Rattle.mps_sections.specs.HeaderTests.{is_asked};
+ghost use Rattle.mps_sections.specs.private.HeaderTests.{is_asked};
 ghost use Rattle.mps_sections.specs.Faults.{least, has_sense, most_fields, tests_of, section_tests, sense_tests, row_tests, marker_tests, column_tests, set_tests, rhs_tests, range_tests, bound_tests, place_tests, pair_tests, has_again, is_ranged_again, has_free_row, has_unknown, is_late, lacks_section, code_in};
 ghost use Rattle.lp_model.specs.Limits.{entry_limit};
 

@@ -28,14 +28,14 @@ use Rattle.mps_fields.specs.declared.words.BoundKind.{BoundKind}
 use Rattle.mps_fields.specs.declared.words.BoundKind.TheVariants.{Lower, Upper, NoLower, NoUpper}
 use Rattle.mps_sections.specs.declared.statements.BoundLine.{BoundLine}
 use Rattle.mps_writer.specs.Canonical.{lower_line, upper_line}
-use Rattle.mps_writer.specs.Writable.{IsNear}
+use Rattle.mps_writer.specs.Writable.{IsNotFar}
 use Rattle.mps_writer.proofs.RecordLaws.{entry_of}
 use Rattle.mps_writer.proofs.PutLaws.{nil_right}
 use Rattle.mps_writer.proofs.RowsBack.{none_from}
 
 -- ---- limits
 
-limit_near : (x : ℚ) → IsNear x → limit_at x ≡ Finite x
+limit_near : (x : ℚ) → IsNotFar x → limit_at x ≡ Finite x
 limit_near x near =
     ap (λ b. limit_beside (if b then Above else if rational_le x (neg_ℚ far) then Below else Between) x)
     (false_from_ne_true (rational_le far x) (λ e. not_both_ℚ ((rational_le-decides far x).0 e) near.below))
@@ -92,7 +92,7 @@ printed_finite x fits = at (den x == 1) refl
         let apart : ¬ IsWhole x = λ is. let f : false ≡ true = sym e ∙ (Decides-eqb (den x) 1).1 is in cc in
         ap is_infinite_word (printed-fraction x apart) ∙ none (signed_decimal x.num ++ 47 ∷ decimal (den x)) (behind_sign x.num (47 ∷ decimal (den x)) fits.numerator)
 
-pub limit_printed : (x : ℚ) → Fits x → IsNear x → limit_of (printed x) ≡ Ok (Finite x)
+pub limit_printed : (x : ℚ) → Fits x → IsNotFar x → limit_of (printed x) ≡ Ok (Finite x)
 limit_printed x fits near =
     ap (λ b. if b then Ok (infinite (is_minus (printed x))) else limit_read (numeral_of (reading_of (printed x)))) (printed_finite x fits)
     ∙ ap (λ r. limit_read (numeral_of r)) (reading_of-printed x fits) ∙ ap Ok (limit_near x near)

@@ -8,7 +8,7 @@ use Rattle.frac128.specs.Rational.{ℚ, int, neg_ℚ, ◌-ℚ◌, ◌≤ℚ◌, 
 use Rattle.frac128.specs.RationalRing.{ring, reads_ℚ}
 use Rattle.lp_model.specs.Program.{Program, constant}
 use Rattle.lp_model.specs.Edits.{is_zero}
-use Rattle.lp_model.specs.Lawful.{AreNear, IsRange, IsLawfulColumn, IsLawful}
+use Rattle.lp_model.specs.Lawful.{AreSubtractable, IsRange, IsLawfulColumn, IsLawful}
 use Rattle.lp_model.specs.declared.types.Sense.{Sense}
 use Rattle.lp_model.specs.declared.types.RowId.{RowId}
 use Rattle.lp_model.specs.declared.types.Row.{Row}
@@ -17,7 +17,7 @@ use Rattle.mps_text.specs.Text.{Flaw}
 use Rattle.mps_sections.specs.declared.statements.RowLine.{RowLine}
 use Rattle.mps_sections.specs.declared.statements.ColumnLines.{ColumnLines}
 use Rattle.mps_fields.specs.declared.words.RowKind.TheVariants.{AtMost}
-use Rattle.mps_model.specs.Ranges.{difference_fits, are_near, has_room}
+use Rattle.mps_model.specs.Ranges.{difference_fits, are_subtractable, has_room}
 use Rattle.mps_model.specs.Meaning.{row_number_beside, range_beside, high_side_with, row_with, row_of, span_of, column_of, model_of}
 use Rattle.mps_model.specs.Faults.{code_on, row_named, range_code, range_flaw, column_code, column_flaw, flaw_or, sections_flaw}
 use Rattle.mps_model.specs.declared.spans.Span.{Span}
@@ -81,15 +81,15 @@ named_back (r ∷ rows) (suc i) d below apart =
 
 -- ---- room of the sides that RANGES gives back
 
-near_room : (low high : ℚ) → low ≤ℚ high → AreNear low high → has_room AtMost high (high -ℚ low) ≡ true
+near_room : (low high : ℚ) → low ≤ℚ high → AreSubtractable low high → has_room AtMost high (high -ℚ low) ≡ true
 near_room low high ordered near =
     let w = high -ℚ low in
     let back : high -ℚ w ≡ low = ring (low ∷ high ∷ []) (search reads_ℚ) tt in
     let first : difference_fits high low ≡ true = (sum_fits-decides high (neg_ℚ low)).1 near.width in
     let second : difference_fits high w ≡ true = (sum_fits-decides high (neg_ℚ w)).1 near.back in
-    ap (λ m. difference_fits high m && are_near (high -ℚ m) high) (width low high ordered)
-    ∙ ap (λ l. difference_fits high w && are_near l high) back
-    ∙ and_from (difference_fits high w) (are_near low high) second (and_from (difference_fits high low) (difference_fits high w) first second)
+    ap (λ m. difference_fits high m && are_subtractable (high -ℚ m) high) (width low high ordered)
+    ∙ ap (λ l. difference_fits high w && are_subtractable l high) back
+    ∙ and_from (difference_fits high w) (are_subtractable low high) second (and_from (difference_fits high low) (difference_fits high w) first second)
 
 room_back : (lo hi : Option ℚ) (x : ℚ) → IsRange lo hi → range_of lo hi ≡ Some x → has_room (kind_of lo hi) (right_side lo hi) x ≡ true
 room_back None None x range e = absurd range

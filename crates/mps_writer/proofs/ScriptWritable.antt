@@ -13,14 +13,14 @@ use Rattle.frac_text.specs.Sides.{far}
 use Rattle.lp_model.specs.Names.{is_lawful_name}
 use Rattle.word_names.specs.ScriptModels.{is_far, IsScriptModel}
 use Rattle.mps_writer.specs.Laws.{ScriptWritableLaw}
-use Rattle.mps_writer.specs.Writable.{IsField, IsNear, HasNearBounds}
+use Rattle.mps_writer.specs.Writable.{IsField, IsNotFar, HasNoFarBounds}
 use Rattle.mps_writer.proofs.FieldLaws.{key_field}
 
 less : (a x : ℚ) → rational_le a x ≡ false → x <ℚ a
 unfolding rational_le
 less a x e = record { crossed = omega (arith, ints, e) }
 
-near : (bound : Option ℚ) → is_far bound ≡ false → ForSome bound IsNear
+near : (bound : Option ℚ) → is_far bound ≡ false → ForSome bound IsNotFar
 near bound h = λ x e.
     let own : is_far (Some x) ≡ false = subst (λ (b : Option ℚ). is_far b ≡ false) e h in
     let parts = or_parts (rational_le far x) (rational_le x (neg_ℚ far)) own in
@@ -32,5 +32,5 @@ script-writable M h unmarked = record {
   rows = All-weaker (λ (name : List ℕ). is_lawful_name name ≡ true) IsField key_field (row_names M) h.row_names;
   columns = All-map IsField (λ (c : Col). c.name) M.cols (All-weaker (λ (c : Col). is_lawful_name c.name ≡ true) (λ (c : Col). IsField c.name) (λ c e. key_field c.name e) M.cols h.column_names);
   unmarked = unmarked;
-  bounds = All-weaker (λ (c : Col). (is_far c.lo ≡ false) × (is_far c.up ≡ false)) HasNearBounds (λ c e. record { lower = near c.lo e.0; upper = near c.up e.1 }) M.cols h.bounds;
+  bounds = All-weaker (λ (c : Col). (is_far c.lo ≡ false) × (is_far c.up ≡ false)) HasNoFarBounds (λ c e. record { lower = near c.lo e.0; upper = near c.up e.1 }) M.cols h.bounds;
 }

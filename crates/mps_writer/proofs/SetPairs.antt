@@ -13,7 +13,7 @@ use Rattle.frac128.specs.Range.{Fits}
 use Rattle.frac128.proofs.Whole.{Fits-zero, Fits-neg, Fits-sum}
 use Rattle.lp_model.specs.Program.{Program, constant}
 use Rattle.lp_model.specs.Edits.{is_zero}
-use Rattle.lp_model.specs.Lawful.{AreNear, IsRange, IsLawful}
+use Rattle.lp_model.specs.Lawful.{AreSubtractable, IsRange, IsLawful}
 use Rattle.lp_model.specs.declared.types.Row.{Row}
 use Rattle.mps_sections.specs.Statements.{is_row_name}
 use Rattle.mps_sections.specs.Faults.{is_known}
@@ -98,7 +98,7 @@ side_fits None (Some h) low high = high h refl
 side_fits (Some l) (Some h) low high = high h refl
 
 -- what holds of the distance of two near sides holds of all pairs of RANGES
-range_all : (name : List ℕ) (P : Named → Type 0) (lo hi : Option ℚ) → IsRange lo hi → ((low high : ℚ) → AreNear low high → P (name, high -ℚ low)) → All P (range_pairs_of name lo hi)
+range_all : (name : List ℕ) (P : Named → Type 0) (lo hi : Option ℚ) → IsRange lo hi → ((low high : ℚ) → AreSubtractable low high → P (name, high -ℚ low)) → All P (range_pairs_of name lo hi)
 range_all name P (Some low) (Some high) range h = named_all P name (high -ℚ low) (h low high range.1)
 range_all name P (Some low) None range h = All-nil P
 range_all name P None (Some high) range h = All-nil P
@@ -153,7 +153,7 @@ module _ (M : Program) (h : IsLawful M) (w : IsWritableMps M) (f : ModelFits M) 
 
   -- ---- RANGES
 
-  ranges_all : (P : Named → Type 0) → ((r : Row) → IsGoodRow M r → (low high : ℚ) → AreNear low high → P (r.name, high -ℚ low)) → All P (all_ranges M)
+  ranges_all : (P : Named → Type 0) → ((r : Row) → IsGoodRow M r → (low high : ℚ) → AreSubtractable low high → P (r.name, high -ℚ low)) → All P (all_ranges M)
   ranges_all P k = all_flat range_pairs (IsGoodRow M) P (λ r g. range_all r.name P r.lo r.hi g.range (k r g)) M.rows rows_good
 
   pub ranges_good : All (IsSetPair (at_ranges M)) (all_ranges M)

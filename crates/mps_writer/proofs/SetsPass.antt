@@ -19,7 +19,7 @@ use Rattle.mps_sections.specs.declared.statements.RangeLine.{RangeLine}
 use Rattle.mps_sections.specs.declared.statements.BoundLine.{BoundLine}
 use Rattle.mps_sections.proofs.StatedSteps.{nothing_more}
 use Rattle.mps_writer.specs.Canonical.{Data, lower_line, upper_line, bound_lines}
-use Rattle.mps_writer.specs.Writable.{IsNear}
+use Rattle.mps_writer.specs.Writable.{IsNotFar}
 use Rattle.mps_writer.proofs.RecordLaws.{entry_of, entries_from}
 use Rattle.mps_writer.proofs.PassLaws.{Passes}
 use Rattle.mps_writer.proofs.PairsBack.{Named, as_number, as_line}
@@ -103,20 +103,20 @@ pub record HasBounds (s : StatedModel) (c : Col) : Type 0 where
   pub short : length c.name ≤ 255
   pub known : is_column s.columns c.name ≡ true
   pub lower_fits : ForSome c.lo Fits
-  pub lower_near : ForSome c.lo IsNear
+  pub lower_near : ForSome c.lo IsNotFar
   pub upper_fits : ForSome c.up Fits
-  pub upper_near : ForSome c.up IsNear
+  pub upper_near : ForSome c.up IsNotFar
 
 data_no_end : (number : ℕ) (words : List (List ℕ)) → is_end (entry_of number (Data words)) ≡ false
 unfolding is_end
 data_no_end number words = refl
 
 module _ (s : StatedModel) (number : ℕ) (name : List ℕ) (there : s.section ≡ Some Bounds) (short : length name ≤ 255) (known : is_column s.columns name ≡ true) where
-  lower_pass : (lo : Option ℚ) → ForSome lo Fits → ForSome lo IsNear → (code_in s (entry_of number (lower_line name lo)) ≡ None) × (is_end (entry_of number (lower_line name lo)) ≡ false) × (after s (entry_of number (lower_line name lo)) ≡ with_bound (lower_stated name lo) s)
+  lower_pass : (lo : Option ℚ) → ForSome lo Fits → ForSome lo IsNotFar → (code_in s (entry_of number (lower_line name lo)) ≡ None) × (is_end (entry_of number (lower_line name lo)) ≡ false) × (after s (entry_of number (lower_line name lo)) ≡ with_bound (lower_stated name lo) s)
   lower_pass (Some x) fits near = let lim = limit_printed x (fits x refl) (near x refl) in (lower_clean s number name there short known x lim, data_no_end number _, lower_after s number name there short known x lim)
   lower_pass None fits near = (no_lower_clean s number name there short known, data_no_end number _, no_lower_after s number name there short known)
 
-  upper_pass : (up : Option ℚ) → ForSome up Fits → ForSome up IsNear → (code_in s (entry_of number (upper_line name up)) ≡ None) × (is_end (entry_of number (upper_line name up)) ≡ false) × (after s (entry_of number (upper_line name up)) ≡ with_bound (upper_stated name up) s)
+  upper_pass : (up : Option ℚ) → ForSome up Fits → ForSome up IsNotFar → (code_in s (entry_of number (upper_line name up)) ≡ None) × (is_end (entry_of number (upper_line name up)) ≡ false) × (after s (entry_of number (upper_line name up)) ≡ with_bound (upper_stated name up) s)
   upper_pass (Some x) fits near = let lim = limit_printed x (fits x refl) (near x refl) in (upper_clean s number name there short known x lim, data_no_end number _, upper_after s number name there short known x lim)
   upper_pass None fits near = (no_upper_clean s number name there short known, data_no_end number _, no_upper_after s number name there short known)
 

@@ -22,13 +22,13 @@ pub record IsField (name : List ℕ) : Type 0 where
   pub visible : All IsVisible name
 
 -- a magnitude below 10^20
-pub record IsNear (x : ℚ) : Type 0 where
+pub record IsNotFar (x : ℚ) : Type 0 where
   pub above : neg_ℚ far <ℚ x
   pub below : x <ℚ far
 
-pub record HasNearBounds (c : Col) : Type 0 where
-  pub lower : ForSome c.lo IsNear
-  pub upper : ForSome c.up IsNear
+pub record HasNoFarBounds (c : Col) : Type 0 where
+  pub lower : ForSome c.lo IsNotFar
+  pub upper : ForSome c.up IsNotFar
 
 -- no row and no objective has the marker word as its name, in either case of letters
 abbrev pub IsUnmarked : Program → Type 0
@@ -39,4 +39,4 @@ pub record IsWritableMps (M : Program) : Type 0 where
   pub rows : All IsField (row_names M)
   pub columns : All IsField (column_names M)
   pub unmarked : IsUnmarked M
-  pub bounds : All HasNearBounds M.cols
+  pub bounds : All HasNoFarBounds M.cols

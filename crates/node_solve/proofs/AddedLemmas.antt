@@ -16,7 +16,7 @@ use Rattle.search_parts.specs.Lists.{HasLists}
 use Rattle.sound_searches.specs.Sound.{PlainSearch, formulation_of}
 use Rattle.sound_searches.specs.Pool.{search_with_cut, AddsCuts}
 use Rattle.sound_searches.proofs.FurtherCut.{mult-more, basis-more, aside-less}
-use Rattle.node_solve.specs.Laws.{AreLive, LastCutsLaw}
+use Rattle.node_solve.specs.Laws.{AreAllLive, LastCutsLaw}
 use Rattle.node_solve.specs.Places.{live_cuts, live_places, places_from}
 use Rattle.node_solve.specs.Rounds.{Work, Round, first_round, round_with, AddsOne, AddsAll, MakesRound, MakesRounds, new_cuts}
 use Rattle.node_solve.proofs.LiveLemmas.{live-few, places-push, live-more, places-more}
@@ -29,7 +29,7 @@ pub record HasAdded (W : Work) (r : Round) : Type 0 where
   pub places : r.places ≡ live_places 200 0 W.pool ++ places_from (length W.pool) (length new)
   pub added : r.added ≡ map (λ c. c.from) new
   pub are : All (IsCutOf W.model) new
-  pub live : AreLive new
+  pub live : AreAllLive new
   pub few : length r.cuts ≤ 200
 
 module _ (W : Work) where

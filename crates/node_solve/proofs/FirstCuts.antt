@@ -4,11 +4,11 @@ use Rattle.std.proofs.Common.{refl, sym, ap, ◌∙◌, arith}
 use Rattle.std.proofs.lemmas.List.Elements.{All-tail}
 use Rattle.lp_model.specs.declared.types.CutRow.{CutRow}
 use Rattle.kept_cuts.specs.Places.{index_among}
-use Rattle.node_solve.specs.Laws.{AreLive}
+use Rattle.node_solve.specs.Laws.{AreAllLive}
 use Rattle.node_solve.specs.Places.{live_cuts, live_places, places_from, IsFirstCount, AreOwnPlaces}
 use Rattle.node_solve.proofs.PoolLemmas.{index-at, index-past}
 
-first-live : (m n k : ℕ) (cuts : List CutRow) → n ≤ m → n ≤ length cuts → (n < m → n ≡ length cuts) → AreLive (take n cuts) → (live_cuts m cuts ≡ take n cuts) × (live_places m k cuts ≡ places_from k n)
+first-live : (m n k : ℕ) (cuts : List CutRow) → n ≤ m → n ≤ length cuts → (n < m → n ≡ length cuts) → AreAllLive (take n cuts) → (live_cuts m cuts ≡ take n cuts) × (live_places m k cuts ≡ places_from k n)
 first-live zero zero k cuts few within all live = (refl, refl)
 first-live (suc m) zero k [] few within all live = (refl, refl)
 first-live (suc m) zero k (c ∷ cuts) few within all live = let none = all (omega arith) in absurd (omega (arith, none))
@@ -21,7 +21,7 @@ first-live (suc m) (suc n) k (c ∷ cuts) few within all live =
       ap (λ t. if t then k ∷ live_places m (suc k) cuts else live_places (suc m) (suc k) cuts) on ∙ ap (λ l. k ∷ l) rest.1,
     )
 
-pub first-count : (cuts : List CutRow) (n : ℕ) → n ≤ 200 → n ≤ length cuts → (n < 200 → n ≡ length cuts) → AreLive (take n cuts) → IsFirstCount cuts n
+pub first-count : (cuts : List CutRow) (n : ℕ) → n ≤ 200 → n ≤ length cuts → (n < 200 → n ≡ length cuts) → AreAllLive (take n cuts) → IsFirstCount cuts n
 first-count cuts n few within all live =
     let are = first-live 200 n 0 cuts few within all live in
     record { within = within; cuts = are.0; places = are.1 }

@@ -43,7 +43,7 @@ use Rattle.row_tableau.specs.Relaxations.{plain, of_kind, relaxation_of}
 use Rattle.row_tableau.proofs.CutLemmas.{row_low, row_high, rows_alone}
 use Rattle.basic_solution.specs.Held.{Held}
 use Rattle.row_tableau.specs.Tilts.{model_low, model_high, stand_by_sides, tilt_of, has_side, is_sided, sided, tilted_cost, parts_of, KeepsFree}
-use Rattle.basic_solution.specs.Slack.{IsOf, CanStand}
+use Rattle.basic_solution.specs.Slack.{IsStateOfRelax, CanStand}
 use Rattle.basic_solution.specs.ListedStates.{IsStandBy, IsLawfulBasis}
 use Rattle.row_tableau.proofs.OrderLemmas.{filter_more}
 use Rattle.basic_solution.proofs.SlackLemmas.{columns_is, activities_is}
@@ -54,7 +54,7 @@ use Rattle.dual_simplex.proofs.BasisLemmas.{good_in}
 use Rattle.dual_simplex.proofs.ContinueLemmas.{There, low_there}
 use Rattle.dual_simplex.proofs.OneStateLemmas.{lawful_list}
 use Rattle.dual_simplex.proofs.RegionSideLemmas.{keeps_free}
-use Rattle.node_solve.specs.Laws.{AreLive, FirstCutsLaw}
+use Rattle.node_solve.specs.Laws.{AreAllLive, FirstCutsLaw}
 use Rattle.node_solve.specs.Places.{cut_variables, with_cut_variables}
 use Rattle.node_solve.specs.Runs.{IsPlainOf, NamesIntegers}
 use Rattle.node_solve.proofs.EndLemmas.{bounded_changes}
@@ -70,7 +70,7 @@ literal-of M from (l ∷ ls) (low, binary, rest) j some = by (nat_eq l.col.0 j) 
     by true e on other = subst (IsBinary M) (eqb-true l.col.0 j e) binary
     by false e on other = on other
 
-named-binary : (M : Program) (cuts : List CutRow) → IsPoolOf M cuts → AreLive cuts → (k j : ℕ) → k < length cuts → cut_coefficient cuts k j ≢ int (pos 0) → IsBinary M j
+named-binary : (M : Program) (cuts : List CutRow) → IsPoolOf M cuts → AreAllLive cuts → (k j : ℕ) → k < length cuts → cut_coefficient cuts k j ≢ int (pos 0) → IsBinary M j
 named-binary M cuts pool live k j below some =
     let el = element cuts k below in
     let cut : CutRow = get_or cuts k el.0 in
@@ -231,7 +231,7 @@ module _ (M : Program) (cuts : List CutRow) (path : Path) where
 
   -- ---- reduced costs of the parts
 
-  module _ (pool : IsPoolOf M cuts) (live : AreLive cuts) (st : State) (good : IsGood (p₀ M cuts path) b₀ st) where
+  module _ (pool : IsPoolOf M cuts) (live : AreAllLive cuts) (st : State) (good : IsGood (p₀ M cuts path) b₀ st) where
     abbrev d : Table
     d = st.table
 
@@ -538,7 +538,7 @@ module _ (size more bound : ℕ) (xs : List ℕ) (d d' : Table) (named : IsNamed
 
 -- ---- the law
 
-module _ (M : Program) (lawful : IsLawful M) (path : Path) (names : NamesIntegers M path) (first : Basis) (root : IsRootBasis M first) (cuts : List CutRow) (pool : IsPoolOf M cuts) (live : AreLive cuts) (relax : Relax) (is : IsPlainOf (formulation M cuts) path relax) where
+module _ (M : Program) (lawful : IsLawful M) (path : Path) (names : NamesIntegers M path) (first : Basis) (root : IsRootBasis M first) (cuts : List CutRow) (pool : IsPoolOf M cuts) (live : AreAllLive cuts) (relax : Relax) (is : IsPlainOf (formulation M cuts) path relax) where
   keeps : KeepsFree M path
   keeps = keeps_free M path (bounded_changes M lawful path names)
 
@@ -573,7 +573,7 @@ module _ (M : Program) (lawful : IsLawful M) (path : Path) (names : NamesInteger
   listed-low : (k : ℕ) → k < length (numbers (no_entries M) first.basic) → listed (numbers (no_entries M) first.basic) k < length M.cols + length M.rows
   listed-low k w = let f = root.named.names k w in subst (λ x. x < length M.cols + length M.rows) (sym f.2) (basic-low f.0 f.1)
 
-  module _ (s : Held) (of : IsOf relax s) where
+  module _ (s : Held) (of : IsStateOfRelax relax s) where
     t-columns : s.tableau.columns ≡ length M.cols
     t-columns = columns_is relax s of ∙ ap (λ F. length F.model.cols) is.form
 
@@ -596,10 +596,10 @@ module _ (M : Program) (lawful : IsLawful M) (path : Path) (names : NamesInteger
         (λ i w. basic-old M cuts path root_table good₀.table good₀.arranged i (subst (λ k. i < k) (sym rows_count) w))
         (λ k w. basic-new M cuts path root_table good₀.table good₀.arranged (length M.rows + k) (let r = rows_count in omega (arith, r)) ∙ omega arith))
 
-  named-at : (s : Held) → IsOf relax s → IsNamedBy (relaxation_of relax).activities (numbers s.tableau (first.basic ++ cut_variables 0 (length cuts))) there.table
+  named-at : (s : Held) → IsStateOfRelax relax s → IsNamedBy (relaxation_of relax).activities (numbers s.tableau (first.basic ++ cut_variables 0 (length cuts))) there.table
   named-at s of = subst (λ k. IsNamedBy k (numbers s.tableau (first.basic ++ cut_variables 0 (length cuts))) there.table) (ap (λ p. p.activities) relaxation_is) (named-in s of)
 
-  stand-by : (s : Held) → IsOf relax s → (k : ℕ) → k < length M.cols → (stand : Stand) → root.state.stand k ≡ stand → CanStand stand ((p₁ M cuts path).low (root_table.nonbasic k)) ((p₁ M cuts path).high (root_table.nonbasic k)) → IsStandBy (p₁ M cuts path) (numbers s.tableau first.high) (root_table.nonbasic k) stand
+  stand-by : (s : Held) → IsStateOfRelax relax s → (k : ℕ) → k < length M.cols → (stand : Stand) → root.state.stand k ≡ stand → CanStand stand ((p₁ M cuts path).low (root_table.nonbasic k)) ((p₁ M cuts path).high (root_table.nonbasic k)) → IsStandBy (p₁ M cuts path) (numbers s.tableau first.high) (root_table.nonbasic k) stand
   stand-by s of k w stand e can = go stand e can
     where
       low : root_table.nonbasic k < length M.cols + length M.rows
@@ -617,7 +617,7 @@ module _ (M : Program) (lawful : IsLawful M) (path : Path) (names : NamesInteger
       go High e h = listed-back M cuts s.tableau (t-columns s of) (t-rows s of) (t-activities s of) first.high (root_table.nonbasic k) low ((root.highs k w).1 e)
       go Free e h = ((λ l. let high = high-listed l in cc), h)
 
-  stands-at : (s : Held) → IsOf relax s → (k : ℕ) → k < (relaxation_of relax).columns → IsStandBy (relaxation_of relax) (numbers s.tableau first.high) (root_table.nonbasic k) (root.state.stand k)
+  stands-at : (s : Held) → IsStateOfRelax relax s → (k : ℕ) → k < (relaxation_of relax).columns → IsStandBy (relaxation_of relax) (numbers s.tableau first.high) (root_table.nonbasic k) (root.state.stand k)
   stands-at s of k w =
       let here : k < length M.cols = subst (λ r. k < r) (ap (λ p. p.columns) (sym relaxation_is)) w in
       subst (λ p. IsStandBy p (numbers s.tableau first.high) (root_table.nonbasic k) (root.state.stand k)) relaxation_is

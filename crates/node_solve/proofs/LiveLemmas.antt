@@ -6,7 +6,7 @@ use Rattle.std.proofs.lemmas.List.Elements.{All-nil, All-cons, All-tail}
 use Rattle.lp_model.specs.declared.types.CutRow.{CutRow}
 use Rattle.lp_model.specs.declared.types.Var.TheVariants.{Cut}
 use Rattle.kept_cuts.proofs.KeptLemmas.{take-next}
-use Rattle.node_solve.specs.Laws.{AreLive, AreAt}
+use Rattle.node_solve.specs.Laws.{AreAllLive, AreAt}
 use Rattle.node_solve.specs.Places.{live_cuts, live_places, places_from, cut_variables}
 
 -- ---- how many there are
@@ -30,12 +30,12 @@ places-length (suc n) k (c ∷ cuts) = by c.live (places-length n (suc k) cuts) 
     by true h e = ap suc h
     by false h e = e
 
-pub live-all : (n : ℕ) (cuts : List CutRow) → AreLive (live_cuts n cuts)
+pub live-all : (n : ℕ) (cuts : List CutRow) → AreAllLive (live_cuts n cuts)
 live-all zero cuts = All-nil (λ (c : CutRow). IsTrue c.live)
 live-all (suc n) [] = All-nil (λ (c : CutRow). IsTrue c.live)
 live-all (suc n) (c ∷ cuts) = by c.live refl (live-all n cuts) (live-all (suc n) cuts)
   where
-    by : (t : Bool) → c.live ≡ t → AreLive (live_cuts n cuts) → AreLive (live_cuts (suc n) cuts) → AreLive (if t then c ∷ live_cuts n cuts else live_cuts (suc n) cuts)
+    by : (t : Bool) → c.live ≡ t → AreAllLive (live_cuts n cuts) → AreAllLive (live_cuts (suc n) cuts) → AreAllLive (if t then c ∷ live_cuts n cuts else live_cuts (suc n) cuts)
     by true e h k = All-cons (λ (d : CutRow). IsTrue d.live) c (live_cuts n cuts) e h
     by false e h k = k
 
@@ -146,7 +146,7 @@ places-append (suc n) k (c ∷ a) b = by c.live (places-append n (suc k) a b) (p
         ap (λ l. k ∷ l) h ∙ (λ i. k ∷ (live_places n (suc k) a ++ live_places (sym e i) (sym f i) b))
     by false h r = r ∙ ap (λ p. live_places (suc n) (suc k) a ++ live_places (suc n - length (live_cuts (suc n) a)) p b) (sym f)
 
-pub live-same : (n : ℕ) (b : List CutRow) → AreLive b → length b ≤ n → live_cuts n b ≡ b
+pub live-same : (n : ℕ) (b : List CutRow) → AreAllLive b → length b ≤ n → live_cuts n b ≡ b
 live-same zero [] live few = refl
 live-same zero (c ∷ b) live few = absurd (omega arith)
 live-same (suc n) [] live few = refl
@@ -154,7 +154,7 @@ live-same (suc n) (c ∷ b) live few =
     let on : c.live ≡ true = live 0 c (omega arith) in
     ap (λ t. if t then c ∷ live_cuts n b else live_cuts (suc n) b) on ∙ ap (λ l. c ∷ l) (live-same n b (All-tail (λ (d : CutRow). IsTrue d.live) c b live) (omega arith))
 
-pub places-same : (n k : ℕ) (b : List CutRow) → AreLive b → length b ≤ n → live_places n k b ≡ places_from k (length b)
+pub places-same : (n k : ℕ) (b : List CutRow) → AreAllLive b → length b ≤ n → live_places n k b ≡ places_from k (length b)
 places-same zero k [] live few = refl
 places-same zero k (c ∷ b) live few = absurd (omega arith)
 places-same (suc n) k [] live few = refl
@@ -163,7 +163,7 @@ places-same (suc n) k (c ∷ b) live few =
     ap (λ t. if t then k ∷ live_places n (suc k) b else live_places (suc n) (suc k) b) on ∙ ap (λ l. k ∷ l) (places-same n (suc k) b (All-tail (λ (d : CutRow). IsTrue d.live) c b live) (omega arith))
 
 -- all cuts of a longer list that count, where the further ones do and have room
-module _ (n : ℕ) (a b : List CutRow) (live : AreLive b) (few : length (live_cuts n a) + length b ≤ n) where
+module _ (n : ℕ) (a b : List CutRow) (live : AreAllLive b) (few : length (live_cuts n a) + length b ≤ n) where
   room : length b ≤ n - length (live_cuts n a)
   room = omega arith
 

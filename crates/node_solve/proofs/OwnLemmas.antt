@@ -14,11 +14,11 @@ use Rattle.branch_tree.specs.declared.node.NodeResult.{NodeResult}
 use Rattle.branch_tree.specs.declared.node.NodeResult.TheVariants.{Close, Split, PointAndClose}
 use Rattle.basic_solution.specs.Held.{Held}
 use Rattle.basic_solution.specs.Lists.{IsBasisOf}
-use Rattle.node_solve.specs.Laws.{AreLive}
+use Rattle.node_solve.specs.Laws.{AreAllLive}
 use Rattle.node_solve.specs.Works.{IsWholeAt, IsFirstFractional, ClosesAt, IsWideAtEnd}
 use Rattle.node_solve.specs.Rounds.{Work, Round, RunsTo, form_in, EndsAt, IsDoneAfter, IsWorked}
 use Rattle.node_solve.specs.Places.{result_in_pool}
-use Rattle.node_solve.specs.Ends.{IsOptimumAt, IsNoneAt, IsFoundIn, IsOwnEndAt, IsLastRound, IsOwnStop}
+use Rattle.node_solve.specs.private.Ends.{IsOptimumAt, IsNoneAt, IsFoundIn, IsOwnEndAt, IsLastRound, IsOwnStop}
 use Rattle.node_solve.specs.declared.working.Own.TheVariants as own
 use Rattle.node_solve.specs.declared.working.Worked.{Worked}
 use Rattle.node_solve.specs.declared.working.Worked.TheVariants.{Done, Pivots, Wide, Memory}
@@ -49,7 +49,7 @@ module _ (W : Work) (r : Round) where
 
   -- ---- an optimum
 
-  module _ (live : AreLive r.cuts) (x : Point) (mult : Multipliers) (basis : Basis) where
+  module _ (live : AreAllLive r.cuts) (x : Point) (mult : Multipliers) (basis : Basis) where
     pub optimum_wide : (n : ℕ) (s : Held) → IsOptimumAt W x mult basis n s → (step : WideStep) → IsLagAnswer (form_in W r) W.job.region mult (Err step) → IsOwnEndAt W r (own.Wide step basis) n s
     optimum_wide n s optimum step wide = (optimum.0, (inl (x, (mult, (optimum.1.0, inl wide))), optimum.1.1))
 
@@ -65,7 +65,7 @@ module _ (W : Work) (r : Round) where
 
   -- ---- no solution
 
-  module _ (live : AreLive r.cuts) (weights mult : Multipliers) (basis : Basis) (n : ℕ) (s : Held) (none : IsNoneAt W weights mult basis n s) where
+  module _ (live : AreAllLive r.cuts) (weights mult : Multipliers) (basis : Basis) (n : ℕ) (s : Held) (none : IsNoneAt W weights mult basis n s) where
     pub none_wide : (step : WideStep) → IsFarkasAnswer (form_in W r) W.job.region weights (Err step) → IsOwnEndAt W r (own.Wide step basis) n s
     none_wide step wide = (none.0, (inr (weights, (mult, (none.1.0, wide))), none.1.1))
 

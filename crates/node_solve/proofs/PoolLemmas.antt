@@ -21,7 +21,7 @@ use Rattle.leaf_dual.proofs.LikeCuts.{IsLike, lacks-like, number_answer-like}
 use Rattle.leaf_dual.proofs.ChosenCuts.{like-chosen, like-back}
 use Rattle.leaf_judging.specs.Closing.{IsRefuted}
 use Rattle.search_parts.specs.Lists.{IsThere, IsActivityThere, NamesOnce, AreMultipliers, IsBasis}
-use Rattle.node_solve.specs.Laws.{AreLive, AreAt, PoolNumberLaw}
+use Rattle.node_solve.specs.Laws.{AreAllLive, AreAt, PoolNumberLaw}
 use Rattle.kept_cuts.specs.Places.{index_among}
 use Rattle.node_solve.specs.Places.{var_in_relaxation, var_in_pool, basis_in_relaxation, basis_in_pool, mult_in_pool}
 use Rattle.node_solve.proofs.StateLemmas.{differ, alike, eqb-own, live_weight}
@@ -200,7 +200,7 @@ module _ (M : Program) (pool cuts : List CutRow) (places : List ℕ) (at : AreAt
 
   -- ---- their numbers
 
-  module _ (live : AreLive cuts) (mult : Multipliers) (named : AreMultipliers F mult) where
+  module _ (live : AreAllLive cuts) (mult : Multipliers) (named : AreMultipliers F mult) where
     abbrev z : ℕ → ℚ
     z = cut_weight cuts mult
 
@@ -237,7 +237,7 @@ module _ (M : Program) (pool cuts : List CutRow) (places : List ℕ) (at : AreAt
     pub farkas-in-pool : (path : Path) (v : LagValue) → IsFarkasAnswer F path mult (Ok v) → IsFarkasAnswer G path (mult_in_pool places mult) (Ok v)
     farkas-in-pool path v h = number-in-pool path (λ j. int (pos 0)) (int (pos 0)) v h
 
-  pub refuted-in-pool : AreLive cuts → (path : Path) (farkas : Multipliers) → AreMultipliers F farkas → IsRefuted F path farkas → IsRefuted G path (mult_in_pool places farkas)
+  pub refuted-in-pool : AreAllLive cuts → (path : Path) (farkas : Multipliers) → AreMultipliers F farkas → IsRefuted F path farkas → IsRefuted G path (mult_in_pool places farkas)
   refuted-in-pool live path [] named h = h
   refuted-in-pool live path (m ∷ ms) named (v, (answer, positive)) = (v, (farkas-in-pool live (m ∷ ms) named path v answer, positive))
 

@@ -9,10 +9,10 @@ use Rattle.lp_model.specs.declared.types.CutRow.{CutRow}
 use Rattle.lp_model.specs.declared.types.Derivation.{Derivation}
 use Rattle.cover_cuts.specs.Cuts.{IsCutOf, IsPoolOf}
 use Rattle.leaf_dual.specs.Dual.{HavePlaces}
-use Rattle.node_solve.specs.Laws.{AreLive}
+use Rattle.node_solve.specs.Laws.{AreAllLive}
 use Rattle.node_solve.specs.Places.{live_cuts, live_places, ArePoolPlaces, with_cut_variables}
 use Rattle.node_solve.specs.Rounds.{Work, Round, IsAddable, AddsOne, AddsAll, AddsCovers, MayGoOn, IsNextAnswer}
-use Rattle.node_solve.specs.RoundCode.{round_of, IsKeptRound}
+use Rattle.node_solve.specs.private.RoundCode.{round_of, IsKeptRound}
 use Rattle.node_solve.specs.declared.rounds.Round.{Round as HeldRound}
 use Rattle.node_solve.proofs.LiveLemmas.{live-few, places-length, live-all, live-are, live-at}
 
@@ -23,7 +23,7 @@ first_kept W pool few r cuts places added =
     let none : length r.added.items ≡ 0 = ap length added in
     record {
       are = subst (IsPoolOf W.model) (sym cuts) (live-are (IsCutOf W.model) 200 W.pool pool);
-      live = subst AreLive (sym cuts) (live-all 200 W.pool);
+      live = subst AreAllLive (sym cuts) (live-all 200 W.pool);
       few = omega (arith, count, least);
       each = ap length places ∙ places-length 200 0 W.pool ∙ sym count;
       there = subst ArePoolPlaces (sym places) (All-weaker (λ (p : ℕ). p < length W.pool) (λ (p : ℕ). p < 10000) (λ p below. omega (arith, below, few)) (live_places 200 0 W.pool) (live-at 200 W.pool).there);
@@ -44,7 +44,7 @@ added_kept W r after c kept is may cuts places added =
     let pool_room : length W.pool + length r.added.items < 10000 = may.pool_room in
     record {
       are = subst (IsPoolOf W.model) (sym cuts) (All-push (IsCutOf W.model) r.cuts c kept.are is);
-      live = subst AreLive (sym cuts) (All-push (λ (d : CutRow). IsTrue d.live) r.cuts c kept.live may.live);
+      live = subst AreAllLive (sym cuts) (All-push (λ (d : CutRow). IsTrue d.live) r.cuts c kept.live may.live);
       few = omega (arith, count, e, room);
       each = omega (arith, count, named, e, f, before);
       there = subst ArePoolPlaces (sym places) (All-push (λ (p : ℕ). p < 10000) r.places.items (length W.pool + length r.added.items) kept.there pool_room);

@@ -23,11 +23,11 @@ use Rattle.dual_simplex.specs.declared.solve.Lp.TheVariants as lp
 use Rattle.dual_simplex.specs.declared.start.StartFault.{StartFault}
 use Rattle.dual_simplex.specs.declared.start.StartFault.TheVariants as fault
 use Rattle.dual_simplex.proofs.HeldLemmas.{same_list}
-use Rattle.node_solve.specs.Laws.{AreLive}
+use Rattle.node_solve.specs.Laws.{AreAllLive}
 use Rattle.node_solve.specs.Runs.{IsPlainOf, NamesIntegers}
 use Rattle.node_solve.specs.Works.{IsWholeAt, IsFirstFractional, IsAllowedBy}
 use Rattle.node_solve.specs.Rounds.{Work, Round, form_in, first_in, RunsTo, HasRowOf, IsAddable, AddsOne, MayGoOn, IsSolvedIn}
-use Rattle.node_solve.specs.RoundCode.{round_of, run_end, unstarted}
+use Rattle.node_solve.specs.private.RoundCode.{round_of, run_end, unstarted}
 use Rattle.node_solve.specs.declared.rounds.Round.{Round as HeldRound}
 use Rattle.node_solve.proofs.EndLemmas.{not_whole, run_of, optimum_allowed}
 use Rattle.node_solve.proofs.FirstLemmas.{first_cuts}
@@ -91,7 +91,7 @@ added_is W r after behind more c place d noted from is may cuts places place_is 
 
 module _ (W : Work) (r : Round) (relax : Relax) (first : Basis) (first_is : first ≡ first_in W r) where
   -- where the list is not lawful the run begins at the first basis with the cuts' activities, which is
-  pub first_lawful : IsPlainOf (form_in W r) W.job.region relax → IsLawful W.model → NamesIntegers W.model W.job.region → IsRootBasis W.model W.first → IsPoolOf W.model r.cuts → AreLive r.cuts → IsLawfulBasis relax first
+  pub first_lawful : IsPlainOf (form_in W r) W.job.region relax → IsLawful W.model → NamesIntegers W.model W.job.region → IsRootBasis W.model W.first → IsPoolOf W.model r.cuts → AreAllLive r.cuts → IsLawfulBasis relax first
   first_lawful is lawful names root are live = subst (IsLawfulBasis relax) (sym first_is) (first_cuts W.model lawful W.job.region names W.first root r.cuts are live relax is)
 
   pub start_stops : (of : StartFault) → IsStartFault relax r.list first of → IsPlainOf (form_in W r) W.job.region relax → IsSolvedIn W r (unstarted of)

@@ -2,7 +2,7 @@
 ghost use Rattle.std.specs.Prelude.{◌≡◌, ◌↔◌, ◌<◌, ◌+◌, ◌-◌, ◌++◌, ◌∷◌, [], length, IsTrue, IfOk};
 ghost use Rattle.cover_cuts.specs.Cuts.{IsPoolOf};
 ghost use Rattle.node_solve.specs.Rounds.{HasRowOf, IsAddable, AddsOne, AddsAll, AddsCovers, MayGoOn, IsSolvedIn, IsNextAnswer, first_round, first_in};
-ghost use Rattle.node_solve.specs.RoundCode.{task_work, round_of, run_end, unstarted, IsKeptRound, IsTask};
+ghost use Rattle.node_solve.specs.private.RoundCode.{task_work, round_of, run_end, unstarted, IsKeptRound, IsTask};
 
 use crate::cuts::{RelaxationCuts, first_cuts};
 use crate::places::{CUT_LIMIT, basis_in_relaxation, with_cut_variables};

@@ -22,7 +22,7 @@ use Rattle.row_tableau.specs.Variables.{numbers}
 use Rattle.row_tableau.proofs.CutLemmas.{rows_alone}
 use Rattle.basic_solution.specs.Held.{Held}
 use Rattle.row_tableau.specs.Tilts.{parts_of, KeepsFree}
-use Rattle.basic_solution.specs.Slack.{IsOf, CanStand}
+use Rattle.basic_solution.specs.Slack.{IsStateOfRelax, CanStand}
 use Rattle.basic_solution.specs.Lists.{AreRising}
 use Rattle.basic_solution.specs.ListedStates.{IsStandBy, IsLawfulBasis}
 use Rattle.dual_simplex.specs.Laws.{StandsAt}
@@ -78,7 +78,7 @@ module _ (M : Program) (basis : Basis) (dual : IsDualBasis M basis) where
     good_there : IsGood (relaxation_of relax) (parts_of relax.kind (form_of relax) path) there
     good_there = subst (λ X. X) (λ i. IsGood (relaxation_is i) (parts_of (sym plain_kind i) (sym same i) path) there) (good_in (without_cuts M) path keeps st dual.good)
 
-    alike : (t : Held) → IsOf relax t → (list : List Var) → numbers (no_entries M) list ≡ numbers t.tableau list
+    alike : (t : Held) → IsStateOfRelax relax t → (list : List Var) → numbers (no_entries M) list ≡ numbers t.tableau list
     alike t t_is list = numbers_same (no_entries M) t.tableau
         (ap (λ F. length F.model.cols) (sym same) ∙ sym (columns_is relax t t_is))
         (ap (λ F. length F.model.rows) (sym same) ∙ sym t_is.rows)

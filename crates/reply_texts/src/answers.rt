@@ -13,15 +13,15 @@ use frac128::Frac;
 use lp_model::{Answer, Col, Model, PivotPlace, Point, StopWhy, WideAt};
 use std::alloc::AllocError;
 
-fn write_infeasible(reply: &mut Vec<u8>, placed: u64) -> Result<(), AllocError>
-    ensures { IfOk result (λ _. reply.new.items ≡ reply.old.items ++ infeasible_text placed) }
+fn write_infeasible(reply: &mut Vec<u8>, results: u64) -> Result<(), AllocError>
+    ensures { IfOk result (λ _. reply.new.items ≡ reply.old.items ++ infeasible_text results) }
 {
-    write_count_line(reply, b"infeasible nodes ", placed)
+    write_count_line(reply, b"infeasible nodes ", results)
 }
 
 /// The first line of an optimum: its value, and how many results were placed.
-fn write_value(reply: &mut Vec<u8>, value: &Frac, placed: u64) -> Result<(), AllocError>
-    ensures { IfOk result (λ _. reply.new.items ≡ reply.old.items ++ value_line value.now placed) }
+fn write_value(reply: &mut Vec<u8>, value: &Frac, results: u64) -> Result<(), AllocError>
+    ensures { IfOk result (λ _. reply.new.items ≡ reply.old.items ++ value_line value.now results) }
 {
     let Ok(()) = reply.extend_from_slice(b"optimal ") else {
         return Err(AllocError);
@@ -29,7 +29,7 @@ fn write_value(reply: &mut Vec<u8>, value: &Frac, placed: u64) -> Result<(), All
     let Ok(()) = value.write_to(reply) else {
         return Err(AllocError);
     };
-    write_count_line(reply, b" nodes ", placed)
+    write_count_line(reply, b" nodes ", results)
 }
 
 /// The line of a column whose number is not 0.
@@ -79,13 +79,13 @@ fn write_optimal(
     model: &Model,
     best: &Frac,
     point: &Point,
-    placed: u64,
+    results: u64,
 ) -> Result<(), AllocError>
     requires shape { length point.now ≡ length model.now.cols }
     requires best { best.now ≡ value model.now 1 point.now }
-    ensures { IfOk result (λ _. reply.new.items ≡ reply.old.items ++ optimal_text model.now point.now placed) }
+    ensures { IfOk result (λ _. reply.new.items ≡ reply.old.items ++ optimal_text model.now point.now results) }
 {
-    let Ok(()) = write_value(reply, best, placed) else {
+    let Ok(()) = write_value(reply, best, results) else {
         return Err(AllocError);
     };
     let Ok(()) = write_columns(reply, model.cols(), point.as_slice()) else {
@@ -95,10 +95,10 @@ fn write_optimal(
 }
 
 /// A model whose objective has no end.
-fn write_unbounded(reply: &mut Vec<u8>, placed: u64) -> Result<(), AllocError>
-    ensures { IfOk result (λ _. reply.new.items ≡ reply.old.items ++ unbounded_text placed) }
+fn write_unbounded(reply: &mut Vec<u8>, results: u64) -> Result<(), AllocError>
+    ensures { IfOk result (λ _. reply.new.items ≡ reply.old.items ++ unbounded_text results) }
 {
-    write_count_line(reply, b"unbounded nodes ", placed)
+    write_count_line(reply, b"unbounded nodes ", results)
 }
 
 pub(crate) fn write_number_or_none(
@@ -116,14 +116,14 @@ pub(crate) fn write_number_or_none(
 /// The number of results, the bound and the best value.
 fn write_known(
     reply: &mut Vec<u8>,
-    placed: u64,
+    results: u64,
     bound: &Option<Frac>,
     best: &Option<Frac>,
 ) -> Result<(), AllocError>
-    ensures { IfOk result (λ _. reply.new.items ≡ reply.old.items ++ known_text placed bound.now best.now) }
+    ensures { IfOk result (λ _. reply.new.items ≡ reply.old.items ++ known_text results bound.now best.now) }
 {
     let mut digits = itoa::Buffer::new();
-    let Ok(()) = write_two(reply, digits.format(placed).as_bytes(), b" bound ") else {
+    let Ok(()) = write_two(reply, digits.format(results).as_bytes(), b" bound ") else {
         return Err(AllocError);
     };
     let Ok(()) = write_number_or_none(reply, bound) else {
@@ -142,30 +142,30 @@ fn write_known(
 fn write_stop(
     reply: &mut Vec<u8>,
     why: &[u8],
-    placed: u64,
+    results: u64,
     bound: &Option<Frac>,
     best: &Option<Frac>,
 ) -> Result<(), AllocError>
-    ensures { IfOk result (λ _. reply.new.items ≡ reply.old.items ++ (why.now ++ known_text placed bound.now best.now)) }
+    ensures { IfOk result (λ _. reply.new.items ≡ reply.old.items ++ (why.now ++ known_text results bound.now best.now)) }
 {
     let Ok(()) = reply.extend_from_slice(why) else {
         return Err(AllocError);
     };
-    write_known(reply, placed, bound, best)
+    write_known(reply, results, bound, best)
 }
 
 /// A search stopped where a relaxation had as many moves as the limit allows.
 fn write_stopped_pivots(
     reply: &mut Vec<u8>,
     model: &Model,
-    placed: u64,
+    results: u64,
     bound: &Option<Frac>,
     best: &Option<Frac>,
     place: &PivotPlace,
 ) -> Result<(), AllocError>
-    ensures { IfOk result (λ _. reply.new.items ≡ reply.old.items ++ stopped_pivots_text model.now placed bound.now best.now place.now) }
+    ensures { IfOk result (λ _. reply.new.items ≡ reply.old.items ++ stopped_pivots_text model.now results bound.now best.now place.now) }
 {
-    let Ok(()) = write_stop(reply, b"stopped pivots ", placed, bound, best) else {
+    let Ok(()) = write_stop(reply, b"stopped pivots ", results, bound, best) else {
         return Err(AllocError);
     };
     let Ok(()) = write_block(
@@ -184,14 +184,14 @@ fn write_stopped_pivots(
 fn write_stopped_wide(
     reply: &mut Vec<u8>,
     model: &Model,
-    placed: u64,
+    results: u64,
     bound: &Option<Frac>,
     best: &Option<Frac>,
     place: &WideAt,
 ) -> Result<(), AllocError>
-    ensures { IfOk result (λ _. reply.new.items ≡ reply.old.items ++ stopped_wide_text model.now placed bound.now best.now place.now) }
+    ensures { IfOk result (λ _. reply.new.items ≡ reply.old.items ++ stopped_wide_text model.now results bound.now best.now place.now) }
 {
-    let Ok(()) = write_stop(reply, b"stopped wide ", placed, bound, best) else {
+    let Ok(()) = write_stop(reply, b"stopped wide ", results, bound, best) else {
         return Err(AllocError);
     };
     let Ok(()) = write_block(
@@ -214,17 +214,17 @@ fn write_stopped(
     reply: &mut Vec<u8>,
     model: &Model,
     why: &StopWhy,
-    placed: u64,
+    results: u64,
     bound: &Option<Frac>,
     best: &Option<Frac>,
 ) -> Result<(), AllocError>
-    ensures { IfOk result (λ _. reply.new.items ≡ reply.old.items ++ stopped_text model.now why.now placed bound.now best.now) }
+    ensures { IfOk result (λ _. reply.new.items ≡ reply.old.items ++ stopped_text model.now why.now results bound.now best.now) }
 {
     match why {
-        StopWhy::Nodes => write_stop(reply, b"stopped nodes ", placed, bound, best),
-        StopWhy::Tree => write_stop(reply, b"stopped tree ", placed, bound, best),
-        StopWhy::Pivots(place) => write_stopped_pivots(reply, model, placed, bound, best, place),
-        StopWhy::Wide(at) => write_stopped_wide(reply, model, placed, bound, best, at),
+        StopWhy::Nodes => write_stop(reply, b"stopped nodes ", results, bound, best),
+        StopWhy::Tree => write_stop(reply, b"stopped tree ", results, bound, best),
+        StopWhy::Pivots(place) => write_stopped_pivots(reply, model, results, bound, best, place),
+        StopWhy::Wide(at) => write_stopped_wide(reply, model, results, bound, best, at),
     }
 }
 
@@ -237,25 +237,25 @@ pub fn write_answer(reply: &mut Vec<u8>, model: &Model, answer: &Answer) -> Resu
         Answer::Optimal {
             value,
             point,
-            placed,
-        } => write_optimal(reply, model, value, point, *placed),
-        Answer::Infeasible { placed } => write_infeasible(reply, *placed),
-        Answer::Unbounded { placed } => write_unbounded(reply, *placed),
+            results,
+        } => write_optimal(reply, model, value, point, *results),
+        Answer::Infeasible { results } => write_infeasible(reply, *results),
+        Answer::Unbounded { results } => write_unbounded(reply, *results),
         Answer::Stopped {
             why,
-            placed,
+            results,
             bound,
             best,
-        } => write_stopped(reply, model, why, *placed, bound, best),
+        } => write_stopped(reply, model, why, *results, bound, best),
         Answer::Memory => reply.extend_from_slice(MEMORY_REPLY),
     }
 }
 
 /// Nothing happens: a caller learns that the numbers of an optimum have room.
-fn optimum_has_room(value: &Frac, point: &Point, placed: u64)
+fn optimum_has_room(value: &Frac, point: &Point, results: u64)
     ensures value { Fits value.now }
     ensures numbers { All Fits point.now }
-    ensures count { placed < 2 ^ 64 }
+    ensures count { results < 2 ^ 64 }
 {
     value.has_room();
     have_room(point.as_slice());
@@ -269,8 +269,8 @@ pub fn answer_has_room(answer: &Answer)
         Answer::Optimal {
             value,
             point,
-            placed,
-        } => optimum_has_room(value, point, *placed),
+            results,
+        } => optimum_has_room(value, point, *results),
         Answer::Infeasible { .. }
         | Answer::Unbounded { .. }
         | Answer::Stopped { .. }

@@ -1,17 +1,17 @@
 -- A piece of a script, line by line.
-use Rattle.std.proofs.Common.{◌≡◌, ℕ, List, [], ◌∷◌, ◌++◌, refl, sym, ◌∙◌, ap, append_assoc, subst, Bool, true, false}
+use Rattle.std.proofs.Common.{◌≡◌, ◌<◌, ℕ, List, [], ◌∷◌, ◌++◌, length, length-append, refl, sym, ◌∙◌, ap, append_assoc, subst, Bool, true, false, arith}
 use Rattle.std.specs.Prelude.{if◌then◌else◌, Result, Ok, Err}
 use Rattle.text_lines.specs.Lines.{Line, ended_line, HasNoNewline, text_of}
 use Rattle.script_session.specs.Request.{Command, Request, Overlong}
-use Rattle.script_session.specs.Script.{is_long_line, text_requests, is_end_text, is_end, line_requests, script_requests, whole_requests}
-use Rattle.script_session.specs.Session.{Moment, Serves, Breaks, Reads, ServesOne, ServesAll, ServesLine, ServesPiece}
+use Rattle.script_session.specs.Script.{is_long_line, text_requests, is_end_text, is_end, line_requests}
+use Rattle.script_session.specs.Session.{Moment, Serves, Breaks, Wants, Reads, ServesOne, ServesAll, ServesLine, ServesPiece}
 use Rattle.script_session.specs.Stand.{Stand}
 use Rattle.script_session.specs.declared.session.Flow.{Flow}
 use Rattle.script_session.specs.declared.session.Flow.TheVariants.{Open, Ended}
 use Rattle.script_session.specs.declared.session.Stop.{Stop}
 use Rattle.script_session.specs.declared.session.Stop.TheVariants as stop
-use Rattle.script_session.proofs.SessionLemmas.{Serves-none, Serves-append, Serves-Breaks, Serves-Halts, Halts-none}
-use Rattle.script_session.proofs.ScriptLemmas.{short-requests, short-end, long-requests, long-end, Reads-start, Reads-append, Reads-Finishes, Reads-Begins, Reads-line, Finishes-line, Begins-line, nil_right}
+use Rattle.script_session.proofs.SessionLemmas.{Serves-none, Serves-append, Serves-Breaks, Wants-none}
+use Rattle.script_session.proofs.ScriptLemmas.{short-requests, short-end, long-requests, long-end, Reads-start, Reads-append, Reads-Finishes, Reads-Begins, Reads-line, Finishes-line, Begins-line, Begins-none, nil_right}
 
 -- what the bytes up to left ask is answered
 pub record Stands {M : Type 0} (ends : Command → Bool) (step : Stand M → Request → List ℕ → Stand M → Type 0) (old : Moment M) (bytes : List ℕ) (now : Moment M) (left : List ℕ) : Type 0 where
@@ -23,7 +23,7 @@ module _ {M : Type 0} (ends : Command → Bool) (step : Stand M → Request → 
   -- a request that was cut short is its line cut short
   pub all_failed : (fault : Stop) (old new : Moment M) (requests : List Request) (last : Bool) (request : Request) → requests ≡ request ∷ [] → ServesOne step (Err fault) old request new → ServesAll step (Err fault) old requests last new
   all_failed stop.Sink old new requests last request asked h = subst (λ requests. Breaks step old requests new) (sym asked) h
-  all_failed stop.Memory old new requests last request asked h = (request ∷ [], [], asked, h)
+  all_failed stop.Memory old new requests last request asked h = subst (λ requests. Wants step old requests new) (sym asked) h
   all_failed stop.Source old new requests last request asked h = h
   all_failed stop.TooLong old new requests last request asked h = h
 
@@ -73,24 +73,25 @@ module _ {M : Type 0} (ends : Command → Bool) (step : Stand M → Request → 
         Serves-Breaks step old now new s.done requests s.serves h,
         Reads-Begins ends bytes (line ++ 10 ∷ rest) s.done requests s.reads (Begins-line ends line rest requests [] clean (sym (nil_right requests))),
       )
-  piece_failed stop.Memory old now new bytes line rest pending clean s h = (
-    s.done ++ h.0,
-    Serves-Halts step old now new s.done h.0 s.serves h.3,
-    Reads-Begins ends bytes (line ++ 10 ∷ rest) s.done h.0 s.reads (Begins-line ends line rest h.0 h.1 clean h.2),
-  )
+  piece_failed stop.Memory old now new bytes line rest pending clean s h =
+      let requests = line_requests (ended_line line) in
+      record {
+        done = s.done;
+        behind = line ++ 10 ∷ rest;
+        reads = s.reads;
+        some = omega (arith, length-append line (10 ∷ rest));
+        mid = now;
+        serves = s.serves;
+        next = requests;
+        begins = Begins-line ends line rest requests [] clean (sym (nil_right requests));
+        wants = h;
+      }
   piece_failed stop.Source old now new bytes line rest pending clean s h = h
   piece_failed stop.TooLong old now new bytes line rest pending clean s h = h
 
-  -- memory is wanting between two lines
-  pub piece_wanting : (old now : Moment M) (bytes left pending : List ℕ) → Stands ends step old bytes now left → ServesPiece ends step (Err stop.Memory) old bytes now pending
-  piece_wanting old now bytes left pending s = (
-    s.done ++ [],
-    Serves-Halts step old now now s.done [] s.serves (Halts-none step now),
-    record {
-      all = λ more. (script_requests ends (left ++ more), s.reads.all more ∙ ap (λ requests. requests ++ script_requests ends (left ++ more)) (sym (nil_right s.done)));
-      whole = λ more. (whole_requests ends (left ++ more), s.reads.whole more ∙ ap (λ requests. requests ++ whole_requests ends (left ++ more)) (sym (nil_right s.done)));
-    },
-  )
+  -- memory is wanting for what follows the last line
+  pub piece_wanting : (old now : Moment M) (bytes left pending : List ℕ) → Stands ends step old bytes now left → 0 < length left → ServesPiece ends step (Err stop.Memory) old bytes now pending
+  piece_wanting old now bytes left pending s some = record { done = s.done; behind = left; reads = s.reads; some = some; mid = now; serves = s.serves; next = []; begins = Begins-none ends left; wants = Wants-none step now [] }
 
   pub piece_open : (old now : Moment M) (bytes pending : List ℕ) → HasNoNewline pending → Stands ends step old bytes now pending → ServesPiece ends step (Ok Open) old bytes now pending
   piece_open old now bytes pending clean s = (s.done, s.serves, s.reads, clean)

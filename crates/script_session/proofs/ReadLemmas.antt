@@ -3,7 +3,7 @@ use Rattle.std.proofs.Common.{◌≡◌, ℕ, ◌≤◌, ◌<◌, ◌+◌, ◌-�
 use Rattle.std.specs.Prelude.{Result, Ok, Err, IfSome, if◌then◌else◌}
 use Rattle.std.specs.Io.KnownBytes.{Consumes, Keeps, IsAtEnd}
 use Rattle.std.specs.List.{list_any}
-use Rattle.std.proofs.lemmas.List.{take-append-drop, take-take}
+use Rattle.std.proofs.lemmas.List.{take-append-drop, take-take, take_all}
 use Rattle.std.proofs.lemmas.List.Elements.{All-nil}
 use Rattle.std.proofs.Math.Seq.{take-append_seam, take-append-add}
 use Rattle.script_session.specs.Run.{IsLastRead, IsPrompt}
@@ -12,14 +12,14 @@ use Rattle.text_lines.specs.Lines.{HasNoNewline, is_newline, last_line}
 use Rattle.text_lines.proofs.LineLemmas.{lines-nothing, lines-last}
 use Rattle.text_lines.proofs.WordLemmas.{something}
 use Rattle.script_session.specs.Script.{requests, line_requests, is_end, script_requests, whole_requests, has_ending}
-use Rattle.script_session.specs.Session.{Moment, Serves, Breaks, Reads, Begins, ServesLine, ServesPiece, ServesRest, ServesTaken, ServesScript}
+use Rattle.script_session.specs.Session.{Moment, Serves, Breaks, Wants, Halts, StopsShort, Reads, Begins, ServesLine, ServesPiece, ServesRest, ServesTaken, ServesScript}
 use Rattle.script_session.specs.Stand.{Stand}
 use Rattle.script_session.specs.declared.session.Flow.TheVariants.{Open, Ended}
 use Rattle.script_session.specs.declared.session.Stop.{Stop}
 use Rattle.script_session.specs.declared.session.Stop.TheVariants as stop
 use Rattle.script_session.specs.Limits.{script_limit, piece_length}
-use Rattle.script_session.proofs.SessionLemmas.{Serves-none, Serves-append, Serves-Breaks-behind, Serves-Halts-behind}
-use Rattle.script_session.proofs.ScriptLemmas.{whole_lines-none, Reads-append, Reads-more, Reads-Finishes, Reads-Begins, nil_right}
+use Rattle.script_session.proofs.SessionLemmas.{Transcript-length, Wants-more, Serves-none, Serves-append, Serves-Breaks-behind}
+use Rattle.script_session.proofs.ScriptLemmas.{whole_lines-none, reads-all, reads-whole, reads-ending, Reads-append, Reads-more, Reads-Finishes, Reads-Begins, nil_right}
 use Rattle.script_session.proofs.PieceLemmas.{Stands, Stands-start}
 
 -- the bytes taken so far, of which pending follows the last newline
@@ -46,6 +46,9 @@ Consumes-append (Some ws) (Some vs) (Some us) xs ys h k = h ∙ ap (λ zs. xs ++
 
 front_then : (n : ℕ) (xs ys : List ℕ) → length xs ≤ n → take n (xs ++ ys) ≡ xs ++ take (n - length xs) ys
 front_then n xs ys le = let e : n ≡ length xs + (n - length xs) = omega arith in ap (λ k. take k (xs ++ ys)) e ∙ take-append-add xs ys (n - length xs)
+
+some_more : (xs ys : List ℕ) → 0 < length xs → 0 < length (xs ++ ys)
+some_more xs ys some = omega (arith, some, length-append xs ys)
 
 front_is : (n : ℕ) (xs ys : List ℕ) → length xs ≡ n → take n (xs ++ ys) ≡ xs
 front_is n xs ys e = ap (λ k. take k (xs ++ ys)) (sym e) ∙ take-append_seam xs ys
@@ -79,13 +82,23 @@ module _ (ends : Command → Bool) where
 
   pub whole_taken : (bytes : List ℕ) (done : List Request) (pending : List ℕ) → Reads ends bytes done pending → HasNoNewline pending → whole_requests ends bytes ≡ done
   whole_taken bytes done pending r clean =
-      ap (whole_requests ends) (sym (append-nil bytes)) ∙ r.whole [] ∙ ap (λ requests. done ++ requests) (ap (whole_requests ends) (append-nil pending) ∙ whole-rest pending clean) ∙ nil_right done
+      ap (whole_requests ends) (sym (append-nil bytes)) ∙ reads-whole ends bytes done pending [] r ∙ ap (λ requests. done ++ requests) (ap (whole_requests ends) (append-nil pending) ∙ whole-rest pending clean) ∙ nil_right done
 
   pub ending_taken : (bytes : List ℕ) (done : List Request) (pending : List ℕ) → Reads ends bytes done pending → HasNoNewline pending → has_ending ends bytes ≡ false
-  ending_taken bytes done pending r clean = ap (has_ending ends) (sym (append-nil bytes)) ∙ r.ending [] ∙ ap (has_ending ends) (append-nil pending) ∙ ending-rest pending clean
+  ending_taken bytes done pending r clean = ap (has_ending ends) (sym (append-nil bytes)) ∙ reads-ending ends bytes done pending [] r ∙ ap (has_ending ends) (append-nil pending) ∙ ending-rest pending clean
 
   all_taken : (bytes : List ℕ) (done : List Request) (pending : List ℕ) → Reads ends bytes done pending → script_requests ends bytes ≡ done ++ script_requests ends pending
-  all_taken bytes done pending r = ap (script_requests ends) (sym (append-nil bytes)) ∙ r.all [] ∙ ap (λ xs. done ++ script_requests ends xs) (append-nil pending)
+  all_taken bytes done pending r = ap (script_requests ends) (sym (append-nil bytes)) ∙ reads-all ends bytes done pending [] r ∙ ap (λ xs. done ++ script_requests ends xs) (append-nil pending)
+
+  nothing : HasNoNewline []
+  nothing = All-nil (λ byte. is_newline byte ≡ false)
+
+  -- the lines that were gone through ask what was asked, and none of them ends the script
+  seen_asks : (bytes : List ℕ) (done : List Request) (left : List ℕ) (r : Reads ends bytes done left) → whole_requests ends r.seen ≡ done
+  seen_asks bytes done left r = ap (whole_requests ends) (sym (append-nil r.seen)) ∙ r.whole [] ∙ ap (λ requests. done ++ requests) (whole-rest [] nothing) ∙ nil_right done
+
+  seen_unended : (bytes : List ℕ) (done : List Request) (left : List ℕ) (r : Reads ends bytes done left) → has_ending ends r.seen ≡ false
+  seen_unended bytes done left r = ap (has_ending ends) (sym (append-nil r.seen)) ∙ r.ending [] ∙ ending-rest [] nothing
 
   -- what the whole lines ask has its replies
   prompt : (front : List ℕ) (done : List Request) (pending : List ℕ) (replies : List (List ℕ)) → Reads ends front done pending → HasNoNewline pending → length done ≤ length replies → IsPrompt ends front replies
@@ -94,7 +107,7 @@ module _ (ends : Command → Bool) where
 module _ {M : Type 0} (ends : Command → Bool) (step : Stand M → Request → List ℕ → Stand M → Type 0) where
   pub rest_failed : (fault : Stop) (old new : Moment M) (pending : List ℕ) → HasNoNewline pending → 0 < length pending → ServesLine ends step (Err fault) old (last_line pending) new → ServesRest ends step (Err fault) old pending new
   rest_failed stop.Sink old new pending clean some h = subst (λ requests. Breaks step old requests new) (sym (script-rest ends pending clean some)) h
-  rest_failed stop.Memory old new pending clean some h = (h.0, h.1, script-rest ends pending clean some ∙ h.2, h.3)
+  rest_failed stop.Memory old new pending clean some h = (subst (λ requests. Wants step old requests new) (sym (script-rest ends pending clean some)) h, some)
   rest_failed stop.Source old new pending clean some h = h
   rest_failed stop.TooLong old new pending clean some h = h
 
@@ -154,6 +167,26 @@ module _ {M : Type 0} (ends : Command → Bool) (step : Stand M → Request → 
         ending_taken ends r.taken r.stands.done pending r.stands.reads r.clean,
       )
 
+  answered : (old new : Moment M) (done : List Request) (h : Serves step old done new) → length done ≤ length h.replies
+  answered old new done h = let each = Transcript-length step old.state new.state done h.replies h.run in omega arith
+
+  -- memory is wanting for the last line
+  abbrev rest_unseen : (taken pending : List ℕ) (old now new : Moment M) → Stands ends step old taken now pending → length taken ≤ script_limit → Wants step now (script_requests ends pending) new → 0 < length pending → StopsShort ends step old (take script_limit taken) (script_requests ends taken) new
+  rest_unseen taken pending old now new s fits wants some = record {
+    seen = s.reads.seen;
+    behind = pending;
+    parts = take_all script_limit taken fits ∙ sym s.reads.parts;
+    some = some;
+    unended = seen_unended ends taken s.done pending s.reads;
+    done = s.done;
+    asks_seen = seen_asks ends taken s.done pending s.reads;
+    mid = now;
+    serves = s.serves;
+    rest = script_requests ends pending;
+    asks = all_taken ends taken s.done pending s.reads;
+    wants = wants;
+  }
+
   rest_served : (result : Result (Unit {0}) Stop) (left' : Option (List ℕ)) (taken pending : List ℕ) (old now new : Moment M) → Stands ends step old taken now pending → HasNoNewline pending → length taken ≤ script_limit → IsAtEnd left' → ServesRest ends step result now pending new → ServesTaken ends step result left' taken taken old new
   rest_served (Ok done) left' taken pending old now new s clean fits end h = (
     subst (λ requests. Serves step old requests new) (sym (all_taken ends taken s.done pending s.reads)) (Serves-append step old now new s.done (script_requests ends pending) s.serves h),
@@ -168,13 +201,10 @@ module _ {M : Type 0} (ends : Command → Bool) (step : Stand M → Request → 
     all_taken ends taken s.done pending s.reads ∙ sym (nil_right _),
     (cut.0, prompt ends taken s.done pending cut.0.replies s.reads clean cut.1),
   )
-  rest_served (Err stop.Memory) left' taken pending old now new s clean fits end h = let cut = Serves-Halts-behind step old now new s.done h.0 s.serves h.3 in (
+  rest_served (Err stop.Memory) left' taken pending old now new s clean fits end h = (
     script_requests ends taken,
-    s.done ++ h.0,
-    h.1,
     inr (end, fits, refl),
-    all_taken ends taken s.done pending s.reads ∙ ap (λ requests. s.done ++ requests) h.2 ∙ sym (append_assoc s.done h.0 h.1),
-    (cut.0, prompt ends taken s.done pending cut.0.replies s.reads clean cut.1),
+    (rest_unseen taken pending old now new s fits h.0 h.1, prompt ends taken s.done pending s.serves.replies s.reads clean (answered old now s.done s.serves)),
   )
   rest_served (Err stop.Source) left' taken pending old now new s clean fits end h = absurd h
   rest_served (Err stop.TooLong) left' taken pending old now new s clean fits end h = absurd h
@@ -244,15 +274,53 @@ module _ {M : Type 0} (ends : Command → Bool) (step : Stand M → Request → 
       let found = all.whole (take (script_limit - length (front ++ piece)) others) in
       (found.0, ap (λ xs. whole_requests ends (take script_limit xs)) (cut front bytes piece others parts) ∙ ap (whole_requests ends) (front_then script_limit (front ++ piece) others fits) ∙ found.1)
 
+  -- memory is wanting in the midst of what was looked at, behind what was answered of the front
+  abbrev Halts-behind : (old now new : Moment M) (front pending piece : List ℕ) → Stands ends step old front now pending → Halts ends step now (pending ++ piece) new → Halts ends step old (front ++ piece) new
+  Halts-behind old now new front pending piece s h = record {
+    done = s.done ++ h.done;
+    behind = h.behind;
+    reads = Reads-append ends (front ++ piece) (pending ++ piece) h.behind s.done h.done (Reads-more ends front s.done pending piece s.reads) h.reads;
+    some = h.some;
+    mid = h.mid;
+    serves = Serves-append step old now h.mid s.done h.done s.serves h.serves;
+    next = h.next;
+    begins = h.begins;
+    wants = h.wants;
+  }
+
+  -- so it is in all that may be answered, which has more behind
+  abbrev more_unseen : (old new : Moment M) (bytes looked more : List ℕ) → bytes ≡ looked ++ more → (h : Halts ends step old looked new) → (others : List Request) → whole_requests ends (looked ++ more) ≡ (h.done ++ h.next) ++ others → StopsShort ends step old bytes (whole_requests ends bytes) new
+  more_unseen old new bytes looked more parts h others asked = record {
+    seen = h.reads.seen;
+    behind = h.behind ++ more;
+    parts = parts ∙ ap (λ xs. xs ++ more) (sym h.reads.parts) ∙ append_assoc h.reads.seen h.behind more;
+    some = some_more h.behind more h.some;
+    unended = seen_unended ends looked h.done h.behind h.reads;
+    done = h.done;
+    asks_seen = seen_asks ends looked h.done h.behind h.reads;
+    mid = h.mid;
+    serves = h.serves;
+    rest = h.next ++ others;
+    asks = ap (whole_requests ends) parts ∙ asked ∙ append_assoc h.done h.next others;
+    wants = Wants-more step h.mid new h.next others h.wants;
+  }
+
   stopped_served : (fault : Stop) (left' : Option (List ℕ)) (front pending bytes piece others pending' : List ℕ) (old now new : Moment M) → Stands ends step old front now pending → HasNoNewline pending → bytes ≡ piece ++ others → length (front ++ piece) ≤ script_limit → ServesPiece ends step (Err fault) now (pending ++ piece) new pending' → ServesTaken ends step (Err fault) left' front (front ++ bytes) old new
   stopped_served stop.Sink left' front pending bytes piece others pending' old now new s clean parts fits h =
       let found = first_asked front pending bytes piece others s.done h.0 s.reads h.2 parts fits in
       let cut = Serves-Breaks-behind step old now new s.done h.0 s.serves h.1 in
       (whole_requests ends (take script_limit (front ++ bytes)), s.done ++ h.0, found.0, inl refl, found.1, (cut.0, prompt ends front s.done pending cut.0.replies s.reads clean cut.1))
   stopped_served stop.Memory left' front pending bytes piece others pending' old now new s clean parts fits h =
-      let found = first_asked front pending bytes piece others s.done h.0 s.reads h.2 parts fits in
-      let cut = Serves-Halts-behind step old now new s.done h.0 s.serves h.1 in
-      (whole_requests ends (take script_limit (front ++ bytes)), s.done ++ h.0, found.0, inl refl, found.1, (cut.0, prompt ends front s.done pending cut.0.replies s.reads clean cut.1))
+      let all = Halts-behind old now new front pending piece s h in
+      let more = take (script_limit - length (front ++ piece)) others in
+      let kept : take script_limit (front ++ bytes) ≡ (front ++ piece) ++ more = ap (take script_limit) (cut front bytes piece others parts) ∙ front_then script_limit (front ++ piece) others fits in
+      let found = (Reads-Begins ends (front ++ piece) all.behind all.done all.next all.reads all.begins).whole more in
+      let each = answered old all.mid (s.done ++ h.done) all.serves in
+      let whole : length s.done ≤ length all.serves.replies = omega (arith, each, length-append s.done h.done) in (
+        whole_requests ends (take script_limit (front ++ bytes)),
+        inl refl,
+        (more_unseen old new (take script_limit (front ++ bytes)) (front ++ piece) more kept all found.0 found.1, prompt ends front s.done pending all.serves.replies s.reads clean whole),
+      )
   stopped_served stop.Source left' front pending bytes piece others pending' old now new s clean parts fits h = absurd h
   stopped_served stop.TooLong left' front pending bytes piece others pending' old now new s clean parts fits h = absurd h
 

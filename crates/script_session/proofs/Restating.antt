@@ -1,8 +1,9 @@
 -- What a layer above says of a run in states of its own: f is the state that stands for a machine beside its store, and
 -- each step is one of other between such states.
-use Rattle.std.proofs.Common.{ℕ, Bool, List, [], ◌∷◌, ◌++◌, ap}
-use Rattle.script_session.specs.Run.{Outside, Answers, IsCutOff, IsCutShort, EndsAs, Finished, SourceFailed, SinkFailed, MemoryWanted, TooLong, IsRun}
+use Rattle.std.proofs.Common.{ℕ, Bool, List, [], ◌∷◌, ◌++◌, ap, inl, inr}
+use Rattle.script_session.specs.Run.{Outside, Answers, IsCutOff, LosesReply, IsCutShort, EndsAs, Finished, SourceFailed, SinkFailed, MemoryWanted, TooLong, IsRun}
 use Rattle.script_session.specs.Request.{Command, Request, Overlong, Words, RequestStep}
+use Rattle.script_session.specs.Script.{whole_requests}
 use Rattle.script_session.specs.Stand.{Transcript}
 
 module _ {S T : Type 0} (f : S → T) (step : S → Command → List ℕ → S → Type 0) (other : T → Command → List ℕ → T → Type 0) (same : (old : S) (words : Command) (reply : List ℕ) (new : S) → step old words reply new → other (f old) words reply (f new)) where
@@ -38,23 +39,30 @@ module _ {S T : Type 0} (f : S → T) (step : S → Command → List ℕ → S �
     output = h.output;
   }
 
-  abbrev IsCutShort-through : (requests : List Request) (old : S) (before : Outside) (new : S) (after : Outside) → IsCutShort (RequestStep step) requests old before new after → IsCutShort (RequestStep other) requests (f old) before (f new) after
-  IsCutShort-through requests old before new after h = record {
-    first = h.first;
-    rest = h.rest;
+  LosesReply-through : (old : S) (requests : List Request) (new : S) → LosesReply (RequestStep step) old requests new → LosesReply (RequestStep other) (f old) requests (f new)
+  LosesReply-through old requests new (inl same) = inl (ap f same)
+  LosesReply-through old requests new (inr h) = inr (h.0, h.1, h.2, h.3, RequestStep-through old h.0 h.2 new h.4)
+
+  abbrev IsCutShort-through : (ends : Command → Bool) (bytes : List ℕ) (asked : List Request) (old : S) (before : Outside) (new : S) (after : Outside) → IsCutShort (RequestStep step) ends bytes asked old before new after → IsCutShort (RequestStep other) ends bytes asked (f old) before (f new) after
+  IsCutShort-through ends bytes asked old before new after h = record {
+    seen = h.seen;
+    behind = h.behind;
     parts = h.parts;
+    some = h.some;
+    unended = h.unended;
+    mid = f h.mid;
     replies = h.replies;
-    missing = h.missing;
-    one = h.one;
-    transcript = Transcript-through old new h.first (h.replies ++ h.missing) h.transcript;
-    output = h.output;
+    answered = Answers-through (whole_requests ends h.seen) old before h.mid after h.replies h.answered;
+    rest = h.rest;
+    asks = h.asks;
+    lost = LosesReply-through h.mid h.rest new h.lost;
   }
 
   EndsAs-through : (ends : Command → Bool) (front taken : List ℕ) (old : S) (before : Outside) (new : S) (after : Outside) (status : ℕ) → EndsAs (RequestStep step) ends front taken old before new after status → EndsAs (RequestStep other) ends front taken (f old) before (f new) after status
   EndsAs-through ends front taken old before new after status (Finished replies answers all within is) = Finished replies (Answers-through _ old before new after replies answers) all within is
   EndsAs-through ends front taken old before new after status (SourceFailed replies answers within unended rose is) = SourceFailed replies (Answers-through _ old before new after replies answers) within unended rose is
   EndsAs-through ends front taken old before new after status (SinkFailed asked answerable cut prompt rose is) = SinkFailed asked answerable (IsCutOff-through asked old before new after cut) prompt rose is
-  EndsAs-through ends front taken old before new after status (MemoryWanted asked answerable cut prompt is) = MemoryWanted asked answerable (IsCutShort-through asked old before new after cut) prompt is
+  EndsAs-through ends front taken old before new after status (MemoryWanted asked answerable cut prompt is) = MemoryWanted asked answerable (IsCutShort-through ends _ asked old before new after cut) prompt is
   EndsAs-through ends front taken old before new after status (TooLong replies answers overlong is) = TooLong replies (Answers-through _ old before new after replies answers) overlong is
 
   -- so a run over machines is one over the other states

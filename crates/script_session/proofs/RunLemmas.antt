@@ -1,13 +1,15 @@
 -- From what a session has done to what a run is.
-use Rattle.std.proofs.Common.{◌≡◌, ℕ, ◌≤◌, Bool, false, ◌||◌, List, ◌∙◌, ap, Option}
+use Rattle.std.proofs.Common.{◌≡◌, ℕ, ◌≤◌, Bool, false, ◌||◌, List, ◌++◌, take, sym, subst, ◌∙◌, ap, Option}
 use Rattle.std.specs.Prelude.{Ok, Err}
-use Rattle.std.specs.List.{list_any}
+use Rattle.std.specs.List.{list_any, concat}
+use Rattle.std.specs.Io.KnownBytes.{Appends}
 use Rattle.script_session.specs.Output.{SinkCause, SourceCause}
 use Rattle.script_session.specs.Reply.{is_error, wants_memory, final_status, status_of}
 use Rattle.script_session.specs.Request.{Command, Request}
-use Rattle.script_session.specs.Run.{outside, EndsAs, Finished, SourceFailed, SinkFailed, MemoryWanted, TooLong, IsRun}
-use Rattle.script_session.specs.Session.{Moment, Serves, ServesTaken, ServesScript}
-use Rattle.script_session.specs.Stand.{Stand}
+use Rattle.script_session.specs.Run.{outside, IsCutShort, EndsAs, Finished, SourceFailed, SinkFailed, MemoryWanted, TooLong, IsRun}
+use Rattle.script_session.specs.Session.{Moment, Serves, StopsShort, ServesTaken, ServesScript}
+use Rattle.script_session.specs.Limits.{script_limit}
+use Rattle.script_session.specs.Stand.{Stand, Transcript}
 use Rattle.script_session.specs.declared.session.Stop.{Stop}
 use Rattle.script_session.specs.declared.session.Stop.TheVariants as stop
 
@@ -41,6 +43,26 @@ module _ {M : Type 0} (ends : Command → Bool) (step : Stand M → Request → 
         sink_later = sink_later;
       }
 
+  -- memory was wanting to go on
+  abbrev cut_short : (left left' handed handed' : Option (List ℕ)) (sources sources' sinks sinks' : ℕ) (old new : Moment M) (bytes : List ℕ) (asked : List Request) → StopsShort ends step old bytes asked new
+      → IsCutShort step ends bytes asked old.state (outside left handed sources old.written sinks) new.state (outside left' handed' sources' new.written sinks')
+  cut_short left left' handed handed' sources sources' sinks sinks' old new bytes asked h = record {
+    seen = h.seen;
+    behind = h.behind;
+    parts = h.parts;
+    some = h.some;
+    unended = h.unended;
+    mid = h.mid.state;
+    replies = h.serves.replies;
+    answered = record {
+      transcript = subst (λ (requests : List Request). Transcript step old.state requests h.serves.replies h.mid.state) (sym h.asks_seen) h.serves.run;
+      output = subst (λ (written : Option (List ℕ)). Appends old.written written (concat h.serves.replies)) (sym h.wants.written) h.serves.output;
+    };
+    rest = h.rest;
+    asks = h.asks ∙ ap (λ requests. requests ++ h.rest) (sym h.asks_seen);
+    lost = h.wants.lost;
+  }
+
   -- it was stopped
   stopped_as : (fault : Stop) (left left' handed handed' : Option (List ℕ)) (sources sources' sinks sinks' : ℕ) (front taken : List ℕ) (old new : Moment M) (status : ℕ) → ServesTaken ends step (Err fault) left' front taken old new → SourceCause {T = Unit {0}} (Err fault) sources sources' → SinkCause {T = Unit {0}} (Err fault) sinks sinks' → status ≡ stop_status fault
       → EndsAs step ends front taken old.state (outside left handed sources old.written sinks) new.state (outside left' handed' sources' new.written sinks') status
@@ -49,7 +71,7 @@ module _ {M : Type 0} (ends : Command → Bool) (step : Stand M → Request → 
   stopped_as stop.Sink left left' handed handed' sources sources' sinks sinks' front taken old new status h source sink is =
       SinkFailed h.0 h.3 (record { first = h.1; rest = h.2; parts = h.4; replies = h.5.0.replies; broken = h.5.0.broken; transcript = h.5.0.run; bytes = h.5.0.bytes; unwritten = h.5.0.unwritten; front = h.5.0.front; some = h.5.0.some; output = h.5.0.output }) h.5.1 sink is
   stopped_as stop.Memory left left' handed handed' sources sources' sinks sinks' front taken old new status h source sink is =
-      MemoryWanted h.0 h.3 (record { first = h.1; rest = h.2; parts = h.4; replies = h.5.0.replies; missing = h.5.0.missing; one = h.5.0.one; transcript = h.5.0.run; output = h.5.0.output }) h.5.1 is
+      MemoryWanted h.0 h.1 (cut_short left left' handed handed' sources sources' sinks sinks' old new (take script_limit taken) h.0 h.2.0) h.2.1 is
   stopped_as stop.TooLong left left' handed handed' sources sources' sinks sinks' front taken old new status h source sink is =
       TooLong h.0.replies (record { transcript = h.0.run; output = h.0.output }) h.1 is
 

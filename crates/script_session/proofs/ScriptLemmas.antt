@@ -84,42 +84,58 @@ module _ (ends : Command → Bool) where
   ending-line line rest none = ap (list_any (is_end ends)) (whole_lines-line line rest none)
 
   pub Reads-start : (bytes : List ℕ) → Reads ends bytes [] bytes
-  Reads-start bytes = record { all = λ more. refl; whole = λ more. refl; ending = λ more. refl }
+  Reads-start bytes = record { seen = []; parts = refl; all = λ more. refl; whole = λ more. refl; ending = λ more. refl }
+
+  -- what follows the lines, and more behind it
+  onward : (bytes seen left more : List ℕ) → seen ++ left ≡ bytes → bytes ++ more ≡ seen ++ (left ++ more)
+  onward bytes seen left more parts = ap (λ xs. xs ++ more) (sym parts) ∙ append_assoc seen left more
+
+  pub reads-all : (bytes : List ℕ) (done : List Request) (left more : List ℕ) → Reads ends bytes done left → script_requests ends (bytes ++ more) ≡ done ++ script_requests ends (left ++ more)
+  reads-all bytes done left more r = ap (script_requests ends) (onward bytes r.seen left more r.parts) ∙ r.all (left ++ more)
+
+  pub reads-whole : (bytes : List ℕ) (done : List Request) (left more : List ℕ) → Reads ends bytes done left → whole_requests ends (bytes ++ more) ≡ done ++ whole_requests ends (left ++ more)
+  reads-whole bytes done left more r = ap (whole_requests ends) (onward bytes r.seen left more r.parts) ∙ r.whole (left ++ more)
+
+  pub reads-ending : (bytes : List ℕ) (done : List Request) (left more : List ℕ) → Reads ends bytes done left → has_ending ends (bytes ++ more) ≡ has_ending ends (left ++ more)
+  reads-ending bytes done left more r = ap (has_ending ends) (onward bytes r.seen left more r.parts) ∙ r.ending (left ++ more)
 
   pub Reads-more : (bytes : List ℕ) (done : List Request) (left piece : List ℕ) → Reads ends bytes done left → Reads ends (bytes ++ piece) done (left ++ piece)
-  Reads-more bytes done left piece r = record {
-    all = λ more. ap (script_requests ends) (append_assoc bytes piece more) ∙ r.all (piece ++ more) ∙ ap (λ xs. done ++ script_requests ends xs) (sym (append_assoc left piece more));
-    whole = λ more. ap (whole_requests ends) (append_assoc bytes piece more) ∙ r.whole (piece ++ more) ∙ ap (λ xs. done ++ whole_requests ends xs) (sym (append_assoc left piece more));
-    ending = λ more. ap (has_ending ends) (append_assoc bytes piece more) ∙ r.ending (piece ++ more) ∙ ap (has_ending ends) (sym (append_assoc left piece more));
-  }
+  Reads-more bytes done left piece r = record { seen = r.seen; parts = sym (onward bytes r.seen left piece r.parts); all = r.all; whole = r.whole; ending = r.ending }
 
   pub Reads-append : (a b c : List ℕ) (done next : List Request) → Reads ends a done b → Reads ends b next c → Reads ends a (done ++ next) c
   Reads-append a b c done next r s = record {
-    all = λ more. r.all more ∙ ap (λ cs. done ++ cs) (s.all more) ∙ sym (append_assoc done next _);
-    whole = λ more. r.whole more ∙ ap (λ cs. done ++ cs) (s.whole more) ∙ sym (append_assoc done next _);
-    ending = λ more. r.ending more ∙ s.ending more;
+    seen = r.seen ++ s.seen;
+    parts = append_assoc r.seen s.seen c ∙ ap (λ xs. r.seen ++ xs) s.parts ∙ r.parts;
+    all = λ more. ap (script_requests ends) (append_assoc r.seen s.seen more) ∙ r.all (s.seen ++ more) ∙ ap (λ cs. done ++ cs) (s.all more) ∙ sym (append_assoc done next _);
+    whole = λ more. ap (whole_requests ends) (append_assoc r.seen s.seen more) ∙ r.whole (s.seen ++ more) ∙ ap (λ cs. done ++ cs) (s.whole more) ∙ sym (append_assoc done next _);
+    ending = λ more. ap (has_ending ends) (append_assoc r.seen s.seen more) ∙ r.ending (s.seen ++ more) ∙ s.ending more;
   }
 
   pub Reads-Finishes : (a b : List ℕ) (done next : List Request) → Reads ends a done b → Finishes ends b next → Finishes ends a (done ++ next)
   Reads-Finishes a b done next r s = record {
-    all = λ more. r.all more ∙ ap (λ cs. done ++ cs) (s.all more);
-    whole = λ more. r.whole more ∙ ap (λ cs. done ++ cs) (s.whole more);
-    ending = λ more. r.ending more ∙ s.ending more;
+    all = λ more. reads-all a done b more r ∙ ap (λ cs. done ++ cs) (s.all more);
+    whole = λ more. reads-whole a done b more r ∙ ap (λ cs. done ++ cs) (s.whole more);
+    ending = λ more. reads-ending a done b more r ∙ s.ending more;
   }
 
   pub Reads-Begins : (a b : List ℕ) (done next : List Request) → Reads ends a done b → Begins ends b next → Begins ends a (done ++ next)
   Reads-Begins a b done next r s = record {
-    all = λ more. let t = s.all more in (t.0, r.all more ∙ ap (λ cs. done ++ cs) t.1 ∙ sym (append_assoc done next t.0));
-    whole = λ more. let t = s.whole more in (t.0, r.whole more ∙ ap (λ cs. done ++ cs) t.1 ∙ sym (append_assoc done next t.0));
+    all = λ more. let t = s.all more in (t.0, reads-all a done b more r ∙ ap (λ cs. done ++ cs) t.1 ∙ sym (append_assoc done next t.0));
+    whole = λ more. let t = s.whole more in (t.0, reads-whole a done b more r ∙ ap (λ cs. done ++ cs) t.1 ∙ sym (append_assoc done next t.0));
   }
 
   -- the line's command, and then what is left
   pub Reads-line : (line rest : List ℕ) → HasNoNewline line → is_end ends (ended_line line) ≡ false → Reads ends (line ++ 10 ∷ rest) (line_requests (ended_line line)) rest
   Reads-line line rest none continues = record {
-    all = λ more. ap (script_requests ends) (append_assoc line (10 ∷ rest) more) ∙ script-line line (rest ++ more) none ∙ ap (λ cs. line_requests (ended_line line) ++ cs) (goes_on _ [] (script_requests ends (rest ++ more)) continues);
-    whole = λ more. ap (whole_requests ends) (append_assoc line (10 ∷ rest) more) ∙ whole-line line (rest ++ more) none ∙ ap (λ cs. line_requests (ended_line line) ++ cs) (goes_on _ [] (whole_requests ends (rest ++ more)) continues);
-    ending = λ more. ap (has_ending ends) (append_assoc line (10 ∷ rest) more) ∙ ending-line line (rest ++ more) none ∙ ap (λ b. b || has_ending ends (rest ++ more)) continues;
+    seen = line ++ 10 ∷ [];
+    parts = append_assoc line (10 ∷ []) rest;
+    all = λ more. ap (script_requests ends) (append_assoc line (10 ∷ []) more) ∙ script-line line more none ∙ ap (λ cs. line_requests (ended_line line) ++ cs) (goes_on _ [] (script_requests ends more) continues);
+    whole = λ more. ap (whole_requests ends) (append_assoc line (10 ∷ []) more) ∙ whole-line line more none ∙ ap (λ cs. line_requests (ended_line line) ++ cs) (goes_on _ [] (whole_requests ends more) continues);
+    ending = λ more. ap (has_ending ends) (append_assoc line (10 ∷ []) more) ∙ ending-line line more none ∙ ap (λ b. b || has_ending ends more) continues;
   }
+
+  pub Begins-none : (bytes : List ℕ) → Begins ends bytes []
+  Begins-none bytes = record { all = λ more. (script_requests ends (bytes ++ more), refl); whole = λ more. (whole_requests ends (bytes ++ more), refl) }
 
   pub Finishes-line : (line rest : List ℕ) → HasNoNewline line → is_end ends (ended_line line) ≡ true → Finishes ends (line ++ 10 ∷ rest) (line_requests (ended_line line))
   Finishes-line line rest none ended = record {

@@ -1,12 +1,13 @@
 -- Sessions one after another.
-use Rattle.std.proofs.Common.{◌≡◌, ◌≤◌, ℕ, length, length-append, List, [], ◌∷◌, ◌++◌, refl, sym, ◌∙◌, ap, append_assoc, append-nil, arith, Bool, true, false, ◌||◌, subst}
+use Rattle.std.proofs.Common.{◌≡◌, ◌≤◌, ℕ, length, length-append, List, [], ◌∷◌, ◌++◌, refl, sym, ◌∙◌, ap, append_assoc, append-nil, arith, Bool, true, false, ◌||◌, subst, inl, inr}
 use Rattle.std.specs.List.{list_any, concat}
 use Rattle.std.specs.Io.KnownBytes.{Appends}
 use Rattle.std.proofs.lemmas.List.Folds.{concat-append}
 use Rattle.script_session.specs.Output.{WritesFront}
 use Rattle.script_session.specs.Reply.{wants_memory, is_error}
 use Rattle.script_session.specs.Request.{Command, Request, Overlong, overlong_text, RequestStep}
-use Rattle.script_session.specs.Session.{Moment, Serves, Breaks, Halts}
+use Rattle.script_session.specs.Session.{Moment, Serves, Breaks, Wants}
+use Rattle.script_session.specs.Run.{LosesReply}
 use Rattle.script_session.specs.Stand.{Stand, Transcript}
 use Rattle.script_session.proofs.OutputLemmas.{Appends-none, Appends-append}
 
@@ -22,6 +23,11 @@ Transcript-length step old new [] [] h = refl
 Transcript-length step old new [] (r ∷ rs) h = absurd h
 Transcript-length step old new (q ∷ qs) [] h = absurd h
 Transcript-length step old new (q ∷ qs) (r ∷ rs) h = let more = Transcript-length step h.0 new qs rs h.2 in omega arith
+
+-- what holds of the next requests holds of them with more behind
+pub LosesReply-more : {S : Type 0} (step : S → Request → List ℕ → S → Type 0) (old new : S) (requests more : List Request) → LosesReply step old requests new → LosesReply step old (requests ++ more) new
+LosesReply-more step old new requests more (inl same) = inl same
+LosesReply-more step old new requests more (inr h) = inr (h.0, h.1 ++ more, h.2, ap (λ qs. qs ++ more) h.3, h.4)
 
 or_assoc : (a b c : Bool) → (a || b) || c ≡ a || (b || c)
 or_assoc true b c = refl
@@ -78,21 +84,6 @@ module _ {M : Type 0} (step : Stand M → Request → List ℕ → Stand M → T
   pub Serves-Breaks : (a b c : Moment M) (qs us : List Request) → Serves step a qs b → Breaks step b us c → Breaks step a (qs ++ us) c
   Serves-Breaks a b c qs us h k = (Serves-Breaks-behind a b c qs us h k).0
 
-  pub Serves-Halts-behind : (a b c : Moment M) (qs us : List Request) → Serves step a qs b → Halts step b us c → (cut : Halts step a (qs ++ us) c) × (length qs ≤ length cut.replies)
-  Serves-Halts-behind a b c qs us h k = (
-    record {
-      replies = h.replies ++ k.replies;
-      missing = k.missing;
-      run = subst (λ rs. Transcript step a.state (qs ++ us) rs c.state) (sym (append_assoc h.replies k.replies k.missing)) (Transcript-append step a.state b.state c.state qs us h.replies (k.replies ++ k.missing) h.run k.run);
-      output = subst (λ bytes. Appends a.written c.written bytes) (sym (concat-append h.replies k.replies)) (Appends-append a.written b.written c.written (concat h.replies) (concat k.replies) h.output k.output);
-      one = k.one;
-    },
-    (let each = Transcript-length step a.state b.state qs h.replies h.run in omega (arith, length-append h.replies k.replies)),
-  )
-
-  pub Serves-Halts : (a b c : Moment M) (qs us : List Request) → Serves step a qs b → Halts step b us c → Halts step a (qs ++ us) c
-  Serves-Halts a b c qs us h k = (Serves-Halts-behind a b c qs us h k).0
-
   -- one request, whose reply was written
   pub Serves-one : (old new : Moment M) (request : Request) (reply : List ℕ) → step old.state request reply new.state → Appends old.written new.written reply → new.wanted ≡ (old.wanted || wants_memory reply) → new.refused ≡ (old.refused || is_error reply) → Serves step old (request ∷ []) new
   Serves-one old new request reply answered output wanted refused = record {
@@ -116,18 +107,16 @@ module _ {M : Type 0} (step : Stand M → Request → List ℕ → Stand M → T
     output = sent.3;
   }
 
-  -- one whose reply couldn't be made whole
-  pub Halts-one : (old new : Moment M) (request : Request) → (reply : List ℕ) × step old.state request reply new.state → new.written ≡ old.written → Halts step old (request ∷ []) new
-  Halts-one old new request answered same = record {
-    replies = [];
-    missing = answered.0 ∷ [];
-    run = (new.state, answered.1, refl);
-    output = subst (λ written. Appends old.written written []) (sym same) (Appends-none old.written);
-    one = omega arith;
-  }
+  -- one whose reply couldn't be made
+  pub Wants-one : (old new : Moment M) (request : Request) → (reply : List ℕ) × step old.state request reply new.state → new.written ≡ old.written → Wants step old (request ∷ []) new
+  Wants-one old new request answered same = record { written = same; lost = inr (request, [], answered.0, refl, answered.1) }
 
-  pub Halts-none : (old : Moment M) → Halts step old [] old
-  Halts-none old = record { replies = []; missing = []; run = refl; output = Appends-none old.written; one = omega arith }
+  pub Wants-more : (old new : Moment M) (requests more : List Request) → Wants step old requests new → Wants step old (requests ++ more) new
+  Wants-more old new requests more h = record { written = h.written; lost = LosesReply-more step old.state new.state requests more h.lost }
+
+  -- nothing was asked
+  pub Wants-none : (old : Moment M) (requests : List Request) → Wants step old requests old
+  Wants-none old requests = record { written = refl; lost = inl refl }
 
 -- a line that is too long
 module _ {M : Type 0} (step : Stand M → Command → List ℕ → Stand M → Type 0) where

@@ -13,11 +13,11 @@ use Rattle.text_lines.specs.Lines.{HasNoNewline, is_newline, ended_line}
 use Rattle.script_session.specs.Script.{line_requests, is_end, script_requests, whole_requests, has_ending, IsWithinLimit, IsOverlong}
 use Rattle.script_session.specs.Session.{Reads, Finishes}
 use Rattle.script_session.specs.Run.{Outside, Answers, IsCutOff, IsCutShort, IsAll, IsAnswerable, EndsAs, Finished, SourceFailed, SinkFailed, MemoryWanted, TooLong}
-use Rattle.script_session.specs.Stand.{Transcript}
 use Rattle.script_session.specs.Told.{allowed_requests, IsRunOf, ToldLaw}
 use Rattle.script_session.specs.Limits.{script_limit}
 use Rattle.script_session.proofs.ReadLemmas.{whole_taken, ending_taken}
-use Rattle.script_session.proofs.ScriptLemmas.{Reads-start, Reads-append, Reads-Finishes, Reads-line, Finishes-line, nil_right}
+use Rattle.script_session.proofs.SessionLemmas.{LosesReply-more}
+use Rattle.script_session.proofs.ScriptLemmas.{reads-all, reads-whole, Reads-start, Reads-append, Reads-Finishes, Reads-line, Finishes-line, nil_right}
 
 -- bytes with a line that ends the script, or with whole lines and then a last one
 data Parts (ends : Command → Bool) (bytes : List ℕ) : Type 0 where
@@ -81,14 +81,14 @@ module _ (ends : Command → Bool) where
   script_more bytes more = by (parts bytes)
     where
       by : Parts ends bytes → (rest : List Request) × (script_requests ends (bytes ++ more) ≡ whole_requests ends bytes ++ rest)
-      by (Open done left reads last) = (script_requests ends (left ++ more), reads.all more ∙ ap (λ asked. asked ++ script_requests ends (left ++ more)) (sym (whole_taken ends bytes done left reads last)))
+      by (Open done left reads last) = (script_requests ends (left ++ more), reads-all ends bytes done left more reads ∙ ap (λ asked. asked ++ script_requests ends (left ++ more)) (sym (whole_taken ends bytes done left reads last)))
       by (Over done finishes) = ([], finishes.all more ∙ sym (over_whole bytes done finishes) ∙ sym (nil_right _))
 
   whole_more : (bytes more : List ℕ) → (rest : List Request) × (whole_requests ends (bytes ++ more) ≡ whole_requests ends bytes ++ rest)
   whole_more bytes more = by (parts bytes)
     where
       by : Parts ends bytes → (rest : List Request) × (whole_requests ends (bytes ++ more) ≡ whole_requests ends bytes ++ rest)
-      by (Open done left reads last) = (whole_requests ends (left ++ more), reads.whole more ∙ ap (λ asked. asked ++ whole_requests ends (left ++ more)) (sym (whole_taken ends bytes done left reads last)))
+      by (Open done left reads last) = (whole_requests ends (left ++ more), reads-whole ends bytes done left more reads ∙ ap (λ asked. asked ++ whole_requests ends (left ++ more)) (sym (whole_taken ends bytes done left reads last)))
       by (Over done finishes) = ([], finishes.whole more ∙ sym (over_whole bytes done finishes) ∙ sym (nil_right _))
 
   -- where a line has ended the script, nothing else is asked
@@ -107,14 +107,6 @@ module _ (ends : Command → Bool) where
 
   allowed_short : (input : List ℕ) → length input ≤ script_limit → allowed_requests ends input ≡ script_requests ends input
   allowed_short input le = ap (λ (b : Bool). if b then script_requests ends input else whole_requests ends (take script_limit input)) (fits_test (length input) script_limit le)
-
-  allowed_within : (input : List ℕ) → IsWithinLimit ends input → allowed_requests ends input ≡ script_requests ends input
-  allowed_within input (inl fits) = allowed_short input fits
-  allowed_within input (inr ended) =
-      elim (nat_le (length input) script_limit) as (λ b. (if b then script_requests ends input else whole_requests ends (take script_limit input)) ≡ script_requests ends input) [
-        | true ↦ refl
-        | false ↦ ending_same (take script_limit input) (drop script_limit input) ended ∙ ap (script_requests ends) (take-append-drop script_limit input)
-      ]
 
   -- what may be answered of what was taken may be answered of all
   allowed_first : (input taken rest : List ℕ) → input ≡ taken ++ rest → (others : List Request) × (allowed_requests ends input ≡ whole_requests ends (take script_limit taken) ++ others)
@@ -164,6 +156,11 @@ whole_status true refused = inr refl
 whole_status false true = inl (omega arith)
 whole_status false false = inl (omega arith)
 
+some_wanted : (wanted refused : Bool) → final_status wanted refused ≡ 5 → wanted ≡ true
+some_wanted true refused five = refl
+some_wanted false true five = let e : 1 ≡ 5 = five in absurd (omega (arith, e))
+some_wanted false false five = let e : 0 ≡ 5 = five in absurd (omega (arith, e))
+
 module _ {S : Type 0} (step : S → Request → List ℕ → S → Type 0) (ends : Command → Bool) (input taken rest : List ℕ) (left' : Option (List ℕ)) (old : S) (before : Outside) (new : S) (after : Outside) (status : ℕ) (e : input ≡ taken ++ rest) (end : IsAtEnd left' → rest ≡ []) where
   finished : (replies : List (List ℕ)) → Answers step (script_requests ends taken) old before new after replies → IsAll ends left' taken → IsWithinLimit ends taken → status ≡ status_of replies
       → IsRunOf step ends input old before new after status
@@ -176,16 +173,7 @@ module _ {S : Type 0} (step : S → Request → List ℕ → S → Type 0) (ends
         transcript = λ _. (replies, answered, is);
         within = λ _. inside;
         until_sink_failed = λ four. absurd (elim known [ inl low ↦ omega arith | inr five ↦ omega arith ]);
-        until_memory_wanted = λ _. record {
-          first = script_requests ends input;
-          rest = [];
-          parts = allowed_within ends input inside ∙ sym (nil_right _);
-          replies = replies;
-          missing = [];
-          one = omega arith;
-          transcript = subst (λ (rs : List (List ℕ)). Transcript step old (script_requests ends input) rs new) (sym (append-nil replies)) answered.transcript;
-          output = answered.output;
-        };
+        until_memory_wanted = λ five. inl (record { within = inside; replies = replies; answered = answered; wanting = some_wanted (list_any wants_memory replies) (list_any is_error replies) (sym is ∙ five) });
         too_long = λ six. absurd (elim known [ inl low ↦ omega arith | inr five ↦ omega arith ]);
         until_too_long = λ six. absurd (elim known [ inl low ↦ omega arith | inr five ↦ omega arith ]);
       }
@@ -212,14 +200,34 @@ module _ {S : Type 0} (step : S → Request → List ℕ → S → Type 0) (ends
         until_too_long = λ six. absurd (omega arith);
       }
 
-  memory_wanted : (asked : List Request) → IsAnswerable ends left' taken asked → IsCutShort step asked old before new after → status ≡ 5 → IsRunOf step ends input old before new after status
+  -- what was not gone through of what was taken was not gone through of all
+  cut_short : (asked : List Request) → IsAnswerable ends left' taken asked → IsCutShort step ends (take script_limit taken) asked old before new after → IsCutShort step ends (take script_limit input) (allowed_requests ends input) old before new after
+  cut_short asked answerable cut =
+      let front = front_of script_limit taken rest in
+      let found = answerable_first ends input taken rest left' asked asked [] e end answerable (sym (nil_right asked)) in
+      let one = cut.some in
+      record {
+        seen = cut.seen;
+        behind = cut.behind ++ front.0;
+        parts = ap (take script_limit) e ∙ front.1 ∙ ap (λ xs. xs ++ front.0) cut.parts ∙ append_assoc cut.seen cut.behind front.0;
+        some = omega (arith, one, length-append cut.behind front.0);
+        unended = cut.unended;
+        mid = cut.mid;
+        replies = cut.replies;
+        answered = cut.answered;
+        rest = cut.rest ++ found.0;
+        asks = found.1 ∙ ap (λ requests. requests ++ found.0) cut.asks ∙ append_assoc (whole_requests ends cut.seen) cut.rest found.0;
+        lost = LosesReply-more step cut.mid new cut.rest found.0 cut.lost;
+      }
+
+  memory_wanted : (asked : List Request) → IsAnswerable ends left' taken asked → IsCutShort step ends (take script_limit taken) asked old before new after → status ≡ 5 → IsRunOf step ends input old before new after status
   memory_wanted asked answerable cut is =
-      let found = answerable_first ends input taken rest left' asked cut.first cut.rest e end answerable cut.parts in
+      let all = cut_short asked answerable cut in
       record {
         transcript = λ below. absurd (omega arith);
         within = λ below. absurd (omega arith);
         until_sink_failed = λ four. absurd (omega arith);
-        until_memory_wanted = λ _. record { first = cut.first; rest = found.0; parts = found.1; replies = cut.replies; missing = cut.missing; one = cut.one; transcript = cut.transcript; output = cut.output };
+        until_memory_wanted = λ _. inr all;
         too_long = λ six. absurd (omega arith);
         until_too_long = λ six. absurd (omega arith);
       }

@@ -44,16 +44,25 @@ pub record IsCutOff {S : Type 0} (step : S → Request → List ℕ → S → Ty
   pub some : 0 < length unwritten
   pub output : Appends before.written after.written (concat replies ++ bytes)
 
--- first requests were answered, and their replies were written whole, but for the last one maybe
-pub record IsCutShort {S : Type 0} (step : S → Request → List ℕ → S → Type 0) (requests : List Request) (old : S) (before : Outside) (new : S) (after : Outside) : Type 0 where
-  pub first : List Request
-  pub rest : List Request
-  pub parts : requests ≡ first ++ rest
+-- of these requests nothing was asked, or the first alone, whose reply could not be made
+abbrev pub LosesReply : {S : Type 0} → (S → Request → List ℕ → S → Type 0) → S → List Request → S → Type 0
+LosesReply step old requests new = (new ≡ old) ⊎ ((request : Request) × (others : List Request) × (reply : List ℕ) × (requests ≡ request ∷ others) × step old request reply new)
+
+-- The run was cut short: of the bytes that may be answered, which ask this, first whole lines were gone through. None of them ends the
+-- script, all that they ask was answered, and each reply was written whole. Something stands behind them that was not gone through: of
+-- what it asks, nothing was asked of the machine, or the next request alone, whose reply could not be made.
+pub record IsCutShort {S : Type 0} (step : S → Request → List ℕ → S → Type 0) (ends : Command → Bool) (bytes : List ℕ) (asked : List Request) (old : S) (before : Outside) (new : S) (after : Outside) : Type 0 where
+  pub seen : List ℕ
+  pub behind : List ℕ
+  pub parts : bytes ≡ seen ++ behind
+  pub some : 0 < length behind
+  pub unended : has_ending ends seen ≡ false
+  pub mid : S
   pub replies : List (List ℕ)
-  pub missing : List (List ℕ)
-  pub one : length missing ≤ 1
-  pub transcript : Transcript step old first (replies ++ missing) new
-  pub output : Appends before.written after.written (concat replies)
+  pub answered : Answers step (whole_requests ends seen) old before mid after replies
+  pub rest : List Request
+  pub asks : asked ≡ whole_requests ends seen ++ rest
+  pub lost : LosesReply step mid rest new
 
 -- ---- what was taken
 
@@ -86,8 +95,8 @@ IsAnswerable ends left' taken asked =
 -- ---- how a run ends
 
 -- From old a run has answered the bytes that were taken, the last read's behind a front, left new, and ends with this status: the
--- script came to its end, though memory may have been wanting for a reply; the source or the sink failed; the run itself had no
--- memory; or a byte too many came.
+-- script came to its end, though memory may have been wanting for a reply, which then says so; the source or the sink failed; memory
+-- was wanting to go on, and something that was taken was not gone through; or a byte too many came.
 pub data EndsAs {S : Type 0} (step : S → Request → List ℕ → S → Type 0) (ends : Command → Bool) (front taken : List ℕ) (old : S) (before : Outside) (new : S) (after : Outside) (status : ℕ) : Type 0 where
   Finished : (replies : List (List ℕ)) → Answers step (script_requests ends taken) old before new after replies → IsAll ends after.left taken → IsWithinLimit ends taken
       → status ≡ status_of replies → EndsAs step ends front taken old before new after status
@@ -95,7 +104,7 @@ pub data EndsAs {S : Type 0} (step : S → Request → List ℕ → S → Type 0
       → Rose before.source_faults after.source_faults → status ≡ 3 → EndsAs step ends front taken old before new after status
   SinkFailed : (asked : List Request) → IsAnswerable ends after.left taken asked → (cut : IsCutOff step asked old before new after) → IsPrompt ends front cut.replies
       → Rose before.sink_faults after.sink_faults → status ≡ 4 → EndsAs step ends front taken old before new after status
-  MemoryWanted : (asked : List Request) → IsAnswerable ends after.left taken asked → (cut : IsCutShort step asked old before new after) → IsPrompt ends front cut.replies
+  MemoryWanted : (asked : List Request) → IsAnswerable ends after.left taken asked → (cut : IsCutShort step ends (take script_limit taken) asked old before new after) → IsPrompt ends front cut.replies
       → status ≡ 5 → EndsAs step ends front taken old before new after status
   TooLong : (replies : List (List ℕ)) → Answers step (whole_requests ends (take script_limit taken)) old before new after replies → IsOverlong ends taken
       → status ≡ 6 → EndsAs step ends front taken old before new after status

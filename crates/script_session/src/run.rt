@@ -19,7 +19,7 @@ use sym_io::{Sink, Source, Store};
 /// | 1 | came to its end, and some reply begins with `error ` |
 /// | 3 | stopped where the source failed |
 /// | 4 | stopped where the sink failed |
-/// | 5 | wanted memory: some reply is `error 90 memory`, or the run itself had none and stopped |
+/// | 5 | wanted memory: it came to its end, and some reply is `error 90 memory`; or it stopped before something that it had no memory for |
 /// | 6 | stopped at a byte too many, before which no line had ended the script |
 pub fn run_script<M: Machine, R: Source, W: Sink, S: Store>(
     alloc: Global,

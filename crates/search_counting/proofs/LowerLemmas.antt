@@ -32,7 +32,7 @@ use Rattle.search_parts.specs.Points.{IsKeepable, target}
 use Rattle.search_parts.specs.Checks.{IsFrom, IsUnder, IsSplitAllowed}
 use Rattle.sound_searches.specs.Sound.{PlainSearch, formulation_of, IsSound}
 use Rattle.sound_searches.specs.Calls.{IsLeafAt}
-use Rattle.sound_searches.specs.Placing.{TakesResult, Takes, TakesPoint, search_with_leaf, split_node, tree_with_split, search_with_split, closed_data}
+use Rattle.sound_searches.specs.Placing.{TakesResult, Takes, TakesPoint, search_with_leaf, split_with_leaves, tree_with_split, search_with_split, closed_data}
 use Rattle.sound_searches.proofs.TakenLemmas.{old_closes}
 use Rattle.sound_searches.proofs.SoundLemmas.{each-weaker}
 use Rattle.sound_searches.proofs.OpenLemmas.{leaf_at}
@@ -188,7 +188,7 @@ module _ (S : PlainSearch) (sound : IsSound S) (numbered : IsNumbered S.tree) (l
 
     split : (j : ℕ) (v : ℤ) (mult : Multipliers) (basis : Basis) (left right : LeafData) → IsSplitAllowed S.model path j v → S' ≡ search_with_split S id j v mult basis left right → Lowers S S'
     split j v mult basis left right allowed is =
-        let node : Plain = split_node S.tree.last id j v mult basis left right in
+        let node : Plain = split_with_leaves S.tree.last id j v mult basis left right in
         subst (Lowers S) (sym is)
         (record {
           model = refl;

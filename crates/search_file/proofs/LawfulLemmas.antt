@@ -16,7 +16,7 @@ use Rattle.branch_tree.specs.Preorder.{DataTree, data_nodes}
 use Rattle.branch_tree.specs.declared.node.NodeData.{NodeData}
 use Rattle.branch_tree.specs.declared.node.NodeData.TheVariants.{Split as SplitNode, Leaf as LeafNode}
 use Rattle.branch_tree.proofs.PreorderLemmas.{apart}
-use Rattle.search_file.specs.Lawful.{lawful_tree, is_lawful_node, merged_node, trees_out, lawful_behind, PutsNode}
+use Rattle.search_file.specs.Lawful.{lawful_tree, is_lawful_node, merged_node, trees_out, lawful_behind, PutsLawfulNode}
 
 module _ (M : Program) where
   -- ---- one node
@@ -37,7 +37,7 @@ module _ (M : Program) where
     next = drop_more nodes i n below ∙ ap (λ m. m ∷ drop (i + 1) nodes) (sym is)
 
     -- a node that is put behind those that stay
-    pub put-next : (out : ℕ) (new : List NodeData) → kept ++ lawful_behind M 0 (drop i nodes) ≡ all → PutsNode M n kept out new → new ++ lawful_behind M out (drop (i + 1) nodes) ≡ all
+    pub put-next : (out : ℕ) (new : List NodeData) → kept ++ lawful_behind M 0 (drop i nodes) ≡ all → PutsLawfulNode M n kept out new → new ++ lawful_behind M out (drop (i + 1) nodes) ≡ all
     put-next out new h (inl (lawful, none, put)) =
         let seen : new ++ lawful_behind M out (drop (i + 1) nodes) ≡ (kept ++ n ∷ []) ++ lawful_behind M 0 (drop (i + 1) nodes) = λ k. put k ++ lawful_behind M (none k) (drop (i + 1) nodes) in
         seen
@@ -59,7 +59,7 @@ module _ (M : Program) where
   trees_out-few out (SplitNode col v mult basis) i h = omega arith
   trees_out-few out (LeafNode kept) i h = omega arith
 
-  pub put-few : (n : NodeData) (kept new : List NodeData) (out i : ℕ) → PutsNode M n kept out new → out ≤ i + 1 + 1
+  pub put-few : (n : NodeData) (kept new : List NodeData) (out i : ℕ) → PutsLawfulNode M n kept out new → out ≤ i + 1 + 1
   put-few n kept new out i (inl h) = let e = h.1 in omega arith
   put-few n kept new out i (inr h) = let e = h.1 in omega arith
 

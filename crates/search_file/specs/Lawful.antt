@@ -37,7 +37,7 @@ lawful_behind M (suc out) (Split col v mult basis ∷ nodes) = lawful_behind M (
 lawful_behind M (suc out) (Leaf kept ∷ nodes) = lawful_behind M out nodes
 
 -- the node stands last, or its open leaf does where the two trees below it go
-abbrev pub PutsNode : Program → NodeData → List NodeData → ℕ → List NodeData → Type 0
-PutsNode M n old out new =
+abbrev pub PutsLawfulNode : Program → NodeData → List NodeData → ℕ → List NodeData → Type 0
+PutsLawfulNode M n old out new =
     ((is_lawful_node M n ≡ true) × (out ≡ 0) × (new ≡ old ++ n ∷ []))
     ⊎ ((is_lawful_node M n ≡ false) × (out ≡ 2) × (new ≡ old ++ merged_node n ∷ []))

@@ -2,7 +2,7 @@
 ghost use Rattle.std.specs.Prelude.{◌≡◌, ◌+◌, ◌<◌, ◌^◌, IfOk};
 ghost use Rattle.branch_tree.specs.Plain.{open_data};
 ghost use Rattle.branch_tree.specs.declared.node.NodeData.TheVariants.{Leaf};
-ghost use Rattle.search_file.specs.Lawful.{is_lawful_node, merged_node, trees_out, lawful_behind, PutsNode};
+ghost use Rattle.search_file.specs.Lawful.{is_lawful_node, merged_node, trees_out, lawful_behind, PutsLawfulNode};
 
 use branch_tree::{LeafData, LeafState, NodeData, copy_lists};
 use lp_model::{Basis, List, Model, Mult};
@@ -105,7 +105,7 @@ fn put(
     node: &NodeData,
     kept: &mut List<NodeData>,
 ) -> Result<u128, AllocError>
-    ensures { IfOk result (λ out. PutsNode model.now node.now kept.old out kept.new) }
+    ensures { IfOk result (λ out. PutsLawfulNode model.now node.now kept.old out kept.new) }
 {
     if is_lawful(model, node) {
         let Ok(copy) = node_copy(alloc, node) else {

@@ -1,9 +1,9 @@
 -- A search stays in order as results are placed, and where it stops.
-use Rattle.std.specs.Prelude.{◌≡◌, ℕ, zero, suc, List, [], take, length, All, Option, Some, None}
+use Rattle.std.specs.Prelude.{◌≡◌, ℕ, List, [], ◌∷◌, take, length, All, Option, Some, None}
 use Rattle.std.proofs.Common.{refl, sym, subst, ◌∙◌, inl, inr}
 use Rattle.std.proofs.lemmas.List.{length-map}
 use Rattle.std.proofs.lemmas.List.Elements.{All-nil, All-take}
-use Rattle.tree_search.specs.GivingUp.{cuts_found, LeavesNext}
+use Rattle.tree_search.specs.GivingUp.{cuts_found, LeavesTurn}
 use Rattle.lp_model.specs.Formulations.{Formulation}
 use Rattle.lp_model.specs.Program.{Program, Point}
 use Rattle.lp_model.specs.Regions.{Path}
@@ -35,7 +35,8 @@ use Rattle.result_order.specs.Laws.{IsWorkedInOrder}
 use Rattle.result_order.proofs.PoolOrder.{basis-in-pool}
 use Rattle.result_order.proofs.StateOrder.{basis-order}
 use Rattle.result_order.proofs.WorkedOrder.{wide-order, worked-order}
-use Rattle.tree_search.specs.Steps.{worked_model, FoundCuts, work_next, kept_basis, WorksNext, Places, PlacesMany, KeepsOpen, PointAtNext, StopsAtNext}
+use Rattle.tree_search.specs.Steps.{worked_model, FoundCuts, work_next, kept_basis, WorksNext, Places, KeepsOpen, PointAtNext, StopsAtNext}
+use Rattle.tree_search.specs.Turns.{Order, Crew, first_crew, Turn, Hands, Placing, Drives, Goes}
 use Rattle.tree_search.specs.declared.searching.Ways.{Ways}
 use Rattle.tree_search.specs.declared.searching.Ways.TheVariants.{Own, Rays}
 use Rattle.tree_search.proofs.JobLemmas.{IsWorkedBy}
@@ -121,9 +122,14 @@ module _ (M : Program) (ways : Ways) (first : Basis) (pivots : ℕ) (by : IsWork
   by-here : (S : PlainSearch) → IsKeptInOrder M S → IsWorkedBy ways S.model
   by-here S h = subst (IsWorkedBy ways) (sym h.model) by
 
-  pub many : (n : ℕ) (old new : PlainSearch) → PlacesMany ways first pivots n old new → IsKeptInOrder M old → IsKeptInOrder M new
-  many zero old new e h = subst (IsKeptInOrder M) (sym e) h
-  many (suc n) old new (mid, (before, p)) h = let k = many n old mid before h in placed M ways first pivots mid (by-here mid k) new p k
+  -- turns, one after the other
+  many : (turns : List Turn) (a b : Crew) → Drives ways first pivots turns a b → IsKeptInOrder M a.search → IsKeptInOrder M b.search
+  many [] a b e h = subst (λ (c : Crew). IsKeptInOrder M c.search) (sym e) h
+  many (Hands ∷ turns) a b (mid, (before, p)) h = subst (IsKeptInOrder M) (sym p.search_is) (many turns a mid before h)
+  many (Placing ∷ turns) a b (mid, (before, p)) h = let k = many turns a mid before h in placed M ways first pivots mid.search (by-here mid.search k) b.search p.places k
+
+  pub went : (order : Order) (n : ℕ) (old new : PlainSearch) → Goes ways first pivots order n old new → IsKeptInOrder M old → IsKeptInOrder M new
+  went order n old new goes h = subst (IsKeptInOrder M) goes.search_is (many goes.turns (first_crew old order) goes.crew goes.drives h)
 
   pub stops : (S new : PlainSearch) (reason : StopWhy) → StopsAtNext ways first pivots S new reason → IsKeptInOrder M S → IsKeptInOrder M new
   stops S new reason p h = stops-next M ways first pivots S (by-here S h) new reason p h
@@ -145,6 +151,6 @@ module _ (M : Program) (ways : Ways) (first : Basis) (pivots : ℕ) (by : IsWork
           All-take (IsCutInOrder (length (worked_model ways S.model).rows) (length (worked_model ways S.model).cols)) n []
           (All-nil (IsCutInOrder (length (worked_model ways S.model).rows) (length (worked_model ways S.model).cols)))
 
-  pub leaves : (S new : PlainSearch) → LeavesNext ways first pivots S new → IsKeptInOrder M S → IsKeptInOrder M new
-  leaves S new (inl e) h = subst (IsKeptInOrder M) (sym e) h
-  leaves S new (inr p) h = left-found S new p.job p.worked p.works p.adds h
+  pub leaves : (crew : Crew) (S new : PlainSearch) → LeavesTurn ways first pivots crew S new → IsKeptInOrder M S → IsKeptInOrder M new
+  leaves crew S new (inl e) h = subst (IsKeptInOrder M) (sym e) h
+  leaves crew S new (inr (job, (acts, p))) h = left-found S new job p.worked p.works p.adds h

@@ -19,7 +19,8 @@ use Rattle.sound_searches.specs.Calls.{IsFresh, search_with_limit}
 use Rattle.sound_searches.specs.Sound.{PlainSearch}
 use Rattle.tree_search.specs.Beginnings.{BeginsWith}
 use Rattle.tree_search.specs.Search.{StopsFor, Ends, Finds, GivesUp}
-use Rattle.tree_search.specs.Solves.{Course, NothingOpen, StopsFirst, Searches, WantsBefore, WantsWithin, Solved, SolvesModel}
+use Rattle.tree_search.specs.Turns.{Order}
+use Rattle.tree_search.specs.Solves.{turn_order_of, Course, NothingOpen, StopsFirst, Searches, WantsBefore, WantsWithin, Solved, SolvesModel}
 use Rattle.tree_search.specs.Warm.{BesidePoint, GoesOn, Warms, Still, SomeOpen}
 use Rattle.tree_search.specs.declared.limits.Limits.{Limits}
 use Rattle.tree_search.specs.declared.searching.Ended.{Ended}
@@ -29,38 +30,38 @@ use Rattle.tree_search.specs.declared.searching.Ways.{Ways}
 use Rattle.tree_search.specs.declared.searching.Ways.TheVariants.{Own, Rays}
 use Rattle.tree_search.proofs.JobLemmas.{IsWorkedBy}
 use Rattle.search_order.specs.Laws.{SearchOrderLaw}
-use Rattle.search_order.proofs.GoneOn.{many, stops, points, leaves}
+use Rattle.search_order.proofs.GoneOn.{went, stops, points, leaves}
 
 worked-begin : (ways : Ways) (M : Program) (pivots : ℕ) (first : Basis) → BeginsWith M pivots ways first → IsWorkedBy ways M
 worked-begin Own M pivots first h = tt
 worked-begin (Rays Z) M pivots first h = h.costless
 
-module _ (M : Program) (ways : Ways) (first : Basis) (nodes pivots : ℕ) (by : IsWorkedBy ways M) (old new : PlainSearch) (h : IsKeptInOrder M old) where
-  stops-for : (n : ℕ) (reason : StopWhy) → StopsFor ways first nodes pivots n old new reason → IsKeptInOrder M new
-  stops-for n why.Nodes p = many M ways first pivots by n old new p.goes.placed h
-  stops-for n why.Tree p = stops M ways first pivots by p.mid new why.Tree p.here (many M ways first pivots by n old p.mid p.goes.placed h)
-  stops-for n (why.Pivots place) p = stops M ways first pivots by p.mid new (why.Pivots place) p.here (many M ways first pivots by n old p.mid p.goes.placed h)
-  stops-for n (why.Wide at) p = stops M ways first pivots by p.mid new (why.Wide at) p.here (many M ways first pivots by n old p.mid p.goes.placed h)
+module _ (M : Program) (ways : Ways) (first : Basis) (order : Order) (nodes pivots : ℕ) (by : IsWorkedBy ways M) (old new : PlainSearch) (h : IsKeptInOrder M old) where
+  stops-for : (n : ℕ) (reason : StopWhy) → StopsFor ways first order nodes pivots n old new reason → IsKeptInOrder M new
+  stops-for n why.Nodes p = went M ways first pivots by order n old new p.goes h
+  stops-for n why.Tree p = stops M ways first pivots by p.mid new why.Tree p.here (went M ways first pivots by order n old p.mid p.goes h)
+  stops-for n (why.Pivots place) p = stops M ways first pivots by p.mid new (why.Pivots place) p.here (went M ways first pivots by order n old p.mid p.goes h)
+  stops-for n (why.Wide at) p = stops M ways first pivots by p.mid new (why.Wide at) p.here (went M ways first pivots by order n old p.mid p.goes h)
 
-  ends : (n : ℕ) (ended : Ended) → Ends ways first nodes pivots n old new ended → IsKeptInOrder M new
-  ends n Finished p = many M ways first pivots by n old new p.goes.placed h
-  ends n Unbounded p = points M ways first pivots by p.after.mid new p.after.here (many M ways first pivots by p.before old p.after.mid p.after.goes.placed h)
+  ends : (n : ℕ) (ended : Ended) → Ends ways first order nodes pivots n old new ended → IsKeptInOrder M new
+  ends n Finished p = went M ways first pivots by order n old new p.goes h
+  ends n Unbounded p = points M ways first pivots by p.after.mid new p.after.here (went M ways first pivots by order p.before old p.after.mid p.after.goes h)
   ends n (Stopped reason) p = stops-for n reason p
 
-  finds : (searched : Searched) → Finds ways first nodes pivots old new searched → IsKeptInOrder M new
-  finds searched f = ends searched.placed searched.ended f.ends
+  finds : (searched : Searched) → Finds ways first order nodes pivots old new searched → IsKeptInOrder M new
+  finds searched f = ends searched.results searched.ended f.ends
 
-  gives : GivesUp ways first nodes pivots old new → IsKeptInOrder M new
-  gives g = leaves M ways first pivots by g.mid new g.adds (many M ways first pivots by g.placed old g.mid g.goes.placed h)
+  gives : GivesUp ways first order nodes pivots old new → IsKeptInOrder M new
+  gives g = leaves M ways first pivots by g.goes.crew g.mid new g.adds (went M ways first pivots by order g.results old g.mid g.goes h)
 
 -- ---- a course
 
 course : (M : Program) (l : Limits) (begun : PlainSearch) (answer : Answer) (S : PlainSearch) → Course M l begun answer S → IsKeptInOrder M begun → IsInOrder S
 course M l begun answer S (NothingOpen closed e a) h = subst IsInOrder (sym e) h.order
 course M l begun answer S (StopsFirst some reason before e a) h = subst IsInOrder (sym e) h.order
-course M l begun answer S (Searches some ways first begins searched f a) h = (finds M ways first l.nodes l.pivots (worked-begin ways M l.pivots first begins) begun S h searched f).order
+course M l begun answer S (Searches some ways first begins searched f a) h = (finds M ways first (turn_order_of l) l.nodes l.pivots (worked-begin ways M l.pivots first begins) begun S h searched f).order
 course M l begun answer S (WantsBefore e a) h = subst IsInOrder (sym e) h.order
-course M l begun answer S (WantsWithin ways first begins g a) h = (gives M ways first l.nodes l.pivots (worked-begin ways M l.pivots first begins) begun S h g).order
+course M l begun answer S (WantsWithin ways first begins g a) h = (gives M ways first (turn_order_of l) l.nodes l.pivots (worked-begin ways M l.pivots first begins) begun S h g).order
 
 -- the leaf of a fresh search has an id of its own
 fresh-own : (M : Program) (limit : ℕ) (S : PlainSearch) → IsFresh M limit S → HasOwnLeaves S.tree
@@ -85,10 +86,10 @@ kept-of S numbered h = record { order = h; own = own-leaves S.tree numbered; mod
 
 pub search-order : SearchOrderLaw
 search-order = record {
-  finds = λ ways first nodes pivots old new searched begins f numbered h.
-      (finds old.model ways first nodes pivots (worked-begin ways old.model pivots first begins) old new (kept-of old numbered h) searched f).order;
-  gives = λ ways first nodes pivots old new begins g numbered h.
-      (gives old.model ways first nodes pivots (worked-begin ways old.model pivots first begins) old new (kept-of old numbered h) g).order;
+  finds = λ ways first order nodes pivots old new searched begins f numbered h.
+      (finds old.model ways first order nodes pivots (worked-begin ways old.model pivots first begins) old new (kept-of old numbered h) searched f).order;
+  gives = λ ways first order nodes pivots old new begins g numbered h.
+      (gives old.model ways first order nodes pivots (worked-begin ways old.model pivots first begins) old new (kept-of old numbered h) g).order;
   solves = λ M l old answer new s few h. solves-order M l old answer new s few h;
   warms = λ l old answer new w few numbered h.
       let own : HasOwnLeaves old.tree = own-leaves old.tree numbered in

@@ -4,6 +4,7 @@ use Rattle.std.specs.Prelude.{◌*◌, ◌-◌, max, OnOk, OnErr, IfOk, IfSome, 
 use Rattle.std.specs.Option.{option_map}
 use Rattle.frac128.specs.Range.{Fits}
 use Rattle.sym_io.specs.Files.{Files}
+use Rattle.command_words.specs.declared.options.SearchOptions.{SearchOptions}
 use Rattle.lp_model.specs.Lawful.{IsLawful}
 use Rattle.lp_model.specs.Program.{Program, Point, IsOptimum, value}
 use Rattle.lp_model.specs.declared.answers.StopWhy.TheVariants.{Nodes, Tree, Pivots, Wide}
@@ -39,7 +40,8 @@ use Rattle.command_family.specs.State.{shell_state, HasScriptModel, HasOrder}
 use Rattle.command_family.proofs.ReplyLemmas.{on_ok_if, always}
 use Rattle.search_replies.specs.Answering.{IsAnswerOf, IsTellable, search_text}
 use Rattle.search_replies.specs.Showing.{Finding, ShowsNoEndBy, AnswersBy, Optimum, Emptiness, NoEnd, NodeStop, TreeStop, PivotStop, WideStop, Wanting}
-use Rattle.search_replies.specs.Solve.{limits_of, IsSolved, HasFewNodes, AnswersSolve, RepliesToSolve, SolveStep}
+use Rattle.search_replies.specs.Workers.{Staffed}
+use Rattle.search_replies.specs.Solve.{limits_of, IsSolvedEnv, HasFewNodes, AnswersSolve, RepliesToSolve, SolveStep}
 use Rattle.search_replies.specs.Warming.{IsWarmed, WentOn, TellsAgain, TellsNoEnd, AnswersWarm, RepliesToWarm, WarmStep}
 
 -- ---- whatever search was had
@@ -61,7 +63,7 @@ no-end : (Found : Finding) (M : Program) (l : Limits) (n : ℕ) (new : PlainEnv)
 no-end Found M l n new T None unbounded count solved has is = absurd (has tt)
 no-end Found M l n new T (Some d) unbounded count solved has is = record {
   unbounded = unbounded;
-  placed = n;
+  results = n;
   direction = d;
   is_ray = is_ray M l.pivots d has;
   found = has;
@@ -81,7 +83,7 @@ module _ (Found : Finding) (Left : PlainSearch → Type 0) (Enough Small : Type 
       Optimum (record {
         optimum = subst (λ y. IsOptimum M y) (sym back) is.0.0;
         worth = value-shown M x n room.1.1 shape plain lawful.columns_distinct room.1.0 fits ∙ ap (λ y. Some (value M 1 y)) (sym back);
-        placed = n;
+        results = n;
         told = record {
           search = s.search;
           solved = subst (λ y. Found (Optimal (value M 1 y) y n) s.search) (sym back) (subst (λ w. Found (Optimal w x n) s.search) worth found);
@@ -93,7 +95,7 @@ module _ (Found : Finding) (Left : PlainSearch → Type 0) (Enough Small : Type 
       })
   answers (Infeasible n) new room is complete s = Emptiness (record {
     empty = is.0;
-    placed = n;
+    results = n;
     told = record { search = s.search; solved = s.found (λ e. cc); env_is = s.env_is; shown = refl };
     count = is.1;
   })
@@ -116,7 +118,7 @@ module _ (Found : Finding) (Left : PlainSearch → Type 0) (Enough Small : Type 
         short = complete;
       })
   answers (Stopped Tree n bound best) new room is complete s = TreeStop (record {
-    placed = n;
+    results = n;
     stop = record {
       bound = bound;
       best = best;
@@ -130,7 +132,7 @@ module _ (Found : Finding) (Left : PlainSearch → Type 0) (Enough Small : Type 
     small = is.1.1.1;
   })
   answers (Stopped (Pivots place) n bound best) new room is complete s = PivotStop (record {
-    placed = n;
+    results = n;
     place = place;
     stop = record {
       bound = bound;
@@ -144,7 +146,7 @@ module _ (Found : Finding) (Left : PlainSearch → Type 0) (Enough Small : Type 
     within_limit = is.1.0;
   })
   answers (Stopped (Wide at_) n bound best) new room is complete s = WideStop (record {
-    placed = n;
+    results = n;
     place = at_;
     stop = record {
       bound = bound;
@@ -246,16 +248,16 @@ telling : {E : Type 0} (text : List ℕ) (Q : List ℕ → Type 0) → Q text �
 telling text Q shown written before after empty is = on_ok_if written (λ e. subst Q (sym (e ∙ ap (λ t. t ++ text) empty)) shown) is
 
 -- the clauses of the call that solved, and of the one that went on
-pub is-solved : (nodes pivots : ℕ) (l : Limits) → l ≡ limits_of nodes pivots → (old new : PlainEnv) (r : Result Answer EnvFault) → WorksEnv (SolvesFrom l) (HasRayFrom l) old.search old r new
-    → IfOk r (λ a. IfSome old.search (λ S. IsTrueAnswer S.model l a)) → IfOk r (λ a. IfSome old.search (λ S. IsEnough S.model (pool_in new.search) l → HasEnded a)) → IsSolved (limits_of nodes pivots) old r new
-is-solved nodes pivots l is old new r solves holds complete = subst (λ k. IsSolved k old r new) is (record { solves = solves; true_answer = holds; complete = complete })
+pub is-solved : (options : SearchOptions) (l : Limits) → l ≡ limits_of options → (old new : PlainEnv) (r : Result Answer EnvFault) → WorksEnv (SolvesFrom l) (HasRayFrom l) old.search old r new
+    → IfOk r (λ a. IfSome old.search (λ S. IsTrueAnswer S.model l a)) → IfOk r (λ a. IfSome old.search (λ S. IsEnough S.model (pool_in new.search) l → HasEnded a)) → IsSolvedEnv (limits_of options) old r new
+is-solved options l is old new r solves holds complete = subst (λ k. IsSolvedEnv k old r new) is (record { solves = solves; true_answer = holds; complete = complete })
 
-pub is-warmed : (nodes pivots : ℕ) (l : Limits) → l ≡ limits_of nodes pivots → (old new : PlainEnv) (r : Result Answer EnvFault) → WorksEnv (WarmsFrom l) (HasRayFrom l) old.search old r new
-    → IfOk r (λ a. IfSome old.search (λ S. IsTrueOfKept S l a)) → IfOk r (λ a. IfSome old.search (λ S. IsKeptEnough S (pool_in new.search) l → HasEnded a)) → IsWarmed (limits_of nodes pivots) old r new
-is-warmed nodes pivots l is old new r warms holds complete = subst (λ k. IsWarmed k old r new) is (record { warms = warms; true_answer = holds; complete = complete })
+pub is-warmed : (options : SearchOptions) (l : Limits) → l ≡ limits_of options → (old new : PlainEnv) (r : Result Answer EnvFault) → WorksEnv (WarmsFrom l) (HasRayFrom l) old.search old r new
+    → IfOk r (λ a. IfSome old.search (λ S. IsTrueOfKept S l a)) → IfOk r (λ a. IfSome old.search (λ S. IsKeptEnough S (pool_in new.search) l → HasEnded a)) → IsWarmed (limits_of options) old r new
+is-warmed options l is old new r warms holds complete = subst (λ k. IsWarmed k old r new) is (record { warms = warms; true_answer = holds; complete = complete })
 
 -- what was answered is of the model that is there
-module _ (l : Limits) (old new : PlainEnv) (r : Result Answer EnvFault) (solved : IsSolved l old r new) where
+module _ (l : Limits) (old new : PlainEnv) (r : Result Answer EnvFault) (solved : IsSolvedEnv l old r new) where
   pub solved-shaped : IsAnswerOf r (model_of new)
   solved-shaped = by r old.search solved.solves solved.true_answer
     where
@@ -275,10 +277,10 @@ module _ (l : Limits) (old new : PlainEnv) (r : Result Answer EnvFault) (warmed 
       by (Ok answer) (Some S) h t =
           subst (IsAnswerOf (Ok answer)) (sym (has-model (WentOn S l) (WentOn S l Memory) S.model l answer new (warms-has l S answer new h))) (true-shaped (IsTooSmall S l) S.model l answer t)
 
-pub few-nodes : (nodes pivots : ℕ) → (limits_of nodes pivots).tree ≤ 2 ^ 63
-few-nodes nodes pivots = omega arith
+pub few-nodes : (options : SearchOptions) → (limits_of options).tree ≤ 2 ^ 63
+few-nodes options = omega arith
 
-module _ (l : Limits) (few : l.tree ≤ 2 ^ 63) (old new : PlainEnv) (r : Result Answer EnvFault) (solved : IsSolved l old r new) (script : HasScriptModel old) where
+module _ (l : Limits) (few : l.tree ≤ 2 ^ 63) (old new : PlainEnv) (r : Result Answer EnvFault) (solved : IsSolvedEnv l old r new) (script : HasScriptModel old) where
   shows : (answer : Answer) (M : Program) → r ≡ Ok answer → model_of new ≡ Some M → IsLawful M → AnswerHasRoom answer → RepliesToSolve old old.search l (answer_text M answer) new
   shows answer M ok present lawful room =
       by old.search refl (subst (λ o. WorksEnv (SolvesFrom l) (HasRayFrom l) old.search old o new) ok solved.solves) (subst (λ o. IfOk o (λ a. IfSome old.search (λ S. IsTrueAnswer S.model l a))) ok solved.true_answer)
@@ -379,16 +381,16 @@ module _ (l : Limits) (old new : PlainEnv) (r : Result Answer EnvFault) (warmed 
 
 -- ---- the files stay
 
-pub solve-step : (old new : PlainEnv) (files : Option Files) (faults : ℕ) (l : Limits) (reply : List ℕ) → RepliesToSolve old old.search l reply new → SolveStep (shell_state old files faults) l reply (shell_state new files faults)
-solve-step old new files faults l reply solves = record { files = refl; faults = refl; answer = solves }
+pub solve-step : (old new : PlainEnv) (files : Option Files) (faults : ℕ) (options : SearchOptions) (reply : List ℕ) → Staffed options.workers (RepliesToSolve old old.search (limits_of options) reply new) old reply new → SolveStep (shell_state old files faults) options reply (shell_state new files faults)
+solve-step old new files faults options reply solves = record { files = refl; faults = refl; answer = solves }
 
-pub warm-step : (old new : PlainEnv) (files : Option Files) (faults : ℕ) (l : Limits) (reply : List ℕ) → RepliesToWarm old old.search l reply new → WarmStep (shell_state old files faults) l reply (shell_state new files faults)
-warm-step old new files faults l reply warms = record { files = refl; faults = refl; answer = warms }
+pub warm-step : (old new : PlainEnv) (files : Option Files) (faults : ℕ) (options : SearchOptions) (reply : List ℕ) → Staffed options.workers (RepliesToWarm old old.search (limits_of options) reply new) old reply new → WarmStep (shell_state old files faults) options reply (shell_state new files faults)
+warm-step old new files faults options reply warms = record { files = refl; faults = refl; answer = warms }
 
 -- ---- the lists of the search stay in order
 
 module _ (l : Limits) (few : l.tree ≤ node_limit) (old new : PlainEnv) (r : Result Answer EnvFault) (order : HasOrder old) where
-  pub solve-order : IsSolved l old r new → HasOrder new
+  pub solve-order : IsSolvedEnv l old r new → HasOrder new
   solve-order solved = by r old.search refl solved.solves
     where
       by : (o : Result Answer EnvFault) (search : Option PlainSearch) → old.search ≡ search → WorksEnv (SolvesFrom l) (HasRayFrom l) search old o new → HasOrder new

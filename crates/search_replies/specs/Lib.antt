@@ -1,5 +1,6 @@
 pub mod Answering
 pub mod Showing
+pub mod Workers
 pub mod Solve
 pub mod Warming
 pub mod Family

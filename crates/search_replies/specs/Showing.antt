@@ -44,37 +44,37 @@ pub record TellsBy (Found : Finding) (M : Program) (answer : Answer) (held : Hel
 pub record ShowsOptimumBy (Found : Finding) (M : Program) (l : Limits) (reply : List ℕ) (env : PlainEnv) : Type 0 where
   pub optimum : IsOptimum M (point_shown M reply)
   pub worth : value_shown reply ≡ Some (value M 1 (point_shown M reply))
-  pub placed : ℕ
-  pub told : TellsBy Found M (Optimal (value M 1 (point_shown M reply)) (point_shown M reply) placed) Finished reply env
+  pub results : ℕ
+  pub told : TellsBy Found M (Optimal (value M 1 (point_shown M reply)) (point_shown M reply) results) Finished reply env
   pub oldest : IsIncumbent M told.search.points (Some (point_shown M reply))
-  pub count : IsCount M l placed
+  pub count : IsCount M l results
 
 -- the reply says truly that no point is feasible, and the search is held
 pub record ShowsEmptinessBy (Found : Finding) (M : Program) (l : Limits) (reply : List ℕ) (env : PlainEnv) : Type 0 where
   pub empty : IsEmpty M
-  pub placed : ℕ
-  pub told : TellsBy Found M (Infeasible placed) Finished reply env
-  pub count : IsCount M l placed
+  pub results : ℕ
+  pub told : TellsBy Found M (Infeasible results) Finished reply env
+  pub count : IsCount M l results
 
 -- the reply says truly that the objective has no end; a ray that the ray phase found is held beside the search, which keeps a point
 pub record ShowsNoEndBy (Found : Finding) (M : Program) (l : Limits) (reply : List ℕ) (env : PlainEnv) : Type 0 where
   pub unbounded : IsUnbounded M
-  pub placed : ℕ
+  pub results : ℕ
   pub direction : Point
   pub is_ray : IsRay M direction
   pub found : IsRayAnswer M l.pivots (phase.Ray direction)
-  pub told : TellsBy Found M (Unbounded placed) (holding.Unbounded direction) reply env
-  pub count : IsCount M l placed
+  pub told : TellsBy Found M (Unbounded results) (holding.Unbounded direction) reply env
+  pub count : IsCount M l results
 
 -- The search stopped for this cause after so many results, not having enough to go to the end. No feasible point is better than the
 -- bound that is told, and some feasible point has the best value.
-pub record ShowsStopBy (Found : Finding) (Enough : Type 0) (M : Program) (l : Limits) (why : StopWhy) (placed : ℕ) (reply : List ℕ) (env : PlainEnv) : Type 0 where
+pub record ShowsStopBy (Found : Finding) (Enough : Type 0) (M : Program) (l : Limits) (why : StopWhy) (results : ℕ) (reply : List ℕ) (env : PlainEnv) : Type 0 where
   pub bound : Option ℚ
   pub best : Option ℚ
   pub holds : IsBound M bound
   pub found : IsFoundValue M best
-  pub told : TellsBy Found M (Stopped why placed bound best) Nothing reply env
-  pub below_cap : placed < cap_of M
+  pub told : TellsBy Found M (Stopped why results bound best) Nothing reply env
+  pub below_cap : results < cap_of M
   pub short : ¬ Enough
 
 -- all results that the limit allows were placed
@@ -83,24 +83,24 @@ ShowsNodeStopBy Found Enough M l reply env = ShowsStopBy Found Enough M l Nodes 
 
 -- a leaf is to be split, the tree having no room for two more nodes, as it may have where it is too small
 pub record ShowsTreeStopBy (Found : Finding) (Enough Small : Type 0) (M : Program) (l : Limits) (reply : List ℕ) (env : PlainEnv) : Type 0 where
-  pub placed : ℕ
-  pub stop : ShowsStopBy Found Enough M l Tree placed reply env
-  pub within_limit : placed < l.nodes
+  pub results : ℕ
+  pub stop : ShowsStopBy Found Enough M l Tree results reply env
+  pub within_limit : results < l.nodes
   pub small : Small
 
 -- the relaxation that is told was not solved by as many moves as the limit allows
 pub record ShowsPivotStopBy (Found : Finding) (Enough : Type 0) (M : Program) (l : Limits) (reply : List ℕ) (env : PlainEnv) : Type 0 where
-  pub placed : ℕ
+  pub results : ℕ
   pub place : PivotPlace
-  pub stop : ShowsStopBy Found Enough M l (Pivots place) placed reply env
-  pub within_limit : placed ≤ l.nodes
+  pub stop : ShowsStopBy Found Enough M l (Pivots place) results reply env
+  pub within_limit : results ≤ l.nodes
 
 -- the step that is told has no room at the basis that is told
 pub record ShowsWideStopBy (Found : Finding) (Enough : Type 0) (M : Program) (l : Limits) (reply : List ℕ) (env : PlainEnv) : Type 0 where
-  pub placed : ℕ
+  pub results : ℕ
   pub place : WideAt
-  pub stop : ShowsStopBy Found Enough M l (Wide place) placed reply env
-  pub within_limit : placed ≤ l.nodes
+  pub stop : ShowsStopBy Found Enough M l (Wide place) results reply env
+  pub within_limit : results ≤ l.nodes
 
 -- there was no memory: no answer is held
 pub record WantsBy (Left : PlainSearch → Type 0) (reply : List ℕ) (env : PlainEnv) : Type 0 where

@@ -1,5 +1,6 @@
 -- What `solve` may answer of the model that is loaded.
 use Rattle.std.specs.Prelude.{◌≡◌, ◌⊎◌, ◌<◌, ℕ, List, Option, Some, None, Result, IfOk, IfSome}
+use Rattle.command_words.specs.declared.options.SearchOptions.{SearchOptions}
 use Rattle.lp_model.specs.Program.{Program}
 use Rattle.lp_model.specs.declared.answers.Answer.{Answer}
 use Rattle.lp_model.specs.declared.answers.Answer.TheVariants.{Memory}
@@ -16,13 +17,15 @@ use Rattle.kept_env.specs.Worked.{WorksEnv}
 use Rattle.reply_texts.specs.Texts.{no_model_text, memory_text}
 use Rattle.command_family.specs.State.{ShellState}
 use Rattle.search_replies.specs.Showing.{AnswersBy, ShowsOptimumBy}
+use Rattle.search_replies.specs.Workers.{Staffed}
 
-abbrev pub limits_of : ℕ → ℕ → Limits
-limits_of nodes pivots = record { nodes = nodes; pivots = pivots; tree = node_limit }
+-- how far a search goes with these options
+abbrev pub limits_of : SearchOptions → Limits
+limits_of options = record { nodes = options.nodes; pivots = options.pivots; tree = node_limit; workers = options.workers; seed = options.seed }
 
 -- What is known where the model of an environment was solved: the search that the new one has, how it was had, and what of it is held; that
 -- the answer is true of the model; and that it is the end, where there was enough of all.
-pub record IsSolved (l : Limits) (old : PlainEnv) (result : Result Answer EnvFault) (new : PlainEnv) : Type 0 where
+pub record IsSolvedEnv (l : Limits) (old : PlainEnv) (result : Result Answer EnvFault) (new : PlainEnv) : Type 0 where
   pub solves : WorksEnv (SolvesFrom l) (HasRayFrom l) old.search old result new
   pub true_answer : IfOk result (λ answer. IfSome old.search (λ S. IsTrueAnswer S.model l answer))
   pub complete : IfOk result (λ answer. IfSome old.search (λ S. IsEnough S.model (pool_in new.search) l → HasEnded answer))
@@ -45,7 +48,7 @@ RepliesToSolve old None l reply env = ((reply ≡ no_model_text) ⊎ (reply ≡ 
 RepliesToSolve old (Some S) l reply env = AnswersSolve S l reply env
 
 -- the files stay
-pub record SolveStep (old : ShellState) (l : Limits) (reply : List ℕ) (new : ShellState) : Type 0 where
+pub record SolveStep (old : ShellState) (options : SearchOptions) (reply : List ℕ) (new : ShellState) : Type 0 where
   pub files : new.files ≡ old.files
   pub faults : new.faults ≡ old.faults
-  pub answer : RepliesToSolve old.env old.env.search l reply new.env
+  pub answer : Staffed options.workers (RepliesToSolve old.env old.env.search (limits_of options) reply new.env) old.env reply new.env

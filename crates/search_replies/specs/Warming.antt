@@ -1,5 +1,6 @@
 -- What `warm` may answer of the search that is kept.
 use Rattle.std.specs.Prelude.{◌≡◌, ◌⊎◌, ◌<◌, ℕ, List, length, Option, Some, None, Result, IfOk, IfSome}
+use Rattle.command_words.specs.declared.options.SearchOptions.{SearchOptions}
 use Rattle.lp_model.specs.declared.answers.Answer.{Answer}
 use Rattle.lp_model.specs.declared.answers.Answer.TheVariants.{Memory}
 use Rattle.ray_phase.specs.Beginnings.{FindsRay}
@@ -18,6 +19,8 @@ use Rattle.kept_env.specs.Worked.{WorksEnv}
 use Rattle.reply_texts.specs.Texts.{answer_text, unbounded_text, no_model_text, memory_text}
 use Rattle.command_family.specs.State.{ShellState}
 use Rattle.search_replies.specs.Showing.{AnswersBy}
+use Rattle.search_replies.specs.Workers.{Staffed}
+use Rattle.search_replies.specs.Solve.{limits_of}
 
 -- the search went on from S: open leaves became trees, and every other node stays
 pub record WentOn (S : PlainSearch) (l : Limits) (answer : Answer) (T : PlainSearch) : Type 0 where
@@ -49,7 +52,7 @@ RepliesToWarm old None l reply env = ((reply ≡ no_model_text) ⊎ (reply ≡ m
 RepliesToWarm old (Some S) l reply env = AnswersWarm S l reply env × (TellsAgain S reply × TellsNoEnd S l reply)
 
 -- the files stay
-pub record WarmStep (old : ShellState) (l : Limits) (reply : List ℕ) (new : ShellState) : Type 0 where
+pub record WarmStep (old : ShellState) (options : SearchOptions) (reply : List ℕ) (new : ShellState) : Type 0 where
   pub files : new.files ≡ old.files
   pub faults : new.faults ≡ old.faults
-  pub answer : RepliesToWarm old.env old.env.search l reply new.env
+  pub answer : Staffed options.workers (RepliesToWarm old.env old.env.search (limits_of options) reply new.env) old.env reply new.env

@@ -1,4 +1,4 @@
-//! What `solve [nodes N] [pivots N]` and `warm` with the same options are answered.
+//! What `solve [nodes N] [pivots N] [workers K seed S]` and `warm` with the same options are answered.
 //!
 //! ```text
 //! solve      Solved M l answer T        a fresh search of M, which went no further than l, became T, and this was found
@@ -17,6 +17,8 @@
 //! stopped WHY ..     no feasible point is better than the bound, some feasible point has the best value, and it lacked something
 //! ```
 //!
+//! More than 64 workers are refused (`error 08 limit 64`), and nothing changes; what an answer shows is the same for every number of them.
+//!
 //! What each command may be answered, and what a reply of each kind says for sure, is the family `searches` (specs/Family). It is
 //! lawful (`searches_law`), and a search with enough of all ends with one of the first three, or for want of memory (`complete_law`).
 //!
@@ -30,6 +32,6 @@ mod answering;
 mod laws;
 mod limits;
 
-pub use answering::{tell_solved, tell_warmed};
+pub use answering::{tell_crowd, tell_solved, tell_warmed};
 pub use laws::{complete_law, searches_law};
-pub use limits::limits_of;
+pub use limits::{WORKER_LIMIT, limits_of};

@@ -8,7 +8,7 @@ use Rattle.frac_text.proofs.PrintedReads.{reading_of-printed}
 use Rattle.text_lines.specs.Words.{IsWord}
 use Rattle.reply_texts.specs.Texts.{bound_text}
 use Rattle.shell_replies.specs.Bounds.{ShowsNumber}
-use Rattle.shell_replies.specs.Shown.{number_in, number_in_word, lines_shown, value_shown}
+use Rattle.shell_replies.specs.Shown.{stated_number, number_in_word, lines_shown, value_shown}
 use Rattle.shell_replies.proofs.ShownWords.{printed-plain, tested-plain, words_of-name, words_of-more, joined-one_line, lines_shown-more}
 
 name_bound : IsWord (codes "bound")
@@ -21,7 +21,7 @@ bound-shown w fits =
     ap (number_in_word 1)
     (lines_shown-more (codes "bound" ++ (32 ∷ printed w)) [] (joined-one_line (codes "bound") (printed w) name_bound number.one_line)
     ∙ ap (λ words. words ∷ lines_shown []) (words_of-more (codes "bound") (printed w) name_bound ∙ ap (λ words. codes "bound" ∷ words) (words_of-name (printed w) number)))
-    ∙ ap number_in (reading_of-printed w fits)
+    ∙ ap stated_number (reading_of-printed w fits)
 
 pub shows-number : (w : ℚ) (before after : List ℕ) → Fits w → before ≡ [] → after ≡ before ++ bound_text (Some w) → ShowsNumber w after
 shows-number w before after fits empty is =

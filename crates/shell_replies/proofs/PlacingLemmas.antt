@@ -1,5 +1,5 @@
 -- The names of a line as places: one name further, names that differ have places which differ, and the sides of their rows.
-use Rattle.std.proofs.Common.{◌≡◌, ◌≢◌, ℕ, suc, ◌+◌, ◌≤◌, ◌<◌, Bool, true, false, List, [], ◌∷◌, ◌++◌, length, get_or, map, take, refl, sym, ap, ap₂, subst, ◌∙◌, arith, inl, inr, if◌then◌else◌, Option, Some, None, Result, Ok, Err}
+use Rattle.std.proofs.Common.{◌≡◌, ◌≢◌, ℕ, suc, ◌+◌, ◌≤◌, ◌<◌, Bool, true, false, List, [], ◌∷◌, ◌++◌, length, get_or, map, take, refl, sym, ap, ap₂, subst, ◌∙◌, arith, inl, inr, if◌then◌else◌, Option, Some, None, Ok, Err}
 use Rattle.std.specs.Prelude.{All, AllPairs, Contains, bytes_eq}
 use Rattle.std.proofs.lemmas.List.{get_or_default, length-map, map_more, take-map, take_all}
 use Rattle.std.proofs.lemmas.List.Elements.{All-nil, All-cons, All-head, All-tail, All-map, All-more, All-weaker}
@@ -15,12 +15,13 @@ use Rattle.lp_model.proofs.ElementLemmas.{element, of_element-get}
 use Rattle.lp_model.specs.Elements.{of_element}
 use Rattle.lp_model.proofs.NameLemmas.{get_or-map, same, not_same, contains_cases}
 use Rattle.model_edits.specs.Faults.{IsFirstUnknown}
-use Rattle.dual_bounds.specs.NewNumbers.{HasEqualSides, AreNamedOnce, AreNewSides, AreNewCosts}
+use Rattle.dual_bounds.specs.NewNumbers.{HasEqualSides, AreNamedOnce, AreNewSides, AreNewCosts, AreNewNumbers}
+use Rattle.dual_bounds.specs.declared.new_numbers.OtherNumbers.TheVariants as other
 use Rattle.command_words.specs.declared.words.NewNumbers.{NewNumbers}
 use Rattle.command_words.specs.declared.words.NewNumbers.TheVariants.{Sides, Costs}
 use Rattle.edit_words.specs.EditWords.{names_in}
-use Rattle.shell_replies.specs.Names.{placed_in, row_id_at, col_id_at, placed_rows, placed_cols, AreThere, HasOneNumber, HaveOneNumber, IsFirstTwoSided}
-use Rattle.shell_replies.specs.Placing.{name_at, HasOneNumberAt, IsPlacedIn, IsFirstTwoSidedAt, IsUnplaced, ArePlacedSides, ArePlacedCosts}
+use Rattle.shell_replies.specs.Names.{placed_in, row_id_at, col_id_at, placed_rows, placed_cols, placed_numbers, AreThere, HasOneNumber, HaveOneNumber, IsFirstTwoSided}
+use Rattle.shell_replies.specs.Placing.{name_at, HasOneNumberAt, IsPlacedIn, IsFirstTwoSidedAt, IsUnplaced, AreNumbersPlaced}
 use Rattle.shell_replies.specs.declared.placing.Unplaced.{Unplaced}
 use Rattle.shell_replies.specs.declared.placing.Unplaced.TheVariants as unplaced
 
@@ -151,7 +152,7 @@ first-two-sided M named k below before differ =
 
 -- ---- what the bounds ask of the numbers
 
-pub new-sides : (M : Program) (named : Named) → AllPairs (λ a b. a ≢ b) (names_in named) → AreThere Sides M named → HaveOneNumber Sides M named → AreNewSides M (placed_rows M named)
+new-sides : (M : Program) (named : Named) → AllPairs (λ a b. a ≢ b) (names_in named) → AreThere Sides M named → HaveOneNumber Sides M named → AreNewSides M (placed_rows M named)
 new-sides M named apart there one =
     let names : List (List ℕ) = only_row_names M in
     let few : length names ≡ length M.rows = length-map M.rows (λ (r : Row). r.name) in
@@ -161,12 +162,16 @@ new-sides M named apart there one =
       equal = All-map (λ (e : RowId × ℚ). HasEqualSides (low_side M e.0.0) (high_side M e.0.0)) (row_entry M) named (unmapped (HasOneNumber M) (λ (e : Entry). e.0) named one);
     }
 
-pub new-costs : (M : Program) (named : Named) → AllPairs (λ a b. a ≢ b) (names_in named) → AreThere Costs M named → AreNewCosts M (placed_cols M named)
+new-costs : (M : Program) (named : Named) → AllPairs (λ a b. a ≢ b) (names_in named) → AreThere Costs M named → AreNewCosts M (placed_cols M named)
 new-costs M named apart there =
     let names : List (List ℕ) = column_names M in
     let few : length names ≡ length M.cols = length-map M.cols (λ (c : Col). c.name) in
     let once = subst (AreNamedOnce (length names)) (places_of col_id_at (λ (c : ColId). c.0) (λ k. refl) names named) (named_once names (names_in named) there apart) in
     subst (λ n. AreNamedOnce n (map (λ (e : ColId × ℚ). e.0.0) (placed_cols M named))) few once
+
+pub new-numbers : (numbers : NewNumbers) (M : Program) (named : Named) → AllPairs (λ a b. a ≢ b) (names_in named) → AreThere numbers M named → HaveOneNumber numbers M named → AreNewNumbers M (placed_numbers numbers M named)
+new-numbers Sides M named apart there one = new-sides M named apart there one
+new-numbers Costs M named apart there one = new-costs M named apart there
 
 -- ---- rows, one further
 
@@ -201,14 +206,19 @@ one-all rows sides i past all = subst (All (HasOneNumberAt rows)) (take_all i si
 
 -- ---- what the calls answer
 
-pub are-placed_costs : (M : Program) (cols : List Col) (named : Named) (r : Result (List (ColId × ℚ)) Unplaced) → cols ≡ M.cols → IsPlacedIn col_id_at (map (λ (c : Col). c.name) cols) named r → ArePlacedCosts M named r
-are-placed_costs M cols named r same h = by r (subst (λ (cs : List Col). IsPlacedIn col_id_at (map (λ (c : Col). c.name) cs) named r) same h)
+pub all-placed_costs : (M : Program) (cols : List Col) (named : Named) (costs : List (ColId × ℚ)) → cols ≡ M.cols → IsPlacedIn col_id_at (map (λ (c : Col). c.name) cols) named (Ok costs) → AreNumbersPlaced Costs M named (Ok (other.Costs costs))
+all-placed_costs M cols named costs same h =
+    let own : IsPlacedIn col_id_at (column_names M) named (Ok costs) = subst (λ (cs : List Col). IsPlacedIn col_id_at (map (λ (c : Col). c.name) cs) named (Ok costs)) same h in
+    (own.0, tt, ap other.Costs own.1)
+
+-- names that are no columns
+pub unplaced-columns : (M : Program) (cols : List Col) (named : Named) (u : Unplaced) → cols ≡ M.cols → IsPlacedIn {P = ColId} col_id_at (map (λ (c : Col). c.name) cols) named (Err u) → IsUnplaced Costs M named u
+unplaced-columns M cols named u same h = by u (subst (λ (cs : List Col). IsPlacedIn {P = ColId} col_id_at (map (λ (c : Col). c.name) cs) named (Err u)) same h)
   where
-    by : (r : Result (List (ColId × ℚ)) Unplaced) → IsPlacedIn col_id_at (column_names M) named r → ArePlacedCosts M named r
-    by (Ok costs) h = h
-    by (Err (unplaced.Unknown k)) h = h
-    by (Err (unplaced.TwoSided k)) h = absurd h
-    by (Err unplaced.Memory) h = tt
+    by : (u : Unplaced) → IsPlacedIn {P = ColId} col_id_at (column_names M) named (Err u) → IsUnplaced Costs M named u
+    by (unplaced.Unknown k) h = h
+    by (unplaced.TwoSided k) h = absurd h
+    by unplaced.Memory h = tt
 
 -- rows that were placed, before their sides are looked at
 module _ (M : Program) (rows : List Row) (named : Named) (sides : List (RowId × ℚ)) (same : rows ≡ M.rows) (placed : IsPlacedIn row_id_at (map (λ (r : Row). r.name) rows) named (Ok sides)) where
@@ -218,8 +228,8 @@ module _ (M : Program) (rows : List Row) (named : Named) (sides : List (RowId ×
   pub sides-within : All (λ (e : RowId × ℚ). e.0.0 < length M.rows) sides
   sides-within = subst (All (λ (e : RowId × ℚ). e.0.0 < length M.rows)) (sym own.1) (rows-within M named own.0)
 
-  pub all-one : IsFirstTwoSidedAt M.rows sides None → ArePlacedSides M named (Ok sides)
-  all-one one = (own.0, have-one M named (subst (All (HasOneNumberAt M.rows)) own.1 one), own.1)
+  pub all-one : IsFirstTwoSidedAt M.rows sides None → AreNumbersPlaced Sides M named (Ok (other.Sides sides))
+  all-one one = (own.0, have-one M named (subst (All (HasOneNumberAt M.rows)) own.1 one), ap other.Sides own.1)
 
   pub one-two-sided : (k : ℕ) → IsFirstTwoSidedAt M.rows sides (Some k) → IsUnplaced Sides M named (unplaced.TwoSided k)
   one-two-sided k first =

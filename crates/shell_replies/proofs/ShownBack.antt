@@ -19,7 +19,7 @@ use Rattle.word_names.specs.WordNames.{HasWordNames}
 use Rattle.script_session.specs.Request.{Command}
 use Rattle.text_lines.specs.Words.{words_of, IsWord}
 use Rattle.reply_texts.specs.Texts.{column_line, column_lines, value_line, optimal_text}
-use Rattle.shell_replies.specs.Shown.{lines_shown, is_line_of, number_in, number_in_word, or_zero, number_among, point_shown, value_shown}
+use Rattle.shell_replies.specs.Shown.{lines_shown, is_line_of, stated_number, number_in_word, or_zero, number_among, point_shown, value_shown}
 use Rattle.shell_replies.proofs.ShownWords.{decimal-plain, printed-plain, tested-plain, words_of-name, words_of-more, joined-one_line, lines_shown-more}
 
 -- ---- the words of the lines that are written
@@ -112,7 +112,7 @@ optimum_shown M x n small p f g =
 found : (name : List ℕ) (v : ℚ) (lines : List Command) → Fits v → number_among name (words_of_column name v ∷ lines) ≡ v
 found name v lines f =
     ap (λ b. or_zero (number_in_word 2 (if b then words_of_column name v ∷ filter (is_line_of name) lines else filter (is_line_of name) lines))) ((bytes_eq-Decides name name).1 refl)
-    ∙ ap (λ r. or_zero (number_in r)) (reading_of-printed v f)
+    ∙ ap (λ r. or_zero (stated_number r)) (reading_of-printed v f)
 
 apart : (a b : List ℕ) → a ≢ b → bytes_eq a b ≡ false
 apart a b h = by (bytes_eq a b) refl
@@ -192,4 +192,4 @@ point-shown M x n small shape p distinct f g =
 pub value-shown : (M : Program) (x : Point) (n : ℕ) → n < 2 ^ 64 → length x ≡ length M.cols → HasWordNames M → AllPairs (λ a b. a ≢ b) (column_names M) → All Fits x → Fits (value M 1 x)
     → value_shown (optimal_text M x n) ≡ Some (value M 1 x)
 unfolding value_shown
-value-shown M x n small shape p distinct f g = ap (number_in_word 1) (optimum_shown M x n small p f g) ∙ ap number_in (reading_of-printed (value M 1 x) g)
+value-shown M x n small shape p distinct f g = ap (number_in_word 1) (optimum_shown M x n small p f g) ∙ ap stated_number (reading_of-printed (value M 1 x) g)

@@ -7,6 +7,8 @@ use Rattle.lp_model.specs.Program.{Program, low_side, high_side}
 use Rattle.lp_model.specs.declared.types.RowId.{RowId}
 use Rattle.lp_model.specs.declared.types.ColId.{ColId}
 use Rattle.dual_bounds.specs.NewNumbers.{HasEqualSides}
+use Rattle.dual_bounds.specs.declared.new_numbers.OtherNumbers.{OtherNumbers}
+use Rattle.dual_bounds.specs.declared.new_numbers.OtherNumbers.TheVariants as other
 use Rattle.command_words.specs.declared.words.NewNumbers.{NewNumbers}
 use Rattle.command_words.specs.declared.words.NewNumbers.TheVariants.{Sides, Costs}
 use Rattle.edit_words.specs.EditWords.{names_in}
@@ -26,6 +28,11 @@ placed_rows M named = placed_in row_id_at (only_row_names M) named
 
 abbrev pub placed_cols : Program → Named → List (ColId × ℚ)
 placed_cols M named = placed_in col_id_at (column_names M) named
+
+-- the numbers beside the names: for the sides of rows, or as costs of columns
+abbrev pub placed_numbers : NewNumbers → Program → Named → OtherNumbers
+placed_numbers Sides M named = other.Sides (placed_rows M named)
+placed_numbers Costs M named = other.Costs (placed_cols M named)
 
 -- ---- what is wrong with a line
 

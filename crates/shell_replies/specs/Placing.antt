@@ -6,14 +6,14 @@ use Rattle.lp_model.specs.Elements.{of_element}
 use Rattle.lp_model.specs.Program.{Program}
 use Rattle.lp_model.specs.declared.types.Row.{Row}
 use Rattle.lp_model.specs.declared.types.RowId.{RowId}
-use Rattle.lp_model.specs.declared.types.ColId.{ColId}
 use Rattle.model_edits.specs.Faults.{IsFirstUnknown}
 use Rattle.dual_bounds.specs.NewNumbers.{HasEqualSides}
+use Rattle.dual_bounds.specs.declared.new_numbers.OtherNumbers.{OtherNumbers}
 use Rattle.command_words.specs.declared.words.NewNumbers.{NewNumbers}
-use Rattle.command_words.specs.declared.words.NewNumbers.TheVariants.{Sides, Costs}
+use Rattle.command_words.specs.declared.words.NewNumbers.TheVariants.{Sides}
 use Rattle.edit_words.specs.EditWords.{names_in}
 use Rattle.reply_texts.specs.Texts.{unknown_name_text, sides_text, memory_text}
-use Rattle.shell_replies.specs.Names.{placed_in, placed_rows, placed_cols, names_for, AreThere, HaveOneNumber, IsFirstTwoSided}
+use Rattle.shell_replies.specs.Names.{placed_in, placed_numbers, names_for, AreThere, HaveOneNumber, IsFirstTwoSided}
 use Rattle.shell_replies.specs.declared.placing.Unplaced.{Unplaced}
 use Rattle.shell_replies.specs.declared.placing.Unplaced.TheVariants.{Unknown, TwoSided, Memory}
 
@@ -42,13 +42,10 @@ IsUnplaced numbers M named (Unknown k) = (k < length named) × IsFirstUnknown (n
 IsUnplaced numbers M named (TwoSided k) = (k < length named) × (numbers ≡ Sides) × AreThere numbers M named × IsFirstTwoSided M (names_in named) (name_at named k)
 IsUnplaced numbers M named Memory = Unit {0}
 
-abbrev pub ArePlacedSides : Program → Named → Result (List (RowId × ℚ)) Unplaced → Type 0
-ArePlacedSides M named (Ok sides) = AreThere Sides M named × HaveOneNumber Sides M named × (sides ≡ placed_rows M named)
-ArePlacedSides M named (Err u) = IsUnplaced Sides M named u
-
-abbrev pub ArePlacedCosts : Program → Named → Result (List (ColId × ℚ)) Unplaced → Type 0
-ArePlacedCosts M named (Ok costs) = AreThere Costs M named × (costs ≡ placed_cols M named)
-ArePlacedCosts M named (Err u) = IsUnplaced Costs M named u
+-- the names are those of rows, or of columns, at which numbers may stand, and stand as their places
+abbrev pub AreNumbersPlaced : NewNumbers → Program → Named → Result OtherNumbers Unplaced → Type 0
+AreNumbersPlaced numbers M named (Ok other) = AreThere numbers M named × HaveOneNumber numbers M named × (other ≡ placed_numbers numbers M named)
+AreNumbersPlaced numbers M named (Err u) = IsUnplaced numbers M named u
 
 -- the name is on the line
 abbrev pub IsOnLine : Named → Unplaced → Type 0

@@ -14,14 +14,14 @@ use Rattle.lp_model.specs.Program.{Program, Point}
 unfoldable pub lines_shown : List ℕ → List Command
 lines_shown reply = map words_of (slice_split is_newline reply)
 
-abbrev pub number_in : Reading → Option ℚ
-number_in (Number x) = Some x
-number_in other = None
+abbrev pub stated_number : Reading → Option ℚ
+stated_number (Number x) = Some x
+stated_number other = None
 
 -- the number that word k, from 0, of the first of some lines spells, if it spells one
 abbrev pub number_in_word : ℕ → List Command → Option ℚ
 number_in_word k [] = None
-number_in_word k (words ∷ more) = number_in (reading_of (get_or words k []))
+number_in_word k (words ∷ more) = stated_number (reading_of (get_or words k []))
 
 abbrev pub or_zero : Option ℚ → ℚ
 or_zero None = int (pos 0)

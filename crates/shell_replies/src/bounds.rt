@@ -23,7 +23,7 @@ pub fn write_lower(reply: &mut Vec<u8>, model: &Model, bound: &LowerBound) -> Re
     ensures { OnOk result (IsLowerTold model.now bound.now reply.new.items) }
 {
     match bound {
-        LowerBound::Value(least) => write_number(reply, model.sense().least_form(least)),
+        LowerBound::Value(least) => write_number(reply, model.sense().own_sense(least)),
         LowerBound::NoValue => write_bound(reply, &None),
         LowerBound::Infeasible => reply.extend_from_slice(b"bound infeasible\n"),
         LowerBound::Wide { leaf, step } => write_wide_bound(reply, model, *leaf, step),
@@ -36,7 +36,7 @@ pub fn write_upper(reply: &mut Vec<u8>, model: &Model, bound: &UpperBound) -> Re
     ensures { OnOk result (IsUpperTold model.now bound.now reply.new.items) }
 {
     match bound {
-        UpperBound::Value(least) => write_number(reply, model.sense().least_form(least)),
+        UpperBound::Value(least) => write_number(reply, model.sense().own_sense(least)),
         UpperBound::NoValue => write_bound(reply, &None),
     }
 }

@@ -7,9 +7,9 @@
 //! a reply           the point and the value that it shows, read from its bytes alone  (specs/Shown)
 //! ```
 //!
-//! Public contract: `placed_sides` and `placed_costs` answer the places of the names with their numbers, or which name is none and why
-//! (`ArePlacedSides`, `ArePlacedCosts`), and `write_unplaced` writes it; `write_lower` and `write_upper` tell a bound (`IsLowerTold`,
-//! `IsUpperTold`); `write_edit_fault` and `write_warm_fault` write the line of a fault. What is printed of a point and a value is read
+//! Public contract: `placed_numbers` answers the places of the names with their numbers, or which name is none and why (`AreNumbersPlaced`),
+//! and `write_unplaced` writes it; `write_lower` and `write_upper` tell a bound (`IsLowerTold`, `IsUpperTold`); `write_edit_fault` and
+//! `write_warm_fault` write the line of a fault. What is printed of a point and a value is read
 //! back as these (`proofs/ShownBack`).
 //!
 //! Below stand the texts of replies (`reply_texts`), the bounds (`dual_bounds`) and what is refused (`model_edits`, `warm_file`); above
@@ -22,4 +22,4 @@ mod placing;
 
 pub use bounds::{write_lower, write_upper};
 pub use faults::{write_edit_fault, write_warm_fault};
-pub use placing::{Unplaced, placed_costs, placed_sides, write_unplaced};
+pub use placing::{Unplaced, placed_numbers, write_unplaced};

@@ -2,9 +2,11 @@
 ghost use Rattle.std.specs.Prelude.{◌≡◌, ◌≤◌, ◌<◌, ◌^◌, ◌++◌, ℕ, map, length, All, IfOk};
 ghost use Rattle.frac128.specs.Rational.{ℚ};
 ghost use Rattle.lp_model.specs.declared.types.RowId.{RowId as RowPlace};
-ghost use Rattle.shell_replies.specs.Placing.{IsPlacedIn, IsFirstTwoSidedAt, ArePlacedSides, ArePlacedCosts, IsOnLine, unplaced_text};
+ghost use Rattle.command_words.specs.declared.words.NewNumbers.TheVariants.{Sides, Costs};
+ghost use Rattle.shell_replies.specs.Placing.{IsPlacedIn, IsFirstTwoSidedAt, AreNumbersPlaced, IsOnLine, unplaced_text};
 
-use dual_bounds::has_equal_sides;
+use command_words::NewNumbers;
+use dual_bounds::{OtherNumbers, has_equal_sides};
 use frac128::Frac;
 use lp_model::{ColId, HasName, List, Model, Name, Row, RowId, place_of};
 use reply_texts::{MEMORY_REPLY, write_sides, write_unknown_name};
@@ -87,12 +89,12 @@ fn first_two_sided(rows: &[Row], sides: &[(RowId, Frac)]) -> Option<usize>
 }
 
 /// The named rows, for whose sides the numbers may stand.
-pub fn placed_sides(
+fn placed_sides(
     alloc: Global,
     model: &Model,
     named: &[(Name, Frac)],
-) -> Result<List<(RowId, Frac)>, Unplaced>
-    ensures { ArePlacedSides model.now named.now result }
+) -> Result<OtherNumbers, Unplaced>
+    ensures { AreNumbersPlaced Sides model.now named.now result }
 {
     let sides: List<(RowId, Frac)> = match placed(alloc, model.rows(), named) {
         Ok(sides) => sides,
@@ -103,19 +105,38 @@ pub fn placed_sides(
             drop(sides);
             Err(Unplaced::TwoSided(place))
         }
-        None => Ok(sides),
+        None => Ok(OtherNumbers::Sides(sides)),
     }
 }
 
 /// The named columns with their costs.
-pub fn placed_costs(
+fn placed_costs(
     alloc: Global,
     model: &Model,
     named: &[(Name, Frac)],
-) -> Result<List<(ColId, Frac)>, Unplaced>
-    ensures { ArePlacedCosts model.now named.now result }
+) -> Result<OtherNumbers, Unplaced>
+    ensures { AreNumbersPlaced Costs model.now named.now result }
 {
-    placed(alloc, model.cols(), named)
+    let costs: List<(ColId, Frac)> = match placed(alloc, model.cols(), named) {
+        Ok(costs) => costs,
+        Err(unplaced) => return Err(unplaced),
+    };
+    Ok(OtherNumbers::Costs(costs))
+}
+
+/// The named rows, for whose sides the numbers may stand, or the named columns with their costs.
+pub fn placed_numbers(
+    alloc: Global,
+    model: &Model,
+    numbers: NewNumbers,
+    named: &[(Name, Frac)],
+) -> Result<OtherNumbers, Unplaced>
+    ensures { AreNumbersPlaced numbers model.now named.now result }
+{
+    match numbers {
+        NewNumbers::Sides => placed_sides(alloc, model, named),
+        NewNumbers::Costs => placed_costs(alloc, model, named),
+    }
 }
 
 /// Which name is no place, and why.

@@ -17,7 +17,7 @@ use Rattle.branch_tree.proofs.CountLemmas.{leaf_case}
 use Rattle.sound_searches.specs.declared.taken.Taken.{Taken}
 use Rattle.sound_searches.specs.declared.taken.Taken.TheVariants.{Stale, Refused, Reopened, Full, Closed, Split as SplitTaken, Kept}
 use Rattle.sound_searches.specs.Sound.{PlainSearch}
-use Rattle.sound_searches.specs.Placing.{TakesPoint, TakesClose, TakesSplit, TakesPointClose, TakesKeep, TakesPointKeep, TakesResult, Takes, search_with_leaf, split_node, closed_data, with_basis}
+use Rattle.sound_searches.specs.Placing.{TakesPoint, TakesClose, TakesSplit, TakesPointClose, TakesKeep, TakesPointKeep, TakesResult, Takes, search_with_leaf, split_with_leaves, closed_data, with_basis}
 use Rattle.sound_searches.specs.Others.{IsSameLeaf, IsLeafLike, OthersStay}
 
 module _ (id : ℕ) where
@@ -73,7 +73,7 @@ module _ (S : PlainSearch) (id : ℕ) (path : Path) (new : PlainSearch) where
   others-split j v mult basis Full h = unchanged h.2
   others-split j v mult basis Closed h = absurd h
   others-split j v mult basis SplitTaken h =
-      subst Stays (sym h.2.1.1.1.1) (stay-put id (split_node S.tree.last id j v mult basis h.2.0 h.2.1.0) S.tree.root)
+      subst Stays (sym h.2.1.1.1.1) (stay-put id (split_with_leaves S.tree.last id j v mult basis h.2.0 h.2.1.0) S.tree.root)
   others-split j v mult basis Kept h = absurd h
 
   put-after : (x : Point) (mid : PlainSearch) (kept : LeafData) → TakesPoint S x mid → new ≡ search_with_leaf mid id kept → Stays new

@@ -116,12 +116,12 @@ pub record IsChild (S : PlainSearch) (path : Path) (mult : Multipliers) (basis :
   pub judged : IsJudgedLeaf (formulation_of S) (target S.model S.points) path kept
 
 -- the split with its two leaves, the ids of which follow the last one
-abbrev pub split_node : ℕ → ℕ → ℕ → ℤ → Multipliers → Basis → LeafData → LeafData → Plain
-split_node last id j v mult basis left right =
+abbrev pub split_with_leaves : ℕ → ℕ → ℕ → ℤ → Multipliers → Basis → LeafData → LeafData → Plain
+split_with_leaves last id j v mult basis left right =
     Split' (record { id = id; mult = mult; basis = basis }) j v (Leaf (record { id = last + 1; kept = left })) (Leaf (record { id = last + 2; kept = right }))
 
 abbrev pub tree_with_split : NumberedTree → ℕ → ℕ → ℤ → Multipliers → Basis → LeafData → LeafData → NumberedTree
-tree_with_split T id j v mult basis left right = record { root = replaced id (split_node T.last id j v mult basis left right) T.root; last = T.last + 2; limit = T.limit }
+tree_with_split T id j v mult basis left right = record { root = replaced id (split_with_leaves T.last id j v mult basis left right) T.root; last = T.last + 2; limit = T.limit }
 
 abbrev pub search_with_split : PlainSearch → ℕ → ℕ → ℤ → Multipliers → Basis → LeafData → LeafData → PlainSearch
 search_with_split S id j v mult basis left right = record S { tree = tree_with_split S.tree id j v mult basis left right }

@@ -22,6 +22,7 @@ use Rattle.branch_tree.specs.declared.node.LeafData.{LeafData}
 use Rattle.branch_tree.specs.declared.node.LeafState.TheVariants.{IsOpen, IsClosed}
 use Rattle.branch_tree.proofs.PathLaws.{each-found}
 use Rattle.sound_searches.specs.Calls.{IsFresh, search_with_limit}
+use Rattle.sound_searches.specs.Free.{IsHeldJob}
 use Rattle.sound_searches.specs.Laws.{HasNoOpenLeaf, EmptyLaw}
 use Rattle.search_parts.specs.Joining.{IsWorst, AddsPoint}
 use Rattle.search_parts.specs.Points.{IsKeepable}
@@ -32,16 +33,17 @@ use Rattle.search_counting.specs.Work.{whole_points, cap_of, HasRoomFor, work_of
 use Rattle.search_counting.proofs.CapLemmas.{splits-cap}
 use Rattle.search_counting.proofs.RoomLemmas.{room-fewer}
 use Rattle.tree_search.specs.Bounds.{IsBoundOf}
-use Rattle.tree_search.specs.Causes.{HasCause}
+use Rattle.tree_search.specs.Causes.{HasStopCause}
 use Rattle.tree_search.specs.Laws.{StopBoundLaw}
 use Rattle.tree_search.specs.Search.{StopsFor, FindsPoint, Ends, IsLeft, IsAnswerAtEnd, IsFinishedAnswer, IsStoppedAnswer}
-use Rattle.tree_search.specs.Steps.{HasOpenLeaf, IsNextJob, Goes, StepAtNext, ValueAtNext}
+use Rattle.tree_search.specs.Steps.{HasOpenLeaf, StepAtNext, ValueAtNext}
+use Rattle.tree_search.specs.Turns.{Order, Goes}
 use Rattle.tree_search.specs.declared.searching.Ended.{Ended}
 use Rattle.tree_search.specs.declared.searching.Ended.TheVariants as ended
 use Rattle.tree_search.specs.declared.searching.Ways.{Ways}
 use Rattle.ray_phase.specs.Beginnings.{IsRayStop, StopsBefore}
 use Rattle.kept_env.specs.Env.{PlainEnv, HasPointAndRay, IsHeld, with_answer}
-use Rattle.tree_search.specs.Solves.{Course, NothingOpen, StopsFirst, Searches, WantsBefore, WantsWithin, SolvesModel, SolvesFrom, SaysUnbounded, HasRayFor, HasRayFrom}
+use Rattle.tree_search.specs.Solves.{turn_order_of, Course, NothingOpen, StopsFirst, Searches, WantsBefore, WantsWithin, SolvesModel, SolvesFrom, SaysUnbounded, HasRayFor, HasRayFrom}
 use Rattle.kept_env.specs.Worked.{held_by, IsOldest, WorksEnv}
 use Rattle.tree_search.specs.Truth.{IsCount, IsBound, IsFoundValue, IsEarlyBy, IsTrueBy, IsTrueAnswer, IsTrueOfKept}
 use Rattle.tree_search.specs.Warm.{Resumes, BesidePoint, GoesOn, Warms, Still, SomeOpen}
@@ -59,10 +61,6 @@ is-bound : StopBoundLaw → (S : PlainSearch) (bound : Option ℚ) → IsBoundOf
 is-bound law S None h = tt
 is-bound law S (Some b) h = λ x feasible. law S b x h feasible
 
-is-found : (M : Program) (best : Option ℚ) → IsFoundValue M best → IsFoundValue M best
-is-found M None h = tt
-is-found M (Some b) h = h
-
 -- an open leaf is not closed
 pub open-not_none : (S : PlainSearch) → HasOpenLeaf S → HasNoOpenLeaf S → ⊥
 open-not_none S some none =
@@ -76,13 +74,13 @@ module _ (laws : Laws) (l : Limits) (fresh : PlainSearch) (lawful : IsLawful fre
   at_most : work_of fresh ≤ cap_of fresh.model
   at_most = laws.cap fresh.model fresh.tree.root lawful sound.tree.lawful
 
-  some_left : (S : PlainSearch) → IsSound S → S.model ≡ fresh.model → (job : Job) → IsNextJob S job → 1 ≤ work_of S
-  some_left S sounds same job next = laws.left S job.id job.region next.job_is.kept sounds (subst IsLawful (sym same) lawful) next.job_is.leaf next.job_is.state
+  some_left : (S : PlainSearch) → IsSound S → S.model ≡ fresh.model → (job : Job) → IsHeldJob S job → 1 ≤ work_of S
+  some_left S sounds same job held = laws.left S job.id job.region held.kept sounds (subst IsLawful (sym same) lawful) held.leaf held.state
 
-  below_cap : (n : ℕ) (mid : PlainSearch) (ways : Ways) (first : Basis) → Goes ways first l.pivots n fresh mid → (job : Job) → IsNextJob mid job → n < cap_of fresh.model
-  below_cap n mid ways first goes job next =
+  below_cap : (n : ℕ) (mid : PlainSearch) (ways : Ways) (first : Basis) → Goes ways first l.pivots (turn_order_of l) n fresh mid → (job : Job) → IsHeldJob mid job → n < cap_of fresh.model
+  below_cap n mid ways first goes job held =
       let most = at_most in
-      let one = some_left mid goes.sound goes.model job next in
+      let one = some_left mid goes.sound goes.model job held in
       let all = goes.work in
       omega arith
 
@@ -92,23 +90,23 @@ module _ (laws : Laws) (l : Limits) (fresh : PlainSearch) (lawful : IsLawful fre
       let one = laws.left fresh h.0 h.1.0 h.1.1.kept sound lawful h.1.1.leaf h.1.1.state in
       omega arith
 
-  early : (S : PlainSearch) (ways : Ways) (first : Basis) (why : StopWhy) (n : ℕ) → StopsFor ways first l.nodes l.pivots n fresh S why → HasCause fresh S.cuts ways first l.nodes l.pivots (ended.Stopped why) → IsEarlyBy Small fresh.model l why n
+  early : (S : PlainSearch) (ways : Ways) (first : Basis) (why : StopWhy) (n : ℕ) → StopsFor ways first (turn_order_of l) l.nodes l.pivots n fresh S why → HasStopCause fresh S.cuts ways first l.nodes l.pivots (ended.Stopped why) → IsEarlyBy Small fresh.model l why n
   early S ways first stop.Nodes n ends cause =
       let most = at_most in
       let all = ends.all in
       (all, omega arith)
   early S ways first stop.Tree n ends cause =
-      (ends.below_limit, (below_cap n ends.mid ways first ends.goes ends.here.job ends.here.works.next, small cause))
+      (ends.below_limit, (below_cap n ends.mid ways first ends.goes ends.here.job ends.here.works.held, small cause))
   early S ways first (stop.Pivots place) n ends cause =
       let below = ends.below_limit in
-      (omega arith, below_cap n ends.mid ways first ends.goes ends.here.job ends.here.works.next)
+      (omega arith, below_cap n ends.mid ways first ends.goes ends.here.job ends.here.works.held)
   early S ways first (stop.Wide at_) n ends cause =
       let below = ends.below_limit in
       (omega arith, by ends.here)
     where
       by : StepAtNext ways first l.pivots ends.mid S at_ ⊎ ValueAtNext ways first l.pivots ends.mid S at_ → n < cap_of fresh.model
-      by (inl h) = below_cap n ends.mid ways first ends.goes h.job h.works.next
-      by (inr h) = below_cap n ends.mid ways first ends.goes h.job h.works.next
+      by (inl h) = below_cap n ends.mid ways first ends.goes h.job h.works.held
+      by (inr h) = below_cap n ends.mid ways first ends.goes h.job h.works.held
 
   count : (n m : ℕ) → m ≡ n → n ≤ l.nodes → n ≤ cap_of fresh.model → IsCount fresh.model l m
   count n m same limit cap = record { within_limit = subst (λ k. k ≤ l.nodes) (sym same) limit; within_cap = subst (λ k. k ≤ cap_of fresh.model) (sym same) cap }
@@ -118,12 +116,12 @@ module _ (laws : Laws) (l : Limits) (fresh : PlainSearch) (lawful : IsLawful fre
   stopped S why n (Infeasible m) same is told = absurd told
   stopped S why n (Unbounded m) same is told = absurd told
   stopped S why n (Stopped reason m bound best) same is told = (
-    (subst (λ N. IsBound N bound) same (is-bound laws.bound S bound told.2.bound_is), subst (λ N. IsFoundValue N best) same (is-found S.model best told.2.found)),
+    (subst (λ N. IsBound N bound) same (is-bound laws.bound S bound told.2.bound_is), subst (λ N. IsFoundValue N best) same told.2.found),
     subst (λ k. IsEarlyBy Small fresh.model l reason k) (sym told.1) (subst (λ r. IsEarlyBy Small fresh.model l r n) (sym told.0) is),
   )
   stopped S why n Memory same is told = tt
 
-  searched : (S : PlainSearch) (ways : Ways) (first : Basis) (e : Ended) (n : ℕ) (answer : Answer) → S.model ≡ fresh.model → Ends ways first l.nodes l.pivots n fresh S e → HasCause fresh S.cuts ways first l.nodes l.pivots e
+  searched : (S : PlainSearch) (ways : Ways) (first : Basis) (e : Ended) (n : ℕ) (answer : Answer) → S.model ≡ fresh.model → Ends ways first (turn_order_of l) l.nodes l.pivots n fresh S e → HasStopCause fresh S.cuts ways first l.nodes l.pivots e
       → n ≤ l.nodes → n ≤ cap_of fresh.model → IsAnswerAtEnd S e n answer → IsTrueBy Small fresh.model l answer
   searched S ways first ended.Finished n (Optimal v x m) same ends cause limit cap told =
       ((subst (λ N. IsOptimum N x) same told.0.optimum, told.0.value ∙ ap (λ N. value N 1 x) same), count n m told.1 limit cap)
@@ -151,7 +149,7 @@ module _ (laws : Laws) (l : Limits) (fresh : PlainSearch) (lawful : IsLawful fre
   true-course no_point answer S same (NothingOpen none kept is) =
       subst (IsTrueBy Small fresh.model l) (sym is) (laws.empty fresh sound none (no_point none), record { within_limit = omega arith; within_cap = omega arith })
   true-course no_point answer S same (StopsFirst some why s kept told) = stopped S why 0 answer same (stopped_early why some s) told
-  true-course no_point answer S same (Searches some ways first b e finds told) = searched S ways first e.ended e.placed answer same finds.ends finds.cause finds.within_limit finds.within_cap told
+  true-course no_point answer S same (Searches some ways first b e finds told) = searched S ways first e.ended e.results answer same finds.ends finds.cause finds.within_limit finds.within_cap told
   true-course no_point answer S same (WantsBefore kept is) = subst (IsTrueBy Small fresh.model l) (sym is) tt
   true-course no_point answer S same (WantsWithin ways first b gives is) = subst (IsTrueBy Small fresh.model l) (sym is) tt
 
@@ -219,7 +217,7 @@ stop-oldest S why Memory told = tt
 pub course-oldest : (M : Program) (l : Limits) (fresh : PlainSearch) (answer : Answer) (S : PlainSearch) → Course M l fresh answer S → IsOldest S answer
 course-oldest M l fresh answer S (NothingOpen none kept is) = subst (IsOldest S) (sym is) tt
 course-oldest M l fresh answer S (StopsFirst some why s kept told) = stop-oldest S why answer (told)
-course-oldest M l fresh answer S (Searches some ways first b e finds told) = told-oldest S e.ended e.placed answer told
+course-oldest M l fresh answer S (Searches some ways first b e finds told) = told-oldest S e.ended e.results answer told
 course-oldest M l fresh answer S (WantsBefore kept is) = subst (IsOldest S) (sym is) tt
 course-oldest M l fresh answer S (WantsWithin ways first b gives is) = subst (IsOldest S) (sym is) tt
 
@@ -246,8 +244,8 @@ adds-some M points x new (None, (worst, is)) = subst (λ (l : List Point). 0 < l
 adds-some M points x new (Some k, (worst, is)) = subst (λ (l : List Point). 0 < length l) (sym is) (left-some M (points ++ x ∷ []) k worst)
 
 -- the search that found a point beside a ray keeps one
-points-some : (ways : Ways) (first : Basis) (nodes pivots n : ℕ) (old new : PlainSearch) → FindsPoint ways first nodes pivots n old new → 0 < length new.points
-points-some ways first nodes pivots n old new finds =
+points-some : (ways : Ways) (first : Basis) (order : Order) (nodes pivots n : ℕ) (old new : PlainSearch) → FindsPoint ways first order nodes pivots n old new → 0 < length new.points
+points-some ways first order nodes pivots n old new finds =
     let here = finds.after.here in
     let kept = here.keeps.takes.result_is.2 in
     let mid = kept.0 in
@@ -302,7 +300,7 @@ module _ (M : Program) (l : Limits) (fresh : PlainSearch) (answer : Answer) (S :
   pub course-finished : Course M l fresh answer S → IsFinishedKind answer → HasNoOpenLeaf S
   course-finished (NothingOpen none kept is) kind = subst HasNoOpenLeaf (sym kept) none
   course-finished (StopsFirst some why s kept told) kind = absurd (stop-kind S why answer told kind)
-  course-finished (Searches some ways first b e finds told) kind = finished-left S e.ended e.placed answer finds.left told kind
+  course-finished (Searches some ways first b e finds told) kind = finished-left S e.ended e.results answer finds.left told kind
   course-finished (WantsBefore kept is) kind = absurd (subst IsFinishedKind is kind)
   course-finished (WantsWithin ways first b gives is) kind = absurd (subst IsFinishedKind is kind)
 
@@ -310,7 +308,7 @@ module _ (M : Program) (l : Limits) (fresh : PlainSearch) (answer : Answer) (S :
   course-points (NothingOpen none kept is) u = absurd (subst SaysUnbounded is u)
   course-points (StopsFirst some why s kept told) u = absurd (stop-bounded S why answer 0 told u)
   course-points (Searches some ways first b e finds told) u =
-      points-some ways first l.nodes l.pivots e.placed fresh S (subst (Ends ways first l.nodes l.pivots e.placed fresh S) (unbounded-ended S e.ended e.placed answer told u) finds.ends)
+      points-some ways first (turn_order_of l) l.nodes l.pivots e.results fresh S (subst (Ends ways first (turn_order_of l) l.nodes l.pivots e.results fresh S) (unbounded-ended S e.ended e.results answer told u) finds.ends)
   course-points (WantsBefore kept is) u = absurd (subst SaysUnbounded is u)
   course-points (WantsWithin ways first b gives is) u = absurd (subst SaysUnbounded is u)
 

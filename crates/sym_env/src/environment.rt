@@ -1,5 +1,5 @@
 // The calls that work the search of an environment: they take it out, and give it back with what may be held of it.
-ghost use Rattle.std.specs.Prelude.{IfOk, IfSome};
+ghost use Rattle.std.specs.Prelude.{◌≤◌, IfOk, IfSome};
 ghost use Rattle.kept_env.specs.Env.{pool_in};
 ghost use Rattle.kept_env.specs.Worked.{WorksEnv};
 ghost use Rattle.tree_search.specs.Enough.{IsEnough, IsKeptEnough};
@@ -20,14 +20,19 @@ use tree_search::Limits;
 ///
 /// The ray phase, where it is needed, comes before the limit on results is tested.
 pub fn solve(alloc: Global, env: &mut Env, limits: &Limits) -> Result<Answer, EnvFault>
+    requires workers { 1 ≤ limits.now.workers }
     ensures solves { WorksEnv (SolvesFrom limits.now) (HasRayFrom limits.now) env.old.search env.old result env.new }
     ensures true_answer { IfOk result (λ answer. IfSome env.old.search (λ S. IsTrueAnswer S.model limits.now answer)) }
     ensures complete { IfOk result (λ answer. IfSome env.old.search (λ S. IsEnough S.model (pool_in env.new.search) limits.now → HasEnded answer)) }
 {
-    let Some(mut search) = env.take() else {
+    let Some(search) = env.take() else {
         return Err(EnvFault::NoModel);
     };
-    let Solution { answer, ray } = solve_search(alloc, &mut search, limits);
+    let Solution {
+        search,
+        answer,
+        ray,
+    } = solve_search(alloc, search, limits);
     let held = held_by(&answer, ray);
     env.give(search, held);
     Ok(answer)
@@ -38,14 +43,19 @@ pub fn solve(alloc: Global, env: &mut Env, limits: &Limits) -> Result<Answer, En
 /// neither places a result. What is answered is true of the model, and is held as in `solve`. Where there is no memory no answer
 /// is held, the results that were placed stay, and the search can go on.
 pub fn warm_solve(alloc: Global, env: &mut Env, limits: &Limits) -> Result<Answer, EnvFault>
+    requires workers { 1 ≤ limits.now.workers }
     ensures warms { WorksEnv (WarmsFrom limits.now) (HasRayFrom limits.now) env.old.search env.old result env.new }
     ensures true_answer { IfOk result (λ answer. IfSome env.old.search (λ S. IsTrueOfKept S limits.now answer)) }
     ensures complete { IfOk result (λ answer. IfSome env.old.search (λ S. IsKeptEnough S (pool_in env.new.search) limits.now → HasEnded answer)) }
 {
-    let Some(mut search) = env.take() else {
+    let Some(search) = env.take() else {
         return Err(EnvFault::NoModel);
     };
-    let Solution { answer, ray } = warm_search(alloc, &mut search, limits);
+    let Solution {
+        search,
+        answer,
+        ray,
+    } = warm_search(alloc, search, limits);
     let held = held_by(&answer, ray);
     env.give(search, held);
     Ok(answer)

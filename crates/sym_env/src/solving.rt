@@ -1,5 +1,6 @@
 // A search from its beginning to what it shows: from a fresh root, or from the tree and the points that are kept.
-ghost use Rattle.std.specs.Prelude.{◌≡◌, []};
+ghost use Rattle.std.specs.Prelude.{◌≡◌, ◌≤◌, [], replicate, None};
+ghost use Rattle.sound_searches.specs.Sound.{IsSound};
 ghost use Rattle.sound_searches.specs.Calls.{IsFresh};
 ghost use Rattle.tree_search.specs.Steps.{HasOpenLeaf, IsWayFor, IsFirstFor, IsRayWay};
 ghost use Rattle.tree_search.specs.declared.searching.Ways.TheVariants.{Own};
@@ -16,104 +17,149 @@ use search_counting::{cap_law, left_law, roomy_law, too_small_law};
 use sound_searches::empty_law;
 use std::alloc::{AllocError, Global};
 use tree_edit::Search;
+use tree_manager::Manager;
 use tree_search::{Limits, Ways, answer_of, search_on, stop_bound_law, stopped};
 
-/// What a search shows, and the ray beside which it was made, if there is one.
+/// The search, what it shows, and the ray beside which it was made, if there is one.
 #[derive(Drop)]
 pub(crate) struct Solution {
+    pub(crate) search: Search,
     pub(crate) answer: Answer,
     pub(crate) ray: Option<Point>,
+}
+
+/// Searches through a manager whose workers hold nothing, and says what that shows.
+fn search_through(
+    alloc: Global,
+    mut manager: Manager,
+    ways: &Ways<'_>,
+    first: &Basis,
+    limits: &Limits,
+) -> (Search, Answer)
+    requires idle { manager.held ≡ replicate limits.now.workers None }
+    requires sound { IsSound manager.search }
+    requires some { HasOpenLeaf manager.search }
+    requires begins { BeginsWith manager.search.model limits.now.pivots ways.now first.now }
+    requires ways { IsWayFor manager.search ways.now }
+    requires first { IsFirstFor ways.now manager.search first.now }
+    ensures went { Went limits.now manager.search result.1 result.0 }
+    ensures beside { SaysUnbounded result.1 → IsRayWay ways.now }
+    ensures complete { IsEnoughFrom manager.search result.0.cuts limits.now.nodes limits.now.pivots → HasEnded result.1 }
+{
+    no_ray_law();
+    let searched = search_on(alloc, &mut manager, ways, first, limits);
+    let search = manager.into_search();
+    match searched {
+        Err(AllocError) => (search, Answer::Memory),
+        Ok(searched) => {
+            let answer = answer_of(alloc, &search, searched);
+            (search, answer)
+        }
+    }
 }
 
 /// Searches with these relaxations from the first lists on, and says what that shows.
 fn search_with(
     alloc: Global,
-    search: &mut Search,
+    search: Search,
     ways: &Ways<'_>,
     first: &Basis,
     limits: &Limits,
-) -> Answer
-    requires some { HasOpenLeaf search.old }
-    requires begins { BeginsWith search.old.model limits.now.pivots ways.now first.now }
-    requires ways { IsWayFor search.old ways.now }
-    requires first { IsFirstFor ways.now search.old first.now }
-    ensures went { Went limits.now search.old result search.new }
-    ensures beside { SaysUnbounded result → IsRayWay ways.now }
-    ensures complete { IsEnoughFrom search.old search.new.cuts limits.now.nodes limits.now.pivots → HasEnded result }
+) -> (Search, Answer)
+    requires workers { 1 ≤ limits.now.workers }
+    requires some { HasOpenLeaf search }
+    requires begins { BeginsWith search.model limits.now.pivots ways.now first.now }
+    requires ways { IsWayFor search ways.now }
+    requires first { IsFirstFor ways.now search first.now }
+    ensures went { Went limits.now search result.1 result.0 }
+    ensures beside { SaysUnbounded result.1 → IsRayWay ways.now }
+    ensures complete { IsEnoughFrom search result.0.cuts limits.now.nodes limits.now.pivots → HasEnded result.1 }
 {
     let _sound = search.points();
-    no_ray_law();
-    match search_on(alloc, search, ways, first, limits.nodes, limits.pivots) {
-        Err(AllocError) => Answer::Memory,
-        Ok(searched) => answer_of(alloc, search, searched),
+    match Manager::new(alloc, search, limits.workers as usize) {
+        Err(search) => (search, Answer::Memory),
+        Ok(manager) => search_through(alloc, manager, ways, first, limits),
     }
 }
 
 /// Searches with the model's own relaxations.
 pub(crate) fn search_own(
     alloc: Global,
-    search: &mut Search,
+    search: Search,
     first: Basis,
     limits: &Limits,
-) -> Answer
-    requires some { HasOpenLeaf search.old }
-    requires begins { BeginsWith search.old.model limits.now.pivots Own first }
-    ensures went { Went limits.now search.old result search.new }
-    ensures bounded { ¬ SaysUnbounded result }
-    ensures complete { IsEnoughFrom search.old search.new.cuts limits.now.nodes limits.now.pivots → HasEnded result }
+) -> (Search, Answer)
+    requires workers { 1 ≤ limits.now.workers }
+    requires some { HasOpenLeaf search }
+    requires begins { BeginsWith search.model limits.now.pivots Own first }
+    ensures went { Went limits.now search result.1 result.0 }
+    ensures bounded { ¬ SaysUnbounded result.1 }
+    ensures complete { IsEnoughFrom search result.0.cuts limits.now.nodes limits.now.pivots → HasEnded result.1 }
 {
     root_law();
-    let answer = search_with(alloc, search, &Ways::Own, &first, limits);
+    let (search, answer) = search_with(alloc, search, &Ways::Own, &first, limits);
     drop(first);
-    answer
+    (search, answer)
 }
 
 /// Searches with the relaxations of the model without costs, which has a ray.
 fn search_beside_ray(
     alloc: Global,
-    search: &mut Search,
+    search: Search,
     costless: Model,
     first: Basis,
     limits: &Limits,
-) -> Answer
-    requires some { HasOpenLeaf search.old }
-    requires none { search.old.points ≡ [] }
-    requires begins { BeginsBeside search.old.model limits.now.pivots costless first }
-    ensures went { Went limits.now search.old result search.new }
-    ensures complete { IsEnoughFrom search.old search.new.cuts limits.now.nodes limits.now.pivots → HasEnded result }
+) -> (Search, Answer)
+    requires workers { 1 ≤ limits.now.workers }
+    requires some { HasOpenLeaf search }
+    requires none { search.points ≡ [] }
+    requires begins { BeginsBeside search.model limits.now.pivots costless first }
+    ensures went { Went limits.now search result.1 result.0 }
+    ensures complete { IsEnoughFrom search result.0.cuts limits.now.nodes limits.now.pivots → HasEnded result.1 }
 {
     root_law();
-    let answer = search_with(alloc, search, &Ways::Rays(&costless), &first, limits);
+    let (search, answer) = search_with(alloc, search, &Ways::Rays(&costless), &first, limits);
     drop(costless);
     drop(first);
-    answer
+    (search, answer)
 }
 
 /// Goes on with a search that has an open leaf and keeps no point.
-pub(crate) fn search_without_point(alloc: Global, search: &mut Search, limits: &Limits) -> Solution
-    requires some { HasOpenLeaf search.old }
-    requires none { search.old.points ≡ [] }
-    ensures went { Went limits.now search.old result.answer search.new }
-    ensures ray { HasRayFor search.old.model limits.now.pivots result.answer result.ray }
-    ensures complete { IsEnoughFrom search.old search.new.cuts limits.now.nodes limits.now.pivots → HasEnded result.answer }
+pub(crate) fn search_without_point(alloc: Global, search: Search, limits: &Limits) -> Solution
+    requires workers { 1 ≤ limits.now.workers }
+    requires some { HasOpenLeaf search }
+    requires none { search.points ≡ [] }
+    ensures went { Went limits.now search result.answer result.search }
+    ensures ray { HasRayFor search.model limits.now.pivots result.answer result.ray }
+    ensures complete { IsEnoughFrom search result.search.cuts limits.now.nodes limits.now.pivots → HasEnded result.answer }
 {
     let _sound = search.points();
     match find_beginning(alloc, search.model(), limits.pivots) {
         Beginning::Memory => Solution {
+            search,
             answer: Answer::Memory,
             ray: None,
         },
-        Beginning::Stopped(why) => Solution {
-            answer: stopped(search, why, 0),
-            ray: None,
+        Beginning::Stopped(why) => {
+            let answer = stopped(&search, why, 0);
+            Solution {
+                search,
+                answer,
+                ray: None,
+            }
         },
-        Beginning::Own(first) => Solution {
-            answer: search_own(alloc, search, first, limits),
-            ray: None,
+        Beginning::Own(first) => {
+            let (search, answer) = search_own(alloc, search, first, limits);
+            Solution {
+                search,
+                answer,
+                ray: None,
+            }
         },
         Beginning::BesideRay(direction, costless, first) => {
-            let answer = search_beside_ray(alloc, search, costless, first, limits);
+            let (search, answer) = search_beside_ray(alloc, search, costless, first, limits);
             Solution {
+                search,
                 answer,
                 ray: Some(direction),
             }
@@ -122,18 +168,20 @@ pub(crate) fn search_without_point(alloc: Global, search: &mut Search, limits: &
 }
 
 /// Solves a search of one leaf.
-fn solve_fresh(alloc: Global, search: &mut Search, limits: &Limits) -> Solution
-    requires { IsFresh search.old.model limits.now.tree search.old }
-    ensures solved { Solved search.old.model limits.now result.answer search.new }
-    ensures ray { HasRayFor search.old.model limits.now.pivots result.answer result.ray }
-    ensures complete { IsEnough search.old.model search.new.cuts limits.now → HasEnded result.answer }
+fn solve_fresh(alloc: Global, search: Search, limits: &Limits) -> Solution
+    requires workers { 1 ≤ limits.now.workers }
+    requires fresh { IsFresh search.model limits.now.tree search }
+    ensures solved { Solved search.model limits.now result.answer result.search }
+    ensures ray { HasRayFor search.model limits.now.pivots result.answer result.ray }
+    ensures complete { IsEnough search.model result.search.cuts limits.now → HasEnded result.answer }
 {
     let _sound = search.points();
     let _numbered = search.tree().nodes();
     roomy_law();
     match search.next_leaf() {
         None => Solution {
-            answer: Answer::Infeasible { placed: 0 },
+            search,
+            answer: Answer::Infeasible { results: 0 },
             ray: None,
         },
         Some(_) => search_without_point(alloc, search, limits),
@@ -141,14 +189,16 @@ fn solve_fresh(alloc: Global, search: &mut Search, limits: &Limits) -> Solution
 }
 
 /// Solves the search's model from a fresh leaf on. Where there is no memory for it the search stays, with the new limit.
-fn solve_again(alloc: Global, search: &mut Search, limits: &Limits) -> Solution
-    ensures solves { SolvesModel search.old.model limits.now search.old result.answer search.new }
-    ensures ray { HasRayFor search.old.model limits.now.pivots result.answer result.ray }
-    ensures complete { IsEnough search.old.model search.new.cuts limits.now → HasEnded result.answer }
+fn solve_again(alloc: Global, mut search: Search, limits: &Limits) -> Solution
+    requires workers { 1 ≤ limits.now.workers }
+    ensures solves { SolvesModel search.model limits.now search result.answer result.search }
+    ensures ray { HasRayFor search.model limits.now.pivots result.answer result.ray }
+    ensures complete { IsEnough search.model result.search.cuts limits.now → HasEnded result.answer }
 {
     search.set_limit(limits.tree);
     match search.restart() {
         Err(AllocError) => Solution {
+            search,
             answer: Answer::Memory,
             ray: None,
         },
@@ -157,11 +207,12 @@ fn solve_again(alloc: Global, search: &mut Search, limits: &Limits) -> Solution
 }
 
 /// Solves the search's model. What is answered is true of it.
-pub(crate) fn solve_search(alloc: Global, search: &mut Search, limits: &Limits) -> Solution
-    ensures solves { SolvesModel search.old.model limits.now search.old result.answer search.new }
-    ensures ray { HasRayFor search.old.model limits.now.pivots result.answer result.ray }
-    ensures complete { IsEnough search.old.model search.new.cuts limits.now → HasEnded result.answer }
-    ensures true_answer { IsTrueAnswer search.old.model limits.now result.answer }
+pub(crate) fn solve_search(alloc: Global, search: Search, limits: &Limits) -> Solution
+    requires workers { 1 ≤ limits.now.workers }
+    ensures solves { SolvesModel search.model limits.now search result.answer result.search }
+    ensures ray { HasRayFor search.model limits.now.pivots result.answer result.ray }
+    ensures complete { IsEnough search.model result.search.cuts limits.now → HasEnded result.answer }
+    ensures true_answer { IsTrueAnswer search.model limits.now result.answer }
 {
     let _lawful = search.model().cols();
     empty_law();

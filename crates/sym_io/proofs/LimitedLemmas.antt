@@ -3,7 +3,7 @@ use Rattle.std.proofs.Common.{◌≡◌, ◌≤◌, ◌+◌, ℕ, List, [], ◌+
 use Rattle.std.specs.Prelude.{IfSome}
 use Rattle.std.specs.Option.{option_map}
 use Rattle.std.proofs.lemmas.List.{length-take, take_all}
-use Rattle.sym_io.specs.Limited.{ReadsWithin}
+use Rattle.sym_io.specs.private.Limited.{ReadsWithin}
 
 -- no more than the limit of what is cut one byte past it: nothing was cut
 whole : (limit : ℕ) (bytes : List ℕ) → length (take (limit + 1) bytes) ≤ limit → length bytes ≤ limit

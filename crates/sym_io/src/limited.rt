@@ -1,7 +1,7 @@
 // Reading to the end, where that is near enough.
 ghost use Rattle.std.specs.Prelude.{◌<◌, ◌≤◌, ◌^◌, length, IfOk, IfSome};
 ghost use Rattle.std.specs.Option.{option_map};
-ghost use Rattle.sym_io.specs.Limited.{ReadsWithin};
+ghost use Rattle.sym_io.specs.private.Limited.{ReadsWithin};
 
 use std::alloc::Global;
 use std::io;

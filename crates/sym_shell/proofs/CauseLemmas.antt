@@ -21,17 +21,17 @@ pub step-causes : (old : ShellState) (words : List (List ℕ)) (reply : List ℕ
 unfolding Step
 step-causes old words reply new h =
     let asks : Asks = asks_of words in
-    let found : family.HasCauses (in_family asks).family (in_family asks).asks old reply new = family-causes (in_family asks).family (lawful asks) (in_family asks).asks old reply new h in
+    let found : family.HasFamilyCauses (in_family asks).family (in_family asks).asks old reply new = family-causes (in_family asks).family (lawful asks) (in_family asks).asks old reply new h in
     let ends : IsComplete old reply new = searches-complete old reply new in
     record {
       kind = found.kind;
       is = found.is;
       only = found.only;
       headline = record { only = λ k is. promises old words reply new asks refl k (found.only k is) };
-      complete = λ S nodes pivots asked present enough. ends.complete S nodes pivots (subst (λ a. AnswersTo a old reply new) asked h) present enough;
-      complete_warm = λ S nodes pivots asked present enough. ends.complete_warm S nodes pivots (subst (λ a. AnswersTo a old reply new) asked h) present enough;
-      again = λ S nodes pivots asked present. ends.again S nodes pivots (subst (λ a. AnswersTo a old reply new) asked h) present;
-      beside_ray = λ S nodes pivots asked present. ends.beside_ray S nodes pivots (subst (λ a. AnswersTo a old reply new) asked h) present;
+      complete = λ S options few asked present enough. ends.complete S options few (subst (λ a. AnswersTo a old reply new) asked h) present enough;
+      complete_warm = λ S options few asked present enough. ends.complete_warm S options few (subst (λ a. AnswersTo a old reply new) asked h) present enough;
+      again = λ S options few asked present. ends.again S options few (subst (λ a. AnswersTo a old reply new) asked h) present;
+      beside_ray = λ S options few asked present. ends.beside_ray S options few (subst (λ a. AnswersTo a old reply new) asked h) present;
       exact = λ which numbers behind asked x read. bounds-exact which numbers behind old reply new (subst (λ a. AnswersTo a old reply new) asked h) x read;
       bounds = λ which numbers behind asked. bounds-unchanged (bounds.Bound which numbers behind) old reply new (subst (λ a. AnswersTo a old reply new) asked h);
       kept = found.kept;

@@ -33,6 +33,7 @@ module _ (old : ShellState) (words : List (List ℕ)) (reply : List ℕ) (new : 
   search-promise asks asked StoppedPivots h = is_asked searching words (λ a. SearchCause a StoppedPivots old reply new) asks asked h
   search-promise asks asked StoppedWide h = is_asked searching words (λ a. SearchCause a StoppedWide old reply new) asks asked h
   search-promise asks asked NoModel h = inl (is_asked searching words (λ a. SearchCause a NoModel old reply new) asks asked h)
+  search-promise asks asked OverLimit h = inr (is_asked searching words (λ a. SearchCause a OverLimit old reply new) asks asked h)
   search-promise asks asked WantsMemory h = h
   search-promise asks asked other h = absurd h
 
@@ -68,7 +69,7 @@ module _ (old : ShellState) (words : List (List ℕ)) (reply : List ℕ) (new : 
   change-promise asks asked NoModel h = inr (inr (inr (inl (is_asked changing words (λ a. ChangeCause a NoModel old reply new) asks asked h))))
   change-promise asks asked UnknownName h = inl (is_asked changing words (λ a. ChangeCause a UnknownName old reply new) asks asked h)
   change-promise asks asked TakenName h = is_asked changing words (λ a. ChangeCause a TakenName old reply new) asks asked h
-  change-promise asks asked OverLimit h = is_asked changing words (λ a. ChangeCause a OverLimit old reply new) asks asked h
+  change-promise asks asked OverLimit h = inl (is_asked changing words (λ a. ChangeCause a OverLimit old reply new) asks asked h)
   change-promise asks asked NoBounds h = is_asked changing words (λ a. ChangeCause a NoBounds old reply new) asks asked h
   change-promise asks asked BadSides h = inl (is_asked changing words (λ a. ChangeCause a BadSides old reply new) asks asked h)
   change-promise (Change behind) asked WantsMemory h = h
@@ -101,8 +102,8 @@ module _ (old : ShellState) (words : List (List ℕ)) (reply : List ℕ) (new : 
 
   pub promises : (asks : Asks) → asks_of words ≡ asks → (k : Kind) → cause_in asks k old reply new → Promise k old words reply new
   promises (Load file intupper) asked k h = file-promise (files.Load file intupper) asked k h
-  promises (Solve nodes pivots) asked k h = search-promise (search.Solve nodes pivots) asked k h
-  promises (Warm nodes pivots) asked k h = search-promise (search.Warm nodes pivots) asked k h
+  promises (Solve options) asked k h = search-promise (search.Solve options) asked k h
+  promises (Warm options) asked k h = search-promise (search.Warm options) asked k h
   promises (Edit behind) asked k h = change-promise (Change behind) asked k h
   promises (Trim depth) asked k h = change-promise (edits.Trim depth) asked k h
   promises (Save file) asked k h = file-promise (files.Save file) asked k h

@@ -1,7 +1,8 @@
 -- Each family is lawful, and which of them work on the search.
-use Rattle.std.proofs.Common.{◌≢◌, ℕ, refl}
+use Rattle.std.proofs.Common.{◌≢◌, refl}
+use Rattle.command_words.specs.declared.options.SearchOptions.{SearchOptions}
 use Rattle.command_words.specs.Asks.{Asks, Load, Solve, Warm, Edit, Trim, Save, Restore, Bound, Cert, Write, Quit, Unknown, Misused, NoNumber}
-use Rattle.command_family.specs.Family.{IsLawful}
+use Rattle.command_family.specs.Family.{IsLawfulFamily}
 use Rattle.file_commands.proofs.CauseLemmas.{filings-lawful}
 use Rattle.edit_commands.proofs.CauseLemmas.{changes-lawful}
 use Rattle.bound_commands.proofs.CauseLemmas.{bounds-lawful}
@@ -10,10 +11,10 @@ use Rattle.search_replies.proofs.CauseLemmas.{searches-lawful}
 use Rattle.sym_shell.specs.Step.{in_family}
 use Rattle.sym_shell.proofs.OwnLemmas.{own-lawful}
 
-pub lawful : (asks : Asks) → IsLawful (in_family asks).family
+pub lawful : (asks : Asks) → IsLawfulFamily (in_family asks).family
 lawful (Load file intupper) = filings-lawful
-lawful (Solve nodes pivots) = searches-lawful
-lawful (Warm nodes pivots) = searches-lawful
+lawful (Solve options) = searches-lawful
+lawful (Warm options) = searches-lawful
 lawful (Edit words) = changes-lawful
 lawful (Trim depth) = changes-lawful
 lawful (Save file) = filings-lawful
@@ -27,7 +28,7 @@ lawful Misused = own-lawful
 lawful (NoNumber word) = own-lawful
 
 -- `solve` and `warm` alone work on the search
-pub works-not : (asks : Asks) → ((nodes pivots : ℕ) → asks ≢ Solve nodes pivots) → ((nodes pivots : ℕ) → asks ≢ Warm nodes pivots) → ¬ ((in_family asks).family.Works (in_family asks).asks)
-works-not (Solve nodes pivots) other another works = other nodes pivots refl
-works-not (Warm nodes pivots) other another works = another nodes pivots refl
+pub works-not : (asks : Asks) → ((options : SearchOptions) → asks ≢ Solve options) → ((options : SearchOptions) → asks ≢ Warm options) → ¬ ((in_family asks).family.Works (in_family asks).asks)
+works-not (Solve options) other another works = other options refl
+works-not (Warm options) other another works = another options refl
 works-not asks other another works = works

@@ -2,7 +2,7 @@
 use Rattle.std.proofs.Common.{◌≡◌, ℕ, ◌≤◌, List, [], ◌++◌, sym, subst, ap, inl, inr, arith}
 use Rattle.std.specs.Prelude.{codes}
 use Rattle.kept_env.specs.Env.{model_of}
-use Rattle.command_family.specs.Family.{HasCause, IsLawful}
+use Rattle.command_family.specs.Family.{HasCause, IsLawfulFamily}
 use Rattle.command_family.specs.Kinds.{Done, UnknownCommand, WrongArguments, WrongNumber, WantsMemory}
 use Rattle.command_family.specs.State.{ShellState}
 use Rattle.sym_shell.specs.Own.{OwnAsks, Quit, Unknown, Misused, NoNumber, OwnStep, own}
@@ -32,7 +32,7 @@ same (NoNumber word) old reply new h = h.unchanged
 same-faults : (old new : ShellState) → new ≡ old → old.faults ≤ new.faults
 same-faults old new e = subst (λ (s : ShellState). old.faults ≤ s.faults) (sym e) (omega arith)
 
-pub own-lawful : IsLawful own
+pub own-lawful : IsLawfulFamily own
 own-lawful = record {
   caused = caused;
   later = λ asks old reply new h. same-faults old new (same asks old reply new h);

@@ -66,4 +66,4 @@ after-restore S before saved restored reply after h closed =
     } in
     let found = restored-search saved h.file ok_text restored done in
     let none : HasNoOpenLeaf found.0 = subst (λ (o : Option PlainSearch). IfSome o HasNoOpenLeaf) found.1 (h.is_restored.restored h.file S h.restores filed refl) in
-    (found.0, (found.1, none, h.is_answered.causes.again found.0 h.nodes h.pivots h.goes_on found.1))
+    (found.0, (found.1, none, h.is_answered.causes.again found.0 h.options h.few h.goes_on found.1))

@@ -1,5 +1,6 @@
 -- What each reply says for sure. Want of memory alone is free: where a cause holds, the reply is its line or `error 90 memory`.
-use Rattle.std.specs.Prelude.{◌≡◌, ◌≢◌, ◌⊎◌, ℕ, List, Some, IfSome}
+use Rattle.std.specs.Prelude.{◌≡◌, ◌≢◌, ◌⊎◌, ℕ, ◌≤◌, List, Some, IfSome}
+use Rattle.command_words.specs.declared.options.SearchOptions.{SearchOptions}
 use Rattle.lp_model.specs.Program.{Point, value}
 use Rattle.sound_searches.specs.Laws.{HasNoOpenLeaf}
 use Rattle.sound_searches.specs.Sound.{PlainSearch}
@@ -14,6 +15,7 @@ use Rattle.command_family.specs.Kinds.{Kind, Is, IsError}
 use Rattle.command_family.specs.State.{ShellState, HasScriptModel}
 use Rattle.bound_commands.specs.Bounding.{IsAtOptimum}
 use Rattle.search_replies.specs.Showing.{EndsBy}
+use Rattle.search_replies.specs.Workers.{worker_limit}
 use Rattle.search_replies.specs.Solve.{limits_of}
 use Rattle.search_replies.specs.Warming.{WentOn, TellsAgain, TellsNoEnd}
 use Rattle.sym_shell.specs.Step.{in_family, Step}
@@ -36,15 +38,15 @@ pub record HasCauses (old : ShellState) (words : List (List ℕ)) (reply : List 
   pub only : (k : Kind) → Is k reply → CauseOf k old words reply new
   -- which comes, whatever family answers, to what the product promises
   pub headline : Headline old words reply new
-  -- completeness: a search with enough of all, its cuts in the end counted, ends with an answer
-  pub complete : (S : PlainSearch) (nodes pivots : ℕ) → asks_of words ≡ Solve nodes pivots → old.env.search ≡ Some S → IsEnough S.model (pool_in new.env.search) (limits_of nodes pivots)
-      → EndsBy (Solved S.model (limits_of nodes pivots)) S.model (limits_of nodes pivots) reply new.env
-  pub complete_warm : (S : PlainSearch) (nodes pivots : ℕ) → asks_of words ≡ Warm nodes pivots → old.env.search ≡ Some S → IsKeptEnough S (pool_in new.env.search) (limits_of nodes pivots)
-      → EndsBy (WentOn S (limits_of nodes pivots)) S.model (limits_of nodes pivots) reply new.env
+  -- completeness, for any number of workers that there may be: a search with enough of all, its cuts in the end counted, ends with an answer
+  pub complete : (S : PlainSearch) (options : SearchOptions) → options.workers ≤ worker_limit → asks_of words ≡ Solve options → old.env.search ≡ Some S → IsEnough S.model (pool_in new.env.search) (limits_of options)
+      → EndsBy (Solved S.model (limits_of options)) S.model (limits_of options) reply new.env
+  pub complete_warm : (S : PlainSearch) (options : SearchOptions) → options.workers ≤ worker_limit → asks_of words ≡ Warm options → old.env.search ≡ Some S → IsKeptEnough S (pool_in new.env.search) (limits_of options)
+      → EndsBy (WentOn S (limits_of options)) S.model (limits_of options) reply new.env
   -- `warm` after a search that closed every leaf places no result
-  pub again : (S : PlainSearch) (nodes pivots : ℕ) → asks_of words ≡ Warm nodes pivots → old.env.search ≡ Some S → TellsAgain S reply
+  pub again : (S : PlainSearch) (options : SearchOptions) → options.workers ≤ worker_limit → asks_of words ≡ Warm options → old.env.search ≡ Some S → TellsAgain S reply
   -- where its ray phase finds a ray beside a kept point, the objective has no end, and `warm` places no result
-  pub beside_ray : (S : PlainSearch) (nodes pivots : ℕ) → asks_of words ≡ Warm nodes pivots → old.env.search ≡ Some S → TellsNoEnd S (limits_of nodes pivots) reply
+  pub beside_ray : (S : PlainSearch) (options : SearchOptions) → options.workers ≤ worker_limit → asks_of words ≡ Warm options → old.env.search ≡ Some S → TellsNoEnd S (limits_of options) reply
   -- a bound at the sides, or at the costs, that stand is the best value, right after a search has found it and closed every leaf
   pub exact : (which : OptimumBound) (numbers : NewNumbers) (behind : List (List ℕ)) → asks_of words ≡ Bound which numbers behind
       → (x : Point) (read : BoundRead old behind (λ S named. IsAtOptimum numbers S named x)) → (reply ≡ bound_text (Some (value read.search.model 1 x))) ⊎ (reply ≡ memory_text)
@@ -54,7 +56,7 @@ pub record HasCauses (old : ShellState) (words : List (List ℕ)) (reply : List 
   pub kept : reply ≢ ok_text → model_of new.env ≡ model_of old.env
   -- an error, but for want of memory, leaves the environment; and so does that, but in `solve` and `warm`
   pub refused : (k : Kind) → IsError k → Is k reply → new.env ≡ old.env
-  pub wanted : reply ≡ memory_text → ((nodes pivots : ℕ) → asks_of words ≢ Solve nodes pivots) → ((nodes pivots : ℕ) → asks_of words ≢ Warm nodes pivots) → new.env ≡ old.env
+  pub wanted : reply ≡ memory_text → ((options : SearchOptions) → asks_of words ≢ Solve options) → ((options : SearchOptions) → asks_of words ≢ Warm options) → new.env ≡ old.env
 
 -- A step, which says what each command may be answered, and what the reply says for sure. Whatever was answered, what the environment has from
 -- then on is sound.

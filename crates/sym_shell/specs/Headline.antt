@@ -70,10 +70,10 @@ Promise WrongNumber old words reply new = ByRest WrongNumber old words reply new
 -- no model is present, and the command needs one
 Promise NoModel old words reply new =
     BySearch NoModel old words reply new ⊎ ByFile NoModel old words reply new ⊎ ByCert NoModel old words reply new ⊎ ByChange NoModel old words reply new ⊎ ByBound NoModel old words reply new
--- the first fault of an edit (EditBad), or of a line that asks for a bound
+-- the first fault of an edit (EditBad), or of a line that asks for a bound; or more workers are asked for than there may be (IsCrowd)
 Promise UnknownName old words reply new = ByChange UnknownName old words reply new ⊎ ByBound UnknownName old words reply new
 Promise TakenName old words reply new = ByChange TakenName old words reply new
-Promise OverLimit old words reply new = ByChange OverLimit old words reply new
+Promise OverLimit old words reply new = ByChange OverLimit old words reply new ⊎ BySearch OverLimit old words reply new
 Promise NoBounds old words reply new = ByChange NoBounds old words reply new
 Promise BadSides old words reply new = ByChange BadSides old words reply new ⊎ ByBound BadSides old words reply new
 -- there is a model, and no answer is held

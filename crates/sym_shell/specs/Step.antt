@@ -7,7 +7,7 @@ use Rattle.file_commands.specs.Family.{FileAsks, filings}
 use Rattle.file_commands.specs.Family as files
 use Rattle.edit_commands.specs.Family.{ChangeAsks, changes, Change}
 use Rattle.edit_commands.specs.Family as edits
-use Rattle.bound_commands.specs.Family.{BoundsAsks, bounds}
+use Rattle.bound_commands.specs.Family.{BoundsAsks, boundings}
 use Rattle.bound_commands.specs.Family as sides
 use Rattle.cert_commands.specs.Family.{CertAsks, certificates}
 use Rattle.cert_commands.specs.Family as certs
@@ -24,13 +24,13 @@ pub record FamilyAsks : Type 1 where
 -- which family answers what is asked, and what that is to it
 abbrev pub in_family : Asks → FamilyAsks
 in_family (Load file intupper) = record { family = filings; asks = files.Load file intupper }
-in_family (Solve nodes pivots) = record { family = searches; asks = search.Solve nodes pivots }
-in_family (Warm nodes pivots) = record { family = searches; asks = search.Warm nodes pivots }
+in_family (Solve options) = record { family = searches; asks = search.Solve options }
+in_family (Warm options) = record { family = searches; asks = search.Warm options }
 in_family (Edit words) = record { family = changes; asks = Change words }
 in_family (Trim depth) = record { family = changes; asks = edits.Trim depth }
 in_family (Save file) = record { family = filings; asks = files.Save file }
 in_family (Restore file) = record { family = filings; asks = files.Restore file }
-in_family (Bound which numbers words) = record { family = bounds; asks = sides.Bound which numbers words }
+in_family (Bound which numbers words) = record { family = boundings; asks = sides.Bound which numbers words }
 in_family (Cert file) = record { family = certificates; asks = certs.Cert file }
 in_family (Write file) = record { family = filings; asks = files.Write file }
 in_family Quit = record { family = own; asks = rest.Quit }
@@ -57,8 +57,8 @@ abbrev pub certifying : CertAsks → Asks
 certifying (certs.Cert file) = Cert file
 
 abbrev pub searching : SearchAsks → Asks
-searching (search.Solve nodes pivots) = Solve nodes pivots
-searching (search.Warm nodes pivots) = Warm nodes pivots
+searching (search.Solve options) = Solve options
+searching (search.Warm options) = Warm options
 
 abbrev pub remaining : OwnAsks → Asks
 remaining rest.Quit = Quit

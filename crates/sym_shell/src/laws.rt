@@ -2,7 +2,8 @@
 ghost use Rattle.sym_shell.specs.Laws.{RestoredLaw};
 ghost use Rattle.sym_shell.specs.Run.{ShellToldLaw};
 
-/// A run of a source that tells its bytes has answered those, what it had not yet taken among them.
+/// A run of a source that tells its bytes has answered those, what it had not yet taken among them. With status 5 it has answered them all,
+/// and some reply is `error 90 memory`, or some of them were not gone through.
 pub fn told_law()
     ensures { ShellToldLaw }
 {}

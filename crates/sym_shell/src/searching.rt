@@ -1,37 +1,39 @@
 // The commands that search: the search is made, and told.
-ghost use Rattle.std.specs.Prelude.{◌≡◌, [], OnOk, OnErr, ℕ, List, IfSome};
+ghost use Rattle.std.specs.Prelude.{◌≡◌, ◌≤◌, [], OnOk, OnErr, ℕ, List, IfSome};
 ghost use Rattle.branch_tree.specs.Numbered.{IsNumbered};
 ghost use Rattle.command_family.specs.State.{HasScriptModel, HasOrder};
+ghost use Rattle.search_replies.specs.Workers.{Staffed};
 ghost use Rattle.search_replies.specs.Solve.{limits_of, RepliesToSolve};
 ghost use Rattle.search_replies.specs.Warming.{RepliesToWarm};
 
+use command_words::SearchOptions;
 use kept_env::Env;
-use search_replies::{limits_of, tell_solved, tell_warmed};
+use search_replies::{WORKER_LIMIT, limits_of, tell_crowd, tell_solved, tell_warmed};
 use std::alloc::{AllocError, Global};
 use sym_env::{solve, warm_solve};
 
-/// Solves the model from a fresh root.
-pub(crate) fn search_anew(
+/// Solves the model from a fresh root, by workers that there may be.
+fn work_anew(
     alloc: Global,
     env: &mut Env,
-    nodes: u64,
-    pivots: u64,
+    options: SearchOptions,
     reply: &mut Vec<u8>,
 ) -> Result<(), AllocError>
+    requires workers { 1 ≤ options.workers }
     requires empty { reply.old.items ≡ [] }
     requires script { HasScriptModel env.old }
     requires order { HasOrder env.old }
-    ensures answered { OnOk result (RepliesToSolve env.old env.old.search (limits_of nodes pivots) reply.new.items env.new) }
-    ensures unfinished { OnErr result ((bytes : List ℕ) × RepliesToSolve env.old env.old.search (limits_of nodes pivots) bytes env.new) }
+    ensures answered { OnOk result (RepliesToSolve env.old env.old.search (limits_of options) reply.new.items env.new) }
+    ensures unfinished { OnErr result ((bytes : List ℕ) × RepliesToSolve env.old env.old.search (limits_of options) bytes env.new) }
     ensures script { HasScriptModel env.new }
     ensures order { HasOrder env.new }
 {
-    let answer = solve(alloc, env, &limits_of(nodes, pivots));
+    let answer = solve(alloc, env, &limits_of(options));
     tell_solved(reply, env, answer)
 }
 
 /// What holds of the ids of the tree that is kept, and what contracts may use of it after this call.
-fn known_ids(env: &Env)
+fn show_numbered(env: &Env)
     ensures { IfSome env.now.search (λ S. IsNumbered S.tree) }
 {
     match env.search() {
@@ -42,23 +44,71 @@ fn known_ids(env: &Env)
     }
 }
 
-/// Goes on with the search that is kept.
-pub(crate) fn search_on(
+/// Goes on with the search that is kept, by workers that there may be.
+fn work_on(
     alloc: Global,
     env: &mut Env,
-    nodes: u64,
-    pivots: u64,
+    options: SearchOptions,
     reply: &mut Vec<u8>,
 ) -> Result<(), AllocError>
+    requires workers { 1 ≤ options.workers }
     requires empty { reply.old.items ≡ [] }
     requires script { HasScriptModel env.old }
     requires order { HasOrder env.old }
-    ensures answered { OnOk result (RepliesToWarm env.old env.old.search (limits_of nodes pivots) reply.new.items env.new) }
-    ensures unfinished { OnErr result ((bytes : List ℕ) × RepliesToWarm env.old env.old.search (limits_of nodes pivots) bytes env.new) }
+    ensures answered { OnOk result (RepliesToWarm env.old env.old.search (limits_of options) reply.new.items env.new) }
+    ensures unfinished { OnErr result ((bytes : List ℕ) × RepliesToWarm env.old env.old.search (limits_of options) bytes env.new) }
     ensures script { HasScriptModel env.new }
     ensures order { HasOrder env.new }
 {
-    known_ids(env);
-    let answer = warm_solve(alloc, env, &limits_of(nodes, pivots));
+    show_numbered(env);
+    let answer = warm_solve(alloc, env, &limits_of(options));
     tell_warmed(reply, env, answer)
+}
+
+/// Solves the model from a fresh root, or tells that there are too many workers.
+pub(crate) fn search_anew(
+    alloc: Global,
+    env: &mut Env,
+    options: SearchOptions,
+    reply: &mut Vec<u8>,
+) -> Result<(), AllocError>
+    requires workers { 1 ≤ options.workers }
+    requires empty { reply.old.items ≡ [] }
+    requires script { HasScriptModel env.old }
+    requires order { HasOrder env.old }
+    ensures answered { OnOk result (Staffed options.workers (RepliesToSolve env.old env.old.search (limits_of options) reply.new.items env.new) env.old reply.new.items env.new) }
+    ensures unfinished { OnErr result ((bytes : List ℕ) × Staffed options.workers (RepliesToSolve env.old env.old.search (limits_of options) bytes env.new) env.old bytes env.new) }
+    ensures script { HasScriptModel env.new }
+    ensures order { HasOrder env.new }
+{
+    let workers = options.workers;
+    if workers > WORKER_LIMIT {
+        tell_crowd(reply, env)
+    } else {
+        work_anew(alloc, env, options, reply)
+    }
+}
+
+/// Goes on with the search that is kept, or tells that there are too many workers.
+pub(crate) fn search_on(
+    alloc: Global,
+    env: &mut Env,
+    options: SearchOptions,
+    reply: &mut Vec<u8>,
+) -> Result<(), AllocError>
+    requires workers { 1 ≤ options.workers }
+    requires empty { reply.old.items ≡ [] }
+    requires script { HasScriptModel env.old }
+    requires order { HasOrder env.old }
+    ensures answered { OnOk result (Staffed options.workers (RepliesToWarm env.old env.old.search (limits_of options) reply.new.items env.new) env.old reply.new.items env.new) }
+    ensures unfinished { OnErr result ((bytes : List ℕ) × Staffed options.workers (RepliesToWarm env.old env.old.search (limits_of options) bytes env.new) env.old bytes env.new) }
+    ensures script { HasScriptModel env.new }
+    ensures order { HasOrder env.new }
+{
+    let workers = options.workers;
+    if workers > WORKER_LIMIT {
+        tell_crowd(reply, env)
+    } else {
+        work_on(alloc, env, options, reply)
+    }
 }

@@ -1,6 +1,6 @@
 // The machine behind the script: the environment, and which family of commands answers a line.
 ghost use Rattle.std.specs.Prelude.{◌≡◌, []};
-ghost use Rattle.command_words.specs.Asks.{asks_shown, NamesFile};
+ghost use Rattle.command_words.specs.Asks.{asks_shown, IsAskable};
 ghost use Rattle.kept_env.specs.Env.{no_model};
 ghost use Rattle.command_family.specs.State.{shell_state, HasScriptModel, HasOrder};
 ghost use Rattle.sym_shell.specs.Step.{AnswersTo, Tells};
@@ -62,7 +62,7 @@ fn answer_asked<S: Store>(
     asked: Asked<'_>,
     reply: &mut Vec<u8>,
 ) -> Result<(), AllocError>
-    requires named { NamesFile (asks_shown asked) }
+    requires askable { IsAskable (asks_shown asked) }
     requires empty { reply.old.items ≡ [] }
     requires script { HasScriptModel env.old }
     requires order { HasOrder env.old }
@@ -73,8 +73,8 @@ fn answer_asked<S: Store>(
 {
     match asked {
         Asked::Load { file, intupper } => load(alloc, env, store, file, intupper, reply),
-        Asked::Solve { nodes, pivots } => search_anew(alloc, env, nodes, pivots, reply),
-        Asked::Warm { nodes, pivots } => search_on(alloc, env, nodes, pivots, reply),
+        Asked::Solve { options } => search_anew(alloc, env, options, reply),
+        Asked::Warm { options } => search_on(alloc, env, options, reply),
         Asked::Edit { words } => edit(alloc, env, words, reply),
         Asked::Trim { depth } => trim(env, depth, reply),
         Asked::Save { file } => save(alloc, env, store, file, reply),

@@ -4,12 +4,9 @@ use Rattle.std.proofs.Common.{◌≡◌, ◌≢◌, ℕ, ◌<◌, List, [], ◌�
 use Rattle.std.specs.Prelude.{All, AllPairs, IsTrue, true, Option, Some, None, Ok}
 use Rattle.std.proofs.lemmas.List.Elements.{All-append}
 use Rattle.std.proofs.lemmas.List.Elements.{All-get_or}
-use Rattle.frac128.specs.Rational.{ℚ, neg_ℚ}
+use Rattle.frac128.specs.Rational.{ℚ}
 use Rattle.lp_model.specs.Program.{Program, Point, value, least_value, in_least_form, is_integer}
 use Rattle.lp_model.specs.Lawful.{IsLawful as IsLawfulModel, column_names}
-use Rattle.frac128.specs.RationalRing.{ring, reads_ℚ}
-use Rattle.lp_model.specs.declared.types.Sense.{Sense}
-use Rattle.lp_model.specs.declared.types.Sense.TheVariants.{Min, Max}
 use Rattle.lp_model.specs.Regions.{Path, IsEmptyRegion}
 use Rattle.lp_model.specs.Formulations.{Formulation, formulation, without_cuts}
 use Rattle.lp_model.specs.Cuts.{is_live}
@@ -48,6 +45,7 @@ use Rattle.tree_cert.specs.Certificates.{claim_of, point_numbers, IsReason, IsTr
 use Rattle.tree_cert.specs.Cuts.{named_cuts, used_number, mults_named, node_mults, IsOfFirst}
 use Rattle.tree_cert.specs.private.Marked.{NodeNamesFirst}
 use Rattle.lp_model.specs.Lawful.{column_name}
+use Rattle.lp_model.proofs.SenseLemmas.{own-least}
 use Rattle.model_points.specs.Answers.{IsFeasibilityAnswer}
 use Rattle.model_points.specs.Rays.{IsRayJudged}
 use Rattle.tree_cert.proofs.NameLaws.{all_cons, all_none, all_first, all_rest, column_place, column_there, numbers_named, numbers_read}
@@ -56,13 +54,6 @@ use Rattle.tree_cert.proofs.ChosenLaws.{lag_chosen, farkas_chosen}
 use Rattle.tree_cert.proofs.CutNames.{used_pass, used_size, used_rows}
 
 -- ---- values
-
-twice : (M : Program) (v : ℚ) → in_least_form M.sense (in_least_form M.sense v) ≡ v
-twice M v = by M.sense
-  where
-    by : (s : Sense) → in_least_form s (in_least_form s v) ≡ v
-    by Min = refl
-    by Max = let e : neg_ℚ (neg_ℚ v) ≡ v = ring (v ∷ []) (search reads_ℚ) tt in e
 
 -- the claim is that of the target against which leaves are judged
 abbrev pub IsClaimFor : Program → Option ℚ → Claim → Type 0
@@ -79,7 +70,7 @@ claim_some M points None t e none = absurd (let f : Some t ≡ None = e ∙ ap (
 claim_some M points (Some x) t e (k, at) =
     let f : Some t ≡ Some (least_value M 1 x) = e ∙ target-at M points x k at in
     let g : t ≡ least_value M 1 x = cc in
-    ap (λ v. Optimal v) (ap (in_least_form M.sense) g ∙ twice M (value M 1 x))
+    ap (λ v. Optimal v) (ap (in_least_form M.sense) g ∙ own-least M.sense (value M 1 x))
 
 pub claim_none : (M : Program) (points : List Point) (best : Option Point) → None ≡ target M points → IsIncumbent M points best → Infeasible ≡ claim_of M best
 claim_none M points None e none = refl

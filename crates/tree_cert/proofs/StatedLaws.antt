@@ -20,7 +20,7 @@ use Rattle.cert_text.specs.Reading.{after}
 use Rattle.cert_text.specs.Text.{StatedCertificate, stated, due_after, is_whole_tree, are_none, takes_ray, lacks_part, code_in, code_at, AreClean, end_code, first_named, cert_of, MeantCertificate}
 use Rattle.cert_text.specs.Tree.{CertTree, Bound, Farkas, Empty, Split, certificate_nodes}
 use Rattle.cert_text.specs.Whole.{TakesAll, HasNoPoint, HasNoRay, HasNoCuts, HasTree}
-use Rattle.cert_text.proofs.DueLemmas.{due_after-more}
+use Rattle.cert_text.proofs.DueLemmas.{due_after-more, takes_whole, due_whole}
 use Rattle.cert_text.proofs.TextLemmas.{stated_more, code_here, clean_more}
 
 nil_right : {A : Type 0} (l : List A) → l ++ [] ≡ l
@@ -185,20 +185,6 @@ module _ (claim : Claim) (points : List Named) (part : HasPart claim points) (cu
 
 -- ---- whole trees
 
-takes_tree : (tree : CertTree) (due : ℕ) (rest : List CertNode) → TakesAll due rest → TakesAll (suc due) (certificate_nodes tree ++ rest)
-takes_tree (Bound mults) due rest h = h
-takes_tree (Farkas mults) due rest h = h
-takes_tree Empty due rest h = h
-takes_tree (Split col v left right) due rest h =
-    subst (TakesAll (suc (suc due))) (sym (append_assoc (certificate_nodes left) (certificate_nodes right) rest)) (takes_tree left (suc due) (certificate_nodes right ++ rest) (takes_tree right due rest h))
-
-due_tree : (tree : CertTree) (due : ℕ) (rest : List CertNode) → due_after (suc due) (certificate_nodes tree ++ rest) ≡ due_after due rest
-due_tree (Bound mults) due rest = let less : suc due - 1 ≡ due = omega arith in ap (λ d. due_after d rest) less
-due_tree (Farkas mults) due rest = let less : suc due - 1 ≡ due = omega arith in ap (λ d. due_after d rest) less
-due_tree Empty due rest = let less : suc due - 1 ≡ due = omega arith in ap (λ d. due_after d rest) less
-due_tree (Split col v left right) due rest =
-    ap (due_after (suc (suc due))) (append_assoc (certificate_nodes left) (certificate_nodes right) rest) ∙ due_tree left (suc due) (certificate_nodes right ++ rest) ∙ due_tree right due rest
-
 some_nodes : (tree : CertTree) → are_none (certificate_nodes tree) ≡ false
 some_nodes (Bound mults) = refl
 some_nodes (Farkas mults) = refl
@@ -206,17 +192,11 @@ some_nodes Empty = refl
 some_nodes (Split col v left right) = refl
 
 module _ (nodes : List CertNode) (tree : CertTree) (whole : certificate_nodes tree ≡ nodes) where
-  pub takes_whole : TakesAll 1 nodes
-  takes_whole = subst (TakesAll 1) (nil_right (certificate_nodes tree) ∙ whole) (takes_tree tree 0 [] tt)
-
-  pub due_whole : due_after 1 nodes ≡ 0
-  due_whole = ap (due_after 1) (sym whole ∙ sym (nil_right (certificate_nodes tree))) ∙ due_tree tree 0 []
-
   end_taken : (count : ℕ) (claim : Claim) (points : List Named) (cuts : List NamedCut) → HasPart claim points → code_in (with_nodes count claim points cuts nodes) (Ok says.End) ≡ None
   end_taken count claim points cuts part =
       ap (λ (b : Bool). opened b (end_test (lacks_part (with_nodes count claim points cuts nodes)) (takes_ray (claim ∷ [])) (are_none nodes) (is_whole_tree nodes))) (not_first count)
       ∙ (λ i. end_test (no_part count claim points cuts nodes part i) (no_ray claim points part i) ((ap are_none (sym whole) ∙ some_nodes tree) i) (is_whole_tree nodes))
-      ∙ ap (λ (d : ℕ). end_test false false false (d == 0)) due_whole
+      ∙ ap (λ (d : ℕ). end_test false false false (d == 0)) (due_whole nodes tree whole)
 
 -- ---- certificates
 

@@ -27,7 +27,7 @@ fn claim(search: &Search) -> Claim
     ensures { (best : Option Point) → IsIncumbent search.now.model search.now.points best → result ≡ claim_of search.now.model best }
 {
     match search.target() {
-        Some(value) => Claim::Optimal(search.model().sense().least_form(&value)),
+        Some(value) => Claim::Optimal(search.model().sense().own_sense(&value)),
         None => Claim::Infeasible,
     }
 }

@@ -16,7 +16,7 @@ use Rattle.sound_searches.specs.declared.taken.Taken.{Taken}
 use Rattle.sound_searches.specs.declared.taken.Taken.TheVariants.{Stale, Refused, Reopened, Full, Closed, Split, Kept}
 use Rattle.sound_searches.specs.Sound.{PlainSearch, formulation_of}
 use Rattle.sound_searches.specs.Placing.{TakesClose, TakesPointClose, TakesBasis}
-use Rattle.tree_edit.specs.PlacingSteps.{JoinsPoint, StaysOpen}
+use Rattle.tree_edit.specs.private.PlacingSteps.{JoinsPoint, StaysOpen}
 use Rattle.tree_edit.proofs.PointTaken.{not-closes_with}
 
 pub judged-closed : (F : Formulation) (t : Option ℚ) (path : Path) (kept : LeafData) → ClosesBy F t path kept → kept.state ≡ IsClosed → IsJudgedLeaf F t path kept

@@ -41,7 +41,7 @@ module _ (F : Formulation) (c : CutRow) where
     number = h.number;
     number_is = number-more F c path l.kept.mult l.kept.farkas lists.mult lists.farkas h.number h.number_is;
     id = h.id;
-    rank_is = h.rank_is;
+    leaf_number_is = h.leaf_number_is;
   }
 
   queued-more : (queue : LeafQueue) (path : Path) (l : LeafKept) → HasLists F l.kept → IsQueued F queue path l → IsQueued G queue path l

@@ -15,7 +15,7 @@ use Rattle.sound_searches.proofs.SoundLemmas.{each-weaker}
 
 module _ (S : PlainSearch) (queue : LeafQueue) (held : List (Option ℕ)) (is : IsQueueOf (formulation_of S) S.tree.root queue) where
   abbrev IsLater : Candidate → Path → LeafKept → Type 0
-  IsLater c p l = IsNotFree held l ⊎ ((d : Candidate) × (IsCandidate (formulation_of S) (region_leaf (p, l)) d × GoesFirst c.rank c.id d.rank d.id))
+  IsLater c p l = IsNotFree held l ⊎ ((d : Candidate) × (IsCandidate (formulation_of S) (region_leaf (p, l)) d × GoesFirst c.leaf_number c.id d.leaf_number d.id))
 
   held-leaf : (p : Path) (l : LeafKept) (d : Candidate) → IsCandidate (formulation_of S) (region_leaf (p, l)) d → is_held held d.id ≡ true → IsNotFree held l
   held-leaf p l d candidate taken = inr (sym (ap (is_held held) candidate.id) ∙ taken)

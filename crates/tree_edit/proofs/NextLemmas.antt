@@ -26,7 +26,7 @@ closed-append : (ls ms : List RegionLeaf) → AreClosed ls → AreClosed ms → 
 closed-append [] ms h k = k
 closed-append (l ∷ ls) ms h k = (h.0, closed-append ls ms h.1 k)
 
-closed-leaves : (path : Path) (t : Plain) → EachLeaf (λ p l. l.kept.state ≡ IsClosed) path t → AreClosed (region_leaves path t)
+pub closed-leaves : (path : Path) (t : Plain) → EachLeaf (λ p l. l.kept.state ≡ IsClosed) path t → AreClosed (region_leaves path t)
 closed-leaves path (Leaf l) h = (h, tt)
 closed-leaves path (Split kept j v left right) h =
     subst AreClosed (sym (two-parts path kept j v left right))
@@ -36,7 +36,7 @@ closed-leaves path (Split kept j v left right) h =
 
 module _ (F : Formulation) (c : Candidate) where
   abbrev IsLater : RegionLeaf → Type 0
-  IsLater l = (l.kept.state ≡ IsClosed) ⊎ ((d : Candidate) × (IsCandidate F l d × GoesFirst c.rank c.id d.rank d.id))
+  IsLater l = (l.kept.state ≡ IsClosed) ⊎ ((d : Candidate) × (IsCandidate F l d × GoesFirst c.leaf_number c.id d.leaf_number d.id))
 
   one-left : (ls ms : List RegionLeaf) → IsOneOf F ls c → IsOneOf F (ls ++ ms) c
   one-left [] ms h = absurd h
@@ -47,7 +47,7 @@ module _ (F : Formulation) (c : Candidate) where
   one-right [] ms h = h
   one-right (l ∷ ls) ms h = inr (one-right ls ms h)
 
-  one-leaf : (path : Path) (t : Plain) → SomeLeaf (λ p l. IsCandidate F (region_leaf (p, l)) c) path t → IsOneOf F (region_leaves path t) c
+  pub one-leaf : (path : Path) (t : Plain) → SomeLeaf (λ p l. IsCandidate F (region_leaf (p, l)) c) path t → IsOneOf F (region_leaves path t) c
   one-leaf path (Leaf l) h = inl h
   one-leaf path (Split kept j v left right) (inl h) =
       subst (λ ls. IsOneOf F ls c) (sym (two-parts path kept j v left right)) (one-left (region_leaves (left_path path j v) left) (region_leaves (right_path path j v) right) (one-leaf (left_path path j v) left h))
@@ -58,7 +58,7 @@ module _ (F : Formulation) (c : Candidate) where
   before-append [] ms h k = k
   before-append (l ∷ ls) ms h k = (h.0, before-append ls ms h.1 k)
 
-  before-leaves : (path : Path) (t : Plain) → EachLeaf (λ p l. IsLater (region_leaf (p, l))) path t → GoesBeforeAll F c (region_leaves path t)
+  pub before-leaves : (path : Path) (t : Plain) → EachLeaf (λ p l. IsLater (region_leaf (p, l))) path t → GoesBeforeAll F c (region_leaves path t)
   before-leaves path (Leaf l) h = (h, tt)
   before-leaves path (Split kept j v left right) h =
       subst (GoesBeforeAll F c) (sym (two-parts path kept j v left right))

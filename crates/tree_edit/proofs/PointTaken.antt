@@ -26,7 +26,7 @@ use Rattle.leaf_judging.proofs.NumberLemmas.{numbers-states}
 use Rattle.sound_searches.proofs.SoundLemmas.{tree-states, is_at-states, own-states}
 use Rattle.search_parts.specs.Points.{target, IsKeepable}
 use Rattle.search_parts.specs.Joining.{IsWorst, IsPlaceWithin, list_without, AddsPoint, Joins}
-use Rattle.tree_edit.specs.PlacingSteps.{JoinsPoint}
+use Rattle.tree_edit.specs.private.PlacingSteps.{JoinsPoint}
 use Rattle.sound_searches.specs.Placing.{TakesPoint, ClosesWith, HasLeafAt}
 use Rattle.search_parts.proofs.WorstLemmas.{map-without, all-without, few-without, least-target, worst_unique}
 

@@ -18,8 +18,8 @@ use Rattle.leaf_judging.specs.declared.choosing.Candidate.{Candidate}
 use Rattle.leaf_judging.specs.declared.queue.LeafQueue.{LeafQueue}
 use Rattle.leaf_judging.specs.Closing.{IsNumber}
 use Rattle.leaf_judging.specs.Choosing.{IsCandidate}
-use Rattle.leaf_judging.specs.Queued.{Has, IsThat, AddsBoth, Removes, IsSameQueue, IsNew, SomeLeaf, IsQueued, IsQueueOf, IsRank, HasRank, HasMultipliers, HasState, IsChildCandidate, candidate_of}
-use Rattle.sound_searches.specs.Placing.{IsAt, split_node}
+use Rattle.leaf_judging.specs.Queued.{Has, IsThat, AddsBoth, Removes, IsSameQueue, IsNew, SomeLeaf, IsQueued, IsQueueOf, IsFiniteNumber, HasFiniteNumber, HasMultipliers, HasState, IsChildCandidate, candidate_of}
+use Rattle.sound_searches.specs.Placing.{IsAt, split_with_leaves}
 use Rattle.leaf_judging.proofs.JudgeLemmas.{rank_same}
 use Rattle.sound_searches.proofs.ClosedTree.{each_both}
 use Rattle.sound_searches.proofs.SoundLemmas.{each-weaker}
@@ -42,12 +42,12 @@ module _ (F : Formulation) (t : Plain) where
 
   -- ---- a leaf that is closed
 
-  module _ (r : Option ℚ) (id : ℕ) (path : Path) (kept : LeafData) (at : IsAt id path t) (ranked : HasRank F t (record { rank = r; id = id })) where
+  module _ (r : Option ℚ) (id : ℕ) (path : Path) (kept : LeafData) (at : IsAt id path t) (ranked : HasFiniteNumber F t (record { leaf_number = r; id = id })) where
     abbrev this : Candidate
-    this = record { rank = r; id = id }
+    this = record { leaf_number = r; id = id }
 
     abbrev Ranked : Path → LeafKept → Type 0
-    Ranked p l = IsRank F p l.kept r
+    Ranked p l = IsFiniteNumber F p l.kept r
 
     known : EachLeaf (λ p l. l.id ≡ id → (p ≡ path) × Ranked p l) [] t
     known = each-weaker (λ p l. (l.id ≡ id → p ≡ path) × (l.id ≡ id → Ranked p l)) (λ p l. l.id ≡ id → (p ≡ path) × Ranked p l) (λ p l h e. (h.0 e, h.1 e)) [] t
@@ -56,9 +56,9 @@ module _ (F : Formulation) (t : Plain) where
     -- the leaf's only candidate is this one
     is-this : (p : Path) (l : LeafKept) (c : Candidate) → l.id ≡ id → Ranked p l → IsCandidate F (region_leaf (p, l)) c → c ≡ this
     is-this p l c e h k =
-        let same : c.rank ≡ r = k.rank_is ∙ rank_same F p l.kept.mult l.kept.farkas k.number h.0 k.number_is h.1.0 ∙ sym h.1.1 in
+        let same : c.leaf_number ≡ r = k.leaf_number_is ∙ rank_same F p l.kept.mult l.kept.farkas k.number h.0 k.number_is h.1.0 ∙ sym h.1.1 in
         let ids : c.id ≡ id = k.id ∙ e in
-        λ i. record { rank = same i; id = ids i }
+        λ i. record { leaf_number = same i; id = ids i }
 
     -- each other leaf stays in the queue
     others-stay : (old new : LeafQueue) → ((c : Candidate) → Has old c → c ≢ this → Has new c) → (p : Path) (l : LeafKept) → l.id ≢ id → IsQueued F old p l → IsQueued F new p l
@@ -78,7 +78,7 @@ module _ (F : Formulation) (t : Plain) where
 
     module _ (old added new : LeafQueue) (last j : ℕ) (v : ℤ) (mult : Multipliers) (basis : Basis) (left right : LeafData) (one two : Option Candidate) where
       abbrev node : Plain
-      node = split_node last id j v mult basis left right
+      node = split_with_leaves last id j v mult basis left right
 
       stays-in : AddsBoth old one two added → Removes added (Some this) new → (c : Candidate) → Has old c → c ≢ this → Has new c
       stays-in adds removed c has ne = (removed c).1 ((adds c).1 (inl has), ne)
@@ -135,7 +135,7 @@ module _ (F : Formulation) (t : Plain) where
       number = k.number;
       number_is = subst (λ m. IsNumber F path m kept.farkas k.number) o.0 (subst (λ f. IsNumber F path l.kept.mult f k.number) o.1.0 k.number_is);
       id = k.id ∙ e;
-      rank_is = k.rank_is;
+      leaf_number_is = k.leaf_number_is;
     }
 
     pub queue-stays : (queue : LeafQueue) → IsQueueOf F t queue → IsQueueOf F (replaced id (Leaf here) t) queue
@@ -167,8 +167,8 @@ other-id T n k id past has e = let same : leaves_with k T.root ≡ leaves_with i
 
 module _ (F : Formulation) (T : NumberedTree) (n : IsNumbered T) (old added new : LeafQueue) (left right : LeafData) (left_rank right_rank : Option ℚ) (one two : Option Candidate) (is : IsQueueOf F T.root old)
     (left_is : one ≡ candidate_of left.state left_rank (T.last + 1)) (right_is : two ≡ candidate_of right.state right_rank (T.last + 2)) (adds : AddsBoth old one two added) where
-  pub split-queue : (r : Option ℚ) (id : ℕ) (path : Path) (j : ℕ) (v : ℤ) (mult : Multipliers) (basis : Basis) → HasLeaf T id → IsAt id path T.root → HasRank F T.root (record { rank = r; id = id }) → Removes added (Some (record { rank = r; id = id })) new
-      → IsRank F (left_path path j v) left left_rank → IsRank F (right_path path j v) right right_rank → IsQueueOf F (replaced id (split_node T.last id j v mult basis left right) T.root) new
+  pub split-queue : (r : Option ℚ) (id : ℕ) (path : Path) (j : ℕ) (v : ℤ) (mult : Multipliers) (basis : Basis) → HasLeaf T id → IsAt id path T.root → HasFiniteNumber F T.root (record { leaf_number = r; id = id }) → Removes added (Some (record { leaf_number = r; id = id })) new
+      → IsFiniteNumber F (left_path path j v) left left_rank → IsFiniteNumber F (right_path path j v) right right_rank → IsQueueOf F (replaced id (split_with_leaves T.last id j v mult basis left right) T.root) new
   split-queue r id path j v mult basis has at ranked removed first second =
       queue-split F T.root r id path left at ranked old added new T.last j v mult basis left right one two is adds removed has
       (other-id T n (T.last + 1) id (omega arith) has) (other-id T n (T.last + 2) id (omega arith) has)

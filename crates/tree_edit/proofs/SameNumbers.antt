@@ -18,11 +18,11 @@ use Rattle.leaf_judging.specs.declared.numbers.LeafNumbers.{LeafNumbers}
 use Rattle.leaf_judging.specs.Closing.{IsNumber, IsJudged, IsJudgedLeaf}
 use Rattle.leaf_judging.specs.Judged.{AreJudged}
 use Rattle.leaf_judging.specs.Choosing.{finite_number}
-use Rattle.leaf_judging.specs.Queued.{IsRank, HasRank, HasMultipliers, HasState}
+use Rattle.leaf_judging.specs.Queued.{IsFiniteNumber, HasFiniteNumber, HasMultipliers, HasState}
 use Rattle.leaf_judging.specs.Numbers.{kept_number, PutsNumber, KeepsOtherNumbers, KeepsOtherTwo, HasBoth, HasKept, AreNumbersOf}
 use Rattle.sound_searches.specs.Sound.{PlainSearch, formulation_of}
 use Rattle.sound_searches.specs.Calls.{IsLeafNumberAnswer}
-use Rattle.sound_searches.specs.Placing.{IsAt, split_node}
+use Rattle.sound_searches.specs.Placing.{IsAt, split_with_leaves}
 use Rattle.sound_searches.proofs.ClosedTree.{each_both}
 use Rattle.sound_searches.proofs.SoundLemmas.{each-weaker, none_with}
 use Rattle.tree_edit.proofs.QueuedLemmas.{each-changed}
@@ -31,10 +31,10 @@ use Rattle.tree_edit.proofs.QueueChanges.{Own, owned}
 
 -- ---- what is kept
 
--- the rank of the leaf with the id
-pub kept-rank : (F : Formulation) (t : Plain) (numbers : LeafNumbers) (id : ℕ) (n : LeafNumber) (r : Option ℚ) → AreNumbersOf F t numbers → ((m : LeafNumber) → kept_number numbers id ≡ Some m → n ≡ m) → r ≡ finite_number n → HasRank F t (record { rank = r; id = id })
-kept-rank F t numbers id n r are same is =
-    each-weaker (HasKept F numbers) (λ p l. l.id ≡ id → IsRank F p l.kept r)
+-- the number of the leaf with the id
+pub kept-leaf_number : (F : Formulation) (t : Plain) (numbers : LeafNumbers) (id : ℕ) (n : LeafNumber) (r : Option ℚ) → AreNumbersOf F t numbers → ((m : LeafNumber) → kept_number numbers id ≡ Some m → n ≡ m) → r ≡ finite_number n → HasFiniteNumber F t (record { leaf_number = r; id = id })
+kept-leaf_number F t numbers id n r are same is =
+    each-weaker (HasKept F numbers) (λ p l. l.id ≡ id → IsFiniteNumber F p l.kept r)
     (λ p l h e. (h.0, (h.1.1, is ∙ ap finite_number (same h.0 (subst (λ i. kept_number numbers i ≡ Some h.0) e h.1.0))))) [] t are
 
 some-kept : (o : Option LeafNumber) (n : LeafNumber) → o ≡ Some n → IsSome o
@@ -129,7 +129,7 @@ pub numbers-split : (F : Formulation) (t : Plain) (numbers mid new : LeafNumbers
     → leaves_with (last + 1) t ≡ 0 → leaves_with (last + 2) t ≡ 0 → last + 1 ≢ id → last + 2 ≢ id
     → HasBoth mid (last + 1) m (last + 2) n → KeepsOtherTwo numbers (last + 1) (last + 2) mid → KeepsOtherNumbers mid id new
     → IsNumber F (left_path path j v) left.mult left.farkas m → IsNumber F (right_path path j v) right.mult right.farkas n
-    → AreNumbersOf F (replaced id (split_node last id j v mult basis left right) t) new
+    → AreNumbersOf F (replaced id (split_with_leaves last id j v mult basis left right) t) new
 numbers-split F t numbers mid new last id path j v mult basis left right m n are at first_none second_none first second both others rest is_left is_right =
-    numbers-two F t numbers are (last + 1) (last + 2) first_none second_none id path (split_node last id j v mult basis left right) mid new at others rest
+    numbers-two F t numbers are (last + 1) (last + 2) first_none second_none id path (split_with_leaves last id j v mult basis left right) mid new at others rest
     ((m, (rest (last + 1) first ∙ both.0, is_left)), (n, (rest (last + 2) second ∙ both.1, is_right)))

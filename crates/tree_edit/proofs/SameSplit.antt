@@ -15,7 +15,7 @@ use Rattle.search_parts.specs.Checks.{IsFrom, IsUnder}
 use Rattle.sound_searches.specs.Placing.{IsSplitSound}
 use Rattle.sound_searches.specs.Sound.{PlainSearch, formulation_of}
 use Rattle.tree_edit.specs.declared.splitting.Child.{Child}
-use Rattle.tree_edit.specs.PlacingSteps.{IsNumberedChild}
+use Rattle.tree_edit.specs.private.PlacingSteps.{IsNumberedChild}
 
 module _ (R P : Path) (s : SameBounds R P) where
   -- with one more change

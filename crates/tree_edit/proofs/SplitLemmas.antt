@@ -24,7 +24,7 @@ use Rattle.leaf_judging.specs.declared.queue.LeafQueue.{LeafQueue}
 use Rattle.leaf_judging.specs.Queued.{IsQueueOf}
 use Rattle.leaf_judging.specs.Numbers.{AreNumbersOf}
 use Rattle.tree_edit.specs.Indexed.{IsIndexed}
-use Rattle.sound_searches.specs.Placing.{IsAt, IsChild, IsSplitSound, split_node, tree_with_split, search_with_split}
+use Rattle.sound_searches.specs.Placing.{IsAt, IsChild, IsSplitSound, split_with_leaves, tree_with_split, search_with_split}
 use Rattle.sound_searches.proofs.SoundLemmas.{tree-replaced, judged-replaced}
 
 -- ---- one change after another
@@ -70,7 +70,7 @@ module _ (T : NumberedTree) (n : IsNumbered T) (id j : ℕ) (v : ℤ) (mult : Mu
       (leaf-same (T.last + 1) (Leaf (record { id = T.last + 1; kept = left })) (record { id = T.last + 1; kept = open_data mult basis }) refl i)
       (leaf-other (T.last + 1) (Leaf (record { id = T.last + 1; kept = left })) (record { id = T.last + 2; kept = open_data mult basis }) (λ e. omega arith) i)
 
-  second-put : replaced (T.last + 2) (Leaf (record { id = T.last + 2; kept = right })) with_first ≡ split_node T.last id j v mult basis left right
+  second-put : replaced (T.last + 2) (Leaf (record { id = T.last + 2; kept = right })) with_first ≡ split_with_leaves T.last id j v mult basis left right
   second-put = λ i. Split kept j v
       (leaf-other (T.last + 2) (Leaf (record { id = T.last + 2; kept = right })) (record { id = T.last + 1; kept = left }) (λ e. omega arith) i)
       (leaf-same (T.last + 2) (Leaf (record { id = T.last + 2; kept = right })) (record { id = T.last + 2; kept = open_data mult basis }) refl i)
@@ -112,10 +112,10 @@ narrow-at v low high = (omega (arith, ints), omega (arith, ints))
 
 pub kept-split : (S : PlainSearch) (values : List ℚ) (numbers more : LeafNumbers) (queue new : LeafQueue) (id : ℕ) (path : Path) (j : ℕ) (v : ℤ) (mult : Multipliers) (basis : Basis) (left right : LeafData) → IsIndexed S values numbers queue → IsAt id path S.tree.root
     → IsSplitSound (formulation_of S) path j v mult basis → neg_ℤ (pos largest) ≤ℤ v → v <ℤ pos largest → IsChild S (left_path path j v) mult basis left → IsChild S (right_path path j v) mult basis right
-    → AreNumbersOf (formulation_of S) (replaced id (split_node S.tree.last id j v mult basis left right) S.tree.root) more → IsQueueOf (formulation_of S) (replaced id (split_node S.tree.last id j v mult basis left right) S.tree.root) new
+    → AreNumbersOf (formulation_of S) (replaced id (split_with_leaves S.tree.last id j v mult basis left right) S.tree.root) more → IsQueueOf (formulation_of S) (replaced id (split_with_leaves S.tree.last id j v mult basis left right) S.tree.root) new
     → IsIndexed (search_with_split S id j v mult basis left right) values more new
 kept-split S values numbers more queue new id path j v mult basis left right kept at split low high is_left is_right numbered q =
-    let node = split_node S.tree.last id j v mult basis left right in
+    let node = split_with_leaves S.tree.last id j v mult basis left right in
     let lists_left = child-lists S (left_path path j v) mult basis left split.mult_is split.basis_is is_left in
     let lists_right = child-lists S (right_path path j v) mult basis right split.mult_is split.basis_is is_right in
     record {

@@ -12,11 +12,11 @@ ghost use Rattle.branch_tree.specs.Leaves.{with_state, leaf_count};
 ghost use Rattle.branch_tree.specs.Changes.{HasLeaf, with_leaf_states};
 ghost use Rattle.branch_tree.specs.Plain.{data_of};
 ghost use Rattle.branch_tree.specs.declared.node.LeafData.{LeafData};
-ghost use Rattle.leaf_judging.specs.Queued.{HasRank, HasMultipliers};
-ghost use Rattle.tree_edit.specs.PlacingSteps.{JoinsPoint, ClosesByNumber, StaysOpen};
+ghost use Rattle.leaf_judging.specs.Queued.{HasFiniteNumber, HasMultipliers};
+ghost use Rattle.tree_edit.specs.private.PlacingSteps.{JoinsPoint, ClosesByNumber, StaysOpen};
 ghost use Rattle.sound_searches.specs.declared.taken.Taken.TheVariants.{Refused};
 ghost use Rattle.sound_searches.specs.Placing.{TakesPoint, HasLeafAt, search_with_leaf, TakesClose, TakesPointClose, PutsJudged, TakesPointKeep, TakesBasis, IsStale, IsOpenPlace, Takes, closed_data, with_basis};
-ghost use Rattle.sound_searches.specs.Jobs.{IsJobOf};
+ghost use Rattle.sound_searches.specs.Calls.{IsOpenLeaf};
 ghost use Rattle.sound_searches.specs.Sound.{formulation_of};
 
 use crate::search::Search;
@@ -24,7 +24,7 @@ use crate::splitting::Split;
 use branch_tree::{Job, LeafData, LeafState, NodeResult, Tree};
 use frac128::Frac;
 use leaf_judging::{
-    Candidate, LeafNumber, LeafQueue, Marks, judge_again, number_closes, number_of, rank,
+    Candidate, LeafNumber, LeafQueue, Marks, finite_number, judge_again, number_closes, number_of,
 };
 use lp_model::{Basis, Mult, Point, Region};
 use search_parts::{
@@ -102,10 +102,10 @@ impl Search {
     }
 
     /// The number that is kept of the leaf with the id, if it has one.
-    pub(crate) fn rank_of(&self, id: u64) -> Option<Frac>
-        ensures { HasRank (formulation_of self.now) self.now.tree.root (record { rank = result; id = id }) }
+    pub(crate) fn leaf_number_of(&self, id: u64) -> Option<Frac>
+        ensures { HasFiniteNumber (formulation_of self.now) self.now.tree.root (record { leaf_number = result; id = id }) }
     {
-        rank(&self.numbers.number_or_minus(id))
+        finite_number(&self.numbers.number_or_minus(id))
     }
 
     /// Gives the leaf with the id data with this number, by which it is closed.
@@ -117,8 +117,8 @@ impl Search {
         requires closed { kept.state ≡ IsClosed }
         ensures { self.new ≡ search_with_leaf self.old id kept }
     {
-        let rank = self.rank_of(id);
-        self.queue.remove(&Some(Candidate { rank, id }));
+        let leaf_number = self.leaf_number_of(id);
+        self.queue.remove(&Some(Candidate { leaf_number, id }));
         self.numbers.set(id, number);
         self.tree.set_leaf(id, kept);
     }
@@ -494,9 +494,10 @@ impl Search {
 }
 
 impl Search {
-    /// Places the result of a job of this search: what `place` does on its leaf, whose region the job has.
+    /// Places the result of a job whose leaf is open: what `place` does, without looking for the region, which the job has. Results
+    /// for other leaves may have been placed since the job was handed out.
     pub fn place_done(&mut self, job: &Job, done: NodeResult) -> Result<Taken, AllocError>
-        requires { IsJobOf self.old job.now.id job.now }
+        requires { IsOpenLeaf self.old job.now.id job.now.region }
         ensures taken { IfOk result (λ taken. Takes self.old job.now.id done self.new taken) }
         ensures kept { OnErr result (self.new ≡ self.old) }
     {

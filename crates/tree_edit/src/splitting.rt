@@ -9,13 +9,13 @@ ghost use Rattle.branch_tree.specs.Changes.{HasLeaf, HasRoom};
 ghost use Rattle.sound_searches.specs.Placing.{HasLeafAt, IsSplitSound, TakesSplit, tree_with_split};
 ghost use Rattle.leaf_judging.specs.Numbers.{HasBoth, KeepsOtherTwo};
 ghost use Rattle.leaf_judging.specs.Queued.{IsNew, AddsBoth, IsSameQueue};
-ghost use Rattle.tree_edit.specs.PlacingSteps.{IsNumberedChild, child_candidate};
+ghost use Rattle.tree_edit.specs.private.PlacingSteps.{IsNumberedChild, child_candidate};
 ghost use Rattle.sound_searches.specs.Sound.{formulation_of};
 
 use crate::search::Search;
 use branch_tree::{LeafData, Tree, copy_lists};
 use leaf_judging::{
-    Candidate, LeafNumber, LeafNumbers, LeafQueue, as_candidate, number_of, rank, state_by,
+    Candidate, LeafNumber, LeafNumbers, LeafQueue, as_candidate, finite_number, number_of, state_by,
 };
 use lp_model::{Basis, BoundChange, ColId, List, Mult, Region};
 use search_parts::{are_multipliers, is_basis, is_split_allowed};
@@ -98,7 +98,7 @@ fn split_tree(tree: &mut Tree, id: u64, branching: Branching) -> Result<(), Allo
 fn candidate(child: &Child, id: u64) -> Option<Candidate>
     ensures { result ≡ child_candidate child.now id }
 {
-    as_candidate(&child.kept.state, rank(&child.number), id)
+    as_candidate(&child.kept.state, finite_number(&child.number), id)
 }
 
 /// Puts down the numbers of a split's children, which get these ids, and adds those that are open to the queue. Where there is
@@ -254,7 +254,7 @@ impl Search {
         ensures taken { IfOk result (λ taken. TakesSplit self.old id region.now branching.split.col.0 branching.split.v branching.split.mult branching.split.basis self.new taken) }
         ensures kept { OnErr result (self.new ≡ self.old) }
     {
-        let own = self.rank_of(id);
+        let own = self.leaf_number_of(id);
         let Some((one, two)) = self.tree.next_ids() else {
             drop(branching);
             return Ok(Taken::Full);
@@ -270,7 +270,10 @@ impl Search {
             branching,
         ) {
             Ok(()) => {
-                self.queue.remove(&Some(Candidate { rank: own, id }));
+                self.queue.remove(&Some(Candidate {
+                    leaf_number: own,
+                    id,
+                }));
                 self.numbers.remove(id);
                 Ok(Taken::Split)
             }

@@ -17,7 +17,7 @@
 //! so after every list of events the search is sound (`any_events_law`), a finished one has shown its optimum or that there is none
 //! (`finished`), and two finished ones on one model have shown the same (`same_end_law`), whoever worked in whatever order.
 //!
-//! Below stands the search (`tree_edit`). No command has workers yet: the manager is proved and tried by rows of events.
+//! Below stands the search (`tree_edit`). Above, a model is searched by a manager's workers (`tree_search`), and rows of events try it.
 #![tactic(auto)]
 
 mod holding;

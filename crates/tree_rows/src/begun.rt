@@ -1,5 +1,5 @@
 // What a row has begun, and what its calls are answered.
-use crate::{searches, trees};
+use crate::{searches, solving, trees};
 use anyhow::{Result, bail};
 use branch_tree::Tree;
 use frac128::Frac;
@@ -62,8 +62,21 @@ impl Begun {
         Ok(())
     }
 
+    /// Searches on with the search, which was taken out.
+    fn solve(&mut self, search: Search, line: &str, got: &mut String) -> Result<()> {
+        let (search, told) = solving::solve(self.alloc, search, line, got);
+        drop(replace(&mut self.search, Some(search)));
+        told
+    }
+
     /// Makes a call that begins nothing, and writes its answer.
     fn call_begun(&mut self, word: &str, line: &str, got: &mut String) -> Result<()> {
+        if word == "solve" {
+            match self.search.take() {
+                Some(search) => return self.solve(search, line, got),
+                None => {}
+            }
+        }
         if let Some(search) = &mut self.search {
             return searches::call(self.alloc, search, word, line, got);
         }

@@ -1,5 +1,4 @@
 // What a search answers.
-use crate::solving::solve;
 use anyhow::Result;
 use frac128::Frac;
 use lp_model::Model;
@@ -22,7 +21,6 @@ fn answer(
 ) -> Result<()> {
     match word {
         "edit" => edit(alloc, search, words, got)?,
-        "solve" => solve(alloc, search, words, got)?,
         "limit" => search.set_limit(take_number(words)?),
         "restart" => search.restart()?,
         "trim" => search.trim(take_number(words)?)?,

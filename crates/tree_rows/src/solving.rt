@@ -1,19 +1,21 @@
 // Searches driven to where they end or stop.
-ghost use Rattle.std.specs.Prelude.{IfOk};
+ghost use Rattle.std.specs.Prelude.{◌≡◌, ◌≤◌, replicate, None, IfOk};
 ghost use Rattle.dual_simplex.specs.SlackBases.{IsLawfulSlackBasis};
+ghost use Rattle.tree_search.specs.Search.{IsLeft};
 
 use crate::searches::push_some;
 use anyhow::{Result, bail};
 use dual_simplex::slack_basis;
 use frac128::Frac;
-use lp_model::{Answer, Basis, Model, Region, StopWhy};
+use lp_model::{Answer, Basis, Model, NODE_LIMIT, Region, StopWhy};
 use model_calls::{push_step, take_number};
 use model_texts::{Words, push_basis, push_point};
 use ray_phase::root_law;
 use search_calls::push_region;
-use std::alloc::Global;
+use std::alloc::{AllocError, Global};
 use tree_edit::Search;
-use tree_search::{Ways, answer_of, search_on};
+use tree_manager::Manager;
+use tree_search::{Limits, Searched, Ways, answer_of, search_on};
 
 /// The basis at which a leaf that keeps none begins.
 fn first_basis(alloc: Global, model: &Model) -> Result<Basis>
@@ -25,23 +27,62 @@ fn first_basis(alloc: Global, model: &Model) -> Result<Basis>
     }
 }
 
-/// `N` and, if there is one, `pivots N`: searches on, with as many results, and moves of each relaxation, as are allowed.
-pub fn solve(
-    alloc: Global,
-    search: &mut Search,
-    words: &mut Words,
-    got: &mut String,
-) -> Result<()> {
-    let nodes = take_number(words)?;
+/// `N` and, if there is one, `pivots N`: how many results, and moves of each relaxation, are allowed. One worker searches.
+fn limits_of(alloc: Global, line: &str) -> Result<Limits>
+    ensures { IfOk result (λ limits. 1 ≤ limits.workers) }
+{
+    let mut words = Words::new(alloc, line)?;
+    let nodes = take_number(&mut words)?;
     let pivots = if words.takes("pivots") {
-        take_number(words)?
+        take_number(&mut words)?
     } else {
         u64::MAX
     };
-    let first = first_basis(alloc, search.model())?;
+    words.end()?;
+    Ok(Limits {
+        nodes,
+        pivots,
+        tree: NODE_LIMIT,
+        workers: 1,
+        seed: 0,
+    })
+}
+
+/// Searches on through a manager of one worker.
+fn search_through(alloc: Global, manager: &mut Manager, limits: &Limits) -> Result<Searched>
+    requires { manager.old.held ≡ replicate limits.now.workers None }
+    ensures { IfOk result (λ searched. IsLeft manager.new.search searched.ended) }
+{
+    let first = first_basis(alloc, manager.search().model())?;
     root_law();
-    let searched = search_on(alloc, search, &Ways::Own, &first, nodes, pivots)?;
+    let searched = search_on(alloc, manager, &Ways::Own, &first, limits);
     drop(first);
+    Ok(searched?)
+}
+
+/// Searches on as the line says, and writes what that shows. The search comes back.
+pub fn solve(alloc: Global, search: Search, line: &str, got: &mut String) -> (Search, Result<()>) {
+    let limits = match limits_of(alloc, line) {
+        Ok(limits) => limits,
+        Err(error) => return (search, Err(error)),
+    };
+    let mut manager = match Manager::new(alloc, search, limits.workers as usize) {
+        Ok(manager) => manager,
+        Err(search) => return (search, Err(AllocError.into())),
+    };
+    let searched = search_through(alloc, &mut manager, &limits);
+    let search = manager.into_search();
+    let told = match searched {
+        Ok(searched) => tell(alloc, &search, searched, got),
+        Err(error) => Err(error),
+    };
+    (search, told)
+}
+
+/// Writes what the end of a search shows.
+fn tell(alloc: Global, search: &Search, searched: Searched, got: &mut String) -> Result<()>
+    requires { IsLeft search.now searched.ended }
+{
     let answer = answer_of(alloc, search, searched);
     let pushed = push_answer(got, search.model(), &answer);
     drop(answer);
@@ -53,20 +94,20 @@ fn push_answer(got: &mut String, model: &Model, answer: &Answer) -> Result<()> {
         Answer::Optimal {
             value,
             point,
-            placed,
+            results,
         } => {
-            write!(got, "optimal {value} nodes {placed} at")?;
+            write!(got, "optimal {value} nodes {results} at")?;
             push_point(got, model, point)?;
         }
-        Answer::Infeasible { placed } => write!(got, "infeasible nodes {placed}")?,
-        Answer::Unbounded { placed } => write!(got, "unbounded nodes {placed}")?,
+        Answer::Infeasible { results } => write!(got, "infeasible nodes {results}")?,
+        Answer::Unbounded { results } => write!(got, "unbounded nodes {results}")?,
         Answer::Stopped {
             why,
-            placed,
+            results,
             bound,
             best,
         } => {
-            push_stop(got, model, why, *placed)?;
+            push_stop(got, model, why, *results)?;
             got.push_str(" bound")?;
             push_some(got, bound)?;
             got.push_str(" best")?;
@@ -77,18 +118,18 @@ fn push_answer(got: &mut String, model: &Model, answer: &Answer) -> Result<()> {
     Ok(())
 }
 
-fn push_stop(got: &mut String, model: &Model, why: &StopWhy, placed: u64) -> Result<()> {
+fn push_stop(got: &mut String, model: &Model, why: &StopWhy, results: u64) -> Result<()> {
     match why {
-        StopWhy::Nodes => write!(got, "stopped nodes {placed}")?,
-        StopWhy::Tree => write!(got, "stopped tree {placed}")?,
+        StopWhy::Nodes => write!(got, "stopped nodes {results}")?,
+        StopWhy::Tree => write!(got, "stopped tree {results}")?,
         StopWhy::Pivots(place) => {
-            write!(got, "stopped pivots {placed}")?;
+            write!(got, "stopped pivots {results}")?;
             push_place(got, model, &place.path, &place.basis)?;
         }
         StopWhy::Wide(at) => {
             write!(got, "stopped ")?;
             push_step(got, model, at.step)?;
-            write!(got, " {placed}")?;
+            write!(got, " {results}")?;
             push_place(got, model, &at.path, &at.basis)?;
         }
     }

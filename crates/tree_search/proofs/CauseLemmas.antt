@@ -28,7 +28,7 @@ use Rattle.basic_solution.specs.Lists.{IsBasisOf}
 use Rattle.node_solve.specs.Works.{IsRunWide}
 use Rattle.node_solve.specs.Rounds.{Round, MakesRounds, EndsRounds, IsWorked}
 use Rattle.node_solve.specs.Places.{live_cuts, live_places, basis_in_relaxation, basis_in_pool, with_cut_variables}
-use Rattle.node_solve.specs.Laws.{AreAt, AreLive}
+use Rattle.node_solve.specs.Laws.{AreAt, AreAllLive}
 use Rattle.node_solve.proofs.AddedLemmas.{more-cuts}
 use Rattle.node_solve.proofs.EndLemmas.{state_of}
 use Rattle.node_solve.proofs.ListLemmas.{basis_there}
@@ -39,10 +39,11 @@ use Rattle.node_solve.specs.declared.working.Worked.{Worked}
 use Rattle.node_solve.specs.declared.working.Worked.TheVariants.{Done, Pivots, Wide}
 use Rattle.basic_solution.specs.Held.{Held}
 use Rattle.dual_simplex.proofs.SolveLemmas.{of_after}
-use Rattle.tree_search.specs.Steps.{work_next, kept_basis, worked_model, IsWayFor, HasOpenLeaf, WorksNext, Goes, KeepsOpen, FullAtNext, PivotsAtNext, StepAtNext, ValueAtNext, StopsAtNext, IsRayWay}
+use Rattle.tree_search.specs.Steps.{work_next, kept_basis, worked_model, IsWayFor, HasOpenLeaf, WorksNext, KeepsOpen, FullAtNext, PivotsAtNext, StepAtNext, ValueAtNext, StopsAtNext, IsRayWay}
 use Rattle.tree_search.specs.Room.{AreAmong, IsSelection, IsWorkedRegion}
-use Rattle.tree_search.specs.Causes.{IsPivotCause, IsStepCause, IsWideValue, IsWideValueBy, IsCause, HasCause, IsAtEnd, HasOwnValues, IsEnoughForSearch}
+use Rattle.tree_search.specs.Causes.{IsPivotCause, IsStepCause, IsWideValue, IsWideValueBy, IsCause, HasStopCause, IsAtEnd, HasOwnValues, IsEnoughForSearch}
 use Rattle.tree_search.specs.Extends.{Extends}
+use Rattle.tree_search.specs.Turns.{Order, Goes}
 use Rattle.tree_search.specs.Search.{StopsFor, Ends, IsLeft, Finds}
 use Rattle.tree_search.specs.declared.searching.Ways.{Ways}
 use Rattle.tree_search.specs.declared.searching.Ways.TheVariants.{Own, Rays}
@@ -50,7 +51,7 @@ use Rattle.tree_search.specs.declared.searching.Ended.{Ended}
 use Rattle.tree_search.specs.declared.searching.Ended.TheVariants.{Finished, Unbounded, Stopped}
 use Rattle.tree_search.specs.declared.searching.Searched.{Searched}
 use Rattle.tree_search.specs.declared.stepping.Limits.{Limits}
-use Rattle.tree_search.specs.Stepping.{Comes}
+use Rattle.tree_search.specs.private.Stepping.{Comes}
 use Rattle.tree_search.proofs.JobLemmas.{IsWorkedBy, worked-by, worked-region, job-region}
 use Rattle.tree_search.proofs.KeepLemmas.{added-model, keeps-model, keeps-cuts}
 use Rattle.tree_search.proofs.PlacedLemmas.{round-cuts, round-places, result-there, split-there}
@@ -58,7 +59,7 @@ use Rattle.tree_search.proofs.StepRoomLemmas.{lawful-after, all-stand, run-room}
 
 -- ---- results that were placed
 
-module _ (ways : Ways) (first : Basis) (pivots : ℕ) (old : PlainSearch) (sound : IsSound old) (lawful : IsLawful old.model) (n : ℕ) (mid : PlainSearch) (goes : Goes ways first pivots n old mid) where
+module _ (ways : Ways) (first : Basis) (pivots : ℕ) (order : Order) (old : PlainSearch) (sound : IsSound old) (lawful : IsLawful old.model) (n : ℕ) (mid : PlainSearch) (goes : Goes ways first pivots order n old mid) where
   most : n + work_of mid ≤ cap_of old.model
   most =
       let cap : work_of old ≤ cap_of old.model = work-cap old.model old.tree.root lawful sound.tree.lawful in
@@ -81,7 +82,7 @@ module _ (ways : Ways) (first : Basis) (pivots : ℕ) (old : PlainSearch) (sound
   left-less left = let work : n + work_of mid ≤ work_of old = goes.work in let some : 1 ≤ work_of mid = left-work left in omega (arith, work, some)
 
 next-left : (ways : Ways) (first : Basis) (pivots : ℕ) (S : PlainSearch) (job : Job) (worked : Worked) → WorksNext ways first pivots S job worked → HasOpenLeaf S
-next-left ways first pivots S job worked works = (job.id, (job.region, record { kept = works.next.job_is.kept; leaf = works.next.job_is.leaf; state = works.next.job_is.state }))
+next-left ways first pivots S job worked works = (job.id, (job.region, record { kept = works.held.kept; leaf = works.held.leaf; state = works.held.state }))
 
 -- ---- the cuts of a relaxation are some of the pool's
 
@@ -102,7 +103,7 @@ selection-of : (M : Program) (cuts pool : List CutRow) → cuts ≡ live_cuts 20
 selection-of M cuts pool same =
     let few = live-few 200 pool in
     let count : length cuts ≡ length (live_cuts 200 pool) = ap length same in
-    record { model = refl; cuts = subst (λ l. AreAmong l pool) (sym same) (among-live 200 pool); live = subst AreLive (sym same) (live-all 200 pool); few = omega (arith, few, count) }
+    record { model = refl; cuts = subst (λ l. AreAmong l pool) (sym same) (among-live 200 pool); live = subst AreAllLive (sym same) (live-all 200 pool); few = omega (arith, few, count) }
 
 run-weaker : (F : Formulation) (path : Path) (list first : Basis) (limit : ℕ) (P Q : Held → Type 0) → ((s : Held) → P s → Q s) → (basis : Basis) (step : WideStep) → IsRunWide F path list first limit P basis step → IsRunWide F path list first limit Q basis step
 run-weaker F path list first limit P Q w basis step (inl h) = inl h
@@ -116,7 +117,7 @@ module _ (ways : Ways) (first : Basis) (pivots : ℕ) (mid : PlainSearch) (sound
   Y = worked_model ways mid.model
 
   region-mid : (job : Job) (worked : Worked) → WorksNext ways first pivots mid job worked → IsWorkedRegion Y job.region
-  region-mid job worked works = worked-region ways mid.model job.region by_mid (job-region mid sound_mid job works.next.job_is)
+  region-mid job worked works = worked-region ways mid.model job.region by_mid (job-region mid sound_mid job works.held)
 
   -- the cuts of the last round, in the search after it
   cuts-new : (job : Job) (found : List Derivation) (point : Option Point) (basis : Basis) (new : PlainSearch) → (keeps : KeepsOpen mid job found point basis new) → (made : ℕ) (r : Round) → MakesRounds (work_next ways first pivots mid job) made r → found ≡ r.added → r.cuts ≡ live_cuts 200 new.cuts
@@ -203,7 +204,7 @@ module _ (ways : Ways) (first : Basis) (pivots : ℕ) (mid : PlainSearch) (sound
   -- a leaf that can be split has room where all splits have
   full-at : IsLawful mid.model → (new : PlainSearch) → FullAtNext ways first pivots mid new → ¬ IsRoomy mid
   full-at lawful new here roomy =
-      let is = here.works.next.job_is in
+      let is = here.works.held in
       let result = SplitAt here.col here.v here.mult here.basis in
       let there = result-there ways first pivots mid by_mid here.job here.found.items new here.adds lawful result here.found refl here.works.worked_is in
       let room : HasRoom mid.tree =
@@ -212,14 +213,14 @@ module _ (ways : Ways) (first : Basis) (pivots : ℕ) (mid : PlainSearch) (sound
 
 -- ---- causes, from the start
 
-module _ (ways : Ways) (first : Basis) (nodes pivots : ℕ) (old : PlainSearch) (sound : IsSound old) (lawful : IsLawful old.model) (way : IsWayFor old ways) where
+module _ (ways : Ways) (first : Basis) (order : Order) (nodes pivots : ℕ) (old : PlainSearch) (sound : IsSound old) (lawful : IsLawful old.model) (way : IsWayFor old ways) where
   abbrev Z : Program
   Z = worked_model ways old.model
 
   by-old : IsWorkedBy ways old.model
   by-old = worked-by old ways way
 
-  module _ (n : ℕ) (mid : PlainSearch) (goes : Goes ways first pivots n old mid) where
+  module _ (n : ℕ) (mid : PlainSearch) (goes : Goes ways first pivots order n old mid) where
     by-mid : IsWorkedBy ways mid.model
     by-mid = subst (IsWorkedBy ways) (sym goes.model) by-old
 
@@ -233,35 +234,35 @@ module _ (ways : Ways) (first : Basis) (nodes pivots : ℕ) (old : PlainSearch) 
     step-cause new at (inl here) = subst (λ M. IsStepCause ways M new.cuts first pivots at) goes.model (step-at ways first pivots mid goes.sound by-mid new at here)
     step-cause new at (inr here) = subst (λ M. IsStepCause ways M new.cuts first pivots at) goes.model (value-at ways first pivots mid goes.sound by-mid new at here)
 
-  stop-cause : (n : ℕ) (new : PlainSearch) (w : StopWhy) → HasOpenLeaf new → StopsFor ways first nodes pivots n old new w → IsCause old new.cuts ways first nodes pivots w
+  stop-cause : (n : ℕ) (new : PlainSearch) (w : StopWhy) → HasOpenLeaf new → StopsFor ways first order nodes pivots n old new w → IsCause old new.cuts ways first nodes pivots w
   stop-cause n new why.Nodes left h =
-      let less : n + 1 ≤ work_of old = left-less ways first pivots old sound lawful n new h.goes left in
+      let less : n + 1 ≤ work_of old = left-less ways first pivots order old sound lawful n new h.goes left in
       let all : n ≡ nodes = h.all in
       omega (arith, less, all)
   stop-cause n new why.Tree left h = tree-cause n h.mid h.goes new h.here
   stop-cause n new (why.Pivots place) left h = pivots-cause n h.mid h.goes new place h.here
   stop-cause n new (why.Wide at) left h = step-cause n h.mid h.goes new at h.here
 
-  has-cause : (n : ℕ) (new : PlainSearch) (e : Ended) → IsLeft new e → Ends ways first nodes pivots n old new e → HasCause old new.cuts ways first nodes pivots e
+  has-cause : (n : ℕ) (new : PlainSearch) (e : Ended) → IsLeft new e → Ends ways first order nodes pivots n old new e → HasStopCause old new.cuts ways first nodes pivots e
   has-cause n new Finished left h = tt
   has-cause n new Unbounded left h = tt
   has-cause n new (Stopped w) left h = stop-cause n new w left h
 
   -- ---- the whole search
 
-  next-most : (n : ℕ) (mid : PlainSearch) (job : Job) (worked : Worked) → Goes ways first pivots n old mid → WorksNext ways first pivots mid job worked → n + 1 ≤ cap_of old.model
-  next-most n mid job worked goes works = goes-below ways first pivots old sound lawful n mid goes (next-left ways first pivots mid job worked works)
+  next-most : (n : ℕ) (mid : PlainSearch) (job : Job) (worked : Worked) → Goes ways first pivots order n old mid → WorksNext ways first pivots mid job worked → n + 1 ≤ cap_of old.model
+  next-most n mid job worked goes works = goes-below ways first pivots order old sound lawful n mid goes (next-left ways first pivots mid job worked works)
 
-  ends-cap : (n : ℕ) (new : PlainSearch) (e : Ended) → Ends ways first nodes pivots n old new e → n ≤ cap_of old.model
-  ends-cap n new Finished h = goes-cap ways first pivots old sound lawful n new h.goes
+  ends-cap : (n : ℕ) (new : PlainSearch) (e : Ended) → Ends ways first order nodes pivots n old new e → n ≤ cap_of old.model
+  ends-cap n new Finished h = goes-cap ways first pivots order old sound lawful n new h.goes
   ends-cap n new Unbounded h =
       let most : h.before + 1 ≤ cap_of old.model = next-most h.before h.after.mid h.after.here.job (Done (PointAndClose h.after.here.point h.after.here.mult h.after.here.basis) h.after.here.found) h.after.goes h.after.here.works in
       let is : n ≡ h.before + 1 = h.counted in
       omega (arith, most, is)
-  ends-cap n new (Stopped why.Nodes) h = goes-cap ways first pivots old sound lawful n new h.goes
-  ends-cap n new (Stopped why.Tree) h = goes-cap ways first pivots old sound lawful n h.mid h.goes
-  ends-cap n new (Stopped (why.Pivots place)) h = goes-cap ways first pivots old sound lawful n h.mid h.goes
-  ends-cap n new (Stopped (why.Wide at)) h = goes-cap ways first pivots old sound lawful n h.mid h.goes
+  ends-cap n new (Stopped why.Nodes) h = goes-cap ways first pivots order old sound lawful n new h.goes
+  ends-cap n new (Stopped why.Tree) h = goes-cap ways first pivots order old sound lawful n h.mid h.goes
+  ends-cap n new (Stopped (why.Pivots place)) h = goes-cap ways first pivots order old sound lawful n h.mid h.goes
+  ends-cap n new (Stopped (why.Wide at)) h = goes-cap ways first pivots order old sound lawful n h.mid h.goes
 
   next-model : (mid new : PlainSearch) (w : StopWhy) → StopsAtNext ways first pivots mid new w → new.model ≡ mid.model
   next-model mid new why.Nodes h = absurd h
@@ -270,7 +271,7 @@ module _ (ways : Ways) (first : Basis) (nodes pivots : ℕ) (old : PlainSearch) 
   next-model mid new (why.Wide at) (inl h) = keeps-model mid h.job h.found.items None (kept_basis new at.basis) new h.keeps
   next-model mid new (why.Wide at) (inr h) = keeps-model mid h.job h.found.items None h.basis new h.keeps
 
-  ends-model : (n : ℕ) (new : PlainSearch) (e : Ended) → Ends ways first nodes pivots n old new e → new.model ≡ old.model
+  ends-model : (n : ℕ) (new : PlainSearch) (e : Ended) → Ends ways first order nodes pivots n old new e → new.model ≡ old.model
   ends-model n new Finished h = h.goes.model
   ends-model n new Unbounded h = keeps-model h.after.mid h.after.here.job h.after.here.found.items (Some h.after.here.point) h.after.here.basis new h.after.here.keeps ∙ h.after.goes.model
   ends-model n new (Stopped why.Nodes) h = h.goes.model
@@ -278,15 +279,15 @@ module _ (ways : Ways) (first : Basis) (nodes pivots : ℕ) (old : PlainSearch) 
   ends-model n new (Stopped (why.Pivots place)) h = next-model h.mid new (why.Pivots place) h.here ∙ h.goes.model
   ends-model n new (Stopped (why.Wide at)) h = next-model h.mid new (why.Wide at) h.here ∙ h.goes.model
 
-  pub finds : (new : PlainSearch) (searched : Searched) → searched.placed ≤ nodes → Ends ways first nodes pivots searched.placed old new searched.ended → IsLeft new searched.ended → Extends old.tree.root new.tree.root → Finds ways first nodes pivots old new searched
+  pub finds : (new : PlainSearch) (searched : Searched) → searched.results ≤ nodes → Ends ways first order nodes pivots searched.results old new searched.ended → IsLeft new searched.ended → Extends old.tree.root new.tree.root → Finds ways first order nodes pivots old new searched
   finds new searched few ends left extends = record {
     within_limit = few;
-    within_cap = ends-cap searched.placed new searched.ended ends;
-    model = ends-model searched.placed new searched.ended ends;
+    within_cap = ends-cap searched.results new searched.ended ends;
+    model = ends-model searched.results new searched.ended ends;
     ends = ends;
     left = left;
     extends = extends;
-    cause = has-cause searched.placed new searched.ended left ends;
+    cause = has-cause searched.results new searched.ended left ends;
   }
 
   -- ---- searches that go to the end
@@ -319,24 +320,24 @@ module _ (ways : Ways) (first : Basis) (nodes pivots : ℕ) (old : PlainSearch) 
     ]
 
   module _ (new : PlainSearch) (enough : IsEnoughForSearch old new.cuts ways nodes pivots) where
-    pub at-end : (searched : Searched) → Finds ways first nodes pivots old new searched → IsAtEnd searched.ended
+    pub at-end : (searched : Searched) → Finds ways first order nodes pivots old new searched → IsAtEnd searched.ended
     at-end searched h = ended searched.ended h.cause
       where
-        ended : (e : Ended) → HasCause old new.cuts ways first nodes pivots e → IsAtEnd e
+        ended : (e : Ended) → HasStopCause old new.cuts ways first nodes pivots e → IsAtEnd e
         ended Finished cause = tt
         ended Unbounded cause = tt
         ended (Stopped w) cause = no-cause new.cuts enough w cause
 
 -- ---- what is answered
 
-module _ (limits : Limits) (nodes : ℕ) (old : PlainSearch) (sound : IsSound old) (lawful : IsLawful old.model) (way : IsWayFor old limits.ways) (new : PlainSearch) where
-  from-comes : (searched : Searched) → Comes limits nodes old new searched → Finds limits.ways limits.first.now nodes limits.pivots old new searched
-  from-comes searched h = finds limits.ways limits.first.now nodes limits.pivots old sound lawful way new searched h.within_limit h.ends h.left h.extends
+module _ (limits : Limits) (order : Order) (nodes : ℕ) (old : PlainSearch) (sound : IsSound old) (lawful : IsLawful old.model) (way : IsWayFor old limits.ways) (new : PlainSearch) where
+  from-comes : (searched : Searched) → Comes limits order nodes old new searched → Finds limits.ways limits.first.now order nodes limits.pivots old new searched
+  from-comes searched h = finds limits.ways limits.first.now order nodes limits.pivots old sound lawful way new searched h.within_limit h.ends h.left h.extends
 
-  pub found : {E : Type 0} (r : Result Searched E) → IfOk r (λ searched. Comes limits nodes old new searched) → IfOk r (λ searched. Finds limits.ways limits.first.now nodes limits.pivots old new searched)
+  pub found : {E : Type 0} (r : Result Searched E) → IfOk r (λ searched. Comes limits order nodes old new searched) → IfOk r (λ searched. Finds limits.ways limits.first.now order nodes limits.pivots old new searched)
   found (Ok searched) h = from-comes searched h
   found (Err e) h = tt
 
-  pub complete : {E : Type 0} (r : Result Searched E) → IfOk r (λ searched. Comes limits nodes old new searched) → IfOk r (λ searched. IsEnoughForSearch old new.cuts limits.ways nodes limits.pivots → IsAtEnd searched.ended)
-  complete (Ok searched) h = λ enough. at-end limits.ways limits.first.now nodes limits.pivots old sound lawful way new enough searched (from-comes searched h)
+  pub complete : {E : Type 0} (r : Result Searched E) → IfOk r (λ searched. Comes limits order nodes old new searched) → IfOk r (λ searched. IsEnoughForSearch old new.cuts limits.ways nodes limits.pivots → IsAtEnd searched.ended)
+  complete (Ok searched) h = λ enough. at-end limits.ways limits.first.now order nodes limits.pivots old sound lawful way new enough searched (from-comes searched h)
   complete (Err e) h = tt

@@ -18,7 +18,7 @@ use Rattle.row_tableau.specs.Activities.{activity_count}
 use Rattle.row_tableau.specs.Relaxations.{form_of}
 use Rattle.leaf_dual.specs.Answers.{IsFirstWidePlace}
 use Rattle.basic_solution.specs.Held.{Held, IsLawfulHeld, variables}
-use Rattle.basic_solution.specs.Slack.{IsOf}
+use Rattle.basic_solution.specs.Slack.{IsStateOfRelax}
 use Rattle.basic_solution.proofs.SlackLemmas.{columns_is, activities_is}
 use Rattle.dual_simplex.specs.Walks.{Moves}
 use Rattle.dual_simplex.specs.Solves.{IsWide}
@@ -102,7 +102,7 @@ module _ (M : Program) (no_cols : M.cols ≡ []) (no_rows : M.rows ≡ []) where
     form-cuts : length F.cuts ≡ 0
     form-cuts = ap length (none-among F.cuts is.cuts)
 
-    module _ (path : Path) (relax : Relax) (plain : IsPlainOf F path relax) (s : Held) (of : IsOf relax s) where
+    module _ (path : Path) (relax : Relax) (plain : IsPlainOf F path relax) (s : Held) (of : IsStateOfRelax relax s) where
       state-columns : s.tableau.columns ≡ 0
       state-columns = columns_is relax s of ∙ ap (λ (G : Formulation). length G.model.cols) plain.form ∙ form-columns
 
@@ -129,10 +129,10 @@ module _ (M : Program) (no_cols : M.cols ≡ []) (no_rows : M.rows ≡ []) where
   none-sum d step (inr (below, (size, inr (kept, h)))) = none-below h.0 (length M.cols) columns-none h.1.0.within
 
   module _ (s : Held) (start : IsStart M s) (n : ℕ) (after : Held) (moves : Moves n s after) where
-    direction-columns : (t : Held) → IsOf start.0 t → t.tableau.columns ≡ 0
+    direction-columns : (t : Held) → IsStateOfRelax start.0 t → t.tableau.columns ≡ 0
     direction-columns t of = columns_is start.0 t of ∙ ap (λ (G : Formulation). length G.model.cols) start.1.0.form ∙ columns-none
 
-    direction-activities : (t : Held) → IsOf start.0 t → t.tableau.activities ≡ 0
+    direction-activities : (t : Held) → IsStateOfRelax start.0 t → t.tableau.activities ≡ 0
     direction-activities t of = activities_is start.0 t of ∙ ap activity_count start.1.0.form ∙ count-none (without_cuts M) rows-none refl
 
     direction-few : n < 1
@@ -178,7 +178,7 @@ module _ (M : Program) (no_cols : M.cols ≡ []) (no_rows : M.rows ≡ []) where
   }
 
 pub enough-new : EnoughForNewLaw
-enough-new M no_cols no_rows = record {
+enough-new M workers seed no_cols no_rows = record {
   results = one-result M no_cols no_rows;
   tree = one-result M no_cols no_rows;
   ids = let none = none-splits M no_cols no_rows in omega (arith, none);
@@ -188,7 +188,7 @@ enough-new M no_cols no_rows = record {
 }
 
 pub enough-kept : EnoughForKeptLaw
-enough-kept S no_cols no_rows ids = record {
+enough-kept S workers seed no_cols no_rows ids = record {
   results = one-result S.model no_cols no_rows;
   nodes = let one = one-result S.model no_cols no_rows in omega (arith, one);
   ids = let none = none-splits S.model no_cols no_rows in omega (arith, none, ids);

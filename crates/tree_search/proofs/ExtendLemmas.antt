@@ -34,14 +34,15 @@ use Rattle.search_parts.specs.Lists.{HasNodeLists}
 use Rattle.search_parts.specs.Points.{target, IsKeepable}
 use Rattle.sound_searches.specs.Pool.{search_with_cut, AddsCuts}
 use Rattle.sound_searches.specs.Sound.{PlainSearch, formulation_of, IsSound}
-use Rattle.sound_searches.specs.Placing.{TakesPoint, TakesClose, TakesSplit, TakesPointClose, TakesKeep, TakesPointKeep, TakesResult, TakesOpen, Takes, search_with_leaf, split_node, closed_data, with_basis}
+use Rattle.sound_searches.specs.Placing.{TakesPoint, TakesClose, TakesSplit, TakesPointClose, TakesKeep, TakesPointKeep, TakesResult, TakesOpen, Takes, search_with_leaf, split_with_leaves, closed_data, with_basis}
 use Rattle.sound_searches.proofs.FurtherCut.{lists-more, judged-more, each-more}
 use Rattle.sound_searches.proofs.SoundLemmas.{each-weaker}
 use Rattle.sound_searches.proofs.TakenLemmas.{old_closes}
 use Rattle.search_counting.proofs.LeafLemmas.{once, at_leaf}
 use Rattle.node_solve.proofs.AddedLemmas.{more-cuts}
 use Rattle.tree_search.specs.Steps.{kept_basis, KeepsOpen, Places, StopsAtNext}
-use Rattle.tree_search.specs.Extends.{root_id, Extends}
+use Rattle.tree_search.specs.Extends.{Extends}
+use Rattle.branch_tree.specs.Stored.{root_id}
 use Rattle.tree_search.specs.declared.searching.Ways.{Ways}
 
 -- ---- an order
@@ -181,7 +182,7 @@ module _ (S : PlainSearch) (placed : CanTake S) (numbered : IsNumbered S.tree) (
   by-split j v mult basis Reopened h = absurd h
   by-split j v mult basis Full h = unchanged h.2
   by-split j v mult basis Closed h = absurd h
-  by-split j v mult basis SplitTaken h = subst Extended (sym h.2.1.1.1.1) (put (split_node S.tree.last id j v mult basis h.2.0 h.2.1.0) refl)
+  by-split j v mult basis SplitTaken h = subst Extended (sym h.2.1.1.1.1) (put (split_with_leaves S.tree.last id j v mult basis h.2.0 h.2.1.0) refl)
   by-split j v mult basis Kept h = absurd h
 
   by-point_close : (x : Point) (shut : LeafData) (taken : Taken) → TakesPointClose S id path x shut new taken → Extended new

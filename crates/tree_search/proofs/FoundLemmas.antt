@@ -16,7 +16,7 @@ use Rattle.node_solve.specs.Places.{live_places, ArePoolPlaces, mult_in_pool, ba
 use Rattle.node_solve.specs.declared.working.Worked.TheVariants.{Done, Pivots, Wide}
 use Rattle.node_solve.proofs.LiveLemmas.{live-few, places-length, live-at}
 use Rattle.tree_search.specs.Steps.{FoundCuts}
-use Rattle.tree_search.specs.Stepping.{worked_with}
+use Rattle.tree_search.specs.private.Stepping.{worked_with}
 use Rattle.tree_search.specs.declared.stepping.Outcome.{Outcome}
 use Rattle.tree_search.specs.declared.stepping.Outcome.TheVariants as outcome
 

@@ -16,7 +16,7 @@ use Rattle.branch_tree.specs.declared.node.NodeResult.TheVariants.{PointAndClose
 use Rattle.sound_searches.specs.declared.taken.Taken.{Taken}
 use Rattle.sound_searches.specs.declared.taken.Taken.TheVariants.{Kept}
 use Rattle.sound_searches.specs.Placing.{Takes, TakesOpen}
-use Rattle.sound_searches.specs.Jobs.{IsJobOf}
+use Rattle.sound_searches.specs.Free.{IsHeldJob}
 use Rattle.search_parts.specs.Lists.{IsBasis}
 use Rattle.search_parts.specs.Points.{IsKeepable}
 use Rattle.sound_searches.specs.Pool.{AddsCuts}
@@ -25,9 +25,10 @@ use Rattle.node_solve.specs.Rounds.{IsWorked}
 use Rattle.node_solve.specs.declared.working.Worked.TheVariants.{Done}
 use Rattle.node_solve.proofs.AddedLemmas.{more-cuts}
 use Rattle.node_solve.proofs.TakenLemmas.{IsPointIn, done_point}
-use Rattle.tree_search.specs.Steps.{FoundCuts, work_next, IsWayFor, IsRayWay, PointAtNext}
+use Rattle.tree_search.specs.Steps.{FoundCuts, work_next, IsWayFor, IsRayWay}
 use Rattle.tree_search.specs.Room.{IsWorkedRegion}
-use Rattle.tree_search.specs.Stepping.{IsReady, WorksBy}
+use Rattle.tree_search.specs.declared.stepping.Stepped.TheVariants as stepped
+use Rattle.tree_search.specs.private.Stepping.{IsReady, WorksBy, Steps}
 use Rattle.tree_search.specs.declared.searching.Ways.{Ways}
 use Rattle.tree_search.specs.declared.searching.Ways.TheVariants.{Own, Rays}
 use Rattle.tree_search.specs.declared.stepping.Limits.{Limits}
@@ -69,8 +70,8 @@ module _ (limits : Limits) (begin : PlainSearch) (job : Job) (x : Point) (mult :
           let back = subst (λ (X : PlainSearch). IsWayFor X (Rays Z)) m h in
           record { worked = back.worked; direction = back.direction; ray = back.ray; none = back.none }
 
-  job-now : IsJobOf S job.id job
-  job-now = job-after begin vec.items S adds job.id job works.next.job_is
+  job-now : IsHeldJob S job
+  job-now = job-after begin vec.items S adds job works.held
 
   region-now : IsWorkedRegion S.model job.region
   region-now = job-region S sound job job-now
@@ -93,19 +94,22 @@ module _ (limits : Limits) (begin : PlainSearch) (job : Job) (x : Point) (mult :
     pub ray_point-taken : (taken : Taken) → Takes S job.id (Keep (Some x) basis) S' taken → taken ≡ Kept
     ray_point-taken taken takes = point-taken S sound numbered job job-now S' basis there x keepable-now taken takes
 
-    pub ray_point-next : TakesOpen S job.id (Keep (Some x) basis) S' Kept → PointAtNext limits.ways limits.first.now limits.pivots begin S'
-    ray_point-next takes = record {
-      rays = rays;
-      job = job;
-      point = x;
-      mult = mult;
-      basis = basis;
-      found = vec;
-      works = works;
-      keeps =
-          keeps-after begin vec.items S adds job (Some x) basis S'
-          (point-open S sound numbered job job-now S' basis there x keepable-now point.direction (subst (λ M. IsRay M point.direction) (sym model-then) point.ray) region-now.names point.inside takes);
-    }
+    pub ray_point-next : TakesOpen S job.id (Keep (Some x) basis) S' Kept → Steps limits job begin S' stepped.Found
+    ray_point-next takes = (
+      record {
+        rays = rays;
+        job = job;
+        point = x;
+        mult = mult;
+        basis = basis;
+        found = vec;
+        works = works;
+        keeps =
+            keeps-after begin vec.items S adds job (Some x) basis S'
+            (point-open S sound numbered job job-now S' basis there x keepable-now point.direction (subst (λ M. IsRay M point.direction) (sym model-then) point.ray) region-now.names point.inside takes);
+      },
+      refl,
+    )
 
 -- the model is unbounded then
 pub point-unbounded : (ways : Ways) (S : PlainSearch) → IsRayWay ways → IsWayFor S ways → (job : Job) (first : Basis) (pivots : ℕ) (x : Point) (mult : Multipliers) (basis : Basis) (vec : FoundCuts) → IsWorked (work_next ways first pivots S job) (Done (PointAndClose x mult basis) vec) → IsUnbounded S.model

@@ -15,7 +15,7 @@ use Rattle.search_counting.specs.Laws.{IsEffective}
 use Rattle.dual_simplex.specs.SlackBases.{IsRootBasis}
 use Rattle.node_solve.proofs.AddedLemmas.{more-cuts}
 use Rattle.tree_search.specs.Steps.{worked_model, IsWayFor, IsPlacedBy, Places}
-use Rattle.tree_search.specs.Stepping.{IsReady}
+use Rattle.tree_search.specs.private.Stepping.{IsReady}
 use Rattle.tree_search.specs.declared.searching.Ways.{Ways}
 use Rattle.tree_search.specs.declared.searching.Ways.TheVariants.{Own, Rays}
 use Rattle.tree_search.specs.declared.stepping.Limits.{Limits}

@@ -18,9 +18,7 @@ use Rattle.branch_tree.proofs.TreeLemmas.{each_leaf-leaves}
 use Rattle.leaf_judging.specs.Choosing.{IsOneOf, IsCandidate, AreClosed}
 use Rattle.sound_searches.specs.Sound.{PlainSearch, formulation_of}
 use Rattle.sound_searches.specs.Calls.{IsLeafAt, IsOpenLeaf, IsNext}
-use Rattle.sound_searches.specs.Jobs.{IsJobOf}
-use Rattle.tree_search.specs.Steps.{IsNextJob, HasOpenLeaf}
-use Rattle.branch_tree.specs.declared.node.Job.{Job}
+use Rattle.tree_search.specs.Steps.{HasOpenLeaf}
 use Rattle.sound_searches.specs.Laws.{HasNoOpenLeaf}
 use Rattle.sound_searches.specs.Placing.{IsStale}
 use Rattle.sound_searches.proofs.OpenLemmas.{leaf_at}
@@ -95,10 +93,14 @@ next-not_stale S id numbered next stale =
 pub no-leaf_open : (S : PlainSearch) → IsNext S None → HasNoOpenLeaf S
 no-leaf_open S next = none-open S.tree.root (closed-all (region_leaves [] S.tree.root) next)
 
-pub next-job : (S : PlainSearch) (id : ℕ) (job : Job) → IsNext S (Some id) → IsJobOf S id job → IsNextJob S job
-next-job S id job next is = record { next = subst (λ n. IsNext S (Some n)) (sym is.id_is) next; job_is = subst (λ n. IsJobOf S n job) (sym is.id_is) is }
-
 pub next-open_leaf : (S : PlainSearch) (id : ℕ) → IsNumbered S.tree → IsNext S (Some id) → HasOpenLeaf S
 next-open_leaf S id numbered next =
     let found = next-found S id numbered next in
     (id, (found.0.region, record { kept = found.0.kept; leaf = found.1.1; state = found.1.0 }))
+
+pub open-left : (S : PlainSearch) → HasOpenLeaf S → ¬ HasNoOpenLeaf S
+open-left S (id, (path, leaf)) none =
+    let l = leaf_at S.tree.root id path leaf.kept leaf.leaf in
+    let closed : l.0.kept.state ≡ IsClosed = (each-found (λ p k. k.kept.state ≡ IsClosed) id [] S.tree.root (path, l.0) none l.1.0).0 in
+    let state : l.0.kept.state ≡ IsOpen = ap (λ (k : LeafData). k.state) l.1.1 ∙ leaf.state in
+    let e : IsOpen ≡ IsClosed = sym state ∙ closed in cc

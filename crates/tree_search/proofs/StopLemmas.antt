@@ -1,5 +1,5 @@
 -- Why no result is placed, where the cuts that were found are in the pool; and what a step comes to from the search before them.
-use Rattle.std.specs.Prelude.{◌≡◌, List, [], length, Option, Some, None, Result, Ok, Err, IfOk, OnErr}
+use Rattle.std.specs.Prelude.{◌≡◌, ℕ, List, [], length, set, Option, Some, None, Result, Ok, Err, IfOk, OnOk, OnErr}
 use Rattle.std.proofs.Common.{refl, sym, ap, subst, ◌∙◌, inl, inr}
 use Rattle.std.proofs.Math.Seq.{take-length}
 use Rattle.lp_model.specs.Program.{Point}
@@ -20,8 +20,9 @@ use Rattle.node_solve.specs.Places.{live_cuts, live_places, basis_in_relaxation,
 use Rattle.node_solve.specs.declared.working.Worked.{Worked}
 use Rattle.node_solve.specs.declared.working.Worked.TheVariants.{Done, Pivots, Wide}
 use Rattle.tree_search.specs.Steps.{FoundCuts, kept_basis, IsRayWay, IsPlacedBy, KeepsOpen}
-use Rattle.tree_search.specs.GivingUp.{cuts_found, LeavesNext}
-use Rattle.tree_search.specs.Stepping.{WorksBy, Steps, worked_with}
+use Rattle.tree_search.specs.GivingUp.{cuts_found, LeavesOf}
+use Rattle.tree_manager.specs.Managers.{PlainManager, held_on}
+use Rattle.tree_search.specs.private.Stepping.{WorksBy, IsFreed, Steps, worked_with}
 use Rattle.tree_search.specs.declared.stepping.Outcome.{Outcome}
 use Rattle.tree_search.specs.declared.stepping.Outcome.TheVariants as outcome
 use Rattle.tree_search.specs.declared.stepping.Limits.{Limits}
@@ -37,46 +38,52 @@ module _ (limits : Limits) (begin : PlainSearch) (job : Job) (vec : FoundCuts) (
   cuts-stay basis keeps = keeps-cuts S job [] None basis T keeps ∙ ap (λ (X : PlainSearch). X.cuts) keeps.adds
 
   pub stop-pivots : (place : PivotPlace) → WorksBy limits begin job (Pivots place.basis vec) → place.path ≡ Some job.region → place.cuts ≡ derivations_of (live_cuts 200 S.cuts) → KeepsOpen S job [] None (kept_basis S place.basis) T
-      → Steps limits begin T (stepped.Stopped (why.Pivots place))
+      → Steps limits job begin T (stepped.Stopped (why.Pivots place))
   stop-pivots place works path cuts keeps =
-      let same : S.cuts ≡ T.cuts = sym (cuts-stay (kept_basis S place.basis) keeps) in
-      record {
-        job = job;
-        found = vec;
-        works = works;
-        path_is = path;
-        cuts_are = cuts ∙ ap (λ l. derivations_of (live_cuts 200 l)) same;
-        keeps = subst (λ l. KeepsOpen begin job vec.items None (basis_in_pool (live_places 200 0 l) place.basis) T) same (keeps-after begin vec.items S adds job None (kept_basis S place.basis) T keeps);
-      }
+      let same : S.cuts ≡ T.cuts = sym (cuts-stay (kept_basis S place.basis) keeps) in (
+        record {
+          job = job;
+          found = vec;
+          works = works;
+          path_is = path;
+          cuts_are = cuts ∙ ap (λ l. derivations_of (live_cuts 200 l)) same;
+          keeps = subst (λ l. KeepsOpen begin job vec.items None (basis_in_pool (live_places 200 0 l) place.basis) T) same (keeps-after begin vec.items S adds job None (kept_basis S place.basis) T keeps);
+        },
+        refl,
+      )
 
-  pub stop-step : (at : WideAt) → WorksBy limits begin job (Wide at vec) → KeepsOpen S job [] None (kept_basis S at.basis) T → Steps limits begin T (stepped.Stopped (why.Wide at))
+  pub stop-step : (at : WideAt) → WorksBy limits begin job (Wide at vec) → KeepsOpen S job [] None (kept_basis S at.basis) T → Steps limits job begin T (stepped.Stopped (why.Wide at))
   stop-step at works keeps =
-      let same : S.cuts ≡ T.cuts = sym (cuts-stay (kept_basis S at.basis) keeps) in
-      inl (record {
-        job = job;
-        found = vec;
-        works = works;
-        keeps = subst (λ l. KeepsOpen begin job vec.items None (basis_in_pool (live_places 200 0 l) at.basis) T) same (keeps-after begin vec.items S adds job None (kept_basis S at.basis) T keeps);
-      })
+      let same : S.cuts ≡ T.cuts = sym (cuts-stay (kept_basis S at.basis) keeps) in (
+        inl (record {
+          job = job;
+          found = vec;
+          works = works;
+          keeps = subst (λ l. KeepsOpen begin job vec.items None (basis_in_pool (live_places 200 0 l) at.basis) T) same (keeps-after begin vec.items S adds job None (kept_basis S at.basis) T keeps);
+        }),
+        refl,
+      )
 
   pub stop-value : IsRayWay limits.ways → (x : Point) (mult : Multipliers) (basis : Basis) (at : WideAt) → WorksBy limits begin job (Done (PointAndClose x mult basis) vec) → IsValueAnswer S.model 1 x (Err at.step) → at.path ≡ Some job.region
-      → at.cuts ≡ derivations_of (live_cuts 200 S.cuts) → at.basis ≡ basis_in_relaxation (live_places 200 0 S.cuts) basis → kept_basis S at.basis ≡ basis → KeepsOpen S job [] None (kept_basis S at.basis) T → Steps limits begin T (stepped.Stopped (why.Wide at))
+      → at.cuts ≡ derivations_of (live_cuts 200 S.cuts) → at.basis ≡ basis_in_relaxation (live_places 200 0 S.cuts) basis → kept_basis S at.basis ≡ basis → KeepsOpen S job [] None (kept_basis S at.basis) T → Steps limits job begin T (stepped.Stopped (why.Wide at))
   stop-value rays x mult basis at works wide path cuts basis_is back keeps =
-      let same : S.cuts ≡ T.cuts = sym (cuts-stay (kept_basis S at.basis) keeps) in
-      inr (record {
-        rays = rays;
-        job = job;
-        point = x;
-        mult = mult;
-        basis = basis;
-        found = vec;
-        works = works;
-        wide = subst (λ M. IsValueAnswer M 1 x (Err at.step)) (added-model begin vec.items S adds) wide;
-        path_is = path;
-        cuts_are = cuts ∙ ap (λ l. derivations_of (live_cuts 200 l)) same;
-        basis_is = basis_is ∙ ap (λ l. basis_in_relaxation (live_places 200 0 l) basis) same;
-        keeps = keeps-after begin vec.items S adds job None basis T (subst (λ b. KeepsOpen S job [] None b T) back keeps);
-      })
+      let same : S.cuts ≡ T.cuts = sym (cuts-stay (kept_basis S at.basis) keeps) in (
+        inr (record {
+          rays = rays;
+          job = job;
+          point = x;
+          mult = mult;
+          basis = basis;
+          found = vec;
+          works = works;
+          wide = subst (λ M. IsValueAnswer M 1 x (Err at.step)) (added-model begin vec.items S adds) wide;
+          path_is = path;
+          cuts_are = cuts ∙ ap (λ l. derivations_of (live_cuts 200 l)) same;
+          basis_is = basis_is ∙ ap (λ l. basis_in_relaxation (live_places 200 0 l) basis) same;
+          keeps = keeps-after begin vec.items S adds job None basis T (subst (λ b. KeepsOpen S job [] None b T) back keeps);
+        }),
+        refl,
+      )
 
 -- ---- a result that is matched
 
@@ -92,8 +99,8 @@ module _ (limits : Limits) (job : Job) (S T : PlainSearch) (a b : NodeResult) (s
   pub works-same : (begin : PlainSearch) × ((found : FoundCuts) × (WorksBy limits begin job (Done a found) × AddsCuts begin found.items S)) → (begin : PlainSearch) × ((found : FoundCuts) × (WorksBy limits begin job (Done b found) × AddsCuts begin found.items S))
   works-same (begin, (found, (works, adds))) = (begin, (found, (subst (λ r. WorksBy limits begin job (Done r found)) same works, adds)))
 
-  pub steps-same : {E : Type 0} (result : Result Stepped E) → IfOk result (λ s. (begin : PlainSearch) (found : FoundCuts) → WorksBy limits begin job (Done b found) → AddsCuts begin found.items S → Steps limits begin T s)
-      → IfOk result (λ s. (begin : PlainSearch) (found : FoundCuts) → WorksBy limits begin job (Done a found) → AddsCuts begin found.items S → Steps limits begin T s)
+  pub steps-same : {E : Type 0} (result : Result Stepped E) → IfOk result (λ s. (begin : PlainSearch) (found : FoundCuts) → WorksBy limits begin job (Done b found) → AddsCuts begin found.items S → Steps limits job begin T s)
+      → IfOk result (λ s. (begin : PlainSearch) (found : FoundCuts) → WorksBy limits begin job (Done a found) → AddsCuts begin found.items S → Steps limits job begin T s)
   steps-same (Ok s) h = λ begin found works adds. h begin found (subst (λ r. WorksBy limits begin job (Done r found)) same works) adds
   steps-same (Err e) h = tt
 
@@ -104,7 +111,7 @@ module _ (limits : Limits) (job : Job) (S T : PlainSearch) where
   WasWorked came = (begin : PlainSearch) × ((found : FoundCuts) × (WorksBy limits begin job (worked_with came found) × AddsCuts begin found.items S))
 
   abbrev pub StepsFrom : Outcome → Stepped → Type 0
-  StepsFrom came s = (begin : PlainSearch) (found : FoundCuts) → WorksBy limits begin job (worked_with came found) → AddsCuts begin found.items S → Steps limits begin T s
+  StepsFrom came s = (begin : PlainSearch) (found : FoundCuts) → WorksBy limits begin job (worked_with came found) → AddsCuts begin found.items S → Steps limits job begin T s
 
   pub outcome-works : (a b : Outcome) → a ≡ b → WasWorked a → WasWorked b
   outcome-works a b same h = subst WasWorked same h
@@ -120,7 +127,7 @@ on_err (Ok a) P h = tt
 on_err (Err e) P h = h
 
 module _ (limits : Limits) (job : Job) (of : FoundCuts → Worked) (begin : PlainSearch) (vec : FoundCuts) (works : WorksBy limits begin job (of vec)) (S : PlainSearch) (adds : AddsCuts begin vec.items S) (T : PlainSearch) where
-  pub step-since : {E : Type 0} (result : Result Stepped E) → IfOk result (λ s. (from : PlainSearch) (found : FoundCuts) → WorksBy limits from job (of found) → AddsCuts from found.items S → Steps limits from T s) → IfOk result (λ s. Steps limits begin T s)
+  pub step-since : {E : Type 0} (result : Result Stepped E) → IfOk result (λ s. (from : PlainSearch) (found : FoundCuts) → WorksBy limits from job (of found) → AddsCuts from found.items S → Steps limits job from T s) → IfOk result (λ s. Steps limits job begin T s)
   step-since (Ok s) h = h begin vec works adds
   step-since (Err e) h = tt
 
@@ -140,7 +147,19 @@ found-with (outcome.Wide at) found = refl
 
 -- without memory after the work, its first cuts may be there
 pub leaves-after : {A E : Type 0} (limits : Limits) (S T : PlainSearch) (job : Job) (came : Outcome) (found : FoundCuts) → WorksBy limits S job (worked_with came found)
-    → (result : Result A E) → OnErr result (AddsSome S found.items T) → OnErr result (LeavesNext limits.ways limits.first.now limits.pivots S T)
+    → (result : Result A E) → OnErr result (AddsSome S found.items T) → OnErr result (LeavesOf limits.ways limits.first.now limits.pivots job S T)
 leaves-after limits S T job came found works (Ok a) h = tt
 leaves-after limits S T job came found works (Err e) h =
-    inr (record { job = job; worked = worked_with came found; works = works; adds = subst (λ ds. AddsSome S ds T) (sym (found-with came found)) h })
+    inr (record { worked = worked_with came found; works = works; adds = subst (λ ds. AddsSome S ds T) (sym (found-with came found)) h })
+
+-- ---- managers
+
+-- where a manager stays, so does its search
+pub kept-search : {A E : Type 0} (Q P : PlainManager) (result : Result A E) → OnErr result (Q ≡ P) → OnErr result (Q.search ≡ P.search)
+kept-search Q P (Ok a) h = tt
+kept-search Q P (Err e) h = ap (λ (R : PlainManager). R.search) h
+
+-- the cuts before it leave who holds what
+pub freed-since : {A E : Type 0} (w : ℕ) (P M Q : PlainManager) → M.held ≡ P.held → (result : Result A E) → OnOk result (IsFreed w M Q) → OnOk result (IsFreed w P Q)
+freed-since w P M Q same (Ok a) h = h ∙ ap (λ l. held_on Q.search (set l w None)) same
+freed-since w P M Q same (Err e) h = tt

@@ -2,7 +2,7 @@
 use Rattle.std.specs.Prelude.{◌≡◌, ◌⊎◌, ℕ, Option, Some, None, Result, Ok, Err}
 use Rattle.std.specs.Option.{option_map}
 use Rattle.frac128.specs.Rational.{ℚ, int, ceil, ◌≤ℚ◌}
-use Rattle.lp_model.specs.Program.{Program, Point, IsFeasible, HasWholeObjective, least_value, in_least_form}
+use Rattle.lp_model.specs.Program.{Program, Point, IsFeasible, HasWholeObjective, least_value, in_own_sense}
 use Rattle.leaf_dual.specs.declared.dual.LagValue.TheVariants.{Minus, Num}
 use Rattle.lp_model.specs.Regions.{Path}
 use Rattle.lp_model.specs.Formulations.{Formulation}
@@ -49,4 +49,4 @@ pub record IsBoundOf (S : PlainSearch) (bound : Option ℚ) : Type 0 where
   pub least : Option ℚ
   pub least_is : IsLeastNumber S least
   pub unbeaten : IsUnbeaten S.model least
-  pub bound_is : bound ≡ option_map (in_least_form S.model.sense) least
+  pub bound_is : bound ≡ option_map (in_own_sense S.model.sense) least

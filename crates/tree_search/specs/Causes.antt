@@ -76,10 +76,10 @@ IsCause S pool ways first nodes pivots (Pivots place) = IsPivotCause (worked_mod
 IsCause S pool ways first nodes pivots (Wide at) = IsStepCause ways S.model pool first pivots at
 
 -- a search that begins with S and these limits has a cause to stop, if it stops
-abbrev pub HasCause : PlainSearch → List CutRow → Ways → Basis → ℕ → ℕ → Ended → Type 0
-HasCause S pool ways first nodes pivots Finished = Unit {0}
-HasCause S pool ways first nodes pivots Unbounded = Unit {0}
-HasCause S pool ways first nodes pivots (Stopped why) = IsCause S pool ways first nodes pivots why
+abbrev pub HasStopCause : PlainSearch → List CutRow → Ways → Basis → ℕ → ℕ → Ended → Type 0
+HasStopCause S pool ways first nodes pivots Finished = Unit {0}
+HasStopCause S pool ways first nodes pivots Unbounded = Unit {0}
+HasStopCause S pool ways first nodes pivots (Stopped why) = IsCause S pool ways first nodes pivots why
 
 -- ---- searches that go to the end
 

@@ -3,10 +3,7 @@ use Rattle.std.specs.Prelude.{◌≡◌, ◌⊎◌, ℕ}
 use Rattle.branch_tree.specs.Tree.{Leaf, Split}
 use Rattle.branch_tree.specs.Plain.{Plain}
 use Rattle.branch_tree.specs.declared.node.LeafState.TheVariants.{IsOpen}
-
-abbrev pub root_id : Plain → ℕ
-root_id (Leaf l) = l.id
-root_id (Split kept j v left right) = kept.id
+use Rattle.branch_tree.specs.Stored.{root_id}
 
 -- Place by place: in the place of an open leaf there is a tree whose first node has its id, and each other node has its id, its lists
 -- and its state.

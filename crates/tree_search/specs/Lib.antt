@@ -1,11 +1,13 @@
 pub mod Extends
 pub mod Steps
+pub mod Turns
+pub mod Alone
 pub mod Room
 pub mod Causes
 pub mod Bounds
 pub mod Search
 pub mod GivingUp
-pub mod Stepping
+pub mod Driven
 pub mod Laws
 pub mod Beginnings
 pub mod Truth
@@ -13,3 +15,4 @@ pub mod Enough
 pub mod EnoughLaws
 pub mod Solves
 pub mod Warm
+pub mod private

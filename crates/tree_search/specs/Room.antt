@@ -21,12 +21,12 @@ use Rattle.row_tableau.specs.Answers.{IsPivotNamed}
 use Rattle.leaf_dual.specs.Dual.{Multipliers}
 use Rattle.leaf_dual.specs.Answers.{IsLagAnswer, IsFarkasAnswer}
 use Rattle.basic_solution.specs.Held.{Held, IsLawfulHeld, relaxation, state, table}
-use Rattle.basic_solution.specs.Slack.{IsOf}
+use Rattle.basic_solution.specs.Slack.{IsStateOfRelax}
 use Rattle.basic_solution.specs.Numbers.{IsWidePoint, IsWideCostTerm, IsOut}
 use Rattle.dual_simplex.specs.Answers.{IsWideRatio, May}
 use Rattle.basic_solution.specs.Lists.{IsPointOfHeld, AreListedMultipliers}
 use Rattle.dual_simplex.specs.Walks.{Moves}
-use Rattle.node_solve.specs.Laws.{AreLive}
+use Rattle.node_solve.specs.Laws.{AreAllLive}
 use Rattle.node_solve.specs.Runs.{NamesIntegers, IsPlainOf}
 
 pub record IsWorkedRegion (M : Program) (path : Path) : Type 0 where
@@ -43,14 +43,14 @@ AreAmong (c ∷ cuts) (d ∷ pool) = ((c ≡ d) × AreAmong cuts pool) ⊎ AreAm
 pub record IsSelection (M : Program) (pool : List CutRow) (F : Formulation) : Type 0 where
   pub model : F.model ≡ M
   pub cuts : AreAmong F.cuts pool
-  pub live : AreLive F.cuts
+  pub live : AreAllLive F.cuts
   pub few : length F.cuts ≤ 200
 
 -- ---- moves
 
 abbrev pub HasMoves : Program → List CutRow → ℕ → Type 0
 HasMoves M pool limit =
-    (F : Formulation) → IsSelection M pool F → (path : Path) → IsWorkedRegion M path → (relax : Relax) → IsPlainOf F path relax → (s : Held) → IsOf relax s → IsLawfulHeld s → (n : ℕ) (after : Held) → Moves n s after → n < limit
+    (F : Formulation) → IsSelection M pool F → (path : Path) → IsWorkedRegion M path → (relax : Relax) → IsPlainOf F path relax → (s : Held) → IsStateOfRelax relax s → IsLawfulHeld s → (n : ℕ) (after : Held) → Moves n s after → n < limit
 
 -- ---- steps
 
@@ -87,9 +87,9 @@ abbrev pub IsStepAt : Formulation → Path → Held → WideStep → Type 0
 IsStepAt F path s step = IsSomeAnd (table_place step) (IsTableStep s) ⊎ (AllStand s × (IsNumberStep F path s step ⊎ IsPointStep F.model s step))
 
 abbrev pub HasRoomAt : Program → List CutRow → Type 0
-HasRoomAt M pool = (F : Formulation) → IsSelection M pool F → (path : Path) → IsWorkedRegion M path → (relax : Relax) → IsPlainOf F path relax → (s : Held) → IsOf relax s → (step : WideStep) → ¬ IsStepAt F path s step
+HasRoomAt M pool = (F : Formulation) → IsSelection M pool F → (path : Path) → IsWorkedRegion M path → (relax : Relax) → IsPlainOf F path relax → (s : Held) → IsStateOfRelax relax s → (step : WideStep) → ¬ IsStepAt F path s step
 
 -- no value of M at a point of a basis of Z's relaxations has a step without room
 abbrev pub HasRoomForValues : Program → List CutRow → Program → Type 0
 HasRoomForValues Z pool M =
-    (F : Formulation) → IsSelection Z pool F → (path : Path) → IsWorkedRegion Z path → (relax : Relax) → IsPlainOf F path relax → (s : Held) → IsOf relax s → AllStand s → (x : Point) → IsPointOfHeld s x → (step : WideStep) → ¬ IsValueAnswer M 1 x (Err step)
+    (F : Formulation) → IsSelection Z pool F → (path : Path) → IsWorkedRegion Z path → (relax : Relax) → IsPlainOf F path relax → (s : Held) → IsStateOfRelax relax s → AllStand s → (x : Point) → IsPointOfHeld s x → (step : WideStep) → ¬ IsValueAnswer M 1 x (Err step)

@@ -1,10 +1,12 @@
 -- What a search on a model comes to: its end, or where it stopped; and what that shows.
-use Rattle.std.specs.Prelude.{◌≡◌, ◌⊎◌, ℕ, ◌+◌, ◌<◌, ◌≤◌, [], Option, Some, None}
+use Rattle.std.specs.Prelude.{◌≡◌, ◌⊎◌, ℕ, ◌+◌, ◌<◌, ◌≤◌, [], Option, Some}
 use Rattle.std.specs.Option.{option_map}
+use Rattle.std.proofs.Common.{inl, inr}
 use Rattle.frac128.specs.Rational.{ℚ}
-use Rattle.lp_model.specs.Program.{Program, Point, IsFeasible, IsOptimum, IsEmpty, value, in_least_form}
+use Rattle.lp_model.specs.Program.{Point, IsFeasible, IsOptimum, IsEmpty, value, in_own_sense}
 use Rattle.lp_model.specs.Regions.{Path, InRegion}
 use Rattle.lp_model.specs.declared.types.Basis.{Basis}
+use Rattle.lp_model.specs.declared.answers.WideAt.{WideAt}
 use Rattle.lp_model.specs.declared.answers.StopWhy.{StopWhy}
 use Rattle.lp_model.specs.declared.answers.StopWhy.TheVariants as why
 use Rattle.lp_model.specs.declared.answers.Answer.{Answer}
@@ -17,10 +19,12 @@ use Rattle.sound_searches.specs.Sound.{PlainSearch}
 use Rattle.search_counting.specs.Work.{cap_of}
 use Rattle.tree_search.specs.Truth.{IsFoundValue}
 use Rattle.tree_search.specs.Bounds.{IsBoundOf}
-use Rattle.tree_search.specs.Steps.{HasOpenLeaf, Goes, PointAtNext, StopsAtNext}
-use Rattle.tree_search.specs.Causes.{HasCause}
+use Rattle.branch_tree.specs.declared.node.Job.{Job}
+use Rattle.tree_search.specs.Steps.{HasOpenLeaf, FullAtNext, PivotsAtNext, StepAtNext, ValueAtNext, PointAtNext}
+use Rattle.tree_search.specs.Turns.{Order, ActsOn, Goes}
+use Rattle.tree_search.specs.Causes.{HasStopCause}
 use Rattle.tree_search.specs.Extends.{Extends}
-use Rattle.tree_search.specs.GivingUp.{LeavesNext}
+use Rattle.tree_search.specs.GivingUp.{LeavesTurn}
 use Rattle.tree_search.specs.declared.searching.Ways.{Ways}
 use Rattle.tree_search.specs.declared.searching.Ended.{Ended}
 use Rattle.tree_search.specs.declared.searching.Ended.TheVariants.{Finished, Unbounded, Stopped}
@@ -28,40 +32,50 @@ use Rattle.tree_search.specs.declared.searching.Searched.{Searched}
 
 -- ---- where it stops, and where it ends
 
--- n results were placed, fewer than the limit allows, and what is said holds of the search then
-pub record IsAfter (ways : Ways) (first : Basis) (nodes pivots n : ℕ) (old : PlainSearch) (Here : PlainSearch → Type 0) : Type 0 where
+-- n results were placed, fewer than the limit allows, and what is said holds of the search then, at the turn of a worker that holds
+-- that job
+pub record IsAfter (ways : Ways) (first : Basis) (order : Order) (nodes pivots n : ℕ) (old : PlainSearch) (Here : PlainSearch → Type 0) (job_of : (mid : PlainSearch) → Here mid → Job) : Type 0 where
   pub mid : PlainSearch
-  pub goes : Goes ways first pivots n old mid
+  pub goes : Goes ways first pivots order n old mid
   pub below_limit : n < nodes
   pub here : Here mid
+  pub turn : ActsOn goes.crew (job_of mid here)
 
 -- as many results as the limit allows were placed
-pub record IsAtLimit (ways : Ways) (first : Basis) (nodes pivots n : ℕ) (old new : PlainSearch) : Type 0 where
-  pub goes : Goes ways first pivots n old new
+pub record IsAtLimit (ways : Ways) (first : Basis) (order : Order) (nodes pivots n : ℕ) (old new : PlainSearch) : Type 0 where
+  pub goes : Goes ways first pivots order n old new
   pub all : n ≡ nodes
 
-abbrev pub StopsFor : Ways → Basis → ℕ → ℕ → ℕ → PlainSearch → PlainSearch → StopWhy → Type 0
-StopsFor ways first nodes pivots n old new why.Nodes = IsAtLimit ways first nodes pivots n old new
-StopsFor ways first nodes pivots n old new why.Tree = IsAfter ways first nodes pivots n old (λ mid. StopsAtNext ways first pivots mid new why.Tree)
-StopsFor ways first nodes pivots n old new (why.Pivots place) = IsAfter ways first nodes pivots n old (λ mid. StopsAtNext ways first pivots mid new (why.Pivots place))
-StopsFor ways first nodes pivots n old new (why.Wide at) = IsAfter ways first nodes pivots n old (λ mid. StopsAtNext ways first pivots mid new (why.Wide at))
+-- a step of the work has no room, or beside a ray one of the value of the point
+abbrev pub WideAtNext : Ways → Basis → ℕ → PlainSearch → PlainSearch → WideAt → Type 0
+WideAtNext ways first pivots old new at = StepAtNext ways first pivots old new at ⊎ ValueAtNext ways first pivots old new at
+
+abbrev pub wide_job : (ways : Ways) (first : Basis) (pivots : ℕ) (old new : PlainSearch) (at : WideAt) → WideAtNext ways first pivots old new at → Job
+wide_job ways first pivots old new at (inl h) = h.job
+wide_job ways first pivots old new at (inr h) = h.job
+
+abbrev pub StopsFor : Ways → Basis → Order → ℕ → ℕ → ℕ → PlainSearch → PlainSearch → StopWhy → Type 0
+StopsFor ways first order nodes pivots n old new why.Nodes = IsAtLimit ways first order nodes pivots n old new
+StopsFor ways first order nodes pivots n old new why.Tree = IsAfter ways first order nodes pivots n old (λ mid. FullAtNext ways first pivots mid new) (λ mid here. here.job)
+StopsFor ways first order nodes pivots n old new (why.Pivots place) = IsAfter ways first order nodes pivots n old (λ mid. PivotsAtNext ways first pivots mid new place) (λ mid here. here.job)
+StopsFor ways first order nodes pivots n old new (why.Wide at) = IsAfter ways first order nodes pivots n old (λ mid. WideAtNext ways first pivots mid new at) (λ mid here. wide_job ways first pivots mid new at here)
 
 -- the point that is found beside a ray is the last of n results
-pub record FindsPoint (ways : Ways) (first : Basis) (nodes pivots n : ℕ) (old new : PlainSearch) : Type 0 where
+pub record FindsPoint (ways : Ways) (first : Basis) (order : Order) (nodes pivots n : ℕ) (old new : PlainSearch) : Type 0 where
   pub before : ℕ
   pub counted : n ≡ before + 1
-  pub after : IsAfter ways first nodes pivots before old (λ mid. PointAtNext ways first pivots mid new)
+  pub after : IsAfter ways first order nodes pivots before old (λ mid. PointAtNext ways first pivots mid new) (λ mid here. here.job)
   pub unbounded : IsUnbounded old.model
 
 -- no leaf is open
-pub record FinishesSearch (ways : Ways) (first : Basis) (pivots n : ℕ) (old new : PlainSearch) : Type 0 where
-  pub goes : Goes ways first pivots n old new
+pub record FinishesSearch (ways : Ways) (first : Basis) (order : Order) (pivots n : ℕ) (old new : PlainSearch) : Type 0 where
+  pub goes : Goes ways first pivots order n old new
   pub finished : HasNoOpenLeaf new
 
-abbrev pub Ends : Ways → Basis → ℕ → ℕ → ℕ → PlainSearch → PlainSearch → Ended → Type 0
-Ends ways first nodes pivots n old new Finished = FinishesSearch ways first pivots n old new
-Ends ways first nodes pivots n old new Unbounded = FindsPoint ways first nodes pivots n old new
-Ends ways first nodes pivots n old new (Stopped why) = StopsFor ways first nodes pivots n old new why
+abbrev pub Ends : Ways → Basis → Order → ℕ → ℕ → ℕ → PlainSearch → PlainSearch → Ended → Type 0
+Ends ways first order nodes pivots n old new Finished = FinishesSearch ways first order pivots n old new
+Ends ways first order nodes pivots n old new Unbounded = FindsPoint ways first order nodes pivots n old new
+Ends ways first order nodes pivots n old new (Stopped why) = StopsFor ways first order nodes pivots n old new why
 
 -- whether a leaf is left open
 abbrev pub IsLeft : PlainSearch → Ended → Type 0
@@ -71,23 +85,23 @@ IsLeft S (Stopped why) = HasOpenLeaf S
 
 -- so many results were placed, no more than the limit and the model's cap, and every node but open leaves stays; the search had from its
 -- start a cause to stop, if it stops
-pub record Finds (ways : Ways) (first : Basis) (nodes pivots : ℕ) (old new : PlainSearch) (searched : Searched) : Type 0 where
-  pub within_limit : searched.placed ≤ nodes
-  pub within_cap : searched.placed ≤ cap_of old.model
+pub record Finds (ways : Ways) (first : Basis) (order : Order) (nodes pivots : ℕ) (old new : PlainSearch) (searched : Searched) : Type 0 where
+  pub within_limit : searched.results ≤ nodes
+  pub within_cap : searched.results ≤ cap_of old.model
   pub model : new.model ≡ old.model
-  pub ends : Ends ways first nodes pivots searched.placed old new searched.ended
+  pub ends : Ends ways first order nodes pivots searched.results old new searched.ended
   pub left : IsLeft new searched.ended
   pub extends : Extends old.tree.root new.tree.root
-  pub cause : HasCause old new.cuts ways first nodes pivots searched.ended
+  pub cause : HasStopCause old new.cuts ways first nodes pivots searched.ended
 
--- without memory: results were placed, no more than the limit allows, and then maybe cuts were added that the work on the next leaf found;
--- the search can go on
-pub record GivesUp (ways : Ways) (first : Basis) (nodes pivots : ℕ) (old new : PlainSearch) : Type 0 where
-  pub placed : ℕ
-  pub within_limit : placed ≤ nodes
+-- without memory: results were placed, no more than the limit allows, and then maybe cuts were added that the work on a leaf found whose
+-- worker had its turn; the search can go on
+pub record GivesUp (ways : Ways) (first : Basis) (order : Order) (nodes pivots : ℕ) (old new : PlainSearch) : Type 0 where
+  pub results : ℕ
+  pub within_limit : results ≤ nodes
   pub mid : PlainSearch
-  pub goes : Goes ways first pivots placed old mid
-  pub adds : LeavesNext ways first pivots mid new
+  pub goes : Goes ways first pivots order results old mid
+  pub adds : LeavesTurn ways first pivots goes.crew mid new
 
 -- ---- what an end shows
 
@@ -115,7 +129,7 @@ pub record IsInOpenLeaf (S : PlainSearch) (x : Point) : Type 0 where
 
 -- the best value of the kept points in the model's own sense, if there is one
 abbrev pub best_value : PlainSearch → Option ℚ
-best_value S = option_map (in_least_form S.model.sense) (target S.model S.points)
+best_value S = option_map (in_own_sense S.model.sense) (target S.model S.points)
 
 -- each feasible point is in an open leaf's region or no better than the best kept one, whose value this is, and the bound
 -- is that of the open leaves

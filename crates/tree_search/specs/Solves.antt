@@ -15,6 +15,7 @@ use Rattle.sound_searches.specs.Calls.{IsFresh, search_with_limit}
 use Rattle.sound_searches.specs.Laws.{HasNoOpenLeaf}
 use Rattle.sound_searches.specs.Sound.{PlainSearch, IsSound}
 use Rattle.tree_search.specs.Steps.{HasOpenLeaf}
+use Rattle.tree_search.specs.Turns.{Order}
 use Rattle.tree_search.specs.Search.{Finds, GivesUp, IsAnswerAtEnd, IsStoppedAnswer}
 use Rattle.tree_search.specs.declared.searching.Searched.{Searched}
 use Rattle.tree_search.specs.declared.searching.Ways.{Ways}
@@ -22,15 +23,19 @@ use Rattle.ray_phase.specs.Beginnings.{StopsBefore}
 use Rattle.tree_search.specs.Beginnings.{BeginsWith}
 use Rattle.tree_search.specs.declared.limits.Limits.{Limits}
 
+-- whose turn it is by these limits
+abbrev pub turn_order_of : Limits → Order
+turn_order_of l = record { workers = l.workers; seed = l.seed }
+
 -- The search that it began with, a fresh one or one that is kept, has no open leaf; it stays since the ray phase stopped; it was searched,
 -- and this shows what is answered; or there was no memory, before it was searched or then, and the results that were placed stay.
 pub data Course (M : Program) (l : Limits) (fresh : PlainSearch) (answer : Answer) (S : PlainSearch) : Type 0 where
   NothingOpen : HasNoOpenLeaf fresh → S ≡ fresh → answer ≡ Infeasible 0 → Course M l fresh answer S
   StopsFirst : HasOpenLeaf fresh → (why : StopWhy) → StopsBefore M l.pivots why → S ≡ fresh → IsStoppedAnswer S why 0 answer → Course M l fresh answer S
   Searches : HasOpenLeaf fresh → (ways : Ways) (first : Basis) → BeginsWith M l.pivots ways first → (searched : Searched)
-      → Finds ways first l.nodes l.pivots fresh S searched → IsAnswerAtEnd S searched.ended searched.placed answer → Course M l fresh answer S
+      → Finds ways first (turn_order_of l) l.nodes l.pivots fresh S searched → IsAnswerAtEnd S searched.ended searched.results answer → Course M l fresh answer S
   WantsBefore : S ≡ fresh → answer ≡ Memory → Course M l fresh answer S
-  WantsWithin : (ways : Ways) (first : Basis) → BeginsWith M l.pivots ways first → GivesUp ways first l.nodes l.pivots fresh S → answer ≡ Memory → Course M l fresh answer S
+  WantsWithin : (ways : Ways) (first : Basis) → BeginsWith M l.pivots ways first → GivesUp ways first (turn_order_of l) l.nodes l.pivots fresh S → answer ≡ Memory → Course M l fresh answer S
 
 -- the search began with one leaf and no point
 pub record Solved (M : Program) (l : Limits) (answer : Answer) (S : PlainSearch) : Type 0 where

@@ -7,7 +7,7 @@ ghost use Rattle.tree_search.specs.Search.{best_value, IsLeft, IsFinishedAnswer,
 
 use crate::bounds::least_number;
 use crate::searching::{Ended, Searched};
-use crate::stepping::known;
+use crate::sound::show_sound;
 use frac128::Frac;
 use lp_model::{Answer, Point, StopWhy};
 use std::alloc::{AllocError, Global};
@@ -19,18 +19,18 @@ fn best_value(search: &Search) -> Option<Frac>
 {
     match search.target() {
         None => None,
-        Some(least) => Some(search.model().sense().least_form(&least)),
+        Some(least) => Some(search.model().sense().own_sense(&least)),
     }
 }
 
 /// What a search without an open leaf has shown.
-pub fn finished(alloc: Global, search: &Search, placed: u64) -> Answer
+pub fn finished(alloc: Global, search: &Search, results: u64) -> Answer
     requires { HasNoOpenLeaf search.now }
-    ensures { IsFinishedAnswer search.now placed result }
+    ensures { IsFinishedAnswer search.now results result }
 {
-    known(search);
+    show_sound(search);
     let Some(incumbent) = search.incumbent() else {
-        return Answer::Infeasible { placed };
+        return Answer::Infeasible { results };
     };
     let Some(value) = best_value(search) else {
         unreachable!()
@@ -40,7 +40,7 @@ pub fn finished(alloc: Global, search: &Search, placed: u64) -> Answer
         Ok(point) => Answer::Optimal {
             value,
             point,
-            placed,
+            results,
         },
     }
 }
@@ -50,20 +50,20 @@ fn bound_of(search: &Search) -> Result<Option<Frac>, AllocError>
     requires { HasOpenLeaf search.now }
     ensures { IfOk result (λ bound. IsBoundOf search.now bound) }
 {
-    known(search);
+    show_sound(search);
     match least_number(search) {
         Ok(None) => Ok(None),
-        Ok(Some(least)) => Ok(Some(search.model().sense().least_form(&least))),
+        Ok(Some(least)) => Ok(Some(search.model().sense().own_sense(&least))),
         Err(error) => Err(error),
     }
 }
 
 /// What is known where a search stops with an open leaf.
-pub fn stopped(search: &Search, why: StopWhy, placed: u64) -> Answer
+pub fn stopped(search: &Search, why: StopWhy, results: u64) -> Answer
     requires { HasOpenLeaf search.now }
-    ensures { IsStoppedAnswer search.now why placed result }
+    ensures { IsStoppedAnswer search.now why results result }
 {
-    known(search);
+    show_sound(search);
     match bound_of(search) {
         Err(_) => {
             drop(why);
@@ -71,7 +71,7 @@ pub fn stopped(search: &Search, why: StopWhy, placed: u64) -> Answer
         }
         Ok(bound) => Answer::Stopped {
             why,
-            placed,
+            results,
             bound,
             best: best_value(search),
         },
@@ -81,12 +81,12 @@ pub fn stopped(search: &Search, why: StopWhy, placed: u64) -> Answer
 /// What a search has shown that came to this end.
 pub fn answer_of(alloc: Global, search: &Search, searched: Searched) -> Answer
     requires { IsLeft search.now searched.ended }
-    ensures { IsAnswerAtEnd search.now searched.ended searched.placed result }
+    ensures { IsAnswerAtEnd search.now searched.ended searched.results result }
 {
-    let placed = searched.placed;
+    let results = searched.results;
     match searched.ended {
-        Ended::Finished => finished(alloc, search, placed),
-        Ended::Unbounded => Answer::Unbounded { placed },
-        Ended::Stopped(why) => stopped(search, why, placed),
+        Ended::Finished => finished(alloc, search, results),
+        Ended::Unbounded => Answer::Unbounded { results },
+        Ended::Stopped(why) => stopped(search, why, results),
     }
 }

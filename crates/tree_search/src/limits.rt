@@ -1,6 +1,6 @@
-// How far a solve may go.
+// How far a solve may go, and who works in it.
 
-/// How far a solve may go.
+/// How far a solve may go, and who works in it.
 #[derive(Clone, Copy, Drop)]
 pub struct Limits {
     /// How many results it may place.
@@ -9,4 +9,8 @@ pub struct Limits {
     pub pivots: u64,
     /// How many nodes its tree may have.
     pub tree: u64,
+    /// How many workers share it.
+    pub workers: u64,
+    /// The seed whose words say whose turn it is.
+    pub seed: u64,
 }

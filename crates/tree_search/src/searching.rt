@@ -1,14 +1,20 @@
 // The search: open leaves are worked until none is left, or it stops.
-ghost use Rattle.std.specs.Prelude.{IfOk, OnErr};
+ghost use Rattle.std.specs.Prelude.{◌≡◌, ◌↔◌, ℕ, length, replicate, true, IsTrue, None, Some, IfOk, OnErr};
 ghost use Rattle.tree_search.specs.Steps.{IsWayFor, IsFirstFor};
 ghost use Rattle.tree_search.specs.Causes.{IsAtEnd, IsEnoughForSearch};
 ghost use Rattle.tree_search.specs.Search.{Finds, GivesUp};
-ghost use Rattle.tree_search.specs.Stepping.{IsReady, Comes};
+ghost use Rattle.sound_searches.specs.Calls.{IsNext};
+ghost use Rattle.tree_search.specs.Solves.{turn_order_of};
+ghost use Rattle.tree_search.specs.private.Stepping.{IsReady, Comes};
 
-use crate::stepping::{Limits, Stepped, known, step};
+use crate::crew::no_jobs;
+use crate::limits::Limits as SolveLimits;
+use crate::stepping::{Limits, Stepped, show_sound};
+use crate::turning::{Turned, take_turn};
 use lp_model::{Basis, Model, StopWhy};
 use std::alloc::{AllocError, Global};
-use tree_edit::Search;
+use tree_manager::Manager;
+use turn_order::words_of;
 
 /// Whose relaxations are worked.
 #[derive(Clone, Copy, Drop)]
@@ -34,78 +40,101 @@ pub enum Ended {
 #[derive(Drop)]
 pub struct Searched {
     pub ended: Ended,
-    pub placed: u64,
+    pub results: u64,
 }
 
-/// Works open leaves until none is left, or the search stops.
+/// The id of the open leaf that goes first.
+fn next_leaf(manager: &Manager) -> Option<u64>
+    ensures { IsNext manager.now.search result }
+{
+    manager.search().next_leaf()
+}
+
+/// Works open leaves, one turn after the other, until none is left, or the search stops.
 fn go_on(
     alloc: Global,
-    search: &mut Search,
+    manager: &mut Manager,
     limits: &Limits<'_>,
-    nodes: u64,
+    bounds: &SolveLimits,
 ) -> Result<Searched, AllocError>
-    requires ready { IsReady limits.now search.old }
-    ensures comes { IfOk result (λ searched. Comes limits.now nodes search.old search.new searched) }
-    ensures unfinished { OnErr result (GivesUp limits.now.ways limits.now.first.now nodes limits.now.pivots search.old search.new) }
+    requires ready { IsReady limits.now manager.old.search }
+    requires idle { manager.old.held ≡ replicate bounds.now.workers None }
+    ensures comes { IfOk result (λ searched. Comes limits.now (turn_order_of bounds.now) bounds.now.nodes manager.old.search manager.new.search searched) }
+    ensures unfinished { OnErr result (GivesUp limits.now.ways limits.now.first.now (turn_order_of bounds.now) bounds.now.nodes limits.now.pivots manager.old.search manager.new.search) }
 {
-    let mut placed = 0;
-    while let Some(id) = search.next_leaf() {
-        known(search);
-        if placed == nodes {
+    show_sound(manager);
+    let mut jobs = match no_jobs(alloc, manager.held().len()) {
+        Ok(jobs) => jobs,
+        Err(error) => return Err(error),
+    };
+    let mut words = words_of(bounds.seed);
+    let mut results = 0;
+    while let Some(id) = next_leaf(manager) {
+        show_sound(manager);
+        if results == bounds.nodes {
+            drop(jobs);
             return Ok(Searched {
                 ended: Ended::Stopped(StopWhy::Nodes),
-                placed,
+                results,
             });
         }
-        let stepped = match step(alloc, search, limits, id) {
-            Ok(stepped) => stepped,
-            Err(error) => return Err(error),
+        let turned = match take_turn(alloc, manager, &mut jobs, &mut words, limits) {
+            Ok(turned) => turned,
+            Err(error) => {
+                drop(jobs);
+                return Err(error);
+            }
         };
-        match stepped {
-            Stepped::Placed => placed += 1,
-            Stepped::Found => {
+        show_sound(manager);
+        match turned {
+            Turned::HandedOut => {}
+            Turned::HasWorked(Stepped::Placed) => results += 1,
+            Turned::HasWorked(Stepped::Found) => {
+                drop(jobs);
                 return Ok(Searched {
                     ended: Ended::Unbounded,
-                    placed: placed + 1,
+                    results: results + 1,
                 });
             }
-            Stepped::Stopped(why) => {
+            Turned::HasWorked(Stepped::Stopped(why)) => {
+                drop(jobs);
                 return Ok(Searched {
                     ended: Ended::Stopped(why),
-                    placed,
+                    results,
                 });
             }
         }
     }
-    known(search);
+    show_sound(manager);
+    drop(jobs);
     Ok(Searched {
         ended: Ended::Finished,
-        placed,
+        results,
     })
 }
 
-/// Works open leaves until none is left. At most `nodes` results are placed, and each relaxation has at most `pivots`
-/// moves. A relaxation whose leaf keeps no lawful basis begins at `first`. Where there is no memory the results that were
-/// placed stay, and the search can go on.
+/// Works open leaves until none is left. The turns of the manager's workers, of which none holds a leaf, are those that the words of
+/// the seed say. At most `nodes` results are placed, and each relaxation has at most `pivots` moves. A relaxation whose leaf keeps no
+/// lawful basis begins at `first`. Where there is no memory the results that were placed stay, and the search can go on.
 pub fn search_on(
     alloc: Global,
-    search: &mut Search,
+    manager: &mut Manager,
     ways: &Ways<'_>,
     first: &Basis,
-    nodes: u64,
-    pivots: u64,
+    bounds: &SolveLimits,
 ) -> Result<Searched, AllocError>
-    requires ways { IsWayFor search.old ways.now }
-    requires first { IsFirstFor ways.now search.old first.now }
-    ensures found { IfOk result (λ searched. Finds ways.now first.now nodes pivots search.old search.new searched) }
-    ensures complete { IfOk result (λ searched. IsEnoughForSearch search.old search.new.cuts ways.now nodes pivots → IsAtEnd searched.ended) }
-    ensures unfinished { OnErr result (GivesUp ways.now first.now nodes pivots search.old search.new) }
+    requires idle { manager.old.held ≡ replicate bounds.now.workers None }
+    requires ways { IsWayFor manager.old.search ways.now }
+    requires first { IsFirstFor ways.now manager.old.search first.now }
+    ensures found { IfOk result (λ searched. Finds ways.now first.now (turn_order_of bounds.now) bounds.now.nodes bounds.now.pivots manager.old.search manager.new.search searched) }
+    ensures complete { IfOk result (λ searched. IsEnoughForSearch manager.old.search manager.new.search.cuts ways.now bounds.now.nodes bounds.now.pivots → IsAtEnd searched.ended) }
+    ensures unfinished { OnErr result (GivesUp ways.now first.now (turn_order_of bounds.now) bounds.now.nodes bounds.now.pivots manager.old.search manager.new.search) }
 {
-    known(search);
+    show_sound(manager);
     let limits = Limits {
         ways: *ways,
         first,
-        pivots,
+        pivots: bounds.pivots,
     };
-    go_on(alloc, search, &limits, nodes)
+    go_on(alloc, manager, &limits, bounds)
 }

@@ -1,12 +1,11 @@
-// One step of a search: the leaf that goes first is worked, and what comes of it is placed.
+// One step of a search: the leaf of a job that a worker holds is worked, and what comes of it is placed.
 ghost use Rattle.std.specs.Prelude.{◌≡◌, ◌<◌, ◌≤◌, ◌+◌, [], length, IfOk, OnOk, OnErr, Some, None, Ok, Err};
 ghost use Rattle.lp_model.specs.Limits.{pool_limit};
 ghost use Rattle.lp_model.specs.Program.{value};
 ghost use Rattle.lp_model.specs.Lawful.{IsLawful};
 ghost use Rattle.branch_tree.specs.Numbered.{IsNumbered};
 ghost use Rattle.branch_tree.specs.declared.node.NodeResult.TheVariants.{PointAndClose};
-ghost use Rattle.sound_searches.specs.Calls.{IsNext};
-ghost use Rattle.sound_searches.specs.Jobs.{IsJobOf};
+ghost use Rattle.sound_searches.specs.Free.{IsHeldJob};
 ghost use Rattle.search_parts.specs.Lists.{IsBasis};
 ghost use Rattle.sound_searches.specs.Sound.{PlainSearch, IsSound, formulation_of};
 ghost use Rattle.kept_cuts.specs.Kept.{derivations_of};
@@ -16,21 +15,23 @@ ghost use Rattle.node_solve.specs.declared.working.Worked.TheVariants.{Done, Piv
 ghost use Rattle.lp_model.specs.declared.answers.StopWhy.TheVariants as why;
 ghost use Rattle.model_points.specs.Answers.{IsValueAnswer};
 ghost use Rattle.tree_search.specs.declared.stepping.Stepped.TheVariants.{Stopped};
-ghost use Rattle.tree_search.specs.Steps.{FoundCuts, kept_basis, IsNextJob, KeepsOpen, IsPlacedBy, IsRayWay};
-ghost use Rattle.tree_search.specs.GivingUp.{LeavesNext};
-ghost use Rattle.tree_search.specs.Stepping.{IsReady, Steps, WorksBy, worked_with};
+ghost use Rattle.tree_search.specs.Steps.{FoundCuts, kept_basis, KeepsOpen, IsPlacedBy, IsRayWay};
+ghost use Rattle.tree_search.specs.GivingUp.{LeavesOf};
+ghost use Rattle.tree_manager.specs.Managers.{IsManager};
+ghost use Rattle.tree_search.specs.private.Stepping.{IsReady, Steps, IsFreed, WorksBy, worked_with};
 
 use crate::searching::Ways;
 use branch_tree::{Job, NodeResult};
-use cover_cuts::PoolFault;
+use cover_cuts::{CutPool, PoolFault};
 use kept_cuts::{copy_derivation, derivations};
 use lp_model::{
-    Basis, CutRow, Derivation, List, Mult, PivotPlace, Point, Region, StopWhy, WideAt, WideStep,
+    Basis, CutRow, Derivation, List, Model, Mult, PivotPlace, Point, Region, StopWhy, WideAt,
+    WideStep,
 };
 use model_points::value;
 use node_solve::{LiveCuts, Worked, basis_in_pool, basis_in_relaxation, work};
 use std::alloc::{AllocError, Global};
-use tree_edit::{Search, Taken};
+use tree_manager::{Manager, Taken};
 
 /// How many rounds of cuts the work on a leaf makes.
 const ROUNDS: u8 = 5;
@@ -65,42 +66,43 @@ pub(crate) enum Outcome {
     Wide(WideAt),
 }
 
-/// What holds of each search, and what contracts may use of it after this call.
-pub(crate) fn known(search: &Search)
-    ensures sound { IsSound search.now }
-    ensures numbered { IsNumbered search.now.tree }
-    ensures lawful { IsLawful search.now.model }
+/// What holds of each manager's search, and what contracts may use of it after this call.
+pub(crate) fn show_sound(manager: &Manager)
+    ensures sound { IsSound manager.now.search }
+    ensures numbered { IsNumbered manager.now.search.tree }
+    ensures lawful { IsLawful manager.now.search.model }
+    ensures manager { IsManager manager.now }
 {
-    let _sound = search.points();
-    let _numbered = search.tree().nodes();
+    let search = manager.search();
     let _lawful = search.model().cols();
 }
 
-/// The job of the leaf that goes first.
-fn next_job(search: &Search, id: u64) -> Result<Job, AllocError>
-    requires { IsNext search.now (Some id) }
-    ensures { IfOk result (λ job. IsNextJob search.now job) }
+/// The model that is searched.
+fn model(manager: &Manager) -> &Model
+    ensures { result.now ≡ manager.now.search.model }
 {
-    known(search);
-    match search.job(id) {
-        Ok(Some(job)) => Ok(job),
-        Ok(None) => unreachable!(),
-        Err(error) => Err(error),
-    }
+    manager.search().model()
+}
+
+/// The cuts of the search.
+fn pool(manager: &Manager) -> &CutPool
+    ensures pool { result.now ≡ manager.now.search.cuts }
+{
+    manager.search().pool()
 }
 
 /// Works the leaf of the job.
-fn work_on(alloc: Global, search: &Search, limits: &Limits<'_>, job: &Job) -> Worked
-    requires ready { IsReady limits.now search.now }
-    requires next { IsNextJob search.now job.now }
-    ensures { WorksBy limits.now search.now job.now result }
+fn work_on(alloc: Global, manager: &Manager, limits: &Limits<'_>, job: &Job) -> Worked
+    requires ready { IsReady limits.now manager.now.search }
+    requires held { IsHeldJob manager.now.search job.now }
+    ensures { WorksBy limits.now manager.now.search job.now result }
 {
-    known(search);
+    show_sound(manager);
     match limits.ways {
         Ways::Own => work(
             alloc,
-            search.model(),
-            search.pool(),
+            model(manager),
+            pool(manager),
             job,
             limits.first,
             ROUNDS,
@@ -109,7 +111,7 @@ fn work_on(alloc: Global, search: &Search, limits: &Limits<'_>, job: &Job) -> Wo
         Ways::Rays(model) => work(
             alloc,
             model,
-            search.pool(),
+            pool(manager),
             job,
             limits.first,
             ROUNDS,
@@ -119,12 +121,13 @@ fn work_on(alloc: Global, search: &Search, limits: &Limits<'_>, job: &Job) -> Wo
 }
 
 /// Adds a cut that was found. There is room in the pool.
-fn add_cut(search: &mut Search, from: Derivation) -> Result<(), AllocError>
-    requires { length search.old.cuts < pool_limit }
-    ensures adds { OnOk result (AddsCut search.old from search.new) }
-    ensures kept { OnErr result (search.new ≡ search.old) }
+fn add_cut(manager: &mut Manager, from: Derivation) -> Result<(), AllocError>
+    requires { length manager.old.search.cuts < pool_limit }
+    ensures adds { OnOk result (AddsCut manager.old.search from manager.new.search) }
+    ensures kept { OnErr result (manager.new ≡ manager.old) }
+    ensures held { manager.new.held ≡ manager.old.held }
 {
-    match search.add_cut(from) {
+    match manager.add_cut(from) {
         Ok(_) => Ok(()),
         Err(PoolFault::Full) => unreachable!(),
         Err(PoolFault::Memory) => Err(AllocError),
@@ -132,17 +135,18 @@ fn add_cut(search: &mut Search, from: Derivation) -> Result<(), AllocError>
 }
 
 /// Adds the cuts that were found, in order. Where there is no memory the first of them stay.
-fn add_cuts(search: &mut Search, found: &[Derivation]) -> Result<(), AllocError>
-    requires { length search.old.cuts + length found.now ≤ pool_limit }
-    ensures adds { OnOk result (AddsCuts search.old found.now search.new) }
-    ensures some { OnErr result (AddsSome search.old found.now search.new) }
+fn add_cuts(manager: &mut Manager, found: &[Derivation]) -> Result<(), AllocError>
+    requires { length manager.old.search.cuts + length found.now ≤ pool_limit }
+    ensures adds { OnOk result (AddsCuts manager.old.search found.now manager.new.search) }
+    ensures some { OnErr result (AddsSome manager.old.search found.now manager.new.search) }
+    ensures held { manager.new.held ≡ manager.old.held }
 {
     for from in found {
         let own = match copy_derivation(from) {
             Ok(own) => own,
             Err(error) => return Err(error),
         };
-        match add_cut(search, own) {
+        match add_cut(manager, own) {
             Ok(()) => {}
             Err(error) => return Err(error),
         }
@@ -153,13 +157,13 @@ fn add_cuts(search: &mut Search, found: &[Derivation]) -> Result<(), AllocError>
 /// The derivations of the cuts of a leaf's relaxation, which has the first 200 that count, and its basis as the leaf keeps it.
 fn kept_lists(
     alloc: Global,
-    search: &Search,
+    manager: &Manager,
     basis: &Basis,
 ) -> Result<(List<Derivation>, Basis), AllocError>
-    ensures cuts { IfOk result (λ both. both.0 ≡ derivations_of (live_cuts 200 search.now.cuts)) }
-    ensures basis { IfOk result (λ both. both.1 ≡ kept_basis search.now basis.now) }
+    ensures cuts { IfOk result (λ both. both.0 ≡ derivations_of (live_cuts 200 manager.now.search.cuts)) }
+    ensures basis { IfOk result (λ both. both.1 ≡ kept_basis manager.now.search basis.now) }
 {
-    let Ok(live) = LiveCuts::new(alloc, search.pool()) else {
+    let Ok(live) = LiveCuts::new(alloc, pool(manager)) else {
         return Err(AllocError);
     };
     let Ok(cuts) = derivations(alloc, &live.cuts) else {
@@ -180,21 +184,24 @@ fn kept_lists(
 /// Gives the leaf of the job the basis of its relaxation, which has the first 200 cuts that count. The leaf stays open.
 fn keep_basis(
     alloc: Global,
-    search: &mut Search,
+    manager: &mut Manager,
+    worker: usize,
     job: &Job,
     basis: &Basis,
 ) -> Result<List<Derivation>, AllocError>
-    requires job { IsJobOf search.old job.now.id job.now }
-    requires basis { IsBasis (formulation_of search.old) (kept_basis search.old basis.now) }
-    ensures keeps { OnOk result (KeepsOpen search.old job.now [] None (kept_basis search.old basis.now) search.new) }
-    ensures cuts { IfOk result (λ cuts. cuts ≡ derivations_of (live_cuts 200 search.old.cuts)) }
-    ensures kept { OnErr result (search.new ≡ search.old) }
+    requires job { IsHeldJob manager.old.search job.now }
+    requires basis { IsBasis (formulation_of manager.old.search) (kept_basis manager.old.search basis.now) }
+    requires within { worker < length manager.old.held }
+    ensures keeps { OnOk result (KeepsOpen manager.old.search job.now [] None (kept_basis manager.old.search basis.now) manager.new.search) }
+    ensures cuts { IfOk result (λ cuts. cuts ≡ derivations_of (live_cuts 200 manager.old.search.cuts)) }
+    ensures kept { OnErr result (manager.new ≡ manager.old) }
+    ensures held { OnOk result (IsFreed worker manager.old manager.new) }
 {
-    let Ok((cuts, basis)) = kept_lists(alloc, search, basis) else {
+    let Ok((cuts, basis)) = kept_lists(alloc, manager, basis) else {
         return Err(AllocError);
     };
-    known(search);
-    let taken = match search.place_done(job, NodeResult::Keep { point: None, basis }) {
+    show_sound(manager);
+    let taken = match manager.take_done(worker, job, NodeResult::Keep { point: None, basis }) {
         Ok(taken) => taken,
         Err(error) => {
             drop(cuts);
@@ -240,17 +247,20 @@ fn at_step(job: Job, cuts: List<Derivation>, basis: Basis, step: WideStep) -> St
 /// Stops where the relaxation had as many moves as the limit allows.
 fn stop_by_pivots(
     alloc: Global,
-    search: &mut Search,
+    manager: &mut Manager,
+    worker: usize,
     limits: &Limits<'_>,
     job: Job,
     basis: Basis,
 ) -> Result<Stepped, AllocError>
-    requires ready { IsReady limits.now search.old }
-    requires works { (begin : PlainSearch) × ((found : FoundCuts) × (WorksBy limits.now begin job (Pivots basis found) × AddsCuts begin found.items search.old)) }
-    ensures steps { IfOk result (λ stepped. (begin : PlainSearch) (found : FoundCuts) → WorksBy limits.now begin job (Pivots basis found) → AddsCuts begin found.items search.old → Steps limits.now begin search.new stepped) }
-    ensures kept { OnErr result (search.new ≡ search.old) }
+    requires ready { IsReady limits.now manager.old.search }
+    requires works { (begin : PlainSearch) × ((found : FoundCuts) × (WorksBy limits.now begin job (Pivots basis found) × AddsCuts begin found.items manager.old.search)) }
+    requires within { worker < length manager.old.held }
+    ensures steps { IfOk result (λ stepped. (begin : PlainSearch) (found : FoundCuts) → WorksBy limits.now begin job (Pivots basis found) → AddsCuts begin found.items manager.old.search → Steps limits.now job begin manager.new.search stepped) }
+    ensures kept { OnErr result (manager.new ≡ manager.old) }
+    ensures held { OnOk result (IsFreed worker manager.old manager.new) }
 {
-    match keep_basis(alloc, search, &job, &basis) {
+    match keep_basis(alloc, manager, worker, &job, &basis) {
         Ok(cuts) => Ok(at_pivots(job, cuts, basis)),
         Err(error) => {
             drop(job);
@@ -263,17 +273,20 @@ fn stop_by_pivots(
 /// Stops where a step of the work has no room.
 fn stop_by_step(
     alloc: Global,
-    search: &mut Search,
+    manager: &mut Manager,
+    worker: usize,
     limits: &Limits<'_>,
     job: &Job,
     at: WideAt,
 ) -> Result<Stepped, AllocError>
-    requires ready { IsReady limits.now search.old }
-    requires works { (begin : PlainSearch) × ((found : FoundCuts) × (WorksBy limits.now begin job.now (Wide at found) × AddsCuts begin found.items search.old)) }
-    ensures steps { IfOk result (λ stepped. (begin : PlainSearch) (found : FoundCuts) → WorksBy limits.now begin job.now (Wide at found) → AddsCuts begin found.items search.old → Steps limits.now begin search.new stepped) }
-    ensures kept { OnErr result (search.new ≡ search.old) }
+    requires ready { IsReady limits.now manager.old.search }
+    requires works { (begin : PlainSearch) × ((found : FoundCuts) × (WorksBy limits.now begin job.now (Wide at found) × AddsCuts begin found.items manager.old.search)) }
+    requires within { worker < length manager.old.held }
+    ensures steps { IfOk result (λ stepped. (begin : PlainSearch) (found : FoundCuts) → WorksBy limits.now begin job.now (Wide at found) → AddsCuts begin found.items manager.old.search → Steps limits.now job.now begin manager.new.search stepped) }
+    ensures kept { OnErr result (manager.new ≡ manager.old) }
+    ensures held { OnOk result (IsFreed worker manager.old manager.new) }
 {
-    match keep_basis(alloc, search, job, &at.basis) {
+    match keep_basis(alloc, manager, worker, job, &at.basis) {
         Ok(cuts) => {
             drop(cuts);
             Ok(Stepped::Stopped(StopWhy::Wide(at)))
@@ -287,19 +300,22 @@ fn stop_by_step(
 
 /// Places a result that closes the leaf or splits it.
 fn place_result(
-    search: &mut Search,
+    manager: &mut Manager,
+    worker: usize,
     limits: &Limits<'_>,
     job: &Job,
     done: NodeResult,
 ) -> Result<Stepped, AllocError>
-    requires ready { IsReady limits.now search.old }
-    requires works { (begin : PlainSearch) × ((found : FoundCuts) × (WorksBy limits.now begin job.now (Done done found) × AddsCuts begin found.items search.old)) }
+    requires ready { IsReady limits.now manager.old.search }
+    requires works { (begin : PlainSearch) × ((found : FoundCuts) × (WorksBy limits.now begin job.now (Done done found) × AddsCuts begin found.items manager.old.search)) }
     requires by { IsPlacedBy limits.now.ways done }
-    ensures steps { IfOk result (λ stepped. (begin : PlainSearch) (found : FoundCuts) → WorksBy limits.now begin job.now (Done done found) → AddsCuts begin found.items search.old → Steps limits.now begin search.new stepped) }
-    ensures kept { OnErr result (search.new ≡ search.old) }
+    requires within { worker < length manager.old.held }
+    ensures steps { IfOk result (λ stepped. (begin : PlainSearch) (found : FoundCuts) → WorksBy limits.now begin job.now (Done done found) → AddsCuts begin found.items manager.old.search → Steps limits.now job.now begin manager.new.search stepped) }
+    ensures kept { OnErr result (manager.new ≡ manager.old) }
+    ensures held { OnOk result (IsFreed worker manager.old manager.new) }
 {
-    known(search);
-    let taken = match search.place_done(job, done) {
+    show_sound(manager);
+    let taken = match manager.take_done(worker, job, done) {
         Ok(taken) => taken,
         Err(error) => return Err(error),
     };
@@ -310,10 +326,10 @@ fn place_result(
 }
 
 /// A basis that is kept, in the leaf's relaxation, which has the first 200 cuts that count.
-fn relaxation_basis(alloc: Global, search: &Search, basis: &Basis) -> Result<Basis, AllocError>
-    ensures { IfOk result (λ own. own ≡ basis_in_relaxation (live_places 200 0 search.now.cuts) basis.now) }
+fn relaxation_basis(alloc: Global, manager: &Manager, basis: &Basis) -> Result<Basis, AllocError>
+    ensures { IfOk result (λ own. own ≡ basis_in_relaxation (live_places 200 0 manager.now.search.cuts) basis.now) }
 {
-    let Ok(live) = LiveCuts::new(alloc, search.pool()) else {
+    let Ok(live) = LiveCuts::new(alloc, pool(manager)) else {
         return Err(AllocError);
     };
     let own = basis_in_relaxation(alloc, &live.places, basis);
@@ -322,10 +338,10 @@ fn relaxation_basis(alloc: Global, search: &Search, basis: &Basis) -> Result<Bas
 }
 
 /// A basis that is let go, in the leaf's relaxation.
-fn into_relaxation(alloc: Global, search: &Search, basis: Basis) -> Result<Basis, AllocError>
-    ensures { IfOk result (λ own. own ≡ basis_in_relaxation (live_places 200 0 search.now.cuts) basis) }
+fn into_relaxation(alloc: Global, manager: &Manager, basis: Basis) -> Result<Basis, AllocError>
+    ensures { IfOk result (λ own. own ≡ basis_in_relaxation (live_places 200 0 manager.now.search.cuts) basis) }
 {
-    let own = relaxation_basis(alloc, search, &basis);
+    let own = relaxation_basis(alloc, manager, &basis);
     drop(basis);
     own
 }
@@ -333,7 +349,8 @@ fn into_relaxation(alloc: Global, search: &Search, basis: Basis) -> Result<Basis
 /// Stops where a step of the value of a point that is found beside a ray has no room.
 fn stop_by_value(
     alloc: Global,
-    search: &mut Search,
+    manager: &mut Manager,
+    worker: usize,
     limits: &Limits<'_>,
     job: Job,
     point: Point,
@@ -342,17 +359,19 @@ fn stop_by_value(
     step: WideStep,
 ) -> Result<Stepped, AllocError>
     requires rays { IsRayWay limits.now.ways }
-    requires ready { IsReady limits.now search.old }
-    requires works { (begin : PlainSearch) × ((found : FoundCuts) × (WorksBy limits.now begin job (Done (PointAndClose point mult basis) found) × AddsCuts begin found.items search.old)) }
-    requires value { IsValueAnswer search.old.model 1 point (Err step) }
-    ensures steps { IfOk result (λ stepped. (begin : PlainSearch) (found : FoundCuts) → WorksBy limits.now begin job (Done (PointAndClose point mult basis) found) → AddsCuts begin found.items search.old → Steps limits.now begin search.new stepped) }
-    ensures kept { OnErr result (search.new ≡ search.old) }
+    requires ready { IsReady limits.now manager.old.search }
+    requires works { (begin : PlainSearch) × ((found : FoundCuts) × (WorksBy limits.now begin job (Done (PointAndClose point mult basis) found) × AddsCuts begin found.items manager.old.search)) }
+    requires value { IsValueAnswer manager.old.search.model 1 point (Err step) }
+    requires within { worker < length manager.old.held }
+    ensures steps { IfOk result (λ stepped. (begin : PlainSearch) (found : FoundCuts) → WorksBy limits.now begin job (Done (PointAndClose point mult basis) found) → AddsCuts begin found.items manager.old.search → Steps limits.now job begin manager.new.search stepped) }
+    ensures kept { OnErr result (manager.new ≡ manager.old) }
+    ensures held { OnOk result (IsFreed worker manager.old manager.new) }
 {
-    known(search);
+    show_sound(manager);
     drop(point);
     drop(mult);
-    match into_relaxation(alloc, search, basis) {
-        Ok(own) => match keep_basis(alloc, search, &job, &own) {
+    match into_relaxation(alloc, manager, basis) {
+        Ok(own) => match keep_basis(alloc, manager, worker, &job, &own) {
             Ok(cuts) => Ok(at_step(job, cuts, own, step)),
             Err(error) => {
                 drop(job);
@@ -369,7 +388,8 @@ fn stop_by_value(
 
 /// Keeps a point that is found beside a ray.
 fn keep_found(
-    search: &mut Search,
+    manager: &mut Manager,
+    worker: usize,
     limits: &Limits<'_>,
     job: &Job,
     point: Point,
@@ -377,19 +397,21 @@ fn keep_found(
     basis: Basis,
 ) -> Result<Stepped, AllocError>
     requires rays { IsRayWay limits.now.ways }
-    requires ready { IsReady limits.now search.old }
-    requires works { (begin : PlainSearch) × ((found : FoundCuts) × (WorksBy limits.now begin job.now (Done (PointAndClose point mult basis) found) × AddsCuts begin found.items search.old)) }
-    requires value { IsValueAnswer search.old.model 1 point (Ok (value search.old.model 1 point)) }
-    ensures steps { IfOk result (λ stepped. (begin : PlainSearch) (found : FoundCuts) → WorksBy limits.now begin job.now (Done (PointAndClose point mult basis) found) → AddsCuts begin found.items search.old → Steps limits.now begin search.new stepped) }
-    ensures kept { OnErr result (search.new ≡ search.old) }
+    requires ready { IsReady limits.now manager.old.search }
+    requires works { (begin : PlainSearch) × ((found : FoundCuts) × (WorksBy limits.now begin job.now (Done (PointAndClose point mult basis) found) × AddsCuts begin found.items manager.old.search)) }
+    requires value { IsValueAnswer manager.old.search.model 1 point (Ok (value manager.old.search.model 1 point)) }
+    requires within { worker < length manager.old.held }
+    ensures steps { IfOk result (λ stepped. (begin : PlainSearch) (found : FoundCuts) → WorksBy limits.now begin job.now (Done (PointAndClose point mult basis) found) → AddsCuts begin found.items manager.old.search → Steps limits.now job.now begin manager.new.search stepped) }
+    ensures kept { OnErr result (manager.new ≡ manager.old) }
+    ensures held { OnOk result (IsFreed worker manager.old manager.new) }
 {
-    known(search);
+    show_sound(manager);
     drop(mult);
     let kept = NodeResult::Keep {
         point: Some(point),
         basis,
     };
-    let taken = match search.place_done(job, kept) {
+    let taken = match manager.take_done(worker, job, kept) {
         Ok(taken) => taken,
         Err(error) => return Err(error),
     };
@@ -402,7 +424,8 @@ fn keep_found(
 /// Keeps the first point that is found beside a ray, if its value in the search's own model has room for each step.
 fn keep_point(
     alloc: Global,
-    search: &mut Search,
+    manager: &mut Manager,
+    worker: usize,
     limits: &Limits<'_>,
     job: Job,
     point: Point,
@@ -410,16 +433,20 @@ fn keep_point(
     basis: Basis,
 ) -> Result<Stepped, AllocError>
     requires rays { IsRayWay limits.now.ways }
-    requires ready { IsReady limits.now search.old }
-    requires works { (begin : PlainSearch) × ((found : FoundCuts) × (WorksBy limits.now begin job (Done (PointAndClose point mult basis) found) × AddsCuts begin found.items search.old)) }
-    ensures steps { IfOk result (λ stepped. (begin : PlainSearch) (found : FoundCuts) → WorksBy limits.now begin job (Done (PointAndClose point mult basis) found) → AddsCuts begin found.items search.old → Steps limits.now begin search.new stepped) }
-    ensures kept { OnErr result (search.new ≡ search.old) }
+    requires ready { IsReady limits.now manager.old.search }
+    requires works { (begin : PlainSearch) × ((found : FoundCuts) × (WorksBy limits.now begin job (Done (PointAndClose point mult basis) found) × AddsCuts begin found.items manager.old.search)) }
+    requires within { worker < length manager.old.held }
+    ensures steps { IfOk result (λ stepped. (begin : PlainSearch) (found : FoundCuts) → WorksBy limits.now begin job (Done (PointAndClose point mult basis) found) → AddsCuts begin found.items manager.old.search → Steps limits.now job begin manager.new.search stepped) }
+    ensures kept { OnErr result (manager.new ≡ manager.old) }
+    ensures held { OnOk result (IsFreed worker manager.old manager.new) }
 {
-    known(search);
-    match value(search.model(), 1, &point) {
-        Err(step) => stop_by_value(alloc, search, limits, job, point, mult, basis, step),
+    show_sound(manager);
+    match value(model(manager), 1, &point) {
+        Err(step) => stop_by_value(
+            alloc, manager, worker, limits, job, point, mult, basis, step,
+        ),
         Ok(_) => {
-            let stepped = keep_found(search, limits, &job, point, mult, basis);
+            let stepped = keep_found(manager, worker, limits, &job, point, mult, basis);
             drop(job);
             stepped
         }
@@ -429,23 +456,26 @@ fn keep_point(
 /// Places what the work on a leaf beside a ray came to.
 fn place_beside_ray(
     alloc: Global,
-    search: &mut Search,
+    manager: &mut Manager,
+    worker: usize,
     limits: &Limits<'_>,
     job: Job,
     done: NodeResult,
 ) -> Result<Stepped, AllocError>
     requires rays { IsRayWay limits.now.ways }
-    requires ready { IsReady limits.now search.old }
-    requires works { (begin : PlainSearch) × ((found : FoundCuts) × (WorksBy limits.now begin job (Done done found) × AddsCuts begin found.items search.old)) }
-    ensures steps { IfOk result (λ stepped. (begin : PlainSearch) (found : FoundCuts) → WorksBy limits.now begin job (Done done found) → AddsCuts begin found.items search.old → Steps limits.now begin search.new stepped) }
-    ensures kept { OnErr result (search.new ≡ search.old) }
+    requires ready { IsReady limits.now manager.old.search }
+    requires works { (begin : PlainSearch) × ((found : FoundCuts) × (WorksBy limits.now begin job (Done done found) × AddsCuts begin found.items manager.old.search)) }
+    requires within { worker < length manager.old.held }
+    ensures steps { IfOk result (λ stepped. (begin : PlainSearch) (found : FoundCuts) → WorksBy limits.now begin job (Done done found) → AddsCuts begin found.items manager.old.search → Steps limits.now job begin manager.new.search stepped) }
+    ensures kept { OnErr result (manager.new ≡ manager.old) }
+    ensures held { OnOk result (IsFreed worker manager.old manager.new) }
 {
     match done {
         NodeResult::PointAndClose { point, mult, basis } => {
-            keep_point(alloc, search, limits, job, point, mult, basis)
+            keep_point(alloc, manager, worker, limits, job, point, mult, basis)
         }
         other => {
-            let stepped = place_result(search, limits, &job, other);
+            let stepped = place_result(manager, worker, limits, &job, other);
             drop(job);
             stepped
         }
@@ -455,69 +485,78 @@ fn place_beside_ray(
 /// Places what the work on a leaf came to.
 fn place_done(
     alloc: Global,
-    search: &mut Search,
+    manager: &mut Manager,
+    worker: usize,
     limits: &Limits<'_>,
     job: Job,
     done: NodeResult,
 ) -> Result<Stepped, AllocError>
-    requires ready { IsReady limits.now search.old }
-    requires works { (begin : PlainSearch) × ((found : FoundCuts) × (WorksBy limits.now begin job (Done done found) × AddsCuts begin found.items search.old)) }
-    ensures steps { IfOk result (λ stepped. (begin : PlainSearch) (found : FoundCuts) → WorksBy limits.now begin job (Done done found) → AddsCuts begin found.items search.old → Steps limits.now begin search.new stepped) }
-    ensures kept { OnErr result (search.new ≡ search.old) }
+    requires ready { IsReady limits.now manager.old.search }
+    requires works { (begin : PlainSearch) × ((found : FoundCuts) × (WorksBy limits.now begin job (Done done found) × AddsCuts begin found.items manager.old.search)) }
+    requires within { worker < length manager.old.held }
+    ensures steps { IfOk result (λ stepped. (begin : PlainSearch) (found : FoundCuts) → WorksBy limits.now begin job (Done done found) → AddsCuts begin found.items manager.old.search → Steps limits.now job begin manager.new.search stepped) }
+    ensures kept { OnErr result (manager.new ≡ manager.old) }
+    ensures held { OnOk result (IsFreed worker manager.old manager.new) }
 {
     match limits.ways {
         Ways::Own => {
-            let stepped = place_result(search, limits, &job, done);
+            let stepped = place_result(manager, worker, limits, &job, done);
             drop(job);
             stepped
         }
-        Ways::Rays(_) => place_beside_ray(alloc, search, limits, job, done),
+        Ways::Rays(_) => place_beside_ray(alloc, manager, worker, limits, job, done),
     }
 }
 
 /// Goes on to what the work on a leaf came to, where the cuts that it found are in the pool.
 fn place_outcome(
     alloc: Global,
-    search: &mut Search,
+    manager: &mut Manager,
+    worker: usize,
     limits: &Limits<'_>,
     job: Job,
     outcome: Outcome,
 ) -> Result<Stepped, AllocError>
-    requires ready { IsReady limits.now search.old }
-    requires works { (begin : PlainSearch) × ((found : FoundCuts) × (WorksBy limits.now begin job (worked_with outcome found) × AddsCuts begin found.items search.old)) }
-    ensures steps { IfOk result (λ stepped. (begin : PlainSearch) (found : FoundCuts) → WorksBy limits.now begin job (worked_with outcome found) → AddsCuts begin found.items search.old → Steps limits.now begin search.new stepped) }
-    ensures kept { OnErr result (search.new ≡ search.old) }
+    requires ready { IsReady limits.now manager.old.search }
+    requires works { (begin : PlainSearch) × ((found : FoundCuts) × (WorksBy limits.now begin job (worked_with outcome found) × AddsCuts begin found.items manager.old.search)) }
+    requires within { worker < length manager.old.held }
+    ensures steps { IfOk result (λ stepped. (begin : PlainSearch) (found : FoundCuts) → WorksBy limits.now begin job (worked_with outcome found) → AddsCuts begin found.items manager.old.search → Steps limits.now job begin manager.new.search stepped) }
+    ensures kept { OnErr result (manager.new ≡ manager.old) }
+    ensures held { OnOk result (IsFreed worker manager.old manager.new) }
 {
     match outcome {
-        Outcome::Pivots(basis) => stop_by_pivots(alloc, search, limits, job, basis),
+        Outcome::Pivots(basis) => stop_by_pivots(alloc, manager, worker, limits, job, basis),
         Outcome::Wide(at) => {
-            let stepped = stop_by_step(alloc, search, limits, &job, at);
+            let stepped = stop_by_step(alloc, manager, worker, limits, &job, at);
             drop(job);
             stepped
         }
-        Outcome::Done(done) => place_done(alloc, search, limits, job, done),
+        Outcome::Done(done) => place_done(alloc, manager, worker, limits, job, done),
     }
 }
 
 /// Adds the cuts that the work on a leaf found, and goes on to what it came to.
 fn after_work(
     alloc: Global,
-    search: &mut Search,
+    manager: &mut Manager,
+    worker: usize,
     limits: &Limits<'_>,
     job: Job,
     outcome: Outcome,
     found: Vec<Derivation>,
 ) -> Result<Stepped, AllocError>
-    requires ready { IsReady limits.now search.old }
-    requires works { WorksBy limits.now search.old job (worked_with outcome found) }
-    ensures steps { IfOk result (λ stepped. Steps limits.now search.old search.new stepped) }
-    ensures some { OnErr result (AddsSome search.old found.items search.new) }
+    requires ready { IsReady limits.now manager.old.search }
+    requires works { WorksBy limits.now manager.old.search job (worked_with outcome found) }
+    requires within { worker < length manager.old.held }
+    ensures steps { IfOk result (λ stepped. Steps limits.now job manager.old.search manager.new.search stepped) }
+    ensures some { OnErr result (AddsSome manager.old.search found.items manager.new.search) }
+    ensures held { OnOk result (IsFreed worker manager.old manager.new) }
 {
-    known(search);
-    let added = add_cuts(search, &found);
+    show_sound(manager);
+    let added = add_cuts(manager, &found);
     drop(found);
     match added {
-        Ok(()) => place_outcome(alloc, search, limits, job, outcome),
+        Ok(()) => place_outcome(alloc, manager, worker, limits, job, outcome),
         Err(error) => {
             drop(job);
             drop(outcome);
@@ -526,35 +565,58 @@ fn after_work(
     }
 }
 
-/// Works the leaf that goes first, and places what comes of it.
+/// Works the leaf of the job that the worker holds, and places what comes of it.
 pub(crate) fn step(
     alloc: Global,
-    search: &mut Search,
+    manager: &mut Manager,
+    worker: usize,
     limits: &Limits<'_>,
-    id: u64,
+    job: Job,
 ) -> Result<Stepped, AllocError>
-    requires ready { IsReady limits.now search.old }
-    requires next { IsNext search.old (Some id) }
-    ensures steps { IfOk result (λ stepped. Steps limits.now search.old search.new stepped) }
-    ensures leaves { OnErr result (LeavesNext limits.now.ways limits.now.first.now limits.now.pivots search.old search.new) }
+    requires ready { IsReady limits.now manager.old.search }
+    requires held { IsHeldJob manager.old.search job }
+    requires within { worker < length manager.old.held }
+    ensures steps { IfOk result (λ stepped. Steps limits.now job manager.old.search manager.new.search stepped) }
+    ensures leaves { OnErr result (LeavesOf limits.now.ways limits.now.first.now limits.now.pivots job manager.old.search manager.new.search) }
+    ensures held { OnOk result (IsFreed worker manager.old manager.new) }
 {
-    let job = match next_job(search, id) {
-        Ok(job) => job,
-        Err(error) => return Err(error),
-    };
-    match work_on(alloc, search, limits, &job) {
+    match work_on(alloc, manager, limits, &job) {
         Worked::Memory => {
             drop(job);
             Err(AllocError)
         }
         Worked::Pivots { basis, found } => {
-            after_work(alloc, search, limits, job, Outcome::Pivots(basis), found)
+            after_work(
+                alloc,
+                manager,
+                worker,
+                limits,
+                job,
+                Outcome::Pivots(basis),
+                found,
+            )
         }
         Worked::Wide(at, found) => {
-            after_work(alloc, search, limits, job, Outcome::Wide(at), found)
+            after_work(
+                alloc,
+                manager,
+                worker,
+                limits,
+                job,
+                Outcome::Wide(at),
+                found,
+            )
         }
         Worked::Done(done, found) => {
-            after_work(alloc, search, limits, job, Outcome::Done(done), found)
+            after_work(
+                alloc,
+                manager,
+                worker,
+                limits,
+                job,
+                Outcome::Done(done),
+                found,
+            )
         }
     }
 }

@@ -8,8 +8,8 @@
 //! (specs/Words): the generator is a value, and each word is drawn by one step of it, so what is drawn next is known at every turn. `some_law`
 //! says when some worker can act.
 //!
-//! Below stands the generator (`rand_pcg`). Above stand the models of `bench` (`bench_models`), which take their words from here. No command has
-//! workers yet, so `whose_turn` is proved and not used.
+//! Below stands the generator (`rand_pcg`). Above stand the models of `bench` (`bench_models`), which take their words from here, and
+//! the search of a model (`tree_search`), whose workers take their turns so.
 #![tactic(auto)]
 
 mod laws;

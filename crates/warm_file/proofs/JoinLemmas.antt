@@ -7,7 +7,7 @@ use Rattle.warm_file.specs.Faults.{Fault, behind, SaysFault}
 use Rattle.warm_file.specs.Values.{if_object}
 use Rattle.warm_file.specs.declared.fault.WarmFault.{WarmFault}
 use Rattle.warm_file.proofs.Saying.{says-first, says-next, says-then, ok-next, ok-then}
-use Rattle.warm_file.specs.Joined.{both_of}
+use Rattle.warm_file.specs.private.Joined.{both_of}
 
 -- ---- an object
 

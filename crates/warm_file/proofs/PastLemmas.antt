@@ -7,7 +7,7 @@ use Rattle.serde_json.specs.Data.{Data}
 use Rattle.warm_file.specs.Faults.{Fault, fault, behind, at_item, SaysFault}
 use Rattle.warm_file.specs.Values.{place_below}
 use Rattle.warm_file.specs.Rising.{is_past, count_of_kind, var_of, variable_rank}
-use Rattle.warm_file.specs.RisingItems.{past_variable}
+use Rattle.warm_file.specs.private.RisingItems.{past_variable}
 use Rattle.warm_file.specs.declared.fault.WarmFault.{WarmFault}
 use Rattle.warm_file.specs.declared.rising.Counts.{Counts}
 use Rattle.warm_file.specs.declared.rising.Kind.{Kind}

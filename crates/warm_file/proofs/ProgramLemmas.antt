@@ -14,7 +14,7 @@ use Rattle.warm_file.specs.Numbers.{number_of}
 use Rattle.warm_file.specs.declared.fault.WarmFault.{WarmFault}
 use Rattle.warm_file.proofs.Inversions.{next-ok}
 use Rattle.warm_file.specs.Models.{rows_of, cols_of, lists_of, program_of}
-use Rattle.warm_file.specs.Joined.{both_of, rows_and_cols_of}
+use Rattle.warm_file.specs.private.Joined.{both_of, rows_and_cols_of}
 use Rattle.warm_file.proofs.JoinLemmas.{three-ok, three-bad}
 use Rattle.warm_file.proofs.ModelLaws.{model-lawful}
 

@@ -3,7 +3,7 @@ ghost use Rattle.std.specs.Prelude.{Result as Said};
 ghost use Rattle.serde_json.specs.View.{view};
 ghost use Rattle.warm_file.specs.Faults.{Fault, SaysFault};
 ghost use Rattle.warm_file.specs.Values.{member};
-ghost use Rattle.warm_file.specs.Joined.{both_of};
+ghost use Rattle.warm_file.specs.private.Joined.{both_of};
 
 use crate::fault::WarmFault;
 use crate::parts::{Part, member};

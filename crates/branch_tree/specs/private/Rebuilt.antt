@@ -5,9 +5,9 @@ use Rattle.slab.specs.Slab.{slab_len}
 use Rattle.branch_tree.specs.Tree.{EachSplit, node_count}
 use Rattle.branch_tree.specs.Preorder.{DataTree, data_nodes, numbered_from}
 use Rattle.branch_tree.specs.Leaves.{one_if_open}
-use Rattle.branch_tree.specs.Table.{node_at, AreBelow, IsTable, AreLive}
+use Rattle.branch_tree.specs.Table.{node_at, AreBelow, IsNodeTable, AreLive}
 use Rattle.branch_tree.specs.Stored.{left_up, right_up}
-use Rattle.branch_tree.specs.Held.{IsOf}
+use Rattle.branch_tree.specs.Held.{HoldsTree}
 use Rattle.branch_tree.specs.declared.building.Planned.{Planned}
 use Rattle.branch_tree.specs.declared.node.NodeData.{NodeData}
 use Rattle.branch_tree.specs.declared.node.NodeData.TheVariants.{Split, Leaf}
@@ -61,7 +61,7 @@ one_if_open_leaf (Leaf kept) = one_if_open kept.state
 
 -- no node, and room for so many, with an id more for each split
 pub record IsEmptyFor (t : NodeTable) (count : ℕ) : Type 0 where
-  pub table : IsTable t
+  pub table : IsNodeTable t
   pub none : (id : ℕ) → node_at t id ≡ None
   pub keys : t.keys.items ≡ []
   pub stored : slab_len t.nodes ≡ 0
@@ -77,6 +77,6 @@ pub record ArePlanned (t : NodeTable) (planned : List Planned) (T : DataTree) : 
 
 -- the table has them
 pub record IsBuilt (t : NodeTable) (still_open : ℕ) (T : DataTree) : Type 0 where
-  pub nodes : IsOf t 1 still_open (numbered_from 1 T)
+  pub nodes : HoldsTree t 1 still_open (numbered_from 1 T)
   pub below : AreBelow (node_count T + 1) t.keys.items
   pub live : AreLive t.nodes t.keys.items

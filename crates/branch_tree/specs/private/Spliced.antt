@@ -6,7 +6,7 @@ use Rattle.branch_tree.specs.private.Splicing.{spliced}
 use Rattle.branch_tree.specs.Stored.{root_id, left_up, right_up, plain_from}
 use Rattle.branch_tree.specs.Table.{node_at}
 use Rattle.branch_tree.specs.private.Due.{AreDue, nodes_among, node_total}
-use Rattle.branch_tree.specs.Held.{IsOf}
+use Rattle.branch_tree.specs.Held.{HoldsTree}
 use Rattle.branch_tree.specs.declared.lists.Due.{Due}
 use Rattle.branch_tree.specs.declared.lists.Lists.{Lists}
 use Rattle.branch_tree.specs.declared.stored.Up.{Up}
@@ -19,32 +19,32 @@ allowing v left right = if int_le (pos 0) v then left else right
 
 -- ---- a tree with one place left out
 
-pub data Around : Type 0 where
-  Here : Around
-  InLeft : (kept : SplitKept) (j : ℕ) (v : ℤ) (left : Around) (right : Plain) → Around
-  InRight : (kept : SplitKept) (j : ℕ) (v : ℤ) (left : Plain) (right : Around) → Around
+pub data TreeContext : Type 0 where
+  Here : TreeContext
+  InLeft : (kept : SplitKept) (j : ℕ) (v : ℤ) (left : TreeContext) (right : Plain) → TreeContext
+  InRight : (kept : SplitKept) (j : ℕ) (v : ℤ) (left : Plain) (right : TreeContext) → TreeContext
 
 -- the tree with another one at the place
-abbrev pub filled : Around → Plain → Plain
+abbrev pub filled : TreeContext → Plain → Plain
 filled Here t = t
 filled (InLeft kept j v left right) t = Split kept j v (filled left t) right
 filled (InRight kept j v left right) t = Split kept j v left (filled right t)
 
 -- the way to the place, where `up` is the way to the root
-abbrev pub way_in : Around → Option Up → Option Up
+abbrev pub way_in : TreeContext → Option Up → Option Up
 way_in Here up = up
 way_in (InLeft kept j v left right) up = way_in left (left_up kept.id j v)
 way_in (InRight kept j v left right) up = way_in right (right_up kept.id j v)
 
 -- how many nodes have the id, but for those at the place
-abbrev pub nodes_around : ℕ → Around → ℕ
+abbrev pub nodes_around : ℕ → TreeContext → ℕ
 nodes_around id Here = 0
 nodes_around id (InLeft kept j v left right) = one_if_same kept.id id + (nodes_around id left + nodes_with id right)
 nodes_around id (InRight kept j v left right) = one_if_same kept.id id + (nodes_with id left + nodes_around id right)
 
 -- a split in a tree
 pub record Spot : Type 0 where
-  pub around : Around
+  pub around : TreeContext
   pub kept : SplitKept
   pub j : ℕ
   pub v : ℤ
@@ -58,21 +58,21 @@ abbrev pub going : Spot → Plain
 going s = allowing s.v s.right s.left
 
 -- the tree before and after the split is taken out
-abbrev pub before : Spot → Plain
-before s = filled s.around (Split s.kept s.j s.v s.left s.right)
+abbrev pub tree_before : Spot → Plain
+tree_before s = filled s.around (Split s.kept s.j s.v s.left s.right)
 
-abbrev pub after : Spot → Plain
-after s = filled s.around (staying s)
+abbrev pub tree_after : Spot → Plain
+tree_after s = filled s.around (staying s)
 
 -- The split with the id can be taken out: no id is there twice, nothing waits to be cut, and there is room.
 pub record CanSplice (t : NodeTable) (root still_open : ℕ) (cut : List ℕ) (room id stay go : ℕ) (s : Spot) : Type 0 where
-  pub nodes : IsOf t root still_open (before s)
-  pub once : (k : ℕ) → nodes_with k (before s) ≤ 1
+  pub nodes : HoldsTree t root still_open (tree_before s)
+  pub once : (k : ℕ) → nodes_with k (tree_before s) ≤ 1
   pub named : s.kept.id ≡ id
   pub stays : root_id (staying s) ≡ stay
   pub goes : root_id (going s) ≡ go
   pub nothing : cut ≡ []
-  pub roomy : node_count (before s) ≤ room
+  pub roomy : node_count (tree_before s) ≤ room
 
 -- ---- the walk
 
@@ -94,8 +94,8 @@ splits_among j [] = 0
 splits_among j (t ∷ ts) = splits_over j t + splits_among j ts
 
 -- The table has a tree whose ids differ, no list has anything, and both have room for all nodes.
-pub record IsReady (t : NodeTable) (root still_open : ℕ) (lists : Lists) (T : Plain) : Type 0 where
-  pub nodes : IsOf t root still_open T
+pub record HasRoomToSplice (t : NodeTable) (root still_open : ℕ) (lists : Lists) (T : Plain) : Type 0 where
+  pub nodes : HoldsTree t root still_open T
   pub once : (k : ℕ) → nodes_with k T ≤ 1
   pub due : lists.due.items ≡ []
   pub cut : lists.cut.items ≡ []
@@ -106,7 +106,7 @@ pub record IsReady (t : NodeTable) (root still_open : ℕ) (lists : Lists) (T : 
 pub record IsSplicing (t : NodeTable) (root still_open : ℕ) (ids : List ℕ) (lists : Lists) (j : ℕ) (target : Plain) : Type 0 where
   pub now : Plain
   pub rest : List Plain
-  pub nodes : IsOf t root still_open now
+  pub nodes : HoldsTree t root still_open now
   pub once : (k : ℕ) → nodes_with k now ≤ 1
   pub left : spliced j now ≡ target
   pub due : AreDue (node_at t) ids rest

@@ -3,7 +3,7 @@ use Rattle.std.specs.Prelude.{◌≡◌, ℕ, ◌^◌, ◌<◌, ◌≤◌, List,
 use Rattle.branch_tree.specs.Tree.{node_count}
 use Rattle.branch_tree.specs.Plain.{Plain, nodes_with}
 use Rattle.branch_tree.specs.Leaves.{leaf_count, with_state}
-use Rattle.branch_tree.specs.Held.{IsOf}
+use Rattle.branch_tree.specs.Held.{HoldsTree}
 use Rattle.branch_tree.specs.declared.lists.Due.{Due}
 use Rattle.branch_tree.specs.declared.node.LeafState.{LeafState}
 use Rattle.branch_tree.specs.declared.stored.TreeNode.{TreeNode}
@@ -32,7 +32,7 @@ children_of (Some n) = children_of_kind n.kind
 -- state for each leaf.
 pub record TakesStates (t : NodeTable) (root : ℕ) (due : List Due) (room many : ℕ) (T : Plain) : Type 0 where
   pub opens : ℕ
-  pub nodes : IsOf t root opens T
+  pub nodes : HoldsTree t root opens T
   pub once : (k : ℕ) → nodes_with k T ≤ 1
   pub nothing : due ≡ []
   pub roomy : node_count T ≤ room

@@ -6,7 +6,7 @@ use Rattle.branch_tree.specs.Numbered.{NumberedTree}
 use Rattle.branch_tree.specs.private.Collapsing.{is_chosen, chosen_count, chosen_collapsed, chosen_ids}
 use Rattle.branch_tree.specs.Table.{AreBelow}
 use Rattle.branch_tree.specs.Stored.{root_id, Stands}
-use Rattle.branch_tree.specs.Held.{IsOf}
+use Rattle.branch_tree.specs.Held.{HoldsTree}
 use Rattle.branch_tree.specs.declared.walks.Chosen.{Chosen}
 use Rattle.branch_tree.specs.declared.lists.Due.{Due}
 use Rattle.branch_tree.specs.declared.lists.Lists.{Lists}
@@ -49,7 +49,7 @@ ids_due chosen (d ∷ ds) (t ∷ ts) = chosen_ids chosen d.depth t ++ ids_due ch
 
 -- The chosen splits of the tree can be made open leaves: no id is there twice, nothing waits, and there is room.
 pub record CanTrim (t : NodeTable) (root still_open : ℕ) (lists : Lists) (chosen : Chosen) (depth last : ℕ) (T : Plain) : Type 0 where
-  pub nodes : IsOf t root still_open T
+  pub nodes : HoldsTree t root still_open T
   pub once : (k : ℕ) → nodes_with k T ≤ 1
   pub given : (k : ℕ) → last < k → nodes_with k T ≡ 0
   pub below : AreBelow (last + 1) t.keys.items

@@ -1,14 +1,14 @@
 use Rattle.std.proofs.Common.{◌≡◌, ◌-◌, ◌*◌, length, vec_capacity}
 use Rattle.slab.specs.Slab.{slab_len}
 use Rattle.branch_tree.specs.Plain.{Plain}
-use Rattle.branch_tree.specs.Table.{node_at, IsTable, AreLive}
+use Rattle.branch_tree.specs.Table.{node_at, IsNodeTable, AreLive}
 use Rattle.branch_tree.specs.private.StateWalk.{TakesStates}
 use Rattle.branch_tree.proofs.StateWalkLemmas.{GivesStates}
 use Rattle.branch_tree.proofs.states.give_states.Given as goal
 
 abbrev pub invariant-loop-at : goal.invariant-loop-at
 invariant-loop-at l = record {
-  table : IsTable l.table;
+  table : IsNodeTable l.table;
   keys : l.table.keys ≡ l.fn.table.keys;
   stored : slab_len l.table.nodes ≡ slab_len l.fn.table.nodes;
   live : AreLive l.fn.table.nodes l.fn.table.keys.items → AreLive l.table.nodes l.table.keys.items;

@@ -15,7 +15,7 @@ loop-number-preserved c =
     let least = c.loop-number.least in
     let small : i < length numbers = omega (arith, c.loop-number-test.true) in
     let rest = least_of_numbers (drop (i + 1) numbers) in
-    let next : c.least_of_two-least.result ≡ least_of_two least (finite_number n) = c.least_of_two-least.ensures ∙ ap (λ (o : Option ℚ). least_of_two least o) c.rank.ensures in
+    let next : c.least_of_two-least.result ≡ least_of_two least (finite_number n) = c.least_of_two-least.ensures ∙ ap (λ (o : Option ℚ). least_of_two least o) c.finite_number.ensures in
     c.loop-number.invariant
     ∙ ap (least_of_two least) (least-here numbers i n small c.number-item.is)
     ∙ sym (least-assoc least (finite_number n) rest)

@@ -1,7 +1,7 @@
 use Rattle.std.proofs.Common.{◌≡◌, ◌<◌, ◌+◌, ◌≤◌, ◌++◌, ◌∷◌, [], List, length, take, refl, ap, sym, subst, ◌∙◌, arith}
 use Rattle.std.proofs.lemmas.List.{take_more, take_all}
 use Rattle.lp_model.specs.Program.{Point}
-use Rattle.dual_bounds.specs.Walk.{IsLeastFeasible}
+use Rattle.dual_bounds.specs.private.Walk.{IsLeastFeasible}
 use Rattle.dual_bounds.proofs.PointLemmas.{feasible-more}
 use Rattle.dual_bounds.proofs.points.least_feasible.Goals as goal
 

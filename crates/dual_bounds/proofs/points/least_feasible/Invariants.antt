@@ -1,5 +1,5 @@
 use Rattle.std.proofs.Common.{take}
-use Rattle.dual_bounds.specs.Walk.{IsLeastFeasible}
+use Rattle.dual_bounds.specs.private.Walk.{IsLeastFeasible}
 use Rattle.dual_bounds.proofs.points.least_feasible.Given as goal
 
 abbrev pub invariant-loop-point : goal.invariant-loop-point

@@ -1,7 +1,7 @@
 use Rattle.std.proofs.Common.{◌<◌, ◌≤◌, ◌+◌, ◌||◌, length, drop, sym, ap, ◌∙◌, arith}
 use Rattle.std.specs.List.{list_any}
 use Rattle.std.proofs.lemmas.List.{at_drop_more, at_drop_all}
-use Rattle.mps_sections.specs.HeaderTests.{is_asked}
+use Rattle.mps_sections.specs.private.HeaderTests.{is_asked}
 use Rattle.mps_sections.proofs.tables.has_header.Goals as goal
 
 pub loop-index-preserved : goal.loop-index-preserved

@@ -1,6 +1,6 @@
 use Rattle.std.proofs.Common.{◌≡◌, drop}
 use Rattle.std.specs.List.{list_any}
-use Rattle.mps_sections.specs.HeaderTests.{is_asked}
+use Rattle.mps_sections.specs.private.HeaderTests.{is_asked}
 use Rattle.mps_sections.proofs.tables.has_header.Given as goal
 
 abbrev pub invariant-loop-index : goal.invariant-loop-index

@@ -2,7 +2,7 @@ use Rattle.std.proofs.Common.{◌≡◌, ◌<◌, IsTrue, length, take, sym, sub
 use Rattle.std.proofs.lemmas.List.Elements.{All-push}
 use Rattle.lp_model.specs.declared.types.CutRow.{CutRow}
 use Rattle.kept_cuts.proofs.KeptLemmas.{take-next}
-use Rattle.node_solve.specs.Laws.{AreLive}
+use Rattle.node_solve.specs.Laws.{AreAllLive}
 use Rattle.node_solve.proofs.FirstCuts.{first-count}
 use Rattle.node_solve.proofs.cuts.first_count.Goals as goal
 
@@ -14,7 +14,7 @@ loop-place-preserved c =
     let less = c.loop-place-test.true in
     let few = c.allowed-count.ensures.within in
     let below : k < length rows = omega (arith, less, few) in
-    subst AreLive (sym (take-next rows k cut below c.index-rows-place.is)) (All-push (λ (d : CutRow). IsTrue d.live) (take k rows) cut c.loop-place.invariant c.if-not-cut.false)
+    subst AreAllLive (sym (take-next rows k cut below c.index-rows-place.is)) (All-push (λ (d : CutRow). IsTrue d.live) (take k rows) cut c.loop-place.invariant c.if-not-cut.false)
 
 pub returns : goal.returns
 returns c =
@@ -23,4 +23,4 @@ returns c =
     let past = c.loop-place-test.false in
     let within = c.loop-place.auto.place-end in
     let all : c.loop-place.place ≡ n = omega (arith, past, within) in
-    first-count rows n c.allowed-count.ensures.few c.allowed-count.ensures.within c.allowed-count.ensures.all (subst (λ k. AreLive (take k rows)) all c.loop-place.invariant)
+    first-count rows n c.allowed-count.ensures.few c.allowed-count.ensures.within c.allowed-count.ensures.all (subst (λ k. AreAllLive (take k rows)) all c.loop-place.invariant)

@@ -7,13 +7,13 @@ use Rattle.reply_texts.proofs.answers.write_known.Goals as goal
 pub returns : goal.returns
 returns c =
     let r = c.args.reply.now.items in
-    let placed = decimal c.args.placed ++ codes " bound " in
+    let results = decimal c.args.results ++ codes " bound " in
     let bound = number_or_none c.args.bound.now in
     let best = number_or_none c.args.best.now in
-    join_piece c.extend_from_slice-2.result r (((placed ++ bound) ++ codes " best ") ++ best) (codes "\n") c.write_number_or_none-2.new.reply.items c.extend_from_slice-2.new.self.items
-    (join r ((placed ++ bound) ++ codes " best ") best c.extend_from_slice.new.self.items c.write_number_or_none-2.new.reply.items
-    (join r (placed ++ bound) (codes " best ") c.write_number_or_none.new.reply.items c.extend_from_slice.new.self.items
-    (join r placed bound c.write_two.new.reply.items c.write_number_or_none.new.reply.items
+    join_piece c.extend_from_slice-2.result r (((results ++ bound) ++ codes " best ") ++ best) (codes "\n") c.write_number_or_none-2.new.reply.items c.extend_from_slice-2.new.self.items
+    (join r ((results ++ bound) ++ codes " best ") best c.extend_from_slice.new.self.items c.write_number_or_none-2.new.reply.items
+    (join r (results ++ bound) (codes " best ") c.write_number_or_none.new.reply.items c.extend_from_slice.new.self.items
+    (join r results bound c.write_two.new.reply.items c.write_number_or_none.new.reply.items
     (c.in-Ok.ensures ∙ ap (λ (t : List ℕ). r ++ (t ++ codes " bound ")) (c.as_bytes.ensures.value ∙ c.format.ensures.text))
     c.in-Ok-write_number_or_none.ensures)
     c.in-Ok-extend_from_slice.ensures.items)

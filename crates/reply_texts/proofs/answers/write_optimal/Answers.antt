@@ -9,11 +9,11 @@ pub returns : goal.returns
 returns c =
     let M = c.args.model.now in
     let point = c.args.point.now in
-    let first = value_line (value M 1 point) c.args.placed in
+    let first = value_line (value M 1 point) c.args.results in
     let lines = column_lines M.cols point in
     let before = c.write_value.new.reply.items in
     join_piece c.extend_from_slice.result c.args.reply.now.items (first ++ lines) (codes "end\n") c.write_columns.new.reply.items c.extend_from_slice.new.self.items
     (join c.args.reply.now.items first lines before c.write_columns.new.reply.items
-    (c.in-Ok.ensures ∙ ap (λ v. c.args.reply.now.items ++ value_line v c.args.placed) c.requires.best)
+    (c.in-Ok.ensures ∙ ap (λ v. c.args.reply.now.items ++ value_line v c.args.results) c.requires.best)
     (c.in-Ok-write_columns.ensures ∙ (λ i. before ++ column_lines (c.cols.ensures.items i) (c.as_slice.ensures i))))
     c.extend_from_slice.ensures.items

@@ -9,7 +9,7 @@ pub returns : goal.returns
 returns c =
     let M = c.args.model.now in
     let place = c.args.place.now in
-    let stop = codes "stopped pivots " ++ known_text c.args.placed c.args.bound.now c.args.best.now in
+    let stop = codes "stopped pivots " ++ known_text c.args.results c.args.bound.now c.args.best.now in
     let block = block_text M place.path place.cuts place.basis in
     let before = c.write_stop.new.reply.items in
     join_piece c.extend_from_slice.result c.args.reply.now.items (stop ++ block) (codes "end\n") c.write_block.new.reply.items c.extend_from_slice.new.self.items

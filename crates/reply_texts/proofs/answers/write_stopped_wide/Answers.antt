@@ -9,7 +9,7 @@ pub returns : goal.returns
 returns c =
     let M = c.args.model.now in
     let place = c.args.place.now in
-    let stop = codes "stopped wide " ++ known_text c.args.placed c.args.bound.now c.args.best.now in
+    let stop = codes "stopped wide " ++ known_text c.args.results c.args.bound.now c.args.best.now in
     let block = block_text M place.path place.cuts place.basis in
     let step = step_line M place.step in
     let before = c.write_stop.new.reply.items in

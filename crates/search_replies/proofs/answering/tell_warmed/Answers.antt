@@ -4,14 +4,14 @@ use Rattle.search_replies.proofs.ReplyLemmas.{warm-told, warm-untold, warm-scrip
 use Rattle.search_replies.proofs.answering.tell_warmed.Goals as goal
 
 pub returns-clause-answered : goal.returns-clause-answered
-returns-clause-answered c = λ old nodes pivots warmed script.
-    warm-told (limits_of nodes pivots) old c.args.env.now c.args.answer warmed script c.tell_answer-told.result c.args.reply.now.items c.tell_answer-told.new.reply.items c.requires.empty c.tell_answer-told.ensures.tellable c.tell_answer-told.ensures.text
+returns-clause-answered c = λ old options warmed script.
+    warm-told (limits_of options) old c.args.env.now c.args.answer warmed script c.tell_answer-told.result c.args.reply.now.items c.tell_answer-told.new.reply.items c.requires.empty c.tell_answer-told.ensures.tellable c.tell_answer-told.ensures.text
 
 pub returns-clause-unfinished : goal.returns-clause-unfinished
-returns-clause-unfinished c = λ old nodes pivots warmed script. warm-untold (limits_of nodes pivots) old c.args.env.now c.args.answer warmed script c.tell_answer-told.result c.tell_answer-told.ensures.tellable
+returns-clause-unfinished c = λ old options warmed script. warm-untold (limits_of options) old c.args.env.now c.args.answer warmed script c.tell_answer-told.result c.tell_answer-told.ensures.tellable
 
 pub returns-clause-script : goal.returns-clause-script
-returns-clause-script c = λ old nodes pivots warmed script. warm-script (limits_of nodes pivots) old c.args.env.now c.args.answer warmed script
+returns-clause-script c = λ old options warmed script. warm-script (limits_of options) old c.args.env.now c.args.answer warmed script
 
 pub returns-clause-order : goal.returns-clause-order
-returns-clause-order c = λ old nodes pivots warmed numbered order. warm-order (limits_of nodes pivots) (omega arith) old c.args.env.now c.args.answer order warmed numbered
+returns-clause-order c = λ old options warmed numbered order. warm-order (limits_of options) (omega arith) old c.args.env.now c.args.answer order warmed numbered

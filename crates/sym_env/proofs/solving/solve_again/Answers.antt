@@ -9,10 +9,10 @@ use Rattle.sym_env.proofs.solving.solve_again.Goals as goal
 
 pub returns-in-Ok-clause-ray : goal.returns-in-Ok-clause-ray
 returns-in-Ok-clause-ray c =
-    let same : c.restart.new.self.model ≡ c.args.search.now.model = c.in-Ok.ensures.fresh.model ∙ ap (λ (S : PlainSearch). S.model) c.set_limit.ensures in
+    let same : c.restart.new.self.model ≡ c.args.search.model = c.in-Ok.ensures.fresh.model ∙ ap (λ (S : PlainSearch). S.model) c.set_limit.ensures in
     subst (λ (M : Program). HasRayFor M c.args.limits.now.pivots c.solve_fresh.result.answer c.solve_fresh.result.ray) same c.solve_fresh.ensures.ray
 
 pub returns-in-Ok-clause-complete : goal.returns-in-Ok-clause-complete
 returns-in-Ok-clause-complete c =
-    let same : c.restart.new.self.model ≡ c.args.search.now.model = c.in-Ok.ensures.fresh.model ∙ ap (λ (S : PlainSearch). S.model) c.set_limit.ensures in
-    subst (λ (M : Program). IsEnough M c.solve_fresh.new.search.cuts c.args.limits.now → HasEnded c.solve_fresh.result.answer) same c.solve_fresh.ensures.complete
+    let same : c.restart.new.self.model ≡ c.args.search.model = c.in-Ok.ensures.fresh.model ∙ ap (λ (S : PlainSearch). S.model) c.set_limit.ensures in
+    subst (λ (M : Program). IsEnough M c.solve_fresh.result.search.cuts c.args.limits.now → HasEnded c.solve_fresh.result.answer) same c.solve_fresh.ensures.complete

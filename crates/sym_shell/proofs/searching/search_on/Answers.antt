@@ -1,28 +1,25 @@
-use Rattle.search_replies.specs.Solve.{limits_of}
-use Rattle.search_replies.proofs.ReplyLemmas.{is-warmed, warmed-shaped}
+use Rattle.std.proofs.Common.{◌<◌, ◌≤◌, arith, refl, inl, inr}
+use Rattle.reply_texts.specs.Texts.{memory_text}
+use Rattle.command_family.proofs.ReplyLemmas.{on_ok, on_ok_if, on_err, always}
+use Rattle.search_replies.specs.Workers.{worker_limit}
 use Rattle.sym_shell.proofs.searching.search_on.Goals as goal
 
-pub tell_warmed-requires-clause-answer : goal.tell_warmed-requires-clause-answer
-tell_warmed-requires-clause-answer c =
-    warmed-shaped (limits_of c.args.nodes c.args.pivots) c.args.env.now c.warm_solve-answer.new.env c.warm_solve-answer.result
-    (is-warmed c.args.nodes c.args.pivots c.limits_of.result c.limits_of.ensures c.args.env.now c.warm_solve-answer.new.env c.warm_solve-answer.result c.warm_solve-answer.ensures.warms c.warm_solve-answer.ensures.true_answer c.warm_solve-answer.ensures.complete)
+pub returns-then-workers-gt-WORKER_LIMIT-clause-answered : goal.returns-then-workers-gt-WORKER_LIMIT-clause-answered
+returns-then-workers-gt-WORKER_LIMIT-clause-answered c =
+    let many : worker_limit < c.args.options.workers = omega (arith, c.if-workers-gt-WORKER_LIMIT.true) in
+    on_ok_if c.tell_crowd.result (λ e. inr (many, record { unchanged = refl; answer = inl e })) c.tell_crowd.ensures
 
-pub returns-clause-answered : goal.returns-clause-answered
-returns-clause-answered c =
-    c.tell_warmed.ensures.answered c.args.env.now c.args.nodes c.args.pivots
-    (is-warmed c.args.nodes c.args.pivots c.limits_of.result c.limits_of.ensures c.args.env.now c.warm_solve-answer.new.env c.warm_solve-answer.result c.warm_solve-answer.ensures.warms c.warm_solve-answer.ensures.true_answer c.warm_solve-answer.ensures.complete) c.requires.script
+pub returns-then-workers-gt-WORKER_LIMIT-clause-unfinished : goal.returns-then-workers-gt-WORKER_LIMIT-clause-unfinished
+returns-then-workers-gt-WORKER_LIMIT-clause-unfinished c =
+    let many : worker_limit < c.args.options.workers = omega (arith, c.if-workers-gt-WORKER_LIMIT.true) in
+    always c.tell_crowd.result (memory_text, inr (many, record { unchanged = refl; answer = inr refl }))
 
-pub returns-clause-unfinished : goal.returns-clause-unfinished
-returns-clause-unfinished c =
-    c.tell_warmed.ensures.unfinished c.args.env.now c.args.nodes c.args.pivots
-    (is-warmed c.args.nodes c.args.pivots c.limits_of.result c.limits_of.ensures c.args.env.now c.warm_solve-answer.new.env c.warm_solve-answer.result c.warm_solve-answer.ensures.warms c.warm_solve-answer.ensures.true_answer c.warm_solve-answer.ensures.complete) c.requires.script
+pub returns-else-workers-gt-WORKER_LIMIT-clause-answered : goal.returns-else-workers-gt-WORKER_LIMIT-clause-answered
+returns-else-workers-gt-WORKER_LIMIT-clause-answered c =
+    let few : c.args.options.workers ≤ worker_limit = omega (arith, c.if-workers-gt-WORKER_LIMIT.false) in
+    on_ok c.work_on.result (λ h. inl (few, h)) c.work_on.ensures.answered
 
-pub returns-clause-script : goal.returns-clause-script
-returns-clause-script c =
-    c.tell_warmed.ensures.script c.args.env.now c.args.nodes c.args.pivots
-    (is-warmed c.args.nodes c.args.pivots c.limits_of.result c.limits_of.ensures c.args.env.now c.warm_solve-answer.new.env c.warm_solve-answer.result c.warm_solve-answer.ensures.warms c.warm_solve-answer.ensures.true_answer c.warm_solve-answer.ensures.complete) c.requires.script
-
-pub returns-clause-order : goal.returns-clause-order
-returns-clause-order c =
-    c.tell_warmed.ensures.order c.args.env.now c.args.nodes c.args.pivots
-    (is-warmed c.args.nodes c.args.pivots c.limits_of.result c.limits_of.ensures c.args.env.now c.warm_solve-answer.new.env c.warm_solve-answer.result c.warm_solve-answer.ensures.warms c.warm_solve-answer.ensures.true_answer c.warm_solve-answer.ensures.complete) c.known_ids.ensures c.requires.order
+pub returns-else-workers-gt-WORKER_LIMIT-clause-unfinished : goal.returns-else-workers-gt-WORKER_LIMIT-clause-unfinished
+returns-else-workers-gt-WORKER_LIMIT-clause-unfinished c =
+    let few : c.args.options.workers ≤ worker_limit = omega (arith, c.if-workers-gt-WORKER_LIMIT.false) in
+    on_err c.work_on.result (λ h. (h.0, inl (few, h.1))) c.work_on.ensures.unfinished

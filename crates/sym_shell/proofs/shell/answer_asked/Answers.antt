@@ -1,9 +1,8 @@
 use Rattle.std.proofs.Common.{◌++◌, ◌∙◌, ap, subst, refl, inl, inr}
 use Rattle.std.specs.Prelude.{map}
-use Rattle.command_words.specs.Asks.{Load, Solve, Warm, Edit, Trim, Save, Restore, Bound, Cert, Write, Quit, Unknown, Misused, NoNumber, NamesFile, asks_shown}
+use Rattle.command_words.specs.Asks.{Load, Solve, Warm, Edit, Trim, Save, Restore, Bound, Cert, Write, Quit, Unknown, Misused, NoNumber, IsAskable, asks_shown}
 use Rattle.edit_words.specs.EditWords.{edit_asks, pairs_asks}
 use Rattle.command_family.specs.State.{shell_state}
-use Rattle.search_replies.specs.Solve.{limits_of}
 use Rattle.reply_texts.specs.Texts.{ok_text, unknown_text, arguments_text, number_text, memory_text}
 use Rattle.command_family.proofs.ReplyLemmas.{told, on_ok, on_ok_if, always, on_err}
 use Rattle.bound_commands.proofs.BoundLemmas.{pairs-untold}
@@ -58,8 +57,8 @@ returns-in-Solve-clause-answered g c =
     let faults = g.S.Store.faults c.args.store.now in
     let old = shell_state c.args.env.now files faults in
     let new = shell_state c.search_anew.new.env files faults in
-    let asks = Solve c.in-Solve.nodes c.in-Solve.pivots in
-    let step = solve-step c.args.env.now c.search_anew.new.env files faults (limits_of c.in-Solve.nodes c.in-Solve.pivots) in
+    let asks = Solve c.in-Solve.options in
+    let step = solve-step c.args.env.now c.search_anew.new.env files faults c.in-Solve.options in
     arm c.search_anew.result asks (asks_shown c.args.asked) old new c.search_anew.new.reply.items (ap asks_shown c.in-Solve.is) (on_ok c.search_anew.result (step c.search_anew.new.reply.items) c.search_anew.ensures.answered)
     (on_err c.search_anew.result (λ h. (h.0, step h.0 h.1)) c.search_anew.ensures.unfinished)
 
@@ -69,8 +68,8 @@ returns-in-Warm-clause-answered g c =
     let faults = g.S.Store.faults c.args.store.now in
     let old = shell_state c.args.env.now files faults in
     let new = shell_state c.search_on.new.env files faults in
-    let asks = Warm c.in-Warm.nodes c.in-Warm.pivots in
-    let step = warm-step c.args.env.now c.search_on.new.env files faults (limits_of c.in-Warm.nodes c.in-Warm.pivots) in
+    let asks = Warm c.in-Warm.options in
+    let step = warm-step c.args.env.now c.search_on.new.env files faults c.in-Warm.options in
     arm c.search_on.result asks (asks_shown c.args.asked) old new c.search_on.new.reply.items (ap asks_shown c.in-Warm.is) (on_ok c.search_on.result (step c.search_on.new.reply.items) c.search_on.ensures.answered)
     (on_err c.search_on.result (λ h. (h.0, step h.0 h.1)) c.search_on.ensures.unfinished)
 
@@ -132,16 +131,22 @@ returns-in-NoNumber-clause-answered g c =
     (always c.write_no_number.result (memory_text, record { unchanged = refl; answer = inr refl }))
 
 pub load-requires-clause-name : goal.load-requires-clause-name
-load-requires-clause-name g c = subst NamesFile (ap asks_shown c.in-Load.is) c.requires.named
+load-requires-clause-name g c = subst IsAskable (ap asks_shown c.in-Load.is) c.requires.askable
 
 pub save-requires-clause-name : goal.save-requires-clause-name
-save-requires-clause-name g c = subst NamesFile (ap asks_shown c.in-Save.is) c.requires.named
+save-requires-clause-name g c = subst IsAskable (ap asks_shown c.in-Save.is) c.requires.askable
 
 pub restore-requires-clause-name : goal.restore-requires-clause-name
-restore-requires-clause-name g c = subst NamesFile (ap asks_shown c.in-Restore.is) c.requires.named
+restore-requires-clause-name g c = subst IsAskable (ap asks_shown c.in-Restore.is) c.requires.askable
 
 pub cert-requires-clause-name : goal.cert-requires-clause-name
-cert-requires-clause-name g c = subst NamesFile (ap asks_shown c.in-Cert.is) c.requires.named
+cert-requires-clause-name g c = subst IsAskable (ap asks_shown c.in-Cert.is) c.requires.askable
 
 pub write-requires-clause-name : goal.write-requires-clause-name
-write-requires-clause-name g c = subst NamesFile (ap asks_shown c.in-Write.is) c.requires.named
+write-requires-clause-name g c = subst IsAskable (ap asks_shown c.in-Write.is) c.requires.askable
+
+pub search_anew-requires-clause-workers : goal.search_anew-requires-clause-workers
+search_anew-requires-clause-workers g c = subst IsAskable (ap asks_shown c.in-Solve.is) c.requires.askable
+
+pub search_on-requires-clause-workers : goal.search_on-requires-clause-workers
+search_on-requires-clause-workers g c = subst IsAskable (ap asks_shown c.in-Warm.is) c.requires.askable

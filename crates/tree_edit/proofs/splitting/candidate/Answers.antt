@@ -5,4 +5,4 @@ use Rattle.leaf_judging.specs.Queued.{candidate_of}
 use Rattle.tree_edit.proofs.splitting.candidate.Goals as goal
 
 pub returns : goal.returns
-returns c = c.as_candidate.ensures ∙ ap (λ (r : Option ℚ). candidate_of c.args.child.now.kept.state r c.args.id) c.rank.ensures
+returns c = c.as_candidate.ensures ∙ ap (λ (r : Option ℚ). candidate_of c.args.child.now.kept.state r c.args.id) c.finite_number.ensures

@@ -6,7 +6,7 @@ use Rattle.tree_search.proofs.SearchLemmas.{value-best, best-there}
 use Rattle.tree_search.proofs.answering.finished.Goals as goal
 
 pub returns-in_default : goal.returns-in_default
-returns-in_default c = (record { finished = c.requires; no_point = c.in_default.ensures; none = sound-empty c.args.search.now c.known.ensures.sound c.requires c.in_default.ensures }, refl)
+returns-in_default c = (record { finished = c.requires; no_point = c.in_default.ensures; none = sound-empty c.args.search.now c.show_sound.ensures.sound c.requires c.in_default.ensures }, refl)
 
 pub unreachable-requires : goal.unreachable-requires
 unreachable-requires c = best-there c.args.search.now c.in-Some.incumbent.now c.in-Some.ensures.0 c.in-Some.ensures.1 c.in_default-best_value.ensures
@@ -21,7 +21,7 @@ returns-in-Ok c =
           (record {
             finished = c.requires;
             incumbent = c.in-Some.ensures;
-            optimum = sound-optimum S x c.known.ensures.sound c.requires c.in-Some.ensures;
+            optimum = sound-optimum S x c.show_sound.ensures.sound c.requires c.in-Some.ensures;
             value = value-best S x c.in-Some.ensures.0 c.in-Some-best_value.value c.in-Some.ensures.1 is;
           }),
       refl,

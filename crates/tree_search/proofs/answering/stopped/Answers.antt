@@ -10,9 +10,9 @@ returns-in-Ok c =
       refl,
       refl,
       record {
-        cover = cover S c.known.ensures.sound (once S.tree c.known.ensures.numbered);
+        cover = cover S c.show_sound.ensures.sound (once S.tree c.show_sound.ensures.numbered);
         bound_is = c.in-Ok.ensures;
         best_is = c.best_value.ensures;
-        found = subst (IsFoundValue S.model) (sym c.best_value.ensures) (value-found S c.known.ensures.sound);
+        found = subst (IsFoundValue S.model) (sym c.best_value.ensures) (value-found S c.show_sound.ensures.sound);
       },
     )

@@ -17,7 +17,7 @@ unreachable-requires c =
 pub unreachable-requires-in-Ok-None : goal.unreachable-requires-in-Ok-None
 unreachable-requires-in-Ok-None c =
     let S = c.args.search.now in
-    let numbered : IsNumbered S.tree = c.known.ensures.numbered in
+    let numbered : IsNumbered S.tree = c.show_sound.ensures.numbered in
     let next : IsNext S (Some c.in-Some.id) = c.in-Some.ensures in
     next-there S c.in-Some.id numbered next (sym c.in-Ok-None.field-0-is ∙ c.in-Ok-None.ensures.region ∙ ap (λ (T : NumberedTree). path_of c.in-Some.id T.root) c.tree.ensures.tree)
 
@@ -25,12 +25,12 @@ pub rounded_lag-least-requires : goal.rounded_lag-least-requires
 rounded_lag-least-requires c =
     let S = c.args.search.now in
     let at : Some c.in-Ok-Some.region ≡ path_of c.in-Some.id S.tree.root = sym c.in-Ok-Some.field-0-is ∙ c.in-Ok-Some.ensures.region ∙ ap (λ (T : NumberedTree). path_of c.in-Some.id T.root) c.tree.ensures.tree in
-    narrow-found S c.in-Some.id c.in-Ok-Some.region c.known.ensures.sound (sym at)
+    narrow-found S c.in-Some.id c.in-Ok-Some.region c.show_sound.ensures.sound (sym at)
 
 pub unreachable-requires-in_default-leaf : goal.unreachable-requires-in_default-leaf
 unreachable-requires-in_default-leaf c =
     let S = c.args.search.now in
-    next-kept S c.in-Some.id c.known.ensures.numbered c.in-Some.ensures (c.in_default-leaf.ensures.data ∙ ap (λ (T : NumberedTree). data_of c.in-Some.id T.root) c.tree-2.ensures.tree)
+    next-kept S c.in-Some.id c.show_sound.ensures.numbered c.in-Some.ensures (c.in_default-leaf.ensures.data ∙ ap (λ (T : NumberedTree). data_of c.in-Some.id T.root) c.tree-2.ensures.tree)
 
 pub returns : goal.returns
 returns c =

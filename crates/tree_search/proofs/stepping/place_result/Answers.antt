@@ -1,23 +1,24 @@
 use Rattle.std.proofs.Common.{subst}
 use Rattle.sound_searches.specs.Placing.{Takes}
+use Rattle.tree_search.proofs.HeldJobs.{held-open}
 use Rattle.tree_search.proofs.KeepLemmas.{job-after}
 use Rattle.tree_search.proofs.PlacedLemmas.{placed-result, full-result}
 use Rattle.tree_search.proofs.stepping.place_result.Goals as goal
 
-pub place_done-requires : goal.place_done-requires
-place_done-requires c =
+pub take_done-requires-clause-open : goal.take_done-requires-clause-open
+take_done-requires-clause-open c =
     let (begin, (found, (works, adds))) = c.requires.works in
-    job-after begin found.items c.args.search.now adds c.args.job.now.id c.args.job.now works.next.job_is
+    held-open c.args.manager.now.search c.args.job.now (job-after begin found.items c.args.manager.now.search adds c.args.job.now works.held)
 
 pub returns-in-Full-clause-steps : goal.returns-in-Full-clause-steps
 returns-in-Full-clause-steps c =
     λ begin found works adds.
-    let S = c.args.search.now in
-    full-result c.args.limits.now begin c.args.job.now c.args.done found works c.requires.by S adds c.known.ensures.sound c.known.ensures.numbered c.known.ensures.lawful c.requires.ready c.place_done.new.self
-    (subst (Takes S c.args.job.now.id c.args.done c.place_done.new.self) c.in-Full.is c.in-Ok.ensures.taken)
+    let S = c.args.manager.now.search in
+    full-result c.args.limits.now begin c.args.job.now c.args.done found works c.requires.by S adds c.show_sound.ensures.sound c.show_sound.ensures.numbered c.show_sound.ensures.lawful c.requires.ready c.take_done.new.self.search
+    (subst (Takes S c.args.job.now.id c.args.done c.take_done.new.self.search) c.in-Full.is c.in-Ok.ensures.takes.takes)
 
 pub returns-in_default-clause-steps : goal.returns-in_default-clause-steps
 returns-in_default-clause-steps c =
     λ begin found works adds.
-    placed-result c.args.limits.now begin c.args.job.now c.args.done found works c.requires.by c.args.search.now adds c.known.ensures.sound c.known.ensures.numbered c.known.ensures.lawful c.requires.ready c.place_done.new.self
-    c.in-Ok.taken c.in-Ok.ensures.taken c.in_default.not-Full
+    placed-result c.args.limits.now begin c.args.job.now c.args.done found works c.requires.by c.args.manager.now.search adds c.show_sound.ensures.sound c.show_sound.ensures.numbered c.show_sound.ensures.lawful c.requires.ready c.take_done.new.self.search
+    c.in-Ok.taken c.in-Ok.ensures.takes.takes c.in_default.not-Full

@@ -1,7 +1,7 @@
 use Rattle.std.specs.Prelude.{Some}
 use Rattle.std.proofs.Common.{refl, sym, subst}
 use Rattle.tree_search.specs.declared.stepping.Stepped.{Stepped}
-use Rattle.tree_search.specs.Stepping.{Steps}
+use Rattle.tree_search.specs.private.Stepping.{Steps}
 use Rattle.tree_search.proofs.JobLemmas.{IsWorkedBy, worked-by}
 use Rattle.tree_search.proofs.KeepLemmas.{job-after, added-model}
 use Rattle.tree_search.proofs.PlacedLemmas.{pivots-basis}
@@ -11,12 +11,12 @@ use Rattle.tree_search.proofs.stepping.stop_by_pivots.Goals as goal
 pub keep_basis-requires-clause-job : goal.keep_basis-requires-clause-job
 keep_basis-requires-clause-job c =
     let (begin, (found, (works, adds))) = c.requires.works in
-    job-after begin found.items c.args.search.now adds c.args.job.id c.args.job works.next.job_is
+    job-after begin found.items c.args.manager.now.search adds c.args.job works.held
 
 pub keep_basis-requires-clause-basis : goal.keep_basis-requires-clause-basis
 keep_basis-requires-clause-basis c =
     let limits = c.args.limits.now in
-    let S = c.args.search.now in
+    let S = c.args.manager.now.search in
     let (begin, (found, (works, adds))) = c.requires.works in
     pivots-basis limits.ways limits.first.now limits.pivots begin (subst (IsWorkedBy limits.ways) (added-model begin found.items S adds) (worked-by S limits.ways c.requires.ready.ways)) c.args.job found.items S adds c.args.basis found refl works.worked_is
 
@@ -24,5 +24,5 @@ pub returns-in-Ok-clause-steps : goal.returns-in-Ok-clause-steps
 returns-in-Ok-clause-steps c =
     λ begin found works adds.
     let limits = c.args.limits.now in
-    subst (λ (stepped : Stepped). Steps limits begin c.keep_basis.new.search stepped) (sym c.at_pivots.ensures)
-    (stop-pivots limits begin c.args.job found c.args.search.now adds c.keep_basis.new.search (record { path = Some c.args.job.region; cuts = c.in-Ok.cuts; basis = c.args.basis }) works refl c.in-Ok.ensures.cuts c.in-Ok.ensures.keeps)
+    subst (λ (stepped : Stepped). Steps limits c.args.job begin c.keep_basis.new.manager.search stepped) (sym c.at_pivots.ensures)
+    (stop-pivots limits begin c.args.job found c.args.manager.now.search adds c.keep_basis.new.manager.search (record { path = Some c.args.job.region; cuts = c.in-Ok.cuts; basis = c.args.basis }) works refl c.in-Ok.ensures.cuts c.in-Ok.ensures.keeps)

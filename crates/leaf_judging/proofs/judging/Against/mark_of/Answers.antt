@@ -10,5 +10,5 @@ returns c =
       number = c.number_or_minus-number.result;
       number_is = c.number_or_minus-number.ensures.kept;
       says = c.state_by-state.ensures;
-      candidate_is = c.as_candidate-candidate.ensures ∙ ap (λ (r : Option ℚ). candidate_of c.state_by-state.result r c.args.id) c.rank.ensures;
+      candidate_is = c.as_candidate-candidate.ensures ∙ ap (λ (r : Option ℚ). candidate_of c.state_by-state.result r c.args.id) c.finite_number.ensures;
     }

@@ -8,5 +8,5 @@ pub returns-clause-added : goal.returns-clause-added
 unfolding Has
 returns-clause-added c =
     let new : LeafQueue = record { candidates = c.insert.new.self } in
-    let candidate : Candidate = record { rank = c.args.rank; id = c.args.id } in
+    let candidate : Candidate = record { leaf_number = c.args.leaf_number; id = c.args.id } in
     adds-one c.args.self.now new candidate c.in_ok-insert.ensures.updates.0

@@ -4,7 +4,7 @@ use Rattle.std.proofs.lemmas.List.{take_all}
 use Rattle.lp_model.specs.declared.types.Derivation.{Derivation}
 use Rattle.kept_cuts.proofs.KeptLemmas.{take-next}
 use Rattle.node_solve.specs.Rounds.{AddsAll}
-use Rattle.node_solve.specs.RoundCode.{task_work, round_of}
+use Rattle.node_solve.specs.private.RoundCode.{task_work, round_of}
 use Rattle.node_solve.proofs.RoundLemmas.{adds-more}
 use Rattle.node_solve.proofs.rounds.Task.add_all.Goals as goal
 

@@ -1,6 +1,6 @@
 use Rattle.std.proofs.Common.{take}
 use Rattle.node_solve.specs.Rounds.{AddsAll}
-use Rattle.node_solve.specs.RoundCode.{task_work, round_of, IsKeptRound}
+use Rattle.node_solve.specs.private.RoundCode.{task_work, round_of, IsKeptRound}
 use Rattle.node_solve.proofs.rounds.Task.add_all.Given as goal
 
 abbrev pub invariant-loop-cover : goal.invariant-loop-cover

@@ -1,6 +1,6 @@
 use Rattle.std.proofs.Common.{◌≡◌, ◌∙◌, ◌+◌, ◌++◌, ◌∷◌, [], refl, sym, ap, inr, arith, length}
 use Rattle.std.proofs.lemmas.Bool.{false≢true}
-use Rattle.node_solve.specs.RoundCode.{task_work}
+use Rattle.node_solve.specs.private.RoundCode.{task_work}
 use Rattle.node_solve.proofs.RoundLemmas.{added_kept}
 use Rattle.node_solve.proofs.TaskLemmas.{added_is}
 use Rattle.node_solve.proofs.rounds.Task.add_one.Goals as goal

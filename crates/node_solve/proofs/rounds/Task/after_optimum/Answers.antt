@@ -1,7 +1,7 @@
 use Rattle.std.proofs.Common.{sym, subst}
 use Rattle.node_solve.specs.Rounds.{EndsAt, IsNextAnswer}
-use Rattle.node_solve.specs.Ends.{IsOptimumAt}
-use Rattle.node_solve.specs.RoundCode.{task_work, round_of}
+use Rattle.node_solve.specs.private.Ends.{IsOptimumAt}
+use Rattle.node_solve.specs.private.RoundCode.{task_work, round_of}
 use Rattle.node_solve.proofs.TurnLemmas.{optimum_shape, next_rounds, last_of}
 use Rattle.node_solve.proofs.rounds.Task.after_optimum.Goals as goal
 

@@ -1,8 +1,8 @@
 use Rattle.std.proofs.Common.{◌∙◌, sym, ap, subst}
 use Rattle.node_solve.specs.Places.{ArePoolPlaces, result_in_pool}
 use Rattle.node_solve.specs.Rounds.{IsDoneAfter}
-use Rattle.node_solve.specs.Ends.{IsLastRound}
-use Rattle.node_solve.specs.RoundCode.{task_work, round_of}
+use Rattle.node_solve.specs.private.Ends.{IsLastRound}
+use Rattle.node_solve.specs.private.RoundCode.{task_work, round_of}
 use Rattle.node_solve.proofs.OwnLemmas.{done_after, wide_worked}
 use Rattle.node_solve.proofs.rounds.Task.answer.Goals as goal
 

@@ -1,6 +1,6 @@
 use Rattle.std.proofs.Common.{◌∙◌, ap, arith, length}
 use Rattle.node_solve.specs.Places.{basis_in_relaxation}
-use Rattle.node_solve.specs.RoundCode.{task_work}
+use Rattle.node_solve.specs.private.RoundCode.{task_work}
 use Rattle.node_solve.proofs.LiveLemmas.{live-few, places-length}
 use Rattle.node_solve.proofs.RoundLemmas.{first_kept}
 use Rattle.node_solve.proofs.rounds.Task.first_round.Goals as goal

@@ -3,9 +3,9 @@ use Rattle.std.proofs.lemmas.Bool.{false≢true}
 use Rattle.branch_tree.specs.declared.node.NodeResult.TheVariants.{Close}
 use Rattle.leaf_judging.specs.Closing.{NumberCloses}
 use Rattle.leaf_judging.specs.declared.closing.LeafNumber.TheVariants.{Lag}
-use Rattle.node_solve.specs.Ends.{IsOwnEndAt}
+use Rattle.node_solve.specs.private.Ends.{IsOwnEndAt}
 use Rattle.node_solve.specs.declared.working.Own.TheVariants as own
-use Rattle.node_solve.specs.RoundCode.{task_work, round_of}
+use Rattle.node_solve.specs.private.RoundCode.{task_work, round_of}
 use Rattle.node_solve.proofs.OwnLemmas.{fraction_closes, fraction_splits}
 use Rattle.node_solve.proofs.rounds.Task.fractional.Goals as goal
 

@@ -1,6 +1,6 @@
 use Rattle.std.proofs.Common.{◌≡◌, ◌<◌, ◌+◌, suc, subst, arith}
 use Rattle.node_solve.specs.Rounds.{MakesRounds}
-use Rattle.node_solve.specs.RoundCode.{task_work, round_of}
+use Rattle.node_solve.specs.private.RoundCode.{task_work, round_of}
 use Rattle.node_solve.proofs.rounds.Task.go_on.Goals as goal
 
 pub turns-init : goal.turns-init

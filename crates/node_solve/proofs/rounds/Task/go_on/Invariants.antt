@@ -1,6 +1,6 @@
 use Rattle.std.proofs.Common.{◌≤◌, ◌-◌}
 use Rattle.node_solve.specs.Rounds.{MakesRounds}
-use Rattle.node_solve.specs.RoundCode.{task_work, round_of, IsKeptRound}
+use Rattle.node_solve.specs.private.RoundCode.{task_work, round_of, IsKeptRound}
 use Rattle.node_solve.proofs.rounds.Task.go_on.Given as goal
 
 abbrev pub invariant-turns : goal.invariant-turns

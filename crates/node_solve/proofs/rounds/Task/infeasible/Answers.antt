@@ -3,7 +3,7 @@ use Rattle.std.proofs.Common.{sym, subst}
 use Rattle.lp_model.specs.Formulations.{formulation}
 use Rattle.leaf_dual.specs.Answers.{IsFarkasAnswer}
 use Rattle.leaf_dual.specs.Dual.{HavePlaces}
-use Rattle.node_solve.specs.RoundCode.{task_work, round_of}
+use Rattle.node_solve.specs.private.RoundCode.{task_work, round_of}
 use Rattle.node_solve.proofs.RoundLemmas.{kept_places}
 use Rattle.node_solve.proofs.OwnLemmas.{none_wide, none_closes}
 use Rattle.node_solve.proofs.rounds.Task.infeasible.Goals as goal

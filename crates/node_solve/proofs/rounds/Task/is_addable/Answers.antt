@@ -1,5 +1,5 @@
 use Rattle.std.proofs.Common.{◌<◌, ◌+◌, ◌↔◌, subst, ap, arith, length, IsTrue}
-use Rattle.node_solve.specs.RoundCode.{task_work, round_of}
+use Rattle.node_solve.specs.private.RoundCode.{task_work, round_of}
 use Rattle.node_solve.specs.Rounds.{HasRowOf}
 use Rattle.node_solve.proofs.TaskLemmas.{not_dead, not_past, not_in_pool, addable_by}
 use Rattle.node_solve.proofs.rounds.Task.is_addable.Goals as goal

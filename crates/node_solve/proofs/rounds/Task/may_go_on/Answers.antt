@@ -1,6 +1,6 @@
 use Rattle.std.proofs.Common.{◌<◌, ◌↔◌, sym, subst, arith, length, IsTrue}
 use Rattle.node_solve.specs.Rounds.{MayGoOn}
-use Rattle.node_solve.specs.RoundCode.{task_work, round_of}
+use Rattle.node_solve.specs.private.RoundCode.{task_work, round_of}
 use Rattle.node_solve.proofs.TaskLemmas.{may_not_rounds, may_not_room, may_by_point}
 use Rattle.node_solve.proofs.rounds.Task.may_go_on.Goals as goal
 

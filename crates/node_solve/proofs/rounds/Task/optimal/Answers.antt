@@ -3,7 +3,7 @@ use Rattle.std.proofs.Common.{sym, subst}
 use Rattle.lp_model.specs.Formulations.{formulation}
 use Rattle.leaf_dual.specs.Answers.{IsLagAnswer}
 use Rattle.leaf_dual.specs.Dual.{HavePlaces}
-use Rattle.node_solve.specs.RoundCode.{task_work, round_of}
+use Rattle.node_solve.specs.private.RoundCode.{task_work, round_of}
 use Rattle.node_solve.proofs.RoundLemmas.{kept_places}
 use Rattle.node_solve.proofs.OwnLemmas.{optimum_wide, found_so, optimum_found, optimum_number}
 use Rattle.node_solve.proofs.rounds.Task.optimal.Goals as goal

@@ -1,6 +1,6 @@
 use Rattle.std.proofs.Common.{subst}
 use Rattle.node_solve.specs.Rounds.{AddsAll}
-use Rattle.node_solve.specs.RoundCode.{task_work, round_of}
+use Rattle.node_solve.specs.private.RoundCode.{task_work, round_of}
 use Rattle.node_solve.proofs.rounds.Task.separate.Goals as goal
 
 pub returns-clause-separates : goal.returns-clause-separates

@@ -1,4 +1,4 @@
-use Rattle.node_solve.specs.RoundCode.{task_work, round_of}
+use Rattle.node_solve.specs.private.RoundCode.{task_work, round_of}
 use Rattle.node_solve.proofs.TurnLemmas.{none_of}
 use Rattle.node_solve.proofs.rounds.Task.turn.Goals as goal
 

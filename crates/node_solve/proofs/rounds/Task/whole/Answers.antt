@@ -1,7 +1,7 @@
 use Rattle.std.specs.Prelude.{Ok}
 use Rattle.std.proofs.Common.{subst, inl, inr}
 use Rattle.model_points.specs.Answers.{IsFeasibilityAnswer}
-use Rattle.node_solve.specs.RoundCode.{task_work, round_of}
+use Rattle.node_solve.specs.private.RoundCode.{task_work, round_of}
 use Rattle.node_solve.proofs.OwnLemmas.{point_not_broken, point_wide, point_done}
 use Rattle.node_solve.proofs.rounds.Task.whole.Goals as goal
 

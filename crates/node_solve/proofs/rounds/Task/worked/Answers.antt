@@ -1,7 +1,7 @@
 use Rattle.std.proofs.Common.{sym, subst}
 use Rattle.node_solve.specs.Rounds.{IsPivotsAfter}
-use Rattle.node_solve.specs.Ends.{IsEnd}
-use Rattle.node_solve.specs.RoundCode.{task_work, round_of}
+use Rattle.node_solve.specs.private.Ends.{IsEnd}
+use Rattle.node_solve.specs.private.RoundCode.{task_work, round_of}
 use Rattle.node_solve.proofs.TurnLemmas.{method_worked, pivots_after}
 use Rattle.node_solve.proofs.rounds.Task.worked.Goals as goal
 

@@ -1,4 +1,4 @@
-use Rattle.std.proofs.Common.{rules, ◌≡◌, List, ℕ, ◌++◌, sym, ap, subst, arith, length, length-append, false}
+use Rattle.std.proofs.Common.{rules, ◌≡◌, ◌<◌, List, ℕ, ◌++◌, sym, ap, subst, arith, length, length-append, false}
 use Rattle.std.specs.Prelude.{Ok, Err}
 use Rattle.std.proofs.lemmas.List.Elements.{All-append, All-nil}
 use Rattle.script_session.specs.Request.{RequestStep}
@@ -101,7 +101,10 @@ returns-in-Err-extend_from_slice-clause-served g c =
     let now = moment_of c.loop-line.self c.loop-line.machine (written c.loop-line.out) (files c.loop-line.store) (faults c.loop-line.store) in
     let bytes = c.args.pending.now.items ++ c.args.piece.now in
     let kept = c.loop-line.pending.items in
-    piece_wanting g.M.Machine.ends (RequestStep g.M.Machine.step) old now bytes (kept ++ c.loop-line.rest.now) c.extend_from_slice.new.self.items c.loop-line.invariant.stands
+    let rest = c.loop-line.rest.now in
+    let size = c.loop-line.pending.ok.0 in
+    let some : 0 < length (kept ++ rest) = omega (arith, size, c.in-Err-extend_from_slice.ensures.full, length-append kept rest) in
+    piece_wanting g.M.Machine.ends (RequestStep g.M.Machine.step) old now bytes (kept ++ rest) c.extend_from_slice.new.self.items c.loop-line.invariant.stands some
 
 pub loop-line-smaller : goal.loop-line-smaller
 loop-line-smaller g c = let parts = ap (length) c.in-Some.ensures.parts in omega (arith, simp length-append at parts)

@@ -5,7 +5,7 @@ use Rattle.std.specs.Io.KnownBytes.{Appends}
 use Rattle.script_session.specs.Request.{RequestStep, Words}
 use Rattle.script_session.specs.Output.{WritesFront}
 use Rattle.script_session.specs.Session.{moment_of}
-use Rattle.script_session.proofs.SessionLemmas.{Serves-one, Breaks-one, Halts-one}
+use Rattle.script_session.proofs.SessionLemmas.{Serves-one, Breaks-one, Wants-one}
 use Rattle.script_session.proofs.session.Session.serve_command.Goals as goal
 
 pub returns-in_default-clause-served : goal.returns-in_default-clause-served
@@ -16,7 +16,7 @@ returns-in_default-clause-served g c =
     let request = Words (map (λ word. word.now) c.args.words.now) in
     let old = moment_of c.args.self.now c.args.machine.now (written c.args.out.now) (files c.args.store.now) (faults c.args.store.now) in
     let new = moment_of c.args.self.now c.answer.new.self (written c.args.out.now) (files c.answer.new.store) (faults c.answer.new.store) in
-    Halts-one (RequestStep g.M.Machine.step) old new request c.in_default.ensures.unfinished refl
+    Wants-one (RequestStep g.M.Machine.step) old new request c.in_default.ensures.unfinished refl
 
 pub returns-in_default-write_all-clause-served : goal.returns-in_default-write_all-clause-served
 returns-in_default-write_all-clause-served g c =

@@ -1,17 +1,17 @@
-use Rattle.std.proofs.Common.{◌≡◌, [], ◌++◌, refl, ◌∙◌}
+use Rattle.std.proofs.Common.{◌≡◌, ◌++◌, refl, ◌∙◌}
 use Rattle.std.specs.Prelude.{Ok, Err}
 use Rattle.text_lines.specs.Lines.{ended_line}
 use Rattle.script_session.specs.Request.{RequestStep}
 use Rattle.script_session.specs.Script.{line_requests}
 use Rattle.script_session.specs.Session.{moment_of}
-use Rattle.script_session.proofs.SessionLemmas.{Halts-none}
+use Rattle.script_session.proofs.SessionLemmas.{Wants-none}
 use Rattle.script_session.proofs.PieceLemmas.{served_line}
 use Rattle.script_session.proofs.session.Session.serve_joined.Goals as goal
 
 pub returns-in_default-clause-served : goal.returns-in_default-clause-served
 returns-in_default-clause-served g c =
     let old = moment_of c.args.self.now c.args.machine.now (g.W.Sink.written c.args.out.now) (g.S.Store.files c.args.store.now) (g.S.Store.faults c.args.store.now) in
-    ([], line_requests (ended_line (c.args.pending.now.items ++ c.args.end.now)), refl, Halts-none (RequestStep g.M.Machine.step) old)
+    Wants-none (RequestStep g.M.Machine.step) old (line_requests (ended_line (c.args.pending.now.items ++ c.args.end.now)))
 
 pub returns-in-Ok-serve_line-clause-served : goal.returns-in-Ok-serve_line-clause-served
 returns-in-Ok-serve_line-clause-served g c =

@@ -1,10 +1,10 @@
-use Rattle.std.proofs.Common.{◌≡◌, ◌<◌, ℕ, List, [], ◌∷◌, map, length, Bor, refl, sym, ◌∙◌, ap, subst, arith}
+use Rattle.std.proofs.Common.{◌≡◌, ◌<◌, ℕ, List, [], ◌∷◌, map, length, Bor, sym, ◌∙◌, ap, subst, arith}
 use Rattle.std.specs.Prelude.{if◌then◌else◌}
 use Rattle.script_session.specs.Request.{RequestStep, Words}
 use Rattle.script_session.specs.Script.{text_requests}
 use Rattle.script_session.specs.Session.{moment_of, Serves, ServesAll}
 use Rattle.script_session.specs.declared.session.Flow.TheVariants.{Open, Ended}
-use Rattle.script_session.proofs.SessionLemmas.{Serves-none, Halts-none}
+use Rattle.script_session.proofs.SessionLemmas.{Serves-none, Wants-none}
 use Rattle.script_session.proofs.ScriptLemmas.{comment-silent, wordless-silent, spoken, spoken-requests, silent-requests, silent-end, spoken-end}
 use Rattle.script_session.proofs.session.Session.serve_text.Goals as goal
 
@@ -20,7 +20,7 @@ returns-then-is_comment_line-clause-served g c =
 pub returns-in_default-clause-served : goal.returns-in_default-clause-served
 returns-in_default-clause-served g c =
     let old = moment_of c.args.self.now c.args.machine.now (g.W.Sink.written c.args.out.now) (g.S.Store.files c.args.store.now) (g.S.Store.faults c.args.store.now) in
-    ([], text_requests c.args.text.now, refl, Halts-none (RequestStep g.M.Machine.step) old)
+    Wants-none (RequestStep g.M.Machine.step) old (text_requests c.args.text.now)
 
 pub returns-then-is_empty-clause-served : goal.returns-then-is_empty-clause-served
 returns-then-is_empty-clause-served g c =

@@ -11,7 +11,7 @@ use Rattle.sound_searches.specs.Sound.{PlainSearch, formulation_of}
 use Rattle.leaf_judging.specs.Queued.{IsQueueOf}
 use Rattle.tree_edit.specs.Indexed.{IsIndexed}
 use Rattle.search_parts.specs.Points.{target}
-use Rattle.tree_edit.specs.PlacingSteps.{JoinsPoint}
+use Rattle.tree_edit.specs.private.PlacingSteps.{JoinsPoint}
 use Rattle.sound_searches.specs.Placing.{TakesPoint}
 use Rattle.search_parts.specs.Joining.{list_without}
 use Rattle.tree_edit.proofs.PointTaken.{worst-within, kept-taken}

@@ -3,7 +3,7 @@ use Rattle.std.proofs.lemmas.Result.{on_ok_weaker, on_err_weaker}
 use Rattle.lp_model.specs.Program.{Point}
 use Rattle.sound_searches.specs.Sound.{PlainSearch}
 use Rattle.search_parts.specs.Points.{target}
-use Rattle.tree_edit.specs.PlacingSteps.{JoinsPoint}
+use Rattle.tree_edit.specs.private.PlacingSteps.{JoinsPoint}
 use Rattle.sound_searches.specs.Placing.{TakesPoint}
 use Rattle.tree_edit.proofs.PointTaken.{worst-within, kept-entered, taken-added}
 use Rattle.tree_edit.proofs.search.Search.add_point.Goals as goal

@@ -1,7 +1,7 @@
 use Rattle.std.proofs.Common.{◌≡◌, ◌++◌, ◌∷◌, [], sym, subst}
 use Rattle.lp_model.specs.Regions.{AreNarrow, Path}
 use Rattle.sound_searches.specs.Sound.{PlainSearch}
-use Rattle.tree_edit.specs.PlacingSteps.{IsNumberedChild}
+use Rattle.tree_edit.specs.private.PlacingSteps.{IsNumberedChild}
 use Rattle.tree_edit.proofs.search.Search.child.Goals as goal
 
 pub judged_child-requires : goal.judged_child-requires

@@ -3,7 +3,7 @@ use Rattle.std.proofs.Common.{sym, subst, ◌++◌, ◌∷◌, []}
 use Rattle.lp_model.specs.Regions.{AreNarrow}
 use Rattle.lp_model.specs.declared.types.BoundChange.{BoundChange}
 use Rattle.sound_searches.specs.Sound.{PlainSearch}
-use Rattle.tree_edit.specs.PlacingSteps.{IsNumberedChild}
+use Rattle.tree_edit.specs.private.PlacingSteps.{IsNumberedChild}
 use Rattle.tree_edit.proofs.search.Search.children.Goals as goal
 
 pub child-requires : goal.child-requires

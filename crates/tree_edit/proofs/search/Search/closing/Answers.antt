@@ -6,7 +6,7 @@ use Rattle.leaf_judging.specs.Closing.{ClosesBy, IsNumber}
 use Rattle.leaf_judging.proofs.JudgeLemmas.{closes_same}
 use Rattle.search_parts.specs.Lists.{HasLists}
 use Rattle.sound_searches.specs.Sound.{PlainSearch, formulation_of}
-use Rattle.tree_edit.specs.PlacingSteps.{ClosesByNumber}
+use Rattle.tree_edit.specs.private.PlacingSteps.{ClosesByNumber}
 use Rattle.tree_edit.proofs.search.Search.closing.Goals as goal
 
 pub returns-in-Ok-false-clause-open : goal.returns-in-Ok-false-clause-open

@@ -2,7 +2,7 @@ use Rattle.std.proofs.Common.{List, subst}
 use Rattle.frac128.specs.Rational.{ℚ}
 use Rattle.sound_searches.specs.Sound.{PlainSearch}
 use Rattle.search_parts.specs.Joining.{Joins}
-use Rattle.tree_edit.specs.PlacingSteps.{JoinsPoint}
+use Rattle.tree_edit.specs.private.PlacingSteps.{JoinsPoint}
 use Rattle.tree_edit.proofs.PointTaken.{joins-point}
 use Rattle.tree_edit.proofs.search.Search.join.Goals as goal
 

@@ -7,7 +7,7 @@ use Rattle.leaf_judging.specs.Closing.{IsNumber, NumberCloses, StateSays}
 use Rattle.search_parts.specs.Points.{target}
 use Rattle.sound_searches.specs.Sound.{PlainSearch}
 use Rattle.tree_edit.specs.declared.splitting.Child.{Child}
-use Rattle.tree_edit.specs.PlacingSteps.{IsNumberedChild}
+use Rattle.tree_edit.specs.private.PlacingSteps.{IsNumberedChild}
 use Rattle.tree_edit.proofs.search.Search.judged_child.Goals as goal
 
 pub returns : goal.returns

@@ -7,7 +7,7 @@ use Rattle.search_parts.specs.Points.{target}
 use Rattle.sound_searches.specs.declared.taken.Taken.{Taken}
 use Rattle.sound_searches.specs.Sound.{PlainSearch, formulation_of}
 use Rattle.sound_searches.specs.Placing.{TakesClose}
-use Rattle.tree_edit.specs.PlacingSteps.{StaysOpen}
+use Rattle.tree_edit.specs.private.PlacingSteps.{StaysOpen}
 use Rattle.tree_edit.proofs.CloseLemmas.{judged-closed, stays-open, on-err}
 use Rattle.tree_edit.proofs.search.Search.place_close.Goals as goal
 

@@ -3,7 +3,7 @@ use Rattle.std.proofs.lemmas.Result.{IfOk-weaker}
 use Rattle.sound_searches.specs.declared.taken.Taken.{Taken}
 use Rattle.sound_searches.specs.Sound.{PlainSearch, formulation_of}
 use Rattle.sound_searches.specs.Placing.{TakesPointClose}
-use Rattle.tree_edit.specs.PlacingSteps.{StaysOpen}
+use Rattle.tree_edit.specs.private.PlacingSteps.{StaysOpen}
 use Rattle.tree_edit.proofs.CloseLemmas.{stays-open_with, on-err}
 use Rattle.tree_edit.proofs.search.Search.place_joined_close.Goals as goal
 

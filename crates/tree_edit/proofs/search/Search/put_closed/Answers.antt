@@ -1,7 +1,7 @@
 use Rattle.std.proofs.Common.{[], sym, subst, arith}
 use Rattle.branch_tree.specs.Numbered.{NumberedTree}
 use Rattle.sound_searches.specs.Sound.{PlainSearch, formulation_of}
-use Rattle.leaf_judging.specs.Queued.{HasRank}
+use Rattle.leaf_judging.specs.Queued.{HasFiniteNumber}
 use Rattle.tree_edit.specs.Indexed.{IsIndexed}
 use Rattle.sound_searches.specs.Placing.{IsAt}
 use Rattle.branch_tree.specs.Changes.{HasLeaf}
@@ -34,8 +34,8 @@ invariant_of-self c =
     let number : IsNumber (formulation_of S) path kept.mult kept.farkas c.args.number.now = subst (λ (T : PlainSearch). IsNumber (formulation_of T) path kept.mult kept.farkas c.args.number.now) (sym c.self.view_is) c.requires.number in
     let lists : HasLists (formulation_of S) kept = subst (λ (T : PlainSearch). HasLists (formulation_of T) kept) (sym c.self.view_is) c.requires.lists in
     let judged : IsJudgedLeaf (formulation_of S) (target S.model S.points) path kept = subst (λ (T : PlainSearch). IsJudgedLeaf (formulation_of T) (target T.model T.points) path kept) (sym c.self.view_is) c.requires.judged in
-    let r = c.rank_of-rank.result in
-    let ranked : HasRank (formulation_of S) S.tree.root (record { rank = r; id = id }) = subst (λ (T : PlainSearch). HasRank (formulation_of T) T.tree.root (record { rank = r; id = id })) (sym c.self.view_is) c.rank_of-rank.ensures in
+    let r = c.leaf_number_of-leaf_number.result in
+    let ranked : HasFiniteNumber (formulation_of S) S.tree.root (record { leaf_number = r; id = id }) = subst (λ (T : PlainSearch). HasFiniteNumber (formulation_of T) T.tree.root (record { leaf_number = r; id = id })) (sym c.self.view_is) c.leaf_number_of-leaf_number.ensures in
     subst (λ (T : NumberedTree). IsIndexed (record { model = i.model; cuts = i.pool; tree = T; points = i.points.items }) i.values.items c.set.new.self c.remove.new.self) (sym c.set_leaf.ensures)
     (record {
       sound = sound-with_leaf S id path kept c.self.invariant.sound at lists judged;

@@ -2,7 +2,7 @@ use Rattle.std.proofs.Common.{subst, Err}
 use Rattle.serde_json.specs.View.{view}
 use Rattle.warm_file.specs.Faults.{SaysFault}
 use Rattle.warm_file.specs.Rising.{variable_rank, multiplier_at, dual_kind_of, multiplier_of}
-use Rattle.warm_file.specs.RisingItems.{past_variable}
+use Rattle.warm_file.specs.private.RisingItems.{past_variable}
 use Rattle.warm_file.proofs.Saying.{says-there, says-missing, says-first, says-next}
 use Rattle.warm_file.proofs.PastLemmas.{behind-past}
 use Rattle.warm_file.proofs.rising.MultipliersElementTuple2VarFrac.read.Goals as goal

@@ -1,0 +1,3 @@
+pub mod ProvedGaps
+pub mod FrontVerdicts
+pub mod FrontRejections

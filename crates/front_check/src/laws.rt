@@ -1,0 +1,17 @@
+// What accepted certificates of fronts prove. The law is the contract of a function that does nothing.
+ghost use Rattle.front_check.specs.Laws.{FrontLaw, FrontVerdictLaw, FrontRejectedLaw};
+
+/// For every model and certificate: where the certificate is accepted, its outcomes are the front of the model.
+pub fn front_law()
+    ensures { FrontLaw }
+{}
+
+/// What is judged and found accepted is accepted by the definition, with so many outcomes.
+pub fn front_verdict_law()
+    ensures { FrontVerdictLaw }
+{}
+
+/// What is rejected is not accepted by the definition, but where a number of a gap has no room.
+pub fn front_rejected_law()
+    ensures { FrontRejectedLaw }
+{}
