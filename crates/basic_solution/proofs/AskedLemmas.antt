@@ -10,7 +10,8 @@ use Rattle.table_entries.specs.Relaxation.{Relaxation, Table, reduced_cost}
 use Rattle.table_entries.specs.States.{reduced_parts}
 use Rattle.table_entries.proofs.SumBelowLaws.{sum_below-zero}
 use Rattle.basic_solution.specs.Held.{Held, relaxation, parts, table, own_cost}
-use Rattle.basic_solution.specs.Slack.{IsPlaced, IsMisplaced, IsRestood}
+use Rattle.basic_solution.specs.Slack.{IsPlaced}
+use Rattle.basic_solution.specs.private.Slack.{IsMisplaced, IsRestood}
 use Rattle.basic_solution.proofs.SignLemmas.{NoneBelow}
 use Rattle.basic_solution.proofs.PartLemmas.{turn_part, parts_end}
 

@@ -19,8 +19,10 @@ use Rattle.row_tableau.specs.Activities.{activity_coefficient}
 use Rattle.table_entries.specs.WholeSteps.{IsShort, IsShortOver, whole_number_at}
 use Rattle.table_entries.proofs.WholeSumLemmas.{term_of_factor}
 use Rattle.basic_solution.specs.Held.{Held, IsSided, relaxation, state, table, variables}
-use Rattle.basic_solution.specs.RowTotals.{IsSmallNumber, HasSmallTerm, IsRowTotal}
-use Rattle.basic_solution.specs.CutTotals.{StandsSmall, IsColumnTotal, AreColumnTotals, IsTermsTotal, IsCutTotal}
+use Rattle.basic_solution.specs.RowTotals.{IsSmallNumber, HasSmallTerm}
+use Rattle.basic_solution.specs.private.RowTotals.{IsRowTotal}
+use Rattle.basic_solution.specs.CutTotals.{IsColumnTotal, AreColumnTotals}
+use Rattle.basic_solution.specs.private.CutTotals.{StandsSmall, IsTermsTotal, IsCutTotal}
 use Rattle.basic_solution.proofs.RowTotalLemmas.{small_product, total_of_row}
 use Rattle.basic_solution.proofs.TermLemmas.{sum_of_terms, AreBelow, terms_sum, terms_from}
 

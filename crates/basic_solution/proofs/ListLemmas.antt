@@ -11,7 +11,8 @@ use Rattle.table_entries.specs.Bases.{listed, Lists}
 use Rattle.row_tableau.specs.Dense.{Dense}
 use Rattle.row_tableau.specs.Variables.{variable_number, numbers}
 use Rattle.basic_solution.specs.Held.{Held, IsSided, table, variables}
-use Rattle.basic_solution.specs.Lists.{AreRising, StandsHigh, HasMultiplier, AreListedMultipliers, AreMultipliersBelow, names}
+use Rattle.basic_solution.specs.Lists.{AreRising, StandsHigh, HasMultiplier, AreListedMultipliers, names}
+use Rattle.basic_solution.specs.private.Lists.{AreMultipliersBelow}
 
 pub rising_none : (P : ℕ → Type 0) (n : ℕ) → ((v : ℕ) → v < n → ¬ (P v)) → AreRising P n []
 rising_none P n none = record {

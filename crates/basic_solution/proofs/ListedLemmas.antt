@@ -20,8 +20,10 @@ use Rattle.row_tableau.specs.Dense.{Dense}
 use Rattle.row_tableau.specs.Variables.{variable_number, numbers}
 use Rattle.row_tableau.specs.Answers.{IsPivotPlace, IsProper, IsBroughtIn}
 use Rattle.basic_solution.specs.Held.{Held, IsSided, relaxation, parts, table, variables}
-use Rattle.basic_solution.specs.Slack.{IsStateOfRelax, IsRestood}
-use Rattle.basic_solution.specs.ListedStates.{IsStandBy, StandBy, StandsAsListed, StandsNowhere, Keeps, IsExchangePlace, IsWideExchange, IsBroughtTo, IsLawfulAnswer, IsStoodAt, LeadsOn}
+use Rattle.basic_solution.specs.Slack.{IsStateOfRelax}
+use Rattle.basic_solution.specs.private.Slack.{IsRestood}
+use Rattle.basic_solution.specs.ListedStates.{IsStandBy, StandBy, StandsAsListed, StandsNowhere, Keeps, IsExchangePlace, IsWideExchange, IsLawfulAnswer, IsStoodAt, LeadsOn}
+use Rattle.basic_solution.specs.private.ListedStates.{IsBroughtTo}
 
 -- ---- the same relaxation
 

@@ -12,7 +12,8 @@ use Rattle.table_entries.specs.States.{sign}
 use Rattle.table_entries.proofs.SumBelowLaws.{if_same, if_other}
 use Rattle.table_entries.proofs.ReducedCosts.{reduced_alone-basic, reduced_alone-nonbasic}
 use Rattle.basic_solution.specs.Held.{Held, IsSided, relaxation, parts, table, variables, own_cost}
-use Rattle.basic_solution.specs.Numbers.{IsReducedCostAnswer, IsPartAnswer}
+use Rattle.basic_solution.specs.Numbers.{IsPartAnswer}
+use Rattle.basic_solution.specs.private.Numbers.{IsReducedCostAnswer}
 use Rattle.lp_model.specs.declared.types.WideStep.{WideStep}
 
 pub tilt_read : (s : Held) → IsSided s → (v : ℕ) → v < variables s → (x : Stand) → x ≡ get_or s.tilt v x → x ≡ get_or s.tilt v Free

@@ -14,7 +14,8 @@ use Rattle.table_entries.proofs.Arranged.{assigned-basic, assigned-nonbasic}
 use Rattle.table_entries.specs.WholeSums.{IsWholeTerm}
 use Rattle.table_entries.proofs.WholeSumLemmas.{term_of_nothing}
 use Rattle.basic_solution.specs.Held.{Held, IsSided, relaxation, state, table, variables}
-use Rattle.basic_solution.specs.Numbers.{ValueFits, CostsFit, IsValueNamed, IsCostNamed, IsBasicValueAnswer, IsReducedCostAnswer, IsNumberAnswer, IsMultiplierAnswer}
+use Rattle.basic_solution.specs.Numbers.{ValueFits, CostsFit, IsValueNamed, IsCostNamed, IsNumberAnswer, IsMultiplierAnswer}
+use Rattle.basic_solution.specs.private.Numbers.{IsBasicValueAnswer, IsReducedCostAnswer}
 use Rattle.lp_model.specs.declared.types.WideStep.{WideStep}
 
 -- a variable without a cost makes no step

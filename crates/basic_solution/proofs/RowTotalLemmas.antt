@@ -23,7 +23,8 @@ use Rattle.table_entries.specs.WholeSteps.{IsShort}
 use Rattle.table_entries.specs.WholeSums.{IsWholeTerm, HasMargin}
 use Rattle.table_entries.proofs.WholeSumLemmas.{term_of_nothing, start_is, total_more, whole_fits_more}
 use Rattle.basic_solution.specs.Held.{Held, IsSided, relaxation, state, table, variables}
-use Rattle.basic_solution.specs.RowTotals.{IsSmallNumber, HasSmallTerm, AreFreeFrom, IsRowTotal, IsCostTotal}
+use Rattle.basic_solution.specs.RowTotals.{IsSmallNumber, HasSmallTerm, AreFreeFrom, IsCostTotal}
+use Rattle.basic_solution.specs.private.RowTotals.{IsRowTotal}
 use Rattle.basic_solution.proofs.PointLemmas.{no_standing, own_standing, own_entry, sum_of_rows}
 
 no_term : (a x : ℚ) (d : ℤ) → pos 0 <ℤ d → x ≡ int (pos 0) → HasSmallTerm d a x

@@ -29,7 +29,8 @@ use Rattle.row_tableau.specs.Relaxations.{form_of, plain, of_kind, relaxation_of
 use Rattle.row_tableau.specs.Dense.{IsTableauOf}
 use Rattle.basic_solution.specs.Held.{Held, HasShape, IsSided, IsLawfulHeld, relaxation, parts, state, table, variables, own_cost}
 use Rattle.row_tableau.specs.Tilts.{tilt_of, order_of, tilted_cost, parts_of, KeepsFree}
-use Rattle.basic_solution.specs.Slack.{IsStateOfRelax, IsSlackState, CanStand, IsPlaced, IsMisplaced, IsRestood}
+use Rattle.basic_solution.specs.Slack.{IsStateOfRelax, IsSlackState, CanStand, IsPlaced}
+use Rattle.basic_solution.specs.private.Slack.{IsMisplaced, IsRestood}
 use Rattle.basic_solution.proofs.SignLemmas.{stands_of, can_of}
 use Rattle.table_entries.proofs.Signs.{asked_once, asked_same}
 use Rattle.row_tableau.proofs.OrderLemmas.{separated}
@@ -120,7 +121,7 @@ placed_kept s kept k w = record { asked = kept.good.lawful.lawful k w; can = can
 pub sided_asked : (s : Held) → IsSided s → (k : ℕ) → k < s.tableau.columns → ¬ (IsFree (relaxation s) ((table s).nonbasic k)) → ¬ (LawfulAt Free (reduced_parts (relaxation s) (parts s) (table s) k))
 sided_asked s sided k w some none =
     let v = (table s).nonbasic k in
-    let own = sided.separates.own v in
+    let own = sided.separates.own_part v in
     sided.separates.own_some v some
     (sym (reduced_alone-nonbasic (relaxation s) (table s) sided.table.arranged (parts s own) k k w w (λ u other. sided.separates.own_alone v u some other)) ∙ none own)
 

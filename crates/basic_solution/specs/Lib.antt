@@ -7,3 +7,4 @@ pub mod Exchanges
 pub mod Slack
 pub mod Lists
 pub mod ListedStates
+pub mod private

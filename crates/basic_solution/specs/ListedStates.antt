@@ -1,5 +1,5 @@
 -- States at a list of basic variables, and where bringing it in leads.
-use Rattle.std.specs.Prelude.{◌≡◌, ◌⊎◌, ℕ, ◌<◌, Bool, true, false, IsTrue, ◌↔◌, List, get_or, Result, Ok, Err}
+use Rattle.std.specs.Prelude.{◌≡◌, ◌⊎◌, ℕ, ◌<◌, Bool, true, false, List, get_or, Result, Ok, Err}
 use Rattle.std.specs.Option.{IsSomeAnd}
 use Rattle.lp_model.specs.WideSteps.{TablePlace, Pivot, table_place}
 use Rattle.lp_model.specs.declared.types.Basis.{Basis}
@@ -65,17 +65,6 @@ IsExchangePlace list s other = ⊥
 -- the list is proper, and bringing it in makes this exchange next, the first step of which without room is this one
 abbrev pub IsWideExchange : Basis → Held → WideStep → Type 0
 IsWideExchange list s step = IsSomeAnd (table_place step) (IsExchangePlace list s)
-
--- what comes of bringing a list in: true where it is, and false where it is left off
-abbrev pub IsBroughtTo : Held → Basis → Result Bool WideStep → Held → Type 0
-IsBroughtTo s list (Ok true) after = IsNamedBy after.tableau.activities (numbers after.tableau list.basic) (table after)
-IsBroughtTo s list (Ok false) after = IsLeftOff s.tableau (numbers s.tableau list.basic) after.tableau
-IsBroughtTo s list (Err e) after = IsWideExchange list after e
-
--- whether the variable of a place stands where its reduced cost asks it to, where each term of that has room, else the first that has none
-abbrev pub IsPlaceAnswer : Held → ℕ → Result Bool WideStep → Type 0
-IsPlaceAnswer s k (Ok b) = CostsFit s k (variables s) × (IsTrue b ↔ IsPlaced s k (get_or s.stands k Free))
-IsPlaceAnswer s k (Err e) = IsWideCost s k e
 
 -- the variables of the first n places stand where their reduced costs ask them to, each term of which has room
 abbrev pub ArePlaced : Held → ℕ → Type 0

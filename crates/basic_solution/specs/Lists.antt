@@ -55,11 +55,6 @@ pub record AreListedMultipliers (s : Held) (y : ℕ → ℚ) (list : List (Var �
   pub named : AreRising (HasMultiplier s y) (variables s) (numbers s.tableau (names list))
   pub values : All (λ m. m.1 ≡ y (variable_number s.tableau m.0)) list
 
--- likewise those of the variables below n alone
-pub record AreMultipliersBelow (s : Held) (y : ℕ → ℚ) (n : ℕ) (list : List (Var × ℚ)) : Type 0 where
-  pub named : AreRising (HasMultiplier s y) n (numbers s.tableau (names list))
-  pub values : All (λ m. m.1 ≡ y (variable_number s.tableau m.0)) list
-
 -- the step is the first without room in the number of a column, and each column before has a number whose terms have room
 pub record IsWideColumn (s : Held) (step : WideStep) : Type 0 where
   pub column : ℕ

@@ -7,7 +7,7 @@ use Rattle.lp_model.specs.WideSteps.{TablePlace, Point, Cost, table_place}
 use Rattle.lp_model.specs.declared.types.WideStep.{WideStep}
 use Rattle.table_entries.specs.declared.stand.Stand.{Stand}
 use Rattle.table_entries.specs.Relaxation.{reduced_cost, point, multipliers}
-use Rattle.table_entries.specs.States.{basic_value, IsOutside}
+use Rattle.table_entries.specs.States.{IsOutside}
 use Rattle.table_entries.specs.Steps.{PointFits, CostFits, at_nonbasic, at_basic}
 use Rattle.row_tableau.specs.Variables.{variable_number}
 use Rattle.basic_solution.specs.Held.{Held, relaxation, parts, state, table, variables}
@@ -71,16 +71,6 @@ IsPlaceCost s place other = ⊥
 -- the step is the first without room in the reduced cost of the place
 abbrev pub IsWideCost : Held → ℕ → WideStep → Type 0
 IsWideCost s place step = IsSomeAnd (table_place step) (IsPlaceCost s place)
-
--- the value of the basic variable of the row, where each of its terms has room, else the first that has none
-abbrev pub IsBasicValueAnswer : Held → ℕ → Result ℚ WideStep → Type 0
-IsBasicValueAnswer s row (Ok x) = ValueFits s row (variables s) × (x ≡ basic_value (relaxation s) (state s) row)
-IsBasicValueAnswer s row (Err e) = IsWideBasicValue s row e
-
--- the reduced cost of the place likewise
-abbrev pub IsReducedCostAnswer : Held → ℕ → Result ℚ WideStep → Type 0
-IsReducedCostAnswer s place (Ok x) = CostsFit s place (variables s) × (x ≡ reduced_cost (relaxation s) (table s) (relaxation s).cost place)
-IsReducedCostAnswer s place (Err e) = IsWideCost s place e
 
 -- only the part of the costs has terms: in each part behind it one variable alone has a cost
 abbrev pub ReducedFits : Held → ℕ → ℕ → Type 0

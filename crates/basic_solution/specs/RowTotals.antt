@@ -3,10 +3,9 @@ use Rattle.std.specs.Prelude.{◌≡◌, ℕ, ◌<◌, ◌≤◌, ◌^◌, ℤ, 
 use Rattle.frac128.specs.Rational.{ℚ, int}
 use Rattle.frac128.specs.LowestTerms.{quotient_of}
 use Rattle.table_entries.specs.Relaxation.{reduced_cost}
-use Rattle.table_entries.specs.States.{basic_value}
 use Rattle.table_entries.specs.WholeSums.{IsWholeTerm, HasMargin}
-use Rattle.basic_solution.specs.Held.{Held, relaxation, state, table, variables}
-use Rattle.basic_solution.specs.Numbers.{ValueFits, CostsFit}
+use Rattle.basic_solution.specs.Held.{Held, relaxation, table, variables}
+use Rattle.basic_solution.specs.Numbers.{CostsFit}
 
 -- a whole number so small that the products of 2 ^ 32 of them with short numbers leave room for their total
 abbrev pub IsSmallNumber : ℤ → Type 0
@@ -19,12 +18,6 @@ AreSmallNumbers xs = (at : ℕ) → at < length xs → (n : ℤ) × (IsSmallNumb
 -- the product of the factor a and the number x is that of a short and a small number, over the denominator
 abbrev pub HasSmallTerm : ℤ → ℚ → ℚ → Type 0
 HasSmallTerm denominator a x = (f : ℤ) × ((n : ℤ) × (IsWholeTerm denominator a x f n × IsSmallNumber n))
-
--- over the denominator the total is the value of the basic variable of the row, and each of its terms has room
-pub record IsRowTotal (s : Held) (row : ℕ) (denominator total : ℤ) : Type 0 where
-  pub margin : HasMargin total
-  pub fits : ValueFits s row (variables s)
-  pub value : quotient_of total denominator ≡ basic_value (relaxation s) (state s) row
 
 -- from a place on the costs are 0
 abbrev pub AreFreeFrom : List ℚ → ℕ → Type 0

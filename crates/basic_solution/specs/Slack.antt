@@ -44,17 +44,3 @@ CanStand Free low high = (low ≡ None) × (high ≡ None)
 pub record IsPlaced (s : Held) (k : ℕ) (stand : Stand) : Type 0 where
   pub asked : LawfulAt stand (reduced_parts (relaxation s) (parts s) (table s) k)
   pub can : CanStand stand ((relaxation s).low ((table s).nonbasic k)) ((relaxation s).high ((table s).nonbasic k))
-
--- it cannot stand where it is asked to
-pub record IsMisplaced (s : Held) (k : ℕ) : Type 0 where
-  pub stand : Stand
-  pub asked : LawfulAt stand (reduced_parts (relaxation s) (parts s) (table s) k)
-  pub cannot : ¬ CanStand stand ((relaxation s).low ((table s).nonbasic k)) ((relaxation s).high ((table s).nonbasic k))
-
-abbrev pub IsStandAnswer : Held → ℕ → Option Stand → Type 0
-IsStandAnswer s k (Some stand) = IsPlaced s k stand
-IsStandAnswer s k None = IsMisplaced s k
-
--- the same but for where the nonbasic variables stand
-abbrev pub IsRestood : Held → Held → Type 0
-IsRestood s after = after ≡ record s { stands = after.stands }

@@ -4,7 +4,8 @@ ghost use Rattle.table_entries.specs.declared.stand.Stand.TheVariants.{Free};
 ghost use Rattle.table_entries.specs.Relaxation.{reduced_cost};
 ghost use Rattle.table_entries.specs.States.{LawfulAt, reduced_parts};
 ghost use Rattle.basic_solution.specs.Held.{relaxation, parts, table};
-ghost use Rattle.basic_solution.specs.Slack.{CanStand, IsRestood};
+ghost use Rattle.basic_solution.specs.Slack.{CanStand};
+ghost use Rattle.basic_solution.specs.private.Slack.{IsRestood};
 
 use crate::sided::SidedBasis;
 use frac128::Frac;

@@ -4,7 +4,8 @@ ghost use Rattle.table_entries.specs.Steps.{at_basic};
 ghost use Rattle.table_entries.specs.WholeSteps.{IsShort};
 ghost use Rattle.table_entries.specs.WholeSums.{IsWholeTerm};
 ghost use Rattle.basic_solution.specs.Held.{relaxation, table, variables};
-ghost use Rattle.basic_solution.specs.Numbers.{IsFirstWideReducedCost, IsWideCost, IsReducedCostAnswer};
+ghost use Rattle.basic_solution.specs.Numbers.{IsFirstWideReducedCost, IsWideCost};
+ghost use Rattle.basic_solution.specs.private.Numbers.{IsReducedCostAnswer};
 ghost use Rattle.basic_solution.specs.RowTotals.{IsSmallNumber, IsCostTotal};
 
 use crate::row_totals::with_product;

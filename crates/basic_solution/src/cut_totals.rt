@@ -3,7 +3,8 @@
 ghost use Rattle.std.specs.Prelude.{◌≡◌, ◌<◌, ◌≤◌, ◌^◌, ◌<ℤ◌, ℕ, pos, length, IsTrue, IfSome};
 ghost use Rattle.table_entries.specs.WholeSteps.{IsShort, whole_number_at};
 ghost use Rattle.basic_solution.specs.Numbers.{IsRowBreach};
-ghost use Rattle.basic_solution.specs.CutTotals.{StandsSmall, IsColumnTotal, AreColumnTotals, IsTermsTotal, IsCutTotal};
+ghost use Rattle.basic_solution.specs.CutTotals.{IsColumnTotal, AreColumnTotals};
+ghost use Rattle.basic_solution.specs.private.CutTotals.{StandsSmall, IsTermsTotal, IsCutTotal};
 
 use crate::row_totals::{small_number, with_product};
 use crate::sided::SidedBasis;

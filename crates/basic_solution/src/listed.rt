@@ -2,8 +2,9 @@
 ghost use Rattle.std.specs.Prelude.{◌≡◌, ◌⊎◌, ◌↔◌, ◌<◌, ℕ, false, IsTrue, Ok};
 ghost use Rattle.row_tableau.specs.Variables.{numbers};
 ghost use Rattle.basic_solution.specs.Held.{relaxation, table};
-ghost use Rattle.basic_solution.specs.Slack.{IsRestood};
-ghost use Rattle.basic_solution.specs.ListedStates.{IsStandBy, StandBy, Keeps, StandsNowhere, StandsAsListed, IsBroughtTo, IsLawfulAnswer, IsPlaceAnswer, IsStoodAt, LeadsOn};
+ghost use Rattle.basic_solution.specs.private.Slack.{IsRestood};
+ghost use Rattle.basic_solution.specs.ListedStates.{IsStandBy, StandBy, Keeps, StandsNowhere, StandsAsListed, IsLawfulAnswer, IsStoodAt, LeadsOn};
+ghost use Rattle.basic_solution.specs.private.ListedStates.{IsBroughtTo, IsPlaceAnswer};
 
 use crate::sided::SidedBasis;
 use lp_model::{Basis, Var, WideStep};

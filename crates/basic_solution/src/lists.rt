@@ -5,7 +5,8 @@ ghost use Rattle.table_entries.specs.Relaxation.{multipliers};
 ghost use Rattle.table_entries.specs.States.{farkas_weights};
 ghost use Rattle.row_tableau.specs.Answers.{IsBasic};
 ghost use Rattle.basic_solution.specs.Held.{relaxation, state, table, variables};
-ghost use Rattle.basic_solution.specs.Lists.{StandsHigh, AreBasic, AreHigh, IsBasisOf, IsPointAnswer, AreListedMultipliers, AreMultipliersBelow, AreMultipliersAnswer};
+ghost use Rattle.basic_solution.specs.Lists.{StandsHigh, AreBasic, AreHigh, IsBasisOf, IsPointAnswer, AreListedMultipliers, AreMultipliersAnswer};
+ghost use Rattle.basic_solution.specs.private.Lists.{AreMultipliersBelow};
 
 use crate::sided::SidedBasis;
 use frac128::Frac;

@@ -69,7 +69,8 @@ impl WholeTerms for PointTerms<'_, '_> {
 
 impl SidedBasis<'_> {
     ghost use Rattle.table_entries.specs.WholeSteps.{IsShort};
-    ghost use Rattle.basic_solution.specs.Numbers.{IsFirstWideValue, IsWideBasicValue, IsBasicValueAnswer};
+    ghost use Rattle.basic_solution.specs.Numbers.{IsFirstWideValue, IsWideBasicValue};
+    ghost use Rattle.basic_solution.specs.private.Numbers.{IsBasicValueAnswer};
 
     /// The number at which the variable of a place stands.
     pub(crate) fn place_number(&self, place: usize) -> Frac

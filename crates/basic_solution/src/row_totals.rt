@@ -4,7 +4,8 @@ ghost use Rattle.frac128.specs.Rational.{int};
 ghost use Rattle.table_entries.specs.WholeSteps.{IsShort};
 ghost use Rattle.table_entries.specs.WholeSums.{HasMargin, IsWholeTerm};
 ghost use Rattle.basic_solution.specs.Held.{state, table};
-ghost use Rattle.basic_solution.specs.RowTotals.{IsSmallNumber, IsRowTotal};
+ghost use Rattle.basic_solution.specs.RowTotals.{IsSmallNumber};
+ghost use Rattle.basic_solution.specs.private.RowTotals.{IsRowTotal};
 
 use crate::sided::SidedBasis;
 use frac128::Frac;

@@ -8,7 +8,8 @@ ghost use Rattle.row_tableau.specs.Relaxations.{HasFewCuts};
 ghost use Rattle.basic_solution.specs.Held.{relaxation, table};
 ghost use Rattle.row_tableau.specs.Tilts.{KeepsFree};
 ghost use Rattle.basic_solution.specs.ListedStates.{StandsNowhere};
-ghost use Rattle.basic_solution.specs.Slack.{IsSlackState, IsSlackAnswer, IsPlaced, IsMisplaced, IsStandAnswer, IsRestood};
+ghost use Rattle.basic_solution.specs.Slack.{IsSlackState, IsSlackAnswer, IsPlaced};
+ghost use Rattle.basic_solution.specs.private.Slack.{IsMisplaced, IsStandAnswer, IsRestood};
 
 use crate::priced::Costs;
 use crate::sided::SidedBasis;

@@ -8,7 +8,8 @@ use Rattle.branch_tree.specs.Tree.{Leaf, Split, EachSplit, node_count, split_cou
 use Rattle.branch_tree.specs.Plain.{nodes_with}
 use Rattle.branch_tree.specs.Leaves.{open_count, one_if_open}
 use Rattle.branch_tree.specs.Preorder.{SplitData, DataTree, data_nodes, numbered_from, HasNodeBound}
-use Rattle.branch_tree.specs.Table.{node_at, AreBelow, IsNodeTable, AreLive, PutsNode}
+use Rattle.branch_tree.specs.Table.{node_at, AreBelow, IsNodeTable, AreLive}
+use Rattle.branch_tree.specs.private.Table.{PutsNode}
 use Rattle.branch_tree.specs.Stored.{root_id, left_up, right_up, split_node, Stands}
 use Rattle.branch_tree.specs.Numbered.{IsCounted}
 use Rattle.branch_tree.specs.Held.{Means}

@@ -11,9 +11,12 @@ use Rattle.branch_tree.specs.Leaves.{open_count}
 use Rattle.branch_tree.specs.declared.stored.Up.{Up}
 use Rattle.branch_tree.specs.declared.stored.TreeNode.{TreeNode}
 use Rattle.branch_tree.specs.declared.table.NodeTable.{NodeTable}
-use Rattle.branch_tree.specs.Table.{node_at, IsNodeTable, PutsNode}
-use Rattle.branch_tree.specs.Stored.{root_id, up_of, left_up, right_up, split_node, Stands, renamed, with_child, collapsed_node}
-use Rattle.branch_tree.specs.Held.{HoldsTree, CanCollapse}
+use Rattle.branch_tree.specs.Table.{node_at, IsNodeTable}
+use Rattle.branch_tree.specs.private.Table.{PutsNode}
+use Rattle.branch_tree.specs.Stored.{root_id, up_of, left_up, right_up, split_node, Stands}
+use Rattle.branch_tree.specs.private.Stored.{renamed, with_child, collapsed_node}
+use Rattle.branch_tree.specs.Held.{HoldsTree}
+use Rattle.branch_tree.specs.private.Held.{CanCollapse}
 use Rattle.branch_tree.specs.private.Due.{AreDue, nodes_among, node_total, open_total, AreCut}
 use Rattle.branch_tree.proofs.CountLemmas.{same_cases, same_other}
 use Rattle.branch_tree.proofs.IdLemmas.{splits-collapsed}

@@ -9,7 +9,8 @@ use Rattle.branch_tree.specs.Leaves.{open_count}
 use Rattle.branch_tree.specs.Plain.{SplitKept, Plain, one_if_same, leaves_with, splits_with, nodes_with, collapsed}
 use Rattle.branch_tree.specs.declared.stored.Up.{Up}
 use Rattle.branch_tree.specs.declared.stored.TreeNode.{TreeNode}
-use Rattle.branch_tree.specs.Stored.{root_id, up_of, left_up, right_up, leaf_node, split_node, Stands, renamed, with_child, collapsed_node}
+use Rattle.branch_tree.specs.Stored.{root_id, up_of, left_up, right_up, leaf_node, split_node, Stands}
+use Rattle.branch_tree.specs.private.Stored.{renamed, with_child, collapsed_node}
 use Rattle.branch_tree.proofs.CountLemmas.{same_cases, split_case}
 use Rattle.branch_tree.proofs.IdLemmas.{collapsed-none}
 use Rattle.branch_tree.proofs.StoredLemmas.{same_self, root_node, root-found, root-there}

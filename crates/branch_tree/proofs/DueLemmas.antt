@@ -11,7 +11,7 @@ use Rattle.branch_tree.specs.declared.stored.Up.{Up}
 use Rattle.branch_tree.specs.declared.stored.SplitNode.{SplitNode}
 use Rattle.branch_tree.specs.declared.stored.TreeNode.{TreeNode}
 use Rattle.branch_tree.specs.declared.stored.NodeKind.TheVariants as node
-use Rattle.branch_tree.specs.Table.{PutsNode}
+use Rattle.branch_tree.specs.private.Table.{PutsNode}
 use Rattle.branch_tree.specs.Stored.{root_id, left_up, right_up, Stands}
 use Rattle.branch_tree.specs.private.Due.{AreDue, nodes_among, node_total, open_total, AreCut}
 use Rattle.branch_tree.proofs.CountLemmas.{same_other}

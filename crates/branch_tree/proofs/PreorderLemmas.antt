@@ -7,7 +7,8 @@ use Rattle.std.proofs.lemmas.List.Elements.{All-head, All-tail, All-nil, All-con
 use Rattle.branch_tree.specs.Tree.{Leaf, Split, EachSplit, node_count}
 use Rattle.branch_tree.specs.Plain.{Plain, nodes_with, preorder}
 use Rattle.branch_tree.specs.Numbered.{IsCounted}
-use Rattle.branch_tree.specs.Preorder.{DataTree, data_nodes, without_id, without_ids, numbered_from, numbered_tree, HasNodeBound}
+use Rattle.branch_tree.specs.Preorder.{DataTree, data_nodes, without_ids, numbered_from, numbered_tree, HasNodeBound}
+use Rattle.branch_tree.specs.private.Preorder.{without_id}
 use Rattle.branch_tree.specs.declared.node.NodeData.{NodeData}
 use Rattle.branch_tree.specs.declared.node.NodeData.TheVariants.{Split as SplitNode}
 use Rattle.branch_tree.proofs.CountLemmas.{nodes-splits, same_cases, same_at_most_one, same_other}

@@ -15,7 +15,8 @@ use Rattle.branch_tree.specs.declared.stored.TreeNode.{TreeNode}
 use Rattle.branch_tree.specs.declared.table.IdKey.{IdKey}
 use Rattle.branch_tree.specs.declared.table.NodeTable.{NodeTable}
 use Rattle.branch_tree.specs.declared.tree.Tree.TheInside.{Inside}
-use Rattle.branch_tree.specs.Table.{key_of, node_under, node_with, node_at, AreRisingIds, AreBelow, IsNodeTable, IsLive, AreLive, PutsNode}
+use Rattle.branch_tree.specs.Table.{key_of, node_under, node_with, node_at, AreRisingIds, AreBelow, IsNodeTable, IsLive, AreLive}
+use Rattle.branch_tree.specs.private.Table.{PutsNode}
 use Rattle.branch_tree.specs.Stored.{root_id, left_up, right_up, split_node, Stands}
 use Rattle.branch_tree.specs.Held.{plain_of, numbered_of, Means, IsHeldTree}
 use Rattle.branch_tree.specs.private.Relisted.{up_left_by, node_left_by, lists_left_by, tree_left_by}

@@ -9,7 +9,8 @@ use Rattle.branch_tree.specs.Leaves.{open_count}
 use Rattle.branch_tree.specs.Plain.{Plain, one_if_same, nodes_with}
 use Rattle.branch_tree.specs.private.Splicing.{spliced}
 use Rattle.branch_tree.specs.private.Moved.{with_up}
-use Rattle.branch_tree.specs.Stored.{root_id, up_of, left_up, right_up, split_node, Stands, renamed, with_child, plain_from}
+use Rattle.branch_tree.specs.Stored.{root_id, up_of, left_up, right_up, split_node, Stands, plain_from}
+use Rattle.branch_tree.specs.private.Stored.{renamed, with_child}
 use Rattle.branch_tree.specs.private.Spliced.{allowing, TreeContext, Here, InLeft, InRight, filled, way_in, nodes_around, splits_over}
 use Rattle.branch_tree.specs.declared.stored.Up.{Up}
 use Rattle.branch_tree.specs.declared.stored.TreeNode.{TreeNode}

@@ -13,7 +13,8 @@ use Rattle.branch_tree.specs.declared.stored.TreeNode.{TreeNode}
 use Rattle.branch_tree.specs.declared.stored.NodeKind.TheVariants as node
 use Rattle.branch_tree.specs.declared.table.NodeTable.{NodeTable}
 use Rattle.branch_tree.specs.Table.{node_at}
-use Rattle.branch_tree.specs.Stored.{root_id, left_up, right_up, Stands, with_child, plain_from}
+use Rattle.branch_tree.specs.Stored.{root_id, left_up, right_up, Stands, plain_from}
+use Rattle.branch_tree.specs.private.Stored.{with_child}
 use Rattle.branch_tree.specs.Held.{HoldsTree}
 use Rattle.branch_tree.specs.private.Due.{AreDue, nodes_among, node_total}
 use Rattle.branch_tree.specs.private.Splicing.{spliced}

@@ -7,7 +7,8 @@ use Rattle.slab.specs.Slab.{slab_len}
 use Rattle.branch_tree.specs.Tree.{Leaf, Split, node_count, split_count}
 use Rattle.branch_tree.specs.Plain.{SplitKept, LeafKept, Plain, one_if_same, nodes_with}
 use Rattle.branch_tree.specs.Leaves.{leaf_count, open_count, one_if_open, with_states}
-use Rattle.branch_tree.specs.Table.{node_at, AreBelow, IsNodeTable, AreLive, PutsNode}
+use Rattle.branch_tree.specs.Table.{node_at, AreBelow, IsNodeTable, AreLive}
+use Rattle.branch_tree.specs.private.Table.{PutsNode}
 use Rattle.branch_tree.specs.Stored.{root_id, left_up, right_up, leaf_node, split_node, Stands}
 use Rattle.branch_tree.specs.Held.{HoldsTree, plain_of, numbered_of, Means, IsHeldTree}
 use Rattle.branch_tree.specs.private.StateWalk.{node_with_state, children_of, TakesStates}

@@ -7,7 +7,8 @@ use Rattle.slab.specs.Slab.{Slab, get, Updates}
 use Rattle.branch_tree.specs.declared.stored.TreeNode.{TreeNode}
 use Rattle.branch_tree.specs.declared.table.IdKey.{IdKey}
 use Rattle.branch_tree.specs.declared.table.NodeTable.{NodeTable}
-use Rattle.branch_tree.specs.Table.{key_of, node_with, node_under, node_at, AreAbove, AreBelow, AreRisingIds, IsNodeTable, IsLive, AreLive, PutsNode}
+use Rattle.branch_tree.specs.Table.{key_of, node_with, node_under, node_at, AreAbove, AreBelow, AreRisingIds, IsNodeTable, IsLive, AreLive}
+use Rattle.branch_tree.specs.private.Table.{PutsNode}
 
 -- ---- the map
 

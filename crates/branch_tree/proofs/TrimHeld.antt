@@ -1,6 +1,6 @@
 -- The invariant after the chosen splits are made open leaves.
 use Rattle.std.specs.Prelude.{◌≡◌, ℕ, ◌+◌, ◌^◌, ◌<◌, ◌≤◌, vec_len, vec_capacity, []}
-use Rattle.std.proofs.Common.{sym, ap, subst, ◌∙◌, arith}
+use Rattle.std.proofs.Common.{refl, sym, ap, subst, ◌∙◌, arith}
 use Rattle.slab.specs.Slab.{slab_len}
 use Rattle.branch_tree.specs.Tree.{node_count}
 use Rattle.branch_tree.specs.Plain.{Plain}
@@ -20,12 +20,12 @@ use Rattle.branch_tree.proofs.CountLemmas.{nodes-splits}
 use Rattle.branch_tree.proofs.IdLemmas.{splits-trimmed}
 use Rattle.branch_tree.proofs.NumberedLaws.{ids-after_trim, numbered-after_trim}
 use Rattle.branch_tree.proofs.FollowLemmas.{splits-merged, ids-merged, numbered-merged}
-use Rattle.branch_tree.proofs.CollapseLemmas.{count-depth, collapsed-depth, count-column, collapsed-column}
+use Rattle.branch_tree.proofs.CollapseLemmas.{count-column, collapsed-column}
 use Rattle.branch_tree.proofs.CollapseHeld.{of-swept}
 
 -- what is chosen by a depth is a trim, and by a column a merge
 pub is-trim : (T : NumberedTree) (depth : ℕ) → after_chosen T AtDepth depth ≡ after_trim T depth
-is-trim T depth = λ k. record { root = collapsed-depth depth T.last T.root k; last = T.last + count-depth depth T.root k; limit = T.limit }
+is-trim T depth = refl
 
 pub is-merge : (T : NumberedTree) (col depth : ℕ) → after_chosen T (OnColumn col) depth ≡ tree_merged col T
 is-merge T col depth = λ k. record { root = collapsed-column col depth T.last T.root k; last = T.last + count-column col depth T.root k; limit = T.limit }

@@ -9,8 +9,10 @@ use Rattle.branch_tree.specs.Leaves.{open_count}
 use Rattle.branch_tree.specs.private.Collapsing.{is_chosen, chosen_count, chosen_collapsed, chosen_ids}
 use Rattle.branch_tree.specs.private.Trimming.{is_split_kind, is_chosen_kind, children_due, AreTreesDue, ids_due, CanTrim}
 use Rattle.branch_tree.specs.Table.{node_at, AreBelow}
-use Rattle.branch_tree.specs.Stored.{root_id, left_up, right_up, Stands, with_child, plain_from}
-use Rattle.branch_tree.specs.Held.{HoldsTree, CanCollapse}
+use Rattle.branch_tree.specs.Stored.{root_id, left_up, right_up, Stands, plain_from}
+use Rattle.branch_tree.specs.private.Stored.{with_child}
+use Rattle.branch_tree.specs.Held.{HoldsTree}
+use Rattle.branch_tree.specs.private.Held.{CanCollapse}
 use Rattle.branch_tree.specs.private.Due.{nodes_among, node_total}
 use Rattle.branch_tree.specs.declared.walks.Chosen.{Chosen}
 use Rattle.branch_tree.specs.declared.lists.Due.{Due}
@@ -170,7 +172,7 @@ module _ (chosen : Chosen) (depth last0 : ℕ) (T0 : Plain) (t : NodeTable) (roo
       node-is = let one : Some n ≡ Some (root_node next.up next.tree) = sym found ∙ next-at in cc
 
       -- a leaf is done, and of a split that is not chosen the children are due
-      pub trim-below : is_chosen_kind chosen d.depth n.id n.kind ≡ false → (more : List Due) → more ≡ children_due d.depth n.kind fewer → IsTrimStep h.rest chosen depth last0 T0 t root opens (reverse more) last
+      pub trim-below : is_chosen_kind chosen d.depth n.kind ≡ false → (more : List Due) → more ≡ children_due d.depth n.kind fewer → IsTrimStep h.rest chosen depth last0 T0 t root opens (reverse more) last
       trim-below not more is = by next.tree next.stands next.whole node-is ids-next
         where
           by : (s : Plain) → Stands (node_at t) next.up s → h.rest ≡ s ∷ next.rest → n ≡ root_node next.up s → chosen_ids chosen depth h.tree ≡ chosen_ids chosen d.depth s ++ ids_due chosen (reverse fewer) next.rest
@@ -200,7 +202,7 @@ module _ (chosen : Chosen) (depth last0 : ℕ) (T0 : Plain) (t : NodeTable) (roo
               let high : Due = record { id = root_id right; depth = d.depth - 1 } in
               let due_is : reverse more ≡ low ∷ high ∷ reverse fewer =
               ap reverse (is ∙ ap (λ (m : TreeNode). children_due d.depth m.kind fewer) node) ∙ reverse-append (fewer ++ high ∷ []) (low ∷ []) ∙ ap (λ l. low ∷ l) (reverse-append fewer (high ∷ [])) in
-              let other : is_chosen chosen d.depth kept.id j ≡ false = ap (λ (m : TreeNode). is_chosen_kind chosen d.depth m.id m.kind) (sym node) ∙ not in
+              let other : is_chosen chosen d.depth j ≡ false = ap (λ (m : TreeNode). is_chosen_kind chosen d.depth m.kind) (sym node) ∙ not in
               let parts : chosen_ids chosen d.depth (Split kept j v left right) ≡ chosen_ids chosen (d.depth - 1) left ++ chosen_ids chosen (d.depth - 1) right =
               ap (λ c. if c then kept.id ∷ [] else chosen_ids chosen (d.depth - 1) left ++ chosen_ids chosen (d.depth - 1) right) other in
               let total : node_total h.rest ≡ node_count left + node_count right + 1 + node_total next.rest = ap node_total whole in
@@ -234,14 +236,14 @@ module _ (chosen : Chosen) (depth last0 : ℕ) (T0 : Plain) (t : NodeTable) (roo
               omega (arith, total, h.total, count-some left, count-some right, due-few (node_at t) (reverse fewer) next.rest next.due, length-reverse fewer)
 
       -- a split that is chosen is the first of those that are left
-      module _ (is : is_chosen_kind chosen d.depth n.id n.kind ≡ true) where
+      module _ (is : is_chosen_kind chosen d.depth n.kind ≡ true) where
         first-is : chosen_ids chosen depth h.tree ≡ d.id ∷ ids_due chosen (reverse fewer) next.rest
         first-is = by next.tree next.rooted node-is ids-next
           where
             by : (s : Plain) → root_id s ≡ d.id → n ≡ root_node next.up s → chosen_ids chosen depth h.tree ≡ chosen_ids chosen d.depth s ++ ids_due chosen (reverse fewer) next.rest → chosen_ids chosen depth h.tree ≡ d.id ∷ ids_due chosen (reverse fewer) next.rest
-            by (Leaf l) named node ids = absurd (let other : is_chosen_kind chosen d.depth n.id n.kind ≡ false = ap (λ (m : TreeNode). is_chosen_kind chosen d.depth m.id m.kind) node in cc)
+            by (Leaf l) named node ids = absurd (let other : is_chosen_kind chosen d.depth n.kind ≡ false = ap (λ (m : TreeNode). is_chosen_kind chosen d.depth m.kind) node in cc)
             by (Split kept j v left right) named node ids =
-                let here : is_chosen chosen d.depth kept.id j ≡ true = ap (λ (m : TreeNode). is_chosen_kind chosen d.depth m.id m.kind) (sym node) ∙ is in
+                let here : is_chosen chosen d.depth j ≡ true = ap (λ (m : TreeNode). is_chosen_kind chosen d.depth m.kind) (sym node) ∙ is in
                 let one : chosen_ids chosen d.depth (Split kept j v left right) ≡ kept.id ∷ [] = ap (λ c. if c then kept.id ∷ [] else chosen_ids chosen (d.depth - 1) left ++ chosen_ids chosen (d.depth - 1) right) here in
                 ids ∙ ap (λ l. l ++ ids_due chosen (reverse fewer) next.rest) one ∙ ap (λ i. i ∷ ids_due chosen (reverse fewer) next.rest) named
 

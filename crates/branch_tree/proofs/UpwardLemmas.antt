@@ -12,7 +12,8 @@ use Rattle.branch_tree.specs.Plain.{LeafKept, Plain, leaves_with, path_below, pa
 use Rattle.branch_tree.specs.declared.stored.Up.{Up}
 use Rattle.branch_tree.specs.declared.stored.TreeNode.{TreeNode}
 use Rattle.branch_tree.specs.declared.upward.Turn.{Turn}
-use Rattle.branch_tree.specs.Stored.{change_of, left_up, right_up, leaf_node, split_node, root_id, Stands, leaf_of, leaf_of_kind}
+use Rattle.branch_tree.specs.Stored.{left_up, right_up, leaf_node, split_node, root_id, Stands}
+use Rattle.branch_tree.specs.private.Stored.{change_of, leaf_of, leaf_of_kind}
 use Rattle.branch_tree.specs.Table.{node_at}
 use Rattle.branch_tree.specs.Held.{plain_of, IsHeldTree}
 use Rattle.branch_tree.specs.declared.node.LeafData.{LeafData}

@@ -10,3 +10,7 @@ pub mod Spliced
 pub mod Splicing
 pub mod StateWalk
 pub mod Trimming
+pub mod Held
+pub mod Preorder
+pub mod Stored
+pub mod Table

@@ -4,7 +4,8 @@ ghost use Rattle.std.specs.Option.{option_map};
 ghost use Rattle.slab.specs.Slab.{slab_len};
 ghost use Rattle.branch_tree.specs.private.Removing.{HasCounts};
 ghost use Rattle.branch_tree.specs.private.Relisted.{column_left_by, up_left_by, split_left_by, kind_left_by, node_left_by, tree_left_by};
-ghost use Rattle.branch_tree.specs.Table.{node_at, IsNodeTable, AreLive, PutsNode};
+ghost use Rattle.branch_tree.specs.Table.{node_at, IsNodeTable, AreLive};
+ghost use Rattle.branch_tree.specs.private.Table.{PutsNode};
 ghost use Rattle.branch_tree.specs.declared.table.IdKey.{IdKey};
 
 use crate::copying::split_of_lists;

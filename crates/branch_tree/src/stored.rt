@@ -3,7 +3,8 @@
 ghost use Rattle.std.specs.Prelude.{◌≡◌, ◌-◌, ◌^◌, ◌<ℤ◌, pos, Some, IfOk};
 ghost use Rattle.branch_tree.specs.Plain.{open_data};
 ghost use Rattle.branch_tree.specs.Leaves.{one_if_open};
-ghost use Rattle.branch_tree.specs.Stored.{up_of, change_of, left_up, right_up, leaf_node};
+ghost use Rattle.branch_tree.specs.Stored.{up_of, left_up, right_up, leaf_node};
+ghost use Rattle.branch_tree.specs.private.Stored.{change_of};
 
 use crate::node::{LeafData, LeafState, copy_lists, open_data};
 use lp_model::{Basis, BoundChange, ColId, Mult, Side};

@@ -11,10 +11,11 @@ ghost use Rattle.branch_tree.specs.declared.node.LeafData.{LeafData};
 ghost use Rattle.branch_tree.specs.declared.stored.SplitNode.{SplitNode};
 ghost use Rattle.branch_tree.specs.declared.stored.TreeNode.{TreeNode};
 ghost use Rattle.branch_tree.specs.Leaves.{one_if_open};
-ghost use Rattle.branch_tree.specs.Stored.{leaf_of, split_of, with_child};
+ghost use Rattle.branch_tree.specs.private.Stored.{leaf_of, split_of, with_child};
 ghost use Rattle.branch_tree.specs.private.Moved.{with_up};
 ghost use Rattle.branch_tree.specs.private.StateWalk.{node_with_state};
-ghost use Rattle.branch_tree.specs.Table.{key_of, node_at, AreRisingIds, AreBelow, IsNodeTable, IsLive, AreLive, PutsNode};
+ghost use Rattle.branch_tree.specs.Table.{key_of, node_at, AreRisingIds, AreBelow, IsNodeTable, IsLive, AreLive};
+ghost use Rattle.branch_tree.specs.private.Table.{PutsNode};
 
 use crate::node::{LeafData, LeafState};
 use crate::stored::{NodeKind, TreeNode, Up, is_open};

@@ -18,11 +18,11 @@ use std::alloc::Global;
 
 /// Whether a node is a split that becomes an open leaf, where the depth has been counted down to this one.
 fn is_chosen(chosen: Chosen, depth: u64, node: &TreeNode) -> bool
-    ensures { result ≡ is_chosen_kind chosen depth node.now.id node.now.kind }
+    ensures { result ≡ is_chosen_kind chosen depth node.now.kind }
 {
     match &node.kind {
         NodeKind::Leaf(_) => false,
-        NodeKind::Split(split) => chosen.has(node.id, split.col.0, depth),
+        NodeKind::Split(split) => chosen.has(split.col.0, depth),
     }
 }
 

@@ -1,3 +1,4 @@
 pub mod Names
 pub mod Options
 pub mod Asks
+pub mod private

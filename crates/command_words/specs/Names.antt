@@ -27,25 +27,6 @@ command_of word =
     else if bytes_eq word (codes "quit") then Some Quit
     else None
 
--- the command that a word names which names none up to `lbobj`
-abbrev pub command_behind_lbobj : List ℕ → Option CommandName
-command_behind_lbobj word =
-    if bytes_eq word (codes "ubrhs") then Some (Bound Upper Sides)
-    else if bytes_eq word (codes "ubobj") then Some (Bound Upper Costs)
-    else if bytes_eq word (codes "cert") then Some Cert
-    else if bytes_eq word (codes "write") then Some Write
-    else if bytes_eq word (codes "quit") then Some Quit
-    else None
-
--- the command that a word names which names none up to `trim`
-abbrev pub command_behind_trim : List ℕ → Option CommandName
-command_behind_trim word =
-    if bytes_eq word (codes "save") then Some Save
-    else if bytes_eq word (codes "restore") then Some Restore
-    else if bytes_eq word (codes "lbrhs") then Some (Bound Lower Sides)
-    else if bytes_eq word (codes "lbobj") then Some (Bound Lower Costs)
-    else command_behind_lbobj word
-
 abbrev pub is_file_name_byte : ℕ → Bool
 is_file_name_byte byte =
     (nat_le 97 byte && nat_le byte 122) || (nat_le 65 byte && nat_le byte 90) || (nat_le 48 byte && nat_le byte 57)

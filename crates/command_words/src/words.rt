@@ -1,7 +1,8 @@
 // What the words of a line ask for.
 ghost use Rattle.std.specs.Prelude.{◌≡◌, true, map, [], ◌∷◌};
 ghost use Rattle.std.specs.List.{list_all};
-ghost use Rattle.command_words.specs.Names.{command_of, command_behind_trim, command_behind_lbobj, begins_name, is_file_name_byte, is_file_name, whole_number_of};
+ghost use Rattle.command_words.specs.Names.{command_of, begins_name, is_file_name_byte, is_file_name, whole_number_of};
+ghost use Rattle.command_words.specs.private.Names.{command_behind_trim, command_behind_lbobj};
 ghost use Rattle.command_words.specs.Asks.{Trim, with_number, asks_of, asks_shown, load_asks, restore_asks, trim_asks, search_asks, begun_asks, solve_asks, warm_asks, filed_asks, file_asks, save_asks, cert_asks, write_asks, quit_asks, known_asks, IsAskable};
 
 use crate::options::{ANY_OPTION, NO_OPTION, SearchOptions, are_options, options_asked};

@@ -16,7 +16,8 @@ use Rattle.lp_model.proofs.SideLemmas.{needed-positive, needed-negative}
 use Rattle.cover_cuts.specs.Covers.{side_coefficient, IsBinary, AreLiterals, number_at_one, literal_number, number_else, least_number}
 use Rattle.cut_find.specs.Greedy.{is_plus, literal_at, is_in, literals_below, cover_of, places_without}
 use Rattle.cut_find.specs.RowEntries.{AreNone}
-use Rattle.cut_find.specs.WholeSides.{IsCandidateColumn, AreCandidateColumns, contributions, cover_sum}
+use Rattle.cut_find.specs.WholeSides.{IsCandidateColumn, AreCandidateColumns, cover_sum}
+use Rattle.cut_find.specs.private.WholeSides.{contributions}
 use Rattle.cut_find.proofs.RowLemmas.{across, side_none}
 use Rattle.cut_find.proofs.SumLemmas.{sum_changed}
 

@@ -19,7 +19,8 @@ use Rattle.leaf_dual.specs.Wholes.{IsFactor, IsDenominator}
 use Rattle.cut_find.specs.declared.whole_side.Sums.{Sums}
 use Rattle.cut_find.specs.declared.whole_side.WholeSide.{WholeSide}
 use Rattle.cut_find.specs.Greedy.{is_in, literals_below, cover_of, TakesGreedily}
-use Rattle.cut_find.specs.WholeSides.{IsCandidateColumn, AreCandidateColumns, IsNeverCovered, IsFoundInOrder, cover_sum, AreSumsTo, IsWholeSide}
+use Rattle.cut_find.specs.WholeSides.{IsCandidateColumn, AreCandidateColumns, IsFoundInOrder, cover_sum, IsWholeSide}
+use Rattle.cut_find.specs.private.WholeSides.{IsNeverCovered, AreSumsTo}
 use Rattle.cut_find.proofs.CoverLemmas.{in_all, nothing_below, least_some, least_out, literals_lawful}
 use Rattle.cut_find.proofs.SumLemmas.{quotient-less, quotient-not_less}
 

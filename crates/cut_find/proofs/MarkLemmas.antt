@@ -18,7 +18,8 @@ use Rattle.cut_find.specs.declared.whole_side.Mark.{Mark}
 use Rattle.cut_find.specs.declared.whole_side.WholeSide.{WholeSide}
 use Rattle.cut_find.specs.Greedy.{is_in, places_without}
 use Rattle.cut_find.specs.RowEntries.{AreNone, IsNextEntry}
-use Rattle.cut_find.specs.WholeSides.{IsCandidateColumn, AreCandidateColumns, IsMarkOf, mark_at, AreMarksTo, AreMarksOf, cover_sum, IsWholeCover}
+use Rattle.cut_find.specs.WholeSides.{IsCandidateColumn, AreCandidateColumns, IsMarkOf, mark_at, AreMarksTo, AreMarksOf, cover_sum}
+use Rattle.cut_find.specs.private.WholeSides.{IsWholeCover}
 use Rattle.cut_find.proofs.CoverLemmas.{in_pushed, in_other, without_same, without_other, changed_up, changed_down}
 use Rattle.cut_find.proofs.RowLemmas.{side_none}
 

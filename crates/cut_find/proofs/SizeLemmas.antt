@@ -19,7 +19,7 @@ use Rattle.leaf_dual.proofs.WholeLemmas.{total_more, fits_more_over, zero_over}
 use Rattle.cut_find.specs.declared.whole_side.Sums.{Sums}
 use Rattle.cut_find.specs.Greedy.{is_plus, is_in}
 use Rattle.cut_find.specs.RowEntries.{AreNone}
-use Rattle.cut_find.specs.WholeSides.{contributions, IsSumWithin, AreSumsTo}
+use Rattle.cut_find.specs.private.WholeSides.{contributions, IsSumWithin, AreSumsTo}
 use Rattle.cut_find.proofs.RowLemmas.{across, side_none}
 use Rattle.cut_find.proofs.CoverLemmas.{number_in, number_out}
 use Rattle.cut_find.proofs.SumLemmas.{turned_term}

@@ -10,7 +10,8 @@ use Rattle.leaf_dual.specs.Wholes.{HasRoomForProduct}
 use Rattle.cut_find.specs.declared.whole_side.Mark.{Mark}
 use Rattle.cut_find.specs.declared.whole_side.WholeSide.{WholeSide}
 use Rattle.cut_find.specs.Greedy.{TakesGreedily, places_without, Drops}
-use Rattle.cut_find.specs.WholeSides.{IsCandidateColumn, AreCandidateColumns, mark_at, AreMarksOf, cover_sum, IsWholeSide, IsWholeCover, IsTaken, IsDropped}
+use Rattle.cut_find.specs.WholeSides.{IsCandidateColumn, AreCandidateColumns, mark_at, AreMarksOf, cover_sum, IsWholeSide}
+use Rattle.cut_find.specs.private.WholeSides.{IsWholeCover, IsTaken, IsDropped}
 use Rattle.cut_find.proofs.GreedyLemmas.{takes-step, takes-end, drops-step, drops-end}
 use Rattle.cut_find.proofs.JudgeLemmas.{judged_true, judged_false}
 use Rattle.cut_find.proofs.MarkLemmas.{without_candidates, without_sum, cover_pushed, cover_without}

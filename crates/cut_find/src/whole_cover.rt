@@ -5,7 +5,8 @@ ghost use Rattle.cover_cuts.specs.Covers.{side_limit};
 ghost use Rattle.leaf_dual.specs.Wholes.{IsFactor, HasRoomForProduct};
 ghost use Rattle.cut_find.specs.Greedy.{cover_of};
 ghost use Rattle.cut_find.specs.RowEntries.{AreEntriesOf};
-ghost use Rattle.cut_find.specs.WholeSides.{AreCandidateColumns, IsFoundInOrder, AreMarksOf, mark_at, IsWholeSide, IsWholeCover, IsTakingAnswer, IsLeftOver, IsDropped};
+ghost use Rattle.cut_find.specs.WholeSides.{AreCandidateColumns, IsFoundInOrder, AreMarksOf, mark_at, IsWholeSide};
+ghost use Rattle.cut_find.specs.private.WholeSides.{IsWholeCover, IsTakingAnswer, IsLeftOver, IsDropped};
 
 use crate::candidates::RowSide;
 use crate::greedy_cover::violated;

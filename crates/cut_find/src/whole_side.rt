@@ -7,7 +7,8 @@ ghost use Rattle.lp_model.specs.Sides.{needed_side};
 ghost use Rattle.cover_cuts.specs.Covers.{side_coefficient, side_limit};
 ghost use Rattle.leaf_dual.specs.Wholes.{IsFactor, IsDenominator};
 ghost use Rattle.cut_find.specs.RowEntries.{AreEntriesOf};
-ghost use Rattle.cut_find.specs.WholeSides.{AreMarksOf, AreSumsTo, IsWholeSide};
+ghost use Rattle.cut_find.specs.WholeSides.{AreMarksOf, IsWholeSide};
+ghost use Rattle.cut_find.specs.private.WholeSides.{AreSumsTo};
 
 use crate::candidates::RowSide;
 use cover_cuts::signed;

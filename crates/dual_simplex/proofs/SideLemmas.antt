@@ -6,7 +6,7 @@ use Rattle.lp_model.specs.declared.types.WideStep.{WideStep}
 use Rattle.table_entries.proofs.BringIn.{basic_within}
 use Rattle.basic_solution.specs.Held.{Held, IsSided, relaxation, table, variables}
 use Rattle.basic_solution.specs.Numbers.{ValueFits, IsInside}
-use Rattle.dual_simplex.specs.Answers.{AreInside, IsVisited, IsLeaving}
+use Rattle.dual_simplex.specs.private.Answers.{AreInside, IsVisited, IsLeaving}
 use Rattle.dual_simplex.specs.declared.leaving.Leaving.{Leaving}
 
 pub inside_more : (s : Held) (v : ℕ) → AreInside s v → IsVisited s v (Ok None) → AreInside s (v + 1)

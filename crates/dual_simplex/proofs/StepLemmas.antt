@@ -12,7 +12,8 @@ use Rattle.basic_solution.specs.Held.{Held, table, variables}
 use Rattle.basic_solution.specs.Numbers.{ValueFits, IsValuePlace, IsWideBasicValue}
 use Rattle.basic_solution.specs.Lists.{IsWideColumn}
 use Rattle.basic_solution.specs.Exchanges.{IsMove}
-use Rattle.dual_simplex.specs.Answers.{IsEntered, AreAllInside, HasLeaving, IsWideLeaving, IsLeaving, IsEntering, IsWideMove}
+use Rattle.dual_simplex.specs.Answers.{IsEntered, AreAllInside, HasLeaving, IsWideLeaving, IsWideMove}
+use Rattle.dual_simplex.specs.private.Answers.{IsLeaving, IsEntering}
 use Rattle.dual_simplex.specs.Moves.{IsMoved, IsBlocked}
 use Rattle.dual_simplex.specs.Walks.{IsWalkEnd}
 use Rattle.dual_simplex.specs.Solves.{IsWide}

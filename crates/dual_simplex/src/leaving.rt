@@ -4,7 +4,7 @@ ghost use Rattle.std.specs.Prelude.{◌≡◌, ◌<◌, ◌≤◌, IfSome};
 ghost use Rattle.basic_solution.specs.Held.{variables};
 ghost use Rattle.basic_solution.specs.Numbers.{IsRowBreach};
 ghost use Rattle.basic_solution.specs.CutTotals.{AreColumnTotals};
-ghost use Rattle.dual_simplex.specs.Answers.{AreInside, IsVisited, IsLeaving};
+ghost use Rattle.dual_simplex.specs.private.Answers.{AreInside, IsVisited, IsLeaving};
 
 use crate::state::LpState;
 use basic_solution::SidedBasis;

@@ -34,16 +34,6 @@ pub data EditAsks : Type 0 where
 
 -- ---- the kinds of edits, and their forms
 
--- the kinds that add, remove or replace a whole column or row
-abbrev pub whole_kind_of : List ℕ → Option EditKind
-whole_kind_of word =
-    if bytes_eq word (codes "addcol") then Some kind.AddCol
-    else if bytes_eq word (codes "delcol") then Some kind.DelCol
-    else if bytes_eq word (codes "addrow") then Some kind.AddRow
-    else if bytes_eq word (codes "delrow") then Some kind.DelRow
-    else if bytes_eq word (codes "replacerow") then Some kind.ReplaceRow
-    else None
-
 abbrev pub edit_kind_of : List ℕ → Option EditKind
 edit_kind_of word =
     if bytes_eq word (codes "cost") then Some kind.Cost

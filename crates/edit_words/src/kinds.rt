@@ -1,6 +1,7 @@
 // What an edit changes, and the form of its words.
 ghost use Rattle.std.specs.Prelude.{◌≡◌};
-ghost use Rattle.edit_words.specs.EditWords.{edit_kind_of, whole_kind_of, slots_of, has_pairs};
+ghost use Rattle.edit_words.specs.EditWords.{edit_kind_of, slots_of, has_pairs};
+ghost use Rattle.edit_words.specs.private.EditWords.{whole_kind_of};
 
 use crate::forms::Slot;
 use text_lines::is_word;

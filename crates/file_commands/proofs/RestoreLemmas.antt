@@ -19,7 +19,8 @@ use Rattle.command_files.specs.Reading.{HasText, ReadsText, refusal_text}
 use Rattle.command_files.specs.declared.reading.Refusal.{Refusal}
 use Rattle.command_files.specs.declared.reading.Refusal.TheVariants as refusal
 use Rattle.command_family.specs.State.{shell_state, HasScriptModel, HasOrder}
-use Rattle.file_commands.specs.Saving.{RestoresTo, TakesText, Taken, Faulty, Wanting, RestoresFile, RefusesFile, NoFile, LongFile, NoSearch, Unread, RestoreStep}
+use Rattle.file_commands.specs.Saving.{RestoresTo, RestoresFile, RefusesFile, NoFile, LongFile, NoSearch, Unread, RestoreStep}
+use Rattle.file_commands.specs.private.Saving.{TakesText, Taken, Faulty, Wanting}
 
 pub search-script : (S : PlainSearch) (env : PlainEnv) → IsScriptModel S.model → env ≡ without_answer S → HasScriptModel env
 search-script S env script is = subst HasScriptModel (sym is) script

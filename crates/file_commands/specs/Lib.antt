@@ -3,3 +3,4 @@ pub mod Writing
 pub mod Saving
 pub mod Family
 pub mod Laws
+pub mod private

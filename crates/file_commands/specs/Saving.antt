@@ -37,12 +37,6 @@ pub record RestoresFile (old : ShellState) (name reply : List ℕ) (new : ShellS
   pub ok : reply ≡ ok_text
   pub read : HasText old.files name (λ text. RestoresTo text new.env)
 
--- what a text is answered: the environment has the search that it states and holds no answer, or it stays and the reply tells why
-pub data TakesText (text : List ℕ) (old : PlainEnv) (reply : List ℕ) (new : PlainEnv) : Type 0 where
-  Taken : reply ≡ ok_text → RestoresTo text new → TakesText text old reply new
-  Faulty : (place : List ℕ) (code : ℕ) → IsFault text place code → reply ≡ warm_text place code → new ≡ old → TakesText text old reply new
-  Wanting : reply ≡ memory_text → new ≡ old → TakesText text old reply new
-
 -- why the file's search is not taken
 pub data RefusesFile (old : ShellState) (name reply : List ℕ) (new : ShellState) : Type 0 where
   NoFile : IsUnread old.files name old.faults new.faults → reply ≡ store_text → RefusesFile old name reply new

@@ -3,7 +3,8 @@ ghost use Rattle.std.specs.Prelude.{◌≡◌, true, [], OnOk, OnErr};
 ghost use Rattle.command_words.specs.Names.{is_file_name};
 ghost use Rattle.reply_texts.specs.Texts.{memory_text};
 ghost use Rattle.command_family.specs.State.{shell_state, HasScriptModel, HasOrder};
-ghost use Rattle.file_commands.specs.Saving.{TakesText, RestoreStep};
+ghost use Rattle.file_commands.specs.Saving.{RestoreStep};
+ghost use Rattle.file_commands.specs.private.Saving.{TakesText};
 
 use command_files::{read_text, write_refusal};
 use kept_env::Env;

@@ -8,7 +8,7 @@ use Rattle.std.proofs.Math.Nat.{mul-le-mul_right, pow-succ'}
 use Rattle.std.proofs.lemmas.Bool.Decides.{nat_tests}
 use Rattle.std.specs.Ordering.{nat_cmp, ordering_then}
 use Rattle.std.specs.declared.cmp.Ordering.{Ordering}
-use Rattle.frac_text.specs.Sides.{IsTrimmed, HasDigits}
+use Rattle.frac_text.specs.private.Sides.{IsTrimmed, HasDigits}
 use Rattle.frac_text.proofs.Cuts.{both, all_joined}
 use Rattle.frac_text.specs.Spelling.{is_digit, value_behind, value_of, is_empty, without_zeros}
 

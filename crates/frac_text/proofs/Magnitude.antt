@@ -23,7 +23,8 @@ use Rattle.frac_text.specs.declared.parsing.NumFault.{NumFault}
 use Rattle.frac_text.specs.declared.numeral.Side.{Side}
 use Rattle.frac_text.specs.declared.numeral.Side.TheVariants.{Above, Between, Below}
 use Rattle.frac_text.specs.declared.numeral.Numeral.TheVariants.{Wide as WideRead}
-use Rattle.frac_text.specs.Sides.{HasDigits, numeral_of, side_of, side_from, reaches}
+use Rattle.frac_text.specs.Sides.{numeral_of, side_of}
+use Rattle.frac_text.specs.private.Sides.{HasDigits, side_from, reaches}
 use Rattle.frac_text.proofs.DigitTerms.{value_behind-append, value_behind-between}
 
 -- a number of k digits is at least 10^n exactly where n is less than k

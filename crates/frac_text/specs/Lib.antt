@@ -1,3 +1,4 @@
 pub mod Spelling
 pub mod Parsing
 pub mod Sides
+pub mod private

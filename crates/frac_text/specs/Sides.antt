@@ -1,5 +1,5 @@
 -- What bytes spell, where a number that is too wide still counts by its size: it stands at 10^20 or above, at -10^20 or below, or between.
-use Rattle.std.specs.Prelude.{◌≢◌, ◌<◌, ◌≤◌, ◌-◌, ◌^◌, ℕ, Bool, if◌then◌else◌, List, [], ◌∷◌, pos}
+use Rattle.std.specs.Prelude.{◌-◌, ◌^◌, if◌then◌else◌, pos}
 use Rattle.frac128.specs.Rational.{ℚ, int, neg_ℚ, rational_le}
 use Rattle.frac_text.specs.Spelling.{Reading, Number, Wide, NoNumber}
 use Rattle.frac_text.specs.declared.numeral.Side.{Side}
@@ -21,20 +21,3 @@ abbrev pub numeral_of : Reading → Numeral
 numeral_of (Number x) = NumberRead x
 numeral_of (Wide x) = WideRead (side_of x)
 numeral_of NoNumber = NotNumber
-
--- whether a magnitude is 10^20 or more
-abbrev pub reaches : ℚ → Bool
-reaches x = rational_le far x
-
-abbrev pub side_from : Bool → Bool → Side
-side_from minus reached = if reached then (if minus then Below else Above) else Between
-
--- a number of k decimal digits, none of them for 0
-pub record HasDigits (n k : ℕ) : Type 0 where
-  pub below : n < 10 ^ k
-  pub above : n ≢ 0 → (0 < k) × (10 ^ (k - 1) ≤ n)
-
--- digits that do not begin with a zero
-abbrev pub IsTrimmed : List ℕ → Type 0
-IsTrimmed [] = Unit {0}
-IsTrimmed (digit ∷ digits) = 48 < digit

@@ -3,7 +3,7 @@ ghost use Rattle.std.specs.Prelude.{◌≡◌, ◌≢◌, ◌↔◌, ◌+◌, �
 ghost use Rattle.std.specs.List.{list_all};
 ghost use Rattle.std.specs.Ordering.{nat_cmp};
 ghost use Rattle.frac128.specs.Range.{largest};
-ghost use Rattle.frac_text.specs.Sides.{IsTrimmed, HasDigits};
+ghost use Rattle.frac_text.specs.private.Sides.{IsTrimmed, HasDigits};
 ghost use Rattle.frac_text.specs.Spelling.{are_digits, is_digit, is_empty, value_of, value_behind, without_zeros};
 
 use frac128::LARGEST;

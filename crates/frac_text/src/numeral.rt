@@ -4,8 +4,9 @@ ghost use Rattle.std.specs.List.{list_all};
 ghost use Rattle.frac128.specs.Rational.{int, ◌/ℚ◌};
 ghost use Rattle.frac128.specs.Range.{with_sign};
 ghost use Rattle.frac_text.specs.Spelling.{reading_of, is_digit, value_of, scaled};
-ghost use Rattle.frac_text.specs.Parsing.{AreDecimal, AreQuotient, decimal_says, quotient_says, decimal_coefficient, decimal_power};
-ghost use Rattle.frac_text.specs.Sides.{side_of, numeral_of, side_from, reaches};
+ghost use Rattle.frac_text.specs.private.Parts.{AreDecimal, AreQuotient, decimal_says, quotient_says, decimal_coefficient, decimal_power};
+ghost use Rattle.frac_text.specs.Sides.{side_of, numeral_of};
+ghost use Rattle.frac_text.specs.private.Sides.{side_from, reaches};
 
 use crate::digits::{compare_digits, significant};
 use crate::parsing::{decimal, exponent, mantissa, quotient};

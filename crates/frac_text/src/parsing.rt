@@ -4,7 +4,8 @@ ghost use Rattle.std.specs.List.{list_all};
 ghost use Rattle.frac128.specs.Rational.{int, ◌/ℚ◌};
 ghost use Rattle.frac128.specs.Range.{largest, with_sign};
 ghost use Rattle.frac_text.specs.Spelling.{is_digit, reading_of, signed, coefficient_of, value_of, without_zeros, scaled_reading};
-ghost use Rattle.frac_text.specs.Parsing.{parsed, decimal_says, quotient_says, AreDecimal, AreQuotient};
+ghost use Rattle.frac_text.specs.Parsing.{parsed};
+ghost use Rattle.frac_text.specs.private.Parts.{decimal_says, quotient_says, AreDecimal, AreQuotient};
 
 use crate::digits::{has_no_byte, value_of_digits, value_with_digits, without_end_zeros};
 use crate::spelling::{DecimalParts, Parts, QuotientParts, parts_of};

@@ -2,7 +2,7 @@
 ghost use Rattle.std.specs.Prelude.{◌≡◌, ◌≢◌, ◌++◌, if◌then◌else◌, true};
 ghost use Rattle.std.specs.List.{list_all, list_any, before_first, after_first};
 ghost use Rattle.frac_text.specs.Spelling.{are_digits, is_digit, is_minus, without_sign, value_of, slash_reading, plain_reading, reading_of};
-ghost use Rattle.frac_text.specs.Parsing.{marks, AreDecimal, AreQuotient, Say};
+ghost use Rattle.frac_text.specs.private.Parts.{marks, AreDecimal, AreQuotient, Say};
 
 use crate::digits::{are_all_digits, has_digits_alone, has_no_byte, has_zeros_alone};
 

@@ -8,7 +8,8 @@ use Rattle.lp_model.specs.declared.types.CutRow.{CutRow}
 use Rattle.lp_model.specs.declared.types.Derivation.{Derivation}
 use Rattle.lp_model.specs.declared.types.Edit.{Edit}
 use Rattle.cover_cuts.specs.Cuts.{IsCutOf}
-use Rattle.kept_cuts.specs.Kept.{goes_with, derivation_after, derivations_of, derivations_after, cut_at, one_if, gone_from, gone_with, KeepsCut, IsPoolAfter}
+use Rattle.kept_cuts.specs.Kept.{goes_with, derivation_after, derivations_of, derivations_after, cut_at, gone_from, gone_with, IsPoolAfter}
+use Rattle.kept_cuts.specs.private.Kept.{one_if, KeepsCut}
 
 -- ---- derivations
 

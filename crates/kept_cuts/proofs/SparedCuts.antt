@@ -25,7 +25,8 @@ use Rattle.lp_model.proofs.ChangedLaws.{length-changed_at, of_element-changed_at
 use Rattle.cover_cuts.specs.Covers.{signed_by_side, signed_side, side_limit, IsBinary, AreLiterals, literal_number, number_else, least_number}
 use Rattle.cover_cuts.specs.Answers.{DerivesWithRoom}
 use Rattle.cover_cuts.specs.Cuts.{cover_terms, cover_high, IsCutOf}
-use Rattle.kept_cuts.specs.Kept.{goes_with, derivation_after, KeepsCut}
+use Rattle.kept_cuts.specs.Kept.{goes_with, derivation_after}
+use Rattle.kept_cuts.specs.private.Kept.{KeepsCut}
 use Rattle.kept_cuts.specs.private.Spared.{spares}
 
 -- ---- what a derivation reads

@@ -2,7 +2,7 @@
 --     derivations_after       the derivations that stay, by the places that they name once a row or a column is taken out
 --     gone_with M e cuts      the places of the cuts that go with an edit
 --     IsPoolAfter             the cuts that stay, as they derive at the edited model
-use Rattle.std.specs.Prelude.{◌≡◌, ◌⊎◌, ℕ, suc, Bool, true, false, if◌then◌else◌, not, nat_eq, List, [], ◌∷◌, ◌++◌, map, filter}
+use Rattle.std.specs.Prelude.{◌≡◌, ℕ, suc, Bool, false, if◌then◌else◌, not, nat_eq, List, [], ◌∷◌, map, filter}
 use Rattle.std.specs.List.{list_any}
 use Rattle.lp_model.specs.Elements.{place_after}
 use Rattle.lp_model.specs.Program.{Program}
@@ -13,7 +13,7 @@ use Rattle.lp_model.specs.declared.types.Derivation.{Derivation}
 use Rattle.lp_model.specs.declared.types.Literal.{Literal}
 use Rattle.lp_model.specs.declared.types.Edit.{Edit}
 use Rattle.lp_model.specs.declared.types.Edit.TheVariants.{DelCol, DelRow}
-use Rattle.cover_cuts.specs.Cuts.{IsCutOf, IsPoolOf}
+use Rattle.cover_cuts.specs.Cuts.{IsPoolOf}
 
 -- ---- derivations
 
@@ -45,10 +45,6 @@ derivations_after M e ds = map (derivation_after M e) (filter (λ d. not (goes_w
 abbrev pub cut_at : ℕ → CutId
 cut_at k = record { 0 = k }
 
--- the place, where the flag is set
-abbrev pub one_if : Bool → ℕ → List CutId
-one_if b k = if b then cut_at k ∷ [] else []
-
 -- the places of the cuts that go, of which the first has place k
 abbrev pub gone_from : Program → Edit → ℕ → List CutRow → List CutId
 gone_from M e k [] = []
@@ -58,12 +54,6 @@ abbrev pub gone_with : Program → Edit → List CutRow → List CutId
 gone_with M e cuts = gone_from M e 0 cuts
 
 -- ---- pools
-
--- the cut of the derivation stands last, as it derives then, where it stays
-abbrev pub KeepsCut : Program → Edit → Program → Derivation → List CutRow → List CutRow → Type 0
-KeepsCut M e N d cuts cuts' =
-    ((goes_with M e d ≡ true) × (cuts' ≡ cuts))
-    ⊎ ((goes_with M e d ≡ false) × ((c : CutRow) × ((cuts' ≡ cuts ++ c ∷ []) × (c.from ≡ derivation_after M e d) × IsCutOf N c)))
 
 -- the pool after an edit: its cuts are those that stay, and each counts where it derives at the edited model
 pub record IsPoolAfter (M : Program) (e : Edit) (old : List CutRow) (N : Program) (new : List CutRow) : Type 0 where

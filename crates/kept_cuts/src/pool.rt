@@ -5,7 +5,8 @@ ghost use Rattle.lp_model.specs.Elements.{place_after};
 ghost use Rattle.lp_model.specs.Edits.{EditFits, edited};
 ghost use Rattle.lp_model.specs.declared.types.CutRow.{CutRow};
 ghost use Rattle.cover_cuts.specs.Cuts.{IsCutOf, IsPoolOf};
-ghost use Rattle.kept_cuts.specs.Kept.{names_column, goes_with, literal_after, derivation_after, one_if, gone_with, KeepsCut, IsPoolAfter};
+ghost use Rattle.kept_cuts.specs.Kept.{names_column, goes_with, literal_after, derivation_after, gone_with, IsPoolAfter};
+ghost use Rattle.kept_cuts.specs.private.Kept.{one_if, KeepsCut};
 ghost use Rattle.kept_cuts.specs.private.Spared.{spares};
 
 use crate::copies::copy_derivation;

@@ -9,7 +9,8 @@ use Rattle.lp_model.specs.Cuts.{is_live}
 use Rattle.lp_model.specs.declared.types.CutRow.{CutRow}
 use Rattle.lp_model.specs.declared.types.Var.{Var}
 use Rattle.leaf_dual.specs.Dual.{Multipliers, is_row_variable, multiplier, is_cut, cut_multiplier, cut_weight}
-use Rattle.leaf_dual.specs.Wholes.{IsFactor, number_at, AreNumbersOver, IsWrittenWhere, IsRowWritten, IsCutWritten}
+use Rattle.leaf_dual.specs.Wholes.{IsFactor, number_at, AreNumbersOver}
+use Rattle.leaf_dual.specs.private.Wholes.{IsWrittenWhere, IsRowWritten, IsCutWritten}
 use Rattle.leaf_dual.proofs.WholeLemmas.{nothing_over}
 
 -- ---- one number

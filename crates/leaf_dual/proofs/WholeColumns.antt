@@ -10,7 +10,7 @@ use Rattle.lp_model.specs.declared.types.CutRow.{CutRow}
 use Rattle.leaf_dual.specs.declared.dual.LagValue.TheVariants.{Num}
 use Rattle.leaf_dual.specs.Dual.{needed_side, column_side}
 use Rattle.leaf_dual.specs.Answers.{side_number, LacksRowSide, LacksCutSide, LacksSide, IsDualAnswer}
-use Rattle.leaf_dual.specs.Parts.{IsRowsTotal, IsCutsTotal, IsCostAnswer, IsColumnAnswer, IsColumnsTotal}
+use Rattle.leaf_dual.specs.private.Parts.{IsRowsTotal, IsCutsTotal, IsCostAnswer, IsColumnAnswer, IsColumnsTotal}
 use Rattle.leaf_dual.specs.Wholes.{HasRoomForProduct, IsDenominator, IsTermOver}
 use Rattle.leaf_dual.proofs.DualLemmas.{column-ok}
 use Rattle.leaf_dual.proofs.AnswerLemmas.{answer-num}

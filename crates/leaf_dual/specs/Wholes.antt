@@ -1,11 +1,7 @@
 -- Whole numbers over one denominator: sums of products of them that have room, step by step.
-use Rattle.std.specs.Prelude.{◌≡◌, ◌^◌, ◌<◌, ◌≤◌, ℕ, Bool, true, false, if◌then◌else◌, ◌<ℤ◌, ◌*ℤ◌, ℤ, pos, unsigned_abs, List, length, get_or}
+use Rattle.std.specs.Prelude.{◌≡◌, ◌^◌, ◌<◌, ◌≤◌, ℕ, ◌<ℤ◌, ◌*ℤ◌, ℤ, pos, unsigned_abs, List, length, get_or}
 use Rattle.frac128.specs.Rational.{ℚ, ◌*ℚ◌}
 use Rattle.frac128.specs.LowestTerms.{quotient_of}
-use Rattle.lp_model.specs.Cuts.{is_live}
-use Rattle.lp_model.specs.declared.types.CutRow.{CutRow}
-use Rattle.lp_model.specs.declared.types.Var.{Var}
-use Rattle.leaf_dual.specs.Dual.{is_row_variable, is_cut}
 
 -- a number whose product with another such number has room
 abbrev pub IsFactor : ℤ → Type 0
@@ -31,20 +27,6 @@ number_at numbers k = get_or numbers k (pos 0)
 -- the numbers are the first values of f, over the denominator
 abbrev pub AreNumbersOver : ℤ → (ℕ → ℚ) → List ℤ → Type 0
 AreNumbersOver d f numbers = (k : ℕ) → k < length numbers → IsFactor (number_at numbers k) × (quotient_of (number_at numbers k) d ≡ f k)
-
--- ---- the numbers of multipliers, each written at its place
-
--- the number at a place is the multiplier's where it is written, and else stays
-abbrev pub IsWrittenWhere : Bool → ℤ → ℚ → ℤ → ℤ → Type 0
-IsWrittenWhere true d number old new = IsFactor new × (quotient_of new d ≡ number)
-IsWrittenWhere false d number old new = new ≡ old
-
-abbrev pub IsRowWritten : ℤ → Var → ℚ → List ℤ → List ℤ → ℕ → Type 0
-IsRowWritten d name number old new k = IsWrittenWhere (is_row_variable name k) d number (number_at old k) (number_at new k)
-
--- a cut that does not count has none
-abbrev pub IsCutWritten : ℤ → List CutRow → Var → ℚ → List ℤ → List ℤ → ℕ → Type 0
-IsCutWritten d cuts name number old new k = IsWrittenWhere (if is_live cuts k then is_cut name k else false) d number (number_at old k) (number_at new k)
 
 -- ---- numbers that are passed over
 

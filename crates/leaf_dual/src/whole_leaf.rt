@@ -9,7 +9,8 @@ ghost use Rattle.lp_model.specs.Formulations.{cut_coefficient};
 ghost use Rattle.leaf_dual.specs.declared.dual.LagValue.TheVariants.{Num};
 ghost use Rattle.leaf_dual.specs.Dual.{HavePlaces, row_side, cut_side, column_side};
 ghost use Rattle.leaf_dual.specs.Answers.{row_number, cut_number, LacksRowSide, LacksCutSide, IsDualAnswer};
-ghost use Rattle.leaf_dual.specs.Parts.{leaf_formulation, leaf_constant, costs, weights, cut_weights, entry_row, entry_number, IsRowsTotal, IsCutsTotal, IsReducedCost, IsCostAnswer, IsColumnAnswer, IsColumnsTotal};
+ghost use Rattle.leaf_dual.specs.Parts.{leaf_formulation, leaf_constant, costs, weights, cut_weights, entry_row, entry_number};
+ghost use Rattle.leaf_dual.specs.private.Parts.{IsRowsTotal, IsCutsTotal, IsReducedCost, IsCostAnswer, IsColumnAnswer, IsColumnsTotal};
 ghost use Rattle.leaf_dual.specs.Wholes.{IsFactor, HasRoomForProduct, IsTermOver, number_at, IsNextOf, AreNexts};
 ghost use Rattle.leaf_dual.specs.WholeParts.{IsWholeLeaf};
 

@@ -2,7 +2,8 @@
 ghost use Rattle.std.specs.Prelude.{◌≡◌, ◌+◌, ◌<◌, ◌≤◌, ℕ, pos, length, nat_eq, IsTrue};
 ghost use Rattle.lp_model.specs.Cuts.{is_live};
 ghost use Rattle.leaf_dual.specs.Dual.{multiplier, cut_weight};
-ghost use Rattle.leaf_dual.specs.Wholes.{IsDenominator, number_at, AreNumbersOver, IsWrittenWhere, IsRowWritten, IsCutWritten, IsNextOf, AreNexts};
+ghost use Rattle.leaf_dual.specs.Wholes.{IsDenominator, number_at, AreNumbersOver, IsNextOf, AreNexts};
+ghost use Rattle.leaf_dual.specs.private.Wholes.{IsWrittenWhere, IsRowWritten, IsCutWritten};
 
 use crate::whole_numbers::factor_over;
 use frac128::Frac;

@@ -18,7 +18,8 @@ use Rattle.leaf_judging.specs.declared.judging.Against.{Against}
 use Rattle.leaf_judging.specs.declared.judging.Marking.{Marking}
 use Rattle.leaf_judging.specs.Closing.{IsNumber, NumberCloses, StateSays}
 use Rattle.leaf_judging.specs.Choosing.{finite_number}
-use Rattle.leaf_judging.specs.Queued.{candidate_of, leaf_in, AreQueued}
+use Rattle.leaf_judging.specs.Queued.{candidate_of}
+use Rattle.leaf_judging.specs.private.Queued.{leaf_in, AreQueued}
 use Rattle.leaf_judging.specs.Numbers.{kept_number, HasKept, AreNumbersOf, MarksLeaf}
 use Rattle.leaf_judging.proofs.JudgeLemmas.{JudgedAs, zipped-push}
 use Rattle.leaf_judging.proofs.QueueLists.{child-candidate, queued-push}

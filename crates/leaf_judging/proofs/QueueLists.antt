@@ -16,7 +16,8 @@ use Rattle.branch_tree.specs.declared.node.RegionLeaf.{RegionLeaf}
 use Rattle.leaf_judging.specs.declared.choosing.Candidate.{Candidate}
 use Rattle.leaf_judging.specs.declared.queue.LeafQueue.{LeafQueue}
 use Rattle.leaf_judging.specs.Choosing.{IsCandidate}
-use Rattle.leaf_judging.specs.Queued.{Has, HasNone, IsThat, Adds, SomeLeaf, SomeZip, IsQueued, IsQueueOf, IsFiniteNumber, IsChildCandidate, candidate_of, leaf_in, AreQueued}
+use Rattle.leaf_judging.specs.Queued.{Has, HasNone, IsThat, Adds, SomeLeaf, IsQueued, IsQueueOf, IsFiniteNumber, IsChildCandidate, candidate_of}
+use Rattle.leaf_judging.specs.private.Queued.{SomeZip, leaf_in, AreQueued}
 use Rattle.leaf_judging.proofs.JudgeLemmas.{placed-split, zipped-push, each-tree}
 
 -- ---- lists

@@ -11,8 +11,6 @@ use Rattle.branch_tree.specs.declared.node.RegionLeaf.{RegionLeaf}
 use Rattle.leaf_judging.specs.declared.closing.LeafNumber.{LeafNumber}
 use Rattle.leaf_judging.specs.declared.numbers.LeafNumbers.{LeafNumbers}
 use Rattle.leaf_judging.specs.declared.judging.Numbering.{Numbering}
-use Rattle.leaf_judging.specs.declared.judging.Against.{Against}
-use Rattle.leaf_judging.specs.declared.judging.Mark.{Mark}
 use Rattle.leaf_judging.specs.declared.judging.Marking.{Marking}
 use Rattle.leaf_judging.specs.Closing.{IsNumber, NumberCloses, StateSays}
 use Rattle.leaf_judging.specs.Choosing.{finite_number}
@@ -29,9 +27,6 @@ PutsNumber old id n new = (kept_number new id ≡ Some n) × ((i : ℕ) → i �
 -- under each other id the new ones have what the old ones have
 abbrev pub KeepsOtherNumbers : LeafNumbers → ℕ → LeafNumbers → Type 0
 KeepsOtherNumbers old id new = (i : ℕ) → i ≢ id → kept_number new i ≡ kept_number old i
-
-abbrev pub AreSameNumbers : LeafNumbers → LeafNumbers → Type 0
-AreSameNumbers old new = (i : ℕ) → kept_number new i ≡ kept_number old i
 
 -- under each id but two
 abbrev pub KeepsOtherTwo : LeafNumbers → ℕ → ℕ → LeafNumbers → Type 0
@@ -59,13 +54,6 @@ pub record NumbersLeaf (old : Numbering) (l : RegionLeaf) (new : Numbering) : Ty
   pub number : LeafNumber
   pub number_is : IsNumber (formulation old.model.now old.pool.now) l.region l.kept.mult l.kept.farkas number
   pub puts : PutsNumber old.numbers l.id number new.numbers
-
--- its state by the number that is kept, and the leaf as a candidate where it is open
-pub record IsLeafMark (against : Against) (id : ℕ) (mark : Mark) : Type 0 where
-  pub number : LeafNumber
-  pub number_is : (n : LeafNumber) → kept_number against.numbers.now id ≡ Some n → number ≡ n
-  pub says : StateSays mark.state (NumberCloses against.model.now against.target.now number)
-  pub candidate_is : mark.candidate ≡ candidate_of mark.state (finite_number number) id
 
 -- its state by the number that is kept goes behind the others, and it goes into the queue where it is open
 pub record MarksLeaf (old : Marking) (l : RegionLeaf) (new : Marking) : Type 0 where

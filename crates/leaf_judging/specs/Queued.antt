@@ -1,6 +1,6 @@
 -- The open leaves in the order in which they are worked.
-use Rattle.std.specs.Prelude.{◌≡◌, ◌⊎◌, ◌↔◌, ℕ, [], ◌∷◌, List, IsTrue, Option, Some, None}
-use Rattle.std.specs.List.{list_any, AllZip}
+use Rattle.std.specs.Prelude.{◌≡◌, ◌⊎◌, ◌↔◌, ℕ, [], List, IsTrue, Option, Some, None}
+use Rattle.std.specs.List.{list_any}
 use Rattle.std.specs.Option.{option_cmp}
 use Rattle.std.specs.Ordering.{ordering_then, nat_cmp, is_eq}
 use Rattle.std.specs.declared.cmp.Ordering.{Ordering}
@@ -9,11 +9,10 @@ use Rattle.lp_model.specs.Regions.{Path}
 use Rattle.lp_model.specs.Formulations.{Formulation}
 use Rattle.branch_tree.specs.Tree.{Tree, Leaf, Split, left_path, right_path, EachLeaf}
 use Rattle.branch_tree.specs.Plain.{LeafKept, Plain}
-use Rattle.branch_tree.specs.Leaves.{region_leaf, with_state}
+use Rattle.branch_tree.specs.Leaves.{region_leaf}
 use Rattle.branch_tree.specs.declared.node.LeafState.TheVariants.{IsOpen, IsClosed}
 use Rattle.branch_tree.specs.declared.node.LeafState.{LeafState}
 use Rattle.branch_tree.specs.declared.node.LeafData.{LeafData}
-use Rattle.branch_tree.specs.declared.node.RegionLeaf.{RegionLeaf}
 use Rattle.leaf_judging.specs.declared.choosing.Candidate.{Candidate}
 use Rattle.leaf_judging.specs.declared.queue.LeafQueue.{LeafQueue}
 use Rattle.leaf_judging.specs.declared.closing.LeafNumber.{LeafNumber}
@@ -103,20 +102,3 @@ IsChildCandidate F path l (Some c) = IsCandidate F (region_leaf (path, l)) c
 abbrev pub candidate_of : LeafState → Option ℚ → ℕ → Option Candidate
 candidate_of IsOpen r id = Some (record { leaf_number = r; id = id })
 candidate_of IsClosed r id = None
-
--- ---- lists of leaves
-
--- the leaf with this state
-abbrev pub leaf_in : LeafState → RegionLeaf → LeafKept
-leaf_in s l = record { id = l.id; kept = with_state s l.kept }
-
--- R of some of the pairs
-abbrev pub SomeZip : {A B : Type 0} → (A → B → Type 0) → List A → List B → Type 0
-SomeZip R [] ys = ⊥
-SomeZip R (x ∷ xs) [] = ⊥
-SomeZip R (x ∷ xs) (y ∷ ys) = R x y ⊎ SomeZip R xs ys
-
--- the queue has the leaves that are open with these states, and nothing else
-pub record AreQueued (F : Formulation) (leaves : List RegionLeaf) (states : List LeafState) (queue : LeafQueue) : Type 0 where
-  pub each : AllZip (λ l s. IsQueued F queue l.region (leaf_in s l)) leaves states
-  pub only : (c : Candidate) → Has queue c → SomeZip (λ l s. IsCandidate F (region_leaf (l.region, leaf_in s l)) c) leaves states

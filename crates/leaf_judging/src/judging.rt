@@ -102,7 +102,7 @@ pub(crate) struct Mark {
 }
 
 impl Against<'_> {
-    ghost use Rattle.leaf_judging.specs.Numbers.{IsLeafMark};
+    ghost use Rattle.leaf_judging.specs.private.Numbers.{IsLeafMark};
 
     /// What the leaf with the id is by its number.
     fn mark_of(&self, id: u64) -> Mark

@@ -5,7 +5,8 @@ ghost use Rattle.std.specs.Ordering.{nat_cmp};
 ghost use Rattle.leaf_dual.specs.declared.dual.LagValue.TheVariants.{Minus};
 ghost use Rattle.leaf_judging.specs.declared.closing.LeafNumber.{LeafNumber};
 ghost use Rattle.leaf_judging.specs.declared.closing.LeafNumber.TheVariants.{Lag};
-ghost use Rattle.leaf_judging.specs.Numbers.{kept_number, PutsNumber, KeepsOtherNumbers, KeepsOtherTwo, HasBoth, AreSameNumbers};
+ghost use Rattle.leaf_judging.specs.Numbers.{kept_number, PutsNumber, KeepsOtherNumbers, KeepsOtherTwo, HasBoth};
+ghost use Rattle.leaf_judging.specs.private.Numbers.{AreSameNumbers};
 
 use crate::closing::LeafNumber;
 use leaf_dual::LagValue;

@@ -1,6 +1,5 @@
 -- The numbers of a text, and the limits that BOUNDS states.
 use Rattle.std.specs.Prelude.{ℕ, ◌^◌, Bool, true, false, not, ◌||◌, if◌then◌else◌, List, codes, Option, None, Some, Result, Ok, Err, pos}
-use Rattle.std.specs.Ordering.{int_eq}
 use Rattle.frac128.specs.Rational.{ℚ, int, neg_ℚ, rational_le}
 use Rattle.frac_text.specs.Sides.{side_of, numeral_of}
 use Rattle.frac_text.specs.declared.numeral.Side.{Side}
@@ -26,9 +25,6 @@ number_or_zero (Err flaw) = int (pos 0)
 
 abbrev pub field_number : List ℕ → ℚ
 field_number field = number_or_zero (spelled_number field)
-
-abbrev pub is_zero_number : ℚ → Bool
-is_zero_number x = int_eq x.num (pos 0)
 
 abbrev pub is_negative : ℚ → Bool
 is_negative x = not (rational_le (int (pos 0)) x)

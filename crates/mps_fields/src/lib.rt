@@ -13,9 +13,7 @@ mod pair;
 mod pairs;
 mod words;
 
-pub use numbers::{
-    Limit, is_misplaced, is_no_limit, is_wide_limit, is_zero, limit_of, limit_or_plus,
-};
+pub use numbers::{Limit, is_misplaced, is_no_limit, is_wide_limit, limit_of, limit_or_plus};
 pub use pair::{Pair, Pairs};
 pub use pairs::{has_count, is_long, pairs_on};
 pub use words::{

@@ -1,7 +1,7 @@
 // The numbers of a text, and the limits that BOUNDS states.
 ghost use Rattle.std.specs.Prelude.{◌≡◌};
 ghost use Rattle.frac128.specs.Rational.{rational_le};
-ghost use Rattle.mps_fields.specs.Numbers.{is_zero_number, limit_of, limit_or_plus, limit_at, limit_at_side, infinite, is_infinite_word, is_misplaced, is_not_number, is_too_wide, finite, is_below_zero};
+ghost use Rattle.mps_fields.specs.Numbers.{limit_of, limit_or_plus, limit_at, limit_at_side, infinite, is_infinite_word, is_misplaced, is_not_number, is_too_wide, finite, is_below_zero};
 
 use crate::words::{BoundKind, is_key};
 use frac_text::{NumFault, Numeral, Side, behind_sign, has_minus};
@@ -13,13 +13,6 @@ pub enum Limit {
     Finite(Frac),
     Plus,
     Minus,
-}
-
-/// Whether a number is 0.
-pub fn is_zero(number: &Frac) -> bool
-    ensures { result ≡ is_zero_number number.now }
-{
-    *number == Frac::whole(0)
 }
 
 /// Whether a field is `Inf` or `Infinity` with an optional sign.

@@ -7,14 +7,14 @@ use Rattle.std.proofs.lemmas.Slice.Eq.{bytes_eq-Decides}
 use Rattle.frac128.specs.Rational.{ℚ, int}
 use Rattle.lp_model.specs.declared.types.RowId.{RowId}
 use Rattle.mps_fields.specs.Words.{among}
-use Rattle.mps_fields.specs.Numbers.{is_zero_number}
+use Rattle.lp_model.specs.Edits.{is_zero, entry_at}
 use Rattle.mps_sections.specs.Statements.{stated_row_names}
 use Rattle.mps_sections.specs.Limits.{AreNamesApart}
 use Rattle.mps_sections.specs.declared.statements.RowLine.{RowLine}
 use Rattle.mps_sections.specs.declared.statements.RowNumber.{RowNumber}
 use Rattle.mps_sections.proofs.ListFacts.{bytes_eq-flips}
-use Rattle.mps_model.specs.Meaning.{row_number_beside, row_numbers_beside, coefficient_at, row_entries_from}
-use Rattle.mps_model.specs.Places.{IsFoundAt}
+use Rattle.mps_model.specs.Meaning.{row_number_beside, row_numbers_beside, row_entries_from}
+use Rattle.mps_model.specs.private.Places.{IsFoundAt}
 use Rattle.mps_model.proofs.NamedItems.{unnamed, named}
 
 pub names_as_they_are : (names : List (List ℕ)) → map (λ (name : List ℕ). name) names ≡ names
@@ -57,12 +57,12 @@ one_entry k n x true e = refl
 one_entry k n x false e = ap (λ i. entry i x ∷ []) e
 
 -- one more number
-pub entries_step : (k n : ℕ) (xs : List ℚ) (x : ℚ) → k + length xs ≡ n → row_entries_from k (xs ++ x ∷ []) ≡ row_entries_from k xs ++ coefficient_at n x
-entries_step k n [] x e = one_entry k n x (is_zero_number x) (omega (arith, e))
-entries_step k n (y ∷ xs) x e = by (is_zero_number y) (entries_step (suc k) n xs x (omega (arith, e)))
+pub entries_step : (k n : ℕ) (xs : List ℚ) (x : ℚ) → k + length xs ≡ n → row_entries_from k (xs ++ x ∷ []) ≡ row_entries_from k xs ++ entry_at n x
+entries_step k n [] x e = one_entry k n x (is_zero x) (omega (arith, e))
+entries_step k n (y ∷ xs) x e = by (is_zero y) (entries_step (suc k) n xs x (omega (arith, e)))
   where
-    by : (b : Bool) → row_entries_from (suc k) (xs ++ x ∷ []) ≡ row_entries_from (suc k) xs ++ coefficient_at n x
-        → (if b then row_entries_from (suc k) (xs ++ x ∷ []) else entry k y ∷ row_entries_from (suc k) (xs ++ x ∷ [])) ≡ (if b then row_entries_from (suc k) xs else entry k y ∷ row_entries_from (suc k) xs) ++ coefficient_at n x
+    by : (b : Bool) → row_entries_from (suc k) (xs ++ x ∷ []) ≡ row_entries_from (suc k) xs ++ entry_at n x
+        → (if b then row_entries_from (suc k) (xs ++ x ∷ []) else entry k y ∷ row_entries_from (suc k) (xs ++ x ∷ [])) ≡ (if b then row_entries_from (suc k) xs else entry k y ∷ row_entries_from (suc k) xs) ++ entry_at n x
     by true rest = rest
     by false rest = ap (λ es. entry k y ∷ es) rest
 

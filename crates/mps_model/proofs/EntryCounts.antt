@@ -5,12 +5,12 @@ use Rattle.std.proofs.lemmas.Bool.{or_cases, true≢false, false≢true, false_f
 use Rattle.std.proofs.lemmas.Slice.Eq.{bytes_eq-Decides}
 use Rattle.frac128.specs.Rational.{int}
 use Rattle.lp_model.proofs.NameLemmas.{contains_first, contains_later}
-use Rattle.mps_fields.specs.Numbers.{is_zero_number}
+use Rattle.lp_model.specs.Edits.{is_zero}
 use Rattle.mps_sections.specs.Statements.{is_row_name, coefficients_in, stated_row_names}
 use Rattle.mps_sections.specs.Limits.{AreNamesApart}
 use Rattle.mps_sections.specs.declared.statements.RowLine.{RowLine}
 use Rattle.mps_sections.specs.declared.statements.RowNumber.{RowNumber}
-use Rattle.mps_fields.proofs.NumberFacts.{is_zero-decides}
+use Rattle.frac128.proofs.Comparison.{eq_by_cmp-decides}
 use Rattle.mps_sections.proofs.ListFacts.{bytes_eq-flips}
 use Rattle.mps_model.specs.Meaning.{row_number_beside, row_numbers_beside, row_entries_from}
 
@@ -36,19 +36,19 @@ module _ (r : RowLine) (sided : List RowLine) where
   fewer [] = omega arith
   fewer (p ∷ found) =
       let before : 0 + length (coefficients_in sided found) ≤ length (coefficients_in (r ∷ sided) found) = omega (arith, fewer found) in
-      omega (arith, longer_by 0 (bytes_eq r.name p.row) (is_row_name sided p.row) (not (is_zero_number p.number)) p (coefficients_in sided found) (coefficients_in (r ∷ sided) found) before)
+      omega (arith, longer_by 0 (bytes_eq r.name p.row) (is_row_name sided p.row) (not (is_zero p.number)) p (coefficients_in sided found) (coefficients_in (r ∷ sided) found) before)
 
-  one_more : (found : List RowNumber) → is_row_name sided r.name ≡ false → is_zero_number (row_number_beside r.name found) ≡ false → 1 + length (coefficients_in sided found) ≤ length (coefficients_in (r ∷ sided) found)
-  one_more [] new some = absurd (true≢false (sym ((is_zero-decides (int (pos 0))).1 refl) ∙ some))
+  one_more : (found : List RowNumber) → is_row_name sided r.name ≡ false → is_zero (row_number_beside r.name found) ≡ false → 1 + length (coefficients_in sided found) ≤ length (coefficients_in (r ∷ sided) found)
+  one_more [] new some = absurd (true≢false (sym ((eq_by_cmp-decides (int (pos 0)) (int (pos 0))).1 refl) ∙ some))
   one_more (p ∷ found) new some = by (bytes_eq p.row r.name) refl some (λ z. one_more found new z)
     where
-      by : (b : Bool) → bytes_eq p.row r.name ≡ b → is_zero_number (if b then p.number else row_number_beside r.name found) ≡ false
-          → (is_zero_number (row_number_beside r.name found) ≡ false → 1 + length (coefficients_in sided found) ≤ length (coefficients_in (r ∷ sided) found)) → 1 + length (coefficients_in sided (p ∷ found)) ≤ length (coefficients_in (r ∷ sided) (p ∷ found))
+      by : (b : Bool) → bytes_eq p.row r.name ≡ b → is_zero (if b then p.number else row_number_beside r.name found) ≡ false
+          → (is_zero (row_number_beside r.name found) ≡ false → 1 + length (coefficients_in sided found) ≤ length (coefficients_in (r ∷ sided) found)) → 1 + length (coefficients_in sided (p ∷ found)) ≤ length (coefficients_in (r ∷ sided) (p ∷ found))
       by true e z later =
-          longer_here (bytes_eq r.name p.row) (is_row_name sided p.row) (is_zero_number p.number) p (coefficients_in sided found) (coefficients_in (r ∷ sided) found) (bytes_eq-flips r.name p.row ∙ e)
+          longer_here (bytes_eq r.name p.row) (is_row_name sided p.row) (is_zero p.number) p (coefficients_in sided found) (coefficients_in (r ∷ sided) found) (bytes_eq-flips r.name p.row ∙ e)
           (ap (is_row_name sided) ((bytes_eq-Decides p.row r.name).0 e) ∙ new) z (fewer found)
       by false e z later =
-          longer_by 1 (bytes_eq r.name p.row) (is_row_name sided p.row) (not (is_zero_number p.number)) p (coefficients_in sided found) (coefficients_in (r ∷ sided) found) (later z)
+          longer_by 1 (bytes_eq r.name p.row) (is_row_name sided p.row) (not (is_zero p.number)) p (coefficients_in sided found) (coefficients_in (r ∷ sided) found) (later z)
 
 pub row_there : (sided : List RowLine) (name : List ℕ) → is_row_name sided name ≡ true → Contains (stated_row_names sided) name
 row_there [] name e = absurd (false≢true e)
@@ -66,12 +66,12 @@ apart_later name names apart = λ i j d below within. apart (suc i) (suc j) d (o
 
 pub few_entries : (sided : List RowLine) (k : ℕ) (found : List RowNumber) → AreNamesApart (stated_row_names sided) → length (row_entries_from k (row_numbers_beside (stated_row_names sided) found)) ≤ length (coefficients_in sided found)
 few_entries [] k found apart = omega arith
-few_entries (r ∷ sided) k found apart = by (is_zero_number (row_number_beside r.name found)) refl (few_entries sided (suc k) found (apart_later r.name (stated_row_names sided) apart))
+few_entries (r ∷ sided) k found apart = by (is_zero (row_number_beside r.name found)) refl (few_entries sided (suc k) found (apart_later r.name (stated_row_names sided) apart))
   where
     new : is_row_name sided r.name ≡ false
     new = false_from_ne_true (is_row_name sided r.name) (λ e. none_later r.name (stated_row_names sided) apart (row_there sided r.name e))
 
-    by : (z : Bool) → is_zero_number (row_number_beside r.name found) ≡ z → length (row_entries_from (suc k) (row_numbers_beside (stated_row_names sided) found)) ≤ length (coefficients_in sided found)
+    by : (z : Bool) → is_zero (row_number_beside r.name found) ≡ z → length (row_entries_from (suc k) (row_numbers_beside (stated_row_names sided) found)) ≤ length (coefficients_in sided found)
         → length (if z then row_entries_from (suc k) (row_numbers_beside (stated_row_names sided) found) else (record { 0 = k }, row_number_beside r.name found) ∷ row_entries_from (suc k) (row_numbers_beside (stated_row_names sided) found)) ≤ length (coefficients_in (r ∷ sided) found)
     by true e rest = omega (arith, rest, fewer r sided found)
     by false e rest = omega (arith, rest, one_more r sided found new e)

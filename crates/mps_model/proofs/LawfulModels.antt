@@ -15,14 +15,14 @@ use Rattle.lp_model.specs.declared.types.RowId.{RowId}
 use Rattle.lp_model.specs.declared.types.Row.{Row}
 use Rattle.lp_model.specs.declared.types.Col.{Col}
 use Rattle.mps_fields.specs.Words.{among}
-use Rattle.mps_fields.specs.Numbers.{is_zero_number}
+use Rattle.lp_model.specs.Edits.{is_zero}
 use Rattle.mps_sections.specs.Statements.{coefficients_in, stated_row_names}
 use Rattle.mps_sections.specs.Limits.{AreNamesApart, names_of_columns, coefficient_count, StatesWithinLimits}
 use Rattle.mps_sections.specs.declared.statements.Sections.{Sections}
 use Rattle.mps_sections.specs.declared.statements.RowLine.{RowLine}
 use Rattle.mps_sections.specs.declared.statements.RowNumber.{RowNumber}
 use Rattle.mps_sections.specs.declared.statements.ColumnLines.{ColumnLines}
-use Rattle.mps_fields.proofs.NumberFacts.{is_zero-decides}
+use Rattle.frac128.proofs.Comparison.{eq_by_cmp-decides}
 use Rattle.mps_sections.proofs.StatedLimits.{not_among, row_among}
 use Rattle.mps_model.specs.Meaning.{row_numbers_beside, row_entries_from, row_of, column_of, model_of, free_name, objective_or, second_or, objective_name, second_name, beside_objective, beside_second}
 use Rattle.mps_model.specs.Faults.{column_flaw}
@@ -119,17 +119,17 @@ two_bounds true (Some l) None e h = absurd (cc)
 two_bounds true None u e h = absurd (cc)
 two_bounds false l u e h = absurd (cc)
 
-number_not_zero : (x : ℚ) → is_zero_number x ≡ false → x ≢ int (pos 0)
-number_not_zero x e h = true≢false (sym ((is_zero-decides x).1 h) ∙ e)
+number_not_zero : (x : ℚ) → is_zero x ≡ false → x ≢ int (pos 0)
+number_not_zero x e h = true≢false (sym ((eq_by_cmp-decides x (int (pos 0))).1 h) ∙ e)
 
 abbrev entry : ℕ → ℚ → RowId × ℚ
 entry k x = (record { 0 = k }, x)
 
 entries_rise : (numbers : List ℚ) (from k to : ℕ) → from ≤ k → k + length numbers ≤ to → AreEntries from to (row_entries_from k numbers)
 entries_rise [] from k to below within = tt
-entries_rise (x ∷ numbers) from k to below within = by (is_zero_number x) refl (entries_rise numbers from (suc k) to (omega (arith, below)) (omega (arith, within))) (entries_rise numbers (suc k) (suc k) to (omega arith) (omega (arith, within)))
+entries_rise (x ∷ numbers) from k to below within = by (is_zero x) refl (entries_rise numbers from (suc k) to (omega (arith, below)) (omega (arith, within))) (entries_rise numbers (suc k) (suc k) to (omega arith) (omega (arith, within)))
   where
-    by : (b : Bool) → is_zero_number x ≡ b → AreEntries from to (row_entries_from (suc k) numbers) → AreEntries (suc k) to (row_entries_from (suc k) numbers) → AreEntries from to (if b then row_entries_from (suc k) numbers else entry k x ∷ row_entries_from (suc k) numbers)
+    by : (b : Bool) → is_zero x ≡ b → AreEntries from to (row_entries_from (suc k) numbers) → AreEntries (suc k) to (row_entries_from (suc k) numbers) → AreEntries from to (if b then row_entries_from (suc k) numbers else entry k x ∷ row_entries_from (suc k) numbers)
     by true e rest later = rest
     by false e rest later = (below, omega (arith, within), number_not_zero x e, later)
 

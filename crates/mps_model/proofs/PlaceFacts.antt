@@ -14,7 +14,8 @@ use Rattle.std.proofs.lemmas.List.Folds.{list_any-append}
 use Rattle.std.proofs.lemmas.Slice.Eq.{bytes_eq-Decides}
 use Rattle.std.proofs.Math.Seq.{get_or-append_seam}
 use Rattle.mps_fields.specs.Words.{among}
-use Rattle.mps_model.specs.Places.{IsFoundAt, is_found}
+use Rattle.mps_model.specs.Places.{is_found}
+use Rattle.mps_model.specs.private.Places.{IsFoundAt}
 
 -- tests that agree find the same
 pub lookup_same : {K X : Type 0} (p q : K → Bool) → ((k : K) → p k ≡ q k) → (es : List (K × X)) → lookup p es ≡ lookup q es

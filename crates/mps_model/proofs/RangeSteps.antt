@@ -17,7 +17,7 @@ use Rattle.mps_sections.specs.declared.statements.RangeLine.{RangeLine}
 use Rattle.mps_model.specs.Ranges.{has_room}
 use Rattle.mps_model.specs.Meaning.{row_number_beside, row_numbers_beside, range_beside}
 use Rattle.mps_model.specs.Faults.{code_on, row_named, range_code, code_of_range, range_flaw, flaw_or}
-use Rattle.mps_model.specs.Places.{IsFoundAt}
+use Rattle.mps_model.specs.private.Places.{IsFoundAt}
 use Rattle.mps_model.proofs.EntryCounts.{none_later, apart_later}
 use Rattle.mps_model.proofs.BesideSteps.{beside_row}
 

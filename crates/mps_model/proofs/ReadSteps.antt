@@ -12,7 +12,8 @@ use Rattle.mps_sections.specs.declared.statements.Sections.{Sections}
 use Rattle.mps_model.specs.Meaning.{span_of, model_of}
 use Rattle.mps_model.specs.declared.spans.Span.{Span}
 use Rattle.mps_model.specs.Faults.{column_flaw, sections_flaw, flaw_of_whole, FaultyModel, InLines, InWhole}
-use Rattle.mps_model.specs.Answers.{IsModelAnswer, IsSectionsAnswer}
+use Rattle.mps_model.specs.Answers.{IsModelAnswer}
+use Rattle.mps_model.specs.private.Answers.{IsSectionsAnswer}
 use Rattle.mps_model.specs.declared.reader.MpsFault.{MpsFault}
 use Rattle.mps_model.specs.declared.reader.MpsFault.TheVariants.{Bad, Memory}
 

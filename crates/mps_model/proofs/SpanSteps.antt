@@ -15,7 +15,7 @@ use Rattle.mps_sections.proofs.ListFacts.{bytes_eq-flips}
 use Rattle.mps_model.specs.Spans.{bounded}
 use Rattle.mps_model.specs.Meaning.{start_span, span_of}
 use Rattle.mps_model.specs.Faults.{column_code, code_on, column_flaw}
-use Rattle.mps_model.specs.Places.{IsFoundAt}
+use Rattle.mps_model.specs.private.Places.{IsFoundAt}
 use Rattle.mps_model.specs.declared.spans.Span.{Span}
 use Rattle.mps_model.proofs.BesideSteps.{mapped_at}
 use Rattle.mps_model.proofs.NamedItems.{unnamed, named}

@@ -1,9 +1,7 @@
 -- What the calls on a text answer.
-use Rattle.std.specs.Prelude.{◌≡◌, ℕ, List, Option, None, Some, Result, Ok, Err}
+use Rattle.std.specs.Prelude.{ℕ, List, Option, Result, Ok, Err}
 use Rattle.lp_model.specs.Program.{Program}
-use Rattle.mps_sections.specs.declared.statements.Sections.{Sections}
-use Rattle.mps_model.specs.Meaning.{model_of}
-use Rattle.mps_model.specs.Faults.{FaultyModel, MeantModel, sections_flaw}
+use Rattle.mps_model.specs.Faults.{FaultyModel, MeantModel}
 use Rattle.mps_model.specs.declared.reader.MpsFault.{MpsFault}
 use Rattle.mps_model.specs.declared.reader.MpsFault.TheVariants.{Bad, Memory}
 
@@ -12,9 +10,3 @@ abbrev pub IsModelAnswer : List ℕ → Option ℕ → Result Program MpsFault �
 IsModelAnswer text intupper (Ok m) = MeantModel text intupper m
 IsModelAnswer text intupper (Err (Bad line code)) = FaultyModel text intupper (record { line = line; code = code })
 IsModelAnswer text intupper (Err Memory) = Unit {0}
-
--- the model that some lists mean, their fault, or want of memory
-abbrev pub IsSectionsAnswer : Sections → Option ℕ → Result Program MpsFault → Type 0
-IsSectionsAnswer s intupper (Ok m) = (sections_flaw s intupper ≡ None) × (m ≡ model_of s intupper)
-IsSectionsAnswer s intupper (Err (Bad line code)) = sections_flaw s intupper ≡ Some (record { line = line; code = code })
-IsSectionsAnswer s intupper (Err Memory) = Unit {0}

@@ -1,5 +1,5 @@
 -- The place of a name among names.
-use Rattle.std.specs.Prelude.{◌≡◌, ℕ, ◌<◌, Bool, true, false, not, ◌&&◌, nat_lt, List, [], length, get_or, bytes_eq, Option, None, Some}
+use Rattle.std.specs.Prelude.{◌≡◌, ℕ, Bool, true, not, ◌&&◌, nat_lt, List, [], length, get_or, bytes_eq, Option, None, Some}
 use Rattle.std.specs.Map.{lookup}
 use Rattle.mps_fields.specs.Words.{among}
 use Rattle.mps_model.specs.declared.name_index.NameIndex.{NameIndex}
@@ -7,11 +7,6 @@ use Rattle.mps_model.specs.declared.name_index.NameIndex.{NameIndex}
 -- what the map has at the name
 unfoldable pub find : NameIndex → List ℕ → Option ℕ
 find index name = lookup (λ key. bytes_eq name key.items) index.places.entries
-
--- the name stands at the place, or is none of the names
-abbrev pub IsFoundAt : List (List ℕ) → List ℕ → Option ℕ → Type 0
-IsFoundAt names name None = among names name ≡ false
-IsFoundAt names name (Some place) = (place < length names) × (get_or names place [] ≡ name)
 
 abbrev pub is_found : List (List ℕ) → List ℕ → Option ℕ → Bool
 is_found names name None = not (among names name)

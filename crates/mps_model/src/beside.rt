@@ -1,11 +1,11 @@
 // Numbers beside names: one for each name, and the entries of those that are not 0.
 ghost use Rattle.std.specs.Prelude.{◌≡◌, ◌∷◌, ◌++◌, ◌<◌, ◌^◌, [], List as Items, length, IfOk, OnOk};
-ghost use Rattle.mps_model.specs.Meaning.{row_number_beside, row_numbers_beside, coefficient_at, row_entries_from, beside_objective, beside_second};
+ghost use Rattle.lp_model.specs.Edits.{entry_at};
+ghost use Rattle.mps_model.specs.Meaning.{row_number_beside, row_numbers_beside, row_entries_from, beside_objective, beside_second};
 
 use crate::names::Names;
 use frac128::Frac;
-use lp_model::{List, Name, RowId};
-use mps_fields::is_zero;
+use lp_model::{List, Name, RowId, is_zero};
 use mps_sections::RowNumber;
 use std::alloc::{AllocError, Global};
 
@@ -100,7 +100,7 @@ fn push_entry(
     number: &Frac,
 ) -> Result<(), AllocError>
     requires { place < 2 ^ 32 }
-    ensures { OnOk result (entries.new ≡ entries.old ++ coefficient_at place number.now) }
+    ensures { OnOk result (entries.new ≡ entries.old ++ entry_at place number.now) }
 {
     if is_zero(number) {
         return Ok(());

@@ -2,7 +2,8 @@
 ghost use Rattle.std.specs.Prelude.{◌≡◌, ◌++◌, ◌∷◌, [], ℕ, List as Items, length, map, IfOk, OnOk};
 ghost use Rattle.mps_sections.specs.Statements.{stated_row_names};
 ghost use Rattle.mps_sections.specs.Limits.{AreNamesApart, names_of_columns};
-ghost use Rattle.mps_model.specs.Places.{IsFoundAt, IsIndexOf, find};
+ghost use Rattle.mps_model.specs.Places.{IsIndexOf, find};
+ghost use Rattle.mps_model.specs.private.Places.{IsFoundAt};
 
 use crate::name_index::NameIndex;
 use lp_model::{List, Name};

@@ -6,7 +6,8 @@ ghost use Rattle.mps_model.specs.Meaning.{span_of};
 ghost use Rattle.mps_model.specs.private.Tables.{IsRowTableOf};
 ghost use Rattle.mps_model.specs.Faults.{sections_flaw};
 ghost use Rattle.mps_model.specs.declared.reader.MpsFault.TheVariants.{Bad};
-ghost use Rattle.mps_model.specs.Answers.{IsModelAnswer, IsSectionsAnswer};
+ghost use Rattle.mps_model.specs.Answers.{IsModelAnswer};
+ghost use Rattle.mps_model.specs.private.Answers.{IsSectionsAnswer};
 
 use crate::building::model_of;
 use crate::row_table::RowTable;

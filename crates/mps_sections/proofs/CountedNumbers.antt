@@ -10,7 +10,7 @@ use Rattle.std.proofs.lemmas.List.Folds.{list_any-append}
 use Rattle.std.proofs.lemmas.List.Sums.{sum_by-cons, sum_by_push}
 use Rattle.std.proofs.lemmas.Slice.Eq.{bytes_eq-Decides}
 use Rattle.mps_fields.specs.Words.{among}
-use Rattle.mps_fields.specs.Numbers.{is_zero_number}
+use Rattle.lp_model.specs.Edits.{is_zero}
 use Rattle.mps_sections.specs.Statements.{read_pair, is_row_name, as_row, as_objective, is_coefficient, coefficients_in}
 use Rattle.mps_fields.specs.Fields.{Pair}
 use Rattle.mps_sections.specs.Faults.{is_last}
@@ -85,8 +85,8 @@ module _ (sided : List RowLine) (objectives : List (List ℕ)) (kind : Option Ro
   same_coefficients (p ∷ more) e =
       let parts = or_parts (not (is_one sided objectives p.row)) (unknown_in sided objectives more) e in
       let row = same_row p.row (known_not (is_one sided objectives p.row) parts.0) in
-      ap (λ b. if b && not (is_zero_number p.number) then p ∷ coefficients_in rows more else coefficients_in rows more) row
-      ∙ ap (λ (kept : List RowNumber). if is_row_name sided p.row && not (is_zero_number p.number) then p ∷ kept else kept) (same_coefficients more parts.1)
+      ap (λ b. if b && not (is_zero p.number) then p ∷ coefficients_in rows more else coefficients_in rows more) row
+      ∙ ap (λ (kept : List RowNumber). if is_row_name sided p.row && not (is_zero p.number) then p ∷ kept else kept) (same_coefficients more parts.1)
 
   same_known : (found : List RowNumber) → unknown_in sided objectives found ≡ false → unknown_in rows names found ≡ false
   same_known [] e = refl

@@ -7,7 +7,8 @@ use Rattle.std.proofs.lemmas.List.Folds.{list_any-append}
 use Rattle.std.proofs.lemmas.Slice.Eq.{bytes_eq-Decides}
 use Rattle.std.proofs.lemmas.Bool.Decides.{same_from_decides}
 use Rattle.mps_sections.specs.Faults.{is_last, numbers_of_last}
-use Rattle.mps_sections.specs.Shown.{with_more, open_shown}
+use Rattle.mps_sections.specs.Shown.{with_more}
+use Rattle.mps_sections.specs.private.Shown.{open_shown}
 use Rattle.mps_sections.specs.declared.columns.OpenColumn.{OpenColumn}
 use Rattle.mps_sections.specs.declared.statements.ColumnLines.{ColumnLines}
 use Rattle.mps_sections.specs.declared.statements.RowNumber.{RowNumber}

@@ -6,7 +6,8 @@ use Rattle.mps_sections.specs.Statements.{StatedModel, stated, sections_in}
 use Rattle.mps_sections.specs.Faults.{code_in, code_at, HasFault, IsCut, reached, End, past}
 use Rattle.mps_fields.specs.Fields.{is_end}
 use Rattle.mps_sections.specs.Shown.{after}
-use Rattle.mps_sections.specs.ReadingOf.{IsWholeStated, AreSectionsOf, OnLine, IsStopAt, IsTablesReading}
+use Rattle.mps_sections.specs.ReadingOf.{AreSectionsOf, OnLine}
+use Rattle.mps_sections.specs.private.ReadingOf.{IsWholeStated, IsStopAt, IsTablesReading}
 use Rattle.mps_sections.specs.declared.statements.Sections.{Sections}
 use Rattle.mps_sections.specs.declared.reading.Stop.{Stop}
 use Rattle.mps_sections.specs.declared.reading.Stop.TheVariants.{Fault, Memory}

@@ -6,7 +6,8 @@ use Rattle.lp_model.specs.declared.types.Sense.{Sense}
 use Rattle.lp_model.specs.declared.types.Sense.TheVariants.{Min}
 use Rattle.mps_fields.specs.Fields.{Pair, column_pairs, set_pairs, bound_column, bound_field, header_sense}
 use Rattle.mps_fields.specs.Words.{is_key, among, word, section_of, line_kind, sense_of, row_kind, bound_kind}
-use Rattle.mps_fields.specs.Numbers.{field_number, is_zero_number, limit}
+use Rattle.mps_fields.specs.Numbers.{field_number, limit}
+use Rattle.lp_model.specs.Edits.{is_zero}
 use Rattle.mps_fields.specs.declared.words.Section.{Section}
 use Rattle.mps_fields.specs.declared.words.LineKind.{LineKind}
 use Rattle.mps_fields.specs.declared.words.LineKind.TheVariants.{Header, SenseLine, Row, Marker, Column, RightSide, Range, Bound}
@@ -158,7 +159,7 @@ is_column found name = list_any (λ c. bytes_eq c.name name) found
 
 -- the non-zero numbers of some pairs that stand beside rows with sides
 abbrev pub is_coefficient : List RowLine → RowNumber → Bool
-is_coefficient sided p = is_row_name sided p.row && not (is_zero_number p.number)
+is_coefficient sided p = is_row_name sided p.row && not (is_zero p.number)
 
 abbrev pub coefficients_in : List RowLine → List RowNumber → List RowNumber
 coefficients_in sided found = filter (is_coefficient sided) found

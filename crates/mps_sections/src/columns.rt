@@ -34,7 +34,7 @@ pub(crate) struct Columns {
 }
 
 impl OpenColumn {
-    ghost use Rattle.mps_sections.specs.Shown.{open_shown};
+    ghost use Rattle.mps_sections.specs.private.Shown.{open_shown};
     ghost use Rattle.mps_fields.specs.Fields.{pairs_shown};
 
     /// A column with its first line.
@@ -116,7 +116,8 @@ impl OpenColumn {
 }
 
 impl Columns {
-    ghost use Rattle.mps_sections.specs.Shown.{columns_in, with_line, with_more, open_shown};
+    ghost use Rattle.mps_sections.specs.Shown.{with_line, with_more};
+    ghost use Rattle.mps_sections.specs.private.Shown.{columns_in, open_shown};
     ghost use Rattle.mps_fields.specs.Fields.{pairs_shown};
 
     /// No columns.

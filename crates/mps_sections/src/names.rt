@@ -4,8 +4,8 @@ ghost use Rattle.mps_sections.specs.Statements.{read_pair, is_coefficient, coeff
 ghost use Rattle.mps_fields.specs.Fields.{pair_shown, pairs_shown};
 
 use crate::rows::Rows;
-use lp_model::{List, Name};
-use mps_fields::{Pair, Pairs, is_zero};
+use lp_model::{List, Name, is_zero};
+use mps_fields::{Pair, Pairs};
 use std::alloc::{AllocError, Global};
 
 /// A copy of a name.

@@ -5,8 +5,9 @@ ghost use Rattle.mps_fields.specs.Words.{line_kind};
 ghost use Rattle.mps_fields.specs.Fields.{pairs_shown, pairs_on as pairs_of_kind};
 ghost use Rattle.mps_sections.specs.Faults.{code_in};
 ghost use Rattle.mps_sections.specs.Statements.{stated};
-ghost use Rattle.mps_sections.specs.Shown.{held};
-ghost use Rattle.mps_sections.specs.ReadingOf.{IsStopAt, IsEntryNoted, IsWholeStated, IsTablesReading, IsSectionsReading};
+ghost use Rattle.mps_sections.specs.private.Shown.{held};
+ghost use Rattle.mps_sections.specs.ReadingOf.{IsSectionsReading};
+ghost use Rattle.mps_sections.specs.private.ReadingOf.{IsStopAt, IsEntryNoted, IsWholeStated, IsTablesReading};
 ghost use Rattle.mps_sections.specs.Limits.{StatesWithinLimits};
 
 use crate::statements::Sections;

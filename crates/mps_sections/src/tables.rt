@@ -220,13 +220,14 @@ fn bound_code(
     }
 }
 
-#[tactic(auto, unfolding(crate::specs::Shown::held))]
+#[tactic(auto, unfolding(crate::specs::private::Shown::held))]
 impl Tables {
-    ghost use Rattle.mps_sections.specs.Shown.{held, after, after_kind, with_senses};
+    ghost use Rattle.mps_sections.specs.Shown.{after, after_kind, with_senses};
+    ghost use Rattle.mps_sections.specs.private.Shown.{held};
     ghost use Rattle.mps_fields.specs.Fields.{pairs_shown, pairs_on};
 
     /// What no lines state.
-    #[tactic(auto, unfolding(crate::specs::Shown::held, crate::specs::Statements::stated, crate::specs::Statements::gathered_behind))]
+    #[tactic(auto, unfolding(crate::specs::private::Shown::held, crate::specs::Statements::stated, crate::specs::Statements::gathered_behind))]
     pub(crate) fn new(alloc: Global) -> Tables
         ensures { held result ≡ stated [] }
     {
@@ -467,7 +468,7 @@ impl Tables {
     }
 
     /// The least fault of the next line, if it has one.
-    #[tactic(auto, unfolding(crate::specs::Shown::held, crate::specs::Faults::code_in))]
+    #[tactic(auto, unfolding(crate::specs::private::Shown::held, crate::specs::Faults::code_in))]
     pub(crate) fn fault_of(&self, entry: &Record, kind: LineKind, pairs: &Pairs) -> Option<u8>
         requires kind { kind ≡ kind_of_line self.now.section (entry_of_record entry.now) }
         requires pairs { pairs_shown pairs.now ≡ pairs_on kind (entry_of_record entry.now) }
@@ -575,7 +576,7 @@ impl Tables {
     }
 
     /// What one more line states, which has no fault.
-    #[tactic(auto, unfolding(crate::specs::Shown::held, crate::specs::Shown::after, crate::specs::Faults::code_in))]
+    #[tactic(auto, unfolding(crate::specs::private::Shown::held, crate::specs::Shown::after, crate::specs::Faults::code_in))]
     pub(crate) fn note(
         &mut self,
         alloc: Global,

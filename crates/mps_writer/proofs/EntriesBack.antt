@@ -8,10 +8,10 @@ use Rattle.std.proofs.lemmas.Slice.Eq.{bytes_eq-Decides}
 use Rattle.frac128.specs.Rational.{ℚ, int}
 use Rattle.lp_model.specs.Lawful.{AreEntries}
 use Rattle.lp_model.specs.declared.types.RowId.{RowId}
-use Rattle.mps_fields.specs.Numbers.{is_zero_number}
+use Rattle.lp_model.specs.Edits.{is_zero}
 use Rattle.mps_sections.specs.Statements.{is_numbered}
 use Rattle.mps_sections.specs.declared.statements.RowNumber.{RowNumber}
-use Rattle.mps_fields.proofs.NumberFacts.{is_zero-decides}
+use Rattle.frac128.proofs.Comparison.{eq_by_cmp-decides}
 use Rattle.mps_model.specs.Meaning.{row_number_beside, row_entries_from}
 use Rattle.mps_writer.proofs.ColumnsBack.{beside}
 
@@ -66,8 +66,8 @@ module _ (size : ℕ) (name_at : ℕ → List ℕ) (differ : (i j : ℕ) → i <
       (ap (λ b. if b then x else row_number_beside (name_at k) found) (unnamed i k (omega (arith, below, whole)) (omega (arith, whole)) (omega (arith, below))))
       ∙ ap (λ ys. row_number_beside (name_at k) found ∷ ys) (without_first (suc k) n x i found (omega (arith, below)) (omega (arith, whole)))
 
-  zero_number : is_zero_number (int (pos 0)) ≡ true
-  zero_number = (is_zero-decides (int (pos 0))).1 refl
+  zero_number : is_zero (int (pos 0)) ≡ true
+  zero_number = (eq_by_cmp-decides (int (pos 0)) (int (pos 0))).1 refl
 
   -- no entry at the k-th row
   skipped : (k n : ℕ) (es : Entries) → is_numbered (at_names name_at es) (name_at k) ≡ false → row_entries_from (suc k) (map (λ name. row_number_beside name (at_names name_at es)) (names_from name_at (suc k) n)) ≡ es
@@ -83,7 +83,7 @@ module _ (size : ℕ) (name_at : ℕ → List ℕ) (differ : (i j : ℕ) → i <
   taken k n x es whole some rest =
       let all = beside (name_at k) x ∷ at_names name_at es in
       let others = map (λ name. row_number_beside name all) (names_from name_at (suc k) n) in
-      let nonzero : is_zero_number x ≡ false = false_from_ne_true (is_zero_number x) (λ z. some ((is_zero-decides x).0 z)) in
+      let nonzero : is_zero x ≡ false = false_from_ne_true (is_zero x) (λ z. some ((eq_by_cmp-decides x (int (pos 0))).0 z)) in
       ap (λ y. row_entries_from k (y ∷ others)) (beside_first (at_names name_at es) (name_at k) x)
       ∙ ap (λ b. if b then row_entries_from (suc k) others else (record { 0 = k }, x) ∷ row_entries_from (suc k) others) nonzero
       ∙ ap (λ (ys : List ℚ). (record { 0 = k }, x) ∷ row_entries_from (suc k) ys) (without_first (suc k) n x k (at_names name_at es) (omega arith) (omega (arith, whole)))

@@ -17,7 +17,6 @@ use Rattle.lp_model.specs.declared.types.RowId.{RowId}
 use Rattle.lp_model.specs.declared.types.Row.{Row}
 use Rattle.lp_model.specs.declared.types.Col.{Col}
 use Rattle.mps_fields.specs.Words.{is_key}
-use Rattle.mps_fields.specs.Numbers.{is_zero_number}
 use Rattle.mps_sections.specs.Statements.{is_row_name, is_coefficient, coefficients_in}
 use Rattle.mps_sections.specs.Faults.{is_known}
 use Rattle.mps_sections.specs.declared.statements.RowLine.{RowLine}
@@ -72,7 +71,7 @@ filter_short p (x ∷ xs) = by (p x) (filter_short p xs)
 
 -- a number beside a name without sides doesn't count
 uncounted : (sided : List RowLine) (name : List ℕ) (x : ℚ) (more : List RowNumber) → is_row_name sided name ≡ false → length (coefficients_in sided (beside name x ∷ more)) ≡ length (coefficients_in sided more)
-uncounted sided name x more e = ap (λ b. length (if b && not (is_zero_number x) then beside name x ∷ coefficients_in sided more else coefficients_in sided more)) e
+uncounted sided name x more e = ap (λ b. length (if b && not (is_zero x) then beside name x ∷ coefficients_in sided more else coefficients_in sided more)) e
 
 named_uncounted : (sided : List RowLine) (name : List ℕ) (x : ℚ) (more : List Named) → is_row_name sided name ≡ false → length (coefficients_in sided (map as_number (named_number name x ++ more))) ≡ length (coefficients_in sided (map as_number more))
 named_uncounted sided name x more e = by (is_zero x)

@@ -17,7 +17,8 @@ use Rattle.sound_searches.specs.Sound.{PlainSearch, formulation_of}
 use Rattle.sound_searches.specs.Pool.{search_with_cut, AddsCuts}
 use Rattle.sound_searches.proofs.FurtherCut.{mult-more, basis-more, aside-less}
 use Rattle.node_solve.specs.Laws.{AreAllLive, LastCutsLaw}
-use Rattle.node_solve.specs.Places.{live_cuts, live_places, places_from}
+use Rattle.node_solve.specs.Places.{live_cuts, live_places}
+use Rattle.node_solve.specs.private.Places.{places_from}
 use Rattle.node_solve.specs.Rounds.{Work, Round, first_round, round_with, AddsOne, AddsAll, MakesRound, MakesRounds, new_cuts}
 use Rattle.node_solve.proofs.LiveLemmas.{live-few, places-push, live-more, places-more}
 

@@ -5,7 +5,8 @@ use Rattle.std.proofs.lemmas.List.Elements.{All-tail}
 use Rattle.lp_model.specs.declared.types.CutRow.{CutRow}
 use Rattle.kept_cuts.specs.Places.{index_among}
 use Rattle.node_solve.specs.Laws.{AreAllLive}
-use Rattle.node_solve.specs.Places.{live_cuts, live_places, places_from, IsFirstCount, AreOwnPlaces}
+use Rattle.node_solve.specs.Places.{live_cuts, live_places}
+use Rattle.node_solve.specs.private.Places.{places_from, IsFirstCount, AreOwnPlaces}
 use Rattle.node_solve.proofs.PoolLemmas.{index-at, index-past}
 
 first-live : (m n k : ℕ) (cuts : List CutRow) → n ≤ m → n ≤ length cuts → (n < m → n ≡ length cuts) → AreAllLive (take n cuts) → (live_cuts m cuts ≡ take n cuts) × (live_places m k cuts ≡ places_from k n)

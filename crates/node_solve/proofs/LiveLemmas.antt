@@ -7,7 +7,8 @@ use Rattle.lp_model.specs.declared.types.CutRow.{CutRow}
 use Rattle.lp_model.specs.declared.types.Var.TheVariants.{Cut}
 use Rattle.kept_cuts.proofs.KeptLemmas.{take-next}
 use Rattle.node_solve.specs.Laws.{AreAllLive, AreAt}
-use Rattle.node_solve.specs.Places.{live_cuts, live_places, places_from, cut_variables}
+use Rattle.node_solve.specs.Places.{live_cuts, live_places, cut_variables}
+use Rattle.node_solve.specs.private.Places.{places_from}
 
 -- ---- how many there are
 

@@ -281,7 +281,7 @@ module _ (W : Work) (lawful : IsLawful W.model) (some : ¬ IsEmptyRegion W.model
         by (inr (allowed, (_, wide))) = inl (allowed, wide_judged F path W.job.target s (run_sided n s h.run) (sides n s h.run) step wide)
 
     done_ends : (made : ℕ) (a : NodeResult) (found : List Derivation) (d : IsDoneAfter W made r a found) → EndsThere d.state d.moves W.pivots
-    done_ends made a found d = inl (d.allowed, done_judged F path W.job.target d.state (run_sided d.moves d.state d.run) (sides d.moves d.state d.run) d.own d.done)
+    done_ends made a found d = inl (d.allowed, done_judged F path W.job.target d.state (run_sided d.moves d.state d.run) (sides d.moves d.state d.run) d.own_result d.done)
 
     pivots_ends : (b : Basis) (found : List Derivation) (d : IsPivotsAfter W r b found) → EndsThere d.state W.pivots W.pivots
     pivots_ends b found d = inr (inl (refl, d.leaving))
@@ -291,8 +291,8 @@ module _ (W : Work) (lawful : IsLawful W.model) (some : ¬ IsEmptyRegion W.model
     two_done : (made : ℕ) (a b : NodeResult) (f g : List Derivation) → IsDoneAfter W made r a f → IsDoneAfter W made r b g → (a ≡ b) × (f ≡ g)
     two_done made a b f g d e =
         let one = one_last d.moves e.moves d.state e.state d.run (done_ends made a f d) e.run (done_ends made b g e) in
-        let other : IsDone F path W.job.target d.state e.own = subst (λ s. IsDone F path W.job.target s e.own) (sym one.state) e.done in
-        let own = done_one F path W.job.target d.state (run_sided d.moves d.state d.run) (sides d.moves d.state d.run) d.own e.own d.done other in
+        let other : IsDone F path W.job.target d.state e.own_result = subst (λ s. IsDone F path W.job.target s e.own_result) (sym one.state) e.done in
+        let own = done_one F path W.job.target d.state (run_sided d.moves d.state d.run) (sides d.moves d.state d.run) d.own_result e.own_result d.done other in
         (d.result_is ∙ ap (result_in_pool r.places) own ∙ sym e.result_is, d.found_are ∙ sym e.found_are)
 
     two_pivots : (b c : Basis) (f g : List Derivation) → IsPivotsAfter W r b f → IsPivotsAfter W r c g → (b ≡ c) × (f ≡ g)
@@ -305,18 +305,18 @@ module _ (W : Work) (lawful : IsLawful W.model) (some : ¬ IsEmptyRegion W.model
         let one = one_last d.moves W.pivots d.state e.state d.run (done_ends made a f d) e.run (pivots_ends b g e) in
         let sided = run_sided d.moves d.state d.run in
         let even = sides d.moves d.state d.run in
-        judged_not_pivots F path W.job.target d.state sided even d.moves W.pivots one.moves d.allowed (done_judged F path W.job.target d.state sided even d.own d.done) (subst HasLeaving (sym one.state) e.leaving)
+        judged_not_pivots F path W.job.target d.state sided even d.moves W.pivots one.moves d.allowed (done_judged F path W.job.target d.state sided even d.own_result d.done) (subst HasLeaving (sym one.state) e.leaving)
 
     done_and_wide : (made : ℕ) (a : NodeResult) (f : List Derivation) (step : WideStep) (basis : Basis) → IsDoneAfter W made r a f → Stops made step basis → ⊥
     done_and_wide made a f step basis d (inl stop) = stop_not_run step basis stop d.moves d.state d.run
     done_and_wide made a f step basis d (inr (n, (s, e))) =
         let one = one_last n d.moves s d.state e.run (stop_ends made n s step basis e) d.run (done_ends made a f d) in
-        by (subst (λ t. IsDone F path W.job.target t d.own) (sym one.state) d.done) e.at
+        by (subst (λ t. IsDone F path W.job.target t d.own_result) (sym one.state) d.done) e.at
       where
-        by : IsDone F path W.job.target s d.own → Step made n s step → ⊥
+        by : IsDone F path W.job.target s d.own_result → Step made n s step → ⊥
         by done (inl (_, wide)) =
-            judged_not_wide F path W.job.target s (run_sided n s e.run) (sides n s e.run) (done_judged F path W.job.target s (run_sided n s e.run) (sides n s e.run) d.own done) n W.pivots step wide
-        by done (inr (_, (_, wide))) = done_fits F path W.job.target s (run_sided n s e.run) (sides n s e.run) d.own step done wide
+            judged_not_wide F path W.job.target s (run_sided n s e.run) (sides n s e.run) (done_judged F path W.job.target s (run_sided n s e.run) (sides n s e.run) d.own_result done) n W.pivots step wide
+        by done (inr (_, (_, wide))) = done_fits F path W.job.target s (run_sided n s e.run) (sides n s e.run) d.own_result step done wide
 
     pivots_and_wide : (made : ℕ) (b : Basis) (f : List Derivation) (step : WideStep) (basis : Basis) → IsPivotsAfter W r b f → Stops made step basis → ⊥
     pivots_and_wide made b f step basis d (inl stop) = stop_not_run step basis stop W.pivots d.state d.run

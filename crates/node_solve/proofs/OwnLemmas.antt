@@ -16,7 +16,8 @@ use Rattle.basic_solution.specs.Held.{Held}
 use Rattle.basic_solution.specs.Lists.{IsBasisOf}
 use Rattle.node_solve.specs.Laws.{AreAllLive}
 use Rattle.node_solve.specs.Works.{IsWholeAt, IsFirstFractional, ClosesAt, IsWideAtEnd}
-use Rattle.node_solve.specs.Rounds.{Work, Round, RunsTo, form_in, EndsAt, IsDoneAfter, IsWorked}
+use Rattle.node_solve.specs.Rounds.{Work, Round, RunsTo, form_in, IsDoneAfter, IsWorked}
+use Rattle.node_solve.specs.private.Rounds.{EndsAt}
 use Rattle.node_solve.specs.Places.{result_in_pool}
 use Rattle.node_solve.specs.private.Ends.{IsOptimumAt, IsNoneAt, IsFoundIn, IsOwnEndAt, IsLastRound, IsOwnStop}
 use Rattle.node_solve.specs.declared.working.Own.TheVariants as own
@@ -83,7 +84,7 @@ module _ (W : Work) (r : Round) where
     run = e.run;
     allowed = e.holds.1.0;
     last = e.holds.0;
-    own = own_result;
+    own_result = own_result;
     done = e.holds.1.1;
     result_is = same;
     found_are = refl;

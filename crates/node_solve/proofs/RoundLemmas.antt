@@ -11,7 +11,8 @@ use Rattle.cover_cuts.specs.Cuts.{IsCutOf, IsPoolOf}
 use Rattle.leaf_dual.specs.Dual.{HavePlaces}
 use Rattle.node_solve.specs.Laws.{AreAllLive}
 use Rattle.node_solve.specs.Places.{live_cuts, live_places, ArePoolPlaces, with_cut_variables}
-use Rattle.node_solve.specs.Rounds.{Work, Round, IsAddable, AddsOne, AddsAll, AddsCovers, MayGoOn, IsNextAnswer}
+use Rattle.node_solve.specs.Rounds.{Work, Round, IsAddable, AddsOne, AddsAll, AddsCovers, MayGoOn}
+use Rattle.node_solve.specs.private.Rounds.{IsNextAnswer}
 use Rattle.node_solve.specs.private.RoundCode.{round_of, IsKeptRound}
 use Rattle.node_solve.specs.declared.rounds.Round.{Round as HeldRound}
 use Rattle.node_solve.proofs.LiveLemmas.{live-few, places-length, live-all, live-are, live-at}

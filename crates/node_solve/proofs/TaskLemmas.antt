@@ -26,7 +26,8 @@ use Rattle.dual_simplex.proofs.HeldLemmas.{same_list}
 use Rattle.node_solve.specs.Laws.{AreAllLive}
 use Rattle.node_solve.specs.Runs.{IsPlainOf, NamesIntegers}
 use Rattle.node_solve.specs.Works.{IsWholeAt, IsFirstFractional, IsAllowedBy}
-use Rattle.node_solve.specs.Rounds.{Work, Round, form_in, first_in, RunsTo, HasRowOf, IsAddable, AddsOne, MayGoOn, IsSolvedIn}
+use Rattle.node_solve.specs.Rounds.{Work, Round, form_in, first_in, RunsTo, HasRowOf, IsAddable, AddsOne, MayGoOn}
+use Rattle.node_solve.specs.private.Rounds.{IsSolvedIn}
 use Rattle.node_solve.specs.private.RoundCode.{round_of, run_end, unstarted}
 use Rattle.node_solve.specs.declared.rounds.Round.{Round as HeldRound}
 use Rattle.node_solve.proofs.EndLemmas.{not_whole, run_of, optimum_allowed}

@@ -10,7 +10,8 @@ use Rattle.basic_solution.specs.Lists.{IsBasisOf}
 use Rattle.dual_simplex.specs.Answers.{HasLeaving}
 use Rattle.dual_simplex.specs.Solves.{IsLpOptimum, IsLpInfeasible}
 use Rattle.node_solve.specs.Works.{IsRunWide}
-use Rattle.node_solve.specs.Rounds.{Work, Round, form_in, first_in, RunsTo, EndsAt, EndsRounds, IsLastAt, IsNextAnswer, MakesRounds, IsMethodWide, IsPivotsAfter, IsWorked}
+use Rattle.node_solve.specs.Rounds.{Work, Round, form_in, first_in, RunsTo, EndsRounds, IsLastAt, MakesRounds, IsPivotsAfter, IsWorked}
+use Rattle.node_solve.specs.private.Rounds.{EndsAt, IsNextAnswer, IsMethodWide}
 use Rattle.node_solve.specs.private.Ends.{IsOptimumAt, IsNoneAt, IsOwnEndAt, IsLastRound, IsOwnStop}
 use Rattle.node_solve.specs.declared.working.Own.{Own}
 use Rattle.node_solve.specs.declared.working.Worked.{Worked}

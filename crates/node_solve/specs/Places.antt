@@ -1,6 +1,6 @@
 -- The cuts of a relaxation beside those of a pool: the relaxation has the first that count, and names each by its place among
 -- them; what is kept of a leaf names it by its place in the pool.
-use Rattle.std.specs.Prelude.{◌≡◌, ℕ, zero, suc, if◌then◌else◌, List, [], ◌∷◌, ◌++◌, ◌<◌, ◌≤◌, length, get_or, take, map, All}
+use Rattle.std.specs.Prelude.{ℕ, zero, suc, if◌then◌else◌, List, [], ◌∷◌, ◌++◌, ◌<◌, get_or, map, All}
 use Rattle.frac128.specs.Rational.{ℚ}
 use Rattle.kept_cuts.specs.Places.{index_among}
 use Rattle.lp_model.specs.Limits.{pool_limit}
@@ -23,21 +23,6 @@ abbrev pub live_places : ℕ → ℕ → List CutRow → List ℕ
 live_places zero k cuts = []
 live_places (suc n) k [] = []
 live_places (suc n) k (c ∷ cuts) = if c.live then k ∷ live_places n (suc k) cuts else live_places (suc n) (suc k) cuts
-
--- so many places, from k on
-abbrev pub places_from : ℕ → ℕ → List ℕ
-places_from k zero = []
-places_from k (suc n) = k ∷ places_from (suc k) n
-
--- those cuts are the first n, as where each of the first counts
-pub record IsFirstCount (pool : List CutRow) (n : ℕ) : Type 0 where
-  pub within : n ≤ length pool
-  pub cuts : live_cuts 200 pool ≡ take n pool
-  pub places : live_places 200 0 pool ≡ places_from 0 n
-
--- each cut has its own place
-abbrev pub AreOwnPlaces : List ℕ → Type 0
-AreOwnPlaces places = (i : ℕ) → i < length places → get_or places i 0 ≡ i
 
 -- places of a pool with at most 10,000 cuts
 abbrev pub ArePoolPlaces : List ℕ → Type 0

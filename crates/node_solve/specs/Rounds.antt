@@ -4,7 +4,7 @@
 --     MakesRounds W n r        n rounds were made with new cuts, and r is the next one
 --     IsWorked W worked        what the work answers: a result, with the rounds and the run that led to it; or where the run of
 --                              the last round stopped
-use Rattle.std.specs.Prelude.{◌≡◌, ◌⊎◌, ℕ, zero, suc, ◌+◌, ◌-◌, ◌<◌, Bool, true, false, List, [], ◌∷◌, ◌++◌, length, get_or, drop, IsTrue, Option, Some, None}
+use Rattle.std.specs.Prelude.{◌≡◌, ◌⊎◌, ℕ, zero, suc, ◌+◌, ◌-◌, ◌<◌, List, [], ◌∷◌, ◌++◌, length, get_or, drop, IsTrue, Option, Some, None}
 use Rattle.lp_model.specs.Limits.{pool_limit}
 use Rattle.lp_model.specs.Program.{Program, Point}
 use Rattle.lp_model.specs.Formulations.{Formulation, formulation}
@@ -23,10 +23,7 @@ use Rattle.dual_simplex.specs.Solves.{IsLpOptimum}
 use Rattle.node_solve.specs.Runs.{IsSimplexRun}
 use Rattle.node_solve.specs.Works.{IsWholeAt, IsDone, IsAllowedBy, IsRunWide, IsOfLeaf}
 use Rattle.node_solve.specs.Places.{live_cuts, live_places, basis_in_relaxation, result_in_pool, with_cut_variables}
-use Rattle.lp_model.specs.declared.types.WideStep.{WideStep}
-use Rattle.dual_simplex.specs.Solves.{IsLpInfeasible}
 use Rattle.node_solve.specs.declared.rounds.Solved.{Solved}
-use Rattle.node_solve.specs.declared.rounds.Solved.TheVariants as solved
 use Rattle.node_solve.specs.declared.working.Worked.{Worked}
 use Rattle.node_solve.specs.declared.working.Worked.TheVariants.{Done, Pivots, Wide, Memory}
 
@@ -127,12 +124,6 @@ pub record MakesRound (W : Work) (made : ℕ) (r next : Round) : Type 0 where
   pub more : length r.cuts < length after.cuts
   pub next_is : next ≡ record after { list = with_cut_variables basis (length r.cuts) (length after.cuts - length r.cuts) }
 
--- whether a further round is made at an optimum with this basis, and the round then
-abbrev pub IsNextAnswer : Work → ℕ → Round → Point → Basis → Bool → Round → Type 0
-IsNextAnswer W made r x basis true next =
-    MayGoOn W made r x × ((after : Round) × (AddsCovers W r x after × ((length r.cuts < length after.cuts) × (next ≡ record after { list = with_cut_variables basis (length r.cuts) (length after.cuts - length r.cuts) }))))
-IsNextAnswer W made r x basis false next = (next ≡ r) × IsLastAt W made r x
-
 abbrev pub MakesRounds : Work → ℕ → Round → Type 0
 MakesRounds W zero r = r ≡ first_round W
 MakesRounds W (suc n) r = (before : Round) × (MakesRounds W n before × MakesRound W n before r)
@@ -145,27 +136,6 @@ EndsRounds W made r s = (x : Point) (mult : Multipliers) → IsLpOptimum s x mul
 abbrev pub new_cuts : Work → Round → List CutRow
 new_cuts W r = drop (length (live_cuts 200 W.pool)) r.cuts
 
--- ---- one round
-
--- moves within the limit lead to the state, and P holds there
-pub record EndsAt (W : Work) (r : Round) (P : ℕ → Held → Type 0) : Type 0 where
-  pub moves : ℕ
-  pub state : Held
-  pub run : RunsTo W r moves state
-  pub holds : P moves state
-
--- the method stops at a step without room, before the end of the run
-abbrev pub IsMethodWide : Work → Round → Basis → WideStep → Type 0
-IsMethodWide W r basis step = IsRunWide (form_in W r) W.job.region r.list (first_in W r) W.pivots (λ s. ⊥) basis step
-
--- what the relaxation of the round comes to
-abbrev pub IsSolvedIn : Work → Round → Solved → Type 0
-IsSolvedIn W r (solved.Optimal point mult basis) = EndsAt W r (λ n s. IsAllowedBy W.pivots n s × (IsLpOptimum s point mult × IsBasisOf s basis))
-IsSolvedIn W r (solved.Infeasible farkas mult basis) = EndsAt W r (λ n s. IsAllowedBy W.pivots n s × (IsLpInfeasible s farkas mult × IsBasisOf s basis))
-IsSolvedIn W r (solved.Pivots basis) = EndsAt W r (λ n s. (n ≡ W.pivots) × (HasLeaving s × IsBasisOf s basis))
-IsSolvedIn W r (solved.Wide step basis) = IsMethodWide W r basis step
-IsSolvedIn W r solved.Memory = Unit {0}
-
 -- ---- the work
 
 -- the result by the names of the pool, with those cuts behind it that were added
@@ -175,9 +145,9 @@ pub record IsDoneAfter (W : Work) (made : ℕ) (r : Round) (result : NodeResult)
   pub run : RunsTo W r moves state
   pub allowed : IsAllowedBy W.pivots moves state
   pub last : EndsRounds W made r state
-  pub own : NodeResult
-  pub done : IsDone (form_in W r) W.job.region W.job.target state own
-  pub result_is : result ≡ result_in_pool r.places own
+  pub own_result : NodeResult
+  pub done : IsDone (form_in W r) W.job.region W.job.target state own_result
+  pub result_is : result ≡ result_in_pool r.places own_result
   pub found_are : found ≡ r.added
 
 -- as many moves as the limit allows lead to a state with a basic variable outside a side, whose basis this is in the relaxation

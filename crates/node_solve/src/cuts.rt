@@ -1,6 +1,7 @@
 // The cuts of a relaxation: lent by the pool as long as they are its first ones, and copied where another one is added.
 ghost use Rattle.std.specs.Prelude.{◌≡◌, ◌<◌, ◌≤◌, [], ◌∷◌, ◌++◌, length, IfOk, IfSome};
-ghost use Rattle.node_solve.specs.Places.{live_cuts, live_places, places_from, IsFirstCount};
+ghost use Rattle.node_solve.specs.Places.{live_cuts, live_places};
+ghost use Rattle.node_solve.specs.private.Places.{places_from, IsFirstCount};
 ghost use Rattle.lp_model.specs.Limits.{pool_limit};
 
 use crate::places::{CUT_LIMIT, LiveCuts, push_copy};

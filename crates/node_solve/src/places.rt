@@ -2,7 +2,8 @@
 ghost use Rattle.std.specs.Prelude.{◌≡◌, ◌≤◌, ◌+◌, ◌-◌, ◌++◌, ◌∷◌, [], length, map, get_or, IsTrue, IfOk};
 ghost use Rattle.branch_tree.specs.declared.node.NodeResult.TheVariants.{Close, Split, PointAndClose, Keep};
 ghost use Rattle.kept_cuts.specs.Places.{index_among};
-ghost use Rattle.node_solve.specs.Places.{live_cuts, live_places, ArePoolPlaces, AreOwnPlaces, var_in_relaxation, var_in_pool, basis_in_relaxation, basis_in_pool, mult_in_pool, result_in_pool, with_cut_variables};
+ghost use Rattle.node_solve.specs.Places.{live_cuts, live_places, ArePoolPlaces, var_in_relaxation, var_in_pool, basis_in_relaxation, basis_in_pool, mult_in_pool, result_in_pool, with_cut_variables};
+ghost use Rattle.node_solve.specs.private.Places.{AreOwnPlaces};
 ghost use Rattle.lp_model.specs.Limits.{pool_limit};
 
 use branch_tree::NodeResult;

@@ -1,7 +1,8 @@
 // Rounds: the relaxation of a leaf with the cuts that it has, and the cuts that its optimum violates.
 ghost use Rattle.std.specs.Prelude.{◌≡◌, ◌↔◌, ◌<◌, ◌+◌, ◌-◌, ◌++◌, ◌∷◌, [], length, IsTrue, IfOk};
 ghost use Rattle.cover_cuts.specs.Cuts.{IsPoolOf};
-ghost use Rattle.node_solve.specs.Rounds.{HasRowOf, IsAddable, AddsOne, AddsAll, AddsCovers, MayGoOn, IsSolvedIn, IsNextAnswer, first_round, first_in};
+ghost use Rattle.node_solve.specs.Rounds.{HasRowOf, IsAddable, AddsOne, AddsAll, AddsCovers, MayGoOn, first_round, first_in};
+ghost use Rattle.node_solve.specs.private.Rounds.{IsSolvedIn, IsNextAnswer};
 ghost use Rattle.node_solve.specs.private.RoundCode.{task_work, round_of, run_end, unstarted, IsKeptRound, IsTask};
 
 use crate::cuts::{RelaxationCuts, first_cuts};

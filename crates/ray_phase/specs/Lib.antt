@@ -1,3 +1,4 @@
 pub mod Answers
 pub mod Beginnings
 pub mod Laws
+pub mod private

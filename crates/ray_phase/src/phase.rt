@@ -1,7 +1,8 @@
 // The ray phase.
 ghost use Rattle.std.specs.Prelude.{◌≡◌, ℕ, [], None, length, IfOk};
 ghost use Rattle.basic_solution.specs.Lists.{IsBasisOf};
-ghost use Rattle.ray_phase.specs.Answers.{IsStart, IsDirectionsState, IsBest, IsRunTo, IsRayEnd, IsRayAnswer};
+ghost use Rattle.ray_phase.specs.Answers.{IsStart, IsRayEnd, IsRayAnswer};
+ghost use Rattle.ray_phase.specs.private.Answers.{IsDirectionsState, IsBest, IsRunTo};
 
 use crate::lawful::high_variables;
 use dual_simplex::{Lp, LpState};

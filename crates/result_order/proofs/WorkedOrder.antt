@@ -64,9 +64,9 @@ pub worked-order : WorkedOrderLaw
 worked-order W (Done result found) (made, (r, (makes, d))) =
     let at = pool-at W made r makes in
     let F : Formulation = form_in W r in
-    let there = lists_there F W.job.region d.state (state_of W r d.moves d.state d.run) W.job.target d.own d.done in
-    let own = done-order F W.job.region W.job.target d.state d.own d.done in (
-      subst IsResultInOrder (sym d.result_is) (in-pool W.model at.0 r.cuts r.places at.1 d.own there own),
+    let there = lists_there F W.job.region d.state (state_of W r d.moves d.state d.run) W.job.target d.own_result d.done in
+    let own = done-order F W.job.region W.job.target d.state d.own_result d.done in (
+      subst IsResultInOrder (sym d.result_is) (in-pool W.model at.0 r.cuts r.places at.1 d.own_result there own),
       subst (AreCutsInOrder W.model) (sym d.found_are) (rounds-rise W made r makes),
     )
 worked-order W (Pivots basis found) (made, (r, (makes, d))) = (basis-order d.state basis d.basis_is, subst (AreCutsInOrder W.model) (sym d.found_are) (rounds-rise W made r makes))

@@ -6,7 +6,7 @@ use Rattle.frac128.specs.Rational.{int}
 use Rattle.table_entries.specs.Relaxation.{Table}
 use Rattle.table_entries.specs.Bases.{Lists, MayLeave}
 use Rattle.row_tableau.specs.Dense.{Dense, table_of}
-use Rattle.row_tableau.specs.Answers.{IsFirstLeaving}
+use Rattle.row_tableau.specs.private.Answers.{IsFirstLeaving}
 
 module _ (t : Dense) (list : List ℕ) (place row : ℕ) where
   abbrev d : Table

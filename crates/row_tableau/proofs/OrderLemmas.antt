@@ -112,7 +112,7 @@ module _ (p : Relaxation) (parts : ℕ → ℕ → ℚ) (order : List ℕ) (tilt
 
   pub separated : ((v : ℕ) → ¬ (IsFree p v) → Lists order v × (¬ (tilt v ≡ Free))) → Separates p parts
   separated tilted = record {
-    own = λ v. own_part v (found_or_not (length order) (listed order) v);
+    own_part = λ v. own_part v (found_or_not (length order) (listed order) v);
     own_some = λ v some e. let t = tilted v some in sign_some (tilt v) t.1 (sym (own_same tilt v) ∙ sym (part_cost v (found_or_not (length order) (listed order) v) t.0 v) ∙ e);
     own_alone = λ v u some other. part_cost v (found_or_not (length order) (listed order) v) (tilted v some).0 u ∙ own_other tilt v u other;
   }

@@ -1,9 +1,6 @@
 -- What a tableau keeps: its lists, and entries of which some rows may not be written.
-use Rattle.std.specs.Prelude.{◌≡◌, ℕ, ◌*◌, ◌/◌, ◌%◌, ◌<◌, List, get_or, length, pos}
-use Rattle.frac128.specs.Rational.{ℚ, int}
-use Rattle.lp_model.specs.Formulations.{Formulation}
+use Rattle.std.specs.Prelude.{◌≡◌, ℕ, List, get_or}
 use Rattle.table_entries.specs.Parts.{Parts, filled, AreColumnsWritten}
-use Rattle.row_tableau.specs.Activities.{activity_count, activity_coefficient}
 use Rattle.row_tableau.specs.Dense.{IsShaped}
 
 -- the slot of each variable
@@ -16,8 +13,3 @@ pub record IsLaidOut (columns rows activities : ℕ) (variables positions : List
   pub entry_columns : entries.columns ≡ columns
   pub entry_rows : entries.rows ≡ activities
   pub columns_written : AreColumnsWritten entries (variable_slots positions)
-
--- the entries of the slack table, activity by activity: the coefficients
-pub record IsSlackList (F : Formulation) (list : List ℚ) : Type 0 where
-  pub size : length list ≡ activity_count F * length F.model.cols
-  pub items : (at : ℕ) → at < activity_count F * length F.model.cols → get_or list at (int (pos 0)) ≡ activity_coefficient F (at / length F.model.cols) (at % length F.model.cols)

@@ -3,8 +3,8 @@ use Rattle.std.proofs.Common.{ℕ, ◌≤◌, Bool, List, arith}
 use Rattle.std.specs.Prelude.{Result, Ok, Err}
 use Rattle.sym_io.specs.Faults.{Rose}
 use Rattle.script_session.specs.Request.{Command, Request}
-use Rattle.script_session.specs.Output.{SinkCause, SourceCause}
-use Rattle.script_session.specs.Session.{Moment, ServesPiece, ServesRest}
+use Rattle.script_session.specs.private.Causes.{SinkCause, SourceCause}
+use Rattle.script_session.specs.private.Session.{Moment, ServesPiece, ServesRest}
 use Rattle.script_session.specs.Stand.{Stand}
 use Rattle.script_session.specs.declared.session.Stop.{Stop}
 use Rattle.script_session.specs.declared.session.Stop.TheVariants as stop

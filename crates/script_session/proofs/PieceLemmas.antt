@@ -4,7 +4,7 @@ use Rattle.std.specs.Prelude.{if◌then◌else◌, Result, Ok, Err}
 use Rattle.text_lines.specs.Lines.{Line, ended_line, HasNoNewline, text_of}
 use Rattle.script_session.specs.Request.{Command, Request, Overlong}
 use Rattle.script_session.specs.Script.{is_long_line, text_requests, is_end_text, is_end, line_requests}
-use Rattle.script_session.specs.Session.{Moment, Serves, Breaks, Wants, Reads, ServesOne, ServesAll, ServesLine, ServesPiece}
+use Rattle.script_session.specs.private.Session.{Moment, Serves, Breaks, Wants, Reads, ServesOne, ServesAll, ServesLine, ServesPiece}
 use Rattle.script_session.specs.Stand.{Stand}
 use Rattle.script_session.specs.declared.session.Flow.{Flow}
 use Rattle.script_session.specs.declared.session.Flow.TheVariants.{Open, Ended}

@@ -12,7 +12,7 @@ use Rattle.text_lines.specs.Lines.{HasNoNewline, is_newline, last_line}
 use Rattle.text_lines.proofs.LineLemmas.{lines-nothing, lines-last}
 use Rattle.text_lines.proofs.WordLemmas.{something}
 use Rattle.script_session.specs.Script.{requests, line_requests, is_end, script_requests, whole_requests, has_ending}
-use Rattle.script_session.specs.Session.{Moment, Serves, Breaks, Wants, Halts, StopsShort, Reads, Begins, ServesLine, ServesPiece, ServesRest, ServesTaken, ServesScript}
+use Rattle.script_session.specs.private.Session.{Moment, Serves, Breaks, Wants, Halts, StopsShort, Reads, Begins, ServesLine, ServesPiece, ServesRest, ServesTaken, ServesScript}
 use Rattle.script_session.specs.Stand.{Stand}
 use Rattle.script_session.specs.declared.session.Flow.TheVariants.{Open, Ended}
 use Rattle.script_session.specs.declared.session.Stop.{Stop}

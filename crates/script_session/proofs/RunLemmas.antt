@@ -3,11 +3,11 @@ use Rattle.std.proofs.Common.{◌≡◌, ℕ, ◌≤◌, Bool, false, ◌||◌, 
 use Rattle.std.specs.Prelude.{Ok, Err}
 use Rattle.std.specs.List.{list_any, concat}
 use Rattle.std.specs.Io.KnownBytes.{Appends}
-use Rattle.script_session.specs.Output.{SinkCause, SourceCause}
+use Rattle.script_session.specs.private.Causes.{SinkCause, SourceCause}
 use Rattle.script_session.specs.Reply.{is_error, wants_memory, final_status, status_of}
 use Rattle.script_session.specs.Request.{Command, Request}
 use Rattle.script_session.specs.Run.{outside, IsCutShort, EndsAs, Finished, SourceFailed, SinkFailed, MemoryWanted, TooLong, IsRun}
-use Rattle.script_session.specs.Session.{Moment, Serves, StopsShort, ServesTaken, ServesScript}
+use Rattle.script_session.specs.private.Session.{Moment, Serves, StopsShort, ServesTaken, ServesScript}
 use Rattle.script_session.specs.Limits.{script_limit}
 use Rattle.script_session.specs.Stand.{Stand, Transcript}
 use Rattle.script_session.specs.declared.session.Stop.{Stop}

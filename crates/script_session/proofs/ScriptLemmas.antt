@@ -8,7 +8,7 @@ use Rattle.text_lines.specs.Words.{words_of}
 use Rattle.text_lines.proofs.LineLemmas.{lines-ended, lines-nothing, lines-last}
 use Rattle.script_session.specs.Request.{Command, Request, Overlong, Words}
 use Rattle.script_session.specs.Script.{is_comment, is_silent, is_long_line, text_requests, is_end_text, whole_lines, requests, line_requests, is_end, script_requests, whole_requests, has_ending}
-use Rattle.script_session.specs.Session.{Reads, Finishes, Begins}
+use Rattle.script_session.specs.private.Session.{Reads, Finishes, Begins}
 
 whole_lines-line : (line rest : List ℕ) → HasNoNewline line → whole_lines (line ++ 10 ∷ rest) ≡ ended_line line ∷ whole_lines rest
 unfolding whole_lines

@@ -6,7 +6,7 @@ use Rattle.std.proofs.lemmas.List.Folds.{concat-append}
 use Rattle.script_session.specs.Output.{WritesFront}
 use Rattle.script_session.specs.Reply.{wants_memory, is_error}
 use Rattle.script_session.specs.Request.{Command, Request, Overlong, overlong_text, RequestStep}
-use Rattle.script_session.specs.Session.{Moment, Serves, Breaks, Wants}
+use Rattle.script_session.specs.private.Session.{Moment, Serves, Breaks, Wants}
 use Rattle.script_session.specs.Run.{LosesReply}
 use Rattle.script_session.specs.Stand.{Stand, Transcript}
 use Rattle.script_session.proofs.OutputLemmas.{Appends-none, Appends-append}

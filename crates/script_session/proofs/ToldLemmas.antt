@@ -11,7 +11,7 @@ use Rattle.script_session.specs.Request.{Command, Request}
 use Rattle.script_session.specs.Reply.{final_status, status_of, wants_memory, is_error}
 use Rattle.text_lines.specs.Lines.{HasNoNewline, is_newline, ended_line}
 use Rattle.script_session.specs.Script.{line_requests, is_end, script_requests, whole_requests, has_ending, IsWithinLimit, IsOverlong}
-use Rattle.script_session.specs.Session.{Reads, Finishes}
+use Rattle.script_session.specs.private.Session.{Reads, Finishes}
 use Rattle.script_session.specs.Run.{Outside, Answers, IsCutOff, IsCutShort, IsAll, IsAnswerable, EndsAs, Finished, SourceFailed, SinkFailed, MemoryWanted, TooLong}
 use Rattle.script_session.specs.Told.{allowed_requests, IsRunOf, ToldLaw}
 use Rattle.script_session.specs.Limits.{script_limit}

@@ -7,4 +7,4 @@ pub mod Reply
 pub mod Run
 pub mod Told
 pub mod Output
-pub mod Session
+pub mod private

@@ -1,8 +1,8 @@
 // A script, read piece by piece.
 ghost use Rattle.std.specs.Prelude.{◌≤◌};
-ghost use Rattle.script_session.specs.Output.{SinkCause, SourceCause};
+ghost use Rattle.script_session.specs.private.Causes.{SinkCause, SourceCause};
 ghost use Rattle.script_session.specs.Request.{RequestStep};
-ghost use Rattle.script_session.specs.Session.{moment_of, ServesScript};
+ghost use Rattle.script_session.specs.private.Session.{moment_of, ServesScript};
 
 use crate::machine::Machine;
 use crate::session::{Flow, Session, Stop};

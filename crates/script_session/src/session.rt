@@ -1,6 +1,6 @@
 // A script's lines, answered one by one as they come.
 ghost use Rattle.std.specs.Prelude.{◌≡◌, ◌<◌, ◌≤◌, ◌++◌, ◌∷◌, [], ◌||◌, true, false, length, map, OnOk};
-ghost use Rattle.script_session.specs.Output.{SinkCause};
+ghost use Rattle.script_session.specs.private.Causes.{SinkCause};
 ghost use Rattle.script_session.specs.Reply.{wants_memory, is_error, final_status};
 ghost use Rattle.script_session.specs.Request.{RequestStep, Words};
 ghost use Rattle.text_lines.specs.Lines.{HasNoNewline};
@@ -50,7 +50,7 @@ pub(crate) struct Session {
 }
 
 impl Session {
-    ghost use Rattle.script_session.specs.Session.{moment_of, ServesOne, ServesAll, ServesLine, ServesPiece, ServesRest};
+    ghost use Rattle.script_session.specs.private.Session.{moment_of, ServesOne, ServesAll, ServesLine, ServesPiece, ServesRest};
 
     pub(crate) fn new(alloc: Global) -> Self
         ensures refused { result.refused ≡ false }

@@ -16,7 +16,8 @@ use Rattle.branch_tree.specs.Preorder.{DataTree, data_nodes}
 use Rattle.branch_tree.specs.declared.node.NodeData.{NodeData}
 use Rattle.branch_tree.specs.declared.node.NodeData.TheVariants.{Split as SplitNode, Leaf as LeafNode}
 use Rattle.branch_tree.proofs.PreorderLemmas.{apart}
-use Rattle.search_file.specs.Lawful.{lawful_tree, is_lawful_node, merged_node, trees_out, lawful_behind, PutsLawfulNode}
+use Rattle.search_file.specs.Lawful.{lawful_tree}
+use Rattle.search_file.specs.private.Lawful.{is_lawful_node, merged_node, trees_out, lawful_behind, PutsLawfulNode}
 
 module _ (M : Program) where
   -- ---- one node

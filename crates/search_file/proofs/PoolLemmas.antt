@@ -10,7 +10,7 @@ use Rattle.lp_model.specs.declared.types.Derivation.{Derivation}
 use Rattle.cover_cuts.specs.Answers.{DerivesWithRoom}
 use Rattle.cover_cuts.specs.Cuts.{cover_terms, cover_high, IsCutOf, IsPoolOf}
 use Rattle.kept_cuts.specs.Kept.{derivations_of}
-use Rattle.search_file.specs.Saved.{IsPoolFrom}
+use Rattle.search_file.specs.private.Saved.{IsPoolFrom}
 
 module _ (M : Program) where
   pub pool-none : (ys : List CutRow) → ys ≡ [] → IsPoolFrom M [] ys

@@ -23,7 +23,8 @@ use Rattle.branch_tree.proofs.PreorderLemmas.{apart, each_split-numbered}
 use Rattle.search_parts.specs.Lists.{IsThere, IsActivityThere, NamesOnce, AreMultipliers, IsBasis, HasNodeLists}
 use Rattle.sound_searches.specs.Sound.{IsSoundTree}
 use Rattle.search_file.specs.Lawful.{lawful_tree}
-use Rattle.search_file.specs.Saved.{uncounted, IsRestorableNode, IsPoolFrom}
+use Rattle.search_file.specs.Saved.{uncounted, IsRestorableNode}
+use Rattle.search_file.specs.private.Saved.{IsPoolFrom}
 use Rattle.search_file.proofs.LawfulLemmas.{all-lawful, lawful-splits}
 
 -- ---- lists name as much where there are as many cuts

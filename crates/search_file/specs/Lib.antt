@@ -2,3 +2,4 @@ pub mod Lawful
 pub mod Saved
 pub mod Files
 pub mod Laws
+pub mod private

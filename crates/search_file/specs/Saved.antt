@@ -5,15 +5,13 @@
 --     Restores s S            the search has the stated model, the stated cuts, those of the stated points that may be kept, and the
 --                             stated tree, but for splits that are not on an integer column. Its ids are 1, 2 and so on in preorder.
 --                             Its type says that each cut counts exactly where it derives, and the states of its leaves are judged
-use Rattle.std.specs.Prelude.{◌≡◌, ◌≤◌, List, [], length, map, All, ℤ, pos, ◌<ℤ◌, false}
+use Rattle.std.specs.Prelude.{◌≡◌, ◌≤◌, [], length, map, All, ℤ, pos, ◌<ℤ◌, false}
 use Rattle.frac128.specs.Rational.{int}
 use Rattle.frac128.specs.Range.{IsNarrow, largest}
-use Rattle.lp_model.specs.Program.{Program}
 use Rattle.lp_model.specs.Formulations.{Formulation, formulation}
 use Rattle.lp_model.specs.declared.types.Basis.{Basis}
 use Rattle.lp_model.specs.declared.types.CutRow.{CutRow}
 use Rattle.lp_model.specs.declared.types.Derivation.{Derivation}
-use Rattle.cover_cuts.specs.Cuts.{IsPoolOf}
 use Rattle.leaf_dual.specs.Dual.{Multipliers}
 use Rattle.lp_model.specs.Limits.{node_limit, pool_limit, point_limit}
 use Rattle.branch_tree.specs.Preorder.{DataTree, data_nodes, without_ids, numbered_tree, IsOneTree}
@@ -58,11 +56,6 @@ pub record IsRestorable (s : SearchData) : Type 0 where
   pub few_points : length s.points ≤ point_limit
   pub tree : IsOneTree s.nodes
   pub nodes : All (IsRestorableNode (stated_formulation s)) s.nodes
-
--- the pool has the cuts of these derivations, in their order
-pub record IsPoolFrom (M : Program) (ds : List Derivation) (cuts : List CutRow) : Type 0 where
-  pub derivations : derivations_of cuts ≡ ds
-  pub pool : IsPoolOf M cuts
 
 -- ---- what is made of it
 

@@ -2,7 +2,7 @@
 ghost use Rattle.std.specs.Prelude.{◌≡◌, ◌+◌, ◌<◌, ◌^◌, IfOk};
 ghost use Rattle.branch_tree.specs.Plain.{open_data};
 ghost use Rattle.branch_tree.specs.declared.node.NodeData.TheVariants.{Leaf};
-ghost use Rattle.search_file.specs.Lawful.{is_lawful_node, merged_node, trees_out, lawful_behind, PutsLawfulNode};
+ghost use Rattle.search_file.specs.private.Lawful.{is_lawful_node, merged_node, trees_out, lawful_behind, PutsLawfulNode};
 
 use branch_tree::{LeafData, LeafState, NodeData, copy_lists};
 use lp_model::{Basis, List, Model, Mult};

@@ -4,7 +4,8 @@ ghost use Rattle.std.specs.Prelude.{◌≡◌, ◌≤◌, length, All, IfOk};
 ghost use Rattle.lp_model.specs.Limits.{node_limit, pool_limit};
 ghost use Rattle.branch_tree.specs.Preorder.{DataTree, data_nodes, IsOneTree, numbered_tree, HasNodeBound};
 ghost use Rattle.search_file.specs.Lawful.{lawful_tree};
-ghost use Rattle.search_file.specs.Saved.{IsPoolFrom, IsRestorable, Restores};
+ghost use Rattle.search_file.specs.Saved.{IsRestorable, Restores};
+ghost use Rattle.search_file.specs.private.Saved.{IsPoolFrom};
 
 use crate::lawful::lawful_nodes;
 use branch_tree::{NodeData, Tree};

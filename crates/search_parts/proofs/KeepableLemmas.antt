@@ -7,7 +7,8 @@ use Rattle.frac128.specs.Rational.{ℚ}
 use Rattle.lp_model.specs.Elements.{without_at}
 use Rattle.lp_model.specs.Program.{Program, Point, least_value}
 use Rattle.search_parts.specs.Points.{IsKeepable}
-use Rattle.search_parts.specs.EditedPoints.{AreKeepable, AddsKeepable, AreValued}
+use Rattle.search_parts.specs.EditedPoints.{AreKeepable, AreValued}
+use Rattle.search_parts.specs.private.EditedPoints.{AddsKeepable}
 
 module _ (M : Program) where
   pub keepable-all : (xs ys : List Point) → AreKeepable M xs ys → All (IsKeepable M) ys

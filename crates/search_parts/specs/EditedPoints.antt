@@ -56,9 +56,3 @@ AreKeepable M (x ∷ xs) ys = ((¬ IsKeepable M x) × AreKeepable M xs ys) ⊎ (
 pub record AreValued (M : Program) (xs ys : List Point) (values : List ℚ) : Type 0 where
   pub keepable : AreKeepable M xs ys
   pub values_are : values ≡ map (least_value M 1) ys
-
--- the point is added, where it may be kept, with its value
-abbrev pub AddsKeepable : Program → Point → List Point → List ℚ → List Point → List ℚ → Type 0
-AddsKeepable M x points values points' values' =
-    ((¬ IsKeepable M x) × (points' ≡ points) × (values' ≡ values))
-    ⊎ (IsKeepable M x × (points' ≡ points ++ x ∷ []) × (values' ≡ values ++ least_value M 1 x ∷ []))

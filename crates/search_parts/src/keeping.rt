@@ -1,6 +1,7 @@
 // Points that may be kept, each with its value.
 ghost use Rattle.std.specs.Prelude.{IfOk, OnOk};
-ghost use Rattle.search_parts.specs.EditedPoints.{AddsKeepable, AreValued};
+ghost use Rattle.search_parts.specs.EditedPoints.{AreValued};
+ghost use Rattle.search_parts.specs.private.EditedPoints.{AddsKeepable};
 
 use crate::checks::keepable_value;
 use frac128::Frac;

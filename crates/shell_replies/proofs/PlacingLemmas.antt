@@ -21,7 +21,8 @@ use Rattle.command_words.specs.declared.words.NewNumbers.{NewNumbers}
 use Rattle.command_words.specs.declared.words.NewNumbers.TheVariants.{Sides, Costs}
 use Rattle.edit_words.specs.EditWords.{names_in}
 use Rattle.shell_replies.specs.Names.{placed_in, row_id_at, col_id_at, placed_rows, placed_cols, placed_numbers, AreThere, HasOneNumber, HaveOneNumber, IsFirstTwoSided}
-use Rattle.shell_replies.specs.Placing.{name_at, HasOneNumberAt, IsPlacedIn, IsFirstTwoSidedAt, IsUnplaced, AreNumbersPlaced}
+use Rattle.shell_replies.specs.Placing.{name_at, IsUnplaced, AreNumbersPlaced}
+use Rattle.shell_replies.specs.private.Placing.{HasOneNumberAt, IsPlacedIn, IsFirstTwoSidedAt}
 use Rattle.shell_replies.specs.declared.placing.Unplaced.{Unplaced}
 use Rattle.shell_replies.specs.declared.placing.Unplaced.TheVariants as unplaced
 

@@ -3,3 +3,4 @@ pub mod Names
 pub mod Placing
 pub mod Bounds
 pub mod Faults
+pub mod private

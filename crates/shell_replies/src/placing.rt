@@ -3,7 +3,8 @@ ghost use Rattle.std.specs.Prelude.{◌≡◌, ◌≤◌, ◌<◌, ◌^◌, ◌+
 ghost use Rattle.frac128.specs.Rational.{ℚ};
 ghost use Rattle.lp_model.specs.declared.types.RowId.{RowId as RowPlace};
 ghost use Rattle.command_words.specs.declared.words.NewNumbers.TheVariants.{Sides, Costs};
-ghost use Rattle.shell_replies.specs.Placing.{IsPlacedIn, IsFirstTwoSidedAt, AreNumbersPlaced, IsOnLine, unplaced_text};
+ghost use Rattle.shell_replies.specs.Placing.{AreNumbersPlaced, IsOnLine, unplaced_text};
+ghost use Rattle.shell_replies.specs.private.Placing.{IsPlacedIn, IsFirstTwoSidedAt};
 
 use command_words::NewNumbers;
 use dual_bounds::{OtherNumbers, has_equal_sides};

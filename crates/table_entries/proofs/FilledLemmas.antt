@@ -12,8 +12,10 @@ use Rattle.table_entries.specs.Relaxation.{updated}
 use Rattle.table_entries.proofs.SumBelowLaws.{if_same, if_other}
 use Rattle.table_entries.specs.FlatSteps.{dense_entry}
 use Rattle.table_entries.specs.WholeSteps.{IsShort, IsShortOver, magnitude, whole_number_at, is_unwritten}
-use Rattle.table_entries.specs.Listed.{Listed, IsListed, IsExchangedList, ArePartsExchanged}
-use Rattle.table_entries.specs.Parts.{Parts, IsParted, IsPartial, IsLight, IsRowTouched, IsSwap, AreColumnsWritten, any_entry, part_entry, filled, listed_entries, row_coefficient, slot_number, unwritten_entry, unwritten_number, swapped}
+use Rattle.table_entries.specs.Listed.{Listed, IsListed, IsExchangedList}
+use Rattle.table_entries.specs.private.Listed.{ArePartsExchanged}
+use Rattle.table_entries.specs.Parts.{Parts, IsParted, IsPartial, IsSwap, AreColumnsWritten, any_entry, part_entry, filled, listed_entries, row_coefficient, unwritten_entry, swapped}
+use Rattle.table_entries.specs.private.Parts.{IsLight, IsRowTouched, slot_number, unwritten_number}
 use Rattle.table_entries.proofs.PivotLemmas.{flat_within}
 use Rattle.table_entries.proofs.PartNumbers.{combined_short, entry_is, unwritten_value, numbers_length}
 use Rattle.table_entries.proofs.PartExchange.{after_is, all_fit, listed_at, listed_length, listed_same, lists_exchanged}

@@ -20,7 +20,8 @@ use Rattle.table_entries.specs.Relaxation.{pivoted_entry}
 use Rattle.table_entries.specs.Steps.{PivotStepFits, EntryFits, step_value}
 use Rattle.table_entries.specs.FlatSteps.{dense_entry, FlatFits, flat_value}
 use Rattle.table_entries.specs.WholeSteps.{IsShort, IsWholeStep, magnitude, whole_number_at, is_unwritten, AreShort, AreWithin, AreWritten}
-use Rattle.table_entries.specs.Listed.{Listed, over, listed_costs, AreOver, IsListed, IsStored, IsShortWhole, IsExchangedList, ArePartsExchanged}
+use Rattle.table_entries.specs.Listed.{Listed, over, listed_costs, AreOver, IsListed, IsStored, IsShortWhole, IsExchangedList}
+use Rattle.table_entries.specs.private.Listed.{ArePartsExchanged}
 use Rattle.table_entries.proofs.WholeLemmas.{magnitude_positive, short_narrow}
 use Rattle.table_entries.proofs.PivotLemmas.{flat_within}
 use Rattle.table_entries.proofs.RowLemmas.{flat_fits, flat_written}

@@ -14,7 +14,8 @@ use Rattle.table_entries.proofs.Pivot.{pivoted-other}
 use Rattle.table_entries.specs.FlatSteps.{dense_entry}
 use Rattle.table_entries.specs.WholeSteps.{IsShort, whole_number_at, is_unwritten}
 use Rattle.table_entries.specs.Listed.{Listed, IsListed, IsExchangedList}
-use Rattle.table_entries.specs.Parts.{unwritten_entry, row_coefficient, any_entry, slot_number, combined, swapped, listed_entries, IsLight}
+use Rattle.table_entries.specs.Parts.{unwritten_entry, row_coefficient, any_entry, swapped, listed_entries}
+use Rattle.table_entries.specs.private.Parts.{slot_number, combined, IsLight}
 use Rattle.table_entries.proofs.PivotLemmas.{flat_within}
 use Rattle.table_entries.proofs.RowLemmas.{other_test, flat_fits, flat_written}
 use Rattle.table_entries.proofs.ListedLemmas.{zero_over}

@@ -8,7 +8,8 @@ use Rattle.frac128.specs.IntegerRing.{ring_ℤ, reads_ℤ}
 use Rattle.table_entries.proofs.SumBelowLaws.{if_same, if_other}
 use Rattle.table_entries.specs.WholeSteps.{IsShort, whole_number_at, is_unwritten}
 use Rattle.table_entries.specs.Listed.{Listed}
-use Rattle.table_entries.specs.Parts.{slot_number, row_coefficient, combined, weight, IsLight}
+use Rattle.table_entries.specs.Parts.{row_coefficient, weight}
+use Rattle.table_entries.specs.private.Parts.{slot_number, combined, IsLight}
 use Rattle.table_entries.proofs.PartNumbers.{combined_short, product_short, weight_less}
 use Rattle.table_entries.proofs.PartRows.{flag_other}
 

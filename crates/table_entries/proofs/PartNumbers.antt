@@ -15,7 +15,8 @@ use Rattle.table_entries.specs.Steps.{PivotStepFits}
 use Rattle.table_entries.specs.FlatSteps.{dense_entry}
 use Rattle.table_entries.specs.WholeSteps.{IsShort, whole_number_at}
 use Rattle.table_entries.specs.Listed.{Listed, IsListed}
-use Rattle.table_entries.specs.Parts.{slot_entry, slot_number, unwritten_entry, weight, combined}
+use Rattle.table_entries.specs.Parts.{slot_entry, unwritten_entry, weight}
+use Rattle.table_entries.specs.private.Parts.{slot_number, combined}
 use Rattle.table_entries.proofs.ListedLemmas.{zero_over, over_at}
 use Rattle.table_entries.proofs.WholeLemmas.{steps_fit}
 use Rattle.table_entries.proofs.WholeSumLemmas.{sum_is, product_is, start_is}

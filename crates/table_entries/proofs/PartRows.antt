@@ -13,7 +13,8 @@ use Rattle.table_entries.proofs.Pivot.{unit, sum_unit}
 use Rattle.table_entries.specs.FlatSteps.{dense_entry}
 use Rattle.table_entries.specs.WholeSteps.{whole_number_at, is_unwritten}
 use Rattle.table_entries.specs.Listed.{Listed, IsListed}
-use Rattle.table_entries.specs.Parts.{slot_entry, slot_number, unwritten_entry, unwritten_number, row_coefficient, any_entry, listed_entries, IsLight, IsRowTouched}
+use Rattle.table_entries.specs.Parts.{slot_entry, unwritten_entry, row_coefficient, any_entry, listed_entries}
+use Rattle.table_entries.specs.private.Parts.{slot_number, unwritten_number, IsLight, IsRowTouched}
 use Rattle.table_entries.proofs.RowLemmas.{rows_apart}
 use Rattle.table_entries.proofs.PartNumbers.{entry_is, unwritten_value, combined_same}
 use Rattle.table_entries.proofs.PartExchange.{listed_get, listed_length}

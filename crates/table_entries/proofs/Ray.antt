@@ -212,21 +212,21 @@ module _ (p : Relaxation) (parts longer : ℕ → ℕ → ℚ) (separates : Sepa
       terms_low continues.ends (omega arith) q q_within k k_within in
       ring (reduced k q ∷ st.at k ∷ []) {y = neg_ℚ (neg_ℚ (reduced k q *ℚ st.at k))} (search reads_ℚ depth 9) tt ∙ ap neg_ℚ none ∙ ring [] (search reads_ℚ depth 9) tt
 
-  own_within : (v : ℕ) → ¬ (IsFree p v) → separates.own v < continues.ends
-  own_within v sided = ⊎_elim (λ w. w) (λ w. absurd (separates.own_some v sided (continues.over (separates.own v) v w))) (cases_lt (separates.own v) continues.ends)
+  own_within : (v : ℕ) → ¬ (IsFree p v) → separates.own_part v < continues.ends
+  own_within v sided = ⊎_elim (λ w. w) (λ w. absurd (separates.own_some v sided (continues.over (separates.own_part v) v w))) (cases_lt (separates.own_part v) continues.ends)
 
   -- the part of a nonbasic variable with a side is not 0 in its reduced cost
-  own_reduced : (k : ℕ) → k < p.columns → ¬ (IsFree p (d.nonbasic k)) → reduced k (separates.own (d.nonbasic k)) ≢ int (pos 0)
+  own_reduced : (k : ℕ) → k < p.columns → ¬ (IsFree p (d.nonbasic k)) → reduced k (separates.own_part (d.nonbasic k)) ≢ int (pos 0)
   own_reduced k q sided e =
       let v = d.nonbasic k in
-      let m = separates.own v in
+      let m = separates.own_part v in
       let less = own_within v sided in
       let alone : (u : ℕ) → ¬ (u ≡ v) → longer m u ≡ int (pos 0) = λ u other. continues.same m u less ∙ separates.own_alone v u sided other in
       separates.own_some v sided (sym (continues.same m v less) ∙ sym (reduced_alone-nonbasic p d arranged (longer m) k k q q alone) ∙ e)
 
   -- so it stands at 0
   sided_number : (k : ℕ) → k < p.columns → ¬ (IsFree p (d.nonbasic k)) → st.at k ≡ int (pos 0)
-  sided_number k q sided = not_zero_product _ _ (own_reduced k q sided) (term_none k (separates.own (d.nonbasic k)) q (own_within (d.nonbasic k) sided))
+  sided_number k q sided = not_zero_product _ _ (own_reduced k q sided) (term_none k (separates.own_part (d.nonbasic k)) q (own_within (d.nonbasic k) sided))
 
   same_reduced : (k q : ℕ) → q < continues.ends → reduced k q ≡ reduced_parts p parts d k q
   same_reduced k q less = ap (λ c. reduced_cost p d c k) (λ i v. continues.same q v less i)
@@ -249,7 +249,7 @@ module _ (p : Relaxation) (parts longer : ℕ → ℕ → ℚ) (separates : Sepa
   Kept k s a b = Standing p (d.nonbasic k) (model_stand s a b) (stand_number (model_stand s a b) a b) × LawfulAt (model_stand s a b) (reduced_parts p parts d k)
 
   sided_lawful : (k : ℕ) → k < p.columns → ¬ (IsFree p (d.nonbasic k)) → (s : Stand) → LawfulAt s (reduced k) → LawfulAt s (reduced_parts p parts d k)
-  sided_lawful k q sided s l = lawful_shorter s continues.ends (separates.own (d.nonbasic k)) (reduced k) _ (same_reduced k) (own_within (d.nonbasic k) sided) (own_reduced k q sided) l
+  sided_lawful k q sided s l = lawful_shorter s continues.ends (separates.own_part (d.nonbasic k)) (reduced k) _ (same_reduced k) (own_within (d.nonbasic k) sided) (own_reduced k q sided) l
 
   kept : (k : ℕ) → k < p.columns → (a b : Option ℚ) → p.low (d.nonbasic k) ≡ a → p.high (d.nonbasic k) ≡ b → (s : Stand) → Standing (directions p) (d.nonbasic k) s (st.at k) → LawfulAt s (reduced k) → Kept k s a b
   kept k q None None e f s h l = ((e, f, refl), (λ u. ⊎_elim (λ w. sym (same_reduced k u w) ∙ free_reduced k q e f u w) (λ w. over_reduced k u w) (cases_lt u continues.ends)))

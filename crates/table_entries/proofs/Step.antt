@@ -114,7 +114,7 @@ module _ (p : Relaxation) (parts : ℕ → ℕ → ℚ) (separates : Separates p
   pub free_entry : (k : ℕ) → k < p.columns → LawfulAt Free (reduced k) → entry k ≡ int (pos 0)
   free_entry k within none =
       let v = d.basic r in
-      let q = separates.own v in
+      let q = separates.own_part v in
       not_zero_product (parts q v) (entry k) (separates.own_some v leaving_sided)
       (sym (reduced_alone-basic p d arranged (parts q) r k r_within within (λ u other. separates.own_alone v u leaving_sided other)) ∙ none q)
 
@@ -186,7 +186,7 @@ module _ (p : Relaxation) (parts : ℕ → ℕ → ℚ) (separates : Separates p
     ratios_differ k within other k_side more same =
         let v = d.nonbasic k in
         let v_sided = standing_sided p v (st.stand k) (st.at k) k_side (lawful.stands k within) in
-        let q = separates.own v in
+        let q = separates.own_part v in
         let alone = λ (u : ℕ) (w : ¬ (u ≡ v)). separates.own_alone v u v_sided w in
         let s_none : reduced s q ≡ int (pos 0) = reduced_alone-nonbasic p d arranged (parts q) k s within enters.within alone ∙ alone (d.nonbasic s) (λ e. other (sym (arranged.nonbasic_once s k enters.within within e))) in
         let k_own : reduced k q ≡ parts q v = reduced_alone-nonbasic p d arranged (parts q) k k within within alone in

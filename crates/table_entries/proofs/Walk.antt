@@ -13,7 +13,7 @@ use Rattle.table_entries.proofs.Step.{pivot_some, lawful_step, key_step}
 -- perturbed costs separate the variables with sides, where each of these has a tilt and each variable a rank of its own
 pub Separates-perturbed : (p : Relaxation) (tilt : ℕ → ℚ) (rank : ℕ → ℕ) → ((v : ℕ) → ¬ (IsFree p v) → tilt v ≢ int (pos 0)) → ((u v : ℕ) → rank u ≡ rank v → u ≡ v) → Separates p (perturbed p tilt rank)
 Separates-perturbed p tilt rank tilted once = record {
-  own = λ v. suc (rank v);
+  own_part = λ v. suc (rank v);
   own_some = λ v sided e. tilted v sided (sym (if_same (rank v) (tilt v) (int (pos 0))) ∙ e);
   own_alone = λ v u sided other. if_other (rank u) (rank v) (tilt u) (int (pos 0)) (λ e. other (once u v e));
 }

@@ -1,11 +1,9 @@
 -- What a contract sees of the entries of a table, in a list, row by row.
-use Rattle.std.specs.Prelude.{◌≡◌, ℕ, ◌+◌, ◌*◌, ◌<◌, ◌≤◌, ◌<ℤ◌, ℤ, Bool, true, false, List, length, get_or, map, pos}
+use Rattle.std.specs.Prelude.{◌≡◌, ℕ, ◌<◌, ◌≤◌, ◌<ℤ◌, ℤ, Bool, true, false, List, length, get_or, map, pos}
 use Rattle.frac128.specs.Rational.{ℚ, int, IsWhole}
 use Rattle.frac128.specs.LowestTerms.{quotient_of}
-use Rattle.table_entries.specs.Relaxation.{pivoted_entry}
-use Rattle.table_entries.specs.Steps.{EntryFits}
-use Rattle.table_entries.specs.FlatSteps.{dense_entry, FlatFits, flat_value}
-use Rattle.table_entries.specs.WholeSteps.{IsShort, AreShort, AreWithin, magnitude, whole_number_at, is_unwritten}
+use Rattle.table_entries.specs.FlatSteps.{FlatFits, flat_value}
+use Rattle.table_entries.specs.WholeSteps.{IsShort, AreShort}
 
 -- the entries, and whether they are kept as whole numbers over one denominator, which `denominator` and `numbers` then are
 pub record Listed : Type 0 where
@@ -53,14 +51,3 @@ pub record IsExchangedList (columns r s : ℕ) (old new : List ℚ) : Type 0 whe
   pub written : (at : ℕ) → at < length old → get_or new at (int (pos 0)) ≡ flat_value columns r s old at
   pub fits : (at : ℕ) → at < length old → FlatFits columns r s old at
   pub size : length new ≡ length old
-
--- each entry of a row that is written is the one after the exchange of row r and place s, each step to it has room, and its number is below the limit
-pub record ArePartsExchanged (rows columns r s : ℕ) (unwritten : List Bool) (limit : ℤ) (old new : Listed) : Type 0 where
-  pub whole : new.is_whole ≡ true
-  pub listed : IsListed new
-  pub entry : (i k : ℕ) → i < rows → k < columns → is_unwritten unwritten i ≡ false → dense_entry columns new.list i k ≡ pivoted_entry (dense_entry columns old.list) r s i k
-  pub fits : (i k : ℕ) → i < rows → k < columns → is_unwritten unwritten i ≡ false → EntryFits (dense_entry columns old.list) r s i k
-  pub within : AreWithin rows columns unwritten limit new.numbers
-  pub denominator : new.denominator ≡ magnitude (whole_number_at old.numbers (r * columns + s))
-  pub size : length new.list ≡ length old.list
-  pub numbers_size : length new.numbers ≡ length old.numbers

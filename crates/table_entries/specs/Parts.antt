@@ -1,6 +1,6 @@
 -- The entries of a table of which some rows are not written: the entry of such a row at a place is the sum of coefficient
 -- times the entry of the column there. All rows together are the whole table.
-use Rattle.std.specs.Prelude.{◌≡◌, ◌≢◌, ℕ, zero, suc, ◌+◌, ◌-◌, ◌*◌, ◌/◌, ◌%◌, ◌^◌, ◌<◌, ◌≤◌, ◌==◌, ltb, if◌then◌else◌, Bool, true, false, List, length, map, ℤ, pos, ◌<ℤ◌, ◌+ℤ◌, ◌*ℤ◌, unsigned_abs}
+use Rattle.std.specs.Prelude.{◌≡◌, ℕ, zero, suc, ◌+◌, ◌-◌, ◌*◌, ◌/◌, ◌%◌, ◌^◌, ◌<◌, ◌≤◌, ◌==◌, ltb, if◌then◌else◌, Bool, true, false, List, length, map, ℤ, pos, ◌<ℤ◌, unsigned_abs}
 use Rattle.std.specs.List.{range_with_len}
 use Rattle.frac128.specs.Rational.{ℚ, int, ◌*ℚ◌}
 use Rattle.frac128.specs.Sums.{sum_below}
@@ -76,43 +76,6 @@ swapped slots row slot entering leaving = updated (updated slots entering row) l
 abbrev pub weight : (ℕ → ℤ) → ℕ → ℕ
 weight c zero = 0
 weight c (suc n) = weight c n + unsigned_abs (c n)
-
--- the sum of the first n products
-abbrev pub combined : (ℕ → ℤ) → (ℕ → ℤ) → ℕ → ℤ
-combined c x zero = pos 0
-combined c x (suc n) = combined c x n +ℤ c n *ℤ x n
-
--- the number over the denominator of `slot_entry`
-abbrev pub slot_number : ℕ → ℕ → Listed → ℕ → ℕ → ℤ
-slot_number rows columns entries slot k = if ltb slot rows then whole_number_at entries.numbers (slot * columns + k) else (if k == slot - rows then entries.denominator else pos 0)
-
--- the number over the denominator of `unwritten_entry`
-abbrev pub unwritten_number : ℕ → ℕ → Listed → List ℤ → (ℕ → ℕ) → ℕ → ℕ → ℤ
-unwritten_number rows columns entries coefficients slots i k = combined (row_coefficient columns coefficients i) (λ j. slot_number rows columns entries (slots j) k) columns
-
--- the numbers of the columns are below a limit, of which the row's weight and one more have room below 2 ^ 62
-pub record IsLight (rows columns : ℕ) (entries : Listed) (coefficients : List ℤ) (slots : ℕ → ℕ) (row : ℕ) : Type 0 where
-  pub form : entries.is_whole ≡ true
-  pub listed : IsListed entries
-  pub limit : ℕ
-  pub heaviest : ℕ
-  pub above : 0 < limit
-  pub room : (heaviest + 1) * limit ≤ 2 ^ 62
-  pub light : weight (row_coefficient columns coefficients row) columns ≤ heaviest
-  pub within : (j k : ℕ) → j < columns → k < columns → unsigned_abs (slot_number rows columns entries (slots j) k) < limit
-
--- numbers have changed in this row alone
-pub record IsRowTouched (columns row : ℕ) (old new : Listed) : Type 0 where
-  pub form : new.is_whole ≡ true
-  pub listed : IsListed new
-  pub denominator : new.denominator ≡ old.denominator
-  pub size : length new.list ≡ length old.list
-  pub others : (i k : ℕ) → i ≢ row → k < columns → whole_number_at new.numbers (i * columns + k) ≡ whole_number_at old.numbers (i * columns + k)
-
--- the row that was not written is
-pub record IsRowFormed (rows columns : ℕ) (coefficients : List ℤ) (slots : ℕ → ℕ) (row : ℕ) (old new : Listed) : Type 0 where
-  pub touched : IsRowTouched columns row old new
-  pub written : (k : ℕ) → k < columns → whole_number_at new.numbers (row * columns + k) ≡ unwritten_number rows columns old coefficients slots row k
 
 -- where some rows may be unwritten: all numbers are below the limit
 pub record IsPartial (v : Parts) : Type 0 where

@@ -32,9 +32,9 @@ IsFree p v = (p.low v ≡ None) × (p.high v ≡ None)
 
 -- each variable with a side has a part in which it alone has a cost
 pub record Separates (p : Relaxation) (parts : ℕ → ℕ → ℚ) : Type 0 where
-  pub own : ℕ → ℕ
-  pub own_some : (v : ℕ) → ¬ (IsFree p v) → parts (own v) v ≢ int (pos 0)
-  pub own_alone : (v u : ℕ) → ¬ (IsFree p v) → ¬ (u ≡ v) → parts (own v) u ≡ int (pos 0)
+  pub own_part : ℕ → ℕ
+  pub own_some : (v : ℕ) → ¬ (IsFree p v) → parts (own_part v) v ≢ int (pos 0)
+  pub own_alone : (v u : ℕ) → ¬ (IsFree p v) → ¬ (u ≡ v) → parts (own_part v) u ≡ int (pos 0)
 
 -- ---- states
 

@@ -3,7 +3,7 @@ use Rattle.std.specs.Prelude.{ℕ, ◌+◌, ◌*◌, ◌<◌, ◌==◌, Bool, tr
 use Rattle.frac128.specs.Rational.{ℚ, int, ◌-ℚ◌, ◌*ℚ◌, ◌/ℚ◌, neg_ℚ, inverse}
 use Rattle.frac128.specs.Range.{Fits, SumFits}
 use Rattle.checked_sum.specs.Steps.{StepFitsAt}
-use Rattle.table_entries.specs.Relaxation.{Relaxation, Table, assigned, reduced_cost}
+use Rattle.table_entries.specs.Relaxation.{Relaxation, Table, assigned}
 
 -- ---- the entries after an exchange
 
@@ -61,7 +61,3 @@ PointFits p d at i v = StepFitsAt (int (pos 0)) (at_nonbasic p d (d.entry i)) (a
 -- the term of variable v in the reduced cost of place k
 abbrev pub CostFits : Relaxation → Table → (ℕ → ℚ) → ℕ → ℕ → Type 0
 CostFits p d c k v = StepFitsAt (c (d.nonbasic k)) c (at_basic p d (λ i. d.entry i k)) v
-
--- the quotient of the reduced cost of place k by its entry in row r
-abbrev pub RatioFits : Relaxation → Table → (ℕ → ℚ) → ℕ → ℕ → Type 0
-RatioFits p d c r k = Fits (reduced_cost p d c k /ℚ d.entry r k)

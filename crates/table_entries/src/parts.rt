@@ -10,7 +10,8 @@ ghost use Rattle.table_entries.specs.FlatSteps.{dense_entry};
 ghost use Rattle.table_entries.specs.FlatSteps.{FlatFits};
 ghost use Rattle.table_entries.specs.WholeSteps.{IsShort, IsShortOver, magnitude, whole_number_at, is_unwritten, AreWithin};
 ghost use Rattle.table_entries.specs.Listed.{IsListed, IsExchangedList};
-ghost use Rattle.table_entries.specs.Parts.{Parts, IsParted, IsLight, IsRowFormed, IsSwap, AreColumnsWritten, any_entry, filled, row_coefficient, slot_number, swapped, unwritten_number, weight};
+ghost use Rattle.table_entries.specs.Parts.{Parts, IsParted, IsSwap, AreColumnsWritten, any_entry, filled, row_coefficient, swapped, weight};
+ghost use Rattle.table_entries.specs.private.Parts.{IsLight, IsRowFormed, slot_number, unwritten_number};
 
 use crate::entries::flat_index;
 use crate::table_entries::{TableEntries, fraction, is_nothing};

@@ -4,7 +4,8 @@ ghost use Rattle.frac128.specs.Rational.{int};
 ghost use Rattle.frac128.specs.LowestTerms.{quotient_of};
 ghost use Rattle.table_entries.specs.FlatSteps.{FlatFits};
 ghost use Rattle.table_entries.specs.WholeSteps.{IsShort, whole_number_at};
-ghost use Rattle.table_entries.specs.Listed.{Listed, listed_costs, over, AreOver, IsListed, IsStored, IsShortWhole, IsExchangedList, ArePartsExchanged};
+ghost use Rattle.table_entries.specs.Listed.{Listed, listed_costs, over, AreOver, IsListed, IsStored, IsShortWhole, IsExchangedList};
+ghost use Rattle.table_entries.specs.private.Listed.{ArePartsExchanged};
 
 use crate::entries::{flat_index, write_exchanged};
 use crate::wholes::{LIMIT, are_within, write_wholes};

@@ -17,7 +17,8 @@ use Rattle.lp_model.specs.Regions.{Path, AreNarrow, tighter_low, tighter_high, l
 use Rattle.lp_model.specs.declared.types.Side.{Side}
 use Rattle.lp_model.specs.declared.types.Side.TheVariants.{Lo, Hi}
 use Rattle.lp_model.specs.declared.types.BoundChange.{BoundChange}
-use Rattle.tight_regions.specs.Tight.{is_same_side, are_rivals, AreChangesApart, tighter_number, tighter, rival_place, tightened}
+use Rattle.tight_regions.specs.Tight.{is_same_side, are_rivals, AreChangesApart, tighter_number, tighter, tightened}
+use Rattle.tight_regions.specs.private.Tight.{rival_place}
 
 -- ---- bounds by turns
 

@@ -33,11 +33,6 @@ AreChangesApart R = AllPairs (λ c d. are_rivals c d ≡ false) R
 abbrev pub tighter : BoundChange → BoundChange → BoundChange
 tighter c d = record { col = c.col; side = c.side; v = tighter_number c.side c.v d.v }
 
--- the place of the change that is for the same side of the same column, or how many changes there are
-abbrev pub rival_place : Path → BoundChange → ℕ
-rival_place [] c = 0
-rival_place (d ∷ R) c = if are_rivals d c then 0 else suc (rival_place R c)
-
 abbrev pub tightened : Path → BoundChange → Path
 tightened [] c = c ∷ []
 tightened (d ∷ R) c = if are_rivals d c then tighter d c ∷ R else d ∷ tightened R c

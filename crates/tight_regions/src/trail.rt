@@ -2,7 +2,8 @@
 // change for each side of each column, however long the path is.
 ghost use Rattle.std.specs.Prelude.{◌≡◌, ◌<◌, ◌≤◌, ◌+◌, ◌++◌, ◌∷◌, [], length, take, set, max, IfOk, OnOk, if◌then◌else◌, true};
 ghost use Rattle.lp_model.specs.Regions.{AreNarrow};
-ghost use Rattle.tight_regions.specs.Tight.{is_same_side, are_rivals, tighter_number, tighter, rival_place, tightened, undone, no_change, no_replaced, AreChangesApart, IsTrail, path_of_trail, region_of, depth_of, room};
+ghost use Rattle.tight_regions.specs.Tight.{is_same_side, are_rivals, tighter_number, tighter, tightened, undone, no_change, no_replaced, AreChangesApart, IsTrail, path_of_trail, region_of, depth_of, room};
+ghost use Rattle.tight_regions.specs.private.Tight.{rival_place};
 ghost use Rattle.tight_regions.specs.SameBounds.{SameBounds};
 
 use lp_model::{BoundChange, ColId, Side};

@@ -239,7 +239,7 @@ impl Search {
     pub fn next_leaf(&self) -> Option<u64>
         ensures { IsNext self.now result }
     {
-        match self.queue.first() {
+        match self.queue.first_candidate() {
             None => None,
             Some(first) => Some(first.id),
         }

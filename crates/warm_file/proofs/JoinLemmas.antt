@@ -3,7 +3,8 @@ use Rattle.std.specs.Prelude.{◌≡◌, Bool, true, false, if◌then◌else◌,
 use Rattle.std.proofs.Common.{refl, sym, subst, ap, ◌∙◌}
 use Rattle.serde_json.specs.Data.{Data}
 use Rattle.serde_json.specs.Find.{as_object}
-use Rattle.warm_file.specs.Faults.{Fault, behind, SaysFault}
+use Rattle.warm_file.specs.Faults.{Fault, behind}
+use Rattle.warm_file.specs.private.Faults.{SaysFault}
 use Rattle.warm_file.specs.Values.{if_object}
 use Rattle.warm_file.specs.declared.fault.WarmFault.{WarmFault}
 use Rattle.warm_file.proofs.Saying.{says-first, says-next, says-then, ok-next, ok-then}

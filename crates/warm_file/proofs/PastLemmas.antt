@@ -4,7 +4,8 @@ use Rattle.std.proofs.Common.{refl, sym, subst, ap, ◌∙◌}
 use Rattle.frac128.specs.Rational.{ℚ}
 use Rattle.lp_model.specs.declared.types.Var.{Var}
 use Rattle.serde_json.specs.Data.{Data}
-use Rattle.warm_file.specs.Faults.{Fault, fault, behind, at_item, SaysFault}
+use Rattle.warm_file.specs.Faults.{Fault, fault, behind, at_item}
+use Rattle.warm_file.specs.private.Faults.{SaysFault}
 use Rattle.warm_file.specs.Values.{place_below}
 use Rattle.warm_file.specs.Rising.{is_past, count_of_kind, var_of, variable_rank}
 use Rattle.warm_file.specs.private.RisingItems.{past_variable}

@@ -8,7 +8,8 @@ use Rattle.lp_model.specs.declared.types.Sense.{Sense}
 use Rattle.lp_model.specs.declared.types.Row.{Row}
 use Rattle.lp_model.specs.declared.types.Col.{Col}
 use Rattle.serde_json.specs.Data.{Data}
-use Rattle.warm_file.specs.Faults.{Fault, behind, SaysFault}
+use Rattle.warm_file.specs.Faults.{Fault, behind}
+use Rattle.warm_file.specs.private.Faults.{SaysFault}
 use Rattle.warm_file.specs.Values.{member}
 use Rattle.warm_file.specs.Numbers.{number_of}
 use Rattle.warm_file.specs.declared.fault.WarmFault.{WarmFault}

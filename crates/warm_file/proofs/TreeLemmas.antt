@@ -8,12 +8,14 @@ use Rattle.branch_tree.specs.declared.node.NodeData.{NodeData}
 use Rattle.search_data.specs.Trees.{is_one_tree}
 use Rattle.search_data.specs.declared.data.SearchData.{SearchData}
 use Rattle.serde_json.specs.Data.{Data}
-use Rattle.warm_file.specs.Faults.{Fault, fault, behind, at_key, SaysFault}
+use Rattle.warm_file.specs.Faults.{Fault, fault, behind, at_key}
+use Rattle.warm_file.specs.private.Faults.{SaysFault}
 use Rattle.warm_file.specs.Values.{member}
 use Rattle.warm_file.specs.declared.fault.WarmFault.{WarmFault}
 use Rattle.warm_file.specs.declared.rising.Counts.{Counts}
 use Rattle.warm_file.proofs.Saying.{says-first, says-next}
-use Rattle.warm_file.specs.Searches.{points_of, nodes_of, counts, whole_search, one_tree_of, tree_of}
+use Rattle.warm_file.specs.Searches.{points_of, nodes_of, counts, whole_search, tree_of}
+use Rattle.warm_file.specs.private.Searches.{one_tree_of}
 
 abbrev Parts : Type 0
 Parts = List (List ℚ) × List NodeData

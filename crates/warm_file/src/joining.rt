@@ -1,7 +1,8 @@
 // Parts that are read one behind the other.
 ghost use Rattle.std.specs.Prelude.{Result as Said};
 ghost use Rattle.serde_json.specs.View.{view};
-ghost use Rattle.warm_file.specs.Faults.{Fault, SaysFault};
+ghost use Rattle.warm_file.specs.Faults.{Fault};
+ghost use Rattle.warm_file.specs.private.Faults.{SaysFault};
 ghost use Rattle.warm_file.specs.Values.{member};
 ghost use Rattle.warm_file.specs.private.Joined.{both_of};
 

@@ -1,7 +1,7 @@
 -- The way from a node up to the root, and the path that a walk keeps.
 use Rattle.std.specs.Prelude.{◌≡◌, ℕ, List, [], ◌∷◌, ◌++◌, map, take, Option, Some, None}
 use Rattle.lp_model.specs.Regions.{Path, AreNarrow}
-use Rattle.branch_tree.specs.Stored.{change_of}
+use Rattle.branch_tree.specs.private.Stored.{change_of}
 use Rattle.branch_tree.specs.declared.node.RegionLeaf.{RegionLeaf}
 use Rattle.branch_tree.specs.declared.stored.Up.{Up}
 use Rattle.branch_tree.specs.declared.stored.TreeNode.{TreeNode}

@@ -25,9 +25,9 @@ is_split_kind (node.Leaf kept) = false
 is_split_kind (node.Split s) = true
 
 -- whether a node is a split that is chosen
-abbrev pub is_chosen_kind : Chosen → ℕ → ℕ → NodeKind → Bool
-is_chosen_kind chosen depth id (node.Leaf kept) = false
-is_chosen_kind chosen depth id (node.Split s) = is_chosen chosen depth id s.col.0
+abbrev pub is_chosen_kind : Chosen → ℕ → NodeKind → Bool
+is_chosen_kind chosen depth (node.Leaf kept) = false
+is_chosen_kind chosen depth (node.Split s) = is_chosen chosen depth s.col.0
 
 -- the nodes that are due, with the children of this one, the left one last
 abbrev pub children_due : ℕ → NodeKind → List Due → List Due

@@ -5,7 +5,7 @@ use Rattle.std.specs.declared.cmp.Ordering.TheVariants.{Less, Equal, Greater}
 use Rattle.lp_model.specs.declared.types.WideStep.{WideStep}
 use Rattle.table_entries.specs.declared.stand.Stand.{Stand}
 use Rattle.basic_solution.specs.Held.{Held}
-use Rattle.dual_simplex.specs.Answers.{IsRatioAnswer, IsEntering}
+use Rattle.dual_simplex.specs.private.Answers.{IsRatioAnswer, IsEntering}
 use Rattle.dual_simplex.specs.private.WholeRatios.{IsWholeRatio}
 use Rattle.dual_simplex.specs.declared.entering.Best.{Best}
 

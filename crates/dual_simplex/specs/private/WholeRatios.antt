@@ -4,7 +4,7 @@ use Rattle.frac128.specs.LowestTerms.{quotient_of}
 use Rattle.table_entries.specs.declared.stand.Stand.{Stand}
 use Rattle.table_entries.specs.WholeSteps.{IsShort}
 use Rattle.basic_solution.specs.Held.{Held}
-use Rattle.dual_simplex.specs.Answers.{IsRatioAnswer}
+use Rattle.dual_simplex.specs.private.Answers.{IsRatioAnswer}
 
 pub record IsShortRatio (top bottom : ℤ) : Type 0 where
   pub top_short : IsShort top

@@ -9,7 +9,8 @@ use Rattle.basic_solution.specs.Lists.{IsBasisOf}
 use Rattle.dual_simplex.specs.Answers.{HasLeaving}
 use Rattle.dual_simplex.specs.Solves.{IsLpOptimum, IsLpInfeasible}
 use Rattle.node_solve.specs.Works.{IsFound, IsDone, IsAllowedBy, IsWideAtEnd, IsOfLeaf}
-use Rattle.node_solve.specs.Rounds.{Work, Round, EndsAt, form_in, EndsRounds, IsMethodWide, MakesRounds}
+use Rattle.node_solve.specs.Rounds.{Work, Round, form_in, EndsRounds, MakesRounds}
+use Rattle.node_solve.specs.private.Rounds.{EndsAt, IsMethodWide}
 use Rattle.node_solve.specs.private.RoundCode.{round_of, IsKeptRound}
 use Rattle.node_solve.specs.declared.rounds.Round.{Round as HeldRound}
 use Rattle.node_solve.specs.declared.working.End.{End}

@@ -1,7 +1,8 @@
 use Rattle.std.proofs.Common.{◌+◌, [], ◌∷◌, ◌++◌, None, Some, sym, ap, subst, ◌∙◌, arith}
 use Rattle.std.proofs.lemmas.List.{nil_from_length}
 use Rattle.branch_tree.specs.declared.stored.TreeNode.{TreeNode}
-use Rattle.branch_tree.specs.Table.{node_at, AreBelow, PutsNode}
+use Rattle.branch_tree.specs.Table.{node_at, AreBelow}
+use Rattle.branch_tree.specs.private.Table.{PutsNode}
 use Rattle.branch_tree.proofs.BuildingLemmas.{Builds, builds-first, way-there, id-within, next-bound, next-opens, builds-step, builds-all}
 use Rattle.branch_tree.proofs.building.build.Goals as goal
 

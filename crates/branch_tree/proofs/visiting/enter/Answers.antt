@@ -3,7 +3,7 @@ use Rattle.std.proofs.lemmas.List.{append-nil, take-append-le}
 use Rattle.lp_model.specs.Regions.{Path}
 use Rattle.lp_model.specs.declared.types.BoundChange.{BoundChange}
 use Rattle.tight_regions.specs.Tight.{path_of_trail}
-use Rattle.branch_tree.specs.Stored.{change_of}
+use Rattle.branch_tree.specs.private.Stored.{change_of}
 use Rattle.branch_tree.specs.private.Paths.{path_to}
 use Rattle.branch_tree.proofs.TrailPaths.{path-long, whole-front}
 use Rattle.branch_tree.proofs.visiting.enter.Goals as goal

@@ -1,5 +1,5 @@
 use Rattle.std.proofs.Common.{arith, subst, Ok}
-use Rattle.dual_simplex.specs.Answers.{IsVisited}
+use Rattle.dual_simplex.specs.private.Answers.{IsVisited}
 use Rattle.dual_simplex.proofs.SideLemmas.{first_out, wide_out, inside_more}
 use Rattle.dual_simplex.proofs.leaving.first_out.Goals as goal
 

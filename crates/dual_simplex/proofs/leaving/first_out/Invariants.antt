@@ -1,4 +1,4 @@
-use Rattle.dual_simplex.specs.Answers.{AreInside}
+use Rattle.dual_simplex.specs.private.Answers.{AreInside}
 use Rattle.dual_simplex.proofs.leaving.first_out.Given as goal
 
 abbrev pub invariant-loop-variable : goal.invariant-loop-variable

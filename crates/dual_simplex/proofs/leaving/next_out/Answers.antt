@@ -1,5 +1,5 @@
 use Rattle.std.proofs.Common.{◌∙◌, subst, Ok, Err, Some, None}
-use Rattle.dual_simplex.specs.Answers.{IsLeaving}
+use Rattle.dual_simplex.specs.private.Answers.{IsLeaving}
 use Rattle.dual_simplex.proofs.leaving.next_out.Goals as goal
 
 pub write_row-requires : goal.write_row-requires

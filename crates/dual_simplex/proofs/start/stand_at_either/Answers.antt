@@ -1,6 +1,6 @@
 use Rattle.std.proofs.Common.{subst, inl, inr, Ok}
 use Rattle.basic_solution.specs.ListedStates.{IsStoodAt}
-use Rattle.dual_simplex.specs.Starts.{IsLeftThere}
+use Rattle.dual_simplex.specs.private.Starts.{IsLeftThere}
 use Rattle.dual_simplex.proofs.start.stand_at_either.Goals as goal
 
 pub returns-in-Err-clause-wide : goal.returns-in-Err-clause-wide

@@ -3,7 +3,7 @@ use Rattle.lp_model.specs.Lawful.{IsLawful}
 use Rattle.reply_texts.specs.Texts.{ok_text}
 use Rattle.shell_replies.specs.Faults.{warm_fault_text}
 use Rattle.command_files.proofs.FileLemmas.{on_ok_if}
-use Rattle.file_commands.specs.Saving.{Taken}
+use Rattle.file_commands.specs.private.Saving.{Taken}
 use Rattle.file_commands.proofs.RestoreLemmas.{restored-order, restored-script, search-script, text-untaken}
 use Rattle.file_commands.proofs.restoring.take_text.Goals as goal
 

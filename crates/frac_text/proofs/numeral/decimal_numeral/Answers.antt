@@ -1,6 +1,6 @@
-use Rattle.frac_text.specs.Parsing.{decimal_coefficient, decimal_power}
+use Rattle.frac_text.specs.private.Parts.{decimal_coefficient, decimal_power}
 use Rattle.std.proofs.Common.{ap, ◌∙◌}
-use Rattle.frac_text.specs.Sides.{side_from}
+use Rattle.frac_text.specs.private.Sides.{side_from}
 use Rattle.frac_text.proofs.Magnitude.{refused_decimal}
 use Rattle.frac_text.proofs.numeral.decimal_numeral.Goals as goal
 

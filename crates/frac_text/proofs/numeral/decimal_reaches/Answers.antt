@@ -5,8 +5,8 @@ use Rattle.frac128.specs.Rational.{int}
 use Rattle.frac128.proofs.Comparison.{rational_le-decides}
 use Rattle.frac128.specs.Range.{with_sign}
 use Rattle.frac_text.specs.Spelling.{scaled, value_of}
-use Rattle.frac_text.specs.Sides.{HasDigits}
-use Rattle.frac_text.specs.Parsing.{decimal_coefficient, decimal_power}
+use Rattle.frac_text.specs.private.Sides.{HasDigits}
+use Rattle.frac_text.specs.private.Parts.{decimal_coefficient, decimal_power}
 use Rattle.frac_text.proofs.Magnitude.{scaled_reaches}
 use Rattle.frac_text.proofs.numeral.decimal_reaches.Goals as goal
 

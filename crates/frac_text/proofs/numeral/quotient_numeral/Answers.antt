@@ -1,6 +1,6 @@
 use Rattle.std.proofs.Common.{ap, ◌∙◌}
 use Rattle.frac_text.specs.Spelling.{value_of}
-use Rattle.frac_text.specs.Sides.{side_from}
+use Rattle.frac_text.specs.private.Sides.{side_from}
 use Rattle.frac_text.proofs.Magnitude.{refused_quotient}
 use Rattle.frac_text.proofs.numeral.quotient_numeral.Goals as goal
 

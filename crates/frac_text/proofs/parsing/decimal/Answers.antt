@@ -1,7 +1,7 @@
 use Rattle.std.proofs.Common.{◌≡◌, ◌<◌, ◌++◌, ℕ, sym, ap, subst, ◌∙◌}
 use Rattle.frac128.specs.Range.{largest}
 use Rattle.frac_text.specs.Spelling.{value_of}
-use Rattle.frac_text.specs.Parsing.{decimal_coefficient, decimal_power}
+use Rattle.frac_text.specs.private.Parts.{decimal_coefficient, decimal_power}
 use Rattle.frac_text.proofs.ParseTerms.{wide_coefficient, no_coefficient}
 use Rattle.frac_text.proofs.parsing.decimal.Goals as goal
 

@@ -1,6 +1,6 @@
 use Rattle.std.proofs.Common.{◌≡◌, ◌+◌, ◌-◌, ◌<◌, ◌≤◌, ℕ, List, get_or, length, take, drop, true, false, sym, ap, ◌∙◌, arith, below_more}
 use Rattle.std.proofs.lemmas.Grind.{common_steps}
-use Rattle.frac_text.specs.Parsing.{marks}
+use Rattle.frac_text.specs.private.Parts.{marks}
 use Rattle.frac_text.proofs.Cuts.{none_any, some_any, place_of_none, place_of_first}
 use Rattle.frac_text.proofs.spelling.cut_at.Goals as goal
 

@@ -1,5 +1,5 @@
 use Rattle.std.proofs.Common.{◌≡◌, ◌<◌, ℕ, get_or, false}
-use Rattle.frac_text.specs.Parsing.{marks}
+use Rattle.frac_text.specs.private.Parts.{marks}
 use Rattle.frac_text.proofs.spelling.cut_at.Given as goal
 
 abbrev pub invariant-loop-place : goal.invariant-loop-place

@@ -1,6 +1,6 @@
 use Rattle.std.proofs.Common.{sym, subst, ◌∙◌}
 use Rattle.frac_text.specs.Spelling.{Reading}
-use Rattle.frac_text.specs.Parsing.{Say}
+use Rattle.frac_text.specs.private.Parts.{Say}
 use Rattle.frac_text.proofs.SpellingTerms.{reads_slash, reads_plain}
 use Rattle.frac_text.proofs.spelling.parts_of.Goals as goal
 

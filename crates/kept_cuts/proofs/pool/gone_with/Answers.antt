@@ -1,7 +1,8 @@
 use Rattle.std.proofs.Common.{◌≡◌, ◌∙◌, ◌++◌, length, take, sym, ap, arith}
 use Rattle.std.proofs.lemmas.List.{take_all}
 use Rattle.lp_model.specs.declared.types.CutRow.{CutRow}
-use Rattle.kept_cuts.specs.Kept.{goes_with, one_if, gone_with}
+use Rattle.kept_cuts.specs.Kept.{goes_with, gone_with}
+use Rattle.kept_cuts.specs.private.Kept.{one_if}
 use Rattle.kept_cuts.proofs.KeptLemmas.{gone-more}
 use Rattle.kept_cuts.proofs.pool.gone_with.Goals as goal
 

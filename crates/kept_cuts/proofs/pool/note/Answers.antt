@@ -1,6 +1,6 @@
 use Rattle.std.proofs.Common.{◌∙◌, ◌++◌, sym, ap}
 use Rattle.std.proofs.lemmas.List.{append-nil}
-use Rattle.kept_cuts.specs.Kept.{one_if}
+use Rattle.kept_cuts.specs.private.Kept.{one_if}
 use Rattle.kept_cuts.proofs.pool.note.Goals as goal
 
 pub returns-then-not-goes : goal.returns-then-not-goes

@@ -4,7 +4,7 @@ use Rattle.lp_model.specs.Formulations.{formulation}
 use Rattle.branch_tree.specs.Leaves.{region_leaves}
 use Rattle.branch_tree.specs.declared.node.LeafState.{LeafState}
 use Rattle.leaf_judging.specs.declared.judging.Marking.{Marking}
-use Rattle.leaf_judging.specs.Queued.{AreQueued}
+use Rattle.leaf_judging.specs.private.Queued.{AreQueued}
 use Rattle.leaf_judging.proofs.JudgeLemmas.{JudgedAs, length-placed, judged_tree, judged-count}
 use Rattle.leaf_judging.proofs.QueueLists.{queued-none, queue-tree}
 use Rattle.leaf_judging.proofs.MarkLemmas.{all-kept, marked, marked-count}

@@ -3,7 +3,7 @@ use Rattle.std.specs.Prelude.{Ok, Err}
 use Rattle.text_lines.specs.Lines.{lines_of}
 use Rattle.mps_text.specs.Text.{Flaw}
 use Rattle.mps_text.specs.Reading.{items_left, item_of, entry_of_record, flaw_of}
-use Rattle.mps_sections.specs.Shown.{held}
+use Rattle.mps_sections.specs.private.Shown.{held}
 use Rattle.mps_sections.specs.ReadingOf.{OnLine, NoEnd}
 use Rattle.mps_sections.proofs.ReadingSteps.{bad_line, stopped, last_line, next_line, no_line}
 use Rattle.mps_sections.proofs.reading.note_lines.Goals as goal

@@ -1,7 +1,7 @@
 use Rattle.std.proofs.Common.{◌≡◌, length, ◌+◌}
 use Rattle.text_lines.specs.Lines.{lines_of}
 use Rattle.mps_text.specs.Reading.{items_left, number_behind}
-use Rattle.mps_sections.specs.Shown.{held}
+use Rattle.mps_sections.specs.private.Shown.{held}
 use Rattle.mps_sections.proofs.ReadingSteps.{IsBehind}
 use Rattle.mps_sections.proofs.reading.note_lines.Given as goal
 

@@ -1,7 +1,7 @@
 use Rattle.std.proofs.Common.{sym, subst}
 use Rattle.mps_text.specs.Text.{records_of}
 use Rattle.mps_sections.specs.Limits.{StatesWithinLimits}
-use Rattle.mps_sections.specs.Shown.{held}
+use Rattle.mps_sections.specs.private.Shown.{held}
 use Rattle.mps_sections.proofs.ReadingSteps.{sections_of_whole}
 use Rattle.mps_sections.proofs.StatedLimits.{whole-keeps_limits}
 use Rattle.mps_sections.proofs.reading.read_sections.Goals as goal

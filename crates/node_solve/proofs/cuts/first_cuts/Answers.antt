@@ -1,5 +1,5 @@
 use Rattle.std.proofs.Common.{◌∙◌, sym, ap, subst, take}
-use Rattle.node_solve.specs.Places.{IsFirstCount}
+use Rattle.node_solve.specs.private.Places.{IsFirstCount}
 use Rattle.node_solve.proofs.cuts.first_cuts.Goals as goal
 
 pub returns-in-Ok-clause-cuts : goal.returns-in-Ok-clause-cuts

@@ -1,5 +1,5 @@
 use Rattle.std.proofs.Common.{◌≡◌, ◌∙◌, ◌+◌, ◌++◌, ◌∷◌, [], suc, ap, arith}
-use Rattle.node_solve.specs.Places.{places_from}
+use Rattle.node_solve.specs.private.Places.{places_from}
 use Rattle.node_solve.proofs.LiveLemmas.{places-push}
 use Rattle.node_solve.proofs.cuts.own_places.Goals as goal
 

@@ -1,5 +1,5 @@
 use Rattle.std.proofs.Common.{subst, inl}
-use Rattle.ray_phase.specs.Answers.{IsRunTo}
+use Rattle.ray_phase.specs.private.Answers.{IsRunTo}
 use Rattle.ray_phase.proofs.DirectionLemmas.{run_state, never_infeasible, answered, wide_end}
 use Rattle.ray_phase.proofs.phase.answer_of.Goals as goal
 

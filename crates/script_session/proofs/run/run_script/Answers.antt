@@ -1,6 +1,6 @@
 use Rattle.std.proofs.Common.{sym, ap}
 use Rattle.script_session.specs.Request.{RequestStep}
-use Rattle.script_session.specs.Session.{moment_of}
+use Rattle.script_session.specs.private.Session.{moment_of}
 use Rattle.script_session.proofs.RunLemmas.{run_ended, run_stopped, stop_status}
 use Rattle.script_session.proofs.run.run_script.Goals as goal
 

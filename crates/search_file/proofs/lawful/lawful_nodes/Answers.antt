@@ -1,5 +1,5 @@
 use Rattle.std.proofs.Common.{◌≡◌, ◌++◌, ◌<◌, ◌≤◌, ◌+◌, arith, subst, sym, ◌∙◌, drop}
-use Rattle.search_file.specs.Lawful.{lawful_behind}
+use Rattle.search_file.specs.private.Lawful.{lawful_behind}
 use Rattle.search_file.proofs.LawfulLemmas.{put-next, out-next, put-few, trees_out-few, behind-end}
 use Rattle.search_file.proofs.lawful.lawful_nodes.Goals as goal
 use Rattle.search_file.proofs.lawful.lawful_nodes.Goals.{then-out-eq0+in-Ok, else-out-eq0}

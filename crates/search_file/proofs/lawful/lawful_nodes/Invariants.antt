@@ -1,5 +1,5 @@
 use Rattle.std.proofs.Common.{◌≡◌, ◌≤◌, ◌+◌, ◌++◌, drop}
-use Rattle.search_file.specs.Lawful.{lawful_behind}
+use Rattle.search_file.specs.private.Lawful.{lawful_behind}
 use Rattle.search_file.proofs.lawful.lawful_nodes.Given as goal
 
 abbrev pub invariant-loop-node : goal.invariant-loop-node

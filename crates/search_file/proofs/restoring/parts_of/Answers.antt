@@ -4,7 +4,8 @@ use Rattle.std.proofs.lemmas.List.Elements.{All-weaker}
 use Rattle.lp_model.specs.declared.types.Derivation.{Derivation}
 use Rattle.branch_tree.specs.Preorder.{HasNodeBound}
 use Rattle.branch_tree.specs.declared.node.NodeData.{NodeData}
-use Rattle.search_file.specs.Saved.{stated_formulation, IsRestorableNode, IsPoolFrom}
+use Rattle.search_file.specs.Saved.{stated_formulation, IsRestorableNode}
+use Rattle.search_file.specs.private.Saved.{IsPoolFrom}
 use Rattle.search_file.proofs.TreeLemmas.{node-bound}
 use Rattle.search_file.proofs.restoring.parts_of.Goals as goal
 

@@ -1,7 +1,7 @@
 use Rattle.std.proofs.Common.{arith, subst, List}
 use Rattle.std.proofs.lemmas.List.{take_all}
 use Rattle.lp_model.specs.declared.types.Derivation.{Derivation}
-use Rattle.search_file.specs.Saved.{IsPoolFrom}
+use Rattle.search_file.specs.private.Saved.{IsPoolFrom}
 use Rattle.search_file.proofs.PoolLemmas.{pool-none, pool-next, pool-few}
 use Rattle.search_file.proofs.restoring.pool_of.Goals as goal
 

@@ -3,7 +3,8 @@ use Rattle.std.specs.Prelude.{All, IfOk, Result, Ok, Err}
 use Rattle.lp_model.specs.Limits.{node_limit}
 use Rattle.branch_tree.specs.Numbered.{NumberedTree}
 use Rattle.branch_tree.specs.Preorder.{DataTree, data_nodes, numbered_tree, HasNodeBound}
-use Rattle.search_file.specs.Lawful.{lawful_tree, lawful_behind}
+use Rattle.search_file.specs.Lawful.{lawful_tree}
+use Rattle.search_file.specs.private.Lawful.{lawful_behind}
 use Rattle.search_file.proofs.LawfulLemmas.{lawful-nodes, all-lawful}
 use Rattle.search_file.proofs.restoring.tree_of.Goals as goal
 

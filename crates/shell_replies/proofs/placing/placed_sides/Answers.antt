@@ -3,7 +3,7 @@ use Rattle.std.specs.Prelude.{All}
 use Rattle.frac128.specs.Rational.{ℚ}
 use Rattle.lp_model.specs.declared.types.Row.{Row}
 use Rattle.lp_model.specs.declared.types.RowId.{RowId}
-use Rattle.shell_replies.specs.Placing.{IsFirstTwoSidedAt}
+use Rattle.shell_replies.specs.private.Placing.{IsFirstTwoSidedAt}
 use Rattle.shell_replies.proofs.PlacingLemmas.{sides-within, all-one, one-two-sided}
 use Rattle.shell_replies.proofs.placing.placed_sides.Goals as goal
 

@@ -1,7 +1,8 @@
 use Rattle.std.proofs.Common.{ℕ, ◌≡◌, ◌∙◌, sym, ap, subst, arith, get_or, pos, to_z, of_z, w64}
 use Rattle.std.proofs.lemmas.Int.{ints}
 use Rattle.table_entries.specs.WholeSteps.{IsShort, whole_number_at}
-use Rattle.table_entries.specs.Parts.{row_coefficient, slot_number}
+use Rattle.table_entries.specs.Parts.{row_coefficient}
+use Rattle.table_entries.specs.private.Parts.{slot_number}
 use Rattle.table_entries.proofs.PartLoopLemmas.{coefficient_read, number_read, product_fits, sum_fits, sum_next, combined_skip, front_short}
 use Rattle.table_entries.proofs.parts.unwritten_number.Goals.{then-coefficient-ne0, else-coefficient-ne0}
 use Rattle.table_entries.proofs.parts.unwritten_number.Goals as goal

@@ -1,5 +1,6 @@
 use Rattle.std.proofs.Common.{◌≡◌, get_or}
-use Rattle.table_entries.specs.Parts.{row_coefficient, slot_number, combined}
+use Rattle.table_entries.specs.Parts.{row_coefficient}
+use Rattle.table_entries.specs.private.Parts.{slot_number, combined}
 use Rattle.table_entries.proofs.parts.unwritten_number.Given as goal
 
 abbrev pub invariant-loop-column : goal.invariant-loop-column

@@ -1,7 +1,7 @@
 use Rattle.std.proofs.Common.{ℕ, ◌≡◌, ◌<◌, ◌∙◌, arith, get_or, length, to_z, of_z, w64}
 use Rattle.std.proofs.lemmas.Int.{ints}
 use Rattle.table_entries.specs.WholeSteps.{IsShort}
-use Rattle.table_entries.specs.Parts.{unwritten_number}
+use Rattle.table_entries.specs.private.Parts.{unwritten_number}
 use Rattle.table_entries.proofs.PartNumbers.{numbers_length}
 use Rattle.table_entries.proofs.PartRows.{number_still, light_still, touched_none, touched_more, written_more}
 use Rattle.table_entries.proofs.parts.write_numbers.Goals as goal

@@ -1,6 +1,6 @@
 use Rattle.std.proofs.Common.{◌≡◌, ◌<◌, ◌+◌, ◌*◌, ℕ, get_or}
 use Rattle.table_entries.specs.WholeSteps.{whole_number_at}
-use Rattle.table_entries.specs.Parts.{unwritten_number, IsRowTouched}
+use Rattle.table_entries.specs.private.Parts.{unwritten_number, IsRowTouched}
 use Rattle.table_entries.proofs.parts.write_numbers.Given as goal
 
 abbrev pub invariant-loop-place : goal.invariant-loop-place

@@ -1,7 +1,8 @@
 use Rattle.std.proofs.Common.{ℕ, ◌≡◌, ◌≢◌, ◌<◌, ◌∙◌, refl, sym, ap, subst, arith, below_more, get_or, set, length, true, false}
 use Rattle.std.proofs.lemmas.Bool.{false≢true}
 use Rattle.table_entries.specs.WholeSteps.{is_unwritten}
-use Rattle.table_entries.specs.Parts.{any_entry, IsLight, IsRowTouched}
+use Rattle.table_entries.specs.Parts.{any_entry}
+use Rattle.table_entries.specs.private.Parts.{IsLight, IsRowTouched}
 use Rattle.table_entries.proofs.PartRows.{light_still, row_added, flag_same, flag_other, flag_still}
 use Rattle.table_entries.proofs.parts.write_rows.Goals as goal
 use Rattle.table_entries.proofs.parts.write_rows.Goals.{then-unwritten-row, else-unwritten-row}

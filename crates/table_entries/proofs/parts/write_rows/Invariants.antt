@@ -1,6 +1,7 @@
 use Rattle.std.proofs.Common.{◌≡◌, ◌<◌, ℕ, get_or, length, true, false}
 use Rattle.table_entries.specs.WholeSteps.{is_unwritten}
-use Rattle.table_entries.specs.Parts.{any_entry, IsLight}
+use Rattle.table_entries.specs.Parts.{any_entry}
+use Rattle.table_entries.specs.private.Parts.{IsLight}
 use Rattle.table_entries.proofs.parts.write_rows.Given as goal
 
 abbrev pub invariant-loop-row : goal.invariant-loop-row

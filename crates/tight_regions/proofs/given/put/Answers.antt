@@ -1,7 +1,8 @@
 use Rattle.std.proofs.Common.{◌≡◌, ◌<◌, ◌∙◌, ap, arith, length, get_or, set}
 use Rattle.std.proofs.lemmas.List.{get_or_default}
 use Rattle.lp_model.specs.declared.types.BoundChange.{BoundChange}
-use Rattle.tight_regions.specs.Tight.{no_change, rival_place, tighter}
+use Rattle.tight_regions.specs.Tight.{no_change, tighter}
+use Rattle.tight_regions.specs.private.Tight.{rival_place}
 use Rattle.tight_regions.proofs.TightLemmas.{place_there, place_none}
 use Rattle.tight_regions.proofs.given.put.Goals as goal
 

@@ -1,5 +1,6 @@
 use Rattle.std.proofs.Common.{◌≡◌, suc, ◌+◌, Bool, drop, sym, ap, ◌∙◌, arith, if◌then◌else◌}
-use Rattle.tight_regions.specs.Tight.{no_change, rival_place}
+use Rattle.tight_regions.specs.Tight.{no_change}
+use Rattle.tight_regions.specs.private.Tight.{rival_place}
 use Rattle.tight_regions.proofs.TightLemmas.{place_on}
 use Rattle.tight_regions.proofs.trail.place_of.Goals as goal
 

@@ -1,5 +1,5 @@
 use Rattle.std.proofs.Common.{◌≡◌, ◌+◌, drop}
-use Rattle.tight_regions.specs.Tight.{rival_place}
+use Rattle.tight_regions.specs.private.Tight.{rival_place}
 use Rattle.tight_regions.proofs.trail.place_of.Given as goal
 
 abbrev pub invariant-loop-place : goal.invariant-loop-place

@@ -1,6 +1,6 @@
 use Rattle.std.proofs.Common.{codes, map, subst, Err}
 use Rattle.serde_json.specs.View.{view}
-use Rattle.warm_file.specs.Faults.{SaysFault}
+use Rattle.warm_file.specs.private.Faults.{SaysFault}
 use Rattle.warm_file.specs.Values.{truth_of, member}
 use Rattle.warm_file.specs.Models.{name_of, bounded_of, col_in, col_of}
 use Rattle.warm_file.proofs.JoinLemmas.{object-says, two-says, two-bad}

@@ -2,7 +2,8 @@ use Rattle.std.proofs.Common.{◌∙◌, ℕ, ap, sym, subst}
 use Rattle.frac128.specs.Rational.{ℚ}
 use Rattle.frac_text.specs.Spelling.{reading_of}
 use Rattle.frac_text.specs.Parsing.{parsed}
-use Rattle.warm_file.specs.Faults.{fault, SaysFault}
+use Rattle.warm_file.specs.Faults.{fault}
+use Rattle.warm_file.specs.private.Faults.{SaysFault}
 use Rattle.warm_file.specs.Numbers.{number_fault_code, numbered, number_of}
 use Rattle.warm_file.proofs.Saying.{says-there, says-missing, says-fault, ok-there}
 use Rattle.warm_file.proofs.numbers.read_number.Goals as goal

@@ -1,6 +1,6 @@
 use Rattle.std.proofs.Common.{◌∙◌, ap, sym, subst, codes, length, Err}
 use Rattle.serde_json.specs.View.{view}
-use Rattle.warm_file.specs.Faults.{SaysFault}
+use Rattle.warm_file.specs.private.Faults.{SaysFault}
 use Rattle.warm_file.specs.Values.{member}
 use Rattle.warm_file.proofs.Saying.{says-first, says-next}
 use Rattle.warm_file.specs.Searches.{cuts_of}

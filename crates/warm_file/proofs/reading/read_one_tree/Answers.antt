@@ -4,7 +4,8 @@ use Rattle.serde_json.specs.View.{view}
 use Rattle.warm_file.specs.Faults.{fault}
 use Rattle.warm_file.specs.Values.{member}
 use Rattle.warm_file.proofs.Saying.{says-else, ok-then}
-use Rattle.warm_file.specs.Searches.{points_of, nodes_of, one_tree_of}
+use Rattle.warm_file.specs.Searches.{points_of, nodes_of}
+use Rattle.warm_file.specs.private.Searches.{one_tree_of}
 use Rattle.warm_file.proofs.JoinLemmas.{two-ok, two-says, two-bad}
 use Rattle.warm_file.proofs.reading.read_one_tree.Goals as goal
 

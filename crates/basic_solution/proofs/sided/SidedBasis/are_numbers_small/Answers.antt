@@ -1,5 +1,5 @@
 use Rattle.std.proofs.Common.{sym, ◌∙◌, arith, below_more}
-use Rattle.basic_solution.specs.CutTotals.{StandsSmall}
+use Rattle.basic_solution.specs.private.CutTotals.{StandsSmall}
 use Rattle.basic_solution.proofs.sided.SidedBasis.are_numbers_small.Goals as goal
 
 pub loop-place-preserved : goal.loop-place-preserved

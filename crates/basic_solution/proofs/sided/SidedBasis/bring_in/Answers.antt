@@ -1,7 +1,8 @@
 use Rattle.std.proofs.Common.{◌∙◌, refl, sym, subst, Ok}
 use Rattle.lp_model.specs.Formulations.{formulation}
 use Rattle.basic_solution.specs.Held.{Held}
-use Rattle.basic_solution.specs.ListedStates.{Keeps, IsBroughtTo}
+use Rattle.basic_solution.specs.ListedStates.{Keeps}
+use Rattle.basic_solution.specs.private.ListedStates.{IsBroughtTo}
 use Rattle.basic_solution.proofs.ListedLemmas.{sided_on, brought, brought_wide}
 use Rattle.basic_solution.proofs.sided.SidedBasis.bring_in.Goals as goal
 use Rattle.basic_solution.proofs.sided.SidedBasis.bring_in.Goals.{in-Ok, in-Err}

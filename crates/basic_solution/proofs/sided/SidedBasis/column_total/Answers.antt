@@ -3,7 +3,8 @@ use Rattle.std.specs.Int.{w128}
 use Rattle.table_entries.specs.WholeSums.{HasMargin}
 use Rattle.table_entries.proofs.WholeSumLemmas.{start_is}
 use Rattle.basic_solution.specs.Held.{IsSided, table}
-use Rattle.basic_solution.specs.RowTotals.{IsSmallNumber, IsRowTotal}
+use Rattle.basic_solution.specs.RowTotals.{IsSmallNumber}
+use Rattle.basic_solution.specs.private.RowTotals.{IsRowTotal}
 use Rattle.basic_solution.proofs.PointLemmas.{point_basic, point_nonbasic}
 use Rattle.basic_solution.proofs.CutTotalLemmas.{column_total_of}
 use Rattle.basic_solution.proofs.ReadLemmas.{small_short_again, start_read}

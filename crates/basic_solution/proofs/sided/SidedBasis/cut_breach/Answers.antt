@@ -7,7 +7,7 @@ use Rattle.table_entries.specs.WholeSums.{HasMargin}
 use Rattle.table_entries.specs.States.{basic_value}
 use Rattle.basic_solution.specs.Held.{IsSided, relaxation, state, table, variables}
 use Rattle.basic_solution.specs.Breach.{IsBreach}
-use Rattle.basic_solution.specs.RowTotals.{IsRowTotal}
+use Rattle.basic_solution.specs.private.RowTotals.{IsRowTotal}
 use Rattle.basic_solution.proofs.SideLemmas.{row_breach_of, breach_at}
 use Rattle.basic_solution.proofs.CutTotalLemmas.{cut_row_total}
 use Rattle.table_entries.proofs.ReadLemmas.{short_read, short_again, positive_again, product_read}

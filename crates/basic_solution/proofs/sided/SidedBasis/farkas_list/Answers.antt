@@ -1,7 +1,7 @@
 use Rattle.std.proofs.Common.{◌≡◌, ◌≤◌, sym, subst, arith}
 use Rattle.table_entries.specs.States.{farkas_weights}
 use Rattle.basic_solution.specs.Held.{relaxation, state, variables}
-use Rattle.basic_solution.specs.Lists.{AreMultipliersBelow}
+use Rattle.basic_solution.specs.private.Lists.{AreMultipliersBelow}
 use Rattle.basic_solution.proofs.ListLemmas.{multipliers_none, multipliers_all}
 use Rattle.basic_solution.proofs.sided.SidedBasis.farkas_list.Goals as goal
 

@@ -1,6 +1,6 @@
 use Rattle.table_entries.specs.States.{farkas_weights}
 use Rattle.basic_solution.specs.Held.{relaxation, state}
-use Rattle.basic_solution.specs.Lists.{AreMultipliersBelow}
+use Rattle.basic_solution.specs.private.Lists.{AreMultipliersBelow}
 use Rattle.basic_solution.proofs.sided.SidedBasis.farkas_list.Given as goal
 
 abbrev pub invariant-loop-variable : goal.invariant-loop-variable

@@ -2,7 +2,7 @@ use Rattle.std.proofs.Common.{◌≡◌, ◌<◌, ◌≤◌, sym, subst, arith, 
 use Rattle.table_entries.specs.Relaxation.{multipliers}
 use Rattle.basic_solution.specs.Held.{relaxation, table, variables}
 use Rattle.basic_solution.specs.Numbers.{MultiplierFits}
-use Rattle.basic_solution.specs.Lists.{AreMultipliersBelow}
+use Rattle.basic_solution.specs.private.Lists.{AreMultipliersBelow}
 use Rattle.basic_solution.proofs.ListLemmas.{multipliers_none, multipliers_all}
 use Rattle.basic_solution.proofs.sided.SidedBasis.multiplier_list.Goals as goal
 

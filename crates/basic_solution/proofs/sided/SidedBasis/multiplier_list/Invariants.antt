@@ -2,7 +2,7 @@ use Rattle.std.proofs.Common.{◌<◌, ◌≤◌, ℕ}
 use Rattle.table_entries.specs.Relaxation.{multipliers}
 use Rattle.basic_solution.specs.Held.{relaxation, table}
 use Rattle.basic_solution.specs.Numbers.{MultiplierFits}
-use Rattle.basic_solution.specs.Lists.{AreMultipliersBelow}
+use Rattle.basic_solution.specs.private.Lists.{AreMultipliersBelow}
 use Rattle.basic_solution.proofs.sided.SidedBasis.multiplier_list.Given as goal
 
 abbrev pub invariant-loop-variable : goal.invariant-loop-variable

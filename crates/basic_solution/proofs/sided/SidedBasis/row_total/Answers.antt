@@ -8,7 +8,8 @@ use Rattle.table_entries.specs.WholeSums.{IsWholeTerm, HasMargin}
 use Rattle.table_entries.proofs.ListedLemmas.{zero_over}
 use Rattle.table_entries.proofs.WholeSumLemmas.{total_more}
 use Rattle.basic_solution.specs.Held.{IsSided, state, table, variables}
-use Rattle.basic_solution.specs.RowTotals.{IsSmallNumber, HasSmallTerm, IsRowTotal}
+use Rattle.basic_solution.specs.RowTotals.{IsSmallNumber, HasSmallTerm}
+use Rattle.basic_solution.specs.private.RowTotals.{IsRowTotal}
 use Rattle.basic_solution.proofs.RowTotalLemmas.{size_more, margin_of, total_of_row}
 use Rattle.basic_solution.proofs.ReadLemmas.{small_short_again, total_read, none_within, none_below}
 use Rattle.table_entries.proofs.ReadLemmas.{short_read, short_again}

@@ -2,7 +2,8 @@ use Rattle.std.proofs.Common.{refl, ap, subst, Ok, inl, inr}
 use Rattle.row_tableau.specs.Dense.{Dense}
 use Rattle.row_tableau.specs.Variables.{numbers}
 use Rattle.row_tableau.specs.Answers.{IsLeftOff}
-use Rattle.basic_solution.specs.ListedStates.{StandBy, IsBroughtTo}
+use Rattle.basic_solution.specs.ListedStates.{StandBy}
+use Rattle.basic_solution.specs.private.ListedStates.{IsBroughtTo}
 use Rattle.basic_solution.proofs.ListedLemmas.{keeps_restood, keeps_trans, leads_restood, nowhere_on, at_list, lawful_stood}
 use Rattle.basic_solution.proofs.sided.SidedBasis.stand_at.Goals as goal
 

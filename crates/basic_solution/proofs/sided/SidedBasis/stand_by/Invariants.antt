@@ -2,7 +2,7 @@ use Rattle.std.proofs.Common.{◌<◌, ℕ, get_or}
 use Rattle.table_entries.specs.declared.stand.Stand.TheVariants.{Free}
 use Rattle.row_tableau.specs.Variables.{numbers}
 use Rattle.basic_solution.specs.Held.{relaxation, table}
-use Rattle.basic_solution.specs.Slack.{IsRestood}
+use Rattle.basic_solution.specs.private.Slack.{IsRestood}
 use Rattle.basic_solution.specs.ListedStates.{IsStandBy}
 use Rattle.basic_solution.proofs.sided.SidedBasis.stand_by.Given as goal
 

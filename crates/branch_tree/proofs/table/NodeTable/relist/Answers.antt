@@ -1,7 +1,8 @@
 use Rattle.std.proofs.Common.{◌<◌, ◌≤◌, length, slice_index_or, ap, subst, ◌∙◌, arith}
 use Rattle.std.specs.Option.{option_map}
 use Rattle.branch_tree.specs.declared.table.IdKey.{IdKey}
-use Rattle.branch_tree.specs.Table.{node_under, node_at, PutsNode}
+use Rattle.branch_tree.specs.Table.{node_under, node_at}
+use Rattle.branch_tree.specs.private.Table.{PutsNode}
 use Rattle.branch_tree.specs.private.Relisted.{node_left_by}
 use Rattle.branch_tree.proofs.RelistLemmas.{relisted-more, relisted-all}
 use Rattle.branch_tree.proofs.table.NodeTable.relist.Goals as goal

@@ -2,7 +2,7 @@ use Rattle.std.proofs.Common.{◌≡◌, ap, sym, subst, ◌∙◌}
 use Rattle.branch_tree.specs.Plain.{leaves_with, path_of}
 use Rattle.branch_tree.specs.Numbered.{NumberedTree}
 use Rattle.branch_tree.specs.Changes.{HasLeaf}
-use Rattle.branch_tree.specs.Stored.{leaf_of, leaf_of_kind}
+use Rattle.branch_tree.specs.private.Stored.{leaf_of, leaf_of_kind}
 use Rattle.branch_tree.proofs.LeafLemmas.{path_of-none}
 use Rattle.branch_tree.proofs.UpwardLemmas.{no-leaf-held, one-leaf-held, region-held, region-answer}
 use Rattle.branch_tree.proofs.tree.Tree.region_of.Goals as goal

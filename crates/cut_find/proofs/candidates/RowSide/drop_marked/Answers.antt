@@ -2,7 +2,8 @@ use Rattle.std.proofs.Common.{◌≡◌, ◌∙◌, ◌≤◌, refl, sym, subst,
 use Rattle.std.specs.Int.{w128}
 use Rattle.leaf_dual.proofs.ReadLemmas.{room_read}
 use Rattle.cut_find.specs.Greedy.{places_without}
-use Rattle.cut_find.specs.WholeSides.{mark_at, rest_without, IsWholeCover}
+use Rattle.cut_find.specs.WholeSides.{mark_at}
+use Rattle.cut_find.specs.private.WholeSides.{rest_without, IsWholeCover}
 use Rattle.cut_find.proofs.SizeLemmas.{less_room}
 use Rattle.cut_find.proofs.TakeLemmas.{cover_less, back_dropped, back_stays, dropped_end}
 use Rattle.cut_find.proofs.candidates.RowSide.drop_marked.Goals as goal

@@ -1,6 +1,6 @@
 use Rattle.std.proofs.Common.{ℕ, List, drop, Option}
 use Rattle.cut_find.specs.Greedy.{Drops}
-use Rattle.cut_find.specs.WholeSides.{IsWholeCover}
+use Rattle.cut_find.specs.private.WholeSides.{IsWholeCover}
 use Rattle.cut_find.proofs.candidates.RowSide.drop_marked.Given as goal
 
 abbrev pub invariant-loop-place : goal.invariant-loop-place

@@ -1,7 +1,8 @@
 use Rattle.std.proofs.Common.{◌≡◌, ◌∙◌, sym, subst, arith, suc, length, ◌≤◌, pos, ◌<ℤ◌, to_z, of_z, w64}
 use Rattle.frac128.specs.LowestTerms.{quotient_of}
 use Rattle.leaf_dual.proofs.ReadLemmas.{factor_read, factor_again, denominator_again}
-use Rattle.cut_find.specs.WholeSides.{mark_at, AreSumsTo}
+use Rattle.cut_find.specs.WholeSides.{mark_at}
+use Rattle.cut_find.specs.private.WholeSides.{AreSumsTo}
 use Rattle.cut_find.proofs.RowLemmas.{entry_at, entries_end, entry_some}
 use Rattle.cut_find.proofs.SizeLemmas.{sums_begin, sums_across}
 use Rattle.cut_find.proofs.candidates.RowSide.sums.Goals as goal

@@ -1,6 +1,6 @@
 use Rattle.std.proofs.Common.{ℕ, drop, length}
 use Rattle.cut_find.specs.RowEntries.{AreEntriesOf}
-use Rattle.cut_find.specs.WholeSides.{AreSumsTo}
+use Rattle.cut_find.specs.private.WholeSides.{AreSumsTo}
 use Rattle.cut_find.proofs.candidates.RowSide.sums.Given as goal
 
 abbrev pub invariant-loop-entry : goal.invariant-loop-entry

@@ -2,7 +2,8 @@ use Rattle.std.proofs.Common.{◌≡◌, ◌∙◌, refl, sym, subst, arith, [],
 use Rattle.std.specs.Int.{w128}
 use Rattle.std.proofs.lemmas.Bool.{false≢true}
 use Rattle.leaf_dual.proofs.ReadLemmas.{room_read, room_again}
-use Rattle.cut_find.specs.WholeSides.{mark_at, IsWholeCover, IsTaken}
+use Rattle.cut_find.specs.WholeSides.{mark_at}
+use Rattle.cut_find.specs.private.WholeSides.{IsWholeCover, IsTaken}
 use Rattle.cut_find.proofs.TakeLemmas.{taken_here, taken_end, never_end, back_more, cover_begin, cover_more}
 use Rattle.cut_find.proofs.candidates.RowSide.take_marked.Goals as goal
 

@@ -5,7 +5,8 @@ use Rattle.frac128.specs.LowestTerms.{quotient_of}
 use Rattle.cover_cuts.specs.Covers.{side_limit}
 use Rattle.leaf_dual.specs.Wholes.{IsFactor, IsDenominator}
 use Rattle.leaf_dual.proofs.ReadLemmas.{factor_read, denominator_again, room_read}
-use Rattle.cut_find.specs.WholeSides.{AreSumsTo, IsWholeSide}
+use Rattle.cut_find.specs.WholeSides.{IsWholeSide}
+use Rattle.cut_find.specs.private.WholeSides.{AreSumsTo}
 use Rattle.cut_find.proofs.JudgeLemmas.{whole_of_sums}
 use Rattle.cut_find.proofs.candidates.RowSide.whole_side.Goals as goal
 

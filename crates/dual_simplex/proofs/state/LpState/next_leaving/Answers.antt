@@ -1,5 +1,5 @@
 use Rattle.std.proofs.Common.{◌∙◌, sym, subst}
-use Rattle.dual_simplex.specs.Answers.{IsLeaving}
+use Rattle.dual_simplex.specs.private.Answers.{IsLeaving}
 use Rattle.dual_simplex.specs.LpStates.{IsLpState}
 use Rattle.dual_simplex.proofs.state.LpState.next_leaving.Goals as goal
 

@@ -3,7 +3,8 @@ use Rattle.table_entries.specs.Steps.{ExchangeFits}
 use Rattle.row_tableau.specs.Answers.{IsWidePivot}
 use Rattle.basic_solution.specs.Held.{table}
 use Rattle.basic_solution.specs.Exchanges.{IsMove}
-use Rattle.dual_simplex.specs.Answers.{IsFirstOut, IsLeaving, IsEntering}
+use Rattle.dual_simplex.specs.Answers.{IsFirstOut}
+use Rattle.dual_simplex.specs.private.Answers.{IsLeaving, IsEntering}
 use Rattle.dual_simplex.proofs.StepLemmas.{blocked_of, wide_entering, entered_of, wide_exchange, moved_of}
 use Rattle.dual_simplex.proofs.state.LpState.step.Goals as goal
 

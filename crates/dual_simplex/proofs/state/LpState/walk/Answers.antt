@@ -1,5 +1,6 @@
 use Rattle.std.proofs.Common.{refl, sym, subst, arith, ◌≡◌, Ok, Err, inl}
-use Rattle.dual_simplex.specs.Answers.{AreAllInside, HasLeaving, IsLeaving}
+use Rattle.dual_simplex.specs.Answers.{AreAllInside, HasLeaving}
+use Rattle.dual_simplex.specs.private.Answers.{IsLeaving}
 use Rattle.dual_simplex.specs.Moves.{IsStepAnswer, IsBlocked}
 use Rattle.dual_simplex.specs.Walks.{Moves, IsWalkEnd}
 use Rattle.dual_simplex.specs.declared.walk.Walk.TheVariants.{Optimal}

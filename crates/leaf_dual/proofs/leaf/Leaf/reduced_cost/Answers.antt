@@ -1,6 +1,7 @@
 use Rattle.std.proofs.Common.{◌∙◌, sym, ap, subst, Err}
 use Rattle.leaf_dual.specs.Dual.{multiplier}
-use Rattle.leaf_dual.specs.Parts.{cost_of, IsReducedCost}
+use Rattle.leaf_dual.specs.Parts.{cost_of}
+use Rattle.leaf_dual.specs.private.Parts.{IsReducedCost}
 use Rattle.leaf_dual.proofs.DualLemmas.{reduced-ok, reduced-wide}
 use Rattle.leaf_dual.proofs.leaf.Leaf.reduced_cost.Goals as goal
 

@@ -3,7 +3,8 @@ use Rattle.checked_sum.specs.Steps.{IsCheckedSum}
 use Rattle.checked_sum.proofs.AnswerLaws.{wide_at}
 use Rattle.leaf_dual.specs.Dual.{multiplier}
 use Rattle.leaf_dual.specs.Answers.{row_number}
-use Rattle.leaf_dual.specs.Parts.{constant_of, row_step}
+use Rattle.leaf_dual.specs.Parts.{constant_of}
+use Rattle.leaf_dual.specs.private.Parts.{row_step}
 use Rattle.leaf_dual.proofs.leaf.Leaf.rows_total.Goals as goal
 
 pub returns-in-Err : goal.returns-in-Err

@@ -5,7 +5,8 @@ use Rattle.checked_sum.proofs.StepLaws.{partial_none}
 use Rattle.lp_model.specs.Formulations.{formulation}
 use Rattle.leaf_dual.specs.Dual.{multiplier, cut_weight, column_reduced_cost, column_side}
 use Rattle.leaf_dual.specs.Answers.{bound_number}
-use Rattle.leaf_dual.specs.Parts.{cost_of, IsColumnsTotal}
+use Rattle.leaf_dual.specs.Parts.{cost_of}
+use Rattle.leaf_dual.specs.private.Parts.{IsColumnsTotal}
 use Rattle.leaf_dual.specs.Wholes.{HasRoomForProduct}
 use Rattle.leaf_dual.proofs.ReadLemmas.{room_read, room_again}
 use Rattle.leaf_dual.proofs.AnswerLemmas.{columns-none, columns-next, columns-all}

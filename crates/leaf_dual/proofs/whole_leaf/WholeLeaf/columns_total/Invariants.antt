@@ -3,7 +3,8 @@ use Rattle.frac128.specs.LowestTerms.{quotient_of}
 use Rattle.lp_model.specs.Formulations.{formulation}
 use Rattle.leaf_dual.specs.Dual.{multiplier, cut_weight, column_side}
 use Rattle.leaf_dual.specs.Answers.{ColumnsFit}
-use Rattle.leaf_dual.specs.Parts.{cost_of, columns_before}
+use Rattle.leaf_dual.specs.Parts.{cost_of}
+use Rattle.leaf_dual.specs.private.Parts.{columns_before}
 use Rattle.leaf_dual.specs.Wholes.{HasRoomForProduct}
 use Rattle.leaf_dual.proofs.whole_leaf.WholeLeaf.columns_total.Given as goal
 

@@ -5,7 +5,8 @@ use Rattle.frac128.specs.LowestTerms.{quotient_of}
 use Rattle.checked_sum.specs.Steps.{AllFit, partial}
 use Rattle.lp_model.specs.Formulations.{cut_coefficient}
 use Rattle.leaf_dual.specs.Dual.{multiplier, cut_weight}
-use Rattle.leaf_dual.specs.Parts.{cost_of, IsAfterCuts, IsCostAnswer}
+use Rattle.leaf_dual.specs.Parts.{cost_of}
+use Rattle.leaf_dual.specs.private.Parts.{IsAfterCuts, IsCostAnswer}
 use Rattle.leaf_dual.proofs.DualLemmas.{cuts-answer}
 use Rattle.leaf_dual.proofs.ReadLemmas.{room_read, room_again}
 use Rattle.leaf_dual.proofs.whole_leaf.WholeLeaf.cost_left.Goals as goal

@@ -2,7 +2,8 @@ use Rattle.std.proofs.Common.{◌≡◌, ◌∙◌, sym, subst, Ok, to_z, of_z, 
 use Rattle.std.specs.Int.{w128}
 use Rattle.frac128.specs.LowestTerms.{quotient_of}
 use Rattle.leaf_dual.specs.Dual.{multiplier, cut_weight}
-use Rattle.leaf_dual.specs.Parts.{constant_of, cost_of, IsCutsTotal, IsColumnsTotal}
+use Rattle.leaf_dual.specs.Parts.{constant_of, cost_of}
+use Rattle.leaf_dual.specs.private.Parts.{IsCutsTotal, IsColumnsTotal}
 use Rattle.leaf_dual.proofs.ReadLemmas.{factor_read, denominator_again, room_read, room_again}
 use Rattle.leaf_dual.proofs.WholeColumns.{number_over}
 use Rattle.leaf_dual.proofs.whole_leaf.WholeLeaf.number.Goals as goal

@@ -1,7 +1,7 @@
 use Rattle.std.proofs.Common.{ap, sym, ◌∙◌, ◌++◌, ◌∷◌, [], List, map}
 use Rattle.std.specs.Prelude.{Option, option_to_list}
 use Rattle.mps_sections.specs.declared.columns.OpenColumn.{OpenColumn}
-use Rattle.mps_sections.specs.Shown.{open_shown}
+use Rattle.mps_sections.specs.private.Shown.{open_shown}
 use Rattle.mps_sections.specs.declared.statements.ColumnLines.{ColumnLines}
 use Rattle.mps_sections.proofs.ListFacts.{held_some, held_none}
 use Rattle.mps_sections.proofs.columns.Columns.add_column.Goals as goal

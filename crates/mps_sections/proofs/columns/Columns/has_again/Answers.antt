@@ -1,6 +1,6 @@
 use Rattle.std.proofs.Common.{ap, sym, ◌∙◌}
 use Rattle.mps_sections.specs.Faults.{has_again, numbers_of_last}
-use Rattle.mps_sections.specs.Shown.{open_shown}
+use Rattle.mps_sections.specs.private.Shown.{open_shown}
 use Rattle.mps_fields.specs.Fields.{pairs_shown}
 use Rattle.mps_sections.proofs.ListFacts.{held_some, numbers_of_last-more}
 use Rattle.mps_sections.proofs.columns.Columns.has_again.Goals as goal

@@ -1,6 +1,6 @@
 use Rattle.std.proofs.Common.{ap, sym, ◌∙◌, List}
 use Rattle.mps_sections.specs.Faults.{is_last}
-use Rattle.mps_sections.specs.Shown.{open_shown}
+use Rattle.mps_sections.specs.private.Shown.{open_shown}
 use Rattle.mps_sections.specs.declared.statements.ColumnLines.{ColumnLines}
 use Rattle.mps_sections.proofs.ListFacts.{held_some, is_last-more}
 use Rattle.mps_sections.proofs.columns.Columns.is_last.Goals as goal

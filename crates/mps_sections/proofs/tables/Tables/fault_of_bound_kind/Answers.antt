@@ -1,7 +1,7 @@
 use Rattle.std.proofs.Common.{◌∙◌, ap}
 use Rattle.mps_text.specs.Reading.{entry_of_record}
 use Rattle.mps_fields.specs.Numbers.{limit_of, is_misplaced}
-use Rattle.mps_sections.specs.Shown.{held}
+use Rattle.mps_sections.specs.private.Shown.{held}
 use Rattle.mps_sections.proofs.TestFacts.{code_of_bound}
 use Rattle.mps_sections.proofs.tables.Tables.fault_of_bound_kind.Goals as goal
 

@@ -2,7 +2,7 @@ use Rattle.std.proofs.Common.{◌≡◌, ◌∙◌, sym, ap, true, false}
 use Rattle.std.specs.Prelude.{is_some}
 use Rattle.mps_fields.specs.Fields.{pairs_shown}
 use Rattle.mps_sections.specs.Faults.{least, pair_tests, place_tests}
-use Rattle.mps_sections.specs.Shown.{held}
+use Rattle.mps_sections.specs.private.Shown.{held}
 use Rattle.mps_sections.proofs.TestFacts.{least_before, least_behind}
 use Rattle.mps_sections.proofs.tables.Tables.fault_of_entries.Goals as goal
 

@@ -2,7 +2,7 @@ use Rattle.std.proofs.Common.{◌≡◌, ◌∙◌, sym, ap}
 use Rattle.std.specs.Prelude.{Some}
 use Rattle.mps_text.specs.Reading.{entry_of_record}
 use Rattle.mps_fields.specs.Words.{section_of, word}
-use Rattle.mps_sections.specs.Shown.{held}
+use Rattle.mps_sections.specs.private.Shown.{held}
 use Rattle.mps_sections.proofs.TestFacts.{code_of_header}
 use Rattle.mps_sections.proofs.tables.Tables.fault_of_header.Goals as goal
 

@@ -3,7 +3,7 @@ use Rattle.std.specs.Prelude.{is_some}
 use Rattle.mps_text.specs.Reading.{entry_of_record}
 use Rattle.mps_fields.specs.Fields.{Pair, set_pairs, has_twice}
 use Rattle.mps_sections.specs.Faults.{Test, least, set_tests, is_ranged_again, has_free_row}
-use Rattle.mps_sections.specs.Shown.{held}
+use Rattle.mps_sections.specs.private.Shown.{held}
 use Rattle.mps_sections.specs.Statements.{StatedModel}
 use Rattle.mps_sections.proofs.TestFacts.{least_before, least_behind}
 use Rattle.mps_sections.proofs.tables.Tables.fault_of_range.Goals as goal

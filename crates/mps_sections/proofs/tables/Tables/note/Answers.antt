@@ -1,6 +1,6 @@
 use Rattle.std.proofs.Common.{sym, ◌∙◌}
 use Rattle.mps_text.specs.Reading.{entry_of_record}
-use Rattle.mps_sections.specs.Shown.{held}
+use Rattle.mps_sections.specs.private.Shown.{held}
 use Rattle.mps_fields.specs.declared.words.LineKind.TheVariants.{Column}
 use Rattle.mps_sections.proofs.TestFacts.{room_of_column, code_of_kind}
 use Rattle.mps_sections.proofs.tables.Tables.note.Goals as goal

@@ -1,5 +1,5 @@
 use Rattle.std.proofs.Common.{sym, subst}
-use Rattle.node_solve.specs.Rounds.{EndsAt, IsNextAnswer}
+use Rattle.node_solve.specs.private.Rounds.{EndsAt, IsNextAnswer}
 use Rattle.node_solve.specs.private.Ends.{IsOptimumAt}
 use Rattle.node_solve.specs.private.RoundCode.{task_work, round_of}
 use Rattle.node_solve.proofs.TurnLemmas.{optimum_shape, next_rounds, last_of}

@@ -7,7 +7,8 @@ use Rattle.row_tableau.specs.Relaxations.{plain}
 use Rattle.row_tableau.proofs.OrderedLemmas.{region_ordered}
 use Rattle.row_tableau.specs.Tilts.{KeepsFree}
 use Rattle.dual_simplex.proofs.RegionSideLemmas.{keeps_free}
-use Rattle.node_solve.specs.Rounds.{form_in, IsSolvedIn}
+use Rattle.node_solve.specs.Rounds.{form_in}
+use Rattle.node_solve.specs.private.Rounds.{IsSolvedIn}
 use Rattle.node_solve.specs.private.RoundCode.{task_work, round_of}
 use Rattle.node_solve.proofs.EndLemmas.{bounded_changes, plain_of}
 use Rattle.node_solve.proofs.TaskLemmas.{first_lawful, start_stops, round_run, run_told}

@@ -1,7 +1,7 @@
 use Rattle.std.proofs.Common.{refl, sym, subst, inl, inr}
 use Rattle.row_tableau.specs.Dense.{IsTableauOf}
 use Rattle.row_tableau.specs.Variables.{numbers}
-use Rattle.row_tableau.specs.Answers.{IsFirstLeaving, EntersAt}
+use Rattle.row_tableau.specs.private.Answers.{IsFirstLeaving, EntersAt}
 use Rattle.row_tableau.proofs.tableau.Tableau.enter.Goals as goal
 
 pub exchange_named-requires-clause-row : goal.exchange_named-requires-clause-row

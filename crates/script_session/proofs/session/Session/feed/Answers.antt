@@ -3,7 +3,7 @@ use Rattle.std.specs.Prelude.{Ok, Err}
 use Rattle.std.proofs.lemmas.List.Elements.{All-append, All-nil}
 use Rattle.script_session.specs.Request.{RequestStep}
 use Rattle.text_lines.specs.Lines.{is_newline, HasNoNewline, ended_line}
-use Rattle.script_session.specs.Session.{moment_of, ServesLine, ServesPiece}
+use Rattle.script_session.specs.private.Session.{moment_of, ServesLine, ServesPiece}
 use Rattle.script_session.specs.declared.session.Flow.{Flow}
 use Rattle.script_session.specs.declared.session.Flow.TheVariants.{Open}
 use Rattle.script_session.proofs.PieceLemmas.{Stands, Stands-start, Stands-line, Stands-joined, piece_ended, piece_failed, piece_wanting, piece_open}

@@ -1,7 +1,7 @@
 use Rattle.std.proofs.Common.{◌≤◌, ◌++◌, length}
 use Rattle.script_session.specs.Request.{RequestStep}
 use Rattle.text_lines.specs.Lines.{HasNoNewline}
-use Rattle.script_session.specs.Session.{moment_of}
+use Rattle.script_session.specs.private.Session.{moment_of}
 use Rattle.script_session.proofs.PieceLemmas.{Stands}
 use Rattle.script_session.proofs.session.Session.feed.Given as goal
 

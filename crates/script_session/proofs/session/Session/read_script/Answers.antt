@@ -3,7 +3,7 @@ use Rattle.std.specs.Prelude.{Ok, Err, IfSome}
 use Rattle.std.specs.Io.KnownBytes.{Consumes}
 use Rattle.std.proofs.lemmas.List.{length-take-le}
 use Rattle.script_session.specs.Request.{RequestStep}
-use Rattle.script_session.specs.Session.{moment_of, ServesPiece, ServesRest}
+use Rattle.script_session.specs.private.Session.{moment_of, ServesPiece, ServesRest}
 use Rattle.script_session.specs.declared.session.Flow.{Flow}
 use Rattle.script_session.specs.Limits.{piece_length}
 use Rattle.script_session.proofs.CauseLemmas.{later_on, rose_on, sink_cause_on, piece_cause, rest_cause}

@@ -1,6 +1,6 @@
 use Rattle.std.proofs.Common.{◌≤◌, ◌-◌}
 use Rattle.script_session.specs.Request.{RequestStep}
-use Rattle.script_session.specs.Session.{moment_of}
+use Rattle.script_session.specs.private.Session.{moment_of}
 use Rattle.script_session.specs.Limits.{script_limit}
 use Rattle.script_session.proofs.ReadLemmas.{ReadsOn}
 use Rattle.script_session.proofs.session.Session.read_script.Given as goal

@@ -4,7 +4,7 @@ use Rattle.std.specs.declared.alloc.Global.{Global}
 use Rattle.std.specs.Io.KnownBytes.{Appends}
 use Rattle.script_session.specs.Request.{RequestStep, Words}
 use Rattle.script_session.specs.Output.{WritesFront}
-use Rattle.script_session.specs.Session.{moment_of}
+use Rattle.script_session.specs.private.Session.{moment_of}
 use Rattle.script_session.proofs.SessionLemmas.{Serves-one, Breaks-one, Wants-one}
 use Rattle.script_session.proofs.session.Session.serve_command.Goals as goal
 

@@ -3,7 +3,7 @@ use Rattle.std.specs.Prelude.{Ok, Err}
 use Rattle.text_lines.specs.Lines.{ended_line}
 use Rattle.script_session.specs.Request.{RequestStep}
 use Rattle.script_session.specs.Script.{line_requests}
-use Rattle.script_session.specs.Session.{moment_of}
+use Rattle.script_session.specs.private.Session.{moment_of}
 use Rattle.script_session.proofs.SessionLemmas.{Wants-none}
 use Rattle.script_session.proofs.PieceLemmas.{served_line}
 use Rattle.script_session.proofs.session.Session.serve_joined.Goals as goal

@@ -3,7 +3,7 @@ use Rattle.std.proofs.lemmas.Bool.Decides.{nat_tests}
 use Rattle.script_session.specs.Request.{RequestStep}
 use Rattle.text_lines.specs.Lines.{Line}
 use Rattle.script_session.specs.Script.{is_long_line, text_requests, is_end_text}
-use Rattle.script_session.specs.Session.{moment_of, ServesAll}
+use Rattle.script_session.specs.private.Session.{moment_of, ServesAll}
 use Rattle.script_session.specs.declared.session.Session.{Session}
 use Rattle.script_session.proofs.SessionLemmas.{Serves-overlong, Breaks-overlong}
 use Rattle.script_session.proofs.PieceLemmas.{long_broken, short_line, long_line}

@@ -1,6 +1,6 @@
 use Rattle.std.proofs.Common.{◌<◌, length, arith}
 use Rattle.script_session.specs.Request.{RequestStep}
-use Rattle.script_session.specs.Session.{moment_of}
+use Rattle.script_session.specs.private.Session.{moment_of}
 use Rattle.script_session.proofs.ReadLemmas.{rest_failed, rest_done, rest_none}
 use Rattle.script_session.proofs.session.Session.serve_rest.Goals as goal
 

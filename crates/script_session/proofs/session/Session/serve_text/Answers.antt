@@ -2,7 +2,7 @@ use Rattle.std.proofs.Common.{◌≡◌, ◌<◌, ℕ, List, [], ◌∷◌, map,
 use Rattle.std.specs.Prelude.{if◌then◌else◌}
 use Rattle.script_session.specs.Request.{RequestStep, Words}
 use Rattle.script_session.specs.Script.{text_requests}
-use Rattle.script_session.specs.Session.{moment_of, Serves, ServesAll}
+use Rattle.script_session.specs.private.Session.{moment_of, Serves, ServesAll}
 use Rattle.script_session.specs.declared.session.Flow.TheVariants.{Open, Ended}
 use Rattle.script_session.proofs.SessionLemmas.{Serves-none, Wants-none}
 use Rattle.script_session.proofs.ScriptLemmas.{comment-silent, wordless-silent, spoken, spoken-requests, silent-requests, silent-end, spoken-end}

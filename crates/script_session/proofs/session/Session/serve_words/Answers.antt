@@ -1,7 +1,7 @@
 use Rattle.std.proofs.Common.{◌∷◌, [], map, refl, sym, ◌∙◌, ap}
 use Rattle.std.specs.Prelude.{if◌then◌else◌}
 use Rattle.script_session.specs.Request.{RequestStep, Words}
-use Rattle.script_session.specs.Session.{moment_of}
+use Rattle.script_session.specs.private.Session.{moment_of}
 use Rattle.script_session.specs.declared.session.Flow.TheVariants.{Open, Ended}
 use Rattle.script_session.proofs.PieceLemmas.{all_failed}
 use Rattle.script_session.proofs.session.Session.serve_words.Goals as goal

@@ -2,7 +2,8 @@ use Rattle.std.proofs.Common.{◌≡◌, ◌≢◌, ◌<◌, ◌<ℤ◌, ◌+◌
 use Rattle.frac128.specs.Rational.{int}
 use Rattle.table_entries.specs.FlatSteps.{dense_entry}
 use Rattle.table_entries.specs.WholeSteps.{is_unwritten}
-use Rattle.table_entries.specs.Listed.{IsExchangedList, ArePartsExchanged}
+use Rattle.table_entries.specs.Listed.{IsExchangedList}
+use Rattle.table_entries.specs.private.Listed.{ArePartsExchanged}
 use Rattle.table_entries.specs.Parts.{Parts, AreColumnsWritten, IsSwap, filled, swapped}
 use Rattle.table_entries.proofs.FilledLemmas.{part_parted, exchanged_filled, limit_read}
 use Rattle.table_entries.proofs.parts.PartEntries.exchange_part.Goals as goal

@@ -3,7 +3,8 @@ use Rattle.std.proofs.lemmas.Int.{ints}
 use Rattle.frac128.specs.LowestTerms.{quotient_of}
 use Rattle.table_entries.specs.FlatSteps.{dense_entry}
 use Rattle.table_entries.specs.WholeSteps.{IsShort, is_unwritten}
-use Rattle.table_entries.specs.Parts.{AreColumnsWritten, IsLight, filled, unwritten_number}
+use Rattle.table_entries.specs.Parts.{AreColumnsWritten, filled}
+use Rattle.table_entries.specs.private.Parts.{IsLight, unwritten_number}
 use Rattle.table_entries.proofs.FilledLemmas.{partial_of, light_at, unwritten_at}
 use Rattle.table_entries.proofs.parts.PartEntries.number.Goals as goal
 

@@ -1,7 +1,8 @@
 use Rattle.std.proofs.Common.{ℕ, ◌≡◌, ◌≤◌, ◌∙◌, refl, sym, ap, subst, get_or, length, false}
 use Rattle.std.proofs.lemmas.List.{with_items_is}
 use Rattle.table_entries.specs.WholeSteps.{is_unwritten}
-use Rattle.table_entries.specs.Parts.{Parts, IsParted, IsLight, AreColumnsWritten, any_entry, filled}
+use Rattle.table_entries.specs.Parts.{Parts, IsParted, AreColumnsWritten, any_entry, filled}
+use Rattle.table_entries.specs.private.Parts.{IsLight}
 use Rattle.table_entries.proofs.FilledLemmas.{light_at, full_parted, filled_same, none_open}
 use Rattle.table_entries.proofs.parts.PartEntries.write_all.Goals as goal
 

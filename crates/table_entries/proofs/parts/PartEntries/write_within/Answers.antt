@@ -2,8 +2,9 @@ use Rattle.std.proofs.Common.{ℕ, ◌<ℤ◌, set, ◌≡◌, ◌<◌, ◌≤�
 use Rattle.std.proofs.lemmas.Bool.{false≢true}
 use Rattle.std.proofs.lemmas.List.{length-set}
 use Rattle.table_entries.specs.WholeSteps.{is_unwritten, magnitude, whole_number_at}
-use Rattle.table_entries.specs.Parts.{Parts, unwritten_number, AreColumnsWritten, filled}
-use Rattle.table_entries.specs.Parts.{IsLight, IsRowTouched}
+use Rattle.table_entries.specs.Parts.{Parts, AreColumnsWritten, filled}
+use Rattle.table_entries.specs.private.Parts.{unwritten_number}
+use Rattle.table_entries.specs.private.Parts.{IsLight, IsRowTouched}
 use Rattle.table_entries.proofs.FilledLemmas.{limit_read, partial_of, light_at, apart_at, touched_parted, touched_filled}
 use Rattle.table_entries.proofs.PartRows.{flag_same, flag_other, flag_still}
 use Rattle.table_entries.proofs.parts.PartEntries.write_within.Goals as goal

@@ -1,6 +1,6 @@
 use Rattle.std.proofs.Common.{subst, Err}
 use Rattle.serde_json.specs.View.{view}
-use Rattle.warm_file.specs.Faults.{SaysFault}
+use Rattle.warm_file.specs.private.Faults.{SaysFault}
 use Rattle.warm_file.specs.Rising.{variable_rank, multiplier_at, dual_kind_of, multiplier_of}
 use Rattle.warm_file.specs.private.RisingItems.{past_variable}
 use Rattle.warm_file.proofs.Saying.{says-there, says-missing, says-first, says-next}

@@ -1,6 +1,6 @@
 use Rattle.leaf_judging.specs.Queued.{Has}
 use Rattle.leaf_judging.proofs.QueueLemmas.{goes_first}
-use Rattle.leaf_judging.proofs.queue.LeafQueue.first.Goals as goal
+use Rattle.leaf_judging.proofs.queue.LeafQueue.first_candidate.Goals as goal
 
 pub returns-in-Some : goal.returns-in-Some
 unfolding Has
