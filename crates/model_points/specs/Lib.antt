@@ -1,3 +1,5 @@
 pub mod Answers
 pub mod Rays
+pub mod Bounds
 pub mod Laws
+pub mod private

@@ -93,12 +93,6 @@ pub record IsFirstWideSum (M : Program) (d : Point) (step : WideStep) : Type 0 w
   pub here : IsFirstWide (int (pos 0)) (λ j. coefficient M row j) (λ j. coordinate d j) (length M.cols) col
   pub is : step ≡ activity_step row col
 
--- the first row that is passed, or step without room of a row's sum, decides
-abbrev pub AreRowsJudged : Program → Point → Result Bool WideStep → Type 0
-AreRowsJudged M d (Ok true) = RowsAreKept M d (length M.rows)
-AreRowsJudged M d (Ok false) = (i : ℕ) × IsFirstPassed M d i
-AreRowsJudged M d (Err step) = IsFirstWideSum M d step
-
 -- each column and each row is kept
 pub record IsKeptAlong (M : Program) (d : Point) : Type 0 where
   pub columns : ColumnsGoOn M d

@@ -1,7 +1,8 @@
 // Whether a direction is a ray, and the model without costs.
 ghost use Rattle.std.specs.Prelude.{◌≡◌, ◌↔◌, ◌++◌, [], ◌∷◌, length, map, pos, IsTrue, IfOk};
 ghost use Rattle.frac128.specs.Rational.{int};
-ghost use Rattle.model_points.specs.Rays.{GoesOn, ColumnsGoOn, AreRowsJudged, IsDirectionCostAnswer, IsRayJudged, without_cost, without_costs};
+ghost use Rattle.model_points.specs.Rays.{GoesOn, ColumnsGoOn, IsDirectionCostAnswer, IsRayJudged, without_cost, without_costs};
+ghost use Rattle.model_points.specs.private.Rays.{AreRowsJudged};
 
 use crate::points::{activity, costs_from};
 use frac128::Frac;

@@ -36,9 +36,10 @@ use Rattle.result_order.proofs.PoolOrder.{basis-in-pool}
 use Rattle.result_order.proofs.StateOrder.{basis-order}
 use Rattle.result_order.proofs.WorkedOrder.{wide-order, worked-order}
 use Rattle.tree_search.specs.Steps.{worked_model, FoundCuts, work_next, kept_basis, WorksNext, Places, KeepsOpen, PointAtNext, StopsAtNext}
-use Rattle.tree_search.specs.Turns.{Order, Crew, first_crew, Turn, Hands, Placing, Drives, Goes}
+use Rattle.tree_search.specs.Turns.{Order, Crew, first_crew, Turn, HandOut, PlaceResult, Drives, Goes}
 use Rattle.tree_search.specs.declared.searching.Ways.{Ways}
 use Rattle.tree_search.specs.declared.searching.Ways.TheVariants.{Own, Rays}
+use Rattle.tree_search.proofs.CrewLemmas.{hands-same}
 use Rattle.tree_search.proofs.JobLemmas.{IsWorkedBy}
 use Rattle.tree_search.proofs.KeepLemmas.{keeps-cuts}
 use Rattle.tree_search.proofs.PlacedLemmas.{round-places, round-at}
@@ -125,8 +126,8 @@ module _ (M : Program) (ways : Ways) (first : Basis) (pivots : ℕ) (by : IsWork
   -- turns, one after the other
   many : (turns : List Turn) (a b : Crew) → Drives ways first pivots turns a b → IsKeptInOrder M a.search → IsKeptInOrder M b.search
   many [] a b e h = subst (λ (c : Crew). IsKeptInOrder M c.search) (sym e) h
-  many (Hands ∷ turns) a b (mid, (before, p)) h = subst (IsKeptInOrder M) (sym p.search_is) (many turns a mid before h)
-  many (Placing ∷ turns) a b (mid, (before, p)) h = let k = many turns a mid before h in placed M ways first pivots mid.search (by-here mid.search k) b.search p.places k
+  many (HandOut ∷ turns) a b (mid, (before, p)) h = subst (IsKeptInOrder M) (sym (hands-same mid b p)) (many turns a mid before h)
+  many (PlaceResult ∷ turns) a b (mid, (before, p)) h = let k = many turns a mid before h in placed M ways first pivots mid.search (by-here mid.search k) b.search p.places k
 
   pub went : (order : Order) (n : ℕ) (old new : PlainSearch) → Goes ways first pivots order n old new → IsKeptInOrder M old → IsKeptInOrder M new
   went order n old new goes h = subst (IsKeptInOrder M) goes.search_is (many goes.turns (first_crew old order) goes.crew goes.drives h)
@@ -152,5 +153,4 @@ module _ (M : Program) (ways : Ways) (first : Basis) (pivots : ℕ) (by : IsWork
           (All-nil (IsCutInOrder (length (worked_model ways S.model).rows) (length (worked_model ways S.model).cols)))
 
   pub leaves : (crew : Crew) (S new : PlainSearch) → LeavesTurn ways first pivots crew S new → IsKeptInOrder M S → IsKeptInOrder M new
-  leaves crew S new (inl e) h = subst (IsKeptInOrder M) (sym e) h
-  leaves crew S new (inr (job, (acts, p))) h = left-found S new job p.worked p.works p.adds h
+  leaves crew S new (job, (acts, p)) h = left-found S new job p.worked p.works p.adds h

@@ -52,7 +52,9 @@ module _ (M : Program) (ways : Ways) (first : Basis) (order : Order) (nodes pivo
   finds searched f = ends searched.results searched.ended f.ends
 
   gives : GivesUp ways first order nodes pivots old new → IsKeptInOrder M new
-  gives g = leaves M ways first pivots by g.goes.crew g.mid new g.adds (went M ways first pivots by order g.results old g.mid g.goes h)
+  gives g =
+      let k = went M ways first pivots by order g.results old g.mid g.goes h in
+      elim g.adds [ inl same ↦ subst (IsKeptInOrder M) (sym same) k | inr more ↦ leaves M ways first pivots by g.goes.crew g.mid new more.1 k ]
 
 -- ---- a course
 

@@ -18,7 +18,8 @@ use Rattle.ray_phase.specs.declared.phase.RayAnswer.TheVariants as phase
 use Rattle.search_counting.specs.Work.{cap_of}
 use Rattle.search_parts.specs.Points.{IsIncumbent}
 use Rattle.sound_searches.specs.Sound.{PlainSearch}
-use Rattle.tree_search.specs.Truth.{IsCount, IsBound, IsFoundValue}
+use Rattle.model_points.specs.Bounds.{IsBound, IsFoundValue}
+use Rattle.tree_search.specs.Truth.{IsCount}
 use Rattle.tree_search.specs.declared.limits.Limits.{Limits}
 use Rattle.kept_env.specs.Env.{PlainEnv}
 use Rattle.kept_env.specs.declared.held.Held.{Held}

@@ -30,21 +30,22 @@ use Rattle.sym_env.proofs.EnoughLemmas.{enough-for, at-end, goes-on}
 
 -- what is left without memory has the model, and every node
 left-model : (ways : Ways) (first : Basis) (pivots : ℕ) (crew : Crew) (S T : PlainSearch) → LeavesTurn ways first pivots crew S T → T.model ≡ S.model
-left-model ways first pivots crew S T (inl same) = ap (λ (N : PlainSearch). N.model) same
-left-model ways first pivots crew S T (inr (job, (next, h))) = added-model S (take h.adds.0 (cuts_found h.worked)) T h.adds.1
+left-model ways first pivots crew S T (job, (next, h)) = added-model S (take h.adds.0 (cuts_found h.worked)) T h.adds.1
 
 left-extends : (ways : Ways) (first : Basis) (pivots : ℕ) (crew : Crew) (S T : PlainSearch) → LeavesTurn ways first pivots crew S T → Extends S.tree.root T.tree.root
-left-extends ways first pivots crew S T (inl same) = subst (λ (N : PlainSearch). Extends S.tree.root N.tree.root) (sym same) (extends-self S.tree.root)
-left-extends ways first pivots crew S T (inr (job, (next, h))) = extends-added (take h.adds.0 (cuts_found h.worked)) S T h.adds.1
+left-extends ways first pivots crew S T (job, (next, h)) = extends-added (take h.adds.0 (cuts_found h.worked)) S T h.adds.1
 
 module _ (l : Limits) (S : PlainSearch) (sound : IsSound S) where
   pub gave-up : (ways : Ways) (first : Basis) → BeginsWith S.model l.pivots ways first → (T : PlainSearch) → GivesUp ways first (turn_order_of l) l.nodes l.pivots S T → Went l S Memory T
-  gave-up ways first b T gives = record {
-    sound = sound;
-    course = WantsWithin ways first b gives refl;
-    model = left-model ways first l.pivots gives.goes.crew gives.mid T gives.adds ∙ gives.goes.model;
-    extends = extends-on S.tree.root gives.mid.tree.root T.tree.root gives.goes.extends (left-extends ways first l.pivots gives.goes.crew gives.mid T gives.adds);
-  }
+  gave-up ways first b T gives =
+      let mid = gives.mid in
+      let crew = gives.goes.crew in
+      let model : T.model ≡ mid.model = elim gives.adds [ inl same ↦ ap (λ (N : PlainSearch). N.model) same | inr more ↦ left-model ways first l.pivots crew mid T more.1 ] in
+      let nodes : Extends mid.tree.root T.tree.root = elim gives.adds [
+        | inl same ↦ subst (λ (N : PlainSearch). Extends mid.tree.root N.tree.root) (sym same) (extends-self mid.tree.root)
+        | inr more ↦ left-extends ways first l.pivots crew mid T more.1
+      ] in
+      record { sound = sound; course = WantsWithin ways first b gives refl; model = model ∙ gives.goes.model; extends = extends-on S.tree.root mid.tree.root T.tree.root gives.goes.extends nodes }
 
   pub searched-so : (ways : Ways) (first : Basis) → BeginsWith S.model l.pivots ways first → HasOpenLeaf S → (T : PlainSearch) (searched : Searched) (answer : Answer) → Finds ways first (turn_order_of l) l.nodes l.pivots S T searched
       → IsAnswerAtEnd T searched.ended searched.results answer → Went l S answer T

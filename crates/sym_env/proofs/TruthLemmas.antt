@@ -45,7 +45,8 @@ use Rattle.ray_phase.specs.Beginnings.{IsRayStop, StopsBefore}
 use Rattle.kept_env.specs.Env.{PlainEnv, HasPointAndRay, IsHeld, with_answer}
 use Rattle.tree_search.specs.Solves.{turn_order_of, Course, NothingOpen, StopsFirst, Searches, WantsBefore, WantsWithin, SolvesModel, SolvesFrom, SaysUnbounded, HasRayFor, HasRayFrom}
 use Rattle.kept_env.specs.Worked.{held_by, IsOldest, WorksEnv}
-use Rattle.tree_search.specs.Truth.{IsCount, IsBound, IsFoundValue, IsEarlyBy, IsTrueBy, IsTrueAnswer, IsTrueOfKept}
+use Rattle.model_points.specs.Bounds.{IsBound, IsFoundValue}
+use Rattle.tree_search.specs.Truth.{IsCount, IsEarlyBy, IsTrueBy, IsTrueAnswer, IsTrueOfKept}
 use Rattle.tree_search.specs.Warm.{Resumes, BesidePoint, GoesOn, Warms, Still, SomeOpen}
 use Rattle.tree_search.specs.declared.limits.Limits.{Limits}
 use Rattle.ray_phase.proofs.BeginningLemmas.{is_ray, judged_ray}

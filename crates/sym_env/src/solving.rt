@@ -31,7 +31,7 @@ pub(crate) struct Solution {
 /// Searches through a manager whose workers hold nothing, and says what that shows.
 fn search_through(
     alloc: Global,
-    mut manager: Manager,
+    manager: Manager,
     ways: &Ways<'_>,
     first: &Basis,
     limits: &Limits,
@@ -47,8 +47,7 @@ fn search_through(
     ensures complete { IsEnoughFrom manager.search result.0.cuts limits.now.nodes limits.now.pivots → HasEnded result.1 }
 {
     no_ray_law();
-    let searched = search_on(alloc, &mut manager, ways, first, limits);
-    let search = manager.into_search();
+    let (search, searched) = search_on(alloc, manager, ways, first, limits);
     match searched {
         Err(AllocError) => (search, Answer::Memory),
         Ok(searched) => {

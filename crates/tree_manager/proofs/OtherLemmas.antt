@@ -21,7 +21,8 @@ use Rattle.sound_searches.specs.declared.taken.Taken.TheVariants.{Stale, Refused
 use Rattle.sound_searches.specs.Placing.{TakesClose, TakesSplit, TakesKeep, TakesResult, Takes, split_with_leaves, closed_data, with_basis}
 use Rattle.sound_searches.specs.Sound.{PlainSearch}
 use Rattle.tree_manager.specs.Managers.{is_open_data, has_open, HoldsLeaf, AreHeld}
-use Rattle.tree_manager.specs.Holdings.{brings_point, OthersOpen}
+use Rattle.tree_manager.specs.Holdings.{brings_point}
+use Rattle.tree_manager.specs.private.Holdings.{OthersOpen}
 
 module _ (S : PlainSearch) (numbered : IsNumbered S.tree) (id : ℕ) (path : Path) (T : PlainSearch) (k : ℕ) (other : k ≢ id) (was : has_open S k ≡ true) where
   unchanged : T ≡ S → has_open T k ≡ true

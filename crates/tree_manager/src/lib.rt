@@ -24,6 +24,7 @@ mod holding;
 mod laws;
 mod manager;
 
+pub use holding::nobody;
 pub use laws::{any_events_law, finished_law, same_end_law};
 pub use manager::Manager;
 pub use tree_edit::Taken;

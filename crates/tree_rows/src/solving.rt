@@ -48,16 +48,22 @@ fn limits_of(alloc: Global, line: &str) -> Result<Limits>
     })
 }
 
-/// Searches on through a manager of one worker.
-fn search_through(alloc: Global, manager: &mut Manager, limits: &Limits) -> Result<Searched>
-    requires { manager.old.held ≡ replicate limits.now.workers None }
-    ensures { IfOk result (λ searched. IsLeft manager.new.search searched.ended) }
+/// Searches on through a manager of one worker. The search comes back.
+fn search_through(alloc: Global, manager: Manager, limits: &Limits) -> (Search, Result<Searched>)
+    requires { manager.held ≡ replicate limits.now.workers None }
+    ensures { IfOk result.1 (λ searched. IsLeft result.0 searched.ended) }
 {
-    let first = first_basis(alloc, manager.search().model())?;
+    let first = match first_basis(alloc, manager.search().model()) {
+        Ok(first) => first,
+        Err(error) => return (manager.into_search(), Err(error)),
+    };
     root_law();
-    let searched = search_on(alloc, manager, &Ways::Own, &first, limits);
+    let (search, searched) = search_on(alloc, manager, &Ways::Own, &first, limits);
     drop(first);
-    Ok(searched?)
+    match searched {
+        Ok(searched) => (search, Ok(searched)),
+        Err(error) => (search, Err(error.into())),
+    }
 }
 
 /// Searches on as the line says, and writes what that shows. The search comes back.
@@ -66,12 +72,11 @@ pub fn solve(alloc: Global, search: Search, line: &str, got: &mut String) -> (Se
         Ok(limits) => limits,
         Err(error) => return (search, Err(error)),
     };
-    let mut manager = match Manager::new(alloc, search, limits.workers as usize) {
+    let manager = match Manager::new(alloc, search, limits.workers as usize) {
         Ok(manager) => manager,
         Err(search) => return (search, Err(AllocError.into())),
     };
-    let searched = search_through(alloc, &mut manager, &limits);
-    let search = manager.into_search();
+    let (search, searched) = search_through(alloc, manager, &limits);
     let told = match searched {
         Ok(searched) => tell(alloc, &search, searched, got),
         Err(error) => Err(error),

@@ -15,9 +15,10 @@ use Rattle.branch_tree.specs.declared.node.LeafState.TheVariants.{IsClosed}
 use Rattle.tree_edit.proofs.NextLemmas.{one-leaf, before-leaves}
 use Rattle.rand_pcg.specs.Lcg.{Lcg}
 use Rattle.turn_order.specs.Turns.{IsNextTurn}
-use Rattle.tree_search.specs.Turns.{Crew, first_crew, held_of, jobs_on, Acts, ActsOn, HandsOut, PlacesInTurn, Turn, Hands, Placing, Drives, placings}
+use Rattle.tree_search.specs.Turns.{Crew, first_crew, held_of, jobs_on, Acts, ActsOn, HandsOut, PlacesInTurn, Turn, HandOut, PlaceResult, Drives, placings}
 use Rattle.tree_search.specs.Alone.{IsNextJob, PlacesAlone, OneWorkerLaw}
 use Rattle.tree_search.specs.declared.searching.Ways.{Ways}
+use Rattle.tree_search.proofs.CrewLemmas.{idle-job, hands-same}
 
 -- ---- leaves
 
@@ -87,10 +88,10 @@ module _ (a b : Crew) (alone : IsAlone a.search a.jobs) where
   hands-alone h =
       let (j, same) = one-of a alone in
       let first_is : h.w ≡ 0 = acts-zero a h.w b.words j same h.acts in
-      let idle : a.jobs ≡ None ∷ [] = same ∙ ap (λ k. k ∷ []) (ap (λ (l : List (Option Job)). get_or l 0 None) (sym same) ∙ ap (λ k. get_or a.jobs k None) (sym first_is) ∙ h.idle) in
-      let free : IsNextFree a.search no_holding (Some h.job.id) = subst (λ l. IsNextFree a.search (held_of l) (Some h.job.id)) idle h.next in
+      let idle : a.jobs ≡ None ∷ [] = same ∙ ap (λ k. k ∷ []) (ap (λ (l : List (Option Job)). get_or l 0 None) (sym same) ∙ ap (λ k. get_or a.jobs k None) (sym first_is) ∙ idle-job a.jobs h.w h.gives.idle) in
+      let free : IsNextFree a.search no_holding (Some h.job.id) = subst (λ l. IsNextFree a.search (held_of l) (Some h.job.id)) idle h.gives.next in
       let jobs : b.jobs ≡ Some h.job ∷ [] = h.jobs_are ∙ (λ i. set (idle i) (first_is i) (Some h.job)) in
-      Works h.job jobs (subst (λ S. IsNextJob S h.job) (sym h.search_is) (record { next = free-next a.search h.job.id free; job_is = h.job_is }))
+      Works h.job jobs (subst (λ S. IsNextJob S h.job) (sym (hands-same a b h)) (record { next = free-next a.search h.job.id free; job_is = h.gives.job_is }))
 
   module _ (ways : Ways) (first : Basis) (pivots : ℕ) (h : PlacesInTurn ways first pivots a b) where
     turn : h.w ≡ 0
@@ -110,11 +111,11 @@ module _ (ways : Ways) (first : Basis) (pivots : ℕ) (old : PlainSearch) (seed 
 
   alone : (turns : List Turn) (b : Crew) → Drives ways first pivots turns begin b → IsAlone b.search b.jobs × PlacesAlone ways first pivots (placings turns) old b.search
   alone [] b same = (subst (λ (c : Crew). IsAlone c.search c.jobs) (sym same) (Idle refl), ap (λ (c : Crew). c.search) same)
-  alone (Hands ∷ turns) b (mid, (before, h)) =
+  alone (HandOut ∷ turns) b (mid, (before, h)) =
       let (is, places) = alone turns mid before in
       let none : placings turns ≡ placings turns + 0 = omega arith in
-      (hands-alone mid b is h, subst (λ n. PlacesAlone ways first pivots n old b.search) none (subst (PlacesAlone ways first pivots (placings turns) old) (sym h.search_is) places))
-  alone (Placing ∷ turns) b (mid, (before, h)) =
+      (hands-alone mid b is h, subst (λ n. PlacesAlone ways first pivots n old b.search) none (subst (PlacesAlone ways first pivots (placings turns) old) (sym (hands-same mid b h)) places))
+  alone (PlaceResult ∷ turns) b (mid, (before, h)) =
       let (is, places) = alone turns mid before in
       let one : suc (placings turns) ≡ placings turns + 1 = omega arith in
       (places-alone mid b is ways first pivots h, subst (λ n. PlacesAlone ways first pivots n old b.search) one (mid.search, (places, (h.places, places-next mid b is ways first pivots h))))

@@ -50,7 +50,7 @@ use Rattle.tree_search.specs.declared.searching.Ways.TheVariants.{Own, Rays}
 use Rattle.tree_search.specs.declared.searching.Ended.{Ended}
 use Rattle.tree_search.specs.declared.searching.Ended.TheVariants.{Finished, Unbounded, Stopped}
 use Rattle.tree_search.specs.declared.searching.Searched.{Searched}
-use Rattle.tree_search.specs.declared.stepping.Limits.{Limits}
+use Rattle.tree_search.specs.declared.stepping.Working.{Working}
 use Rattle.tree_search.specs.private.Stepping.{Comes}
 use Rattle.tree_search.proofs.JobLemmas.{IsWorkedBy, worked-by, worked-region, job-region}
 use Rattle.tree_search.proofs.KeepLemmas.{added-model, keeps-model, keeps-cuts}
@@ -330,14 +330,14 @@ module _ (ways : Ways) (first : Basis) (order : Order) (nodes pivots : ℕ) (old
 
 -- ---- what is answered
 
-module _ (limits : Limits) (order : Order) (nodes : ℕ) (old : PlainSearch) (sound : IsSound old) (lawful : IsLawful old.model) (way : IsWayFor old limits.ways) (new : PlainSearch) where
-  from-comes : (searched : Searched) → Comes limits order nodes old new searched → Finds limits.ways limits.first.now order nodes limits.pivots old new searched
-  from-comes searched h = finds limits.ways limits.first.now order nodes limits.pivots old sound lawful way new searched h.within_limit h.ends h.left h.extends
+module _ (working : Working) (order : Order) (nodes : ℕ) (old : PlainSearch) (sound : IsSound old) (lawful : IsLawful old.model) (way : IsWayFor old working.ways) (new : PlainSearch) where
+  from-comes : (searched : Searched) → Comes working order nodes old new searched → Finds working.ways working.first.now order nodes working.pivots old new searched
+  from-comes searched h = finds working.ways working.first.now order nodes working.pivots old sound lawful way new searched h.within_limit h.ends h.left h.extends
 
-  pub found : {E : Type 0} (r : Result Searched E) → IfOk r (λ searched. Comes limits order nodes old new searched) → IfOk r (λ searched. Finds limits.ways limits.first.now order nodes limits.pivots old new searched)
+  pub found : {E : Type 0} (r : Result Searched E) → IfOk r (λ searched. Comes working order nodes old new searched) → IfOk r (λ searched. Finds working.ways working.first.now order nodes working.pivots old new searched)
   found (Ok searched) h = from-comes searched h
   found (Err e) h = tt
 
-  pub complete : {E : Type 0} (r : Result Searched E) → IfOk r (λ searched. Comes limits order nodes old new searched) → IfOk r (λ searched. IsEnoughForSearch old new.cuts limits.ways nodes limits.pivots → IsAtEnd searched.ended)
-  complete (Ok searched) h = λ enough. at-end limits.ways limits.first.now order nodes limits.pivots old sound lawful way new enough searched (from-comes searched h)
+  pub complete : {E : Type 0} (r : Result Searched E) → IfOk r (λ searched. Comes working order nodes old new searched) → IfOk r (λ searched. IsEnoughForSearch old new.cuts working.ways nodes working.pivots → IsAtEnd searched.ended)
+  complete (Ok searched) h = λ enough. at-end working.ways working.first.now order nodes working.pivots old sound lawful way new enough searched (from-comes searched h)
   complete (Err e) h = tt

@@ -15,9 +15,9 @@ use Rattle.sound_searches.specs.Sound.{PlainSearch}
 use Rattle.sound_searches.specs.Free.{IsNotFree, IsNextFree}
 use Rattle.sound_searches.specs.Laws.{HasNoOpenLeaf}
 use Rattle.sound_searches.proofs.SoundLemmas.{each-weaker}
-use Rattle.tree_manager.specs.Managers.{has_open, kept_holding, held_on}
+use Rattle.tree_manager.specs.Managers.{PlainManager, has_open, kept_holding, held_on}
 use Rattle.turn_order.specs.Turns.{can_act, able_from, able, SomeCanAct}
-use Rattle.tree_search.specs.Turns.{id_of, held_of, kept_job, jobs_on, IsFreeAnswer}
+use Rattle.tree_search.specs.Turns.{Crew, id_of, held_of, kept_job, jobs_on, HandsOut, IsFreeAnswer}
 
 -- ---- ids
 
@@ -26,7 +26,7 @@ module _ (S : PlainSearch) where
   one-kept None = refl
   one-kept (Some job) = by (has_open S job.id)
     where
-      by : (b : Bool) → option_map id_of (if b then Some job else None) ≡ (if b then Some job.id else None)
+      by : (b : Bool) → option_map id_of (option_map (λ (id : ℕ). job) (if b then Some job.id else None)) ≡ (if b then Some job.id else None)
       by true = refl
       by false = refl
 
@@ -49,14 +49,22 @@ held-at [] w = refl
 held-at (j ∷ jobs) zero = refl
 held-at (j ∷ jobs) (suc w) = held-at jobs w
 
--- a worker whose place has no id holds no job
-pub idle-at : (jobs : List (Option Job)) (w : ℕ) → get_or jobs w None ≡ None → get_or (held_of jobs) w None ≡ None
-idle-at jobs w none = held-at jobs w ∙ ap (option_map id_of) none
-
--- ---- who can act
-
 pub no-some : {A : Type 0} (a : A) → ¬ (None ≡ Some a)
 no-some a e = cc
+
+-- a worker whose place has no id holds no job
+pub idle-job : (jobs : List (Option Job)) (w : ℕ) → get_or (held_of jobs) w None ≡ None → get_or jobs w None ≡ None
+idle-job jobs w none = by (get_or jobs w None) (sym (held-at jobs w) ∙ none)
+  where
+    by : (j : Option Job) → option_map id_of j ≡ None → j ≡ None
+    by None e = refl
+    by (Some job) e = absurd (no-some job.id (sym e))
+
+-- a hand-out leaves the search
+pub hands-same : (a b : Crew) → HandsOut a b → b.search ≡ a.search
+hands-same a b h = ap (λ (Q : PlainManager). Q.search) h.gives.new_is
+
+-- ---- who can act
 
 none-able : (n : ℕ) (held : List (Option ℕ)) → able_from n false held ≡ [] → (id : ℕ) → is_held held id ≡ false
 none-able n [] e id = refl

@@ -1,10 +1,10 @@
 -- Turns, and searches that end, as lists of the manager's events.
-use Rattle.std.specs.Prelude.{◌≡◌, ℕ, ◌+◌, ◌<◌, ◌≤◌, All, List, [], ◌∷◌, ◌++◌, length, map, set, Option, Some, None}
+use Rattle.std.specs.Prelude.{◌≡◌, ◌⊎◌, ℕ, ◌+◌, ◌<◌, ◌≤◌, All, List, [], ◌∷◌, ◌++◌, length, map, set, take, Option, Some, None}
 use Rattle.std.proofs.Common.{refl, sym, subst, ap, ◌∙◌, inl, inr, arith}
-use Rattle.std.proofs.lemmas.List.{length_push}
+use Rattle.std.proofs.lemmas.List.{length_push, length-take}
 use Rattle.std.proofs.lemmas.List.Elements.{All-nil, All-cons, All-append, All-push}
 use Rattle.lp_model.specs.Limits.{pool_limit}
-use Rattle.lp_model.specs.Formulations.{Formulation, formulation}
+use Rattle.lp_model.specs.Formulations.{formulation}
 use Rattle.lp_model.specs.declared.types.Basis.{Basis}
 use Rattle.lp_model.specs.declared.types.CutRow.{CutRow}
 use Rattle.lp_model.specs.declared.types.Derivation.{Derivation}
@@ -14,7 +14,7 @@ use Rattle.cover_cuts.specs.Cuts.{IsCutOf}
 use Rattle.branch_tree.specs.Numbered.{IsNumbered}
 use Rattle.branch_tree.specs.declared.node.Job.{Job}
 use Rattle.branch_tree.specs.declared.node.NodeResult.{NodeResult}
-use Rattle.branch_tree.specs.declared.node.NodeResult.TheVariants.{Keep, Split as SplitAt}
+use Rattle.branch_tree.specs.declared.node.NodeResult.TheVariants.{Keep}
 use Rattle.leaf_judging.specs.Closing.{IsJudgedLeaf}
 use Rattle.search_parts.specs.Points.{target}
 use Rattle.sound_searches.specs.declared.taken.Taken.{Taken}
@@ -26,15 +26,19 @@ use Rattle.sound_searches.proofs.FurtherCut.{lists-more, judged-more, each-more}
 use Rattle.search_counting.specs.Laws.{IsEffective}
 use Rattle.tree_manager.specs.Managers.{PlainManager, held_on, idle_manager}
 use Rattle.tree_manager.specs.Events.{Event, Give, Take, AddCut, IsHistory}
-use Rattle.tree_search.specs.Turns.{Order, Crew, held_of, manager_of, jobs_on, first_crew, HandsOut, PlacesInTurn, Turn, Hands, Placing, IsTurnOf, Drives, placings_in, placings, Goes}
+use Rattle.tree_search.specs.Turns.{Order, Crew, held_of, manager_of, first_crew, HandsOut, PlacesInTurn, Turn, HandOut, PlaceResult, IsTurnOf, Drives, placings_in, placings, Goes}
 use Rattle.tree_search.specs.Steps.{work_next, KeepsOpen}
-use Rattle.tree_search.specs.Search.{Ends, WideAtNext}
+use Rattle.node_solve.specs.Rounds.{IsWorked}
+use Rattle.node_solve.specs.declared.working.Worked.{Worked}
+use Rattle.node_solve.specs.declared.working.Worked.TheVariants.{Done, Pivots, Wide, Memory}
+use Rattle.tree_search.specs.GivingUp.{cuts_found, LeavesTurn}
+use Rattle.tree_search.specs.Search.{Ends, GivesUp, WideAtNext}
 use Rattle.tree_search.specs.Driven.{result_events, turn_events, drive_events, results_of, results_in, IsWorkEvent, HasHistory, DriveLaw}
 use Rattle.tree_search.specs.declared.searching.Ways.{Ways}
 use Rattle.tree_search.specs.declared.searching.Ended.{Ended}
 use Rattle.tree_search.specs.declared.searching.Ended.TheVariants.{Finished, Unbounded, Stopped}
-use Rattle.tree_search.specs.declared.stepping.Outcome.TheVariants as outcome
-use Rattle.tree_search.proofs.CrewLemmas.{held-kept, held-set, held-none, idle-at}
+use Rattle.tree_search.specs.declared.stepping.WorkEnd.TheVariants as end
+use Rattle.tree_search.proofs.CrewLemmas.{held-kept, held-set, held-none, hands-same}
 use Rattle.tree_search.proofs.FoundLemmas.{found-fits}
 
 -- ---- lists of events
@@ -108,35 +112,22 @@ module _ (found : List Derivation) (w id : ℕ) (done : NodeResult) (taken : Tak
 module _ (ways : Ways) (first : Basis) (pivots : ℕ) where
   hands-history : (a b : Crew) (h : HandsOut a b) → IsKept a.search → IsHistory (manager_of a) (Give h.w (Some h.job) ∷ []) (manager_of b) × IsKept b.search
   hands-history a b h kept =
-      let kept' : IsKept b.search = subst IsKept (sym h.search_is) kept in
-      let held_is : held_of b.jobs ≡ set (held_of a.jobs) h.w (Some h.job.id) = ap held_of h.jobs_are ∙ held-set a.jobs h.w (Some h.job) in (
-        (
-          manager_of b,
-          (
-            record {
-              does = record { idle = idle-at a.jobs h.w h.idle; next = h.next; job_is = h.job_is; new_is = (λ i. record { search = h.search_is i; held = held_is i }) };
-              sound = kept'.0;
-              numbered = kept'.1;
-            },
-            refl,
-          ),
-        ),
-        kept',
-      )
+      let kept' : IsKept b.search = subst IsKept (sym (hands-same a b h)) kept in
+      ((manager_of b, (record { does = h.gives; sound = kept'.0; numbered = kept'.1 }, refl)), kept')
 
   places-history : (a b : Crew) (h : PlacesInTurn ways first pivots a b) → IsKept a.search
       → IsHistory (manager_of a) (result_events h.places.found.items h.w h.places.job.id h.places.result h.places.taken) (manager_of b) × IsKept b.search
   places-history a b h kept =
       let p = h.places in
-      let few = found-fits (work_next ways first pivots a.search p.job) kept.0.few_cuts (outcome.Done p.result) p.found p.works.worked_is in
+      let few = found-fits (work_next ways first pivots a.search p.job) kept.0.few_cuts (end.Done p.result) p.found p.works.worked_is in
       let held_is : held_of b.jobs ≡ held_on b.search (set (held_of a.jobs) h.w None) = ap held_of h.jobs_are ∙ held-kept b.search (set a.jobs h.w None) ∙ ap (held_on b.search) (held-set a.jobs h.w None) in (
         result-history p.found.items h.w p.job.id p.result p.taken (manager_of a) p.mid (manager_of b) kept few p.adds p.takes held_is (h.sound, h.numbered),
         (h.sound, h.numbered),
       )
 
   turn-history : (t : Turn) (a b : Crew) (h : IsTurnOf ways first pivots t a b) → IsKept a.search → IsHistory (manager_of a) (turn_events ways first pivots t a b h) (manager_of b) × IsKept b.search
-  turn-history Hands a b h kept = hands-history a b h kept
-  turn-history Placing a b h kept = places-history a b h kept
+  turn-history HandOut a b h kept = hands-history a b h kept
+  turn-history PlaceResult a b h kept = places-history a b h kept
 
   effective-one : (done : NodeResult) (taken : Taken) → IsEffective taken → results_of done taken ≡ 1
   effective-one done Stale h = absurd h
@@ -148,12 +139,12 @@ module _ (ways : Ways) (first : Basis) (pivots : ℕ) where
   effective-one done Kept h = absurd h
 
   turn-results : (t : Turn) (a b : Crew) (h : IsTurnOf ways first pivots t a b) → results_in (turn_events ways first pivots t a b h) ≡ placings_in t
-  turn-results Hands a b h = refl
-  turn-results Placing a b h = let p = h.places in result-counted p.found.items h.w p.job.id p.result p.taken 1 (effective-one p.result p.taken p.effective)
+  turn-results HandOut a b h = refl
+  turn-results PlaceResult a b h = let p = h.places in result-counted p.found.items h.w p.job.id p.result p.taken 1 (effective-one p.result p.taken p.effective)
 
   turn-work : (t : Turn) (a b : Crew) (h : IsTurnOf ways first pivots t a b) → All IsWorkEvent (turn_events ways first pivots t a b h)
-  turn-work Hands a b h = All-cons IsWorkEvent (Give h.w (Some h.job)) [] tt (All-nil IsWorkEvent)
-  turn-work Placing a b h = let p = h.places in result-work p.found.items h.w p.job.id p.result p.taken
+  turn-work HandOut a b h = All-cons IsWorkEvent (Give h.w (Some h.job)) [] tt (All-nil IsWorkEvent)
+  turn-work PlaceResult a b h = let p = h.places in result-work p.found.items h.w p.job.id p.result p.taken
 
   -- one after the other
 
@@ -251,29 +242,50 @@ module _ (ways : Ways) (first : Basis) (order : Order) (pivots n : ℕ) (old : P
 none-more : (order : Order) (n : ℕ) (old new : PlainSearch) → HasHistory order (n + 0) old new → HasHistory order n old new
 none-more order n old new h = subst (λ m. HasHistory order m old new) (omega arith) h
 
+-- the cuts that the work on a leaf found have room
+cuts-fit : (ways : Ways) (first : Basis) (pivots : ℕ) (S : PlainSearch) → length S.cuts ≤ pool_limit → (job : Job) (worked : Worked) → IsWorked (work_next ways first pivots S job) worked
+    → length S.cuts + length (cuts_found worked) ≤ pool_limit
+cuts-fit ways first pivots S few job (Done result found) is = found-fits (work_next ways first pivots S job) few (end.Done result) found is
+cuts-fit ways first pivots S few job (Pivots basis found) is = found-fits (work_next ways first pivots S job) few (end.Pivots basis) found is
+cuts-fit ways first pivots S few job (Wide at found) is = found-fits (work_next ways first pivots S job) few (end.Wide at) found is
+cuts-fit ways first pivots S few job Memory is = omega (arith, few)
+
+-- also without memory
+gives-history : (ways : Ways) (first : Basis) (order : Order) (nodes pivots : ℕ) (old new : PlainSearch) → IsKept old → (up : GivesUp ways first order nodes pivots old new) → HasHistory order up.results old new
+gives-history ways first order nodes pivots old new kept up = by up.adds
+  where
+    by : (new ≡ up.mid) ⊎ ((up.results < nodes) × LeavesTurn ways first pivots up.goes.crew up.mid new) → HasHistory order up.results old new
+    by (inl same) = subst (HasHistory order up.results old) (sym same) (went ways first order pivots up.results old kept up.mid up.goes)
+    by (inr (less, (job, (acts, h)))) =
+        let all : List Derivation = cuts_found h.worked in
+        let some : List Derivation = take h.adds.0 all in
+        let fit : length up.mid.cuts + length all ≤ pool_limit = cuts-fit ways first pivots up.mid up.goes.sound.few_cuts job h.worked h.works.worked_is in
+        let few : length up.mid.cuts + length some ≤ pool_limit = omega (arith, fit, length-take h.adds.0 all) in
+        none-more order up.results old new (adds-further ways first order pivots up.results old kept up.mid up.goes some new few h.adds.1)
+
 module _ (ways : Ways) (first : Basis) (order : Order) (nodes pivots : ℕ) (old new : PlainSearch) (kept : IsKept old) (kept' : IsKept new) where
   ends-history : (n : ℕ) (ended : Ended) → Ends ways first order nodes pivots n old new ended → HasHistory order n old new
   ends-history n Finished e = went ways first order pivots n old kept new e.goes
   ends-history n Unbounded e =
       let a = e.after in
-      let few = found-fits (work_next ways first pivots a.mid a.here.job) a.goes.sound.few_cuts (outcome.Done _) a.here.found a.here.works.worked_is in
+      let few = found-fits (work_next ways first pivots a.mid a.here.job) a.goes.sound.few_cuts (end.Done _) a.here.found a.here.works.worked_is in
       subst (λ m. HasHistory order m old new) (sym e.counted)
       (keeps-further ways first order pivots e.before old kept a.mid a.goes a.turn.w a.here.job a.here.found.items (Some a.here.point) a.here.basis new 1 few a.here.keeps kept' refl)
   ends-history n (Stopped why.Nodes) e = went ways first order pivots n old kept new e.goes
   ends-history n (Stopped why.Tree) e =
-      let few = found-fits (work_next ways first pivots e.mid e.here.job) e.goes.sound.few_cuts (outcome.Done _) e.here.found e.here.works.worked_is in
+      let few = found-fits (work_next ways first pivots e.mid e.here.job) e.goes.sound.few_cuts (end.Done _) e.here.found e.here.works.worked_is in
       none-more order n old new (adds-further ways first order pivots n old kept e.mid e.goes e.here.found.items new few e.here.adds)
   ends-history n (Stopped (why.Pivots place)) e =
-      let few = found-fits (work_next ways first pivots e.mid e.here.job) e.goes.sound.few_cuts (outcome.Pivots _) e.here.found e.here.works.worked_is in
+      let few = found-fits (work_next ways first pivots e.mid e.here.job) e.goes.sound.few_cuts (end.Pivots _) e.here.found e.here.works.worked_is in
       none-more order n old new (keeps-further ways first order pivots n old kept e.mid e.goes e.turn.w e.here.job e.here.found.items None _ new 0 few e.here.keeps kept' refl)
   ends-history n (Stopped (why.Wide at)) e = by e.here e.turn.w
     where
       by : WideAtNext ways first pivots e.mid new at → ℕ → HasHistory order n old new
       by (inl h) w =
-          let few = found-fits (work_next ways first pivots e.mid h.job) e.goes.sound.few_cuts (outcome.Wide at) h.found h.works.worked_is in
+          let few = found-fits (work_next ways first pivots e.mid h.job) e.goes.sound.few_cuts (end.Wide at) h.found h.works.worked_is in
           none-more order n old new (keeps-further ways first order pivots n old kept e.mid e.goes w h.job h.found.items None _ new 0 few h.keeps kept' refl)
       by (inr h) w =
-          let few = found-fits (work_next ways first pivots e.mid h.job) e.goes.sound.few_cuts (outcome.Done _) h.found h.works.worked_is in
+          let few = found-fits (work_next ways first pivots e.mid h.job) e.goes.sound.few_cuts (end.Done _) h.found h.works.worked_is in
           none-more order n old new (keeps-further ways first order pivots n old kept e.mid e.goes w h.job h.found.items None _ new 0 few h.keeps kept' refl)
 
 pub drive : DriveLaw
@@ -281,4 +293,5 @@ drive = record {
   turns = λ ways first pivots turns a b sound numbered d. (drive-history ways first pivots turns a b d (sound, numbered)).0;
   results = λ ways first pivots turns a b d. drive-results ways first pivots turns a b d;
   ends = λ ways first order nodes pivots n old new ended sound numbered sound' numbered' e. ends-history ways first order nodes pivots old new (sound, numbered) (sound', numbered') n ended e;
+  gives = λ ways first order nodes pivots old new sound numbered up. gives-history ways first order nodes pivots old new (sound, numbered) up;
 }

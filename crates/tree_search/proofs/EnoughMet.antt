@@ -1,5 +1,5 @@
 -- A model without columns and rows has no variable, so that its relaxations have no move, and no step that could lack room.
-use Rattle.std.specs.Prelude.{◌≡◌, ◌⊎◌, ℕ, ◌+◌, ◌*◌, ◌-◌, ◌^◌, ◌<◌, ◌≤◌, max, List, [], ◌∷◌, length, map, Option, Some, None, Err}
+use Rattle.std.specs.Prelude.{◌≡◌, ℕ, ◌+◌, ◌*◌, ◌-◌, ◌^◌, ◌<◌, ◌≤◌, max, List, [], ◌∷◌, length, map, Option, Some, None}
 use Rattle.std.specs.Option.{IsSomeAnd}
 use Rattle.std.proofs.Common.{refl, ap, subst, ◌∙◌, arith, inl, inr}
 use Rattle.std.proofs.Math.Nat.{pow-le-pow_right}
@@ -11,11 +11,9 @@ use Rattle.lp_model.specs.WideSteps.{TablePlace, Pivot, Point as PointPlace, Cos
 use Rattle.lp_model.specs.declared.types.CutRow.{CutRow}
 use Rattle.lp_model.specs.declared.types.Var.TheVariants.{Col, Row, Cut}
 use Rattle.lp_model.specs.declared.types.WideStep.{WideStep}
-use Rattle.model_points.specs.Answers.{IsFeasibilityAnswer, IsValueAnswer}
 use Rattle.model_points.specs.Rays.{without_cost, without_costs}
 use Rattle.row_tableau.specs.declared.relax.Relax.{Relax}
 use Rattle.row_tableau.specs.Activities.{activity_count}
-use Rattle.row_tableau.specs.Relaxations.{form_of}
 use Rattle.leaf_dual.specs.Answers.{IsFirstWidePlace}
 use Rattle.basic_solution.specs.Held.{Held, IsLawfulHeld, variables}
 use Rattle.basic_solution.specs.Slack.{IsStateOfRelax}
@@ -27,8 +25,8 @@ use Rattle.dual_simplex.proofs.SolveLemmas.{of_after}
 use Rattle.ray_phase.specs.Answers.{IsStart, IsWideSum, IsWideAt}
 use Rattle.search_counting.specs.Work.{whole_points_of, whole_points, cap_of}
 use Rattle.node_solve.specs.Runs.{IsPlainOf}
-use Rattle.tree_search.specs.Room.{AreAmong, IsSelection, IsTableStep, IsNumberStep, IsPointStep, IsStepAt, HasMoves, HasRoomAt, HasRoomForValues}
-use Rattle.tree_search.specs.Enough.{IsRayPhaseEnough, AreRelaxationsEnough, IsEnoughBeside, IsEnough}
+use Rattle.tree_search.specs.Room.{AreAmong, IsSelection, IsTableStep, IsNumberStep, IsPointStep, IsStepAt}
+use Rattle.tree_search.specs.Enough.{IsRayPhaseEnough, AreRelaxationsEnough, IsEnoughBeside}
 use Rattle.tree_search.specs.EnoughLaws.{EnoughForNewLaw, EnoughForKeptLaw, MovesMetLaw}
 
 none-among : (cuts : List CutRow) → AreAmong cuts [] → cuts ≡ []

@@ -17,8 +17,8 @@ use Rattle.node_solve.specs.declared.working.Worked.TheVariants.{Done, Pivots, W
 use Rattle.node_solve.proofs.LiveLemmas.{live-few, places-length, live-at}
 use Rattle.tree_search.specs.Steps.{FoundCuts}
 use Rattle.tree_search.specs.private.Stepping.{worked_with}
-use Rattle.tree_search.specs.declared.stepping.Outcome.{Outcome}
-use Rattle.tree_search.specs.declared.stepping.Outcome.TheVariants as outcome
+use Rattle.tree_search.specs.declared.stepping.WorkEnd.{WorkEnd}
+use Rattle.tree_search.specs.declared.stepping.WorkEnd.TheVariants as end
 
 -- ---- the places of a relaxation's cuts
 
@@ -72,15 +72,15 @@ module _ (W : Work) where
     wide-fits : (at : WideAt) (vec : FoundCuts) → IsWorked W (Wide at vec) → length W.pool + length vec.items ≤ 10000
     wide-fits at vec (made, (r, (makes, (leaf, (wide, found_are))))) = found-fit made r makes vec found_are
 
-    pub found-fits : (came : Outcome) (vec : FoundCuts) → IsWorked W (worked_with came vec) → length W.pool + length vec.items ≤ 10000
-    found-fits (outcome.Done result) vec h = done-fits result vec h
-    found-fits (outcome.Pivots basis) vec h = pivots-fit basis vec h
-    found-fits (outcome.Wide at) vec h = wide-fits at vec h
+    pub found-fits : (came : WorkEnd) (vec : FoundCuts) → IsWorked W (worked_with came vec) → length W.pool + length vec.items ≤ 10000
+    found-fits (end.Done result) vec h = done-fits result vec h
+    found-fits (end.Pivots basis) vec h = pivots-fit basis vec h
+    found-fits (end.Wide at) vec h = wide-fits at vec h
 
   -- ---- results
 
   pub never-keeps : (point : Option Point) (basis : Basis) (vec : FoundCuts) → ¬ IsWorked W (Done (Keep point basis) vec)
-  never-keeps point basis vec (made, (r, (makes, d))) = by d.own d.done d.result_is
+  never-keeps point basis vec (made, (r, (makes, d))) = by d.own_result d.done d.result_is
     where
       by : (own : NodeResult) → IsDone (form_in W r) W.job.region W.job.target d.state own → Keep point basis ≡ result_in_pool r.places own → ⊥
       by (Close mult farkas b) h e = let f : Keep point basis ≡ Close (mult_in_pool r.places mult) (mult_in_pool r.places farkas) (basis_in_pool r.places b) = e in cc

@@ -1,5 +1,5 @@
 -- A search turn by turn: what was placed so far and who holds what, and where it ends or stops.
-use Rattle.std.specs.Prelude.{◌≡◌, ◌≢◌, ℕ, zero, suc, ◌+◌, ◌<◌, ◌≤◌, Bool, true, false, if◌then◌else◌, All, List, [], ◌∷◌, length, get_or, set, replicate, Option, Some, None}
+use Rattle.std.specs.Prelude.{◌≡◌, ◌≢◌, ◌⊎◌, ℕ, zero, suc, ◌+◌, ◌<◌, ◌≤◌, Bool, true, false, if◌then◌else◌, All, List, [], ◌∷◌, length, get_or, set, replicate, Option, Some, None}
 use Rattle.std.specs.Option.{option_map}
 use Rattle.std.proofs.Common.{refl, sym, subst, ap, ◌∙◌, inl, inr, arith}
 use Rattle.std.proofs.lemmas.Bool.{cases_eq, cases_lt}
@@ -17,9 +17,10 @@ use Rattle.sound_searches.specs.Free.{IsHeldJob}
 use Rattle.sound_searches.specs.Sound.{PlainSearch, IsSound}
 use Rattle.search_counting.specs.Work.{work_of, IsRoomy}
 use Rattle.tree_manager.specs.Managers.{PlainManager, HoldsLeaf, has_open, IsManager, held_on}
+use Rattle.tree_manager.specs.Events.{GivesJob}
 use Rattle.turn_order.specs.Words.{first_words}
 use Rattle.tree_search.specs.Steps.{HasOpenLeaf, Places, StopsAtNext}
-use Rattle.tree_search.specs.Turns.{Order, Crew, ActsOn, Turn, Hands, Placing, Drives, placings, Goes, id_of, held_of, kept_job, jobs_on, first_crew}
+use Rattle.tree_search.specs.Turns.{Order, Crew, ActsOn, Turn, HandOut, PlaceResult, Drives, placings, Goes, id_of, held_of, manager_of, kept_job, jobs_on, first_crew}
 use Rattle.tree_search.specs.Search.{StopsFor, GivesUp}
 use Rattle.tree_search.specs.private.Stepping.{IsReady, IsStopOf, HandsTurn, WorksTurn, AreJobsOf, Comes}
 use Rattle.tree_search.specs.declared.searching.Ways.{Ways}
@@ -30,7 +31,7 @@ use Rattle.sound_searches.proofs.OtherLemmas.{placing-other}
 use Rattle.tree_search.specs.Extends.{Extends}
 use Rattle.tree_search.specs.GivingUp.{LeavesTurn}
 use Rattle.tree_search.specs.declared.searching.Ended.TheVariants.{Finished, Unbounded, Stopped}
-use Rattle.tree_search.specs.declared.stepping.Limits.{Limits}
+use Rattle.tree_search.specs.declared.stepping.Working.{Working}
 use Rattle.tree_search.specs.declared.stepping.Stepped.TheVariants as stepped
 use Rattle.node_solve.proofs.AddedLemmas.{more-cuts}
 use Rattle.tree_search.proofs.PointLemmas.{point-unbounded}
@@ -44,6 +45,10 @@ use Rattle.tree_search.proofs.CrewLemmas.{held-kept, held-set, held-none, held-a
 -- further cuts leave the open leaves
 open-added : (S : PlainSearch) (ds : List Derivation) (T : PlainSearch) → AddsCuts S ds T → HasOpenLeaf S → HasOpenLeaf T
 open-added S ds T adds (id, (path, h)) = subst HasOpenLeaf (sym (more-cuts ds S T adds).now) (id, (path, record { kept = h.kept; leaf = h.leaf; state = h.state }))
+
+with-cause : {A B C : Type 0} → C → A ⊎ B → A ⊎ (C × B)
+with-cause c (inl a) = inl a
+with-cause c (inr b) = inr (c, b)
 
 -- ---- jobs that are held
 
@@ -85,7 +90,7 @@ kept-open : (S : PlainSearch) (j : Option Job) (job : Job) → kept_job S j ≡ 
 kept-open S None job e = absurd (no-job job e)
 kept-open S (Some k) job e = by (has_open S k.id) refl e
   where
-    by : (b : Bool) → has_open S k.id ≡ b → (if b then Some k else None) ≡ Some job → (Some k ≡ Some job) × (has_open S job.id ≡ true)
+    by : (b : Bool) → has_open S k.id ≡ b → option_map (λ (id : ℕ). k) (if b then Some k.id else None) ≡ Some job → (Some k ≡ Some job) × (has_open S job.id ≡ true)
     by true o f = (f, ap (λ (z : Job). has_open S z.id) (sym (some-job k job f)) ∙ o)
     by false o f = absurd (no-job job f)
 
@@ -104,24 +109,24 @@ held-through ways first pivots S T sound numbered p job held other is_open =
 
 -- ---- what holds after n results
 
-pub record IsUnderway (limits : Limits) (order : Order) (nodes n : ℕ) (old : PlainSearch) (P : PlainManager) (jobs : List (Option Job)) (words : Lcg) : Type 0 where
+pub record IsUnderway (working : Working) (order : Order) (nodes n : ℕ) (old : PlainSearch) (P : PlainManager) (jobs : List (Option Job)) (words : Lcg) : Type 0 where
   pub model : P.search.model ≡ old.model
   pub turns : List Turn
-  pub drives : Drives limits.ways limits.first.now limits.pivots turns (first_crew old order) (record { search = P.search; jobs = jobs; words = words })
+  pub drives : Drives working.ways working.first.now working.pivots turns (first_crew old order) (record { search = P.search; jobs = jobs; words = words })
   pub results : placings turns ≡ n
   pub extends : Extends old.tree.root P.search.tree.root
   pub work : n + work_of P.search ≤ work_of old
   pub room : IsRoomy old → IsRoomy P.search
-  pub ready : IsReady limits P.search
+  pub ready : IsReady working P.search
   pub limit : n ≤ nodes
   pub held : P.held ≡ held_of jobs
   pub all : AllHeld P.search jobs
 
-module _ (limits : Limits) (order : Order) (nodes : ℕ) (old : PlainSearch) where
-  pub begins : (P : PlainManager) (jobs : List (Option Job)) (words : Lcg) → P.search ≡ old → IsReady limits old → P.held ≡ replicate order.workers None → jobs ≡ replicate order.workers None → words ≡ first_words order.seed
-      → IsUnderway limits order nodes 0 old P jobs words
+module _ (working : Working) (order : Order) (nodes : ℕ) (old : PlainSearch) where
+  pub begins : (P : PlainManager) (jobs : List (Option Job)) (words : Lcg) → P.search ≡ old → IsReady working old → P.held ≡ replicate order.workers None → jobs ≡ replicate order.workers None → words ≡ first_words order.seed
+      → IsUnderway working order nodes 0 old P jobs words
   begins P jobs words same ready none jobs_are words_are =
-      subst (λ X. X) (λ i. IsUnderway limits order nodes 0 old (record { search = sym same i; held = sym none i }) (sym jobs_are i) (sym words_are i))
+      subst (λ X. X) (λ i. IsUnderway working order nodes 0 old (record { search = sym same i; held = sym none i }) (sym jobs_are i) (sym words_are i))
       (record {
         model = refl;
         turns = [];
@@ -136,23 +141,27 @@ module _ (limits : Limits) (order : Order) (nodes : ℕ) (old : PlainSearch) whe
         all = none-all old order.workers;
       })
 
-  module _ (n : ℕ) (P : PlainManager) (jobs : List (Option Job)) (words : Lcg) (h : IsUnderway limits order nodes n old P jobs words) where
+  module _ (n : ℕ) (P : PlainManager) (jobs : List (Option Job)) (words : Lcg) (h : IsUnderway working order nodes n old P jobs words) where
     abbrev S : PlainSearch
     S = P.search
 
     abbrev crew : Crew
     crew = record { search = P.search; jobs = jobs; words = words }
 
-    pub goes : IsSound S → Goes limits.ways limits.first.now limits.pivots order n old S
+    pub goes : IsSound S → Goes working.ways working.first.now working.pivots order n old S
     goes sound = record { crew = crew; search_is = refl; turns = h.turns; drives = h.drives; results = h.results; model = h.model; extends = h.extends; work = h.work; room = h.room; sound = sound }
-
-    -- without memory in the next turn
-    pub gives-up : (T : PlainSearch) → IsSound S → LeavesTurn limits.ways limits.first.now limits.pivots crew S T → GivesUp limits.ways limits.first.now order nodes limits.pivots old T
-    unfolding goes
-    gives-up T sound adds = record { results = n; within_limit = h.limit; mid = S; goes = goes sound; adds = adds }
 
     below : (n ≡ nodes → ⊥) → n < nodes
     below other = let most : n ≤ nodes = h.limit in omega (arith, most, other)
+
+    -- without memory in the next turn, which the limit allows
+    pub gives-up : (T : PlainSearch) → IsSound S → (n ≡ nodes → ⊥) → (T ≡ S) ⊎ LeavesTurn working.ways working.first.now working.pivots crew S T → GivesUp working.ways working.first.now order nodes working.pivots old T
+    unfolding goes
+    gives-up T sound other left = record { results = n; within_limit = h.limit; mid = S; goes = goes sound; adds = with-cause (below other) left }
+
+    -- without memory before it
+    pub gives-same : IsSound S → GivesUp working.ways working.first.now order nodes working.pivots old S
+    gives-same sound = record { results = n; within_limit = h.limit; mid = S; goes = goes sound; adds = inl refl }
 
     pub jobs-of : AreJobsOf P jobs
     jobs-of = record { held = h.held; each = h.all }
@@ -160,16 +169,22 @@ module _ (limits : Limits) (order : Order) (nodes : ℕ) (old : PlainSearch) whe
     -- ---- a turn
 
     -- a leaf is handed out
-    pub hands-on : (Q : PlainManager) (after : List (Option Job)) (left : Lcg) → HandsTurn P jobs words Q after left → IsUnderway limits order nodes n old Q after left
+    pub hands-on : (Q : PlainManager) (after : List (Option Job)) (left : Lcg) → HandsTurn P jobs words Q after left → IsUnderway working order nodes n old Q after left
     hands-on Q after left t =
         let w : ℕ = t.turn.w in
         let job : Job = t.hands.job in
-        let next = subst (λ held. IsNextFree S held (Some job.id)) h.held t.hands.next in
-        subst (λ X. X) (λ i. IsUnderway limits order nodes n old (sym t.hands.new_is i) (sym t.hands.jobs_are i) left)
+        let g = t.hands.gives in
+        let gives : GivesJob (manager_of crew) w job (manager_of (record { search = S; jobs = set jobs w (Some job); words = left })) = record {
+          idle = subst (λ (held : List (Option ℕ)). get_or held w None ≡ None) h.held g.idle;
+          next = subst (λ held. IsNextFree S held (Some job.id)) h.held g.next;
+          job_is = g.job_is;
+          new_is = λ i. record { search = S; held = held-set jobs w (Some job) i };
+        } in
+        subst (λ X. X) (λ i. IsUnderway working order nodes n old (sym g.new_is i) (sym t.hands.jobs_are i) left)
         (record {
           model = h.model;
-          turns = Hands ∷ h.turns;
-          drives = (crew, (h.drives, record { w = w; acts = t.turn.acts; idle = t.idle; job = job; next = next; job_is = t.hands.job_is; search_is = refl; jobs_are = refl }));
+          turns = HandOut ∷ h.turns;
+          drives = (crew, (h.drives, record { w = w; acts = t.turn.acts; job = job; gives = gives; jobs_are = refl }));
           results = let same : placings h.turns ≡ n = h.results in omega (arith, same);
           extends = h.extends;
           work = h.work;
@@ -177,11 +192,11 @@ module _ (limits : Limits) (order : Order) (nodes : ℕ) (old : PlainSearch) whe
           ready = h.ready;
           limit = h.limit;
           held = ap (λ l. set l w (Some job.id)) h.held ∙ sym (held-set jobs w (Some job));
-          all = given-all S jobs w job t.turn.within h.all (held-first S job t.hands.job_is);
+          all = given-all S jobs w job t.turn.within h.all (held-first S job g.job_is);
         })
 
     -- a result is placed
-    pub goes-on : IsManager P → (Q : PlainManager) → IsSound Q.search → IsNumbered Q.search.tree → (n ≡ nodes → ⊥) → (after : List (Option Job)) (left : Lcg) → WorksTurn limits P jobs words stepped.Placed Q after left → IsUnderway limits order nodes (n + 1) old Q after left
+    pub goes-on : IsManager P → (Q : PlainManager) → IsSound Q.search → IsNumbered Q.search.tree → (n ≡ nodes → ⊥) → (after : List (Option Job)) (left : Lcg) → WorksTurn working P jobs words stepped.Placed Q after left → IsUnderway working order nodes (n + 1) old Q after left
     goes-on manager Q sound numbered other after left t =
         let T : PlainSearch = Q.search in
         let w : ℕ = t.turn.w in
@@ -195,17 +210,17 @@ module _ (limits : Limits) (order : Order) (nodes : ℕ) (old : PlainSearch) whe
         let (was, is_open) = left-open T (set jobs w None) v j e in
         let (apart, there) = without-all jobs w t.turn.within v j was in
         let theirs : HoldsLeaf P.held v j.id = ap (λ l. get_or l v None) h.held ∙ held-at jobs v ∙ ap (option_map id_of) there in
-        held-through limits.ways limits.first.now limits.pivots S T manager.sound numbered p j (h.all v j there) (λ ids. apart (manager.held.one v w t.job.id (theirs ∙ ap Some (ids ∙ ap id_of same)) own)) is_open
+        held-through working.ways working.first.now working.pivots S T manager.sound numbered p j (h.all v j there) (λ ids. apart (manager.held.one v w t.job.id (theirs ∙ ap Some (ids ∙ ap id_of same)) own)) is_open
         in
         record {
           model = t.steps.0.model ∙ h.model;
-          turns = Placing ∷ h.turns;
+          turns = PlaceResult ∷ h.turns;
           drives = (crew, (h.drives, record { w = w; acts = t.turn.acts; places = p; holds = t.holds ∙ ap Some (sym same); jobs_are = t.jobs_are; sound = sound; numbered = numbered }));
           results = ap (λ m. m + 1) h.results;
-          extends = extends-on old.tree.root S.tree.root T.tree.root h.extends (extends-placed S manager.sound manager.numbered limits.ways limits.first.now limits.pivots T p);
+          extends = extends-on old.tree.root S.tree.root T.tree.root h.extends (extends-placed S manager.sound manager.numbered working.ways working.first.now working.pivots T p);
           work = omega (arith, less, work);
           room = λ roomy. t.steps.0.room (h.room roomy);
-          ready = ready-after limits S T h.ready t.steps.0.model p;
+          ready = ready-after working S T h.ready t.steps.0.model p;
           limit = omega (arith, under);
           held = t.freed ∙ ap (λ l. held_on T (set l w None)) h.held ∙ ap (held_on T) (sym (held-set jobs w None)) ∙ sym (held-kept T (set jobs w None)) ∙ ap held_of (sym t.jobs_are);
           all = subst (AllHeld T) (sym t.jobs_are) through;
@@ -213,17 +228,17 @@ module _ (limits : Limits) (order : Order) (nodes : ℕ) (old : PlainSearch) whe
 
     -- ---- where it ends
 
-    pub at-limit : IsSound S → n ≡ nodes → HasOpenLeaf S → Comes limits order nodes old S (record { ended = Stopped why.Nodes; results = n })
+    pub at-limit : IsSound S → n ≡ nodes → HasOpenLeaf S → Comes working order nodes old S (record { ended = Stopped why.Nodes; results = n })
     at-limit sound all left = record { within_limit = h.limit; ends = record { goes = goes sound; all = all }; left = left; extends = h.extends }
 
-    pub finishes : IsSound S → HasNoOpenLeaf S → Comes limits order nodes old S (record { ended = Finished; results = n })
+    pub finishes : IsSound S → HasNoOpenLeaf S → Comes working order nodes old S (record { ended = Finished; results = n })
     finishes sound none = record { within_limit = h.limit; ends = record { goes = goes sound; finished = none }; left = none; extends = h.extends }
 
     module _ (Q : PlainManager) (after : List (Option Job)) (left : Lcg) where
-      acts-on : (s : _) (t : WorksTurn limits P jobs words s Q after left) (named : Job) → named ≡ t.job → ActsOn crew named
+      acts-on : (s : _) (t : WorksTurn working P jobs words s Q after left) (named : Job) → named ≡ t.job → ActsOn crew named
       acts-on s t named same = record { w = t.turn.w; left = left; acts = t.turn.acts; holds = t.holds ∙ ap Some (sym same) }
 
-      pub finds-point : IsSound S → IsNumbered S.tree → (n ≡ nodes → ⊥) → WorksTurn limits P jobs words stepped.Found Q after left → Comes limits order nodes old Q.search (record { ended = Unbounded; results = n + 1 })
+      pub finds-point : IsSound S → IsNumbered S.tree → (n ≡ nodes → ⊥) → WorksTurn working P jobs words stepped.Found Q after left → Comes working order nodes old Q.search (record { ended = Unbounded; results = n + 1 })
       unfolding goes
       finds-point sound numbered other t =
           let here = t.steps.0 in
@@ -233,28 +248,28 @@ module _ (limits : Limits) (order : Order) (nodes : ℕ) (old : PlainSearch) whe
               before = n;
               counted = refl;
               after = record { mid = S; goes = goes sound; below_limit = below other; here = here; turn = acts-on stepped.Found t here.job t.steps.1 };
-              unbounded = subst IsUnbounded h.model (point-unbounded limits.ways S here.rays h.ready.ways here.job limits.first.now limits.pivots here.point here.mult here.basis here.found here.works.worked_is);
+              unbounded = subst IsUnbounded h.model (point-unbounded working.ways S here.rays h.ready.ways here.job working.first.now working.pivots here.point here.mult here.basis here.found here.works.worked_is);
             };
             left = (here.job.id, (here.job.region, here.keeps.stays));
             extends = extends-on old.tree.root S.tree.root Q.search.tree.root h.extends (extends-kept S sound numbered here.job here.found.items (Some here.point) here.basis Q.search here.keeps);
           }
 
-    stop-left : (T : PlainSearch) (w : StopWhy) → HasOpenLeaf S → StopsAtNext limits.ways limits.first.now limits.pivots S T w → HasOpenLeaf T
+    stop-left : (T : PlainSearch) (w : StopWhy) → HasOpenLeaf S → StopsAtNext working.ways working.first.now working.pivots S T w → HasOpenLeaf T
     stop-left T why.Nodes left here = absurd here
     stop-left T why.Tree left here = open-added S here.found.items T here.adds left
     stop-left T (why.Pivots place) left here = (here.job.id, (here.job.region, here.keeps.stays))
     stop-left T (why.Wide at) left (inl here) = (here.job.id, (here.job.region, here.keeps.stays))
     stop-left T (why.Wide at) left (inr here) = (here.job.id, (here.job.region, here.keeps.stays))
 
-    module _ (Q : PlainManager) (after : List (Option Job)) (left : Lcg) (reason : StopWhy) (t : WorksTurn limits P jobs words (stepped.Stopped reason) Q after left) where
+    module _ (Q : PlainManager) (after : List (Option Job)) (left : Lcg) (reason : StopWhy) (t : WorksTurn working P jobs words (stepped.Stopped reason) Q after left) where
       abbrev T : PlainSearch
       T = Q.search
 
       turn-of : (named : Job) → named ≡ t.job → ActsOn crew named
       turn-of named same = acts-on Q after left (stepped.Stopped reason) t named same
 
-      stops-for : (w : StopWhy) → IsSound S → (n ≡ nodes → ⊥) → (here : StopsAtNext limits.ways limits.first.now limits.pivots S T w) → IsStopOf limits.ways limits.first.now limits.pivots S T w here t.job
-          → StopsFor limits.ways limits.first.now order nodes limits.pivots n old T w
+      stops-for : (w : StopWhy) → IsSound S → (n ≡ nodes → ⊥) → (here : StopsAtNext working.ways working.first.now working.pivots S T w) → IsStopOf working.ways working.first.now working.pivots S T w here t.job
+          → StopsFor working.ways working.first.now order nodes working.pivots n old T w
       unfolding goes
       stops-for why.Nodes sound other here of = absurd here
       stops-for why.Tree sound other here of = record { mid = S; goes = goes sound; below_limit = below other; here = here; turn = turn-of here.job of }
@@ -262,17 +277,17 @@ module _ (limits : Limits) (order : Order) (nodes : ℕ) (old : PlainSearch) whe
       stops-for (why.Wide at) sound other (inl here) of = record { mid = S; goes = goes sound; below_limit = below other; here = inl here; turn = turn-of here.job of }
       stops-for (why.Wide at) sound other (inr here) of = record { mid = S; goes = goes sound; below_limit = below other; here = inr here; turn = turn-of here.job of }
 
-      pub stops : IsSound S → IsNumbered S.tree → (n ≡ nodes → ⊥) → HasOpenLeaf S → Comes limits order nodes old T (record { ended = Stopped reason; results = n })
+      pub stops : IsSound S → IsNumbered S.tree → (n ≡ nodes → ⊥) → HasOpenLeaf S → Comes working order nodes old T (record { ended = Stopped reason; results = n })
       stops sound numbered other is_open = record {
         within_limit = h.limit;
         ends = stops-for reason sound other t.steps.0 t.steps.1;
         left = stop-left T reason is_open t.steps.0;
-        extends = extends-on old.tree.root S.tree.root T.tree.root h.extends (extends-stopped S sound numbered limits.ways limits.first.now limits.pivots T reason t.steps.0);
+        extends = extends-on old.tree.root S.tree.root T.tree.root h.extends (extends-stopped S sound numbered working.ways working.first.now working.pivots T reason t.steps.0);
       }
 
 -- ---- without memory before the first turn
-pub gives-none : (limits : Limits) (order : Order) (nodes : ℕ) (P : PlainManager) → IsSound P.search → IsReady limits P.search → P.held ≡ replicate order.workers None → GivesUp limits.ways limits.first.now order nodes limits.pivots P.search P.search
-gives-none limits order nodes P sound ready none =
-    gives-up limits order nodes P.search 0 P (replicate order.workers None) (first_words order.seed)
-    (begins limits order nodes P.search P (replicate order.workers None) (first_words order.seed) refl ready none refl refl)
-    P.search sound (inl refl)
+pub gives-none : (working : Working) (order : Order) (nodes : ℕ) (P : PlainManager) → IsSound P.search → IsReady working P.search → P.held ≡ replicate order.workers None → GivesUp working.ways working.first.now order nodes working.pivots P.search P.search
+gives-none working order nodes P sound ready none =
+    gives-same working order nodes P.search 0 P (replicate order.workers None) (first_words order.seed)
+    (begins working order nodes P.search P (replicate order.workers None) (first_words order.seed) refl ready none refl refl)
+    sound

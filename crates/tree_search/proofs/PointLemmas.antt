@@ -31,7 +31,7 @@ use Rattle.tree_search.specs.declared.stepping.Stepped.TheVariants as stepped
 use Rattle.tree_search.specs.private.Stepping.{IsReady, WorksBy, Steps}
 use Rattle.tree_search.specs.declared.searching.Ways.{Ways}
 use Rattle.tree_search.specs.declared.searching.Ways.TheVariants.{Own, Rays}
-use Rattle.tree_search.specs.declared.stepping.Limits.{Limits}
+use Rattle.tree_search.specs.declared.stepping.Working.{Working}
 use Rattle.tree_search.proofs.JobLemmas.{IsWorkedBy, worked-by, job-region, region-same}
 use Rattle.tree_search.proofs.KeepLemmas.{job-after, keeps-after, point-taken, point-open}
 use Rattle.tree_search.proofs.PlacedLemmas.{point-basis, point-inside}
@@ -53,13 +53,13 @@ ray-point (Rays Z) S rays way job region first pivots x p v = record {
   ray = way.ray;
 }
 
-module _ (limits : Limits) (begin : PlainSearch) (job : Job) (x : Point) (mult : Multipliers) (basis : Basis) (vec : FoundCuts) (works : WorksBy limits begin job (Done (PointAndClose x mult basis) vec))
-    (S : PlainSearch) (adds : AddsCuts begin vec.items S) (sound : IsSound S) (numbered : IsNumbered S.tree) (lawful : IsLawful S.model) (rays : IsRayWay limits.ways) (ready : IsReady limits S) where
+module _ (working : Working) (begin : PlainSearch) (job : Job) (x : Point) (mult : Multipliers) (basis : Basis) (vec : FoundCuts) (works : WorksBy working begin job (Done (PointAndClose x mult basis) vec))
+    (S : PlainSearch) (adds : AddsCuts begin vec.items S) (sound : IsSound S) (numbered : IsNumbered S.tree) (lawful : IsLawful S.model) (rays : IsRayWay working.ways) (ready : IsReady working S) where
   model-then : S.model ≡ begin.model
   model-then = ap (λ (X : PlainSearch). X.model) (more-cuts vec.items begin S adds).now
 
-  way-then : IsWayFor begin limits.ways
-  way-then = by limits.ways ready.ways
+  way-then : IsWayFor begin working.ways
+  way-then = by working.ways ready.ways
     where
       m : S ≡ record begin { cuts = begin.cuts ++ (more-cuts vec.items begin S adds).new }
       m = (more-cuts vec.items begin S adds).now
@@ -78,14 +78,14 @@ module _ (limits : Limits) (begin : PlainSearch) (job : Job) (x : Point) (mult :
 
   pub there : IsBasis (formulation_of S) basis
   there =
-      point-basis limits.ways limits.first.now limits.pivots begin (subst (IsWorkedBy limits.ways) model-then (worked-by S limits.ways ready.ways)) job vec.items S adds
+      point-basis working.ways working.first.now working.pivots begin (subst (IsWorkedBy working.ways) model-then (worked-by S working.ways ready.ways)) job vec.items S adds
       (subst IsLawful model-then lawful) x mult basis vec refl works.worked_is
 
   module _ (v : IsValueAnswer S.model 1 x (Ok (value S.model 1 x))) (S' : PlainSearch) where
     point : IsRayPoint begin job x
     point =
-        ray-point limits.ways begin rays way-then job (subst (λ M. IsWorkedRegion M job.region) model-then region-now) limits.first.now limits.pivots x
-        (done_point (work_next limits.ways limits.first.now limits.pivots begin job) x mult basis vec works.worked_is).0
+        ray-point working.ways begin rays way-then job (subst (λ M. IsWorkedRegion M job.region) model-then region-now) working.first.now working.pivots x
+        (done_point (work_next working.ways working.first.now working.pivots begin job) x mult basis vec works.worked_is).0
         (subst (λ M. IsValueAnswer M 1 x (Ok (value M 1 x))) model-then v)
 
     keepable-now : IsKeepable S.model x
@@ -94,7 +94,7 @@ module _ (limits : Limits) (begin : PlainSearch) (job : Job) (x : Point) (mult :
     pub ray_point-taken : (taken : Taken) → Takes S job.id (Keep (Some x) basis) S' taken → taken ≡ Kept
     ray_point-taken taken takes = point-taken S sound numbered job job-now S' basis there x keepable-now taken takes
 
-    pub ray_point-next : TakesOpen S job.id (Keep (Some x) basis) S' Kept → Steps limits job begin S' stepped.Found
+    pub ray_point-next : TakesOpen S job.id (Keep (Some x) basis) S' Kept → Steps working job begin S' stepped.Found
     ray_point-next takes = (
       record {
         rays = rays;

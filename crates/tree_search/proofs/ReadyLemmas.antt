@@ -18,7 +18,7 @@ use Rattle.tree_search.specs.Steps.{worked_model, IsWayFor, IsPlacedBy, Places}
 use Rattle.tree_search.specs.private.Stepping.{IsReady}
 use Rattle.tree_search.specs.declared.searching.Ways.{Ways}
 use Rattle.tree_search.specs.declared.searching.Ways.TheVariants.{Own, Rays}
-use Rattle.tree_search.specs.declared.stepping.Limits.{Limits}
+use Rattle.tree_search.specs.declared.stepping.Working.{Working}
 
 module _ (S : PlainSearch) (id : ℕ) (S' : PlainSearch) where
   -- a result that brings no point leaves the points
@@ -49,10 +49,10 @@ way-after (Rays Z) first pivots S S' model places h = record {
   none = points-same places.mid places.job.id S' Z places.result places.by places.taken places.effective places.takes ∙ ap (λ (X : PlainSearch). X.points) (more-cuts places.found.items S places.mid places.adds).now ∙ h.none;
 }
 
-pub ready-after : (limits : Limits) (S S' : PlainSearch) → IsReady limits S → S'.model ≡ S.model → Places limits.ways limits.first.now limits.pivots S S' → IsReady limits S'
-ready-after limits S S' ready model places = record {
-  ways = way-after limits.ways limits.first.now limits.pivots S S' model places ready.ways;
-  first = subst (λ M. IsRootBasis (worked_model limits.ways M) limits.first.now) (sym model) ready.first;
+pub ready-after : (working : Working) (S S' : PlainSearch) → IsReady working S → S'.model ≡ S.model → Places working.ways working.first.now working.pivots S S' → IsReady working S'
+ready-after working S S' ready model places = record {
+  ways = way-after working.ways working.first.now working.pivots S S' model places ready.ways;
+  first = subst (λ M. IsRootBasis (worked_model working.ways M) working.first.now) (sym model) ready.first;
 }
 
 -- nor do further cuts change that
@@ -61,8 +61,8 @@ way-added Own S ds T adds h = tt
 way-added (Rays Z) S ds T adds h =
     subst (λ (X : PlainSearch). IsWayFor X (Rays Z)) (sym (more-cuts ds S T adds).now) (record { worked = h.worked; direction = h.direction; ray = h.ray; none = h.none })
 
-pub ready-added : (limits : Limits) (S : PlainSearch) (ds : List Derivation) (T : PlainSearch) → AddsCuts S ds T → IsReady limits S → IsReady limits T
-ready-added limits S ds T adds ready = record {
-  ways = way-added limits.ways S ds T adds ready.ways;
-  first = subst (λ M. IsRootBasis (worked_model limits.ways M) limits.first.now) (sym (ap (λ (X : PlainSearch). X.model) (more-cuts ds S T adds).now)) ready.first;
+pub ready-added : (working : Working) (S : PlainSearch) (ds : List Derivation) (T : PlainSearch) → AddsCuts S ds T → IsReady working S → IsReady working T
+ready-added working S ds T adds ready = record {
+  ways = way-added working.ways S ds T adds ready.ways;
+  first = subst (λ M. IsRootBasis (worked_model working.ways M) working.first.now) (sym (ap (λ (X : PlainSearch). X.model) (more-cuts ds S T adds).now)) ready.first;
 }

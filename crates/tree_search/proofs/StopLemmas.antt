@@ -23,22 +23,22 @@ use Rattle.tree_search.specs.Steps.{FoundCuts, kept_basis, IsRayWay, IsPlacedBy,
 use Rattle.tree_search.specs.GivingUp.{cuts_found, LeavesOf}
 use Rattle.tree_manager.specs.Managers.{PlainManager, held_on}
 use Rattle.tree_search.specs.private.Stepping.{WorksBy, IsFreed, Steps, worked_with}
-use Rattle.tree_search.specs.declared.stepping.Outcome.{Outcome}
-use Rattle.tree_search.specs.declared.stepping.Outcome.TheVariants as outcome
-use Rattle.tree_search.specs.declared.stepping.Limits.{Limits}
+use Rattle.tree_search.specs.declared.stepping.WorkEnd.{WorkEnd}
+use Rattle.tree_search.specs.declared.stepping.WorkEnd.TheVariants as end
+use Rattle.tree_search.specs.declared.stepping.Working.{Working}
 use Rattle.tree_search.specs.declared.searching.Ways.{Ways}
 use Rattle.tree_search.specs.declared.searching.Ways.TheVariants.{Own, Rays}
 use Rattle.tree_search.specs.declared.stepping.Stepped.{Stepped}
 use Rattle.tree_search.specs.declared.stepping.Stepped.TheVariants as stepped
 use Rattle.tree_search.proofs.KeepLemmas.{keeps-after, keeps-cuts, added-model}
 
-module _ (limits : Limits) (begin : PlainSearch) (job : Job) (vec : FoundCuts) (S : PlainSearch) (adds : AddsCuts begin vec.items S) (T : PlainSearch) where
+module _ (working : Working) (begin : PlainSearch) (job : Job) (vec : FoundCuts) (S : PlainSearch) (adds : AddsCuts begin vec.items S) (T : PlainSearch) where
   -- the pool stays
   cuts-stay : (basis : Basis) → KeepsOpen S job [] None basis T → T.cuts ≡ S.cuts
   cuts-stay basis keeps = keeps-cuts S job [] None basis T keeps ∙ ap (λ (X : PlainSearch). X.cuts) keeps.adds
 
-  pub stop-pivots : (place : PivotPlace) → WorksBy limits begin job (Pivots place.basis vec) → place.path ≡ Some job.region → place.cuts ≡ derivations_of (live_cuts 200 S.cuts) → KeepsOpen S job [] None (kept_basis S place.basis) T
-      → Steps limits job begin T (stepped.Stopped (why.Pivots place))
+  pub stop-pivots : (place : PivotPlace) → WorksBy working begin job (Pivots place.basis vec) → place.path ≡ Some job.region → place.cuts ≡ derivations_of (live_cuts 200 S.cuts) → KeepsOpen S job [] None (kept_basis S place.basis) T
+      → Steps working job begin T (stepped.Stopped (why.Pivots place))
   stop-pivots place works path cuts keeps =
       let same : S.cuts ≡ T.cuts = sym (cuts-stay (kept_basis S place.basis) keeps) in (
         record {
@@ -52,7 +52,7 @@ module _ (limits : Limits) (begin : PlainSearch) (job : Job) (vec : FoundCuts) (
         refl,
       )
 
-  pub stop-step : (at : WideAt) → WorksBy limits begin job (Wide at vec) → KeepsOpen S job [] None (kept_basis S at.basis) T → Steps limits job begin T (stepped.Stopped (why.Wide at))
+  pub stop-step : (at : WideAt) → WorksBy working begin job (Wide at vec) → KeepsOpen S job [] None (kept_basis S at.basis) T → Steps working job begin T (stepped.Stopped (why.Wide at))
   stop-step at works keeps =
       let same : S.cuts ≡ T.cuts = sym (cuts-stay (kept_basis S at.basis) keeps) in (
         inl (record {
@@ -64,8 +64,8 @@ module _ (limits : Limits) (begin : PlainSearch) (job : Job) (vec : FoundCuts) (
         refl,
       )
 
-  pub stop-value : IsRayWay limits.ways → (x : Point) (mult : Multipliers) (basis : Basis) (at : WideAt) → WorksBy limits begin job (Done (PointAndClose x mult basis) vec) → IsValueAnswer S.model 1 x (Err at.step) → at.path ≡ Some job.region
-      → at.cuts ≡ derivations_of (live_cuts 200 S.cuts) → at.basis ≡ basis_in_relaxation (live_places 200 0 S.cuts) basis → kept_basis S at.basis ≡ basis → KeepsOpen S job [] None (kept_basis S at.basis) T → Steps limits job begin T (stepped.Stopped (why.Wide at))
+  pub stop-value : IsRayWay working.ways → (x : Point) (mult : Multipliers) (basis : Basis) (at : WideAt) → WorksBy working begin job (Done (PointAndClose x mult basis) vec) → IsValueAnswer S.model 1 x (Err at.step) → at.path ≡ Some job.region
+      → at.cuts ≡ derivations_of (live_cuts 200 S.cuts) → at.basis ≡ basis_in_relaxation (live_places 200 0 S.cuts) basis → kept_basis S at.basis ≡ basis → KeepsOpen S job [] None (kept_basis S at.basis) T → Steps working job begin T (stepped.Stopped (why.Wide at))
   stop-value rays x mult basis at works wide path cuts basis_is back keeps =
       let same : S.cuts ≡ T.cuts = sym (cuts-stay (kept_basis S at.basis) keeps) in (
         inr (record {
@@ -95,29 +95,29 @@ other-placed (Rays Z) (SplitAt col v mult basis) no_point no_keep = tt
 other-placed (Rays Z) (PointAndClose x mult basis) no_point no_keep = absurd (no_point x mult basis refl)
 other-placed (Rays Z) (Keep point basis) no_point no_keep = absurd (no_keep point basis refl)
 
-module _ (limits : Limits) (job : Job) (S T : PlainSearch) (a b : NodeResult) (same : a ≡ b) where
-  pub works-same : (begin : PlainSearch) × ((found : FoundCuts) × (WorksBy limits begin job (Done a found) × AddsCuts begin found.items S)) → (begin : PlainSearch) × ((found : FoundCuts) × (WorksBy limits begin job (Done b found) × AddsCuts begin found.items S))
-  works-same (begin, (found, (works, adds))) = (begin, (found, (subst (λ r. WorksBy limits begin job (Done r found)) same works, adds)))
+module _ (working : Working) (job : Job) (S T : PlainSearch) (a b : NodeResult) (same : a ≡ b) where
+  pub works-same : (begin : PlainSearch) × ((found : FoundCuts) × (WorksBy working begin job (Done a found) × AddsCuts begin found.items S)) → (begin : PlainSearch) × ((found : FoundCuts) × (WorksBy working begin job (Done b found) × AddsCuts begin found.items S))
+  works-same (begin, (found, (works, adds))) = (begin, (found, (subst (λ r. WorksBy working begin job (Done r found)) same works, adds)))
 
-  pub steps-same : {E : Type 0} (result : Result Stepped E) → IfOk result (λ s. (begin : PlainSearch) (found : FoundCuts) → WorksBy limits begin job (Done b found) → AddsCuts begin found.items S → Steps limits job begin T s)
-      → IfOk result (λ s. (begin : PlainSearch) (found : FoundCuts) → WorksBy limits begin job (Done a found) → AddsCuts begin found.items S → Steps limits job begin T s)
-  steps-same (Ok s) h = λ begin found works adds. h begin found (subst (λ r. WorksBy limits begin job (Done r found)) same works) adds
+  pub steps-same : {E : Type 0} (result : Result Stepped E) → IfOk result (λ s. (begin : PlainSearch) (found : FoundCuts) → WorksBy working begin job (Done b found) → AddsCuts begin found.items S → Steps working job begin T s)
+      → IfOk result (λ s. (begin : PlainSearch) (found : FoundCuts) → WorksBy working begin job (Done a found) → AddsCuts begin found.items S → Steps working job begin T s)
+  steps-same (Ok s) h = λ begin found works adds. h begin found (subst (λ r. WorksBy working begin job (Done r found)) same works) adds
   steps-same (Err e) h = tt
 
 -- ---- what the work came to, matched
 
-module _ (limits : Limits) (job : Job) (S T : PlainSearch) where
-  abbrev pub WasWorked : Outcome → Type 0
-  WasWorked came = (begin : PlainSearch) × ((found : FoundCuts) × (WorksBy limits begin job (worked_with came found) × AddsCuts begin found.items S))
+module _ (working : Working) (job : Job) (S T : PlainSearch) where
+  abbrev pub WasWorked : WorkEnd → Type 0
+  WasWorked came = (begin : PlainSearch) × ((found : FoundCuts) × (WorksBy working begin job (worked_with came found) × AddsCuts begin found.items S))
 
-  abbrev pub StepsFrom : Outcome → Stepped → Type 0
-  StepsFrom came s = (begin : PlainSearch) (found : FoundCuts) → WorksBy limits begin job (worked_with came found) → AddsCuts begin found.items S → Steps limits job begin T s
+  abbrev pub StepsFrom : WorkEnd → Stepped → Type 0
+  StepsFrom came s = (begin : PlainSearch) (found : FoundCuts) → WorksBy working begin job (worked_with came found) → AddsCuts begin found.items S → Steps working job begin T s
 
-  pub outcome-works : (a b : Outcome) → a ≡ b → WasWorked a → WasWorked b
-  outcome-works a b same h = subst WasWorked same h
+  pub end-works : (a b : WorkEnd) → a ≡ b → WasWorked a → WasWorked b
+  end-works a b same h = subst WasWorked same h
 
-  pub outcome-steps : {E : Type 0} (a b : Outcome) → a ≡ b → (result : Result Stepped E) → IfOk result (StepsFrom b) → IfOk result (StepsFrom a)
-  outcome-steps a b same result h = subst (λ came. IfOk result (StepsFrom came)) (sym same) h
+  pub end-steps : {E : Type 0} (a b : WorkEnd) → a ≡ b → (result : Result Stepped E) → IfOk result (StepsFrom b) → IfOk result (StepsFrom a)
+  end-steps a b same result h = subst (λ came. IfOk result (StepsFrom came)) (sym same) h
 
 -- ---- a step, from the search that was worked
 
@@ -126,8 +126,8 @@ pub on_err : {A E : Type 0} (result : Result A E) (P : Type 0) → P → OnErr r
 on_err (Ok a) P h = tt
 on_err (Err e) P h = h
 
-module _ (limits : Limits) (job : Job) (of : FoundCuts → Worked) (begin : PlainSearch) (vec : FoundCuts) (works : WorksBy limits begin job (of vec)) (S : PlainSearch) (adds : AddsCuts begin vec.items S) (T : PlainSearch) where
-  pub step-since : {E : Type 0} (result : Result Stepped E) → IfOk result (λ s. (from : PlainSearch) (found : FoundCuts) → WorksBy limits from job (of found) → AddsCuts from found.items S → Steps limits job from T s) → IfOk result (λ s. Steps limits job begin T s)
+module _ (working : Working) (job : Job) (of : FoundCuts → Worked) (begin : PlainSearch) (vec : FoundCuts) (works : WorksBy working begin job (of vec)) (S : PlainSearch) (adds : AddsCuts begin vec.items S) (T : PlainSearch) where
+  pub step-since : {E : Type 0} (result : Result Stepped E) → IfOk result (λ s. (from : PlainSearch) (found : FoundCuts) → WorksBy working from job (of found) → AddsCuts from found.items S → Steps working job from T s) → IfOk result (λ s. Steps working job begin T s)
   step-since (Ok s) h = h begin vec works adds
   step-since (Err e) h = tt
 
@@ -140,16 +140,16 @@ some-since begin ds S T adds (Ok a) h = tt
 some-since begin ds S T adds (Err e) h = all-some begin ds T (subst (AddsCuts begin ds) (sym h) adds)
 
 -- the cuts of the work that comes to this
-found-with : (came : Outcome) (found : FoundCuts) → cuts_found (worked_with came found) ≡ found.items
-found-with (outcome.Done done) found = refl
-found-with (outcome.Pivots basis) found = refl
-found-with (outcome.Wide at) found = refl
+found-with : (came : WorkEnd) (found : FoundCuts) → cuts_found (worked_with came found) ≡ found.items
+found-with (end.Done done) found = refl
+found-with (end.Pivots basis) found = refl
+found-with (end.Wide at) found = refl
 
 -- without memory after the work, its first cuts may be there
-pub leaves-after : {A E : Type 0} (limits : Limits) (S T : PlainSearch) (job : Job) (came : Outcome) (found : FoundCuts) → WorksBy limits S job (worked_with came found)
-    → (result : Result A E) → OnErr result (AddsSome S found.items T) → OnErr result (LeavesOf limits.ways limits.first.now limits.pivots job S T)
-leaves-after limits S T job came found works (Ok a) h = tt
-leaves-after limits S T job came found works (Err e) h =
+pub leaves-after : {A E : Type 0} (working : Working) (S T : PlainSearch) (job : Job) (came : WorkEnd) (found : FoundCuts) → WorksBy working S job (worked_with came found)
+    → (result : Result A E) → OnErr result (AddsSome S found.items T) → OnErr result (LeavesOf working.ways working.first.now working.pivots job S T)
+leaves-after working S T job came found works (Ok a) h = tt
+leaves-after working S T job came found works (Err e) h =
     inr (record { worked = worked_with came found; works = works; adds = subst (λ ds. AddsSome S ds T) (sym (found-with came found)) h })
 
 -- ---- managers

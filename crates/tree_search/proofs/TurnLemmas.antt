@@ -1,5 +1,5 @@
 -- One turn: whose it is, and what comes of it.
-use Rattle.std.specs.Prelude.{◌≡◌, ℕ, ◌+◌, ◌*◌, ◌<◌, ◌≤◌, Bool, true, List, length, get_or, set, Option, Some, None}
+use Rattle.std.specs.Prelude.{◌≡◌, ◌⊎◌, ℕ, ◌+◌, ◌*◌, ◌<◌, ◌≤◌, Bool, true, List, length, get_or, set, Option, Some, None}
 use Rattle.std.specs.Option.{option_map}
 use Rattle.std.proofs.Common.{sym, subst, ap, ◌∙◌, inl, inr, arith}
 use Rattle.std.proofs.lemmas.List.{length-map, length-set, set-set}
@@ -12,7 +12,7 @@ use Rattle.turn_order.specs.Turns.{can_act, IsNextTurn}
 use Rattle.tree_search.specs.GivingUp.{LeavesOf, LeavesTurn}
 use Rattle.tree_search.specs.Turns.{Crew, id_of, kept_job, jobs_on, IsFreeAnswer, Acts}
 use Rattle.tree_search.specs.private.Stepping.{IsFreed, Hands, TakesTurn, HandsTurn, WorksTurn, AreJobsOf, Steps}
-use Rattle.tree_search.specs.declared.stepping.Limits.{Limits}
+use Rattle.tree_search.specs.declared.stepping.Working.{Working}
 use Rattle.tree_search.specs.declared.stepping.Stepped.{Stepped}
 use Rattle.tree_search.specs.declared.stepping.Stepped.TheVariants.{Placed}
 use Rattle.search_counting.specs.Work.{work_of}
@@ -51,17 +51,17 @@ module _ (P : PlainManager) (jobs : List (Option Job)) (words left : Lcg) (of : 
     hands-turn idle h = record {
       turn = takes-turn;
       idle = idle;
-      hands = record { job = h.job; next = h.next; job_is = h.job_is; new_is = h.new_is; jobs_are = h.jobs_are ∙ set-set jobs w None (Some h.job) };
+      hands = record { job = h.job; gives = h.gives; jobs_are = h.jobs_are ∙ set-set jobs w None (Some h.job) };
     }
 
-    pub works-turn : (limits : Limits) (job : Job) → get_or jobs w None ≡ Some job → (s : Stepped) → Steps limits job P.search Q.search s → IsFreed w P Q → after ≡ jobs_on Q.search (set jobs w None) → WorksTurn limits P jobs words s Q after left
+    pub works-turn : (working : Working) (job : Job) → get_or jobs w None ≡ Some job → (s : Stepped) → Steps working job P.search Q.search s → IsFreed w P Q → after ≡ jobs_on Q.search (set jobs w None) → WorksTurn working P jobs words s Q after left
     unfolding takes-turn
-    works-turn limits job holds s steps freed are = record { turn = takes-turn; job = job; holds = holds; steps = steps; freed = freed; jobs_are = are }
+    works-turn working job holds s steps freed are = record { turn = takes-turn; job = job; holds = holds; steps = steps; freed = freed; jobs_are = are }
 
   -- without memory for the work
-  pub leaves-turn : (limits : Limits) (job : Job) → get_or jobs w None ≡ Some job → (T : PlainSearch) → LeavesOf limits.ways limits.first.now limits.pivots job P.search T → LeavesTurn limits.ways limits.first.now limits.pivots crew P.search T
-  leaves-turn limits job holds T (inl same) = inl same
-  leaves-turn limits job holds T (inr adds) = inr (job, (record { w = w; left = left; acts = acts; holds = holds }, adds))
+  pub leaves-turn : (working : Working) (job : Job) → get_or jobs w None ≡ Some job → (T : PlainSearch) → LeavesOf working.ways working.first.now working.pivots job P.search T → (T ≡ P.search) ⊎ LeavesTurn working.ways working.first.now working.pivots crew P.search T
+  leaves-turn working job holds T (inl same) = inl same
+  leaves-turn working job holds T (inr adds) = inr (job, (record { w = w; left = left; acts = acts; holds = holds }, adds))
 
 -- ---- each turn lowers the measure
 
@@ -72,11 +72,11 @@ module _ (P Q : PlainManager) (jobs after : List (Option Job)) (words left : Lcg
       let job = t.hands.job in
       let lens : length after ≡ length jobs = ap length t.hands.jobs_are ∙ length-set jobs w (Some job) in
       let fewer = idle-fewer jobs w job t.turn.within t.idle in
-      subst (λ X. X) (λ i. (sym lens i + 1) * work_of (sym t.hands.new_is i).search + idle_count (sym t.hands.jobs_are i) < (length jobs + 1) * work_of P.search + idle_count jobs)
+      subst (λ X. X) (λ i. (sym lens i + 1) * work_of (sym t.hands.gives.new_is i).search + idle_count (sym t.hands.jobs_are i) < (length jobs + 1) * work_of P.search + idle_count jobs)
       (fewer-idle (length jobs + 1) (work_of P.search) (idle_count jobs) (idle_count (set jobs w (Some job))) fewer)
 
-  pub works-smaller : (limits : Limits) → WorksTurn limits P jobs words Placed Q after left → (length after + 1) * work_of Q.search + idle_count after < (length jobs + 1) * work_of P.search + idle_count jobs
-  works-smaller limits t =
+  pub works-smaller : (working : Working) → WorksTurn working P jobs words Placed Q after left → (length after + 1) * work_of Q.search + idle_count after < (length jobs + 1) * work_of P.search + idle_count jobs
+  works-smaller working t =
       let lens : length after ≡ length jobs = ap length t.jobs_are ∙ length-map (set jobs t.turn.w None) (kept_job Q.search) ∙ length-set jobs t.turn.w None in
       let most = idle-most after in
       let few : idle_count after ≤ length jobs = omega (arith, most, lens) in

@@ -3,7 +3,7 @@
 --     drive_events ways first pivots turns a b d     the events of these turns
 --     results_in es                                  how many of the events place a result
 --     HasHistory order n old new                     a list of events of workers that hold nothing at first, n of which place a result
---     DriveLaw                                       turns are those events, and each search has such a list, however it ends
+--     DriveLaw                                       turns are those events, and each search has such a list, however it ends, with memory or without
 use Rattle.std.specs.Prelude.{◌≡◌, ℕ, ◌+◌, if◌then◌else◌, All, List, [], ◌∷◌, ◌++◌, map, Some, None}
 use Rattle.lp_model.specs.declared.types.Basis.{Basis}
 use Rattle.lp_model.specs.declared.types.Derivation.{Derivation}
@@ -15,8 +15,8 @@ use Rattle.sound_searches.specs.Sound.{PlainSearch, IsSound}
 use Rattle.tree_manager.specs.Managers.{PlainManager, idle_manager}
 use Rattle.tree_manager.specs.Holdings.{brings_point}
 use Rattle.tree_manager.specs.Events.{Event, Give, Take, Lose, EditBy, Trim, AddCut, IsHistory}
-use Rattle.tree_search.specs.Turns.{Order, Crew, manager_of, Turn, Hands, Placing, IsTurnOf, Drives, placings}
-use Rattle.tree_search.specs.Search.{Ends}
+use Rattle.tree_search.specs.Turns.{Order, Crew, manager_of, Turn, HandOut, PlaceResult, IsTurnOf, Drives, placings}
+use Rattle.tree_search.specs.Search.{Ends, GivesUp}
 use Rattle.tree_search.specs.declared.searching.Ways.{Ways}
 use Rattle.tree_search.specs.declared.searching.Ended.{Ended}
 
@@ -27,8 +27,8 @@ abbrev pub result_events : List Derivation → ℕ → ℕ → NodeResult → Ta
 result_events found w id done taken = map AddCut found ++ Take w id done taken ∷ []
 
 abbrev pub turn_events : (ways : Ways) (first : Basis) (pivots : ℕ) (t : Turn) (a b : Crew) → IsTurnOf ways first pivots t a b → List Event
-turn_events ways first pivots Hands a b h = Give h.w (Some h.job) ∷ []
-turn_events ways first pivots Placing a b h = result_events h.places.found.items h.w h.places.job.id h.places.result h.places.taken
+turn_events ways first pivots HandOut a b h = Give h.w (Some h.job) ∷ []
+turn_events ways first pivots PlaceResult a b h = result_events h.places.found.items h.w h.places.job.id h.places.result h.places.taken
 
 abbrev pub drive_events : (ways : Ways) (first : Basis) (pivots : ℕ) (turns : List Turn) (a b : Crew) → Drives ways first pivots turns a b → List Event
 drive_events ways first pivots [] a b same = []
@@ -86,3 +86,5 @@ pub record DriveLaw : Type 0 where
   -- and so is a search, however it ends
   pub ends : (ways : Ways) (first : Basis) (order : Order) (nodes pivots n : ℕ) (old new : PlainSearch) (ended : Ended) → IsSound old → IsNumbered old.tree → IsSound new → IsNumbered new.tree
       → Ends ways first order nodes pivots n old new ended → HasHistory order n old new
+  -- also where there is no memory
+  pub gives : (ways : Ways) (first : Basis) (order : Order) (nodes pivots : ℕ) (old new : PlainSearch) → IsSound old → IsNumbered old.tree → (up : GivesUp ways first order nodes pivots old new) → HasHistory order up.results old new

@@ -1,5 +1,5 @@
 -- A tree from which a search went on: its open leaves may have become trees, and every other node is as it was.
-use Rattle.std.specs.Prelude.{◌≡◌, ◌⊎◌, ℕ}
+use Rattle.std.specs.Prelude.{◌≡◌, ◌⊎◌}
 use Rattle.branch_tree.specs.Tree.{Leaf, Split}
 use Rattle.branch_tree.specs.Plain.{Plain}
 use Rattle.branch_tree.specs.declared.node.LeafState.TheVariants.{IsOpen}

@@ -1,6 +1,6 @@
 -- What a search is left with where there is no memory for its next result.
 --     LeavesOf ways first pivots job S S'       maybe the first of the cuts that the work on the leaf of a job found were added, and nothing else
---     LeavesTurn ways first pivots crew S S'    the same of the job whose worker has its turn
+--     LeavesTurn ways first pivots crew S S'    the first of the cuts were added that the work on the job found whose worker has its turn
 use Rattle.std.specs.Prelude.{◌≡◌, ◌⊎◌, ℕ, List, []}
 use Rattle.lp_model.specs.declared.types.Basis.{Basis}
 use Rattle.lp_model.specs.declared.types.Derivation.{Derivation}
@@ -30,4 +30,4 @@ abbrev pub LeavesOf : Ways → Basis → ℕ → Job → PlainSearch → PlainSe
 LeavesOf ways first pivots job old new = (new ≡ old) ⊎ AddsFirstFound ways first pivots job old new
 
 abbrev pub LeavesTurn : Ways → Basis → ℕ → Crew → PlainSearch → PlainSearch → Type 0
-LeavesTurn ways first pivots crew old new = (new ≡ old) ⊎ ((job : Job) × (ActsOn crew job × AddsFirstFound ways first pivots job old new))
+LeavesTurn ways first pivots crew old new = (job : Job) × (ActsOn crew job × AddsFirstFound ways first pivots job old new)

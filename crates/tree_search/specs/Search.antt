@@ -17,7 +17,7 @@ use Rattle.sound_searches.specs.Calls.{IsOpenLeaf}
 use Rattle.sound_searches.specs.Laws.{HasNoOpenLeaf, IsNoBetter}
 use Rattle.sound_searches.specs.Sound.{PlainSearch}
 use Rattle.search_counting.specs.Work.{cap_of}
-use Rattle.tree_search.specs.Truth.{IsFoundValue}
+use Rattle.model_points.specs.Bounds.{IsFoundValue}
 use Rattle.tree_search.specs.Bounds.{IsBoundOf}
 use Rattle.branch_tree.specs.declared.node.Job.{Job}
 use Rattle.tree_search.specs.Steps.{HasOpenLeaf, FullAtNext, PivotsAtNext, StepAtNext, ValueAtNext, PointAtNext}
@@ -94,14 +94,14 @@ pub record Finds (ways : Ways) (first : Basis) (order : Order) (nodes pivots : �
   pub extends : Extends old.tree.root new.tree.root
   pub cause : HasStopCause old new.cuts ways first nodes pivots searched.ended
 
--- without memory: results were placed, no more than the limit allows, and then maybe cuts were added that the work on a leaf found whose
--- worker had its turn; the search can go on
+-- without memory: results were placed, no more than the limit allows, and then nothing was done, or, where the limit allows one more
+-- result, cuts were added that the work on a leaf found whose worker had its turn; the search can go on
 pub record GivesUp (ways : Ways) (first : Basis) (order : Order) (nodes pivots : ℕ) (old new : PlainSearch) : Type 0 where
   pub results : ℕ
   pub within_limit : results ≤ nodes
   pub mid : PlainSearch
   pub goes : Goes ways first pivots order results old mid
-  pub adds : LeavesTurn ways first pivots goes.crew mid new
+  pub adds : (new ≡ mid) ⊎ ((results < nodes) × LeavesTurn ways first pivots goes.crew mid new)
 
 -- ---- what an end shows
 

@@ -1,11 +1,11 @@
 -- What each answer of `solve` and of `warm_solve` says of the model, whatever was done to find it.
-use Rattle.std.specs.Prelude.{◌≡◌, ℕ, ◌-◌, ◌<◌, ◌≤◌, Option, Some, None}
-use Rattle.frac128.specs.Rational.{ℚ, ◌≤ℚ◌}
-use Rattle.lp_model.specs.Program.{Program, Point, IsFeasible, IsOptimum, IsEmpty, value, least_value, in_least_form}
+use Rattle.std.specs.Prelude.{◌≡◌, ℕ, ◌-◌, ◌<◌, ◌≤◌}
+use Rattle.lp_model.specs.Program.{Program, IsOptimum, IsEmpty, value}
 use Rattle.lp_model.specs.declared.answers.StopWhy.{StopWhy}
 use Rattle.lp_model.specs.declared.answers.StopWhy.TheVariants.{Nodes, Tree, Pivots, Wide}
 use Rattle.lp_model.specs.declared.answers.Answer.{Answer}
 use Rattle.lp_model.specs.declared.answers.Answer.TheVariants.{Optimal, Infeasible, Unbounded, Stopped, Memory}
+use Rattle.model_points.specs.Bounds.{IsBound, IsFoundValue}
 use Rattle.model_points.specs.Rays.{IsUnbounded}
 use Rattle.branch_tree.specs.Changes.{first_tree, with_limit}
 use Rattle.sound_searches.specs.Sound.{PlainSearch}
@@ -16,16 +16,6 @@ use Rattle.tree_search.specs.declared.limits.Limits.{Limits}
 pub record IsCount (M : Program) (l : Limits) (n : ℕ) : Type 0 where
   pub within_limit : n ≤ l.nodes
   pub within_cap : n ≤ cap_of M
-
--- no feasible point is better than the bound, if there is one; both are in the model's own sense
-abbrev pub IsBound : Program → Option ℚ → Type 0
-IsBound M None = Unit {0}
-IsBound M (Some bound) = (x : Point) → IsFeasible M x → in_least_form M.sense bound ≤ℚ least_value M 1 x
-
--- some feasible point has the best value, if there is one
-abbrev pub IsFoundValue : Program → Option ℚ → Type 0
-IsFoundValue M None = Unit {0}
-IsFoundValue M (Some best) = (x : Point) × (IsFeasible M x × (best ≡ value M 1 x))
 
 -- The search stopped after n results, fewer than it could place: all that the limit allows, or with a tree that was too small. Only so
 -- few were placed where it stopped for another cause.

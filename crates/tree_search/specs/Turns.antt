@@ -1,22 +1,22 @@
 -- How workers share a search: one turn follows the other.
 --     Crew                                    the search, for each worker the job that it holds or none, and the words left
 --     Acts crew w left                        it is the turn of the worker w, and these words are left
---     HandsOut a b                            a worker that holds nothing gets the job of the leaf that goes first of those that nobody holds
+--     HandsOut a b                            the manager gives a job to a worker that holds nothing: of the leaf that goes first of those that nobody holds
 --     PlacesInTurn ways first pivots a b      a worker works the job that it holds, and the result closes its leaf or splits it; the search after it is
 --                                             sound, as each is
 --     Drives ways first pivots turns a b      these turns, the last one first
 --     Goes ways first pivots order n S S'     turns with n placed results
 -- A leaf that is not open any more is held by nobody.
-use Rattle.std.specs.Prelude.{◌≡◌, ℕ, ◌+◌, ◌≤◌, Bool, true, false, if◌then◌else◌, List, [], ◌∷◌, get_or, map, set, replicate, Option, Some, None}
+use Rattle.std.specs.Prelude.{◌≡◌, ℕ, ◌+◌, ◌≤◌, Bool, true, false, List, [], ◌∷◌, get_or, map, set, replicate, Option, Some, None}
 use Rattle.std.specs.Option.{option_map}
 use Rattle.rand_pcg.specs.Lcg.{Lcg}
 use Rattle.lp_model.specs.declared.types.Basis.{Basis}
 use Rattle.branch_tree.specs.Numbered.{IsNumbered}
 use Rattle.branch_tree.specs.declared.node.Job.{Job}
-use Rattle.sound_searches.specs.Jobs.{IsJobOf}
 use Rattle.sound_searches.specs.Free.{IsNextFree}
 use Rattle.sound_searches.specs.Sound.{PlainSearch, IsSound}
-use Rattle.tree_manager.specs.Managers.{PlainManager, has_open}
+use Rattle.tree_manager.specs.Managers.{PlainManager, kept_holding}
+use Rattle.tree_manager.specs.Events.{GivesJob}
 use Rattle.search_counting.specs.Work.{work_of, IsRoomy}
 use Rattle.turn_order.specs.Words.{first_words}
 use Rattle.turn_order.specs.Turns.{IsNextTurn}
@@ -48,10 +48,10 @@ manager_of crew = record { search = crew.search; held = held_of crew.jobs }
 abbrev pub first_crew : PlainSearch → Order → Crew
 first_crew S order = record { search = S; jobs = replicate order.workers None; words = first_words order.seed }
 
--- what is left of the jobs in a search
+-- what is left of the jobs in a search, as the manager holds on to their leaves
 abbrev pub kept_job : PlainSearch → Option Job → Option Job
 kept_job S None = None
-kept_job S (Some job) = if has_open S job.id then Some job else None
+kept_job S (Some job) = option_map (λ (id : ℕ). job) (kept_holding S (Some job.id))
 
 abbrev pub jobs_on : PlainSearch → List (Option Job) → List (Option Job)
 jobs_on S jobs = map (kept_job S) jobs
@@ -78,11 +78,8 @@ pub record ActsOn (crew : Crew) (job : Job) : Type 0 where
 pub record HandsOut (a b : Crew) : Type 0 where
   pub w : ℕ
   pub acts : Acts a w b.words
-  pub idle : get_or a.jobs w None ≡ None
   pub job : Job
-  pub next : IsNextFree a.search (held_of a.jobs) (Some job.id)
-  pub job_is : IsJobOf a.search job.id job
-  pub search_is : b.search ≡ a.search
+  pub gives : GivesJob (manager_of a) w job (manager_of b)
   pub jobs_are : b.jobs ≡ set a.jobs w (Some job)
 
 pub record PlacesInTurn (ways : Ways) (first : Basis) (pivots : ℕ) (a b : Crew) : Type 0 where
@@ -97,20 +94,20 @@ pub record PlacesInTurn (ways : Ways) (first : Basis) (pivots : ℕ) (a b : Crew
 -- ---- one turn after the other
 
 pub data Turn : Type 0 where
-  Hands : Turn
-  Placing : Turn
+  HandOut : Turn
+  PlaceResult : Turn
 
 abbrev pub IsTurnOf : Ways → Basis → ℕ → Turn → Crew → Crew → Type 0
-IsTurnOf ways first pivots Hands a b = HandsOut a b
-IsTurnOf ways first pivots Placing a b = PlacesInTurn ways first pivots a b
+IsTurnOf ways first pivots HandOut a b = HandsOut a b
+IsTurnOf ways first pivots PlaceResult a b = PlacesInTurn ways first pivots a b
 
 abbrev pub Drives : Ways → Basis → ℕ → List Turn → Crew → Crew → Type 0
 Drives ways first pivots [] a b = b ≡ a
 Drives ways first pivots (t ∷ turns) a b = (mid : Crew) × (Drives ways first pivots turns a mid × IsTurnOf ways first pivots t mid b)
 
 abbrev pub placings_in : Turn → ℕ
-placings_in Hands = 0
-placings_in Placing = 1
+placings_in HandOut = 0
+placings_in PlaceResult = 1
 
 -- how many results are placed
 abbrev pub placings : List Turn → ℕ

@@ -1,30 +1,13 @@
 // The jobs that workers hold.
-ghost use Rattle.std.specs.Prelude.{◌≡◌, ◌<◌, ℕ, length, get_or, set, replicate, None, Some, OnOk, OnErr, IfOk};
+ghost use Rattle.std.specs.Prelude.{◌≡◌, ◌<◌, ℕ, length, get_or, set, None, Some, OnOk, OnErr};
 ghost use Rattle.sound_searches.specs.Free.{IsNextFree};
 ghost use Rattle.tree_search.specs.Turns.{kept_job, jobs_on};
 ghost use Rattle.tree_search.specs.private.Stepping.{Hands};
 
 use branch_tree::Job;
-use std::alloc::{AllocError, Global};
+use std::alloc::AllocError;
 use std::mem;
 use tree_manager::Manager;
-
-/// So many workers that hold nothing.
-pub(crate) fn no_jobs(alloc: Global, workers: usize) -> Result<Vec<Option<Job>>, AllocError>
-    ensures { IfOk result (λ jobs. jobs.items ≡ replicate workers None) }
-{
-    let mut jobs = Vec::new(alloc);
-    for _ in 0..workers {
-        match jobs.push(None) {
-            Ok(()) => {}
-            Err(error) => {
-                drop(jobs);
-                return Err(error.into());
-            }
-        }
-    }
-    Ok(jobs)
-}
 
 /// The job that the worker holds, which is taken out.
 pub(crate) fn take_job(jobs: &mut Vec<Option<Job>>, worker: usize) -> Option<Job>

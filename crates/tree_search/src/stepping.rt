@@ -38,7 +38,7 @@ const ROUNDS: u8 = 5;
 
 /// What each leaf is worked by.
 #[derive(Clone, Copy, Drop)]
-pub(crate) struct Limits<'a> {
+pub(crate) struct Working<'a> {
     pub(crate) ways: Ways<'a>,
     pub(crate) first: &'a Basis,
     pub(crate) pivots: u64,
@@ -57,7 +57,7 @@ pub(crate) enum Stepped {
 
 /// What the work on a leaf comes to, beside the cuts that it found.
 #[derive(Drop)]
-pub(crate) enum Outcome {
+pub(crate) enum WorkEnd {
     /// A result to be placed.
     Done(NodeResult),
     /// As many moves as the limit allows were made, and the last basis is this.
@@ -67,7 +67,7 @@ pub(crate) enum Outcome {
 }
 
 /// What holds of each manager's search, and what contracts may use of it after this call.
-pub(crate) fn show_sound(manager: &Manager)
+pub(crate) fn show_manager(manager: &Manager)
     ensures sound { IsSound manager.now.search }
     ensures numbered { IsNumbered manager.now.search.tree }
     ensures lawful { IsLawful manager.now.search.model }
@@ -92,30 +92,30 @@ fn pool(manager: &Manager) -> &CutPool
 }
 
 /// Works the leaf of the job.
-fn work_on(alloc: Global, manager: &Manager, limits: &Limits<'_>, job: &Job) -> Worked
-    requires ready { IsReady limits.now manager.now.search }
+fn work_on(alloc: Global, manager: &Manager, working: &Working<'_>, job: &Job) -> Worked
+    requires ready { IsReady working.now manager.now.search }
     requires held { IsHeldJob manager.now.search job.now }
-    ensures { WorksBy limits.now manager.now.search job.now result }
+    ensures { WorksBy working.now manager.now.search job.now result }
 {
-    show_sound(manager);
-    match limits.ways {
+    show_manager(manager);
+    match working.ways {
         Ways::Own => work(
             alloc,
             model(manager),
             pool(manager),
             job,
-            limits.first,
+            working.first,
             ROUNDS,
-            limits.pivots,
+            working.pivots,
         ),
         Ways::Rays(model) => work(
             alloc,
             model,
             pool(manager),
             job,
-            limits.first,
+            working.first,
             ROUNDS,
-            limits.pivots,
+            working.pivots,
         ),
     }
 }
@@ -200,7 +200,7 @@ fn keep_basis(
     let Ok((cuts, basis)) = kept_lists(alloc, manager, basis) else {
         return Err(AllocError);
     };
-    show_sound(manager);
+    show_manager(manager);
     let taken = match manager.take_done(worker, job, NodeResult::Keep { point: None, basis }) {
         Ok(taken) => taken,
         Err(error) => {
@@ -249,14 +249,14 @@ fn stop_by_pivots(
     alloc: Global,
     manager: &mut Manager,
     worker: usize,
-    limits: &Limits<'_>,
+    working: &Working<'_>,
     job: Job,
     basis: Basis,
 ) -> Result<Stepped, AllocError>
-    requires ready { IsReady limits.now manager.old.search }
-    requires works { (begin : PlainSearch) × ((found : FoundCuts) × (WorksBy limits.now begin job (Pivots basis found) × AddsCuts begin found.items manager.old.search)) }
+    requires ready { IsReady working.now manager.old.search }
+    requires works { (begin : PlainSearch) × ((found : FoundCuts) × (WorksBy working.now begin job (Pivots basis found) × AddsCuts begin found.items manager.old.search)) }
     requires within { worker < length manager.old.held }
-    ensures steps { IfOk result (λ stepped. (begin : PlainSearch) (found : FoundCuts) → WorksBy limits.now begin job (Pivots basis found) → AddsCuts begin found.items manager.old.search → Steps limits.now job begin manager.new.search stepped) }
+    ensures steps { IfOk result (λ stepped. (begin : PlainSearch) (found : FoundCuts) → WorksBy working.now begin job (Pivots basis found) → AddsCuts begin found.items manager.old.search → Steps working.now job begin manager.new.search stepped) }
     ensures kept { OnErr result (manager.new ≡ manager.old) }
     ensures held { OnOk result (IsFreed worker manager.old manager.new) }
 {
@@ -275,14 +275,14 @@ fn stop_by_step(
     alloc: Global,
     manager: &mut Manager,
     worker: usize,
-    limits: &Limits<'_>,
+    working: &Working<'_>,
     job: &Job,
     at: WideAt,
 ) -> Result<Stepped, AllocError>
-    requires ready { IsReady limits.now manager.old.search }
-    requires works { (begin : PlainSearch) × ((found : FoundCuts) × (WorksBy limits.now begin job.now (Wide at found) × AddsCuts begin found.items manager.old.search)) }
+    requires ready { IsReady working.now manager.old.search }
+    requires works { (begin : PlainSearch) × ((found : FoundCuts) × (WorksBy working.now begin job.now (Wide at found) × AddsCuts begin found.items manager.old.search)) }
     requires within { worker < length manager.old.held }
-    ensures steps { IfOk result (λ stepped. (begin : PlainSearch) (found : FoundCuts) → WorksBy limits.now begin job.now (Wide at found) → AddsCuts begin found.items manager.old.search → Steps limits.now job.now begin manager.new.search stepped) }
+    ensures steps { IfOk result (λ stepped. (begin : PlainSearch) (found : FoundCuts) → WorksBy working.now begin job.now (Wide at found) → AddsCuts begin found.items manager.old.search → Steps working.now job.now begin manager.new.search stepped) }
     ensures kept { OnErr result (manager.new ≡ manager.old) }
     ensures held { OnOk result (IsFreed worker manager.old manager.new) }
 {
@@ -302,19 +302,19 @@ fn stop_by_step(
 fn place_result(
     manager: &mut Manager,
     worker: usize,
-    limits: &Limits<'_>,
+    working: &Working<'_>,
     job: &Job,
     done: NodeResult,
 ) -> Result<Stepped, AllocError>
-    requires ready { IsReady limits.now manager.old.search }
-    requires works { (begin : PlainSearch) × ((found : FoundCuts) × (WorksBy limits.now begin job.now (Done done found) × AddsCuts begin found.items manager.old.search)) }
-    requires by { IsPlacedBy limits.now.ways done }
+    requires ready { IsReady working.now manager.old.search }
+    requires works { (begin : PlainSearch) × ((found : FoundCuts) × (WorksBy working.now begin job.now (Done done found) × AddsCuts begin found.items manager.old.search)) }
+    requires by { IsPlacedBy working.now.ways done }
     requires within { worker < length manager.old.held }
-    ensures steps { IfOk result (λ stepped. (begin : PlainSearch) (found : FoundCuts) → WorksBy limits.now begin job.now (Done done found) → AddsCuts begin found.items manager.old.search → Steps limits.now job.now begin manager.new.search stepped) }
+    ensures steps { IfOk result (λ stepped. (begin : PlainSearch) (found : FoundCuts) → WorksBy working.now begin job.now (Done done found) → AddsCuts begin found.items manager.old.search → Steps working.now job.now begin manager.new.search stepped) }
     ensures kept { OnErr result (manager.new ≡ manager.old) }
     ensures held { OnOk result (IsFreed worker manager.old manager.new) }
 {
-    show_sound(manager);
+    show_manager(manager);
     let taken = match manager.take_done(worker, job, done) {
         Ok(taken) => taken,
         Err(error) => return Err(error),
@@ -351,23 +351,23 @@ fn stop_by_value(
     alloc: Global,
     manager: &mut Manager,
     worker: usize,
-    limits: &Limits<'_>,
+    working: &Working<'_>,
     job: Job,
     point: Point,
     mult: Mult,
     basis: Basis,
     step: WideStep,
 ) -> Result<Stepped, AllocError>
-    requires rays { IsRayWay limits.now.ways }
-    requires ready { IsReady limits.now manager.old.search }
-    requires works { (begin : PlainSearch) × ((found : FoundCuts) × (WorksBy limits.now begin job (Done (PointAndClose point mult basis) found) × AddsCuts begin found.items manager.old.search)) }
+    requires rays { IsRayWay working.now.ways }
+    requires ready { IsReady working.now manager.old.search }
+    requires works { (begin : PlainSearch) × ((found : FoundCuts) × (WorksBy working.now begin job (Done (PointAndClose point mult basis) found) × AddsCuts begin found.items manager.old.search)) }
     requires value { IsValueAnswer manager.old.search.model 1 point (Err step) }
     requires within { worker < length manager.old.held }
-    ensures steps { IfOk result (λ stepped. (begin : PlainSearch) (found : FoundCuts) → WorksBy limits.now begin job (Done (PointAndClose point mult basis) found) → AddsCuts begin found.items manager.old.search → Steps limits.now job begin manager.new.search stepped) }
+    ensures steps { IfOk result (λ stepped. (begin : PlainSearch) (found : FoundCuts) → WorksBy working.now begin job (Done (PointAndClose point mult basis) found) → AddsCuts begin found.items manager.old.search → Steps working.now job begin manager.new.search stepped) }
     ensures kept { OnErr result (manager.new ≡ manager.old) }
     ensures held { OnOk result (IsFreed worker manager.old manager.new) }
 {
-    show_sound(manager);
+    show_manager(manager);
     drop(point);
     drop(mult);
     match into_relaxation(alloc, manager, basis) {
@@ -390,22 +390,22 @@ fn stop_by_value(
 fn keep_found(
     manager: &mut Manager,
     worker: usize,
-    limits: &Limits<'_>,
+    working: &Working<'_>,
     job: &Job,
     point: Point,
     mult: Mult,
     basis: Basis,
 ) -> Result<Stepped, AllocError>
-    requires rays { IsRayWay limits.now.ways }
-    requires ready { IsReady limits.now manager.old.search }
-    requires works { (begin : PlainSearch) × ((found : FoundCuts) × (WorksBy limits.now begin job.now (Done (PointAndClose point mult basis) found) × AddsCuts begin found.items manager.old.search)) }
+    requires rays { IsRayWay working.now.ways }
+    requires ready { IsReady working.now manager.old.search }
+    requires works { (begin : PlainSearch) × ((found : FoundCuts) × (WorksBy working.now begin job.now (Done (PointAndClose point mult basis) found) × AddsCuts begin found.items manager.old.search)) }
     requires value { IsValueAnswer manager.old.search.model 1 point (Ok (value manager.old.search.model 1 point)) }
     requires within { worker < length manager.old.held }
-    ensures steps { IfOk result (λ stepped. (begin : PlainSearch) (found : FoundCuts) → WorksBy limits.now begin job.now (Done (PointAndClose point mult basis) found) → AddsCuts begin found.items manager.old.search → Steps limits.now job.now begin manager.new.search stepped) }
+    ensures steps { IfOk result (λ stepped. (begin : PlainSearch) (found : FoundCuts) → WorksBy working.now begin job.now (Done (PointAndClose point mult basis) found) → AddsCuts begin found.items manager.old.search → Steps working.now job.now begin manager.new.search stepped) }
     ensures kept { OnErr result (manager.new ≡ manager.old) }
     ensures held { OnOk result (IsFreed worker manager.old manager.new) }
 {
-    show_sound(manager);
+    show_manager(manager);
     drop(mult);
     let kept = NodeResult::Keep {
         point: Some(point),
@@ -426,27 +426,27 @@ fn keep_point(
     alloc: Global,
     manager: &mut Manager,
     worker: usize,
-    limits: &Limits<'_>,
+    working: &Working<'_>,
     job: Job,
     point: Point,
     mult: Mult,
     basis: Basis,
 ) -> Result<Stepped, AllocError>
-    requires rays { IsRayWay limits.now.ways }
-    requires ready { IsReady limits.now manager.old.search }
-    requires works { (begin : PlainSearch) × ((found : FoundCuts) × (WorksBy limits.now begin job (Done (PointAndClose point mult basis) found) × AddsCuts begin found.items manager.old.search)) }
+    requires rays { IsRayWay working.now.ways }
+    requires ready { IsReady working.now manager.old.search }
+    requires works { (begin : PlainSearch) × ((found : FoundCuts) × (WorksBy working.now begin job (Done (PointAndClose point mult basis) found) × AddsCuts begin found.items manager.old.search)) }
     requires within { worker < length manager.old.held }
-    ensures steps { IfOk result (λ stepped. (begin : PlainSearch) (found : FoundCuts) → WorksBy limits.now begin job (Done (PointAndClose point mult basis) found) → AddsCuts begin found.items manager.old.search → Steps limits.now job begin manager.new.search stepped) }
+    ensures steps { IfOk result (λ stepped. (begin : PlainSearch) (found : FoundCuts) → WorksBy working.now begin job (Done (PointAndClose point mult basis) found) → AddsCuts begin found.items manager.old.search → Steps working.now job begin manager.new.search stepped) }
     ensures kept { OnErr result (manager.new ≡ manager.old) }
     ensures held { OnOk result (IsFreed worker manager.old manager.new) }
 {
-    show_sound(manager);
+    show_manager(manager);
     match value(model(manager), 1, &point) {
         Err(step) => stop_by_value(
-            alloc, manager, worker, limits, job, point, mult, basis, step,
+            alloc, manager, worker, working, job, point, mult, basis, step,
         ),
         Ok(_) => {
-            let stepped = keep_found(manager, worker, limits, &job, point, mult, basis);
+            let stepped = keep_found(manager, worker, working, &job, point, mult, basis);
             drop(job);
             stepped
         }
@@ -458,24 +458,24 @@ fn place_beside_ray(
     alloc: Global,
     manager: &mut Manager,
     worker: usize,
-    limits: &Limits<'_>,
+    working: &Working<'_>,
     job: Job,
     done: NodeResult,
 ) -> Result<Stepped, AllocError>
-    requires rays { IsRayWay limits.now.ways }
-    requires ready { IsReady limits.now manager.old.search }
-    requires works { (begin : PlainSearch) × ((found : FoundCuts) × (WorksBy limits.now begin job (Done done found) × AddsCuts begin found.items manager.old.search)) }
+    requires rays { IsRayWay working.now.ways }
+    requires ready { IsReady working.now manager.old.search }
+    requires works { (begin : PlainSearch) × ((found : FoundCuts) × (WorksBy working.now begin job (Done done found) × AddsCuts begin found.items manager.old.search)) }
     requires within { worker < length manager.old.held }
-    ensures steps { IfOk result (λ stepped. (begin : PlainSearch) (found : FoundCuts) → WorksBy limits.now begin job (Done done found) → AddsCuts begin found.items manager.old.search → Steps limits.now job begin manager.new.search stepped) }
+    ensures steps { IfOk result (λ stepped. (begin : PlainSearch) (found : FoundCuts) → WorksBy working.now begin job (Done done found) → AddsCuts begin found.items manager.old.search → Steps working.now job begin manager.new.search stepped) }
     ensures kept { OnErr result (manager.new ≡ manager.old) }
     ensures held { OnOk result (IsFreed worker manager.old manager.new) }
 {
     match done {
         NodeResult::PointAndClose { point, mult, basis } => {
-            keep_point(alloc, manager, worker, limits, job, point, mult, basis)
+            keep_point(alloc, manager, worker, working, job, point, mult, basis)
         }
         other => {
-            let stepped = place_result(manager, worker, limits, &job, other);
+            let stepped = place_result(manager, worker, working, &job, other);
             drop(job);
             stepped
         }
@@ -487,51 +487,51 @@ fn place_done(
     alloc: Global,
     manager: &mut Manager,
     worker: usize,
-    limits: &Limits<'_>,
+    working: &Working<'_>,
     job: Job,
     done: NodeResult,
 ) -> Result<Stepped, AllocError>
-    requires ready { IsReady limits.now manager.old.search }
-    requires works { (begin : PlainSearch) × ((found : FoundCuts) × (WorksBy limits.now begin job (Done done found) × AddsCuts begin found.items manager.old.search)) }
+    requires ready { IsReady working.now manager.old.search }
+    requires works { (begin : PlainSearch) × ((found : FoundCuts) × (WorksBy working.now begin job (Done done found) × AddsCuts begin found.items manager.old.search)) }
     requires within { worker < length manager.old.held }
-    ensures steps { IfOk result (λ stepped. (begin : PlainSearch) (found : FoundCuts) → WorksBy limits.now begin job (Done done found) → AddsCuts begin found.items manager.old.search → Steps limits.now job begin manager.new.search stepped) }
+    ensures steps { IfOk result (λ stepped. (begin : PlainSearch) (found : FoundCuts) → WorksBy working.now begin job (Done done found) → AddsCuts begin found.items manager.old.search → Steps working.now job begin manager.new.search stepped) }
     ensures kept { OnErr result (manager.new ≡ manager.old) }
     ensures held { OnOk result (IsFreed worker manager.old manager.new) }
 {
-    match limits.ways {
+    match working.ways {
         Ways::Own => {
-            let stepped = place_result(manager, worker, limits, &job, done);
+            let stepped = place_result(manager, worker, working, &job, done);
             drop(job);
             stepped
         }
-        Ways::Rays(_) => place_beside_ray(alloc, manager, worker, limits, job, done),
+        Ways::Rays(_) => place_beside_ray(alloc, manager, worker, working, job, done),
     }
 }
 
 /// Goes on to what the work on a leaf came to, where the cuts that it found are in the pool.
-fn place_outcome(
+fn place_end(
     alloc: Global,
     manager: &mut Manager,
     worker: usize,
-    limits: &Limits<'_>,
+    working: &Working<'_>,
     job: Job,
-    outcome: Outcome,
+    end: WorkEnd,
 ) -> Result<Stepped, AllocError>
-    requires ready { IsReady limits.now manager.old.search }
-    requires works { (begin : PlainSearch) × ((found : FoundCuts) × (WorksBy limits.now begin job (worked_with outcome found) × AddsCuts begin found.items manager.old.search)) }
+    requires ready { IsReady working.now manager.old.search }
+    requires works { (begin : PlainSearch) × ((found : FoundCuts) × (WorksBy working.now begin job (worked_with end found) × AddsCuts begin found.items manager.old.search)) }
     requires within { worker < length manager.old.held }
-    ensures steps { IfOk result (λ stepped. (begin : PlainSearch) (found : FoundCuts) → WorksBy limits.now begin job (worked_with outcome found) → AddsCuts begin found.items manager.old.search → Steps limits.now job begin manager.new.search stepped) }
+    ensures steps { IfOk result (λ stepped. (begin : PlainSearch) (found : FoundCuts) → WorksBy working.now begin job (worked_with end found) → AddsCuts begin found.items manager.old.search → Steps working.now job begin manager.new.search stepped) }
     ensures kept { OnErr result (manager.new ≡ manager.old) }
     ensures held { OnOk result (IsFreed worker manager.old manager.new) }
 {
-    match outcome {
-        Outcome::Pivots(basis) => stop_by_pivots(alloc, manager, worker, limits, job, basis),
-        Outcome::Wide(at) => {
-            let stepped = stop_by_step(alloc, manager, worker, limits, &job, at);
+    match end {
+        WorkEnd::Pivots(basis) => stop_by_pivots(alloc, manager, worker, working, job, basis),
+        WorkEnd::Wide(at) => {
+            let stepped = stop_by_step(alloc, manager, worker, working, &job, at);
             drop(job);
             stepped
         }
-        Outcome::Done(done) => place_done(alloc, manager, worker, limits, job, done),
+        WorkEnd::Done(done) => place_done(alloc, manager, worker, working, job, done),
     }
 }
 
@@ -540,26 +540,26 @@ fn after_work(
     alloc: Global,
     manager: &mut Manager,
     worker: usize,
-    limits: &Limits<'_>,
+    working: &Working<'_>,
     job: Job,
-    outcome: Outcome,
+    end: WorkEnd,
     found: Vec<Derivation>,
 ) -> Result<Stepped, AllocError>
-    requires ready { IsReady limits.now manager.old.search }
-    requires works { WorksBy limits.now manager.old.search job (worked_with outcome found) }
+    requires ready { IsReady working.now manager.old.search }
+    requires works { WorksBy working.now manager.old.search job (worked_with end found) }
     requires within { worker < length manager.old.held }
-    ensures steps { IfOk result (λ stepped. Steps limits.now job manager.old.search manager.new.search stepped) }
+    ensures steps { IfOk result (λ stepped. Steps working.now job manager.old.search manager.new.search stepped) }
     ensures some { OnErr result (AddsSome manager.old.search found.items manager.new.search) }
     ensures held { OnOk result (IsFreed worker manager.old manager.new) }
 {
-    show_sound(manager);
+    show_manager(manager);
     let added = add_cuts(manager, &found);
     drop(found);
     match added {
-        Ok(()) => place_outcome(alloc, manager, worker, limits, job, outcome),
+        Ok(()) => place_end(alloc, manager, worker, working, job, end),
         Err(error) => {
             drop(job);
-            drop(outcome);
+            drop(end);
             Err(error)
         }
     }
@@ -570,17 +570,17 @@ pub(crate) fn step(
     alloc: Global,
     manager: &mut Manager,
     worker: usize,
-    limits: &Limits<'_>,
+    working: &Working<'_>,
     job: Job,
 ) -> Result<Stepped, AllocError>
-    requires ready { IsReady limits.now manager.old.search }
+    requires ready { IsReady working.now manager.old.search }
     requires held { IsHeldJob manager.old.search job }
     requires within { worker < length manager.old.held }
-    ensures steps { IfOk result (λ stepped. Steps limits.now job manager.old.search manager.new.search stepped) }
-    ensures leaves { OnErr result (LeavesOf limits.now.ways limits.now.first.now limits.now.pivots job manager.old.search manager.new.search) }
+    ensures steps { IfOk result (λ stepped. Steps working.now job manager.old.search manager.new.search stepped) }
+    ensures leaves { OnErr result (LeavesOf working.now.ways working.now.first.now working.now.pivots job manager.old.search manager.new.search) }
     ensures held { OnOk result (IsFreed worker manager.old manager.new) }
 {
-    match work_on(alloc, manager, limits, &job) {
+    match work_on(alloc, manager, working, &job) {
         Worked::Memory => {
             drop(job);
             Err(AllocError)
@@ -590,9 +590,9 @@ pub(crate) fn step(
                 alloc,
                 manager,
                 worker,
-                limits,
+                working,
                 job,
-                Outcome::Pivots(basis),
+                WorkEnd::Pivots(basis),
                 found,
             )
         }
@@ -601,9 +601,9 @@ pub(crate) fn step(
                 alloc,
                 manager,
                 worker,
-                limits,
+                working,
                 job,
-                Outcome::Wide(at),
+                WorkEnd::Wide(at),
                 found,
             )
         }
@@ -612,9 +612,9 @@ pub(crate) fn step(
                 alloc,
                 manager,
                 worker,
-                limits,
+                working,
                 job,
-                Outcome::Done(done),
+                WorkEnd::Done(done),
                 found,
             )
         }

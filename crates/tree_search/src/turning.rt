@@ -1,12 +1,12 @@
 // One turn of a worker.
-ghost use Rattle.std.specs.Prelude.{◌≡◌, ◌<◌, length, IfOk, OnErr};
+ghost use Rattle.std.specs.Prelude.{◌≡◌, ◌⊎◌, ◌<◌, length, IfOk, OnErr};
 ghost use Rattle.sound_searches.specs.Laws.{HasNoOpenLeaf};
 ghost use Rattle.tree_search.specs.Turns.{IsFreeAnswer};
 ghost use Rattle.tree_search.specs.GivingUp.{LeavesTurn};
 ghost use Rattle.tree_search.specs.private.Stepping.{IsReady, AreJobsOf, IsTurned};
 
 use crate::crew::{hand_out, keep_jobs, take_job};
-use crate::stepping::{Limits, Stepped, show_sound, step};
+use crate::stepping::{Stepped, Working, show_manager, step};
 use branch_tree::Job;
 use rand_pcg::Lcg64Xsh32;
 use std::alloc::{AllocError, Global};
@@ -39,15 +39,15 @@ pub(crate) fn take_turn(
     manager: &mut Manager,
     jobs: &mut Vec<Option<Job>>,
     words: &mut Lcg64Xsh32,
-    limits: &Limits<'_>,
+    working: &Working<'_>,
 ) -> Result<Turned, AllocError>
-    requires ready { IsReady limits.now manager.old.search }
+    requires ready { IsReady working.now manager.old.search }
     requires jobs { AreJobsOf manager.old jobs.old.items }
     requires left { ¬ HasNoOpenLeaf manager.old.search }
-    ensures turned { IfOk result (λ turned. IsTurned limits.now manager.old jobs.old.items words.old turned manager.new jobs.new.items words.new) }
-    ensures leaves { OnErr result (LeavesTurn limits.now.ways limits.now.first.now limits.now.pivots (record { search = manager.old.search; jobs = jobs.old.items; words = words.old }) manager.old.search manager.new.search) }
+    ensures turned { IfOk result (λ turned. IsTurned working.now manager.old jobs.old.items words.old turned manager.new jobs.new.items words.new) }
+    ensures leaves { OnErr result ((manager.new.search ≡ manager.old.search) ⊎ LeavesTurn working.now.ways working.now.first.now working.now.pivots (record { search = manager.old.search; jobs = jobs.old.items; words = words.old }) manager.old.search manager.new.search) }
 {
-    show_sound(manager);
+    show_manager(manager);
     let free = has_free_leaf(manager);
     let worker = whose_turn(words, free, manager.held());
     match take_job(jobs, worker) {
@@ -55,7 +55,7 @@ pub(crate) fn take_turn(
             Ok(()) => Ok(Turned::HandedOut),
             Err(error) => Err(error),
         },
-        Some(job) => match step(alloc, manager, worker, limits, job) {
+        Some(job) => match step(alloc, manager, worker, working, job) {
             Ok(stepped) => {
                 keep_jobs(manager, jobs);
                 Ok(Turned::HasWorked(stepped))

@@ -1,6 +1,6 @@
 use Rattle.std.proofs.Common.{◌≡◌, ◌∙◌, ap, sym, subst, arith, length, Ok, inl, inr}
 use Rattle.std.proofs.lemmas.Bool.{false≢true}
-use Rattle.model_points.specs.Rays.{AreRowsJudged}
+use Rattle.model_points.specs.private.Rays.{AreRowsJudged}
 use Rattle.model_points.proofs.RayLemmas.{cost_judged}
 use Rattle.model_points.proofs.rays.is_ray.Goals as goal
 

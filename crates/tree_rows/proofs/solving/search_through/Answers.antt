@@ -4,7 +4,7 @@ use Rattle.dual_simplex.specs.SlackBases.{IsLawfulSlackBasis}
 use Rattle.sound_searches.specs.Sound.{PlainSearch}
 use Rattle.tree_rows.proofs.solving.search_through.Goals as goal
 
-pub search_on-searched-requires-clause-first : goal.search_on-searched-requires-clause-first
-search_on-searched-requires-clause-first c =
-    c.root_law.ensures c.args.manager.now.search.model c.in_ok-first.first
-    (inr (subst (λ (M : Program). IsLawfulSlackBasis M c.in_ok-first.first) (c.model.ensures ∙ ap (λ (S : PlainSearch). S.model) c.search.ensures.search) c.in_ok-first.ensures))
+pub search_on-search-requires-clause-first : goal.search_on-search-requires-clause-first
+search_on-search-requires-clause-first c =
+    c.root_law.ensures c.args.manager.search.model c.in-Ok.first
+    (inr (subst (λ (M : Program). IsLawfulSlackBasis M c.in-Ok.first) (c.model.ensures ∙ ap (λ (S : PlainSearch). S.model) c.search.ensures.search) c.in-Ok.ensures))

@@ -1,5 +1,5 @@
 use Rattle.std.proofs.Common.{refl, subst, sym}
-use Rattle.tree_search.specs.Truth.{IsFoundValue}
+use Rattle.model_points.specs.Bounds.{IsFoundValue}
 use Rattle.tree_search.proofs.SearchLemmas.{value-found, cover}
 use Rattle.search_counting.proofs.LeafLemmas.{once}
 use Rattle.tree_search.proofs.answering.stopped.Goals as goal

@@ -6,7 +6,7 @@ use Rattle.tree_search.proofs.CrewLemmas.{idle_count}
 use Rattle.tree_search.proofs.searching.go_on.Given as goal
 
 abbrev pub invariant-loop-id : goal.invariant-loop-id
-invariant-loop-id l = IsUnderway l.limits (turn_order_of l.bounds) l.bounds.nodes l.results l.fn.manager.search l.manager l.jobs.items l.words
+invariant-loop-id l = IsUnderway l.working (turn_order_of l.limits) l.limits.nodes l.results l.fn.manager.search l.manager l.jobs.items l.words
 
 abbrev pub decreases-loop-id : goal.decreases-loop-id
 decreases-loop-id l = (length l.jobs.items + 1) * work_of l.manager.search + idle_count l.jobs.items

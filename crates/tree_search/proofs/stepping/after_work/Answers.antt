@@ -10,9 +10,9 @@ use Rattle.tree_search.proofs.stepping.after_work.Goals as goal
 
 pub add_cuts-added-requires : goal.add_cuts-added-requires
 add_cuts-added-requires c =
-    let l = c.args.limits.now in
+    let l = c.args.working.now in
     let S = c.args.manager.now.search in
-    let fits = found-fits (work_next l.ways l.first.now l.pivots S c.args.job) c.show_sound.ensures.sound.few_cuts c.args.outcome c.args.found c.requires.works.worked_is in
+    let fits = found-fits (work_next l.ways l.first.now l.pivots S c.args.job) c.show_manager.ensures.sound.few_cuts c.args.end c.args.found c.requires.works.worked_is in
     let same = ap length c.deref.ensures.value in
     omega (arith, fits, same)
 
@@ -20,11 +20,11 @@ pub returns-in-Err-clause-some : goal.returns-in-Err-clause-some
 returns-in-Err-clause-some c =
     subst (λ ds. AddsSome c.args.manager.now.search ds c.add_cuts-added.new.manager.search) c.deref.ensures.value c.in-Err.ensures.some
 
-pub place_outcome-requires-clause-ready : goal.place_outcome-requires-clause-ready
-place_outcome-requires-clause-ready c = ready-added c.args.limits.now c.args.manager.now.search c.deref.result.now c.add_cuts-added.new.manager.search c.in-Ok.ensures.adds c.requires.ready
+pub place_end-requires-clause-ready : goal.place_end-requires-clause-ready
+place_end-requires-clause-ready c = ready-added c.args.working.now c.args.manager.now.search c.deref.result.now c.add_cuts-added.new.manager.search c.in-Ok.ensures.adds c.requires.ready
 
-pub place_outcome-requires-clause-works : goal.place_outcome-requires-clause-works
-place_outcome-requires-clause-works c =
+pub place_end-requires-clause-works : goal.place_end-requires-clause-works
+place_end-requires-clause-works c =
     let S = c.args.manager.now.search in
     let T = c.add_cuts-added.new.manager.search in
     (S, (c.args.found, (c.requires.works, subst (λ ds. AddsCuts S ds T) c.deref.ensures.value c.in-Ok.ensures.adds)))
@@ -34,17 +34,17 @@ returns-in-Ok-clause-steps c =
     let S = c.args.manager.now.search in
     let T = c.add_cuts-added.new.manager.search in
     let adds = subst (λ ds. AddsCuts S ds T) c.deref.ensures.value c.in-Ok.ensures.adds in
-    step-since c.args.limits.now c.args.job (λ found. worked_with c.args.outcome found) S c.args.found c.requires.works T adds c.place_outcome.new.manager.search c.place_outcome.result c.place_outcome.ensures.steps
+    step-since c.args.working.now c.args.job (λ found. worked_with c.args.end found) S c.args.found c.requires.works T adds c.place_end.new.manager.search c.place_end.result c.place_end.ensures.steps
 
 pub returns-in-Ok-clause-some : goal.returns-in-Ok-clause-some
 returns-in-Ok-clause-some c =
     let S = c.args.manager.now.search in
     let T = c.add_cuts-added.new.manager.search in
-    some-since S c.args.found.items T c.place_outcome.new.manager.search (subst (λ ds. AddsCuts S ds T) c.deref.ensures.value c.in-Ok.ensures.adds) c.place_outcome.result (kept-search c.place_outcome.new.manager c.add_cuts-added.new.manager c.place_outcome.result c.place_outcome.ensures.kept)
+    some-since S c.args.found.items T c.place_end.new.manager.search (subst (λ ds. AddsCuts S ds T) c.deref.ensures.value c.in-Ok.ensures.adds) c.place_end.result (kept-search c.place_end.new.manager c.add_cuts-added.new.manager c.place_end.result c.place_end.ensures.kept)
 
-pub place_outcome-requires-clause-within : goal.place_outcome-requires-clause-within
-place_outcome-requires-clause-within c = subst (λ l. c.args.worker < length l) (sym c.add_cuts-added.ensures.held) c.requires.within
+pub place_end-requires-clause-within : goal.place_end-requires-clause-within
+place_end-requires-clause-within c = subst (λ l. c.args.worker < length l) (sym c.add_cuts-added.ensures.held) c.requires.within
 
 pub returns-in-Ok-clause-held : goal.returns-in-Ok-clause-held
 returns-in-Ok-clause-held c =
-    freed-since c.args.worker c.args.manager.now c.add_cuts-added.new.manager c.place_outcome.new.manager c.add_cuts-added.ensures.held c.place_outcome.result c.place_outcome.ensures.held
+    freed-since c.args.worker c.args.manager.now c.add_cuts-added.new.manager c.place_end.new.manager c.add_cuts-added.ensures.held c.place_end.result c.place_end.ensures.held

@@ -19,7 +19,7 @@ unreachable-requires c =
     let b = c.in-Ok.basis in
     let same : b ≡ kept_basis S c.args.basis.now = c.in-Ok.ensures.basis in
     let there : IsBasis (formulation_of S) b = subst (IsBasis (formulation_of S)) (sym same) c.requires.basis in
-    c.in_default-taken.not-Kept (keep-taken S c.show_sound.ensures.sound c.show_sound.ensures.numbered c.args.job.now c.requires.job c.take_done.new.self.search b there c.in-Ok-take_done.taken c.in-Ok-take_done.ensures.takes.takes)
+    c.in_default-taken.not-Kept (keep-taken S c.show_manager.ensures.sound c.show_manager.ensures.numbered c.args.job.now c.requires.job c.take_done.new.self.search b there c.in-Ok-take_done.taken c.in-Ok-take_done.ensures.takes.takes)
 
 pub returns-clause-keeps : goal.returns-clause-keeps
 returns-clause-keeps c =
@@ -29,9 +29,9 @@ returns-clause-keeps c =
     let b = c.in-Ok.basis in
     let same : b ≡ kept_basis S c.args.basis.now = c.in-Ok.ensures.basis in
     let there : IsBasis (formulation_of S) b = subst (IsBasis (formulation_of S)) (sym same) c.requires.basis in
-    let kept : c.in-Ok-take_done.taken ≡ Kept = keep-taken S c.show_sound.ensures.sound c.show_sound.ensures.numbered job c.requires.job T b there c.in-Ok-take_done.taken c.in-Ok-take_done.ensures.takes.takes in
+    let kept : c.in-Ok-take_done.taken ≡ Kept = keep-taken S c.show_manager.ensures.sound c.show_manager.ensures.numbered job c.requires.job T b there c.in-Ok-take_done.taken c.in-Ok-take_done.ensures.takes.takes in
     subst (λ a. KeepsOpen S job [] None a T) same
-    (keep-open S c.show_sound.ensures.sound c.show_sound.ensures.numbered job c.requires.job T b there (subst (Takes S job.id (Keep None b) T) kept c.in-Ok-take_done.ensures.takes.takes))
+    (keep-open S c.show_manager.ensures.sound c.show_manager.ensures.numbered job c.requires.job T b there (subst (Takes S job.id (Keep None b) T) kept c.in-Ok-take_done.ensures.takes.takes))
 
 pub returns-clause-cuts : goal.returns-clause-cuts
 returns-clause-cuts c = c.in-Ok.ensures.cuts

@@ -17,12 +17,12 @@ unreachable-requires c =
     let S = c.args.manager.now.search in
     let (begin, (found, (works, adds))) = c.requires.works in
     c.in_default.not-Kept
-    (ray_point-taken c.args.limits.now begin c.args.job.now c.args.point c.args.mult c.args.basis found works S adds c.show_sound.ensures.sound c.show_sound.ensures.numbered c.show_sound.ensures.lawful c.requires.rays c.requires.ready c.requires.value
+    (ray_point-taken c.args.working.now begin c.args.job.now c.args.point c.args.mult c.args.basis found works S adds c.show_manager.ensures.sound c.show_manager.ensures.numbered c.show_manager.ensures.lawful c.requires.rays c.requires.ready c.requires.value
     c.take_done.new.self.search c.in-Ok.taken c.in-Ok.ensures.takes.takes)
 
 pub returns-clause-steps : goal.returns-clause-steps
 returns-clause-steps c =
     λ begin found works adds.
     let S = c.args.manager.now.search in
-    ray_point-next c.args.limits.now begin c.args.job.now c.args.point c.args.mult c.args.basis found works S adds c.show_sound.ensures.sound c.show_sound.ensures.numbered c.show_sound.ensures.lawful c.requires.rays c.requires.ready c.requires.value c.take_done.new.self.search
+    ray_point-next c.args.working.now begin c.args.job.now c.args.point c.args.mult c.args.basis found works S adds c.show_manager.ensures.sound c.show_manager.ensures.numbered c.show_manager.ensures.lawful c.requires.rays c.requires.ready c.requires.value c.take_done.new.self.search
     (subst (Takes S c.args.job.now.id (Keep (Some c.args.point) c.args.basis) c.take_done.new.self.search) c.in-Kept.is c.in-Ok.ensures.takes.takes)

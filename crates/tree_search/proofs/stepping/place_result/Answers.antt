@@ -14,11 +14,11 @@ pub returns-in-Full-clause-steps : goal.returns-in-Full-clause-steps
 returns-in-Full-clause-steps c =
     λ begin found works adds.
     let S = c.args.manager.now.search in
-    full-result c.args.limits.now begin c.args.job.now c.args.done found works c.requires.by S adds c.show_sound.ensures.sound c.show_sound.ensures.numbered c.show_sound.ensures.lawful c.requires.ready c.take_done.new.self.search
+    full-result c.args.working.now begin c.args.job.now c.args.done found works c.requires.by S adds c.show_manager.ensures.sound c.show_manager.ensures.numbered c.show_manager.ensures.lawful c.requires.ready c.take_done.new.self.search
     (subst (Takes S c.args.job.now.id c.args.done c.take_done.new.self.search) c.in-Full.is c.in-Ok.ensures.takes.takes)
 
 pub returns-in_default-clause-steps : goal.returns-in_default-clause-steps
 returns-in_default-clause-steps c =
     λ begin found works adds.
-    placed-result c.args.limits.now begin c.args.job.now c.args.done found works c.requires.by c.args.manager.now.search adds c.show_sound.ensures.sound c.show_sound.ensures.numbered c.show_sound.ensures.lawful c.requires.ready c.take_done.new.self.search
+    placed-result c.args.working.now begin c.args.job.now c.args.done found works c.requires.by c.args.manager.now.search adds c.show_manager.ensures.sound c.show_manager.ensures.numbered c.show_manager.ensures.lawful c.requires.ready c.take_done.new.self.search
     c.in-Ok.taken c.in-Ok.ensures.takes.takes c.in_default.not-Full

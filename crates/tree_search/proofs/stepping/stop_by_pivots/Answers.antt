@@ -15,14 +15,14 @@ keep_basis-requires-clause-job c =
 
 pub keep_basis-requires-clause-basis : goal.keep_basis-requires-clause-basis
 keep_basis-requires-clause-basis c =
-    let limits = c.args.limits.now in
+    let working = c.args.working.now in
     let S = c.args.manager.now.search in
     let (begin, (found, (works, adds))) = c.requires.works in
-    pivots-basis limits.ways limits.first.now limits.pivots begin (subst (IsWorkedBy limits.ways) (added-model begin found.items S adds) (worked-by S limits.ways c.requires.ready.ways)) c.args.job found.items S adds c.args.basis found refl works.worked_is
+    pivots-basis working.ways working.first.now working.pivots begin (subst (IsWorkedBy working.ways) (added-model begin found.items S adds) (worked-by S working.ways c.requires.ready.ways)) c.args.job found.items S adds c.args.basis found refl works.worked_is
 
 pub returns-in-Ok-clause-steps : goal.returns-in-Ok-clause-steps
 returns-in-Ok-clause-steps c =
     λ begin found works adds.
-    let limits = c.args.limits.now in
-    subst (λ (stepped : Stepped). Steps limits c.args.job begin c.keep_basis.new.manager.search stepped) (sym c.at_pivots.ensures)
-    (stop-pivots limits begin c.args.job found c.args.manager.now.search adds c.keep_basis.new.manager.search (record { path = Some c.args.job.region; cuts = c.in-Ok.cuts; basis = c.args.basis }) works refl c.in-Ok.ensures.cuts c.in-Ok.ensures.keeps)
+    let working = c.args.working.now in
+    subst (λ (stepped : Stepped). Steps working c.args.job begin c.keep_basis.new.manager.search stepped) (sym c.at_pivots.ensures)
+    (stop-pivots working begin c.args.job found c.args.manager.now.search adds c.keep_basis.new.manager.search (record { path = Some c.args.job.region; cuts = c.in-Ok.cuts; basis = c.args.basis }) works refl c.in-Ok.ensures.cuts c.in-Ok.ensures.keeps)
