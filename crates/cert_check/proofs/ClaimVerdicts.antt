@@ -23,10 +23,12 @@ use Rattle.cert_check.specs.declared.verdict.Verdict.{Verdict}
 use Rattle.cert_check.specs.declared.verdict.Verdict.TheVariants.{Accepted, Rejected, Wide}
 use Rattle.cert_check.specs.declared.cuts.CutRows.{CutRows}
 use Rattle.cert_check.specs.declared.cuts.CutRows.TheVariants.{Stand, Fail}
-use Rattle.cert_check.specs.Cuts.{row_of_cut, rows_of, formulation_by, AreCutsJudged, AreCutsFound, judgement_in, rows_in}
+use Rattle.cert_check.specs.Cuts.{row_of_cut, rows_of, formulation_by, AreCutsJudged, AreCutsFound}
+use Rattle.cert_check.specs.private.Cuts.{judgement_in, rows_in}
 use Rattle.cert_check.specs.Verdict.{IsHeadJudged, visits, AreVisits, IsVisitJudged, IsVerdictOn, IsVerdict}
 use Rattle.cert_check.specs.declared.judging.NodeWithPlaces.{NodeWithPlaces}
-use Rattle.cert_check.specs.Walk.{has_tree, AreNodesPlaced, IsWalked, IsNodesVerdict}
+use Rattle.cert_check.specs.Walk.{AreNodesPlaced, IsNodesVerdict}
+use Rattle.cert_check.specs.private.Walk.{has_tree, IsWalked}
 use Rattle.cert_check.proofs.CutVerdicts.{cuts_judged}
 
 -- ---- what was found of the cuts

@@ -18,7 +18,8 @@ use Rattle.cert_check.specs.declared.judging.NodeWithPlaces.TheVariants as node_
 use Rattle.cert_text.specs.Tree.{Bound, Farkas, Empty, CertTree, Split, certificate_nodes}
 use Rattle.cert_check.specs.Verdict.{visits}
 use Rattle.cert_text.specs.Whole.{IsNarrowNode}
-use Rattle.cert_check.specs.Walk.{CanTurn, after_leaf, after_node, IsPlace}
+use Rattle.cert_check.specs.Walk.{after_leaf, IsPlace}
+use Rattle.cert_check.specs.private.Walk.{CanTurn, after_node}
 use Rattle.cert_check.proofs.WalkLemmas.{after_leaf-low, after_leaf-high}
 use Rattle.lp_model.specs.Edits.{place_in}
 

@@ -22,7 +22,8 @@ use Rattle.lp_model.specs.Lawful.{column_names}
 use Rattle.cert_check.specs.Accepted.{AreNames, point_of}
 use Rattle.cert_check.specs.Verdict.{WhereThere, IsKindJudged, IsNumberJudged, IsFarkasJudged, IsNodeJudged, IsPointJudged, IsFeasibleJudged, IsDirectionJudged, IsClaimJudged, visits, IsVisitJudged, IsJudgedAt}
 use Rattle.cert_text.specs.Whole.{IsNarrowNode}
-use Rattle.cert_check.specs.Walk.{IsPlace, IsPlacedJudged, IsWalked, IsPointOf, CanTurn, after_node}
+use Rattle.cert_check.specs.Walk.{IsPlace, IsPointOf}
+use Rattle.cert_check.specs.private.Walk.{IsPlacedJudged, IsWalked, CanTurn, after_node}
 use Rattle.cert_check.proofs.PlaceLemmas.{column_known}
 use Rattle.cert_check.proofs.Standing.{Stands, Visits, visits_next, stands_first, nodes_of, path_narrow, path_turns}
 

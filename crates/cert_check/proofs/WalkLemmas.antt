@@ -9,7 +9,8 @@ use Rattle.lp_model.specs.declared.types.Side.TheVariants.{Lo, Hi}
 use Rattle.lp_model.specs.declared.types.BoundChange.{BoundChange}
 use Rattle.cert_text.specs.declared.cert.CertNode.{CertNode}
 use Rattle.cert_check.specs.declared.judging.NodeWithPlaces.{NodeWithPlaces}
-use Rattle.cert_check.specs.Walk.{IsPlace, AreNodesPlaced, CanTurn, turned_change, in_front, after_leaf}
+use Rattle.cert_check.specs.Walk.{IsPlace, AreNodesPlaced, turned_change, in_front, after_leaf}
+use Rattle.cert_check.specs.private.Walk.{CanTurn}
 
 module _ (M : Program) (cuts : ℕ) (node : CertNode) (one : NodeWithPlaces) (here : IsPlace M cuts node one) where
   placed_last : (ns : List CertNode) (ps : List NodeWithPlaces) → AreNodesPlaced M cuts ns ps → AreNodesPlaced M cuts (ns ++ node ∷ []) (ps ++ one ∷ [])

@@ -1,16 +1,14 @@
 -- The walk through a certificate's nodes in preorder: the path to each, and the nodes with their names as places.
-use Rattle.std.specs.Prelude.{◌≡◌, ℕ, Bool, true, false, ◌<◌, ◌≤◌, ◌++◌, List, [], ◌∷◌, length, get_or, All, Contains, pos, ◌+ℤ◌, Option, MatchOption}
+use Rattle.std.specs.Prelude.{◌≡◌, ℕ, ◌<◌, ◌≤◌, List, [], ◌∷◌, length, get_or, All, Contains, pos, ◌+ℤ◌, Option, MatchOption}
 use Rattle.lp_model.specs.Edits.{Named, place_in}
-use Rattle.frac128.specs.Range.{IsNarrow}
 use Rattle.lp_model.specs.Program.{Program, Point}
 use Rattle.lp_model.specs.Lawful.{column_names}
-use Rattle.lp_model.specs.Regions.{Path, at_most, at_least}
+use Rattle.lp_model.specs.Regions.{Path, at_least}
 use Rattle.lp_model.specs.Formulations.{Formulation}
 use Rattle.lp_model.specs.declared.types.Side.{Side}
 use Rattle.lp_model.specs.declared.types.Side.TheVariants.{Lo, Hi}
 use Rattle.lp_model.specs.declared.types.BoundChange.{BoundChange}
 use Rattle.cert_text.specs.declared.cert.Claim.{Claim}
-use Rattle.cert_text.specs.declared.cert.Claim.TheVariants.{Optimal, Infeasible, Unbounded}
 use Rattle.cert_text.specs.declared.cert.CertNode.{CertNode}
 use Rattle.cert_text.specs.declared.cert.CertNode.TheVariants as node
 use Rattle.cert_text.specs.declared.cert.Cert.{Cert}
@@ -21,12 +19,11 @@ use Rattle.cert_check.specs.declared.verdict.Verdict.TheVariants.{Accepted, Reje
 use Rattle.cert_check.specs.declared.judging.NodeWithPlaces.{NodeWithPlaces}
 use Rattle.cert_check.specs.declared.judging.NodeWithPlaces.TheVariants.{Misnamed, Split, Bound, Farkas, Empty}
 use Rattle.cert_check.specs.declared.checking.RegionBuf.{RegionBuf}
-use Rattle.cert_text.specs.Tree.{CertTree, certificate_nodes}
+use Rattle.cert_text.specs.Tree.{CertTree}
 use Rattle.cert_check.specs.Mults.{AreMults, mults_of}
 use Rattle.cert_check.specs.Cuts.{AreCutsFound}
 use Rattle.cert_check.specs.Accepted.{AreNames, point_of}
-use Rattle.cert_check.specs.Verdict.{IsNumberJudged, IsFarkasJudged, IsEmptyJudged, IsKindJudged, visits, IsVisitJudged, IsJudgedAt}
-use Rattle.cert_text.specs.Whole.{IsNarrowNode}
+use Rattle.cert_check.specs.Verdict.{visits, IsVisitJudged, IsJudgedAt}
 use Rattle.tight_regions.specs.Tight.{IsTrail, room}
 
 -- ---- nodes with places
@@ -42,18 +39,7 @@ IsPlace M cuts (node.Farkas mults) (Farkas mult) = AreMults M cuts mults × (mul
 IsPlace M cuts node.Empty Empty = Unit {0}
 IsPlace M cuts n placed = ⊥
 
-abbrev pub IsPlacedJudged : Formulation → Claim → Path → NodeWithPlaces → Judgement → Type 0
-IsPlacedJudged F claim path Misnamed j = j ≡ Breaks 1
-IsPlacedJudged F claim path (Split col v) j = IsKindJudged F.model col.0 j
-IsPlacedJudged F claim path (Bound mult) j = IsNumberJudged F claim path mult j
-IsPlacedJudged F claim path (Farkas mult) j = IsFarkasJudged F path mult j
-IsPlacedJudged F claim path Empty j = IsEmptyJudged F.model path j
-
 -- ---- paths
-
--- the side of a change that has another child behind it: its number has a successor
-abbrev pub CanTurn : BoundChange → Type 0
-CanTurn c = c.side ≡ Hi → IsNarrow (c.v +ℤ pos 1)
 
 abbrev pub turned_change : Side → BoundChange → Path
 turned_change Hi c = at_least c.col.0 (c.v +ℤ pos 1) ∷ []
@@ -68,31 +54,10 @@ abbrev pub after_leaf : Path → Path
 after_leaf [] = []
 after_leaf (c ∷ path) = in_front c (after_leaf path)
 
--- the path to the node behind a node
-abbrev pub after_node : NodeWithPlaces → Path → Path
-after_node (Split col v) path = path ++ at_most col.0 v ∷ []
-after_node Misnamed path = after_leaf path
-after_node (Bound mult) path = after_leaf path
-after_node (Farkas mult) path = after_leaf path
-after_node Empty path = after_leaf path
-
--- ---- the claim
-
--- whether the claim is proved by a tree; where the model is claimed unbounded a point and a ray prove it
-abbrev pub has_tree : Claim → Bool
-has_tree (Optimal v) = true
-has_tree Infeasible = true
-has_tree Unbounded = false
-
 -- ---- the buffer
 
 abbrev pub AreNodesPlaced : Program → ℕ → List CertNode → List NodeWithPlaces → Type 0
 AreNodesPlaced M cuts nodes placed = (length placed ≡ length nodes) × ((k : ℕ) (n : CertNode) (p : NodeWithPlaces) → k < length nodes → IsPlace M cuts (get_or nodes k n) (get_or placed k p))
-
--- the places are those of a tree's nodes, and fractions have room for its splits
-pub record IsWalked (F : Formulation) (tree : CertTree) (placed : List NodeWithPlaces) : Type 0 where
-  pub places : AreNodesPlaced F.model (length F.cuts) (certificate_nodes tree) placed
-  pub narrow : All IsNarrowNode (certificate_nodes tree)
 
 -- the verdict on the nodes alone
 abbrev pub IsNodesVerdict : Formulation → Claim → CertTree → Verdict → Type 0

@@ -22,7 +22,8 @@
 //! Contract: `read_cert` answers the certificate that a text states or its first faulty line with the least code, a
 //! function of the whole text (`specs/CutLines`, `specs/Mults`, `specs/Lines`, `specs/Text`), and each text has one such answer
 //! (`text_law`). What is read has the parts of its claim, and one whole tree where it has nodes (`specs/Whole`). What it proves
-//! of a model is not asked here.
+//! of a model is not asked here. What one line says (`line_says`), the lines of a text (`line_bytes`) and the codes of fields serve the
+//! reader of certificates of fronts too.
 //!
 //! Below stand the lines and words of `text_lines`, the names and lists of `lp_model`, and the spelling of numbers
 //! (`frac_text`). Above stand the checker
@@ -40,5 +41,7 @@ mod reading;
 
 pub use cert::{Cert, CertMult, CertNode, Claim, NamedCut};
 pub use laws::{text_law, whole_tree_law};
-pub use line::{LineWord, Statement};
-pub use reader::{CertFault, read_cert};
+pub use line::{LineFault, LineWord, Statement, begins_blank, ends_blank, line_says};
+pub use mults::number_of_cut;
+pub use named::number_code;
+pub use reader::{CertFault, line_bytes, read_cert};

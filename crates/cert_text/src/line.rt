@@ -45,7 +45,7 @@ pub enum Statement {
 
 /// Why a line says nothing.
 #[derive(Clone, Copy, Drop)]
-pub(crate) enum LineFault {
+pub enum LineFault {
     /// The least code of its faults, 2 to 5.
     Code(u8),
     /// There is no memory.
@@ -53,7 +53,7 @@ pub(crate) enum LineFault {
 }
 
 /// Whether the line begins with a blank.
-fn begins_blank(line: &[u8]) -> bool
+pub fn begins_blank(line: &[u8]) -> bool
     ensures { result ≡ begins_blank line.now }
 {
     match line.first() {
@@ -63,7 +63,7 @@ fn begins_blank(line: &[u8]) -> bool
 }
 
 /// Whether the line ends with a blank.
-fn ends_blank(line: &[u8]) -> bool
+pub fn ends_blank(line: &[u8]) -> bool
     ensures { result ≡ ends_blank line.now }
 {
     match line.last() {
@@ -290,7 +290,7 @@ fn words_say(alloc: Global, blank: bool, words: &[&[u8]]) -> Result<Statement, L
 }
 
 /// What a line says by itself.
-pub(crate) fn line_says(alloc: Global, line: &[u8]) -> Result<Statement, LineFault>
+pub fn line_says(alloc: Global, line: &[u8]) -> Result<Statement, LineFault>
     ensures says { Says (line_says line.now) result }
     ensures narrow { IfOk result IsNarrowStatement }
 {

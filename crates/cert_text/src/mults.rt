@@ -50,7 +50,7 @@ fn value_of_digits(digits: &[u8]) -> Option<u64>
 }
 
 /// The number of a cut, or the code of its fault.
-fn number_of_cut(word: &[u8]) -> Result<u64, u8>
+pub fn number_of_cut(word: &[u8]) -> Result<u64, u8>
     ensures { result ≡ number_of_cut word.now }
 {
     if !are_plain_digits(word) {

@@ -22,7 +22,7 @@ pub(crate) struct Gathered<T> {
 }
 
 /// The code of a field that is no number.
-pub(crate) fn number_code(fault: NumFault) -> u8
+pub fn number_code(fault: NumFault) -> u8
     ensures code { result ≡ number_code fault }
     ensures high { 3 ≤ result }
 {

@@ -31,7 +31,7 @@ fn pieces(alloc: Global, text: &[u8]) -> Result<Vec<&[u8]>, AllocError>
 }
 
 /// The bytes of each line of a text: what follows the last newline is a line only where it has a byte.
-fn line_bytes(alloc: Global, text: &[u8]) -> Result<Vec<&[u8]>, AllocError>
+pub fn line_bytes(alloc: Global, text: &[u8]) -> Result<Vec<&[u8]>, AllocError>
     ensures { IfOk result (λ lines. map (λ line. line.now) lines.items ≡ line_bytes text.now) }
 {
     let mut lines = match pieces(alloc, text) {

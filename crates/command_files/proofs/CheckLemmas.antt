@@ -4,6 +4,7 @@ use Rattle.std.proofs.Common.{arith, sym, subst, inl, inr}
 use Rattle.sym_io.specs.Files.{Files}
 use Rattle.lp_model.specs.Program.{Program}
 use Rattle.mps_model.specs.Faults.{MeantModel}
+use Rattle.lp_model.specs.Lawful.{IsLawful}
 use Rattle.cert_text.specs.declared.cert.Cert.{Cert}
 use Rattle.cert_text.specs.Whole.{IsCertificate}
 use Rattle.cert_text.specs.declared.cert.Claim.{Claim}
@@ -11,8 +12,16 @@ use Rattle.cert_check.specs.Laws.{AcceptedLaw, VerdictLaw, IsTrueClaim}
 use Rattle.cert_check.specs.Verdict.{IsVerdict}
 use Rattle.cert_check.specs.declared.verdict.Verdict.{Verdict}
 use Rattle.cert_check.specs.declared.verdict.Verdict.TheVariants.{Accepted}
+use Rattle.front_text.specs.declared.front.AnyCert.{AnyCert}
+use Rattle.front_text.specs.declared.front.AnyCert.TheVariants.{One, Front}
+use Rattle.front_text.specs.declared.front.FrontCert.{FrontCert}
+use Rattle.front_check.specs.Laws.{FrontLaw, FrontVerdictLaw}
+use Rattle.front_check.specs.Verdict.{IsFrontVerdict}
+use Rattle.front_check.specs.declared.verdict.FrontVerdict.{FrontVerdict}
+use Rattle.front_check.specs.declared.verdict.FrontVerdict.TheVariants as front
 use Rattle.command_files.specs.Reading.{HasText}
-use Rattle.command_files.specs.Checking.{ReadsCert, WritesVerdict, ChecksFor, JudgedFor, RefusedFor, ChecksFiles, Judged, BadCert, Wanting}
+use Rattle.command_files.specs.Checking.{ReadsCert, IsTrueFront, ChecksFiles, Judged, JudgedFront, BadCert, Wanting}
+use Rattle.command_files.specs.private.Checking.{WritesAnyVerdict, ChecksFor, JudgedFor, RefusedFor}
 use Rattle.command_files.specs.declared.reading.Refusal.{Refusal}
 use Rattle.command_files.specs.declared.reading.Refusal.TheVariants as refusal
 
@@ -22,9 +31,15 @@ true_claim M cert verdict judged accepted whole is claim e =
     let known = judged M cert claim whole (subst (IsVerdict M cert) e is) in
     subst (IsTrueClaim M) (sym known.0) (accepted M cert known.1)
 
+-- the outcomes of an accepted certificate are the front of the model
+pub true_front : (M : Program) (cert : FrontCert) (verdict : FrontVerdict) → FrontVerdictLaw → FrontLaw → IsLawful M → IsFrontVerdict M cert verdict → (outcomes : ℕ) → verdict ≡ front.Accepted outcomes → IsTrueFront M cert outcomes
+true_front M cert verdict judged law lawful is outcomes e =
+    let known = judged M cert outcomes (subst (IsFrontVerdict M cert) e is) in
+    record { count = known.0; frontier = law M cert lawful known.1 }
+
 -- a verdict that is written behind nothing
-pub verdict-first : (M : Program) (c : Cert) (old new : List ℕ) → old ≡ [] → WritesVerdict M c old new → WritesVerdict M c [] new
-verdict-first M c old new empty w = subst (λ front. WritesVerdict M c front new) empty w
+pub verdict-first : (M : Program) (c : AnyCert) (old new : List ℕ) → old ≡ [] → WritesAnyVerdict M c old new → WritesAnyVerdict M c [] new
+verdict-first M c old new empty w = subst (λ before. WritesAnyVerdict M c before new) empty w
 
 -- a certificate's file that is refused while the count of faults goes up from `now`, is so from any count before
 later-refused : (files : Option Files) (cert : List ℕ) (before now after : ℕ) (r : Refusal) → before ≤ now → ReadsCert files cert now after (Err r) → ReadsCert files cert before after (Err r)
@@ -39,8 +54,10 @@ pub checks-both : (files files' : Option Files) (model cert : List ℕ) (before 
 checks-both files files' model cert before now after M reply read same later h = by (subst (λ held. ChecksFor held M cert now after reply) same h)
   where
     by : ChecksFor files M cert now after reply → ChecksFiles files model cert before after reply
-    by (JudgedFor c stated (inl w)) = Judged (record { program = M; certificate = c; read = read; stated = stated; verdict = w.0; is = w.1.0; told = w.1.2; true_claim = w.1.1 })
-    by (JudgedFor c stated (inr told)) = Wanting told
+    by (JudgedFor (One c) stated (inl w)) = Judged (record { program = M; certificate = c; read = read; stated = stated; verdict = w.0; is = w.1.0; told = w.1.2; true_claim = w.1.1 })
+    by (JudgedFor (One c) stated (inr told)) = Wanting told
+    by (JudgedFor (Front c) stated (inl w)) = JudgedFront (record { program = M; certificate = c; read = read; stated = stated; verdict = w.0; is = w.1.0; told = w.1.2; true_front = w.1.1 })
+    by (JudgedFor (Front c) stated (inr told)) = Wanting told
     by (RefusedFor r cause told) = BadCert (record { program = M; read = read; refusal = r; cause = later-refused files cert before now after r later cause; told = told })
 
 -- the statuses of a check

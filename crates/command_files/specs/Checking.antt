@@ -1,5 +1,5 @@
 -- What `check MODEL CERT` prints.
-use Rattle.std.specs.Prelude.{◌≡◌, ◌⊎◌, ℕ, Bool, true, false, ◌&&◌, if◌then◌else◌, List, [], ◌++◌, codes, decimal, Option, None, Result, Ok, Err, ◌==◌}
+use Rattle.std.specs.Prelude.{◌≡◌, ℕ, Bool, true, false, ◌&&◌, if◌then◌else◌, List, length, ◌++◌, codes, decimal, Option, None, Result, Ok, Err, ◌==◌}
 use Rattle.std.specs.List.{starts_with}
 use Rattle.std.specs.Io.KnownBytes.{Appends}
 use Rattle.frac128.specs.Rational.{ℚ}
@@ -12,8 +12,17 @@ use Rattle.command_words.specs.Names.{is_file_name}
 use Rattle.lp_model.specs.Program.{Program}
 use Rattle.lp_model.specs.declared.types.WideStep.{WideStep}
 use Rattle.mps_model.specs.Faults.{MeantModel}
-use Rattle.cert_text.specs.Text.{MeantCertificate as States, FaultyCertificate}
+use Rattle.cert_text.specs.Text.{MeantCertificate, FaultyCertificate}
 use Rattle.cert_check.specs.Verdict.{IsVerdict}
+use Rattle.frontier.specs.Outcomes.{IsFrontier, outcomes_in_own_sense}
+use Rattle.front_text.specs.Text.{is_front_text, MeantFront, FaultyFront}
+use Rattle.front_text.specs.declared.front.AnyCert.{AnyCert}
+use Rattle.front_text.specs.declared.front.AnyCert.TheVariants.{One, Front}
+use Rattle.front_text.specs.declared.front.FrontCert.{FrontCert}
+use Rattle.front_check.specs.Accepted.{outcomes_of}
+use Rattle.front_check.specs.Verdict.{IsFrontVerdict}
+use Rattle.front_check.specs.declared.verdict.FrontVerdict.{FrontVerdict}
+use Rattle.front_check.specs.declared.verdict.FrontVerdict.TheVariants as front
 use Rattle.cert_check.specs.Laws.{IsTrueClaim}
 use Rattle.cert_text.specs.declared.cert.Claim.{Claim}
 use Rattle.cert_text.specs.declared.cert.Claim.TheVariants.{Optimal, Infeasible, Unbounded}
@@ -28,12 +37,25 @@ use Rattle.command_files.specs.declared.reading.Refusal.TheVariants as refusal
 
 -- ---- the certificate's file
 
+-- A text is of a front where the first word of its first line is `front`, else of one value. What it states:
+abbrev pub StatesCert : List ℕ → AnyCert → Type 0
+StatesCert text (One cert) = (is_front_text text ≡ false) × MeantCertificate text cert
+StatesCert text (Front cert) = (is_front_text text ≡ true) × MeantFront text cert
+
+abbrev pub FaultyWhere : Bool → List ℕ → ℕ → ℕ → Type 0
+FaultyWhere false text line code = FaultyCertificate text line code
+FaultyWhere true text line code = FaultyFront text line code
+
+-- and its first faulty line with the least code
+abbrev pub IsFaultyCert : List ℕ → ℕ → ℕ → Type 0
+IsFaultyCert text line code = FaultyWhere (is_front_text text) text line code
+
 -- the causes of each answer to reading a file's certificate, where the count of faults goes from before to after
-abbrev pub ReadsCert : Option Files → List ℕ → ℕ → ℕ → Result Cert Refusal → Type 0
-ReadsCert files name before after (Ok cert) = HasText files name (λ text. States text cert)
+abbrev pub ReadsCert : Option Files → List ℕ → ℕ → ℕ → Result AnyCert Refusal → Type 0
+ReadsCert files name before after (Ok cert) = HasText files name (λ text. StatesCert text cert)
 ReadsCert files name before after (Err refusal.Store) = IsUnread files name before after
 ReadsCert files name before after (Err refusal.FileTooLong) = IsTooLong files name
-ReadsCert files name before after (Err (refusal.Faulty line code)) = HasText files name (λ text. FaultyCertificate text line code)
+ReadsCert files name before after (Err (refusal.Faulty line code)) = HasText files name (λ text. IsFaultyCert text line code)
 ReadsCert files name before after (Err refusal.Memory) = Unit {0}
 
 abbrev pub cert_refusal_text : Refusal → List ℕ
@@ -63,29 +85,42 @@ verdict_text M (Accepted claim) = claim_text claim
 verdict_text M (Rejected node why) = rejected_text node why
 verdict_text M (Wide node step) = wide_text M node step
 
--- the verdict on the certificate is told, a true claim where it is accepted, or that memory was wanting for it
-abbrev pub WritesVerdict : Program → Cert → List ℕ → List ℕ → Type 0
-WritesVerdict M cert old new =
-    ((verdict : Verdict) × (IsVerdict M cert verdict × ((claim : Claim) → verdict ≡ Accepted claim → IsTrueClaim M claim) × (new ≡ old ++ verdict_text M verdict)))
-    ⊎ (new ≡ old ++ memory_text)
+abbrev pub accepted_front_text : ℕ → List ℕ
+accepted_front_text outcomes = codes "accepted frontier " ++ decimal outcomes ++ codes "\n"
 
--- what is printed of a certificate's file for a model, the count of faults going from before to after
-pub data ChecksFor (files : Option Files) (M : Program) (cert : List ℕ) (before after : ℕ) (reply : List ℕ) : Type 0 where
-  JudgedFor : (certificate : Cert) → HasText files cert (λ text. States text certificate) → WritesVerdict M certificate [] reply → ChecksFor files M cert before after reply
-  RefusedFor : (refusal : Refusal) → ReadsCert files cert before after (Err refusal) → reply ≡ cert_refusal_text refusal → ChecksFor files M cert before after reply
+abbrev pub front_verdict_text : Program → FrontVerdict → List ℕ
+front_verdict_text M (front.Accepted outcomes) = accepted_front_text outcomes
+front_verdict_text M (front.Rejected node why) = rejected_text node why
+front_verdict_text M (front.Wide node step) = wide_text M node step
+
+-- there are so many outcomes, and in the model's own sense they are its front: exactly the outcomes that no other dominates, each once
+pub record IsTrueFront (M : Program) (cert : FrontCert) (outcomes : ℕ) : Type 0 where
+  pub count : outcomes ≡ length cert.outcomes
+  pub frontier : IsFrontier M (outcomes_in_own_sense M.sense (outcomes_of cert))
 
 -- ---- all that is printed
 
--- the files' texts mean a model and state a certificate, and this is the verdict, a true claim where it is accepted
+-- the files' texts mean a model and state a certificate of one value, and this is the verdict, a true claim where it is accepted
 pub record Judges (files : Option Files) (model cert reply : List ℕ) : Type 0 where
   pub program : Program
   pub certificate : Cert
   pub read : HasText files model (λ text. MeantModel text None program)
-  pub stated : HasText files cert (λ text. States text certificate)
+  pub stated : HasText files cert (λ text. StatesCert text (One certificate))
   pub verdict : Verdict
   pub is : IsVerdict program certificate verdict
   pub told : reply ≡ verdict_text program verdict
   pub true_claim : (claim : Claim) → verdict ≡ Accepted claim → IsTrueClaim program claim
+
+-- they mean a model and state a certificate of a front, and this is the verdict, the front of the model where it is accepted
+pub record JudgesFront (files : Option Files) (model cert reply : List ℕ) : Type 0 where
+  pub program : Program
+  pub certificate : FrontCert
+  pub read : HasText files model (λ text. MeantModel text None program)
+  pub stated : HasText files cert (λ text. StatesCert text (Front certificate))
+  pub verdict : FrontVerdict
+  pub is : IsFrontVerdict program certificate verdict
+  pub told : reply ≡ front_verdict_text program verdict
+  pub true_front : (outcomes : ℕ) → verdict ≡ front.Accepted outcomes → IsTrueFront program certificate outcomes
 
 -- the model's file is refused
 pub record RefusesModel (files : Option Files) (model : List ℕ) (before after : ℕ) (reply : List ℕ) : Type 0 where
@@ -104,6 +139,7 @@ pub record RefusesCert (files : Option Files) (model cert : List ℕ) (before af
 -- what is printed of two files, the count of faults going from before to after
 pub data ChecksFiles (files : Option Files) (model cert : List ℕ) (before after : ℕ) (reply : List ℕ) : Type 0 where
   Judged : Judges files model cert reply → ChecksFiles files model cert before after reply
+  JudgedFront : JudgesFront files model cert reply → ChecksFiles files model cert before after reply
   BadModel : RefusesModel files model before after reply → ChecksFiles files model cert before after reply
   BadCert : RefusesCert files model cert before after reply → ChecksFiles files model cert before after reply
   Wanting : reply ≡ memory_text → ChecksFiles files model cert before after reply

@@ -1,17 +1,22 @@
 // The checking of a certificate's file against a model's.
-ghost use Rattle.std.specs.Prelude.{◌≡◌, ◌≤◌, ◌++◌, true, [], IfOk};
+ghost use Rattle.std.specs.Prelude.{◌≡◌, ◌≤◌, ◌++◌, true, false, [], IfOk};
 ghost use Rattle.command_words.specs.Names.{is_file_name};
 ghost use Rattle.cert_text.specs.Whole.{IsCertificate};
 ghost use Rattle.cert_check.specs.Verdict.{IsVerdict};
-ghost use Rattle.command_files.specs.Checking.{ReadsCert, accepted_value_text, claim_text, rejected_text, wide_text, verdict_text, WritesVerdict, ChecksFor, ChecksFiles, Checks};
+ghost use Rattle.front_text.specs.Whole.{IsFrontCertificate};
+ghost use Rattle.front_text.specs.Reading.{IsAnyCertificate};
+ghost use Rattle.command_files.specs.Checking.{ReadsCert, accepted_value_text, claim_text, rejected_text, wide_text, verdict_text, accepted_front_text, front_verdict_text, ChecksFiles, Checks};
+ghost use Rattle.command_files.specs.private.Checking.{WritesVerdict, WritesFrontVerdict, WritesAnyVerdict, ChecksFor};
 
 use crate::reading::{Refusal, read_model};
 use crate::refusing::{write_cert_refusal, write_refusal};
 use cert_check::{RegionBuf, Verdict, accepted_law, check, verdict_law};
-use cert_text::{Cert, CertFault, Claim, read_cert};
+use cert_text::{Cert, CertFault, Claim};
 use command_words::is_file_name_word;
 use frac128::Frac;
-use lp_model::{Model, WideStep};
+use front_check::{FrontVerdict, check_front, front_law, front_verdict_law};
+use front_text::{AnyCert, FrontCert, read_any};
+use lp_model::{Model, WideStep, show_model};
 use reply_texts::{ARGUMENTS_REPLY, MEMORY_REPLY, write_step};
 use std::alloc::{AllocError, Global};
 use sym_io::Store;
@@ -29,10 +34,10 @@ impl From<CertFault> for Refusal {
     }
 }
 
-/// The certificate of the named file.
-fn read_certificate<S: Store>(alloc: Global, store: &mut S, name: &str) -> Result<Cert, Refusal>
+/// The certificate of the named file, of either kind.
+fn read_certificate<S: Store>(alloc: Global, store: &mut S, name: &str) -> Result<AnyCert, Refusal>
     ensures answer { ReadsCert (S.files store.old) name.now (S.faults store.old) (S.faults store.new) result }
-    ensures whole { IfOk result (λ cert. IsCertificate cert) }
+    ensures whole { IfOk result (λ cert. IsAnyCertificate cert) }
     ensures kept { S.files store.new ≡ S.files store.old }
     ensures later { S.faults store.old ≤ S.faults store.new }
 {
@@ -40,7 +45,7 @@ fn read_certificate<S: Store>(alloc: Global, store: &mut S, name: &str) -> Resul
         Ok(text) => text,
         Err(fault) => return Err(Refusal::from(fault)),
     };
-    let cert = read_cert(alloc, &text);
+    let cert = read_any(alloc, &text);
     drop(text);
     match cert {
         Ok(cert) => Ok(cert),
@@ -48,7 +53,7 @@ fn read_certificate<S: Store>(alloc: Global, store: &mut S, name: &str) -> Resul
     }
 }
 
-/// Judges a certificate.
+/// Judges a certificate of one value.
 fn judged(alloc: Global, model: &Model, cert: &Cert) -> Result<Verdict, AllocError>
     requires { IsCertificate cert.now }
     ensures { IfOk result (λ verdict. IsVerdict model.now cert.now verdict) }
@@ -115,7 +120,7 @@ fn write_verdict(reply: &mut Vec<u8>, model: &Model, verdict: &Verdict) -> Resul
     }
 }
 
-/// The verdict on a certificate, or `error 90` for want of memory.
+/// The verdict on a certificate of one value, or `error 90` for want of memory.
 #[tactic(auto, using(crate::proofs::CheckLemmas::true_claim))]
 fn write_judged(
     alloc: Global,
@@ -134,6 +139,68 @@ fn write_judged(
     }
 }
 
+/// The front that is accepted, which has so many outcomes.
+fn write_accepted_front(reply: &mut Vec<u8>, outcomes: u64) -> Result<(), AllocError>
+    ensures { IfOk result (λ _. reply.new.items ≡ reply.old.items ++ accepted_front_text outcomes) }
+{
+    let mut digits = itoa::Buffer::new();
+    reply.extend_from_slice(b"accepted frontier ")?;
+    reply.extend_from_slice(digits.format(outcomes).as_bytes())?;
+    reply.extend_from_slice(b"\n")
+}
+
+fn write_front_verdict(
+    reply: &mut Vec<u8>,
+    model: &Model,
+    verdict: &FrontVerdict,
+) -> Result<(), AllocError>
+    ensures { IfOk result (λ _. reply.new.items ≡ reply.old.items ++ front_verdict_text model.now verdict.now) }
+{
+    match verdict {
+        FrontVerdict::Accepted { outcomes } => write_accepted_front(reply, *outcomes),
+        FrontVerdict::Rejected { why, node } => write_rejected(reply, *node, *why),
+        FrontVerdict::Wide { node, step } => write_wide(reply, model, *node, step),
+    }
+}
+
+/// The verdict on a certificate of a front, or `error 90` for want of memory.
+#[tactic(auto, using(crate::proofs::CheckLemmas::true_front))]
+fn write_judged_front(
+    alloc: Global,
+    reply: &mut Vec<u8>,
+    model: &Model,
+    cert: &FrontCert,
+) -> Result<(), AllocError>
+    requires cert { IsFrontCertificate cert.now }
+    requires narrow { model.now.wide ≡ false }
+    ensures { IfOk result (λ _. WritesFrontVerdict model.now cert.now reply.old.items reply.new.items) }
+{
+    front_verdict_law();
+    front_law();
+    show_model(model);
+    match check_front(alloc, model, cert) {
+        Ok(verdict) => write_front_verdict(reply, model, &verdict),
+        Err(AllocError) => reply.extend_from_slice(MEMORY_REPLY),
+    }
+}
+
+/// The verdict on a certificate of either kind, or `error 90` for want of memory.
+fn write_any_judged(
+    alloc: Global,
+    reply: &mut Vec<u8>,
+    model: &Model,
+    cert: &AnyCert,
+) -> Result<(), AllocError>
+    requires cert { IsAnyCertificate cert.now }
+    requires narrow { model.now.wide ≡ false }
+    ensures { IfOk result (λ _. WritesAnyVerdict model.now cert.now reply.old.items reply.new.items) }
+{
+    match cert {
+        AnyCert::One(cert) => write_judged(alloc, reply, model, cert),
+        AnyCert::Front(cert) => write_judged_front(alloc, reply, model, cert),
+    }
+}
+
 /// Reads the certificate's file, and writes the verdict for the model, or why the file is refused.
 fn check_for<S: Store>(
     alloc: Global,
@@ -142,6 +209,7 @@ fn check_for<S: Store>(
     store: &mut S,
     reply: &mut Vec<u8>,
 ) -> Result<(), AllocError>
+    requires narrow { program.now.wide ≡ false }
     requires cert { is_file_name cert.now ≡ true }
     requires empty { reply.old.items ≡ [] }
     ensures answer { IfOk result (λ _. ChecksFor (S.files store.old) program.now cert.now (S.faults store.old) (S.faults store.new) reply.new.items) }
@@ -152,7 +220,7 @@ fn check_for<S: Store>(
         Ok(certificate) => certificate,
         Err(refusal) => return write_cert_refusal(reply, refusal),
     };
-    let told = write_judged(alloc, reply, program, &certificate);
+    let told = write_any_judged(alloc, reply, program, &certificate);
     drop(certificate);
     told
 }

@@ -53,8 +53,9 @@ module _ (M : Program) where
   outcomes-break (o ∷ l) first rest why are front points (inr (one, some)) = outcome-breaks o why (All-head (HasItsPoint M) o l points) one
 
   cuts-break : (parts : List TargetedModel) (trees : List FrontTree) (why : ℕ) → AllZip IsProvedBy parts trees → AreAllCutsJudged parts trees (Breaks why) → ⊥
-  cuts-break [] trees why proved h = cc
-  cuts-break (part ∷ parts) [] why proved h = cc
+  cuts-break [] [] why proved h = cc
+  cuts-break [] (t ∷ trees) why proved h = h
+  cuts-break (part ∷ parts) [] why proved h = h
   cuts-break (part ∷ parts) (t ∷ trees) why proved (inl (here, rest)) = cuts-break parts trees why proved.1 rest
   cuts-break (part ∷ parts) (t ∷ trees) why proved (inr (here, some)) = (cuts_judged part.model t.cuts).broken why here proved.0.cuts
 

@@ -3,7 +3,6 @@ use Rattle.std.specs.Prelude.{◌≡◌, ℕ, suc, ℤ, List, [], ◌∷◌, map
 use Rattle.std.specs.List.{AllZip}
 use Rattle.std.proofs.Common.{refl, sym, ap, subst, ◌∙◌, arith, inl, inr}
 use Rattle.std.proofs.lemmas.Int.{ints}
-use Rattle.std.proofs.lemmas.List.{length-map}
 use Rattle.std.proofs.lemmas.List.Elements.{All-nil, All-cons, All-weaker}
 use Rattle.std.proofs.lemmas.List.Kept.{AllPairs-cons}
 use Rattle.frac128.specs.Rational.{int, ◌+ℚ◌}
@@ -20,7 +19,6 @@ use Rattle.cert_check.proofs.CutVerdicts.{cuts_judged}
 use Rattle.cert_check.proofs.RejectedLaws.{tree_judged}
 use Rattle.frontier.specs.declared.outcomes.Outcome.{Outcome}
 use Rattle.frontier.specs.Covers.{IsAhead, IsFront}
-use Rattle.frontier.specs.Laws.{last_of}
 use Rattle.inner_models.specs.Inner.{bare_model}
 use Rattle.inner_models.proofs.BareModels.{keeps_points}
 use Rattle.front_text.specs.declared.front.TreeOf.{TreeOf}
@@ -34,7 +32,7 @@ use Rattle.front_check.specs.Verdict.{AreObjectivesJudged, least_constant_of, Is
 
 -- ---- judgements in order
 
-both : (P Q : Judgement → Type 0) → InOrder P Q Passes → P Passes × Q Passes
+pub both : (P Q : Judgement → Type 0) → InOrder P Q Passes → P Passes × Q Passes
 both P Q (inl h) = h
 both P Q (inr h) = absurd (h.1 refl)
 
@@ -84,26 +82,22 @@ module _ (M : Program) where
 
   -- ---- trees
 
-  proved : (parts : List TargetedModel) (trees : List FrontTree) → length parts ≡ length trees → AreAllCutsJudged parts trees Passes → DoTreesPass parts trees → AllZip IsProvedBy parts trees
-  proved [] [] count cuts pass = tt
-  proved [] (t ∷ trees) count cuts pass = absurd (omega (arith, count))
-  proved (part ∷ parts) [] count cuts pass = absurd (omega (arith, count))
-  proved (part ∷ parts) (t ∷ trees) count cuts pass =
+  proved : (parts : List TargetedModel) (trees : List FrontTree) → AreAllCutsJudged parts trees Passes → DoTreesPass parts trees → AllZip IsProvedBy parts trees
+  proved [] [] cuts pass = tt
+  proved [] (t ∷ trees) cuts pass = absurd pass
+  proved (part ∷ parts) [] cuts pass = absurd pass
+  proved (part ∷ parts) (t ∷ trees) cuts pass =
       let judged = both (AreCutsJudged part.model t.cuts) (AreAllCutsJudged parts trees) cuts in (
         record {
           cuts = (cuts_judged part.model t.cuts).passed judged.0;
           nodes = ((tree_judged (formulation_by part.model t.cuts) (Optimal (int part.target)) t.nodes).accepted pass.0.0 pass.0.1).1;
         },
-        proved parts trees (omega (arith, count)) judged.1 pass.1,
+        proved parts trees judged.1 pass.1,
       )
 
-gap_parts-count : (N : Program) (i1 i2 : ℤ) (p : Outcome) (l : List Outcome) → length (gap_parts N i1 i2 p l) ≡ length l
+pub gap_parts-count : (N : Program) (i1 i2 : ℤ) (p : Outcome) (l : List Outcome) → length (gap_parts N i1 i2 p l) ≡ length l
 gap_parts-count N i1 i2 p [] = refl
 gap_parts-count N i1 i2 p (q ∷ l) = ap suc (gap_parts-count N i1 i2 q l)
-
-gap_names-count : (k : ℕ) (l : List Outcome) → length (gap_names k l) ≡ length l
-gap_names-count k [] = refl
-gap_names-count k (q ∷ l) = ap suc (gap_names-count (suc k) l)
 
 -- names depend on how many outcomes there are
 pub gap_names-map : (f : Outcome → Outcome) (k : ℕ) (l : List Outcome) → gap_names k (map f l) ≡ gap_names k l
@@ -123,9 +117,6 @@ accepted M cert (o ∷ l) are whole judged heads pass =
     let bare = without_constants M p in
     let there = both (AreTreesJudged N bare (bare_outcomes M l) cert.trees) (AreAllCutsJudged (front_parts N bare (bare_outcomes M l)) cert.trees) heads in
     let names = there.0.names in
-    let parts = gap_parts-count N bare.f1 (last_of bare (bare_outcomes M l)).f2 bare (bare_outcomes M l) in
-    let named = gap_names-count 1 (bare_outcomes M l) in
-    let same = sym (length-map cert.trees (λ t. t.of)) ∙ ap length names in
     record {
       first_whole = whole.0;
       second_whole = whole.1;
@@ -135,7 +126,7 @@ accepted M cert (o ∷ l) are whole judged heads pass =
       points = subst (All (HasItsPoint M)) (sym are) (All-cons (HasItsPoint M) o l (its_point M o one.0) rest.1);
       apart = rest.0;
       named = names ∙ ap (λ (rest : List TreeOf). Least1 ∷ Least2 ∷ rest) (gap_names-map (without_constants M) 1 (map outcome_of l));
-      proved = proved M (front_parts N bare (bare_outcomes M l)) cert.trees (omega (arith, parts, named, same)) there.1 pass;
+      proved = proved M (front_parts N bare (bare_outcomes M l)) cert.trees there.1 pass;
     }
 
 pub accepted_verdict : (M : Program) (cert : FrontCert) (k : ℕ) → IsFrontVerdict M cert (Accepted k) → (k ≡ length cert.outcomes) × AcceptsFront M cert

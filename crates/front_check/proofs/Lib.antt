@@ -1,3 +1,10 @@
 pub mod ProvedGaps
 pub mod FrontVerdicts
 pub mod FrontRejections
+pub mod ValueSteps
+pub mod OutcomeSteps
+pub mod TreeSteps
+pub mod PartSteps
+pub mod NodeSteps
+pub mod FrontSteps
+pub mod OneFrontVerdict

@@ -58,7 +58,7 @@ target-bound part tree least proved y feasible =
 
 -- ---- the constants
 
-least-whole : (s : Sense) (v : ℚ) → IsWhole v → IsWhole (in_least_form s v)
+pub least-whole : (s : Sense) (v : ℚ) → IsWhole v → IsWhole (in_least_form s v)
 least-whole Min v h = h
 least-whole Max v h = IsWhole-neg_ℚ v h
 

@@ -4,6 +4,7 @@ use Rattle.lp_model.specs.Program.{Program}
 use Rattle.lp_model.specs.Lawful.{IsLawful}
 use Rattle.frontier.specs.Outcomes.{IsFrontier, outcomes_in_own_sense}
 use Rattle.front_text.specs.declared.front.FrontCert.{FrontCert}
+use Rattle.front_check.specs.declared.verdict.FrontVerdict.{FrontVerdict}
 use Rattle.front_check.specs.declared.verdict.FrontVerdict.TheVariants.{Accepted, Rejected}
 use Rattle.front_check.specs.Accepted.{outcomes_of, AcceptsFront}
 use Rattle.front_check.specs.Verdict.{LacksRoom, IsFrontVerdict}
@@ -19,3 +20,7 @@ FrontVerdictLaw = (M : Program) (cert : FrontCert) (outcomes : ℕ) → IsFrontV
 -- what is rejected is not accepted by the definition, but for reason 10 where a number of a gap has no room
 abbrev pub FrontRejectedLaw : Type 0
 FrontRejectedLaw = (M : Program) (cert : FrontCert) (number why : ℕ) → IsFrontVerdict M cert (Rejected number why) → AcceptsFront M cert → (why ≡ 10) × LacksRoom M cert.outcomes
+
+-- a certificate has at most one verdict for a model
+abbrev pub OneFrontVerdictLaw : Type 0
+OneFrontVerdictLaw = (M : Program) (cert : FrontCert) (a b : FrontVerdict) → IsFrontVerdict M cert a → IsFrontVerdict M cert b → a ≡ b

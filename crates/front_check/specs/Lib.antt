@@ -1,3 +1,4 @@
 pub mod Accepted
 pub mod Verdict
 pub mod Laws
+pub mod private

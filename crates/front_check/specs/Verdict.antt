@@ -95,10 +95,11 @@ AreTreesJudged N p l trees Passes = AreTreesThere N p l trees
 AreTreesJudged N p l trees (Breaks why) = (¬ AreTreesThere N p l trees) × (why ≡ 10)
 AreTreesJudged N p l trees (NoRoom step) = ⊥
 
--- the cuts of each tree at its inner model
+-- the cuts of each tree at its inner model, where each inner model has its tree
 abbrev pub AreAllCutsJudged : List TargetedModel → List FrontTree → Judgement → Type 0
-AreAllCutsJudged [] trees j = j ≡ Passes
-AreAllCutsJudged (part ∷ parts) [] j = j ≡ Passes
+AreAllCutsJudged [] [] j = j ≡ Passes
+AreAllCutsJudged [] (t ∷ trees) j = ⊥
+AreAllCutsJudged (part ∷ parts) [] j = ⊥
 AreAllCutsJudged (part ∷ parts) (t ∷ trees) j = InOrder (AreCutsJudged part.model t.cuts) (AreAllCutsJudged parts trees) j
 
 -- the verdict on the nodes of a tree against the target of its inner model
@@ -108,9 +109,11 @@ IsPartVerdict part t verdict = IsTreeVerdict (formulation_by part.model t.cuts) 
 abbrev pub DoesTreePass : TargetedModel → FrontTree → Type 0
 DoesTreePass part t = (told : Claim) × IsPartVerdict part t (tree.Accepted told)
 
+-- each inner model has its tree, and these pass
 abbrev pub DoTreesPass : List TargetedModel → List FrontTree → Type 0
-DoTreesPass [] trees = Unit {0}
-DoTreesPass (part ∷ parts) [] = Unit {0}
+DoTreesPass [] [] = Unit {0}
+DoTreesPass [] (t ∷ trees) = ⊥
+DoTreesPass (part ∷ parts) [] = ⊥
 DoTreesPass (part ∷ parts) (t ∷ trees) = DoesTreePass part t × DoTreesPass parts trees
 
 -- a node of a tree, with this number there, does not pass

@@ -1,5 +1,5 @@
 // What accepted certificates of fronts prove. The law is the contract of a function that does nothing.
-ghost use Rattle.front_check.specs.Laws.{FrontLaw, FrontVerdictLaw, FrontRejectedLaw};
+ghost use Rattle.front_check.specs.Laws.{FrontLaw, FrontVerdictLaw, FrontRejectedLaw, OneFrontVerdictLaw};
 
 /// For every model and certificate: where the certificate is accepted, its outcomes are the front of the model.
 pub fn front_law()
@@ -14,4 +14,9 @@ pub fn front_verdict_law()
 /// What is rejected is not accepted by the definition, but where a number of a gap has no room.
 pub fn front_rejected_law()
     ensures { FrontRejectedLaw }
+{}
+
+/// A certificate has at most one verdict for a model.
+pub fn one_front_verdict_law()
+    ensures { OneFrontVerdictLaw }
 {}

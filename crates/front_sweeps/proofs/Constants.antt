@@ -19,10 +19,10 @@ module _ (N : Program) (c d : ℤ) (base : IsBase N) where
   abbrev P : Program
   P = with_constants c d N
 
-  same_points : (x : Point) → IsFeasible N x → IsFeasible P x
+  pub same_points : (x : Point) → IsFeasible N x → IsFeasible P x
   same_points x h = record { shape = h.shape; columns = h.columns; rows = h.rows }
 
-  points_back : (x : Point) → IsFeasible P x → IsFeasible N x
+  pub points_back : (x : Point) → IsFeasible P x → IsFeasible N x
   points_back x h = record { shape = h.shape; columns = h.columns; rows = h.rows }
 
   first_is : (x : Point) → least_value P 1 x ≡ int c +ℚ least_value N 1 x
@@ -65,7 +65,7 @@ module _ (N : Program) (c d : ℤ) (base : IsBase N) where
     ];
   }
 
-  stands-moved : (x : Point) → IsNondominated N x → IsNondominated P x
+  pub stands-moved : (x : Point) → IsNondominated N x → IsNondominated P x
   stands-moved x h = record { feasible = same_points x h.feasible; undominated = λ y feasible dominates. h.undominated y (points_back y feasible) (dominates-back y x dominates) }
 
   stands-back : (x : Point) → IsNondominated P x → IsNondominated N x
@@ -74,7 +74,7 @@ module _ (N : Program) (c d : ℤ) (base : IsBase N) where
   turned : (a b : ℤ) → int (a +ℤ b) ≡ int b +ℚ int a
   turned a b = int-+ℤ a b ∙ ring (int a ∷ int b ∷ []) (search reads_ℚ) tt
 
-  has-moved : (x : Point) (o : Outcome) → HasLeastOutcome N x o → HasLeastOutcome P x (moved c d o)
+  pub has-moved : (x : Point) (o : Outcome) → HasLeastOutcome N x o → HasLeastOutcome P x (moved c d o)
   has-moved x o h = record {
     first = first_is x ∙ ap (λ t. int c +ℚ t) h.first ∙ sym (turned o.f1 c);
     second = second_is x ∙ ap (λ t. int d +ℚ t) h.second ∙ sym (turned o.f2 d);

@@ -20,7 +20,7 @@ use Rattle.front_sweeps.specs.Steps.{IsBase, IsNondominatedOutcome, gap_between,
 int-less : (a b : ℤ) → int a <ℚ int b → a <ℤ b
 int-less a b h = by_lt_z a b (λ less. less) (λ over. not_both_ℚ ((int-≤ℚ-int b a).1 over) h)
 
-less-int : (a b : ℤ) → a <ℤ b → int a <ℚ int b
+pub less-int : (a b : ℤ) → a <ℤ b → int a <ℚ int b
 less-int a b h = <ℚ_from_not (int a) (int b) (λ over. let k = (int-≤ℚ-int b a).0 over in absurd (omega (arith, ints)))
 
 module _ (N : Program) (base : IsBase N) where
@@ -34,7 +34,7 @@ module _ (N : Program) (base : IsBase N) where
   )
 
   -- values in least form are the values
-  plain : (w : ℕ) (x : Point) → least_value N w x ≡ value N w x
+  pub plain : (w : ℕ) (x : Point) → least_value N w x ≡ value N w x
   plain w x = least_is N base.bare N refl w x
 
   module _ (i1 i2 : ℤ) (p q : Outcome) (beyond : i1 <ℤ q.f1) (above : i2 <ℤ p.f2) where
@@ -47,13 +47,13 @@ module _ (N : Program) (base : IsBase N) where
     b_some : pos 1 ≤ℤ (q.f1 -ℤ i1)
     b_some = omega (arith, ints)
 
-    sweeps : SweepsGap N (p.f2 -ℤ i2) (q.f1 -ℤ i1) i1 i2
+    pub sweeps : SweepsGap N (p.f2 -ℤ i2) (q.f1 -ℤ i1) i1 i2
     sweeps = sweeps-gap N base.lawful base.bare (p.f2 -ℤ i2) (q.f1 -ℤ i1) i1 i2 base.first base.second a_some b_some
 
-    at_q : i1 +ℤ (q.f1 -ℤ i1) ≡ q.f1
+    pub at_q : i1 +ℤ (q.f1 -ℤ i1) ≡ q.f1
     at_q = omega (arith, ints)
 
-    at_p : i2 +ℤ (p.f2 -ℤ i2) ≡ p.f2
+    pub at_p : i2 +ℤ (p.f2 -ℤ i2) ≡ p.f2
     at_p = omega (arith, ints)
 
     pub empty_gap : (y : Point) → IsOptimum G y → int (width_between i1 i2 p q) ≤ℚ value G 1 y → HasEmptyGap N p q

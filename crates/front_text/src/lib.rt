@@ -12,10 +12,23 @@
 //! end
 //! ```
 //!
-//! Here are its types; no call reads or writes such a text yet. Below stand certificates (`cert_text`). Above stands what an
-//! accepted one proves (`front_check`).
+//! Contract: `read_any` answers the certificate of either kind that a text states, of a front where its first line's first word is
+//! `front`, or its first faulty line with the least code, a function of the whole text (`specs/Lines`, `specs/Text`). A text states
+//! one front or has one such fault (`front_text_law`), and its lines say the statements of that certificate one by one
+//! (`front_lines_law`). The trees of what is read are whole (`specs/Whole`). Which trees stand, and what the certificate proves of a
+//! model, is not asked here.
+//!
+//! Below stand certificates of one value and their lines (`cert_text`). Above stand the checker (`front_check`) and the command `check`
+//! (`command_files`).
 #![tactic(auto)]
 
+mod any_reader;
 mod front;
+mod front_line;
+mod front_reading;
+mod laws;
 
-pub use front::{FrontCert, FrontOutcome, FrontTree, TreeOf};
+pub use any_reader::read_any;
+pub use front::{AnyCert, FrontCert, FrontOutcome, FrontTree, TreeOf};
+pub use front_line::{FrontStatement, FrontWord};
+pub use laws::{front_lines_law, front_text_law};

@@ -1,16 +1,18 @@
 // The rows of a gap, and the inner models.
-ghost use Rattle.std.specs.Prelude.{◌≡◌, ◌⊎◌, ◌++◌, ◌∷◌, [], ℤ, map, nat_eq, if◌then◌else◌, pos, negsuc, IfOk};
+ghost use Rattle.std.specs.Prelude.{◌≡◌, ◌⊎◌, ◌++◌, ◌∷◌, [], ℤ, map, nat_eq, if◌then◌else◌, pos, negsuc, true, All, IfOk};
 ghost use Rattle.frac128.specs.Rational.{int, ◌*ℚ◌};
-ghost use Rattle.lp_model.specs.Edits.{edited};
+ghost use Rattle.frac128.specs.Range.{Fits};
+ghost use Rattle.lp_model.specs.Edits.{edited, EditFits};
 ghost use Rattle.inner_models.specs.Inner.{costed, z_name, g1_name, g2_name, row_terms, capped, least2_model, gap_start, gap_model};
-ghost use Rattle.gap_models.specs.Gaps.{IsGapOf};
+ghost use Rattle.inner_models.specs.Room.{HasInnerRoom};
+ghost use Rattle.gap_models.specs.Gaps.{HasTerms, IsGapOf, FitsGap};
 ghost use Rattle.gap_models.specs.Rows.{AreRowsOf};
 
 use crate::gaps::Gap;
 use crate::names::{g1_name, g2_name, z_name};
 use frac128::Frac;
 use lp_model::{Col, Edit, List, Model, Name, copy_name};
-use model_edits::apply;
+use model_edits::{EditFault, apply};
 use model_points::without_costs;
 use std::alloc::{AllocError, Global};
 
@@ -31,21 +33,20 @@ fn push_named(list: &mut List<(Name, Frac)>, name: &Name, number: Frac) -> Resul
     }
 }
 
-/// The costs of an objective times a weight, beside the names of the columns. A product without room is told as want of memory too: a gap
-/// that `Gap::between` has answered has none.
+/// The costs of an objective times a weight, beside the names of the columns.
 fn weighed_costs(
     alloc: Global,
     cols: &[Col],
     which: u8,
     weight: &Frac,
 ) -> Result<List<(Name, Frac)>, AllocError>
+    requires { All (λ c. Fits (weight.now *ℚ (if nat_eq which 2 then c.cost2 else c.cost))) cols.now }
     ensures { IfOk result (λ list. list ≡ map (λ c. (c.name, weight.now *ℚ (if nat_eq which 2 then c.cost2 else c.cost))) cols.now) }
 {
     let mut list = List::new(alloc);
     for col in cols {
         let Ok(number) = weight.mul(col.cost_in(which)) else {
-            drop(list);
-            return Err(AllocError);
+            unreachable!()
         };
         let Ok(()) = push_named(&mut list, &col.name, number) else {
             drop(list);
@@ -63,6 +64,7 @@ fn row_less_z(
     weight: &Frac,
     z: &Name,
 ) -> Result<List<(Name, Frac)>, AllocError>
+    requires { All (λ c. Fits (weight.now *ℚ (if nat_eq which 2 then c.cost2 else c.cost))) model.now.cols }
     ensures { IfOk result (λ list. list ≡ row_terms (λ c. weight.now *ℚ (if nat_eq which 2 then c.cost2 else c.cost)) model.now ++ (z.now, int (negsuc 0)) ∷ []) }
 {
     let mut list = match weighed_costs(alloc, model.cols(), which, weight) {
@@ -80,7 +82,8 @@ fn row_less_z(
 
 /// The numbers of the rows of a gap, where Z has this name.
 pub fn gap_rows(alloc: Global, model: &Model, gap: &Gap, z: &Name) -> Result<GapRows, AllocError>
-    requires { z.now ≡ z_name model.now }
+    requires name { z.now ≡ z_name model.now }
+    requires fits { All (HasTerms gap.now.a gap.now.b) model.now.cols }
     ensures { IfOk result (AreRowsOf model.now gap.now) }
 {
     let first = match row_less_z(alloc, model, 1, &gap.a, z) {
@@ -124,25 +127,32 @@ pub fn least2_model(alloc: Global, model: &Model) -> Result<Model, AllocError>
     }
 }
 
-/// One edit. Each refusal is told as want of memory. Of a model that was made by `bare_model` there is no other: the new names are free, and
-/// the limits are those of a widened model.
+/// An edit that fits.
 fn with_edit(alloc: Global, model: Model, edit: Edit) -> Result<Model, AllocError>
+    requires { EditFits model edit }
     ensures { IfOk result (λ m. m ≡ edited model edit) }
 {
     let mut model = model;
     match apply(&mut model, alloc, edit) {
         Ok(()) => Ok(model),
-        Err(fault) => {
-            drop(fault);
+        Err(EditFault::Memory) => {
             drop(model);
             Err(AllocError)
         }
+        Err(EditFault::NoSuch(_)) => unreachable!(),
+        Err(EditFault::Duplicate(_)) => unreachable!(),
+        Err(EditFault::Limit(_)) => unreachable!(),
+        Err(EditFault::IntegerUnbounded(_)) => unreachable!(),
+        Err(EditFault::Ranged(_)) => unreachable!(),
     }
 }
 
 /// The model with Z alone in objective 1, a column of whole numbers from 0 to the width.
 fn with_width(alloc: Global, model: &Model, width: Frac, z: Name) -> Result<Model, AllocError>
-    requires { z ≡ z_name model.now }
+    requires name { z ≡ z_name model.now }
+    requires whole { (w : ℤ) × (width ≡ int w) }
+    requires wide { model.now.wide ≡ true }
+    requires room { HasInnerRoom model.now }
     ensures { IfOk result (λ m. (w : ℤ) → width ≡ int w → m ≡ gap_start model.now w) }
 {
     let inner = match without_costs(model, alloc) {
@@ -172,6 +182,7 @@ fn with_cap(
     hi: Frac,
     entries: List<(Name, Frac)>,
 ) -> Result<Model, AllocError>
+    requires { EditFits model (capped name hi entries) }
     ensures { IfOk result (λ m. m ≡ edited model (capped name hi entries)) }
 {
     let row = Edit::AddRow {
@@ -191,6 +202,8 @@ fn with_rows(
     gap: &Gap,
     rows: GapRows,
 ) -> Result<Model, AllocError>
+    requires first { EditFits start (capped (g1_name model.now) gap.now.side1 rows.first) }
+    requires second { EditFits (edited start (capped (g1_name model.now) gap.now.side1 rows.first)) (capped (g2_name model.now) gap.now.side2 rows.second) }
     ensures { IfOk result (λ m. m ≡ edited (edited start (capped (g1_name model.now) gap.now.side1 rows.first)) (capped (g2_name model.now) gap.now.side2 rows.second)) }
 {
     let GapRows { first, second } = rows;
@@ -214,6 +227,9 @@ fn with_rows(
 
 /// The model of a gap, which stands on a model in least form without constants.
 pub fn gap_model(alloc: Global, model: &Model, gap: &Gap) -> Result<Model, AllocError>
+    requires wide { model.now.wide ≡ true }
+    requires room { HasInnerRoom model.now }
+    requires fits { (a b i1 i2 : ℤ) × (IsGapOf a b i1 i2 gap.now × FitsGap model.now a b i1 i2) }
     ensures { IfOk result (λ m. (a b i1 i2 : ℤ) → IsGapOf a b i1 i2 gap.now → m ≡ gap_model model.now a b i1 i2) }
 {
     let z = match z_name(alloc, model) {

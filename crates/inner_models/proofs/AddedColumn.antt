@@ -21,7 +21,7 @@ use Rattle.inner_models.proofs.AddedRow.{AreBelow}
 zero_test : is_zero (int (pos 0)) ≡ true
 zero_test = (eq_by_cmp-decides (int (pos 0)) (int (pos 0))).1 refl
 
-entries_none : (k : ℕ) (names : List (List ℕ)) → entries_beside k names [] ≡ []
+pub entries_none : (k : ℕ) (names : List (List ℕ)) → entries_beside k names [] ≡ []
 entries_none k [] = refl
 entries_none k (name ∷ names) = rw zero_test (entries_none (suc k) names)
 

@@ -16,7 +16,7 @@ module _ (g : Col → Col) (name_kept : (c : Col) → (g c).name ≡ c.name) (en
   names_is [] = refl
   names_is (c ∷ cols) = (λ i. name_kept c i ∷ names_is cols i)
 
-  counts_is : (cols : List Col) → sum_by (λ c. length c.rows) (map g cols) ≡ sum_by (λ c. length c.rows) cols
+  pub counts_is : (cols : List Col) → sum_by (λ c. length c.rows) (map g cols) ≡ sum_by (λ c. length c.rows) cols
   counts_is [] = refl
   counts_is (c ∷ cols) =
       sum_by-cons (λ e. length e.rows) (g c) (map g cols)

@@ -1,6 +1,7 @@
 // What the inner models say of the model that they stand on. Each law is the contract of a function that does nothing.
 ghost use Rattle.inner_models.specs.Laws.{FreeNamesLaw, BoundedLaw, BareLaw, GapLaw, Least2Law, LeftEndLaw, RightEndLaw, PullLaw};
 ghost use Rattle.inner_models.specs.Undone.{UndoneLaw};
+ghost use Rattle.inner_models.specs.Room.{FittingEditsLaw, BareRoomLaw};
 
 /// The new names stand among no other, and those of the two rows differ.
 pub fn names_law()
@@ -45,4 +46,14 @@ pub fn pull_law()
 /// Edits that are taken back leave the model, and costs of all columns are an objective.
 pub fn undone_law()
     ensures { UndoneLaw }
+{}
+
+/// Nothing is wrong with the edits that make the inner models of a widened model with room.
+pub fn fitting_edits_law()
+    ensures { FittingEditsLaw }
+{}
+
+/// The model in least form has room for an inner model.
+pub fn bare_room_law()
+    ensures { BareRoomLaw }
 {}

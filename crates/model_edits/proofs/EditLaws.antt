@@ -8,7 +8,8 @@ use Rattle.lp_model.specs.Program.{Program}
 use Rattle.lp_model.proofs.NameLemmas.{get_or-map}
 use Rattle.lp_model.specs.Lawful.{AreWithinLimits}
 use Rattle.lp_model.specs.Edits.{AreKnown, edited, EditFits, HasSubject, known_names, names_beside, subject}
-use Rattle.model_edits.specs.Faults.{IsFirstUnknown, IsUnknownName, IsNoSuch, PassesLimit, EditBad, IsEditFault}
+use Rattle.model_edits.specs.Faults.{IsFirstUnknown, IsNoSuch, PassesLimit, EditBad, IsEditFault}
+use Rattle.model_edits.specs.private.Faults.{IsUnknownName}
 use Rattle.model_edits.specs.private.Answers.{IsEditAnswer}
 use Rattle.lp_model.specs.declared.types.Edit.{Edit}
 use Rattle.model_edits.specs.declared.faults.EditFault.{EditFault}

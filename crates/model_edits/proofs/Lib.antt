@@ -5,3 +5,4 @@ pub mod BesideLemmas
 pub mod LawfulLemmas
 pub mod CountLemmas
 pub mod EditLaws
+pub mod FittingLemmas

@@ -4,7 +4,7 @@ use Rattle.std.specs.Prelude.{◌≡◌, ◌⊎◌, ℕ, ◌<◌, ◌≤◌, Boo
 use Rattle.lp_model.specs.Program.{Program}
 use Rattle.lp_model.specs.Lawful.{entry_count}
 use Rattle.lp_model.specs.Limits.{row_limit, col_limit, entry_limit}
-use Rattle.lp_model.specs.Edits.{edited, subject, HasSubject, names_beside, known_names, IsBounded, HasRange, AreKnown, IsNameTaken, KeepsLimits}
+use Rattle.lp_model.specs.Edits.{edited, subject, HasSubject, names_beside, known_names, IsBounded, HasRange, AreKnown, IsNameTaken, KeepsLimits, EditFits}
 use Rattle.lp_model.specs.declared.types.Edit.{Edit}
 use Rattle.model_edits.specs.declared.faults.EditFault.{EditFault}
 use Rattle.model_edits.specs.declared.faults.EditFault.TheVariants.{NoSuch, Duplicate, Limit, IntegerUnbounded, Ranged, Memory}
@@ -16,10 +16,6 @@ pub record IsFirstUnknown (known names : List (List ℕ)) (name : List ℕ) : Ty
   pub is : name ≡ get_or names place name
   pub before : All (Contains known) (take place names)
   pub unknown : ¬ Contains known name
-
--- the fault tells the first of the names that is none of the known ones, or that there is no memory to tell it
-abbrev pub IsUnknownName : List (List ℕ) → List (List ℕ) → EditFault → Type 0
-IsUnknownName known names f = (f ≡ Memory) ⊎ ((name : List ℕ) × (f ≡ NoSuch name) × IsFirstUnknown known names name)
 
 -- n is the limit of the first count that passes its own
 abbrev pub PassesLimit : Bool → ℕ → ℕ → ℕ → ℕ → Type 0
@@ -44,3 +40,7 @@ EditBad M e Memory = ⊥
 -- the edit is refused for want of memory, or with its first fault
 abbrev pub IsEditFault : Program → Edit → EditFault → Type 0
 IsEditFault M e f = (f ≡ Memory) ⊎ EditBad M e f
+
+-- an edit that fits is refused for want of memory alone
+abbrev pub FittingLaw : Type 0
+FittingLaw = (M : Program) (e : Edit) (f : EditFault) → EditFits M e → IsEditFault M e f → f ≡ Memory

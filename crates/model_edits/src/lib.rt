@@ -14,8 +14,10 @@
 mod changing;
 mod edits;
 mod faults;
+mod laws;
 mod names;
 mod removing;
 
 pub use edits::{apply, apply_lent};
 pub use faults::EditFault;
+pub use laws::fitting_law;

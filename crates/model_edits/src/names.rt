@@ -1,7 +1,8 @@
 // Numbers beside names, and which of the names there are.
 ghost use Rattle.std.specs.Prelude.{◌≡◌, ◌↔◌, ◌<◌, ◌≤◌, ◌^◌, [], map, length, get_or, IsTrue, All, Contains, MatchOption, bytes_eq, IfOk};
 ghost use Rattle.lp_model.specs.Edits.{number_beside, entries_beside};
-ghost use Rattle.model_edits.specs.Faults.{IsFirstUnknown, IsUnknownName};
+ghost use Rattle.model_edits.specs.Faults.{IsFirstUnknown};
+ghost use Rattle.model_edits.specs.private.Faults.{IsUnknownName};
 
 use crate::faults::{EditFault, no_such};
 use frac128::Frac;

@@ -5,9 +5,9 @@ use Rattle.kept_env.specs.Env.{model_of}
 use Rattle.command_family.specs.Family.{HasCause, IsLawfulFamily}
 use Rattle.command_family.specs.Kinds.{Done, UnknownCommand, WrongArguments, WrongNumber, WantsMemory}
 use Rattle.command_family.specs.State.{ShellState}
-use Rattle.sym_shell.specs.Own.{OwnAsks, Quit, Unknown, Misused, NoNumber, OwnStep, own}
+use Rattle.sym_shell.specs.Own.{OwnAsks, Quit, Unknown, Misused, NoNumber, OwnStep, own_family}
 
-caused : (asks : OwnAsks) (old : ShellState) (reply : List ℕ) (new : ShellState) → OwnStep asks old reply new → HasCause own asks old reply new
+caused : (asks : OwnAsks) (old : ShellState) (reply : List ℕ) (new : ShellState) → OwnStep asks old reply new → HasCause own_family asks old reply new
 caused Quit old reply new h = record { kind = Done; is = ([], h.answer); cause = h.unchanged }
 caused (Unknown word) old reply new h = elim h.answer [
   | inl told ↦ record { kind = UnknownCommand; is = (codes "unknown command " ++ word ++ codes "\n", told); cause = told }
@@ -32,7 +32,7 @@ same (NoNumber word) old reply new h = h.unchanged
 same-faults : (old new : ShellState) → new ≡ old → old.faults ≤ new.faults
 same-faults old new e = subst (λ (s : ShellState). old.faults ≤ s.faults) (sym e) (omega arith)
 
-pub own-lawful : IsLawfulFamily own
+pub own-lawful : IsLawfulFamily own_family
 own-lawful = record {
   caused = caused;
   later = λ asks old reply new h. same-faults old new (same asks old reply new h);

@@ -34,5 +34,5 @@ OwnCause (NoNumber word) WantsMemory old reply new = reply ≡ memory_text
 OwnCause asks other old reply new = ⊥
 
 -- nothing is worked
-abbrev pub own : Family
-own = record { Asks = OwnAsks; Step = OwnStep; CauseOf = OwnCause; Works = λ asks. ⊥ }
+abbrev pub own_family : Family
+own_family = record { Asks = OwnAsks; Step = OwnStep; CauseOf = OwnCause; Works = λ asks. ⊥ }

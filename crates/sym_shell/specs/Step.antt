@@ -13,7 +13,7 @@ use Rattle.cert_commands.specs.Family.{CertAsks, certificates}
 use Rattle.cert_commands.specs.Family as certs
 use Rattle.search_replies.specs.Family.{SearchAsks, searches}
 use Rattle.search_replies.specs.Family as search
-use Rattle.sym_shell.specs.Own.{OwnAsks, own}
+use Rattle.sym_shell.specs.Own.{OwnAsks, own_family}
 use Rattle.sym_shell.specs.Own as rest
 
 -- a family, and what it is asked
@@ -33,10 +33,10 @@ in_family (Restore file) = record { family = filings; asks = files.Restore file 
 in_family (Bound which numbers words) = record { family = boundings; asks = sides.Bound which numbers words }
 in_family (Cert file) = record { family = certificates; asks = certs.Cert file }
 in_family (Write file) = record { family = filings; asks = files.Write file }
-in_family Quit = record { family = own; asks = rest.Quit }
-in_family (Unknown word) = record { family = own; asks = rest.Unknown word }
-in_family Misused = record { family = own; asks = rest.Misused }
-in_family (NoNumber word) = record { family = own; asks = rest.NoNumber word }
+in_family Quit = record { family = own_family; asks = rest.Quit }
+in_family (Unknown word) = record { family = own_family; asks = rest.Unknown word }
+in_family Misused = record { family = own_family; asks = rest.Misused }
+in_family (NoNumber word) = record { family = own_family; asks = rest.NoNumber word }
 
 -- ---- each family's commands among all
 

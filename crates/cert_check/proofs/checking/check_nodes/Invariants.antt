@@ -1,7 +1,7 @@
 use Rattle.std.proofs.Common.{◌≤◌, ◌≡◌}
 use Rattle.cert_text.specs.Tree.{CertTree}
 use Rattle.lp_model.specs.Formulations.{formulation}
-use Rattle.cert_check.specs.Walk.{IsWalked}
+use Rattle.cert_check.specs.private.Walk.{IsWalked}
 use Rattle.tight_regions.specs.Tight.{IsTrail, path_of_trail, depth_of, room}
 use Rattle.cert_check.proofs.VerdictSteps.{Goes}
 use Rattle.cert_check.proofs.checking.check_nodes.Given as goal

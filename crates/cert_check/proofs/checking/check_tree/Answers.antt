@@ -5,7 +5,8 @@ use Rattle.lp_model.specs.declared.types.CutRow.{CutRow}
 use Rattle.cert_text.specs.Whole.{AreOneTree, IsNarrowNode}
 use Rattle.cert_text.specs.declared.cert.CertNode.{CertNode}
 use Rattle.cert_check.specs.declared.judging.NodeWithPlaces.{NodeWithPlaces}
-use Rattle.cert_check.specs.Walk.{AreNodesPlaced, IsWalked}
+use Rattle.cert_check.specs.Walk.{AreNodesPlaced}
+use Rattle.cert_check.specs.private.Walk.{IsWalked}
 use Rattle.cert_check.proofs.checking.check_tree.Goals as goal
 
 walked : (M : Program) (rows : List CutRow) (nodes : List CertNode) (t : AreOneTree nodes) (placed : List NodeWithPlaces) → AreNodesPlaced M (length rows) nodes placed → All IsNarrowNode nodes → IsWalked (formulation M rows) t.tree placed

@@ -1,7 +1,7 @@
 use Rattle.std.proofs.Common.{subst, sym}
 use Rattle.lp_model.specs.Formulations.{formulation}
 use Rattle.cert_check.specs.Verdict.{IsFarkasJudged}
-use Rattle.cert_check.specs.Walk.{IsPlacedJudged}
+use Rattle.cert_check.specs.private.Walk.{IsPlacedJudged}
 use Rattle.cert_check.proofs.checking.judge.Goals as goal
 
 pub returns-in-Farkas : goal.returns-in-Farkas

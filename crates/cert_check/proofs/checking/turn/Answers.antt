@@ -1,6 +1,7 @@
 use Rattle.std.proofs.Common.{◌∙◌, ◌++◌, ◌∷◌, [], ap, sym, subst, arith}
 use Rattle.std.specs.Prelude.{All}
-use Rattle.cert_check.specs.Walk.{CanTurn, after_leaf}
+use Rattle.cert_check.specs.Walk.{after_leaf}
+use Rattle.cert_check.specs.private.Walk.{CanTurn}
 use Rattle.tight_regions.specs.Tight.{path_of_trail}
 use Rattle.cert_check.proofs.WalkLemmas.{turns-fewer, after_leaf-low, after_leaf-high}
 use Rattle.cert_check.proofs.checking.turn.Goals as goal

@@ -1,6 +1,7 @@
 use Rattle.std.proofs.Common.{◌≡◌, ◌≤◌}
 use Rattle.std.specs.Prelude.{All}
-use Rattle.cert_check.specs.Walk.{CanTurn, after_leaf}
+use Rattle.cert_check.specs.Walk.{after_leaf}
+use Rattle.cert_check.specs.private.Walk.{CanTurn}
 use Rattle.tight_regions.specs.Tight.{IsTrail, path_of_trail, depth_of, room}
 use Rattle.cert_check.proofs.checking.turn.Given as goal
 

@@ -1,5 +1,5 @@
 use Rattle.std.proofs.lemmas.Result.{IfOk-weaker}
-use Rattle.cert_check.specs.Cuts.{IsPlacedCut}
+use Rattle.cert_check.specs.private.Cuts.{IsPlacedCut}
 use Rattle.cert_check.proofs.CutSteps.{fails-names}
 use Rattle.cert_check.proofs.cuts.place_cut.Goals as goal
 

@@ -1,6 +1,7 @@
 use Rattle.std.proofs.Common.{ap, ◌++◌, ◌∙◌}
 use Rattle.std.proofs.lemmas.Result.{IfOk-weaker}
-use Rattle.command_files.specs.Checking.{cert_refusal_text, JudgedFor, RefusedFor}
+use Rattle.command_files.specs.Checking.{cert_refusal_text}
+use Rattle.command_files.specs.private.Checking.{JudgedFor, RefusedFor}
 use Rattle.command_files.proofs.CheckLemmas.{verdict-first}
 use Rattle.command_files.proofs.checking.check_for.Goals as goal
 
@@ -8,9 +9,9 @@ pub returns-clause-answer : goal.returns-clause-answer
 returns-clause-answer g c =
     let M = c.args.program.now in
     let cert = c.in-Ok.certificate in
-    IfOk-weaker c.write_judged-told.result _ _
-    (λ _ w. JudgedFor cert c.in-Ok.ensures.answer (verdict-first M cert c.args.reply.now.items c.write_judged-told.new.reply.items c.requires.empty w))
-    c.write_judged-told.ensures
+    IfOk-weaker c.write_any_judged-told.result _ _
+    (λ _ w. JudgedFor cert c.in-Ok.ensures.answer (verdict-first M cert c.args.reply.now.items c.write_any_judged-told.new.reply.items c.requires.empty w))
+    c.write_any_judged-told.ensures
 
 pub returns-in-Err-clause-answer : goal.returns-in-Err-clause-answer
 returns-in-Err-clause-answer g c =

@@ -1,7 +1,7 @@
 use Rattle.std.proofs.Common.{refl, ◌∙◌, sym, subst, inr, map, All, Contains}
 use Rattle.std.proofs.lemmas.Bool.{false≢true}
 use Rattle.lp_model.specs.Edits.{AreKnown, IsNameTaken, KeepsLimits, HasRange, adds_row}
-use Rattle.model_edits.specs.Faults.{IsUnknownName}
+use Rattle.model_edits.specs.private.Faults.{IsUnknownName}
 use Rattle.model_edits.specs.declared.faults.EditFault.TheVariants.{Duplicate, Ranged}
 use Rattle.model_edits.proofs.EditLaws.{fault_told, unknown_told}
 use Rattle.model_edits.proofs.CountLemmas.{row_passes, row_within}

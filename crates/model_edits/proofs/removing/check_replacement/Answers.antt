@@ -4,7 +4,7 @@ use Rattle.std.specs.List.{sum_by}
 use Rattle.lp_model.specs.Edits.{AreKnown, KeepsLimits, HasRange, number_beside, replaced_entry}
 use Rattle.lp_model.specs.declared.types.Col.{Col}
 use Rattle.lp_model.specs.declared.types.Edit.TheVariants.{ReplaceRow}
-use Rattle.model_edits.specs.Faults.{IsUnknownName}
+use Rattle.model_edits.specs.private.Faults.{IsUnknownName}
 use Rattle.model_edits.specs.declared.faults.EditFault.TheVariants.{Ranged}
 use Rattle.model_edits.proofs.EditLaws.{fault_told, no_such_told, unknown_told}
 use Rattle.model_edits.proofs.EditedLaws.{replace-few, replace-passes, replace-within, none_taken}

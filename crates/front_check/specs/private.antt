@@ -1,0 +1,3 @@
+-- What contracts of private functions alone cite: no caller has to read it.
+pub mod Found
+pub mod Parts
