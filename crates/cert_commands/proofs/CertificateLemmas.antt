@@ -12,7 +12,7 @@ use Rattle.cert_text.specs.Whole.{IsCertificate}
 use Rattle.cert_text.specs.declared.cert.Cert.{Cert}
 use Rattle.cert_check.specs.declared.verdict.Verdict.TheVariants.{Accepted}
 use Rattle.tree_cert.specs.Certificates.{IsCertificateOf, unbounded_certificate}
-use Rattle.tree_cert.specs.CertText.{HasCertWords, cert_text}
+use Rattle.cert_writer.specs.CertText.{HasCertWords, cert_text}
 use Rattle.tree_cert.specs.Laws.{NamesLaw, UnboundedNamesLaw}
 use Rattle.cert_commands.specs.Certificates.{IsCertificateText, IsUnboundedTextBy, IsUnboundedText}
 

@@ -11,7 +11,8 @@ use Rattle.lp_model.specs.Program.{Program, Point}
 use Rattle.cert_text.specs.declared.cert.Claim.TheVariants as claim
 use Rattle.search_parts.specs.Points.{IsIncumbent}
 use Rattle.tree_cert.specs.Certificates.{IsCertificateOf, unbounded_certificate}
-use Rattle.tree_cert.specs.CertText.{HasWordNames, cert_text}
+use Rattle.word_names.specs.WordNames.{HasWordNames}
+use Rattle.cert_writer.specs.CertText.{cert_text}
 use Rattle.kept_env.specs.declared.held.Held.{Held}
 use Rattle.kept_env.specs.declared.held.Held.TheVariants.{Nothing, Finished, Unbounded}
 use Rattle.kept_env.specs.declared.env.EnvFault.{EnvFault}

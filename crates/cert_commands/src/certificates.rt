@@ -6,10 +6,11 @@ ghost use Rattle.sound_searches.specs.Laws.{HasNoOpenLeaf};
 ghost use Rattle.cert_commands.specs.Certificates.{IsCertificateText, IsUnboundedTextBy, IsUnboundedText, IsCertAnswer};
 
 use cert_check::{accepted_law, verdict_law};
+use cert_writer::print_cert;
 use kept_env::{Env, EnvFault, Held};
 use lp_model::{Model, Point};
 use std::alloc::{AllocError, Global};
-use tree_cert::{certificate, names_law, print_cert, unbounded_certificate, unbounded_names_law};
+use tree_cert::{certificate, names_law, unbounded_certificate, unbounded_names_law};
 use tree_edit::Search;
 
 /// The text of the certificate of a search without an open leaf.

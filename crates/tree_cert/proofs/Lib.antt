@@ -5,12 +5,5 @@ pub mod ChosenLaws
 pub mod CutNames
 pub mod UsedLaws
 pub mod AcceptedLaws
-pub mod WordLaws
-pub mod StatedLaws
-pub mod PrintedLaws
-pub mod FitLaws
-pub mod SaidLaws
-pub mod KeptLaws
 pub mod NamesLaws
-pub mod PutLaws
 pub mod SameReason

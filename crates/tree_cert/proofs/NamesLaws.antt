@@ -36,7 +36,7 @@ use Rattle.tree_cert.specs.private.Marked.{IsDerivationThere}
 use Rattle.lp_model.specs.Lawful.{row_name, column_name}
 use Rattle.text_lines.specs.Words.{IsWord}
 use Rattle.word_names.specs.WordNames.{HasWordNames}
-use Rattle.tree_cert.specs.CertText.{HasNameWords, IsMultWord, HasCutWords, HasNodeWords, HasCertWords}
+use Rattle.cert_writer.specs.CertText.{HasNameWords, IsMultWord, HasCutWords, HasNodeWords, HasCertWords}
 use Rattle.tree_cert.proofs.CutNames.{derivation_there, derives_at}
 
 abbrev Worded : List ℕ × ℚ → Type 0

@@ -1,4 +1,3 @@
 -- What contracts of private functions alone cite: no caller has to read it.
 pub mod Marked
-pub mod Printed
 pub mod Walked

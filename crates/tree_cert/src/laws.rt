@@ -1,10 +1,5 @@
-// What the text of a certificate says.
-ghost use Rattle.tree_cert.specs.Laws.{PrintLaw, NamesLaw, UnboundedNamesLaw};
-
-/// What some text states, the text that is printed of it states too.
-pub fn print_law()
-    ensures { PrintLaw }
-{}
+// Which names certificates have.
+ghost use Rattle.tree_cert.specs.Laws.{NamesLaw, UnboundedNamesLaw};
 
 /// The names in the certificate of a search are words where those of the model are.
 pub fn names_law()

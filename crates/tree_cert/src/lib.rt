@@ -1,4 +1,4 @@
-//! Certificates of finished searches, and their text.
+//! Certificates of finished searches.
 //!
 //! A search without an open leaf proves its answer, and a certificate writes that proof down, so that it can be checked
 //! without the search. The search's tree in preorder becomes the certificate's:
@@ -18,27 +18,25 @@
 //! its numbers that are not 0.
 //!
 //! Public contract: `certificate` is exactly this of a finished search (`IsCertificateOf` in specs/Certificates), and
-//! `check` accepts it for the search's model: no step lacks room, since each leaf was closed by the same steps.
-//! `print_cert` writes a text that states the certificate, where its names are words (specs/CertText); they are where the
-//! model's are (`names_law`, `unbounded_names_law`), and in what some text states (`print_law`), cuts among it. So `read_cert`
-//! reads back what was printed. A cut that does not count is left out, and so is its multiplier.
+//! `check` accepts it for the search's model: no step lacks room, since each leaf was closed by the same steps. Its names are
+//! words where the model's are (`names_law`, `unbounded_names_law`), cuts among them, so that its text states it. A cut that does
+//! not count is left out, and so is its multiplier.
 //!
 //! The walk keeps the path to a node and no stack of its own, and memory is linear in the tree. Beside the path it keeps the
 //! region by its tightest changes (`tight_regions`): a leaf is judged by at most two changes for each column, however deep it is.
 //!
-//! Below stand the search (`tree_edit`) and the checker (`cert_check`). Above stands the command that writes a certificate.
+//! Below stand the search (`tree_edit`), the checker (`cert_check`) and what a text of words is (`cert_writer`). Above stands the
+//! command that writes a certificate.
 #![tactic(auto)]
 
 mod laws;
 mod leaf;
 mod names;
-mod printing;
 // (certificates of whole searches are tried where they are written and checked,
 // in `script_rows`)
 mod used;
 mod walk;
 mod writing;
 
-pub use laws::{names_law, print_law, unbounded_names_law};
-pub use printing::print_cert;
+pub use laws::{names_law, unbounded_names_law};
 pub use writing::{certificate, unbounded_certificate};

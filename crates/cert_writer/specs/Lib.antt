@@ -1,0 +1,3 @@
+pub mod CertText
+pub mod Room
+pub mod Laws

@@ -1,0 +1,93 @@
+-- What a solve leaves.
+use Rattle.std.proofs.Common.{◌≡◌, ℕ, ◌≤◌, refl, sym, ap, subst, arith, inl, inr}
+use Rattle.std.specs.Prelude.{Option, Some, None, Ok, Err, IsSome, IfSome}
+use Rattle.lp_model.specs.Program.{Program, Point}
+use Rattle.lp_model.specs.declared.answers.StopWhy.{StopWhy}
+use Rattle.lp_model.specs.declared.answers.StopWhy.TheVariants.{Nodes, Tree, Pivots, Wide}
+use Rattle.lp_model.specs.declared.answers.Answer.{Answer}
+use Rattle.lp_model.specs.declared.answers.Answer.TheVariants.{Optimal, Infeasible, Unbounded, Stopped, Memory}
+use Rattle.sound_searches.specs.Sound.{PlainSearch}
+use Rattle.kept_env.specs.Env.{PlainEnv, with_answer, pool_in}
+use Rattle.kept_env.specs.Worked.{held_by, WorksEnv}
+use Rattle.tree_search.specs.declared.limits.Limits.{Limits}
+use Rattle.tree_search.specs.Truth.{IsEarlyBy, IsTrueBy, IsTrueAnswer, HasEnded}
+use Rattle.tree_search.specs.Enough.{IsEnough}
+use Rattle.tree_search.specs.Solves.{SolvesModel, SolvesFrom, HasRayFrom}
+use Rattle.front_solver.specs.Truth.{IsTrueOf, IsStop, shown_claim}
+use Rattle.front_env.specs.FrontEnvs.{program_in, IsProvedIn, IsStopBy}
+
+-- ---- what is answered
+
+early_within : (Small : Type 0) (M : Program) (l : Limits) (why : StopWhy) (n : ℕ) → IsEarlyBy Small M l why n → n ≤ l.nodes
+early_within Small M l Nodes n h = let e = h.0 in omega (arith, e)
+early_within Small M l Tree n h = let e = h.0 in omega (arith, e)
+early_within Small M l (Pivots place) n h = h.0
+early_within Small M l (Wide at) n h = h.0
+
+true_within : (Small : Type 0) (M : Program) (l : Limits) (answer : Answer) → IsTrueBy Small M l answer → IsTrueOf M l.nodes answer
+true_within Small M l (Optimal v x n) h = (h.0, h.1.within_limit)
+true_within Small M l (Infeasible n) h = (h.0, h.1.within_limit)
+true_within Small M l (Unbounded n) h = (h.0, h.1.within_limit)
+true_within Small M l (Stopped why n bound best) h = (h.0, early_within Small M l why n h.1)
+true_within Small M l Memory h = tt
+
+-- what is shown is true of the search's model, and its tree proves it
+proved : (Small : Type 0) (l : Limits) (answer : Answer) (S : PlainSearch) (direction : Option Point) → IsTrueBy Small S.model l answer → IsProvedIn (with_answer S (held_by answer direction)) (shown_claim answer)
+proved Small l (Optimal v x n) S direction h = record { held = refl; true_claim = (x, (h.0.0, sym h.0.1)); by_tree = λ e. cc }
+proved Small l (Infeasible n) S direction h = record { held = refl; true_claim = h.0; by_tree = λ e. cc }
+proved Small l (Unbounded n) S direction h = tt
+proved Small l (Stopped why n bound best) S direction h = tt
+proved Small l Memory S direction h = tt
+
+-- a stop is not want of memory
+stopped_by : (l : Limits) (M : Program) (old S : PlainSearch) (answer : Answer) → SolvesModel M l old answer S → (IsEnough M S.cuts l → HasEnded answer) → IsStop answer → IsStopBy l M answer
+stopped_by l M old S answer found enough stop =
+    elim found [
+      | inl solved ↦ record { search = S; solved = solved; short = λ e. not_ended answer stop (enough e) }
+      | inr wants ↦ absurd (subst IsStop wants.wants stop)
+    ]
+  where
+    not_ended : (a : Answer) → IsStop a → HasEnded a → ⊥
+    not_ended (Optimal v x n) s h = s
+    not_ended (Infeasible n) s h = s
+    not_ended (Unbounded n) s h = s
+    not_ended (Stopped why n bound best) s h = h
+    not_ended Memory s h = s
+
+-- the model stays
+same_model : (l : Limits) (old S : PlainSearch) (answer : Answer) → SolvesFrom l old answer S → S.model ≡ old.model
+same_model l old S answer found =
+    elim found [
+      | inl solved ↦ solved.model
+      | inr wants ↦ ap (λ (T : PlainSearch). T.model) wants.kept
+    ]
+
+-- ---- what is left
+
+-- a search that was solved by these limits
+pub record IsSolvedTo (l : Limits) (M : Program) (answer : Answer) (new : PlainEnv) : Type 0 where
+  pub loaded : IsSome new.search
+  pub program : program_in new.search ≡ M
+  pub true_of : IsTrueOf (program_in new.search) l.nodes answer
+  pub shown : IsProvedIn new (shown_claim answer)
+  pub stopped : IsStop answer → IsStopBy l M answer
+
+pub solved_to : (l : Limits) (search : Option PlainSearch) (old new : PlainEnv) (answer : Answer) → IsSome search → WorksEnv (SolvesFrom l) (HasRayFrom l) search old (Ok answer) new → IfSome search (λ S. IsTrueAnswer S.model l answer) →
+    IfSome search (λ S. IsEnough S.model (pool_in new.search) l → HasEnded answer) → IsSolvedTo l (program_in search) answer new
+solved_to l None old new answer some works is enough = absurd cc
+solved_to l (Some S) old new answer some works is enough =
+    let after = works.search in
+    let model = same_model l S after answer works.found in
+    let truth : IsTrueAnswer after.model l answer = subst (λ (P : Program). IsTrueAnswer P l answer) (sym model) is in
+    subst (IsSolvedTo l S.model answer) (sym works.env_is) (record {
+      loaded = refl;
+      program = model;
+      true_of = true_within _ after.model l answer truth;
+      shown = proved _ l answer after works.direction truth;
+      stopped = stopped_by l S.model S after answer works.found (subst (λ (e : PlainEnv). IsEnough S.model (pool_in e.search) l → HasEnded answer) works.env_is enough);
+    })
+
+-- a solve of a model that is there is not refused
+pub not_refused : (l : Limits) (search : Option PlainSearch) (old new : PlainEnv) (fault : Rattle.kept_env.specs.declared.env.EnvFault.EnvFault) → IsSome search → WorksEnv (SolvesFrom l) (HasRayFrom l) search old (Err fault) new → ⊥
+not_refused l None old new fault some works = absurd cc
+not_refused l (Some S) old new fault some works = works

@@ -1,0 +1,79 @@
+-- An environment that solves inner models of a front: a model with a search of its own, the limits, and what its last solve has shown.
+--     program_of e           the model that it has
+--     stops_of e M n answer  it may stop so with the model M and at most n results
+use Rattle.std.specs.Prelude.{◌≡◌, ◌≢◌, ℕ, ◌≤◌, false, [], Option, Some, None, IsSome, refl}
+use Rattle.std.specs.Coded.{Coded, code_by, coded×, coded_option}
+use Rattle.lp_model.specs.Program.{Program}
+use Rattle.lp_model.specs.declared.types.Sense.TheVariants.{Min}
+use Rattle.lp_model.specs.declared.answers.Answer.{Answer}
+use Rattle.sound_searches.specs.Sound.{PlainSearch}
+use Rattle.kept_env.specs.Env.{PlainEnv, env_code}
+use Rattle.kept_env.specs.declared.held.Held.TheVariants.{Finished}
+use Rattle.tree_search.specs.Solves.{Solved}
+use Rattle.tree_search.specs.Enough.{IsEnough}
+use Rattle.tree_search.specs.declared.limits.Limits.{Limits}
+use Rattle.tree_search.specs.contracts.limits.Limits.{the_row as limits_row}
+use Rattle.cert_text.specs.declared.cert.Claim.{Claim}
+use Rattle.cert_text.specs.contracts.cert.Claim.{the_row as claim_row}
+use Rattle.cert_text.specs.declared.cert.Claim.TheVariants.{Unbounded}
+use Rattle.cert_check.specs.Laws.{IsTrueClaim}
+
+pub record PlainFrontEnv : Type 0 where
+  -- its own, with a model
+  pub env : PlainEnv
+  pub shown : Option Claim
+  -- how far each solve may go; how many results it may place is said at each
+  pub limits : Limits
+
+-- ---- the model
+
+abbrev pub unloaded_program : Program
+unloaded_program = record { sense = Min; obj = []; obj2 = []; consts = []; rows = []; cols = []; wide = false }
+
+abbrev pub program_in : Option PlainSearch → Program
+program_in (Some S) = S.model
+program_in None = unloaded_program
+
+abbrev pub program_of : PlainFrontEnv → Program
+program_of e = program_in e.env.search
+
+-- ---- what is shown
+
+-- the claim is true of the model, and the search's tree proves it
+pub record IsProvedClaim (env : PlainEnv) (claim : Claim) : Type 0 where
+  pub held : env.held ≡ Finished
+  pub true_claim : IsTrueClaim (program_in env.search) claim
+  pub by_tree : claim ≢ Unbounded
+
+abbrev pub IsProvedIn : PlainEnv → Option Claim → Type 0
+IsProvedIn env None = Unit {0}
+IsProvedIn env (Some claim) = IsProvedClaim env claim
+
+pub record IsFrontEnv (e : PlainFrontEnv) : Type 0 where
+  pub loaded : IsSome e.env.search
+  pub shown : IsProvedIn e.env e.shown
+  pub workers : 1 ≤ e.limits.workers
+
+-- ---- stops
+
+-- these limits with at most n results
+abbrev pub with_results : Limits → ℕ → Limits
+with_results l n = record { nodes = n; pivots = l.pivots; tree = l.tree; workers = l.workers; seed = l.seed }
+
+-- A search of M by these limits, from a fresh root on, answers so, by its cause over that search, its pool and the limits; and the limits
+-- were not enough for it to go to its end.
+pub record IsStopBy (l : Limits) (M : Program) (answer : Answer) : Type 0 where
+  pub search : PlainSearch
+  pub solved : Solved M l answer search
+  pub short : ¬ IsEnough M search.cuts l
+
+abbrev pub stops_of : PlainFrontEnv → Program → ℕ → Answer → Type 0
+stops_of e M n answer = IsStopBy (with_results e.limits n) M answer
+
+-- ---- as data
+
+abbrev pub front_env_code : Coded PlainFrontEnv
+front_env_code =
+    code_by (PlainEnv × (Option Claim × Limits)) (coded× env_code (coded× (coded_option claim_row.coded) limits_row.coded)) (λ e. (e.env, (e.shown, e.limits)))
+    (λ p. record { env = p.0; shown = p.1.0; limits = p.1.1 })
+    (λ _. refl)

@@ -1,0 +1,3 @@
+pub mod FrontReplies
+pub mod FrontsShown
+pub mod Laws

@@ -1,0 +1,4 @@
+pub mod Truth
+pub mod Stops
+pub mod Solved
+pub mod Columns

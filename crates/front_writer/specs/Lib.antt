@@ -1,0 +1,3 @@
+pub mod FrontWords
+pub mod Laws
+pub mod private

@@ -1,0 +1,2 @@
+pub mod SweptToEnd
+pub mod ClaimedTrees
