@@ -1,5 +1,5 @@
 -- What `check MODEL CERT` prints.
-use Rattle.std.specs.Prelude.{◌≡◌, ℕ, Bool, true, false, ◌&&◌, if◌then◌else◌, List, length, ◌++◌, codes, decimal, Option, None, Result, Ok, Err, ◌==◌}
+use Rattle.std.specs.Prelude.{◌≡◌, ℕ, Bool, true, false, ◌&&◌, if◌then◌else◌, List, length, ◌++◌, codes, decimal, pos, Option, None, Result, Ok, Err, ◌==◌}
 use Rattle.std.specs.List.{starts_with}
 use Rattle.std.specs.Io.KnownBytes.{Appends}
 use Rattle.frac128.specs.Rational.{ℚ}
@@ -19,6 +19,7 @@ use Rattle.front_text.specs.Text.{is_front_text, MeantFront, FaultyFront}
 use Rattle.front_text.specs.declared.front.AnyCert.{AnyCert}
 use Rattle.front_text.specs.declared.front.AnyCert.TheVariants.{One, Front}
 use Rattle.front_text.specs.declared.front.FrontCert.{FrontCert}
+use Rattle.inner_models.specs.Inner.{bare_model, gap_model}
 use Rattle.front_check.specs.Accepted.{outcomes_of}
 use Rattle.front_check.specs.Verdict.{IsFrontVerdict}
 use Rattle.front_check.specs.declared.verdict.FrontVerdict.{FrontVerdict}
@@ -88,10 +89,14 @@ verdict_text M (Wide node step) = wide_text M node step
 abbrev pub accepted_front_text : ℕ → List ℕ
 accepted_front_text outcomes = codes "accepted frontier " ++ decimal outcomes ++ codes "\n"
 
+-- a model with the rows and columns of all inner models of a front, of which a step may be: behind the model's own stand Z, and G1 and G2
+abbrev pub inner_program : Program → Program
+inner_program M = gap_model (bare_model M) (pos 0) (pos 0) (pos 0) (pos 0)
+
 abbrev pub front_verdict_text : Program → FrontVerdict → List ℕ
 front_verdict_text M (front.Accepted outcomes) = accepted_front_text outcomes
 front_verdict_text M (front.Rejected node why) = rejected_text node why
-front_verdict_text M (front.Wide node step) = wide_text M node step
+front_verdict_text M (front.Wide node step) = wide_text (inner_program M) node step
 
 -- there are so many outcomes, and in the model's own sense they are its front: exactly the outcomes that no other dominates, each once
 pub record IsTrueFront (M : Program) (cert : FrontCert) (outcomes : ℕ) : Type 0 where

@@ -8,6 +8,7 @@ ghost use Rattle.front_text.specs.Reading.{IsAnyCertificate};
 ghost use Rattle.command_files.specs.Checking.{ReadsCert, accepted_value_text, claim_text, rejected_text, wide_text, verdict_text, accepted_front_text, front_verdict_text, ChecksFiles, Checks};
 ghost use Rattle.command_files.specs.private.Checking.{WritesVerdict, WritesFrontVerdict, WritesAnyVerdict, ChecksFor};
 
+use crate::inner::inner_model;
 use crate::reading::{Refusal, read_model};
 use crate::refusing::{write_cert_refusal, write_refusal};
 use cert_check::{RegionBuf, Verdict, accepted_law, check, verdict_law};
@@ -149,17 +150,23 @@ fn write_accepted_front(reply: &mut Vec<u8>, outcomes: u64) -> Result<(), AllocE
     reply.extend_from_slice(b"\n")
 }
 
+/// What is told of a verdict on a front. A step may be of a row or a column that an inner model adds.
 fn write_front_verdict(
+    alloc: Global,
     reply: &mut Vec<u8>,
     model: &Model,
     verdict: &FrontVerdict,
 ) -> Result<(), AllocError>
+    requires { model.now.wide ≡ false }
     ensures { IfOk result (λ _. reply.new.items ≡ reply.old.items ++ front_verdict_text model.now verdict.now) }
 {
     match verdict {
         FrontVerdict::Accepted { outcomes } => write_accepted_front(reply, *outcomes),
         FrontVerdict::Rejected { why, node } => write_rejected(reply, *node, *why),
-        FrontVerdict::Wide { node, step } => write_wide(reply, model, *node, step),
+        FrontVerdict::Wide { node, step } => {
+            let inner = inner_model(alloc, model)?;
+            write_wide(reply, &inner, *node, step)
+        }
     }
 }
 
@@ -179,7 +186,7 @@ fn write_judged_front(
     front_law();
     show_model(model);
     match check_front(alloc, model, cert) {
-        Ok(verdict) => write_front_verdict(reply, model, &verdict),
+        Ok(verdict) => write_front_verdict(alloc, reply, model, &verdict),
         Err(AllocError) => reply.extend_from_slice(MEMORY_REPLY),
     }
 }

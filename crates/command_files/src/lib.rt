@@ -14,6 +14,7 @@
 
 mod checking;
 mod filing;
+mod inner;
 mod printing;
 mod reading;
 mod refusing;
