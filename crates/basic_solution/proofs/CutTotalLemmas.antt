@@ -17,7 +17,7 @@ use Rattle.lp_model.specs.declared.types.ColId.{ColId}
 use Rattle.lp_model.specs.CutTerms.{term_of, AreTerms}
 use Rattle.row_tableau.specs.Activities.{activity_coefficient}
 use Rattle.table_entries.specs.WholeSteps.{IsShort, IsShortOver, whole_number_at}
-use Rattle.table_entries.proofs.WholeSumLemmas.{term_of_factor}
+use Rattle.whole_sums.proofs.SumLemmas.{term_of_factor}
 use Rattle.basic_solution.specs.Held.{Held, IsSided, relaxation, state, table, variables}
 use Rattle.basic_solution.specs.RowTotals.{IsSmallNumber, HasSmallTerm}
 use Rattle.basic_solution.specs.private.RowTotals.{IsRowTotal}

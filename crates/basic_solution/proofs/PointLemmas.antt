@@ -11,8 +11,8 @@ use Rattle.table_entries.specs.States.{basic_value}
 use Rattle.table_entries.specs.Steps.{nothing, at_nonbasic, at_basic}
 use Rattle.table_entries.proofs.SumBelowLaws.{sum_below-zero, if_same, if_other}
 use Rattle.table_entries.proofs.Arranged.{assigned-basic, assigned-nonbasic}
-use Rattle.table_entries.specs.WholeSums.{IsWholeTerm}
-use Rattle.table_entries.proofs.WholeSumLemmas.{term_of_nothing}
+use Rattle.whole_sums.specs.Wholes.{IsWholeTerm}
+use Rattle.whole_sums.proofs.SumLemmas.{term_of_nothing}
 use Rattle.basic_solution.specs.Held.{Held, IsSided, relaxation, state, table, variables}
 use Rattle.basic_solution.specs.Numbers.{ValueFits, CostsFit, IsValueNamed, IsCostNamed, IsNumberAnswer, IsMultiplierAnswer}
 use Rattle.basic_solution.specs.private.Numbers.{IsBasicValueAnswer, IsReducedCostAnswer}

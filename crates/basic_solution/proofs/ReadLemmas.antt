@@ -4,8 +4,8 @@ use Rattle.std.specs.Int.{w128}
 use Rattle.std.proofs.Common.{sym, ap, ap₂, subst, ◌∙◌, arith, to_z, of_z, w64}
 use Rattle.std.proofs.lemmas.Int.{ints}
 use Rattle.table_entries.specs.WholeSteps.{IsShort}
-use Rattle.table_entries.specs.WholeSums.{HasMargin}
-use Rattle.table_entries.proofs.WholeLemmas.{short_product}
+use Rattle.whole_sums.specs.Wholes.{HasMargin}
+use Rattle.whole_sums.proofs.RoomLemmas.{short_product}
 use Rattle.table_entries.proofs.ReadLemmas.{short_read, product_read}
 use Rattle.basic_solution.specs.RowTotals.{IsSmallNumber}
 use Rattle.basic_solution.proofs.RowTotalLemmas.{start_size}

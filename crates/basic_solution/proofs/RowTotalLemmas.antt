@@ -20,8 +20,8 @@ use Rattle.table_entries.proofs.Arranged.{sum_below-split}
 use Rattle.table_entries.proofs.OneTable.{covered}
 use Rattle.table_entries.proofs.SumBelowLaws.{sum_below-zero}
 use Rattle.table_entries.specs.WholeSteps.{IsShort}
-use Rattle.table_entries.specs.WholeSums.{IsWholeTerm, HasMargin}
-use Rattle.table_entries.proofs.WholeSumLemmas.{term_of_nothing, start_is, total_more, whole_fits_more}
+use Rattle.whole_sums.specs.Wholes.{IsWholeTerm, HasMargin}
+use Rattle.whole_sums.proofs.SumLemmas.{term_of_nothing, start_is, total_more, fits_more_over}
 use Rattle.basic_solution.specs.Held.{Held, IsSided, relaxation, state, table, variables}
 use Rattle.basic_solution.specs.RowTotals.{IsSmallNumber, HasSmallTerm, AreFreeFrom, IsCostTotal}
 use Rattle.basic_solution.specs.private.RowTotals.{IsRowTotal}
@@ -75,8 +75,8 @@ module _ (start : ℤ) (start_small : IsSmallNumber start) (a x : ℕ → ℚ) (
       record {
         total = next;
         size = size;
-        value = total_more (int start) a x k d before.total h d_short margin f n term next refl next_margin before.value;
-        fits = whole_fits_more (int start) a x k d before.total h d_short margin f n term next refl next_margin before.value before.fits;
+        value = total_more (int start) a x k d before.total (record { positive = h; short = d_short }) margin f n term next refl next_margin before.value;
+        fits = fits_more_over (int start) a x k d before.total (record { positive = h; short = d_short }) margin f n term next refl next_margin before.value before.fits;
       }
 
   adds_up : (k : ℕ) → k < 2 ^ 32 → ((j : ℕ) → j < k → HasSmallTerm d (a j) (x j)) → AddsUp k

@@ -11,7 +11,7 @@ use Rattle.checked_sum.proofs.SumLaws.{sum_below-add, sum_below-same}
 use Rattle.table_entries.proofs.SumBelowLaws.{sum_below-zero, sum_below-changed}
 use Rattle.lp_model.specs.declared.types.ColId.{ColId}
 use Rattle.lp_model.specs.CutTerms.{term_of, AreTerms}
-use Rattle.table_entries.proofs.WholeSumLemmas.{sum_is, product_is}
+use Rattle.whole_sums.proofs.SumLemmas.{sum_is, product_is}
 
 abbrev pub sum_of_terms : (ℕ → ℚ) → List (ColId × ℚ) → ℚ
 sum_of_terms x [] = int (pos 0)

@@ -3,7 +3,7 @@ use Rattle.std.specs.Prelude.{◌≡◌, ℕ, ◌<◌, ◌≤◌, ◌^◌, ℤ, 
 use Rattle.frac128.specs.Rational.{ℚ, int}
 use Rattle.frac128.specs.LowestTerms.{quotient_of}
 use Rattle.table_entries.specs.Relaxation.{reduced_cost}
-use Rattle.table_entries.specs.WholeSums.{IsWholeTerm, HasMargin}
+use Rattle.whole_sums.specs.Wholes.{IsWholeTerm, HasMargin}
 use Rattle.basic_solution.specs.Held.{Held, relaxation, table, variables}
 use Rattle.basic_solution.specs.Numbers.{CostsFit}
 

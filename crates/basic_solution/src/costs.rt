@@ -2,7 +2,7 @@
 ghost use Rattle.std.specs.Prelude.{◌≡◌, ◌<◌, ◌<ℤ◌, pos, IfSome};
 ghost use Rattle.table_entries.specs.Steps.{at_basic};
 ghost use Rattle.table_entries.specs.WholeSteps.{IsShort};
-ghost use Rattle.table_entries.specs.WholeSums.{IsWholeTerm};
+ghost use Rattle.whole_sums.specs.Wholes.{IsWholeTerm};
 ghost use Rattle.basic_solution.specs.Held.{relaxation, table, variables};
 ghost use Rattle.basic_solution.specs.Numbers.{IsFirstWideReducedCost, IsWideCost};
 ghost use Rattle.basic_solution.specs.private.Numbers.{IsReducedCostAnswer};
@@ -14,7 +14,7 @@ use checked_sum::{Terms, checked_sum};
 use frac128::Frac;
 use lp_model::WideStep;
 use row_tableau::Position;
-use table_entries::{WholeTerm, product, quotient};
+use whole_sums::{WholeTerm, product, quotient};
 
 /// The terms of the reduced cost of a place, by variable: cost times entry of the basic ones.
 #[derive(Drop)]

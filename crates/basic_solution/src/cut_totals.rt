@@ -12,7 +12,8 @@ use crate::total_sides::total_breach;
 use frac128::Frac;
 use lp_model::{ColId, WideStep};
 use row_tableau::Position;
-use table_entries::{Stand, product, short_number};
+use table_entries::Stand;
+use whole_sums::{product, short_number};
 
 /// The column of a term.
 #[inline]

@@ -1,8 +1,8 @@
 // The point of a state: where the nonbasic variables stand, and the values of the basic ones.
-ghost use Rattle.std.specs.Prelude.{◌≡◌, ◌<◌, ◌+◌, ◌<ℤ◌, pos, get_or, IfSome};
+ghost use Rattle.std.specs.Prelude.{◌≡◌, ◌<◌, ◌+◌, ◌<ℤ◌, ⊤, pos, get_or, IfSome};
 ghost use Rattle.table_entries.specs.Steps.{at_nonbasic};
 ghost use Rattle.table_entries.specs.Directions.{stand_number};
-ghost use Rattle.table_entries.specs.WholeSums.{IsWholeTerm};
+ghost use Rattle.whole_sums.specs.Wholes.{IsDenominator, IsWholeTerm};
 ghost use Rattle.basic_solution.specs.Held.{relaxation, state, table, variables};
 
 use crate::sided::SidedBasis;
@@ -10,7 +10,8 @@ use checked_sum::{Terms, checked_sum};
 use frac128::Frac;
 use lp_model::{Bound, WideStep};
 use row_tableau::Position;
-use table_entries::{Stand, WholeTerm, WholeTerms, quotient, whole_number, whole_sum};
+use table_entries::Stand;
+use whole_sums::{WholeTerm, WholeTerms, quotient, whole_number, whole_sum};
 
 /// The number at a side, 0 where there is none.
 fn side_number(stand: Stand, low: &Bound, high: &Bound) -> Frac
@@ -23,11 +24,13 @@ fn side_number(stand: Stand, low: &Bound, high: &Bound) -> Frac
     }
 }
 
-/// The terms of the value of a basic variable, by variable: entry times number of the nonbasic ones.
+/// The terms of the value of a basic variable, by variable: entry times number of the nonbasic ones. As whole numbers they are
+/// over the denominator.
 #[derive(Drop)]
 struct PointTerms<'a, 'b> {
     state: &'b SidedBasis<'a>,
     row: usize,
+    denominator: i64,
     ghost within: { row < state.now.tableau.activities },
 }
 
@@ -58,12 +61,18 @@ impl WholeTerms for PointTerms<'_, '_> {
 
     ghost number = { λ t v. at_nonbasic (relaxation t.state.now) (table t.state.now) (state t.state.now).at v };
 
+    ghost denominator = { λ t. t.denominator };
+
+    ghost is_lawful = { λ t. IsDenominator t.denominator };
+
+    ghost holds = { λ t v. ⊤ };
+
     fn count(&self) -> usize {
         self.state.variables()
     }
 
-    fn term(&self, index: usize, denominator: i64) -> Option<WholeTerm> {
-        self.state.point_term(self.row, index, denominator)
+    fn term(&self, index: usize) -> Option<WholeTerm> {
+        self.state.point_term(self.row, index, self.denominator)
     }
 }
 
@@ -151,7 +160,11 @@ impl SidedBasis<'_> {
         ensures { IsBasicValueAnswer self.now row result }
     {
         let _sided = &self.tableau;
-        let terms = PointTerms { state: self, row };
+        let terms = PointTerms {
+            state: self,
+            row,
+            denominator,
+        };
         if let Some(value) = whole_sum(0, denominator, &terms) {
             return Ok(value);
         }

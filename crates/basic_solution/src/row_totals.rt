@@ -2,14 +2,14 @@
 ghost use Rattle.std.specs.Prelude.{◌≡◌, ◌<◌, ◌<ℤ◌, ◌+ℤ◌, ◌*ℤ◌, pos, IfSome};
 ghost use Rattle.frac128.specs.Rational.{int};
 ghost use Rattle.table_entries.specs.WholeSteps.{IsShort};
-ghost use Rattle.table_entries.specs.WholeSums.{HasMargin, IsWholeTerm};
+ghost use Rattle.whole_sums.specs.Wholes.{HasMargin, IsWholeTerm};
 ghost use Rattle.basic_solution.specs.Held.{state, table};
 ghost use Rattle.basic_solution.specs.RowTotals.{IsSmallNumber};
 ghost use Rattle.basic_solution.specs.private.RowTotals.{IsRowTotal};
 
 use crate::sided::SidedBasis;
 use frac128::Frac;
-use table_entries::{WholeTerm, product};
+use whole_sums::{WholeTerm, product};
 
 /// Numbers below this leave room for a term of each variable, in any order: there are fewer than 2^32.
 const SMALL: i64 = 1 << 31;

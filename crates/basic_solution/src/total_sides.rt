@@ -3,12 +3,13 @@ ghost use Rattle.std.specs.Prelude.{◌≡◌, ◌↔◌, ◌<ℤ◌, pos, IsTru
 ghost use Rattle.frac128.specs.Rational.{◌<ℚ◌};
 ghost use Rattle.frac128.specs.LowestTerms.{quotient_of};
 ghost use Rattle.table_entries.specs.WholeSteps.{IsShort};
-ghost use Rattle.table_entries.specs.WholeSums.{HasMargin};
+ghost use Rattle.whole_sums.specs.Wholes.{HasMargin};
 ghost use Rattle.basic_solution.specs.Breach.{IsBelowSide, IsAboveSide, IsBreach};
 
 use frac128::Frac;
 use lp_model::Bound;
-use table_entries::{Stand, product, quotient, whole_number};
+use table_entries::Stand;
+use whole_sums::{product, quotient, whole_number};
 
 /// Whether the total over the denominator is below a number.
 fn is_quotient_below(total: i128, denominator: i64, bound: &Frac) -> bool

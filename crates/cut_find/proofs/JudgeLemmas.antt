@@ -15,7 +15,7 @@ use Rattle.lp_model.specs.declared.types.Literal.{Literal}
 use Rattle.lp_model.specs.declared.types.Derivation.{Derivation}
 use Rattle.cover_cuts.specs.Covers.{side_coefficient, side_limit, least_number, IsPosed, Fails}
 use Rattle.cover_cuts.specs.Answers.{IsValidAnswer}
-use Rattle.leaf_dual.specs.Wholes.{IsFactor, IsDenominator}
+use Rattle.whole_sums.specs.Wholes.{IsShort, IsDenominator}
 use Rattle.cut_find.specs.declared.whole_side.Sums.{Sums}
 use Rattle.cut_find.specs.declared.whole_side.WholeSide.{WholeSide}
 use Rattle.cut_find.specs.Greedy.{is_in, literals_below, cover_of, TakesGreedily}
@@ -31,14 +31,14 @@ none_there (Some v) e = let f : true ≡ false = e in cc
 module _ (M : Program) (i : ℕ) (s : Side) where
   -- ---- from the sums
 
-  module _ (d limit : ℤ) (sums : Sums) (is : IsDenominator d) (factor : IsFactor limit) (limit_is : side_limit M i s ≡ Some (quotient_of limit d)) (all : AreSumsTo M i s d (length M.cols) sums) (met : ¬ (limit <ℤ sums.base)) where
+  module _ (d limit : ℤ) (sums : Sums) (is : IsDenominator d) (short : IsShort limit) (limit_is : side_limit M i s ≡ Some (quotient_of limit d)) (all : AreSumsTo M i s d (length M.cols) sums) (met : ¬ (limit <ℤ sums.base)) where
     base_is : cover_sum M i s [] ≡ quotient_of sums.base d
     base_is = sym (all.base ∙ zero-+ℚ (cover_sum M i s []))
 
     pub whole_of_sums : IsWholeSide M i s (record { denominator = d; limit = limit; base = sums.base })
     whole_of_sums = record {
       denominator = is;
-      factor = factor;
+      short = short;
       limit = limit_is;
       bounds = all.bounds;
       fits = λ js. (all.all js).fits;

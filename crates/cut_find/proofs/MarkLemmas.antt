@@ -12,8 +12,8 @@ use Rattle.frac128.proofs.Terms.{quotient-neg_ℚ}
 use Rattle.lp_model.specs.Program.{Program}
 use Rattle.lp_model.specs.declared.types.Side.{Side}
 use Rattle.cover_cuts.specs.Covers.{side_coefficient}
-use Rattle.leaf_dual.specs.Wholes.{IsFactor, HasRoomForProduct}
-use Rattle.leaf_dual.proofs.WholeLemmas.{nothing_over, positive_over, negative_over, sum_is}
+use Rattle.whole_sums.specs.Wholes.{IsShort, HasMargin}
+use Rattle.whole_sums.proofs.SumLemmas.{nothing_over, positive_over, negative_over, sum_is}
 use Rattle.cut_find.specs.declared.whole_side.Mark.{Mark}
 use Rattle.cut_find.specs.declared.whole_side.WholeSide.{WholeSide}
 use Rattle.cut_find.specs.Greedy.{is_in, places_without}
@@ -70,11 +70,11 @@ module _ (M : Program) (i : ℕ) (s : Side) (d : ℤ) where
       by (inl e) =
           subst (λ n. IsMarkOf M i s d js n (mark_at (set old j next) n)) (sym e)
           (subst (IsMarkOf M i s d js j) (sym (get_or-set_same old j next d₀ within))
-          (record { factor = subst IsFactor (sym weight) mark_is.factor; weight = mark_is.weight ∙ ap (λ m. quotient_of m d) (sym weight); taken = taken }))
+          (record { short = subst IsShort (sym weight) mark_is.short; weight = mark_is.weight ∙ ap (λ m. quotient_of m d) (sym weight); taken = taken }))
       by (inr apart) =
           let other : k ≢ j = λ e. elim apart [ inl h ↦ omega (arith, h, e) | inr h ↦ omega (arith, h, e) ] in
           subst (IsMarkOf M i s d js k) (sym (get_or-set_other old j k next d₀ other))
-          (let m = before k below some in record { factor = m.factor; weight = m.weight; taken = m.taken ∙ same k other })
+          (let m = before k below some in record { short = m.short; weight = m.weight; taken = m.taken ∙ same k other })
 
 -- ---- without a column
 
@@ -90,7 +90,7 @@ module _ (M : Program) (i : ℕ) (s : Side) (side : WholeSide) (positive : pos 0
 -- ---- both
 
 module _ (M : Program) (i : ℕ) (s : Side) (side : WholeSide) (positive : pos 0 <ℤ side.denominator) (js : List ℕ) (j : ℕ) (total next_total : ℤ) (old new : List Mark) (mark next : Mark) (long : length old ≡ length M.cols)
-    (cand : IsCandidateColumn M i s j) (mark_is : mark ≡ mark_at old j) (cover : IsWholeCover M i s side js total old) (weight : next.weight ≡ mark.weight) (new_is : new ≡ set old j next) (room : HasRoomForProduct next_total) where
+    (cand : IsCandidateColumn M i s j) (mark_is : mark ≡ mark_at old j) (cover : IsWholeCover M i s side js total old) (weight : next.weight ≡ mark.weight) (new_is : new ≡ set old j next) (room : HasMargin next_total) where
   abbrev d : ℤ
   d = side.denominator
 
@@ -134,9 +134,9 @@ module _ (M : Program) (i : ℕ) (s : Side) (d : ℤ) (from : ℕ) (marks : List
   pub marks_across : (to : ℕ) → AreNone M i from to → AreMarksTo M i s d [] to marks
   marks_across to none k below some = before k (beyond to none k below some) some
 
-  pub marks_more : (to : ℕ) (e : ℕ × ℚ) (next : IsNextEntry M i from to e) (mark : Mark) (new : List Mark) → to ≤ length marks → IsFactor mark.weight → side_coefficient M i s e.0 ≡ quotient_of mark.weight d → mark.taken ≡ false → new ≡ set marks e.0 mark
+  pub marks_more : (to : ℕ) (e : ℕ × ℚ) (next : IsNextEntry M i from to e) (mark : Mark) (new : List Mark) → to ≤ length marks → IsShort mark.weight → side_coefficient M i s e.0 ≡ quotient_of mark.weight d → mark.taken ≡ false → new ≡ set marks e.0 mark
       → AreMarksTo M i s d [] (suc e.0) new
-  marks_more to e next mark new long factor weight taken new_is k below some = subst (λ ms. IsMarkOf M i s d [] k (mark_at ms k)) (sym new_is) (by (cases_order k e.0))
+  marks_more to e next mark new long short weight taken new_is k below some = subst (λ ms. IsMarkOf M i s d [] k (mark_at ms k)) (sym new_is) (by (cases_order k e.0))
     where
       d₀ : Mark
       d₀ = record { weight = pos 0; taken = false }
@@ -147,7 +147,7 @@ module _ (M : Program) (i : ℕ) (s : Side) (d : ℤ) (from : ℕ) (marks : List
       by : (k ≡ e.0) ⊎ ((k < e.0) ⊎ (e.0 < k)) → IsMarkOf M i s d [] k (mark_at (set marks e.0 mark) k)
       by (inl q) =
           subst (λ n. IsMarkOf M i s d [] n (mark_at (set marks e.0 mark) n)) (sym q)
-          (subst (IsMarkOf M i s d [] e.0) (sym (get_or-set_same marks e.0 mark d₀ within)) (record { factor = factor; weight = weight; taken = taken }))
+          (subst (IsMarkOf M i s d [] e.0) (sym (get_or-set_same marks e.0 mark d₀ within)) (record { short = short; weight = weight; taken = taken }))
       by (inr apart) = elim apart [
         | inl less ↦ subst (IsMarkOf M i s d [] k) (sym (get_or-set_other marks e.0 k mark d₀ (λ q. omega (arith, q, less)))) (before k (beyond e.0 next.none k less some) some)
         | inr more ↦ absurd (omega (arith, more, below))

@@ -13,9 +13,9 @@ use Rattle.lp_model.specs.Sides.{needed_side, side_number}
 use Rattle.lp_model.specs.declared.types.Side.{Side}
 use Rattle.lp_model.proofs.SideLemmas.{needed-zero}
 use Rattle.cover_cuts.specs.Covers.{side_coefficient}
-use Rattle.leaf_dual.specs.Wholes.{IsFactor, HasRoomForProduct, IsDenominator, IsTermOver}
-use Rattle.leaf_dual.proofs.ReadLemmas.{factor_read, room_read}
-use Rattle.leaf_dual.proofs.WholeLemmas.{total_more, fits_more_over, zero_over}
+use Rattle.whole_sums.specs.Wholes.{IsShort, HasMargin, IsDenominator, IsWholeTerm}
+use Rattle.whole_sums.proofs.ReadLemmas.{short_read, room_read}
+use Rattle.whole_sums.proofs.SumLemmas.{total_more, fits_more_over, zero_over}
 use Rattle.cut_find.specs.declared.whole_side.Sums.{Sums}
 use Rattle.cut_find.specs.Greedy.{is_plus, is_in}
 use Rattle.cut_find.specs.RowEntries.{AreNone}
@@ -24,21 +24,21 @@ use Rattle.cut_find.proofs.RowLemmas.{across, side_none}
 use Rattle.cut_find.proofs.CoverLemmas.{number_in, number_out}
 use Rattle.cut_find.proofs.SumLemmas.{turned_term}
 
--- a total with the size of a factor, as 128 bits are read
-size_has_room : (n : ℕ) → n < 2 ^ 62 → HasRoomForProduct (pos n)
+-- a total with the size of a short number, as 128 bits are read
+size_has_room : (n : ℕ) → n < 2 ^ 62 → HasMargin (pos n)
 size_has_room n h = omega (arith, ints, h)
 
-larger_within : (t : ℤ) (n : ℕ) → HasRoomForProduct t → n < 2 ^ 62 → FitsSigned w128 (t +ℤ pos n)
+larger_within : (t : ℤ) (n : ℕ) → HasMargin t → n < 2 ^ 62 → FitsSigned w128 (t +ℤ pos n)
 larger_within t n h k = omega (arith, ints, h, k)
 
-larger_is : (t : ℤ) (n : ℕ) → HasRoomForProduct t → n < 2 ^ 62 → to_z w128 (of_z w128 (t +ℤ pos n)) ≡ t +ℤ pos n
+larger_is : (t : ℤ) (n : ℕ) → HasMargin t → n < 2 ^ 62 → to_z w128 (of_z w128 (t +ℤ pos n)) ≡ t +ℤ pos n
 larger_is t n h k = omega (arith, ints, h, k)
 
-module _ (t w s : ℤ) (room : HasRoomForProduct t) (h : IsFactor w) (is : s ≡ pos (unsigned_abs (to_z w64 (of_z w64 w)))) where
+module _ (t w s : ℤ) (room : HasMargin t) (h : IsShort w) (is : s ≡ pos (unsigned_abs (to_z w64 (of_z w64 w)))) where
   larger_parts : to_z w128 (of_z w128 t) +ℤ to_z w128 (of_z w128 s) ≡ t +ℤ pos (unsigned_abs w)
   larger_parts =
       ap₂ ◌+ℤ◌ (room_read t room)
-      (ap (λ x. to_z w128 (of_z w128 x)) (is ∙ ap (λ x. pos (unsigned_abs x)) (factor_read w h)) ∙ room_read (pos (unsigned_abs w)) (size_has_room (unsigned_abs w) h))
+      (ap (λ x. to_z w128 (of_z w128 x)) (is ∙ ap (λ x. pos (unsigned_abs x)) (short_read w h)) ∙ room_read (pos (unsigned_abs w)) (size_has_room (unsigned_abs w) h))
 
   pub larger_fits : FitsSigned w128 (to_z w128 (of_z w128 t) +ℤ to_z w128 (of_z w128 s))
   larger_fits = subst (FitsSigned w128) (sym larger_parts) (larger_within t (unsigned_abs w) room h)
@@ -47,8 +47,8 @@ module _ (t w s : ℤ) (room : HasRoomForProduct t) (h : IsFactor w) (is : s ≡
   larger_read = ap (λ x. to_z w128 (of_z w128 x)) larger_parts ∙ larger_is t (unsigned_abs w) room h
 
 -- what is left above a limit has room
-pub less_room : (left weight limit : ℤ) → HasRoomForProduct left → IsFactor limit → limit <ℤ (left -ℤ pos (unsigned_abs weight)) → HasRoomForProduct (left -ℤ pos (unsigned_abs weight))
-less_room left weight limit room factor less = omega (arith, ints, room, factor, less)
+pub less_room : (left weight limit : ℤ) → HasMargin left → IsShort limit → limit <ℤ (left -ℤ pos (unsigned_abs weight)) → HasMargin (left -ℤ pos (unsigned_abs weight))
+less_room left weight limit room short less = omega (arith, ints, room, short, less)
 
 needed_none : (y : ℚ) (lo up : Option ℚ) → y ≡ int (pos 0) → IsSome (needed_side y lo up)
 needed_none y lo up e = subst IsSome (needed-zero y lo up (λ h. <ℚ_irrefl (subst (λ q. int (pos 0) <ℚ q) e h)) (λ h. <ℚ_irrefl (subst (λ q. q <ℚ int (pos 0)) e h))) refl
@@ -92,17 +92,17 @@ module _ (M : Program) (i : ℕ) (s : Side) (d : ℤ) where
   sums_across from to sums within none = across (λ n. AreSumsTo M i s d n sums) from to within (λ j low below h. sums_skip j sums h (side_none M i j s (none j low below)))
 
   -- a column with a coefficient
-  module _ (is : IsDenominator d) (j : ℕ) (within : j < length M.cols) (sums next : Sums) (before : AreSumsTo M i s d j sums) (w f : ℤ) (w_factor : IsFactor w) (f_factor : IsFactor f) (w_is : sc j ≡ quotient_of w d) (bound : bound_at j ≡ Some (int f))
+  module _ (is : IsDenominator d) (j : ℕ) (within : j < length M.cols) (sums next : Sums) (before : AreSumsTo M i s d j sums) (w f : ℤ) (w_short : IsShort w) (f_short : IsShort f) (w_is : sc j ≡ quotient_of w d) (bound : bound_at j ≡ Some (int f))
       (base_is : next.base ≡ sums.base +ℤ w *ℤ f) (size_is : next.size ≡ sums.size + unsigned_abs (w *ℤ f) + unsigned_abs w) (room : next.size ≤ 2 ^ 126) where
-    one_more : (js : List ℕ) (g : ℤ) → IsFactor g → contributions M i s js j ≡ int g → unsigned_abs (w *ℤ g) ≤ unsigned_abs (w *ℤ f) + unsigned_abs w → IsSumWithin M i s d js (j + 1) next.size
-    one_more js g g_factor g_is small =
+    one_more : (js : List ℕ) (g : ℤ) → IsShort g → contributions M i s js j ≡ int g → unsigned_abs (w *ℤ g) ≤ unsigned_abs (w *ℤ f) + unsigned_abs w → IsSumWithin M i s d js (j + 1) next.size
+    one_more js g g_short g_is small =
         let b = before.all js in
         let in_size = b.within in
         let old_room = before.room in
-        let term : IsTermOver d (contributions M i s js j) (sc j) w g = turned_term (contributions M i s js j) (sc j) w g d is.positive w_factor g_factor w_is g_is in
-        let total_room : HasRoomForProduct b.total = omega (arith, in_size, old_room) in
+        let term : IsWholeTerm d (contributions M i s js j) (sc j) w g = turned_term (contributions M i s js j) (sc j) w g d is.positive w_short g_short w_is g_is in
+        let total_room : HasMargin b.total = omega (arith, in_size, old_room) in
         let grown : unsigned_abs (b.total +ℤ w *ℤ g) ≤ next.size = omega (arith, ints, in_size, small, size_is) in
-        let next_room : HasRoomForProduct (b.total +ℤ w *ℤ g) = omega (arith, grown, room) in
+        let next_room : HasMargin (b.total +ℤ w *ℤ g) = omega (arith, grown, room) in
         record {
           total = b.total +ℤ w *ℤ g;
           within = grown;
@@ -128,14 +128,14 @@ module _ (M : Program) (i : ℕ) (s : Side) (d : ℤ) where
 
         by : (b : Bool) → is_in js j ≡ b → IsSumWithin M i s d js (j + 1) next.size
         by true here = literal (is_plus M i s j) refl (number_in M i s js j within here)
-        by false out = one_more js f f_factor (without js out) (omega arith)
+        by false out = one_more js f f_short (without js out) (omega arith)
 
     extended : AreSumsTo M i s d (j + 1) next
     extended =
         let base_within = before.base_within in
         let old_room = before.room in
-        let term : IsTermOver d (contributions M i s [] j) (sc j) w f = turned_term (contributions M i s [] j) (sc j) w f d is.positive w_factor f_factor w_is (without [] refl) in
-        let total_room : HasRoomForProduct sums.base = omega (arith, base_within, old_room) in
+        let term : IsWholeTerm d (contributions M i s [] j) (sc j) w f = turned_term (contributions M i s [] j) (sc j) w f d is.positive w_short f_short w_is (without [] refl) in
+        let total_room : HasMargin sums.base = omega (arith, base_within, old_room) in
         let grown : unsigned_abs next.base ≤ next.size = omega (arith, ints, base_within, base_is, size_is) in
         record {
           bounds = below_more (λ k. IsSome (bound_at k)) j before.bounds (subst IsSome (sym bound) refl);

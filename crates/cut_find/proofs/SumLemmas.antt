@@ -8,8 +8,8 @@ use Rattle.frac128.specs.RationalRing.{ring, reads_ℚ}
 use Rattle.frac128.specs.LowestTerms.{quotient_of}
 use Rattle.frac128.specs.Sums.{sum_below}
 use Rattle.checked_sum.proofs.SumLaws.{sum_below-same}
-use Rattle.leaf_dual.specs.Wholes.{IsFactor, IsTermOver}
-use Rattle.leaf_dual.proofs.WholeLemmas.{term_over}
+use Rattle.whole_sums.specs.Wholes.{IsShort, IsWholeTerm}
+use Rattle.whole_sums.proofs.SumLemmas.{term_of_number}
 
 -- two sums whose terms differ at one place
 pub sum_changed : (n j : ℕ) (f g : ℕ → ℚ) → j < n → ((k : ℕ) → k < n → k ≢ j → f k ≡ g k) → sum_below n g ≡ sum_below n f +ℚ (g j -ℚ f j)
@@ -45,7 +45,5 @@ module _ (a b d : ℤ) where
   quotient-not_less h less = h (cancel-<ℤ a b (suc e) ((reduced-<ℚ a b e e).1 less))
 
 -- the product of a whole number and a number over the denominator
-pub turned_term : (a x : ℚ) (f n d : ℤ) → pos 0 <ℤ d → IsFactor f → IsFactor n → x ≡ quotient_of f d → a ≡ int n → IsTermOver d a x f n
-turned_term a x f n d h f_factor n_factor x_is a_is =
-    let t = term_over x a f n d h f_factor n_factor x_is a_is in
-    record { factor = f_factor; number = n_factor; product = ring (a ∷ x ∷ []) (search reads_ℚ) tt ∙ t.product }
+pub turned_term : (a x : ℚ) (f n d : ℤ) → pos 0 <ℤ d → IsShort f → IsShort n → x ≡ quotient_of f d → a ≡ int n → IsWholeTerm d a x f n
+turned_term a x f n d h f_short n_short x_is a_is = term_of_number a x f n d h f_short n_short a_is x_is

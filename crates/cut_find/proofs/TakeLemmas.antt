@@ -6,7 +6,7 @@ use Rattle.std.proofs.lemmas.List.Elements.{All-nil, All-get_or}
 use Rattle.frac128.specs.LowestTerms.{quotient_of}
 use Rattle.lp_model.specs.Program.{Program}
 use Rattle.lp_model.specs.declared.types.Side.{Side}
-use Rattle.leaf_dual.specs.Wholes.{HasRoomForProduct}
+use Rattle.whole_sums.specs.Wholes.{HasMargin}
 use Rattle.cut_find.specs.declared.whole_side.Mark.{Mark}
 use Rattle.cut_find.specs.declared.whole_side.WholeSide.{WholeSide}
 use Rattle.cut_find.specs.Greedy.{TakesGreedily, places_without, Drops}
@@ -71,7 +71,7 @@ module _ (M : Program) (i : ℕ) (s : Side) (side : WholeSide) (whole : IsWholeS
     others_candidates : AreCandidateColumns M i s others
     others_candidates = without_candidates M i s kept gone cover.candidates
 
-    pub cover_less : (new : List Mark) (next : Mark) → length old ≡ length M.cols → next.weight ≡ (mark_at old gone).weight → new ≡ set old gone next → next.taken ≡ false → HasRoomForProduct rest → IsWholeCover M i s side others rest new
+    pub cover_less : (new : List Mark) (next : Mark) → length old ≡ length M.cols → next.weight ≡ (mark_at old gone).weight → new ≡ set old gone next → next.taken ≡ false → HasMargin rest → IsWholeCover M i s side others rest new
     cover_less new next long weight new_is now room =
         cover_without M i s side whole.denominator.positive kept gone left rest old new (mark_at old gone) next long gone_candidate refl cover weight new_is room was now is
 
@@ -96,7 +96,7 @@ module _ (M : Program) (i : ℕ) (s : Side) (side : WholeSide) (whole : IsWholeS
     pub candidate_at : IsCandidateColumn M i s at
     candidate_at = All-get_or (IsCandidateColumn M i s) order k 0 below all
 
-    pub cover_more : next.weight ≡ (mark_at old at).weight → new ≡ set old at next → HasRoomForProduct next_total → (mark_at old at).taken ≡ false → next.taken ≡ true → next_total ≡ total +ℤ pos (unsigned_abs (mark_at old at).weight) → IsWholeCover M i s side (take (k + 1) order) next_total new
+    pub cover_more : next.weight ≡ (mark_at old at).weight → new ≡ set old at next → HasMargin next_total → (mark_at old at).taken ≡ false → next.taken ≡ true → next_total ≡ total +ℤ pos (unsigned_abs (mark_at old at).weight) → IsWholeCover M i s side (take (k + 1) order) next_total new
     cover_more weight new_is room was now is =
         subst (λ js. IsWholeCover M i s side js next_total new) (sym (take_more order k 0 below))
         (cover_pushed M i s side whole.denominator.positive (take k order) at total next_total old new (mark_at old at) next long candidate_at refl cover weight new_is room was now is)

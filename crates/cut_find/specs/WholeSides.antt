@@ -10,7 +10,7 @@ use Rattle.lp_model.specs.declared.types.Side.{Side}
 use Rattle.lp_model.specs.declared.types.Derivation.{Derivation}
 use Rattle.cover_cuts.specs.Covers.{side_coefficient, side_limit, least_sum, Fails}
 use Rattle.cover_cuts.specs.Answers.{CoverSumFits}
-use Rattle.leaf_dual.specs.Wholes.{IsFactor, HasRoomForProduct, IsDenominator}
+use Rattle.whole_sums.specs.Wholes.{IsShort, HasMargin, IsDenominator}
 use Rattle.cut_find.specs.declared.whole_side.Mark.{Mark}
 use Rattle.cut_find.specs.declared.whole_side.WholeSide.{WholeSide}
 use Rattle.cut_find.specs.declared.whole_cover.Taking.{Taking}
@@ -33,7 +33,7 @@ IsFoundInOrder M i s x order o = (taken : Option (List ℕ)) × (TakesGreedily M
 
 -- the number of the coefficient over the denominator, and whether the column is in the list
 pub record IsMarkOf (M : Program) (i : ℕ) (s : Side) (d : ℤ) (js : List ℕ) (j : ℕ) (mark : Mark) : Type 0 where
-  pub factor : IsFactor mark.weight
+  pub short : IsShort mark.weight
   pub weight : side_coefficient M i s j ≡ quotient_of mark.weight d
   pub taken : mark.taken ≡ is_in js j
 
@@ -55,10 +55,10 @@ cover_sum M i s js = least_sum M (cover_of M i s js)
 -- the limit and the sum without literals over the denominator, which does not pass it; each sum has room
 pub record IsWholeSide (M : Program) (i : ℕ) (s : Side) (side : WholeSide) : Type 0 where
   pub denominator : IsDenominator side.denominator
-  pub factor : IsFactor side.limit
+  pub short : IsShort side.limit
   pub limit : side_limit M i s ≡ Some (quotient_of side.limit side.denominator)
   pub bounds : (j : ℕ) → j < length M.cols → IsSome (needed_side (side_coefficient M i s j) (lower M j) (upper M j))
   pub fits : (js : List ℕ) → CoverSumFits M (cover_of M i s js)
-  pub room : HasRoomForProduct side.base
+  pub room : HasMargin side.base
   pub base : cover_sum M i s [] ≡ quotient_of side.base side.denominator
   pub met : ¬ Fails M (cover_of M i s [])

@@ -2,7 +2,7 @@
 // be dropped.
 ghost use Rattle.std.specs.Prelude.{◌≡◌, ◌↔◌, ◌+ℤ◌, ◌-ℤ◌, ◌<◌, ◌<ℤ◌, ℕ, ℤ, List as Items, [], length, set, pos, unsigned_abs, true, false, IsTrue, IfSome, IfOk, Some};
 ghost use Rattle.cover_cuts.specs.Covers.{side_limit};
-ghost use Rattle.leaf_dual.specs.Wholes.{IsFactor, HasRoomForProduct};
+ghost use Rattle.whole_sums.specs.Wholes.{IsShort, HasMargin};
 ghost use Rattle.cut_find.specs.Greedy.{cover_of};
 ghost use Rattle.cut_find.specs.RowEntries.{AreEntriesOf};
 ghost use Rattle.cut_find.specs.WholeSides.{AreCandidateColumns, IsFoundInOrder, AreMarksOf, mark_at, IsWholeSide};
@@ -14,9 +14,7 @@ use crate::whole_side::{Mark, WholeSide};
 use frac128::Frac;
 use lp_model::{Derivation, List};
 use std::alloc::{AllocError, Global};
-
-/// Totals stay within this.
-const MARGIN: i128 = 1 << 126;
+use whole_sums::MARGIN;
 
 /// What is taken of an order: nothing is known, no first columns make a cover, or so many do and their sum is the total.
 #[derive(Clone, Copy, Drop)]
@@ -28,7 +26,7 @@ pub enum Taking {
 
 /// The size of a weight.
 fn size(weight: i64) -> i128
-    requires { IsFactor weight }
+    requires { IsShort weight }
     ensures { result ≡ pos (unsigned_abs weight) }
 {
     if weight < 0 {
@@ -40,10 +38,10 @@ fn size(weight: i64) -> i128
 
 /// The total with the size of a weight, if it keeps its margin.
 fn with_size(total: i128, weight: i64) -> Option<i128>
-    requires total { HasRoomForProduct total }
-    requires weight { IsFactor weight }
+    requires total { HasMargin total }
+    requires weight { IsShort weight }
     ensures value { IfSome result (λ next. next ≡ total +ℤ pos (unsigned_abs weight)) }
-    ensures room { IfSome result (λ next. HasRoomForProduct next) }
+    ensures room { IfSome result (λ next. HasMargin next) }
 {
     let next = total + size(weight);
     if next <= MARGIN { Some(next) } else { None }
@@ -52,7 +50,7 @@ fn with_size(total: i128, weight: i64) -> Option<i128>
 impl WholeSide {
     /// Whether a total passes the limit.
     fn is_passed(&self, total: i128) -> bool
-        requires { IsFactor self.now.limit }
+        requires { IsShort self.now.limit }
         ensures { IsTrue result ↔ (self.now.limit <ℤ total) }
     {
         i128::from(self.limit) < total
@@ -62,12 +60,12 @@ impl WholeSide {
 /// Marks a column as taken, and adds its weight's size to the total. None where it was taken before, or there is no room.
 fn take_mark(marks: &mut [Mark], col: usize, total: i128) -> Option<i128>
     requires within { col < length marks.old }
-    requires factor { IsFactor (mark_at marks.old col).weight }
-    requires total { HasRoomForProduct total }
+    requires short { IsShort (mark_at marks.old col).weight }
+    requires total { HasMargin total }
     ensures fresh { IfSome result (λ _. (mark_at marks.old col).taken ≡ false) }
     ensures marks { IfSome result (λ _. marks.new ≡ set marks.old col (record { weight = (mark_at marks.old col).weight; taken = true })) }
     ensures value { IfSome result (λ next. next ≡ total +ℤ pos (unsigned_abs (mark_at marks.old col).weight)) }
-    ensures room { IfSome result (λ next. HasRoomForProduct next) }
+    ensures room { IfSome result (λ next. HasMargin next) }
 {
     let mark = marks[col];
     if mark.taken {
@@ -85,10 +83,10 @@ fn take_mark(marks: &mut [Mark], col: usize, total: i128) -> Option<i128>
 
 /// Takes a column's mark away where the rest is still a cover, and says what is left of the total. None where it has no mark.
 fn drop_mark(side: &WholeSide, marks: &mut [Mark], col: usize, left: i128) -> Option<i128>
-    requires limit { IsFactor side.now.limit }
+    requires limit { IsShort side.now.limit }
     requires within { col < length marks.old }
-    requires factor { IsFactor (mark_at marks.old col).weight }
-    requires left { HasRoomForProduct left }
+    requires short { IsShort (mark_at marks.old col).weight }
+    requires left { HasMargin left }
     ensures taken { IfSome result (λ _. (mark_at marks.old col).taken ≡ true) }
     ensures left { IfSome result (λ next. IsLeftOver side.now.limit marks.old col left next marks.new) }
 {

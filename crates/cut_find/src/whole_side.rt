@@ -5,7 +5,7 @@ ghost use Rattle.frac128.specs.LowestTerms.{quotient_of};
 ghost use Rattle.lp_model.specs.Program.{lower, upper};
 ghost use Rattle.lp_model.specs.Sides.{needed_side};
 ghost use Rattle.cover_cuts.specs.Covers.{side_coefficient, side_limit};
-ghost use Rattle.leaf_dual.specs.Wholes.{IsFactor, IsDenominator};
+ghost use Rattle.whole_sums.specs.Wholes.{IsShort, IsDenominator};
 ghost use Rattle.cut_find.specs.RowEntries.{AreEntriesOf};
 ghost use Rattle.cut_find.specs.WholeSides.{AreMarksOf, IsWholeSide};
 ghost use Rattle.cut_find.specs.private.WholeSides.{AreSumsTo};
@@ -13,8 +13,8 @@ ghost use Rattle.cut_find.specs.private.WholeSides.{AreSumsTo};
 use crate::candidates::RowSide;
 use cover_cuts::signed;
 use frac128::Frac;
-use leaf_dual::{common_multiple, factor_over, whole_factor, wide_product};
 use lp_model::Bound;
+use whole_sums::{common_multiple, product, short_over, whole_number};
 
 /// Sums are at most of this size.
 const MARGIN: u128 = 1 << 126;
@@ -42,14 +42,14 @@ pub struct WholeSide {
     pub base: i128,
 }
 
-/// The number that a bound is, if it is there, whole and a factor.
-fn bound_factor(bound: &Bound) -> Option<i64>
-    ensures factor { IfSome result (λ n. IsFactor n) }
+/// The number that a bound is, if it is there, whole and short.
+fn short_bound(bound: &Bound) -> Option<i64>
+    ensures short { IfSome result (λ n. IsShort n) }
     ensures value { IfSome result (λ n. bound.now ≡ Some (int n)) }
 {
     match bound {
         None => None,
-        Some(number) => whole_factor(number),
+        Some(number) => whole_number(number),
     }
 }
 
@@ -75,7 +75,7 @@ impl RowSide<'_> {
         ensures { IsTrue result → AreMarksOf self.now.model.now self.now.row.0 self.now.side denominator [] marks.new }
     {
         for entry in self.entries {
-            match factor_over(&signed(self.side, &entry.1), denominator) {
+            match short_over(&signed(self.side, &entry.1), denominator) {
                 None => return false,
                 Some(weight) => {
                     marks[entry.0] = Mark {
@@ -88,18 +88,18 @@ impl RowSide<'_> {
         true
     }
 
-    /// The bound that a column's least contribution takes, where it is there, whole and a factor. None says nothing.
+    /// The bound that a column's least contribution takes, where it is there, whole and short. None says nothing.
     fn bound_number(&self, weight: i64, col: usize) -> Option<i64>
         requires { col < length self.now.model.now.cols }
-        ensures factor { IfSome result (λ n. IsFactor n) }
+        ensures short { IfSome result (λ n. IsShort n) }
         ensures bound { IfSome result (λ n. (d : ℤ) → pos 0 <ℤ d → needed_side (quotient_of weight d) (lower self.now.model.now col) (upper self.now.model.now col) ≡ Some (int n)) }
     {
         let column = &self.model.cols()[col];
         if weight > 0 {
-            return bound_factor(&column.lo);
+            return short_bound(&column.lo);
         }
         if weight < 0 {
-            return bound_factor(&column.up);
+            return short_bound(&column.up);
         }
         Some(0)
     }
@@ -108,7 +108,7 @@ impl RowSide<'_> {
     fn with_column(&self, denominator: i64, sums: Sums, weight: i64, col: usize) -> Option<Sums>
         requires denominator { IsDenominator denominator }
         requires within { col < length self.now.model.now.cols }
-        requires factor { IsFactor weight }
+        requires short { IsShort weight }
         requires weight { side_coefficient self.now.model.now self.now.row.0 self.now.side col ≡ quotient_of weight denominator }
         requires sums { AreSumsTo self.now.model.now self.now.row.0 self.now.side denominator col sums }
         ensures { IfSome result (AreSumsTo self.now.model.now self.now.row.0 self.now.side denominator (suc col)) }
@@ -116,7 +116,7 @@ impl RowSide<'_> {
         let Some(bound) = self.bound_number(weight, col) else {
             return None;
         };
-        let product = wide_product(weight, bound);
+        let product = product(weight, bound);
         let size = sums.size + product.unsigned_abs() + u128::from(weight.unsigned_abs());
         if size > MARGIN {
             return None;
@@ -154,7 +154,7 @@ impl RowSide<'_> {
         ensures marks { IfSome result (λ side. AreMarksOf self.now.model.now self.now.row.0 self.now.side side.denominator [] marks.new) }
     {
         let denominator = self.common_denominator(limit);
-        let Some(over) = factor_over(limit, denominator) else {
+        let Some(over) = short_over(limit, denominator) else {
             return None;
         };
         if !self.mark_columns(denominator, marks) {

@@ -11,7 +11,7 @@ use Rattle.table_entries.specs.declared.stand.Stand.{Stand}
 use Rattle.table_entries.specs.declared.stand.Stand.TheVariants.{Low, High, Free}
 use Rattle.table_entries.specs.States.{MayEnter}
 use Rattle.table_entries.proofs.ListedLemmas.{zero_number}
-use Rattle.table_entries.proofs.WholeSumLemmas.{product_is}
+use Rattle.whole_sums.proofs.SumLemmas.{product_is}
 use Rattle.dual_simplex.proofs.WholeRatioLemmas.{crossed}
 
 times : (s n d : ℤ) → pos 0 <ℤ d → int s *ℚ quotient_of n d ≡ quotient_of (n *ℤ s) d

@@ -8,7 +8,8 @@ ghost use Rattle.basic_solution.specs.Held.{table};
 ghost use Rattle.dual_simplex.specs.private.WholeRatios.{IsShortRatio, IsWholeRatio};
 
 use basic_solution::SidedBasis;
-use table_entries::{Stand, by_sign, product, short_number};
+use table_entries::{Stand, by_sign};
+use whole_sums::{product, short_number};
 
 /// A number over another one that is above 0.
 #[derive(Clone, Copy, Drop)]

@@ -9,38 +9,39 @@ use Rattle.lp_model.specs.Cuts.{is_live}
 use Rattle.lp_model.specs.declared.types.CutRow.{CutRow}
 use Rattle.lp_model.specs.declared.types.Var.{Var}
 use Rattle.leaf_dual.specs.Dual.{Multipliers, is_row_variable, multiplier, is_cut, cut_multiplier, cut_weight}
-use Rattle.leaf_dual.specs.Wholes.{IsFactor, number_at, AreNumbersOver}
+use Rattle.whole_sums.specs.Wholes.{IsShort, whole_number_at}
+use Rattle.leaf_dual.specs.Wholes.{AreNumbersOver}
 use Rattle.leaf_dual.specs.private.Wholes.{IsWrittenWhere, IsRowWritten, IsCutWritten}
-use Rattle.leaf_dual.proofs.WholeLemmas.{nothing_over}
+use Rattle.whole_sums.proofs.SumLemmas.{nothing_over}
 
 -- ---- one number
 
-pub written_at : (d : ℤ) (x : ℚ) (numbers : List ℤ) (at k : ℕ) (n : ℤ) → at < length numbers → IsFactor n → x ≡ quotient_of n d → IsWrittenWhere (nat_eq at k) d x (number_at numbers k) (number_at (set numbers at n) k)
-written_at d x numbers at k n within n_factor e = by (nat_eq at k) refl
+pub written_at : (d : ℤ) (x : ℚ) (numbers : List ℤ) (at k : ℕ) (n : ℤ) → at < length numbers → IsShort n → x ≡ quotient_of n d → IsWrittenWhere (nat_eq at k) d x (whole_number_at numbers k) (whole_number_at (set numbers at n) k)
+written_at d x numbers at k n within n_short e = by (nat_eq at k) refl
   where
-    by : (b : Bool) → nat_eq at k ≡ b → IsWrittenWhere b d x (number_at numbers k) (number_at (set numbers at n) k)
+    by : (b : Bool) → nat_eq at k ≡ b → IsWrittenWhere b d x (whole_number_at numbers k) (whole_number_at (set numbers at n) k)
     by true same =
-        let here : number_at (set numbers at n) k ≡ n = subst (λ j. number_at (set numbers at n) j ≡ n) (eqb-true at k same) (get_or-set_same numbers at n (pos 0) within) in
-        (subst IsFactor (sym here) n_factor, ap (λ m. quotient_of m d) here ∙ sym e)
+        let here : whole_number_at (set numbers at n) k ≡ n = subst (λ j. whole_number_at (set numbers at n) j ≡ n) (eqb-true at k same) (get_or-set_same numbers at n (pos 0) within) in
+        (subst IsShort (sym here) n_short, ap (λ m. quotient_of m d) here ∙ sym e)
     by false apart = get_or-set_other numbers at k n (pos 0) (λ same. let t : nat_eq at k ≡ true = eq-eqb at k (sym same) in let f : true ≡ false = sym t ∙ apart in cc)
 
-chosen : (b : Bool) (d : ℤ) (x y : ℚ) (old new : ℤ) → IsWrittenWhere b d x old new → IsFactor old × (quotient_of old d ≡ y) → IsFactor new × (quotient_of new d ≡ (if b then x else y))
+chosen : (b : Bool) (d : ℤ) (x y : ℚ) (old new : ℤ) → IsWrittenWhere b d x old new → IsShort old × (quotient_of old d ≡ y) → IsShort new × (quotient_of new d ≡ (if b then x else y))
 chosen true d x y old new written before = written
-chosen false d x y old new written before = (subst IsFactor (sym written) before.0, ap (λ n. quotient_of n d) written ∙ before.1)
+chosen false d x y old new written before = (subst IsShort (sym written) before.0, ap (λ n. quotient_of n d) written ∙ before.1)
 
 -- ---- the rows
 
 module _ (d : ℤ) (mult : Multipliers) where
-  pub rows_none : (numbers : List ℤ) → pos 0 <ℤ d → ((k : ℕ) → k < length numbers → number_at numbers k ≡ pos 0) → AreNumbersOver d (multiplier []) numbers
-  rows_none numbers positive zeros k below = (subst IsFactor (sym (zeros k below)) (omega arith), nothing_over (number_at numbers k) d positive (zeros k below))
+  pub rows_none : (numbers : List ℤ) → pos 0 <ℤ d → ((k : ℕ) → k < length numbers → whole_number_at numbers k ≡ pos 0) → AreNumbersOver d (multiplier []) numbers
+  rows_none numbers positive zeros k below = (subst IsShort (sym (zeros k below)) (omega arith), nothing_over (whole_number_at numbers k) d positive (zeros k below))
 
   pub rows_more : (at : ℕ) (m : Var × ℚ) (old new : List ℤ) → at < length mult → m ≡ get_or mult at m → length new ≡ length old → ((k : ℕ) → k < length old → IsRowWritten d m.0 m.1 old new k)
       → AreNumbersOver d (multiplier (drop (at + 1) mult)) old → AreNumbersOver d (multiplier (drop at mult)) new
   rows_more at m old new within is size written before k below =
       let there : k < length old = omega (arith, below, size) in
       let next : drop at mult ≡ m ∷ drop (at + 1) mult = drop_more mult at m within ∙ ap (λ (n : Var × ℚ). n ∷ drop (at + 1) mult) (sym is) in
-      subst (λ (ms : Multipliers). IsFactor (number_at new k) × (quotient_of (number_at new k) d ≡ multiplier ms k)) (sym next)
-      (chosen (is_row_variable m.0 k) d m.1 (multiplier (drop (at + 1) mult) k) (number_at old k) (number_at new k) (written k there) (before k there))
+      subst (λ (ms : Multipliers). IsShort (whole_number_at new k) × (quotient_of (whole_number_at new k) d ≡ multiplier ms k)) (sym next)
+      (chosen (is_row_variable m.0 k) d m.1 (multiplier (drop (at + 1) mult) k) (whole_number_at old k) (whole_number_at new k) (written k there) (before k there))
 
 -- ---- the cuts
 
@@ -53,16 +54,16 @@ weight_step true named x y = refl
 weight_step false named x y = refl
 
 module _ (d : ℤ) (cuts : List CutRow) (mult : Multipliers) where
-  pub cuts_none : (numbers : List ℤ) → pos 0 <ℤ d → ((k : ℕ) → k < length numbers → number_at numbers k ≡ pos 0) → AreNumbersOver d (cut_weight cuts []) numbers
-  cuts_none numbers positive zeros k below = (subst IsFactor (sym (zeros k below)) (omega arith), nothing_over (number_at numbers k) d positive (zeros k below) ∙ no_weight (is_live cuts k))
+  pub cuts_none : (numbers : List ℤ) → pos 0 <ℤ d → ((k : ℕ) → k < length numbers → whole_number_at numbers k ≡ pos 0) → AreNumbersOver d (cut_weight cuts []) numbers
+  cuts_none numbers positive zeros k below = (subst IsShort (sym (zeros k below)) (omega arith), nothing_over (whole_number_at numbers k) d positive (zeros k below) ∙ no_weight (is_live cuts k))
 
   pub cuts_more : (at : ℕ) (m : Var × ℚ) (old new : List ℤ) → at < length mult → m ≡ get_or mult at m → length new ≡ length old → ((k : ℕ) → k < length old → IsCutWritten d cuts m.0 m.1 old new k)
       → AreNumbersOver d (cut_weight cuts (drop (at + 1) mult)) old → AreNumbersOver d (cut_weight cuts (drop at mult)) new
   cuts_more at m old new within is size written before k below =
       let there : k < length old = omega (arith, below, size) in
       let next : drop at mult ≡ m ∷ drop (at + 1) mult = drop_more mult at m within ∙ ap (λ (n : Var × ℚ). n ∷ drop (at + 1) mult) (sym is) in
-      let here = chosen (if is_live cuts k then is_cut m.0 k else false) d m.1 (cut_weight cuts (drop (at + 1) mult) k) (number_at old k) (number_at new k) (written k there) (before k there) in
-      subst (λ (ms : Multipliers). IsFactor (number_at new k) × (quotient_of (number_at new k) d ≡ cut_weight cuts ms k)) (sym next)
+      let here = chosen (if is_live cuts k then is_cut m.0 k else false) d m.1 (cut_weight cuts (drop (at + 1) mult) k) (whole_number_at old k) (whole_number_at new k) (written k there) (before k there) in
+      subst (λ (ms : Multipliers). IsShort (whole_number_at new k) × (quotient_of (whole_number_at new k) d ≡ cut_weight cuts ms k)) (sym next)
       (here.0, here.1 ∙ weight_step (is_live cuts k) (is_cut m.0 k) m.1 (cut_multiplier (drop (at + 1) mult) k))
 
 module _ (cuts : List CutRow) (cut k : ℕ) where

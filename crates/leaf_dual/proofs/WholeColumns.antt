@@ -11,10 +11,10 @@ use Rattle.leaf_dual.specs.declared.dual.LagValue.TheVariants.{Num}
 use Rattle.leaf_dual.specs.Dual.{needed_side, column_side}
 use Rattle.leaf_dual.specs.Answers.{side_number, LacksRowSide, LacksCutSide, LacksSide, IsDualAnswer}
 use Rattle.leaf_dual.specs.private.Parts.{IsRowsTotal, IsCutsTotal, IsCostAnswer, IsColumnAnswer, IsColumnsTotal}
-use Rattle.leaf_dual.specs.Wholes.{HasRoomForProduct, IsDenominator, IsTermOver}
+use Rattle.whole_sums.specs.Wholes.{HasMargin, IsDenominator, IsWholeTerm}
 use Rattle.leaf_dual.proofs.DualLemmas.{column-ok}
 use Rattle.leaf_dual.proofs.AnswerLemmas.{answer-num}
-use Rattle.leaf_dual.proofs.WholeLemmas.{step_fits, step_value}
+use Rattle.whole_sums.proofs.SumLemmas.{step_fits, step_value}
 
 module _ (M : Program) (cuts : List CutRow) (path : Path) (y z c : ℕ → ℚ) where
   -- a column's term, added to a total over the denominator
@@ -22,7 +22,7 @@ module _ (M : Program) (cuts : List CutRow) (path : Path) (y z c : ℕ → ℚ) 
     pub side_over : side ≢ None → column_side (formulation M cuts) path y z c j ≢ None
     side_over some e = some (side_is ∙ ap (λ q. needed_side q (region_low M path j) (region_high M path j)) answer.1 ∙ e)
 
-    pub column_over : (total f n next : ℤ) → IsDenominator d → HasRoomForProduct total → IsTermOver d (quotient_of reduced d) (side_number side) f n → next ≡ total +ℤ f *ℤ n → HasRoomForProduct next
+    pub column_over : (total f n next : ℤ) → IsDenominator d → HasMargin total → IsWholeTerm d (quotient_of reduced d) (side_number side) f n → next ≡ total +ℤ f *ℤ n → HasMargin next
         → IsColumnAnswer M cuts path y z c (quotient_of total d) j (Ok (quotient_of next d))
     column_over total f n next is room term next_is next_room =
         column-ok M cuts path y z c j (quotient_of reduced d) answer side side_is (quotient_of total d) (side_number side) refl (quotient_of next d)

@@ -1,7 +1,8 @@
 -- A leaf in whole numbers: those of its rows' multipliers and its cuts' weights over one denominator, and where the next weight is.
 use Rattle.leaf_dual.specs.declared.whole_leaf.WholeLeaf.{WholeLeaf}
 use Rattle.leaf_dual.specs.Parts.{weights, cut_weights}
-use Rattle.leaf_dual.specs.Wholes.{IsDenominator, AreNumbersOver, AreNexts}
+use Rattle.whole_sums.specs.Wholes.{IsDenominator}
+use Rattle.leaf_dual.specs.Wholes.{AreNumbersOver, AreNexts}
 
 pub record IsWholeLeaf (whole : WholeLeaf) : Type 0 where
   pub denominator : IsDenominator whole.denominator

@@ -11,15 +11,18 @@ ghost use Rattle.leaf_dual.specs.Dual.{HavePlaces, row_side, cut_side, column_si
 ghost use Rattle.leaf_dual.specs.Answers.{row_number, cut_number, LacksRowSide, LacksCutSide, IsDualAnswer};
 ghost use Rattle.leaf_dual.specs.Parts.{leaf_formulation, leaf_constant, costs, weights, cut_weights, entry_row, entry_number};
 ghost use Rattle.leaf_dual.specs.private.Parts.{IsRowsTotal, IsCutsTotal, IsReducedCost, IsCostAnswer, IsColumnAnswer, IsColumnsTotal};
-ghost use Rattle.leaf_dual.specs.Wholes.{IsFactor, HasRoomForProduct, IsTermOver, number_at, IsNextOf, AreNexts};
+ghost use Rattle.whole_sums.specs.Wholes.{IsShort, HasMargin, IsWholeTerm, whole_number_at};
+ghost use Rattle.leaf_dual.specs.Wholes.{IsNextOf, AreNexts};
 ghost use Rattle.leaf_dual.specs.WholeParts.{IsWholeLeaf};
 
 use crate::leaf::Leaf;
 use crate::terms::cut_coefficient;
-use crate::whole_numbers::{factor, factor_over, whole_factor};
-use crate::whole_total::{WholeTerm, WholeTerms, fraction_over, whole_total, with_product};
 use frac128::Frac;
 use lp_model::{Bound, RowId};
+use whole_sums::{
+    WholeTerm, WholeTerms, quotient, short_number, short_over, whole_number, whole_total,
+    with_product,
+};
 
 /// A leaf, with the numbers of its rows' multipliers and of its cuts' weights over a denominator. For each of the first cuts
 /// that are known the next one, itself included, that has a weight: few have one, and each column's cost is taken over all.
@@ -37,7 +40,7 @@ pub struct WholeLeaf<'a> {
 #[inline]
 fn weight_at(numbers: &[i64], place: usize) -> Option<i64>
     ensures within { IfSome result (λ n. place < length numbers.now) }
-    ensures value { IfSome result (λ n. n ≡ number_at numbers.now place) }
+    ensures value { IfSome result (λ n. n ≡ whole_number_at numbers.now place) }
 {
     if place < numbers.len() {
         Some(numbers[place])
@@ -79,17 +82,17 @@ fn whole_side(weight: i64, lo: &Bound, hi: &Bound) -> Bound
     Some(Frac::whole(0))
 }
 
-/// The product of a number over any denominator and a side, where that is there, whole and a factor.
+/// The product of a number over any denominator and a side, where that is there, whole and short.
 #[inline]
 fn side_term(weight: i64, side: &Bound) -> Option<WholeTerm>
-    requires { IsFactor weight }
-    ensures value { IfSome result (λ t. (d : ℤ) → pos 0 <ℤ d → IsTermOver d (quotient_of weight d) (side_number side.now) t.factor t.number) }
+    requires { IsShort weight }
+    ensures value { IfSome result (λ t. (d : ℤ) → pos 0 <ℤ d → IsWholeTerm d (quotient_of weight d) (side_number side.now) t.factor t.number) }
     ensures there { IfSome result (λ t. side.now ≢ None) }
 {
     match side {
         None => None,
         Some(bound) => {
-            let Some(number) = whole_factor(bound) else {
+            let Some(number) = whole_number(bound) else {
                 return None;
             };
             Some(WholeTerm {
@@ -100,11 +103,11 @@ fn side_term(weight: i64, side: &Bound) -> Option<WholeTerm>
     }
 }
 
-/// What a weight over any denominator takes away of a cost by a coefficient, where that is whole and a factor.
+/// What a weight over any denominator takes away of a cost by a coefficient, where that is whole and short.
 #[inline]
 fn taken_term(weight: i64, coefficient: &Frac) -> Option<WholeTerm>
-    requires { IsFactor weight }
-    ensures { IfSome result (λ t. (d : ℤ) → pos 0 <ℤ d → IsTermOver d (neg_ℚ (quotient_of weight d)) coefficient.now t.factor t.number) }
+    requires { IsShort weight }
+    ensures { IfSome result (λ t. (d : ℤ) → pos 0 <ℤ d → IsWholeTerm d (neg_ℚ (quotient_of weight d)) coefficient.now t.factor t.number) }
 {
     if weight == 0 {
         return Some(WholeTerm {
@@ -112,7 +115,7 @@ fn taken_term(weight: i64, coefficient: &Frac) -> Option<WholeTerm>
             number: 0,
         });
     }
-    let Some(number) = whole_factor(coefficient) else {
+    let Some(number) = whole_number(coefficient) else {
         return None;
     };
     Some(WholeTerm {
@@ -225,11 +228,11 @@ impl WholeLeaf<'_> {
     /// there. None says nothing.
     fn rows_total(&self) -> Option<i128>
         requires { IsWholeLeaf self.now }
-        ensures room { IfSome result (λ total. HasRoomForProduct total) }
+        ensures room { IfSome result (λ total. HasMargin total) }
         ensures total { IfSome result (λ total. IsRowsTotal self.now.leaf.model.now (weights self.now.leaf) (leaf_constant self.now.leaf) (Ok (quotient_of total self.now.denominator))) }
         ensures sides { IfSome result (λ total. ¬ LacksRowSide self.now.leaf.model.now (weights self.now.leaf)) }
     {
-        let Some(start) = factor_over(&self.leaf.constant(), self.denominator) else {
+        let Some(start) = short_over(&self.leaf.constant(), self.denominator) else {
             return None;
         };
         whole_total(i128::from(start), &RowNumbers { whole: *self })
@@ -238,8 +241,8 @@ impl WholeLeaf<'_> {
     /// The total with the terms of the cuts, as `rows_total`.
     fn cuts_total(&self, start: i128) -> Option<i128>
         requires whole { IsWholeLeaf self.now }
-        requires start { HasRoomForProduct start }
-        ensures room { IfSome result (λ total. HasRoomForProduct total) }
+        requires start { HasMargin start }
+        ensures room { IfSome result (λ total. HasMargin total) }
         ensures total { IfSome result (λ total. IsCutsTotal self.now.leaf.cuts.now (cut_weights self.now.leaf) (quotient_of start self.now.denominator) (Ok (quotient_of total self.now.denominator))) }
         ensures sides { IfSome result (λ total. ¬ LacksCutSide self.now.leaf.cuts.now (cut_weights self.now.leaf)) }
     {
@@ -263,7 +266,7 @@ impl WholeLeaf<'_> {
     fn cut_term(&self, cut: usize, col: usize) -> Option<WholeTerm>
         requires whole { IsWholeLeaf self.now }
         requires within { cut < length self.now.leaf.cuts.now }
-        ensures { IfSome result (λ t. IsTermOver self.now.denominator (neg_ℚ (cut_weights self.now.leaf cut)) (cut_coefficient self.now.leaf.cuts.now cut col) t.factor t.number) }
+        ensures { IfSome result (λ t. IsWholeTerm self.now.denominator (neg_ℚ (cut_weights self.now.leaf cut)) (cut_coefficient self.now.leaf.cuts.now cut col) t.factor t.number) }
     {
         let Some(weight) = weight_at(self.cuts, cut) else {
             return None;
@@ -281,9 +284,9 @@ impl WholeLeaf<'_> {
     /// nothing.
     fn with_cut(&self, total: i128, cut: usize, col: usize) -> Option<i128>
         requires whole { IsWholeLeaf self.now }
-        requires total { HasRoomForProduct total }
+        requires total { HasMargin total }
         requires within { cut < length self.now.leaf.cuts.now }
-        ensures room { IfSome result (λ next. HasRoomForProduct next) }
+        ensures room { IfSome result (λ next. HasMargin next) }
         ensures fits { IfSome result (λ next. StepFits (quotient_of total self.now.denominator) (neg_ℚ (cut_weights self.now.leaf cut)) (cut_coefficient self.now.leaf.cuts.now cut col)) }
         ensures value { IfSome result (λ next. quotient_of next self.now.denominator ≡ quotient_of total self.now.denominator +ℚ neg_ℚ (cut_weights self.now.leaf cut) *ℚ cut_coefficient self.now.leaf.cuts.now cut col) }
     {
@@ -297,8 +300,8 @@ impl WholeLeaf<'_> {
     /// and is passed over.
     fn after_cuts(&self, start: i128, col: usize) -> Option<i128>
         requires whole { IsWholeLeaf self.now }
-        requires start { HasRoomForProduct start }
-        ensures room { IfSome result (λ total. HasRoomForProduct total) }
+        requires start { HasMargin start }
+        ensures room { IfSome result (λ total. HasMargin total) }
         ensures fits { IfSome result (λ total. AllFit (quotient_of start self.now.denominator) (λ k. neg_ℚ (cut_weights self.now.leaf k)) (λ k. cut_coefficient self.now.leaf.cuts.now k col) (length self.now.leaf.cuts.now)) }
         ensures value { IfSome result (λ total. quotient_of total self.now.denominator ≡ partial (quotient_of start self.now.denominator) (λ k. neg_ℚ (cut_weights self.now.leaf k)) (λ k. cut_coefficient self.now.leaf.cuts.now k col) (length self.now.leaf.cuts.now)) }
     {
@@ -321,11 +324,11 @@ impl WholeLeaf<'_> {
     fn after_rows(&self, col: usize) -> Option<i128>
         requires whole { IsWholeLeaf self.now }
         requires within { col < length self.now.leaf.model.now.cols }
-        ensures room { IfSome result (λ total. HasRoomForProduct total) }
+        ensures room { IfSome result (λ total. HasMargin total) }
         ensures left { IfSome result (λ total. IsReducedCost self.now.leaf.model.now (weights self.now.leaf) (costs self.now.leaf) col (Ok (quotient_of total self.now.denominator))) }
     {
         let entries = self.leaf.model.cols()[col].rows.as_slice();
-        let Some(start) = factor_over(&self.leaf.cost(col), self.denominator) else {
+        let Some(start) = short_over(&self.leaf.cost(col), self.denominator) else {
             return None;
         };
         whole_total(
@@ -341,7 +344,7 @@ impl WholeLeaf<'_> {
     fn cost_left(&self, col: usize) -> Option<i64>
         requires whole { IsWholeLeaf self.now }
         requires within { col < length self.now.leaf.model.now.cols }
-        ensures factor { IfSome result (λ n. IsFactor n) }
+        ensures short { IfSome result (λ n. IsShort n) }
         ensures left { IfSome result (λ n. IsCostAnswer self.now.leaf.model.now self.now.leaf.cuts.now (weights self.now.leaf) (cut_weights self.now.leaf) (costs self.now.leaf) col (Ok (quotient_of n self.now.denominator))) }
     {
         let Some(by_rows) = self.after_rows(col) else {
@@ -350,7 +353,7 @@ impl WholeLeaf<'_> {
         let Some(by_cuts) = self.after_cuts(by_rows, col) else {
             return None;
         };
-        factor(by_cuts)
+        short_number(by_cuts)
     }
 
     /// The bound of a column that what is left of its cost takes. One bound alone is asked of the region, and none where nothing
@@ -373,10 +376,10 @@ impl WholeLeaf<'_> {
     /// there. None says nothing.
     fn with_column(&self, total: i128, col: usize) -> Option<i128>
         requires whole { IsWholeLeaf self.now }
-        requires total { HasRoomForProduct total }
+        requires total { HasMargin total }
         requires within { col < length self.now.leaf.model.now.cols }
         requires narrow { AreNarrow self.now.leaf.region.now }
-        ensures room { IfSome result (λ next. HasRoomForProduct next) }
+        ensures room { IfSome result (λ next. HasMargin next) }
         ensures column { IfSome result (λ next. IsColumnAnswer self.now.leaf.model.now self.now.leaf.cuts.now self.now.leaf.region.now (weights self.now.leaf) (cut_weights self.now.leaf) (costs self.now.leaf) (quotient_of total self.now.denominator) col (Ok (quotient_of next self.now.denominator))) }
         ensures side { IfSome result (λ next. column_side (leaf_formulation self.now.leaf) self.now.leaf.region.now (weights self.now.leaf) (cut_weights self.now.leaf) (costs self.now.leaf) col ≢ None) }
     {
@@ -393,9 +396,9 @@ impl WholeLeaf<'_> {
     /// The total with the terms of all columns, as `with_column`.
     fn columns_total(&self, start: i128) -> Option<i128>
         requires whole { IsWholeLeaf self.now }
-        requires start { HasRoomForProduct start }
+        requires start { HasMargin start }
         requires narrow { AreNarrow self.now.leaf.region.now }
-        ensures room { IfSome result (λ total. HasRoomForProduct total) }
+        ensures room { IfSome result (λ total. HasMargin total) }
         ensures total { IfSome result (λ total. IsColumnsTotal self.now.leaf.model.now self.now.leaf.cuts.now self.now.leaf.region.now (weights self.now.leaf) (cut_weights self.now.leaf) (costs self.now.leaf) (quotient_of start self.now.denominator) (Ok (quotient_of total self.now.denominator))) }
         ensures sides { IfSome result (λ total. (j : ℕ) → j < length self.now.leaf.model.now.cols → column_side (leaf_formulation self.now.leaf) self.now.leaf.region.now (weights self.now.leaf) (cut_weights self.now.leaf) (costs self.now.leaf) j ≢ None) }
     {
@@ -424,6 +427,6 @@ impl WholeLeaf<'_> {
         let Some(total) = self.columns_total(cuts) else {
             return None;
         };
-        Some(fraction_over(total, self.denominator))
+        Some(quotient(total, self.denominator))
     }
 }

@@ -2,16 +2,29 @@
 ghost use Rattle.std.specs.Prelude.{◌≡◌, ◌+◌, ◌<◌, ◌≤◌, ℕ, pos, length, nat_eq, IsTrue};
 ghost use Rattle.lp_model.specs.Cuts.{is_live};
 ghost use Rattle.leaf_dual.specs.Dual.{multiplier, cut_weight};
-ghost use Rattle.leaf_dual.specs.Wholes.{IsDenominator, number_at, AreNumbersOver, IsNextOf, AreNexts};
+ghost use Rattle.whole_sums.specs.Wholes.{IsDenominator, whole_number_at};
+ghost use Rattle.leaf_dual.specs.Wholes.{AreNumbersOver, IsNextOf, AreNexts};
 ghost use Rattle.leaf_dual.specs.private.Wholes.{IsWrittenWhere, IsRowWritten, IsCutWritten};
 
-use crate::whole_numbers::factor_over;
 use frac128::Frac;
 use lp_model::{CutRow, Var};
+use whole_sums::{common_multiple, short_over};
+
+/// A denominator that the multipliers have in common, as far as there is room. Nothing rests on it but speed, since a number
+/// that is not whole over it is told.
+pub fn common_denominator(mult: &[(Var, Frac)]) -> i64
+    ensures { IsDenominator result }
+{
+    let mut denominator = 1;
+    for (_, number) in mult {
+        denominator = common_multiple(denominator, number);
+    }
+    denominator
+}
 
 /// Writes 0 at each place.
 fn clear(numbers: &mut [i64])
-    ensures { (k : ℕ) → k < length numbers.new → number_at numbers.new k ≡ pos 0 }
+    ensures { (k : ℕ) → k < length numbers.new → whole_number_at numbers.new k ≡ pos 0 }
 {
     for place in 0..numbers.len() {
         numbers[place] = 0;
@@ -21,12 +34,12 @@ fn clear(numbers: &mut [i64])
 /// Writes the number of a multiplier at a place, where there is such a place. False where it has none.
 fn write_at(place: usize, number: &Frac, denominator: i64, numbers: &mut [i64]) -> bool
     requires { IsDenominator denominator }
-    ensures { IsTrue result → (k : ℕ) → k < length numbers.old → IsWrittenWhere (nat_eq place k) denominator number.now (number_at numbers.old k) (number_at numbers.new k) }
+    ensures { IsTrue result → (k : ℕ) → k < length numbers.old → IsWrittenWhere (nat_eq place k) denominator number.now (whole_number_at numbers.old k) (whole_number_at numbers.new k) }
 {
     if place >= numbers.len() {
         return true;
     }
-    match factor_over(number, denominator) {
+    match short_over(number, denominator) {
         None => false,
         Some(over) => {
             numbers[place] = over;
@@ -123,7 +136,7 @@ pub fn write_cuts(
 
 /// Whether there is a number at a place and it is 0.
 fn is_zero_at(numbers: &[i64], place: usize) -> bool
-    ensures { IsTrue result → (place < length numbers.now) × (number_at numbers.now place ≡ pos 0) }
+    ensures { IsTrue result → (place < length numbers.now) × (whole_number_at numbers.now place ≡ pos 0) }
 {
     place < numbers.len() && numbers[place] == 0
 }

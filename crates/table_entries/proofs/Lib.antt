@@ -24,7 +24,6 @@ pub mod ReadLemmas
 pub mod WholeLemmas
 pub mod WholeListLemmas
 pub mod ListedLemmas
-pub mod WholeSumLemmas
 pub mod RowLemmas
 pub mod PartLemmas
 pub mod PartNumbers

@@ -1,57 +1,27 @@
 -- The list of the entries, from the numbers over their denominator.
-use Rattle.std.specs.Prelude.{◌≡◌, ◌≢◌, ◌↔◌, ℕ, suc, ◌+◌, ◌-◌, ◌*◌, ◌/◌, ◌%◌, ◌<◌, ◌≤◌, ◌==◌, List, [], ◌∷◌, get_or, set, length, ◌<ℤ◌, ◌*ℤ◌, ℤ, pos, unsigned_abs, Bool, true, false, Result, Ok, Err, OkIff}
-use Rattle.std.specs.Result.{IsOk}
+use Rattle.std.specs.Prelude.{◌≡◌, ◌≢◌, ◌↔◌, ℕ, suc, ◌+◌, ◌-◌, ◌*◌, ◌/◌, ◌%◌, ◌<◌, ◌≤◌, ◌==◌, List, [], ◌∷◌, get_or, set, length, ◌<ℤ◌, ◌*ℤ◌, ℤ, pos, unsigned_abs, Bool, true, false}
 use Rattle.std.proofs.Common.{◌++◌, refl, sym, ap, subst, subst₂, ◌∙◌, arith, below_more}
 use Rattle.std.proofs.Math.ListN.{get_or-map}
 use Rattle.std.proofs.lemmas.Nat.{div-mul-add, mod-mul-add}
 use Rattle.std.proofs.lemmas.List.{length-map, ext_get_or, get_or_push, get_or_append_left, length-append}
 use Rattle.std.proofs.lemmas.Int.{ints}
-use Rattle.std.proofs.lemmas.Result.{OkIff-at_ok}
-use Rattle.frac128.specs.Rational.{ℚ, den, int, ◌/ℚ◌}
+use Rattle.frac128.specs.Rational.{ℚ, den, int}
 use Rattle.frac128.specs.Lowest.{reduced-cross, cancel_ℤ}
 use Rattle.frac128.specs.RationalRing.{int_is}
 use Rattle.frac128.specs.IntegerRing.{ring_ℤ, reads_ℤ}
 use Rattle.frac128.proofs.Integers.{int-num, IsWhole-int}
-use Rattle.frac128.specs.Range.{IsNarrow, Fits}
 use Rattle.frac128.specs.LowestTerms.{quotient_of}
-use Rattle.frac128.proofs.Terms.{same_quotient, quotient-/ℚ}
-use Rattle.frac128.proofs.SumTerms.{fits_of_narrow}
 use Rattle.table_entries.specs.Relaxation.{pivoted_entry}
 use Rattle.table_entries.specs.Steps.{PivotStepFits, EntryFits, step_value}
 use Rattle.table_entries.specs.FlatSteps.{dense_entry, FlatFits, flat_value}
 use Rattle.table_entries.specs.WholeSteps.{IsShort, IsWholeStep, magnitude, whole_number_at, is_unwritten, AreShort, AreWithin, AreWritten}
 use Rattle.table_entries.specs.Listed.{Listed, over, listed_costs, AreOver, IsListed, IsStored, IsShortWhole, IsExchangedList}
 use Rattle.table_entries.specs.private.Listed.{ArePartsExchanged}
-use Rattle.table_entries.proofs.WholeLemmas.{magnitude_positive, short_narrow}
+use Rattle.whole_sums.proofs.SumLemmas.{zero_over}
+use Rattle.table_entries.proofs.WholeLemmas.{magnitude_positive}
 use Rattle.table_entries.proofs.PivotLemmas.{flat_within}
 use Rattle.table_entries.proofs.RowLemmas.{flat_fits, flat_written}
 use Rattle.table_entries.proofs.WholeListLemmas.{short_more}
-
--- ---- one fraction
-
-division_is : (n d : ℤ) → pos 0 <ℤ d → int n /ℚ int d ≡ quotient_of n d
-division_is n d h = sym (quotient-/ℚ n d n d (λ e. omega (arith, ints)) h refl)
-
-division_fits : (n d : ℤ) → pos 0 <ℤ d → IsNarrow n → IsShort d → Fits (int n /ℚ int d)
-division_fits n d h n_narrow d_short = subst Fits (sym (division_is n d h)) (fits_of_narrow n d h n_narrow (short_narrow d d_short))
-
-ok_at : {A E : Type 0} {P : Type 0} (v : A) (r : Result A E) → OkIff r P v → P → IsOk r
-ok_at v (Ok x) h p = refl
-ok_at v (Err e) h p = absurd (h p)
-
--- a number and a denominator that were read as n' and d'
-module _ {E : Type 0} (n d n' d' : ℤ) (n_is : n' ≡ n) (d_is : d' ≡ d) (h : pos 0 <ℤ d) (r : Result ℚ E) (made : OkIff r (Fits (int n' /ℚ int d')) (int n' /ℚ int d')) where
-  division_read : int n' /ℚ int d' ≡ int n /ℚ int d
-  division_read = λ j. int (n_is j) /ℚ int (d_is j)
-
-  pub quotient_made : IsNarrow n → IsShort d → IsOk r
-  quotient_made n_narrow d_short = ok_at (int n' /ℚ int d') r made (subst Fits (sym division_read) (division_fits n d h n_narrow d_short))
-
-  pub fraction_made : IsShort n → IsShort d → IsOk r
-  fraction_made n_short d_short = quotient_made (short_narrow n n_short) d_short
-
-  pub fraction_value : (x : ℚ) → r ≡ Ok x → x ≡ quotient_of n d
-  fraction_value x e = (OkIff-at_ok r (Fits (int n' /ℚ int d')) (int n' /ℚ int d') x made e).1 ∙ division_read ∙ division_is n d h
 
 pub whole_over_one : (n : ℤ) → int n ≡ quotient_of n (pos 1)
 whole_over_one n = int_is n
@@ -61,9 +31,6 @@ whole_over_one n = int_is n
 num_int : (n : ℤ) → (int n).num ≡ n
 unfolding int
 num_int n = refl
-
-pub zero_over : (d : ℤ) → pos 0 <ℤ d → quotient_of (pos 0) d ≡ int (pos 0)
-zero_over d h = same_quotient (pos 0) d (pos 0) (pos 1) h (omega (arith, ints)) (ring_ℤ (d ∷ []) (search reads_ℤ) (search reads_ℤ) tt) ∙ sym (int_is (pos 0))
 
 pub over_at : (d : ℤ) (ns : List ℤ) → pos 0 <ℤ d → (at : ℕ) → get_or (over d ns) at (int (pos 0)) ≡ quotient_of (whole_number_at ns at) d
 over_at d ns h at = subst (λ z. get_or (over d ns) at z ≡ quotient_of (whole_number_at ns at) d) (zero_over d h) (get_or-map (λ n. quotient_of n d) ns at (pos 0))

@@ -18,7 +18,7 @@ use Rattle.table_entries.specs.Parts.{unwritten_entry, row_coefficient, any_entr
 use Rattle.table_entries.specs.private.Parts.{slot_number, combined, IsLight}
 use Rattle.table_entries.proofs.PivotLemmas.{flat_within}
 use Rattle.table_entries.proofs.RowLemmas.{other_test, flat_fits, flat_written}
-use Rattle.table_entries.proofs.ListedLemmas.{zero_over}
+use Rattle.whole_sums.proofs.SumLemmas.{zero_over}
 use Rattle.table_entries.proofs.PartLemmas.{unwritten_moved}
 use Rattle.table_entries.proofs.PartNumbers.{numbers_length, entry_is, unwritten_value, unwritten_fits}
 

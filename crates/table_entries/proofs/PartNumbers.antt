@@ -17,9 +17,10 @@ use Rattle.table_entries.specs.WholeSteps.{IsShort, whole_number_at}
 use Rattle.table_entries.specs.Listed.{Listed, IsListed}
 use Rattle.table_entries.specs.Parts.{slot_entry, unwritten_entry, weight}
 use Rattle.table_entries.specs.private.Parts.{slot_number, combined}
-use Rattle.table_entries.proofs.ListedLemmas.{zero_over, over_at}
+use Rattle.whole_sums.proofs.SumLemmas.{zero_over}
+use Rattle.table_entries.proofs.ListedLemmas.{over_at}
 use Rattle.table_entries.proofs.WholeLemmas.{steps_fit}
-use Rattle.table_entries.proofs.WholeSumLemmas.{sum_is, product_is, start_is}
+use Rattle.whole_sums.proofs.SumLemmas.{sum_is, product_is, start_is}
 
 -- ---- size
 

@@ -1,15 +1,10 @@
 -- Short numbers as 64 bits are read: what the code sees of them is the number.
-use Rattle.std.specs.Prelude.{◌≡◌, ◌^◌, ◌<◌, ◌≤◌, ◌<ℤ◌, ◌-ℤ◌, ℤ, pos, unsigned_abs}
+use Rattle.std.specs.Prelude.{◌≡◌, ◌^◌, ◌≤◌, ◌-ℤ◌, ℤ, unsigned_abs}
 use Rattle.std.specs.Int.{w128}
 use Rattle.std.proofs.Common.{sym, ap, subst, ◌∙◌, arith, to_z, of_z, w64}
 use Rattle.std.proofs.lemmas.Int.{ints}
+pub use Rattle.whole_sums.proofs.ReadLemmas.{short_read, short_again, positive_again}
 use Rattle.table_entries.specs.WholeSteps.{IsShort}
-
-pub short_read : (n : ℤ) → IsShort n → to_z w64 (of_z w64 n) ≡ n
-short_read n h = omega (arith, ints, h)
-
-pub short_again : (n : ℤ) → IsShort n → IsShort (to_z w64 (of_z w64 n))
-short_again n h = subst IsShort (sym (short_read n h)) h
 
 -- the same of a number that is a short one
 pub short_as : (m n : ℤ) → m ≡ n → IsShort n → to_z w64 (of_z w64 m) ≡ n
@@ -17,9 +12,6 @@ short_as m n e h = ap (λ x. to_z w64 (of_z w64 x)) e ∙ short_read n h
 
 pub short_as_again : (m n : ℤ) → m ≡ n → IsShort n → IsShort (to_z w64 (of_z w64 m))
 short_as_again m n e h = subst IsShort (sym (short_as m n e h)) h
-
-pub positive_again : (n : ℤ) → IsShort n → pos 0 <ℤ n → pos 0 <ℤ to_z w64 (of_z w64 n)
-positive_again n h positive = subst (λ x. pos 0 <ℤ x) (sym (short_read n h)) positive
 
 -- products of short numbers and their sums
 pub product_read : (n : ℤ) → unsigned_abs n ≤ 2 ^ 126 → to_z w128 (of_z w128 n) ≡ n

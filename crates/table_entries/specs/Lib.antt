@@ -7,6 +7,5 @@ pub mod Laws
 pub mod FlatSteps
 pub mod WholeSteps
 pub mod Listed
-pub mod WholeSums
 pub mod Parts
 pub mod private

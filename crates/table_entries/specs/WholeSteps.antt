@@ -1,12 +1,9 @@
 -- Entries that are whole numbers over one common denominator, and those after an exchange, whose denominator is the magnitude of the pivot's number.
-use Rattle.std.specs.Prelude.{◌≡◌, ℕ, ◌+◌, ◌*◌, ◌/◌, ◌%◌, ◌^◌, ◌<◌, ◌==◌, Bool, false, ℤ, pos, negsuc, neg_ℤ, ◌<ℤ◌, unsigned_abs, List, length, get_or}
+use Rattle.std.specs.Prelude.{◌≡◌, ℕ, ◌+◌, ◌*◌, ◌/◌, ◌%◌, ◌<◌, ◌==◌, Bool, false, ℤ, pos, negsuc, neg_ℤ, ◌<ℤ◌, unsigned_abs, List, length, get_or}
 use Rattle.frac128.specs.Rational.{ℚ}
 use Rattle.frac128.specs.LowestTerms.{quotient_of}
+pub use Rattle.whole_sums.specs.Wholes.{IsShort, whole_number_at}
 use Rattle.table_entries.specs.Steps.{PivotStepFits, step_value}
-
--- a whole number below 2 ^ 62
-abbrev pub IsShort : ℤ → Type 0
-IsShort n = unsigned_abs n < 2 ^ 62
 
 -- x is a short number over the denominator
 abbrev pub IsShortOver : ℤ → ℚ → Type 0
@@ -27,9 +24,6 @@ pub record IsWholeStep (is_row is_place : Bool) (denominator pivot in_row in_pla
   pub fits : PivotStepFits is_row is_place (quotient_of pivot denominator) (quotient_of in_row denominator) (quotient_of in_place denominator) (quotient_of entry denominator)
 
 -- ---- numbers in a list, row by row
-
-abbrev pub whole_number_at : List ℤ → ℕ → ℤ
-whole_number_at numbers at = get_or numbers at (pos 0)
 
 -- n is the number after the exchange of row r and place s where `at` leads to
 abbrev pub WholeAt : ℕ → ℕ → ℕ → ℤ → List ℤ → ℤ → ℕ → Type 0

@@ -1,5 +1,5 @@
 //! Relaxations, the tables of their bases, and the states of the dual simplex method: definitions and laws. The entries
-//! of a table, exchanged in place, and sums of whole numbers over one denominator.
+//! of a table, exchanged in place.
 //!
 //! A relaxation has columns, and activities that its rows and cuts make of them. Its variables are numbered, the columns
 //! first and the activities after them. Each has a low side, a high side, both or none, and a cost:
@@ -56,10 +56,10 @@
 //! to them has room. What is said of entries is said of all rows.
 //!
 //! Public contract: after `exchange` each entry is the one above and each step to it has room, or the first that has none
-//! is named and no entry changes. Where `whole_sum` answers, each step of the sum has room and the answer is the sum.
+//! is named and no entry changes.
 //! Memory is taken by `PartEntries::new` alone. What the rows and places stand for is not known where the entries are
-//! exchanged. Below stand `frac128`, for the numbers and which steps have room, and `checked_sum`, for the sums; above,
-//! `row_tableau`.
+//! exchanged. Below stand `frac128`, for the numbers and which steps have room, `checked_sum`, for the sums, and `whole_sums`, for
+//! whole numbers over one denominator; above, `row_tableau`.
 #![tactic(auto)]
 
 mod entries;
@@ -68,7 +68,6 @@ mod parts;
 mod rows;
 mod stand;
 mod table_entries;
-mod whole_sums;
 mod wholes;
 
 pub use entries::{WideEntry, flat_index};
@@ -79,5 +78,4 @@ pub use laws::{
 };
 pub use parts::PartEntries;
 pub use stand::Stand;
-pub use whole_sums::{WholeTerm, WholeTerms, quotient, whole_number, whole_sum};
-pub use wholes::{by_sign, product, short_number};
+pub use wholes::by_sign;

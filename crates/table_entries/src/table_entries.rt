@@ -8,9 +8,10 @@ ghost use Rattle.table_entries.specs.Listed.{Listed, listed_costs, over, AreOver
 ghost use Rattle.table_entries.specs.private.Listed.{ArePartsExchanged};
 
 use crate::entries::{flat_index, write_exchanged};
-use crate::wholes::{LIMIT, are_within, write_wholes};
+use crate::wholes::{are_within, write_wholes};
 use frac128::Frac;
 use std::alloc::{AllocError, Global};
+use whole_sums::SHORT_LIMIT;
 
 /// The entries of a table, row by row. While all are short whole numbers over one denominator, they are kept so: an
 /// exchange then divides without a greatest common divisor, and no step of it is without room. Where that ends, the
@@ -43,7 +44,9 @@ pub fn is_short_whole(fraction: &Frac) -> bool
         return true;
     }
     let numerator = fraction.numerator();
-    fraction.is_whole() && i128::from(-LIMIT) < numerator && numerator < i128::from(LIMIT)
+    fraction.is_whole()
+        && i128::from(-SHORT_LIMIT) < numerator
+        && numerator < i128::from(SHORT_LIMIT)
 }
 
 /// The numbers that the fractions are, up to the first one that is no short whole number.
@@ -290,7 +293,7 @@ impl TableEntries {
         ensures done { IsTrue result → IsExchangedList columns row place self.old.list self.new.list }
         ensures kept { result ≡ false → self.new ≡ self.old }
     {
-        self.exchange_part(rows, columns, row, place, &[], LIMIT)
+        self.exchange_part(rows, columns, row, place, &[], SHORT_LIMIT)
     }
 
     /// Goes over to fractions.

@@ -3,9 +3,7 @@ ghost use Rattle.std.specs.Prelude.{◌≡◌, ◌≢◌, ◌⊎◌, ◌<◌, �
 ghost use Rattle.table_entries.specs.WholeSteps.{IsShort, IsWholeStep, magnitude, by_sign, whole_number_at, is_unwritten, AreShort, AreWritten, AreWithin};
 
 use crate::entries::flat_index;
-
-/// Numbers are below this.
-pub const LIMIT: i64 = 1 << 62;
+use whole_sums::{SHORT_LIMIT, product, short_number};
 
 /// The number with the sign of the pivot.
 #[inline]
@@ -14,16 +12,6 @@ pub fn by_sign(pivot: i64, number: i64) -> i64
     ensures { result ≡ by_sign pivot number }
 {
     if pivot < 0 { -number } else { number }
-}
-
-/// The product of two short numbers.
-#[inline]
-pub fn product(first: i64, second: i64) -> i128
-    requires first { IsShort first }
-    requires second { IsShort second }
-    ensures { result ≡ first *ℤ second }
-{
-    i128::from(first) * i128::from(second)
 }
 
 /// The number by which a quotient is guessed: the denominator without its factors 2, inverted modulo 2^64 by Newton's
@@ -57,19 +45,6 @@ impl Inverse {
     }
 }
 
-/// The number in 64 bits, if it is short.
-#[inline]
-pub fn short_number(number: i128) -> Option<i64>
-    ensures short { IfSome result (λ n. IsShort n) }
-    ensures value { IfSome result (λ n. n ≡ number) }
-{
-    if i128::from(-LIMIT) < number && number < i128::from(LIMIT) {
-        Some(number as i64)
-    } else {
-        None
-    }
-}
-
 /// The quotient, if the division is exact and it is short.
 #[inline]
 fn exact_quotient(number: i128, divisor: i64, inverse: &Inverse) -> Option<i64>
@@ -81,7 +56,7 @@ fn exact_quotient(number: i128, divisor: i64, inverse: &Inverse) -> Option<i64>
         return short_number(number);
     }
     let quotient = inverse.guess(number);
-    if -LIMIT < quotient && quotient < LIMIT && product(quotient, divisor) == number {
+    if -SHORT_LIMIT < quotient && quotient < SHORT_LIMIT && product(quotient, divisor) == number {
         Some(quotient)
     } else {
         None
@@ -302,7 +277,7 @@ pub fn are_within(
     requires short { AreShort numbers.now }
     ensures { IsTrue result → AreWithin rows columns unwritten.now limit numbers.now }
 {
-    if limit >= LIMIT {
+    if limit >= SHORT_LIMIT {
         return true;
     }
     for row in 0..rows {

@@ -2,7 +2,7 @@
 use Rattle.std.specs.Prelude.{◌≡◌, ℕ, ℤ}
 use Rattle.frac128.specs.LowestTerms.{quotient_of}
 use Rattle.table_entries.specs.States.{basic_value}
-use Rattle.table_entries.specs.WholeSums.{HasMargin}
+use Rattle.whole_sums.specs.Wholes.{HasMargin}
 use Rattle.basic_solution.specs.Held.{Held, relaxation, state, variables}
 use Rattle.basic_solution.specs.Numbers.{ValueFits}
 

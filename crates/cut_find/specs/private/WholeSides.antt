@@ -8,7 +8,7 @@ use Rattle.lp_model.specs.Sides.{needed_side}
 use Rattle.lp_model.specs.declared.types.Side.{Side}
 use Rattle.cover_cuts.specs.Covers.{side_coefficient, contribution_number}
 use Rattle.cover_cuts.specs.Answers.{IsValidAnswer}
-use Rattle.leaf_dual.specs.Wholes.{HasRoomForProduct}
+use Rattle.whole_sums.specs.Wholes.{HasMargin}
 use Rattle.cut_find.specs.declared.whole_side.Mark.{Mark}
 use Rattle.cut_find.specs.declared.whole_side.Sums.{Sums}
 use Rattle.cut_find.specs.declared.whole_side.WholeSide.{WholeSide}
@@ -46,7 +46,7 @@ pub record AreSumsTo (M : Program) (i : ℕ) (s : Side) (d : ℤ) (n : ℕ) (sum
 -- what is kept of a list of columns
 pub record IsWholeCover (M : Program) (i : ℕ) (s : Side) (side : WholeSide) (js : List ℕ) (total : ℤ) (marks : List Mark) : Type 0 where
   pub sum : cover_sum M i s js ≡ quotient_of total side.denominator
-  pub room : HasRoomForProduct total
+  pub room : HasMargin total
   pub marked : AreMarksOf M i s side.denominator js marks
   pub candidates : AreCandidateColumns M i s js
 

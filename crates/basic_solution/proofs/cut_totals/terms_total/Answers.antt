@@ -4,7 +4,7 @@ use Rattle.std.proofs.lemmas.List.{drop_all}
 use Rattle.frac128.specs.LowestTerms.{quotient_of}
 use Rattle.lp_model.specs.CutTerms.{AreTerms}
 use Rattle.table_entries.specs.WholeSteps.{IsShort, whole_number_at}
-use Rattle.table_entries.proofs.ListedLemmas.{zero_over}
+use Rattle.whole_sums.proofs.SumLemmas.{zero_over}
 use Rattle.basic_solution.specs.RowTotals.{IsSmallNumber}
 use Rattle.basic_solution.proofs.TermLemmas.{sum_of_terms, AreBelow, rising_more, below_columns, sum_more}
 use Rattle.basic_solution.proofs.CutTotalLemmas.{terms_size, terms_total_of}

@@ -1,7 +1,7 @@
 use Rattle.std.proofs.Common.{sym, ap₂, subst, ◌∙◌, ◌≡◌, ◌≤◌, ◌^◌, arith, ◌*ℤ◌, ℤ, unsigned_abs, to_z, of_z, w64}
 use Rattle.std.proofs.lemmas.Int.{ints}
 use Rattle.table_entries.specs.WholeSteps.{IsShort}
-use Rattle.table_entries.proofs.WholeLemmas.{short_product}
+use Rattle.whole_sums.proofs.RoomLemmas.{short_product}
 use Rattle.table_entries.proofs.ReadLemmas.{short_read, short_again}
 use Rattle.basic_solution.proofs.row_totals.with_product.Goals as goal
 

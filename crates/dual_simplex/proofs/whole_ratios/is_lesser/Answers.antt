@@ -1,8 +1,8 @@
 use Rattle.std.proofs.Common.{◌≡◌, ap, ap₂, ◌∙◌, ℤ, arith, ◌*ℤ◌, to_z, of_z, w64}
 use Rattle.std.specs.Int.{w128}
 use Rattle.table_entries.specs.WholeSteps.{IsShort}
-use Rattle.table_entries.specs.WholeSums.{HasMargin}
-use Rattle.table_entries.proofs.WholeLemmas.{short_product}
+use Rattle.whole_sums.specs.Wholes.{HasMargin}
+use Rattle.whole_sums.proofs.RoomLemmas.{short_product}
 use Rattle.table_entries.proofs.ReadLemmas.{short_read, short_again, product_read}
 use Rattle.dual_simplex.proofs.WholeRatioLemmas.{crossed_decides}
 use Rattle.dual_simplex.proofs.whole_ratios.is_lesser.Goals as goal

@@ -2,7 +2,7 @@ use Rattle.std.proofs.Common.{◌≡◌, ◌∙◌, sym, subst, ℤ, pos, ◌-�
 use Rattle.std.specs.Int.{w128}
 use Rattle.std.proofs.lemmas.Int.{ints}
 use Rattle.table_entries.specs.WholeSteps.{IsShort, by_sign, magnitude}
-use Rattle.table_entries.specs.WholeSums.{HasMargin}
+use Rattle.whole_sums.specs.Wholes.{HasMargin}
 use Rattle.table_entries.proofs.WholeLemmas.{by_sign-short}
 use Rattle.basic_solution.specs.RowTotals.{IsCostTotal}
 use Rattle.dual_simplex.proofs.WholeRatioLemmas.{own_sign, low_ratio, high_ratio}

@@ -3,7 +3,8 @@ use Rattle.std.specs.Int.{w128}
 use Rattle.std.proofs.lemmas.Int.{ints}
 use Rattle.frac128.specs.Rational.{int}
 use Rattle.frac128.specs.LowestTerms.{quotient_of}
-use Rattle.table_entries.proofs.ListedLemmas.{zero_number, fraction_made, fraction_value, whole_over_one}
+use Rattle.whole_sums.proofs.SumLemmas.{fraction_made, fraction_value}
+use Rattle.table_entries.proofs.ListedLemmas.{zero_number, whole_over_one}
 use Rattle.table_entries.proofs.table_entries.fraction.Goals as goal
 
 pub unwrap-requires : goal.unwrap-requires

@@ -4,8 +4,8 @@ use Rattle.table_entries.specs.WholeSteps.{magnitude, whole_number_at}
 use Rattle.table_entries.proofs.WholeListLemmas.{all_within, row_within}
 use Rattle.table_entries.proofs.wholes.are_within.Goals as goal
 
-pub returns-then-limit-ge-LIMIT : goal.returns-then-limit-ge-LIMIT
-returns-then-limit-ge-LIMIT c = λ t. all_within c.args.rows c.args.columns c.args.unwritten.now c.args.limit c.args.numbers.now (let h = c.if-limit-ge-LIMIT.true in omega (arith, ints, h)) c.requires.size c.requires.short
+pub returns-then-limit-ge-SHORT_LIMIT : goal.returns-then-limit-ge-SHORT_LIMIT
+returns-then-limit-ge-SHORT_LIMIT c = λ t. all_within c.args.rows c.args.columns c.args.unwritten.now c.args.limit c.args.numbers.now (let h = c.if-limit-ge-SHORT_LIMIT.true in omega (arith, ints, h)) c.requires.size c.requires.short
 
 pub loop-row-preserved : goal.loop-row-preserved
 loop-row-preserved c = record {

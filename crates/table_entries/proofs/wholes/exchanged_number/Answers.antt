@@ -4,7 +4,9 @@ use Rattle.std.proofs.lemmas.Int.{ints}
 use Rattle.std.proofs.lemmas.Option.{IfSome_then}
 use Rattle.table_entries.specs.WholeSteps.{IsShort, by_sign, magnitude}
 use Rattle.table_entries.proofs.ReadLemmas.{short_read, short_again, short_as, short_as_again, difference_read}
-use Rattle.table_entries.proofs.WholeLemmas.{whole_corner, whole_row, whole_place, whole_other, whole_kept, by_sign-short, short_product, step_at, both}
+use Rattle.whole_sums.proofs.RoomLemmas.{short_product}
+use Rattle.whole_sums.proofs.SumLemmas.{both}
+use Rattle.table_entries.proofs.WholeLemmas.{whole_corner, whole_row, whole_place, whole_other, whole_kept, by_sign-short, step_at}
 use Rattle.table_entries.proofs.wholes.exchanged_number.Goals as goal
 
 -- the number with the sign of the pivot, of numbers that are read

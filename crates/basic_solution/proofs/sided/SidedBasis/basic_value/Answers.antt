@@ -1,7 +1,7 @@
 use Rattle.std.proofs.Common.{◌≡◌, ◌∙◌, ap₂, to_z, of_z, w64}
 use Rattle.std.specs.Int.{w128}
 use Rattle.frac128.specs.LowestTerms.{quotient_of}
-use Rattle.table_entries.specs.WholeSums.{HasMargin}
+use Rattle.whole_sums.specs.Wholes.{HasMargin}
 use Rattle.basic_solution.proofs.ReadLemmas.{margin_again}
 use Rattle.table_entries.proofs.ReadLemmas.{short_again, positive_again, product_read}
 use Rattle.basic_solution.proofs.sided.SidedBasis.basic_value.Goals as goal

@@ -1,7 +1,7 @@
 use Rattle.std.proofs.Common.{sym, subst, ◌∙◌, ◌≡◌, ◌<◌, ◌*ℤ◌, to_z, of_z, w64}
 use Rattle.std.specs.Int.{w128}
-use Rattle.table_entries.specs.WholeSums.{HasMargin}
-use Rattle.table_entries.proofs.WholeSumLemmas.{start_is}
+use Rattle.whole_sums.specs.Wholes.{HasMargin}
+use Rattle.whole_sums.proofs.SumLemmas.{start_is}
 use Rattle.basic_solution.specs.Held.{IsSided, table}
 use Rattle.basic_solution.specs.RowTotals.{IsSmallNumber}
 use Rattle.basic_solution.specs.private.RowTotals.{IsRowTotal}

@@ -4,7 +4,7 @@ use Rattle.frac128.specs.Rational.{int}
 use Rattle.frac128.specs.LowestTerms.{quotient_of}
 use Rattle.table_entries.specs.FlatSteps.{dense_entry}
 use Rattle.table_entries.specs.WholeSteps.{IsShort}
-use Rattle.table_entries.proofs.WholeSumLemmas.{term_of_number, term_of_nothing}
+use Rattle.whole_sums.proofs.SumLemmas.{term_of_number, term_of_nothing}
 use Rattle.basic_solution.specs.Held.{relaxation, variables}
 use Rattle.basic_solution.specs.RowTotals.{IsSmallNumber}
 use Rattle.basic_solution.proofs.RowTotalLemmas.{saved}

@@ -6,8 +6,8 @@ use Rattle.checked_sum.specs.Steps.{partial}
 use Rattle.checked_sum.proofs.StepLaws.{partial_none}
 use Rattle.row_tableau.specs.Dense.{table_of}
 use Rattle.table_entries.specs.WholeSteps.{IsShort}
-use Rattle.table_entries.specs.WholeSums.{IsWholeTerm, HasMargin}
-use Rattle.table_entries.proofs.WholeSumLemmas.{start_is, total_more}
+use Rattle.whole_sums.specs.Wholes.{IsWholeTerm, HasMargin}
+use Rattle.whole_sums.proofs.SumLemmas.{start_is, total_more}
 use Rattle.basic_solution.specs.Held.{IsSided, relaxation, variables}
 use Rattle.basic_solution.specs.RowTotals.{IsSmallNumber, HasSmallTerm, AreFreeFrom, IsCostTotal}
 use Rattle.basic_solution.proofs.RowTotalLemmas.{place_cost, saved, size_more, start_size, margin_of, total_of_place}
@@ -82,7 +82,7 @@ loop-variable-preserved c =
     let next_is : next' ≡ next = total_read c.with_product-total.result total f n term.factor_short term.number_short next_margin c.with_product-total.ensures in
     record {
       size = subst (λ t. unsigned_abs t ≤ (k + 1 + 1) * 2 ^ 93) (sym next_is) size;
-      value = total_more (place_cost now c.args.place) a x k d' total positive d_short margin f n term next' next_is (subst HasMargin (sym next_is) next_margin) before.value;
+      value = total_more (place_cost now c.args.place) a x k d' total (record { positive = positive; short = d_short }) margin f n term next' next_is (subst HasMargin (sym next_is) next_margin) before.value;
       terms = below_more (λ j. HasSmallTerm d' (a j) (x j)) k before.terms (f, (n, (term, small)));
     }
 

@@ -3,7 +3,7 @@ use Rattle.std.specs.Int.{w128}
 use Rattle.std.proofs.lemmas.Int.{ints}
 use Rattle.frac128.specs.LowestTerms.{quotient_of}
 use Rattle.row_tableau.specs.Dense.{table_of}
-use Rattle.table_entries.specs.WholeSums.{HasMargin}
+use Rattle.whole_sums.specs.Wholes.{HasMargin}
 use Rattle.table_entries.specs.States.{basic_value}
 use Rattle.basic_solution.specs.Held.{IsSided, relaxation, state, table, variables}
 use Rattle.basic_solution.specs.Breach.{IsBreach}

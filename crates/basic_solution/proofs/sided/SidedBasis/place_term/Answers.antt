@@ -4,7 +4,7 @@ use Rattle.frac128.specs.Rational.{int}
 use Rattle.frac128.specs.LowestTerms.{quotient_of}
 use Rattle.table_entries.specs.FlatSteps.{dense_entry}
 use Rattle.table_entries.specs.WholeSteps.{IsShort}
-use Rattle.table_entries.proofs.WholeSumLemmas.{term_of_factor, term_of_nothing}
+use Rattle.whole_sums.proofs.SumLemmas.{term_of_factor, term_of_nothing}
 use Rattle.basic_solution.specs.Held.{table}
 use Rattle.basic_solution.specs.RowTotals.{IsSmallNumber}
 use Rattle.basic_solution.proofs.ReadLemmas.{small_short, small_read, small_again, small_none, none_small}

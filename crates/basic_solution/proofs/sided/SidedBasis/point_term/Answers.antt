@@ -5,7 +5,7 @@ use Rattle.frac128.specs.LowestTerms.{quotient_of}
 use Rattle.table_entries.specs.Steps.{at_nonbasic}
 use Rattle.table_entries.specs.FlatSteps.{dense_entry}
 use Rattle.table_entries.specs.WholeSteps.{IsShort}
-use Rattle.table_entries.proofs.WholeSumLemmas.{term_of_factor, term_of_nothing}
+use Rattle.whole_sums.proofs.SumLemmas.{term_of_factor, term_of_nothing}
 use Rattle.basic_solution.specs.Held.{relaxation, table, state}
 use Rattle.basic_solution.proofs.PointLemmas.{no_standing, own_standing, own_entry}
 use Rattle.table_entries.proofs.ReadLemmas.{short_read}

@@ -1,7 +1,7 @@
 use Rattle.std.proofs.Common.{◌<◌, ◌≡◌, ◌∙◌, ap₂, sym, subst, to_z, of_z, w64}
 use Rattle.std.specs.Int.{w128}
 use Rattle.frac128.specs.LowestTerms.{quotient_of}
-use Rattle.table_entries.specs.WholeSums.{HasMargin}
+use Rattle.whole_sums.specs.Wholes.{HasMargin}
 use Rattle.table_entries.specs.States.{basic_value}
 use Rattle.basic_solution.specs.Held.{relaxation, state, table}
 use Rattle.basic_solution.specs.Breach.{IsBreach}

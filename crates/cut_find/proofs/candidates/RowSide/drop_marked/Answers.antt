@@ -1,6 +1,6 @@
 use Rattle.std.proofs.Common.{◌≡◌, ◌∙◌, ◌≤◌, refl, sym, subst, arith, inl, inr, false, length, get_or, to_z, of_z}
 use Rattle.std.specs.Int.{w128}
-use Rattle.leaf_dual.proofs.ReadLemmas.{room_read}
+use Rattle.whole_sums.proofs.ReadLemmas.{room_read}
 use Rattle.cut_find.specs.Greedy.{places_without}
 use Rattle.cut_find.specs.WholeSides.{mark_at}
 use Rattle.cut_find.specs.private.WholeSides.{rest_without, IsWholeCover}
@@ -14,7 +14,7 @@ loop-place-init c =
     (c.args.taken.now, (subst (λ n. IsWholeCover self.model.now self.row.0 self.side c.args.side.now c.args.taken.now n c.args.marks.now) (sym (room_read c.args.total c.requires.cover.room)) c.requires.cover, λ o drops. drops))
 
 pub drop_mark-requires-clause-limit : goal.drop_mark-requires-clause-limit
-drop_mark-requires-clause-limit c = c.requires.side.factor
+drop_mark-requires-clause-limit c = c.requires.side.short
 
 pub drop_mark-requires-clause-within : goal.drop_mark-requires-clause-within
 drop_mark-requires-clause-within c =
@@ -23,10 +23,10 @@ drop_mark-requires-clause-within c =
     let long = c.requires.long in
     omega (arith, within, kept, long)
 
-pub drop_mark-requires-clause-factor : goal.drop_mark-requires-clause-factor
-drop_mark-requires-clause-factor c =
+pub drop_mark-requires-clause-short : goal.drop_mark-requires-clause-short
+drop_mark-requires-clause-short c =
     let cand = c.requires.cover.candidates c.loop-place.place 0 c.loop-place-test.true in
-    (c.loop-place.invariant.1.0.marked (get_or c.args.taken.now c.loop-place.place 0) cand.within cand.candidate.coefficient).factor
+    (c.loop-place.invariant.1.0.marked (get_or c.args.taken.now c.loop-place.place 0) cand.within cand.candidate.coefficient).short
 
 pub drop_mark-requires-clause-left : goal.drop_mark-requires-clause-left
 drop_mark-requires-clause-left c = c.loop-place.invariant.1.0.room
@@ -55,7 +55,7 @@ loop-place-preserved c =
     let long : length l.marks ≡ length M.cols = l.auto.marks ∙ c.requires.long in
     elim c.in-Some.ensures.left [
       | inl goes ↦
-          let rest_room = less_room left mark.weight side.limit cover.room c.requires.side.factor goes.0 in
+          let rest_room = less_room left mark.weight side.limit cover.room c.requires.side.short goes.0 in
           let read : to_z w128 (of_z w128 next) ≡ rest = subst (λ n. to_z w128 (of_z w128 n) ≡ rest) (sym goes.1) (room_read rest rest_room) in (
             places_without j kept,
             (

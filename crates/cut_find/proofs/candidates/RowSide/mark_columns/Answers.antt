@@ -1,8 +1,8 @@
 use Rattle.std.proofs.Common.{◌≡◌, ◌∙◌, refl, sym, ap, subst, arith, suc, length, ◌≤◌, [], false, to_z, of_z, w64}
 use Rattle.frac128.specs.LowestTerms.{quotient_of}
 use Rattle.cover_cuts.specs.Covers.{signed_by_side, side_coefficient}
-use Rattle.leaf_dual.specs.Wholes.{IsFactor}
-use Rattle.leaf_dual.proofs.ReadLemmas.{factor_read, denominator_again}
+use Rattle.whole_sums.specs.Wholes.{IsShort}
+use Rattle.whole_sums.proofs.ReadLemmas.{short_read, denominator_again}
 use Rattle.cut_find.specs.WholeSides.{AreMarksOf}
 use Rattle.cut_find.proofs.RowLemmas.{entry_at, entries_end}
 use Rattle.cut_find.proofs.MarkLemmas.{marks_across, marks_more}
@@ -11,8 +11,8 @@ use Rattle.cut_find.proofs.candidates.RowSide.mark_columns.Goals as goal
 pub loop-entry-init : goal.loop-entry-init
 loop-entry-init c = (0, (c.requires.entries, λ j below some. absurd (omega (arith, below))))
 
-pub factor_over-requires : goal.factor_over-requires
-factor_over-requires c = denominator_again c.args.denominator c.requires.denominator
+pub short_over-requires : goal.short_over-requires
+short_over-requires c = denominator_again c.args.denominator c.requires.denominator
 
 pub bounds-marks-entry : goal.bounds-marks-entry
 bounds-marks-entry c =
@@ -32,14 +32,14 @@ loop-entry-preserved c =
     let n = length M.cols in
     let d = to_z w64 (of_z w64 c.args.denominator) in
     let w = to_z w64 (of_z w64 c.in-Some.weight) in
-    let w_factor : IsFactor c.in-Some.weight = c.in-Some.ensures.factor in
-    let w_is : w ≡ c.in-Some.weight = factor_read c.in-Some.weight w_factor in
+    let w_short : IsShort c.in-Some.weight = c.in-Some.ensures.short in
+    let w_is : w ≡ c.in-Some.weight = short_read c.in-Some.weight w_short in
     let e = c.entry-item.result in
     let at = entry_at M self.row.0 l.invariant.0 n self.entries.now l.entry-index e c.loop-entry-test.true c.entry-item.is l.invariant.1.0 in
     let long : n ≤ length l.marks = let a = l.auto.marks in let b = c.requires.marks in omega (arith, a, b) in
     let weight : side_coefficient M self.row.0 self.side e.0 ≡ quotient_of w d =
     ap (signed_by_side self.side) (sym at.0.number) ∙ sym c.signed.ensures ∙ c.in-Some.ensures.value ∙ ap (λ m. quotient_of m d) (sym w_is) in
-    (suc e.0, (at.1, marks_more M self.row.0 self.side d l.invariant.0 l.marks l.invariant.1.1 n e at.0 (record { weight = w; taken = false }) _ long (subst IsFactor (sym w_is) w_factor) weight refl refl))
+    (suc e.0, (at.1, marks_more M self.row.0 self.side d l.invariant.0 l.marks l.invariant.1.1 n e at.0 (record { weight = w; taken = false }) _ long (subst IsShort (sym w_is) w_short) weight refl refl))
 
 pub returns : goal.returns
 returns c = λ _.
@@ -47,7 +47,7 @@ returns c = λ _.
     let M = self.model.now in
     let l = c.loop-entry in
     let n = length M.cols in
-    let d_is : to_z w64 (of_z w64 c.args.denominator) ≡ c.args.denominator = factor_read c.args.denominator c.requires.denominator.factor in
+    let d_is : to_z w64 (of_z w64 c.args.denominator) ≡ c.args.denominator = short_read c.args.denominator c.requires.denominator.short in
     let past : length self.entries.now ≤ l.entry-index = let h = c.loop-entry-test.false in omega (arith, h) in
     let end = entries_end M self.row.0 l.invariant.0 n self.entries.now l.entry-index past l.invariant.1.0 in
     subst (λ d. AreMarksOf M self.row.0 self.side d [] l.marks) d_is (marks_across M self.row.0 self.side (to_z w64 (of_z w64 c.args.denominator)) l.invariant.0 l.marks l.invariant.1.1 n end.1)

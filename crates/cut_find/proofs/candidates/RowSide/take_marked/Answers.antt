@@ -1,7 +1,7 @@
 use Rattle.std.proofs.Common.{◌≡◌, ◌∙◌, refl, sym, subst, arith, [], ◌+ℤ◌, ◌<ℤ◌, pos, unsigned_abs, true, length, get_or, to_z, of_z}
 use Rattle.std.specs.Int.{w128}
 use Rattle.std.proofs.lemmas.Bool.{false≢true}
-use Rattle.leaf_dual.proofs.ReadLemmas.{room_read, room_again}
+use Rattle.whole_sums.proofs.ReadLemmas.{room_read, room_again}
 use Rattle.cut_find.specs.WholeSides.{mark_at}
 use Rattle.cut_find.specs.private.WholeSides.{IsWholeCover, IsTaken}
 use Rattle.cut_find.proofs.TakeLemmas.{taken_here, taken_end, never_end, back_more, cover_begin, cover_more}
@@ -17,7 +17,7 @@ loop-place-init c =
     }
 
 pub is_passed-requires : goal.is_passed-requires
-is_passed-requires c = c.requires.side.factor
+is_passed-requires c = c.requires.side.short
 
 pub returns-then-is_passed : goal.returns-then-is_passed
 returns-then-is_passed c =
@@ -32,10 +32,10 @@ take_mark-requires-clause-within c =
     let long = c.requires.long in
     omega (arith, within, kept, long)
 
-pub take_mark-requires-clause-factor : goal.take_mark-requires-clause-factor
-take_mark-requires-clause-factor c =
+pub take_mark-requires-clause-short : goal.take_mark-requires-clause-short
+take_mark-requires-clause-short c =
     let cand = c.requires.order c.loop-place.place 0 c.loop-place-test.true in
-    (c.loop-place.invariant.cover.marked (get_or c.args.order.now c.loop-place.place 0) cand.within cand.candidate.coefficient).factor
+    (c.loop-place.invariant.cover.marked (get_or c.args.order.now c.loop-place.place 0) cand.within cand.candidate.coefficient).short
 
 pub take_mark-requires-clause-total : goal.take_mark-requires-clause-total
 take_mark-requires-clause-total c = c.loop-place.invariant.cover.room

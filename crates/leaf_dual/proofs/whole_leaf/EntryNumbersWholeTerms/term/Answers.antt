@@ -5,8 +5,8 @@ use Rattle.frac128.specs.LowestTerms.{quotient_of}
 use Rattle.lp_model.proofs.ElementLemmas.{of_element-get}
 use Rattle.leaf_dual.specs.Dual.{multiplier}
 use Rattle.leaf_dual.specs.Parts.{entry_row, entry_number}
-use Rattle.leaf_dual.specs.Wholes.{IsFactor, IsTermOver}
-use Rattle.leaf_dual.proofs.ReadLemmas.{factor_read}
+use Rattle.whole_sums.specs.Wholes.{IsShort, IsWholeTerm}
+use Rattle.whole_sums.proofs.ReadLemmas.{short_read}
 use Rattle.leaf_dual.proofs.whole_leaf.EntryNumbersWholeTerms.term.Goals as goal
 
 pub returns-clause-value : goal.returns-clause-value
@@ -23,7 +23,7 @@ returns-clause-value c =
     let number : entry_number es k ≡ read.1 = of_element-get (int (pos 0)) (λ n. n.1) es k e c.requires.index c.index-self-index.is ∙ ap (λ n. n.1) c.index-self-index.is in
     let weight = c.in-Some.weight in
     let over = c.requires.lawful.rows read.0.0 c.in-Some.ensures.within in
-    let w_factor : IsFactor weight = subst IsFactor (sym c.in-Some.ensures.value) over.0 in
-    let w_is : to_z w64 (of_z w64 weight) ≡ weight = factor_read weight w_factor in
+    let w_short : IsShort weight = subst IsShort (sym c.in-Some.ensures.value) over.0 in
+    let w_is : to_z w64 (of_z w64 weight) ≡ weight = short_read weight w_short in
     let y_is : quotient_of (to_z w64 (of_z w64 weight)) d ≡ y (entry_row es k) = ap (λ n. quotient_of n d) (w_is ∙ c.in-Some.ensures.value) ∙ over.1 ∙ ap y (sym row) in
-    IfSome_then c.taken_term.result c.taken_term.ensures (λ t h. subst (λ P. P) (λ j. IsTermOver d (neg_ℚ (y_is j)) (sym number j) t.factor t.number) (h d p))
+    IfSome_then c.taken_term.result c.taken_term.ensures (λ t h. subst (λ P. P) (λ j. IsWholeTerm d (neg_ℚ (y_is j)) (sym number j) t.factor t.number) (h d p))

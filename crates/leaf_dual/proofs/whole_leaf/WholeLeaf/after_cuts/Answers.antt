@@ -7,8 +7,8 @@ use Rattle.checked_sum.specs.Steps.{AllFit, partial}
 use Rattle.checked_sum.proofs.StepLaws.{partial_none, partial_next, fits_next}
 use Rattle.lp_model.specs.Formulations.{cut_coefficient}
 use Rattle.leaf_dual.specs.Dual.{cut_weight}
-use Rattle.leaf_dual.specs.Wholes.{HasRoomForProduct}
-use Rattle.leaf_dual.proofs.ReadLemmas.{room_read, room_again}
+use Rattle.whole_sums.specs.Wholes.{HasMargin}
+use Rattle.whole_sums.proofs.ReadLemmas.{room_read, room_again}
 use Rattle.leaf_dual.proofs.SkippedTerms.{AreNone, fits-skipped, partial-skipped}
 use Rattle.leaf_dual.proofs.whole_leaf.WholeLeaf.after_cuts.Goals as goal
 
@@ -41,7 +41,7 @@ loop-place-preserved c =
     let total = quotient_of (to_z w128 c.loop-place.total-bits) d in
     let before = c.loop-place.invariant in
     let next = c.in-Some.next in
-    let next_room : HasRoomForProduct next = c.in-Some.ensures.room in
+    let next_room : HasMargin next = c.in-Some.ensures.room in
     let n_is : to_z w128 (of_z w128 next) ≡ next = room_read next next_room in
     let after = c.next_weighed-place-in-Some in
     let none : AreNone start a x (k + 1) after.result = λ j from below. ap neg_ℚ (after.ensures.free j from below) ∙ nothing in
@@ -49,7 +49,7 @@ loop-place-preserved c =
     let fits : AllFit start a x (k + 1) = fits_next start a x k total before.total before.fits c.in-Some.ensures.fits in
     record {
       within = after.ensures.within;
-      room = subst HasRoomForProduct (sym n_is) next_room;
+      room = subst HasMargin (sym n_is) next_room;
       total = ap (λ n. quotient_of n d) n_is ∙ more ∙ partial-skipped start a x (k + 1) after.result after.ensures.from none;
       fits = fits-skipped start a x (k + 1) after.result none fits;
     }

@@ -5,18 +5,18 @@ use Rattle.frac128.specs.LowestTerms.{quotient_of}
 use Rattle.leaf_dual.specs.Dual.{multiplier}
 use Rattle.leaf_dual.specs.Parts.{cost_of}
 use Rattle.leaf_dual.proofs.DualLemmas.{reduced-ok}
-use Rattle.leaf_dual.proofs.ReadLemmas.{factor_read, denominator_again, start_read, start_again}
-use Rattle.leaf_dual.proofs.WholeLemmas.{both}
+use Rattle.whole_sums.proofs.ReadLemmas.{short_read, denominator_again, start_read, start_again}
+use Rattle.whole_sums.proofs.SumLemmas.{both}
 use Rattle.leaf_dual.proofs.whole_leaf.WholeLeaf.after_rows.Goals as goal
 
 pub bounds-cols-col : goal.bounds-cols-col
 bounds-cols-col c = subst (λ n. c.args.col < n) (sym (ap length c.cols.ensures.items)) c.requires.within
 
-pub factor_over-requires : goal.factor_over-requires
-factor_over-requires c = denominator_again c.args.self.now.denominator c.requires.whole.denominator
+pub short_over-requires : goal.short_over-requires
+short_over-requires c = denominator_again c.args.self.now.denominator c.requires.whole.denominator
 
 pub whole_total-requires-clause-start : goal.whole_total-requires-clause-start
-whole_total-requires-clause-start c = start_again c.from.result c.in-Some.start c.in-Some.ensures.factor c.from.ensures
+whole_total-requires-clause-start c = start_again c.from.result c.in-Some.start c.in-Some.ensures.short c.from.ensures
 
 pub returns-clause-left : goal.returns-clause-left
 returns-clause-left c =
@@ -28,9 +28,9 @@ returns-clause-left c =
     let j = c.args.col in
     let col = c.index-cols-col.result in
     let start = c.in-Some.start in
-    let d_is : to_z w64 (of_z w64 d) ≡ d = factor_read d c.requires.whole.denominator.factor in
+    let d_is : to_z w64 (of_z w64 d) ≡ d = short_read d c.requires.whole.denominator.short in
     let from = to_z w128 (of_z w128 c.from.result) in
-    let from_is : from ≡ start = start_read c.from.result start c.in-Some.ensures.factor c.from.ensures in
+    let from_is : from ≡ start = start_read c.from.result start c.in-Some.ensures.short c.from.ensures in
     let start_is : quotient_of from d ≡ costs j = ap (λ n. quotient_of n d) from_is ∙ ap (quotient_of start) (sym d_is) ∙ sym c.in-Some.ensures.value ∙ c.cost.ensures in
     IfSome_then c.whole_total.result (both _ _ c.whole_total.result c.whole_total.ensures.fits c.whole_total.ensures.value)
     (λ total h.

@@ -7,8 +7,8 @@ use Rattle.leaf_dual.specs.Dual.{multiplier, cut_weight, column_reduced_cost, co
 use Rattle.leaf_dual.specs.Answers.{bound_number}
 use Rattle.leaf_dual.specs.Parts.{cost_of}
 use Rattle.leaf_dual.specs.private.Parts.{IsColumnsTotal}
-use Rattle.leaf_dual.specs.Wholes.{HasRoomForProduct}
-use Rattle.leaf_dual.proofs.ReadLemmas.{room_read, room_again}
+use Rattle.whole_sums.specs.Wholes.{HasMargin}
+use Rattle.whole_sums.proofs.ReadLemmas.{room_read, room_again}
 use Rattle.leaf_dual.proofs.AnswerLemmas.{columns-none, columns-next, columns-all}
 use Rattle.leaf_dual.proofs.whole_leaf.WholeLeaf.columns_total.Goals as goal
 
@@ -41,12 +41,12 @@ loop-col-preserved c =
     let d = W.denominator in
     let start = quotient_of (to_z w128 (of_z w128 c.args.start)) d in
     let next = c.in-Some.next in
-    let next_room : HasRoomForProduct next = c.in-Some.ensures.room in
+    let next_room : HasMargin next = c.in-Some.ensures.room in
     let n_is : to_z w128 (of_z w128 next) ≡ next = room_read next next_room in
     let before = c.loop-col.invariant in
     let more = columns-next M cuts path y z costs start c.loop-col.col (quotient_of (to_z w128 c.loop-col.total-bits) d) before.total before.fits (quotient_of next d) c.in-Some.ensures.column in
     record {
-      room = subst HasRoomForProduct (sym n_is) next_room;
+      room = subst HasMargin (sym n_is) next_room;
       total = ap (λ n. quotient_of n d) n_is ∙ more.1;
       fits = more.0;
       sides = below_more (λ j. ¬ (column_side (formulation M cuts) path y z costs j ≡ None)) c.loop-col.col before.sides c.in-Some.ensures.side;

@@ -8,7 +8,7 @@ use Rattle.leaf_dual.specs.Dual.{multiplier, cut_weight}
 use Rattle.leaf_dual.specs.Parts.{cost_of}
 use Rattle.leaf_dual.specs.private.Parts.{IsAfterCuts, IsCostAnswer}
 use Rattle.leaf_dual.proofs.DualLemmas.{cuts-answer}
-use Rattle.leaf_dual.proofs.ReadLemmas.{room_read, room_again}
+use Rattle.whole_sums.proofs.ReadLemmas.{room_read, room_again}
 use Rattle.leaf_dual.proofs.whole_leaf.WholeLeaf.cost_left.Goals as goal
 
 pub after_cuts-requires-clause-start : goal.after_cuts-requires-clause-start
@@ -29,6 +29,6 @@ returns-clause-left c =
     let after : IsAfterCuts cuts z (quotient_of by_rows d) j (Ok (quotient_of by_cuts d)) =
     subst (λ s. AllFit (quotient_of s d) (λ k. neg_ℚ (z k)) (λ k. cut_coefficient cuts k j) (length cuts) × (quotient_of by_cuts d ≡ partial (quotient_of s d) (λ k. neg_ℚ (z k)) (λ k. cut_coefficient cuts k j) (length cuts)))
     (room_read by_rows c.in-Some.ensures.room) (c.in-Some-after_cuts.ensures.fits, c.in-Some-after_cuts.ensures.value) in
-    IfSome_then c.factor.result c.factor.ensures.value
+    IfSome_then c.short_number.result c.short_number.ensures.value
     (λ n h. subst (λ m. IsCostAnswer M cuts y z costs j (Ok (quotient_of m d))) (sym (h ∙ room_read by_cuts c.in-Some-after_cuts.ensures.room))
     (cuts-answer M cuts y z costs j (quotient_of by_rows d) c.in-Some.ensures.left (Ok (quotient_of by_cuts d)) after))

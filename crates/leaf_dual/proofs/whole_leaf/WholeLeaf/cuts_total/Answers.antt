@@ -5,8 +5,8 @@ use Rattle.frac128.specs.LowestTerms.{quotient_of}
 use Rattle.checked_sum.specs.Steps.{AllFit, partial}
 use Rattle.leaf_dual.specs.Dual.{cut_weight}
 use Rattle.leaf_dual.specs.Answers.{cut_number}
-use Rattle.leaf_dual.proofs.ReadLemmas.{room_read, room_again}
-use Rattle.leaf_dual.proofs.WholeLemmas.{both}
+use Rattle.whole_sums.proofs.ReadLemmas.{room_read, room_again}
+use Rattle.whole_sums.proofs.SumLemmas.{both}
 use Rattle.leaf_dual.proofs.whole_leaf.WholeLeaf.cuts_total.Goals as goal
 
 pub whole_total-requires-clause-start : goal.whole_total-requires-clause-start

@@ -6,16 +6,16 @@ use Rattle.checked_sum.specs.Steps.{AllFit, partial}
 use Rattle.leaf_dual.specs.Dual.{multiplier}
 use Rattle.leaf_dual.specs.Answers.{row_number}
 use Rattle.leaf_dual.specs.Parts.{constant_of}
-use Rattle.leaf_dual.specs.Wholes.{IsFactor}
-use Rattle.leaf_dual.proofs.ReadLemmas.{factor_read, denominator_again, start_read, start_again}
-use Rattle.leaf_dual.proofs.WholeLemmas.{both}
+use Rattle.whole_sums.specs.Wholes.{IsShort}
+use Rattle.whole_sums.proofs.ReadLemmas.{short_read, denominator_again, start_read, start_again}
+use Rattle.whole_sums.proofs.SumLemmas.{both}
 use Rattle.leaf_dual.proofs.whole_leaf.WholeLeaf.rows_total.Goals as goal
 
-pub factor_over-requires : goal.factor_over-requires
-factor_over-requires c = denominator_again c.args.self.now.denominator c.requires.denominator
+pub short_over-requires : goal.short_over-requires
+short_over-requires c = denominator_again c.args.self.now.denominator c.requires.denominator
 
 pub whole_total-requires-clause-start : goal.whole_total-requires-clause-start
-whole_total-requires-clause-start c = start_again c.from.result c.in-Some.start c.in-Some.ensures.factor c.from.ensures
+whole_total-requires-clause-start c = start_again c.from.result c.in-Some.start c.in-Some.ensures.short c.from.ensures
 
 pub returns-clause-total : goal.returns-clause-total
 returns-clause-total c =
@@ -24,9 +24,9 @@ returns-clause-total c =
     let y = multiplier W.leaf.mult.now in
     let d = W.denominator in
     let start = c.in-Some.start in
-    let start_factor : IsFactor start = c.in-Some.ensures.factor in
-    let d_is : to_z w64 (of_z w64 d) ≡ d = factor_read d c.requires.denominator.factor in
-    let from_is : to_z w128 (of_z w128 c.from.result) ≡ start = start_read c.from.result start start_factor c.from.ensures in
+    let start_short : IsShort start = c.in-Some.ensures.short in
+    let d_is : to_z w64 (of_z w64 d) ≡ d = short_read d c.requires.denominator.short in
+    let from_is : to_z w128 (of_z w128 c.from.result) ≡ start = start_read c.from.result start start_short c.from.ensures in
     let start_is : quotient_of (to_z w128 (of_z w128 c.from.result)) d ≡ constant_of W.leaf.costed M = ap (λ n. quotient_of n d) from_is ∙ ap (quotient_of start) (sym d_is) ∙ sym c.in-Some.ensures.value ∙ c.constant.ensures in
     IfSome_then c.whole_total.result (both _ _ c.whole_total.result c.whole_total.ensures.fits c.whole_total.ensures.value)
     (λ total h. subst (λ s. AllFit s y (row_number M y) (length M.rows) × (quotient_of total d ≡ partial s y (row_number M y) (length M.rows))) start_is h)

@@ -1,5 +1,0 @@
-use Rattle.leaf_dual.specs.Wholes.{IsDenominator}
-use Rattle.leaf_dual.proofs.whole_numbers.common_denominator.Given as goal
-
-abbrev pub invariant-loop-number : goal.invariant-loop-number
-invariant-loop-number l = IsDenominator l.denominator
