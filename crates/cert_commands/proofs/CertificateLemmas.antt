@@ -1,11 +1,12 @@
 -- The certificate of a search that went to its end, as bytes.
 use Rattle.std.proofs.Common.{◌≡◌, ℕ, ◌<◌, List, length, Some, None, Ok, Err, Result, sym, ap, subst, ◌∙◌, arith}
 use Rattle.lp_model.specs.Program.{Program, Point}
+use Rattle.lp_model.specs.Lawful.{IsLawful}
 use Rattle.cert_text.specs.declared.cert.Claim.TheVariants.{Unbounded}
 use Rattle.search_parts.specs.Points.{IsIncumbent}
 use Rattle.std.specs.Prelude.{IfOk}
 use Rattle.sound_searches.specs.Sound.{PlainSearch, IsSound}
-use Rattle.cert_check.specs.Laws.{AcceptedLaw, VerdictLaw}
+use Rattle.cert_check.specs.Laws.{AcceptedLaw, VerdictLaw, IsTrueClaim}
 use Rattle.cert_text.specs.Text.{MeantCertificate}
 use Rattle.cert_check.specs.Verdict.{IsVerdict}
 use Rattle.cert_text.specs.Whole.{IsCertificate}
@@ -14,7 +15,14 @@ use Rattle.cert_check.specs.declared.verdict.Verdict.TheVariants.{Accepted}
 use Rattle.tree_cert.specs.Certificates.{IsCertificateOf, unbounded_certificate}
 use Rattle.cert_writer.specs.CertText.{HasCertWords, cert_text}
 use Rattle.tree_cert.specs.Laws.{NamesLaw, UnboundedNamesLaw}
-use Rattle.cert_commands.specs.Certificates.{IsCertificateText, IsUnboundedTextBy, IsUnboundedText}
+use Rattle.front_text.specs.Text.{MeantFront}
+use Rattle.front_text.specs.Whole.{IsFrontCertificate}
+use Rattle.front_text.specs.declared.front.FrontCert.{FrontCert}
+use Rattle.front_writer.specs.FrontWords.{printed_front, HasFrontWords}
+use Rattle.front_check.specs.Laws.{FrontLaw}
+use Rattle.accepted_names.specs.Laws.{AcceptedNamesLaw, FrontNamesLaw}
+use Rattle.kept_env.specs.Env.{IsFrontProved, IsEmptinessProved}
+use Rattle.cert_commands.specs.Certificates.{IsCertificateText, IsUnboundedTextBy, IsUnboundedText, IsFrontText, IsEmptinessText}
 
 -- what was printed of a search's certificate
 pub certificate-text : {V E : Type 0} (items : V → List ℕ) (S : PlainSearch) (cert : Cert) (r : Result V E) → NamesLaw → VerdictLaw → AcceptedLaw → IsSound S
@@ -51,3 +59,24 @@ of-incumbent items S x d (Err e) best is = tt
 -- a search that keeps a point has an incumbent
 pub some-incumbent : (S : PlainSearch) → 0 < length S.points → IsIncumbent S.model S.points None → ⊥
 some-incumbent S some none = let e = ap length none in omega (arith, some, e)
+
+-- what was printed of the certificate of a front, and that no point is feasible
+pub front-text : {V E : Type 0} (items : V → List ℕ) (M : Program) (cert : FrontCert) (r : Result V E) → FrontLaw → FrontNamesLaw → IsLawful M → IsFrontProved M cert
+    → IfOk r (λ text. items text ≡ printed_front cert) → IfOk r (λ text. IsFrontCertificate cert → HasFrontWords cert → MeantFront (items text) cert) → IfOk r (λ text. IsFrontText M cert (items text))
+front-text items M cert (Ok text) front names lawful proved told states = record {
+  is = told;
+  stated = λ words. states proved.whole (names M cert proved.accepted proved.narrow words);
+  proved = proved;
+  front = front M cert lawful proved.accepted;
+}
+front-text items M cert (Err e) front names lawful proved told states = tt
+
+pub emptiness-text : {V E : Type 0} (items : V → List ℕ) (M : Program) (cert : Cert) (r : Result V E) → AcceptedLaw → AcceptedNamesLaw → IsEmptinessProved M cert
+    → IfOk r (λ text. items text ≡ cert_text cert) → IfOk r (λ text. IsCertificate cert → HasCertWords cert → MeantCertificate (items text) cert) → IfOk r (λ text. IsEmptinessText M cert (items text))
+emptiness-text items M cert (Ok text) accepted names proved told states = record {
+  is = told;
+  stated = λ words. states proved.whole (names M cert proved.accepted words);
+  proved = proved;
+  empty = subst (IsTrueClaim M) proved.claims (accepted M cert proved.accepted);
+}
+emptiness-text items M cert (Err e) accepted names proved told states = tt

@@ -7,14 +7,20 @@ use Rattle.cert_check.specs.Verdict.{IsVerdict}
 use Rattle.cert_check.specs.Laws.{IsTrueClaim}
 use Rattle.cert_text.specs.declared.cert.Cert.{Cert}
 use Rattle.cert_check.specs.declared.verdict.Verdict.TheVariants.{Accepted}
-use Rattle.lp_model.specs.Program.{Program, Point}
+use Rattle.lp_model.specs.Program.{Program, Point, IsEmpty}
 use Rattle.cert_text.specs.declared.cert.Claim.TheVariants as claim
 use Rattle.search_parts.specs.Points.{IsIncumbent}
 use Rattle.tree_cert.specs.Certificates.{IsCertificateOf, unbounded_certificate}
 use Rattle.word_names.specs.WordNames.{HasWordNames}
 use Rattle.cert_writer.specs.CertText.{cert_text}
+use Rattle.frontier.specs.Outcomes.{IsFrontier, outcomes_in_own_sense}
+use Rattle.front_text.specs.Text.{MeantFront}
+use Rattle.front_text.specs.declared.front.FrontCert.{FrontCert}
+use Rattle.front_writer.specs.FrontWords.{printed_front}
+use Rattle.front_check.specs.Accepted.{outcomes_of}
+use Rattle.kept_env.specs.Env.{IsFrontProved, IsEmptinessProved}
 use Rattle.kept_env.specs.declared.held.Held.{Held}
-use Rattle.kept_env.specs.declared.held.Held.TheVariants.{Nothing, Finished, Unbounded}
+use Rattle.kept_env.specs.declared.held.Held.TheVariants.{Nothing, Finished, Unbounded, Front, Infeasible}
 use Rattle.kept_env.specs.declared.env.EnvFault.{EnvFault}
 use Rattle.kept_env.specs.declared.env.EnvFault.TheVariants.{NoModel, NoAnswer, Memory}
 
@@ -42,6 +48,22 @@ pub record IsUnboundedText (S : PlainSearch) (ray : Point) (text : List ℕ) : T
   pub incumbent : IsIncumbent S.model S.points (Some point)
   pub text_is : IsUnboundedTextBy S.model point ray text
 
+-- The bytes are the text of this certificate of a front, which is accepted for the model, so that its outcomes, in the model's own sense,
+-- are the front of the model. They read as that certificate where each name of the model is a word of a line.
+pub record IsFrontText (M : Program) (cert : FrontCert) (text : List ℕ) : Type 0 where
+  pub is : text ≡ printed_front cert
+  pub stated : HasWordNames M → MeantFront text cert
+  pub proved : IsFrontProved M cert
+  pub front : IsFrontier M (outcomes_in_own_sense M.sense (outcomes_of cert))
+
+-- The bytes are the text of this certificate that no point is feasible, which is accepted for the model, so that none is. They read as that
+-- certificate where each name of the model is a word of a line.
+pub record IsEmptinessText (M : Program) (cert : Cert) (text : List ℕ) : Type 0 where
+  pub is : text ≡ cert_text cert
+  pub stated : HasWordNames M → States text cert
+  pub proved : IsEmptinessProved M cert
+  pub empty : IsEmpty M
+
 -- what is answered, by what is held
 abbrev pub IsCertAnswer : Option PlainSearch → Held → Result (Vec ℕ Global) EnvFault → Type 0
 IsCertAnswer None held result = result ≡ Err NoModel
@@ -50,3 +72,7 @@ IsCertAnswer (Some S) Finished (Ok text) = IsCertificateText S text.items
 IsCertAnswer (Some S) Finished (Err fault) = fault ≡ Memory
 IsCertAnswer (Some S) (Unbounded ray) (Ok text) = IsUnboundedText S ray text.items
 IsCertAnswer (Some S) (Unbounded ray) (Err fault) = fault ≡ Memory
+IsCertAnswer (Some S) (Front cert) (Ok text) = IsFrontText S.model cert text.items
+IsCertAnswer (Some S) (Front cert) (Err fault) = fault ≡ Memory
+IsCertAnswer (Some S) (Infeasible cert) (Ok text) = IsEmptinessText S.model cert text.items
+IsCertAnswer (Some S) (Infeasible cert) (Err fault) = fault ≡ Memory

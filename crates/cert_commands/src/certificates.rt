@@ -3,12 +3,18 @@ ghost use Rattle.std.specs.Prelude.{◌<◌, length, true, IfOk, Ok};
 ghost use Rattle.model_points.specs.Answers.{IsFeasibilityAnswer};
 ghost use Rattle.model_points.specs.Rays.{IsRayJudged};
 ghost use Rattle.sound_searches.specs.Laws.{HasNoOpenLeaf};
-ghost use Rattle.cert_commands.specs.Certificates.{IsCertificateText, IsUnboundedTextBy, IsUnboundedText, IsCertAnswer};
+ghost use Rattle.kept_env.specs.Env.{IsFrontProved, IsEmptinessProved};
+ghost use Rattle.cert_commands.specs.Certificates.{IsCertificateText, IsUnboundedTextBy, IsUnboundedText, IsFrontText, IsEmptinessText, IsCertAnswer};
 
+use accepted_names::{accepted_names_law, front_names_law};
 use cert_check::{accepted_law, verdict_law};
+use cert_text::Cert;
 use cert_writer::print_cert;
+use front_check::front_law;
+use front_text::FrontCert;
+use front_writer::print_front;
 use kept_env::{Env, EnvFault, Held};
-use lp_model::{Model, Point};
+use lp_model::{Model, Point, show_model};
 use std::alloc::{AllocError, Global};
 use tree_cert::{certificate, names_law, unbounded_certificate, unbounded_names_law};
 use tree_edit::Search;
@@ -67,6 +73,27 @@ fn unbounded_text(alloc: Global, search: &Search, ray: &Point) -> Result<Vec<u8>
     }
 }
 
+/// The text of the certificate of a front, which is accepted for the model.
+fn front_text(alloc: Global, model: &Model, cert: &FrontCert) -> Result<Vec<u8>, AllocError>
+    requires { IsFrontProved model.now cert.now }
+    ensures { IfOk result (λ text. IsFrontText model.now cert.now text.items) }
+{
+    show_model(model);
+    front_law();
+    front_names_law();
+    print_front(alloc, cert)
+}
+
+/// The text of the certificate that no point is feasible, which is accepted for the model.
+fn emptiness_text(alloc: Global, model: &Model, cert: &Cert) -> Result<Vec<u8>, AllocError>
+    requires { IsEmptinessProved model.now cert.now }
+    ensures { IfOk result (λ text. IsEmptinessText model.now cert.now text.items) }
+{
+    accepted_law();
+    accepted_names_law();
+    print_cert(alloc, cert)
+}
+
 /// The text of the certificate of the answer that is held.
 ///
 /// # Errors
@@ -85,6 +112,14 @@ pub fn held_certificate(alloc: Global, env: &Env) -> Result<Vec<u8>, EnvFault>
             Err(AllocError) => Err(EnvFault::Memory),
         },
         Held::Unbounded(ray) => match unbounded_text(alloc, search, ray) {
+            Ok(text) => Ok(text),
+            Err(AllocError) => Err(EnvFault::Memory),
+        },
+        Held::Front(cert) => match front_text(alloc, search.model(), cert) {
+            Ok(text) => Ok(text),
+            Err(AllocError) => Err(EnvFault::Memory),
+        },
+        Held::Infeasible(cert) => match emptiness_text(alloc, search.model(), cert) {
             Ok(text) => Ok(text),
             Err(AllocError) => Err(EnvFault::Memory),
         },

@@ -3,11 +3,13 @@
 //! ```text
 //! Finished       the tree of the search, with its multipliers and cuts, and the claim that they prove     (`certificate` of `tree_cert`)
 //! Unbounded(d)   the incumbent x of the search and the ray d: x + t d is feasible for each t >= 0         (`unbounded_certificate`)
+//! Front(c)       c: outcomes with their points, and a tree for each inner model                           (held as it is)
+//! Infeasible(c)  c: a tree that closes without a point                                                    (held as it is)
 //! Nothing        there is none
 //! ```
 //!
 //! The text that stands in the file where the reply is `ok` reads as that certificate, which is accepted for the model that is present
-//! (`cert_check`), so that its claim is true. `check MODEL CERT` prints the verdict on such a file.
+//! (`cert_check`, `front_check`), so that its claim is true, or its outcomes are the front. `check MODEL CERT` prints the verdict on such a file.
 //!
 //! What `cert` may be answered, and what a reply of each kind says for sure, is the family `certificates` (specs/Family). It is lawful
 //! (`certificates_law`): each reply has its cause, no count of faults falls, and the environment stays.

@@ -1,4 +1,4 @@
-// The rows and columns that a step on the way to the verdict on a front may be of.
+// The rows and columns that a step on the way to a front, or to the verdict on one, may be of.
 ghost use Rattle.std.specs.Prelude.{◌≡◌, false, IfOk};
 ghost use Rattle.command_files.specs.Checking.{inner_program};
 
@@ -9,7 +9,7 @@ use lp_model::{Model, show_model};
 use std::alloc::{AllocError, Global};
 
 /// A model with the names of the rows and columns of all inner models.
-pub(crate) fn inner_model(alloc: Global, model: &Model) -> Result<Model, AllocError>
+pub fn inner_model(alloc: Global, model: &Model) -> Result<Model, AllocError>
     requires { model.now.wide ≡ false }
     ensures { IfOk result (λ m. m ≡ inner_program model.now) }
 {

@@ -21,6 +21,7 @@ mod refusing;
 
 pub use checking::check_text;
 pub use filing::{write_file, write_model};
+pub use inner::inner_model;
 pub use printing::run_check;
 pub use reading::{Refusal, read_model, read_text};
 pub use refusing::write_refusal;

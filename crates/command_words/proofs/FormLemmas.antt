@@ -10,6 +10,7 @@ use Rattle.command_words.specs.declared.words.Beginning.TheVariants as beginning
 use Rattle.command_words.specs.declared.words.Content.{Content}
 use Rattle.command_words.specs.declared.words.Content.TheVariants as content
 use Rattle.command_words.specs.Asks.{Asks, Load, Trim, Restore, Misused, with_number, load_asks, restore_asks, trim_asks, filed_asks, file_asks, quit_asks, known_asks, command_asks, asks_of, IsAskable}
+use Rattle.command_words.specs.Options.{any_option, any_limit}
 use Rattle.command_words.proofs.OptionLemmas.{nows, search-askable}
 
 back : (word : Bor (List ℕ)) (more : List (Bor (List ℕ))) → take (length (word ∷ more) - 1) (drop 1 (word ∷ more)) ≡ more
@@ -115,8 +116,9 @@ quit_asks-askable (word ∷ more) = tt
 
 known_asks-askable : (c : CommandName) (arguments : List (List ℕ)) → IsAskable (known_asks c arguments)
 known_asks-askable name.Load arguments = load_asks-askable arguments
-known_asks-askable name.Solve arguments = search-askable beginning.Anew arguments
-known_asks-askable name.Warm arguments = search-askable beginning.Kept arguments
+known_asks-askable name.Solve arguments = search-askable any_option beginning.Anew arguments
+known_asks-askable name.Warm arguments = search-askable any_option beginning.Kept arguments
+known_asks-askable name.McSolve arguments = search-askable any_limit beginning.Parts arguments
 known_asks-askable name.Edit arguments = tt
 known_asks-askable name.Trim arguments = trim_asks-askable arguments
 known_asks-askable name.Save arguments = file_asks-askable content.Search arguments

@@ -5,7 +5,7 @@ use Rattle.std.specs.Str.{bytes_eq}
 use Rattle.std.proofs.lemmas.Bool.Decides.{nat_tests}
 use Rattle.std.proofs.lemmas.Grind.{common_steps}
 use Rattle.command_words.specs.Names.{whole_number_of}
-use Rattle.command_words.specs.Options.{no_option, any_option, is_awaited, awaited_behind, are_options, if_positive, positive_number_of, option_number, with_option}
+use Rattle.command_words.specs.Options.{no_option, is_awaited, awaited_behind, are_options, if_positive, positive_number_of, option_number, with_option}
 use Rattle.command_words.specs.declared.options.SearchOptions.{SearchOptions}
 use Rattle.command_words.specs.declared.options.Awaited.{Awaited}
 use Rattle.command_words.specs.declared.words.Beginning.{Beginning}
@@ -92,6 +92,7 @@ with-worker key word n options h e = by (bytes_eq key (codes "nodes")) (bytes_eq
 begun-askable : (b : Beginning) (options : SearchOptions) → 1 ≤ options.workers → IsAskable (begun_asks b options)
 begun-askable beginning.Anew options h = h
 begun-askable beginning.Kept options h = h
+begun-askable beginning.Parts options h = tt
 
 numbered : (word : List ℕ) (n : Option ℕ) (asks : ℕ → Asks) → ((k : ℕ) → n ≡ Some k → IsAskable (asks k)) → IsAskable (with_number word n asks)
 numbered word None asks h = tt
@@ -105,8 +106,8 @@ options-askable b options (key ∷ number ∷ more) h =
     numbered number (option_number key number) (λ n. options_asks (begun_asks b) (with_option key n options) more)
     (λ n e. options-askable b (with_option key n options) more (with-worker key number n options h e))
 
-pub search-askable : (b : Beginning) (arguments : List (List ℕ)) → IsAskable (search_asks (begun_asks b) arguments)
-search-askable b arguments = by (are_options any_option arguments)
+pub search-askable : (awaited : Awaited) (b : Beginning) (arguments : List (List ℕ)) → IsAskable (search_asks awaited (begun_asks b) arguments)
+search-askable awaited b arguments = by (are_options awaited arguments)
   where
     by : (fits : Bool) → IsAskable (if fits then options_asks (begun_asks b) no_option arguments else Misused)
     by true = options-askable b no_option arguments (omega arith)

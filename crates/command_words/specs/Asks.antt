@@ -2,8 +2,9 @@
 use Rattle.std.specs.Prelude.{◌≡◌, true, ℕ, ◌≤◌, ◌&&◌, List, [], ◌∷◌, map, codes, if◌then◌else◌, Option, Some, None}
 use Rattle.std.specs.Str.{bytes_eq}
 use Rattle.command_words.specs.Names.{command_of, is_file_name, whole_number_of}
-use Rattle.command_words.specs.Options.{no_option, any_option, are_options, option_number, with_option}
+use Rattle.command_words.specs.Options.{no_option, any_option, any_limit, are_options, option_number, with_option}
 use Rattle.command_words.specs.declared.options.SearchOptions.{SearchOptions}
+use Rattle.command_words.specs.declared.options.Awaited.{Awaited}
 use Rattle.command_words.specs.declared.words.OptimumBound.{OptimumBound}
 use Rattle.command_words.specs.declared.words.NewNumbers.{NewNumbers}
 use Rattle.command_words.specs.declared.words.CommandName.{CommandName}
@@ -22,6 +23,9 @@ pub data Asks : Type 0 where
   Solve : (options : SearchOptions) → Asks
   -- the same, going on from the search that is kept
   Warm : (options : SearchOptions) → Asks
+  -- the outcomes of both objectives that no other is better than, by searches that place so many results together and make so many
+  -- simplex steps in each relaxation
+  McSolve : (nodes pivots : ℕ) → Asks
   -- an edit of the model that is present, as these words behind `edit` say it
   Edit : (words : List (List ℕ)) → Asks
   -- each split of the tree at this depth, the root being at 0, as one leaf
@@ -64,21 +68,26 @@ options_asks asks options [] = asks options
 options_asks asks options (key ∷ []) = asks options
 options_asks asks options (key ∷ number ∷ more) = with_number number (option_number key number) (λ n. options_asks asks (with_option key n options) more)
 
--- the options in any order, each once at most; what isn't named is without a limit, and by one worker
-abbrev pub search_asks : (SearchOptions → Asks) → List (List ℕ) → Asks
-search_asks asks arguments = if are_options any_option arguments then options_asks asks no_option arguments else Misused
+-- those of these options that are named, in any order, each once at most; what isn't named is without a limit, and by one worker
+abbrev pub search_asks : Awaited → (SearchOptions → Asks) → List (List ℕ) → Asks
+search_asks awaited asks arguments = if are_options awaited arguments then options_asks asks no_option arguments else Misused
 
 -- what a search is asked by that begins so
 abbrev pub begun_asks : Beginning → SearchOptions → Asks
 begun_asks beginning.Anew options = Solve options
 begun_asks beginning.Kept options = Warm options
+begun_asks beginning.Parts options = McSolve options.nodes options.pivots
 
 -- `solve` and `warm` with their options
 abbrev pub solve_asks : List (List ℕ) → Asks
-solve_asks arguments = search_asks (begun_asks beginning.Anew) arguments
+solve_asks arguments = search_asks any_option (begun_asks beginning.Anew) arguments
 
 abbrev pub warm_asks : List (List ℕ) → Asks
-warm_asks arguments = search_asks (begun_asks beginning.Kept) arguments
+warm_asks arguments = search_asks any_option (begun_asks beginning.Kept) arguments
+
+-- `mcsolve` with its limits
+abbrev pub mcsolve_asks : List (List ℕ) → Asks
+mcsolve_asks arguments = search_asks any_limit (begun_asks beginning.Parts) arguments
 
 -- ---- files that are written
 
@@ -127,6 +136,7 @@ abbrev pub known_asks : CommandName → List (List ℕ) → Asks
 known_asks name.Load arguments = load_asks arguments
 known_asks name.Solve arguments = solve_asks arguments
 known_asks name.Warm arguments = warm_asks arguments
+known_asks name.McSolve arguments = mcsolve_asks arguments
 known_asks name.Edit arguments = Edit arguments
 known_asks name.Trim arguments = trim_asks arguments
 known_asks name.Save arguments = save_asks arguments
@@ -150,6 +160,7 @@ abbrev pub asks_shown : Asked → Asks
 asks_shown (asked.Load file intupper) = Load file.now intupper
 asks_shown (asked.Solve options) = Solve options
 asks_shown (asked.Warm options) = Warm options
+asks_shown (asked.McSolve nodes pivots) = McSolve nodes pivots
 asks_shown (asked.Edit words) = Edit (map (λ word. word.now) words.now)
 asks_shown (asked.Trim depth) = Trim depth
 asks_shown (asked.Save file) = Save file.now
@@ -167,6 +178,7 @@ abbrev pub IsAskable : Asks → Type 0
 IsAskable (Load file intupper) = is_file_name file ≡ true
 IsAskable (Solve options) = 1 ≤ options.workers
 IsAskable (Warm options) = 1 ≤ options.workers
+IsAskable (McSolve nodes pivots) = Unit {0}
 IsAskable (Edit words) = Unit {0}
 IsAskable (Trim depth) = Unit {0}
 IsAskable (Save file) = is_file_name file ≡ true

@@ -6,7 +6,7 @@ use Rattle.std.specs.Str.Parse.{digits_value}
 use Rattle.command_words.specs.declared.words.OptimumBound.TheVariants.{Lower, Upper}
 use Rattle.command_words.specs.declared.words.NewNumbers.TheVariants.{Sides, Costs}
 use Rattle.command_words.specs.declared.words.CommandName.{CommandName}
-use Rattle.command_words.specs.declared.words.CommandName.TheVariants.{Load, Solve, Warm, Edit, Trim, Save, Restore, Bound, Cert, Write, Quit}
+use Rattle.command_words.specs.declared.words.CommandName.TheVariants.{Load, Solve, Warm, McSolve, Edit, Trim, Save, Restore, Bound, Cert, Write, Quit}
 
 -- the command that a first word names
 abbrev pub command_of : List ℕ → Option CommandName
@@ -14,6 +14,7 @@ command_of word =
     if bytes_eq word (codes "load") then Some Load
     else if bytes_eq word (codes "solve") then Some Solve
     else if bytes_eq word (codes "warm") then Some Warm
+    else if bytes_eq word (codes "mcsolve") then Some McSolve
     else if bytes_eq word (codes "edit") then Some Edit
     else if bytes_eq word (codes "trim") then Some Trim
     else if bytes_eq word (codes "save") then Some Save

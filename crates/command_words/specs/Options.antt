@@ -1,4 +1,4 @@
--- The options of a search, as the words behind `solve` and `warm` name them: key words with their numbers.
+-- The options of a search, as the words behind `solve`, `warm` and `mcsolve` name them: key words with their numbers.
 use Rattle.std.specs.Prelude.{ℕ, ◌-◌, ◌^◌, Bool, true, false, ◌&&◌, not, List, [], ◌∷◌, ◌==◌, codes, if◌then◌else◌, Option, Some, None}
 use Rattle.std.specs.Str.{bytes_eq}
 use Rattle.command_words.specs.Names.{whole_number_of}
@@ -18,6 +18,10 @@ no_option = record { nodes = no_limit; pivots = no_limit; workers = 1; seed = 0 
 -- no option is named yet
 abbrev pub any_option : Awaited
 any_option = record { nodes = true; pivots = true; workers = true; seed = false }
+
+-- no limit is named yet, and no other option may come
+abbrev pub any_limit : Awaited
+any_limit = record { nodes = true; pivots = true; workers = false; seed = false }
 
 -- an option with this key word may come next; behind `workers K` the seed must
 abbrev pub is_awaited : Awaited → List ℕ → Bool

@@ -11,6 +11,9 @@
 //! solve workers K seed S one that K workers share, whose turn it is being said by the words of the seed S
 //!                        these options may stand together, in any order
 //! warm                   the search that is kept goes on, with the same options
+//! mcsolve                the outcomes of both objectives that no other outcome is better than, without a limit
+//! mcsolve nodes N        the same, by searches that may place N results together
+//! mcsolve pivots N       by searches that may make N simplex steps in each relaxation; both may stand together, in any order
 //! edit ..                an edit of the model; `edit_words` reads the words behind it
 //! trim                   the tree is cut down to its root
 //! trim depth D           each split at depth D, the root being at 0, becomes one leaf

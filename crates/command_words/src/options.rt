@@ -48,6 +48,14 @@ pub(crate) const ANY_OPTION: Awaited = Awaited {
     seed: false,
 };
 
+/// No limit is named yet, and no other option may come.
+pub(crate) const ANY_LIMIT: Awaited = Awaited {
+    nodes: true,
+    pivots: true,
+    workers: false,
+    seed: false,
+};
+
 /// Whether an option with this key word may come next.
 fn is_awaited(awaited: Awaited, key: &[u8]) -> bool
     ensures { result ≡ is_awaited awaited key.now }

@@ -2,10 +2,12 @@
 ghost use Rattle.std.specs.Prelude.{◌≡◌, true, map, [], ◌∷◌};
 ghost use Rattle.std.specs.List.{list_all};
 ghost use Rattle.command_words.specs.Names.{command_of, begins_name, is_file_name_byte, is_file_name, whole_number_of};
-ghost use Rattle.command_words.specs.private.Names.{command_behind_trim, command_behind_lbobj};
-ghost use Rattle.command_words.specs.Asks.{Trim, with_number, asks_of, asks_shown, load_asks, restore_asks, trim_asks, search_asks, begun_asks, solve_asks, warm_asks, filed_asks, file_asks, save_asks, cert_asks, write_asks, quit_asks, known_asks, IsAskable};
+ghost use Rattle.command_words.specs.private.Names.{command_behind_edit, command_behind_lbobj};
+ghost use Rattle.command_words.specs.Asks.{Trim, with_number, asks_of, asks_shown, load_asks, restore_asks, trim_asks, search_asks, begun_asks, solve_asks, warm_asks, mcsolve_asks, filed_asks, file_asks, save_asks, cert_asks, write_asks, quit_asks, known_asks, IsAskable};
 
-use crate::options::{ANY_OPTION, NO_OPTION, SearchOptions, are_options, options_asked};
+use crate::options::{
+    ANY_LIMIT, ANY_OPTION, Awaited, NO_OPTION, SearchOptions, are_options, options_asked,
+};
 use text_lines::is_word;
 
 /// Which bound on a model's best value, in least form.
@@ -32,6 +34,7 @@ pub enum CommandName {
     Load,
     Solve,
     Warm,
+    McSolve,
     Edit,
     Trim,
     Save,
@@ -49,6 +52,8 @@ pub(crate) enum Beginning {
     Anew,
     /// At the search that is kept.
     Kept,
+    /// At a fresh root for each part of the frontier.
+    Parts,
 }
 
 /// What a file is to hold.
@@ -77,6 +82,12 @@ pub enum Asked<'a> {
     /// The same, going on from the search that is kept.
     Warm {
         options: SearchOptions,
+    },
+    /// The outcomes of both objectives that no other outcome is better than, by searches that place so many results together and make
+    /// so many simplex steps in each of their relaxations.
+    McSolve {
+        nodes: u64,
+        pivots: u64,
     },
     /// An edit of the model that is present, as these words behind `edit` say it.
     Edit {
@@ -132,20 +143,22 @@ fn command_named(word: &[u8]) -> Option<CommandName>
         Some(CommandName::Solve)
     } else if is_word(b"warm", word) {
         Some(CommandName::Warm)
+    } else if is_word(b"mcsolve", word) {
+        Some(CommandName::McSolve)
     } else if is_word(b"edit", word) {
         Some(CommandName::Edit)
-    } else if is_word(b"trim", word) {
-        Some(CommandName::Trim)
     } else {
-        command_behind_trim(word)
+        command_behind_edit(word)
     }
 }
 
-/// The command that a word names which names none up to `trim`.
-fn command_behind_trim(word: &[u8]) -> Option<CommandName>
-    ensures { result ≡ command_behind_trim word.now }
+/// The command that a word names which names none up to `edit`.
+fn command_behind_edit(word: &[u8]) -> Option<CommandName>
+    ensures { result ≡ command_behind_edit word.now }
 {
-    if is_word(b"save", word) {
+    if is_word(b"trim", word) {
+        Some(CommandName::Trim)
+    } else if is_word(b"save", word) {
         Some(CommandName::Save)
     } else if is_word(b"restore", word) {
         Some(CommandName::Restore)
@@ -287,14 +300,18 @@ pub(crate) fn search_asked<'a>(beginning: Beginning, options: SearchOptions) -> 
     match beginning {
         Beginning::Anew => Asked::Solve { options },
         Beginning::Kept => Asked::Warm { options },
+        Beginning::Parts => Asked::McSolve {
+            nodes: options.nodes,
+            pivots: options.pivots,
+        },
     }
 }
 
-/// What a search with these further words asks for.
-fn optioned_search<'a>(beginning: Beginning, arguments: &[&'a [u8]]) -> Asked<'a>
-    ensures { asks_shown result ≡ search_asks (begun_asks beginning) (map (λ word. word.now) arguments.now) }
+/// What a search that takes these options asks for with these further words.
+fn optioned_search<'a>(awaited: Awaited, beginning: Beginning, arguments: &[&'a [u8]]) -> Asked<'a>
+    ensures { asks_shown result ≡ search_asks awaited (begun_asks beginning) (map (λ word. word.now) arguments.now) }
 {
-    if are_options(ANY_OPTION, arguments) {
+    if are_options(awaited, arguments) {
         options_asked(beginning, NO_OPTION, arguments)
     } else {
         Asked::Misused
@@ -305,14 +322,21 @@ fn optioned_search<'a>(beginning: Beginning, arguments: &[&'a [u8]]) -> Asked<'a
 fn solve_asked<'a>(arguments: &[&'a [u8]]) -> Asked<'a>
     ensures { asks_shown result ≡ solve_asks (map (λ word. word.now) arguments.now) }
 {
-    optioned_search(Beginning::Anew, arguments)
+    optioned_search(ANY_OPTION, Beginning::Anew, arguments)
 }
 
 /// What `warm` with these further words asks for.
 fn warm_asked<'a>(arguments: &[&'a [u8]]) -> Asked<'a>
     ensures { asks_shown result ≡ warm_asks (map (λ word. word.now) arguments.now) }
 {
-    optioned_search(Beginning::Kept, arguments)
+    optioned_search(ANY_OPTION, Beginning::Kept, arguments)
+}
+
+/// What `mcsolve` with these further words asks for.
+fn mcsolve_asked<'a>(arguments: &[&'a [u8]]) -> Asked<'a>
+    ensures { asks_shown result ≡ mcsolve_asks (map (λ word. word.now) arguments.now) }
+{
+    optioned_search(ANY_LIMIT, Beginning::Parts, arguments)
 }
 
 /// A file that is to hold this.
@@ -439,6 +463,7 @@ fn command_asked<'a>(command: CommandName, arguments: &'a [&'a [u8]]) -> Asked<'
         CommandName::Load => load_asked(arguments),
         CommandName::Solve => solve_asked(arguments),
         CommandName::Warm => warm_asked(arguments),
+        CommandName::McSolve => mcsolve_asked(arguments),
         CommandName::Edit => Asked::Edit { words: arguments },
         CommandName::Trim => trim_asked(arguments),
         CommandName::Save => save_asked(arguments),

@@ -1,8 +1,8 @@
 // Costs of the columns, alone and beside their names.
-ghost use Rattle.std.specs.Prelude.{◌≡◌, ◌++◌, ◌∷◌, [], map, nat_eq, if◌then◌else◌, pos, IfOk, IfErr};
+ghost use Rattle.std.specs.Prelude.{◌≡◌, ◌++◌, ◌∷◌, [], map, nat_eq, if◌then◌else◌, pos, All, IfOk, OnOk, IfErr};
 ghost use Rattle.frac128.specs.Rational.{int, ◌+ℚ◌};
 ghost use Rattle.inner_models.specs.Inner.{row_terms};
-ghost use Rattle.front_parts.specs.Sums.{IsSumsFault};
+ghost use Rattle.front_parts.specs.Sums.{HasCostSum, IsSumsFault};
 
 use frac128::Frac;
 use lp_model::{Col, ColId, List, Model, Name, copy_name};
@@ -45,6 +45,7 @@ pub(crate) fn zero_costs(alloc: Global, cols: &[Col]) -> Result<Vec<Frac>, Alloc
 /// The sum of the two costs of each column.
 pub fn sums(alloc: Global, model: &Model) -> Result<Vec<Frac>, SumsFault>
     ensures sums { IfOk result (λ list. list.items ≡ map (λ c. c.cost +ℚ c.cost2) model.now.cols) }
+    ensures fit { OnOk result (All HasCostSum model.now.cols) }
     ensures fault { IfErr result (IsSumsFault model.now.cols) }
 {
     let mut list = Vec::new(alloc);

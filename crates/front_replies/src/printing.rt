@@ -1,27 +1,35 @@
 // The lines of outcomes.
 ghost use Rattle.std.specs.Prelude.{◌≡◌, ◌++◌, ◌∷◌, [], map, IfOk};
+ghost use Rattle.text_lines.specs.Words.{spaced};
 ghost use Rattle.cert_writer.specs.CertText.{line_text, lines_text};
-ghost use Rattle.front_replies.specs.FrontReplies.{row_words, head_words, complete_front_text, front_part_text};
+ghost use Rattle.front_replies.specs.FrontReplies.{value_words, row_words, head_words, complete_front_text, front_part_text};
 
 use cert_writer::put_word;
 use frontier::Outcome;
 use itoa::Buffer;
 use std::alloc::AllocError;
 
-/// An outcome's line, without its newline.
-fn put_row(text: &mut Vec<u8>, outcome: &Outcome) -> Result<(), AllocError>
-    ensures { IfOk result (λ _. text.new.items ≡ text.old.items ++ line_text (row_words outcome.now)) }
+/// An outcome's values, each as one more word.
+pub(crate) fn put_values(text: &mut Vec<u8>, outcome: &Outcome) -> Result<(), AllocError>
+    ensures { IfOk result (λ _. text.new.items ≡ text.old.items ++ spaced (value_words outcome.now)) }
 {
     let mut first = Buffer::new();
     let mut second = Buffer::new();
-    let Ok(()) = text.push(b'f') else {
-        return Err(AllocError);
-    };
     let Outcome { f1, f2 } = outcome;
     let Ok(()) = put_word(text, first.format(*f1).as_bytes()) else {
         return Err(AllocError);
     };
     put_word(text, second.format(*f2).as_bytes())
+}
+
+/// An outcome's line, without its newline.
+fn put_row(text: &mut Vec<u8>, outcome: &Outcome) -> Result<(), AllocError>
+    ensures { IfOk result (λ _. text.new.items ≡ text.old.items ++ line_text (row_words outcome.now)) }
+{
+    let Ok(()) = text.push(b'f') else {
+        return Err(AllocError);
+    };
+    put_values(text, outcome)
 }
 
 /// The lines of outcomes.
@@ -77,7 +85,7 @@ pub fn put_complete_front(text: &mut Vec<u8>, outcomes: &[Outcome]) -> Result<()
 }
 
 /// The outcomes of a part of a front behind a text, in the model's own sense, by rising first value.
-pub fn put_front_part(text: &mut Vec<u8>, outcomes: &[Outcome]) -> Result<(), AllocError>
+pub(crate) fn put_front_part(text: &mut Vec<u8>, outcomes: &[Outcome]) -> Result<(), AllocError>
     ensures { IfOk result (λ _. text.new.items ≡ text.old.items ++ front_part_text outcomes.now) }
 {
     put_told(text, b"part", outcomes)

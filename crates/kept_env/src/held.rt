@@ -2,6 +2,8 @@
 ghost use Rattle.std.specs.Prelude.{◌≡◌};
 ghost use Rattle.kept_env.specs.Worked.{held_beside, held_by};
 
+use cert_text::Cert;
+use front_text::FrontCert;
 use lp_model::{Answer, Point};
 
 /// Which answer an environment holds.
@@ -14,6 +16,10 @@ pub enum Held {
     Finished,
     /// That the model is unbounded, by this ray and the incumbent, which the search keeps.
     Unbounded(Point),
+    /// The front of the model, by this certificate. It says nothing of the search that stands.
+    Front(FrontCert),
+    /// That no point of the model is feasible, by this certificate, which says nothing of the search that stands.
+    Infeasible(Cert),
 }
 
 /// That the model is unbounded is held with its ray.

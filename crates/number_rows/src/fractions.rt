@@ -1,6 +1,6 @@
 // What the calls of fractions answer.
 use crate::sums::sum_of;
-use crate::words::{number_of, told, words_of};
+use crate::words::{fault, number_of, number_text, told, words_of};
 use anyhow::{Result, bail};
 use frac_text::{NumFault, Numeral, Side};
 use frac128::Frac;
@@ -12,23 +12,49 @@ pub fn answer_to(alloc: Global, call: &str, text: &str) -> Result<String> {
     match call {
         "parse" => Ok(parsed(alloc, text)?),
         "numeral" => Ok(numeral(alloc, text)?),
-        _ => answer_to_words(alloc, call, &words_of(alloc, text)?),
+        _ => answer_to_text(alloc, call, text),
     }
 }
 
+fn answer_to_text(alloc: Global, call: &str, text: &str) -> Result<String> {
+    let words = words_of(alloc, text)?;
+    let answer = answer_to_words(alloc, call, &words);
+    drop(words);
+    answer
+}
+
 fn answer_to_words(alloc: Global, first: &str, words: &[&str]) -> Result<String> {
-    match (first, words) {
-        ("sum", [start, products @ ..]) => sum_of(alloc, start, products),
-        ("new", [top, bottom]) => new_fraction(alloc, top, bottom),
-        ("whole", [word]) => whole(alloc, word),
-        ("of_whole", [word]) => of_whole(alloc, word),
-        (call, [word]) => of_one(alloc, call, &number_of(word)?),
-        (left, [sign, right]) => of_two(alloc, &number_of(left)?, sign, &number_of(right)?),
-        (total, ["+", factor, "*", number]) => {
-            sum_with_product(alloc, &number_of(total)?, factor, number)
+    match words {
+        [start, products @ ..] if first == "sum" => sum_of(alloc, start, products),
+        [word] => of_word(alloc, first, word),
+        [sign, right] => of_words(alloc, first, sign, right),
+        [sign, factor, times, number] if *sign == "+" && *times == "*" => {
+            sum_with_product(alloc, first, factor, number)
         }
-        _ => bail!("no question: {first}"),
+        _ => Err(fault("no question", first)),
     }
+}
+
+/// The answer to a question with one word behind the first.
+fn of_word(alloc: Global, call: &str, word: &str) -> Result<String> {
+    match call {
+        "whole" => whole(alloc, word),
+        "of_whole" => of_whole(alloc, word),
+        _ => {
+            let number = number_of(word)?;
+            of_one(alloc, call, &number)
+        }
+    }
+}
+
+/// The answer to a question with two words behind the first.
+fn of_words(alloc: Global, first: &str, sign: &str, right: &str) -> Result<String> {
+    if first == "new" {
+        return new_fraction(alloc, sign, right);
+    }
+    let left = number_of(first)?;
+    let right = number_of(right)?;
+    of_two(alloc, &left, sign, &right)
 }
 
 fn fault_text(fault: NumFault) -> &'static str {
@@ -41,7 +67,7 @@ fn fault_text(fault: NumFault) -> &'static str {
 /// What `frac_text::parse` answers.
 fn parsed(alloc: Global, text: &str) -> Result<String, AllocError> {
     match frac_text::parse(text.as_bytes()) {
-        Ok(number) => format!(in alloc; "{number}"),
+        Ok(number) => number_text(alloc, &number),
         Err(fault) => String::from_str(alloc, fault_text(fault)),
     }
 }
@@ -57,15 +83,20 @@ fn side_text(side: Side) -> &'static str {
 /// What `Numeral::of` answers.
 fn numeral(alloc: Global, text: &str) -> Result<String, AllocError> {
     match &Numeral::of(text.as_bytes()) {
-        Numeral::Number(number) => format!(in alloc; "{number}"),
+        Numeral::Number(number) => number_text(alloc, number),
         Numeral::Wide(side) => String::from_str(alloc, side_text(*side)),
         Numeral::NotNumber => String::from_str(alloc, "no number"),
     }
 }
 
+/// The whole number that a word spells.
+fn whole_of(word: &str) -> Result<i128> {
+    Ok(word.parse::<i128>()?)
+}
+
 fn new_fraction(alloc: Global, top: &str, bottom: &str) -> Result<String> {
-    let top = top.parse::<i128>()?;
-    let bottom = bottom.parse::<i128>()?;
+    let top = whole_of(top)?;
+    let bottom = whole_of(bottom)?;
     if bottom == 0 {
         bail!("the denominator is 0");
     }
@@ -73,17 +104,18 @@ fn new_fraction(alloc: Global, top: &str, bottom: &str) -> Result<String> {
 }
 
 fn whole(alloc: Global, word: &str) -> Result<String> {
-    let number = Frac::whole(word.parse::<i64>()?);
-    Ok(format!(in alloc; "{number}")?)
+    let number = word.parse::<i64>()?;
+    let number = Frac::whole(number);
+    Ok(number_text(alloc, &number)?)
 }
 
 fn of_whole(alloc: Global, word: &str) -> Result<String> {
-    let whole = word.parse::<i128>()?;
+    let whole = whole_of(word)?;
     if whole == i128::MIN {
         bail!("{word} is too wide");
     }
     let number = Frac::of_whole(whole);
-    Ok(format!(in alloc; "{number}")?)
+    Ok(number_text(alloc, &number)?)
 }
 
 fn sign_of(number: &Frac) -> &'static str {
@@ -108,7 +140,7 @@ fn written(alloc: Global, number: &Frac) -> Result<String> {
 
 fn number_told(alloc: Global, number: &Frac) -> Result<String> {
     number.has_room();
-    Ok(format!(in alloc; "{number}")?)
+    Ok(number_text(alloc, number)?)
 }
 
 fn whole_told(alloc: Global, number: i128) -> Result<String> {
@@ -139,7 +171,7 @@ fn of_one(alloc: Global, call: &str, number: &Frac) -> Result<String> {
         "parts" => parts_told(alloc, number),
         "sign" | "is_whole" => Ok(word_told(alloc, call, number)?),
         "write" => written(alloc, number),
-        _ => bail!("no call of one number: {call}"),
+        _ => Err(fault("no call of one number", call)),
     }
 }
 
@@ -175,12 +207,14 @@ fn of_two(alloc: Global, left: &Frac, sign: &str, right: &Frac) -> Result<String
         "+" | "-" | "*" => Ok(computed(alloc, left, sign, right)?),
         "/" if !right.is_zero() => Ok(told(alloc, &left.div(right))?),
         "against" | "<" | "==" => Ok(compared(alloc, left, sign, right)?),
-        _ => bail!("no call of two numbers: {sign}"),
+        _ => Err(fault("no call of two numbers", sign)),
     }
 }
 
 /// What `add_product` answers.
-fn sum_with_product(alloc: Global, total: &Frac, factor: &str, number: &str) -> Result<String> {
-    let found = total.add_product(&number_of(factor)?, &number_of(number)?);
-    Ok(told(alloc, &found)?)
+fn sum_with_product(alloc: Global, total: &str, factor: &str, number: &str) -> Result<String> {
+    let total = number_of(total)?;
+    let factor = number_of(factor)?;
+    let number = number_of(number)?;
+    Ok(told(alloc, &total.add_product(&factor, &number))?)
 }

@@ -2,7 +2,21 @@
 use crate::fractions::answer_to;
 use anyhow::{Result, bail, ensure};
 use row_texts::Stage;
-use std::alloc::Global;
+use std::alloc::{AllocError, Global};
+
+/// Writes an answer that isn't the wanted one, with its question.
+fn push_judged(
+    report: &mut String,
+    word: &str,
+    words: &str,
+    wanted: &str,
+    answer: &str,
+) -> Result<(), AllocError> {
+    if answer == wanted {
+        return Ok(());
+    }
+    writeln!(report, "  {word} {words}\n  - {wanted}\n  + {answer}")
+}
 
 /// A stage whose headings are questions with the answers that they want: each a line `QUESTION -> ANSWER`.
 #[derive(Drop)]
@@ -10,6 +24,17 @@ pub struct Questions {
     alloc: Global,
     has_asked: bool,
     report: String,
+}
+
+impl Questions {
+    /// Asks a question, and notes an answer that isn't the wanted one.
+    fn ask(&mut self, word: &str, words: &str, wanted: &str) -> Result<()> {
+        let answer = answer_to(self.alloc, word, words)?;
+        self.has_asked = true;
+        let judged = push_judged(&mut self.report, word, words, wanted, &answer);
+        drop(answer);
+        Ok(judged?)
+    }
 }
 
 impl Stage for Questions {
@@ -26,19 +51,10 @@ impl Stage for Questions {
     }
 
     fn take(&mut self, word: &str, rest: &str, _text: &[String]) -> Result<()> {
-        let Some((words, wanted)) = rest.split_once("-> ") else {
-            bail!("no `QUESTION -> ANSWER`");
-        };
-        let words = words.trim_end();
-        let answer = answer_to(self.alloc, word, words)?;
-        self.has_asked = true;
-        if answer.as_str() != wanted {
-            writeln!(
-                &mut self.report,
-                "  {word} {words}\n  - {wanted}\n  + {answer}"
-            )?;
+        match rest.split_once("-> ") {
+            Some((words, wanted)) => self.ask(word, words.trim_end(), wanted),
+            None => bail!("no `QUESTION -> ANSWER`"),
         }
-        Ok(())
     }
 
     fn end(&self) -> Result<&str> {

@@ -2,8 +2,8 @@
 ghost use Rattle.std.specs.Prelude.{get_or, length, pos};
 ghost use Rattle.frac128.specs.Rational.{int};
 
-use crate::words::number_of;
-use anyhow::{Result, bail};
+use crate::words::{fault, number_of, number_text};
+use anyhow::Result;
 use checked_sum::{Terms, checked_sum};
 use frac128::Frac;
 use std::alloc::{AllocError, Global};
@@ -36,31 +36,49 @@ impl Terms for Products<'_> {
 
 /// The factor and the number of `FACTOR*NUMBER`.
 fn product_of(word: &str) -> Result<(Frac, Frac)> {
-    let Some((factor, number)) = word.split_once('*') else {
-        bail!("no `FACTOR*NUMBER`: {word}");
-    };
-    Ok((number_of(factor)?, number_of(number)?))
-}
-
-fn products_of(alloc: Global, words: &[&str]) -> Result<Vec<(Frac, Frac)>> {
-    let mut products = Vec::new(alloc);
-    for word in words {
-        products.push(product_of(word)?)?;
+    match word.split_once('*') {
+        Some((factor, number)) => numbers_of(factor, number),
+        None => Err(fault("no `FACTOR*NUMBER`", word)),
     }
-    Ok(products)
 }
 
-fn told_sum(alloc: Global, found: &Result<Frac, usize>) -> Result<String, AllocError> {
-    match found {
-        Ok(number) => format!(in alloc; "{number}"),
+fn numbers_of(factor: &str, number: &str) -> Result<(Frac, Frac)> {
+    let factor = number_of(factor)?;
+    let number = number_of(number)?;
+    Ok((factor, number))
+}
+
+fn push_products(products: &mut Vec<(Frac, Frac)>, words: &[&str]) -> Result<()> {
+    for word in words {
+        let product = product_of(word)?;
+        products.push(product)?;
+    }
+    Ok(())
+}
+
+/// The sum of products, or the place of the first step without room.
+fn told_sum(alloc: Global, start: &Frac, products: &[(Frac, Frac)]) -> Result<String, AllocError> {
+    match checked_sum(start, &Products(products)) {
+        Ok(number) => number_text(alloc, &number),
         Err(step) => format!(in alloc; "wide at {step}"),
     }
+}
+
+fn sum_over(
+    alloc: Global,
+    start: &Frac,
+    words: &[&str],
+    products: &mut Vec<(Frac, Frac)>,
+) -> Result<String> {
+    push_products(products, words)?;
+    Ok(told_sum(alloc, start, products.as_slice())?)
 }
 
 /// The sum of products from a start, or the place of the first step without room.
 pub fn sum_of(alloc: Global, start: &str, words: &[&str]) -> Result<String> {
     let start = number_of(start)?;
-    let products = products_of(alloc, words)?;
-    let found = checked_sum(&start, &Products(&products));
-    Ok(told_sum(alloc, &found)?)
+    let mut products = Vec::new(alloc);
+    let told = sum_over(alloc, &start, words, &mut products);
+    drop(products);
+    told
 }

@@ -1,5 +1,5 @@
 // The words of a row, and the numbers that they spell.
-use anyhow::{Result, bail};
+use anyhow::{Error, Result, anyhow};
 use frac128::Frac;
 use std::alloc::{AllocError, Global};
 
@@ -12,18 +12,28 @@ pub fn words_of(alloc: Global, text: &str) -> Result<Vec<&str>, AllocError> {
     Ok(words)
 }
 
+/// What is wrong with a word.
+pub fn fault(what: &str, word: &str) -> Error {
+    anyhow!("{what}: {word}")
+}
+
 /// The number that a word spells.
 pub fn number_of(word: &str) -> Result<Frac> {
     match frac_text::parse(word.as_bytes()) {
         Ok(number) => Ok(number),
-        Err(_) => bail!("no number: {word}"),
+        Err(_) => Err(fault("no number", word)),
     }
+}
+
+/// A number's text.
+pub fn number_text(alloc: Global, number: &Frac) -> Result<String, AllocError> {
+    format!(in alloc; "{number}")
 }
 
 /// A fraction's text, or `wide` for one that has no room.
 pub fn told(alloc: Global, found: &Result<Frac, frac128::Wide>) -> Result<String, AllocError> {
     match found {
-        Ok(number) => format!(in alloc; "{number}"),
+        Ok(number) => number_text(alloc, number),
         Err(_) => String::from_str(alloc, "wide"),
     }
 }

@@ -3,7 +3,9 @@ use Rattle.std.specs.Prelude.{ℕ, List, [], ◌∷◌, ◌++◌, codes, decimal
 use Rattle.frac128.specs.Rational.{ℚ}
 use Rattle.frac128.specs.Printing.{printed}
 use Rattle.lp_model.specs.Program.{Program, Point, value}
+use Rattle.lp_model.specs.Lawful.{column_name}
 use Rattle.lp_model.specs.declared.types.Col.{Col}
+use Rattle.lp_model.specs.declared.types.ColId.{ColId}
 use Rattle.lp_model.specs.declared.answers.PivotPlace.{PivotPlace}
 use Rattle.lp_model.specs.declared.answers.WideAt.{WideAt}
 use Rattle.lp_model.specs.declared.answers.StopWhy.{StopWhy}
@@ -46,6 +48,15 @@ bounds_text name = codes "error 10 bounds " ++ name ++ codes "\n"
 
 abbrev pub sides_text : List ℕ → List ℕ
 sides_text name = codes "error 11 sides " ++ name ++ codes "\n"
+
+-- what of an objective is no whole number: this column, or the constant
+abbrev pub not_whole_word : Program → Option ColId → List ℕ
+not_whole_word M None = codes "constant"
+not_whole_word M (Some col) = column_name M col.0
+
+-- an objective, by its number, that isn't whole
+abbrev pub not_whole_text : Program → ℕ → Option ColId → List ℕ
+not_whole_text M which col = codes "error 12 not whole " ++ decimal which ++ codes " " ++ not_whole_word M col ++ codes "\n"
 
 abbrev pub number_text : List ℕ → List ℕ
 number_text word = codes "error 07 number " ++ word ++ codes "\n"
@@ -102,8 +113,11 @@ number_or_none None = codes "none"
 number_or_none (Some x) = printed x
 
 -- what is known after n results: the bound, and the best value
+abbrev pub known_words : ℕ → Option ℚ → Option ℚ → List ℕ
+known_words n bound best = decimal n ++ codes " bound " ++ number_or_none bound ++ codes " best " ++ number_or_none best
+
 abbrev pub known_text : ℕ → Option ℚ → Option ℚ → List ℕ
-known_text n bound best = decimal n ++ codes " bound " ++ number_or_none bound ++ codes " best " ++ number_or_none best ++ codes "\n"
+known_text n bound best = known_words n bound best ++ codes "\n"
 
 abbrev pub stopped_nodes_text : ℕ → Option ℚ → Option ℚ → List ℕ
 stopped_nodes_text n bound best = codes "stopped nodes " ++ known_text n bound best
@@ -122,6 +136,30 @@ stopped_text M stop.Nodes n bound best = stopped_nodes_text n bound best
 stopped_text M stop.Tree n bound best = stopped_tree_text n bound best
 stopped_text M (stop.Pivots place) n bound best = stopped_pivots_text M n bound best place
 stopped_text M (stop.Wide at_) n bound best = stopped_wide_text M n bound best at_
+
+-- ---- stops of a search that is a part of a greater task
+
+-- the words before the count of results
+abbrev pub stop_words : StopWhy → List ℕ
+stop_words stop.Nodes = codes "stopped nodes "
+stop_words stop.Tree = codes "stopped tree "
+stop_words (stop.Pivots place) = codes "stopped pivots "
+stop_words (stop.Wide at_) = codes "stopped wide "
+
+-- where it stopped, of which a count that was reached tells nothing
+abbrev pub stop_place_text : Program → StopWhy → List ℕ
+stop_place_text M stop.Nodes = []
+stop_place_text M stop.Tree = []
+stop_place_text M (stop.Pivots place) = block_text M place.path place.cuts place.basis
+stop_place_text M (stop.Wide at_) = block_text M at_.path at_.cuts at_.basis ++ step_line M at_.step
+
+-- the line of the stop, with the part's name last
+abbrev pub part_stop_line : List ℕ → StopWhy → ℕ → Option ℚ → Option ℚ → List ℕ
+part_stop_line part why n bound best = stop_words why ++ known_words n bound best ++ codes " of " ++ part ++ codes "\n"
+
+-- that line, and where it stopped in the part's own model; the task's own reply ends behind it
+abbrev pub part_stop_text : Program → List ℕ → StopWhy → ℕ → Option ℚ → Option ℚ → List ℕ
+part_stop_text M part why n bound best = part_stop_line part why n bound best ++ stop_place_text M why
 
 -- ---- bounds with other sides or costs
 

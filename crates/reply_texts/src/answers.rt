@@ -4,7 +4,7 @@ ghost use Rattle.std.specs.List.{All};
 ghost use Rattle.frac128.specs.Range.{Fits};
 ghost use Rattle.lp_model.specs.Program.{value};
 ghost use Rattle.reply_texts.specs.Reports.{AnswerIsShaped, AnswerHasRoom};
-ghost use Rattle.reply_texts.specs.Texts.{value_line, column_line, column_lines, optimal_text, infeasible_text, unbounded_text, number_or_none, known_text, stopped_pivots_text, stopped_wide_text, stopped_text, answer_text};
+ghost use Rattle.reply_texts.specs.Texts.{value_line, column_line, column_lines, optimal_text, infeasible_text, unbounded_text, number_or_none, known_words, known_text, stopped_pivots_text, stopped_wide_text, stopped_text, answer_text};
 
 use crate::blocks::{write_block, write_step_line};
 use crate::fixed::MEMORY_REPLY;
@@ -13,7 +13,8 @@ use frac128::Frac;
 use lp_model::{Answer, Col, Model, PivotPlace, Point, StopWhy, WideAt};
 use std::alloc::AllocError;
 
-fn write_infeasible(reply: &mut Vec<u8>, results: u64) -> Result<(), AllocError>
+/// No point is feasible, and how many results were placed.
+pub fn write_infeasible(reply: &mut Vec<u8>, results: u64) -> Result<(), AllocError>
     ensures { IfOk result (λ _. reply.new.items ≡ reply.old.items ++ infeasible_text results) }
 {
     write_count_line(reply, b"infeasible nodes ", results)
@@ -114,13 +115,13 @@ pub(crate) fn write_number_or_none(
 }
 
 /// The number of results, the bound and the best value.
-fn write_known(
+pub(crate) fn write_known_words(
     reply: &mut Vec<u8>,
     results: u64,
     bound: &Option<Frac>,
     best: &Option<Frac>,
 ) -> Result<(), AllocError>
-    ensures { IfOk result (λ _. reply.new.items ≡ reply.old.items ++ known_text results bound.now best.now) }
+    ensures { IfOk result (λ _. reply.new.items ≡ reply.old.items ++ known_words results bound.now best.now) }
 {
     let mut digits = itoa::Buffer::new();
     let Ok(()) = write_two(reply, digits.format(results).as_bytes(), b" bound ") else {
@@ -132,7 +133,19 @@ fn write_known(
     let Ok(()) = reply.extend_from_slice(b" best ") else {
         return Err(AllocError);
     };
-    let Ok(()) = write_number_or_none(reply, best) else {
+    write_number_or_none(reply, best)
+}
+
+/// The same, and the line's end.
+fn write_known(
+    reply: &mut Vec<u8>,
+    results: u64,
+    bound: &Option<Frac>,
+    best: &Option<Frac>,
+) -> Result<(), AllocError>
+    ensures { IfOk result (λ _. reply.new.items ≡ reply.old.items ++ known_text results bound.now best.now) }
+{
+    let Ok(()) = write_known_words(reply, results, bound, best) else {
         return Err(AllocError);
     };
     reply.extend_from_slice(b"\n")

@@ -10,7 +10,7 @@ use lp_model::{ColId, Model, RowId, Var};
 use std::alloc::AllocError;
 
 /// The name of a column, or nothing where there is no such column.
-pub(crate) fn column_name(model: &Model, place: ColId) -> &[u8]
+pub fn column_name(model: &Model, place: ColId) -> &[u8]
     ensures { result.now ≡ column_name model.now place.0 }
 {
     let columns = model.cols();

@@ -1,8 +1,10 @@
 // The bytes of the refusals.
 ghost use Rattle.std.specs.Prelude.{◌≡◌, ◌++◌, codes, decimal, IfOk};
-ghost use Rattle.reply_texts.specs.Texts.{unknown_text, unknown_name_text, taken_text, limit_text, bounds_text, sides_text, number_text, mps_text, warm_text, cert_fault_text};
+ghost use Rattle.reply_texts.specs.Texts.{unknown_text, unknown_name_text, taken_text, limit_text, bounds_text, sides_text, not_whole_word, not_whole_text, number_text, mps_text, warm_text, cert_fault_text};
 
+use crate::names::column_name;
 use crate::pieces::{write_count_line, write_line, write_two};
+use lp_model::{ColId, Model};
 use std::alloc::AllocError;
 
 /// The line of a text's first fault: its place behind a piece, and its code.
@@ -96,4 +98,33 @@ pub fn write_sides(reply: &mut Vec<u8>, name: &[u8]) -> Result<(), AllocError>
     ensures { IfOk result (λ _. reply.new.items ≡ reply.old.items ++ sides_text name.now) }
 {
     write_line(reply, b"error 11 sides ", name)
+}
+
+fn not_whole_word(model: &Model, column: Option<ColId>) -> &[u8]
+    ensures { result.now ≡ not_whole_word model.now column }
+{
+    match column {
+        Some(place) => column_name(model, place),
+        None => b"constant",
+    }
+}
+
+/// An objective, by its number, is not whole: its first such column, or else the constant.
+pub fn write_not_whole(
+    reply: &mut Vec<u8>,
+    model: &Model,
+    which: u8,
+    column: Option<ColId>,
+) -> Result<(), AllocError>
+    ensures { IfOk result (λ _. reply.new.items ≡ reply.old.items ++ not_whole_text model.now which column) }
+{
+    let mut digits = itoa::Buffer::new();
+    let Ok(()) = write_two(
+        reply,
+        b"error 12 not whole ",
+        digits.format(which).as_bytes(),
+    ) else {
+        return Err(AllocError);
+    };
+    write_line(reply, b" ", not_whole_word(model, column))
 }

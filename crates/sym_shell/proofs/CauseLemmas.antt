@@ -8,6 +8,8 @@ use Rattle.bound_commands.specs.Family as bounds
 use Rattle.bound_commands.proofs.CauseLemmas.{bounds-unchanged, bounds-exact}
 use Rattle.search_replies.specs.Family.{IsComplete}
 use Rattle.search_replies.proofs.CauseLemmas.{searches-complete}
+use Rattle.front_commands.specs.Family.{IsFrontComplete}
+use Rattle.front_commands.proofs.CauseLemmas.{fronts-complete}
 use Rattle.sym_shell.specs.Step.{in_family, AnswersTo, Step}
 use Rattle.kept_env.specs.Env.{IsEnv}
 use Rattle.command_family.specs.Kinds.{Done}
@@ -23,6 +25,7 @@ step-causes old words reply new h =
     let asks : Asks = asks_of words in
     let found : family.HasFamilyCauses (in_family asks).family (in_family asks).asks old reply new = family-causes (in_family asks).family (lawful asks) (in_family asks).asks old reply new h in
     let ends : IsComplete old reply new = searches-complete old reply new in
+    let fronts : IsFrontComplete old reply new = fronts-complete old reply new in
     record {
       kind = found.kind;
       is = found.is;
@@ -32,11 +35,13 @@ step-causes old words reply new h =
       complete_warm = λ S options few asked present enough. ends.complete_warm S options few (subst (λ a. AnswersTo a old reply new) asked h) present enough;
       again = λ S options few asked present. ends.again S options few (subst (λ a. AnswersTo a old reply new) asked h) present;
       beside_ray = λ S options few asked present. ends.beside_ray S options few (subst (λ a. AnswersTo a old reply new) asked h) present;
+      complete_front = λ S nodes pivots n asked present enough. fronts.complete S nodes pivots n (subst (λ a. AnswersTo a old reply new) asked h) present enough;
+      beside_front = λ nodes pivots asked. fronts.beside nodes pivots (subst (λ a. AnswersTo a old reply new) asked h);
       exact = λ which numbers behind asked x read. bounds-exact which numbers behind old reply new (subst (λ a. AnswersTo a old reply new) asked h) x read;
       bounds = λ which numbers behind asked. bounds-unchanged (bounds.Bound which numbers behind) old reply new (subst (λ a. AnswersTo a old reply new) asked h);
       kept = found.kept;
       refused = found.refused;
-      wanted = λ wanting other another. found.wanted wanting (works-not asks other another);
+      wanted = λ wanting other another third. found.wanted wanting (works-not asks other another third);
     }
 
 -- a step that leaves what is sound is one as the product promises it

@@ -1,7 +1,7 @@
 -- What each family says of its replies is what the product promises.
 use Rattle.std.proofs.Common.{◌≡◌, ℕ, List, inl, inr}
-use Rattle.command_words.specs.Asks.{Asks, Load, Solve, Warm, Edit, Trim, Save, Restore, Bound, Cert, Write, Quit, Unknown, Misused, NoNumber, asks_of}
-use Rattle.command_family.specs.Kinds.{Kind, Optimal, Infeasible, Unbounded, StoppedNodes, StoppedTree, StoppedPivots, StoppedWide, BoundShown, Done, UnknownCommand, WrongArguments, NoModel, UnknownName, TakenName, WrongNumber, OverLimit, NoBounds, BadSides, NoAnswer, StoreFailed, FileTooLong, FaultyText, FaultySearch, WantsMemory}
+use Rattle.command_words.specs.Asks.{Asks, Load, Solve, Warm, McSolve, Edit, Trim, Save, Restore, Bound, Cert, Write, Quit, Unknown, Misused, NoNumber, asks_of}
+use Rattle.command_family.specs.Kinds.{Kind, Optimal, Infeasible, Unbounded, StoppedNodes, StoppedTree, StoppedPivots, StoppedWide, CompleteFront, FrontPart, BoundShown, Done, UnknownCommand, WrongArguments, NoModel, UnknownName, TakenName, WrongNumber, OverLimit, NoBounds, BadSides, NotWhole, NoAnswer, StoreFailed, FileTooLong, FaultyText, FaultySearch, WantsMemory}
 use Rattle.command_family.specs.State.{ShellState}
 use Rattle.file_commands.specs.Family.{FileAsks, FileCause}
 use Rattle.file_commands.specs.Family as files
@@ -13,9 +13,11 @@ use Rattle.cert_commands.specs.Family.{CertAsks, CertsCause}
 use Rattle.cert_commands.specs.Family as certs
 use Rattle.search_replies.specs.Family.{SearchAsks, SearchCause}
 use Rattle.search_replies.specs.Family as search
+use Rattle.front_commands.specs.Family.{FrontAsks, FrontCause}
+use Rattle.front_commands.specs.Family as front
 use Rattle.sym_shell.specs.Own.{OwnAsks, OwnCause}
 use Rattle.sym_shell.specs.Own as rest
-use Rattle.sym_shell.specs.Step.{IsAsked, filing, changing, bounding, certifying, searching, remaining}
+use Rattle.sym_shell.specs.Step.{IsAsked, filing, changing, bounding, certifying, searching, fronting, remaining}
 use Rattle.sym_shell.specs.Headline.{Promise}
 use Rattle.sym_shell.specs.Causes.{cause_in}
 
@@ -26,7 +28,7 @@ is_asked command words P asks asked h = record { asks = asks; asked = asked; is 
 module _ (old : ShellState) (words : List (List ℕ)) (reply : List ℕ) (new : ShellState) where
   search-promise : (asks : SearchAsks) → asks_of words ≡ searching asks → (k : Kind) → SearchCause asks k old reply new → Promise k old words reply new
   search-promise asks asked Optimal h = is_asked searching words (λ a. SearchCause a Optimal old reply new) asks asked h
-  search-promise asks asked Infeasible h = is_asked searching words (λ a. SearchCause a Infeasible old reply new) asks asked h
+  search-promise asks asked Infeasible h = inl (is_asked searching words (λ a. SearchCause a Infeasible old reply new) asks asked h)
   search-promise asks asked Unbounded h = is_asked searching words (λ a. SearchCause a Unbounded old reply new) asks asked h
   search-promise asks asked StoppedNodes h = is_asked searching words (λ a. SearchCause a StoppedNodes old reply new) asks asked h
   search-promise asks asked StoppedTree h = is_asked searching words (λ a. SearchCause a StoppedTree old reply new) asks asked h
@@ -81,11 +83,20 @@ module _ (old : ShellState) (words : List (List ℕ)) (reply : List ℕ) (new : 
   bound-promise asks asked BoundShown h = is_asked bounding words (λ a. BoundsCause a BoundShown old reply new) asks asked h
   bound-promise asks asked WrongArguments h = inr (inr (is_asked bounding words (λ a. BoundsCause a WrongArguments old reply new) asks asked h))
   bound-promise asks asked WrongNumber h = inr (inr (is_asked bounding words (λ a. BoundsCause a WrongNumber old reply new) asks asked h))
-  bound-promise asks asked NoModel h = inr (inr (inr (inr (is_asked bounding words (λ a. BoundsCause a NoModel old reply new) asks asked h))))
+  bound-promise asks asked NoModel h = inr (inr (inr (inr (inl (is_asked bounding words (λ a. BoundsCause a NoModel old reply new) asks asked h)))))
   bound-promise asks asked UnknownName h = inr (is_asked bounding words (λ a. BoundsCause a UnknownName old reply new) asks asked h)
   bound-promise asks asked BadSides h = inr (is_asked bounding words (λ a. BoundsCause a BadSides old reply new) asks asked h)
   bound-promise (sides.Bound which numbers behind) asked WantsMemory h = h
   bound-promise (sides.Bound which numbers behind) asked other h = absurd h
+
+  front-promise : (asks : FrontAsks) → asks_of words ≡ fronting asks → (k : Kind) → FrontCause asks k old reply new → Promise k old words reply new
+  front-promise asks asked CompleteFront h = is_asked fronting words (λ a. FrontCause a CompleteFront old reply new) asks asked h
+  front-promise asks asked FrontPart h = is_asked fronting words (λ a. FrontCause a FrontPart old reply new) asks asked h
+  front-promise asks asked Infeasible h = inr (is_asked fronting words (λ a. FrontCause a Infeasible old reply new) asks asked h)
+  front-promise asks asked NotWhole h = is_asked fronting words (λ a. FrontCause a NotWhole old reply new) asks asked h
+  front-promise asks asked NoModel h = inr (inr (inr (inr (inr (is_asked fronting words (λ a. FrontCause a NoModel old reply new) asks asked h)))))
+  front-promise asks asked WantsMemory h = h
+  front-promise asks asked other h = absurd h
 
   rest-promise : (asks : OwnAsks) → asks_of words ≡ remaining asks → (k : Kind) → OwnCause asks k old reply new → Promise k old words reply new
   rest-promise asks asked Done h = inr (inr (inr (is_asked remaining words (λ a. OwnCause a Done old reply new) asks asked h)))
@@ -104,6 +115,7 @@ module _ (old : ShellState) (words : List (List ℕ)) (reply : List ℕ) (new : 
   promises (Load file intupper) asked k h = file-promise (files.Load file intupper) asked k h
   promises (Solve options) asked k h = search-promise (search.Solve options) asked k h
   promises (Warm options) asked k h = search-promise (search.Warm options) asked k h
+  promises (McSolve nodes pivots) asked k h = front-promise (front.McSolve nodes pivots) asked k h
   promises (Edit behind) asked k h = change-promise (Change behind) asked k h
   promises (Trim depth) asked k h = change-promise (edits.Trim depth) asked k h
   promises (Save file) asked k h = file-promise (files.Save file) asked k h

@@ -7,7 +7,7 @@ use Rattle.sound_searches.specs.Sound.{PlainSearch}
 use Rattle.tree_search.specs.Enough.{IsEnough, IsKeptEnough}
 use Rattle.tree_search.specs.Solves.{Solved}
 use Rattle.kept_env.specs.Env.{IsEnv, model_of, pool_in}
-use Rattle.command_words.specs.Asks.{Asks, Solve, Warm, Restore, Bound, asks_of}
+use Rattle.command_words.specs.Asks.{Asks, Solve, Warm, McSolve, Restore, Bound, asks_of}
 use Rattle.command_words.specs.declared.words.OptimumBound.{OptimumBound}
 use Rattle.command_words.specs.declared.words.NewNumbers.{NewNumbers}
 use Rattle.reply_texts.specs.Texts.{ok_text, bound_text, memory_text}
@@ -18,6 +18,9 @@ use Rattle.search_replies.specs.Showing.{EndsBy}
 use Rattle.search_replies.specs.Workers.{worker_limit}
 use Rattle.search_replies.specs.Solve.{limits_of}
 use Rattle.search_replies.specs.Warming.{WentOn, TellsAgain, TellsNoEnd}
+use Rattle.front_search.specs.Completeness.{IsFrontEnough}
+use Rattle.front_commands.specs.Answering.{front_limits}
+use Rattle.front_commands.specs.Fronts.{EndsFront}
 use Rattle.sym_shell.specs.Step.{in_family, Step}
 use Rattle.bound_commands.specs.Family.{BoundRead}
 use Rattle.sym_shell.specs.Headline.{Headline}
@@ -47,6 +50,11 @@ pub record HasCauses (old : ShellState) (words : List (List ℕ)) (reply : List 
   pub again : (S : PlainSearch) (options : SearchOptions) → options.workers ≤ worker_limit → asks_of words ≡ Warm options → old.env.search ≡ Some S → TellsAgain S reply
   -- where its ray phase finds a ray beside a kept point, the objective has no end, and `warm` places no result
   pub beside_ray : (S : PlainSearch) (options : SearchOptions) → options.workers ≤ worker_limit → asks_of words ≡ Warm options → old.env.search ≡ Some S → TellsNoEnd S (limits_of options) reply
+  -- completeness of `mcsolve`: where the limits are enough for each part that is due when at most n results are placed, it ends with a whole front,
+  -- or none, or for want of memory, or it has placed more; and the search that is kept stays, with its tree and its points
+  pub complete_front : (S : PlainSearch) (nodes pivots n : ℕ) → asks_of words ≡ McSolve nodes pivots → old.env.search ≡ Some S → IsFrontEnough (front_limits nodes pivots) S.model n
+      → EndsFront S (front_limits nodes pivots) n reply new.env
+  pub beside_front : (nodes pivots : ℕ) → asks_of words ≡ McSolve nodes pivots → new.env.search ≡ old.env.search
   -- a bound at the sides, or at the costs, that stand is the best value, right after a search has found it and closed every leaf
   pub exact : (which : OptimumBound) (numbers : NewNumbers) (behind : List (List ℕ)) → asks_of words ≡ Bound which numbers behind
       → (x : Point) (read : BoundRead old behind (λ S named. IsAtOptimum numbers S named x)) → (reply ≡ bound_text (Some (value read.search.model 1 x))) ⊎ (reply ≡ memory_text)
@@ -54,9 +62,9 @@ pub record HasCauses (old : ShellState) (words : List (List ℕ)) (reply : List 
   pub bounds : (which : OptimumBound) (numbers : NewNumbers) (behind : List (List ℕ)) → asks_of words ≡ Bound which numbers behind → new ≡ old
   -- every reply but `ok` leaves the model
   pub kept : reply ≢ ok_text → model_of new.env ≡ model_of old.env
-  -- an error, but for want of memory, leaves the environment; and so does that, but in `solve` and `warm`
+  -- an error, but for want of memory, leaves the environment; and so does that, but in `solve`, `warm` and `mcsolve`
   pub refused : (k : Kind) → IsError k → Is k reply → new.env ≡ old.env
-  pub wanted : reply ≡ memory_text → ((options : SearchOptions) → asks_of words ≢ Solve options) → ((options : SearchOptions) → asks_of words ≢ Warm options) → new.env ≡ old.env
+  pub wanted : reply ≡ memory_text → ((options : SearchOptions) → asks_of words ≢ Solve options) → ((options : SearchOptions) → asks_of words ≢ Warm options) → ((nodes pivots : ℕ) → asks_of words ≢ McSolve nodes pivots) → new.env ≡ old.env
 
 -- A step, which says what each command may be answered, and what the reply says for sure. Whatever was answered, what the environment has from
 -- then on is sound.
@@ -65,7 +73,7 @@ pub record IsAnswered (old : ShellState) (words : List (List ℕ)) (reply : List
   pub causes : HasCauses old words reply new
   -- cuts count exactly where they derive, leaves are judged by such cuts, points are feasible
   pub sound : HasSoundSearch new.env
-  -- an answer is held only of a search without an open leaf, or of one with a point beside a ray
+  -- an answer is held only of a search without an open leaf, or of one with a point beside a ray, or by a certificate that is accepted for its model
   pub held : IsEnv new.env
   -- the model, if there is one, is one that scripts may have: its names are words, its bounds are near, and it is not widened
   pub script : HasScriptModel new.env

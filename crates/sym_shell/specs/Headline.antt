@@ -1,25 +1,30 @@
 -- The headline: what the product promises, reply by reply, in one place. By its first bytes each reply is of one kind; here stands for each kind
 -- which commands may be answered so, and that the family which answers them says for sure what its cause for this kind is. Each cause stands
 -- once, in specs/Family of the family's crate:
---     SearchCause, BoundCause, FileCause, ChangeCause, CertCause, OwnCause
+--     SearchCause, FrontCause, BoundCause, FileCause, ChangeCause, CertCause, OwnCause
 -- They speak of what the line asks, of the state before and after, and of the reply's bytes.
 use Rattle.std.specs.Prelude.{◌≡◌, ◌⊎◌, ℕ, List}
 use Rattle.reply_texts.specs.Texts.{memory_text}
-use Rattle.command_family.specs.Kinds.{Kind, Optimal, Infeasible, Unbounded, StoppedNodes, StoppedTree, StoppedPivots, StoppedWide, BoundShown, Done, UnknownCommand, WrongArguments, NoModel, UnknownName, TakenName, WrongNumber, OverLimit, NoBounds, BadSides, NoAnswer, StoreFailed, FileTooLong, FaultyText, FaultySearch, WantsMemory, Is}
+use Rattle.command_family.specs.Kinds.{Kind, Optimal, Infeasible, Unbounded, StoppedNodes, StoppedTree, StoppedPivots, StoppedWide, CompleteFront, FrontPart, BoundShown, Done, UnknownCommand, WrongArguments, NoModel, UnknownName, TakenName, WrongNumber, OverLimit, NoBounds, BadSides, NotWhole, NoAnswer, StoreFailed, FileTooLong, FaultyText, FaultySearch, WantsMemory, Is}
 use Rattle.command_family.specs.State.{ShellState}
 use Rattle.file_commands.specs.Family.{FileCause}
 use Rattle.edit_commands.specs.Family.{ChangeCause}
 use Rattle.bound_commands.specs.Family.{BoundsCause}
 use Rattle.cert_commands.specs.Family.{CertsCause}
 use Rattle.search_replies.specs.Family.{SearchCause}
+use Rattle.front_commands.specs.Family.{FrontCause}
 use Rattle.sym_shell.specs.Own.{OwnCause}
-use Rattle.sym_shell.specs.Step.{IsAsked, filing, changing, bounding, certifying, searching, remaining}
+use Rattle.sym_shell.specs.Step.{IsAsked, filing, changing, bounding, certifying, searching, fronting, remaining}
 
 -- ---- what each family says of a kind, where the words ask one of its commands
 
 -- `solve` or `warm`
 abbrev pub BySearch : Kind → ShellState → List (List ℕ) → List ℕ → ShellState → Type 0
 BySearch kind old words reply new = IsAsked searching words (λ asks. SearchCause asks kind old reply new)
+
+-- `mcsolve`
+abbrev pub ByFront : Kind → ShellState → List (List ℕ) → List ℕ → ShellState → Type 0
+ByFront kind old words reply new = IsAsked fronting words (λ asks. FrontCause asks kind old reply new)
 
 -- `lbrhs`, `lbobj`, `ubrhs` or `ubobj`
 abbrev pub ByBound : Kind → ShellState → List (List ℕ) → List ℕ → ShellState → Type 0
@@ -45,9 +50,9 @@ ByRest kind old words reply new = IsAsked remaining words (λ asks. OwnCause ask
 
 abbrev pub Promise : Kind → ShellState → List (List ℕ) → List ℕ → ShellState → Type 0
 -- The headline: the point that is shown is an optimum of the model that is present, as it was edited, with its value (ShowsOptimumBy); or that
--- model has no feasible point (ShowsEmptinessBy); or its objective has no end (ShowsNoEndBy).
+-- model has no feasible point (ShowsEmptinessBy, ShowsNoFront); or its objective has no end (ShowsNoEndBy).
 Promise Optimal old words reply new = BySearch Optimal old words reply new
-Promise Infeasible old words reply new = BySearch Infeasible old words reply new
+Promise Infeasible old words reply new = BySearch Infeasible old words reply new ⊎ ByFront Infeasible old words reply new
 Promise Unbounded old words reply new = BySearch Unbounded old words reply new
 -- what is known where a search stopped, and why it stopped: no feasible point is better than the bound that is told, and some feasible point has
 -- the best value (ShowsStopBy)
@@ -55,6 +60,10 @@ Promise StoppedNodes old words reply new = BySearch StoppedNodes old words reply
 Promise StoppedTree old words reply new = BySearch StoppedTree old words reply new
 Promise StoppedPivots old words reply new = BySearch StoppedPivots old words reply new
 Promise StoppedWide old words reply new = BySearch StoppedWide old words reply new
+-- the outcomes that are shown are exactly those of the model that is present, as it was edited, that no feasible outcome dominates, each once, by
+-- rising first value (ShowsFront); or each of them is one of those, and why there are no more is told (ShowsStoppedFront, ShowsWideFront)
+Promise CompleteFront old words reply new = ByFront CompleteFront old words reply new
+Promise FrontPart old words reply new = ByFront FrontPart old words reply new
 -- the bound that the kept tree, or the kept points, give of the model with the numbers that the line names: no feasible point of it is better
 -- than a lower one, and some feasible point has an upper one (TellsBound)
 Promise BoundShown old words reply new = ByBound BoundShown old words reply new
@@ -69,13 +78,15 @@ Promise WrongArguments old words reply new = ByRest WrongArguments old words rep
 Promise WrongNumber old words reply new = ByRest WrongNumber old words reply new ⊎ ByChange WrongNumber old words reply new ⊎ ByBound WrongNumber old words reply new
 -- no model is present, and the command needs one
 Promise NoModel old words reply new =
-    BySearch NoModel old words reply new ⊎ ByFile NoModel old words reply new ⊎ ByCert NoModel old words reply new ⊎ ByChange NoModel old words reply new ⊎ ByBound NoModel old words reply new
+    BySearch NoModel old words reply new ⊎ ByFile NoModel old words reply new ⊎ ByCert NoModel old words reply new ⊎ ByChange NoModel old words reply new ⊎ ByBound NoModel old words reply new ⊎ ByFront NoModel old words reply new
 -- the first fault of an edit (EditBad), or of a line that asks for a bound; or more workers are asked for than there may be (IsCrowd)
 Promise UnknownName old words reply new = ByChange UnknownName old words reply new ⊎ ByBound UnknownName old words reply new
 Promise TakenName old words reply new = ByChange TakenName old words reply new
 Promise OverLimit old words reply new = ByChange OverLimit old words reply new ⊎ BySearch OverLimit old words reply new
 Promise NoBounds old words reply new = ByChange NoBounds old words reply new
 Promise BadSides old words reply new = ByChange BadSides old words reply new ⊎ ByBound BadSides old words reply new
+-- an objective is not whole, and `mcsolve` asks for the outcomes of both (ShowsNotWhole)
+Promise NotWhole old words reply new = ByFront NotWhole old words reply new
 -- there is a model, and no answer is held
 Promise NoAnswer old words reply new = ByCert NoAnswer old words reply new
 -- the store has failed, or has no such file; the file, or the text that is to be written, is too long

@@ -1,6 +1,6 @@
 -- What a command may be answered, and what it does to the state: the sum of the families.
 use Rattle.std.specs.Prelude.{◌≡◌, ℕ, List, Result, Ok, Err}
-use Rattle.command_words.specs.Asks.{Asks, Load, Solve, Warm, Edit, Trim, Save, Restore, Bound, Cert, Write, Quit, Unknown, Misused, NoNumber, asks_of}
+use Rattle.command_words.specs.Asks.{Asks, Load, Solve, Warm, McSolve, Edit, Trim, Save, Restore, Bound, Cert, Write, Quit, Unknown, Misused, NoNumber, asks_of}
 use Rattle.command_family.specs.Family.{Family}
 use Rattle.command_family.specs.State.{ShellState}
 use Rattle.file_commands.specs.Family.{FileAsks, filings}
@@ -13,6 +13,8 @@ use Rattle.cert_commands.specs.Family.{CertAsks, certificates}
 use Rattle.cert_commands.specs.Family as certs
 use Rattle.search_replies.specs.Family.{SearchAsks, searches}
 use Rattle.search_replies.specs.Family as search
+use Rattle.front_commands.specs.Family.{FrontAsks, fronts}
+use Rattle.front_commands.specs.Family as front
 use Rattle.sym_shell.specs.Own.{OwnAsks, own_family}
 use Rattle.sym_shell.specs.Own as rest
 
@@ -26,6 +28,7 @@ abbrev pub in_family : Asks → FamilyAsks
 in_family (Load file intupper) = record { family = filings; asks = files.Load file intupper }
 in_family (Solve options) = record { family = searches; asks = search.Solve options }
 in_family (Warm options) = record { family = searches; asks = search.Warm options }
+in_family (McSolve nodes pivots) = record { family = fronts; asks = front.McSolve nodes pivots }
 in_family (Edit words) = record { family = changes; asks = Change words }
 in_family (Trim depth) = record { family = changes; asks = edits.Trim depth }
 in_family (Save file) = record { family = filings; asks = files.Save file }
@@ -59,6 +62,9 @@ certifying (certs.Cert file) = Cert file
 abbrev pub searching : SearchAsks → Asks
 searching (search.Solve options) = Solve options
 searching (search.Warm options) = Warm options
+
+abbrev pub fronting : FrontAsks → Asks
+fronting (front.McSolve nodes pivots) = McSolve nodes pivots
 
 abbrev pub remaining : OwnAsks → Asks
 remaining rest.Quit = Quit

@@ -8,12 +8,13 @@
 //! Promise k old words ..      what a reply of the kind k says for sure                              (specs/Headline)
 //!
 //! load, write, save, restore  file_commands        lbrhs, lbobj, ubrhs, ubobj    bound_commands      solve, warm    search_replies
-//! edit, trim                  edit_commands        cert                          cert_commands       quit, else     own, here
+//! edit, trim                  edit_commands        cert                          cert_commands       mcsolve        front_commands
+//!                                                                                                    quit, else     own, here
 //! ```
 //!
 //! `Step` fixes each reply's bytes and the state that it leaves (the environment, the files, the store's count of faults). What a reply says for
 //! sure, and with it the headline, is `HasCauses`: `optimal` shows a feasible point that no feasible point beats, `infeasible` means that
-//! there is none, `unbounded` that the objective has no end, no feasible point passes the bound of a search that stopped, nor a bound at
+//! there is none, `unbounded` that the objective has no end, `frontier complete` shows exactly the outcomes that no other dominates, no feasible point passes the bound of a search that stopped, nor a bound at
 //! other sides or costs, the certificate that was written is accepted for the model, what was written of a model is its canonical
 //! text, what was saved is the text of the search, and a search that is restored is made of what the file's text states, its cuts derived
 //! anew, its points tested and its leaves judged. Each family says it of its own replies, once; `Headline` has in one place which kind
@@ -26,7 +27,8 @@
 //!
 //! Below stand `program_words`, which says what the command line asks for; `script_session`, which reads the script and knows
 //! no command; `command_words`, which says what a line's words ask for; the families; `sym_env`, which makes the searches that
-//! `search_replies` tells; and `command_files`, which checks certificates. Above stands `sym_main`.
+//! `search_replies` tells; `front_search`, which finds the fronts that `front_commands` tells; and `command_files`, which checks
+//! certificates. Above stands `sym_main`.
 #![tactic(auto)]
 
 mod ends;

@@ -1,12 +1,16 @@
-// The commands that search: the search is made, and told.
+// The commands that search, and the one that looks for fronts: the search is made, and told.
 ghost use Rattle.std.specs.Prelude.{◌≡◌, ◌≤◌, [], OnOk, OnErr, ℕ, List, IfSome};
 ghost use Rattle.branch_tree.specs.Numbered.{IsNumbered};
 ghost use Rattle.command_family.specs.State.{HasScriptModel, HasOrder};
 ghost use Rattle.search_replies.specs.Workers.{Staffed};
 ghost use Rattle.search_replies.specs.Solve.{limits_of, RepliesToSolve};
 ghost use Rattle.search_replies.specs.Warming.{RepliesToWarm};
+ghost use Rattle.front_commands.specs.Answering.{front_limits};
+ghost use Rattle.front_commands.specs.Fronts.{RepliesToFront};
 
 use command_words::SearchOptions;
+use front_commands::{front_limits, tell_front};
+use front_search::mc_solve;
 use kept_env::Env;
 use search_replies::{WORKER_LIMIT, limits_of, tell_crowd, tell_solved, tell_warmed};
 use std::alloc::{AllocError, Global};
@@ -111,4 +115,24 @@ pub(crate) fn search_on(
     } else {
         work_on(alloc, env, options, reply)
     }
+}
+
+/// Looks for the front of the model, beside the search that is kept.
+pub(crate) fn look_for_front(
+    alloc: Global,
+    env: &mut Env,
+    nodes: u64,
+    pivots: u64,
+    reply: &mut Vec<u8>,
+) -> Result<(), AllocError>
+    requires empty { reply.old.items ≡ [] }
+    requires script { HasScriptModel env.old }
+    requires order { HasOrder env.old }
+    ensures answered { OnOk result (RepliesToFront env.old env.old.search (front_limits nodes pivots) reply.new.items env.new) }
+    ensures unfinished { OnErr result ((bytes : List ℕ) × RepliesToFront env.old env.old.search (front_limits nodes pivots) bytes env.new) }
+    ensures script { HasScriptModel env.new }
+    ensures order { HasOrder env.new }
+{
+    let answer = mc_solve(alloc, env, &front_limits(nodes, pivots));
+    tell_front(alloc, reply, env, answer)
 }

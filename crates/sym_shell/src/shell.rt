@@ -6,7 +6,7 @@ ghost use Rattle.command_family.specs.State.{shell_state, HasScriptModel, HasOrd
 ghost use Rattle.sym_shell.specs.Step.{AnswersTo, Tells};
 ghost use Rattle.sym_shell.specs.Shell.{is_quit};
 
-use crate::searching::{search_anew, search_on};
+use crate::searching::{look_for_front, search_anew, search_on};
 use bound_commands::bound;
 use cert_commands::cert;
 use command_words::{Asked, read_words};
@@ -75,6 +75,7 @@ fn answer_asked<S: Store>(
         Asked::Load { file, intupper } => load(alloc, env, store, file, intupper, reply),
         Asked::Solve { options } => search_anew(alloc, env, options, reply),
         Asked::Warm { options } => search_on(alloc, env, options, reply),
+        Asked::McSolve { nodes, pivots } => look_for_front(alloc, env, nodes, pivots, reply),
         Asked::Edit { words } => edit(alloc, env, words, reply),
         Asked::Trim { depth } => trim(env, depth, reply),
         Asked::Save { file } => save(alloc, env, store, file, reply),

@@ -1,2 +1,16 @@
 pub mod SweptToEnd
 pub mod ClaimedTrees
+pub mod Outcomes
+pub mod NamedPoints
+pub mod WholeParts
+pub mod SettledParts
+pub mod EndSteps
+pub mod EndHalts
+pub mod ShownOutcomes
+pub mod FrontSteps
+pub mod GapEnds
+pub mod Turns
+pub mod Between
+pub mod Ended
+pub mod Completed
+pub mod BothEnds

@@ -1,5 +1,5 @@
 -- What nothing hinders comes to its end.
-use Rattle.std.specs.Prelude.{◌≡◌, ◌⊎◌, ℕ, ◌-◌, Option, Some, None, Err}
+use Rattle.std.specs.Prelude.{◌≡◌, ◌⊎◌, ℕ, ◌≤◌, Option, Some, None, Err}
 use Rattle.std.proofs.Common.{arith, inl, inr}
 use Rattle.lp_model.specs.Program.{Program, HasWholeObjective}
 use Rattle.lp_model.specs.declared.types.ColId.{ColId}
@@ -22,7 +22,10 @@ pub swept_to_end : (stops : Program → ℕ → Answer → Type 0) → SweptToEn
 swept_to_end stops N nodes c d (mc.Complete front cert) is free = tt
 swept_to_end stops N nodes c d (mc.Infeasible cert results) is free = tt
 swept_to_end stops N nodes c d (mc.Stopped front part why results bound best) is free =
-    free.unstopped front part is.0 (nodes - is.1.before) (solve.Stopped why is.1.here bound best) (omega arith) tt is.1.stopped
+    let before = is.1.before in
+    let sum = is.1.sum in
+    let few : before ≤ results = omega arith in
+    free.unstopped front part is.0 before (solve.Stopped why is.1.here bound best) few tt is.1.stopped
 swept_to_end stops N nodes c d (mc.NotWhole which col) is free = not_whole N which col free.first_whole free.second_whole is
 swept_to_end stops N nodes c d (mc.WideScale front part place) is free = free.narrow front part is.0 place is.1
 swept_to_end stops N nodes c d mc.Memory is free = tt

@@ -29,8 +29,8 @@ use Rattle.wcn_driver.specs.Parts.{part_model, IsPartDue}
 
 -- ---- where a part stops
 
--- The outcomes that are told are nondominated, by rising first value. Without the constants they are those that are found where
--- the part is due, over the least values i1 and i2.
+-- The outcomes that are told are nondominated, by rising first value, and their values are narrow. Without the constants they are those
+-- that are found where the part is due, over the least values i1 and i2.
 pub record StandsAtPart (N : Program) (c d : ℤ) (front : List Outcome) (part : Part) : Type 0 where
   pub apart : IsFront front
   pub each : All (IsNondominatedOutcome (with_constants c d N)) front
@@ -39,6 +39,7 @@ pub record StandsAtPart (N : Program) (c d : ℤ) (front : List Outcome) (part :
   pub found : List Outcome
   pub moved_by : front ≡ map (moved c d) found
   pub due : IsPartDue N i1 i2 found part
+  pub narrow : All (λ (o : Outcome). IsNarrow o.f1 × IsNarrow o.f2) front
 
 -- Of the part's model the solver may stop so, with the results that remain.
 pub record StopsAtPart (stops : Program → ℕ → Answer → Type 0) (P : Program) (nodes results : ℕ) (answer : ℕ → Answer) : Type 0 where
@@ -86,6 +87,7 @@ IsFirstWideScale N c d i1 i2 (Pull r) place.Value = All HasCostSum N.cols × ((x
 abbrev pub IsMc : (Program → ℕ → Answer → Type 0) → Program → ℕ → ℤ → ℤ → Mc → Type 0
 IsMc stops N nodes c d (mc.Complete front cert) =
     IsLeastFrontier (with_constants c d N) front × (AcceptsFront (with_constants c d N) cert × IsFrontCertificate cert) × (outcomes_of cert ≡ front)
+    × All (λ (o : Outcome). IsNarrow o.f1 × IsNarrow o.f2) front
 IsMc stops N nodes c d (mc.Infeasible cert results) = (IsEmpty N × (results ≤ nodes)) × IsCertifiedAs N (Some claim.Infeasible) cert
 IsMc stops N nodes c d (mc.Stopped front part why results bound best) =
     (at : StandsAtPart N c d front part)

@@ -1,3 +1,4 @@
 pub mod Parts
 pub mod Answers
 pub mod Laws
+pub mod private

@@ -1,21 +1,9 @@
-use Rattle.std.proofs.Common.{◌≡◌, ℕ, List, ◌++◌, ◌∙◌, subst, ap}
-use Rattle.std.specs.Prelude.{codes, decimal}
-use Rattle.reply_texts.specs.Texts.{number_or_none}
-use Rattle.reply_texts.proofs.TextLemmas.{join, join_piece}
+use Rattle.std.specs.Prelude.{codes}
+use Rattle.reply_texts.specs.Texts.{known_words}
+use Rattle.reply_texts.proofs.TextLemmas.{join_piece}
 use Rattle.reply_texts.proofs.answers.write_known.Goals as goal
 
 pub returns : goal.returns
 returns c =
-    let r = c.args.reply.now.items in
-    let results = decimal c.args.results ++ codes " bound " in
-    let bound = number_or_none c.args.bound.now in
-    let best = number_or_none c.args.best.now in
-    join_piece c.extend_from_slice-2.result r (((results ++ bound) ++ codes " best ") ++ best) (codes "\n") c.write_number_or_none-2.new.reply.items c.extend_from_slice-2.new.self.items
-    (join r ((results ++ bound) ++ codes " best ") best c.extend_from_slice.new.self.items c.write_number_or_none-2.new.reply.items
-    (join r (results ++ bound) (codes " best ") c.write_number_or_none.new.reply.items c.extend_from_slice.new.self.items
-    (join r results bound c.write_two.new.reply.items c.write_number_or_none.new.reply.items
-    (c.in-Ok.ensures ∙ ap (λ (t : List ℕ). r ++ (t ++ codes " bound ")) (c.as_bytes.ensures.value ∙ c.format.ensures.text))
-    c.in-Ok-write_number_or_none.ensures)
-    c.in-Ok-extend_from_slice.ensures.items)
-    c.in-Ok-write_number_or_none-2.ensures)
-    c.extend_from_slice-2.ensures.items
+    join_piece c.extend_from_slice.result c.args.reply.now.items (known_words c.args.results c.args.bound.now c.args.best.now) (codes "\n") c.write_known_words.new.reply.items c.extend_from_slice.new.self.items
+    c.in-Ok.ensures c.extend_from_slice.ensures.items

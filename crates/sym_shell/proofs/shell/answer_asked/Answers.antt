@@ -1,12 +1,13 @@
 use Rattle.std.proofs.Common.{◌++◌, ◌∙◌, ap, subst, refl, inl, inr}
 use Rattle.std.specs.Prelude.{map}
-use Rattle.command_words.specs.Asks.{Load, Solve, Warm, Edit, Trim, Save, Restore, Bound, Cert, Write, Quit, Unknown, Misused, NoNumber, IsAskable, asks_shown}
+use Rattle.command_words.specs.Asks.{Load, Solve, Warm, McSolve, Edit, Trim, Save, Restore, Bound, Cert, Write, Quit, Unknown, Misused, NoNumber, IsAskable, asks_shown}
 use Rattle.edit_words.specs.EditWords.{edit_asks, pairs_asks}
 use Rattle.command_family.specs.State.{shell_state}
 use Rattle.reply_texts.specs.Texts.{ok_text, unknown_text, arguments_text, number_text, memory_text}
 use Rattle.command_family.proofs.ReplyLemmas.{told, on_ok, on_ok_if, always, on_err}
 use Rattle.bound_commands.proofs.BoundLemmas.{pairs-untold}
 use Rattle.search_replies.proofs.ReplyLemmas.{solve-step, warm-step}
+use Rattle.front_commands.proofs.ReplyLemmas.{front-step}
 use Rattle.sym_shell.specs.Step.{AnswersTo}
 use Rattle.sym_shell.proofs.StepLemmas.{arm, would-be, edit-step, trim-step}
 use Rattle.sym_shell.proofs.shell.answer_asked.Goals as goal
@@ -72,6 +73,17 @@ returns-in-Warm-clause-answered g c =
     let step = warm-step c.args.env.now c.search_on.new.env files faults c.in-Warm.options in
     arm c.search_on.result asks (asks_shown c.args.asked) old new c.search_on.new.reply.items (ap asks_shown c.in-Warm.is) (on_ok c.search_on.result (step c.search_on.new.reply.items) c.search_on.ensures.answered)
     (on_err c.search_on.result (λ h. (h.0, step h.0 h.1)) c.search_on.ensures.unfinished)
+
+pub returns-in-McSolve-clause-answered : goal.returns-in-McSolve-clause-answered
+returns-in-McSolve-clause-answered g c =
+    let files = g.S.Store.files c.args.store.now in
+    let faults = g.S.Store.faults c.args.store.now in
+    let old = shell_state c.args.env.now files faults in
+    let new = shell_state c.look_for_front.new.env files faults in
+    let asks = McSolve c.in-McSolve.nodes c.in-McSolve.pivots in
+    let step = front-step c.args.env.now c.look_for_front.new.env files faults c.in-McSolve.nodes c.in-McSolve.pivots in
+    arm c.look_for_front.result asks (asks_shown c.args.asked) old new c.look_for_front.new.reply.items (ap asks_shown c.in-McSolve.is) (on_ok c.look_for_front.result (step c.look_for_front.new.reply.items) c.look_for_front.ensures.answered)
+    (on_err c.look_for_front.result (λ h. (h.0, step h.0 h.1)) c.look_for_front.ensures.unfinished)
 
 pub returns-in-Edit-clause-answered : goal.returns-in-Edit-clause-answered
 returns-in-Edit-clause-answered g c =

@@ -1,0 +1,2 @@
+pub mod InnerNames
+pub mod AcceptedNames

@@ -1,0 +1,3 @@
+pub mod ReplyLemmas
+pub mod CauseLemmas
+pub mod NameLemmas

@@ -1,0 +1,4 @@
+pub mod Answering
+pub mod Names
+pub mod Fronts
+pub mod Family

@@ -1,0 +1,5 @@
+pub mod TurnedLists
+pub mod TurnedSteps
+pub mod LeastForm
+pub mod BareCertificates
+pub mod FoundFronts

@@ -1,0 +1,2 @@
+pub mod FrontsFound
+pub mod Completeness

@@ -1,0 +1,41 @@
+use Rattle.std.specs.Prelude.{pos}
+use Rattle.std.proofs.lemmas.Result.{err_from_is_err_and}
+use Rattle.inner_models.specs.Inner.{least2_model}
+use Rattle.wcn_driver.specs.declared.answers.Part.TheVariants.{Least2}
+use Rattle.wcn_driver.specs.private.Kept.{Stays}
+use Rattle.wcn_driver.proofs.EndSteps.{least2_some}
+use Rattle.wcn_driver.proofs.EndHalts.{unless_memory}
+use Rattle.wcn_driver.proofs.WholeParts.{least2_whole}
+use Rattle.wcn_driver.proofs.SettledParts.{settling, counting, optimum_of, halt_of}
+use Rattle.wcn_driver.proofs.ends.least_second.Goals as goal
+
+pub settle-requires-clause-can : goal.settle-requires-clause-can
+settle-requires-clause-can g c =
+    let e = c.args.task.now in
+    let base = c.requires.task.base in
+    settling (g.S.Solver.stops c.args.solver.now) (least2_model e.base) e.nodes c.args.before c.in-Ok.solved c.in-Ok.ensures.solved c.requires.before
+    (least2_some e.base e.constant1 e.constant2 base c.requires.some.0 c.requires.some.1) (least2_whole e.base base.first base.second)
+
+pub settle-requires-clause-count : goal.settle-requires-clause-count
+settle-requires-clause-count g c =
+    let e = c.args.task.now in
+    counting (g.S.Solver.stops c.args.solver.now) (least2_model e.base) e.nodes c.args.before c.in-Ok.solved c.in-Ok.ensures.solved c.requires.before c.requires.task.few
+
+pub second_least-requires-clause-optimum : goal.second_least-requires-clause-optimum
+second_least-requires-clause-optimum g c =
+    let e = c.args.task.now in
+    optimum_of (g.S.Solver.stops c.args.solver.now) (least2_model e.base) e.nodes c.args.before c.in-Ok.solved c.in-Ok.ensures.solved c.requires.before c.in_ok-optimum.optimum c.in_ok-optimum.ensures
+
+pub returns-in_err-optimum-clause-halted : goal.returns-in_err-optimum-clause-halted
+returns-in_err-optimum-clause-halted g c =
+    let e = c.args.task.now in
+    let p = err_from_is_err_and c.from_residual.result c.from_residual.ensures.1 in
+    rw (p.1, p.2) (unless_memory (Stays e.base (g.S.Solver.program c.solve_least2.new.solver) (g.S.Solver.stops c.solve_least2.new.solver) (g.S.Solver.stops c.args.solver.now))
+    (record { recosted = c.in-Ok.ensures.kept; steady = c.in-Ok.ensures.steady }) c.in_err-optimum.field-0.0)
+
+pub returns-in_err-optimum-clause-halt : goal.returns-in_err-optimum-clause-halt
+returns-in_err-optimum-clause-halt g c =
+    let e = c.args.task.now in
+    let p = err_from_is_err_and c.from_residual.result c.from_residual.ensures.1 in
+    rw (p.1, p.2) (halt_of (g.S.Solver.stops c.args.solver.now) e.base e.nodes c.args.before e.constant1 e.constant2 (pos 0) (pos 0) Least2 c.in-Ok.solved c.in-Ok.ensures.solved c.requires.before
+    c.in_err-optimum.field-0.0 c.in_err-optimum.ensures)

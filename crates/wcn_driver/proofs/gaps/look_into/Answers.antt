@@ -1,0 +1,111 @@
+use Rattle.std.specs.Prelude.{◌-ℤ◌}
+use Rattle.std.proofs.Common.{subst}
+use Rattle.std.proofs.lemmas.Result.{err_from_is_err_and, IfErr-weaker}
+use Rattle.frac128.proofs.ReadLemmas.{narrow_read}
+use Rattle.gap_models.specs.Gaps.{IsGapOf, FitsGap, IsFirstGapPlace}
+use Rattle.front_sweeps.specs.Steps.{gap_between}
+use Rattle.wcn_driver.specs.declared.answers.Part.TheVariants.{Gap}
+use Rattle.wcn_driver.specs.private.Kept.{Stays}
+use Rattle.wcn_driver.proofs.GapEnds.{gap_some, gap_place, wide_halt}
+use Rattle.wcn_driver.proofs.EndHalts.{unless_memory, stays_where_ok, stays_where_err}
+use Rattle.wcn_driver.proofs.WholeParts.{gap_whole}
+use Rattle.wcn_driver.proofs.SettledParts.{settling, counting, optimum_of, halt_of}
+use Rattle.wcn_driver.proofs.gaps.look_into.Goals as goal
+
+pub settle-requires-clause-can : goal.settle-requires-clause-can
+settle-requires-clause-can g c =
+    let e = c.args.task.now in
+    let q = c.args.gap.now in
+    let base = c.requires.task.base in
+    let l1 = narrow_read q.least1 c.requires.gap.narrow1 in
+    let l2 = narrow_read q.least2 c.requires.gap.narrow2 in
+    let is : IsGapOf (q.p.f2 -ℤ q.least2) (q.q.f1 -ℤ q.least1) q.least1 q.least2 c.in-Ok.numbers =
+    subst (λ (T : Type 0). T) (λ t. IsGapOf (q.p.f2 -ℤ l2 t) (q.q.f1 -ℤ l1 t) (l1 t) (l2 t) c.in-Ok.numbers) c.in-Ok.ensures.gap in
+    settling (g.S.Solver.stops c.args.solver.now) (gap_between e.base q.least1 q.least2 q.p q.q) e.nodes c.args.before c.in-Ok-solve_gap.solved
+    (c.in-Ok-solve_gap.ensures.solved (q.p.f2 -ℤ q.least2) (q.q.f1 -ℤ q.least1) q.least1 q.least2 is) c.requires.before
+    (gap_some e.base base q.least1 q.least2 q.p q.q c.requires.gap.beyond c.requires.gap.above c.requires.gap.before c.requires.gap.ahead)
+    (gap_whole e.base base.first base.second (q.p.f2 -ℤ q.least2) (q.q.f1 -ℤ q.least1) q.least1 q.least2)
+
+pub settle-requires-clause-count : goal.settle-requires-clause-count
+settle-requires-clause-count g c =
+    let e = c.args.task.now in
+    let q = c.args.gap.now in
+    let l1 = narrow_read q.least1 c.requires.gap.narrow1 in
+    let l2 = narrow_read q.least2 c.requires.gap.narrow2 in
+    let is : IsGapOf (q.p.f2 -ℤ q.least2) (q.q.f1 -ℤ q.least1) q.least1 q.least2 c.in-Ok.numbers =
+    subst (λ (T : Type 0). T) (λ t. IsGapOf (q.p.f2 -ℤ l2 t) (q.q.f1 -ℤ l1 t) (l1 t) (l2 t) c.in-Ok.numbers) c.in-Ok.ensures.gap in
+    counting (g.S.Solver.stops c.args.solver.now) (gap_between e.base q.least1 q.least2 q.p q.q) e.nodes c.args.before c.in-Ok-solve_gap.solved
+    (c.in-Ok-solve_gap.ensures.solved (q.p.f2 -ℤ q.least2) (q.q.f1 -ℤ q.least1) q.least1 q.least2 is) c.requires.before c.requires.task.few
+
+pub judge_gap-requires-clause-fits : goal.judge_gap-requires-clause-fits
+judge_gap-requires-clause-fits g c =
+    let e = c.args.task.now in
+    let q = c.args.gap.now in
+    let l1 = narrow_read q.least1 c.requires.gap.narrow1 in
+    let l2 = narrow_read q.least2 c.requires.gap.narrow2 in
+    subst (λ (T : Type 0). T) (λ t. FitsGap e.base (q.p.f2 -ℤ l2 t) (q.q.f1 -ℤ l1 t) (l1 t) (l2 t)) c.in-Ok.ensures.fits
+
+pub judge_gap-requires-clause-width : goal.judge_gap-requires-clause-width
+judge_gap-requires-clause-width g c =
+    let q = c.args.gap.now in
+    let l1 = narrow_read q.least1 c.requires.gap.narrow1 in
+    let l2 = narrow_read q.least2 c.requires.gap.narrow2 in
+    let is : IsGapOf (q.p.f2 -ℤ q.least2) (q.q.f1 -ℤ q.least1) q.least1 q.least2 c.in-Ok.numbers =
+    subst (λ (T : Type 0). T) (λ t. IsGapOf (q.p.f2 -ℤ l2 t) (q.q.f1 -ℤ l1 t) (l1 t) (l2 t) c.in-Ok.numbers) c.in-Ok.ensures.gap in
+    is.width
+
+pub judge_gap-requires-clause-optimum : goal.judge_gap-requires-clause-optimum
+judge_gap-requires-clause-optimum g c =
+    let e = c.args.task.now in
+    let q = c.args.gap.now in
+    let l1 = narrow_read q.least1 c.requires.gap.narrow1 in
+    let l2 = narrow_read q.least2 c.requires.gap.narrow2 in
+    let is : IsGapOf (q.p.f2 -ℤ q.least2) (q.q.f1 -ℤ q.least1) q.least1 q.least2 c.in-Ok.numbers =
+    subst (λ (T : Type 0). T) (λ t. IsGapOf (q.p.f2 -ℤ l2 t) (q.q.f1 -ℤ l1 t) (l1 t) (l2 t) c.in-Ok.numbers) c.in-Ok.ensures.gap in
+    optimum_of (g.S.Solver.stops c.args.solver.now) (gap_between e.base q.least1 q.least2 q.p q.q) e.nodes c.args.before c.in-Ok-solve_gap.solved
+    (c.in-Ok-solve_gap.ensures.solved (q.p.f2 -ℤ q.least2) (q.q.f1 -ℤ q.least1) q.least1 q.least2 is) c.requires.before c.in_ok-optimum.optimum c.in_ok-optimum.ensures
+
+pub returns-in-Err-clause-halt : goal.returns-in-Err-clause-halt
+returns-in-Err-clause-halt g c =
+    let e = c.args.task.now in
+    let q = c.args.gap.now in
+    let l1 = narrow_read q.least1 c.requires.gap.narrow1 in
+    let l2 = narrow_read q.least2 c.requires.gap.narrow2 in
+    let wide : IsFirstGapPlace e.base (q.p.f2 -ℤ q.least2) (q.q.f1 -ℤ q.least1) q.least1 q.least2 c.in-Err.place =
+    subst (λ (T : Type 0). T) (λ t. IsFirstGapPlace e.base (q.p.f2 -ℤ l2 t) (q.q.f1 -ℤ l1 t) (l1 t) (l2 t) c.in-Err.place) c.in-Err.ensures.wide in
+    gap_place (g.S.Solver.stops c.args.solver.now) e.base e.nodes e.constant1 e.constant2 q.least1 q.least2 q.p q.q c.in-Err.place c.place_of.result wide c.place_of.ensures
+
+pub returns-in_err-optimum-clause-halted : goal.returns-in_err-optimum-clause-halted
+returns-in_err-optimum-clause-halted g c =
+    let e = c.args.task.now in
+    let p = err_from_is_err_and c.from_residual.result c.from_residual.ensures.1 in
+    rw (p.1, p.2) (unless_memory (Stays e.base (g.S.Solver.program c.solve_gap.new.solver) (g.S.Solver.stops c.solve_gap.new.solver) (g.S.Solver.stops c.args.solver.now))
+    (record { recosted = c.in-Ok-solve_gap.ensures.kept; steady = c.in-Ok-solve_gap.ensures.steady }) c.in_err-optimum.field-0.0)
+
+pub returns-in_err-optimum-clause-halt : goal.returns-in_err-optimum-clause-halt
+returns-in_err-optimum-clause-halt g c =
+    let e = c.args.task.now in
+    let q = c.args.gap.now in
+    let l1 = narrow_read q.least1 c.requires.gap.narrow1 in
+    let l2 = narrow_read q.least2 c.requires.gap.narrow2 in
+    let is : IsGapOf (q.p.f2 -ℤ q.least2) (q.q.f1 -ℤ q.least1) q.least1 q.least2 c.in-Ok.numbers =
+    subst (λ (T : Type 0). T) (λ t. IsGapOf (q.p.f2 -ℤ l2 t) (q.q.f1 -ℤ l1 t) (l1 t) (l2 t) c.in-Ok.numbers) c.in-Ok.ensures.gap in
+    let p = err_from_is_err_and c.from_residual.result c.from_residual.ensures.1 in
+    rw (p.1, p.2) (halt_of (g.S.Solver.stops c.args.solver.now) e.base e.nodes c.args.before e.constant1 e.constant2 q.least1 q.least2 (Gap q.p q.q) c.in-Ok-solve_gap.solved
+    (c.in-Ok-solve_gap.ensures.solved (q.p.f2 -ℤ q.least2) (q.q.f1 -ℤ q.least1) q.least1 q.least2 is) c.requires.before c.in_err-optimum.field-0.0 c.in_err-optimum.ensures)
+
+pub returns-clause-kept : goal.returns-clause-kept
+returns-clause-kept g c =
+    stays_where_ok c.judge_gap.result (Stays c.args.task.now.base (g.S.Solver.program c.solve_gap.new.solver) (g.S.Solver.stops c.solve_gap.new.solver) (g.S.Solver.stops c.args.solver.now))
+    (record { recosted = c.in-Ok-solve_gap.ensures.kept; steady = c.in-Ok-solve_gap.ensures.steady })
+
+pub returns-clause-halted : goal.returns-clause-halted
+returns-clause-halted g c =
+    stays_where_err c.judge_gap.result (Stays c.args.task.now.base (g.S.Solver.program c.solve_gap.new.solver) (g.S.Solver.stops c.solve_gap.new.solver) (g.S.Solver.stops c.args.solver.now))
+    (record { recosted = c.in-Ok-solve_gap.ensures.kept; steady = c.in-Ok-solve_gap.ensures.steady })
+
+pub returns-clause-halt : goal.returns-clause-halt
+returns-clause-halt g c =
+    let e = c.args.task.now in
+    let q = c.args.gap.now in
+    IfErr-weaker c.judge_gap.result _ _ (λ halt h. wide_halt (g.S.Solver.stops c.args.solver.now) e.base e.nodes e.constant1 e.constant2 q.least1 q.least2 (Gap q.p q.q) halt h) c.judge_gap.ensures.wide

@@ -1,0 +1,53 @@
+* A brewery sends pallets to three towns. A truck takes 6, an electric van 4, and a wagon 9, to the two towns that have a station.
+* Trucks and vans need a driver each, of nine; wagons need a siding, and every four vans a charger. What does it cost (in tens of
+* euros), and what does it emit (in kilograms of CO2)?
+NAME BREWERY
+ROWS
+ N COST
+ N CO2
+ G NORTH
+ G EAST
+ G SOUTH
+ L DRIVERS
+ L STATION
+ L POWER
+COLUMNS
+ M 'MARKER' 'INTORG'
+ TRUCKN COST 31 CO2 19
+ TRUCKN NORTH 6 DRIVERS 1
+ TRUCKE COST 24 CO2 14
+ TRUCKE EAST 6 DRIVERS 1
+ TRUCKS COST 40 CO2 26
+ TRUCKS SOUTH 6 DRIVERS 1
+ VANN COST 20 CO2 3
+ VANN NORTH 4 DRIVERS 1
+ VANN POWER 1
+ VANE COST 16 CO2 2
+ VANE EAST 4 DRIVERS 1
+ VANE POWER 1
+ VANS COST 27 CO2 4
+ VANS SOUTH 4 DRIVERS 1
+ VANS POWER 1
+ RAILN COST 49 CO2 7
+ RAILN NORTH 9 STATION 1
+ RAILS COST 58 CO2 9
+ RAILS SOUTH 9 STATION 1
+ SIDING COST 45 STATION -2
+ CHARGER COST 18 CO2 1
+ CHARGER POWER -4
+ M 'MARKER' 'INTEND'
+RHS
+ NORTH 14 EAST 11
+ SOUTH 17 DRIVERS 9
+BOUNDS
+ UP TRUCKN 4
+ UP TRUCKE 4
+ UP TRUCKS 4
+ UP VANN 6
+ UP VANE 6
+ UP VANS 6
+ UP RAILN 2
+ UP RAILS 2
+ UP SIDING 1
+ UP CHARGER 3
+ENDATA
