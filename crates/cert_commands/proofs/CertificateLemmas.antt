@@ -2,7 +2,7 @@
 use Rattle.std.proofs.Common.{◌≡◌, ℕ, ◌<◌, List, length, Some, None, Ok, Err, Result, sym, ap, subst, ◌∙◌, arith}
 use Rattle.lp_model.specs.Program.{Program, Point}
 use Rattle.lp_model.specs.Lawful.{IsLawful}
-use Rattle.cert_text.specs.declared.cert.Claim.TheVariants.{Unbounded}
+use Rattle.cert_text.specs.declared.cert.Claim.TheVariants.{Infeasible, Unbounded}
 use Rattle.search_parts.specs.Points.{IsIncumbent}
 use Rattle.std.specs.Prelude.{IfOk}
 use Rattle.sound_searches.specs.Sound.{PlainSearch, IsSound}
@@ -19,7 +19,9 @@ use Rattle.front_text.specs.Text.{MeantFront}
 use Rattle.front_text.specs.Whole.{IsFrontCertificate}
 use Rattle.front_text.specs.declared.front.FrontCert.{FrontCert}
 use Rattle.front_writer.specs.FrontWords.{printed_front, HasFrontWords}
-use Rattle.front_check.specs.Laws.{FrontLaw}
+use Rattle.front_check.specs.Laws.{FrontLaw, FrontVerdictLaw}
+use Rattle.front_check.specs.Accepted.{AcceptsFront}
+use Rattle.cert_check.specs.Accepted.{Accepts}
 use Rattle.accepted_names.specs.Laws.{AcceptedNamesLaw, FrontNamesLaw}
 use Rattle.kept_env.specs.Env.{IsFrontProved, IsEmptinessProved}
 use Rattle.cert_commands.specs.Certificates.{IsCertificateText, IsUnboundedTextBy, IsUnboundedText, IsFrontText, IsEmptinessText}
@@ -61,22 +63,26 @@ pub some-incumbent : (S : PlainSearch) → 0 < length S.points → IsIncumbent S
 some-incumbent S some none = let e = ap length none in omega (arith, some, e)
 
 -- what was printed of the certificate of a front, and that no point is feasible
-pub front-text : {V E : Type 0} (items : V → List ℕ) (M : Program) (cert : FrontCert) (r : Result V E) → FrontLaw → FrontNamesLaw → IsLawful M → IsFrontProved M cert
+pub front-text : {V E : Type 0} (items : V → List ℕ) (M : Program) (cert : FrontCert) (r : Result V E) → FrontVerdictLaw → FrontLaw → FrontNamesLaw → IsLawful M → IsFrontProved M cert
     → IfOk r (λ text. items text ≡ printed_front cert) → IfOk r (λ text. IsFrontCertificate cert → HasFrontWords cert → MeantFront (items text) cert) → IfOk r (λ text. IsFrontText M cert (items text))
-front-text items M cert (Ok text) front names lawful proved told states = record {
-  is = told;
-  stated = λ words. states proved.whole (names M cert proved.accepted proved.narrow words);
-  proved = proved;
-  front = front M cert lawful proved.accepted;
-}
-front-text items M cert (Err e) front names lawful proved told states = tt
+front-text items M cert (Ok text) verdict front names lawful proved told states =
+    let meant : AcceptsFront M cert = (verdict M cert (length cert.outcomes) proved.accepted).1 in
+    record {
+      is = told;
+      stated = λ words. states proved.whole (names M cert meant proved.narrow words);
+      accepted = proved.accepted;
+      front = front M cert lawful meant;
+    }
+front-text items M cert (Err e) verdict front names lawful proved told states = tt
 
-pub emptiness-text : {V E : Type 0} (items : V → List ℕ) (M : Program) (cert : Cert) (r : Result V E) → AcceptedLaw → AcceptedNamesLaw → IsEmptinessProved M cert
+pub emptiness-text : {V E : Type 0} (items : V → List ℕ) (M : Program) (cert : Cert) (r : Result V E) → VerdictLaw → AcceptedLaw → AcceptedNamesLaw → IsEmptinessProved M cert
     → IfOk r (λ text. items text ≡ cert_text cert) → IfOk r (λ text. IsCertificate cert → HasCertWords cert → MeantCertificate (items text) cert) → IfOk r (λ text. IsEmptinessText M cert (items text))
-emptiness-text items M cert (Ok text) accepted names proved told states = record {
-  is = told;
-  stated = λ words. states proved.whole (names M cert proved.accepted words);
-  proved = proved;
-  empty = subst (IsTrueClaim M) proved.claims (accepted M cert proved.accepted);
-}
-emptiness-text items M cert (Err e) accepted names proved told states = tt
+emptiness-text items M cert (Ok text) verdict accepted names proved told states =
+    let meant : Accepts M cert = (verdict M cert Infeasible proved.whole proved.accepted).1 in
+    record {
+      is = told;
+      stated = λ words. states proved.whole (names M cert meant words);
+      accepted = proved.accepted;
+      empty = subst (IsTrueClaim M) proved.claims (accepted M cert meant);
+    }
+emptiness-text items M cert (Err e) verdict accepted names proved told states = tt

@@ -1,5 +1,5 @@
 -- What an environment's certificate is.
-use Rattle.std.specs.Prelude.{◌≡◌, ℕ, List, Vec, Option, Some, None, Result, Ok, Err}
+use Rattle.std.specs.Prelude.{◌≡◌, ℕ, List, length, Vec, Option, Some, None, Result, Ok, Err}
 use Rattle.std.specs.declared.alloc.Global.{Global}
 use Rattle.sound_searches.specs.Sound.{PlainSearch}
 use Rattle.cert_text.specs.Text.{MeantCertificate as States}
@@ -18,7 +18,8 @@ use Rattle.front_text.specs.Text.{MeantFront}
 use Rattle.front_text.specs.declared.front.FrontCert.{FrontCert}
 use Rattle.front_writer.specs.FrontWords.{printed_front}
 use Rattle.front_check.specs.Accepted.{outcomes_of}
-use Rattle.kept_env.specs.Env.{IsFrontProved, IsEmptinessProved}
+use Rattle.front_check.specs.Verdict.{IsFrontVerdict}
+use Rattle.front_check.specs.declared.verdict.FrontVerdict.TheVariants as front
 use Rattle.kept_env.specs.declared.held.Held.{Held}
 use Rattle.kept_env.specs.declared.held.Held.TheVariants.{Nothing, Finished, Unbounded, Front, Infeasible}
 use Rattle.kept_env.specs.declared.env.EnvFault.{EnvFault}
@@ -48,20 +49,20 @@ pub record IsUnboundedText (S : PlainSearch) (ray : Point) (text : List ℕ) : T
   pub incumbent : IsIncumbent S.model S.points (Some point)
   pub text_is : IsUnboundedTextBy S.model point ray text
 
--- The bytes are the text of this certificate of a front, which is accepted for the model, so that its outcomes, in the model's own sense,
--- are the front of the model. They read as that certificate where each name of the model is a word of a line.
+-- The bytes are the text of this certificate of a front, which the checker accepts for the model, so that its outcomes, in the model's own
+-- sense, are the front of the model. They read as that certificate where each name of the model is a word of a line.
 pub record IsFrontText (M : Program) (cert : FrontCert) (text : List ℕ) : Type 0 where
   pub is : text ≡ printed_front cert
   pub stated : HasWordNames M → MeantFront text cert
-  pub proved : IsFrontProved M cert
+  pub accepted : IsFrontVerdict M cert (front.Accepted (length cert.outcomes))
   pub front : IsFrontier M (outcomes_in_own_sense M.sense (outcomes_of cert))
 
--- The bytes are the text of this certificate that no point is feasible, which is accepted for the model, so that none is. They read as that
--- certificate where each name of the model is a word of a line.
+-- The bytes are the text of this certificate that no point is feasible, which the checker accepts for the model, so that none is. They read
+-- as that certificate where each name of the model is a word of a line.
 pub record IsEmptinessText (M : Program) (cert : Cert) (text : List ℕ) : Type 0 where
   pub is : text ≡ cert_text cert
   pub stated : HasWordNames M → States text cert
-  pub proved : IsEmptinessProved M cert
+  pub accepted : IsVerdict M cert (Accepted claim.Infeasible)
   pub empty : IsEmpty M
 
 -- what is answered, by what is held

@@ -27,14 +27,14 @@ pub record IsReadUnbounded (S : PlainSearch) (ray : Point) (text : List ℕ) : T
   pub is : IsUnboundedText S ray text
   pub stated : States text (unbounded_certificate S.model is.point ray)
 
--- The bytes are the text of this certificate of a front. They read as that certificate, which is accepted for the model, so that its
+-- The bytes are the text of this certificate of a front. They read as that certificate, which the checker accepts for the model, so that its
 -- outcomes are the front of the model.
 pub record IsReadFront (M : Program) (cert : FrontCert) (text : List ℕ) : Type 0 where
   pub is : IsFrontText M cert text
   pub stated : MeantFront text cert
 
--- The bytes are the text of this certificate that no point is feasible. They read as that certificate, which is accepted for the model, so
--- that none is.
+-- The bytes are the text of this certificate that no point is feasible. They read as that certificate, which the checker accepts for the
+-- model, so that none is.
 pub record IsReadEmptiness (M : Program) (cert : Cert) (text : List ℕ) : Type 0 where
   pub is : IsEmptinessText M cert text
   pub stated : States text cert

@@ -10,7 +10,7 @@ use accepted_names::{accepted_names_law, front_names_law};
 use cert_check::{accepted_law, verdict_law};
 use cert_text::Cert;
 use cert_writer::print_cert;
-use front_check::front_law;
+use front_check::{front_law, front_verdict_law};
 use front_text::FrontCert;
 use front_writer::print_front;
 use kept_env::{Env, EnvFault, Held};
@@ -73,22 +73,24 @@ fn unbounded_text(alloc: Global, search: &Search, ray: &Point) -> Result<Vec<u8>
     }
 }
 
-/// The text of the certificate of a front, which is accepted for the model.
+/// The text of the certificate of a front, which the checker accepts for the model.
 fn front_text(alloc: Global, model: &Model, cert: &FrontCert) -> Result<Vec<u8>, AllocError>
     requires { IsFrontProved model.now cert.now }
     ensures { IfOk result (λ text. IsFrontText model.now cert.now text.items) }
 {
     show_model(model);
+    front_verdict_law();
     front_law();
     front_names_law();
     print_front(alloc, cert)
 }
 
-/// The text of the certificate that no point is feasible, which is accepted for the model.
+/// The text of the certificate that no point is feasible, which the checker accepts for the model.
 fn emptiness_text(alloc: Global, model: &Model, cert: &Cert) -> Result<Vec<u8>, AllocError>
     requires { IsEmptinessProved model.now cert.now }
     ensures { IfOk result (λ text. IsEmptinessText model.now cert.now text.items) }
 {
+    verdict_law();
     accepted_law();
     accepted_names_law();
     print_cert(alloc, cert)

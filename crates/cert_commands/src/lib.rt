@@ -8,8 +8,9 @@
 //! Nothing        there is none
 //! ```
 //!
-//! The text that stands in the file where the reply is `ok` reads as that certificate, which is accepted for the model that is present
-//! (`cert_check`, `front_check`), so that its claim is true, or its outcomes are the front. `check MODEL CERT` prints the verdict on such a file.
+//! The text that stands in the file where the reply is `ok` reads as that certificate, which the checker accepts for the model that is
+//! present (`cert_check`, `front_check`), so that its claim is true, or its outcomes are the front. `check MODEL CERT` prints the verdict on
+//! such a file.
 //!
 //! What `cert` may be answered, and what a reply of each kind says for sure, is the family `certificates` (specs/Family). It is lawful
 //! (`certificates_law`): each reply has its cause, no count of faults falls, and the environment stays.

@@ -36,7 +36,7 @@ pub both : (P Q : Judgement → Type 0) → InOrder P Q Passes → P Passes × Q
 both P Q (inl h) = h
 both P Q (inr h) = absurd (h.1 refl)
 
-found_there : (there : Type 0) (P : Judgement → Type 0) → WhereThere there P Passes → there × P Passes
+pub found_there : (there : Type 0) (P : Judgement → Type 0) → WhereThere there P Passes → there × P Passes
 found_there there P (inl h) = h
 found_there there P (inr h) = let e : Passes ≡ Breaks 1 = h.1 in absurd cc
 

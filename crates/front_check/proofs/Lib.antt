@@ -8,3 +8,4 @@ pub mod PartSteps
 pub mod NodeSteps
 pub mod FrontSteps
 pub mod OneFrontVerdict
+pub mod PassingFronts

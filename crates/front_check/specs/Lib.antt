@@ -1,4 +1,5 @@
 pub mod Accepted
 pub mod Verdict
+pub mod Passing
 pub mod Laws
 pub mod private

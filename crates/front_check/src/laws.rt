@@ -1,5 +1,6 @@
 // What accepted certificates of fronts prove. The law is the contract of a function that does nothing.
 ghost use Rattle.front_check.specs.Laws.{FrontLaw, FrontVerdictLaw, FrontRejectedLaw, OneFrontVerdictLaw};
+ghost use Rattle.front_check.specs.Passing.{PassingPartsLaw};
 
 /// For every model and certificate: where the certificate is accepted, its outcomes are the front of the model.
 pub fn front_law()
@@ -19,4 +20,9 @@ pub fn front_rejected_law()
 /// A certificate has at most one verdict for a model.
 pub fn one_front_verdict_law()
     ensures { OneFrontVerdictLaw }
+{}
+
+/// A certificate whose parts pass one by one is judged accepted.
+pub fn passing_parts_law()
+    ensures { PassingPartsLaw }
 {}

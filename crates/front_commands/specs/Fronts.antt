@@ -22,14 +22,14 @@ use Rattle.front_replies.specs.FrontsShown.{front_shown}
 use Rattle.front_commands.specs.Answering.{front_limits}
 
 -- The outcomes that the reply shows are exactly those that no feasible outcome dominates, each once, by rising first value; their certificate is
--- held, which is accepted for the model (`AcceptsFront`).
+-- held, which the checker accepts for the model (`IsFrontVerdict`).
 pub record ShowsFront (S : PlainSearch) (reply : List ℕ) (env : PlainEnv) : Type 0 where
   pub held : Held
   pub whole : IsWholeFront S.model (front_shown reply) held
   pub told : reply ≡ complete_front_text (front_shown reply)
   pub env_is : env ≡ with_answer S held
 
--- no point is feasible, and the certificate of that is held, which is accepted for the model (`Accepts`)
+-- no point is feasible, and the certificate of that is held, which the checker accepts for the model (`IsVerdict`)
 pub record ShowsNoFront (S : PlainSearch) (l : Limits) (reply : List ℕ) (env : PlainEnv) : Type 0 where
   pub results : ℕ
   pub held : Held

@@ -53,10 +53,10 @@ pub certified : (S : PlainSearch) (env : PlainEnv) (shown : Option Claim) (cert 
     VerdictLaw → AcceptedLaw → IsCertifiedAs (program_in env.search) shown cert
 certified S env None cert there proved some exact whole accepted verdicts truths = absurd cc
 certified S env (Some claim) cert there proved some exact whole accepted verdicts truths =
-    let judged = (verdicts S.model cert cert.claim whole accepted).1 in
+    let meant = (verdicts S.model cert cert.claim whole accepted).1 in
     let tree : cert.claim ≢ Unbounded = λ e. by_tree S.model exact.incumbent (sym exact.claim ∙ e) in
-    let same = one_claim S.model claim cert.claim (subst (λ s. IsTrueClaim (program_in s) claim) there proved.true_claim) (truths S.model cert judged) proved.by_tree tree in
-    subst (λ s. IsCertifiedAs (program_in s) (Some claim) cert) (sym there) (record { claims = ap Some same; accepted = judged; whole = whole })
+    let same = one_claim S.model claim cert.claim (subst (λ s. IsTrueClaim (program_in s) claim) there proved.true_claim) (truths S.model cert meant) proved.by_tree tree in
+    subst (λ s. IsCertifiedAs (program_in s) (Some claim) cert) (sym there) (record { claims = ap Some same; accepted = accepted; whole = whole })
 
 -- where the last call may have had no memory
 pub certified_if : {E : Type 0} (r : Result Cert E) (S : PlainSearch) (env : PlainEnv) (shown : Option Claim) → env.search ≡ Some S → IsProvedIn env shown → IsSome shown → IfOk r (λ cert. IsCertificateOf S cert) → IfOk r IsCertificate →

@@ -6,13 +6,14 @@ use Rattle.lp_model.specs.declared.answers.StopWhy.{StopWhy}
 use Rattle.lp_model.specs.declared.answers.StopWhy.TheVariants.{Nodes, Tree, Pivots, Wide}
 use Rattle.lp_model.specs.declared.answers.Answer.{Answer}
 use Rattle.lp_model.specs.declared.answers.Answer.TheVariants.{Optimal, Infeasible, Unbounded, Stopped, Memory}
-use Rattle.sound_searches.specs.Sound.{PlainSearch}
+use Rattle.sound_searches.specs.Sound.{PlainSearch, IsSound}
 use Rattle.kept_env.specs.Env.{PlainEnv, with_answer, pool_in}
-use Rattle.kept_env.specs.Worked.{held_by, WorksEnv}
+use Rattle.kept_env.specs.Worked.{held_by, IsOldest, WorksEnv}
 use Rattle.tree_search.specs.declared.limits.Limits.{Limits}
 use Rattle.tree_search.specs.Truth.{IsEarlyBy, IsTrueBy, IsTrueAnswer, HasEnded}
 use Rattle.tree_search.specs.Enough.{IsEnough}
 use Rattle.tree_search.specs.Solves.{SolvesModel, SolvesFrom, HasRayFrom}
+use Rattle.tree_cert.proofs.AcceptedLaws.{incumbent-keepable}
 use Rattle.front_solver.specs.Truth.{IsTrueOf, IsStop, shown_claim}
 use Rattle.front_env.specs.FrontEnvs.{program_in, IsProvedIn, IsStopBy}
 
@@ -24,12 +25,13 @@ early_within Small M l Tree n h = let e = h.0 in omega (arith, e)
 early_within Small M l (Pivots place) n h = h.0
 early_within Small M l (Wide at) n h = h.0
 
-true_within : (Small : Type 0) (M : Program) (l : Limits) (answer : Answer) → IsTrueBy Small M l answer → IsTrueOf M l.nodes answer
-true_within Small M l (Optimal v x n) h = (h.0, h.1.within_limit)
-true_within Small M l (Infeasible n) h = (h.0, h.1.within_limit)
-true_within Small M l (Unbounded n) h = (h.0, h.1.within_limit)
-true_within Small M l (Stopped why n bound best) h = (h.0, early_within Small M l why n h.1)
-true_within Small M l Memory h = tt
+-- an optimum is a kept point, so that its test has room
+true_within : (Small : Type 0) (S : PlainSearch) (l : Limits) (answer : Answer) → IsSound S → IsOldest S answer → IsTrueBy Small S.model l answer → IsTrueOf S.model l.nodes answer
+true_within Small S l (Optimal v x n) sound oldest h = ((h.0.0, h.0.1, (incumbent-keepable S x oldest.0 sound oldest.1).feasible), h.1.within_limit)
+true_within Small S l (Infeasible n) sound oldest h = (h.0, h.1.within_limit)
+true_within Small S l (Unbounded n) sound oldest h = (h.0, h.1.within_limit)
+true_within Small S l (Stopped why n bound best) sound oldest h = (h.0, early_within Small S.model l why n h.1)
+true_within Small S l Memory sound oldest h = tt
 
 -- what is shown is true of the search's model, and its tree proves it
 proved : (Small : Type 0) (l : Limits) (answer : Answer) (S : PlainSearch) (direction : Option Point) → IsTrueBy Small S.model l answer → IsProvedIn (with_answer S (held_by answer direction)) (shown_claim answer)
@@ -73,16 +75,16 @@ pub record IsSolvedTo (l : Limits) (M : Program) (answer : Answer) (new : PlainE
   pub stopped : IsStop answer → IsStopBy l M answer
 
 pub solved_to : (l : Limits) (search : Option PlainSearch) (old new : PlainEnv) (answer : Answer) → IsSome search → WorksEnv (SolvesFrom l) (HasRayFrom l) search old (Ok answer) new → IfSome search (λ S. IsTrueAnswer S.model l answer) →
-    IfSome search (λ S. IsEnough S.model (pool_in new.search) l → HasEnded answer) → IsSolvedTo l (program_in search) answer new
-solved_to l None old new answer some works is enough = absurd cc
-solved_to l (Some S) old new answer some works is enough =
+    IfSome search (λ S. IsEnough S.model (pool_in new.search) l → HasEnded answer) → IfSome new.search IsSound → IsSolvedTo l (program_in search) answer new
+solved_to l None old new answer some works is enough sound = absurd cc
+solved_to l (Some S) old new answer some works is enough sound =
     let after = works.search in
     let model = same_model l S after answer works.found in
     let truth : IsTrueAnswer after.model l answer = subst (λ (P : Program). IsTrueAnswer P l answer) (sym model) is in
     subst (IsSolvedTo l S.model answer) (sym works.env_is) (record {
       loaded = refl;
       program = model;
-      true_of = true_within _ after.model l answer truth;
+      true_of = true_within _ after l answer (subst (λ (e : PlainEnv). IfSome e.search IsSound) works.env_is sound) works.oldest truth;
       shown = proved _ l answer after works.direction truth;
       stopped = stopped_by l S.model S after answer works.found (subst (λ (e : PlainEnv). IsEnough S.model (pool_in e.search) l → HasEnded answer) works.env_is enough);
     })

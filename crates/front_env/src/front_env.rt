@@ -123,6 +123,7 @@ impl Solver for FrontEnv {
         };
         match solve(self.alloc, &mut self.env, &limits) {
             Ok(answer) => {
+                let _search = self.env.search();
                 self.shown = shown_claim(&answer);
                 answer
             }

@@ -5,6 +5,8 @@ ghost use Rattle.lp_model.specs.Program.{in_least_form};
 ghost use Rattle.model_points.specs.Bounds.{IsBound, IsFoundValue};
 ghost use Rattle.cert_text.specs.Whole.{IsCertificate};
 ghost use Rattle.cert_check.specs.Accepted.{Accepts};
+ghost use Rattle.cert_check.specs.Verdict.{IsVerdict};
+ghost use Rattle.cert_check.specs.declared.verdict.Verdict.TheVariants.{Accepted};
 ghost use Rattle.front_solver.specs.Truth.{IsTrueOf, IsStop, shown_claim};
 ghost use Rattle.front_rows.specs.Scripts.{IsScriptedStop, TellsStop};
 
@@ -51,9 +53,11 @@ pub struct ScriptedSolver {
     text: Vec<u8>,
 }
 
-/// The certificate that a text states, where it is accepted for the model.
+/// The certificate that a text states, where the checker accepts it for the model.
 fn accepted(alloc: Global, model: &Model, text: &[u8]) -> Option<Cert>
-    ensures { IfSome result (λ cert. Accepts model.now cert × IsCertificate cert) }
+    ensures verdict { IfSome result (λ cert. IsVerdict model.now cert (Accepted cert.claim)) }
+    ensures accepts { IfSome result (Accepts model.now) }
+    ensures whole { IfSome result IsCertificate }
 {
     verdict_law();
     let Ok(cert) = read_cert(alloc, text) else {
@@ -78,7 +82,8 @@ fn accepted(alloc: Global, model: &Model, text: &[u8]) -> Option<Cert>
 
 /// What a certificate claims, as an answer.
 fn claimed(alloc: Global, model: &Model, cert: &Cert, results: u64, nodes: u64) -> Answer
-    requires accepted { Accepts model.now cert.now }
+    requires verdict { IsVerdict model.now cert.now (Accepted cert.now.claim) }
+    requires accepts { Accepts model.now cert.now }
     requires results { results ≤ nodes }
     ensures true_of { IsTrueOf model.now nodes result }
     ensures finished { ¬ IsStop result }
@@ -233,9 +238,12 @@ fn shown_claim(answer: &Answer) -> Option<Claim>
 fn is_shown(shown: &Option<Claim>, claim: &Claim) -> bool
     ensures { IsTrue result → shown.now ≡ Some claim.now }
 {
-    match (shown, claim) {
-        (Some(Claim::Optimal(shown)), Claim::Optimal(value)) => is_equal(shown, value),
-        (Some(Claim::Infeasible), Claim::Infeasible) => true,
+    match shown {
+        Some(Claim::Optimal(shown)) => match claim {
+            Claim::Optimal(value) => is_equal(shown, value),
+            _ => false,
+        },
+        Some(Claim::Infeasible) => matches!(claim, Claim::Infeasible),
         _ => false,
     }
 }

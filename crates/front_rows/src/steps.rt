@@ -16,12 +16,24 @@ fn keyed_number(words: &mut Words, key: &str) -> Result<Option<Frac>> {
     Ok(Some(number))
 }
 
+/// The basis of the words that are left, and no word behind it.
+fn basis_behind(alloc: Global, model: &Model, words: &mut Words) -> Result<Basis> {
+    let basis = basis_of(alloc, model, words)?;
+    match words.end() {
+        Ok(()) => Ok(basis),
+        Err(error) => {
+            drop(basis);
+            Err(error)
+        }
+    }
+}
+
 /// The basis behind `basis`, by the names of a model.
 fn basis_in(alloc: Global, model: &Model, line: &str) -> Result<Basis> {
     let mut words = section(alloc, line, "basis")?;
-    let basis = basis_of(alloc, model, &mut words)?;
-    words.end()?;
-    Ok(basis)
+    let basis = basis_behind(alloc, model, &mut words);
+    drop(words);
+    basis
 }
 
 /// Moves at the root of a tree without cuts.
@@ -37,7 +49,9 @@ fn pivots(alloc: Global, model: &Model, line: &str) -> Result<StopWhy> {
 /// A step of a value at the root of a tree without cuts: the term of the column that is named next.
 fn wide(alloc: Global, model: &Model, words: &mut Words, line: &str) -> Result<StopWhy> {
     let name = words.next("column")?;
-    let col = column_of(model, &name)?;
+    let col = column_of(model, &name);
+    drop(name);
+    let col = col?;
     let basis = basis_in(alloc, model, line)?;
     Ok(StopWhy::Wide(WideAt {
         path: Some(List::new(alloc)),
@@ -49,14 +63,20 @@ fn wide(alloc: Global, model: &Model, words: &mut Words, line: &str) -> Result<S
 
 /// Takes the cause of a stop: `nodes`, `tree`, `pivots`, or `wide X` at the value's term of a column. Its basis stands behind `basis`.
 pub fn take_cause(alloc: Global, model: &Model, words: &mut Words, line: &str) -> Result<StopWhy> {
-    let word = words.next("cause")?;
-    match word.as_str() {
-        "nodes" => Ok(StopWhy::Nodes),
-        "tree" => Ok(StopWhy::Tree),
-        "pivots" => pivots(alloc, model, line),
-        "wide" => wide(alloc, model, words, line),
-        _ => bail!("no cause of a stop: `{word}`"),
+    if words.takes("nodes") {
+        return Ok(StopWhy::Nodes);
     }
+    if words.takes("tree") {
+        return Ok(StopWhy::Tree);
+    }
+    if words.takes("pivots") {
+        return pivots(alloc, model, line);
+    }
+    if words.takes("wide") {
+        return wide(alloc, model, words, line);
+    }
+    let word = words.next("cause")?;
+    bail!("no cause of a stop: `{word}`")
 }
 
 /// Takes how a solve ends: nothing where it finishes, else the cause of its stop, `bound V` and `best V`.
@@ -78,16 +98,44 @@ pub struct Solve {
     pub text: Vec<u8>,
 }
 
+/// Takes the results of a solve and how it ends.
+fn take_step(alloc: Global, model: &Model, words: &mut Words, line: &str) -> Result<(u64, Ending)> {
+    let results = take_number(words)?;
+    let ending = take_ending(alloc, model, words, line)?;
+    Ok((results, ending))
+}
+
 /// The solve that a line says, with the text of its certificate.
-fn step_of(alloc: Global, model: &Model, line: &str, text: Vec<u8>) -> Result<Step> {
+fn step_of(alloc: Global, model: &Model, line: &str, text: &Vec<u8>) -> Result<Step> {
     let mut words = section(alloc, line, "")?;
-    let results = take_number(&mut words)?;
-    let ending = take_ending(alloc, model, &mut words, line)?;
-    Ok(Step {
-        ending,
-        results,
-        text,
-    })
+    let told = take_step(alloc, model, &mut words, line);
+    drop(words);
+    let (results, ending) = told?;
+    match text.clone() {
+        Ok(text) => Ok(Step {
+            ending,
+            results,
+            text,
+        }),
+        Err(error) => {
+            drop(ending);
+            Err(error.into())
+        }
+    }
+}
+
+/// The line of the solve at a place: another one where that is told.
+fn line_at<'a>(solve: &'a Solve, at: u64, other: &'a Option<(u64, String)>) -> &'a str {
+    match other {
+        Some((place, line)) => {
+            if *place == at {
+                line.as_str()
+            } else {
+                solve.line.as_str()
+            }
+        }
+        None => solve.line.as_str(),
+    }
 }
 
 /// The solves of a script, the last one first. Where another line is told of the one at a place, that one counts.
@@ -99,12 +147,8 @@ pub fn steps_of(
 ) -> Result<Vec<Step>> {
     let mut steps = Vec::new(alloc);
     for (at, solve) in solves.iter().enumerate() {
-        let line = match other {
-            Some((place, line)) if *place == at as u64 => line,
-            _ => &solve.line,
-        };
-        let text = solve.text.clone()?;
-        steps.push(step_of(alloc, model, line, text)?)?;
+        let line = line_at(solve, at as u64, other);
+        steps.push(step_of(alloc, model, line, &solve.text)?)?;
     }
     steps.reverse();
     Ok(steps)

@@ -1,5 +1,5 @@
 // A sweep by a script, and what it answers and leaves.
-ghost use Rattle.std.specs.Prelude.{IfOk};
+ghost use Rattle.std.specs.Prelude.{◌≡◌, false, IfOk};
 ghost use Rattle.frac128.specs.Range.{IsNarrow};
 ghost use Rattle.inner_models.specs.Inner.{IsBare};
 ghost use Rattle.inner_models.specs.Room.{HasInnerRoom};
@@ -50,28 +50,65 @@ fn take_constant(words: &mut Words) -> Result<i128>
     ensures { IfOk result IsNarrow }
 {
     let word = words.next("constant")?;
-    whole_of(&word)
+    let whole = whole_of(&word);
+    drop(word);
+    whole
+}
+
+/// Takes how many results there may be and the constants: `nodes N constants C D`.
+fn take_head(words: &mut Words) -> Result<(u64, i128, i128)>
+    ensures first { IfOk result (λ o. IsNarrow o.1) }
+    ensures second { IfOk result (λ o. IsNarrow o.2) }
+{
+    ensure!(words.takes("nodes"), "no `nodes`");
+    let nodes = take_number(words)?;
+    ensure!(words.takes("constants"), "no `constants`");
+    let constant1 = take_constant(words)?;
+    let constant2 = take_constant(words)?;
+    Ok((nodes, constant1, constant2))
+}
+
+/// `stop K CAUSE`, or nothing, at the end of a line.
+fn last_stop(
+    alloc: Global,
+    model: &Model,
+    words: &mut Words,
+    line: &str,
+) -> Result<Option<(u64, StopWhy)>> {
+    let stop = take_stop(alloc, model, words, line)?;
+    match words.end() {
+        Ok(()) => Ok(stop),
+        Err(error) => {
+            drop(stop);
+            Err(error)
+        }
+    }
 }
 
 /// `nodes N constants C D [stop K CAUSE]`
-fn orders_of(alloc: Global, model: &Model, line: &str) -> Result<Orders>
+fn take_orders(alloc: Global, model: &Model, words: &mut Words, line: &str) -> Result<Orders>
     ensures first { IfOk result (λ o. IsNarrow o.constant1) }
     ensures second { IfOk result (λ o. IsNarrow o.constant2) }
 {
-    let mut words = section(alloc, line, "")?;
-    ensure!(words.takes("nodes"), "no `nodes`");
-    let nodes = take_number(&mut words)?;
-    ensure!(words.takes("constants"), "no `constants`");
-    let constant1 = take_constant(&mut words)?;
-    let constant2 = take_constant(&mut words)?;
-    let stop = take_stop(alloc, model, &mut words, line)?;
-    words.end()?;
+    let (nodes, constant1, constant2) = take_head(words)?;
+    let stop = last_stop(alloc, model, words, line)?;
     Ok(Orders {
         nodes,
         constant1,
         constant2,
         stop,
     })
+}
+
+/// What a line orders.
+fn orders_of(alloc: Global, model: &Model, line: &str) -> Result<Orders>
+    ensures first { IfOk result (λ o. IsNarrow o.constant1) }
+    ensures second { IfOk result (λ o. IsNarrow o.constant2) }
+{
+    let mut words = section(alloc, line, "")?;
+    let orders = take_orders(alloc, model, &mut words, line);
+    drop(words);
+    orders
 }
 
 /// What a sweep of a model in least form without constants answers, and the solver as it is left.
@@ -145,10 +182,49 @@ fn other_solve(alloc: Global, line: &str) -> Result<Option<(u64, String)>> {
     let Some((place, other)) = other.split_once(' ') else {
         bail!("no `solve K RESULTS ..`: {line}");
     };
-    match number_of(place) {
-        Some(place) if place > 0 => Ok(Some((place - 1, String::from_str(alloc, other)?))),
-        _ => bail!("no place of a solve: `{place}`"),
+    let place = place_of(place)?;
+    Ok(Some((place, String::from_str(alloc, other)?)))
+}
+
+/// A place from 0, which is told from 1.
+fn place_of(word: &str) -> Result<u64> {
+    match number_of(word) {
+        Some(place) if place > 0 => Ok(place - 1),
+        _ => bail!("no place of a solve: `{word}`"),
     }
+}
+
+/// What a sweep of a model answers by these steps, and what it leaves.
+fn told_by(
+    alloc: Global,
+    model: &Model,
+    steps: Vec<Step>,
+    orders: Orders,
+) -> Result<Vec<u8>, AllocError>
+    requires plain { model.now.wide ≡ false }
+    requires first { IsNarrow orders.constant1 }
+    requires second { IsNarrow orders.constant2 }
+{
+    show_model(model);
+    bare_law();
+    bare_room_law();
+    let Ok(base) = bare_model(alloc, model) else {
+        drop(steps);
+        drop(orders);
+        return Err(AllocError);
+    };
+    let Ok(before) = model_lines(alloc, &base) else {
+        drop(steps);
+        drop(orders);
+        drop(base);
+        return Err(AllocError);
+    };
+    let (mc, solver) = swept(alloc, base, steps, orders);
+    let got = told(alloc, model, &mc, &solver, &before);
+    drop(solver);
+    drop(mc);
+    drop(before);
+    got
 }
 
 /// Sweeps the front of a model by a script of solves, as a line orders it: `nodes N constants C D [stop K CAUSE] [solve K RESULTS ..]`. The
@@ -156,17 +232,15 @@ fn other_solve(alloc: Global, line: &str) -> Result<Option<(u64, String)>> {
 pub fn sweep_text(alloc: Global, model: &Model, solves: &[Solve], line: &str) -> Result<Vec<u8>> {
     ensure!(!model.is_wide(), "a widened model");
     let (head, _) = line.split_once("solve ").unwrap_or((line, ""));
-    let orders = orders_of(alloc, model, head)?;
     let other = other_solve(alloc, line)?;
-    let steps = steps_of(alloc, model, solves, &other)?;
-    show_model(model);
-    bare_law();
-    bare_room_law();
-    let base = bare_model(alloc, model)?;
-    let before = model_lines(alloc, &base)?;
-    let (mc, solver) = swept(alloc, base, steps, orders);
-    let got = told(alloc, model, &mc, &solver, &before);
-    drop(solver);
-    drop(mc);
-    Ok(got?)
+    let steps = steps_of(alloc, model, solves, &other);
+    drop(other);
+    let steps = steps?;
+    match orders_of(alloc, model, head) {
+        Ok(orders) => Ok(told_by(alloc, model, steps, orders)?),
+        Err(error) => {
+            drop(steps);
+            Err(error)
+        }
+    }
 }

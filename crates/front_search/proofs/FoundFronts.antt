@@ -38,7 +38,7 @@ use Rattle.front_search.specs.declared.answers.FrontAnswer.TheVariants.{Complete
 use Rattle.front_search.specs.FrontsFound.{stops_by, AreNondominated, IsFoundAtPart, IsStoppedAt, IsFirstNotWholeObjective, IsFrontFound}
 use Rattle.front_search.specs.Completeness.{counted_results, HasFrontEnded, IsFrontEnough}
 use Rattle.front_search.proofs.TurnedLists.{own-narrow, own-told}
-use Rattle.front_search.proofs.LeastForm.{least_model, empty-to, nondominated-to, frontier-to, accepts-to}
+use Rattle.front_search.proofs.LeastForm.{least_model, empty-to, nondominated-to, frontier-to, verdict-to}
 use Rattle.front_search.proofs.BareCertificates.{emptiness-to}
 
 -- an objective that is whole has no first column that makes it not so
@@ -59,7 +59,7 @@ module _ (l : Limits) (M : Program) (whole : HasWholeObjectives M) where
         cert = cert;
         holds = refl;
         proved = record {
-          accepted = accepts-to M whole.0 whole.1 cert says.1.0;
+          accepted = verdict-to M whole.0 whole.1 cert says.1.0;
           whole = says.1.1;
           narrow = all-unmapped outcome_of (λ (o : Outcome). IsNarrow o.f1 × IsNarrow o.f2) cert.outcomes (subst (All (λ (o : Outcome). IsNarrow o.f1 × IsNarrow o.f2)) (sym says.2) says.3);
         };

@@ -47,7 +47,7 @@ pub record AreNondominated (M : Program) (front : List Outcome) : Type 0 where
   pub each : All (λ o. (x : Point) × (IsNondominated M x × HasOutcome M x o)) front
   pub narrow : All (λ o. IsNarrow o.f1 × IsNarrow o.f2) front
 
--- The whole front: its certificate, of these outcomes in least form, is accepted for the model, and is held.
+-- The whole front: its certificate, of these outcomes in least form, is accepted by the checker for the model, and is held.
 pub record IsWholeFront (M : Program) (front : List Outcome) (held : Held) : Type 0 where
   pub is : IsFrontier M front
   pub narrow : All (λ o. IsNarrow o.f1 × IsNarrow o.f2) front
@@ -56,7 +56,7 @@ pub record IsWholeFront (M : Program) (front : List Outcome) (held : Held) : Typ
   pub proved : IsFrontProved M cert
   pub outcomes : front ≡ outcomes_in_own_sense M.sense (outcomes_of cert)
 
--- no point is feasible, by a certificate that is accepted for the model, and is held
+-- no point is feasible, by a certificate that the checker accepts for the model, and is held
 pub record IsNoFront (l : Limits) (M : Program) (results : ℕ) (held : Held) : Type 0 where
   pub empty : IsEmpty M
   pub first_whole : HasWholeObjective M 1

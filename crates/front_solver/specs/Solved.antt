@@ -9,7 +9,7 @@ use Rattle.front_solver.specs.declared.solved.Solved.{Solved}
 use Rattle.front_solver.specs.Truth.{IsTrueOf, IsStop, shown_claim, IsCertifiedAs}
 
 -- The answer is true of M, with at most n results. There is a certificate exactly where it claims something that a tree proves, and
--- then it is accepted for M. A stop is one that may be answered of M.
+-- then the checker accepts it for M. A stop is one that may be answered of M.
 pub record HasSolved (stops : Program → ℕ → Answer → Type 0) (M : Program) (n : ℕ) (solved : Solved) : Type 0 where
   pub lawful : IsLawful M
   pub true_of : IsTrueOf M n solved.answer

@@ -1,21 +1,23 @@
 -- What a solver's answers say of its model.
---     IsTrueOf M n answer      what is answered is so of M, with at most n results
+--     IsTrueOf M n answer      what is answered is so of M, with at most n results; an optimum's point was judged feasible, each step having room
 --     shown_claim answer          what of it a tree proves: an optimum, or that no point is feasible
---     IsCertifiedAs M c cert     the certificate claims c, and the checker accepts it for M
-use Rattle.std.specs.Prelude.{◌≡◌, ℕ, ◌≤◌, Option, Some, None}
+--     IsCertifiedAs M c cert     the certificate claims c, and the checker accepts it for M, each step having room
+use Rattle.std.specs.Prelude.{◌≡◌, ℕ, ◌≤◌, true, Option, Some, None, Ok}
 use Rattle.lp_model.specs.Program.{Program, IsOptimum, IsEmpty, value}
 use Rattle.lp_model.specs.declared.answers.Answer.{Answer}
 use Rattle.lp_model.specs.declared.answers.Answer.TheVariants.{Optimal, Infeasible, Unbounded, Stopped, Memory}
+use Rattle.model_points.specs.Answers.{IsFeasibilityAnswer}
 use Rattle.model_points.specs.Bounds.{IsBound, IsFoundValue}
 use Rattle.model_points.specs.Rays.{IsUnbounded}
 use Rattle.cert_text.specs.declared.cert.Claim.{Claim}
 use Rattle.cert_text.specs.declared.cert.Claim.TheVariants as claim
 use Rattle.cert_text.specs.declared.cert.Cert.{Cert}
 use Rattle.cert_text.specs.Whole.{IsCertificate}
-use Rattle.cert_check.specs.Accepted.{Accepts}
+use Rattle.cert_check.specs.declared.verdict.Verdict.TheVariants.{Accepted}
+use Rattle.cert_check.specs.Verdict.{IsVerdict}
 
 abbrev pub IsTrueOf : Program → ℕ → Answer → Type 0
-IsTrueOf M n (Optimal v x placed) = (IsOptimum M x × (v ≡ value M 1 x)) × (placed ≤ n)
+IsTrueOf M n (Optimal v x placed) = (IsOptimum M x × (v ≡ value M 1 x) × IsFeasibilityAnswer M x (Ok true)) × (placed ≤ n)
 IsTrueOf M n (Infeasible placed) = IsEmpty M × (placed ≤ n)
 IsTrueOf M n (Unbounded placed) = IsUnbounded M × (placed ≤ n)
 IsTrueOf M n (Stopped why placed bound best) = (IsBound M bound × IsFoundValue M best) × (placed ≤ n)
@@ -37,5 +39,5 @@ shown_claim Memory = None
 
 pub record IsCertifiedAs (M : Program) (shown : Option Claim) (cert : Cert) : Type 0 where
   pub claims : shown ≡ Some cert.claim
-  pub accepted : Accepts M cert
+  pub accepted : IsVerdict M cert (Accepted cert.claim)
   pub whole : IsCertificate cert

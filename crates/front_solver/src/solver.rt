@@ -14,7 +14,8 @@ use model_edits::EditFault;
 use std::alloc::AllocError;
 
 /// A model with one objective that can be edited and solved. Whatever it does, and wherever it does it, what it answers is
-/// true of its model, and a finished answer has a certificate that the checker accepts.
+/// true of its model, an optimum's point has room for each step of its test, and a finished answer has a certificate that the checker
+/// accepts.
 pub trait Solver {
     /// The model that it has.
     ghost program: { Self → Program };

@@ -1,13 +1,13 @@
 //! A model with its search, and the answer that is held: what stands between two calls of the solver.
 //!
-//! An answer is held only of a search that shows it, or with a certificate that is accepted for its model (`IsHeld` in specs/Env):
+//! An answer is held only of a search that shows it, or with a certificate that the checker accepts for its model (`IsHeld` in specs/Env):
 //!
 //! ```text
 //! Nothing         of any search, or where no model is loaded
 //! Finished        the search has no open leaf
 //! Unbounded(d)    the search keeps a point, and d is judged a ray of its model
-//! Front(c)        c is accepted for the model: its outcomes are the front of the model
-//! Infeasible(c)   c is accepted for the model, and claims that no point is feasible
+//! Front(c)        the checker accepts c for the model: its outcomes are the front of the model
+//! Infeasible(c)   the checker accepts c for the model, and it claims that no point is feasible
 //! ```
 //!
 //! `load` replaces the model, `edit` makes an edit of it, which the search follows, `trim` cuts the tree down, and `restore` takes a

@@ -73,7 +73,7 @@ pub record IsAnswered (old : ShellState) (words : List (List ℕ)) (reply : List
   pub causes : HasCauses old words reply new
   -- cuts count exactly where they derive, leaves are judged by such cuts, points are feasible
   pub sound : HasSoundSearch new.env
-  -- an answer is held only of a search without an open leaf, or of one with a point beside a ray, or by a certificate that is accepted for its model
+  -- an answer is held only of a search without an open leaf, or of one with a point beside a ray, or by a certificate that the checker accepts
   pub held : IsEnv new.env
   -- the model, if there is one, is one that scripts may have: its names are words, its bounds are near, and it is not widened
   pub script : HasScriptModel new.env

@@ -69,8 +69,8 @@ Promise FrontPart old words reply new = ByFront FrontPart old words reply new
 Promise BoundShown old words reply new = ByBound BoundShown old words reply new
 -- The model that the file's text means is present from now on (Loads); or the file has the canonical text of the model that is present
 -- (IsModelText), or the text of the search (IsTextOf); or the search that the file's text states is present (RestoresFile). Or the file has a
--- text that states a certificate which is accepted for the model that is present (IsHeldText). Or the model that was present is edited, the
--- search follows, and no answer is held (EditsTo); or its tree is trimmed (TrimsTo). Or the script ends.
+-- text that states a certificate which the checker accepts for the model that is present (IsHeldText). Or the model that was present is edited,
+-- the search follows, and no answer is held (EditsTo); or its tree is trimmed (TrimsTo). Or the script ends.
 Promise Done old words reply new = ByFile Done old words reply new ⊎ ByCert Done old words reply new ⊎ ByChange Done old words reply new ⊎ ByRest Done old words reply new
 -- the words are none that a command has, or the first that is no number stands in a number's place
 Promise UnknownCommand old words reply new = ByRest UnknownCommand old words reply new

@@ -22,7 +22,9 @@ use Rattle.front_text.specs.declared.front.TreeOf.{TreeOf}
 use Rattle.front_text.specs.declared.front.TreeOf.TheVariants as names
 use Rattle.front_text.specs.declared.front.FrontTree.{FrontTree}
 use Rattle.front_text.specs.Whole.{IsWholeTree}
-use Rattle.front_check.specs.Accepted.{TargetedModel, gap_part, gap_names, IsProvedBy}
+use Rattle.gap_models.specs.Gaps.{FitsGap}
+use Rattle.front_check.specs.Accepted.{TargetedModel, gap_part, gap_names}
+use Rattle.front_check.specs.Passing.{IsPassingTree}
 use Rattle.inner_models.specs.Inner.{least2_model}
 use Rattle.lp_model.specs.declared.answers.Answer.{Answer}
 use Rattle.wcn_driver.specs.declared.settling.Halt.{Halt}
@@ -38,7 +40,7 @@ use Rattle.wcn_driver.specs.private.Ends.{IsFoundOf}
 use Rattle.wcn_driver.specs.private.Gaps.{IsGapToLookInto, IsEmptyGap, IsHeldInGap, IsPulled}
 use Rattle.wcn_driver.specs.private.State.{outcomes_found, parts_before, first_of, HasTrees, IsBetween, IsGapBetween, IsGapTurned, IsSweepEnd}
 use Rattle.wcn_driver.proofs.Ended.{due_at}
-use Rattle.wcn_driver.proofs.Turns.{parts_closed, names_closed, empty_closed, proved_push, insert_behind, map-insert, all_insert, front_first, front_rest, all_middle, front_insert, turns_left, turns_from, turns_are, fewer_closed, fewer_parted}
+use Rattle.wcn_driver.proofs.Turns.{parts_closed, names_closed, empty_closed, fit_closed, passes_push, insert_behind, map-insert, all_insert, front_first, front_rest, all_middle, front_insert, turns_left, turns_from, turns_are, fewer_closed, fewer_parted}
 
 -- ---- lists
 
@@ -184,13 +186,16 @@ module _ (g : Task) (base : IsBase g.base) (s : Sweep) (before : List Outcome) (
   trees_closed : (tree : FrontTree) (trees : List FrontTree) → IsEmptyGap g.base gap tree → gap.number ≡ place + 1 → trees ≡ s.trees ++ tree ∷ [] → HasTrees g.base s.least1 s.least2 trees (before ++ p ∷ []) q
   trees_closed tree trees empty number is =
       let heads : List TargetedModel = record { model = g.base; target = s.least1 } ∷ record { model = least2_model g.base; target = s.least2 } ∷ [] in
-      let proved_gap : IsProvedBy (gap_part g.base s.least1 s.least2 p q) tree =
-      subst (λ (h : GapAt). IsProvedBy (gap_part g.base h.least1 h.least2 h.p h.q) tree) gap_is empty.proved in
+      let passes : IsPassingTree (gap_part g.base s.least1 s.least2 p q) tree =
+      subst (λ (h : GapAt). IsPassingTree (gap_part g.base h.least1 h.least2 h.p h.q) tree) gap_is empty.passes in
+      let fits : FitsGap g.base (p.f2 -ℤ s.least2) (q.f1 -ℤ s.least1) s.least1 s.least2 =
+      subst (λ (h : GapAt). FitsGap g.base (h.p.f2 -ℤ h.least2) (h.q.f1 -ℤ h.least1) h.least1 h.least2) gap_is empty.fits in
       let numbered : gap.number ≡ 1 + length before = let at = gb.at in omega arith in
       subst (λ (ts : List FrontTree). HasTrees g.base s.least1 s.least2 ts (before ++ p ∷ []) q) (sym is) (record {
-        proved =
-            subst (λ (parts : List TargetedModel). AllZip IsProvedBy (heads ++ parts) (s.trees ++ tree ∷ [])) (sym (parts_closed g.base s.least1 s.least2 before p q))
-            (proved_push (heads ++ parts_before g.base s.least1 s.least2 before p) s.trees (gap_part g.base s.least1 s.least2 p q) tree b.trees.proved proved_gap);
+        fit = fit_closed g.base s.least1 s.least2 before p q b.trees.fit fits;
+        pass =
+            subst (λ (parts : List TargetedModel). AllZip IsPassingTree (heads ++ parts) (s.trees ++ tree ∷ [])) (sym (parts_closed g.base s.least1 s.least2 before p q))
+            (passes_push (heads ++ parts_before g.base s.least1 s.least2 before p) s.trees (gap_part g.base s.least1 s.least2 p q) tree b.trees.pass passes);
         named =
             map-append (λ (t : FrontTree). t.of) s.trees (tree ∷ [])
             ∙ ap (λ (l : List TreeOf). l ++ tree.of ∷ []) b.trees.named

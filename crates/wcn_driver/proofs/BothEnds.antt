@@ -95,7 +95,8 @@ module _ (g : Task) (base : IsBase g.base) (first second : PartLeast) (right : P
       subst (λ (k : ℤ). HasTrees g.base k s.least2 s.trees [] o) (sym least1)
       (subst (λ (k : ℤ). HasTrees g.base first.least k s.trees [] o) (sym least2)
       (subst (λ (ts : List FrontTree). HasTrees g.base first.least second.least ts [] o) (sym trees) (record {
-        proved = (low.proved, (low2.proved, tt));
+        fit = tt;
+        pass = (low.passes, (low2.passes, tt));
         named = (λ i. low.named i ∷ low2.named i ∷ []);
         whole = All-cons IsWholeTree first.tree (second.tree ∷ []) low.whole (All-cons IsWholeTree second.tree [] low2.whole (All-nil IsWholeTree));
       })))

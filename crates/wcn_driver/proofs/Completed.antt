@@ -10,14 +10,12 @@ use Rattle.frac128.proofs.Integers.{IsWhole-int, int_injective}
 use Rattle.frac128.proofs.Rounding.{int-floor}
 use Rattle.lp_model.specs.Program.{Program, Point, in_least_form, least_value, IsFeasible, HasWholeObjective}
 use Rattle.lp_model.specs.declared.types.Sense.{Sense}
-use Rattle.lp_model.specs.declared.types.Sense.TheVariants.{Min}
-use Rattle.lp_model.specs.declared.types.Col.{Col}
 use Rattle.frontier.specs.declared.outcomes.Outcome.{Outcome}
 use Rattle.frontier.specs.Covers.{IsFront}
 use Rattle.frontier.specs.Outcomes.{HasLeastOutcome, IsLeastFrontier}
 use Rattle.frontier.specs.Laws.{last_of, HaveEmptyGaps, IsSwept}
 use Rattle.frontier.proofs.Covering.{swept-frontier}
-use Rattle.inner_models.specs.Inner.{bare_model, least_col, least2_model}
+use Rattle.inner_models.specs.Inner.{bare_model, least2_model}
 use Rattle.inner_models.proofs.CappedModels.{least_is}
 use Rattle.front_sweeps.specs.Steps.{IsBase, with_constants, moved}
 use Rattle.front_sweeps.proofs.Constants.{moved-frontier}
@@ -26,32 +24,27 @@ use Rattle.front_text.specs.declared.front.TreeOf.TheVariants.{Least1, Least2, G
 use Rattle.front_text.specs.declared.front.FrontTree.{FrontTree}
 use Rattle.front_text.specs.declared.front.FrontCert.{FrontCert}
 use Rattle.front_text.specs.Whole.{IsWholeTree}
-use Rattle.front_check.specs.Accepted.{outcome_of, outcomes_of, HasItsPoint, whole_constant, without_constants, TargetedModel, gap_parts, gap_names, front_parts, IsProvedBy, AcceptsFront}
+use Rattle.cert_check.specs.declared.verdict.Judgement.TheVariants.{Passes}
+use Rattle.front_check.specs.Accepted.{outcome_of, outcomes_of, whole_constant, without_constants, TargetedModel, gap_parts, gap_names, front_parts}
+use Rattle.front_check.specs.Verdict.{IsOutcomeJudged, FitGaps}
+use Rattle.front_check.specs.Passing.{IsPassingTree, HasPassingParts}
+use Rattle.front_check.proofs.PassingFronts.{passing_parts}
 use Rattle.wcn_driver.specs.declared.answers.Mc.TheVariants.{Complete}
 use Rattle.wcn_driver.specs.declared.task.Task.{Task}
 use Rattle.wcn_driver.specs.declared.found.Found.{Found}
 use Rattle.wcn_driver.specs.declared.driving.Sweep.{Sweep}
 use Rattle.wcn_driver.specs.Parts.{HaveEmptyGapsBefore}
-use Rattle.wcn_driver.specs.private.State.{outcomes_found, parts_before, first_of, IsBetween}
+use Rattle.wcn_driver.specs.private.State.{outcomes_found, parts_before, FitGapsBefore, first_of, IsBetween}
 use Rattle.wcn_driver.specs.private.Told.{shown_outcome, IsCompleted}
 use Rattle.wcn_driver.proofs.Between.{rest_of, first_rest, last_rest}
 use Rattle.wcn_driver.proofs.Ended.{front_moved, moved_found, narrow_shown, front_shown}
+use Rattle.wcn_driver.proofs.ShownOutcomes.{bare_is}
 
 -- ---- the model without its constants
-
-least_itself : (cols : List Col) → map (least_col Min) cols ≡ cols
-least_itself [] = refl
-least_itself (c ∷ cols) = ap (λ (l : List Col). c ∷ l) (least_itself cols)
 
 module _ (N : Program) (base : IsBase N) (c d : ℤ) where
   abbrev M : Program
   M = with_constants c d N
-
-  cols_are : map (least_col N.sense) N.cols ≡ N.cols
-  cols_are = ap (λ (s : Sense). map (least_col s) N.cols) base.bare.least ∙ least_itself N.cols
-
-  bare_is : bare_model (with_constants c d N) ≡ N
-  bare_is i = record N { sense = sym base.bare.least i; consts = sym base.bare.constants i; cols = cols_are i; wide = sym base.bare.wide i }
 
   whole_floor : (k : ℤ) → floor (int k) ≡ k
   whole_floor k = int_injective (floor (int k)) k (int-floor (int k) (IsWhole-int k))
@@ -102,6 +95,10 @@ gaps_rest N (o ∷ before) p all = all
 parts_rest : (N : Program) (i1 i2 : ℤ) (before : List Outcome) (p : Outcome) → parts_before N i1 i2 before p ≡ gap_parts N i1 i2 (first_of before p) (rest_of before p [])
 parts_rest N i1 i2 [] p = refl
 parts_rest N i1 i2 (o ∷ before) p = refl
+
+fits_rest : (N : Program) (i1 i2 : ℤ) (before : List Outcome) (p : Outcome) → FitGapsBefore N i1 i2 before p → FitGaps N i1 i2 (first_of before p) (rest_of before p [])
+fits_rest N i1 i2 [] p all = tt
+fits_rest N i1 i2 (o ∷ before) p all = all
 
 shown_are : (fs : List Found) → map outcome_of (map (λ (f : Found). f.shown) fs) ≡ map shown_outcome fs
 shown_are [] = refl
@@ -164,33 +161,45 @@ module _ (g : Task) (base : IsBase g.base) (s : Sweep) (before : List Outcome) (
       ∙ (λ i. record { model = N; target = b.left i } ∷ record { model = least2_model N; target = last_is i } ∷ gap_parts N (b.left i) (last_is i) first rest)
       ∙ ap (λ (parts : List TargetedModel). record { model = N; target = s.least1 } ∷ record { model = least2_model N; target = s.least2 } ∷ parts) (sym (parts_rest N s.least1 s.least2 before p))
 
+  fit : FitGaps (bare_model P) (without_constants P (moves first)).f1 (last_of (without_constants P (moves first)) (map (without_constants P) (map (moved g.constant1 g.constant2) rest))).f2
+      (without_constants P (moves first)) (map (without_constants P) (map (moved g.constant1 g.constant2) rest))
+  fit =
+      let all : FitGaps N first.f1 (last_of first rest).f2 first rest =
+      subst (λ (k : ℤ). FitGaps N k (last_of first rest).f2 first rest) (sym b.left)
+      (subst (λ (k : ℤ). FitGaps N s.least1 k first rest) (sym last_is) (fits_rest N s.least1 s.least2 before p b.trees.fit)) in
+      let model : N ≡ bare_model P = sym (bare_is N base g.constant1 g.constant2) in
+      let head : first ≡ without_constants P (moves first) = sym (without_is N base g.constant1 g.constant2 first) in
+      let tail : rest ≡ map (without_constants P) (map (moved g.constant1 g.constant2) rest) = sym (all_without N base g.constant1 g.constant2 rest) in
+      subst (λ (T : Type 0). T) (λ i. FitGaps (model i) (head i).f1 (last_of (head i) (tail i)).f2 (head i) (tail i)) all
+
   module _ (cert : FrontCert) (outcomes : cert.outcomes ≡ map (λ (f : Found). f.shown) s.found.items) (trees : cert.trees ≡ s.trees) where
     outcomes_shown : outcomes_of cert ≡ map shown_outcome s.found.items
     outcomes_shown = ap (map outcome_of) outcomes ∙ shown_are s.found.items
 
-    accepts : AcceptsFront P cert
-    accepts = record {
+    parts_pass : HasPassingParts P cert
+    parts_pass = record {
       first_whole = whole1 N base g.constant1 g.constant2;
       second_whole = whole2 N base g.constant1 g.constant2;
       first = moves first;
       rest = map (moved g.constant1 g.constant2) rest;
       outcomes = outcomes_shown ∙ shown_moved;
-      points =
-          subst (All (HasItsPoint P)) (sym outcomes)
-          (All-map (HasItsPoint P) (λ (f : Found). f.shown) s.found.items (λ k e below. (b.each k e below).narrow.1.shown.point));
+      judged =
+          subst (All (λ o. IsOutcomeJudged P o Passes)) (sym outcomes)
+          (All-map (λ o. IsOutcomeJudged P o Passes) (λ (f : Found). f.shown) s.found.items (λ k e below. (b.each k e below).narrow.1.shown.judged));
       apart = front_moved g.constant1 g.constant2 (first ∷ rest) (subst IsFront (first_rest before p []) b.apart);
       named =
           ap (map (λ (t : FrontTree). t.of)) trees ∙ b.trees.named
           ∙ ap (λ (names : List TreeOf). Least1 ∷ Least2 ∷ names) (sym (names_moved g.constant1 g.constant2 1 rest ∙ names_rest 1 before p));
-      proved =
-          subst (λ (parts : List TargetedModel). AllZip IsProvedBy parts cert.trees) (sym parts_are)
-          (subst (AllZip IsProvedBy (record { model = N; target = s.least1 } ∷ record { model = least2_model N; target = s.least2 } ∷ parts_before N s.least1 s.least2 before p)) (sym trees) b.trees.proved);
+      fit = fit;
+      passed =
+          subst (λ (parts : List TargetedModel). AllZip IsPassingTree parts cert.trees) (sym parts_are)
+          (subst (AllZip IsPassingTree (record { model = N; target = s.least1 } ∷ record { model = least2_model N; target = s.least2 } ∷ parts_before N s.least1 s.least2 before p)) (sym trees) b.trees.pass);
     }
 
     pub whole_front : (front : List Outcome) → front ≡ map shown_outcome s.found.items → IsCompleted g (Complete front cert)
     whole_front front is = (
       subst (IsLeastFrontier P) (sym (is ∙ shown_moved)) (moved-frontier N g.constant1 g.constant2 base (first ∷ rest) (swept-frontier N first rest swept)),
-      (accepts, record { trees = subst (All IsWholeTree) (sym trees) b.trees.whole }),
+      (passing_parts P cert parts_pass, record { trees = subst (All IsWholeTree) (sym trees) b.trees.whole }),
       outcomes_shown ∙ sym is,
       subst (All (λ (o : Outcome). IsNarrow o.f1 × IsNarrow o.f2)) (sym is) (narrow_shown N g.constant1 g.constant2 base s.found.items b.each),
     )

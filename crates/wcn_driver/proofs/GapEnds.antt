@@ -10,7 +10,8 @@ use Rattle.gap_models.specs.Gaps.{FitsGap, IsFirstGapPlace}
 use Rattle.front_text.specs.declared.front.TreeOf.TheVariants.{Gap}
 use Rattle.front_text.specs.declared.front.FrontTree.{FrontTree}
 use Rattle.front_text.specs.Whole.{IsWholeTree}
-use Rattle.front_check.specs.Accepted.{IsProvedBy, gap_part}
+use Rattle.front_check.specs.Accepted.{gap_part}
+use Rattle.front_check.specs.Passing.{IsPassingTree}
 use Rattle.front_solver.specs.Truth.{IsCertifiedAs}
 use Rattle.front_parts.specs.Sums.{HasCostSum}
 use Rattle.wcn_driver.specs.declared.answers.Part.{Part}
@@ -106,11 +107,12 @@ module _ (g : Task) (base : IsBase g.base) (gap : GapAt) (at : IsGapToLookInto g
       certified_value B g.nodes o (width_between gap.least1 gap.least2 gap.p gap.q) h
       (closed_at g.base base gap.least1 gap.least2 gap.p gap.q at.beyond at.above at.before at.ahead o.point h.optimum (not_less over))
 
-  pub gap_closed : (tree : FrontTree) → ¬ (o.value <ℚ width) → tree.of ≡ Gap gap.number → IsProvedBy (gap_part g.base gap.least1 gap.least2 gap.p gap.q) tree → IsWholeTree tree → IsEmptyGap g.base gap tree
-  gap_closed tree over named proved whole = record {
+  pub gap_closed : (tree : FrontTree) → ¬ (o.value <ℚ width) → tree.of ≡ Gap gap.number → FitsGap g.base (gap.p.f2 -ℤ gap.least2) (gap.q.f1 -ℤ gap.least1) gap.least1 gap.least2 → IsPassingTree (gap_part g.base gap.least1 gap.least2 gap.p gap.q) tree → IsWholeTree tree → IsEmptyGap g.base gap tree
+  gap_closed tree over named fits passes whole = record {
     empty = closed_gap g.base base gap.least1 gap.least2 gap.p gap.q at.beyond at.above at.before at.ahead o.point h.optimum (not_less over);
     named = named;
-    proved = proved;
+    fits = fits;
+    passes = passes;
     whole = whole;
   }
 

@@ -2,6 +2,7 @@ pub mod SweptToEnd
 pub mod ClaimedTrees
 pub mod Outcomes
 pub mod NamedPoints
+pub mod JudgedPoints
 pub mod WholeParts
 pub mod SettledParts
 pub mod EndSteps

@@ -9,7 +9,8 @@ use Rattle.lp_model.specs.Program.{Program, Point, IsFeasible}
 use Rattle.lp_model.proofs.ModelLaws.{whole_value}
 use Rattle.model_points.specs.Answers.{IsValueAnswer}
 use Rattle.front_sweeps.specs.Steps.{IsBase}
-use Rattle.wcn_driver.specs.Answers.{HasNarrowOutcome, IsWideOutcome}
+use Rattle.wcn_driver.specs.Answers.{IsWideOutcome}
+use Rattle.wcn_driver.specs.private.Founds.{IsSummedOutcome}
 
 -- ---- a sum with a constant
 
@@ -30,13 +31,17 @@ module _ (N : Program) (c d : ℤ) (x : Point) (base : IsBase N) (feasible : IsF
   second_whole = int-num second (subst IsWhole (sym second_is.1) (whole_value N 2 x base.second feasible))
 
   -- where the sums have room it is the outcome
-  pub outcome_found : Fits first → Fits second → IsNarrow (first.num +ℤ c) → IsNarrow (second.num +ℤ d) → HasNarrowOutcome N c d x (record { f1 = first.num; f2 = second.num })
+  pub outcome_found : Fits first → Fits second → IsNarrow (first.num +ℤ c) → IsNarrow (second.num +ℤ d) → IsSummedOutcome N c d x (record { f1 = first.num; f2 = second.num })
   outcome_found fits1 fits2 sum1 sum2 = record {
-    has = record { first = sym first_is.1 ∙ first_whole; second = sym second_is.1 ∙ second_whole };
-    first = fits1.numerator;
-    second = fits2.numerator;
-    first_sum = sum1;
-    second_sum = sum2;
+    has = record {
+      has = record { first = sym first_is.1 ∙ first_whole; second = sym second_is.1 ∙ second_whole };
+      first = fits1.numerator;
+      second = fits2.numerator;
+      first_sum = sum1;
+      second_sum = sum2;
+    };
+    first = subst (λ (v : ℚ). IsValueAnswer N 1 x (Ok v)) first_whole first_is;
+    second = subst (λ (v : ℚ). IsValueAnswer N 2 x (Ok v)) second_whole second_is;
   }
 
   pub first_wide : ¬ IsNarrow (first.num +ℤ c) → IsWideOutcome N c d x

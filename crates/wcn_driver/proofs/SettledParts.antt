@@ -72,7 +72,7 @@ module _ (stops : Program → ℕ → Answer → Type 0) (P : Program) (nodes be
       (subst (λ (answer : Answer). MatchOption s.cert (shown_claim answer ≡ None) (IsCertifiedAs P (shown_claim answer))) h.answer is.certified) in
       let few = truth.1 in
       let all = h.results in
-      record { optimum = truth.0.0; value_is = truth.0.1; certified = certified; within = omega arith }
+      record { optimum = truth.0.0; value_is = truth.0.1; judged = truth.0.2; certified = certified; within = omega arith }
 
   -- what it says that no point is feasible
   pub empty_of : (cert : Cert) (here results : ℕ) → s.answer ≡ solve.Infeasible here → s.cert ≡ Some cert → results ≡ before + here → (IsEmpty P × (results ≤ nodes)) × IsCertifiedAs P (Some claim.Infeasible) cert

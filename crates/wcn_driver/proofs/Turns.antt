@@ -12,10 +12,13 @@ use Rattle.frontier.specs.Laws.{last_of, HasEmptyGap, HaveEmptyGaps}
 use Rattle.front_text.specs.declared.front.TreeOf.{TreeOf}
 use Rattle.front_text.specs.declared.front.TreeOf.TheVariants.{Gap}
 use Rattle.front_text.specs.declared.front.FrontTree.{FrontTree}
-use Rattle.front_check.specs.Accepted.{TargetedModel, gap_part, gap_parts, gap_names, IsProvedBy}
+use Rattle.gap_models.specs.Gaps.{FitsGap}
+use Rattle.front_check.specs.Accepted.{TargetedModel, gap_part, gap_parts, gap_names}
+use Rattle.front_check.specs.Verdict.{FitGaps}
+use Rattle.front_check.specs.Passing.{IsPassingTree}
 use Rattle.front_check.proofs.OutcomeSteps.{last_of-push}
 use Rattle.wcn_driver.specs.Parts.{HaveEmptyGapsBefore}
-use Rattle.wcn_driver.specs.private.State.{parts_before}
+use Rattle.wcn_driver.specs.private.State.{parts_before, FitGapsBefore}
 
 -- ---- a gap closed
 
@@ -43,11 +46,20 @@ pub empty_closed : (N : Program) (before : List Outcome) (p q : Outcome) → Hav
 empty_closed N [] p q all gap = (gap, tt)
 empty_closed N (o ∷ before) p q all gap = empty_push N o (before ++ p ∷ []) q all (subst (λ (last : Outcome). HasEmptyGap N last q) (sym (last_of-push o before p)) gap)
 
-pub proved_push : (parts : List TargetedModel) (trees : List FrontTree) (part : TargetedModel) (tree : FrontTree) → AllZip IsProvedBy parts trees → IsProvedBy part tree → AllZip IsProvedBy (parts ++ part ∷ []) (trees ++ tree ∷ [])
-proved_push [] [] part tree all one = (one, tt)
-proved_push [] (t ∷ trees) part tree all one = absurd all
-proved_push (m ∷ parts) [] part tree all one = absurd all
-proved_push (m ∷ parts) (t ∷ trees) part tree all one = (all.0, proved_push parts trees part tree all.1 one)
+fit_push : (N : Program) (i1 i2 : ℤ) (o : Outcome) (l : List Outcome) (q : Outcome) → FitGaps N i1 i2 o l → FitsGap N ((last_of o l).f2 -ℤ i2) (q.f1 -ℤ i1) i1 i2 → FitGaps N i1 i2 o (l ++ q ∷ [])
+fit_push N i1 i2 o [] q all gap = (gap, tt)
+fit_push N i1 i2 o (m ∷ l) q all gap = (all.0, fit_push N i1 i2 m l q all.1 gap)
+
+pub fit_closed : (N : Program) (i1 i2 : ℤ) (before : List Outcome) (p q : Outcome) → FitGapsBefore N i1 i2 before p → FitsGap N (p.f2 -ℤ i2) (q.f1 -ℤ i1) i1 i2 → FitGapsBefore N i1 i2 (before ++ p ∷ []) q
+fit_closed N i1 i2 [] p q all gap = (gap, tt)
+fit_closed N i1 i2 (o ∷ before) p q all gap =
+    fit_push N i1 i2 o (before ++ p ∷ []) q all (subst (λ (last : Outcome). FitsGap N (last.f2 -ℤ i2) (q.f1 -ℤ i1) i1 i2) (sym (last_of-push o before p)) gap)
+
+pub passes_push : (parts : List TargetedModel) (trees : List FrontTree) (part : TargetedModel) (tree : FrontTree) → AllZip IsPassingTree parts trees → IsPassingTree part tree → AllZip IsPassingTree (parts ++ part ∷ []) (trees ++ tree ∷ [])
+passes_push [] [] part tree all one = (one, tt)
+passes_push [] (t ∷ trees) part tree all one = absurd all
+passes_push (m ∷ parts) [] part tree all one = absurd all
+passes_push (m ∷ parts) (t ∷ trees) part tree all one = (all.0, passes_push parts trees part tree all.1 one)
 
 -- ---- an outcome found
 

@@ -15,7 +15,9 @@ use Rattle.inner_models.specs.Inner.{least2_model, left_model, right_model, pull
 use Rattle.gap_models.specs.Gaps.{FitsGap, IsFirstGapPlace}
 use Rattle.gap_models.specs.declared.gaps.GapPlace.TheVariants as gap
 use Rattle.front_text.specs.Whole.{IsFrontCertificate}
-use Rattle.front_check.specs.Accepted.{outcomes_of, AcceptsFront}
+use Rattle.front_check.specs.Accepted.{outcomes_of}
+use Rattle.front_check.specs.Verdict.{IsFrontVerdict}
+use Rattle.front_check.specs.declared.verdict.FrontVerdict.TheVariants.{Accepted}
 use Rattle.model_points.specs.Bounds.{IsBound, IsFoundValue}
 use Rattle.front_solver.specs.Truth.{IsCertifiedAs}
 use Rattle.front_parts.specs.Sums.{HasCostSum, IsFirstWideCostSum}
@@ -83,10 +85,10 @@ IsFirstWideScale N c d i1 i2 (Pull r) place.Value = All HasCostSum N.cols × ((x
 
 -- ---- what is answered
 
--- N with its constants, which are whole, is the model whose front is found
+-- N with its constants, which are whole, is the model whose front is found; the checker accepts its certificate
 abbrev pub IsMc : (Program → ℕ → Answer → Type 0) → Program → ℕ → ℤ → ℤ → Mc → Type 0
 IsMc stops N nodes c d (mc.Complete front cert) =
-    IsLeastFrontier (with_constants c d N) front × (AcceptsFront (with_constants c d N) cert × IsFrontCertificate cert) × (outcomes_of cert ≡ front)
+    IsLeastFrontier (with_constants c d N) front × (IsFrontVerdict (with_constants c d N) cert (Accepted (length cert.outcomes)) × IsFrontCertificate cert) × (outcomes_of cert ≡ front)
     × All (λ (o : Outcome). IsNarrow o.f1 × IsNarrow o.f2) front
 IsMc stops N nodes c d (mc.Infeasible cert results) = (IsEmpty N × (results ≤ nodes)) × IsCertifiedAs N (Some claim.Infeasible) cert
 IsMc stops N nodes c d (mc.Stopped front part why results bound best) =

@@ -1,7 +1,8 @@
 // The ends of a front: the least values, and the first and the last outcome.
-ghost use Rattle.std.specs.Prelude.{◌≤◌, pos, MatchOption, IfOk, OnOk, IfErr};
+ghost use Rattle.std.specs.Prelude.{◌≤◌, pos, true, MatchOption, Ok, IfOk, OnOk, IfErr};
 ghost use Rattle.frac128.specs.Range.{IsNarrow};
 ghost use Rattle.lp_model.specs.Program.{Point as APoint, IsFeasible};
+ghost use Rattle.model_points.specs.Answers.{IsFeasibilityAnswer};
 ghost use Rattle.inner_models.specs.Inner.{least2_model};
 ghost use Rattle.front_solver.specs.Solved.{IsRecosted};
 ghost use Rattle.wcn_driver.specs.declared.answers.Part.TheVariants.{Left, Least2, Right};
@@ -51,10 +52,10 @@ pub(crate) enum FirstEnd {
     Halted(Halt),
 }
 
-/// The outcome of a feasible point, or that its numbers have no room, or that there is no memory.
+/// The outcome of a point that was judged feasible, or that its numbers have no room, or that there is no memory.
 pub(crate) fn found_of(alloc: Global, task: &Task, point: &Point) -> Result<Found, Halt>
     requires task { IsSweepTask task.now }
-    requires feasible { IsFeasible task.now.base point.now }
+    requires judged { IsFeasibilityAnswer task.now.base point.now (Ok true) }
     ensures found { IfOk result (IsFoundAtPoint task.now.base task.now.constant1 task.now.constant2 point.now) }
     ensures halt { IfErr result (IsNotFoundAtPoint task.now.base task.now.constant1 task.now.constant2 point.now) }
 {

@@ -1,11 +1,10 @@
 // The outcomes that are found, with the points that show them.
-ghost use Rattle.std.specs.Prelude.{◌≡◌, length, IfOk};
-ghost use Rattle.lp_model.specs.Program.{IsFeasible};
+ghost use Rattle.std.specs.Prelude.{◌≡◌, length, true, IfOk, Ok};
 ghost use Rattle.lp_model.specs.Lawful.{column_names};
+ghost use Rattle.model_points.specs.Answers.{IsFeasibilityAnswer};
 ghost use Rattle.cert_check.specs.Accepted.{AreNames, point_of};
-ghost use Rattle.wcn_driver.specs.Answers.{HasNarrowOutcome};
 ghost use Rattle.wcn_driver.specs.private.Tasks.{IsSweepTask};
-ghost use Rattle.wcn_driver.specs.private.Founds.{IsShownBy};
+ghost use Rattle.wcn_driver.specs.private.Founds.{IsSummedOutcome, IsShownBy};
 
 use crate::task::Task;
 use frac128::Frac;
@@ -40,7 +39,7 @@ fn named_point(
     Ok(named)
 }
 
-/// An outcome of a point, whose numbers have room, as it is found.
+/// An outcome of a point that was judged feasible, whose numbers have room, as it is found.
 pub(crate) fn found_at(
     alloc: Global,
     task: &Task,
@@ -48,8 +47,8 @@ pub(crate) fn found_at(
     point: &Point,
 ) -> Result<Found, AllocError>
     requires task { IsSweepTask task.now }
-    requires feasible { IsFeasible task.now.base point.now }
-    requires outcome { HasNarrowOutcome task.now.base task.now.constant1 task.now.constant2 point.now outcome.now }
+    requires judged { IsFeasibilityAnswer task.now.base point.now (Ok true) }
+    requires outcome { IsSummedOutcome task.now.base task.now.constant1 task.now.constant2 point.now outcome.now }
     ensures outcome { IfOk result (λ f. f.outcome ≡ outcome.now) }
     ensures shown { IfOk result (λ f. IsShownBy task.now.base task.now.constant1 task.now.constant2 outcome.now f.shown) }
 {

@@ -6,7 +6,7 @@
 //! M. M. Wiecek, An improved algorithm for solving biobjective integer programs, 2006).
 //!
 //! Public contract of `run_wcn` (`IsMc`, `specs/Answers`), over every solver that keeps its law: a complete front is exactly the outcomes
-//! that no other dominates, and its certificate is accepted; an outcome told on a stop is nondominated; a stop is one that the solver said
+//! that no other dominates, and the checker accepts its certificate; an outcome told on a stop is nondominated; a stop is one that the solver said
 //! at first it may answer of the part that is named, with the results that remain. Whatever is answered but want of memory, the solver's
 //! model is then what it was. `swept_to_end_law`: what nothing hinders comes to its end.
 //!

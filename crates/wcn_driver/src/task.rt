@@ -3,8 +3,9 @@ ghost use Rattle.std.specs.Prelude.{◌≡◌, ◌↔◌, ℤ, ◌+ℤ◌, IsTru
 ghost use Rattle.frac128.specs.Rational.{int};
 ghost use Rattle.frac128.specs.Range.{IsNarrow, SumFits};
 ghost use Rattle.lp_model.specs.Program.{IsFeasible};
-ghost use Rattle.wcn_driver.specs.Answers.{HasNarrowOutcome, IsWideOutcome};
+ghost use Rattle.wcn_driver.specs.Answers.{IsWideOutcome};
 ghost use Rattle.wcn_driver.specs.private.Tasks.{IsSweepTask};
+ghost use Rattle.wcn_driver.specs.private.Founds.{IsSummedOutcome};
 
 use frac128::Frac;
 use frontier::Outcome;
@@ -40,7 +41,7 @@ fn has_sum(value: &Frac, constant: i128) -> bool
 pub(crate) fn outcome_at(task: &Task, point: &Point) -> Option<Outcome>
     requires task { IsSweepTask task.now }
     requires feasible { IsFeasible task.now.base point.now }
-    ensures { MatchOption result (IsWideOutcome task.now.base task.now.constant1 task.now.constant2 point.now) (HasNarrowOutcome task.now.base task.now.constant1 task.now.constant2 point.now) }
+    ensures { MatchOption result (IsWideOutcome task.now.base task.now.constant1 task.now.constant2 point.now) (IsSummedOutcome task.now.base task.now.constant1 task.now.constant2 point.now) }
 {
     let Ok(first) = value(&task.base, 1, point) else {
         return None;

@@ -9,7 +9,7 @@ use Rattle.front_sweeps.specs.Steps.{IsNondominatedOutcome}
 use Rattle.front_text.specs.declared.front.TreeOf.{TreeOf}
 use Rattle.front_text.specs.declared.front.TreeOf.TheVariants.{Least1, Least2}
 use Rattle.front_text.specs.Whole.{IsWholeTree}
-use Rattle.front_check.specs.Accepted.{IsProvedBy}
+use Rattle.front_check.specs.Passing.{IsPassingTree}
 use Rattle.front_solver.specs.Truth.{IsCertifiedAs}
 use Rattle.wcn_driver.specs.declared.answers.Part.TheVariants as parts
 use Rattle.wcn_driver.specs.declared.answers.ScalePlace.TheVariants.{Value}
@@ -58,7 +58,7 @@ pub record IsLeastWithTree (g : Task) (w : ℕ) (part : Program) (of : TreeOf) (
   pub least : IsLeastFeasibleValue g.base w e.least
   pub narrow : IsNarrow e.least
   pub named : e.tree.of ≡ of
-  pub proved : IsProvedBy (record { model = part; target = e.least }) e.tree
+  pub passes : IsPassingTree (record { model = part; target = e.least }) e.tree
   pub whole : IsWholeTree e.tree
   pub within : e.results ≤ g.nodes
 

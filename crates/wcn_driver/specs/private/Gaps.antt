@@ -1,5 +1,5 @@
 -- A gap that is looked into, and what is found in it.
-use Rattle.std.specs.Prelude.{◌≡◌, ◌≤◌, ℤ, ◌<ℤ◌, length, take}
+use Rattle.std.specs.Prelude.{◌≡◌, ◌≤◌, ℤ, ◌-ℤ◌, ◌<ℤ◌, length, take}
 use Rattle.frac128.specs.Rational.{int, ◌<ℚ◌}
 use Rattle.frac128.specs.Range.{IsNarrow}
 use Rattle.lp_model.specs.Program.{Program, Point, value, IsFeasible, IsOptimum}
@@ -8,12 +8,14 @@ use Rattle.frontier.specs.Covers.{IsAhead}
 use Rattle.frontier.specs.Laws.{HasEmptyGap}
 use Rattle.inner_models.specs.Inner.{pull_model}
 use Rattle.front_sweeps.specs.Steps.{IsNondominatedOutcome, gap_between, width_between}
+use Rattle.gap_models.specs.Gaps.{FitsGap}
 use Rattle.gap_models.specs.declared.gaps.GapPlace.{GapPlace}
 use Rattle.gap_models.specs.declared.gaps.GapPlace.TheVariants as gap
 use Rattle.front_text.specs.declared.front.TreeOf.TheVariants.{Gap}
 use Rattle.front_text.specs.declared.front.FrontTree.{FrontTree}
 use Rattle.front_text.specs.Whole.{IsWholeTree}
-use Rattle.front_check.specs.Accepted.{IsProvedBy, gap_part}
+use Rattle.front_check.specs.Accepted.{gap_part}
+use Rattle.front_check.specs.Passing.{IsPassingTree}
 use Rattle.wcn_driver.specs.declared.answers.ScalePlace.{ScalePlace}
 use Rattle.wcn_driver.specs.declared.answers.ScalePlace.TheVariants as place
 use Rattle.wcn_driver.specs.declared.task.Task.{Task}
@@ -46,7 +48,8 @@ pub record IsGapToLookInto (N : Program) (g : GapAt) : Type 0 where
 pub record IsEmptyGap (N : Program) (g : GapAt) (tree : FrontTree) : Type 0 where
   pub empty : HasEmptyGap N g.p g.q
   pub named : tree.of ≡ Gap g.number
-  pub proved : IsProvedBy (gap_part N g.least1 g.least2 g.p g.q) tree
+  pub fits : FitsGap N (g.p.f2 -ℤ g.least2) (g.q.f1 -ℤ g.least1) g.least1 g.least2
+  pub passes : IsPassingTree (gap_part N g.least1 g.least2 g.p g.q) tree
   pub whole : IsWholeTree tree
 
 -- a point of the gap's model with Z below the width has the outcome

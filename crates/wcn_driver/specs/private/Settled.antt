@@ -1,8 +1,9 @@
 -- What an inner model is solved to, and why a sweep ends at a part.
-use Rattle.std.specs.Prelude.{◌≡◌, ℕ, ◌+◌, ◌<◌, ◌≤◌, ◌^◌, ℤ, Option, Some, IsSome, Result, Ok, Err}
+use Rattle.std.specs.Prelude.{◌≡◌, ℕ, ◌+◌, ◌<◌, ◌≤◌, ◌^◌, ℤ, true, Option, Some, IsSome, Result, Ok, Err}
 use Rattle.lp_model.specs.Program.{Program, value, IsOptimum}
 use Rattle.lp_model.specs.declared.answers.Answer.{Answer}
 use Rattle.lp_model.specs.declared.answers.Answer.TheVariants as solve
+use Rattle.model_points.specs.Answers.{IsFeasibilityAnswer}
 use Rattle.model_points.specs.Bounds.{IsBound, IsFoundValue}
 use Rattle.cert_text.specs.declared.cert.Claim.TheVariants.{Optimal}
 use Rattle.cert_text.specs.declared.cert.Cert.{Cert}
@@ -48,10 +49,11 @@ pub record IsOptimumOf (before : ℕ) (s : Solved) (o : Optimum) : Type 0 where
   pub cert : s.cert ≡ Some o.cert
   pub results : o.results ≡ before + here
 
--- an optimum of the part's model, with a certificate of its value
+-- an optimum of the part's model, whose point was judged feasible, with a certificate of its value
 pub record IsPartOptimum (P : Program) (nodes : ℕ) (o : Optimum) : Type 0 where
   pub optimum : IsOptimum P o.point
   pub value_is : o.value ≡ value P 1 o.point
+  pub judged : IsFeasibilityAnswer P o.point (Ok true)
   pub certified : IsCertifiedAs P (Some (Optimal o.value)) o.cert
   pub within : o.results ≤ nodes
 

@@ -11,7 +11,9 @@ use Rattle.inner_models.specs.Inner.{least2_model}
 use Rattle.front_text.specs.declared.front.TreeOf.TheVariants.{Least1, Least2}
 use Rattle.front_text.specs.declared.front.FrontTree.{FrontTree}
 use Rattle.front_text.specs.Whole.{IsWholeTree}
-use Rattle.front_check.specs.Accepted.{TargetedModel, gap_parts, gap_names, IsProvedBy}
+use Rattle.front_check.specs.Accepted.{TargetedModel, gap_parts, gap_names}
+use Rattle.front_check.specs.Verdict.{FitGaps}
+use Rattle.front_check.specs.Passing.{IsPassingTree}
 use Rattle.wcn_driver.specs.declared.answers.Part.{Part}
 use Rattle.wcn_driver.specs.declared.task.Task.{Task}
 use Rattle.wcn_driver.specs.declared.found.Found.{Found}
@@ -32,13 +34,19 @@ abbrev pub parts_before : Program → ℤ → ℤ → List Outcome → Outcome �
 parts_before N i1 i2 [] p = []
 parts_before N i1 i2 (o ∷ before) p = gap_parts N i1 i2 o (before ++ p ∷ [])
 
+-- the numbers of these gaps have room
+abbrev pub FitGapsBefore : Program → ℤ → ℤ → List Outcome → Outcome → Type 0
+FitGapsBefore N i1 i2 [] p = Unit {0}
+FitGapsBefore N i1 i2 (o ∷ before) p = FitGaps N i1 i2 o (before ++ p ∷ [])
+
 abbrev pub first_of : List Outcome → Outcome → Outcome
 first_of [] p = p
 first_of (o ∷ before) p = o
 
--- the trees of the least values, and of the gaps before p
+-- the trees of the least values, and of the gaps before p, whose numbers have room
 pub record HasTrees (N : Program) (i1 i2 : ℤ) (trees : List FrontTree) (before : List Outcome) (p : Outcome) : Type 0 where
-  pub proved : AllZip IsProvedBy (record { model = N; target = i1 } ∷ record { model = least2_model N; target = i2 } ∷ parts_before N i1 i2 before p) trees
+  pub fit : FitGapsBefore N i1 i2 before p
+  pub pass : AllZip IsPassingTree (record { model = N; target = i1 } ∷ record { model = least2_model N; target = i2 } ∷ parts_before N i1 i2 before p) trees
   pub named : map (λ t. t.of) trees ≡ Least1 ∷ Least2 ∷ gap_names 1 before
   pub whole : All IsWholeTree trees
 

@@ -1,11 +1,13 @@
 -- What is told where a sweep ends.
-use Rattle.std.specs.Prelude.{◌≡◌, ◌⊎◌, List, All}
+use Rattle.std.specs.Prelude.{◌≡◌, ◌⊎◌, List, length, All}
 use Rattle.frac128.specs.Range.{IsNarrow}
 use Rattle.frontier.specs.declared.outcomes.Outcome.{Outcome}
 use Rattle.frontier.specs.Outcomes.{IsLeastFrontier}
 use Rattle.front_sweeps.specs.Steps.{with_constants}
 use Rattle.front_text.specs.Whole.{IsFrontCertificate}
-use Rattle.front_check.specs.Accepted.{outcome_of, outcomes_of, AcceptsFront}
+use Rattle.front_check.specs.Accepted.{outcome_of, outcomes_of}
+use Rattle.front_check.specs.Verdict.{IsFrontVerdict}
+use Rattle.front_check.specs.declared.verdict.FrontVerdict.TheVariants.{Accepted}
 use Rattle.wcn_driver.specs.declared.task.Task.{Task}
 use Rattle.wcn_driver.specs.declared.found.Found.{Found}
 use Rattle.wcn_driver.specs.declared.settling.Halt.{Halt}
@@ -27,7 +29,7 @@ IsToldAtPart front part Memory answer = answer ≡ mc.Memory
 abbrev pub IsCompleted : Task → Mc → Type 0
 IsCompleted g (mc.Complete front cert) =
     IsLeastFrontier (with_constants g.constant1 g.constant2 g.base) front
-    × (AcceptsFront (with_constants g.constant1 g.constant2 g.base) cert × IsFrontCertificate cert) × (outcomes_of cert ≡ front)
+    × (IsFrontVerdict (with_constants g.constant1 g.constant2 g.base) cert (Accepted (length cert.outcomes)) × IsFrontCertificate cert) × (outcomes_of cert ≡ front)
     × All (λ (o : Outcome). IsNarrow o.f1 × IsNarrow o.f2) front
 IsCompleted g (mc.Infeasible cert results) = ⊥
 IsCompleted g (mc.Stopped front part why results bound best) = ⊥

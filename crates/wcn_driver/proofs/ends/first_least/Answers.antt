@@ -13,14 +13,14 @@ pub returns : goal.returns
 returns c =
     let t = c.args.task.now in
     let o = c.args.optimum in
-    let found = c.in-Some.ensures in
+    let found = c.in-Some.ensures.has in
     let certified = certified_value t.base t.nodes o c.in-Some.outcome.f1 c.requires.optimum found.has.first in
     subst (λ (k : ℤ). IsLeastFirst t (record { least = k; tree = c.front_tree.result; results = o.results })) (sym (narrow_read c.in-Some.outcome.f1 found.first))
     (record {
       least = least_first t.base t.constant1 t.constant2 c.requires.task.base o.point c.in-Some.outcome.f1 c.requires.optimum.optimum found.has.first;
       narrow = found.first;
       named = c.front_tree.ensures.of;
-      proved = c.front_tree.ensures.proved t.base c.in-Some.outcome.f1 certified;
+      passes = c.front_tree.ensures.passes t.base c.in-Some.outcome.f1 certified;
       whole = c.front_tree.ensures.whole t.base c.in-Some.outcome.f1 certified;
       within = c.requires.optimum.within;
     })

@@ -7,6 +7,7 @@ use Rattle.inner_models.specs.Inner.{left_model}
 use Rattle.wcn_driver.specs.declared.answers.Part.TheVariants.{Left}
 use Rattle.wcn_driver.specs.private.Kept.{Stays}
 use Rattle.wcn_driver.proofs.EndSteps.{left_some, left_feasible, left_found}
+use Rattle.wcn_driver.proofs.JudgedPoints.{left_judged}
 use Rattle.wcn_driver.proofs.EndHalts.{unless_memory, left_halt}
 use Rattle.wcn_driver.proofs.WholeParts.{left_whole}
 use Rattle.wcn_driver.proofs.SettledParts.{settling, counting, optimum_of, halt_of}
@@ -26,13 +27,14 @@ settle-requires-clause-count g c =
     let most : c.of_whole-most.result ≡ int c.args.least = c.of_whole-most.ensures ∙ ap int (narrow_read c.args.least c.requires.narrow) in
     counting (g.S.Solver.stops c.args.solver.now) (left_model e.base c.args.least) e.nodes c.args.before c.in-Ok.solved (c.in-Ok.ensures.solved c.args.least most) c.requires.before c.requires.task.few
 
-pub found_of-requires-clause-feasible : goal.found_of-requires-clause-feasible
-found_of-requires-clause-feasible g c =
+pub found_of-requires-clause-judged : goal.found_of-requires-clause-judged
+found_of-requires-clause-judged g c =
     let e = c.args.task.now in
     let base = c.requires.task.base in
     let most : c.of_whole-most.result ≡ int c.args.least = c.of_whole-most.ensures ∙ ap int (narrow_read c.args.least c.requires.narrow) in
     let o = optimum_of (g.S.Solver.stops c.args.solver.now) (left_model e.base c.args.least) e.nodes c.args.before c.in-Ok.solved (c.in-Ok.ensures.solved c.args.least most) c.requires.before c.in_ok-optimum.optimum c.in_ok-optimum.ensures in
-    left_feasible e.base e.constant1 e.constant2 base c.args.least c.requires.least c.in_ok-optimum.optimum.point o.optimum
+    let x = c.in_ok-optimum.optimum.point in
+    left_judged e.base x (left_feasible e.base e.constant1 e.constant2 base c.args.least c.requires.least x o.optimum) c.args.least o.judged
 
 pub returns-clause-kept : goal.returns-clause-kept
 returns-clause-kept g c = record { recosted = c.in-Ok.ensures.kept; steady = c.in-Ok.ensures.steady }

@@ -17,7 +17,7 @@ pub returns : goal.returns
 returns c =
     let t = c.args.task.now in
     let o = c.args.optimum in
-    let found = c.in-Some.ensures in
+    let found = c.in-Some.ensures.has in
     let base = c.requires.task.base in
     let certified = certified_value (least2_model t.base) t.nodes o c.in-Some.outcome.f2 c.requires.optimum (least2-value t.base base.lawful base.bare o.point ∙ found.has.second) in
     subst (λ (k : ℤ). IsLeastSecond t (record { least = k; tree = c.front_tree.result; results = o.results })) (sym (narrow_read c.in-Some.outcome.f2 found.second))
@@ -25,7 +25,7 @@ returns c =
       least = least_second t.base t.constant1 t.constant2 base o.point c.in-Some.outcome.f2 c.requires.optimum.optimum found.has.second;
       narrow = found.second;
       named = c.front_tree.ensures.of;
-      proved = c.front_tree.ensures.proved (least2_model t.base) c.in-Some.outcome.f2 certified;
+      passes = c.front_tree.ensures.passes (least2_model t.base) c.in-Some.outcome.f2 certified;
       whole = c.front_tree.ensures.whole (least2_model t.base) c.in-Some.outcome.f2 certified;
       within = c.requires.optimum.within;
     })

@@ -20,8 +20,8 @@ returns-then-not-is_below-clause-found c =
     let certified = width_certified t c.requires.task.base gap c.requires.gap o c.requires.optimum width c.requires.width over in
     let target = width_between gap.least1 gap.least2 gap.p gap.q in
     let model = gap_between t.base gap.least1 gap.least2 gap.p gap.q in (
-      gap_closed t c.requires.task.base gap c.requires.gap o c.requires.optimum width c.requires.width c.front_tree.result over c.front_tree.ensures.of
-          (c.front_tree.ensures.proved model target certified) (c.front_tree.ensures.whole model target certified),
+      gap_closed t c.requires.task.base gap c.requires.gap o c.requires.optimum width c.requires.width c.front_tree.result over c.front_tree.ensures.of c.requires.fits
+          (c.front_tree.ensures.passes model target certified) (c.front_tree.ensures.whole model target certified),
       c.requires.optimum.within,
     )
 
@@ -45,7 +45,7 @@ returns-in-Some-clause-found c =
     let t = c.args.task.now in
     let o = c.args.optimum in
     let is : c.in-Ok.front ≡ take (length t.base.cols) o.point = c.in-Ok.ensures ∙ ap (λ (l : List Col). take (length l) o.point) c.cols.ensures.items in (
-      gap_held t c.requires.task.base c.args.gap.now c.requires.gap o c.requires.optimum c.args.width.now c.requires.width c.in-Ok.front c.in-Some.outcome (c.is_below.ensures.0 c.if-not-is_below.false) is c.in-Some.ensures,
+      gap_held t c.requires.task.base c.args.gap.now c.requires.gap o c.requires.optimum c.args.width.now c.requires.width c.in-Ok.front c.in-Some.outcome (c.is_below.ensures.0 c.if-not-is_below.false) is c.in-Some.ensures.has,
       c.requires.optimum.within,
     )
 

@@ -7,6 +7,7 @@ use Rattle.inner_models.specs.Inner.{pull_model}
 use Rattle.wcn_driver.specs.declared.answers.Part.TheVariants.{Pull}
 use Rattle.wcn_driver.specs.private.Kept.{Stays}
 use Rattle.wcn_driver.proofs.GapEnds.{pull_some, pull_feasible, pull_halt}
+use Rattle.wcn_driver.proofs.JudgedPoints.{pull_judged}
 use Rattle.wcn_driver.proofs.EndHalts.{unless_memory}
 use Rattle.wcn_driver.proofs.WholeParts.{pull_whole}
 use Rattle.wcn_driver.proofs.SettledParts.{settling, counting, optimum_of, halt_of}
@@ -31,8 +32,8 @@ settle-requires-clause-count g c =
     let most2 : c.of_whole-most2.result ≡ int r.f2 = c.of_whole-most2.ensures ∙ ap int (narrow_read r.f2 c.requires.second) in
     counting (g.S.Solver.stops c.args.solver.now) (pull_model e.base r.f1 r.f2) e.nodes c.args.before c.in-Ok-solve_pull.solved (c.in-Ok-solve_pull.ensures.solved r.f1 r.f2 most1 most2) c.requires.before c.requires.task.few
 
-pub found_of-requires-clause-feasible : goal.found_of-requires-clause-feasible
-found_of-requires-clause-feasible g c =
+pub found_of-requires-clause-judged : goal.found_of-requires-clause-judged
+found_of-requires-clause-judged g c =
     let e = c.args.task.now in
     let r = c.args.outcome.now in
     let base = c.requires.task.base in
@@ -40,7 +41,8 @@ found_of-requires-clause-feasible g c =
     let most1 : c.of_whole-most1.result ≡ int r.f1 = c.of_whole-most1.ensures ∙ ap int (narrow_read r.f1 c.requires.first) in
     let most2 : c.of_whole-most2.result ≡ int r.f2 = c.of_whole-most2.ensures ∙ ap int (narrow_read r.f2 c.requires.second) in
     let o = optimum_of (g.S.Solver.stops c.args.solver.now) (pull_model e.base r.f1 r.f2) e.nodes c.args.before c.in-Ok-solve_pull.solved (c.in-Ok-solve_pull.ensures.solved r.f1 r.f2 most1 most2) c.requires.before c.in_ok-optimum.optimum c.in_ok-optimum.ensures in
-    pull_feasible e.base base r some.0 some.1.0 some.1.1 c.in_ok-optimum.optimum.point o.optimum
+    let x = c.in_ok-optimum.optimum.point in
+    pull_judged e.base x (pull_feasible e.base base r some.0 some.1.0 some.1.1 x o.optimum) r.f1 r.f2 o.judged
 
 pub returns-clause-kept : goal.returns-clause-kept
 returns-clause-kept g c = record { recosted = c.in-Ok-solve_pull.ensures.kept; steady = c.in-Ok-solve_pull.ensures.steady }
