@@ -27,18 +27,23 @@ pub struct Dialogue<S: Subject> {
     report: String,
 }
 
+fn answer_all<S: Subject>(subject: &mut S, script: &[String], replies: &mut String) -> Result<()> {
+    for line in script {
+        match line.strip_prefix("| ") {
+            Some(command) => subject.answer(command, replies)?,
+            None => bail!("no command: {line}"),
+        }
+    }
+    Ok(())
+}
+
 impl<S: Subject> Dialogue<S> {
     fn run(&mut self, script: &[String]) -> Result<()> {
         ensure!(self.replies.is_none(), "no `replies` for the script above");
         let mut replies = String::new(self.alloc);
-        for line in script {
-            let Some(command) = line.strip_prefix("| ") else {
-                bail!("no command: {line}");
-            };
-            self.subject.answer(command, &mut replies)?;
-        }
+        let answered = answer_all(&mut self.subject, script, &mut replies);
         self.replies = Some(replies);
-        Ok(())
+        answered
     }
 
     fn judge(&mut self, wanted: &[String]) -> Result<()> {
@@ -46,14 +51,10 @@ impl<S: Subject> Dialogue<S> {
             bail!("no `script` above");
         };
         self.is_judged = true;
-        compare(
-            self.alloc,
-            &mut self.report,
-            "replies",
-            wanted,
-            replies.as_bytes(),
-        )?;
-        Ok(())
+        let got = replies.as_bytes();
+        let compared = compare(self.alloc, &mut self.report, "replies", wanted, got);
+        drop(replies);
+        Ok(compared?)
     }
 }
 

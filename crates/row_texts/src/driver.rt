@@ -29,33 +29,104 @@ fn is_text(line: &Line) -> bool {
     line.text.starts_with('|') || line.text.starts_with('/')
 }
 
-/// The lines of text at the front.
-fn text_below(alloc: Global, below: &[Line]) -> Result<Vec<String>> {
-    let mut text: Vec<String> = Vec::new(alloc);
+/// Refuses a line of text that has no form.
+fn judge_form(line: &Line, is_first: bool) -> Result<()> {
+    let text = line.text.as_str();
+    ensure!(
+        text == "|" || text.starts_with("| ") || text.starts_with("/ "),
+        "line {}: no blank behind the mark",
+        line.number
+    );
+    ensure!(
+        !is_first || text.starts_with('|'),
+        "line {}: no line above this other form",
+        line.number
+    );
+    Ok(())
+}
+
+fn push_text(text: &mut Vec<String>, line: &Line) -> Result<()> {
+    judge_form(line, text.is_empty())?;
+    let form = line.text.clone()?;
+    text.push(form)?;
+    Ok(())
+}
+
+fn push_texts(text: &mut Vec<String>, below: &[Line]) -> Result<()> {
     for line in below {
         if !is_text(line) {
             break;
         }
-        let text_of_line = line.text.as_str();
-        ensure!(
-            text_of_line == "|" || text_of_line.starts_with("| ") || text_of_line.starts_with("/ "),
-            "line {}: no blank behind the mark",
-            line.number
-        );
-        ensure!(
-            !text.is_empty() || text_of_line.starts_with('|'),
-            "line {}: no line above this other form",
-            line.number
-        );
-        text.push(line.text.clone()?)?;
+        push_text(text, line)?;
     }
-    Ok(text)
+    Ok(())
 }
 
 /// The text of a file of the data folder.
 fn text_in_file(rt: &HostRuntime, path: &str) -> Result<Vec<String>> {
     let bytes = fs::read(rt, path).context(format_args!("{path}"))?;
-    Ok(lines_of(rt.alloc(), &bytes)?)
+    let lines = lines_of(rt.alloc(), &bytes);
+    drop(bytes);
+    Ok(lines?)
+}
+
+/// Does what a heading says that has the text of a file.
+fn take_file<S: Stage>(
+    rt: &HostRuntime,
+    stage: &mut S,
+    word: &str,
+    rest: &str,
+    path: &str,
+) -> Result<()> {
+    let text = text_in_file(rt, path)?;
+    let taken = stage.take(word, rest, &text);
+    drop(text);
+    taken
+}
+
+fn take_texts<S: Stage>(
+    stage: &mut S,
+    word: &str,
+    rest: &str,
+    below: &[Line],
+    text: &mut Vec<String>,
+) -> Result<()> {
+    push_texts(text, below)?;
+    stage.take(word, rest, text.as_slice())
+}
+
+/// Does what a heading says that has the lines of text at the front.
+fn take_below<S: Stage>(
+    alloc: Global,
+    stage: &mut S,
+    word: &str,
+    rest: &str,
+    below: &[Line],
+) -> Result<()> {
+    let mut text = Vec::new(alloc);
+    let taken = take_texts(stage, word, rest, below, &mut text);
+    drop(text);
+    taken
+}
+
+/// Does what a heading with a text says, and answers whether the lines of text below it are its own.
+fn take_with_text<S: Stage>(
+    rt: &HostRuntime,
+    stage: &mut S,
+    word: &str,
+    rest: &str,
+    below: &[Line],
+) -> Result<bool> {
+    match rest.split_once("< ") {
+        Some((rest, path)) => {
+            take_file(rt, stage, word, rest.trim(), path)?;
+            Ok(false)
+        }
+        None => {
+            take_below(rt.alloc(), stage, word, rest, below)?;
+            Ok(true)
+        }
+    }
 }
 
 /// Does what a heading says, and answers whether the lines of text below it are its own.
@@ -66,18 +137,27 @@ fn take_heading<S: Stage>(
     below: &[Line],
 ) -> Result<bool> {
     let (word, rest) = line.split_once(' ').unwrap_or((line, ""));
-    if !S::has_text(word) {
-        stage.take(word, rest, &[])?;
-        return Ok(false);
+    if S::has_text(word) {
+        return take_with_text(rt, stage, word, rest, below);
     }
-    if let Some((rest, path)) = rest.split_once("< ") {
-        let text = text_in_file(rt, path)?;
-        stage.take(word, rest.trim(), &text)?;
-        return Ok(false);
+    stage.take(word, rest, &[])?;
+    Ok(false)
+}
+
+/// Does what a line says, where it is a heading, and answers whether the lines of text below it are a heading's own.
+fn take_line<S: Stage>(
+    rt: &HostRuntime,
+    stage: &mut S,
+    line: &Line,
+    below: &[Line],
+    takes_text: bool,
+) -> Result<bool> {
+    let number = line.number;
+    if is_text(line) {
+        ensure!(takes_text, "line {number}: text below no heading of one");
+        return Ok(true);
     }
-    let text = text_below(rt.alloc(), below)?;
-    stage.take(word, rest, &text)?;
-    Ok(true)
+    take_heading(rt, stage, &line.text, below).context(format_args!("line {number}"))
 }
 
 /// Does what the lines say, up to the first `row NAME`.
@@ -87,21 +167,20 @@ fn take_lines<S: Stage>(rt: &HostRuntime, stage: &mut S, lines: &[Line]) -> Resu
         if line.text.starts_with("row ") {
             break;
         }
-        if is_text(line) {
-            ensure!(
-                takes_text,
-                "line {}: text below no heading of one",
-                line.number
-            );
-            continue;
-        }
         let below = lines.get(at.saturating_add(1)..).unwrap_or(&[]);
-        takes_text = take_heading(rt, stage, &line.text, below).context(format_args!(
-            "line {}",
-            line.number
-        ))?;
+        takes_text = take_line(rt, stage, line, below, takes_text)?;
     }
     Ok(())
+}
+
+/// Prints how a row went: how many rows differ.
+fn print_row(rt: &HostRuntime, name: &str, report: &str) -> Result<u64> {
+    if report.is_empty() {
+        println!(rt; "ok {name}")?;
+        return Ok(0);
+    }
+    println!(rt; "differs {name}\n{report}")?;
+    Ok(1)
 }
 
 /// Does what the lines of a row say, and prints how it went: how many rows differ.
@@ -115,12 +194,7 @@ fn run_on<S: Stage>(
     take_lines(rt, stage, shared)?;
     take_lines(rt, stage, own)?;
     let report = stage.end().context(format_args!("{name}"))?;
-    if report.is_empty() {
-        println!(rt; "ok {name}")?;
-        return Ok(0);
-    }
-    println!(rt; "differs {name}\n{report}")?;
-    Ok(1)
+    print_row(rt, name, report)
 }
 
 /// Runs a row, which is read behind the lines that its file's rows share, and prints how it went: how many rows differ.
@@ -140,12 +214,16 @@ fn run_named<S: Stage>(
     own: &[Line],
 ) -> Result<u64> {
     let name = format!(in rt.alloc(); "{file}: {row}")?;
-    run_row::<S>(rt, &name, shared, own)
+    let differing = run_row::<S>(rt, &name, shared, own);
+    drop(name);
+    differing
 }
 
 fn lines_in_file(rt: &HostRuntime, file: &str) -> Result<Vec<Line>> {
     let text = fs::read_to_string(rt, file)?;
-    expanded(rt.alloc(), &text)
+    let lines = expanded(rt.alloc(), &text);
+    drop(text);
+    lines
 }
 
 /// Runs the rows that lines say: how many differ.
@@ -175,16 +253,23 @@ fn run_file<S: Stage>(rt: &HostRuntime, file: &str) -> Result<u64> {
     differing
 }
 
+/// Runs the rows of the file that a line names, if it names one: how many differ.
+fn run_named_file<S: Stage>(rt: &HostRuntime, line: &str) -> Result<u64> {
+    let file = line.trim();
+    if file.is_empty() || file.starts_with('#') {
+        return Ok(0);
+    }
+    run_file::<S>(rt, file).context(format_args!("{file}"))
+}
+
 /// Runs the rows of each file that standard input names: how many differ.
 fn run_files<S: Stage>(rt: &HostRuntime) -> Result<u64> {
     let mut differing = 0u64;
     for line in rt.lines(rt.alloc()) {
         let line = line?;
-        let file = line.trim();
-        if !file.is_empty() && !file.starts_with('#') {
-            let more = run_file::<S>(rt, file).context(format_args!("{file}"))?;
-            differing = differing.saturating_add(more);
-        }
+        let more = run_named_file::<S>(rt, &line);
+        drop(line);
+        differing = differing.saturating_add(more?);
     }
     Ok(differing)
 }

@@ -116,13 +116,12 @@ fn counter_of(text: &str, start: usize) -> Option<Counter<'_>> {
     }
 }
 
-/// The lines of a text, one behind the other.
-fn split_lines(alloc: Global, text: &str) -> Result<Vec<&str>, AllocError> {
-    let mut lines = Vec::new(alloc);
+/// Puts the lines of a text one behind the other.
+fn push_text<'a>(lines: &mut Vec<&'a str>, text: &'a str) -> Result<(), AllocError> {
     for line in text.lines() {
         lines.push(line)?;
     }
-    Ok(lines)
+    Ok(())
 }
 
 /// Where a `done` leads whose next line is this one.
@@ -139,6 +138,27 @@ fn behind_done(counters: &mut Vec<Counter<'_>>, at: usize) -> Result<usize> {
     }
 }
 
+/// Begins a repetition.
+fn begin_each<'a>(counters: &mut Vec<Counter<'a>>, range: &'a str, at: usize) -> Result<()> {
+    match counter_of(range, at) {
+        Some(counter) => Ok(counters.push(counter)?),
+        None => bail!("line {at}: no `each NAME LOW..HIGH`"),
+    }
+}
+
+/// Puts a line behind the others, with what stands for each text in braces.
+fn push_filled_line(
+    alloc: Global,
+    expanded: &mut Vec<Line>,
+    line: &str,
+    number: usize,
+    counters: &[Counter<'_>],
+) -> Result<(), AllocError> {
+    let text = filled(alloc, line, counters)?;
+    expanded.push(Line { number, text })?;
+    Ok(())
+}
+
 /// Reads a line, and answers where the next one stands: that is `at`, the line's own number, but behind a `done`.
 fn read_line<'a>(
     alloc: Global,
@@ -147,16 +167,13 @@ fn read_line<'a>(
     counters: &mut Vec<Counter<'a>>,
     expanded: &mut Vec<Line>,
 ) -> Result<usize> {
-    if let Some(range) = line.strip_prefix("each ") {
-        let Some(counter) = counter_of(range, at) else {
-            bail!("line {at}: no `each NAME LOW..HIGH`");
-        };
-        counters.push(counter)?;
-    } else if line == "done" {
+    if line == "done" {
         return behind_done(counters, at);
+    }
+    if let Some(range) = line.strip_prefix("each ") {
+        begin_each(counters, range, at)?;
     } else if !line.is_empty() && !line.starts_with('#') {
-        let text = filled(alloc, line, counters.as_slice())?;
-        expanded.push(Line { number: at, text })?;
+        push_filled_line(alloc, expanded, line, at, counters.as_slice())?;
     }
     Ok(at)
 }
@@ -179,14 +196,22 @@ fn read_lines<'a>(
     bail!("more than {MOST_LINES} lines")
 }
 
-/// The lines that the text of a file says. An error where `each` and `done` don't fit, and past a million lines.
-pub fn expanded(alloc: Global, text: &str) -> Result<Vec<Line>> {
-    let lines = split_lines(alloc, text)?;
+fn read_text(alloc: Global, text: &str, expanded: &mut Vec<Line>) -> Result<()> {
+    let mut lines = Vec::new(alloc);
     let mut counters: Vec<Counter<'_>> = Vec::new(alloc);
-    let mut expanded = Vec::new(alloc);
-    let read = read_lines(alloc, &lines, &mut counters, &mut expanded);
+    let read = match push_text(&mut lines, text) {
+        Ok(()) => read_lines(alloc, &lines, &mut counters, expanded),
+        Err(error) => Err(error.into()),
+    };
     drop(counters);
     drop(lines);
+    read
+}
+
+/// The lines that the text of a file says. An error where `each` and `done` don't fit, and past a million lines.
+pub fn expanded(alloc: Global, text: &str) -> Result<Vec<Line>> {
+    let mut expanded = Vec::new(alloc);
+    let read = read_text(alloc, text, &mut expanded);
     if let Err(error) = read {
         drop(expanded);
         return Err(error);
