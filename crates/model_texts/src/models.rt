@@ -31,18 +31,25 @@ fn sense_of(words: &mut Words) -> Option<Sense> {
     None
 }
 
+/// The empty model of the words of a head line. None: they are those of no head.
+fn head_in(alloc: Global, words: &mut Words) -> Result<Option<Model>> {
+    let Some(sense) = sense_of(words) else {
+        return Ok(None);
+    };
+    let constant = keyed(words, "constant")?;
+    let constant2 = keyed(words, "constant2")?;
+    words.end()?;
+    let model = empty_model(alloc, sense, constant, constant2)?;
+    Ok(Some(model))
+}
+
 /// The empty model of a head line `min` or `max`, behind it `constant C` and `constant2 C` where they are not 0. None: the
 /// line is no head.
 pub fn head_of(alloc: Global, line: &str) -> Result<Option<Model>> {
     let mut words = Words::new(alloc, line)?;
-    let Some(sense) = sense_of(&mut words) else {
-        return Ok(None);
-    };
-    let constant = keyed(&mut words, "constant")?;
-    let constant2 = keyed(&mut words, "constant2")?;
-    words.end()?;
-    let model = empty_model(alloc, sense, constant, constant2)?;
-    Ok(Some(model))
+    let head = head_in(alloc, &mut words);
+    drop(words);
+    head
 }
 
 /// Why an edit is refused, in words.
@@ -72,18 +79,32 @@ pub fn apply_line(alloc: Global, model: &mut Model, line: &str) -> Result<()> {
     }
 }
 
-/// Makes a model what a text says, line by line. Blank lines say nothing.
+/// Makes a model what a line of its text says. A blank line says nothing.
+fn apply_numbered(alloc: Global, model: &mut Model, line: &str, number: usize) -> Result<()> {
+    if line.is_empty() {
+        return Ok(());
+    }
+    apply_line(alloc, model, line).context(format_args!("line {number} of the model"))
+}
+
+/// Makes a model what the first line of its text says.
+fn apply_first(alloc: Global, model: &mut Model, line: &str) -> Result<()> {
+    match head_of(alloc, line).context("line 1 of the model")? {
+        Some(head) => {
+            drop(replace(model, head));
+            Ok(())
+        }
+        None => apply_numbered(alloc, model, line, 1),
+    }
+}
+
+/// Makes a model what a text says, line by line.
 fn apply_text(alloc: Global, model: &mut Model, text: &str) -> Result<()> {
     for (at, line) in text.lines().enumerate() {
-        let number = at.saturating_add(1);
         if at == 0 {
-            if let Some(head) = head_of(alloc, line).context("line 1 of the model")? {
-                drop(replace(model, head));
-                continue;
-            }
-        }
-        if !line.is_empty() {
-            apply_line(alloc, model, line).context(format_args!("line {number} of the model"))?;
+            apply_first(alloc, model, line)?;
+        } else {
+            apply_numbered(alloc, model, line, at.saturating_add(1))?;
         }
     }
     Ok(())

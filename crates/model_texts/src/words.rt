@@ -2,7 +2,7 @@
 ghost use Rattle.std.specs.Prelude.{IfOk};
 ghost use Rattle.frac128.specs.Range.{IsNarrow};
 
-use anyhow::{Result, bail};
+use anyhow::{Error, Result, anyhow};
 use frac_text::NumFault;
 use frac128::Frac;
 use lp_model::{Bound, List, Name};
@@ -37,14 +37,12 @@ impl Words {
 
     /// Takes the next word. Where there is none, that is told by what it was to be.
     pub fn next(&mut self, what: &str) -> Result<String> {
-        match self.words.get(self.taken) {
-            None => bail!("no {what} at the end of the line"),
-            Some(word) => {
-                let word = word.clone()?;
-                self.taken = self.taken.saturating_add(1);
-                Ok(word)
-            }
-        }
+        let Some(word) = self.words.get(self.taken) else {
+            return Err(anyhow!("no {what} at the end of the line"));
+        };
+        let word = word.clone()?;
+        self.taken = self.taken.saturating_add(1);
+        Ok(word)
     }
 
     /// Takes the next word where it is this one.
@@ -62,28 +60,39 @@ impl Words {
     /// Takes the next word, which is a number.
     pub fn number(&mut self) -> Result<Frac> {
         let word = self.next("number")?;
-        number_of(&word)
+        let number = number_of(&word);
+        drop(word);
+        number
     }
 
     /// Takes the next word, which is a range `LOW..HIGH`.
     pub fn range(&mut self) -> Result<(Bound, Bound)> {
         let word = self.next("range")?;
-        range_of(&word)
+        let range = range_of(&word);
+        drop(word);
+        range
     }
 
     /// Takes the next word, which is a name.
     pub fn name(&mut self, alloc: Global) -> Result<Name> {
         let word = self.next("name")?;
-        Ok(name_of(alloc, &word)?)
+        let name = name_of(alloc, &word);
+        drop(word);
+        Ok(name?)
     }
 
     /// Refuses a line of which a word is left.
     pub fn end(&self) -> Result<()> {
         match self.words.get(self.taken) {
             None => Ok(()),
-            Some(word) => bail!("a word too many: `{word}`"),
+            Some(word) => Err(fault("a word too many", word)),
         }
     }
+}
+
+/// What is wrong with a word.
+pub fn fault(what: &str, word: &str) -> Error {
+    anyhow!("{what}: `{word}`")
 }
 
 /// The name that a word is.
@@ -95,8 +104,8 @@ pub fn name_of(alloc: Global, word: &str) -> Result<Name, AllocError> {
 pub fn number_of(word: &str) -> Result<Frac> {
     match frac_text::parse(word.as_bytes()) {
         Ok(number) => Ok(number),
-        Err(NumFault::Wide) => bail!("a number that is too wide: `{word}`"),
-        Err(NumFault::NotNumber) => bail!("no number: `{word}`"),
+        Err(NumFault::Wide) => Err(fault("a number that is too wide", word)),
+        Err(NumFault::NotNumber) => Err(fault("no number", word)),
     }
 }
 
@@ -106,7 +115,7 @@ pub fn whole_of(word: &str) -> Result<i128>
 {
     let number = number_of(word)?;
     if !number.is_whole() {
-        bail!("no whole number: `{word}`");
+        return Err(fault("no whole number", word));
     }
     Ok(number.floor())
 }
@@ -120,12 +129,16 @@ fn side_of(word: &str) -> Result<Bound> {
     Ok(Some(number))
 }
 
-/// The sides of a range `LOW..HIGH`.
-pub fn range_of(word: &str) -> Result<(Bound, Bound)> {
-    let Some((low, high)) = word.split_once("..") else {
-        bail!("no range: `{word}`");
-    };
+fn sides_of(low: &str, high: &str) -> Result<(Bound, Bound)> {
     let low = side_of(low)?;
     let high = side_of(high)?;
     Ok((low, high))
+}
+
+/// The sides of a range `LOW..HIGH`.
+pub fn range_of(word: &str) -> Result<(Bound, Bound)> {
+    match word.split_once("..") {
+        Some((low, high)) => sides_of(low, high),
+        None => Err(fault("no range", word)),
+    }
 }

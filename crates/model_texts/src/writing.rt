@@ -44,13 +44,24 @@ pub fn push_variables(text: &mut String, model: &Model, list: &[Var]) -> Result<
     Ok(())
 }
 
+fn push_coordinate(
+    text: &mut String,
+    model: &Model,
+    place: usize,
+    number: &Frac,
+) -> Result<(), AllocError> {
+    match model.cols().get(place) {
+        Some(column) => push_words(text, " ", name_text(&column.name))?,
+        None => write!(text, " column#{place}")?,
+    }
+    text.push(' ')?;
+    push_number(text, number)
+}
+
 /// Writes the columns and numbers of a point, a blank before each.
 pub fn push_point(text: &mut String, model: &Model, point: &Point) -> Result<(), AllocError> {
     for (place, number) in point.as_slice().iter().enumerate() {
-        match model.cols().get(place) {
-            Some(column) => write!(text, " {} {number}", name_text(&column.name))?,
-            None => write!(text, " column#{place} {number}")?,
-        }
+        push_coordinate(text, model, place, number)?;
     }
     Ok(())
 }
@@ -60,7 +71,8 @@ pub fn push_multipliers(text: &mut String, model: &Model, list: &Mult) -> Result
     for (variable, number) in list.as_slice() {
         text.push(' ')?;
         push_variable(text, model, *variable)?;
-        write!(text, " {number}")?;
+        text.push(' ')?;
+        push_number(text, number)?;
     }
     Ok(())
 }
@@ -89,14 +101,19 @@ fn push_number(text: &mut String, number: &Frac) -> Result<(), AllocError> {
     write!(text, "{number}")
 }
 
+fn push_words(text: &mut String, word: &str, name: &str) -> Result<(), AllocError> {
+    text.push_str(word)?;
+    text.push_str(name)
+}
+
 /// Writes why an edit is refused.
 pub fn push_edit_fault(text: &mut String, fault: &EditFault) -> Result<(), AllocError> {
     match fault {
-        EditFault::NoSuch(name) => write!(text, "no such {}", name_text(name)),
-        EditFault::Duplicate(name) => write!(text, "duplicate {}", name_text(name)),
+        EditFault::NoSuch(name) => push_words(text, "no such ", name_text(name)),
+        EditFault::Duplicate(name) => push_words(text, "duplicate ", name_text(name)),
         EditFault::Limit(limit) => write!(text, "limit {limit}"),
-        EditFault::IntegerUnbounded(name) => write!(text, "unbounded {}", name_text(name)),
-        EditFault::Ranged(name) => write!(text, "no range {}", name_text(name)),
+        EditFault::IntegerUnbounded(name) => push_words(text, "unbounded ", name_text(name)),
+        EditFault::Ranged(name) => push_words(text, "no range ", name_text(name)),
         EditFault::Memory => text.push_str("no memory"),
     }
 }
@@ -109,7 +126,7 @@ fn push_pair(
     first: Var,
     second: Var,
 ) -> Result<(), AllocError> {
-    write!(text, "{word} ")?;
+    push_words(text, word, " ")?;
     push_variable(text, model, first)?;
     text.push(' ')?;
     push_variable(text, model, second)
