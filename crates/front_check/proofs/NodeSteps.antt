@@ -7,7 +7,6 @@ use Rattle.lp_model.specs.Program.{Program}
 use Rattle.lp_model.specs.declared.types.WideStep.{WideStep}
 use Rattle.cert_text.specs.declared.cert.Claim.{Claim}
 use Rattle.cert_text.specs.declared.cert.Claim.TheVariants.{Optimal}
-use Rattle.cert_text.specs.declared.cert.NamedCut.{NamedCut}
 use Rattle.cert_check.specs.declared.verdict.Judgement.{Judgement}
 use Rattle.cert_check.specs.declared.verdict.Judgement.TheVariants.{Passes, Breaks, NoRoom}
 use Rattle.cert_check.specs.declared.verdict.Verdict.{Verdict}
@@ -37,10 +36,6 @@ module _ (t : TargetedModel) (part : Part) (is : IsPart t part) (s : FrontTree) 
   part_verdict v h =
       subst (λ M. IsTreeVerdict (formulation_by M s.cuts) (Optimal (int t.target)) s.nodes v) is.model
       (subst (λ claim. IsTreeVerdict (formulation_by part.model s.cuts) claim s.nodes v) is.claim h)
-
--- the same cuts and the same judgement
-pub told_cuts : (M : Program) (cuts same : List NamedCut) (j k : Judgement) → cuts ≡ same → j ≡ k → AreCutsJudged M cuts j → AreCutsJudged M same k
-told_cuts M cuts same j k e f h = subst (AreCutsJudged M same) f (subst (λ cs. AreCutsJudged M cs j) e h)
 
 -- ---- the trees from a place on
 

@@ -1,15 +1,17 @@
 // The judging of a certificate of a front.
-ghost use Rattle.std.specs.Prelude.{◌≡◌, ◌+◌, map, true, false, All, IfOk};
+ghost use Rattle.std.specs.Prelude.{◌≡◌, ◌+◌, ◌<◌, length, get_or, map, true, false, All, IfOk};
 ghost use Rattle.inner_models.specs.Inner.{bare_model};
 ghost use Rattle.inner_models.specs.Room.{HasInnerRoom};
 ghost use Rattle.cert_check.specs.declared.verdict.Judgement.TheVariants.{Passes};
 ghost use Rattle.cert_check.specs.Cuts.{formulation_by, AreCutsJudged};
 ghost use Rattle.cert_check.specs.Trees.{IsTreeVerdict};
 ghost use Rattle.front_text.specs.Whole.{IsWholeTree, IsFrontCertificate};
-ghost use Rattle.front_check.specs.Accepted.{tree_names};
-ghost use Rattle.front_check.specs.Verdict.{AreObjectivesJudged, AreTreesJudged, AreAllCutsJudged, IsFrontVerdict};
+ghost use Rattle.front_check.specs.Accepted.{TargetedModel, tree_names};
+ghost use Rattle.front_check.specs.declared.verdict.FrontVerdict.TheVariants.{Rejected, Wide};
+ghost use Rattle.front_check.specs.declared.trees.Part.{Part as APart};
+ghost use Rattle.front_check.specs.Verdict.{HasWholeObjectives, AreObjectivesJudged, AreTreesJudged, AreAllCutsJudged, IsFrontVerdict};
 ghost use Rattle.front_check.specs.private.Found.{AreRoomy};
-ghost use Rattle.front_check.specs.private.Parts.{parts_by_outcomes, DoGapsFit, AreHeadsOf, IsNodesOutcome, IsTreesOutcome};
+ghost use Rattle.front_check.specs.private.Parts.{parts_by_outcomes, DoGapsFit, IsPart, AreCutsJudgedAt, IsTreeJudgedAt, AreHeadsOf, IsNodesOutcome, IsTreesOutcome};
 
 use crate::outcomes::{BareOutcomes, FoundOutcomes, judge_outcomes};
 use crate::trees::{Part, are_named, fit_gaps, part_at};
@@ -19,7 +21,7 @@ use cert_text::NamedCut;
 use front_text::{FrontCert, FrontTree};
 use gap_models::bare_model;
 use inner_models::bare_room_law;
-use lp_model::{Model, show_model};
+use lp_model::{Model, WideStep, show_model};
 use model_points::has_whole_objective;
 use std::alloc::{AllocError, Global};
 
@@ -59,6 +61,28 @@ fn judge_tree_cuts(alloc: Global, model: &Model, cuts: &[NamedCut]) -> Result<Ju
     }
 }
 
+/// The judgement of the cuts of the tree at a place from 0.
+fn judge_cuts_at(
+    alloc: Global,
+    bare: &Model,
+    outcomes: &BareOutcomes,
+    place: usize,
+    tree: &FrontTree,
+) -> Result<Judgement, AllocError>
+    requires room { (bare.now.wide ≡ true) × HasInnerRoom bare.now }
+    requires roomy { AreRoomy outcomes.now }
+    requires fits { DoGapsFit bare.now outcomes.now }
+    requires place { place < length outcomes.now.rest.items + 2 }
+    ensures { IfOk result (AreCutsJudgedAt bare.now outcomes.now place tree.now) }
+{
+    let Ok(part) = part_at(alloc, bare, outcomes, place) else {
+        return Err(AllocError);
+    };
+    let judged = judge_tree_cuts(alloc, &part.model, tree.cuts.as_slice());
+    drop(part);
+    judged
+}
+
 /// The judgement of the cuts of all trees.
 fn judge_all_cuts(
     alloc: Global,
@@ -73,8 +97,10 @@ fn judge_all_cuts(
     ensures { IfOk result (AreAllCutsJudged (parts_by_outcomes bare.now outcomes.now) trees.now) }
 {
     for (index, tree) in trees.iter().enumerate() {
-        let part = part_at(alloc, bare, outcomes, index)?;
-        match judge_tree_cuts(alloc, &part.model, tree.cuts.as_slice())? {
+        let Ok(judged) = judge_cuts_at(alloc, bare, outcomes, index, tree) else {
+            return Err(AllocError);
+        };
+        match judged {
             Judgement::Passes => {}
             Judgement::Breaks(why) => return Ok(Judgement::Breaks(why)),
             Judgement::NoRoom(step) => return Ok(Judgement::NoRoom(step)),
@@ -131,6 +157,50 @@ fn numbered(before: u64, node: u64) -> Result<u64, AllocError>
     }
 }
 
+/// The verdict on the nodes of the tree at a place from 0, whose cuts pass.
+fn judge_nodes_at(
+    alloc: Global,
+    bare: &Model,
+    outcomes: &BareOutcomes,
+    place: usize,
+    tree: &FrontTree,
+) -> Result<Verdict, AllocError>
+    requires room { (bare.now.wide ≡ true) × HasInnerRoom bare.now }
+    requires roomy { AreRoomy outcomes.now }
+    requires fits { DoGapsFit bare.now outcomes.now }
+    requires place { place < length outcomes.now.rest.items + 2 }
+    requires cuts { (part : APart) → ((t : TargetedModel) → IsPart (get_or (parts_by_outcomes bare.now outcomes.now) place t) part) → AreCutsJudged part.model tree.now.cuts Passes }
+    requires tree { IsWholeTree tree.now }
+    ensures { IfOk result (IsTreeJudgedAt bare.now outcomes.now place tree.now) }
+{
+    let Ok(part) = part_at(alloc, bare, outcomes, place) else {
+        return Err(AllocError);
+    };
+    let verdict = judge_tree(alloc, &part, tree);
+    drop(part);
+    verdict
+}
+
+/// A node of a tree is rejected, behind so many nodes.
+fn rejected(before: u64, node: u64, why: u8) -> Result<FrontVerdict, AllocError>
+    ensures { IfOk result (λ v. v ≡ Rejected (before + node) why) }
+{
+    match numbered(before, node) {
+        Ok(node) => Ok(FrontVerdict::Rejected { node, why }),
+        Err(error) => Err(error),
+    }
+}
+
+/// A step of a node of a tree has no room, behind so many nodes.
+fn wide(before: u64, node: u64, step: WideStep) -> Result<FrontVerdict, AllocError>
+    ensures { IfOk result (λ v. v ≡ Wide (before + node) step) }
+{
+    match numbered(before, node) {
+        Ok(node) => Ok(FrontVerdict::Wide { node, step }),
+        Err(error) => Err(error),
+    }
+}
+
 /// The verdict on the nodes of all trees, whose cuts pass.
 fn judge_nodes(
     alloc: Global,
@@ -148,19 +218,18 @@ fn judge_nodes(
 {
     let mut before: u64 = 0;
     for (index, tree) in trees.iter().enumerate() {
-        let part = part_at(alloc, bare, outcomes, index)?;
-        match judge_tree(alloc, &part, tree)? {
+        let Ok(verdict) = judge_nodes_at(alloc, bare, outcomes, index, tree) else {
+            return Err(AllocError);
+        };
+        match verdict {
             Verdict::Accepted(_) => {}
-            Verdict::Rejected { node, why } => {
-                let node = numbered(before, node)?;
-                return Ok(FrontVerdict::Rejected { node, why });
-            }
-            Verdict::Wide { node, step } => {
-                let node = numbered(before, node)?;
-                return Ok(FrontVerdict::Wide { node, step });
-            }
+            Verdict::Rejected { node, why } => return rejected(before, node, why),
+            Verdict::Wide { node, step } => return wide(before, node, step),
         }
-        before = numbered(before, tree.nodes.as_slice().len() as u64)?;
+        let Ok(after) = numbered(before, tree.nodes.as_slice().len() as u64) else {
+            return Err(AllocError);
+        };
+        before = after;
     }
     Ok(FrontVerdict::Accepted {
         outcomes: outcomes.rest.len() as u64 + 1,
@@ -186,6 +255,35 @@ fn judge_trees(
     }
 }
 
+/// The verdict on outcomes and trees, where both objectives are whole.
+fn check_beside(
+    alloc: Global,
+    model: &Model,
+    bare: &Model,
+    cert: &FrontCert,
+) -> Result<FrontVerdict, AllocError>
+    requires certificate { IsFrontCertificate cert.now }
+    requires whole { HasWholeObjectives model.now }
+    requires bare { bare.now ≡ bare_model model.now }
+    requires room { (bare.now.wide ≡ true) × HasInnerRoom bare.now }
+    ensures { IfOk result (IsFrontVerdict model.now cert.now) }
+{
+    let Ok(found) = judge_outcomes(alloc, model, bare, cert.outcomes.as_slice()) else {
+        return Err(AllocError);
+    };
+    match found {
+        FoundOutcomes::Stand(found) => {
+            let verdict = judge_trees(alloc, bare, &found, cert.trees.as_slice());
+            drop(found);
+            verdict
+        }
+        FoundOutcomes::Fail(Judgement::Breaks(why)) => Ok(FrontVerdict::Rejected { node: 0, why }),
+        FoundOutcomes::Fail(Judgement::NoRoom(step)) => Ok(FrontVerdict::Wide { node: 0, step }),
+        // what fails is no pass
+        FoundOutcomes::Fail(Judgement::Passes) => unreachable!(),
+    }
+}
+
 /// Whether the certificate is accepted for the model: its outcomes are the front of the model. Else the first of its parts that does
 /// not hold, or has a step of arithmetic without room, in this order: the objectives, the outcomes, which trees there are, the cuts of
 /// all trees, and the nodes of all trees. Memory is linear in the model and the certificate.
@@ -205,13 +303,10 @@ pub fn check_front(
     }
     show_model(model);
     bare_room_law();
-    let bare = bare_model(alloc, model)?;
-    let outcomes = cert.outcomes.as_slice();
-    match judge_outcomes(alloc, model, &bare, outcomes)? {
-        FoundOutcomes::Stand(found) => judge_trees(alloc, &bare, &found, cert.trees.as_slice()),
-        FoundOutcomes::Fail(Judgement::Breaks(why)) => Ok(FrontVerdict::Rejected { node: 0, why }),
-        FoundOutcomes::Fail(Judgement::NoRoom(step)) => Ok(FrontVerdict::Wide { node: 0, step }),
-        // what fails is no pass
-        FoundOutcomes::Fail(Judgement::Passes) => unreachable!(),
-    }
+    let Ok(bare) = bare_model(alloc, model) else {
+        return Err(AllocError);
+    };
+    let verdict = check_beside(alloc, model, &bare, cert);
+    drop(bare);
+    verdict
 }

@@ -1,11 +1,11 @@
 -- Each inner model is its base, edited so.
-use Rattle.std.specs.Prelude.{◌≡◌, ℕ, ℤ, ◌*ℤ◌, List, map, pos, All}
-use Rattle.std.proofs.Common.{refl, sym, ap, subst, ◌∙◌}
+use Rattle.std.specs.Prelude.{◌≡◌, ℤ, ◌*ℤ◌, pos, All}
+use Rattle.std.proofs.Common.{sym, ap, subst, ◌∙◌}
 use Rattle.frac128.specs.Rational.{ℚ, int, ◌+ℚ◌, ◌*ℚ◌}
 use Rattle.lp_model.specs.Program.{Program}
 use Rattle.lp_model.specs.Edits.{edited, EditFits}
 use Rattle.lp_model.specs.declared.types.Col.{Col}
-use Rattle.inner_models.specs.Inner.{with_objective, row_terms, row_terms_less_z, capped, z_name, g1_name, g2_name, least2_model, left_model, right_model, pull_model, gap_model}
+use Rattle.inner_models.specs.Inner.{with_objective, row_terms, row_terms_less_z, capped, g1_name, g2_name, left_model, right_model, pull_model, gap_model}
 use Rattle.inner_models.specs.Room.{HasFittingEdits}
 use Rattle.gap_models.specs.declared.gaps.Gap.{Gap}
 use Rattle.gap_models.specs.Gaps.{HasTerms, IsGapOf, FitsGap}

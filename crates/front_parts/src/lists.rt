@@ -25,7 +25,10 @@ pub(crate) fn objective_costs(
 {
     let mut list = Vec::new(alloc);
     for col in cols {
-        list.push(*col.cost_in(which))?;
+        let Ok(()) = list.push(*col.cost_in(which)) else {
+            drop(list);
+            return Err(AllocError);
+        };
     }
     Ok(list)
 }
@@ -37,7 +40,10 @@ pub(crate) fn zero_costs(alloc: Global, cols: &[Col]) -> Result<Vec<Frac>, Alloc
     let mut list = Vec::new(alloc);
     for col in cols {
         let _cost = col.cost_in(1);
-        list.push(Frac::whole(0))?;
+        let Ok(()) = list.push(Frac::whole(0)) else {
+            drop(list);
+            return Err(AllocError);
+        };
     }
     Ok(list)
 }
@@ -51,9 +57,11 @@ pub fn sums(alloc: Global, model: &Model) -> Result<Vec<Frac>, SumsFault>
     let mut list = Vec::new(alloc);
     for (index, col) in model.cols().iter().enumerate() {
         let Ok(sum) = col.cost.add(&col.cost2) else {
+            drop(list);
             return Err(SumsFault::Wide(ColId(index as u32)));
         };
         let Ok(()) = list.push(sum) else {
+            drop(list);
             return Err(SumsFault::Memory);
         };
     }
@@ -68,7 +76,9 @@ pub fn push_named(
 ) -> Result<(), AllocError>
     ensures { IfOk result (λ _. list.new ≡ list.old ++ (name.now, number) ∷ []) }
 {
-    let name = copy_name(name)?;
+    let Ok(name) = copy_name(name) else {
+        return Err(AllocError);
+    };
     list.push((name, number))
 }
 
@@ -82,7 +92,10 @@ pub(crate) fn objective_terms(
 {
     let mut list = List::new(alloc);
     for col in model.cols() {
-        push_named(&mut list, &col.name, *col.cost_in(which))?;
+        let Ok(()) = push_named(&mut list, &col.name, *col.cost_in(which)) else {
+            drop(list);
+            return Err(AllocError);
+        };
     }
     Ok(list)
 }

@@ -31,7 +31,9 @@ fn put_objective<S: Solver>(
     ensures edited { OnOk result (S.program solver.new ≡ with_objective (λ c. if nat_eq which 2 then c.cost2 else c.cost) base.now) }
     ensures steady { OnOk result (AddsNoStop (S.stops solver.new) (S.stops solver.old)) }
 {
-    let costs = objective_costs(alloc, base.cols(), which)?;
+    let Ok(costs) = objective_costs(alloc, base.cols(), which) else {
+        return Err(AllocError);
+    };
     set_objective(solver, base, &costs)
 }
 
@@ -41,7 +43,9 @@ fn put_zeros<S: Solver>(alloc: Global, solver: &mut S, base: &Model) -> Result<(
     ensures edited { OnOk result (S.program solver.new ≡ with_objective (λ c. int (pos 0)) base.now) }
     ensures steady { OnOk result (AddsNoStop (S.stops solver.new) (S.stops solver.old)) }
 {
-    let costs = zero_costs(alloc, base.cols())?;
+    let Ok(costs) = zero_costs(alloc, base.cols()) else {
+        return Err(AllocError);
+    };
     set_objective(solver, base, &costs)
 }
 
@@ -51,8 +55,13 @@ fn put_zeros<S: Solver>(alloc: Global, solver: &mut S, base: &Model) -> Result<(
 fn first_cap(alloc: Global, base: &Model, which: u8, hi: &Frac) -> Result<Cap, AllocError>
     ensures { IfOk result (IsCapNamed (g1_name base.now) hi.now (row_terms (λ c. if nat_eq which 2 then c.cost2 else c.cost) base.now)) }
 {
-    let name = g1_name(alloc, base)?;
-    let entries = objective_terms(alloc, base, which)?;
+    let Ok(name) = g1_name(alloc, base) else {
+        return Err(AllocError);
+    };
+    let Ok(entries) = objective_terms(alloc, base, which) else {
+        drop(name);
+        return Err(AllocError);
+    };
     Ok(Cap {
         name,
         hi: *hi,
@@ -64,8 +73,13 @@ fn first_cap(alloc: Global, base: &Model, which: u8, hi: &Frac) -> Result<Cap, A
 fn second_cap(alloc: Global, base: &Model, hi: &Frac) -> Result<Cap, AllocError>
     ensures { IfOk result (IsCapNamed (g2_name base.now) hi.now (row_terms (λ c. c.cost2) base.now)) }
 {
-    let name = g2_name(alloc, base)?;
-    let entries = objective_terms(alloc, base, 2)?;
+    let Ok(name) = g2_name(alloc, base) else {
+        return Err(AllocError);
+    };
+    let Ok(entries) = objective_terms(alloc, base, 2) else {
+        drop(name);
+        return Err(AllocError);
+    };
     Ok(Cap {
         name,
         hi: *hi,
@@ -78,10 +92,25 @@ fn gap_extension(alloc: Global, base: &Model, gap: &Gap) -> Result<Extension, Al
     requires { All (HasTerms gap.now.a gap.now.b) base.now.cols }
     ensures { IfOk result (IsExtensionOf base.now gap.now) }
 {
-    let column = z_name(alloc, base)?;
-    let GapRows { first, second } = gap_rows(alloc, base, gap, &column)?;
-    let first_name = g1_name(alloc, base)?;
-    let second_name = g2_name(alloc, base)?;
+    let Ok(column) = z_name(alloc, base) else {
+        return Err(AllocError);
+    };
+    let Ok(rows) = gap_rows(alloc, base, gap, &column) else {
+        drop(column);
+        return Err(AllocError);
+    };
+    let Ok(first_name) = g1_name(alloc, base) else {
+        drop(column);
+        drop(rows);
+        return Err(AllocError);
+    };
+    let Ok(second_name) = g2_name(alloc, base) else {
+        drop(column);
+        drop(rows);
+        drop(first_name);
+        return Err(AllocError);
+    };
+    let GapRows { first, second } = rows;
     Ok(Extension {
         column,
         up: gap.width,
@@ -112,7 +141,9 @@ pub fn solve_least1<S: Solver>(
     ensures steady { OnOk result (AddsNoStop (S.stops solver.new) (S.stops solver.old)) }
     ensures solved { IfOk result (HasSolved (S.stops solver.old) base.now nodes) }
 {
-    put_objective(alloc, solver, base, 1)?;
+    let Ok(()) = put_objective(alloc, solver, base, 1) else {
+        return Err(AllocError);
+    };
     solve_model(solver, nodes)
 }
 
@@ -128,7 +159,9 @@ pub fn solve_least2<S: Solver>(
     ensures steady { OnOk result (AddsNoStop (S.stops solver.new) (S.stops solver.old)) }
     ensures solved { IfOk result (HasSolved (S.stops solver.old) (least2_model base.now) nodes) }
 {
-    put_objective(alloc, solver, base, 2)?;
+    let Ok(()) = put_objective(alloc, solver, base, 2) else {
+        return Err(AllocError);
+    };
     solve_model(solver, nodes)
 }
 
@@ -147,8 +180,13 @@ pub fn solve_left<S: Solver>(
     ensures steady { OnOk result (AddsNoStop (S.stops solver.new) (S.stops solver.old)) }
     ensures solved { (i1 : ℤ) → least.now ≡ int i1 → IfOk result (HasSolved (S.stops solver.old) (left_model base.now i1) nodes) }
 {
-    let cap = first_cap(alloc, base, 1, least)?;
-    put_objective(alloc, solver, base, 2)?;
+    let Ok(cap) = first_cap(alloc, base, 1, least) else {
+        return Err(AllocError);
+    };
+    let Ok(()) = put_objective(alloc, solver, base, 2) else {
+        drop(cap);
+        return Err(AllocError);
+    };
     solve_capped(solver, cap, nodes)
 }
 
@@ -167,8 +205,13 @@ pub fn solve_right<S: Solver>(
     ensures steady { OnOk result (AddsNoStop (S.stops solver.new) (S.stops solver.old)) }
     ensures solved { (i2 : ℤ) → least.now ≡ int i2 → IfOk result (HasSolved (S.stops solver.old) (right_model base.now i2) nodes) }
 {
-    let cap = first_cap(alloc, base, 2, least)?;
-    put_objective(alloc, solver, base, 1)?;
+    let Ok(cap) = first_cap(alloc, base, 2, least) else {
+        return Err(AllocError);
+    };
+    let Ok(()) = put_objective(alloc, solver, base, 1) else {
+        drop(cap);
+        return Err(AllocError);
+    };
     solve_capped(solver, cap, nodes)
 }
 
@@ -190,9 +233,18 @@ pub fn solve_pull<S: Solver>(
     ensures steady { OnOk result (AddsNoStop (S.stops solver.new) (S.stops solver.old)) }
     ensures solved { (r1 r2 : ℤ) → most1.now ≡ int r1 → most2.now ≡ int r2 → IfOk result (HasSolved (S.stops solver.old) (pull_model base.now r1 r2) nodes) }
 {
-    let first = first_cap(alloc, base, 1, most1)?;
-    let second = second_cap(alloc, base, most2)?;
-    set_objective(solver, base, sums)?;
+    let Ok(first) = first_cap(alloc, base, 1, most1) else {
+        return Err(AllocError);
+    };
+    let Ok(second) = second_cap(alloc, base, most2) else {
+        drop(first);
+        return Err(AllocError);
+    };
+    let Ok(()) = set_objective(solver, base, sums) else {
+        drop(first);
+        drop(second);
+        return Err(AllocError);
+    };
     solve_capped_twice(solver, first, second, nodes)
 }
 
@@ -212,7 +264,12 @@ pub fn solve_gap<S: Solver>(
     ensures steady { OnOk result (AddsNoStop (S.stops solver.new) (S.stops solver.old)) }
     ensures solved { (a b i1 i2 : ℤ) → IsGapOf a b i1 i2 gap.now → IfOk result (HasSolved (S.stops solver.old) (gap_model base.now a b i1 i2) nodes) }
 {
-    let more = gap_extension(alloc, base, gap)?;
-    put_zeros(alloc, solver, base)?;
+    let Ok(more) = gap_extension(alloc, base, gap) else {
+        return Err(AllocError);
+    };
+    let Ok(()) = put_zeros(alloc, solver, base) else {
+        drop(more);
+        return Err(AllocError);
+    };
     solve_extended(alloc, solver, more, nodes)
 }

@@ -74,10 +74,22 @@ pub fn solve_capped<S: Solver>(solver: &mut S, cap: Cap, nodes: u64) -> Result<S
     ensures solved { IfOk result (HasSolved (S.stops solver.old) (edited (S.program solver.old) (capped cap.name cap.hi cap.entries)) nodes) }
 {
     lawful_model(solver);
-    let name = copy_name(&cap.name)?;
-    add_cap(solver, cap)?;
-    let solved = solve_model(solver, nodes)?;
-    take_row(solver, name)?;
+    let Ok(name) = copy_name(&cap.name) else {
+        drop(cap);
+        return Err(AllocError);
+    };
+    let Ok(()) = add_cap(solver, cap) else {
+        drop(name);
+        return Err(AllocError);
+    };
+    let Ok(solved) = solve_model(solver, nodes) else {
+        drop(name);
+        return Err(AllocError);
+    };
+    let Ok(()) = take_row(solver, name) else {
+        drop(solved);
+        return Err(AllocError);
+    };
     Ok(solved)
 }
 
@@ -95,10 +107,24 @@ pub fn solve_capped_twice<S: Solver>(
     ensures solved { IfOk result (HasSolved (S.stops solver.old) (edited (edited (S.program solver.old) (capped first.name first.hi first.entries)) (capped second.name second.hi second.entries)) nodes) }
 {
     lawful_model(solver);
-    let name = copy_name(&first.name)?;
-    add_cap(solver, first)?;
-    let solved = solve_capped(solver, second, nodes)?;
-    take_row(solver, name)?;
+    let Ok(name) = copy_name(&first.name) else {
+        drop(first);
+        drop(second);
+        return Err(AllocError);
+    };
+    let Ok(()) = add_cap(solver, first) else {
+        drop(second);
+        drop(name);
+        return Err(AllocError);
+    };
+    let Ok(solved) = solve_capped(solver, second, nodes) else {
+        drop(name);
+        return Err(AllocError);
+    };
+    let Ok(()) = take_row(solver, name) else {
+        drop(solved);
+        return Err(AllocError);
+    };
     Ok(solved)
 }
 
@@ -117,15 +143,29 @@ pub fn solve_extended<S: Solver>(
     ensures solved { IfOk result (HasSolved (S.stops solver.old) (edited (edited (edited (S.program solver.old) (whole_column more.column more.up)) (capped more.first.name more.first.hi more.first.entries)) (capped more.second.name more.second.hi more.second.entries)) nodes) }
 {
     lawful_model(solver);
-    let name = copy_name(&more.column)?;
+    let Ok(name) = copy_name(&more.column) else {
+        drop(more);
+        return Err(AllocError);
+    };
     let Extension {
         column,
         up,
         first,
         second,
     } = more;
-    add_column(alloc, solver, column, up)?;
-    let solved = solve_capped_twice(solver, first, second, nodes)?;
-    take_column(solver, name)?;
+    let Ok(()) = add_column(alloc, solver, column, up) else {
+        drop(first);
+        drop(second);
+        drop(name);
+        return Err(AllocError);
+    };
+    let Ok(solved) = solve_capped_twice(solver, first, second, nodes) else {
+        drop(name);
+        return Err(AllocError);
+    };
+    let Ok(()) = take_column(solver, name) else {
+        drop(solved);
+        return Err(AllocError);
+    };
     Ok(solved)
 }

@@ -134,6 +134,13 @@ module _ (g : Task) (base : IsBase g.base) (gap : GapAt) (at : IsGapToLookInto g
       → IsFirstWideScale g.base g.constant1 g.constant2 gap.least1 gap.least2 (part.Gap gap.p gap.q) Value
   gap_wide x fits is wide = (fits, (o.point, (h.optimum, subst (IsWideOutcome g.base g.constant1 g.constant2) is wide)))
 
+  pub gap_halts : FitsGap g.base (gap.p.f2 -ℤ gap.least2) (gap.q.f1 -ℤ gap.least1) gap.least1 gap.least2 → (halt : Halt)
+      → IsNotFoundAtPoint g.base g.constant1 g.constant2 (take (length g.base.cols) o.point) halt
+      → IsWideHalt (IsFirstWideScale g.base g.constant1 g.constant2 gap.least1 gap.least2 (part.Gap gap.p gap.q)) halt
+  gap_halts fits (Stopped why results bound best) h = absurd h
+  gap_halts fits (Wide place) h = subst (IsFirstWideScale g.base g.constant1 g.constant2 gap.least1 gap.least2 (part.Gap gap.p gap.q)) (sym h.0) (gap_wide (take (length g.base.cols) o.point) fits refl h.1)
+  gap_halts fits Memory h = tt
+
 -- ---- why a sweep ends at a gap, and at a pull
 
 module _ (stops : Program → ℕ → Answer → Type 0) (N : Program) (nodes : ℕ) (c d i1 i2 : ℤ) where

@@ -7,6 +7,7 @@ pub mod WholeParts
 pub mod SettledParts
 pub mod EndSteps
 pub mod EndHalts
+pub mod FoundEnds
 pub mod ShownOutcomes
 pub mod FrontSteps
 pub mod GapEnds

@@ -6,12 +6,13 @@ ghost use Rattle.model_points.specs.Answers.{IsFeasibilityAnswer};
 ghost use Rattle.inner_models.specs.Inner.{least2_model};
 ghost use Rattle.front_solver.specs.Solved.{IsRecosted};
 ghost use Rattle.wcn_driver.specs.declared.answers.Part.TheVariants.{Left, Least2, Right};
+ghost use Rattle.wcn_driver.specs.declared.settling.Optimum.{Optimum as AnOptimum};
 ghost use Rattle.wcn_driver.specs.Parts.{IsLeastFeasibleValue};
 ghost use Rattle.wcn_driver.specs.Answers.{IsWideOutcome};
 ghost use Rattle.wcn_driver.specs.private.Tasks.{IsSweepTask};
-ghost use Rattle.wcn_driver.specs.private.Settled.{IsHalt, IsPartOptimum};
+ghost use Rattle.wcn_driver.specs.private.Settled.{CanSettle, CountsWithin, IsOptimumOf, IsHalt, IsPartOptimum};
 ghost use Rattle.wcn_driver.specs.private.Kept.{Stays, UnlessMemory};
-ghost use Rattle.wcn_driver.specs.private.Ends.{IsLeftEnd, IsLeastFirst, IsLeastSecond, IsRightEnd, IsFirstEnd, UnlessFirstMemory, IsFoundAtPoint, IsNotFoundAtPoint};
+ghost use Rattle.wcn_driver.specs.private.Ends.{IsLeftEnd, IsLeastFirst, IsLeastSecond, IsRightEnd, IsFirstEnd, UnlessFirstMemory, IsFoundAtPoint, IsNotFoundAtPoint, IsSettledFound, IsSettledHalt};
 
 use crate::answers::ScalePlace;
 use crate::found::{Found, found_at};
@@ -21,7 +22,7 @@ use crate::trees::front_tree;
 use cert_text::Cert;
 use frac128::Frac;
 use front_parts::{solve_least1, solve_least2, solve_left, solve_right};
-use front_solver::Solver;
+use front_solver::{Solved, Solver};
 use front_text::{FrontTree, TreeOf};
 use lp_model::Point;
 use std::alloc::Global;
@@ -53,7 +54,7 @@ pub(crate) enum FirstEnd {
 }
 
 /// The outcome of a point that was judged feasible, or that its numbers have no room, or that there is no memory.
-pub(crate) fn found_of(alloc: Global, task: &Task, point: &Point) -> Result<Found, Halt>
+fn found_of(alloc: Global, task: &Task, point: &Point) -> Result<Found, Halt>
     requires task { IsSweepTask task.now }
     requires judged { IsFeasibilityAnswer task.now.base point.now (Ok true) }
     ensures found { IfOk result (IsFoundAtPoint task.now.base task.now.constant1 task.now.constant2 point.now) }
@@ -65,6 +66,33 @@ pub(crate) fn found_of(alloc: Global, task: &Task, point: &Point) -> Result<Foun
     match found_at(alloc, task, &outcome, point) {
         Ok(found) => Ok(found),
         Err(_) => Err(Halt::Memory),
+    }
+}
+
+/// The outcome of the optimum that is answered, or why there is none.
+pub(crate) fn settled_found(
+    alloc: Global,
+    task: &Task,
+    solved: Solved,
+    before: u64,
+) -> Result<PartFound, Halt>
+    requires task { IsSweepTask task.now }
+    requires can { CanSettle solved.answer solved.cert }
+    requires count { CountsWithin before solved.answer }
+    requires judged { (o : AnOptimum) → IsOptimumOf before solved o → IsFeasibilityAnswer task.now.base o.point (Ok true) }
+    ensures found { IfOk result (IsSettledFound task.now before solved) }
+    ensures halt { IfErr result (IsSettledHalt task.now before solved) }
+{
+    let optimum = match settle(solved, before) {
+        Ok(optimum) => optimum,
+        Err(halt) => return Err(halt),
+    };
+    let results = optimum.results;
+    let found = found_of(alloc, task, &optimum.point);
+    drop(optimum);
+    match found {
+        Ok(found) => Ok(PartFound { found, results }),
+        Err(halt) => Err(halt),
     }
 }
 
@@ -142,12 +170,7 @@ pub(crate) fn left_end<S: Solver>(
     let Ok(solved) = solve_left(alloc, solver, &task.base, &most, task.nodes - before) else {
         return Err(Halt::Memory);
     };
-    let optimum = settle(solved, before)?;
-    let found = found_of(alloc, task, &optimum.point)?;
-    Ok(PartFound {
-        found,
-        results: optimum.results,
-    })
+    settled_found(alloc, task, solved, before)
 }
 
 /// The last outcome: the least first value where the second one is least.
@@ -172,12 +195,7 @@ pub(crate) fn right_end<S: Solver>(
     let Ok(solved) = solve_right(alloc, solver, &task.base, &most, task.nodes - before) else {
         return Err(Halt::Memory);
     };
-    let optimum = settle(solved, before)?;
-    let found = found_of(alloc, task, &optimum.point)?;
-    Ok(PartFound {
-        found,
-        results: optimum.results,
-    })
+    settled_found(alloc, task, solved, before)
 }
 
 /// The least second value, where there is a feasible point.
@@ -199,7 +217,10 @@ pub(crate) fn least_second<S: Solver>(
     let Ok(solved) = solve_least2(alloc, solver, &task.base, task.nodes - before) else {
         return Err(Halt::Memory);
     };
-    let optimum = settle(solved, before)?;
+    let optimum = match settle(solved, before) {
+        Ok(optimum) => optimum,
+        Err(halt) => return Err(halt),
+    };
     match second_least(task, optimum) {
         Some(least) => Ok(least),
         None => Err(Halt::Wide(ScalePlace::Value)),

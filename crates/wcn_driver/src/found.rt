@@ -34,7 +34,10 @@ fn named_point(
     let numbers = point.as_slice();
     let mut named = List::new(alloc);
     for (index, col) in model.cols().iter().enumerate() {
-        push_named(&mut named, &col.name, numbers[index])?;
+        let Ok(()) = push_named(&mut named, &col.name, numbers[index]) else {
+            drop(named);
+            return Err(AllocError);
+        };
     }
     Ok(named)
 }
@@ -52,7 +55,9 @@ pub(crate) fn found_at(
     ensures outcome { IfOk result (λ f. f.outcome ≡ outcome.now) }
     ensures shown { IfOk result (λ f. IsShownBy task.now.base task.now.constant1 task.now.constant2 outcome.now f.shown) }
 {
-    let named = named_point(alloc, &task.base, point)?;
+    let Ok(named) = named_point(alloc, &task.base, point) else {
+        return Err(AllocError);
+    };
     Ok(Found {
         outcome: *outcome,
         shown: FrontOutcome {

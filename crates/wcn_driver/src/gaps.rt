@@ -9,13 +9,14 @@ ghost use Rattle.front_sweeps.specs.Steps.{gap_between, width_between};
 ghost use Rattle.front_solver.specs.Solved.{IsRecosted};
 ghost use Rattle.wcn_driver.specs.declared.answers.Part.TheVariants.{Gap as PartGap, Pull};
 ghost use Rattle.wcn_driver.specs.private.Tasks.{IsSweepTask};
-ghost use Rattle.wcn_driver.specs.Answers.{IsFirstWideScale};
+ghost use Rattle.wcn_driver.specs.Answers.{HasNarrowOutcome, IsFirstWideScale};
+ghost use Rattle.wcn_driver.specs.private.Ends.{IsNotFoundAtPoint};
 ghost use Rattle.wcn_driver.specs.private.Settled.{IsHalt, IsPartOptimum};
 ghost use Rattle.wcn_driver.specs.private.Kept.{Stays, UnlessMemory};
 ghost use Rattle.wcn_driver.specs.private.Gaps.{IsPlaceOfGap, IsGapToLookInto, IsGapEnd, IsPulled, IsWideHalt};
 
 use crate::answers::ScalePlace;
-use crate::ends::{PartFound, found_of};
+use crate::ends::{PartFound, settled_found};
 use crate::settling::{Halt, Optimum, settle};
 use crate::task::{Task, outcome_at};
 use crate::trees::front_tree;
@@ -66,6 +67,26 @@ fn first_numbers(alloc: Global, point: &Point, count: usize) -> Result<Point, Al
     List::from_slice(alloc, &point.as_slice()[..count])
 }
 
+/// The outcome of the first numbers of a point, or that its numbers have no room, or that there is no memory.
+fn held_outcome(alloc: Global, task: &Task, point: &Point) -> Result<Outcome, Halt>
+    requires task { IsSweepTask task.now }
+    requires long { length task.now.base.cols ≤ length point.now }
+    requires feasible { IsFeasible task.now.base (take (length task.now.base.cols) point.now) }
+    ensures has { IfOk result (HasNarrowOutcome task.now.base task.now.constant1 task.now.constant2 (take (length task.now.base.cols) point.now)) }
+    ensures halt { IfErr result (IsNotFoundAtPoint task.now.base task.now.constant1 task.now.constant2 (take (length task.now.base.cols) point.now)) }
+{
+    let cols = task.base.cols();
+    let Ok(front) = first_numbers(alloc, point, cols.len()) else {
+        return Err(Halt::Memory);
+    };
+    let outcome = outcome_at(task, &front);
+    drop(front);
+    match outcome {
+        Some(outcome) => Ok(outcome),
+        None => Err(Halt::Wide(ScalePlace::Value)),
+    }
+}
+
 /// What an optimum of a gap's model shows: the gap is empty where its value is the width, else it holds a point.
 fn judge_gap(
     alloc: Global,
@@ -82,22 +103,23 @@ fn judge_gap(
     ensures found { IfOk result (IsGapEnd task.now gap.now) }
     ensures wide { IfErr result (IsWideHalt (IsFirstWideScale task.now.base task.now.constant1 task.now.constant2 gap.now.least1 gap.now.least2 (PartGap gap.now.p gap.now.q))) }
 {
-    if !optimum.value.is_below(width) {
-        return Ok(GapEnd::Empty {
-            tree: front_tree(TreeOf::Gap(gap.number), optimum.cert),
-            results: optimum.results,
-        });
+    let Optimum {
+        value,
+        point,
+        cert,
+        results,
+    } = optimum;
+    if !value.is_below(width) {
+        drop(point);
+        let tree = front_tree(TreeOf::Gap(gap.number), cert);
+        return Ok(GapEnd::Empty { tree, results });
     }
-    let _cols = task.base.cols();
-    let Ok(front) = first_numbers(alloc, &optimum.point, task.base.cols().len()) else {
-        return Err(Halt::Memory);
-    };
-    match outcome_at(task, &front) {
-        Some(outcome) => Ok(GapEnd::Holds {
-            outcome,
-            results: optimum.results,
-        }),
-        None => Err(Halt::Wide(ScalePlace::Value)),
+    drop(cert);
+    let held = held_outcome(alloc, task, &point);
+    drop(point);
+    match held {
+        Ok(outcome) => Ok(GapEnd::Holds { outcome, results }),
+        Err(halt) => Err(halt),
     }
 }
 
@@ -125,7 +147,10 @@ pub(crate) fn look_into<S: Solver>(
     let Ok(solved) = solve_gap(alloc, solver, &task.base, &numbers, task.nodes - before) else {
         return Err(Halt::Memory);
     };
-    let optimum = settle(solved, before)?;
+    let optimum = match settle(solved, before) {
+        Ok(optimum) => optimum,
+        Err(halt) => return Err(halt),
+    };
     judge_gap(alloc, task, gap, &numbers.width, optimum)
 }
 
@@ -156,13 +181,10 @@ pub(crate) fn pull<S: Solver>(
     let most1 = Frac::of_whole(outcome.f1);
     let most2 = Frac::of_whole(outcome.f2);
     let left = task.nodes - before;
-    let Ok(solved) = solve_pull(alloc, solver, &task.base, &sums, &most1, &most2, left) else {
-        return Err(Halt::Memory);
-    };
-    let optimum = settle(solved, before)?;
-    let found = found_of(alloc, task, &optimum.point)?;
-    Ok(PartFound {
-        found,
-        results: optimum.results,
-    })
+    let solved = solve_pull(alloc, solver, &task.base, &sums, &most1, &most2, left);
+    drop(sums);
+    match solved {
+        Ok(solved) => settled_found(alloc, task, solved, before),
+        Err(_) => Err(Halt::Memory),
+    }
 }

@@ -76,13 +76,19 @@ pub(crate) fn part_end(solved: Solved, before: u64) -> PartEnd
             results,
             bound,
             best,
-        } => PartEnd::Halted(Halt::Stopped {
-            why,
-            results: before + results,
-            bound,
-            best,
-        }),
-        Answer::Memory => PartEnd::Halted(Halt::Memory),
+        } => {
+            drop(cert);
+            PartEnd::Halted(Halt::Stopped {
+                why,
+                results: before + results,
+                bound,
+                best,
+            })
+        }
+        Answer::Memory => {
+            drop(cert);
+            PartEnd::Halted(Halt::Memory)
+        }
         Answer::Unbounded { .. } => unreachable!(),
     }
 }

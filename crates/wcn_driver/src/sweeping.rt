@@ -1,5 +1,5 @@
 // The whole sweep of a front: the ends, then the gaps.
-ghost use Rattle.std.specs.Prelude.{◌≡◌, ◌≢◌, ◌⊎◌, ◌≤◌, ℕ, List, [], ◌∷◌, map, IsTrue, ◌↔◌, IfOk};
+ghost use Rattle.std.specs.Prelude.{◌≡◌, ◌≢◌, ◌⊎◌, ◌≤◌, ℕ, List, [], ◌∷◌, map, IsTrue, ◌↔◌, IfOk, OnOk};
 ghost use Rattle.frac128.specs.Range.{IsNarrow};
 ghost use Rattle.lp_model.specs.Program.{HasWholeObjective};
 ghost use Rattle.frontier.specs.declared.outcomes.Outcome.{Outcome as AnOutcome};
@@ -20,10 +20,10 @@ use crate::driving::{Sweep, sweep_gaps};
 use crate::ends::{FirstEnd, PartFound, PartLeast, least_first, least_second, left_end, right_end};
 use crate::found::Found;
 use crate::task::Task;
-use crate::told::{front_of, told};
+use crate::told::{front_of, told, told_without};
 use frac128::Frac;
 use front_solver::{Solver, set_objective};
-use front_text::{FrontCert, FrontOutcome};
+use front_text::{FrontCert, FrontOutcome, FrontTree};
 use lp_model::{Col, List, Model};
 use model_points::whole_objective;
 use std::alloc::{AllocError, Global};
@@ -37,7 +37,10 @@ fn shown_of(alloc: Global, found: Vec<Found>) -> Result<List<FrontOutcome>, Allo
     let mut list = List::new(alloc);
     for item in found {
         let Found { outcome: _, shown } = item;
-        list.push(shown)?;
+        let Ok(()) = list.push(shown) else {
+            drop(list);
+            return Err(AllocError);
+        };
     }
     Ok(list)
 }
@@ -49,6 +52,7 @@ fn completed(alloc: Global, task: &Task, sweep: Sweep) -> Mc
     ensures { IsCompleted task.now result }
 {
     let Ok(front) = front_of(alloc, &sweep.found) else {
+        drop(sweep);
         return Mc::Memory;
     };
     let Sweep { found, trees, .. } = sweep;
@@ -57,7 +61,11 @@ fn completed(alloc: Global, task: &Task, sweep: Sweep) -> Mc
             front,
             cert: FrontCert { outcomes, trees },
         },
-        Err(_) => Mc::Memory,
+        Err(_) => {
+            drop(front);
+            drop(trees);
+            Mc::Memory
+        }
     }
 }
 
@@ -71,12 +79,37 @@ fn with_last(found: Vec<Found>, last: Found) -> Result<Vec<Found>, AllocError>
 {
     let mut found = found;
     if last.outcome.f1 == found[0].outcome.f1 {
+        drop(last);
         return Ok(found);
     }
     match found.push(last) {
         Ok(()) => Ok(found),
-        Err(_) => Err(AllocError),
+        Err(_) => {
+            drop(found);
+            Err(AllocError)
+        }
     }
+}
+
+/// The trees of the least values.
+fn least_trees(
+    alloc: Global,
+    first: FrontTree,
+    second: FrontTree,
+) -> Result<List<FrontTree>, AllocError>
+    ensures { IfOk result (λ trees. trees ≡ first ∷ second ∷ []) }
+{
+    let mut trees = List::new(alloc);
+    let Ok(()) = trees.push(first) else {
+        drop(trees);
+        drop(second);
+        return Err(AllocError);
+    };
+    let Ok(()) = trees.push(second) else {
+        drop(trees);
+        return Err(AllocError);
+    };
+    Ok(trees)
 }
 
 /// A sweep at its first gap.
@@ -104,10 +137,15 @@ fn sweep_of(
         tree: tree2,
         ..
     } = second;
-    let found = with_last(found, last)?;
-    let mut trees = List::new(alloc);
-    trees.push(tree1)?;
-    trees.push(tree2)?;
+    let Ok(found) = with_last(found, last) else {
+        drop(tree1);
+        drop(tree2);
+        return Err(AllocError);
+    };
+    let Ok(trees) = least_trees(alloc, tree1, tree2) else {
+        drop(found);
+        return Err(AllocError);
+    };
     Ok(Sweep {
         least1,
         least2,
@@ -128,7 +166,11 @@ fn swept_by_gaps<S: Solver>(alloc: Global, solver: &mut S, task: &Task, sweep: S
     let mut sweep = sweep;
     match sweep_gaps(alloc, solver, task, &mut sweep) {
         Ok(()) => completed(alloc, task, sweep),
-        Err(end) => told(alloc, &sweep.found, end.part, end.halt),
+        Err(end) => {
+            let Sweep { found, trees, .. } = sweep;
+            drop(trees);
+            told(alloc, found, end.part, end.halt)
+        }
     }
 }
 
@@ -150,7 +192,11 @@ fn swept_from_right<S: Solver>(
     ensures kept { (result ≡ Memory) ⊎ IsRecosted task.now.base (S.program solver.new) }
 {
     match right_end(alloc, solver, task, second.least, second.results) {
-        Err(halt) => told(alloc, &found, Part::Right, halt),
+        Err(halt) => {
+            drop(first);
+            drop(second);
+            told(alloc, found, Part::Right, halt)
+        }
         Ok(right) => match sweep_of(alloc, first, found, second, right) {
             Ok(sweep) => swept_by_gaps(alloc, solver, task, sweep),
             Err(_) => Mc::Memory,
@@ -176,7 +222,10 @@ fn swept_from_least2<S: Solver>(
     ensures kept { (result ≡ Memory) ⊎ IsRecosted task.now.base (S.program solver.new) }
 {
     match least_second(alloc, solver, task, results) {
-        Err(halt) => told(alloc, &found, Part::Least2, halt),
+        Err(halt) => {
+            drop(first);
+            told(alloc, found, Part::Least2, halt)
+        }
         Ok(second) => swept_from_right(alloc, solver, task, first, found, second),
     }
 }
@@ -190,11 +239,16 @@ fn swept_from_left<S: Solver>(alloc: Global, solver: &mut S, task: &Task, first:
     ensures kept { (result ≡ Memory) ⊎ IsRecosted task.now.base (S.program solver.new) }
 {
     match left_end(alloc, solver, task, first.least, first.results) {
-        Err(halt) => told(alloc, &[], Part::Left, halt),
+        Err(halt) => {
+            drop(first);
+            told_without(alloc, Part::Left, halt)
+        }
         Ok(left) => {
             let results = left.results;
             let mut found = Vec::new(alloc);
             let Ok(()) = found.push(left.found) else {
+                drop(found);
+                drop(first);
                 return Mc::Memory;
             };
             swept_from_least2(alloc, solver, task, first, found, results)
@@ -210,7 +264,7 @@ fn swept<S: Solver>(alloc: Global, solver: &mut S, task: &Task) -> Mc
     ensures kept { (result ≡ Memory) ⊎ IsRecosted task.now.base (S.program solver.new) }
 {
     match least_first(alloc, solver, task) {
-        FirstEnd::Halted(halt) => told(alloc, &[], Part::Least1, halt),
+        FirstEnd::Halted(halt) => told_without(alloc, Part::Least1, halt),
         FirstEnd::Infeasible { cert, results } => Mc::Infeasible { cert, results },
         FirstEnd::Least(first) => swept_from_left(alloc, solver, task, first),
     }
@@ -224,7 +278,10 @@ fn first_costs(alloc: Global, cols: &[Col]) -> Result<Vec<Frac>, AllocError>
 {
     let mut list = Vec::new(alloc);
     for col in cols {
-        list.push(col.cost)?;
+        let Ok(()) = list.push(col.cost) else {
+            drop(list);
+            return Err(AllocError);
+        };
     }
     Ok(list)
 }
@@ -236,6 +293,19 @@ fn is_memory(answer: &Mc) -> bool
     matches!(answer, Mc::Memory)
 }
 
+/// Puts the costs of a model in the place of objective 1 of the solver's.
+fn put_back<S: Solver>(alloc: Global, solver: &mut S, base: &Model) -> Result<(), AllocError>
+    requires { IsRecosted base.now (S.program solver.old) }
+    ensures { OnOk result (S.program solver.new ≡ base.now) }
+{
+    let Ok(costs) = first_costs(alloc, base.cols()) else {
+        return Err(AllocError);
+    };
+    let put = set_objective(solver, base, &costs);
+    drop(costs);
+    put
+}
+
 /// The answer, where the solver's model has its own costs again.
 fn restored<S: Solver>(alloc: Global, solver: &mut S, base: &Model, answer: Mc) -> Mc
     requires { (answer ≡ Memory) ⊎ IsRecosted base.now (S.program solver.old) }
@@ -245,12 +315,12 @@ fn restored<S: Solver>(alloc: Global, solver: &mut S, base: &Model, answer: Mc) 
     if is_memory(&answer) {
         return answer;
     }
-    let Ok(costs) = first_costs(alloc, base.cols()) else {
-        return Mc::Memory;
-    };
-    match set_objective(solver, base, &costs) {
+    match put_back(alloc, solver, base) {
         Ok(()) => answer,
-        Err(_) => Mc::Memory,
+        Err(_) => {
+            drop(answer);
+            Mc::Memory
+        }
     }
 }
 

@@ -1,5 +1,5 @@
 // What is told where a sweep ends at a part.
-ghost use Rattle.std.specs.Prelude.{◌≡◌, map, IfOk};
+ghost use Rattle.std.specs.Prelude.{◌≡◌, [], map, IfOk};
 ghost use Rattle.frontier.specs.Covers.{IsFront};
 ghost use Rattle.front_check.specs.Accepted.{outcome_of};
 ghost use Rattle.wcn_driver.specs.private.Kept.{UnlessMemory};
@@ -29,19 +29,35 @@ pub(crate) fn front_of(alloc: Global, found: &[Found]) -> Result<Front, AllocErr
 {
     let mut front = Front::new(alloc);
     for item in found {
-        front.insert(outcome_shown(&item.shown))?;
+        let Ok(_) = front.insert(outcome_shown(&item.shown)) else {
+            drop(front);
+            return Err(AllocError);
+        };
     }
     Ok(front)
 }
 
+/// The same, where what is found goes.
+fn last_front(alloc: Global, found: Vec<Found>) -> Result<Front, AllocError>
+    requires { IsFront (map shown_outcome found.items) }
+    ensures { IfOk result (λ front. front ≡ map shown_outcome found.items) }
+{
+    let front = front_of(alloc, &found);
+    drop(found);
+    front
+}
+
 /// The answer where a sweep ends at a part, with what is found until then.
-pub(crate) fn told(alloc: Global, found: &[Found], part: Part, halt: Halt) -> Mc
-    requires { UnlessMemory (IsFront (map shown_outcome found.now)) halt }
-    ensures { IsToldAtPart (map shown_outcome found.now) part halt result }
+pub(crate) fn told(alloc: Global, found: Vec<Found>, part: Part, halt: Halt) -> Mc
+    requires { UnlessMemory (IsFront (map shown_outcome found.items)) halt }
+    ensures { IsToldAtPart (map shown_outcome found.items) part halt result }
 {
     match halt {
-        Halt::Memory => Mc::Memory,
-        Halt::Wide(place) => match front_of(alloc, found) {
+        Halt::Memory => {
+            drop(found);
+            Mc::Memory
+        }
+        Halt::Wide(place) => match last_front(alloc, found) {
             Ok(front) => Mc::WideScale { front, part, place },
             Err(_) => Mc::Memory,
         },
@@ -50,7 +66,7 @@ pub(crate) fn told(alloc: Global, found: &[Found], part: Part, halt: Halt) -> Mc
             results,
             bound,
             best,
-        } => match front_of(alloc, found) {
+        } => match last_front(alloc, found) {
             Ok(front) => Mc::Stopped {
                 front,
                 part,
@@ -62,4 +78,11 @@ pub(crate) fn told(alloc: Global, found: &[Found], part: Part, halt: Halt) -> Mc
             Err(_) => Mc::Memory,
         },
     }
+}
+
+/// The answer where a sweep ends at a part before an outcome is found.
+pub(crate) fn told_without(alloc: Global, part: Part, halt: Halt) -> Mc
+    ensures { IsToldAtPart [] part halt result }
+{
+    told(alloc, Vec::new(alloc), part, halt)
 }

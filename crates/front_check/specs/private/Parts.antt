@@ -1,11 +1,14 @@
 -- The inner models of a front with their trees, by place.
-use Rattle.std.specs.Prelude.{◌≡◌, ◌≢◌, ◌⊎◌, ℕ, zero, suc, List, length}
+use Rattle.std.specs.Prelude.{◌≡◌, ◌≢◌, ◌⊎◌, ℕ, zero, suc, List, length, get_or}
 use Rattle.frac128.specs.Rational.{int}
 use Rattle.lp_model.specs.Program.{Program}
 use Rattle.cert_text.specs.declared.cert.Claim.TheVariants.{Optimal}
 use Rattle.cert_check.specs.declared.verdict.Judgement.{Judgement}
 use Rattle.cert_check.specs.declared.verdict.Judgement.TheVariants.{Passes, Breaks, NoRoom}
+use Rattle.cert_check.specs.declared.verdict.Verdict.{Verdict}
+use Rattle.cert_check.specs.Cuts.{formulation_by, AreCutsJudged}
 use Rattle.cert_check.specs.Verdict.{InOrder}
+use Rattle.cert_check.specs.Trees.{IsTreeVerdict}
 use Rattle.frontier.specs.Laws.{last_of}
 use Rattle.front_text.specs.declared.front.TreeOf.{TreeOf}
 use Rattle.front_text.specs.declared.front.TreeOf.TheVariants.{Least1, Least2, Gap}
@@ -34,6 +37,17 @@ DoGapsFit N b = FitGaps N b.first.f1 (last_of b.first b.rest.items).f2 b.first b
 pub record IsPart (t : TargetedModel) (part : Part) : Type 0 where
   pub model : part.model ≡ t.model
   pub claim : part.claim ≡ Optimal (int t.target)
+
+-- of the inner model at a place
+pub record AreCutsJudgedAt (N : Program) (b : BareOutcomes) (k : ℕ) (tree : FrontTree) (j : Judgement) : Type 0 where
+  pub part : Part
+  pub is : (t : TargetedModel) → IsPart (get_or (parts_by_outcomes N b) k t) part
+  pub judged : AreCutsJudged part.model tree.cuts j
+
+pub record IsTreeJudgedAt (N : Program) (b : BareOutcomes) (k : ℕ) (tree : FrontTree) (v : Verdict) : Type 0 where
+  pub part : Part
+  pub is : (t : TargetedModel) → IsPart (get_or (parts_by_outcomes N b) k t) part
+  pub verdict : IsTreeVerdict (formulation_by part.model tree.cuts) part.claim tree.nodes v
 
 -- ---- the trees of outcomes that pass
 

@@ -1,5 +1,5 @@
 -- The ends of a front as they are found.
-use Rattle.std.specs.Prelude.{◌≡◌, ℕ, ◌≤◌, ℤ, pos, Some}
+use Rattle.std.specs.Prelude.{◌≡◌, ◌⊎◌, ℕ, ◌≤◌, ℤ, pos, Some}
 use Rattle.frac128.specs.Range.{IsNarrow}
 use Rattle.lp_model.specs.Program.{Program, Point, IsEmpty}
 use Rattle.lp_model.specs.declared.answers.Answer.{Answer}
@@ -10,11 +10,13 @@ use Rattle.front_text.specs.declared.front.TreeOf.{TreeOf}
 use Rattle.front_text.specs.declared.front.TreeOf.TheVariants.{Least1, Least2}
 use Rattle.front_text.specs.Whole.{IsWholeTree}
 use Rattle.front_check.specs.Passing.{IsPassingTree}
+use Rattle.front_solver.specs.declared.solved.Solved.{Solved}
 use Rattle.front_solver.specs.Truth.{IsCertifiedAs}
 use Rattle.wcn_driver.specs.declared.answers.Part.TheVariants as parts
 use Rattle.wcn_driver.specs.declared.answers.ScalePlace.TheVariants.{Value}
 use Rattle.wcn_driver.specs.declared.task.Task.{Task}
 use Rattle.wcn_driver.specs.declared.found.Found.{Found}
+use Rattle.wcn_driver.specs.declared.settling.Optimum.{Optimum}
 use Rattle.wcn_driver.specs.declared.settling.Halt.{Halt}
 use Rattle.wcn_driver.specs.declared.settling.Halt.TheVariants.{Stopped, Wide, Memory}
 use Rattle.wcn_driver.specs.declared.ends.PartFound.{PartFound}
@@ -23,7 +25,7 @@ use Rattle.wcn_driver.specs.declared.ends.FirstEnd.{FirstEnd}
 use Rattle.wcn_driver.specs.declared.ends.FirstEnd.TheVariants.{Least, Infeasible, Halted}
 use Rattle.wcn_driver.specs.Parts.{IsLeastFeasibleValue}
 use Rattle.wcn_driver.specs.Answers.{HasNarrowOutcome, IsWideOutcome}
-use Rattle.wcn_driver.specs.private.Settled.{IsHalt}
+use Rattle.wcn_driver.specs.private.Settled.{IsOptimumOf, IsHaltOf, IsHalt}
 use Rattle.wcn_driver.specs.private.Kept.{UnlessMemory}
 use Rattle.wcn_driver.specs.private.Founds.{IsShownBy}
 
@@ -37,6 +39,17 @@ abbrev pub IsNotFoundAtPoint : Program → ℤ → ℤ → Point → Halt → Ty
 IsNotFoundAtPoint N c d x (Stopped why results bound best) = ⊥
 IsNotFoundAtPoint N c d x (Wide at) = (at ≡ Value) × IsWideOutcome N c d x
 IsNotFoundAtPoint N c d x Memory = Unit {0}
+
+-- the outcome of the optimum that is answered
+pub record IsSettledFound (g : Task) (before : ℕ) (s : Solved) (e : PartFound) : Type 0 where
+  pub optimum : Optimum
+  pub answered : IsOptimumOf before s optimum
+  pub found : IsFoundAtPoint g.base g.constant1 g.constant2 optimum.point e.found
+  pub results : e.results ≡ optimum.results
+
+-- there is no optimum, or a number of its outcome has no room
+abbrev pub IsSettledHalt : Task → ℕ → Solved → Halt → Type 0
+IsSettledHalt g before s halt = IsHaltOf before s halt ⊎ ((o : Optimum) × (IsOptimumOf before s o × IsNotFoundAtPoint g.base g.constant1 g.constant2 o.point halt))
 
 -- an outcome that no other dominates, with a point of its
 pub record IsFoundOf (N : Program) (c d : ℤ) (f : Found) : Type 0 where

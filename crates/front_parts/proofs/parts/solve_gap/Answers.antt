@@ -23,32 +23,32 @@ solve_extended-requires-clause-column g c =
     let N = c.args.base.now in
     let P = g.S.Solver.program c.put_zeros.new.solver in
     let fits = c.requires.fits in
-    column_fits N P none c.args.gap.now c.in_ok-more.more fits.0 fits.1 fits.2 fits.3 (fitting_edits N c.requires.wide c.requires.room) c.in_ok-put_zeros.ensures.edited c.in_ok-more.ensures fits.4.0
+    column_fits N P none c.args.gap.now c.in-Ok.more fits.0 fits.1 fits.2 fits.3 (fitting_edits N c.requires.wide c.requires.room) c.in-Ok-put_zeros.ensures.edited c.in-Ok.ensures fits.4.0
 
 pub solve_extended-requires-clause-first : goal.solve_extended-requires-clause-first
 solve_extended-requires-clause-first g c =
     let N = c.args.base.now in
     let P = g.S.Solver.program c.put_zeros.new.solver in
     let fits = c.requires.fits in
-    first_gap_fits N P none c.args.gap.now c.in_ok-more.more fits.0 fits.1 fits.2 fits.3 (fitting_edits N c.requires.wide c.requires.room) c.in_ok-put_zeros.ensures.edited c.in_ok-more.ensures fits.4.0
+    first_gap_fits N P none c.args.gap.now c.in-Ok.more fits.0 fits.1 fits.2 fits.3 (fitting_edits N c.requires.wide c.requires.room) c.in-Ok-put_zeros.ensures.edited c.in-Ok.ensures fits.4.0
 
 pub solve_extended-requires-clause-second : goal.solve_extended-requires-clause-second
 solve_extended-requires-clause-second g c =
     let N = c.args.base.now in
     let P = g.S.Solver.program c.put_zeros.new.solver in
     let fits = c.requires.fits in
-    second_gap_fits N P none c.args.gap.now c.in_ok-more.more fits.0 fits.1 fits.2 fits.3 (fitting_edits N c.requires.wide c.requires.room) c.in_ok-put_zeros.ensures.edited c.in_ok-more.ensures fits.4.0
+    second_gap_fits N P none c.args.gap.now c.in-Ok.more fits.0 fits.1 fits.2 fits.3 (fitting_edits N c.requires.wide c.requires.room) c.in-Ok-put_zeros.ensures.edited c.in-Ok.ensures fits.4.0
 
 pub returns-clause-kept : goal.returns-clause-kept
 returns-clause-kept g c =
-    on_ok_weaker c.solve_extended.result (λ h. objective_recosted c.args.base.now (g.S.Solver.program c.solve_extended.new.solver) none (h ∙ c.in_ok-put_zeros.ensures.edited)) c.solve_extended.ensures.kept
+    on_ok_weaker c.solve_extended.result (λ h. objective_recosted c.args.base.now (g.S.Solver.program c.solve_extended.new.solver) none (h ∙ c.in-Ok-put_zeros.ensures.edited)) c.solve_extended.ensures.kept
 
 pub returns-clause-steady : goal.returns-clause-steady
-returns-clause-steady g c = on_ok_weaker c.solve_extended.result (λ h M n answer stop. c.in_ok-put_zeros.ensures.steady M n answer (h M n answer stop)) c.solve_extended.ensures.steady
+returns-clause-steady g c = on_ok_weaker c.solve_extended.result (λ h M n answer stop. c.in-Ok-put_zeros.ensures.steady M n answer (h M n answer stop)) c.solve_extended.ensures.steady
 
 pub returns-clause-solved : goal.returns-clause-solved
 returns-clause-solved g c = λ a b i1 i2 are.
     let N = c.args.base.now in
     let P = g.S.Solver.program c.put_zeros.new.solver in
-    let same = gap_is N P c.args.gap.now c.in_ok-more.more a b i1 i2 c.in_ok-put_zeros.ensures.edited c.in_ok-more.ensures are in
-    IfOk-weaker c.solve_extended.result _ _ (λ s h. solved_before (g.S.Solver.stops c.put_zeros.new.solver) (g.S.Solver.stops c.args.solver.now) _ (gap_model N a b i1 i2) c.args.nodes s c.in_ok-put_zeros.ensures.steady same h) c.solve_extended.ensures.solved
+    let same = gap_is N P c.args.gap.now c.in-Ok.more a b i1 i2 c.in-Ok-put_zeros.ensures.edited c.in-Ok.ensures are in
+    IfOk-weaker c.solve_extended.result _ _ (λ s h. solved_before (g.S.Solver.stops c.put_zeros.new.solver) (g.S.Solver.stops c.args.solver.now) _ (gap_model N a b i1 i2) c.args.nodes s c.in-Ok-put_zeros.ensures.steady same h) c.solve_extended.ensures.solved

@@ -7,12 +7,12 @@ use Rattle.front_parts.proofs.parts.solve_least1.Goals as goal
 
 pub returns-clause-kept : goal.returns-clause-kept
 returns-clause-kept g c =
-    on_ok_weaker c.solve_model.result (λ h. objective_recosted c.args.base.now (g.S.Solver.program c.solve_model.new.solver) (λ c. c.cost) (h ∙ c.in_ok-put_objective.ensures.edited)) c.solve_model.ensures.kept
+    on_ok_weaker c.solve_model.result (λ h. objective_recosted c.args.base.now (g.S.Solver.program c.solve_model.new.solver) (λ c. c.cost) (h ∙ c.in-Ok.ensures.edited)) c.solve_model.ensures.kept
 
 pub returns-clause-steady : goal.returns-clause-steady
-returns-clause-steady g c = on_ok_weaker c.solve_model.result (λ h M n answer stop. c.in_ok-put_objective.ensures.steady M n answer (h M n answer stop)) c.solve_model.ensures.steady
+returns-clause-steady g c = on_ok_weaker c.solve_model.result (λ h M n answer stop. c.in-Ok.ensures.steady M n answer (h M n answer stop)) c.solve_model.ensures.steady
 
 pub returns-clause-solved : goal.returns-clause-solved
 returns-clause-solved g c =
     let program = g.S.Solver.program in
-    IfOk-weaker c.solve_model.result _ _ (λ s h. solved_before (g.S.Solver.stops c.put_objective.new.solver) (g.S.Solver.stops c.args.solver.now) _ c.args.base.now c.args.nodes s c.in_ok-put_objective.ensures.steady (least1_is c.args.base.now (program c.put_objective.new.solver) c.in_ok-put_objective.ensures.edited) h) c.solve_model.ensures.solved
+    IfOk-weaker c.solve_model.result _ _ (λ s h. solved_before (g.S.Solver.stops c.put_objective.new.solver) (g.S.Solver.stops c.args.solver.now) _ c.args.base.now c.args.nodes s c.in-Ok.ensures.steady (least1_is c.args.base.now (program c.put_objective.new.solver) c.in-Ok.ensures.edited) h) c.solve_model.ensures.solved

@@ -7,11 +7,11 @@ use Rattle.front_parts.proofs.parts.solve_least2.Goals as goal
 
 pub returns-clause-kept : goal.returns-clause-kept
 returns-clause-kept g c =
-    on_ok_weaker c.solve_model.result (λ h. objective_recosted c.args.base.now (g.S.Solver.program c.solve_model.new.solver) (λ c. c.cost2) (h ∙ c.in_ok-put_objective.ensures.edited)) c.solve_model.ensures.kept
+    on_ok_weaker c.solve_model.result (λ h. objective_recosted c.args.base.now (g.S.Solver.program c.solve_model.new.solver) (λ c. c.cost2) (h ∙ c.in-Ok.ensures.edited)) c.solve_model.ensures.kept
 
 pub returns-clause-steady : goal.returns-clause-steady
-returns-clause-steady g c = on_ok_weaker c.solve_model.result (λ h M n answer stop. c.in_ok-put_objective.ensures.steady M n answer (h M n answer stop)) c.solve_model.ensures.steady
+returns-clause-steady g c = on_ok_weaker c.solve_model.result (λ h M n answer stop. c.in-Ok.ensures.steady M n answer (h M n answer stop)) c.solve_model.ensures.steady
 
 pub returns-clause-solved : goal.returns-clause-solved
 returns-clause-solved g c =
-    IfOk-weaker c.solve_model.result _ _ (λ s h. solved_before (g.S.Solver.stops c.put_objective.new.solver) (g.S.Solver.stops c.args.solver.now) _ (least2_model c.args.base.now) c.args.nodes s c.in_ok-put_objective.ensures.steady c.in_ok-put_objective.ensures.edited h) c.solve_model.ensures.solved
+    IfOk-weaker c.solve_model.result _ _ (λ s h. solved_before (g.S.Solver.stops c.put_objective.new.solver) (g.S.Solver.stops c.args.solver.now) _ (least2_model c.args.base.now) c.args.nodes s c.in-Ok.ensures.steady c.in-Ok.ensures.edited h) c.solve_model.ensures.solved

@@ -11,18 +11,18 @@ pub solve_capped-requires : goal.solve_capped-requires
 solve_capped-requires g c =
     let N = c.args.base.now in
     let P = g.S.Solver.program c.put_objective.new.solver in
-    cap_fits N P (λ c. c.cost2) (λ c. c.cost) c.args.least.now c.in_ok-cap.cap (fitting_edits N c.requires.wide c.requires.room) c.in_ok-put_objective.ensures.edited c.in_ok-cap.ensures
+    cap_fits N P (λ c. c.cost2) (λ c. c.cost) c.args.least.now c.in-Ok.cap (fitting_edits N c.requires.wide c.requires.room) c.in-Ok-put_objective.ensures.edited c.in-Ok.ensures
 
 pub returns-clause-kept : goal.returns-clause-kept
 returns-clause-kept g c =
-    on_ok_weaker c.solve_capped.result (λ h. objective_recosted c.args.base.now (g.S.Solver.program c.solve_capped.new.solver) (λ c. c.cost2) (h ∙ c.in_ok-put_objective.ensures.edited)) c.solve_capped.ensures.kept
+    on_ok_weaker c.solve_capped.result (λ h. objective_recosted c.args.base.now (g.S.Solver.program c.solve_capped.new.solver) (λ c. c.cost2) (h ∙ c.in-Ok-put_objective.ensures.edited)) c.solve_capped.ensures.kept
 
 pub returns-clause-steady : goal.returns-clause-steady
-returns-clause-steady g c = on_ok_weaker c.solve_capped.result (λ h M n answer stop. c.in_ok-put_objective.ensures.steady M n answer (h M n answer stop)) c.solve_capped.ensures.steady
+returns-clause-steady g c = on_ok_weaker c.solve_capped.result (λ h M n answer stop. c.in-Ok-put_objective.ensures.steady M n answer (h M n answer stop)) c.solve_capped.ensures.steady
 
 pub returns-clause-solved : goal.returns-clause-solved
 returns-clause-solved g c = λ i1 is.
     let N = c.args.base.now in
     let P = g.S.Solver.program c.put_objective.new.solver in
     IfOk-weaker c.solve_capped.result _ _
-    (λ s h. solved_before (g.S.Solver.stops c.put_objective.new.solver) (g.S.Solver.stops c.args.solver.now) _ (left_model N i1) c.args.nodes s c.in_ok-put_objective.ensures.steady (left_is N P c.in_ok-cap.cap c.args.least.now i1 c.in_ok-put_objective.ensures.edited c.in_ok-cap.ensures is) h) c.solve_capped.ensures.solved
+    (λ s h. solved_before (g.S.Solver.stops c.put_objective.new.solver) (g.S.Solver.stops c.args.solver.now) _ (left_model N i1) c.args.nodes s c.in-Ok-put_objective.ensures.steady (left_is N P c.in-Ok.cap c.args.least.now i1 c.in-Ok-put_objective.ensures.edited c.in-Ok.ensures is) h) c.solve_capped.ensures.solved

@@ -21,24 +21,24 @@ pub solve_capped_twice-requires-clause-first : goal.solve_capped_twice-requires-
 solve_capped_twice-requires-clause-first g c =
     let N = c.args.base.now in
     let P = g.S.Solver.program c.set_objective.new.solver in
-    cap_fits N P sum (λ d. d.cost) c.args.most1.now c.in_ok-first.first (fitting_edits N c.requires.wide c.requires.room) (c.in_ok-set_objective.ensures.edited sum c.requires.sums) c.in_ok-first.ensures
+    cap_fits N P sum (λ d. d.cost) c.args.most1.now c.in-Ok.first (fitting_edits N c.requires.wide c.requires.room) (c.in-Ok-set_objective.ensures.edited sum c.requires.sums) c.in-Ok.ensures
 
 pub solve_capped_twice-requires-clause-second : goal.solve_capped_twice-requires-clause-second
 solve_capped_twice-requires-clause-second g c =
     let N = c.args.base.now in
     let P = g.S.Solver.program c.set_objective.new.solver in
-    second_cap_fits N P sum (λ d. d.cost) (λ d. d.cost2) c.args.most1.now c.args.most2.now c.in_ok-first.first c.in_ok-second.second (fitting_edits N c.requires.wide c.requires.room) (c.in_ok-set_objective.ensures.edited sum c.requires.sums) c.in_ok-first.ensures c.in_ok-second.ensures
+    second_cap_fits N P sum (λ d. d.cost) (λ d. d.cost2) c.args.most1.now c.args.most2.now c.in-Ok.first c.in-Ok-second_cap.second (fitting_edits N c.requires.wide c.requires.room) (c.in-Ok-set_objective.ensures.edited sum c.requires.sums) c.in-Ok.ensures c.in-Ok-second_cap.ensures
 
 pub returns-clause-kept : goal.returns-clause-kept
 returns-clause-kept g c =
-    on_ok_weaker c.solve_capped_twice.result (λ h. objective_recosted c.args.base.now (g.S.Solver.program c.solve_capped_twice.new.solver) sum (h ∙ c.in_ok-set_objective.ensures.edited sum c.requires.sums)) c.solve_capped_twice.ensures.kept
+    on_ok_weaker c.solve_capped_twice.result (λ h. objective_recosted c.args.base.now (g.S.Solver.program c.solve_capped_twice.new.solver) sum (h ∙ c.in-Ok-set_objective.ensures.edited sum c.requires.sums)) c.solve_capped_twice.ensures.kept
 
 pub returns-clause-steady : goal.returns-clause-steady
-returns-clause-steady g c = on_ok_weaker c.solve_capped_twice.result (λ h M n answer stop. c.in_ok-set_objective.ensures.steady M n answer (h M n answer stop)) c.solve_capped_twice.ensures.steady
+returns-clause-steady g c = on_ok_weaker c.solve_capped_twice.result (λ h M n answer stop. c.in-Ok-set_objective.ensures.steady M n answer (h M n answer stop)) c.solve_capped_twice.ensures.steady
 
 pub returns-clause-solved : goal.returns-clause-solved
 returns-clause-solved g c = λ r1 r2 is1 is2.
     let N = c.args.base.now in
     let P = g.S.Solver.program c.set_objective.new.solver in
-    let same = pull_is N P c.in_ok-first.first c.in_ok-second.second c.args.most1.now c.args.most2.now r1 r2 (c.in_ok-set_objective.ensures.edited sum c.requires.sums) c.in_ok-first.ensures c.in_ok-second.ensures is1 is2 in
-    IfOk-weaker c.solve_capped_twice.result _ _ (λ s h. solved_before (g.S.Solver.stops c.set_objective.new.solver) (g.S.Solver.stops c.args.solver.now) _ (pull_model N r1 r2) c.args.nodes s c.in_ok-set_objective.ensures.steady same h) c.solve_capped_twice.ensures.solved
+    let same = pull_is N P c.in-Ok.first c.in-Ok-second_cap.second c.args.most1.now c.args.most2.now r1 r2 (c.in-Ok-set_objective.ensures.edited sum c.requires.sums) c.in-Ok.ensures c.in-Ok-second_cap.ensures is1 is2 in
+    IfOk-weaker c.solve_capped_twice.result _ _ (λ s h. solved_before (g.S.Solver.stops c.set_objective.new.solver) (g.S.Solver.stops c.args.solver.now) _ (pull_model N r1 r2) c.args.nodes s c.in-Ok-set_objective.ensures.steady same h) c.solve_capped_twice.ensures.solved

@@ -1,5 +1,4 @@
 use Rattle.std.specs.Prelude.{pos}
-use Rattle.std.proofs.lemmas.Result.{err_from_is_err_and}
 use Rattle.inner_models.specs.Inner.{least2_model}
 use Rattle.wcn_driver.specs.declared.answers.Part.TheVariants.{Least2}
 use Rattle.wcn_driver.specs.private.Kept.{Stays}
@@ -24,18 +23,16 @@ settle-requires-clause-count g c =
 pub second_least-requires-clause-optimum : goal.second_least-requires-clause-optimum
 second_least-requires-clause-optimum g c =
     let e = c.args.task.now in
-    optimum_of (g.S.Solver.stops c.args.solver.now) (least2_model e.base) e.nodes c.args.before c.in-Ok.solved c.in-Ok.ensures.solved c.requires.before c.in_ok-optimum.optimum c.in_ok-optimum.ensures
+    optimum_of (g.S.Solver.stops c.args.solver.now) (least2_model e.base) e.nodes c.args.before c.in-Ok.solved c.in-Ok.ensures.solved c.requires.before c.in-Ok-settle.optimum c.in-Ok-settle.ensures
 
-pub returns-in_err-optimum-clause-halted : goal.returns-in_err-optimum-clause-halted
-returns-in_err-optimum-clause-halted g c =
+pub returns-in-Err-clause-halted : goal.returns-in-Err-clause-halted
+returns-in-Err-clause-halted g c =
     let e = c.args.task.now in
-    let p = err_from_is_err_and c.from_residual.result c.from_residual.ensures.1 in
-    rw (p.1, p.2) (unless_memory (Stays e.base (g.S.Solver.program c.solve_least2.new.solver) (g.S.Solver.stops c.solve_least2.new.solver) (g.S.Solver.stops c.args.solver.now))
-    (record { recosted = c.in-Ok.ensures.kept; steady = c.in-Ok.ensures.steady }) c.in_err-optimum.field-0.0)
+    (unless_memory (Stays e.base (g.S.Solver.program c.solve_least2.new.solver) (g.S.Solver.stops c.solve_least2.new.solver) (g.S.Solver.stops c.args.solver.now))
+    (record { recosted = c.in-Ok.ensures.kept; steady = c.in-Ok.ensures.steady }) c.in-Err.halt)
 
-pub returns-in_err-optimum-clause-halt : goal.returns-in_err-optimum-clause-halt
-returns-in_err-optimum-clause-halt g c =
+pub returns-in-Err-clause-halt : goal.returns-in-Err-clause-halt
+returns-in-Err-clause-halt g c =
     let e = c.args.task.now in
-    let p = err_from_is_err_and c.from_residual.result c.from_residual.ensures.1 in
-    rw (p.1, p.2) (halt_of (g.S.Solver.stops c.args.solver.now) e.base e.nodes c.args.before e.constant1 e.constant2 (pos 0) (pos 0) Least2 c.in-Ok.solved c.in-Ok.ensures.solved c.requires.before
-    c.in_err-optimum.field-0.0 c.in_err-optimum.ensures)
+    (halt_of (g.S.Solver.stops c.args.solver.now) e.base e.nodes c.args.before e.constant1 e.constant2 (pos 0) (pos 0) Least2 c.in-Ok.solved c.in-Ok.ensures.solved c.requires.before
+    c.in-Err.halt c.in-Err.ensures)

@@ -23,5 +23,5 @@ returns-clause-shown c =
     let has = c.requires.outcome.has in
     let first = sum_read o.f1 t.constant1 has.first task.first has.first_sum in
     let second = sum_read o.f2 t.constant2 has.second task.second has.second_sum in
-    subst (λ (shown : FrontOutcome). IsShownBy t.base t.constant1 t.constant2 o shown) (λ i. record { v1 = sym first i; v2 = sym second i; point = c.in_ok-named.named })
-    (shown_by t.base task.base t.constant1 t.constant2 task.first task.second c.args.point.now o c.in_ok-named.named c.requires.judged c.requires.outcome c.in_ok-named.ensures.names c.in_ok-named.ensures.point)
+    subst (λ (shown : FrontOutcome). IsShownBy t.base t.constant1 t.constant2 o shown) (λ i. record { v1 = sym first i; v2 = sym second i; point = c.in-Ok.named })
+    (shown_by t.base task.base t.constant1 t.constant2 task.first task.second c.args.point.now o c.in-Ok.named c.requires.judged c.requires.outcome c.in-Ok.ensures.names c.in-Ok.ensures.point)

@@ -20,7 +20,7 @@ loop-index-preserved c =
     let below : k < length cols = omega arith in
     let is : col ≡ get_or cols k col = subst (λ (l : List Col). col ≡ get_or l k col) c.cols-col-items.ensures.items c.col-item.is in
     let v_is : v ≡ get_or x k v = subst (λ (l : List ℚ). v ≡ get_or l k v) c.as_slice-numbers.ensures c.index-numbers-index.is in
-    let pushed : c.push_named.new.list ≡ c.loop-index.named ++ (col.name, v) ∷ [] = c.in_ok-push_named.ensures in
+    let pushed : c.push_named.new.list ≡ c.loop-index.named ++ (col.name, v) ∷ [] = c.in-Ok.ensures in
     pushed ∙ number_more cols x k col v c.loop-index.named c.requires below is v_is c.loop-index.invariant
 
 pub returns-clause-names : goal.returns-clause-names

@@ -1,10 +1,8 @@
-use Rattle.std.specs.Prelude.{◌≡◌, ◌≤◌, List, length, take, true, false}
-use Rattle.std.proofs.Common.{◌∙◌, ap, sym, subst}
+use Rattle.std.specs.Prelude.{◌≡◌, length, take, true, false}
+use Rattle.std.proofs.Common.{refl}
 use Rattle.frac128.specs.Rational.{◌<ℚ◌}
-use Rattle.lp_model.specs.Program.{IsFeasible}
-use Rattle.lp_model.specs.declared.types.Col.{Col}
 use Rattle.front_sweeps.specs.Steps.{width_between, gap_between}
-use Rattle.wcn_driver.proofs.GapEnds.{width_certified, gap_closed, held_feasible, held_long, gap_held, gap_wide}
+use Rattle.wcn_driver.proofs.GapEnds.{width_certified, gap_closed, held_feasible, held_long, gap_held, gap_halts}
 use Rattle.wcn_driver.proofs.gaps.judge_gap.Goals as goal
 
 pub returns-then-not-is_below-clause-found : goal.returns-then-not-is_below-clause-found
@@ -20,38 +18,28 @@ returns-then-not-is_below-clause-found c =
     let certified = width_certified t c.requires.task.base gap c.requires.gap o c.requires.optimum width c.requires.width over in
     let target = width_between gap.least1 gap.least2 gap.p gap.q in
     let model = gap_between t.base gap.least1 gap.least2 gap.p gap.q in (
-      gap_closed t c.requires.task.base gap c.requires.gap o c.requires.optimum width c.requires.width c.front_tree.result over c.front_tree.ensures.of c.requires.fits
-          (c.front_tree.ensures.passes model target certified) (c.front_tree.ensures.whole model target certified),
+      gap_closed t c.requires.task.base gap c.requires.gap o c.requires.optimum width c.requires.width c.front_tree-tree.result over c.front_tree-tree.ensures.of c.requires.fits
+          (c.front_tree-tree.ensures.passes model target certified) (c.front_tree-tree.ensures.whole model target certified),
       c.requires.optimum.within,
     )
 
-pub first_numbers-requires : goal.first_numbers-requires
-first_numbers-requires c =
-    let t = c.args.task.now in
-    let o = c.args.optimum in
-    subst (λ (l : List Col). length l ≤ length o.point) (sym c.cols.ensures.items)
-    (held_long t c.requires.task.base c.args.gap.now c.requires.gap o c.requires.optimum c.args.width.now c.requires.width (c.is_below.ensures.0 c.if-not-is_below.false))
+pub held_outcome-held-requires-clause-long : goal.held_outcome-held-requires-clause-long
+held_outcome-held-requires-clause-long c =
+    held_long c.args.task.now c.requires.task.base c.args.gap.now c.requires.gap c.args.optimum c.requires.optimum c.args.width.now c.requires.width (c.is_below.ensures.0 c.if-not-is_below.false)
 
-pub outcome_at-requires-clause-feasible : goal.outcome_at-requires-clause-feasible
-outcome_at-requires-clause-feasible c =
-    let t = c.args.task.now in
-    let o = c.args.optimum in
-    let is : c.in-Ok.front ≡ take (length t.base.cols) o.point = c.in-Ok.ensures ∙ ap (λ (l : List Col). take (length l) o.point) c.cols.ensures.items in
-    subst (IsFeasible t.base) (sym is)
-    (held_feasible t c.requires.task.base c.args.gap.now c.requires.gap o c.requires.optimum c.args.width.now c.requires.width (c.is_below.ensures.0 c.if-not-is_below.false))
+pub held_outcome-held-requires-clause-feasible : goal.held_outcome-held-requires-clause-feasible
+held_outcome-held-requires-clause-feasible c =
+    held_feasible c.args.task.now c.requires.task.base c.args.gap.now c.requires.gap c.args.optimum c.requires.optimum c.args.width.now c.requires.width (c.is_below.ensures.0 c.if-not-is_below.false)
 
-pub returns-in-Some-clause-found : goal.returns-in-Some-clause-found
-returns-in-Some-clause-found c =
+pub returns-in-Ok-clause-found : goal.returns-in-Ok-clause-found
+returns-in-Ok-clause-found c =
     let t = c.args.task.now in
-    let o = c.args.optimum in
-    let is : c.in-Ok.front ≡ take (length t.base.cols) o.point = c.in-Ok.ensures ∙ ap (λ (l : List Col). take (length l) o.point) c.cols.ensures.items in (
-      gap_held t c.requires.task.base c.args.gap.now c.requires.gap o c.requires.optimum c.args.width.now c.requires.width c.in-Ok.front c.in-Some.outcome (c.is_below.ensures.0 c.if-not-is_below.false) is c.in-Some.ensures.has,
+    let o = c.args.optimum in (
+      gap_held t c.requires.task.base c.args.gap.now c.requires.gap o c.requires.optimum c.args.width.now c.requires.width (take (length t.base.cols) o.point) c.in-Ok.outcome
+          (c.is_below.ensures.0 c.if-not-is_below.false) refl c.in-Ok.ensures.has,
       c.requires.optimum.within,
     )
 
-pub returns-clause-wide : goal.returns-clause-wide
-returns-clause-wide c =
-    let t = c.args.task.now in
-    let o = c.args.optimum in
-    let is : c.in-Ok.front ≡ take (length t.base.cols) o.point = c.in-Ok.ensures ∙ ap (λ (l : List Col). take (length l) o.point) c.cols.ensures.items in
-    gap_wide t c.requires.task.base c.args.gap.now c.requires.gap o c.requires.optimum c.args.width.now c.requires.width c.in-Ok.front c.requires.fits is c.in-None.ensures
+pub returns-in-Err-clause-wide : goal.returns-in-Err-clause-wide
+returns-in-Err-clause-wide c =
+    gap_halts c.args.task.now c.requires.task.base c.args.gap.now c.requires.gap c.args.optimum c.requires.optimum c.args.width.now c.requires.width c.requires.fits c.in-Err.halt c.in-Err.ensures.halt

@@ -1,6 +1,6 @@
 use Rattle.std.specs.Prelude.{◌-ℤ◌}
 use Rattle.std.proofs.Common.{subst}
-use Rattle.std.proofs.lemmas.Result.{err_from_is_err_and, IfErr-weaker}
+use Rattle.std.proofs.lemmas.Result.{IfErr-weaker}
 use Rattle.frac128.proofs.ReadLemmas.{narrow_read}
 use Rattle.gap_models.specs.Gaps.{IsGapOf, FitsGap, IsFirstGapPlace}
 use Rattle.front_sweeps.specs.Steps.{gap_between}
@@ -63,7 +63,7 @@ judge_gap-requires-clause-optimum g c =
     let is : IsGapOf (q.p.f2 -ℤ q.least2) (q.q.f1 -ℤ q.least1) q.least1 q.least2 c.in-Ok.numbers =
     subst (λ (T : Type 0). T) (λ t. IsGapOf (q.p.f2 -ℤ l2 t) (q.q.f1 -ℤ l1 t) (l1 t) (l2 t) c.in-Ok.numbers) c.in-Ok.ensures.gap in
     optimum_of (g.S.Solver.stops c.args.solver.now) (gap_between e.base q.least1 q.least2 q.p q.q) e.nodes c.args.before c.in-Ok-solve_gap.solved
-    (c.in-Ok-solve_gap.ensures.solved (q.p.f2 -ℤ q.least2) (q.q.f1 -ℤ q.least1) q.least1 q.least2 is) c.requires.before c.in_ok-optimum.optimum c.in_ok-optimum.ensures
+    (c.in-Ok-solve_gap.ensures.solved (q.p.f2 -ℤ q.least2) (q.q.f1 -ℤ q.least1) q.least1 q.least2 is) c.requires.before c.in-Ok-settle.optimum c.in-Ok-settle.ensures
 
 pub returns-in-Err-clause-halt : goal.returns-in-Err-clause-halt
 returns-in-Err-clause-halt g c =
@@ -75,24 +75,22 @@ returns-in-Err-clause-halt g c =
     subst (λ (T : Type 0). T) (λ t. IsFirstGapPlace e.base (q.p.f2 -ℤ l2 t) (q.q.f1 -ℤ l1 t) (l1 t) (l2 t) c.in-Err.place) c.in-Err.ensures.wide in
     gap_place (g.S.Solver.stops c.args.solver.now) e.base e.nodes e.constant1 e.constant2 q.least1 q.least2 q.p q.q c.in-Err.place c.place_of.result wide c.place_of.ensures
 
-pub returns-in_err-optimum-clause-halted : goal.returns-in_err-optimum-clause-halted
-returns-in_err-optimum-clause-halted g c =
+pub returns-in-Err-settle-clause-halted : goal.returns-in-Err-settle-clause-halted
+returns-in-Err-settle-clause-halted g c =
     let e = c.args.task.now in
-    let p = err_from_is_err_and c.from_residual.result c.from_residual.ensures.1 in
-    rw (p.1, p.2) (unless_memory (Stays e.base (g.S.Solver.program c.solve_gap.new.solver) (g.S.Solver.stops c.solve_gap.new.solver) (g.S.Solver.stops c.args.solver.now))
-    (record { recosted = c.in-Ok-solve_gap.ensures.kept; steady = c.in-Ok-solve_gap.ensures.steady }) c.in_err-optimum.field-0.0)
+    (unless_memory (Stays e.base (g.S.Solver.program c.solve_gap.new.solver) (g.S.Solver.stops c.solve_gap.new.solver) (g.S.Solver.stops c.args.solver.now))
+    (record { recosted = c.in-Ok-solve_gap.ensures.kept; steady = c.in-Ok-solve_gap.ensures.steady }) c.in-Err-settle.halt)
 
-pub returns-in_err-optimum-clause-halt : goal.returns-in_err-optimum-clause-halt
-returns-in_err-optimum-clause-halt g c =
+pub returns-in-Err-settle-clause-halt : goal.returns-in-Err-settle-clause-halt
+returns-in-Err-settle-clause-halt g c =
     let e = c.args.task.now in
     let q = c.args.gap.now in
     let l1 = narrow_read q.least1 c.requires.gap.narrow1 in
     let l2 = narrow_read q.least2 c.requires.gap.narrow2 in
     let is : IsGapOf (q.p.f2 -ℤ q.least2) (q.q.f1 -ℤ q.least1) q.least1 q.least2 c.in-Ok.numbers =
     subst (λ (T : Type 0). T) (λ t. IsGapOf (q.p.f2 -ℤ l2 t) (q.q.f1 -ℤ l1 t) (l1 t) (l2 t) c.in-Ok.numbers) c.in-Ok.ensures.gap in
-    let p = err_from_is_err_and c.from_residual.result c.from_residual.ensures.1 in
-    rw (p.1, p.2) (halt_of (g.S.Solver.stops c.args.solver.now) e.base e.nodes c.args.before e.constant1 e.constant2 q.least1 q.least2 (Gap q.p q.q) c.in-Ok-solve_gap.solved
-    (c.in-Ok-solve_gap.ensures.solved (q.p.f2 -ℤ q.least2) (q.q.f1 -ℤ q.least1) q.least1 q.least2 is) c.requires.before c.in_err-optimum.field-0.0 c.in_err-optimum.ensures)
+    (halt_of (g.S.Solver.stops c.args.solver.now) e.base e.nodes c.args.before e.constant1 e.constant2 q.least1 q.least2 (Gap q.p q.q) c.in-Ok-solve_gap.solved
+    (c.in-Ok-solve_gap.ensures.solved (q.p.f2 -ℤ q.least2) (q.q.f1 -ℤ q.least1) q.least1 q.least2 is) c.requires.before c.in-Err-settle.halt c.in-Err-settle.ensures)
 
 pub returns-clause-kept : goal.returns-clause-kept
 returns-clause-kept g c =

@@ -1,10 +1,6 @@
-use Rattle.std.specs.Prelude.{List, map}
-use Rattle.std.proofs.Common.{sym, subst}
-use Rattle.frontier.specs.Covers.{IsFront}
+use Rattle.std.specs.Prelude.{map}
 use Rattle.wcn_driver.specs.declared.answers.Part.TheVariants.{Least2}
-use Rattle.wcn_driver.specs.declared.found.Found.{Found}
-use Rattle.wcn_driver.specs.private.Kept.{UnlessMemory}
-use Rattle.wcn_driver.specs.private.Told.{shown_outcome, IsToldAtPart}
+use Rattle.wcn_driver.specs.private.Told.{shown_outcome}
 use Rattle.wcn_driver.proofs.Ended.{tellable, ended, told_recosted, mc_before, least2_ended}
 use Rattle.wcn_driver.proofs.sweeping.swept_from_least2.Goals as goal
 
@@ -15,20 +11,19 @@ pub told-requires : goal.told-requires
 told-requires g c =
     let stops = g.S.Solver.stops c.args.solver.now in
     let end = least2_ended stops c.args.task.now c.in-Err.halt c.args.first c.requires.first c.args.found.items c.requires.left c.in-Err.ensures.halt in
-    subst (λ (l : List Found). UnlessMemory (IsFront (map shown_outcome l)) c.in-Err.halt) (sym c.deref.ensures.value)
-    (tellable stops c.args.task.now c.requires.task.base c.args.found.items Least2 c.in-Err.halt end)
+    tellable stops c.args.task.now c.requires.task.base c.args.found.items Least2 c.in-Err.halt end
 
 pub returns-in-Err-clause-mc : goal.returns-in-Err-clause-mc
 returns-in-Err-clause-mc g c =
     let stops = g.S.Solver.stops c.args.solver.now in
     let end = least2_ended stops c.args.task.now c.in-Err.halt c.args.first c.requires.first c.args.found.items c.requires.left c.in-Err.ensures.halt in
     ended stops c.args.task.now c.requires.task.base c.args.found.items Least2 c.in-Err.halt c.told.result end
-    (subst (λ (l : List Found). IsToldAtPart (map shown_outcome l) Least2 c.in-Err.halt c.told.result) c.deref.ensures.value c.told.ensures)
+    c.told.ensures
 
 pub returns-in-Err-clause-kept : goal.returns-in-Err-clause-kept
 returns-in-Err-clause-kept g c =
     told_recosted c.args.task.now.base (g.S.Solver.program c.least_second.new.solver) (g.S.Solver.stops c.least_second.new.solver) (g.S.Solver.stops c.args.solver.now)
-    (map shown_outcome c.deref.result.now) Least2 c.in-Err.halt c.told.result c.in-Err.ensures.halted c.told.ensures
+    (map shown_outcome c.args.found.items) Least2 c.in-Err.halt c.told.result c.in-Err.ensures.halted c.told.ensures
 
 pub returns-in-Ok-clause-mc : goal.returns-in-Ok-clause-mc
 returns-in-Ok-clause-mc g c =

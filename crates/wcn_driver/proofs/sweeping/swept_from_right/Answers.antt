@@ -1,13 +1,10 @@
-use Rattle.std.specs.Prelude.{ℤ, pos, List, map}
-use Rattle.std.proofs.Common.{sym, subst}
+use Rattle.std.specs.Prelude.{ℤ, pos, map}
+use Rattle.std.proofs.Common.{subst}
 use Rattle.frac128.proofs.ReadLemmas.{narrow_read}
-use Rattle.frontier.specs.Covers.{IsFront}
 use Rattle.wcn_driver.specs.declared.answers.Part.TheVariants.{Right}
-use Rattle.wcn_driver.specs.declared.found.Found.{Found}
 use Rattle.wcn_driver.specs.private.Settled.{IsHalt}
 use Rattle.wcn_driver.specs.private.Ends.{IsRightEnd}
-use Rattle.wcn_driver.specs.private.Kept.{UnlessMemory}
-use Rattle.wcn_driver.specs.private.Told.{shown_outcome, IsToldAtPart}
+use Rattle.wcn_driver.specs.private.Told.{shown_outcome}
 use Rattle.wcn_driver.proofs.Ended.{tellable, ended, told_recosted, mc_before, right_ended}
 use Rattle.wcn_driver.proofs.sweeping.swept_from_right.Goals as goal
 
@@ -17,8 +14,7 @@ told-requires g c =
     let e = c.args.task.now in
     let cause = subst (λ (k : ℤ). IsHalt stops e.base e.nodes e.constant1 e.constant2 (pos 0) k Right c.in-Err.halt) (narrow_read c.args.second.least c.requires.second.narrow) c.in-Err.ensures.halt in
     let end = right_ended stops c.args.task.now c.in-Err.halt c.args.first c.requires.first c.args.found.items c.requires.left c.args.second c.requires.second cause in
-    subst (λ (l : List Found). UnlessMemory (IsFront (map shown_outcome l)) c.in-Err.halt) (sym c.deref.ensures.value)
-    (tellable stops c.args.task.now c.requires.task.base c.args.found.items Right c.in-Err.halt end)
+    tellable stops c.args.task.now c.requires.task.base c.args.found.items Right c.in-Err.halt end
 
 pub returns-in-Err-clause-mc : goal.returns-in-Err-clause-mc
 returns-in-Err-clause-mc g c =
@@ -27,12 +23,12 @@ returns-in-Err-clause-mc g c =
     let cause = subst (λ (k : ℤ). IsHalt stops e.base e.nodes e.constant1 e.constant2 (pos 0) k Right c.in-Err.halt) (narrow_read c.args.second.least c.requires.second.narrow) c.in-Err.ensures.halt in
     let end = right_ended stops c.args.task.now c.in-Err.halt c.args.first c.requires.first c.args.found.items c.requires.left c.args.second c.requires.second cause in
     ended stops c.args.task.now c.requires.task.base c.args.found.items Right c.in-Err.halt c.told.result end
-    (subst (λ (l : List Found). IsToldAtPart (map shown_outcome l) Right c.in-Err.halt c.told.result) c.deref.ensures.value c.told.ensures)
+    c.told.ensures
 
 pub returns-in-Err-clause-kept : goal.returns-in-Err-clause-kept
 returns-in-Err-clause-kept g c =
     told_recosted c.args.task.now.base (g.S.Solver.program c.right_end.new.solver) (g.S.Solver.stops c.right_end.new.solver) (g.S.Solver.stops c.args.solver.now)
-    (map shown_outcome c.deref.result.now) Right c.in-Err.halt c.told.result c.in-Err.ensures.halted c.told.ensures
+    (map shown_outcome c.args.found.items) Right c.in-Err.halt c.told.result c.in-Err.ensures.halted c.told.ensures
 
 pub returns-in-Ok-sweep_of-clause-mc : goal.returns-in-Ok-sweep_of-clause-mc
 returns-in-Ok-sweep_of-clause-mc g c =

@@ -18,4 +18,4 @@ loop-item-preserved c =
     let long = length-map found shown_outcome in
     let below : k < length (map shown_outcome found) = omega arith in
     let is : o ≡ get_or (map shown_outcome found) k o = c.outcome_shown.ensures ∙ sym (get_or-map shown_outcome found k item o test c.item-item.is) in
-    front_more (map shown_outcome found) c.loop-item.front c.insert.new.self k o c.in_ok-insert.field-0 c.requires below is c.loop-item.invariant c.in_ok-insert.ensures.taken c.in_ok-insert.ensures.stands
+    front_more (map shown_outcome found) c.loop-item.front c.insert.new.self k o c.in-Ok.field-0 c.requires below is c.loop-item.invariant c.in-Ok.ensures.taken c.in-Ok.ensures.stands
