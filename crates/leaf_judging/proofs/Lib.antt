@@ -4,4 +4,5 @@ pub mod QueueLists
 pub mod NumberLemmas
 pub mod MarkLemmas
 pub mod SameNumber
+pub mod FormerNumbers
 pub mod FreeLemmas

@@ -1,5 +1,5 @@
 -- Numbers that are kept: under one id, of the leaves of a walk, and of leaves in other states.
-use Rattle.std.specs.Prelude.{◌≡◌, ◌≢◌, ℕ, ◌<◌, ◌≤◌, false, List, [], ◌∷◌, drop, Option, None, IsSome, Result, Ok, Err, OnOk, OnErr}
+use Rattle.std.specs.Prelude.{◌≡◌, ◌≢◌, ℕ, ◌<◌, ◌≤◌, false, List, [], ◌∷◌, drop, Option, Some, None, IsSome, IfSome, Result, Ok, Err, OnOk, OnErr}
 use Rattle.std.specs.declared.cmp.Ordering.{Ordering}
 use Rattle.std.specs.declared.cmp.Ordering.TheVariants.{Less, Equal, Greater}
 use Rattle.std.specs.Ordering.{MatchOrdering, nat_cmp, is_eq}
@@ -16,10 +16,13 @@ use Rattle.branch_tree.specs.Visits.{Visits}
 use Rattle.branch_tree.specs.declared.node.LeafState.{LeafState}
 use Rattle.branch_tree.proofs.CountLemmas.{same_cases}
 use Rattle.branch_tree.proofs.VisitLemmas.{visits_both}
+use Rattle.spared_leaves.specs.declared.touched.Touched.{Touched}
 use Rattle.leaf_judging.specs.declared.numbers.LeafNumbers.{LeafNumbers}
 use Rattle.leaf_judging.specs.declared.judging.Numbering.{Numbering}
 use Rattle.leaf_judging.specs.Closing.{IsNumber}
-use Rattle.leaf_judging.specs.Numbers.{kept_number, HasKept, AreNumbersOf, NumbersLeaf}
+use Rattle.leaf_judging.specs.declared.former.Former.{Former}
+use Rattle.leaf_judging.specs.Former.{IsAlikeFormer, HoldsFormer, AreFormer, NumbersLeaf}
+use Rattle.leaf_judging.specs.Numbers.{kept_number, HasKept, AreNumbersOf}
 
 -- another id is not found
 pub apart-id : (a b : ℕ) → b ≢ a → is_eq (nat_cmp a b) ≡ false
@@ -66,26 +69,57 @@ module _ (F : Formulation) where
     each-kept a b (right_path path j v) right (λ i some. same i (omega (arith, some))) h.1,
   )
 
-module _ (M : Program) (cuts : List CutRow) where
+abbrev HoldsBy : Formulation → Former → Option Touched → Path → LeafKept → Type 0
+HoldsBy F former o path l = IfSome o (λ u. (M : Program) × (IsAlikeFormer u former M F × HasKept (formulation M former.pool.now) former.numbers.now path l))
+
+-- what is said of a tree's former numbers is said of each leaf's
+former-each : (former : Option Former) (F : Formulation) (t : Plain) → AreFormer former F t → EachLeaf (HoldsFormer former F) [] t
+former-each None F t h = none [] t
+  where
+    none : (path : Path) (u : Plain) → EachLeaf (HoldsFormer None F) path u
+    none path (Leaf l) = tt
+    none path (Split kept j v left right) = (none (left_path path j v) left, none (right_path path j v) right)
+former-each (Some former) F t h = by former.touched h
+  where
+    each : (M : Program) (u : Touched) → IsAlikeFormer u former M F → (path : Path) (tree : Plain) → EachLeaf (HasKept (formulation M former.pool.now) former.numbers.now) path tree → EachLeaf (HoldsBy F former (Some u)) path tree
+    each M u alike path (Leaf l) k = (M, (alike, k))
+    each M u alike path (Split k j v left right) kept = (each M u alike (left_path path j v) left kept.0, each M u alike (right_path path j v) right kept.1)
+
+    none : (path : Path) (tree : Plain) → EachLeaf (HoldsBy F former None) path tree
+    none path (Leaf l) = tt
+    none path (Split kept j v left right) = (none (left_path path j v) left, none (right_path path j v) right)
+
+    by : (o : Option Touched) → IfSome o (λ u. (M : Program) × (IsAlikeFormer u former M F × AreNumbersOf (formulation M former.pool.now) t former.numbers.now)) → EachLeaf (HoldsBy F former o) [] t
+    by None k = none [] t
+    by (Some u) (M, (alike, kept)) = each M u alike [] t kept
+
+module _ (M : Program) (cuts : List CutRow) (former : Option Former) where
   -- a walk over leaves with ids of their own puts down the number of each, and touches no other id
-  pub numbered : (path : Path) (t : Plain) (old new : Numbering) → old.model.now ≡ M → old.pool.now ≡ cuts → ((i : ℕ) → leaves_with i t ≤ 1) → Visits NumbersLeaf (region_leaves path t) old new
-      → (new.model.now ≡ M) × ((new.pool.now ≡ cuts) × (EachLeaf (HasKept (formulation M cuts) new.numbers) path t × ((i : ℕ) → leaves_with i t ≡ 0 → kept_number new.numbers i ≡ kept_number old.numbers i)))
-  numbered path (Leaf l) old new is cuts_are one walk =
+  walked : (path : Path) (t : Plain) (old new : Numbering) → old.model.now ≡ M → old.pool.now ≡ cuts → old.former ≡ former → ((i : ℕ) → leaves_with i t ≤ 1) → EachLeaf (HoldsFormer former (formulation M cuts)) path t → Visits NumbersLeaf (region_leaves path t) old new
+      → (new.model.now ≡ M) × ((new.pool.now ≡ cuts) × ((new.former ≡ former) × (EachLeaf (HasKept (formulation M cuts) new.numbers) path t × ((i : ℕ) → leaves_with i t ≡ 0 → kept_number new.numbers i ≡ kept_number old.numbers i))))
+  walked path (Leaf l) old new is cuts_are former_is one held walk =
       let step = walk.1.0 in
-      let number_is : IsNumber (formulation M cuts) path l.kept.mult l.kept.farkas step.number = subst (λ P. P) (λ i. IsNumber (formulation (is i) (cuts_are i)) path l.kept.mult l.kept.farkas step.number) step.number_is in
-      subst (λ (x : Numbering). (x.model.now ≡ M) × ((x.pool.now ≡ cuts) × (EachLeaf {S = SplitKept} (HasKept (formulation M cuts) x.numbers) path (Leaf l) × ((i : ℕ) → leaves_with i (Leaf l) ≡ 0 → kept_number x.numbers i ≡ kept_number old.numbers i)))) (sym walk.1.1)
-      (step.same ∙ is, (step.same_cuts ∙ cuts_are, ((step.number, (step.puts.0, number_is)), λ i none. step.puts.1 i (is-other l i none))))
-  numbered path (Split kept j v left right) old new is cuts_are one walk =
+      let own : HoldsFormer old.former (formulation old.model.now old.pool.now) path l = subst (λ P. P) (λ i. HoldsFormer (sym former_is i) (formulation (sym is i) (sym cuts_are i)) path l) held in
+      let number_is : IsNumber (formulation M cuts) path l.kept.mult l.kept.farkas step.number = subst (λ P. P) (λ i. IsNumber (formulation (is i) (cuts_are i)) path l.kept.mult l.kept.farkas step.number) (step.number_is own) in
+      subst (λ (x : Numbering). (x.model.now ≡ M) × ((x.pool.now ≡ cuts) × ((x.former ≡ former) × (EachLeaf {S = SplitKept} (HasKept (formulation M cuts) x.numbers) path (Leaf l) × ((i : ℕ) → leaves_with i (Leaf l) ≡ 0 → kept_number x.numbers i ≡ kept_number old.numbers i))))) (sym walk.1.1)
+      (step.same ∙ is, (step.same_cuts ∙ cuts_are, (step.same_former ∙ former_is, ((step.number, (step.puts.0, number_is)), λ i none. step.puts.1 i (is-other l i none)))))
+  walked path (Split kept j v left right) old new is cuts_are former_is one held walk =
       let both = visits_both NumbersLeaf path kept j v left right old new walk in
       let mid = both.0 in
-      let first = numbered (left_path path j v) left old mid is cuts_are (λ i. omega (arith, one i)) both.1.0 in
-      let second = numbered (right_path path j v) right mid new first.0 first.1.0 (λ i. omega (arith, one i)) both.1.1 in (
+      let first = walked (left_path path j v) left old mid is cuts_are former_is (λ i. omega (arith, one i)) held.0 both.1.0 in
+      let second = walked (right_path path j v) right mid new first.0 first.1.0 first.1.1.0 (λ i. omega (arith, one i)) held.1 both.1.1 in (
         second.0,
         (
           second.1.0,
           (
-            (each-kept (formulation M cuts) mid.numbers new.numbers (left_path path j v) left (λ i some. second.1.1.1 i (omega (arith, one i, some))) first.1.1.0, second.1.1.0),
-            λ i none. second.1.1.1 i (omega (arith, none)) ∙ first.1.1.1 i (omega (arith, none)),
+            second.1.1.0,
+            (
+              (each-kept (formulation M cuts) mid.numbers new.numbers (left_path path j v) left (λ i some. second.1.1.1.1 i (omega (arith, one i, some))) first.1.1.1.0, second.1.1.1.0),
+              λ i none. second.1.1.1.1 i (omega (arith, none)) ∙ first.1.1.1.1 i (omega (arith, none)),
+            ),
           ),
         ),
       )
+
+  pub numbered : (t : Plain) (old new : Numbering) → old.model.now ≡ M → old.pool.now ≡ cuts → old.former ≡ former → ((i : ℕ) → leaves_with i t ≤ 1) → AreFormer former (formulation M cuts) t → Visits NumbersLeaf (region_leaves [] t) old new → AreNumbersOf (formulation M cuts) t new.numbers
+  numbered t old new is cuts_are former_is one held walk = (walked [] t old new is cuts_are former_is one (former-each former (formulation M cuts) t held) walk).1.1.1.0

@@ -3,14 +3,13 @@ use Rattle.std.specs.Prelude.{◌≡◌, ◌≢◌, ℕ, [], ◌∷◌, ◌++◌
 use Rattle.std.specs.BTreeMap.{get}
 use Rattle.std.specs.Ordering.{nat_cmp}
 use Rattle.lp_model.specs.Regions.{Path}
-use Rattle.lp_model.specs.Formulations.{Formulation, formulation}
+use Rattle.lp_model.specs.Formulations.{Formulation}
 use Rattle.branch_tree.specs.Tree.{EachLeaf}
 use Rattle.branch_tree.specs.Plain.{LeafKept, Plain}
 use Rattle.branch_tree.specs.declared.node.LeafState.{LeafState}
 use Rattle.branch_tree.specs.declared.node.RegionLeaf.{RegionLeaf}
 use Rattle.leaf_judging.specs.declared.closing.LeafNumber.{LeafNumber}
 use Rattle.leaf_judging.specs.declared.numbers.LeafNumbers.{LeafNumbers}
-use Rattle.leaf_judging.specs.declared.judging.Numbering.{Numbering}
 use Rattle.leaf_judging.specs.declared.judging.Marking.{Marking}
 use Rattle.leaf_judging.specs.Closing.{IsNumber, NumberCloses, StateSays}
 use Rattle.leaf_judging.specs.Choosing.{finite_number}
@@ -46,14 +45,6 @@ abbrev pub AreNumbersOf : Formulation → Plain → LeafNumbers → Type 0
 AreNumbersOf F t numbers = EachLeaf (HasKept F numbers) [] t
 
 -- ---- one leaf of a walk
-
--- its number is put down
-pub record NumbersLeaf (old : Numbering) (l : RegionLeaf) (new : Numbering) : Type 0 where
-  pub same : new.model.now ≡ old.model.now
-  pub same_cuts : new.pool.now ≡ old.pool.now
-  pub number : LeafNumber
-  pub number_is : IsNumber (formulation old.model.now old.pool.now) l.region l.kept.mult l.kept.farkas number
-  pub puts : PutsNumber old.numbers l.id number new.numbers
 
 -- its state by the number that is kept goes behind the others, and it goes into the queue where it is open
 pub record MarksLeaf (old : Marking) (l : RegionLeaf) (new : Marking) : Type 0 where

@@ -10,29 +10,48 @@ ghost use Rattle.branch_tree.specs.Leaves.{leaf_count, with_states};
 ghost use Rattle.leaf_judging.specs.Judged.{AreStates, JudgesAll};
 ghost use Rattle.leaf_judging.specs.Queued.{IsQueueOf};
 ghost use Rattle.leaf_judging.specs.Numbers.{AreNumbersOf};
+ghost use Rattle.leaf_judging.specs.Former.{AreFormer};
 
 use crate::choosing::{Candidate, as_candidate, finite_number};
-use crate::closing::{number_of, state_by};
+use crate::closing::{LeafNumber, number_of, state_by};
+use crate::former::{Former, former_number};
 use crate::numbers::LeafNumbers;
 use crate::queue::LeafQueue;
 use branch_tree::{LeafData, LeafState, LeafVisitor, Tree};
 use cover_cuts::CutPool;
 use frac128::Frac;
+use leaf_dual::LagValue;
 use lp_model::{BoundChange, Model};
 use std::alloc::{AllocError, Global};
 
-/// Numbers of the leaves of a model with its cuts, put down one by one.
+/// Numbers of the leaves of a model with its cuts, put down one by one, with those from before an edit, if there are any.
 #[derive(Drop)]
 pub(crate) struct Numbering<'a> {
     pub(crate) model: &'a Model,
     pub(crate) pool: &'a CutPool,
+    pub(crate) former: Option<Former<'a>>,
     pub(crate) numbers: LeafNumbers,
 }
 
 impl Numbering<'_> {
-    ghost use Rattle.leaf_judging.specs.Numbers.{NumbersLeaf};
+    ghost use Rattle.lp_model.specs.Formulations.{formulation};
+    ghost use Rattle.leaf_judging.specs.Closing.{IsNumber};
+    ghost use Rattle.leaf_judging.specs.Former.{HoldsFormer, NumbersLeaf};
 
-    /// Puts down a leaf's number, which is that of each path with the region's bounds.
+    /// A leaf's number, which is that of each path with the region's bounds: the one from before an edit that spares the leaf,
+    /// and else computed.
+    fn number_at(&self, id: u64, region: &[BoundChange], kept: &LeafData) -> LeafNumber
+        requires { AreNarrow region.now }
+        ensures { (path : Path) → SameBounds region.now path → HoldsFormer self.now.former (formulation self.now.model.now self.now.pool.now) path (record { id = id; kept = kept.now }) → IsNumber (formulation self.now.model.now self.now.pool.now) path kept.now.mult kept.now.farkas result }
+    {
+        let _named = LagValue::Minus;
+        match former_number(&self.former, self.pool, id, kept) {
+            Some(number) => number,
+            None => number_of(self.model, self.pool, region, &kept.mult, &kept.farkas),
+        }
+    }
+
+    /// Puts down a leaf's number.
     fn number_leaf(
         &mut self,
         id: u64,
@@ -42,13 +61,13 @@ impl Numbering<'_> {
         requires { AreNarrow region.now }
         ensures { OnOk result ((path : Path) → SameBounds region.now path → NumbersLeaf self.old (record { id = id; region = path; kept = kept.now }) self.new) }
     {
-        let number = number_of(self.model, self.pool, region, &kept.mult, &kept.farkas);
+        let number = self.number_at(id, region, kept);
         self.numbers.put(id, &number)
     }
 }
 
 impl LeafVisitor for Numbering<'_> {
-    ghost use Rattle.leaf_judging.specs.Numbers.{NumbersLeaf};
+    ghost use Rattle.leaf_judging.specs.Former.{NumbersLeaf};
 
     ghost step = { NumbersLeaf };
 
@@ -62,19 +81,22 @@ impl LeafVisitor for Numbering<'_> {
     }
 }
 
-/// The number of each leaf of a tree.
+/// The number of each leaf of a tree. Those that an edit spares keep their former ones.
 fn numbers_of(
     alloc: Global,
     model: &Model,
     pool: &CutPool,
+    former: &Option<Former<'_>>,
     tree: &Tree,
 ) -> Result<LeafNumbers, AllocError>
-    requires { HasNarrowSplits tree.now.root }
+    requires narrow { HasNarrowSplits tree.now.root }
+    requires former { AreFormer former.now (formulation model.now pool.now) tree.now.root }
     ensures { IfOk result (λ numbers. AreNumbersOf (formulation model.now pool.now) tree.now.root numbers) }
 {
     let mut numbering = Numbering {
         model,
         pool,
+        former: *former,
         numbers: LeafNumbers::new(alloc),
     };
     match tree.visit_leaves(&mut numbering) {
@@ -208,21 +230,23 @@ pub struct Judged {
     pub index: LeafIndex,
 }
 
-/// The leaves of any tree that is handed in, judged against a target. Each number is computed once.
+/// The leaves of any tree that is handed in, judged against a target. Each number is computed once, where it is no former one.
 pub fn judge_tree(
     alloc: Global,
     model: &Model,
     pool: &CutPool,
     target: &Option<Frac>,
+    former: &Option<Former<'_>>,
     tree: &Tree,
 ) -> Result<Judged, AllocError>
-    requires { HasNarrowSplits tree.now.root }
+    requires narrow { HasNarrowSplits tree.now.root }
+    requires former { AreFormer former.now (formulation model.now pool.now) tree.now.root }
     ensures count { IfOk result (λ j. length j.states.items ≡ leaf_count tree.now.root) }
     ensures states { IfOk result (λ j. AreStates (formulation model.now pool.now) target.now tree.now.root j.states.items) }
     ensures numbers { IfOk result (λ j. AreNumbersOf (formulation model.now pool.now) tree.now.root j.index.numbers) }
     ensures queue { IfOk result (λ j. IsQueueOf (formulation model.now pool.now) (with_states j.states.items tree.now.root) j.index.queue) }
 {
-    let numbers = numbers_of(alloc, model, pool, tree)?;
+    let numbers = numbers_of(alloc, model, pool, former, tree)?;
     match judge_again(alloc, model, target, tree, &numbers) {
         Ok(marks) => Ok(Judged {
             states: marks.states,
@@ -238,7 +262,29 @@ pub fn judge_tree(
     }
 }
 
-/// Judges each leaf of a tree, and answers what is kept of them. Where there is no memory the tree stays as it was.
+/// Judges each leaf of a tree, and answers what is kept of them. A leaf that an edit spares keeps its former number. Where
+/// there is no memory the tree stays as it was.
+pub fn judge_after(
+    alloc: Global,
+    model: &Model,
+    pool: &CutPool,
+    target: &Option<Frac>,
+    former: &Option<Former<'_>>,
+    tree: &mut Tree,
+) -> Result<LeafIndex, AllocError>
+    requires narrow { HasNarrowSplits tree.old.root }
+    requires former { AreFormer former.now (formulation model.now pool.now) tree.old.root }
+    ensures judged { OnOk result (JudgesAll (formulation model.now pool.now) target.now tree.old tree.new) }
+    ensures numbers { IfOk result (λ index. AreNumbersOf (formulation model.now pool.now) tree.new.root index.numbers) }
+    ensures queue { IfOk result (λ index. IsQueueOf (formulation model.now pool.now) tree.new.root index.queue) }
+    ensures kept { OnErr result (tree.new ≡ tree.old) }
+{
+    let judged = judge_tree(alloc, model, pool, target, former, tree)?;
+    tree.set_states(&judged.states);
+    Ok(judged.index)
+}
+
+/// Judges each leaf of a tree of which nothing is known.
 pub fn judge_all(
     alloc: Global,
     model: &Model,
@@ -252,7 +298,5 @@ pub fn judge_all(
     ensures queue { IfOk result (λ index. IsQueueOf (formulation model.now pool.now) tree.new.root index.queue) }
     ensures kept { OnErr result (tree.new ≡ tree.old) }
 {
-    let judged = judge_tree(alloc, model, pool, target, tree)?;
-    tree.set_states(&judged.states);
-    Ok(judged.index)
+    judge_after(alloc, model, pool, target, &None, tree)
 }

@@ -27,12 +27,14 @@
 
 mod choosing;
 mod closing;
+mod former;
 mod judging;
 mod numbers;
 mod queue;
 
 pub use choosing::{Candidate, as_candidate, finite_number};
 pub use closing::{LeafNumber, number_closes, number_of, state_by};
-pub use judging::{Judged, LeafIndex, Marks, judge_again, judge_all, judge_tree};
+pub use former::Former;
+pub use judging::{Judged, LeafIndex, Marks, judge_after, judge_again, judge_all, judge_tree};
 pub use numbers::LeafNumbers;
 pub use queue::LeafQueue;

@@ -1,7 +1,6 @@
 -- What contracts of private functions alone cite, beside specs/Queued.
-use Rattle.std.specs.Prelude.{◌⊎◌, [], ◌∷◌, List, Option}
+use Rattle.std.specs.Prelude.{◌⊎◌, [], ◌∷◌, List}
 use Rattle.std.specs.List.{AllZip}
-use Rattle.std.specs.declared.cmp.Ordering.{Ordering}
 use Rattle.lp_model.specs.Formulations.{Formulation}
 use Rattle.branch_tree.specs.Plain.{LeafKept}
 use Rattle.branch_tree.specs.Leaves.{region_leaf, with_state}

@@ -1,0 +1,5 @@
+pub mod LikeTerms
+pub mod LikeQuestions
+pub mod LikeAnswers
+pub mod LikeEdits
+pub mod LikePools

@@ -1,0 +1,3 @@
+pub mod Touched
+pub mod Alike
+pub mod Laws

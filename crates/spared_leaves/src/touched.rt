@@ -1,0 +1,112 @@
+// What an edit touches, and which lists of multipliers name none of it.
+ghost use Rattle.std.specs.Prelude.{◌≡◌};
+ghost use Rattle.lp_model.specs.Cuts.{is_live};
+ghost use Rattle.lp_model.specs.Edits.{EditFits};
+ghost use Rattle.spared_leaves.specs.Touched.{touched_by, leaves_row, leaves_cut, leaves_variable, leaves_list};
+ghost use Rattle.spared_leaves.specs.Laws.{LikeAnswersLaw, LikeRegionsLaw, LikeEditsLaw, LikePoolsLaw};
+
+use branch_tree::row_of;
+use frac128::Frac;
+use lp_model::{CutRow, Edit, Model, RowId, Var};
+
+/// What an edit touches of that which a leaf's number is made of, beside cuts.
+#[derive(Clone, Copy, Drop)]
+pub enum Touched {
+    Nothing,
+    OneRow(RowId),
+}
+
+/// What an edit touches, where that is one row at most. `None` for an edit of costs in objective 1 or of columns, and for one
+/// that moves the places of others.
+pub fn touched_by(model: &Model, edit: &Edit) -> Option<Touched>
+    requires { EditFits model.now edit.now }
+    ensures { result ≡ touched_by model.now edit.now }
+{
+    match edit {
+        Edit::SetCost2 { .. } => Some(Touched::Nothing),
+        Edit::SetRow { row, .. } => Some(Touched::OneRow(RowId(row_of(model, row)))),
+        Edit::AddRow { .. } => Some(Touched::OneRow(RowId(model.rows().len() as u32))),
+        Edit::ReplaceRow { row, .. } => Some(Touched::OneRow(RowId(row_of(model, row)))),
+        _ => None,
+    }
+}
+
+/// Whether there is a cut at a place and it counts.
+fn is_live(cuts: &[CutRow], cut: usize) -> bool
+    ensures { result ≡ is_live cuts.now cut }
+{
+    if cut < cuts.len() {
+        cuts[cut].live
+    } else {
+        false
+    }
+}
+
+/// Whether a row is not the one that is touched.
+fn leaves_row(touched: &Touched, row: u32) -> bool
+    ensures { result ≡ leaves_row touched.now row }
+{
+    match touched {
+        Touched::Nothing => true,
+        Touched::OneRow(id) => id.0 != row,
+    }
+}
+
+/// Whether a cut counts before and after an edit, or neither before nor after it.
+fn leaves_cut(before: &[CutRow], after: &[CutRow], cut: usize) -> bool
+    ensures { result ≡ leaves_cut before.now after.now cut }
+{
+    if is_live(before, cut) {
+        is_live(after, cut)
+    } else {
+        !is_live(after, cut)
+    }
+}
+
+/// Whether the variable is the activity of nothing that is touched.
+fn leaves_variable(touched: &Touched, before: &[CutRow], after: &[CutRow], of: &Var) -> bool
+    ensures { result ≡ leaves_variable touched.now before.now after.now of.now }
+{
+    match of {
+        Var::Col(_) => true,
+        Var::Row(row) => leaves_row(touched, row.0),
+        Var::Cut(cut) => leaves_cut(before, after, cut.0 as usize),
+    }
+}
+
+/// Whether a list names neither the row that is touched, nor a cut that counts before or after the edit alone.
+pub fn leaves_list(
+    touched: &Touched,
+    before: &[CutRow],
+    after: &[CutRow],
+    list: &[(Var, Frac)],
+) -> bool
+    ensures { result ≡ leaves_list touched.now before.now after.now list.now }
+{
+    for (of, _) in list {
+        if !leaves_variable(touched, before, after, of) {
+            return false;
+        }
+    }
+    true
+}
+
+/// A list that names nothing that is touched has the same answers in models and cuts that are alike.
+pub fn like_answers_law()
+    ensures { LikeAnswersLaw }
+{}
+
+/// A region is empty in both of two models that are alike, or in neither.
+pub fn like_regions_law()
+    ensures { LikeRegionsLaw }
+{}
+
+/// An edit leaves all but what it touches.
+pub fn like_edits_law()
+    ensures { LikeEditsLaw }
+{}
+
+/// Cuts of the same derivations are alike.
+pub fn like_pools_law()
+    ensures { LikePoolsLaw }
+{}
