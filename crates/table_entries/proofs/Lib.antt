@@ -25,6 +25,7 @@ pub mod WholeLemmas
 pub mod WholeListLemmas
 pub mod ListedLemmas
 pub mod RowLemmas
+pub mod LeftLemmas
 pub mod PartLemmas
 pub mod PartNumbers
 pub mod PartExchange

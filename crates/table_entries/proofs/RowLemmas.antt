@@ -164,9 +164,6 @@ module _ (n r s : ℕ) (entries old next : List ℚ) (i : ℕ) where
     pub leaving_kept : i ≢ r → ((k : ℕ) → k < n → Written old r k) → (k : ℕ) → k < n → Written next r k
     leaving_kept other h k q = kept r k (λ e. other (sym e)) q ∙ h k q
 
-    pub rows_written : ((j k : ℕ) → j < i → k < n → Written old j k) → ((k : ℕ) → k < n → Written next i k) → (j k : ℕ) → j < i + 1 → k < n → Written next j k
-    rows_written h here = all_rows {P = Written next} (λ j k less q. kept j k (λ e. omega (arith, e, less)) q ∙ h j k less q) here
-
 -- ---- from rows and places to the list of entries
 
 module _ (n m r s : ℕ) (entries : List ℚ) (at : ℕ) (within : at < m * n) where

@@ -3,3 +3,4 @@ pub mod RowSteps
 pub mod Listed
 pub mod Parts
 pub mod Steps
+pub mod LeftRows

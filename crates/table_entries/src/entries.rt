@@ -1,10 +1,10 @@
 // The entries of a table after an exchange, one by one.
-ghost use Rattle.std.specs.Prelude.{◌≡◌, ◌≢◌, ◌<◌, ◌≤◌, ◌+◌, ◌*◌, ◌^◌, ℕ, pos, length, get_or, OkIff, OnOk, IfErr};
+ghost use Rattle.std.specs.Prelude.{◌≡◌, ◌≢◌, ◌<◌, ◌≤◌, ◌+◌, ◌*◌, ◌^◌, ℕ, pos, length, get_or, OkIff, OnOk, IfErr, OnErr};
 ghost use Rattle.frac128.specs.Rational.{int};
 ghost use Rattle.table_entries.specs.Steps.{PivotStepFits, step_value};
 ghost use Rattle.table_entries.specs.FlatSteps.{FlatFits, flat_value};
 
-use crate::rows::write_by_rows;
+use crate::rows::exchange_by_rows;
 use frac128::{Frac, Wide};
 
 /// The place of an entry whose step has no room.
@@ -100,28 +100,33 @@ fn write_by_steps(
     Ok(())
 }
 
-/// Writes the entries after the exchange into `next`, or finds the first whose step has no room.
-pub fn write_exchanged(
+/// Exchanges the entries, or finds the first whose step has no room; then none changes. The second list takes entries on the
+/// way.
+pub fn exchange_entries(
     rows: usize,
     columns: usize,
     row: usize,
     place: usize,
-    entries: &[Frac],
+    entries: &mut [Frac],
     next: &mut [Frac],
 ) -> Result<(), usize>
     requires row { row < rows }
     requires place { place < columns }
-    requires size { length entries.now ≡ rows * columns }
+    requires size { length entries.old ≡ rows * columns }
     requires room { length next.old ≡ rows * columns }
-    requires some { get_or entries.now (row * columns + place) (int (pos 0)) ≢ int (pos 0) }
-    ensures written { OnOk result ((at : ℕ) → at < rows * columns → get_or next.new at (int (pos 0)) ≡ flat_value columns row place entries.now at) }
-    ensures fits { OnOk result ((at : ℕ) → at < rows * columns → FlatFits columns row place entries.now at) }
+    requires some { get_or entries.old (row * columns + place) (int (pos 0)) ≢ int (pos 0) }
+    ensures written { OnOk result ((at : ℕ) → at < rows * columns → get_or entries.new at (int (pos 0)) ≡ flat_value columns row place entries.old at) }
+    ensures fits { OnOk result ((at : ℕ) → at < rows * columns → FlatFits columns row place entries.old at) }
+    ensures kept { OnErr result (entries.new ≡ entries.old) }
     ensures within { IfErr result (λ e. e < rows * columns) }
-    ensures earlier { IfErr result (λ e. (at : ℕ) → at < e → FlatFits columns row place entries.now at) }
-    ensures wide { IfErr result (λ e. ¬ (FlatFits columns row place entries.now e)) }
+    ensures earlier { IfErr result (λ e. (at : ℕ) → at < e → FlatFits columns row place entries.old at) }
+    ensures wide { IfErr result (λ e. ¬ (FlatFits columns row place entries.old e)) }
 {
-    match write_by_rows(rows, columns, row, place, entries, next) {
+    match exchange_by_rows(rows, columns, row, place, entries, next) {
         Ok(()) => Ok(()),
-        Err(_) => write_by_steps(rows, columns, row, place, entries, next),
+        Err(_) => match write_by_steps(rows, columns, row, place, entries, next) {
+            Ok(()) => unreachable!(),
+            Err(at) => Err(at),
+        },
     }
 }

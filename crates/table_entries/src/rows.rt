@@ -1,11 +1,12 @@
-// The entries of a table after an exchange, row by row. Each quotient of the leaving row is formed once, and an entry that
-// keeps its number takes no arithmetic.
-ghost use Rattle.std.specs.Prelude.{◌≡◌, ◌≢◌, ◌<◌, ◌+◌, ◌*◌, ◌^◌, ℕ, pos, length, get_or, OkIff, OnOk, OnErr};
+// The entries of a table after an exchange, row by row. Each quotient of the leaving row is formed once, an entry that
+// keeps its number takes no arithmetic, and a row without an entry in the entering place is not touched.
+ghost use Rattle.std.specs.Prelude.{◌≡◌, ◌≢◌, ◌↔◌, ◌<◌, ◌+◌, ◌*◌, ◌^◌, ℕ, pos, length, get_or, IsTrue, OkIff, OnOk, OnErr};
 ghost use Rattle.frac128.specs.Rational.{int};
 ghost use Rattle.table_entries.specs.Relaxation.{pivoted_entry};
 ghost use Rattle.table_entries.specs.Steps.{EntryFits};
 ghost use Rattle.table_entries.specs.FlatSteps.{dense_entry};
-ghost use Rattle.table_entries.specs.private.RowSteps.{MovedFits, moved_value};
+ghost use Rattle.frac128.specs.Range.{Fits};
+ghost use Rattle.table_entries.specs.private.RowSteps.{MovedFits, moved_value, IsLeftAlone, IsTakenRow};
 
 use crate::entries::{exchanged, flat_index};
 use frac128::{Frac, Wide};
@@ -102,8 +103,39 @@ fn write_row(
     Ok(())
 }
 
-/// Writes the entries after the exchange into `next`, if each step has room.
-pub fn write_by_rows(
+/// Whether the exchange leaves a row alone: it is not the leaving one, and has no entry in the entering place.
+fn is_left_alone(
+    rows: usize,
+    columns: usize,
+    row: usize,
+    place: usize,
+    at_row: usize,
+    entries: &[Frac],
+) -> bool
+    requires place { place < columns }
+    requires at_row { at_row < rows }
+    requires size { length entries.now ≡ rows * columns }
+    ensures { IsTrue result ↔ IsLeftAlone (dense_entry columns entries.now) row place at_row }
+{
+    if at_row == row {
+        return false;
+    }
+    entries[flat_index(rows, columns, at_row, place)].is_zero()
+}
+
+/// Nothing happens: a caller learns that the entries of a row have room, as each does.
+fn have_room(rows: usize, columns: usize, row: usize, entries: &[Frac])
+    requires row { row < rows }
+    requires size { length entries.now ≡ rows * columns }
+    ensures { (k : ℕ) → k < columns → Fits (dense_entry columns entries.now row k) }
+{
+    for place in 0..columns {
+        entries[flat_index(rows, columns, row, place)].has_room();
+    }
+}
+
+/// Writes the rows after the exchange that it does not leave alone into `next`, if each step to any row has room.
+fn write_by_rows(
     rows: usize,
     columns: usize,
     row: usize,
@@ -116,7 +148,7 @@ pub fn write_by_rows(
     requires size { length entries.now ≡ rows * columns }
     requires room { length next.old ≡ rows * columns }
     requires some { get_or entries.now (row * columns + place) (int (pos 0)) ≢ int (pos 0) }
-    ensures written { OnOk result ((i k : ℕ) → i < rows → k < columns → get_or next.new (i * columns + k) (int (pos 0)) ≡ pivoted_entry (dense_entry columns entries.now) row place i k) }
+    ensures written { OnOk result ((i k : ℕ) → i < rows → k < columns → ¬ (IsLeftAlone (dense_entry columns entries.now) row place i) → get_or next.new (i * columns + k) (int (pos 0)) ≡ pivoted_entry (dense_entry columns entries.now) row place i k) }
     ensures fits { OnOk result ((i k : ℕ) → i < rows → k < columns → EntryFits (dense_entry columns entries.now) row place i k) }
     ensures wide { OnErr result ((i : ℕ) × ((k : ℕ) × ((i < rows) × ((k < columns) × (¬ (EntryFits (dense_entry columns entries.now) row place i k)))))) }
 {
@@ -126,11 +158,79 @@ pub fn write_by_rows(
     }
     for at_row in 0..rows {
         if at_row != row {
-            match write_row(rows, columns, row, place, at_row, entries, next) {
-                Ok(()) => {}
-                Err(wide) => return Err(wide),
+            if is_left_alone(rows, columns, row, place, at_row, entries) {
+                have_room(rows, columns, at_row, entries);
+            } else {
+                match write_row(rows, columns, row, place, at_row, entries, next) {
+                    Ok(()) => {}
+                    Err(wide) => return Err(wide),
+                }
             }
         }
     }
     Ok(())
+}
+
+/// Copies a row.
+fn take_row(rows: usize, columns: usize, row: usize, next: &[Frac], entries: &mut [Frac])
+    requires row { row < rows }
+    requires size { length entries.old ≡ rows * columns }
+    requires next { length next.now ≡ rows * columns }
+    ensures taken { (k : ℕ) → k < columns → dense_entry columns entries.new row k ≡ dense_entry columns next.now row k }
+    ensures others { (i k : ℕ) → i ≢ row → k < columns → dense_entry columns entries.new i k ≡ dense_entry columns entries.old i k }
+{
+    for place in 0..columns {
+        let at = flat_index(rows, columns, row, place);
+        entries[at] = next[at];
+    }
+}
+
+/// Copies the rows that the exchange does not leave alone.
+fn take_rows(
+    rows: usize,
+    columns: usize,
+    row: usize,
+    place: usize,
+    next: &[Frac],
+    entries: &mut [Frac],
+)
+    requires place { place < columns }
+    requires size { length entries.old ≡ rows * columns }
+    requires next { length next.now ≡ rows * columns }
+    ensures { (i : ℕ) → i < rows → IsTakenRow columns (dense_entry columns entries.old) row place next.now entries.new i }
+{
+    for at_row in 0..rows {
+        if !is_left_alone(rows, columns, row, place, at_row, entries) {
+            take_row(rows, columns, at_row, next, entries);
+        }
+    }
+}
+
+/// Exchanges the entries by rows, where each step has room; the rows that change are written into `next` first. Else nothing
+/// changes.
+pub fn exchange_by_rows(
+    rows: usize,
+    columns: usize,
+    row: usize,
+    place: usize,
+    entries: &mut [Frac],
+    next: &mut [Frac],
+) -> Result<(), Wide>
+    requires row { row < rows }
+    requires place { place < columns }
+    requires size { length entries.old ≡ rows * columns }
+    requires room { length next.old ≡ rows * columns }
+    requires some { get_or entries.old (row * columns + place) (int (pos 0)) ≢ int (pos 0) }
+    ensures written { OnOk result ((i k : ℕ) → i < rows → k < columns → get_or entries.new (i * columns + k) (int (pos 0)) ≡ pivoted_entry (dense_entry columns entries.old) row place i k) }
+    ensures fits { OnOk result ((i k : ℕ) → i < rows → k < columns → EntryFits (dense_entry columns entries.old) row place i k) }
+    ensures kept { OnErr result (entries.new ≡ entries.old) }
+    ensures wide { OnErr result ((i : ℕ) × ((k : ℕ) × ((i < rows) × ((k < columns) × (¬ (EntryFits (dense_entry columns entries.old) row place i k)))))) }
+{
+    match write_by_rows(rows, columns, row, place, entries, next) {
+        Ok(()) => {
+            take_rows(rows, columns, row, place, next, entries);
+            Ok(())
+        }
+        Err(wide) => Err(wide),
+    }
 }

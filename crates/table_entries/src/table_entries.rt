@@ -3,12 +3,12 @@ ghost use Rattle.std.specs.Prelude.{◌≡◌, ◌≢◌, ◌↔◌, ◌<◌, �
 ghost use Rattle.frac128.specs.Rational.{int};
 ghost use Rattle.frac128.specs.LowestTerms.{quotient_of};
 ghost use Rattle.table_entries.specs.FlatSteps.{FlatFits};
-ghost use Rattle.table_entries.specs.WholeSteps.{IsShort, whole_number_at};
+ghost use Rattle.table_entries.specs.WholeSteps.{IsShort, AreWithin, magnitude, whole_number_at};
 ghost use Rattle.table_entries.specs.Listed.{Listed, listed_costs, over, AreOver, IsListed, IsStored, IsShortWhole, IsExchangedList};
 ghost use Rattle.table_entries.specs.private.Listed.{ArePartsExchanged};
 
-use crate::entries::{flat_index, write_exchanged};
-use crate::wholes::{are_within, write_wholes};
+use crate::entries::{exchange_entries, flat_index};
+use crate::wholes::{MOST_MARKS, are_within, mark_left, take_rows, write_wholes};
 use frac128::Frac;
 use std::alloc::{AllocError, Global};
 use whole_sums::SHORT_LIMIT;
@@ -240,9 +240,63 @@ impl TableEntries {
         self.numbers[at] = number;
     }
 
+    /// Exchanges the rows that are written where the denominator stays: those that have no entry in the entering place are
+    /// left alone. False where that can't be done, or where a number after it is not below the limit, as those before are;
+    /// then nothing changes.
+    fn exchange_some(
+        &mut self,
+        rows: usize,
+        columns: usize,
+        row: usize,
+        place: usize,
+        unwritten: &[bool],
+        limit: i64,
+    ) -> bool
+        requires whole { self.old.is_whole ≡ true }
+        requires row { row < rows }
+        requires place { place < columns }
+        requires room { rows * columns < 2 ^ 64 }
+        requires size { length self.old.list ≡ rows * columns }
+        requires few { rows ≤ 1024 }
+        requires some { get_or self.old.list (row * columns + place) (int (pos 0)) ≢ int (pos 0) }
+        requires stays { magnitude (whole_number_at self.old.numbers (row * columns + place)) ≡ self.old.denominator }
+        requires positive { pos 0 <ℤ limit }
+        requires within { AreWithin rows columns unwritten.now limit self.old.numbers }
+        ensures done { IsTrue result → ArePartsExchanged rows columns row place unwritten.now limit self.old self.new }
+        ensures kept { result ≡ false → self.new ≡ self.old }
+    {
+        let mut left = [false; MOST_MARKS];
+        mark_left(
+            rows,
+            columns,
+            row,
+            place,
+            &self.numbers,
+            unwritten,
+            &mut left,
+        );
+        if !write_wholes(
+            rows,
+            columns,
+            row,
+            place,
+            self.denominator,
+            &self.numbers,
+            &left,
+            &mut self.spare_numbers,
+        ) {
+            return false;
+        }
+        if !are_within(limit, rows, columns, &left, &self.spare_numbers) {
+            return false;
+        }
+        take_rows(rows, columns, &left, &self.spare_numbers, &mut self.numbers);
+        true
+    }
+
     /// Exchanges the rows that are written over a common denominator. False where that can't be done, or where a number
     /// after it is not below the limit; then nothing changes.
-    pub(crate) fn exchange_part(
+    fn exchange_each(
         &mut self,
         rows: usize,
         columns: usize,
@@ -282,6 +336,47 @@ impl TableEntries {
         true
     }
 
+    /// Whether the denominator stays in an exchange.
+    fn stays(&self, rows: usize, columns: usize, row: usize, place: usize) -> bool
+        requires whole { self.now.is_whole ≡ true }
+        requires row { row < rows }
+        requires place { place < columns }
+        requires room { rows * columns < 2 ^ 64 }
+        requires size { length self.now.list ≡ rows * columns }
+        ensures { IsTrue result → magnitude (whole_number_at self.now.numbers (row * columns + place)) ≡ self.now.denominator }
+    {
+        self.numbers[flat_index(rows, columns, row, place)].abs() == self.denominator
+    }
+
+    /// Exchanges the rows that are written over a common denominator. False where that can't be done, or where a number
+    /// after it is not below the limit, as those before are; then nothing changes.
+    pub(crate) fn exchange_part(
+        &mut self,
+        rows: usize,
+        columns: usize,
+        row: usize,
+        place: usize,
+        unwritten: &[bool],
+        limit: i64,
+    ) -> bool
+        requires whole { self.old.is_whole ≡ true }
+        requires row { row < rows }
+        requires place { place < columns }
+        requires room { rows * columns < 2 ^ 64 }
+        requires size { length self.old.list ≡ rows * columns }
+        requires some { get_or self.old.list (row * columns + place) (int (pos 0)) ≢ int (pos 0) }
+        requires positive { pos 0 <ℤ limit }
+        requires within { AreWithin rows columns unwritten.now limit self.old.numbers }
+        ensures done { IsTrue result → ArePartsExchanged rows columns row place unwritten.now limit self.old self.new }
+        ensures kept { result ≡ false → self.new ≡ self.old }
+    {
+        if rows <= MOST_MARKS && self.stays(rows, columns, row, place) {
+            self.exchange_some(rows, columns, row, place, unwritten, limit)
+        } else {
+            self.exchange_each(rows, columns, row, place, unwritten, limit)
+        }
+    }
+
     /// Exchanges over a common denominator. False where that can't be done; then nothing changes.
     fn exchange_wholes(&mut self, rows: usize, columns: usize, row: usize, place: usize) -> bool
         requires whole { self.old.is_whole ≡ true }
@@ -293,6 +388,7 @@ impl TableEntries {
         ensures done { IsTrue result → IsExchangedList columns row place self.old.list self.new.list }
         ensures kept { result ≡ false → self.new ≡ self.old }
     {
+        let _listed = self.is_whole();
         self.exchange_part(rows, columns, row, place, &[], SHORT_LIMIT)
     }
 
@@ -327,9 +423,14 @@ impl TableEntries {
     {
         let count = self.fractions.len();
         fill(&mut self.spare, count);
-        write_exchanged(rows, columns, row, place, &self.fractions, &mut self.spare)?;
-        std::mem::swap(&mut self.fractions, &mut self.spare);
-        Ok(())
+        exchange_entries(
+            rows,
+            columns,
+            row,
+            place,
+            &mut self.fractions,
+            &mut self.spare,
+        )
     }
 
     /// Exchanges a row and a place of so many rows and columns, or finds the first entry whose step has no room; then no

@@ -1,6 +1,7 @@
 // Entries that are whole numbers over one common denominator.
-ghost use Rattle.std.specs.Prelude.{◌≡◌, ◌≢◌, ◌⊎◌, ◌<◌, ◌+◌, ◌*◌, ◌<ℤ◌, ◌*ℤ◌, ℕ, ℤ, pos, false, length, IsTrue, IfSome};
+ghost use Rattle.std.specs.Prelude.{◌≡◌, ◌≢◌, ◌⊎◌, ◌<◌, ◌≤◌, ◌+◌, ◌*◌, ◌<ℤ◌, ◌*ℤ◌, ℕ, ℤ, pos, true, false, length, IsTrue, IfSome};
 ghost use Rattle.table_entries.specs.WholeSteps.{IsShort, IsWholeStep, magnitude, by_sign, whole_number_at, is_unwritten, AreShort, AreWritten, AreWithin};
+ghost use Rattle.table_entries.specs.private.LeftRows.{IsWholeLeft, AreLeft};
 
 use crate::entries::flat_index;
 use whole_sums::{SHORT_LIMIT, product, short_number};
@@ -227,6 +228,89 @@ pub fn write_wholes(
         }
     }
     true
+}
+
+/// Tables of more rows are exchanged without marks.
+pub const MOST_MARKS: usize = 1024;
+
+/// Whether an exchange in which the denominator stays leaves a row alone: one that is not written, or another one than the
+/// leaving one without an entry in the entering place.
+fn is_left(
+    rows: usize,
+    columns: usize,
+    row: usize,
+    place: usize,
+    numbers: &[i64],
+    unwritten: &[bool],
+    at_row: usize,
+) -> bool
+    requires place { place < columns }
+    requires at_row { at_row < rows }
+    requires size { length numbers.now ≡ rows * columns }
+    ensures touched { result ≡ false → is_unwritten unwritten.now at_row ≡ false }
+    ensures left { IsTrue result → is_unwritten unwritten.now at_row ≡ false → IsWholeLeft columns row place numbers.now at_row }
+{
+    if is_unwritten(unwritten, at_row) {
+        return true;
+    }
+    if at_row == row {
+        return false;
+    }
+    numbers[flat_index(rows, columns, at_row, place)] == 0
+}
+
+/// Marks the rows that an exchange in which the denominator stays leaves alone.
+pub fn mark_left(
+    rows: usize,
+    columns: usize,
+    row: usize,
+    place: usize,
+    numbers: &[i64],
+    unwritten: &[bool],
+    left: &mut [bool],
+)
+    requires place { place < columns }
+    requires size { length numbers.now ≡ rows * columns }
+    requires marks { rows ≤ length left.old }
+    ensures { AreLeft rows columns row place numbers.now unwritten.now left.new }
+{
+    for at_row in 0..rows {
+        left[at_row] = is_left(rows, columns, row, place, numbers, unwritten, at_row);
+    }
+}
+
+/// Copies a row.
+fn take_row(rows: usize, columns: usize, row: usize, next: &[i64], numbers: &mut [i64])
+    requires row { row < rows }
+    requires size { length numbers.old ≡ rows * columns }
+    requires next { length next.now ≡ rows * columns }
+    requires next_short { AreShort next.now }
+    requires short { AreShort numbers.old }
+    ensures taken { (k : ℕ) → k < columns → whole_number_at numbers.new (row * columns + k) ≡ whole_number_at next.now (row * columns + k) }
+    ensures others { (i k : ℕ) → i ≢ row → k < columns → whole_number_at numbers.new (i * columns + k) ≡ whole_number_at numbers.old (i * columns + k) }
+    ensures short { AreShort numbers.new }
+{
+    for place in 0..columns {
+        let at = flat_index(rows, columns, row, place);
+        numbers[at] = next[at];
+    }
+}
+
+/// Copies the rows that are not left alone.
+pub fn take_rows(rows: usize, columns: usize, left: &[bool], next: &[i64], numbers: &mut [i64])
+    requires size { length numbers.old ≡ rows * columns }
+    requires next { length next.now ≡ rows * columns }
+    requires next_short { AreShort next.now }
+    requires short { AreShort numbers.old }
+    ensures taken { (i k : ℕ) → i < rows → k < columns → is_unwritten left.now i ≡ false → whole_number_at numbers.new (i * columns + k) ≡ whole_number_at next.now (i * columns + k) }
+    ensures left { (i k : ℕ) → i < rows → k < columns → is_unwritten left.now i ≡ true → whole_number_at numbers.new (i * columns + k) ≡ whole_number_at numbers.old (i * columns + k) }
+    ensures short { AreShort numbers.new }
+{
+    for row in 0..rows {
+        if !is_unwritten(left, row) {
+            take_row(rows, columns, row, next, numbers);
+        }
+    }
 }
 
 /// Whether the number is below the limit.

@@ -1,7 +1,7 @@
-use Rattle.std.proofs.Common.{◌≡◌, ◌≢◌, ◌<◌, ◌<ℤ◌, ◌+◌, ◌∙◌, sym, subst, false, pos}
+use Rattle.std.proofs.Common.{◌≡◌, ◌≢◌, ◌<◌, ◌<ℤ◌, ◌+◌, ◌∙◌, sym, subst, subst₂, false, pos}
 use Rattle.frac128.specs.Rational.{int}
 use Rattle.table_entries.specs.FlatSteps.{dense_entry}
-use Rattle.table_entries.specs.WholeSteps.{is_unwritten}
+use Rattle.table_entries.specs.WholeSteps.{AreWithin, is_unwritten}
 use Rattle.table_entries.specs.Listed.{IsExchangedList}
 use Rattle.table_entries.specs.private.Listed.{ArePartsExchanged}
 use Rattle.table_entries.specs.Parts.{Parts, AreColumnsWritten, IsSwap, filled, swapped}
@@ -30,6 +30,12 @@ pub exchange_part-requires-clause-positive : goal.exchange_part-requires-clause-
 exchange_part-requires-clause-positive c =
     let partial = c.self.invariant.partial c.if-not-self.false in
     subst (λ l. pos 0 <ℤ l) (sym (limit_read _ partial)) partial.positive
+
+pub exchange_part-requires-clause-within : goal.exchange_part-requires-clause-within
+exchange_part-requires-clause-within c =
+    let self = c.self.inside in
+    let partial = c.self.invariant.partial c.if-not-self.false in
+    subst₂ (λ flags l. AreWithin self.rows self.columns flags l self.entries.numbers) (sym c.deref.ensures.value) (sym (limit_read _ partial)) partial.numbers
 
 pub invariant_of-self : goal.invariant_of-self
 invariant_of-self c =

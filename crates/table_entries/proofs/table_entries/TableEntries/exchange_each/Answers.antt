@@ -6,7 +6,7 @@ use Rattle.table_entries.specs.WholeSteps.{IsShort, AreShort, AreWithin, magnitu
 use Rattle.table_entries.specs.Listed.{over, AreOver}
 use Rattle.table_entries.proofs.ReadLemmas.{short_read, short_again, short_as, positive_again}
 use Rattle.table_entries.proofs.ListedLemmas.{listed_numbers, whole_form, whole_list, whole_numbers, whole_size, not_zero_number, over_after, parts_exchanged}
-use Rattle.table_entries.proofs.table_entries.TableEntries.exchange_part.Goals as goal
+use Rattle.table_entries.proofs.table_entries.TableEntries.exchange_each.Goals as goal
 
 pub index-pivot-requires : goal.index-pivot-requires
 index-pivot-requires c =
