@@ -1,12 +1,12 @@
 // An environment as a solver of inner models.
-ghost use Rattle.std.specs.Prelude.{◌≡◌, ◌≤◌, IfOk, None};
+ghost use Rattle.std.specs.Prelude.{◌≡◌, ◌≤◌, IfOk, IsSome, None};
 ghost use Rattle.front_solver.specs.Truth.{shown_claim};
-ghost use Rattle.front_env.specs.FrontEnvs.{program_of, stops_of};
+ghost use Rattle.front_env.specs.FrontEnvs.{program_in, program_of, stops_of};
 
 use cert_check::{accepted_law, verdict_law};
 use cert_text::{Cert, Claim};
 use front_solver::Solver;
-use kept_env::{Env, EnvFault};
+use kept_env::{Env, EnvFault, Held};
 use lp_model::{Answer, Edit, Model};
 use model_edits::EditFault;
 use std::alloc::{AllocError, Global};
@@ -42,6 +42,23 @@ fn shown_claim(answer: &Answer) -> Option<Claim>
         Answer::Optimal { value, .. } => Some(Claim::Optimal(*value)),
         Answer::Infeasible { .. } => Some(Claim::Infeasible),
         Answer::Unbounded { .. } | Answer::Stopped { .. } | Answer::Memory => None,
+    }
+}
+
+/// Lets the tree, the cuts and the points of an environment's search go, so that nothing has to follow an edit. Where there is no memory for
+/// a fresh root they stay.
+fn begin_anew(env: &mut Env)
+    requires { IsSome env.old.search }
+    ensures loaded { IsSome env.new.search }
+    ensures program { program_in env.new.search ≡ program_in env.old.search }
+{
+    let Some(search) = env.take() else {
+        unreachable!();
+    };
+    let mut search = search;
+    match search.restart() {
+        Ok(()) => env.give(search, Held::Nothing),
+        Err(AllocError) => env.give(search, Held::Nothing),
     }
 }
 
@@ -96,12 +113,16 @@ impl Solver for FrontEnv {
     }
 
     fn edit(&mut self, edit: Edit) -> Result<(), EditFault> {
+        begin_anew(&mut self.env);
         match self.env.edit(edit) {
             Ok(()) => {
                 self.shown = None;
                 Ok(())
             }
-            Err(EnvFault::Edit(fault)) => Err(fault),
+            Err(EnvFault::Edit(fault)) => {
+                self.shown = None;
+                Err(fault)
+            }
             Err(_) => unreachable!(),
         }
     }
