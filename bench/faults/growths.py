@@ -9,7 +9,7 @@ then with the second, and so on until none is; and then with each growth from th
 One growth refused: the replies are whole lines, and as many as there are commands, or the status is 5. At most one of them is `error 90 memory`.
 All others are those of the script without that command, byte for byte, and so are the files. Where `solve` or `warm` was refused, no answer is held:
 `cert` is answered so until a search ends; the next `warm` without limits ends with the answer of the case, and a certificate that is written is
-accepted by `check`. All growths from one on refused: the replies are whole, the status is 5, and those before the first refusal are the case's.
+accepted by `check`. Where `mcsolve` was refused no answer is held either, and all else is as if the line had not been there. All growths from one on refused: the replies are whole, the status is 5, and those before the first refusal are the case's.
 
 With STEP=N in the environment only each N-th growth is refused, from the first on. JOBS=N makes N runs at a time. The case `a plan for each day`, the script of
 examples/series, has so many growths that it is done where it is named alone.
@@ -63,12 +63,16 @@ ubrhs A 5 B 8
 lbobj X -5 Y -4
 ubobj X -5
 save W
+mcsolve nodes 1
+mcsolve
+cert F
 edit row A hi 4
 edit row A lo -3
 edit row B both 8
 edit row B lo none
 edit cost Y -9/2
 edit cost2 X 1
+mcsolve
 edit bounds Z 0 1
 warm
 cert C
@@ -117,10 +121,30 @@ warm
 cert C
 """
 
+# Two objectives: a frontier up to some numbers of results, the whole of it, an edit, and the kept search between.
+FRONTS = b"""load C4
+mcsolve nodes 0
+mcsolve nodes 5
+solve nodes 1
+mcsolve
+cert F
+warm
+edit cost2 S3 2
+mcsolve
+cert G
+edit row R both 5
+mcsolve
+edit cost S1 1/2
+mcsolve
+warm
+"""
+
 CASES = {
     "an odd sum": ({"P": EMPTY_ODD}, b"load P\nsolve nodes 1\nwarm\nwarm\n"),
     "an edit behind an answer": ({"K": KNAPSACK}, b"load K\nsolve nodes 15\nedit row A hi 4\nwarm\nwarm\n"),
-    "two objectives": ({"C4": ONE_OF_FOUR}, b"load C4\nsolve\nwarm\ncert F\n"),
+    "two objectives": ({"C4": ONE_OF_FOUR}, b"load C4\nsolve\nwarm\ncert C\nmcsolve\ncert F\nwarm\ncert C\n"),
+    "a whole frontier, in parts and over again": ({"C4": ONE_OF_FOUR.replace(b"ROWS", b"OBJSENSE MAX\nROWS").replace(b" R 1\nBOUNDS", b" R 1\n C -2\n D 5\nBOUNDS")}, FRONTS),
+    "two objectives without a point": ({"P": EMPTY_ODD}, b"load P\nmcsolve nodes 2\nmcsolve\ncert F\nwarm\ncert C\n"),
     "saved and restored": ({"K": KNAPSACK}, b"load K\nsolve nodes 15\nsave W1\nrestore W1\nwarm\nwarm\n"),
     "a certificate": ({"K": KNAPSACK, "T": COVER}, ("check", "K", "T")),
     "a model of a seed": ({}, ("bench", "1", "5", "10", "100")),
@@ -152,7 +176,7 @@ class Case:
         self.words = asked if isinstance(asked, tuple) else ("run",)
         self.lines = [] if isinstance(asked, tuple) else [line for line in asked.split(b"\n") if line and not line.startswith(b"#")]
         self.known = {}
-        self.plain = self.without(None)
+        self.plain = self.without(())
 
     def run(self, lines, refused=None):
         """The status, the text, the files, and whether a growth was refused."""
@@ -166,12 +190,22 @@ class Case:
             status, text = run(self.program, folder, self.words, script, env=env, timeout=600)
             return status, text, files_in(folder), os.path.exists(mark)
 
-    def without(self, place, count=None):
-        """What the first lines answer with no growth refused, the one at a place left out."""
-        if (place, count) not in self.known:
+    def without(self, places, count=None):
+        """What the first lines answer with no growth refused, those at some places left out."""
+        if (places, count) not in self.known:
             lines = self.lines[:count]
-            self.known[place, count] = self.run([line for at, line in enumerate(lines) if at != place])
-        return self.known[place, count]
+            self.known[places, count] = self.run([line for at, line in enumerate(lines) if at not in places])
+        return self.known[places, count]
+
+    def unanswered(self, place):
+        """The places of the lines `cert` behind a refused `mcsolve`, up to the next search that ends or the next edit."""
+        found = []
+        for at, (line, reply) in enumerate(zip(self.lines[place + 1 :], replies_of(self.plain[1])[0][place + 1 :]), place + 1):
+            if line.split()[0] == b"cert":
+                found.append(at)
+            elif line.split()[0] in (b"solve", b"warm", b"mcsolve", b"load"):
+                return tuple(found)
+        return tuple(found)
 
     def fault_of_one(self, status, text, files):
         """What is wrong of a run with one growth refused."""
@@ -190,13 +224,17 @@ class Case:
         place = places[0] if places else None
         if place is not None and self.lines[place].split()[0] in (b"solve", b"warm"):
             return self.fault_behind_search(place, found, files)
-        wanted = replies_of(self.without(place)[1])[0]
-        if place is not None:
-            wanted.insert(place, MEMORY)
+        told = {} if place is None else {place: MEMORY}
+        if place is not None and self.lines[place].split()[0] == b"mcsolve":
+            told.update((at, NO_ANSWER) for at in self.unanswered(place))
+        left_out = tuple(sorted(told))
+        wanted = replies_of(self.without(left_out)[1])[0]
+        for at in left_out:
+            wanted.insert(at, told[at])
         if found != wanted[: len(found)]:
             at = [a == b for a, b in zip(found, wanted)].index(False)
             return f"{self.lines[at]} behind {place}: wanted {wanted[at]}, and it says {found[at]}"
-        possible = [self.without(place, count)[2] for count in {len(found), min(len(found) + 1, len(self.lines))}]
+        possible = [self.without(left_out, count)[2] for count in {len(found), min(len(found) + 1, len(self.lines))}]
         if files not in possible:
             return f"the files {[name for name in files if files[name] != possible[0].get(name)]} behind {place} are others"
         return None
@@ -229,6 +267,9 @@ class Case:
                 fits = reply == (b"ok" if held else NO_ANSWER)
             elif word in (b"lbrhs", b"lbobj", b"ubrhs", b"ubobj"):
                 fits = reply.startswith(b"bound ")
+            elif word == b"mcsolve":
+                fits = reply == wanted[at]
+                held = reply.startswith((b"frontier complete ", b"infeasible "))
             else:
                 fits = reply == wanted[at]
                 held = held and word in (b"save", b"write")

@@ -134,6 +134,11 @@ CERTIFICATES = {
     "certificate: a leaf with one row": lambda n: times(b" row A 1", n, b"cert 1\nclaim optimal -9\npoint X 1 Y 1\nleaf bound", b"\nend\n"),
     "certificate: a leaf with cuts": leaf_of_cuts,
     "certificate: a point with one name": lambda n: times(b" X 1", n, b"cert 1\nclaim optimal -9\npoint", b"\nleaf bound\nend\n"),
+    "front: outcomes": lambda n: times(b"outcome %d 1\npoint\n", n, b"front 1\n", b"end\n"),
+    "front: outcomes with long points": lambda n: times(b"outcome 1 1\npoint" + b" X 1" * 900 + b"\n", n, b"front 1\n", b"end\n"),
+    "front: trees of gaps": lambda n: times(b"tree gap %d\nleaf bound\n", n, b"front 1\noutcome 0 0\npoint\n", b"end\n"),
+    "front: cuts of one tree": lambda n: times(b"cut A hi +X +Y +Z\n", n, b"front 1\noutcome -9 0\npoint X 1 Y 1\ntree least1\n", b"leaf bound\nend\n"),
+    "front: splits in one tree": lambda n: times(b"split X 1\n", n, b"front 1\noutcome -9 0\npoint X 1 Y 1\ntree least1\n", b"leaf bound\nend\n"),
     "certificate: a point with other names": lambda n: times(b" X%d 1", n, b"cert 1\nclaim optimal -9\npoint", b"\nleaf bound\nend\n"),
 }
 # Of this shape the time grows with the square of the bytes: it is measured where it is named alone.
@@ -194,7 +199,7 @@ def one(program, folder, name, text):
         script = b"load T\nquit\n"
     elif name.startswith("warm"):
         script = b"restore T\nlbobj X0 1\nquit\n"
-    elif name.startswith("certificate"):
+    elif name.startswith(("certificate", "front")):
         words, script = ("check", "chained" if "split" in name else "K", "T"), b""
     used, memory, status, last = measured(program, folder, words, script, float(os.environ.get("SECONDS_EACH", "120")))
     told = (" slow" if used > 10 else "") + (" large" if memory * 1024 > 20 * len(text) + 2**24 else "") + (" ended" if status < 0 else "")
