@@ -1,3 +1,5 @@
 pub mod Claims
 pub mod Solving
 pub mod Editing
+pub mod Behind
+pub mod Moved

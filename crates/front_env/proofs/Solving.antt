@@ -8,14 +8,19 @@ use Rattle.lp_model.specs.declared.answers.Answer.{Answer}
 use Rattle.lp_model.specs.declared.answers.Answer.TheVariants.{Optimal, Infeasible, Unbounded, Stopped, Memory}
 use Rattle.sound_searches.specs.Sound.{PlainSearch, IsSound}
 use Rattle.kept_env.specs.Env.{PlainEnv, with_answer, pool_in}
+use Rattle.kept_env.specs.declared.env.EnvFault.{EnvFault}
 use Rattle.kept_env.specs.Worked.{held_by, IsOldest, WorksEnv}
 use Rattle.tree_search.specs.declared.limits.Limits.{Limits}
-use Rattle.tree_search.specs.Truth.{IsEarlyBy, IsTrueBy, IsTrueAnswer, HasEnded}
+use Rattle.tree_search.specs.Truth.{IsEarlyBy, IsTrueBy, IsTrueAnswer, IsTooSmall, IsTrueOfKept, HasEnded}
+use Rattle.tree_search.specs.Warm.{WarmsFrom}
 use Rattle.tree_search.specs.Enough.{IsEnough}
 use Rattle.tree_search.specs.Solves.{SolvesModel, SolvesFrom, HasRayFrom}
 use Rattle.tree_cert.proofs.AcceptedLaws.{incumbent-keepable}
 use Rattle.front_solver.specs.Truth.{IsTrueOf, IsStop, shown_claim}
 use Rattle.front_env.specs.FrontEnvs.{program_in, IsProvedIn, IsStopBy}
+use Rattle.front_env.specs.private.Going.{StopsAfter, IsGoneBy, IsEndedWith, IsGoneOn}
+use Rattle.front_env.specs.declared.resuming.GoneOn.{GoneOn}
+use Rattle.front_env.specs.declared.resuming.GoneOn.TheVariants as gone
 
 -- ---- what is answered
 
@@ -89,7 +94,47 @@ solved_to l (Some S) old new answer some works is enough sound =
       stopped = stopped_by l S.model S after answer works.found (subst (λ (e : PlainEnv). IsEnough S.model (pool_in e.search) l → HasEnded answer) works.env_is enough);
     })
 
+-- a search that went on by these limits
+pub record IsWarmedTo (l : Limits) (M : Program) (answer : Answer) (new : PlainEnv) : Type 0 where
+  pub loaded : IsSome new.search
+  pub program : program_in new.search ≡ M
+  pub true_of : IsTrueOf M l.nodes answer
+  pub shown : IsProvedIn new (shown_claim answer)
+
+pub warmed_to : (l : Limits) (search : Option PlainSearch) (old new : PlainEnv) (answer : Answer) → IsSome search → WorksEnv (WarmsFrom l) (HasRayFrom l) search old (Ok answer) new → IfSome search (λ S. IsTrueOfKept S l answer) →
+    IfSome new.search IsSound → IsWarmedTo l (program_in search) answer new
+warmed_to l None old new answer some works is sound = absurd cc
+warmed_to l (Some S) old new answer some works is sound =
+    let after = works.search in
+    let model = works.found.model in
+    let truth : IsTrueBy (IsTooSmall S l) after.model l answer = subst (λ (P : Program). IsTrueBy (IsTooSmall S l) P l answer) (sym model) is in
+    let own = subst (λ (e : PlainEnv). IfSome e.search IsSound) works.env_is sound in
+    subst (IsWarmedTo l S.model answer) (sym works.env_is) (record {
+      loaded = refl;
+      program = model;
+      true_of = subst (λ (P : Program). IsTrueOf P l.nodes answer) model (true_within _ after l answer own works.oldest truth);
+      shown = proved _ l answer after works.direction truth;
+    })
+
+-- what it comes to
+pub gone_to : (l : Limits) (M : Program) (env : PlainEnv) (answer : Answer) (gone : GoneOn) → IsWarmedTo l M answer env → IsGoneBy answer gone → IsGoneOn l M env gone
+gone_to l M env answer (gone.Ended told) h by =
+    subst (IsEndedWith l M env) (sym by.0) (record { true_of = h.true_of; shown = h.shown; ended = by.1 })
+gone_to l M env answer (gone.Stopped results) h by = few answer h.true_of by
+  where
+    few : (a : Answer) → IsTrueOf M l.nodes a → StopsAfter results a → results ≤ l.nodes
+    few (Optimal v x n) is stops = absurd stops
+    few (Infeasible n) is stops = absurd stops
+    few (Unbounded n) is stops = absurd stops
+    few (Stopped why n bound best) is stops = let within = is.1 in omega (arith, within, stops)
+    few Memory is stops = absurd stops
+
 -- a solve of a model that is there is not refused
-pub not_refused : (l : Limits) (search : Option PlainSearch) (old new : PlainEnv) (fault : Rattle.kept_env.specs.declared.env.EnvFault.EnvFault) → IsSome search → WorksEnv (SolvesFrom l) (HasRayFrom l) search old (Err fault) new → ⊥
+pub not_refused : (l : Limits) (search : Option PlainSearch) (old new : PlainEnv) (fault : EnvFault) → IsSome search → WorksEnv (SolvesFrom l) (HasRayFrom l) search old (Err fault) new → ⊥
 not_refused l None old new fault some works = absurd cc
 not_refused l (Some S) old new fault some works = works
+
+-- nor one that goes on
+pub not_refused_warm : (l : Limits) (search : Option PlainSearch) (old new : PlainEnv) (fault : EnvFault) → IsSome search → WorksEnv (WarmsFrom l) (HasRayFrom l) search old (Err fault) new → ⊥
+not_refused_warm l None old new fault some works = absurd cc
+not_refused_warm l (Some S) old new fault some works = works

@@ -1,11 +1,12 @@
 -- An environment that solves inner models of a front: a model with a search of its own, the limits, and what its last solve has shown.
 --     program_of e           the model that it has
 --     stops_of e M n answer  it may stop so with the model M and at most n results
-use Rattle.std.specs.Prelude.{◌≡◌, ◌≢◌, ℕ, ◌≤◌, false, [], Option, Some, None, IsSome, refl}
+use Rattle.std.specs.Prelude.{◌≡◌, ◌≢◌, ℕ, ◌+◌, ◌-◌, ◌≤◌, false, [], Option, Some, None, IsSome, refl}
 use Rattle.std.specs.Coded.{Coded, code_by, coded×, coded_option}
 use Rattle.lp_model.specs.Program.{Program}
 use Rattle.lp_model.specs.declared.types.Sense.TheVariants.{Min}
 use Rattle.lp_model.specs.declared.answers.Answer.{Answer}
+use Rattle.lp_model.specs.declared.answers.Answer.TheVariants.{Optimal, Infeasible, Unbounded, Stopped, Memory}
 use Rattle.sound_searches.specs.Sound.{PlainSearch}
 use Rattle.kept_env.specs.Env.{PlainEnv, env_code}
 use Rattle.kept_env.specs.declared.held.Held.TheVariants.{Finished}
@@ -15,7 +16,7 @@ use Rattle.tree_search.specs.declared.limits.Limits.{Limits}
 use Rattle.tree_search.specs.contracts.limits.Limits.{the_row as limits_row}
 use Rattle.cert_text.specs.declared.cert.Claim.{Claim}
 use Rattle.cert_text.specs.contracts.cert.Claim.{the_row as claim_row}
-use Rattle.cert_text.specs.declared.cert.Claim.TheVariants.{Unbounded}
+use Rattle.cert_text.specs.declared.cert.Claim.TheVariants as claim
 use Rattle.cert_check.specs.Laws.{IsTrueClaim}
 
 pub record PlainFrontEnv : Type 0 where
@@ -40,14 +41,14 @@ program_of e = program_in e.env.search
 -- ---- what is shown
 
 -- the claim is true of the model, and the search's tree proves it
-pub record IsProvedClaim (env : PlainEnv) (claim : Claim) : Type 0 where
+pub record IsProvedClaim (env : PlainEnv) (shown : Claim) : Type 0 where
   pub held : env.held ≡ Finished
-  pub true_claim : IsTrueClaim (program_in env.search) claim
-  pub by_tree : claim ≢ Unbounded
+  pub true_claim : IsTrueClaim (program_in env.search) shown
+  pub by_tree : shown ≢ claim.Unbounded
 
 abbrev pub IsProvedIn : PlainEnv → Option Claim → Type 0
 IsProvedIn env None = Unit {0}
-IsProvedIn env (Some claim) = IsProvedClaim env claim
+IsProvedIn env (Some shown) = IsProvedClaim env shown
 
 pub record IsFrontEnv (e : PlainFrontEnv) : Type 0 where
   pub loaded : IsSome e.env.search
@@ -67,8 +68,24 @@ pub record IsStopBy (l : Limits) (M : Program) (answer : Answer) : Type 0 where
   pub solved : Solved M l answer search
   pub short : ¬ IsEnough M search.cuts l
 
+-- the answer, where so many results were placed before
+abbrev pub behind : ℕ → Answer → Answer
+behind before (Optimal v x n) = Optimal v x (before + n)
+behind before (Infeasible n) = Infeasible (before + n)
+behind before (Unbounded n) = Unbounded (before + n)
+behind before (Stopped why n bound best) = Stopped why (before + n) bound best
+behind before Memory = Memory
+
+-- With at most n results: behind some, which a search that was let go had placed, this is answered with those that remain.
+pub record IsStopBehind (l : Limits) (M : Program) (n : ℕ) (answer : Answer) : Type 0 where
+  pub before : ℕ
+  pub within : before ≤ n
+  pub rest : Answer
+  pub is : answer ≡ behind before rest
+  pub stop : IsStopBy (with_results l (n - before)) M rest
+
 abbrev pub stops_of : PlainFrontEnv → Program → ℕ → Answer → Type 0
-stops_of e M n answer = IsStopBy (with_results e.limits n) M answer
+stops_of e M n answer = IsStopBehind e.limits M n answer
 
 -- ---- as data
 

@@ -1,1 +1,2 @@
 pub mod FrontEnvs
+pub mod private

@@ -1,22 +1,25 @@
 // An environment as a solver of inner models.
-ghost use Rattle.std.specs.Prelude.{◌≡◌, ◌≤◌, IfOk, IsSome, None};
-ghost use Rattle.front_solver.specs.Truth.{shown_claim};
-ghost use Rattle.front_env.specs.FrontEnvs.{program_in, program_of, stops_of};
+ghost use Rattle.std.specs.Prelude.{◌≡◌, ◌≤◌, IfOk, None};
+ghost use Rattle.front_env.specs.FrontEnvs.{program_of, stops_of};
 
+use crate::answers::{behind, shown_claim, with_results};
+use crate::kept::{KeptSearches, begin_anew};
+use crate::resuming::{GoneOn, go_on, solved_anew};
 use cert_check::{accepted_law, verdict_law};
 use cert_text::{Cert, Claim};
 use front_solver::Solver;
-use kept_env::{Env, EnvFault, Held};
+use kept_env::{Env, EnvFault};
 use lp_model::{Answer, Edit, Model};
 use model_edits::EditFault;
 use std::alloc::{AllocError, Global};
-use sym_env::solve;
 use tree_cert::certificate;
 use tree_search::Limits;
 
 /// A model with a search of its own, which is edited and solved. Contracts see a `PlainFrontEnv`.
 pub struct FrontEnv {
     env: Env,
+    /// Searches of models that it had before, with two rows more than the first one.
+    kept: KeptSearches,
     shown: Option<Claim>,
     limits: Limits,
     alloc: Global,
@@ -34,34 +37,6 @@ impl std::marker::Model for FrontEnv {
     ghost invariant = { λ e. IsFrontEnv (record { env = e.env; shown = e.shown; limits = e.limits }) };
 }
 
-/// What an answer claims that a tree proves.
-fn shown_claim(answer: &Answer) -> Option<Claim>
-    ensures { result ≡ shown_claim answer.now }
-{
-    match answer {
-        Answer::Optimal { value, .. } => Some(Claim::Optimal(*value)),
-        Answer::Infeasible { .. } => Some(Claim::Infeasible),
-        Answer::Unbounded { .. } | Answer::Stopped { .. } | Answer::Memory => None,
-    }
-}
-
-/// Lets the tree, the cuts and the points of an environment's search go, so that nothing has to follow an edit. Where there is no memory for
-/// a fresh root they stay.
-fn begin_anew(env: &mut Env)
-    requires { IsSome env.old.search }
-    ensures loaded { IsSome env.new.search }
-    ensures program { program_in env.new.search ≡ program_in env.old.search }
-{
-    let Some(search) = env.take() else {
-        unreachable!();
-    };
-    let mut search = search;
-    match search.restart() {
-        Ok(()) => env.give(search, Held::Nothing),
-        Err(AllocError) => env.give(search, Held::Nothing),
-    }
-}
-
 impl FrontEnv {
     /// With this model and these limits. Of the limits, how many results a solve may place is said at each solve.
     pub fn new(alloc: Global, model: Model, limits: Limits) -> Result<FrontEnv, AllocError>
@@ -70,10 +45,12 @@ impl FrontEnv {
         ensures shown { IfOk result (λ e. e.shown ≡ None) }
         ensures limits { IfOk result (λ e. e.limits ≡ limits) }
     {
+        let rows = model.rows().len();
         let mut env = Env::new(alloc);
         match env.load(model) {
             Ok(()) => Ok(FrontEnv {
                 env,
+                kept: KeptSearches::new(rows.saturating_add(2)),
                 shown: None,
                 limits,
                 alloc,
@@ -86,14 +63,16 @@ impl FrontEnv {
         }
     }
 
-    /// Lets the environment go, with its search.
+    /// Lets the environment go, with its search and those that it keeps.
     pub fn end(self) {
         let FrontEnv {
             env,
+            kept,
             shown: _,
             limits: _,
             alloc: _,
         } = self;
+        drop(kept);
         env.end();
     }
 }
@@ -113,7 +92,8 @@ impl Solver for FrontEnv {
     }
 
     fn edit(&mut self, edit: Edit) -> Result<(), EditFault> {
-        begin_anew(&mut self.env);
+        let was_solved = self.shown.is_some();
+        begin_anew(self.alloc, &mut self.env, &mut self.kept, was_solved);
         match self.env.edit(edit) {
             Ok(()) => {
                 self.shown = None;
@@ -128,27 +108,18 @@ impl Solver for FrontEnv {
     }
 
     fn solve(&mut self, nodes: u64) -> Answer {
-        let Limits {
-            pivots,
-            tree,
-            workers,
-            seed,
-            ..
-        } = self.limits;
-        let limits = Limits {
-            nodes,
-            pivots,
-            tree,
-            workers,
-            seed,
-        };
-        match solve(self.alloc, &mut self.env, &limits) {
-            Ok(answer) => {
-                let _search = self.env.search();
+        let limits = with_results(&self.limits, nodes);
+        match go_on(self.alloc, &mut self.env, &mut self.kept, &limits) {
+            GoneOn::Ended(answer) => {
                 self.shown = shown_claim(&answer);
                 answer
             }
-            Err(_) => unreachable!(),
+            GoneOn::Stopped { results } => {
+                let rest = with_results(&self.limits, nodes - results);
+                let answer = solved_anew(self.alloc, &mut self.env, &rest);
+                self.shown = shown_claim(&answer);
+                behind(results, answer)
+            }
         }
     }
 

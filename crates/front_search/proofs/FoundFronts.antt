@@ -1,5 +1,5 @@
 -- What a sweep of the model in least form answers, told of the model.
-use Rattle.std.specs.Prelude.{◌≡◌, ℕ, ℤ, ◌-◌, ◌≤◌, List, All, Option, Some, None}
+use Rattle.std.specs.Prelude.{◌≡◌, ℕ, ◌+◌, ℤ, ◌-◌, ◌≤◌, List, All, Option, Some, None}
 use Rattle.std.proofs.Common.{refl, sym, ap, subst, ◌∙◌, arith, inl, inr}
 use Rattle.std.proofs.lemmas.List.Elements.{All-weaker}
 use Rattle.frac128.specs.Rational.{ℚ}
@@ -7,6 +7,7 @@ use Rattle.frac128.specs.Range.{IsNarrow}
 use Rattle.lp_model.specs.Program.{Program, Point, HasWholeObjective}
 use Rattle.lp_model.specs.declared.types.ColId.{ColId}
 use Rattle.lp_model.specs.declared.answers.StopWhy.{StopWhy}
+use Rattle.lp_model.specs.declared.answers.Answer.{Answer}
 use Rattle.lp_model.specs.declared.answers.Answer.TheVariants as solve
 use Rattle.model_points.specs.Answers.{IsFirstNotWhole}
 use Rattle.word_names.proofs.ScriptNames.{all-unmapped}
@@ -31,8 +32,8 @@ use Rattle.wcn_driver.specs.declared.answers.ScalePlace.{ScalePlace}
 use Rattle.wcn_driver.specs.declared.answers.Mc.{Mc}
 use Rattle.wcn_driver.specs.declared.answers.Mc.TheVariants as mc
 use Rattle.wcn_driver.specs.Parts.{part_model}
-use Rattle.wcn_driver.specs.Answers.{StandsAtPart, IsMc}
-use Rattle.front_env.specs.FrontEnvs.{PlainFrontEnv, program_of, with_results, stops_of}
+use Rattle.wcn_driver.specs.Answers.{StandsAtPart, StopsAtPart, IsMc}
+use Rattle.front_env.specs.FrontEnvs.{PlainFrontEnv, program_of, with_results, behind, IsStopBy, IsStopBehind, stops_of}
 use Rattle.front_search.specs.declared.answers.FrontAnswer.{FrontAnswer}
 use Rattle.front_search.specs.declared.answers.FrontAnswer.TheVariants.{Complete, Infeasible, Stopped, NotWhole, WideScale, Memory}
 use Rattle.front_search.specs.FrontsFound.{stops_by, AreNondominated, IsFoundAtPart, IsStoppedAt, IsFirstNotWholeObjective, IsFrontFound}
@@ -113,13 +114,56 @@ module _ (l : Limits) (M : Program) (whole : HasWholeObjectives M) where
   whole-always which col (inl (first, h)) = whole-clash (bare_model M) 1 col (bare-first M whole.0) h
   whole-always which col (inr (second, one, h)) = whole-clash (bare_model M) 2 col (bare-second M whole.1) h
 
+-- ---- stops behind results that a search which was let go had placed
+
+-- the results before the part, and those before it in the part, are together before it
+stops-behind : (l : Limits) (P : Program) (nodes results : ℕ) (why : StopWhy) (bound best : Option ℚ) → StopsAtPart (IsStopBehind l) P nodes results (λ here. solve.Stopped why here bound best)
+    → StopsAtPart (stops_by l) P nodes results (λ here. solve.Stopped why here bound best)
+stops-behind l P nodes results why bound best h = by h.stopped.rest h.stopped.is h.stopped.stop
+  where
+    more : ℕ
+    more = h.stopped.before
+
+    by : (rest : Answer) → solve.Stopped why h.here bound best ≡ behind more rest → IsStopBy (with_results l (nodes - h.before - more)) P rest → StopsAtPart (stops_by l) P nodes results (λ here. solve.Stopped why here bound best)
+    by (solve.Optimal v x n) e stop = absurd cc
+    by (solve.Infeasible n) e stop = absurd cc
+    by (solve.Unbounded n) e stop = absurd cc
+    by (solve.Stopped same here b t) e stop =
+        let why_is : same ≡ why = cc in
+        let bound_is : b ≡ bound = cc in
+        let best_is : t ≡ best = cc in
+        let here_is : h.here ≡ more + here = cc in
+        let sum = h.sum in
+        let together : nodes - h.before - more ≡ nodes - (h.before + more) = omega arith in
+        record {
+          before = h.before + more;
+          here = here;
+          sum = omega arith;
+          within = h.within;
+          stopped =
+              subst (λ (n : ℕ). IsStopBy (with_results l n) P (solve.Stopped why here bound best)) together
+              (subst (λ (w : StopWhy). IsStopBy (with_results l (nodes - h.before - more)) P (solve.Stopped w here bound best)) why_is
+              (subst (λ (u : Option ℚ). IsStopBy (with_results l (nodes - h.before - more)) P (solve.Stopped same here u best)) bound_is
+              (subst (λ (u : Option ℚ). IsStopBy (with_results l (nodes - h.before - more)) P (solve.Stopped same here b u)) best_is stop)));
+        }
+    by solve.Memory e stop = absurd cc
+
+mc-behind : (l : Limits) (N : Program) (nodes : ℕ) (c d : ℤ) (answer : Mc) → IsMc (IsStopBehind l) N nodes c d answer → IsMc (stops_by l) N nodes c d answer
+mc-behind l N nodes c d (mc.Complete front cert) h = h
+mc-behind l N nodes c d (mc.Infeasible cert results) h = h
+mc-behind l N nodes c d (mc.Stopped front part why results bound best) h = (h.0, stops-behind l (part_model N h.0.i1 h.0.i2 part) nodes results why bound best h.1, h.2)
+mc-behind l N nodes c d (mc.NotWhole which col) h = h
+mc-behind l N nodes c d (mc.WideScale front part place) h = h
+mc-behind l N nodes c d mc.Memory h = h
+
 -- what a sweep by these limits, over the model in least form, answers
 pub swept : (l : Limits) (M : Program) (e : PlainFrontEnv) (first second : ℤ) (answer : Mc) → e.limits ≡ l → program_of e ≡ bare_model M → first ≡ whole_constant M 1 → second ≡ whole_constant M 2
     → IsMc (stops_of e) (program_of e) l.nodes first second answer → IsMc (stops_by l) (bare_model M) l.nodes (whole_constant M 1) (whole_constant M 2) answer
 swept l M e first second answer limits_is program_is first_is second_is says =
     subst (λ k. IsMc (stops_by l) (bare_model M) l.nodes (whole_constant M 1) k answer) second_is
     (subst (λ k. IsMc (stops_by l) (bare_model M) l.nodes k second answer) first_is
-    (subst (λ P. IsMc (stops_by l) P l.nodes first second answer) program_is (subst (λ m. IsMc (stops_by m) (program_of e) l.nodes first second answer) limits_is says)))
+    (subst (λ P. IsMc (stops_by l) P l.nodes first second answer) program_is
+    (mc-behind l (program_of e) l.nodes first second answer (subst (λ m. IsMc (IsStopBehind m) (program_of e) l.nodes first second answer) limits_is says))))
 
 -- ---- completeness
 

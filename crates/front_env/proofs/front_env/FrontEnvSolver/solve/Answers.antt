@@ -1,17 +1,33 @@
-use Rattle.std.proofs.Common.{subst}
-use Rattle.front_solver.specs.Truth.{IsStop}
-use Rattle.front_env.specs.FrontEnvs.{PlainFrontEnv, program_of, with_results, IsStopBy}
-use Rattle.front_env.proofs.Solving.{solved_to}
+use Rattle.std.specs.Prelude.{ℕ, ◌-◌, ◌≤◌}
+use Rattle.std.proofs.Common.{sym, ap, subst}
+use Rattle.lp_model.specs.Program.{Program}
+use Rattle.lp_model.specs.declared.answers.Answer.{Answer}
+use Rattle.tree_search.specs.declared.limits.Limits.{Limits}
+use Rattle.front_solver.specs.Truth.{IsTrueOf, IsStop}
+use Rattle.front_env.specs.FrontEnvs.{PlainFrontEnv, program_in, program_of, with_results, behind, IsStopBy, IsStopBehind}
+use Rattle.front_env.proofs.Behind.{behind_true, stopped_behind}
 use Rattle.front_env.proofs.front_env.FrontEnvSolver.solve.Goals as goal
 
-pub returns-clause-true_of : goal.returns-clause-true_of
-returns-clause-true_of c =
-    let i = c.self.inside in
-    (solved_to (with_results i.limits c.args.nodes) i.env.search i.env c.solve.new.env c.in-Ok.answer c.self.invariant.loaded c.in-Ok.ensures.solves c.in-Ok.ensures.true_answer c.in-Ok.ensures.complete c.search-search.ensures.sound).true_of
+pub returns-in-Stopped-clause-true_of : goal.returns-in-Stopped-clause-true_of
+returns-in-Stopped-clause-true_of c =
+    let n = c.args.nodes in
+    let before = c.in-Stopped.results in
+    let answer = c.solved_anew-answer.result in
+    let M = program_in c.go_on.new.env.search in
+    let few = subst (λ (m : ℕ). before ≤ m) (ap (λ (l : Limits). l.nodes) c.with_results-limits.ensures) c.in-Stopped.ensures.end in
+    let truth = subst (λ (m : ℕ). IsTrueOf M m answer) (ap (λ (l : Limits). l.nodes) c.with_results-rest.ensures) c.solved_anew-answer.ensures.true_of in
+    subst (λ (a : Answer). IsTrueOf (program_in c.solved_anew-answer.new.env.search) n a) (sym c.behind.ensures)
+    (subst (λ (P : Program). IsTrueOf P n (behind before answer)) (sym c.solved_anew-answer.ensures.program) (behind_true M n before answer few truth))
 
-pub returns-clause-stopped : goal.returns-clause-stopped
-returns-clause-stopped c =
+pub returns-in-Stopped-clause-stopped : goal.returns-in-Stopped-clause-stopped
+returns-in-Stopped-clause-stopped c =
     let i = c.self.inside in
-    let answer = c.in-Ok.answer in
-    subst (λ (e : PlainFrontEnv). IsStop answer → IsStopBy (with_results e.limits c.args.nodes) (program_of e) answer) c.self.view_is
-    (solved_to (with_results i.limits c.args.nodes) i.env.search i.env c.solve.new.env answer c.self.invariant.loaded c.in-Ok.ensures.solves c.in-Ok.ensures.true_answer c.in-Ok.ensures.complete c.search-search.ensures.sound).stopped
+    let n = c.args.nodes in
+    let before = c.in-Stopped.results in
+    let answer = c.solved_anew-answer.result in
+    let few = subst (λ (m : ℕ). before ≤ m) (ap (λ (l : Limits). l.nodes) c.with_results-limits.ensures) c.in-Stopped.ensures.end in
+    let stopped =
+    subst (λ (P : Program). IsStop answer → IsStopBy (with_results i.limits (n - before)) P answer) c.go_on.ensures.program
+    (subst (λ (l : Limits). IsStop answer → IsStopBy l (program_in c.go_on.new.env.search) answer) c.with_results-rest.ensures c.solved_anew-answer.ensures.stopped) in
+    subst (λ (e : PlainFrontEnv). IsStop c.behind.result → IsStopBehind e.limits (program_of e) n c.behind.result) c.self.view_is
+    (subst (λ (a : Answer). IsStop a → IsStopBehind i.limits (program_in i.env.search) n a) (sym c.behind.ensures) (stopped_behind i.limits (program_in i.env.search) n before answer few stopped))
