@@ -9,7 +9,8 @@ then with the second, and so on until none is; and then with each growth from th
 One growth refused: the replies are whole lines, and as many as there are commands, or the status is 5. At most one of them is `error 90 memory`.
 All others are those of the script without that command, byte for byte, and so are the files. Where `solve` or `warm` was refused, no answer is held:
 `cert` is answered so until a search ends; the next `warm` without limits ends with the answer of the case, and a certificate that is written is
-accepted by `check`. Where `mcsolve` was refused no answer is held either, and all else is as if the line had not been there. All growths from one on refused: the replies are whole, the status is 5, and those before the first refusal are the case's.
+accepted by `check`. Where `mcsolve` was refused no answer is held either, and all else is as if the line had not been there. An `mcsolve` may also do without
+what was refused, a search that it kept from a part before: then its certificate, or the place of its stop, is another one. All growths from one on refused: the replies are whole, the status is 5, and those before the first refusal are the case's.
 
 With STEP=N in the environment only each N-th growth is refused, from the first on. JOBS=N makes N runs at a time. The case `a plan for each day`, the script of
 examples/series, has so many growths that it is done where it is named alone.
@@ -231,13 +232,37 @@ class Case:
         wanted = replies_of(self.without(left_out)[1])[0]
         for at in left_out:
             wanted.insert(at, told[at])
-        if found != wanted[: len(found)]:
-            at = [a == b for a, b in zip(found, wanted)].index(False)
+        at = next((at for at, (reply, same) in enumerate(zip(found, wanted)) if reply != same and not self.is_other_part(at, reply, same)), None)
+        if at is not None:
             return f"{self.lines[at]} behind {place}: wanted {wanted[at]}, and it says {found[at]}"
         possible = [self.without(left_out, count)[2] for count in {len(found), min(len(found) + 1, len(self.lines))}]
-        if files not in possible:
+        if files not in possible and not any(self.differ_in_fronts(files, same) for same in possible):
             return f"the files {[name for name in files if files[name] != possible[0].get(name)]} behind {place} are others"
         return None
+
+    def is_other_part(self, at, reply, wanted):
+        """Whether both are parts of a front, in which a search stopped at a limit."""
+        both = [text.split(b"\n") for text in (reply, wanted)]
+        return self.lines[at].startswith(b"mcsolve ") and all(lines[0].startswith(b"frontier part ") for lines in both)
+
+    def differ_in_fronts(self, files, wanted):
+        """Whether some certificates of fronts alone are others, and `check` says the same of them for the model that each is of."""
+        names = [name for name in files if files[name] != wanted.get(name)]
+        if set(files) != set(wanted) or not all(files[name].startswith(b"front 1\n") and wanted[name].startswith(b"front 1\n") for name in names):
+            return False
+        for name in names:
+            at = max(at for at, line in enumerate(self.lines) if line == b"cert " + name.encode())
+            with tempfile.TemporaryDirectory() as folder:
+                fill(folder, self.files)
+                run(self.program, folder, script=b"\n".join(self.lines[:at] + [b"write NOW"]) + b"\n")
+                told = []
+                for text in (files[name], wanted[name]):
+                    with open(os.path.join(folder, "T"), "wb") as file:
+                        file.write(text)
+                    told.append(run(self.program, folder, ("check", "NOW", "T")))
+            if told[0] != told[1] or not told[0][1].startswith(b"accepted frontier "):
+                return False
+        return True
 
     def fault_of_words(self, status, text):
         if (status, text) == self.plain[:2]:
