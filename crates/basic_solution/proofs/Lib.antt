@@ -1,8 +1,10 @@
 pub mod PointLemmas
 pub mod RowTotalLemmas
 pub mod ReadLemmas
+pub mod TurnedLemmas
 pub mod TermLemmas
 pub mod CutTotalLemmas
+pub mod StandingLemmas
 pub mod SideLemmas
 pub mod PartLemmas
 pub mod ExchangeLemmas

@@ -25,7 +25,7 @@ use Rattle.whole_sums.proofs.SumLemmas.{term_of_nothing, start_is, total_more, f
 use Rattle.basic_solution.specs.Held.{Held, IsSided, relaxation, state, table, variables}
 use Rattle.basic_solution.specs.RowTotals.{IsSmallNumber, HasSmallTerm, AreFreeFrom, IsCostTotal}
 use Rattle.basic_solution.specs.private.RowTotals.{IsRowTotal}
-use Rattle.basic_solution.proofs.PointLemmas.{no_standing, own_standing, own_entry, sum_of_rows}
+use Rattle.basic_solution.proofs.PointLemmas.{no_standing, own_standing, own_entry, no_saved, own_saved, sum_of_rows}
 
 no_term : (a x : ℚ) (d : ℤ) → pos 0 <ℤ d → x ≡ int (pos 0) → HasSmallTerm d a x
 no_term a x d h none = (pos 0, (pos 0, (term_of_nothing a x d h none, omega arith)))
@@ -126,7 +126,7 @@ module _ (start : ℚ) (a x : ℕ → ℚ) (end : ℕ) (none : (v : ℕ) → end
       (λ i w. ap (λ t. t *ℚ x (end + i)) (none (end + i) (omega arith)) ∙ ring (x (end + i) ∷ []) {y = int (pos 0)} (search reads_ℚ) tt))
       ∙ ring (sum_below end (λ j. a j *ℚ x j) ∷ []) {y = sum_below end (λ j. a j *ℚ x j)} (search reads_ℚ) tt
 
-  free_value : (m : ℕ) → partial start a x end ≡ partial start a x (end + m)
+  pub free_value : (m : ℕ) → partial start a x end ≡ partial start a x (end + m)
   free_value m = ap (λ t. start +ℚ t) (sym (nothing_more m))
 
 module _ (s : Held) (sided : IsSided s) (few : variables s < 2 ^ 32) (place : ℕ) (d : ℤ) (h : pos 0 <ℤ d) (d_short : IsShort d)
@@ -143,6 +143,30 @@ module _ (s : Held) (sided : IsSided s) (few : variables s < 2 ^ 32) (place : �
             ∙ ap (partial (place_cost s place) (relaxation s).cost (saved s place)) behind
             ∙ ap (λ t. place_cost s place +ℚ t) (sum_of_rows s sided (relaxation s).cost (λ i. (table s).entry i place));
       }
+
+-- ---- the same by rows
+
+-- the cost of the basic variable of a row
+abbrev pub basic_cost : Held → ℕ → ℚ
+basic_cost s i = (relaxation s).cost ((table s).basic i)
+
+module _ (s : Held) (sided : IsSided s) (few : variables s < 2 ^ 32) (place : ℕ) (d : ℤ) (h : pos 0 <ℤ d) (d_short : IsShort d)
+    (start : ℤ) (start_small : IsSmallNumber start) (own : place_cost s place ≡ int start)
+    (terms : (i : ℕ) → i < s.tableau.activities → HasSmallTerm d (basic_cost s i) ((table s).entry i place)) where
+  cost_by_variable : (v : ℕ) → v < variables s → HasSmallTerm d ((relaxation s).cost v) (saved s place v)
+  cost_by_variable v q =
+      ⊎_elim
+      (λ found. subst₂ (HasSmallTerm d) (ap (relaxation s).cost (sym found.2)) (sym (own_saved s sided place v found.0 found.1 (sym found.2))) (terms found.0 found.1))
+      (λ found. no_term _ _ d h (no_saved s sided place v found.0 found.1 (sym found.2)))
+      (covered (relaxation s) (table s) sided.table.arranged v q)
+
+  pub total_of_rows : (total : ℤ) → unsigned_abs total ≤ (s.tableau.activities + 1) * 2 ^ 93 → quotient_of total d ≡ partial (place_cost s place) (basic_cost s) (λ i. (table s).entry i place) s.tableau.activities → IsCostTotal s place d total
+  total_of_rows total size value = record {
+    margin = margin_of total (s.tableau.activities + 1) (omega (arith, few)) size;
+    fits = subst (λ z. AllFit z (relaxation s).cost (saved s place) (variables s)) (sym own)
+        (all_fit start start_small (relaxation s).cost (saved s place) d h d_short (variables s) few cost_by_variable);
+    value = value;
+  }
 
 -- ---- a total over a denominator beside a whole number
 

@@ -3,6 +3,7 @@ pub mod Breach
 pub mod Numbers
 pub mod RowTotals
 pub mod CutTotals
+pub mod Standing
 pub mod Exchanges
 pub mod Slack
 pub mod Lists

@@ -4,8 +4,10 @@ ghost use Rattle.std.specs.Prelude.{◌≡◌, ◌<◌, ◌≤◌, ◌^◌, ◌<
 ghost use Rattle.table_entries.specs.WholeSteps.{IsShort, whole_number_at};
 ghost use Rattle.basic_solution.specs.Numbers.{IsRowBreach};
 ghost use Rattle.basic_solution.specs.CutTotals.{IsColumnTotal, AreColumnTotals};
+ghost use Rattle.basic_solution.specs.Standing.{AreStanding};
 ghost use Rattle.basic_solution.specs.private.CutTotals.{StandsSmall, IsTermsTotal, IsCutTotal};
 
+use crate::listed_values::MOST_STANDING;
 use crate::row_totals::{small_number, with_product};
 use crate::sided::SidedBasis;
 use crate::total_sides::total_breach;
@@ -64,16 +66,25 @@ impl SidedBasis<'_> {
         true
     }
 
-    /// The number of a column at the state's point times the denominator, if it is short and its terms are small.
-    fn column_total(&self, column: usize, denominator: i64) -> Option<i64>
+    /// The number of a column at the state's point times the denominator, if it is short and its terms are small, by the variables
+    /// that stand at other numbers than 0 where they are listed.
+    fn column_total(
+        &self,
+        column: usize,
+        denominator: i64,
+        places: &[usize],
+        numbers: &[i64],
+        count: Option<usize>,
+    ) -> Option<i64>
         requires column { column < self.now.tableau.columns }
         requires positive { pos 0 <ℤ denominator }
         requires denominator { IsShort denominator }
+        requires standing { IfSome count (λ n. AreStanding self.now places.now numbers.now n) }
         ensures { IfSome result (λ n. IsColumnTotal self.now column denominator n) }
     {
         match self.tableau.find(column) {
             Position::Row(row) => {
-                let Some(total) = self.row_total(row, denominator) else {
+                let Some(total) = self.listed_total(row, denominator, places, numbers, count) else {
                     return None;
                 };
                 short_number(total)
@@ -102,8 +113,11 @@ impl SidedBasis<'_> {
         let Some(denominator) = self.tableau.whole_denominator() else {
             return None;
         };
+        let mut places = [0_usize; MOST_STANDING];
+        let mut numbers = [0_i64; MOST_STANDING];
+        let count = self.write_standing(&mut places, &mut numbers);
         for column in 0..columns {
-            match self.column_total(column, denominator) {
+            match self.column_total(column, denominator, &places, &numbers, count) {
                 None => return None,
                 Some(total) => totals[column] = total,
             }

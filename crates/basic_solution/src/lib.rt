@@ -27,6 +27,7 @@ mod costs;
 mod cut_totals;
 mod exchange;
 mod listed;
+mod listed_values;
 mod lists;
 mod numbers;
 mod parts;
@@ -36,6 +37,7 @@ mod row_totals;
 mod sided;
 mod sides;
 mod slack;
+mod standing;
 mod total_sides;
 mod written;
 

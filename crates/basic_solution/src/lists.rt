@@ -8,6 +8,7 @@ ghost use Rattle.basic_solution.specs.Held.{relaxation, state, table, variables}
 ghost use Rattle.basic_solution.specs.Lists.{StandsHigh, AreBasic, AreHigh, IsBasisOf, IsPointAnswer, AreListedMultipliers, AreMultipliersAnswer};
 ghost use Rattle.basic_solution.specs.private.Lists.{AreMultipliersBelow};
 
+use crate::listed_values::MOST_STANDING;
 use crate::sided::SidedBasis;
 use frac128::Frac;
 use lp_model::{Basis, List, Mult, Point, Var, WideStep};
@@ -102,9 +103,12 @@ impl SidedBasis<'_> {
     pub fn point_list(&self, alloc: Global) -> Result<Result<Point, WideStep>, AllocError>
         ensures { IfOk result (IsPointAnswer self.now) }
     {
+        let mut places = [0_usize; MOST_STANDING];
+        let mut numbers = [0_i64; MOST_STANDING];
+        let count = self.write_standing(&mut places, &mut numbers);
         let mut list = List::new(alloc);
         for column in 0..self.columns() {
-            match self.number_of(column) {
+            match self.listed_number(column, &places, &numbers, count) {
                 Ok(number) => match list.push(number) {
                     Ok(()) => {}
                     Err(error) => {

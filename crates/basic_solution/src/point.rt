@@ -142,7 +142,7 @@ impl SidedBasis<'_> {
     }
 
     /// The step in which the term of a variable in the value of the basic variable of a row is added.
-    fn point_step(&self, row: usize, variable: usize) -> WideStep
+    pub(crate) fn point_step(&self, row: usize, variable: usize) -> WideStep
         requires row { row < self.now.tableau.activities }
         requires variable { variable < variables self.now }
         ensures { IsFirstWideValue self.now row variable → IsWideBasicValue self.now row result }

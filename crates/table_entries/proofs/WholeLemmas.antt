@@ -1,7 +1,7 @@
 -- The entries after an exchange over a common denominator.
 use Rattle.std.specs.Prelude.{◌≡◌, ◌≢◌, ◌⊎◌, ℕ, zero, suc, ◌-◌, ◌^◌, ◌<◌, ◌≤◌, [], ◌∷◌, ◌<ℤ◌, ℤ, pos, negsuc, ◌+ℤ◌, ◌-ℤ◌, ◌*ℤ◌, unsigned_abs, Bool, true, false}
 use Rattle.std.specs.Int.{◌∣◌}
-use Rattle.std.proofs.Common.{refl, sym, ap, subst, ◌∙◌, ⊎_elim, arith}
+use Rattle.std.proofs.Common.{refl, sym, ap, subst, ◌∙◌, ⊎_elim, inr, arith}
 use Rattle.std.proofs.Math.Nat.{dvd-mul_right}
 use Rattle.std.proofs.lemmas.Nat.Gcd.{dvd_trans}
 use Rattle.std.proofs.lemmas.Int.{ints, unsigned_abs-mul}
@@ -19,6 +19,7 @@ use Rattle.frac128.proofs.SumTerms.{fits_of_narrow}
 use Rattle.whole_sums.proofs.RoomLemmas.{short_product, short_narrow, sum_fits_by, den_divides}
 use Rattle.table_entries.specs.Steps.{DifferenceFits, PivotStepFits}
 use Rattle.table_entries.specs.WholeSteps.{IsShort, magnitude, by_sign, IsWholeStep}
+use Rattle.table_entries.specs.private.LeftRows.{IsScaled}
 
 -- ---- signs
 
@@ -57,6 +58,19 @@ none_taken p in_row in_place none =
     unsigned : (p : ℤ) → by_sign p (pos 0) ≡ pos 0
     unsigned (pos p) = refl
     unsigned (negsuc p) = omega (arith, ints)
+
+by_sign-none : (p n : ℤ) → n ≡ pos 0 → by_sign p n ≡ pos 0
+by_sign-none p n none = ap (by_sign p) none ∙ of_none p
+  where
+    of_none : (p : ℤ) → by_sign p (pos 0) ≡ pos 0
+    of_none (pos p) = refl
+    of_none (negsuc p) = omega (arith, ints)
+
+none_short : IsShort (pos 0)
+none_short = omega arith
+
+less_none : (x t : ℤ) → t ≡ pos 0 → x ≡ x -ℤ t
+less_none x t none = ring_ℤ (x ∷ []) {y = x -ℤ pos 0} (search reads_ℤ) (search reads_ℤ) tt ∙ ap (λ z. x -ℤ z) (sym none)
 
 nothing_taken : (D m entry taken : ℤ) → (entry ≡ pos 0) ⊎ (m ≡ D) → taken ≡ pos 0 → entry *ℤ D ≡ entry *ℤ m -ℤ taken
 nothing_taken D m entry taken kept none =
@@ -260,6 +274,14 @@ module _ (D p : ℤ) (D_positive : pos 0 <ℤ D) (some : p ≢ pos 0) (D_short :
   pub whole_kept : (in_row in_place entry : ℤ) → IsShort in_row → IsShort in_place → IsShort entry → (entry ≡ pos 0) ⊎ (magnitude p ≡ D) → (in_row ≡ pos 0) ⊎ (in_place ≡ pos 0) → IsWholeStep false false D p in_row in_place entry entry
   whole_kept in_row in_place entry h k l same none =
       whole_other in_row in_place entry h k l entry l (nothing_taken D (magnitude p) entry (by_sign p in_place *ℤ in_row) same (none_taken p in_row in_place none))
+
+  -- where the entering place has nothing the entry is scaled
+  pub whole_scaled : (entry n : ℤ) → IsShort entry → IsShort n → n *ℤ D ≡ entry *ℤ magnitude p → (entry ≡ pos 0 → n ≡ pos 0) → IsScaled D p entry n
+  whole_scaled entry n e_short n_short exact none true in_row in_place r_short nothing same =
+      let zero : entry ≡ pos 0 = same refl ∙ nothing in
+      subst (λ m. IsWholeStep false true D p in_row in_place entry m) (by_sign-none p in_place nothing ∙ sym (none zero)) (whole_place in_row in_place entry (subst IsShort (sym nothing) none_short))
+  whole_scaled entry n e_short n_short exact none false in_row in_place r_short nothing same =
+      whole_other in_row in_place entry r_short (subst IsShort (sym nothing) none_short) e_short n n_short (exact ∙ less_none (entry *ℤ magnitude p) (by_sign p in_place *ℤ in_row) (none_taken p in_row in_place (inr nothing)))
 
 -- the same of flags and a number that are read
 pub step_at : (r q x y : Bool) (D p in_row in_place entry n m : ℤ) → r ≡ x → q ≡ y → m ≡ n → IsWholeStep x y D p in_row in_place entry n → IsWholeStep r q D p in_row in_place entry m

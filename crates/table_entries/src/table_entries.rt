@@ -257,7 +257,7 @@ impl TableEntries {
         requires place { place < columns }
         requires room { rows * columns < 2 ^ 64 }
         requires size { length self.old.list ≡ rows * columns }
-        requires few { rows ≤ 1024 }
+        requires few { rows ≤ 4096 }
         requires some { get_or self.old.list (row * columns + place) (int (pos 0)) ≢ int (pos 0) }
         requires stays { magnitude (whole_number_at self.old.numbers (row * columns + place)) ≡ self.old.denominator }
         requires positive { pos 0 <ℤ limit }

@@ -1,7 +1,7 @@
 // Entries that are whole numbers over one common denominator.
 ghost use Rattle.std.specs.Prelude.{◌≡◌, ◌≢◌, ◌⊎◌, ◌<◌, ◌≤◌, ◌+◌, ◌*◌, ◌<ℤ◌, ◌*ℤ◌, ℕ, ℤ, pos, true, false, length, IsTrue, IfSome};
 ghost use Rattle.table_entries.specs.WholeSteps.{IsShort, IsWholeStep, magnitude, by_sign, whole_number_at, is_unwritten, AreShort, AreWritten, AreWithin};
-ghost use Rattle.table_entries.specs.private.LeftRows.{IsWholeLeft, AreLeft};
+ghost use Rattle.table_entries.specs.private.LeftRows.{IsWholeLeft, AreLeft, IsScaled};
 
 use crate::entries::flat_index;
 use whole_sums::{SHORT_LIMIT, product, short_number};
@@ -124,6 +124,23 @@ pub fn exchanged_number(
     }
 }
 
+/// The number of an entry after the exchange in a row that has no entry in the entering place: it is scaled. None where the division
+/// is not exact, or where the number is not short.
+#[inline]
+fn scaled_number(denominator: i64, inverse: &Inverse, pivot: i64, entry: i64) -> Option<i64>
+    requires some { pivot ≢ pos 0 }
+    requires positive { pos 0 <ℤ denominator }
+    requires denominator { IsShort denominator }
+    requires pivot { IsShort pivot }
+    requires entry { IsShort entry }
+    ensures { IfSome result (λ n. IsScaled denominator pivot entry n) }
+{
+    if entry == 0 {
+        return Some(0);
+    }
+    exact_quotient(product(entry, pivot.abs()), denominator, inverse)
+}
+
 /// Whether a row is not written, by a list of flags. Behind the list rows are written.
 fn is_unwritten(unwritten: &[bool], row: usize) -> bool
     ensures { result ≡ is_unwritten unwritten.now row }
@@ -133,6 +150,47 @@ fn is_unwritten(unwritten: &[bool], row: usize) -> bool
     } else {
         false
     }
+}
+
+/// Writes the numbers after the exchange of a row that has no entry in the entering place, and is not the leaving one, behind those
+/// of the rows before it. False where one can't be had.
+fn write_scaled_row(
+    rows: usize,
+    columns: usize,
+    row: usize,
+    place: usize,
+    denominator: i64,
+    numbers: &[i64],
+    unwritten: &[bool],
+    at_row: usize,
+    next: &mut [i64],
+) -> bool
+    requires row { row < rows }
+    requires place { place < columns }
+    requires at_row { at_row < rows }
+    requires other { at_row ≢ row }
+    requires size { length numbers.now ≡ rows * columns }
+    requires room { length next.old ≡ rows * columns }
+    requires positive { pos 0 <ℤ denominator }
+    requires denominator { IsShort denominator }
+    requires short { AreShort numbers.now }
+    requires next { AreShort next.old }
+    requires some { whole_number_at numbers.now (row * columns + place) ≢ pos 0 }
+    requires nothing { whole_number_at numbers.now (at_row * columns + place) ≡ pos 0 }
+    requires earlier { AreWritten columns row place denominator numbers.now unwritten.now next.old (at_row * columns) }
+    ensures written { IsTrue result → AreWritten columns row place denominator numbers.now unwritten.now next.new ((at_row + 1) * columns) }
+    ensures short { AreShort next.new }
+{
+    let pivot = numbers[flat_index(rows, columns, row, place)];
+    let inverse = Inverse::of(denominator);
+    for at_place in 0..columns {
+        let at = flat_index(rows, columns, at_row, at_place);
+        match scaled_number(denominator, &inverse, pivot, numbers[at]) {
+            Some(number) => next[at] = number,
+            None => return false,
+        }
+    }
+    true
 }
 
 /// Writes the numbers of one row after the exchange behind those of the rows before it, unless the row is not written. False
@@ -167,6 +225,19 @@ fn write_whole_row(
     }
     let pivot = numbers[flat_index(rows, columns, row, place)];
     let in_place = numbers[flat_index(rows, columns, at_row, place)];
+    if at_row != row && in_place == 0 {
+        return write_scaled_row(
+            rows,
+            columns,
+            row,
+            place,
+            denominator,
+            numbers,
+            unwritten,
+            at_row,
+            next,
+        );
+    }
     let inverse = Inverse::of(denominator);
     for at_place in 0..columns {
         let at = flat_index(rows, columns, at_row, at_place);
@@ -231,7 +302,7 @@ pub fn write_wholes(
 }
 
 /// Tables of more rows are exchanged without marks.
-pub const MOST_MARKS: usize = 1024;
+pub const MOST_MARKS: usize = 4096;
 
 /// Whether an exchange in which the denominator stays leaves a row alone: one that is not written, or another one than the
 /// leaving one without an entry in the entering place.

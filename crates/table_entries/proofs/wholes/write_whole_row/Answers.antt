@@ -129,3 +129,9 @@ returns-clause-short c = c.loop-at_place.invariant.short
 
 pub returns-in-None-clause-short : goal.returns-in-None-clause-short
 returns-in-None-clause-short c = c.loop-at_place.invariant.short
+
+pub returns-then-in_place-eq0-clause-written : goal.returns-then-in_place-eq0-clause-written
+returns-then-in_place-eq0-clause-written c = λ t at less flag.
+    let a = c.args in
+    let d1 = short_read a.denominator c.requires.denominator in
+    subst (λ d. WholeAt a.columns a.row a.place d a.numbers.now (whole_number_at c.write_scaled_row.new.next at) at) d1 (c.write_scaled_row.ensures.written t at less flag)

@@ -46,8 +46,8 @@ returns-in-Some-small_number c =
     (start_is n d c.requires.positive ∙ sym c.in-Some-small_number.ensures.value ∙ c.place_number.ensures ∙ point_nonbasic now (subst IsSided c.self.view_is c.self.invariant) column place at.0 at.1) read
     c.short_number-in-Place.result c.short_number-in-Place.ensures.short c.short_number-in-Place.ensures.value
 
-pub row_total-requires-clause-positive : goal.row_total-requires-clause-positive
-row_total-requires-clause-positive c = positive_again c.args.denominator c.requires.denominator c.requires.positive
+pub listed_total-requires-clause-positive : goal.listed_total-requires-clause-positive
+listed_total-requires-clause-positive c = positive_again c.args.denominator c.requires.denominator c.requires.positive
 
-pub row_total-requires-clause-denominator : goal.row_total-requires-clause-denominator
-row_total-requires-clause-denominator c = short_again c.args.denominator c.requires.denominator
+pub listed_total-requires-clause-denominator : goal.listed_total-requires-clause-denominator
+listed_total-requires-clause-denominator c = short_again c.args.denominator c.requires.denominator

@@ -10,8 +10,8 @@ use Rattle.basic_solution.proofs.sided.SidedBasis.point_list.Goals as goal
 pub loop-column-init : goal.loop-column-init
 loop-column-init c = record { size = ap length c.new-list.ensures; numbers = λ j below. absurd (omega (arith, below)); fits = λ j below. absurd (omega (arith, below)) }
 
-pub number_of-requires : goal.number_of-requires
-number_of-requires c =
+pub listed_number-requires-clause-variable : goal.listed_number-requires-clause-variable
+listed_number-requires-clause-variable c =
     let less = c.loop-column-test.true in let f = c.columns-column-end.ensures.value in omega (arith, less, f)
 
 pub loop-column-preserved : goal.loop-column-preserved

@@ -5,10 +5,159 @@ use Rattle.frac128.specs.Rational.{int}
 use Rattle.table_entries.specs.WholeSteps.{AreShort, AreWithin, is_unwritten, magnitude, whole_number_at, AreWritten}
 use Rattle.table_entries.specs.Listed.{over, AreOver}
 use Rattle.table_entries.specs.private.LeftRows.{AreLeft}
-use Rattle.table_entries.proofs.ReadLemmas.{short_read}
+use Rattle.table_entries.proofs.ReadLemmas.{short_read, short_again, positive_again}
 use Rattle.table_entries.proofs.ListedLemmas.{listed_numbers, whole_form, whole_list, whole_numbers, whole_size, not_zero_number, parts_exchanged}
 use Rattle.table_entries.proofs.LeftLemmas.{left_written, left_within}
 use Rattle.table_entries.proofs.table_entries.TableEntries.exchange_some.Goals as goal
+
+pub mark_left-requires-clause-size : goal.mark_left-requires-clause-size
+mark_left-requires-clause-size c =
+    let self = c.self.inside in
+    let numbers = self.numbers.items in
+    let v = c.args.self.now in
+    let size : length numbers ≡ c.args.rows * c.args.columns = whole_size self.is_whole self.denominator numbers self.fractions.items v c.self.view_is c.requires.whole ∙ c.requires.size in
+    ap length c.deref.ensures.value ∙ size
+
+pub write_wholes-requires-clause-size : goal.write_wholes-requires-clause-size
+write_wholes-requires-clause-size c =
+    let self = c.self.inside in
+    let numbers = self.numbers.items in
+    let v = c.args.self.now in
+    let size : length numbers ≡ c.args.rows * c.args.columns = whole_size self.is_whole self.denominator numbers self.fractions.items v c.self.view_is c.requires.whole ∙ c.requires.size in
+    ap length c.deref-2.ensures.value ∙ size
+
+pub write_wholes-requires-clause-room : goal.write_wholes-requires-clause-room
+write_wholes-requires-clause-room c =
+    let self = c.self.inside in
+    let numbers = self.numbers.items in
+    let v = c.args.self.now in
+    let form = whole_form self.is_whole self.denominator numbers self.fractions.items v c.self.view_is c.requires.whole in
+    let size : length numbers ≡ c.args.rows * c.args.columns = whole_size self.is_whole self.denominator numbers self.fractions.items v c.self.view_is c.requires.whole ∙ c.requires.size in
+    ap length c.deref_mut.ensures.value ∙ c.self.invariant.spare_numbers_length form ∙ sym (c.self.invariant.numbers_length form) ∙ size
+
+pub write_wholes-requires-clause-positive : goal.write_wholes-requires-clause-positive
+write_wholes-requires-clause-positive c =
+    let self = c.self.inside in
+    let numbers = self.numbers.items in
+    let v = c.args.self.now in
+    let form = whole_form self.is_whole self.denominator numbers self.fractions.items v c.self.view_is c.requires.whole in
+    let are = c.self.invariant.over_one form in
+    positive_again self.denominator are.denominator_short are.positive
+
+pub write_wholes-requires-clause-denominator : goal.write_wholes-requires-clause-denominator
+write_wholes-requires-clause-denominator c =
+    let self = c.self.inside in
+    let numbers = self.numbers.items in
+    let v = c.args.self.now in
+    let form = whole_form self.is_whole self.denominator numbers self.fractions.items v c.self.view_is c.requires.whole in
+    short_again self.denominator (c.self.invariant.over_one form).denominator_short
+
+pub write_wholes-requires-clause-short : goal.write_wholes-requires-clause-short
+write_wholes-requires-clause-short c =
+    let self = c.self.inside in
+    let numbers = self.numbers.items in
+    let v = c.args.self.now in
+    let form = whole_form self.is_whole self.denominator numbers self.fractions.items v c.self.view_is c.requires.whole in
+    subst AreShort (sym c.deref-2.ensures.value) (c.self.invariant.over_one form).short
+
+pub write_wholes-requires-clause-next : goal.write_wholes-requires-clause-next
+write_wholes-requires-clause-next c =
+    let self = c.self.inside in
+    let numbers = self.numbers.items in
+    let v = c.args.self.now in
+    let form = whole_form self.is_whole self.denominator numbers self.fractions.items v c.self.view_is c.requires.whole in
+    subst AreShort (sym c.deref_mut.ensures.value) (c.self.invariant.spare_short form)
+
+pub write_wholes-requires-clause-some : goal.write_wholes-requires-clause-some
+write_wholes-requires-clause-some c = λ e.
+    let self = c.self.inside in
+    let numbers = self.numbers.items in
+    let v = c.args.self.now in
+    let form = whole_form self.is_whole self.denominator numbers self.fractions.items v c.self.view_is c.requires.whole in
+    let are = c.self.invariant.over_one form in
+    let list_is = whole_list self.is_whole self.denominator numbers self.fractions.items v c.self.view_is c.requires.whole in
+    let at = c.args.row * c.args.columns + c.args.place in
+    not_zero_number self.denominator numbers are.positive at (subst (λ xs. get_or xs at (int (pos 0)) ≢ int (pos 0)) list_is c.requires.some) (ap (λ xs. whole_number_at xs at) (sym c.deref-2.ensures.value) ∙ e)
+
+pub are_within-requires-clause-size : goal.are_within-requires-clause-size
+are_within-requires-clause-size c =
+    let self = c.self.inside in
+    let numbers = self.numbers.items in
+    let v = c.args.self.now in
+    let form = whole_form self.is_whole self.denominator numbers self.fractions.items v c.self.view_is c.requires.whole in
+    let size : length numbers ≡ c.args.rows * c.args.columns = whole_size self.is_whole self.denominator numbers self.fractions.items v c.self.view_is c.requires.whole ∙ c.requires.size in
+    let next_is = with_items_is self.spare_numbers c.write_wholes.new.next (c.write_wholes.auto.next ∙ c.deref_mut.ensures.len) in
+    ap length (c.deref-3.ensures.value ∙ next_is)
+    ∙ c.write_wholes.auto.next ∙ ap length c.deref_mut.ensures.value ∙ c.self.invariant.spare_numbers_length form ∙ sym (c.self.invariant.numbers_length form) ∙ size
+
+pub are_within-requires-clause-short : goal.are_within-requires-clause-short
+are_within-requires-clause-short c =
+    let self = c.self.inside in
+    let next_is = with_items_is self.spare_numbers c.write_wholes.new.next (c.write_wholes.auto.next ∙ c.deref_mut.ensures.len) in
+    subst AreShort (sym (c.deref-3.ensures.value ∙ next_is)) c.write_wholes.ensures.short
+
+pub take_rows-requires-clause-size : goal.take_rows-requires-clause-size
+take_rows-requires-clause-size c =
+    let self = c.self.inside in
+    let numbers = self.numbers.items in
+    let v = c.args.self.now in
+    let size : length numbers ≡ c.args.rows * c.args.columns = whole_size self.is_whole self.denominator numbers self.fractions.items v c.self.view_is c.requires.whole ∙ c.requires.size in
+    ap length c.deref_mut-2.ensures.value ∙ size
+
+pub take_rows-requires-clause-next : goal.take_rows-requires-clause-next
+take_rows-requires-clause-next c =
+    let self = c.self.inside in
+    let numbers = self.numbers.items in
+    let v = c.args.self.now in
+    let form = whole_form self.is_whole self.denominator numbers self.fractions.items v c.self.view_is c.requires.whole in
+    let size : length numbers ≡ c.args.rows * c.args.columns = whole_size self.is_whole self.denominator numbers self.fractions.items v c.self.view_is c.requires.whole ∙ c.requires.size in
+    let next_is = with_items_is self.spare_numbers c.write_wholes.new.next (c.write_wholes.auto.next ∙ c.deref_mut.ensures.len) in
+    ap length (c.deref-4.ensures.value ∙ next_is)
+    ∙ c.write_wholes.auto.next ∙ ap length c.deref_mut.ensures.value ∙ c.self.invariant.spare_numbers_length form ∙ sym (c.self.invariant.numbers_length form) ∙ size
+
+pub take_rows-requires-clause-next_short : goal.take_rows-requires-clause-next_short
+take_rows-requires-clause-next_short c =
+    let self = c.self.inside in
+    let next_is = with_items_is self.spare_numbers c.write_wholes.new.next (c.write_wholes.auto.next ∙ c.deref_mut.ensures.len) in
+    subst AreShort (sym (c.deref-4.ensures.value ∙ next_is)) c.write_wholes.ensures.short
+
+pub take_rows-requires-clause-short : goal.take_rows-requires-clause-short
+take_rows-requires-clause-short c =
+    let self = c.self.inside in
+    let numbers = self.numbers.items in
+    let v = c.args.self.now in
+    let form = whole_form self.is_whole self.denominator numbers self.fractions.items v c.self.view_is c.requires.whole in
+    subst AreShort (sym c.deref_mut-2.ensures.value) (c.self.invariant.over_one form).short
+
+pub invariant_of-self : goal.invariant_of-self
+invariant_of-self c =
+    let self = c.self.inside in
+    let shape = c.self.invariant in
+    let next = c.write_wholes.new.next in
+    let next_is = with_items_is self.spare_numbers next (c.write_wholes.auto.next ∙ c.deref_mut.ensures.len) in
+    record {
+      spare_length = shape.spare_length;
+      spare_room = shape.spare_room;
+      numbers_length = shape.numbers_length;
+      spare_numbers_length = λ e. ap length next_is ∙ c.write_wholes.auto.next ∙ ap length c.deref_mut.ensures.value ∙ shape.spare_numbers_length e;
+      over_one = shape.over_one;
+      spare_short = λ e. subst AreShort (sym next_is) c.write_wholes.ensures.short;
+    }
+
+pub invariant_of-self-then-not-are_within : goal.invariant_of-self-then-not-are_within
+invariant_of-self-then-not-are_within c =
+    let self = c.self.inside in
+    let shape = c.self.invariant in
+    let next = c.write_wholes.new.next in
+    let next_is = with_items_is self.spare_numbers next (c.write_wholes.auto.next ∙ c.deref_mut.ensures.len) in
+    record {
+      spare_length = shape.spare_length;
+      spare_room = shape.spare_room;
+      numbers_length = shape.numbers_length;
+      spare_numbers_length = λ e. ap length next_is ∙ c.write_wholes.auto.next ∙ ap length c.deref_mut.ensures.value ∙ shape.spare_numbers_length e;
+      over_one = shape.over_one;
+      spare_short = λ e. subst AreShort (sym next_is) c.write_wholes.ensures.short;
+    }
 
 pub invariant_of-self-2 : goal.invariant_of-self-2
 invariant_of-self-2 c =

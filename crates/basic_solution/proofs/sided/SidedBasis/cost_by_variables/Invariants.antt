@@ -4,7 +4,7 @@ use Rattle.checked_sum.specs.Steps.{partial}
 use Rattle.basic_solution.specs.Held.{relaxation}
 use Rattle.basic_solution.specs.RowTotals.{HasSmallTerm}
 use Rattle.basic_solution.proofs.RowTotalLemmas.{place_cost, saved}
-use Rattle.basic_solution.proofs.sided.SidedBasis.cost_total.Given as goal
+use Rattle.basic_solution.proofs.sided.SidedBasis.cost_by_variables.Given as goal
 
 abbrev pub invariant-loop-variable : goal.invariant-loop-variable
 invariant-loop-variable l = record {

@@ -1,6 +1,6 @@
-use Rattle.std.proofs.Common.{sym, ap, subst, ◌∙◌, ◌≡◌, ◌<◌, ◌≤◌, ◌+◌, ◌*◌, ◌^◌, ◌<ℤ◌, ◌+ℤ◌, ◌*ℤ◌, pos, unsigned_abs, length, arith, below_more, to_z, of_z, w64}
+use Rattle.std.proofs.Common.{sym, ap, subst, ◌∙◌, ◌≡◌, ◌<◌, ◌≤◌, ◌+◌, ◌*◌, ◌^◌, ◌<ℤ◌, ◌+ℤ◌, ◌*ℤ◌, pos, unsigned_abs, ℕ, arith, below_more, to_z, of_z, w64}
 use Rattle.std.specs.Int.{w128}
-use Rattle.frac128.specs.Rational.{int}
+use Rattle.frac128.specs.Rational.{ℚ, int}
 use Rattle.frac128.specs.LowestTerms.{quotient_of}
 use Rattle.checked_sum.specs.Steps.{partial}
 use Rattle.checked_sum.proofs.StepLaws.{partial_none}
@@ -8,12 +8,12 @@ use Rattle.row_tableau.specs.Dense.{table_of}
 use Rattle.table_entries.specs.WholeSteps.{IsShort}
 use Rattle.whole_sums.specs.Wholes.{IsWholeTerm, HasMargin}
 use Rattle.whole_sums.proofs.SumLemmas.{start_is, total_more}
-use Rattle.basic_solution.specs.Held.{IsSided, relaxation, variables}
-use Rattle.basic_solution.specs.RowTotals.{IsSmallNumber, HasSmallTerm, AreFreeFrom, IsCostTotal}
-use Rattle.basic_solution.proofs.RowTotalLemmas.{place_cost, saved, size_more, start_size, margin_of, total_of_place}
+use Rattle.basic_solution.specs.Held.{IsSided, relaxation, table, variables}
+use Rattle.basic_solution.specs.RowTotals.{IsSmallNumber, HasSmallTerm, IsCostTotal}
+use Rattle.basic_solution.proofs.RowTotalLemmas.{place_cost, basic_cost, size_more, start_size, margin_of, total_of_rows}
 use Rattle.basic_solution.proofs.ReadLemmas.{small_short_again, start_read, total_read, none_below}
 use Rattle.table_entries.proofs.ReadLemmas.{short_read, short_again}
-use Rattle.basic_solution.proofs.sided.SidedBasis.cost_total.Goals as goal
+use Rattle.basic_solution.proofs.sided.SidedBasis.cost_by_rows.Goals as goal
 
 pub small_of-requires : goal.small_of-requires
 small_of-requires c =
@@ -21,8 +21,8 @@ small_of-requires c =
     let size = c.self.invariant.shape.cost_length in
     omega (arith, within, size)
 
-pub loop-variable-init : goal.loop-variable-init
-loop-variable-init c =
+pub loop-row-init : goal.loop-row-init
+loop-row-init c =
     let now = c.args.self.now in
     let start = c.in-Some.start in
     let small : IsSmallNumber start = c.in-Some.ensures.small in
@@ -34,7 +34,7 @@ loop-variable-init c =
     let own : int start ≡ place_cost now c.args.place = sym c.in-Some.ensures.value ∙ ap (λ s. (relaxation s).cost c.nonbasic.result) c.self.view_is ∙ ap (relaxation now).cost variable_is in
     record {
       size = subst (λ t. unsigned_abs t ≤ (0 + 1) * 2 ^ 93) (sym total_is) (omega (arith, size));
-      value = (λ i. quotient_of (total_is i) (d_is i)) ∙ start_is start d c.requires.positive ∙ own ∙ partial_none (place_cost now c.args.place) (relaxation now).cost (saved now c.args.place);
+      value = (λ i. quotient_of (total_is i) (d_is i)) ∙ start_is start d c.requires.positive ∙ own ∙ partial_none (place_cost now c.args.place) (basic_cost now) (λ i. (table now).entry i c.args.place);
       terms = λ i below. absurd (none_below i below);
     }
 
@@ -46,38 +46,36 @@ product-total-requires-clause-second c = short_again c.args.denominator c.requir
 
 pub with_product-total-requires-clause-total : goal.with_product-total-requires-clause-total
 with_product-total-requires-clause-total c =
-    let before = c.loop-variable.invariant in
+    let before = c.loop-row.invariant in
     let few = c.columns-few.ensures.lawful.few in
-    let less = c.loop-variable-test.true in
-    let same = c.end-variable-end.ensures.within in
-    let all = c.self.invariant.shape.cost_length in
-    margin_of (to_z w128 c.loop-variable.total-bits) (c.loop-variable.variable + 1) (omega (arith, few, less, same, all)) before.size
+    let less = c.loop-row-test.true in
+    let same = c.activities-row-end.ensures in
+    margin_of (to_z w128 c.loop-row.total-bits) (c.loop-row.row + 1) (omega (arith, few, less, same)) before.size
 
-pub loop-variable-preserved : goal.loop-variable-preserved
-loop-variable-preserved c =
+pub loop-row-preserved : goal.loop-row-preserved
+loop-row-preserved c =
     let now = c.args.self.now in
-    let a = (relaxation now).cost in
-    let x = saved now c.args.place in
+    let a = basic_cost now in
+    let x : ℕ → ℚ = λ i. (table now).entry i c.args.place in
     let d = c.args.denominator in
     let d' = to_z w64 (of_z w64 d) in
-    let k = c.loop-variable.variable in
-    let before = c.loop-variable.invariant in
-    let total = to_z w128 c.loop-variable.total-bits in
-    let f = c.in-Some-cost_term.term.factor in
-    let n = c.in-Some-cost_term.term.number in
-    let term : IsWholeTerm d' (a k) (x k) f n = c.in-Some-cost_term.ensures.term in
-    let small : IsSmallNumber n = c.in-Some-cost_term.ensures.small in
+    let k = c.loop-row.row in
+    let before = c.loop-row.invariant in
+    let total = to_z w128 c.loop-row.total-bits in
+    let f = c.in-Some-row_term.term.factor in
+    let n = c.in-Some-row_term.term.number in
+    let term : IsWholeTerm d' (a k) (x k) f n = c.in-Some-row_term.ensures.term in
+    let small : IsSmallNumber n = c.in-Some-row_term.ensures.small in
     let d_is : d' ≡ d = short_read d c.requires.denominator in
     let positive : pos 0 <ℤ d' = subst (λ y. pos 0 <ℤ y) (sym d_is) c.requires.positive in
     let d_short : IsShort d' = subst IsShort (sym d_is) c.requires.denominator in
     let few = c.columns-few.ensures.lawful.few in
-    let less = c.loop-variable-test.true in
-    let same = c.end-variable-end.ensures.within in
-    let all = c.self.invariant.shape.cost_length in
-    let margin : HasMargin total = margin_of total (k + 1) (omega (arith, few, less, same, all)) before.size in
+    let less = c.loop-row-test.true in
+    let same = c.activities-row-end.ensures in
+    let margin : HasMargin total = margin_of total (k + 1) (omega (arith, few, less, same)) before.size in
     let next = total +ℤ f *ℤ n in
     let size : unsigned_abs next ≤ (k + 1 + 1) * 2 ^ 93 = size_more total f n (k + 1) term.factor_short small before.size in
-    let next_margin : HasMargin next = margin_of next (k + 1 + 1) (omega (arith, few, less, same, all)) size in
+    let next_margin : HasMargin next = margin_of next (k + 1 + 1) (omega (arith, few, less, same)) size in
     let next' = to_z w128 (of_z w128 c.with_product-total.result) in
     let next_is : next' ≡ next = total_read c.with_product-total.result total f n term.factor_short term.number_short next_margin c.with_product-total.ensures in
     record {
@@ -92,7 +90,6 @@ returns c =
     let same = ap (λ s. s.tableau) c.self.view_is in
     let columns = ap (λ s. s.tableau.columns) c.self.view_is in
     let activities = ap (λ s. s.tableau.activities) c.self.view_is in
-    let costs_are = ap (λ s. s.cost) c.self.view_is in
     let sided = subst IsSided c.self.view_is c.self.invariant in
     let few : variables s < 2 ^ 32 = let w = c.columns-few.ensures.lawful.few in omega (arith, w, columns, activities) in
     let d = c.args.denominator in
@@ -101,22 +98,21 @@ returns c =
     let small : IsSmallNumber start = c.in-Some.ensures.small in
     let variable_is = subst (λ t. c.nonbasic.result ≡ (table_of t).nonbasic c.args.place) same c.nonbasic.ensures.value in
     let own : place_cost s c.args.place ≡ int start = sym (ap (relaxation s).cost variable_is) ∙ ap (λ t. (relaxation t).cost c.nonbasic.result) (sym c.self.view_is) ∙ c.in-Some.ensures.value in
-    let past = c.loop-variable-test.false in
-    let within = c.loop-variable.auto.variable-end in
-    let end = c.end-variable-end.result in
-    let all : c.loop-variable.variable ≡ end = omega (arith, past, within) in
-    let end_within : end ≤ variables s = let w = c.end-variable-end.ensures.within in let e = ap length costs_are in let l = sided.shape.cost_length in omega (arith, w, e, l) in
-    let total = to_z w128 c.loop-variable.total-bits in
-    let inv = c.loop-variable.invariant in
+    let past = c.loop-row-test.false in
+    let within = c.loop-row.auto.row-end in
+    let end = c.activities-row-end.ensures in
+    let all : c.loop-row.row ≡ s.tableau.activities = omega (arith, past, within, end, activities) in
+    let total = to_z w128 c.loop-row.total-bits in
+    let inv = c.loop-row.invariant in
     let positive : pos 0 <ℤ to_z w64 (of_z w64 d) = subst (λ y. pos 0 <ℤ y) (sym d_is) c.requires.positive in
     let short : IsShort (to_z w64 (of_z w64 d)) = subst IsShort (sym d_is) c.requires.denominator in
     subst (λ e. IsCostTotal s c.args.place e total) d_is
-    (total_of_place s sided few c.args.place _ positive short start small own end end_within (subst (λ xs. AreFreeFrom xs end) costs_are c.end-variable-end.ensures.free)
+    (total_of_rows s sided few c.args.place _ positive short start small own
     (λ i q. inv.terms i (subst (λ j. i < j) (sym all) q)) total (subst (λ j. unsigned_abs total ≤ (j + 1) * 2 ^ 93) all inv.size)
-    (inv.value ∙ ap (partial (place_cost s c.args.place) (relaxation s).cost (saved s c.args.place)) all))
+    (inv.value ∙ ap (partial (place_cost s c.args.place) (basic_cost s) (λ i. (table s).entry i c.args.place)) all))
 
 pub with_product-total-requires-clause-factor : goal.with_product-total-requires-clause-factor
-with_product-total-requires-clause-factor c = short_again c.in-Some-cost_term.term.factor c.in-Some-cost_term.ensures.term.factor_short
+with_product-total-requires-clause-factor c = short_again c.in-Some-row_term.term.factor c.in-Some-row_term.ensures.term.factor_short
 
 pub with_product-total-requires-clause-number : goal.with_product-total-requires-clause-number
-with_product-total-requires-clause-number c = small_short_again c.in-Some-cost_term.term.number c.in-Some-cost_term.ensures.small
+with_product-total-requires-clause-number c = small_short_again c.in-Some-row_term.term.number c.in-Some-row_term.ensures.small

@@ -1,0 +1,165 @@
+// The variables that stand at other numbers than 0: few, where most stand at 0. Values are sums over them alone.
+ghost use Rattle.std.specs.Prelude.{◌≡◌, ◌<◌, ◌≤◌, ◌<ℤ◌, ℕ, pos, get_or, length, IfSome};
+ghost use Rattle.frac128.specs.Rational.{int};
+ghost use Rattle.table_entries.specs.WholeSteps.{IsShort, whole_number_at};
+ghost use Rattle.basic_solution.specs.Held.{table};
+ghost use Rattle.basic_solution.specs.Numbers.{IsRowBreach};
+ghost use Rattle.basic_solution.specs.RowTotals.{IsSmallNumber};
+ghost use Rattle.basic_solution.specs.Standing.{AreStanding};
+ghost use Rattle.basic_solution.specs.private.Numbers.{IsBasicValueAnswer};
+ghost use Rattle.basic_solution.specs.private.RowTotals.{IsRowTotal};
+
+use crate::row_totals::{small_number, with_product};
+use crate::sided::SidedBasis;
+use crate::sides::breach;
+use crate::total_sides::total_breach;
+use checked_sum::{Terms, checked_sum};
+use frac128::Frac;
+use lp_model::WideStep;
+use row_tableau::Position;
+use table_entries::Stand;
+
+/// The terms of the value of a basic variable, of the variables that stand at other numbers than 0 alone.
+#[derive(Drop)]
+struct StandingTerms<'a, 'b> {
+    state: &'b SidedBasis<'a>,
+    row: usize,
+    places: &'b [usize],
+    numbers: &'b [i64],
+    count: usize,
+    ghost within: { row < state.now.tableau.activities },
+    ghost places_size: { count ≤ length places.now },
+    ghost numbers_size: { count ≤ length numbers.now },
+    ghost places_within: { (j : ℕ) → j < count → get_or places.now j 0 < state.now.tableau.columns },
+    ghost small: { (j : ℕ) → j < count → IsSmallNumber (whole_number_at numbers.now j) },
+}
+
+impl Terms for StandingTerms<'_, '_> {
+    ghost count = { λ t. t.count };
+
+    ghost factor = { λ t j. (table t.state.now).entry t.row (get_or t.places.now j 0) };
+
+    ghost number = { λ t j. int (whole_number_at t.numbers.now j) };
+
+    fn count(&self) -> usize {
+        self.count
+    }
+
+    fn number(&self, index: usize) -> Frac {
+        Frac::whole(self.numbers[index])
+    }
+
+    fn factor(&self, index: usize) -> Frac {
+        self.state.entry(self.row, self.places[index])
+    }
+}
+
+impl SidedBasis<'_> {
+    /// Writes the places of the variables that stand at other numbers than 0 and these numbers, by variable, and answers how many
+    /// there are. None where a number is no small whole one, or a list is too short; then the lists are of no meaning.
+    pub fn write_standing(&self, places: &mut [usize], numbers: &mut [i64]) -> Option<usize>
+        ensures { IfSome result (λ n. AreStanding self.now places.new numbers.new n) }
+    {
+        let mut count = 0;
+        for variable in 0..self.variables() {
+            match self.tableau.find(variable) {
+                Position::Row(_) => {}
+                Position::Place(place) => {
+                    let Some(number) = small_number(&self.place_number(place)) else {
+                        return None;
+                    };
+                    if number != 0 {
+                        if places.len() <= count || numbers.len() <= count {
+                            return None;
+                        }
+                        places[count] = place;
+                        numbers[count] = number;
+                        count += 1;
+                    }
+                }
+            }
+        }
+        Some(count)
+    }
+
+    /// The value of the basic variable of a row times the denominator, by the variables that stand at other numbers than 0, where
+    /// the entries are numbers over it: then each sum of the terms has room, in any order. None says nothing of the value.
+    pub(crate) fn standing_total(
+        &self,
+        row: usize,
+        denominator: i64,
+        places: &[usize],
+        numbers: &[i64],
+        count: usize,
+    ) -> Option<i128>
+        requires row { row < self.now.tableau.activities }
+        requires positive { pos 0 <ℤ denominator }
+        requires denominator { IsShort denominator }
+        requires standing { AreStanding self.now places.now numbers.now count }
+        ensures { IfSome result (λ total. IsRowTotal self.now row denominator total) }
+    {
+        let _few = self.tableau.columns();
+        let mut total: i128 = 0;
+        for turn in 0..count {
+            let Some(factor) = self.tableau.number_over(row, places[turn], denominator) else {
+                return None;
+            };
+            total = with_product(total, factor, numbers[turn]);
+        }
+        Some(total)
+    }
+
+    /// The value of the basic variable of a row, by the variables that stand at other numbers than 0, term by term, or the first of
+    /// the terms that has no room.
+    pub(crate) fn standing_value(
+        &self,
+        row: usize,
+        places: &[usize],
+        numbers: &[i64],
+        count: usize,
+    ) -> Result<Frac, WideStep>
+        requires row { row < self.now.tableau.activities }
+        requires standing { AreStanding self.now places.now numbers.now count }
+        ensures { IsBasicValueAnswer self.now row result }
+    {
+        let _few = self.tableau.columns();
+        let terms = StandingTerms {
+            state: self,
+            row,
+            places,
+            numbers,
+            count,
+        };
+        match checked_sum(&Frac::whole(0), &terms) {
+            Ok(value) => Ok(value),
+            Err(turn) => Err(self.point_step(row, self.tableau.nonbasic(places[turn]))),
+        }
+    }
+
+    /// The side that the basic variable of a row is outside of, if any, by the variables that stand at other numbers than 0
+    /// (`write_standing`).
+    pub fn standing_breach(
+        &self,
+        row: usize,
+        places: &[usize],
+        numbers: &[i64],
+        count: usize,
+    ) -> Result<Option<Stand>, WideStep>
+        requires row { row < self.now.tableau.activities }
+        requires standing { AreStanding self.now places.now numbers.now count }
+        ensures { IsRowBreach self.now row result }
+    {
+        let variable = self.tableau.basic(row);
+        let low = &self.low[variable];
+        let high = &self.high[variable];
+        if let Some(denominator) = self.tableau.whole_denominator() {
+            if let Some(total) = self.standing_total(row, denominator, places, numbers, count) {
+                return Ok(total_breach(low, high, total, denominator));
+            }
+        }
+        match self.standing_value(row, places, numbers, count) {
+            Err(step) => Err(step),
+            Ok(value) => Ok(breach(low, high, &value)),
+        }
+    }
+}

@@ -1,0 +1,101 @@
+use Rattle.std.proofs.Common.{refl, sym, ap, subst, ◌∙◌, arith, pos, ◌≡◌, ◌≢◌, ◌<◌, ◌+◌, ◌*◌, ◌==◌, Bool, false, ℤ, length, to_z, of_z, w64}
+use Rattle.std.proofs.lemmas.Bool.Decides.{Decides-eqb}
+use Rattle.table_entries.specs.WholeSteps.{IsShort, IsWholeStep, WholeAt, whole_number_at}
+use Rattle.table_entries.proofs.ReadLemmas.{short_read, short_again, positive_again}
+use Rattle.table_entries.proofs.RowLemmas.{other_test}
+use Rattle.table_entries.proofs.WholeListLemmas.{step_written, short_more}
+use Rattle.table_entries.proofs.PivotLemmas.{flat_within}
+use Rattle.table_entries.proofs.wholes.write_scaled_row.Goals as goal
+
+with_row : {q : Bool} {D p x f e n : ℤ} (r : Bool) → r ≡ false → IsWholeStep false q D p x f e n → IsWholeStep r q D p x f e n
+with_row {q} {D} {p} {x} {f} {e} {n} r same h = subst (λ b. IsWholeStep b q D p x f e n) (sym same) h
+
+pub flat_index-requires-clause-room : goal.flat_index-requires-clause-room
+flat_index-requires-clause-room c = let size = c.requires.size in omega (arith, size)
+
+pub flat_index-at-requires-clause-room : goal.flat_index-at-requires-clause-room
+flat_index-at-requires-clause-room c = let size = c.requires.size in omega (arith, size)
+
+pub bounds-numbers-flat_index : goal.bounds-numbers-flat_index
+bounds-numbers-flat_index c = let w = c.flat_index.ensures.within in let e = c.requires.size in omega (arith, w, e)
+
+pub bounds-numbers-at : goal.bounds-numbers-at
+bounds-numbers-at c = let w = c.flat_index-at.ensures.within in let e = c.requires.size in omega (arith, w, e)
+
+pub bounds-next-at : goal.bounds-next-at
+bounds-next-at c = let w = c.loop-at_place.auto.next in let v = c.requires.room in let u = c.flat_index-at.ensures.within in omega (arith, w, v, u)
+
+pub of-inverse-requires : goal.of-inverse-requires
+of-inverse-requires c = positive_again c.args.denominator c.requires.denominator c.requires.positive
+
+pub scaled_number-requires-clause-positive : goal.scaled_number-requires-clause-positive
+scaled_number-requires-clause-positive c = positive_again c.args.denominator c.requires.denominator c.requires.positive
+
+pub scaled_number-requires-clause-denominator : goal.scaled_number-requires-clause-denominator
+scaled_number-requires-clause-denominator c = short_again c.args.denominator c.requires.denominator
+
+pub loop-at_place-init : goal.loop-at_place-init
+loop-at_place-init c =
+    let a = c.args in
+    let numbers = a.numbers.now in
+    let d1 = short_read a.denominator c.requires.denominator in
+    let p = c.flat_index.result in
+    let wp : p < length numbers = let w = c.flat_index.ensures.within in let e = c.requires.size in omega (arith, w, e) in
+    let read_p = short_read (whole_number_at numbers p) (c.requires.short p wp) in
+    record {
+      written = λ at less flag. subst (λ d. WholeAt a.columns a.row a.place d numbers (whole_number_at a.next.now at) at) (sym d1) (c.requires.earlier at (omega (arith, less)) flag);
+      short = c.requires.next;
+      pivot = read_p ∙ ap (whole_number_at numbers) c.flat_index.ensures.value;
+    }
+
+pub scaled_number-requires-clause-some : goal.scaled_number-requires-clause-some
+scaled_number-requires-clause-some c = subst (λ n. n ≢ pos 0) (sym c.loop-at_place.invariant.pivot) c.requires.some
+
+pub scaled_number-requires-clause-pivot : goal.scaled_number-requires-clause-pivot
+scaled_number-requires-clause-pivot c =
+    let a = c.args in
+    let inside : a.row * a.columns + a.place < length a.numbers.now = let v = c.flat_index.ensures.value in let w = c.flat_index.ensures.within in let e = c.requires.size in omega (arith, v, w, e) in
+    subst IsShort (sym c.loop-at_place.invariant.pivot) (c.requires.short (a.row * a.columns + a.place) inside)
+
+pub scaled_number-requires-clause-entry : goal.scaled_number-requires-clause-entry
+scaled_number-requires-clause-entry c =
+    let numbers = c.args.numbers.now in
+    let at = c.flat_index-at.result in
+    let inside : at < length numbers = let w = c.flat_index-at.ensures.within in let e = c.requires.size in omega (arith, w, e) in
+    short_again (whole_number_at numbers at) (c.requires.short at inside)
+
+pub loop-at_place-preserved : goal.loop-at_place-preserved
+loop-at_place-preserved c =
+    let a = c.args in
+    let k = c.loop-at_place.at_place in
+    let numbers = a.numbers.now in
+    let i2 = c.flat_index-at.result in
+    let w2 : i2 < length numbers = let w = c.flat_index-at.ensures.within in let e = c.requires.size in omega (arith, w, e) in
+    let short2 : IsShort (whole_number_at numbers i2) = c.requires.short i2 w2 in
+    let entry_is : to_z w64 (of_z w64 (whole_number_at numbers i2)) ≡ whole_number_at numbers (a.at_row * a.columns + k) = short_read (whole_number_at numbers i2) short2 ∙ ap (whole_number_at numbers) c.flat_index-at.ensures.value in
+    let room : i2 < length c.loop-at_place.next = let w = c.loop-at_place.auto.next in let v = c.requires.room in let u = c.flat_index-at.ensures.within in omega (arith, w, v, u) in
+    let row_inside : a.row * a.columns + k < length numbers = let w = flat_within a.columns a.rows a.row k c.requires.row c.loop-at_place-test.true in let e = c.requires.size in omega (arith, w, e) in
+    let step = c.in-Some.ensures (k == a.place) (whole_number_at numbers (a.row * a.columns + k)) (whole_number_at numbers (a.at_row * a.columns + a.place)) (c.requires.short (a.row * a.columns + k) row_inside) c.requires.nothing
+    (λ e. entry_is ∙ ap (λ j. whole_number_at numbers (a.at_row * a.columns + j)) ((Decides-eqb k a.place).0 e)) in
+    let h = with_row (a.at_row == a.row) (other_test a.at_row a.row c.requires.other) step in
+    let number_short = short_again c.in-Some.number h.short in
+    record {
+      written = step_written a.columns a.row a.place _ numbers a.unwritten.now c.loop-at_place.next a.at_row k c.loop-at_place-test.true _ _ _ _ _ c.in-Some.number refl c.loop-at_place.invariant.pivot refl refl entry_is
+          i2 c.flat_index-at.ensures.value room (to_z w64 (of_z w64 c.in-Some.number)) (short_read c.in-Some.number h.short) h c.loop-at_place.invariant.written;
+      short = short_more c.loop-at_place.next i2 (to_z w64 (of_z w64 c.in-Some.number)) number_short c.loop-at_place.invariant.short;
+      pivot = c.loop-at_place.invariant.pivot;
+    }
+
+pub returns-clause-written : goal.returns-clause-written
+returns-clause-written c = λ t at less flag.
+    let a = c.args in
+    let d1 = short_read a.denominator c.requires.denominator in
+    let past = c.loop-at_place-test.false in
+    let inside : at < a.at_row * a.columns + c.loop-at_place.at_place = omega (arith, less, past) in
+    subst (λ d. WholeAt a.columns a.row a.place d a.numbers.now (whole_number_at c.loop-at_place.next at) at) d1 (c.loop-at_place.invariant.written at inside flag)
+
+pub returns-clause-short : goal.returns-clause-short
+returns-clause-short c = c.loop-at_place.invariant.short
+
+pub returns-in-None-clause-short : goal.returns-in-None-clause-short
+returns-in-None-clause-short c = c.loop-at_place.invariant.short
