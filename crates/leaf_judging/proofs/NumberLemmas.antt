@@ -21,7 +21,7 @@ use Rattle.leaf_judging.specs.declared.numbers.LeafNumbers.{LeafNumbers}
 use Rattle.leaf_judging.specs.declared.judging.Numbering.{Numbering}
 use Rattle.leaf_judging.specs.Closing.{IsNumber}
 use Rattle.leaf_judging.specs.declared.former.Former.{Former}
-use Rattle.leaf_judging.specs.Former.{IsAlikeFormer, HoldsFormer, AreFormer, NumbersLeaf}
+use Rattle.leaf_judging.specs.Former.{former_formulation, IsAlikeFormer, HoldsFormer, AreFormer, NumbersLeaf}
 use Rattle.leaf_judging.specs.Numbers.{kept_number, HasKept, AreNumbersOf}
 
 -- another id is not found
@@ -70,7 +70,7 @@ module _ (F : Formulation) where
   )
 
 abbrev HoldsBy : Formulation → Former → Option Touched → Path → LeafKept → Type 0
-HoldsBy F former o path l = IfSome o (λ u. (M : Program) × (IsAlikeFormer u former M F × HasKept (formulation M former.pool.now) former.numbers.now path l))
+HoldsBy F former o path l = IfSome o (λ u. IsAlikeFormer u former F × HasKept (former_formulation former) former.numbers.now path l)
 
 -- what is said of a tree's former numbers is said of each leaf's
 former-each : (former : Option Former) (F : Formulation) (t : Plain) → AreFormer former F t → EachLeaf (HoldsFormer former F) [] t
@@ -81,17 +81,17 @@ former-each None F t h = none [] t
     none path (Split kept j v left right) = (none (left_path path j v) left, none (right_path path j v) right)
 former-each (Some former) F t h = by former.touched h
   where
-    each : (M : Program) (u : Touched) → IsAlikeFormer u former M F → (path : Path) (tree : Plain) → EachLeaf (HasKept (formulation M former.pool.now) former.numbers.now) path tree → EachLeaf (HoldsBy F former (Some u)) path tree
-    each M u alike path (Leaf l) k = (M, (alike, k))
-    each M u alike path (Split k j v left right) kept = (each M u alike (left_path path j v) left kept.0, each M u alike (right_path path j v) right kept.1)
+    each : (u : Touched) → IsAlikeFormer u former F → (path : Path) (tree : Plain) → EachLeaf (HasKept (former_formulation former) former.numbers.now) path tree → EachLeaf (HoldsBy F former (Some u)) path tree
+    each u alike path (Leaf l) k = (alike, k)
+    each u alike path (Split k j v left right) kept = (each u alike (left_path path j v) left kept.0, each u alike (right_path path j v) right kept.1)
 
     none : (path : Path) (tree : Plain) → EachLeaf (HoldsBy F former None) path tree
     none path (Leaf l) = tt
     none path (Split kept j v left right) = (none (left_path path j v) left, none (right_path path j v) right)
 
-    by : (o : Option Touched) → IfSome o (λ u. (M : Program) × (IsAlikeFormer u former M F × AreNumbersOf (formulation M former.pool.now) t former.numbers.now)) → EachLeaf (HoldsBy F former o) [] t
+    by : (o : Option Touched) → IfSome o (λ u. IsAlikeFormer u former F × AreNumbersOf (former_formulation former) t former.numbers.now) → EachLeaf (HoldsBy F former o) [] t
     by None k = none [] t
-    by (Some u) (M, (alike, kept)) = each M u alike [] t kept
+    by (Some u) (alike, kept) = each u alike [] t kept
 
 module _ (M : Program) (cuts : List CutRow) (former : Option Former) where
   -- a walk over leaves with ids of their own puts down the number of each, and touches no other id

@@ -1,14 +1,10 @@
 -- Numbers of leaves from before an edit of the model, and which leaves keep them.
-use Rattle.std.specs.Prelude.{◌≡◌, Bool, false, ◌&&◌, List, Option, Some, None, IfSome}
-use Rattle.lp_model.specs.Program.{Program}
+use Rattle.std.specs.Prelude.{◌≡◌, Option, Some, None, IfSome}
 use Rattle.lp_model.specs.Regions.{Path}
 use Rattle.lp_model.specs.Formulations.{Formulation, formulation}
-use Rattle.lp_model.specs.declared.types.CutRow.{CutRow}
 use Rattle.branch_tree.specs.Plain.{LeafKept, Plain}
-use Rattle.branch_tree.specs.declared.node.LeafData.{LeafData}
 use Rattle.branch_tree.specs.declared.node.RegionLeaf.{RegionLeaf}
 use Rattle.spared_leaves.specs.declared.touched.Touched.{Touched}
-use Rattle.spared_leaves.specs.Touched.{leaves_list}
 use Rattle.spared_leaves.specs.Alike.{AreAlikeBut, AreAlikeCuts}
 use Rattle.leaf_judging.specs.declared.former.Former.{Former}
 use Rattle.leaf_judging.specs.declared.closing.LeafNumber.{LeafNumber}
@@ -16,25 +12,24 @@ use Rattle.leaf_judging.specs.declared.judging.Numbering.{Numbering}
 use Rattle.leaf_judging.specs.Closing.{IsNumber}
 use Rattle.leaf_judging.specs.Numbers.{PutsNumber, HasKept, AreNumbersOf}
 
--- neither list of the leaf names what was touched, where it is told
-abbrev pub leaves_leaf : Option Touched → List CutRow → List CutRow → LeafData → Bool
-leaves_leaf None cuts others kept = false
-leaves_leaf (Some t) cuts others kept = leaves_list t cuts others kept.mult && leaves_list t cuts others kept.farkas
+-- the formulation whose numbers are kept
+abbrev pub former_formulation : Former → Formulation
+former_formulation former = formulation former.model.now former.pool.now
 
--- F is as the formulation was whose numbers are kept, but for what was touched
-pub record IsAlikeFormer (t : Touched) (former : Former) (M : Program) (F : Formulation) : Type 0 where
-  pub model : AreAlikeBut t M F.model
+-- F is as it was, but for what was touched
+pub record IsAlikeFormer (t : Touched) (former : Former) (F : Formulation) : Type 0 where
+  pub model : AreAlikeBut t former.model.now F.model
   pub cuts : AreAlikeCuts former.pool.now F.cuts
 
--- what is kept under a leaf's id is the number that the leaf had
+-- where it is told what was touched: what is kept under a leaf's id is the number that the leaf had
 abbrev pub HoldsFormer : Option Former → Formulation → Path → LeafKept → Type 0
 HoldsFormer None F path l = Unit {0}
-HoldsFormer (Some former) F path l = IfSome former.touched (λ t. (M : Program) × (IsAlikeFormer t former M F × HasKept (formulation M former.pool.now) former.numbers.now path l))
+HoldsFormer (Some former) F path l = IfSome former.touched (λ t. IsAlikeFormer t former F × HasKept (former_formulation former) former.numbers.now path l)
 
 -- and so it is of each leaf
 abbrev pub AreFormer : Option Former → Formulation → Plain → Type 0
 AreFormer None F tree = Unit {0}
-AreFormer (Some former) F tree = IfSome former.touched (λ t. (M : Program) × (IsAlikeFormer t former M F × AreNumbersOf (formulation M former.pool.now) tree former.numbers.now))
+AreFormer (Some former) F tree = IfSome former.touched (λ t. IsAlikeFormer t former F × AreNumbersOf (former_formulation former) tree former.numbers.now)
 
 -- ---- one leaf of a walk
 

@@ -45,7 +45,7 @@ impl Numbering<'_> {
         ensures { (path : Path) → SameBounds region.now path → HoldsFormer self.now.former (formulation self.now.model.now self.now.pool.now) path (record { id = id; kept = kept.now }) → IsNumber (formulation self.now.model.now self.now.pool.now) path kept.now.mult kept.now.farkas result }
     {
         let _named = LagValue::Minus;
-        match former_number(&self.former, self.pool, id, kept) {
+        match former_number(&self.former, self.model, self.pool, id, region, kept) {
             Some(number) => number,
             None => number_of(self.model, self.pool, region, &kept.mult, &kept.farkas),
         }
@@ -262,29 +262,8 @@ pub fn judge_tree(
     }
 }
 
-/// Judges each leaf of a tree, and answers what is kept of them. A leaf that an edit spares keeps its former number. Where
-/// there is no memory the tree stays as it was.
-pub fn judge_after(
-    alloc: Global,
-    model: &Model,
-    pool: &CutPool,
-    target: &Option<Frac>,
-    former: &Option<Former<'_>>,
-    tree: &mut Tree,
-) -> Result<LeafIndex, AllocError>
-    requires narrow { HasNarrowSplits tree.old.root }
-    requires former { AreFormer former.now (formulation model.now pool.now) tree.old.root }
-    ensures judged { OnOk result (JudgesAll (formulation model.now pool.now) target.now tree.old tree.new) }
-    ensures numbers { IfOk result (λ index. AreNumbersOf (formulation model.now pool.now) tree.new.root index.numbers) }
-    ensures queue { IfOk result (λ index. IsQueueOf (formulation model.now pool.now) tree.new.root index.queue) }
-    ensures kept { OnErr result (tree.new ≡ tree.old) }
-{
-    let judged = judge_tree(alloc, model, pool, target, former, tree)?;
-    tree.set_states(&judged.states);
-    Ok(judged.index)
-}
-
-/// Judges each leaf of a tree of which nothing is known.
+/// Judges each leaf of a tree of which nothing is known, and answers what is kept of them. Where there is no memory the tree stays
+/// as it was.
 pub fn judge_all(
     alloc: Global,
     model: &Model,
@@ -298,5 +277,7 @@ pub fn judge_all(
     ensures queue { IfOk result (λ index. IsQueueOf (formulation model.now pool.now) tree.new.root index.queue) }
     ensures kept { OnErr result (tree.new ≡ tree.old) }
 {
-    judge_after(alloc, model, pool, target, &None, tree)
+    let judged = judge_tree(alloc, model, pool, target, &None, tree)?;
+    tree.set_states(&judged.states);
+    Ok(judged.index)
 }

@@ -1,7 +1,7 @@
 -- A list that names nothing that is touched has the same answers in models and cuts that are alike.
--- Idea: the multiplier of what is touched is 0 then; and a cut that counts in one list alone has weight 0 in both, since the
--- list does not name it.
-use Rattle.std.specs.Prelude.{◌≡◌, ◌⊎◌, ℕ, ◌<◌, Bool, true, false, if◌then◌else◌, not, nat_eq, List, [], ◌∷◌, pos, Result}
+-- Idea: the multiplier of a row that is touched is 0 then; a cut that counts in one list alone has weight 0 in both, since the
+-- list does not name it; and a column that is touched makes no step in either.
+use Rattle.std.specs.Prelude.{◌≡◌, ◌⊎◌, ◌↔◌, ℕ, ◌<◌, Bool, true, false, if◌then◌else◌, not, nat_eq, List, [], ◌∷◌, length, pos, Option, Result}
 use Rattle.std.specs.Option.{option_map}
 use Rattle.std.proofs.Common.{refl, sym, ap, subst, ◌∙◌, inl, inr, true≢false}
 use Rattle.std.proofs.lemmas.Bool.{eqb-true, and_parts}
@@ -10,19 +10,23 @@ use Rattle.lp_model.specs.Program.{Program, in_least_form}
 use Rattle.lp_model.specs.Regions.{Path, low_along, high_along, region_low, region_high, IsCrossed}
 use Rattle.lp_model.specs.Cuts.{is_live}
 use Rattle.lp_model.specs.Formulations.{formulation}
+use Rattle.lp_model.specs.declared.types.ColId.{ColId}
 use Rattle.lp_model.specs.declared.types.CutRow.{CutRow}
 use Rattle.lp_model.specs.declared.types.Var.{Var}
 use Rattle.lp_model.specs.declared.types.Var.TheVariants.{Col, Row, Cut}
 use Rattle.lp_model.specs.declared.types.WideStep.{WideStep}
 use Rattle.leaf_dual.specs.declared.dual.LagValue.{LagValue}
 use Rattle.leaf_dual.specs.Dual.{Multipliers, multiplier, is_row_variable, is_cut, cut_multiplier, cut_weight, least_constant, least_cost}
-use Rattle.leaf_dual.specs.Answers.{IsDualAnswer}
+use Rattle.leaf_dual.specs.Answers.{IsDualAnswer, IsLagAnswer, IsFarkasAnswer}
 use Rattle.leaf_dual.proofs.CutLemmas.{weight-live, weight-dead}
 use Rattle.spared_leaves.specs.declared.touched.Touched.{Touched}
-use Rattle.spared_leaves.specs.Touched.{leaves_row, leaves_cut, leaves_variable, leaves_list}
-use Rattle.spared_leaves.specs.Alike.{IsSameRow, IsSameCut, AreAlikeBut, AreAlikeCuts}
+use Rattle.spared_leaves.specs.declared.touched.Touched.TheVariants.{Nothing, OneRow, OneCost, OneColumn}
+use Rattle.spared_leaves.specs.Touched.{leaves_row, cost_touched, column_touched, is_apart, leaves_cost, leaves_column, leaves_cut, leaves_variable, leaves_list}
+use Rattle.spared_leaves.specs.Alike.{IsSameRange, IsSameCut, AreAlikeBut, AreAlikeCuts}
 use Rattle.spared_leaves.specs.Laws.{LikeAnswersLaw, LikeRegionsLaw}
-use Rattle.spared_leaves.proofs.LikeQuestions.{IsLikeQuestion, question-back, lacks-like, answer-like}
+use Rattle.spared_leaves.specs.Questions.{IsQuietColumn, IsSameColumn, IsLikeQuestion}
+use Rattle.spared_leaves.specs.Spared.{IsQuietLag, IsQuietFarkas, HasInEach, IsCrossedIn, KeepsCrossing}
+use Rattle.spared_leaves.proofs.LikeQuestions.{question-back, lacks-like, answer-like}
 
 -- ---- what a list does not name
 
@@ -55,26 +59,44 @@ module _ (t : Touched) (cuts others : List CutRow) where
       by (Row row) kept rest = rest
       by (Cut cut) kept rest = here cut.0 (nat_eq cut.0 k) refl kept rest
 
--- ---- the region
+-- ---- what of a column is not touched
+
+-- where its cost is not, no more of it is
+column-left : (t : Touched) (j : ℕ) → leaves_cost t j ≡ true → leaves_column t j ≡ true
+column-left Nothing j left = refl
+column-left (OneRow row) j left = refl
+column-left (OneCost col) j left = refl
+column-left (OneColumn col) j left = left
 
 module _ (t : Touched) (M N : Program) (alike : AreAlikeBut t M N) where
-  low-alike : (path : Path) (j : ℕ) → region_low M path j ≡ region_low N path j
-  low-alike path j = λ i. low_along path j (if alike.integer j i then option_map (λ l. int (ceil l)) (alike.low j i) else alike.low j i)
-
-  high-alike : (path : Path) (j : ℕ) → region_high M path j ≡ region_high N path j
-  high-alike path j = λ i. high_along path j (if alike.integer j i then option_map (λ h. int (floor h)) (alike.up j i) else alike.up j i)
-
   constant-alike : least_constant M ≡ least_constant N
   constant-alike = λ i. in_least_form (alike.sense i) (alike.constant_is i)
 
-  costs-alike : ◌≡◌ {A = ℕ → ℚ} (least_cost M) (least_cost N)
-  costs-alike = λ i j. in_least_form (alike.sense i) (alike.cost_is j i)
+  costs-alike : (j : ℕ) → leaves_cost t j ≡ true → least_cost M j ≡ least_cost N j
+  costs-alike j left = λ i. in_least_form (alike.sense i) (alike.cost_is j left i)
+
+module _ (M N : Program) (j : ℕ) (same : IsSameRange M N j) (path : Path) where
+  low-alike : region_low M path j ≡ region_low N path j
+  low-alike = λ i. low_along path j (if same.integer i then option_map (λ l. int (ceil l)) (same.low i) else same.low i)
+
+  high-alike : region_high M path j ≡ region_high N path j
+  high-alike = λ i. high_along path j (if same.integer i then option_map (λ h. int (floor h)) (same.up i) else same.up i)
+
+  crossed-alike : IsCrossedIn path M j ↔ IsCrossedIn path N j
+  crossed-alike = (
+    (λ (below, crossed). (same.there.0 below, subst (λ P. P) (λ i. IsCrossed (low-alike i) (high-alike i)) crossed)),
+    (λ (below, crossed). (same.there.1 below, subst (λ P. P) (λ i. IsCrossed (sym low-alike i) (sym high-alike i)) crossed)),
+  )
+
+crossed-each : (t : Touched) (M N : Program) (path : Path) → AreAlikeBut t M N → KeepsCrossing path (column_touched t) M N → (j : ℕ) → IsCrossedIn path M j ↔ IsCrossedIn path N j
+crossed-each t M N path alike keeps j = by (leaves_column t j) refl
+  where
+    by : (b : Bool) → leaves_column t j ≡ b → IsCrossedIn path M j ↔ IsCrossedIn path N j
+    by true left = crossed-alike M N j (alike.columns j left) path
+    by false touched = keeps j touched
 
 pub like_regions : LikeRegionsLaw
-like_regions t M N path alike = (
-  (λ (j, (below, crossed)). (j, (subst (λ n. j < n) alike.count below, subst (λ P. P) (λ i. IsCrossed (low-alike t M N alike path j i) (high-alike t M N alike path j i)) crossed))),
-  (λ (j, (below, crossed)). (j, (subst (λ n. j < n) (sym alike.count) below, subst (λ P. P) (λ i. IsCrossed (sym (low-alike t M N alike path j) i) (sym (high-alike t M N alike path j) i)) crossed))),
-)
+like_regions t M N path alike keeps = ((λ (j, crossed). (j, (crossed-each t M N path alike keeps j).0 crossed)), (λ (j, crossed). (j, (crossed-each t M N path alike keeps j).1 crossed)))
 
 -- ---- the answers
 
@@ -91,11 +113,11 @@ module _ (t : Touched) (M N : Program) (cuts others : List CutRow) (alike : AreA
   weights : ◌≡◌ {A = ℕ → ℚ} (cut_weight cuts mult) (cut_weight others mult)
   weights = λ i k. weight-same k i
 
-  rows-alike : (i : ℕ) → (multiplier mult i ≡ int (pos 0)) ⊎ IsSameRow M N i
-  rows-alike i = by (leaves_row t i) refl
+  rows-left : (i : ℕ) → (multiplier mult i ≡ int (pos 0)) ⊎ (leaves_row t i ≡ true)
+  rows-left i = by (leaves_row t i) refl
     where
-      by : (b : Bool) → leaves_row t i ≡ b → (multiplier mult i ≡ int (pos 0)) ⊎ IsSameRow M N i
-      by true e = inr (alike.rows i e)
+      by : (b : Bool) → leaves_row t i ≡ b → (multiplier mult i ≡ int (pos 0)) ⊎ (leaves_row t i ≡ true)
+      by true e = inr e
       by false e = inl (row-none t cuts others mult i left e)
 
   cuts-alike : (k : ℕ) → (cut_weight cuts mult k ≡ int (pos 0)) ⊎ IsSameCut cuts others k
@@ -106,34 +128,80 @@ module _ (t : Touched) (M N : Program) (cuts others : List CutRow) (alike : AreA
       by true false e f = inl (weight-live cuts mult k e ∙ cut-none t cuts others mult k left (λ i. if e i then f i else not (f i)))
       by false b e f = inl (weight-dead cuts mult k e)
 
-  question : IsLikeQuestion M N path cuts others (multiplier mult) (cut_weight cuts mult)
-  question = record { count = alike.count; low = low-alike t M N alike path; high = high-alike t M N alike path; rows_are = rows-alike; cuts_are = cuts-alike }
+  module _ (c d : ℕ → ℚ) (col : Option ColId) (costs_are : (j : ℕ) → is_apart col j ≡ true → c j ≡ d j) (columns_left : (j : ℕ) → is_apart col j ≡ true → leaves_column t j ≡ true)
+      (quiet : (j : ℕ) → is_apart col j ≡ false
+      → (j < length M.cols → IsQuietColumn (formulation M cuts) path (multiplier mult) (cut_weight cuts mult) c j) × (j < length N.cols → IsQuietColumn (formulation N others) path (multiplier mult) (cut_weight cuts mult) d j)) where
+    same-column : (j : ℕ) → is_apart col j ≡ true → IsSameColumn M N path cuts others (multiplier mult) (cut_weight cuts mult) c d j
+    same-column j apart = record {
+      there = (alike.columns j (columns_left j apart)).there;
+      cost_is = costs_are j apart;
+      low = low-alike M N j (alike.columns j (columns_left j apart)) path;
+      high = high-alike M N j (alike.columns j (columns_left j apart)) path;
+      entry = λ i. elim (rows-left i) [ inl none ↦ inl none | inr kept ↦ inr (alike.entry i j kept (columns_left j apart), (alike.rows i kept).there) ];
+      cut_entry = λ k. elim (cuts-alike k) [ inl none ↦ inl none | inr same ↦ inr (same.entry j, same.there) ];
+    }
 
-  asked-back : IsLikeQuestion N M path others cuts (multiplier mult) (cut_weight cuts mult)
-  asked-back = question-back M N path cuts others (multiplier mult) (cut_weight cuts mult) question
+    column-like : (j : ℕ) (b : Bool) → is_apart col j ≡ b
+        → IsSameColumn M N path cuts others (multiplier mult) (cut_weight cuts mult) c d j
+        ⊎ ((j < length M.cols → IsQuietColumn (formulation M cuts) path (multiplier mult) (cut_weight cuts mult) c j) × (j < length N.cols → IsQuietColumn (formulation N others) path (multiplier mult) (cut_weight cuts mult) d j))
+    column-like j true apart = inl (same-column j apart)
+    column-like j false touched = inr (quiet j touched)
 
-  module _ (c : ℕ → ℚ) (c₀ : ℚ) (r : Result LagValue WideStep) where
-    answer-to : IsDualAnswer (formulation M cuts) path (multiplier mult) (cut_weight cuts mult) c₀ c r → IsDualAnswer (formulation N others) path (multiplier mult) (cut_weight cuts mult) c₀ c r
-    answer-to = answer-like M N path cuts others (multiplier mult) (cut_weight cuts mult) c c₀ question (lacks-like N M path others cuts (multiplier mult) (cut_weight cuts mult) c c₀ asked-back) r
+    question : IsLikeQuestion M N path cuts others (multiplier mult) (cut_weight cuts mult) c d
+    question = record {
+      rows_are = λ i. elim (rows-left i) [ inl none ↦ inl none | inr kept ↦ inr (alike.rows i kept) ];
+      cuts_are = λ k. elim (cuts-alike k) [ inl none ↦ inl none | inr same ↦ inr (record { there = same.there; high = same.high }) ];
+      columns_are = λ j. column-like j (is_apart col j) refl;
+    }
 
-    answer-from : IsDualAnswer (formulation N others) path (multiplier mult) (cut_weight cuts mult) c₀ c r → IsDualAnswer (formulation M cuts) path (multiplier mult) (cut_weight cuts mult) c₀ c r
-    answer-from = answer-like N M path others cuts (multiplier mult) (cut_weight cuts mult) c c₀ asked-back (lacks-like M N path cuts others (multiplier mult) (cut_weight cuts mult) c c₀ question) r
+    asked-back : IsLikeQuestion N M path others cuts (multiplier mult) (cut_weight cuts mult) d c
+    asked-back = question-back M N path cuts others (multiplier mult) (cut_weight cuts mult) c d question
 
-  module _ (r : Result LagValue WideStep) where
-    lag-is : ◌≡◌ {A = Type 0} (IsDualAnswer (formulation N others) path (multiplier mult) (cut_weight cuts mult) (least_constant M) (least_cost M) r) (IsDualAnswer (formulation N others) path (multiplier mult) (cut_weight others mult) (least_constant N) (least_cost N) r)
-    lag-is = λ i. IsDualAnswer (formulation N others) path (multiplier mult) (weights i) (constant-alike t M N alike i) (costs-alike t M N alike i) r
+    module _ (c₀ : ℚ) (r : Result LagValue WideStep) where
+      answer-to : IsDualAnswer (formulation M cuts) path (multiplier mult) (cut_weight cuts mult) c₀ c r → IsDualAnswer (formulation N others) path (multiplier mult) (cut_weight cuts mult) c₀ d r
+      answer-to = answer-like M N path cuts others (multiplier mult) (cut_weight cuts mult) c d c₀ question (lacks-like N M path others cuts (multiplier mult) (cut_weight cuts mult) d c c₀ asked-back) r
 
-    farkas-is : ◌≡◌ {A = Type 0} (IsDualAnswer (formulation N others) path (multiplier mult) (cut_weight cuts mult) (int (pos 0)) (λ j. int (pos 0)) r) (IsDualAnswer (formulation N others) path (multiplier mult) (cut_weight others mult) (int (pos 0)) (λ j. int (pos 0)) r)
+      answer-from : IsDualAnswer (formulation N others) path (multiplier mult) (cut_weight cuts mult) c₀ d r → IsDualAnswer (formulation M cuts) path (multiplier mult) (cut_weight cuts mult) c₀ c r
+      answer-from = answer-like N M path others cuts (multiplier mult) (cut_weight cuts mult) d c c₀ asked-back (lacks-like M N path cuts others (multiplier mult) (cut_weight cuts mult) c d c₀ question) r
+
+  -- what the other's own weights say, said of these
+  quiet-here : (c d : ℕ → ℚ) (j : ℕ)
+      → (j < length M.cols → IsQuietColumn (formulation M cuts) path (multiplier mult) (cut_weight cuts mult) c j) × (j < length N.cols → IsQuietColumn (formulation N others) path (multiplier mult) (cut_weight others mult) d j)
+      → (j < length M.cols → IsQuietColumn (formulation M cuts) path (multiplier mult) (cut_weight cuts mult) c j) × (j < length N.cols → IsQuietColumn (formulation N others) path (multiplier mult) (cut_weight cuts mult) d j)
+  quiet-here c d j (own, other) = (own, λ below. subst (λ (w : ℕ → ℚ). IsQuietColumn (formulation N others) path (multiplier mult) w d j) (sym weights) (other below))
+
+  module _ (quiet : HasInEach (IsQuietLag path mult) (cost_touched t) (formulation M cuts) (formulation N others)) (r : Result LagValue WideStep) where
+    lag-is : ◌≡◌ {A = Type 0} (IsDualAnswer (formulation N others) path (multiplier mult) (cut_weight cuts mult) (least_constant M) (least_cost N) r) (IsLagAnswer (formulation N others) path mult r)
+    lag-is = λ i. IsDualAnswer (formulation N others) path (multiplier mult) (weights i) (constant-alike t M N alike i) (least_cost N) r
+
+    quiet-lag : (j : ℕ) → is_apart (cost_touched t) j ≡ false
+        → (j < length M.cols → IsQuietColumn (formulation M cuts) path (multiplier mult) (cut_weight cuts mult) (least_cost M) j)
+        × (j < length N.cols → IsQuietColumn (formulation N others) path (multiplier mult) (cut_weight cuts mult) (least_cost N) j)
+    quiet-lag j touched = quiet-here (least_cost M) (least_cost N) j (quiet j touched)
+
+    lag-alike : IsLagAnswer (formulation M cuts) path mult r ↔ IsLagAnswer (formulation N others) path mult r
+    lag-alike = (
+      (λ h. subst (λ P. P) lag-is (answer-to (least_cost M) (least_cost N) (cost_touched t) (costs-alike t M N alike) (column-left t) quiet-lag (least_constant M) r h)),
+      (λ h. answer-from (least_cost M) (least_cost N) (cost_touched t) (costs-alike t M N alike) (column-left t) quiet-lag (least_constant M) r (subst (λ P. P) (sym lag-is) h)),
+    )
+
+  module _ (quiet : HasInEach (IsQuietFarkas path mult) (column_touched t) (formulation M cuts) (formulation N others)) (r : Result LagValue WideStep) where
+    farkas-is : ◌≡◌ {A = Type 0} (IsDualAnswer (formulation N others) path (multiplier mult) (cut_weight cuts mult) (int (pos 0)) (λ j. int (pos 0)) r) (IsFarkasAnswer (formulation N others) path mult r)
     farkas-is = λ i. IsDualAnswer (formulation N others) path (multiplier mult) (weights i) (int (pos 0)) (λ j. int (pos 0)) r
+
+    quiet-farkas : (j : ℕ) → is_apart (column_touched t) j ≡ false
+        → (j < length M.cols → IsQuietColumn (formulation M cuts) path (multiplier mult) (cut_weight cuts mult) (λ k. int (pos 0)) j)
+        × (j < length N.cols → IsQuietColumn (formulation N others) path (multiplier mult) (cut_weight cuts mult) (λ k. int (pos 0)) j)
+    quiet-farkas j touched = quiet-here (λ k. int (pos 0)) (λ k. int (pos 0)) j (quiet j touched)
+
+    farkas-alike : IsFarkasAnswer (formulation M cuts) path mult r ↔ IsFarkasAnswer (formulation N others) path mult r
+    farkas-alike = (
+      (λ h. subst (λ P. P) farkas-is (answer-to (λ j. int (pos 0)) (λ j. int (pos 0)) (column_touched t) (λ j left. refl) (λ j left. left) quiet-farkas (int (pos 0)) r h)),
+      (λ h. answer-from (λ j. int (pos 0)) (λ j. int (pos 0)) (column_touched t) (λ j left. refl) (λ j left. left) quiet-farkas (int (pos 0)) r (subst (λ P. P) (sym farkas-is) h)),
+    )
 
 pub like_answers : LikeAnswersLaw
 like_answers t M N cuts others alike alike_cuts path mult left r = (
-  (
-    (λ h. subst (λ P. P) (lag-is t M N cuts others alike alike_cuts path mult left r) (answer-to t M N cuts others alike alike_cuts path mult left (least_cost M) (least_constant M) r h)),
-    (λ h. answer-from t M N cuts others alike alike_cuts path mult left (least_cost M) (least_constant M) r (subst (λ P. P) (sym (lag-is t M N cuts others alike alike_cuts path mult left r)) h)),
-  ),
-  (
-    (λ h. subst (λ P. P) (farkas-is t M N cuts others alike alike_cuts path mult left r) (answer-to t M N cuts others alike alike_cuts path mult left (λ j. int (pos 0)) (int (pos 0)) r h)),
-    (λ h. answer-from t M N cuts others alike alike_cuts path mult left (λ j. int (pos 0)) (int (pos 0)) r (subst (λ P. P) (sym (farkas-is t M N cuts others alike alike_cuts path mult left r)) h)),
-  ),
+  (λ quiet. lag-alike t M N cuts others alike alike_cuts path mult left quiet r),
+  (λ quiet. farkas-alike t M N cuts others alike alike_cuts path mult left quiet r),
 )

@@ -1,25 +1,31 @@
 -- What an edit of a model touches, and which lists of multipliers name none of it.
---     touched_by M e                            what the edit touches beside cuts, where that is no more than one row
---     leaves_list t cuts others mult            no multiplier is of what is touched, nor of a cut that counts in one list alone
+--     touched_by M e                            what the edit touches beside cuts, where that is one row or one column at most
+--     leaves_cost t j, leaves_column t j        the cost of column j, and all else of it, is not touched
+--     leaves_list t cuts others mult            no multiplier is of a row that is touched, nor of a cut that counts in one list alone
 use Rattle.std.specs.Prelude.{ℕ, Bool, true, if◌then◌else◌, not, nat_eq, List, length, Option, Some, None}
 use Rattle.std.specs.List.{list_all}
 use Rattle.frac128.specs.Rational.{ℚ}
 use Rattle.lp_model.specs.Program.{Program}
 use Rattle.lp_model.specs.Cuts.{is_live}
-use Rattle.lp_model.specs.Edits.{row_place}
+use Rattle.lp_model.specs.Edits.{col_place, row_place}
+use Rattle.lp_model.specs.declared.types.ColId.{ColId}
 use Rattle.lp_model.specs.declared.types.CutRow.{CutRow}
 use Rattle.lp_model.specs.declared.types.Var.{Var}
 use Rattle.lp_model.specs.declared.types.Var.TheVariants.{Col, Row, Cut}
 use Rattle.lp_model.specs.declared.types.Edit.{Edit}
-use Rattle.lp_model.specs.declared.types.Edit.TheVariants.{SetCost2, SetRow, AddRow, ReplaceRow}
+use Rattle.lp_model.specs.declared.types.Edit.TheVariants.{SetCost, SetCost2, SetRow, SetColBounds, SetKind, AddCol, AddRow, ReplaceRow}
 use Rattle.leaf_dual.specs.Dual.{Multipliers}
 use Rattle.spared_leaves.specs.declared.touched.Touched.{Touched}
-use Rattle.spared_leaves.specs.declared.touched.Touched.TheVariants.{Nothing, OneRow}
+use Rattle.spared_leaves.specs.declared.touched.Touched.TheVariants.{Nothing, OneRow, OneCost, OneColumn}
 
--- nothing that a number is made of, or one row; None where it may be more: a cost, a column, or the places of others
+-- nothing that a number is made of, one row, the cost of one column, or one column; None where the places of others move
 abbrev pub touched_by : Program → Edit → Option Touched
+touched_by M (SetCost col v) = Some (OneCost (record { 0 = col_place M col }))
 touched_by M (SetCost2 col v) = Some Nothing
 touched_by M (SetRow row lo hi) = Some (OneRow (record { 0 = row_place M row }))
+touched_by M (SetColBounds col lo up) = Some (OneColumn (record { 0 = col_place M col }))
+touched_by M (SetKind col integer) = Some (OneColumn (record { 0 = col_place M col }))
+touched_by M (AddCol name integer lo up cost cost2 named) = Some (OneColumn (record { 0 = length M.cols }))
 touched_by M (AddRow name lo hi named) = Some (OneRow (record { 0 = length M.rows }))
 touched_by M (ReplaceRow row lo hi named) = Some (OneRow (record { 0 = row_place M row }))
 touched_by M e = None
@@ -27,8 +33,29 @@ touched_by M e = None
 -- ---- what is not touched
 
 abbrev pub leaves_row : Touched → ℕ → Bool
-leaves_row Nothing i = true
 leaves_row (OneRow row) i = not (nat_eq row.0 i)
+leaves_row t i = true
+
+-- the column whose cost is touched, and the one of which more is
+abbrev pub cost_touched : Touched → Option ColId
+cost_touched (OneCost col) = Some col
+cost_touched (OneColumn col) = Some col
+cost_touched t = None
+
+abbrev pub column_touched : Touched → Option ColId
+column_touched (OneColumn col) = Some col
+column_touched t = None
+
+-- place j is not that of the column
+abbrev pub is_apart : Option ColId → ℕ → Bool
+is_apart None j = true
+is_apart (Some col) j = not (nat_eq col.0 j)
+
+abbrev pub leaves_cost : Touched → ℕ → Bool
+leaves_cost t j = is_apart (cost_touched t) j
+
+abbrev pub leaves_column : Touched → ℕ → Bool
+leaves_column t j = is_apart (column_touched t) j
 
 -- the cut counts in both lists or in neither
 abbrev pub leaves_cut : List CutRow → List CutRow → ℕ → Bool

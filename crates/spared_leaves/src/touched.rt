@@ -2,31 +2,61 @@
 ghost use Rattle.std.specs.Prelude.{◌≡◌};
 ghost use Rattle.lp_model.specs.Cuts.{is_live};
 ghost use Rattle.lp_model.specs.Edits.{EditFits};
-ghost use Rattle.spared_leaves.specs.Touched.{touched_by, leaves_row, leaves_cut, leaves_variable, leaves_list};
-ghost use Rattle.spared_leaves.specs.Laws.{LikeAnswersLaw, LikeRegionsLaw, LikeEditsLaw, LikePoolsLaw};
+ghost use Rattle.spared_leaves.specs.Touched.{touched_by, cost_touched, column_touched, leaves_row, leaves_cut, leaves_variable, leaves_list};
+ghost use Rattle.spared_leaves.specs.Laws.{LikeQuestionsLaw, LikeAnswersLaw, LikeRegionsLaw, LikeEditsLaw, LikePoolsLaw};
 
-use branch_tree::row_of;
+use branch_tree::{col_of, row_of};
 use frac128::Frac;
-use lp_model::{CutRow, Edit, Model, RowId, Var};
+use lp_model::{ColId, CutRow, Edit, Model, RowId, Var};
 
 /// What an edit touches of that which a leaf's number is made of, beside cuts.
 #[derive(Clone, Copy, Drop)]
 pub enum Touched {
     Nothing,
+    /// A row's sides and its coefficients.
     OneRow(RowId),
+    /// A column's cost in objective 1.
+    OneCost(ColId),
+    /// All of a column.
+    OneColumn(ColId),
 }
 
-/// What an edit touches, where that is one row at most. `None` for an edit of costs in objective 1 or of columns, and for one
-/// that moves the places of others.
+/// What an edit touches. `None` for one that moves the places of rows or columns.
 pub fn touched_by(model: &Model, edit: &Edit) -> Option<Touched>
     requires { EditFits model.now edit.now }
     ensures { result ≡ touched_by model.now edit.now }
 {
     match edit {
+        Edit::SetCost { col, .. } => Some(Touched::OneCost(ColId(col_of(model, col)))),
         Edit::SetCost2 { .. } => Some(Touched::Nothing),
+        Edit::SetColBounds { col, .. } => Some(Touched::OneColumn(ColId(col_of(model, col)))),
+        Edit::SetKind { col, .. } => Some(Touched::OneColumn(ColId(col_of(model, col)))),
+        Edit::AddCol { .. } => Some(Touched::OneColumn(ColId(model.cols().len() as u32))),
         Edit::SetRow { row, .. } => Some(Touched::OneRow(RowId(row_of(model, row)))),
         Edit::AddRow { .. } => Some(Touched::OneRow(RowId(model.rows().len() as u32))),
         Edit::ReplaceRow { row, .. } => Some(Touched::OneRow(RowId(row_of(model, row)))),
+        Edit::DelCol { .. } => None,
+        Edit::DelRow { .. } => None,
+    }
+}
+
+/// The column whose cost is touched, if one is.
+pub(crate) fn cost_touched(touched: &Touched) -> Option<ColId>
+    ensures { result ≡ cost_touched touched.now }
+{
+    match touched {
+        Touched::OneCost(col) => Some(*col),
+        Touched::OneColumn(col) => Some(*col),
+        _ => None,
+    }
+}
+
+/// The column of which more than the cost is touched, if one is.
+pub(crate) fn column_touched(touched: &Touched) -> Option<ColId>
+    ensures { result ≡ column_touched touched.now }
+{
+    match touched {
+        Touched::OneColumn(col) => Some(*col),
         _ => None,
     }
 }
@@ -47,8 +77,8 @@ fn leaves_row(touched: &Touched, row: u32) -> bool
     ensures { result ≡ leaves_row touched.now row }
 {
     match touched {
-        Touched::Nothing => true,
         Touched::OneRow(id) => id.0 != row,
+        _ => true,
     }
 }
 
@@ -91,12 +121,18 @@ pub fn leaves_list(
     true
 }
 
-/// A list that names nothing that is touched has the same answers in models and cuts that are alike.
+/// What is asked alike of two models with their cuts is answered alike. A column is alike too where its term makes no step in either.
+pub fn like_questions_law()
+    ensures { LikeQuestionsLaw }
+{}
+
+/// A list that names nothing that is touched has the same answers in models and cuts that are alike, where a column that is
+/// touched makes no step in either.
 pub fn like_answers_law()
     ensures { LikeAnswersLaw }
 {}
 
-/// A region is empty in both of two models that are alike, or in neither.
+/// A region is empty in both of two models that are alike, or in neither, where a column that is touched leaves that.
 pub fn like_regions_law()
     ensures { LikeRegionsLaw }
 {}

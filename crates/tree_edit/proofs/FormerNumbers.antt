@@ -1,7 +1,7 @@
--- The numbers that a search keeps are those that the leaves had before an edit which touches one row at most: such an edit takes
--- no cut out and leaves the tree.
-use Rattle.std.specs.Prelude.{◌≡◌, ℕ, suc, false, List, [], ◌∷◌, length, Option, Some, None, IfSome}
-use Rattle.std.proofs.Common.{refl, sym, ap, subst, ◌∙◌}
+-- Edits that leave the nodes of a tree: each list stays, and no cut goes. So the numbers that a search keeps are those that the
+-- leaves had before.
+use Rattle.std.specs.Prelude.{◌≡◌, ℕ, suc, true, false, List, [], ◌∷◌, length, Option, Some, None, IfSome}
+use Rattle.std.proofs.Common.{refl, sym, ap, subst, ◌∙◌, true≢false}
 use Rattle.lp_model.specs.Program.{Program}
 use Rattle.lp_model.specs.Edits.{edited}
 use Rattle.lp_model.specs.Formulations.{formulation}
@@ -10,6 +10,7 @@ use Rattle.lp_model.specs.declared.types.Derivation.{Derivation}
 use Rattle.lp_model.specs.declared.types.Edit.{Edit}
 use Rattle.lp_model.specs.declared.types.Edit.TheVariants.{SetCost, SetCost2, SetRow, SetColBounds, SetKind, AddCol, DelCol, AddRow, DelRow, ReplaceRow}
 use Rattle.cover_cuts.specs.Cuts.{IsPoolOf}
+use Rattle.branch_tree.specs.Plain.{Plain}
 use Rattle.branch_tree.specs.Numbered.{NumberedTree}
 use Rattle.branch_tree.specs.Following.{followed_edit, after_edit}
 use Rattle.branch_tree.proofs.NoneGone.{none-gone}
@@ -21,7 +22,8 @@ use Rattle.spared_leaves.proofs.LikeEdits.{like_edits}
 use Rattle.spared_leaves.proofs.LikePools.{like_pools}
 use Rattle.leaf_judging.specs.declared.former.Former.{Former}
 use Rattle.leaf_judging.specs.Numbers.{AreNumbersOf}
-use Rattle.leaf_judging.specs.Former.{IsAlikeFormer, AreFormer}
+use Rattle.leaf_judging.specs.Former.{former_formulation, IsAlikeFormer, AreFormer}
+use Rattle.tree_edit.specs.private.Staying.{leaves_nodes}
 
 -- ---- an edit with which no cut goes, and after which each has its derivation
 
@@ -39,45 +41,40 @@ module _ (M : Program) (e : Edit) (h : LeavesCuts M e) where
   none-goes k [] = refl
   none-goes k (c ∷ cuts) = rw (h.stays c.from) (none-goes (suc k) cuts)
 
-  tree-left : (cuts : List CutRow) (T : NumberedTree) → after_edit T M (gone_with M e cuts) e ≡ T
+  pub tree-left : (cuts : List CutRow) (T : NumberedTree) → after_edit T M (gone_with M e cuts) e ≡ T
   tree-left cuts T = sym (none-gone (gone_with M e cuts) (followed_edit T M e) (ap length (none-goes 0 cuts))) ∙ h.tree T
 
--- what touches one row at most is such an edit
-leaves-cuts : (M : Program) (e : Edit) → IfSome (touched_by M e) (λ t. LeavesCuts M e)
-leaves-cuts M (SetCost2 col v) = record { stays = λ d. refl; same = λ d. refl; tree = λ T. refl }
-leaves-cuts M (SetRow row lo hi) = record { stays = λ d. refl; same = λ d. refl; tree = λ T. refl }
-leaves-cuts M (AddRow name lo hi named) = record { stays = λ d. refl; same = λ d. refl; tree = λ T. refl }
-leaves-cuts M (ReplaceRow row lo hi named) = record { stays = λ d. refl; same = λ d. refl; tree = λ T. refl }
-leaves-cuts M (SetCost col v) = tt
-leaves-cuts M (SetColBounds col lo up) = tt
-leaves-cuts M (SetKind col integer) = tt
-leaves-cuts M (AddCol name integer lo up cost cost2 named) = tt
-leaves-cuts M (DelCol col) = tt
-leaves-cuts M (DelRow row) = tt
+-- what leaves the nodes is such an edit
+pub leaves-cuts : (M : Program) (e : Edit) → leaves_nodes e ≡ true → LeavesCuts M e
+leaves-cuts M (SetCost col v) h = record { stays = λ d. refl; same = λ d. refl; tree = λ T. refl }
+leaves-cuts M (SetCost2 col v) h = record { stays = λ d. refl; same = λ d. refl; tree = λ T. refl }
+leaves-cuts M (SetRow row lo hi) h = record { stays = λ d. refl; same = λ d. refl; tree = λ T. refl }
+leaves-cuts M (SetColBounds col lo up) h = record { stays = λ d. refl; same = λ d. refl; tree = λ T. refl }
+leaves-cuts M (SetKind col true) h = record { stays = λ d. refl; same = λ d. refl; tree = λ T. refl }
+leaves-cuts M (SetKind col false) h = absurd (true≢false (sym h))
+leaves-cuts M (AddCol name integer lo up cost cost2 named) h = record { stays = λ d. refl; same = λ d. refl; tree = λ T. refl }
+leaves-cuts M (AddRow name lo hi named) h = record { stays = λ d. refl; same = λ d. refl; tree = λ T. refl }
+leaves-cuts M (ReplaceRow row lo hi named) h = record { stays = λ d. refl; same = λ d. refl; tree = λ T. refl }
+leaves-cuts M (DelCol col) h = absurd (true≢false (sym h))
+leaves-cuts M (DelRow row) h = absurd (true≢false (sym h))
 
 -- ---- the numbers
 
-module _ (M N : Program) (e : Edit) (old new : List CutRow) (T : NumberedTree) (former : Former) (touched : former.touched ≡ touched_by M e) (cuts : former.pool.now ≡ old) (numbers : AreNumbersOf (formulation M old) T.root former.numbers.now) (pool : IsPoolOf M old) (edit_is : N ≡ edited M e) (after : IsPoolAfter M e old N new) where
-  alike : (t : Touched) → touched_by M e ≡ Some t → LeavesCuts M e → IsAlikeFormer t former M (formulation N new)
-  alike t is left = record {
-    model = subst (AreAlikeBut t M) (sym edit_is) (like_edits M e t is);
+module _ (M N : Program) (e : Edit) (old new : List CutRow) (left : LeavesCuts M e) (former : Former) (touched : former.touched ≡ touched_by M e) (model : former.model.now ≡ M) (cuts : former.pool.now ≡ old) (pool : IsPoolOf M old) (edit_is : N ≡ edited M e) (after : IsPoolAfter M e old N new) where
+  alike : (t : Touched) → touched_by M e ≡ Some t → IsAlikeFormer t former (formulation N new)
+  alike t is = record {
+    model = subst (λ P. P) (λ i. AreAlikeBut t (sym model i) (sym edit_is i)) (like_edits M e t is);
     cuts = like_pools M N former.pool.now new (subst (IsPoolOf M) (sym cuts) pool) after.pool
         (ap derivations_of cuts ∙ sym (after.derivations ∙ derivations-left M e left (derivations_of old)));
   }
 
-  abbrev Holds : NumberedTree → Touched → Type 0
-  Holds S t = (P : Program) × (IsAlikeFormer t former P (formulation N new) × AreNumbersOf (formulation P former.pool.now) S.root former.numbers.now)
-
-  pub former-numbers : (tree : NumberedTree) → tree ≡ after_edit T M (gone_with M e old) e → AreFormer (Some former) (formulation N new) tree.root
-  former-numbers tree tree_is = subst (λ o. IfSome o (Holds tree)) (sym touched) (by (touched_by M e) refl (leaves-cuts M e))
+  -- they are the former ones of the leaves
+  pub former-numbers : (tree : Plain) → AreNumbersOf (formulation M old) tree former.numbers.now → AreFormer (Some former) (formulation N new) tree
+  former-numbers tree numbers = subst (λ o. IfSome o Holds) (sym touched) (by (touched_by M e) refl)
     where
-      by : (o : Option Touched) → touched_by M e ≡ o → IfSome o (λ t. LeavesCuts M e) → IfSome o (Holds tree)
-      by None is left = tt
-      by (Some t) is left = (
-        M,
-        (
-          alike t is left,
-          subst (λ (S : NumberedTree). AreNumbersOf (formulation M former.pool.now) S.root former.numbers.now) (sym (tree_is ∙ tree-left M e left old T))
-              (subst (λ (ks : List CutRow). AreNumbersOf (formulation M ks) T.root former.numbers.now) (sym cuts) numbers),
-        ),
-      )
+      Holds : Touched → Type 0
+      Holds t = IsAlikeFormer t former (formulation N new) × AreNumbersOf (former_formulation former) tree former.numbers.now
+
+      by : (o : Option Touched) → touched_by M e ≡ o → IfSome o Holds
+      by None is = tt
+      by (Some t) is = (alike t is, subst (λ P. P) (λ i. AreNumbersOf (formulation (sym model i) (sym cuts i)) tree former.numbers.now) numbers)

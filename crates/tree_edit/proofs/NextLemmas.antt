@@ -1,5 +1,5 @@
 -- The leaf at the front of the queue is the one that is worked next.
-use Rattle.std.specs.Prelude.{◌≡◌, ◌⊎◌, ℕ, List, [], ◌∷◌, ◌++◌, Some, None, ℤ}
+use Rattle.std.specs.Prelude.{◌≡◌, ◌⊎◌, ℕ, List, [], ◌∷◌, ◌++◌, Option, Some, None, MatchOption, ℤ}
 use Rattle.std.proofs.Common.{refl, sym, subst, inl, inr}
 use Rattle.std.proofs.lemmas.List.{map-append}
 use Rattle.lp_model.specs.Regions.{Path}
@@ -11,7 +11,7 @@ use Rattle.branch_tree.specs.declared.node.LeafState.TheVariants.{IsClosed}
 use Rattle.branch_tree.specs.declared.node.RegionLeaf.{RegionLeaf}
 use Rattle.leaf_judging.specs.declared.choosing.Candidate.{Candidate}
 use Rattle.leaf_judging.specs.declared.queue.LeafQueue.{LeafQueue}
-use Rattle.leaf_judging.specs.Choosing.{GoesFirst, IsCandidate, IsOneOf, GoesBeforeAll, AreClosed}
+use Rattle.leaf_judging.specs.Choosing.{GoesFirst, IsCandidate, IsOneOf, GoesBeforeAll, AreClosed, IsFirstCandidate}
 use Rattle.sound_searches.specs.Calls.{IsNext}
 use Rattle.sound_searches.specs.Sound.{PlainSearch, formulation_of}
 use Rattle.leaf_judging.specs.Queued.{HasNone, IsFrontOf, SomeLeaf, IsQueued, IsQueueOf}
@@ -71,15 +71,16 @@ next-none S queue is none =
     closed-leaves [] S.tree.root
     (each-weaker (IsQueued (formulation_of S) queue) (λ p l. l.kept.state ≡ IsClosed) (λ p l h. elim h [ inl e ↦ e | inr k ↦ absurd (none k.0 k.1.1) ]) [] S.tree.root is.each)
 
-pub next-some : (S : PlainSearch) (queue : LeafQueue) (c : Candidate) → IsQueueOf (formulation_of S) S.tree.root queue → IsFrontOf queue c → IsNext S (Some c.id)
-next-some S queue c is front = (
-  c,
-  (
-    (
-      one-leaf (formulation_of S) c [] S.tree.root (is.only c front.0),
-      before-leaves (formulation_of S) c [] S.tree.root
-          (each-weaker (IsQueued (formulation_of S) queue) (λ p l. IsLater (formulation_of S) c (region_leaf (p, l))) (λ p l h. elim h [ inl e ↦ inl e | inr k ↦ inr (k.0, (k.1.0, front.1 k.0 k.1.1)) ]) [] S.tree.root is.each),
-    ),
-    refl,
-  ),
+pub first-some : (S : PlainSearch) (queue : LeafQueue) (c : Candidate) → IsQueueOf (formulation_of S) S.tree.root queue → IsFrontOf queue c → IsFirstCandidate (formulation_of S) (region_leaves [] S.tree.root) (Some c)
+first-some S queue c is front = (
+  one-leaf (formulation_of S) c [] S.tree.root (is.only c front.0),
+  before-leaves (formulation_of S) c [] S.tree.root
+      (each-weaker (IsQueued (formulation_of S) queue) (λ p l. IsLater (formulation_of S) c (region_leaf (p, l))) (λ p l h. elim h [ inl e ↦ inl e | inr k ↦ inr (k.0, (k.1.0, front.1 k.0 k.1.1)) ]) [] S.tree.root is.each),
 )
+
+pub next-some : (S : PlainSearch) (queue : LeafQueue) (c : Candidate) → IsQueueOf (formulation_of S) S.tree.root queue → IsFrontOf queue c → IsNext S (Some c.id)
+next-some S queue c is front = (c, (first-some S queue c is front, refl))
+
+pub first-of : (S : PlainSearch) (queue : LeafQueue) (r : Option Candidate) → IsQueueOf (formulation_of S) S.tree.root queue → MatchOption r (HasNone queue) (λ c. IsFrontOf queue c) → IsFirstCandidate (formulation_of S) (region_leaves [] S.tree.root) r
+first-of S queue None is none = next-none S queue is none
+first-of S queue (Some c) is front = first-some S queue c is front

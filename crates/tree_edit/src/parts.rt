@@ -5,7 +5,6 @@ ghost use Rattle.lp_model.specs.Program.{least_value};
 ghost use Rattle.lp_model.specs.Formulations.{formulation};
 ghost use Rattle.cover_cuts.specs.Cuts.{IsPoolOf};
 ghost use Rattle.search_parts.specs.Points.{IsKeepable};
-ghost use Rattle.leaf_judging.specs.Former.{AreFormer};
 ghost use Rattle.sound_searches.specs.Sound.{IsSoundTree};
 ghost use Rattle.sound_searches.specs.Edited.{HasParts};
 ghost use Rattle.sound_searches.specs.Parts.{IsOfParts};
@@ -13,32 +12,30 @@ ghost use Rattle.sound_searches.specs.Parts.{IsOfParts};
 use crate::search::Search;
 use branch_tree::Tree;
 use cover_cuts::CutPool;
-use leaf_judging::{Former, judge_after};
+use leaf_judging::judge_all;
 use lp_model::{Model, Point};
 use search_parts::{KeptPoints, keepable_points, least_of};
 use std::alloc::{AllocError, Global};
 
-/// A search of these parts, the leaves of which are judged: one that an edit spares by its former number.
+/// A search of these parts, the leaves of which are judged.
 pub(crate) fn with_kept(
     alloc: Global,
     model: Model,
     pool: CutPool,
     tree: Tree,
     kept: KeptPoints,
-    former: &Option<Former<'_>>,
 ) -> Result<Search, AllocError>
     requires pool { IsPoolOf model pool }
     requires tree { IsSoundTree (formulation model pool) tree.root }
     requires points { All (IsKeepable model) kept.points.items }
     requires few { length kept.points.items ≤ point_limit }
-    requires former { AreFormer former.now (formulation model pool) tree.root }
     requires values { kept.values.items ≡ map (least_value model 1) kept.points.items }
     ensures { IfOk result (λ s. HasParts model pool tree kept.points.items s) }
 {
     let mut tree = tree;
     let target = least_of(&kept.values);
     let _few = pool.rows();
-    match judge_after(alloc, &model, &pool, &target, former, &mut tree) {
+    match judge_all(alloc, &model, &pool, &target, &mut tree) {
         Ok(index) => Ok(Search {
             model,
             pool,
@@ -75,7 +72,7 @@ impl Search {
         ensures { IfOk result (λ s. IsOfParts model pool tree points.now s) }
     {
         match keepable_points(alloc, &model, points) {
-            Ok(kept) => with_kept(alloc, model, pool, tree, kept, &None),
+            Ok(kept) => with_kept(alloc, model, pool, tree, kept),
             Err(error) => {
                 drop(model);
                 drop(pool);

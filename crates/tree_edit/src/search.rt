@@ -5,11 +5,12 @@ ghost use Rattle.sound_searches.specs.Pool.{AddsCut};
 ghost use Rattle.std.specs.Option.{option_copied};
 ghost use Rattle.lp_model.specs.Limits.{node_limit, pool_limit};
 ghost use Rattle.lp_model.specs.Formulations.{without_cuts};
-ghost use Rattle.branch_tree.specs.Leaves.{open_count};
+ghost use Rattle.branch_tree.specs.Leaves.{open_count, region_leaves};
 ghost use Rattle.branch_tree.specs.Changes.{first_tree};
 ghost use Rattle.search_parts.specs.Points.{target, IsIncumbent};
-ghost use Rattle.sound_searches.specs.Sound.{IsSound};
+ghost use Rattle.sound_searches.specs.Sound.{IsSound, formulation_of};
 ghost use Rattle.leaf_judging.specs.Judged.{JudgesAll};
+ghost use Rattle.leaf_judging.specs.Choosing.{IsFirstCandidate};
 ghost use Rattle.leaf_judging.specs.Queued.{IsQueueOf};
 ghost use Rattle.leaf_judging.specs.Numbers.{AreNumbersOf};
 ghost use Rattle.sound_searches.specs.Free.{IsNextFree};
@@ -18,7 +19,7 @@ ghost use Rattle.sound_searches.specs.Calls.{IsNext, IsFresh, search_with_limit,
 use branch_tree::Tree;
 use cover_cuts::{CutPool, PoolFault};
 use frac128::Frac;
-use leaf_judging::{LeafIndex, LeafNumber, LeafNumbers, LeafQueue, judge_all};
+use leaf_judging::{Candidate, LeafIndex, LeafNumber, LeafNumbers, LeafQueue, judge_all};
 use lp_model::{CutId, Derivation, Model, NODE_LIMIT, Point};
 use search_parts::oldest_least;
 use std::alloc::{AllocError, Global};
@@ -232,6 +233,13 @@ impl Search {
             None => None,
             Some(_) => self.numbers.get(id),
         }
+    }
+
+    /// The open leaf that goes first, with its number, if a leaf is open.
+    pub fn next_candidate(&self) -> Option<Candidate>
+        ensures { IsFirstCandidate (formulation_of self.now) (region_leaves [] self.now.tree.root) result }
+    {
+        self.queue.first_candidate()
     }
 
     /// The id of the open leaf with the least number. One whose number is `Minus` or could not be computed goes before

@@ -8,10 +8,10 @@ pub invariant_of-result : goal.invariant_of-result
 invariant_of-result c =
     let kept = c.args.kept in
     let least = subst (λ (vs : List ℚ). IsLeastValue vs c.least_of-target.result) c.deref.ensures.value c.least_of-target.ensures in
-    kept-parts c.args.model c.args.pool c.args.tree c.judge_after.new.tree kept.points.items kept.values.items c.least_of-target.result c.requires.values least c.in-Ok.ensures.judged c.in-Ok.index.numbers c.in-Ok.index.queue c.requires.tree c.requires.points c.requires.few c.requires.pool c.rows-few.ensures.few c.in-Ok.ensures.numbers c.in-Ok.ensures.queue
+    kept-parts c.args.model c.args.pool c.args.tree c.judge_all.new.tree kept.points.items kept.values.items c.least_of-target.result c.requires.values least c.in-Ok.ensures.judged c.in-Ok.index.numbers c.in-Ok.index.queue c.requires.tree c.requires.points c.requires.few c.requires.pool c.rows-few.ensures.few c.in-Ok.ensures.numbers c.in-Ok.ensures.queue
 
 pub returns-in-Ok : goal.returns-in-Ok
 returns-in-Ok c =
     let kept = c.args.kept in
     let least = subst (λ (vs : List ℚ). IsLeastValue vs c.least_of-target.result) c.deref.ensures.value c.least_of-target.ensures in
-    has-parts c.args.model c.args.pool c.args.tree c.judge_after.new.tree kept.points.items kept.values.items c.least_of-target.result c.requires.values least c.in-Ok.ensures.judged
+    has-parts c.args.model c.args.pool c.args.tree c.judge_all.new.tree kept.points.items kept.values.items c.least_of-target.result c.requires.values least c.in-Ok.ensures.judged

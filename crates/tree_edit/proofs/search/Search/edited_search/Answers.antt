@@ -1,4 +1,4 @@
-use Rattle.std.proofs.Common.{◌≡◌, ◌∙◌, ◌≤◌, length, map, refl, sym, subst, ap, arith}
+use Rattle.std.proofs.Common.{◌≡◌, ◌∙◌, ◌≤◌, length, map, sym, subst, ap, arith}
 use Rattle.std.specs.Prelude.{Result, Ok, Err, IfOk}
 use Rattle.std.proofs.lemmas.List.{length-map}
 use Rattle.lp_model.specs.Edits.{edited, EditFits}
@@ -12,7 +12,6 @@ use Rattle.search_parts.specs.EditedPoints.{point_after, AreKeepable}
 use Rattle.sound_searches.specs.Edited.{HasParts, Follows}
 use Rattle.search_parts.proofs.KeepableLemmas.{keepable-all, keepable-few}
 use Rattle.tree_edit.proofs.GoneCuts.{follow-sound}
-use Rattle.tree_edit.proofs.FormerNumbers.{former-numbers}
 use Rattle.tree_edit.proofs.search.Search.edited_search.Goals as goal
 
 pub followed-requires-clause-fits : goal.followed-requires-clause-fits
@@ -35,15 +34,6 @@ with_kept-requires-clause-tree c =
     let pool : IsPoolAfter i.model e i.pool c.args.model c.in-Ok.pool = subst (λ (R : PlainSearch). IsPoolAfter R.model e R.cuts c.args.model c.in-Ok.pool) (sym c.self.view_is) after in
     let follows = follow-sound i.model e i.pool c.in-Ok.pool i.tree fits pool.derivations c.self.invariant.sound.tree in
     subst (λ P. P) (λ j. IsSoundTree (formulation (sym new j) c.in-Ok.pool) (sym tree j).root) follows
-
-pub with_kept-requires-clause-former : goal.with_kept-requires-clause-former
-with_kept-requires-clause-former c =
-    let i = c.self.inside in
-    let e = c.args.edit.now in
-    let new : c.args.model ≡ edited i.model e = c.requires.edited ∙ ap (λ (R : PlainSearch). edited R.model e) (sym c.self.view_is) in
-    let tree : c.in-Ok.tree ≡ after_edit i.tree i.model (gone_with i.model e i.pool) e = c.in-Ok.ensures.tree ∙ ap (λ (R : PlainSearch). after_edit R.tree R.model (gone_with R.model e R.cuts) e) (sym c.self.view_is) in
-    let pool : IsPoolAfter i.model e i.pool c.args.model c.in-Ok.pool = subst (λ (R : PlainSearch). IsPoolAfter R.model e R.cuts c.args.model c.in-Ok.pool) (sym c.self.view_is) c.in-Ok.ensures.pool in
-    former-numbers i.model c.args.model e i.pool c.in-Ok.pool i.tree _ c.touched_by.ensures refl c.self.invariant.numbers_are c.self.invariant.sound.pool new pool c.in-Ok.tree tree
 
 pub with_kept-requires-clause-pool : goal.with_kept-requires-clause-pool
 with_kept-requires-clause-pool c = c.in-Ok.ensures.pool.pool

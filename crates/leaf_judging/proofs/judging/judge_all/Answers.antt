@@ -7,7 +7,7 @@ use Rattle.leaf_judging.specs.Judged.{AreJudged}
 use Rattle.leaf_judging.specs.Queued.{IsQueueOf}
 use Rattle.leaf_judging.specs.Numbers.{AreNumbersOf}
 use Rattle.leaf_judging.proofs.NumberLemmas.{numbers-states}
-use Rattle.leaf_judging.proofs.judging.judge_after.Goals as goal
+use Rattle.leaf_judging.proofs.judging.judge_all.Goals as goal
 
 pub set_states-requires : goal.set_states-requires
 set_states-requires c =

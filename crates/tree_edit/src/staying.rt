@@ -1,0 +1,164 @@
+// A search after an edit of its model that leaves the nodes of the tree: none is copied. All that takes memory comes before the
+// first change.
+ghost use Rattle.std.specs.Prelude.{◌≡◌, ◌≤◌, true, length, map, IfOk, OnOk, OnErr};
+ghost use Rattle.lp_model.specs.Edits.{edited, EditFits};
+ghost use Rattle.branch_tree.specs.Leaves.{leaf_count};
+ghost use Rattle.branch_tree.specs.Changes.{with_leaf_states};
+ghost use Rattle.kept_cuts.specs.Kept.{IsPoolAfter};
+ghost use Rattle.search_parts.specs.EditedPoints.{point_after, AreKeepable};
+ghost use Rattle.sound_searches.specs.Edited.{HasParts, Follows};
+ghost use Rattle.tree_edit.specs.private.Staying.{leaves_nodes, IsStayed};
+
+use crate::search::Search;
+use branch_tree::Tree;
+use cover_cuts::CutPool;
+use frac128::Frac;
+use kept_cuts::pool_after;
+use leaf_judging::{Former, Judged, LeafNumbers, LeafQueue, judge_tree};
+use lp_model::{Edit, Model, Point};
+use search_parts::{KeptPoints, kept_points, least_of};
+use spared_leaves::touched_by;
+use std::alloc::AllocError;
+
+/// What stands beside a tree whose nodes stay: cuts, points, and the leaves judged.
+#[derive(Drop)]
+pub(crate) struct Stayed {
+    pub(crate) pool: CutPool,
+    pub(crate) kept: KeptPoints,
+    pub(crate) judged: Judged,
+}
+
+/// Whether each node stays as it is after an edit, and no cut goes with it.
+fn leaves_nodes(edit: &Edit) -> bool
+    ensures { result ≡ leaves_nodes edit.now }
+{
+    match edit {
+        Edit::SetKind { int, .. } => *int,
+        Edit::DelCol { .. } => false,
+        Edit::DelRow { .. } => false,
+        _ => true,
+    }
+}
+
+/// Gives the leaves of a tree the states that they were judged to have, and puts what is kept of them in the place of that before.
+fn put_judged(tree: &mut Tree, numbers: &mut LeafNumbers, queue: &mut LeafQueue, judged: Judged)
+    requires { leaf_count tree.old.root ≤ length judged.states.items }
+    ensures tree { tree.new ≡ with_leaf_states tree.old judged.states.items }
+    ensures numbers { numbers.new ≡ judged.index.numbers }
+    ensures queue { queue.new ≡ judged.index.queue }
+{
+    tree.set_states(&judged.states);
+    *numbers = judged.index.numbers;
+    *queue = judged.index.queue;
+}
+
+/// Puts cuts and points, with their values, in the place of others.
+fn put_kept(
+    pool: &mut CutPool,
+    points: &mut Vec<Point>,
+    values: &mut Vec<Frac>,
+    new_pool: CutPool,
+    kept: KeptPoints,
+)
+    ensures pool { pool.new ≡ new_pool }
+    ensures points { points.new ≡ kept.points }
+    ensures values { values.new ≡ kept.values }
+{
+    *pool = new_pool;
+    *points = kept.points;
+    *values = kept.values;
+}
+
+impl Search {
+    /// What stands beside the tree after an edit that leaves its nodes. A leaf whose number the edit can't change keeps it.
+    fn stayed(&self, model: &Model, edit: &Edit) -> Result<Stayed, AllocError>
+        requires fits { EditFits self.now.model edit.now }
+        requires edited { model.now ≡ edited self.now.model edit.now }
+        requires leaves { leaves_nodes edit.now ≡ true }
+        ensures stayed { IfOk result (IsStayed model.now self.now.tree) }
+        ensures pool { IfOk result (λ s. IsPoolAfter self.now.model edit.now self.now.cuts model.now s.pool) }
+        ensures points { IfOk result (λ s. AreKeepable model.now (map (point_after self.now.model edit.now) self.now.points) s.kept.points.items) }
+    {
+        let former = Some(Former {
+            touched: touched_by(&self.model, edit),
+            model: &self.model,
+            pool: &self.pool,
+            numbers: &self.numbers,
+        });
+        let pool = pool_after(self.alloc, &self.model, edit, model, &self.pool)?;
+        match kept_points(self.alloc, &self.model, edit, model, &self.points) {
+            Ok(kept) => {
+                let target = least_of(&kept.values);
+                let _few = pool.rows();
+                match judge_tree(self.alloc, model, &pool, &target, &former, &self.tree) {
+                    Ok(judged) => Ok(Stayed { pool, kept, judged }),
+                    Err(error) => {
+                        drop(pool);
+                        drop(kept);
+                        Err(error)
+                    }
+                }
+            }
+            Err(error) => {
+                drop(pool);
+                Err(error)
+            }
+        }
+    }
+
+    /// Goes over to another model with what stands beside the tree there.
+    fn put_stayed(&mut self, model: Model, stayed: Stayed)
+        requires { IsStayed model self.old.tree stayed }
+        ensures { HasParts model stayed.pool self.old.tree stayed.kept.points.items self.new }
+    {
+        self.model = model;
+        put_kept(
+            &mut self.pool,
+            &mut self.points,
+            &mut self.values,
+            stayed.pool,
+            stayed.kept,
+        );
+        put_judged(
+            &mut self.tree,
+            &mut self.numbers,
+            &mut self.queue,
+            stayed.judged,
+        );
+    }
+
+    /// Goes over to the model after an edit that leaves the nodes of the tree.
+    fn stay(&mut self, model: Model, edit: &Edit) -> Result<(), AllocError>
+        requires fits { EditFits self.old.model edit.now }
+        requires edited { model ≡ edited self.old.model edit.now }
+        requires leaves { leaves_nodes edit.now ≡ true }
+        ensures follows { OnOk result (Follows self.old edit.now self.new) }
+        ensures kept { OnErr result (self.new ≡ self.old) }
+    {
+        match self.stayed(&model, edit) {
+            Ok(stayed) => {
+                self.put_stayed(model, stayed);
+                Ok(())
+            }
+            Err(error) => {
+                drop(model);
+                Err(error)
+            }
+        }
+    }
+
+    /// Goes over to the model after an edit.
+    pub(crate) fn go_over(&mut self, model: Model, edit: &Edit) -> Result<(), AllocError>
+        requires fits { EditFits self.old.model edit.now }
+        requires edited { model ≡ edited self.old.model edit.now }
+        ensures follows { OnOk result (Follows self.old edit.now self.new) }
+        ensures kept { OnErr result (self.new ≡ self.old) }
+    {
+        if leaves_nodes(edit) {
+            return self.stay(model, edit);
+        }
+        let search = self.edited_search(model, edit)?;
+        self.replace_with(search);
+        Ok(())
+    }
+}
