@@ -419,12 +419,12 @@ def judge_scale(program, folder, model, shown, place):
 
 
 def greatest():
-    """One of three is chosen, in a model of 500 rows and 1,000 columns: its inner models have more of both."""
+    """One of three is chosen, in a model of 1,000 rows and 4,000 columns: its inner models have more of both."""
     chosen = [column(f"X{place}", 0, 1, *costs) for place, costs in enumerate([(0, 3), (2, 2), (3, 0)])]
-    others = [column(f"W{place}", 0, 1, 0, 0, False) for place in range(3, 1000)]
+    others = [column(f"W{place}", 0, 1, 0, 0, False) for place in range(3, 4000)]
     one = Fraction(1)
     rows = [Row("R0", None, one, {0: one, 1: one, 2: one}), Row("R1", one, None, {0: one, 1: one, 2: one})]
-    rows += [Row(f"R{i}", None, Fraction(4), {place: one for place in range(3, 1000) if place % 498 + 2 == i}) for i in range(2, 500)]
+    rows += [Row(f"R{i}", None, Fraction(4), {place: one for place in range(3, 4000) if place % 998 + 2 == i}) for i in range(2, 1000)]
     return Model("MIN", ["C", "D"], [Fraction(0), Fraction(0)], rows, chosen + others)
 
 
@@ -433,7 +433,7 @@ def judge_greatest(program, folder):
         file.write(mps_text(greatest()))
     told = run(program, folder, ["load M", "mcsolve", "cert F", "edit addrow Q none 9 X0 1", "edit addcol V cont 0 1 0 0"])
     want(told[1] == ["frontier complete 3", "f 0 3", "f 2 2", "f 3 0", "end"], "reply", told[1])
-    want(told[2:] == [["ok"], ["error 08 limit 500"], ["error 08 limit 1000"]], "replies", told[2:])
+    want(told[2:] == [["ok"], ["error 08 limit 1000"], ["error 08 limit 4000"]], "replies", told[2:])
     done = subprocess.run([program, "check", "M", "F"], capture_output=True, text=True, cwd=folder)
     want(done.stdout == "accepted frontier 3\n", "check", done.stdout)
 
@@ -445,7 +445,7 @@ def judge_scales(program):
             judge_greatest(program, folder)
         except (Wrong, ValueError, IndexError) as wrong:
             differ += 1
-            print(f"a model of 500 rows and 1,000 columns: {wrong}", flush=True)
+            print(f"a model of 1,000 rows and 4,000 columns: {wrong}", flush=True)
     for model, shown, place in scale_cases():
         with tempfile.TemporaryDirectory() as folder:
             try:

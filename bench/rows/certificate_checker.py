@@ -93,6 +93,10 @@ def statement(line):
         return kind, (rest[0], None)
     if kind == "claim" and len(rest) == 2 and rest[0] == "optimal":
         return kind, ("optimal", code_or([number(rest[1])])[0])
+    if kind == "claim" and len(rest) == 3 and rest[0] == "within":
+        numbers = [number(word) for word in rest[1:]]
+        below = [3] if isinstance(numbers[0], Fraction) and numbers[0] < 0 else []
+        return kind, ("within", tuple(code_or(numbers + below)))
     if kind in ("point", "ray"):
         return kind, pairs(rest)
     if kind == "cut" and len(rest) >= 3 and rest[1] in ("hi", "lo"):
@@ -327,6 +331,11 @@ class Judge:
     def whole_objective(self):
         return all(c.cost == 0 or c.integer and c.cost.denominator == 1 for c in self.model.columns) and self.model.constants[0].denominator == 1
 
+    def target(self):
+        """What leaves that close by their number reach: the claimed value in least form, less the gap."""
+        kind, value = self.stated.claim
+        return plus(self.least * value[1], -value[0], "value") if kind == "within" else self.least * value
+
     def closes(self, node, path):
         """Why the node breaks, or None."""
         kind, value = self.stated.claim
@@ -343,9 +352,9 @@ class Judge:
         if node[0] == "farkas":
             found = self.leaf_number(path, node[1], False)
             return None if found is not None and found > 0 else 7
-        if kind != "optimal":
+        if kind not in ("optimal", "within"):
             return 7
-        target = self.least * value
+        target = self.target()
         found = self.leaf_number(path, node[1], True)
         if found is None:
             return 7
@@ -361,10 +370,11 @@ class Judge:
                 return 1
             if not self.feasible(x):
                 return 2
-        if kind == "optimal":
+        if kind in ("optimal", "within"):
             terms = [(column.cost, x[j], f"value col {self.names[j]}") for j, column in enumerate(self.model.columns)]
-            if total(self.model.constants[0], terms) != value:
+            if total(self.model.constants[0], terms) != (value if kind == "optimal" else value[1]):
                 return 3
+            self.target()
         if kind == "unbounded":
             raise SystemExit("rays are not judged here")
         for cut in self.stated.cuts:
@@ -397,7 +407,8 @@ class Judge:
         except NoRoom as step:
             return f"wide {node} {step.args[0]}"
         kind, value = self.stated.claim
-        return f"accepted optimal {value}" if kind == "optimal" else f"accepted {kind}"
+        numbers = [value] if kind == "optimal" else value if kind == "within" else []
+        return " ".join(["accepted", kind] + [str(part) for part in numbers])
 
 
 def reply(model, text):

@@ -27,7 +27,7 @@ def chain(depth, side, integer):
         nodes = [split(depth - at) for at in range(depth)] + [leaf] * (depth + 1)
     else:
         nodes = [node for at in range(depth) for node in (split(at), leaf)] + [leaf]
-    return {"warm": 1, "model": model, "cuts": [], "points": [], "nodes": nodes}
+    return {"warm": 2, "model": model, "cuts": [], "points": [], "nodes": nodes}
 
 
 MODEL = """NAME FIVE

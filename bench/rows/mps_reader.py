@@ -256,7 +256,7 @@ def row_codes(r, before):
         codes.add(8)
     if name in [other for _, other in row_lines(before)]:
         codes.add(9)
-    if kind in ("L", "G", "E") and len(sided(before)) >= 500:
+    if kind in ("L", "G", "E") and len(sided(before)) >= 1000:
         codes.add(10)
     return codes
 
@@ -277,7 +277,7 @@ def column_codes(r, before):
     own = [row for other in column_lines(before) if other.fields[0] == name for row, _ in column_pairs(other)]
     if is_twice(pairs, own if names and names[-1] == name else []):
         codes.add(15)
-    if name not in names and len(names) >= 1000:
+    if name not in names and len(names) >= 4000:
         codes.add(16)
     if entries(column_lines(before) + [r], sided(before)) > 50000:
         codes.add(17)

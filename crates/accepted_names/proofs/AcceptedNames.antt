@@ -112,16 +112,19 @@ module _ (P : Program) (plain : HasWordNames P) where
 
   point-words : (claims : Claim) (named : Named) → HasPoint P claims named → HasNameWords named
   point-words (claim.Optimal v) named has = names-words named has.names
+  point-words (claim.Within g v) named has = names-words named has.names
   point-words claim.Infeasible named has = subst HasNameWords (sym has) (All-nil (λ (e : List ℕ × ℚ). IsWord e.0))
   point-words claim.Unbounded named has = names-words named has.names
 
   ray-words : (claims : Claim) (named : Named) → HasRay P claims named → HasNameWords named
   ray-words (claim.Optimal v) named has = subst HasNameWords (sym has) (All-nil (λ (e : List ℕ × ℚ). IsWord e.0))
+  ray-words (claim.Within g v) named has = subst HasNameWords (sym has) (All-nil (λ (e : List ℕ × ℚ). IsWord e.0))
   ray-words claim.Infeasible named has = subst HasNameWords (sym has) (All-nil (λ (e : List ℕ × ℚ). IsWord e.0))
   ray-words claim.Unbounded named has = names-words named has.names
 
   nodes-words : (cuts : List NamedCut) (claims : Claim) (nodes : List CertNode) → HasClosedTree (formulation_by P cuts) claims nodes → All HasNodeWords nodes
   nodes-words cuts (claim.Optimal v) nodes closed = closed-words cuts (claim.Optimal v) nodes closed
+  nodes-words cuts (claim.Within g v) nodes closed = closed-words cuts (claim.Within g v) nodes closed
   nodes-words cuts claim.Infeasible nodes closed = closed-words cuts claim.Infeasible nodes closed
   nodes-words cuts claim.Unbounded nodes closed = subst (All HasNodeWords) (sym closed) (All-nil HasNodeWords)
 

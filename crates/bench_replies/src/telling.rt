@@ -9,8 +9,9 @@ ghost use Rattle.bench_replies.specs.private.Telling.{is_wanting, WritesFirst, W
 
 use cert_commands::held_certificate;
 use kept_env::{Env, EnvFault};
-use lp_model::{Answer, Model};
+use lp_model::Model;
 use reply_texts::write_answer;
+use search_answers::Answer;
 use std::alloc::{AllocError, Global};
 use text_lines::cut_line;
 

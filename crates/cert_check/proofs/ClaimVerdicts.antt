@@ -11,7 +11,7 @@ use Rattle.lp_model.specs.declared.types.CutRow.{CutRow}
 use Rattle.lp_model.specs.Formulations.{formulation}
 use Rattle.leaf_dual.specs.Dual.{HavePlaces}
 use Rattle.cert_text.specs.declared.cert.Claim.{Claim}
-use Rattle.cert_text.specs.declared.cert.Claim.TheVariants.{Optimal, Infeasible, Unbounded}
+use Rattle.cert_text.specs.declared.cert.Claim.TheVariants.{Optimal, Within, Infeasible, Unbounded}
 use Rattle.cert_text.specs.declared.cert.NamedCut.{NamedCut}
 use Rattle.cert_text.specs.declared.cert.CertNode.{CertNode}
 use Rattle.cert_text.specs.declared.cert.Cert.{Cert}
@@ -54,21 +54,25 @@ rows-places M cuts (Fail j) is few = omega arith
 
 visits_there : (M : Program) (claim : Claim) (nodes : List CertNode) → HasTree claim nodes → (visited : List (Path × CertNode)) × AreVisits M claim nodes visited
 visits_there M (Optimal v) nodes t = (visits M [] t.tree, record { tree = t.tree; nodes_are = t.nodes_are; are = refl })
+visits_there M (Within g v) nodes t = (visits M [] t.tree, record { tree = t.tree; nodes_are = t.nodes_are; are = refl })
 visits_there M Infeasible nodes t = (visits M [] t.tree, record { tree = t.tree; nodes_are = t.nodes_are; are = refl })
 visits_there M Unbounded nodes none = ([], (none, refl))
 
 none_visited : (M : Program) (claim : Claim) (nodes : List CertNode) → has_tree claim ≡ false → HasTree claim nodes → AreVisits M claim nodes []
 none_visited M (Optimal v) nodes no_tree t = absurd (let f : true ≡ false = no_tree in cc)
+none_visited M (Within g v) nodes no_tree t = absurd (let f : true ≡ false = no_tree in cc)
 none_visited M Infeasible nodes no_tree t = absurd (let f : true ≡ false = no_tree in cc)
 none_visited M Unbounded nodes no_tree none = (none, refl)
 
 pub tree_there : (claim : Claim) (nodes : List CertNode) → has_tree claim ≡ true → HasTree claim nodes → AreOneTree nodes
 tree_there (Optimal v) nodes some t = t
+tree_there (Within g v) nodes some t = t
 tree_there Infeasible nodes some t = t
 tree_there Unbounded nodes some none = absurd (let f : false ≡ true = some in cc)
 
 tree_visited : (M : Program) (claim : Claim) (nodes : List CertNode) → has_tree claim ≡ true → (t : AreOneTree nodes) → AreVisits M claim nodes (visits M [] t.tree)
 tree_visited M (Optimal v) nodes some t = record { tree = t.tree; nodes_are = t.nodes_are; are = refl }
+tree_visited M (Within g v) nodes some t = record { tree = t.tree; nodes_are = t.nodes_are; are = refl }
 tree_visited M Infeasible nodes some t = record { tree = t.tree; nodes_are = t.nodes_are; are = refl }
 tree_visited M Unbounded nodes some t = absurd (let f : false ≡ true = some in cc)
 

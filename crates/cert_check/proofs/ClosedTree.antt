@@ -1,7 +1,7 @@
 -- A lawful tree whose leaves close as they say proves the claim.
 use Rattle.std.specs.Prelude.{◌≡◌, ℕ, true, false, List, [], All}
 use Rattle.std.proofs.Common.{subst, sym, inl, inr}
-use Rattle.frac128.specs.Rational.{ℚ, ◌≤ℚ◌}
+use Rattle.frac128.specs.Rational.{ℚ, ◌-ℚ◌, ◌≤ℚ◌}
 use Rattle.frac128.specs.RationalOrder.{not_both_ℚ}
 use Rattle.lp_model.specs.Program.{Program, Point, least_value, in_least_form, IsFeasible, IsEmpty}
 use Rattle.lp_model.specs.Edits.{Named}
@@ -14,7 +14,7 @@ use Rattle.leaf_dual.proofs.WeakDuality.{farkas-none, reached-bound}
 use Rattle.branch_tree.specs.Tree.{Tree, SplitsLawfully, EachLeaf}
 use Rattle.branch_tree.proofs.TreeLemmas.{point_in_one_leaf, leaf_with_both}
 use Rattle.cert_text.specs.declared.cert.Claim.{Claim}
-use Rattle.cert_text.specs.declared.cert.Claim.TheVariants.{Optimal, Infeasible, Unbounded}
+use Rattle.cert_text.specs.declared.cert.Claim.TheVariants.{Optimal, Within, Infeasible, Unbounded}
 use Rattle.cert_text.specs.declared.cert.NamedCut.{NamedCut}
 use Rattle.cert_text.specs.declared.cert.CertNode.{CertNode}
 use Rattle.cert_text.specs.declared.cert.CertNode.TheVariants.{Split, Bound, Farkas, Empty}
@@ -43,6 +43,13 @@ module _ (F : Formulation) (is_valid : IsValid F) where
     closes-bound v Empty closes = absurd (empty_region F.model y path closes feasible inside)
     closes-bound v (Split col w) closes = absurd closes
 
+    -- or below that less the gap
+    closes-within : (g v : ℚ) (n : CertNode) → Closes F (Within g v) path n → in_least_form F.model.sense v -ℚ g ≤ℚ least_value F.model 1 y
+    closes-within g v (Bound mults) closes = reaches_value-bound (mults_of F.model mults) (in_least_form F.model.sense v -ℚ g) closes.1
+    closes-within g v (Farkas mults) closes = absurd (farkas-none F path (mults_of F.model mults) y is_valid feasible inside closes.1)
+    closes-within g v Empty closes = absurd (empty_region F.model y path closes feasible inside)
+    closes-within g v (Split col w) closes = absurd closes
+
     -- and none at all where none is claimed feasible
     closes-none : (n : CertNode) → Closes F Infeasible path n → ⊥
     closes-none (Bound mults) closes = closes.1
@@ -61,6 +68,11 @@ module _ (F : Formulation) (is_valid : IsValid F) where
     tree-bound v closed y feasible =
         let found = leaf_with_both (λ path leaf. InRegion path y) (Closes F (Optimal v)) [] tree closed (point_in_one_leaf F.model tree y lawful feasible) in
         closes-bound y feasible found.0 found.1.1.0 v found.1.0 found.1.1.1
+
+    tree-within : (g v : ℚ) → EachLeaf (Closes F (Within g v)) [] tree → (y : Point) → IsFeasible F.model y → in_least_form F.model.sense v -ℚ g ≤ℚ least_value F.model 1 y
+    tree-within g v closed y feasible =
+        let found = leaf_with_both (λ path leaf. InRegion path y) (Closes F (Within g v)) [] tree closed (point_in_one_leaf F.model tree y lawful feasible) in
+        closes-within y feasible found.0 found.1.1.0 g v found.1.0 found.1.1.1
 
     tree-empty : EachLeaf (Closes F Infeasible) [] tree → IsEmpty F.model
     tree-empty closed y feasible =
@@ -85,6 +97,16 @@ module _ (F : Formulation) (is_valid : IsValid F) where
         point.is,
       ),
     )
+    tree-claim (Within g v) named point closed = (
+      point_of F.model named,
+      (
+        record {
+          feasible = point.feasible;
+          unbeaten = λ y y_feasible. subst (λ w. in_least_form F.model.sense w -ℚ g ≤ℚ least_value F.model 1 y) (sym point.is) (tree-within g v closed y y_feasible);
+        },
+        point.is,
+      ),
+    )
     tree-claim Infeasible named point closed = tree-empty closed
     tree-claim Unbounded named point closed = absurd (tree-unbounded closed (point_of F.model named) point.feasible)
 
@@ -98,6 +120,7 @@ closed_tree-bound M cuts stand v nodes t y feasible = tree-bound (formulation_by
 
 parts-claim : (M : Program) (claim : Claim) (point ray : Named) (cuts : List NamedCut) (nodes : List CertNode) → HasPoint M claim point → HasRay M claim ray → All (CutStands M) cuts → HasClosedTree (formulation_by M cuts) claim nodes → IsTrueClaim M claim
 parts-claim M (Optimal v) point ray cuts nodes has no_ray stand tree = closed_tree-claim M (Optimal v) point has cuts stand nodes tree
+parts-claim M (Within g v) point ray cuts nodes has no_ray stand tree = closed_tree-claim M (Within g v) point has cuts stand nodes tree
 parts-claim M Infeasible point ray cuts nodes has no_ray stand tree = closed_tree-claim M Infeasible point has cuts stand nodes tree
 parts-claim M Unbounded point ray cuts nodes has is stand none = unbounded M (point_of M point) (point_of M ray) has.feasible is.is_ray
 

@@ -11,7 +11,7 @@ use Rattle.model_points.proofs.AnswerLemmas.{feasible_answer}
 use Rattle.model_points.proofs.RayLemmas.{judged_rightly}
 use Rattle.branch_tree.specs.Tree.{SplitsLawfully, EachLeaf, left_path, right_path}
 use Rattle.cert_text.specs.declared.cert.Claim.{Claim}
-use Rattle.cert_text.specs.declared.cert.Claim.TheVariants.{Optimal, Infeasible, Unbounded}
+use Rattle.cert_text.specs.declared.cert.Claim.TheVariants.{Optimal, Within, Infeasible, Unbounded}
 use Rattle.cert_text.specs.declared.cert.NamedCut.{NamedCut}
 use Rattle.cert_text.specs.declared.cert.CertNode.{CertNode}
 use Rattle.cert_text.specs.declared.cert.CertNode.TheVariants as node
@@ -69,6 +69,10 @@ point-true M Infeasible point ray why has no_ray judged = cc
 point-true M (Optimal v) point ray why has no_ray (inr judged) = judged.0 has.names
 point-true M (Optimal v) point ray why has no_ray (inl (names, inl wrong)) = let f : false ≡ true = (feasible_answer M (point_of M point) false wrong.0).1 has.feasible in cc
 point-true M (Optimal v) point ray why has no_ray (inl (names, inr wrong)) = wrong.1.1.1.0 (wrong.1.1.0.1 ∙ has.is)
+point-true M (Within g v) point ray why has no_ray (inr (inr judged, some)) = judged.0 has.names
+point-true M (Within g v) point ray why has no_ray (inr (inl (names, inl wrong), some)) = let f : false ≡ true = (feasible_answer M (point_of M point) false wrong.0).1 has.feasible in cc
+point-true M (Within g v) point ray why has no_ray (inr (inl (names, inr wrong), some)) = wrong.1.1.1.0 (wrong.1.1.0.1 ∙ has.is)
+point-true M (Within g v) point ray why has no_ray (inl (passes, never)) = never
 point-true M Unbounded point ray why has along (inr (inr judged, some)) = judged.0 has.names
 point-true M Unbounded point ray why has along (inr (inl (names, wrong), some)) = let f : false ≡ true = (feasible_answer M (point_of M point) false wrong.0).1 has.feasible in cc
 point-true M Unbounded point ray why has along (inl (first, inr judged)) = judged.0 along.names
@@ -88,6 +92,7 @@ tree-breaks F claim nodes visited n why t are at =
 
 nodes-breaks : (F : Formulation) (claim : Claim) (nodes : List CertNode) (visited : List (Path × CertNode)) (n why : ℕ) → HasClosedTree F claim nodes → AreVisits F.model claim nodes visited → IsJudgedAt F claim visited n (Breaks why) → ⊥
 nodes-breaks F (Optimal v) nodes visited n why t are at = tree-breaks F (Optimal v) nodes visited n why t are at
+nodes-breaks F (Within g v) nodes visited n why t are at = tree-breaks F (Within g v) nodes visited n why t are at
 nodes-breaks F Infeasible nodes visited n why t are at = tree-breaks F Infeasible nodes visited n why t are at
 nodes-breaks F Unbounded nodes visited n why none are at = none_parts at.before at.visit at.behind (sym are.1 ∙ at.parts)
   where

@@ -9,7 +9,7 @@ use Rattle.lp_model.specs.Regions.{Path}
 use Rattle.lp_model.specs.Formulations.{Formulation}
 use Rattle.branch_tree.specs.Tree.{SplitsLawfully, EachLeaf, left_path, right_path}
 use Rattle.cert_text.specs.declared.cert.Claim.{Claim}
-use Rattle.cert_text.specs.declared.cert.Claim.TheVariants.{Optimal, Infeasible, Unbounded}
+use Rattle.cert_text.specs.declared.cert.Claim.TheVariants.{Optimal, Within, Infeasible, Unbounded}
 use Rattle.cert_text.specs.declared.cert.Cert.{Cert}
 use Rattle.cert_text.specs.declared.cert.CertMult.{CertMult}
 use Rattle.cert_text.specs.declared.cert.NamedCut.{NamedCut}
@@ -107,6 +107,9 @@ module _ (M : Program) where
         | inl good ↦ record { names = good.0; feasible = good.1.0.0; is = sym good.1.1.1 }
         | inr bad ↦ absurd (no_pass bad.1)
       ]
+  point_passes (Within g v) point ray (inl (inl good, fits)) none = record { names = good.0; feasible = good.1.0.0; is = sym good.1.1.1 }
+  point_passes (Within g v) point ray (inl (inr bad, fits)) none = absurd (no_pass bad.1)
+  point_passes (Within g v) point ray (inr first) none = absurd (first.1 refl)
   point_passes Infeasible point ray judged none = none
   point_passes Unbounded point ray (inr first) none = absurd (first.1 refl)
   point_passes Unbounded point ray (inl (inr bad, ray_judged)) none = absurd (no_pass bad.1)
@@ -114,6 +117,7 @@ module _ (M : Program) where
 
   ray_passes : (claim : Claim) (point ray : Named) → IsClaimJudged M claim point ray Passes → HasNoRay claim ray → HasRay M claim ray
   ray_passes (Optimal v) point ray judged none = none
+  ray_passes (Within g v) point ray judged none = none
   ray_passes Infeasible point ray judged none = none
   ray_passes Unbounded point ray (inr first) none = absurd (first.1 refl)
   ray_passes Unbounded point ray (inl (first, inr bad)) none = absurd (no_pass bad.1)
@@ -127,6 +131,7 @@ module _ (F : Formulation) where
 
   nodes_pass : (claim : Claim) (nodes : List CertNode) (visited : List (Path × CertNode)) → AreVisits F.model claim nodes visited → All (λ p. IsVisitJudged F claim p Passes) visited → HasClosedTree F claim nodes
   nodes_pass (Optimal v) nodes visited t all = closed_tree (Optimal v) nodes visited t all
+  nodes_pass (Within g v) nodes visited t all = closed_tree (Within g v) nodes visited t all
   nodes_pass Infeasible nodes visited t all = closed_tree Infeasible nodes visited t all
   nodes_pass Unbounded nodes visited none all = none.0
 
@@ -143,5 +148,6 @@ accepted_verdict M cert claim certificate verdict =
         ray = ray_passes M cert.claim cert.point cert.ray judged certificate.ray;
         cuts = (cuts_judged M cert.cuts).passed (head-cuts M cert.claim cert.point cert.ray cert.cuts verdict.is.1);
         nodes = nodes_pass (formulation_by M cert.cuts) cert.claim cert.nodes verdict.visited verdict.are verdict.is.2;
+        gap = certificate.gap;
       },
     )

@@ -10,7 +10,6 @@ use Rattle.lp_model.specs.Regions.{Path, AreNarrow}
 use Rattle.lp_model.specs.Formulations.{Formulation}
 use Rattle.lp_model.proofs.NameLemmas.{get_or-map}
 use Rattle.cert_text.specs.declared.cert.Claim.{Claim}
-use Rattle.cert_text.specs.declared.cert.Claim.TheVariants.{Optimal}
 use Rattle.cert_text.specs.declared.cert.CertNode.{CertNode}
 use Rattle.cert_text.specs.declared.cert.CertNode.TheVariants as node
 use Rattle.cert_check.specs.declared.judging.NodeWithPlaces.{NodeWithPlaces}
@@ -20,7 +19,7 @@ use Rattle.cert_check.specs.declared.verdict.Judgement.TheVariants.{Passes, Brea
 use Rattle.cert_text.specs.Tree.{CertTree, certificate_nodes}
 use Rattle.lp_model.specs.Lawful.{column_names}
 use Rattle.cert_check.specs.Accepted.{AreNames, point_of}
-use Rattle.cert_check.specs.Verdict.{WhereThere, IsKindJudged, IsNumberJudged, IsFarkasJudged, IsNodeJudged, IsPointJudged, IsFeasibleJudged, IsDirectionJudged, IsClaimJudged, visits, IsVisitJudged, IsJudgedAt}
+use Rattle.cert_check.specs.Verdict.{WhereThere, IsKindJudged, IsNumberJudged, IsFarkasJudged, IsNodeJudged, IsPointJudged, IsFeasibleJudged, IsDirectionJudged, visits, IsVisitJudged, IsJudgedAt}
 use Rattle.cert_text.specs.Whole.{IsNarrowNode}
 use Rattle.cert_check.specs.Walk.{IsPlace, IsPointOf}
 use Rattle.cert_check.specs.private.Walk.{IsPlacedJudged, IsWalked, CanTurn, after_node}
@@ -125,8 +124,8 @@ goes_all F claim tree nodes k path walked past goes =
     let e = sym (length-map (visits M [] tree) (λ p. p.1)) ∙ ap length (nodes_of M [] tree) in
     subst (All (λ p. IsVisitJudged F claim p Passes)) (take_all k (visits M [] tree) (let n = walked.places.0 in omega (arith, e, n, past))) goes.pass
 
-pub point_judged : (M : Program) (v : ℚ) (x : Point) (named ray : Named) (j : Judgement) → IsPointJudged M v x j → IsPointOf M named (Some x) → IsClaimJudged M (Optimal v) named ray j
-point_judged M v x named ray j judged is = inl (is.0, subst (λ y. IsPointJudged M v y j) is.1 judged)
+pub point_judged : (M : Program) (v : ℚ) (x : Point) (named : Named) (j : Judgement) → IsPointJudged M v x j → IsPointOf M named (Some x) → WhereThere (AreNames (column_names M) named) (IsPointJudged M v (point_of M named)) j
+point_judged M v x named j judged is = inl (is.0, subst (λ y. IsPointJudged M v y j) is.1 judged)
 
 pub feasible_judged : (M : Program) (x : Point) (named : Named) (j : Judgement) → IsFeasibleJudged M x j → IsPointOf M named (Some x) → WhereThere (AreNames (column_names M) named) (IsFeasibleJudged M (point_of M named)) j
 feasible_judged M x named j judged is = inl (is.0, subst (λ y. IsFeasibleJudged M y j) is.1 judged)

@@ -4,7 +4,7 @@
 --     CutStands          a cut's names are known, and it derives (specs/Cuts)
 --     SplitsLawfully, EachLeaf each split is on an integer column; what holds of each leaf and its path (branch_tree)
 use Rattle.std.specs.Prelude.{◌≡◌, ◌≢◌, ◌⊎◌, ℕ, List, [], map, length, All, AllPairs, Contains}
-use Rattle.frac128.specs.Rational.{ℚ}
+use Rattle.frac128.specs.Rational.{ℚ, ◌-ℚ◌}
 use Rattle.lp_model.specs.Program.{Program, Point, value, in_least_form, IsFeasible}
 use Rattle.lp_model.specs.Lawful.{column_names}
 use Rattle.lp_model.specs.Edits.{Named, number_beside}
@@ -14,11 +14,12 @@ use Rattle.model_points.specs.Rays.{IsRay}
 use Rattle.leaf_dual.specs.Dual.{Multipliers, lag, farkas, IsPositiveNumber, ReachesIn}
 use Rattle.branch_tree.specs.Tree.{SplitsLawfully, EachLeaf}
 use Rattle.cert_text.specs.declared.cert.Claim.{Claim}
-use Rattle.cert_text.specs.declared.cert.Claim.TheVariants.{Optimal, Infeasible, Unbounded}
+use Rattle.cert_text.specs.declared.cert.Claim.TheVariants.{Optimal, Within, Infeasible, Unbounded}
 use Rattle.cert_text.specs.declared.cert.CertNode.{CertNode}
 use Rattle.cert_text.specs.declared.cert.CertNode.TheVariants.{Split, Bound, Farkas, Empty}
 use Rattle.cert_text.specs.declared.cert.Cert.{Cert}
 use Rattle.cert_text.specs.Tree.{CertTree, certificate_nodes}
+use Rattle.cert_text.specs.Whole.{HasLawfulGap}
 use Rattle.cert_check.specs.Places.{with_places}
 use Rattle.cert_check.specs.Mults.{AreMults, mults_of}
 use Rattle.cert_check.specs.Cuts.{formulation_by, CutStands}
@@ -36,9 +37,10 @@ point_of M named = map (λ c. number_beside c.name named) M.cols
 
 -- ---- leaves
 
--- the claimed value is reached, where one is claimed
+-- the claimed value is reached, or, in least form, that value less the gap
 abbrev pub ReachesClaim : Formulation → Claim → Path → Multipliers → Type 0
 ReachesClaim F (Optimal v) path mult = ReachesIn F.model (lag F path mult) (in_least_form F.model.sense v)
+ReachesClaim F (Within g v) path mult = ReachesIn F.model (lag F path mult) (in_least_form F.model.sense v -ℚ g)
 ReachesClaim F Infeasible path mult = ⊥
 ReachesClaim F Unbounded path mult = ⊥
 
@@ -65,6 +67,7 @@ pub record IsFeasibleNamed (M : Program) (named : Named) : Type 0 where
 -- a claim that no point is feasible has no point
 abbrev pub HasPoint : Program → Claim → Named → Type 0
 HasPoint M (Optimal v) named = HasValue M named v
+HasPoint M (Within g v) named = HasValue M named v
 HasPoint M Infeasible named = named ≡ []
 HasPoint M Unbounded named = IsFeasibleNamed M named
 
@@ -76,6 +79,7 @@ pub record IsRayNamed (M : Program) (named : Named) : Type 0 where
 -- only a claim that the model is unbounded has a ray
 abbrev pub HasRay : Program → Claim → Named → Type 0
 HasRay M (Optimal v) named = named ≡ []
+HasRay M (Within g v) named = named ≡ []
 HasRay M Infeasible named = named ≡ []
 HasRay M Unbounded named = IsRayNamed M named
 
@@ -89,11 +93,14 @@ pub record IsClosedTree (F : Formulation) (claim : Claim) (nodes : List CertNode
 -- nothing else stands under a claim that the model is unbounded
 abbrev pub HasClosedTree : Formulation → Claim → List CertNode → Type 0
 HasClosedTree F (Optimal v) nodes = IsClosedTree F (Optimal v) nodes
+HasClosedTree F (Within g v) nodes = IsClosedTree F (Within g v) nodes
 HasClosedTree F Infeasible nodes = IsClosedTree F Infeasible nodes
 HasClosedTree F Unbounded nodes = nodes ≡ []
 
+-- a gap is at least 0
 pub record Accepts (M : Program) (cert : Cert) : Type 0 where
   pub point : HasPoint M cert.claim cert.point
   pub ray : HasRay M cert.claim cert.ray
   pub cuts : All (CutStands M) cert.cuts
   pub nodes : HasClosedTree (formulation_by M cert.cuts) cert.claim cert.nodes
+  pub gap : HasLawfulGap cert.claim

@@ -1,9 +1,9 @@
 -- What an accepted certificate proves.
 use Rattle.std.specs.Prelude.{◌≡◌, ℕ}
-use Rattle.lp_model.specs.Program.{Program, Point, value, IsOptimum, IsEmpty}
+use Rattle.lp_model.specs.Program.{Program, Point, value, IsOptimum, IsWithinGap, IsEmpty}
 use Rattle.model_points.specs.Rays.{IsUnbounded}
 use Rattle.cert_text.specs.declared.cert.Claim.{Claim}
-use Rattle.cert_text.specs.declared.cert.Claim.TheVariants.{Optimal, Infeasible, Unbounded}
+use Rattle.cert_text.specs.declared.cert.Claim.TheVariants.{Optimal, Within, Infeasible, Unbounded}
 use Rattle.cert_text.specs.declared.cert.Cert.{Cert}
 use Rattle.cert_check.specs.declared.verdict.Verdict.{Verdict}
 use Rattle.cert_check.specs.declared.verdict.Verdict.TheVariants.{Accepted, Rejected}
@@ -11,10 +11,11 @@ use Rattle.cert_check.specs.Accepted.{Accepts}
 use Rattle.cert_check.specs.Verdict.{IsVerdict}
 use Rattle.cert_text.specs.Whole.{IsCertificate}
 
--- a feasible point that no feasible point beats has the value; no point is feasible; one is, and there are feasible points below each
--- whole number
+-- a feasible point that no feasible point beats, or by no more than the gap, has the value; no point is feasible; one is, and there are
+-- feasible points below each whole number
 abbrev pub IsTrueClaim : Program → Claim → Type 0
 IsTrueClaim M (Optimal v) = (x : Point) × (IsOptimum M x × (value M 1 x ≡ v))
+IsTrueClaim M (Within g v) = (x : Point) × (IsWithinGap M g x × (value M 1 x ≡ v))
 IsTrueClaim M Infeasible = IsEmpty M
 IsTrueClaim M Unbounded = IsUnbounded M
 

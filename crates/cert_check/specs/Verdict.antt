@@ -1,5 +1,5 @@
--- What the judging of a certificate answers. Its point comes first, then its ray, then its cuts, then the nodes in preorder; the
--- first that does not pass decides. Node 0 is the point, the ray and the cuts, and nodes are counted from 1. What does not pass
+-- What the judging of a certificate answers. Its point comes first, then the difference of its value and its gap, then its ray, then
+-- its cuts, then the nodes in preorder; the first that does not pass decides. Node 0 is what stands before the nodes, and nodes are counted from 1. What does not pass
 -- breaks for a reason
 --     1   a name is unknown, or stands twice on a line; a cut's number is not there, or stands twice
 --     2   the point is not feasible
@@ -9,13 +9,15 @@
 --     6   a split on a column that is not integer
 --     7   a leaf does not close as it says
 -- or has a step of arithmetic without room.
-use Rattle.std.specs.Prelude.{◌≡◌, ◌≢◌, ◌⊎◌, ℕ, suc, ◌++◌, true, false, IsTrue, List, [], ◌∷◌, length, Contains, All, Ok, Err}
-use Rattle.frac128.specs.Rational.{ℚ}
+use Rattle.std.specs.Prelude.{◌≡◌, ◌≢◌, ◌⊎◌, ℕ, suc, ◌++◌, true, false, IsTrue, List, [], ◌∷◌, length, Contains, All, None, Ok, Err}
+use Rattle.frac128.specs.Rational.{ℚ, ◌-ℚ◌, neg_ℚ}
+use Rattle.frac128.specs.Range.{SumFits}
 use Rattle.lp_model.specs.Program.{Program, Point, is_integer, in_least_form}
 use Rattle.lp_model.specs.Lawful.{column_names}
 use Rattle.lp_model.specs.Edits.{Named, place_in}
 use Rattle.lp_model.specs.Regions.{Path, IsEmptyRegion}
 use Rattle.lp_model.specs.Formulations.{Formulation}
+use Rattle.lp_model.specs.declared.types.WideStep.TheVariants.{Value}
 use Rattle.model_points.specs.Answers.{IsValueAnswer, IsFeasibilityAnswer}
 use Rattle.model_points.specs.Rays.{IsRayJudged}
 use Rattle.leaf_dual.specs.Dual.{Multipliers, IsPositiveNumber, ReachesIn}
@@ -23,7 +25,7 @@ use Rattle.leaf_dual.specs.Answers.{IsLagAnswer, IsFarkasAnswer}
 use Rattle.leaf_dual.specs.declared.dual.LagValue.{LagValue}
 use Rattle.branch_tree.specs.Tree.{left_path, right_path}
 use Rattle.cert_text.specs.declared.cert.Claim.{Claim}
-use Rattle.cert_text.specs.declared.cert.Claim.TheVariants.{Optimal, Infeasible, Unbounded}
+use Rattle.cert_text.specs.declared.cert.Claim.TheVariants.{Optimal, Within, Infeasible, Unbounded}
 use Rattle.cert_text.specs.declared.cert.NamedCut.{NamedCut}
 use Rattle.cert_text.specs.declared.cert.CertNode.{CertNode}
 use Rattle.cert_text.specs.declared.cert.CertNode.TheVariants as node
@@ -41,6 +43,18 @@ use Rattle.cert_check.specs.Accepted.{AreNames, point_of}
 abbrev pub WhereThere : Type 0 → (Judgement → Type 0) → Judgement → Type 0
 WhereThere there P j = (there × P j) ⊎ ((¬ there) × (j ≡ Breaks 1))
 
+-- the second is judged where the first passes
+abbrev pub InOrder : (Judgement → Type 0) → (Judgement → Type 0) → Judgement → Type 0
+InOrder P Q j = (P Passes × Q j) ⊎ (P j × (j ≢ Passes))
+
+-- ---- the target of a gap
+
+-- the claimed value in least form less the gap has room with each number on the way; else that step is one of a value, without a column
+abbrev pub IsDifferenceJudged : Program → ℚ → ℚ → Judgement → Type 0
+IsDifferenceJudged M g v Passes = SumFits (in_least_form M.sense v) (neg_ℚ g)
+IsDifferenceJudged M g v (Breaks why) = ⊥
+IsDifferenceJudged M g v (NoRoom step) = (¬ SumFits (in_least_form M.sense v) (neg_ℚ g)) × (step ≡ Value None)
+
 -- ---- a leaf's number
 
 abbrev pub IsBoundJudged : Formulation → ℚ → Path → Multipliers → Judgement → Type 0
@@ -48,9 +62,10 @@ IsBoundJudged F t path mult Passes = (q : LagValue) × (IsLagAnswer F path mult 
 IsBoundJudged F t path mult (Breaks why) = (q : LagValue) × (IsLagAnswer F path mult (Ok q) × ((¬ ReachesIn F.model q t) × (why ≡ 7)))
 IsBoundJudged F t path mult (NoRoom step) = IsLagAnswer F path mult (Err step)
 
--- where no value is claimed a number reaches nothing
+-- with a gap the difference is the target; where no value is claimed a number reaches nothing
 abbrev pub IsNumberJudged : Formulation → Claim → Path → Multipliers → Judgement → Type 0
 IsNumberJudged F (Optimal v) path mult j = IsBoundJudged F (in_least_form F.model.sense v) path mult j
+IsNumberJudged F (Within g v) path mult j = InOrder (IsDifferenceJudged F.model g v) (IsBoundJudged F (in_least_form F.model.sense v -ℚ g) path mult) j
 IsNumberJudged F Infeasible path mult j = j ≡ Breaks 7
 IsNumberJudged F Unbounded path mult j = j ≡ Breaks 7
 
@@ -102,13 +117,11 @@ IsDirectionJudged M d Passes = IsRayJudged M d (Ok true)
 IsDirectionJudged M d (Breaks why) = IsRayJudged M d (Ok false) × (why ≡ 4)
 IsDirectionJudged M d (NoRoom step) = IsRayJudged M d (Err step)
 
--- the second is judged where the first passes
-abbrev pub InOrder : (Judgement → Type 0) → (Judgement → Type 0) → Judgement → Type 0
-InOrder P Q j = (P Passes × Q j) ⊎ (P j × (j ≢ Passes))
-
--- the numbers beside names, as the claim has them
+-- the numbers beside names, as the claim has them, and the difference where it has a gap
 abbrev pub IsClaimJudged : Program → Claim → Named → Named → Judgement → Type 0
 IsClaimJudged M (Optimal v) point ray j = WhereThere (AreNames (column_names M) point) (IsPointJudged M v (point_of M point)) j
+IsClaimJudged M (Within g v) point ray j =
+    InOrder (WhereThere (AreNames (column_names M) point) (IsPointJudged M v (point_of M point))) (IsDifferenceJudged M g v) j
 IsClaimJudged M Infeasible point ray j = j ≡ Passes
 IsClaimJudged M Unbounded point ray j =
     InOrder
@@ -143,6 +156,7 @@ pub record AreTreeVisits (M : Program) (nodes : List CertNode) (visited : List (
 -- the nodes that are judged, with their paths: none where the model is claimed unbounded
 abbrev pub AreVisits : Program → Claim → List CertNode → List (Path × CertNode) → Type 0
 AreVisits M (Optimal v) nodes visited = AreTreeVisits M nodes visited
+AreVisits M (Within g v) nodes visited = AreTreeVisits M nodes visited
 AreVisits M Infeasible nodes visited = AreTreeVisits M nodes visited
 AreVisits M Unbounded nodes visited = (nodes ≡ []) × (visited ≡ [])
 

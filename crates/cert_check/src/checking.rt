@@ -8,7 +8,7 @@ ghost use Rattle.leaf_dual.specs.Dual.{HavePlaces};
 ghost use Rattle.cert_check.specs.Walk.{IsPlace, AreNodesPlaced, IsBufferOf, after_leaf, IsNodesVerdict, IsPointOf};
 ghost use Rattle.cert_check.specs.private.Walk.{IsPlacedJudged, CanTurn, after_node, IsWalked, has_tree};
 ghost use Rattle.tight_regions.specs.Tight.{IsTrail, path_of_trail, depth_of, room};
-ghost use Rattle.cert_check.specs.Verdict.{WhereThere, IsFeasibleJudged, IsDirectionJudged, IsClaimJudged, IsHeadJudged, IsVerdict};
+ghost use Rattle.cert_check.specs.Verdict.{WhereThere, IsPointJudged, IsFeasibleJudged, IsDirectionJudged, IsClaimJudged, IsHeadJudged, IsVerdict};
 ghost use Rattle.cert_check.specs.Trees.{IsTreeVerdict};
 ghost use Rattle.cert_check.specs.Cuts.{AreCutsFound};
 ghost use Rattle.lp_model.specs.Lawful.{column_names};
@@ -18,17 +18,18 @@ ghost use Rattle.lp_model.specs.Edits.{Named};
 ghost use Rattle.cert_text.specs.Tree.{CertTree};
 ghost use Rattle.cert_text.specs.declared.cert.CertNode.{CertNode};
 ghost use Rattle.cert_text.specs.declared.cert.NamedCut.{NamedCut};
-ghost use Rattle.cert_text.specs.declared.cert.Claim.TheVariants.{Unbounded};
+ghost use Rattle.cert_text.specs.declared.cert.Claim.TheVariants.{Within, Unbounded};
 
 use crate::cuts::{CutRows, cut_rows, cuts_judgement, standing_rows};
 use crate::judging::{
-    NodeWithPlaces, is_whole, judge_empty, judge_farkas, judge_feasible, judge_number, judge_point,
-    judge_ray, judge_split,
+    NodeWithPlaces, is_whole, judge_difference, judge_empty, judge_farkas, judge_feasible,
+    judge_number, judge_point, judge_ray, judge_split,
 };
 use crate::mults::multipliers;
 use crate::names::{column_place, point};
 use crate::verdict::{Judgement, Verdict};
 use cert_text::{Cert, CertNode, Claim};
+use frac128::Frac;
 use lp_model::{BoundChange, CutRow, Model, Point, Side};
 use std::alloc::{AllocError, Global};
 use tight_regions::Trail;
@@ -348,7 +349,28 @@ fn check_unbounded(model: &Model, point: &Option<Point>, ray: &Option<Point>) ->
     }
 }
 
-/// The point and the ray of the claim, as it has them.
+/// A point that is claimed to have this value.
+fn check_value(model: &Model, value: &Frac, point: &Option<Point>) -> Judgement
+    ensures { (named : Named) → IsPointOf model.now named point.now → WhereThere (AreNames (column_names model.now) named) (IsPointJudged model.now value.now (point_of model.now named)) result }
+{
+    match point {
+        None => Judgement::Breaks(1),
+        Some(point) => judge_point(model, value, point),
+    }
+}
+
+/// A point that is claimed to have this value, and the difference of the value and a gap, which is judged where the point passes.
+fn check_within(model: &Model, value: &Frac, gap: &Frac, point: &Option<Point>) -> Judgement
+    ensures { (p r : Named) → IsPointOf model.now p point.now → IsClaimJudged model.now (Within gap.now value.now) p r result }
+{
+    match check_value(model, value, point) {
+        Judgement::Passes => judge_difference(model, value, gap),
+        Judgement::Breaks(why) => Judgement::Breaks(why),
+        Judgement::NoRoom(step) => Judgement::NoRoom(step),
+    }
+}
+
+/// The point and the ray of the claim, as it has them, and the difference of a value and a gap.
 fn check_claim(
     model: &Model,
     claim: &Claim,
@@ -360,10 +382,8 @@ fn check_claim(
     match claim {
         Claim::Infeasible => Judgement::Passes,
         Claim::Unbounded => check_unbounded(model, point, ray),
-        Claim::Optimal(value) => match point {
-            None => Judgement::Breaks(1),
-            Some(point) => judge_point(model, value, point),
-        },
+        Claim::Optimal(value) => check_value(model, value, point),
+        Claim::Within { gap, value } => check_within(model, value, gap, point),
     }
 }
 
@@ -391,6 +411,7 @@ fn has_tree(claim: &Claim) -> bool
 {
     match claim {
         Claim::Optimal(_) => true,
+        Claim::Within { .. } => true,
         Claim::Infeasible => true,
         Claim::Unbounded => false,
     }

@@ -14,7 +14,7 @@ pub enum Judgement {
 }
 
 /// Whether a certificate is accepted for a model. Nodes are counted from 1 in the order of the text, and node 0 is the
-/// point, the ray and the cuts.
+/// point, the ray and the cuts, and the difference of a value and its gap.
 #[derive(Clone, Copy, Drop)]
 pub enum Verdict {
     /// This claim, the certificate's, is true.
@@ -24,6 +24,7 @@ pub enum Verdict {
     /// column, passes a bound or a side, or does not improve, 5 a cut does not derive, 6 a split on a column that is not
     /// integer, 7 a leaf does not close as it says.
     Rejected { node: u64, why: u8 },
-    /// The first node with a step of arithmetic that has no room, all before it holding.
+    /// The first node with a step of arithmetic that has no room, all before it holding. A value less its gap is one of node 0, a step of a
+    /// value without a column.
     Wide { node: u64, step: WideStep },
 }

@@ -5,14 +5,14 @@ use Rattle.std.specs.Prelude.{All, Option, Some, None, Result, Ok, Err, IfOk, �
 use Rattle.std.proofs.lemmas.List.Elements.{All-append}
 use Rattle.lp_model.specs.Edits.{Named}
 use Rattle.cert_text.specs.declared.cert.Claim.{Claim}
-use Rattle.cert_text.specs.declared.cert.Claim.TheVariants.{Optimal, Infeasible, Unbounded}
+use Rattle.cert_text.specs.declared.cert.Claim.TheVariants.{Optimal, Within, Infeasible, Unbounded}
 use Rattle.cert_text.specs.declared.cert.NamedCut.{NamedCut}
 use Rattle.cert_text.specs.declared.cert.CertNode.{CertNode}
 use Rattle.cert_text.specs.declared.line.Statement.TheVariants.{Claims, Node}
 use Rattle.cert_text.specs.declared.reading.Reading.{Reading}
 use Rattle.cert_text.specs.Text.{StatedCertificate, due_after, is_whole_tree, are_none, takes_point, takes_ray, lacks_point, lacks_numbers, lacks_part, place_code, code_in, end_code, or_no_end, first_claim, first_named, cert_of}
 use Rattle.cert_text.specs.declared.line.Statement.TheVariants as says
-use Rattle.cert_text.specs.Whole.{TakesAll, IsPointed, IsDirected, AreCutsDue, IsRooted, IsNarrowNode, HasNoPoint, HasNoRay, HasNoCuts, AreOneTree, HasTree, IsCertificate}
+use Rattle.cert_text.specs.Whole.{TakesAll, IsPointed, IsDirected, AreCutsDue, IsRooted, IsGapped, IsNarrowNode, HasLawfulGap, HasNoPoint, HasNoRay, HasNoCuts, AreOneTree, HasTree, IsCertificate}
 use Rattle.cert_text.specs.Reading.{held, after, AreKept, IsReadable}
 use Rattle.cert_text.proofs.DueLemmas.{takes-more, whole_tree}
 
@@ -40,6 +40,7 @@ node_clean s n e = let r = by (s.count == 0) s.ended (lacks_part s || takes_ray 
 -- where nodes are due there may be more
 rooted_more : (claim : Option Claim) (lacks : Bool) (more : List CertNode) → ((are_none (option_to_list claim) || lacks) || takes_ray (option_to_list claim)) ≡ false → IsRooted claim more
 rooted_more (Some (Optimal v)) lacks more e = tt
+rooted_more (Some (Within g v)) lacks more e = tt
 rooted_more (Some Infeasible) lacks more e = tt
 rooted_more (Some Unbounded) true more e = absurd cc
 rooted_more (Some Unbounded) false more e = absurd cc
@@ -61,6 +62,7 @@ node_kept old new n clean narrow kept nodes claim point ray cuts ended =
       directed = subst (λ T. T) (λ i. IsDirected (sym claim i) (sym ray i)) kept.directed;
       cuts_due = subst (λ T. T) (λ i. AreCutsDue (sym claim i) (sym cuts i)) kept.cuts_due;
       rooted = subst (λ o. IsRooted o new.nodes) (sym claim) (rooted_more old.claim (lacks_numbers (held old)) new.nodes c.1.0);
+      gapped = subst IsGapped (sym claim) kept.gapped;
     }
 
 -- ---- the other lines
@@ -115,26 +117,30 @@ unclaimed (Some claim) e = absurd (let f : false ≡ true = e in cc)
 
 first_pointed : (claim : Claim) (point : Option Named) → point ≡ None → IsPointed (Some claim) point
 first_pointed (Optimal v) point none = tt
+first_pointed (Within g v) point none = tt
 first_pointed Infeasible point none = none
 first_pointed Unbounded point none = tt
 
 first_directed : (claim : Claim) (ray : Option Named) → ray ≡ None → IsDirected (Some claim) ray
 first_directed (Optimal v) ray none = none
+first_directed (Within g v) ray none = none
 first_directed Infeasible ray none = none
 first_directed Unbounded ray none = tt
 
 first_cuts : (claim : Claim) (cuts : List NamedCut) → cuts ≡ [] → AreCutsDue (Some claim) cuts
 first_cuts (Optimal v) cuts none = tt
+first_cuts (Within g v) cuts none = tt
 first_cuts Infeasible cuts none = tt
 first_cuts Unbounded cuts none = none
 
 first_rooted : (claim : Claim) (nodes : List CertNode) → nodes ≡ [] → IsRooted (Some claim) nodes
 first_rooted (Optimal v) nodes none = tt
+first_rooted (Within g v) nodes none = tt
 first_rooted Infeasible nodes none = tt
 first_rooted Unbounded nodes none = none
 
-pub claim_kept : (old : Reading) (claim : Claim) → code_in (held old) (Ok (Claims claim)) ≡ None → IsReadable old → AreKept (Some claim) old.point old.ray old.cuts old.nodes old.ended old.due
-claim_kept old claim clean kept =
+pub claim_kept : (old : Reading) (claim : Claim) → code_in (held old) (Ok (Claims claim)) ≡ None → HasLawfulGap claim → IsReadable old → AreKept (Some claim) old.point old.ray old.cuts old.nodes old.ended old.due
+claim_kept old claim clean gap kept =
     let c = claim_clean (held old) claim clean in
     let none = unclaimed old.claim c.1 in
     record {
@@ -145,6 +151,7 @@ claim_kept old claim clean kept =
       directed = first_directed claim old.ray (subst (λ o. IsDirected o old.ray) none kept.directed);
       cuts_due = first_cuts claim old.cuts (subst (λ o. AreCutsDue o old.cuts) none kept.cuts_due);
       rooted = first_rooted claim old.nodes (subst (λ o. IsRooted o old.nodes) none kept.rooted);
+      gapped = gap;
     }
 
 -- and it is stated then
@@ -183,6 +190,7 @@ point_clean s named e = place_clean (s.count == 0) s.ended (are_none s.claims) (
 
 point_there : (claim : Option Claim) (point : Option Named) → takes_point (option_to_list claim) ≡ true → IsPointed claim point
 point_there (Some (Optimal v)) point e = tt
+point_there (Some (Within g v)) point e = tt
 point_there (Some Infeasible) point e = absurd (let f : false ≡ true = e in cc)
 point_there (Some Unbounded) point e = tt
 point_there None point e = absurd (let f : false ≡ true = e in cc)
@@ -198,6 +206,7 @@ point_kept old named clean kept =
       directed = kept.directed;
       cuts_due = kept.cuts_due;
       rooted = kept.rooted;
+      gapped = kept.gapped;
     }
 
 pub point_noted : (old : Reading) (named : Named) → code_in (held old) (Ok (says.Point named)) ≡ None → record (held old) { count = old.count + 1; points = named ∷ [] } ≡ after (held old) (Ok (says.Point named))
@@ -219,6 +228,7 @@ ray_clean s named e = place_clean (s.count == 0) s.ended (lacks_point s) (takes_
 
 ray_there : (claim : Option Claim) (ray : Option Named) → takes_ray (option_to_list claim) ≡ true → IsDirected claim ray
 ray_there (Some (Optimal v)) ray e = absurd (let f : false ≡ true = e in cc)
+ray_there (Some (Within g v)) ray e = absurd (let f : false ≡ true = e in cc)
 ray_there (Some Infeasible) ray e = absurd (let f : false ≡ true = e in cc)
 ray_there (Some Unbounded) ray e = tt
 ray_there None ray e = absurd (let f : false ≡ true = e in cc)
@@ -234,6 +244,7 @@ ray_kept old named clean kept =
       directed = ray_there old.claim (Some named) c.1.0;
       cuts_due = kept.cuts_due;
       rooted = kept.rooted;
+      gapped = kept.gapped;
     }
 
 pub ray_noted : (old : Reading) (named : Named) → code_in (held old) (Ok (says.Ray named)) ≡ None → record (held old) { count = old.count + 1; rays = named ∷ [] } ≡ after (held old) (Ok (says.Ray named))
@@ -265,6 +276,7 @@ cut_clean s cut e = by (s.count == 0) s.ended (lacks_part s || takes_ray s.claim
 -- where nodes are due there may be cuts
 cuts_more : (claim : Option Claim) (lacks : Bool) (more : List NamedCut) → ((are_none (option_to_list claim) || lacks) || takes_ray (option_to_list claim)) ≡ false → AreCutsDue claim more
 cuts_more (Some (Optimal v)) lacks more e = tt
+cuts_more (Some (Within g v)) lacks more e = tt
 cuts_more (Some Infeasible) lacks more e = tt
 cuts_more (Some Unbounded) true more e = absurd cc
 cuts_more (Some Unbounded) false more e = absurd cc
@@ -279,6 +291,7 @@ cut_kept old cut cuts clean kept = record {
   directed = kept.directed;
   cuts_due = cuts_more old.claim (lacks_numbers (held old)) cuts (cut_clean (held old) cut clean);
   rooted = kept.rooted;
+  gapped = kept.gapped;
 }
 
 pub cut_noted : (old : Reading) (cut : NamedCut) (cuts : List NamedCut) → cuts ≡ old.cuts ++ cut ∷ [] → record (held old) { count = old.count + 1; cuts = cuts } ≡ after (held old) (Ok (says.Cut cut))
@@ -321,6 +334,7 @@ last_kept old clean kept = record {
   directed = kept.directed;
   cuts_due = kept.cuts_due;
   rooted = kept.rooted;
+  gapped = kept.gapped;
 }
 
 end_clean : (s : StatedCertificate) → end_code s ≡ None → s.ended ≡ true
@@ -333,18 +347,21 @@ end_clean s e = by (s.count == 0) s.ended (or_no_end (place_code s says.End)) e
 
 no_point : (claim : Option Claim) (point : Option Named) → IsPointed claim point → HasNoPoint (first_claim (option_to_list claim)) (first_named (option_to_list point))
 no_point (Some (Optimal v)) point pointed = tt
+no_point (Some (Within g v)) point pointed = tt
 no_point (Some Infeasible) point pointed = ap (λ p. first_named (option_to_list p)) pointed
 no_point (Some Unbounded) point pointed = tt
 no_point None point pointed = ap (λ p. first_named (option_to_list p)) pointed
 
 no_ray : (claim : Option Claim) (ray : Option Named) → IsDirected claim ray → HasNoRay (first_claim (option_to_list claim)) (first_named (option_to_list ray))
 no_ray (Some (Optimal v)) ray directed = ap (λ d. first_named (option_to_list d)) directed
+no_ray (Some (Within g v)) ray directed = ap (λ d. first_named (option_to_list d)) directed
 no_ray (Some Infeasible) ray directed = ap (λ d. first_named (option_to_list d)) directed
 no_ray (Some Unbounded) ray directed = tt
 no_ray None ray directed = ap (λ d. first_named (option_to_list d)) directed
 
 no_cuts : (claim : Option Claim) (cuts : List NamedCut) → AreCutsDue claim cuts → HasNoCuts (first_claim (option_to_list claim)) cuts
 no_cuts (Some (Optimal v)) cuts due = tt
+no_cuts (Some (Within g v)) cuts due = tt
 no_cuts (Some Infeasible) cuts due = tt
 no_cuts (Some Unbounded) cuts due = due
 no_cuts None cuts due = tt
@@ -354,9 +371,14 @@ one_tree nodes takes done = let t = whole_tree nodes takes done in record { tree
 
 tree_of : (claim : Option Claim) (nodes : List CertNode) → TakesAll 1 nodes → IsRooted claim nodes → (takes_ray (option_to_list claim) ≡ false → due_after 1 nodes ≡ 0) → HasTree (first_claim (option_to_list claim)) nodes
 tree_of (Some (Optimal v)) nodes takes rooted done = one_tree nodes takes (done refl)
+tree_of (Some (Within g v)) nodes takes rooted done = one_tree nodes takes (done refl)
 tree_of (Some Infeasible) nodes takes rooted done = one_tree nodes takes (done refl)
 tree_of (Some Unbounded) nodes takes rooted done = rooted
 tree_of None nodes takes rooted done = one_tree nodes takes (done refl)
+
+lawful_gap : (claim : Option Claim) → IsGapped claim → HasLawfulGap (first_claim (option_to_list claim))
+lawful_gap None gapped = tt
+lawful_gap (Some claim) gapped = gapped
 
 pub certificate : (r : Reading) → end_code (held r) ≡ None → IsReadable r → IsCertificate (cert_of (held r))
 certificate r ended kept =
@@ -367,4 +389,5 @@ certificate r ended kept =
       point = no_point r.claim r.point kept.pointed;
       ray = no_ray r.claim r.ray kept.directed;
       cuts = no_cuts r.claim r.cuts kept.cuts_due;
+      gap = lawful_gap r.claim kept.gapped;
     }

@@ -75,6 +75,13 @@ just_two (a ∷ []) d some few = absurd (omega arith)
 just_two (a ∷ b ∷ []) d some few = refl
 just_two (a ∷ b ∷ c ∷ more) d some few = absurd (omega arith)
 
+pub just_three : (words : List (Bor (List ℕ))) (d : Bor (List ℕ)) → 3 ≤ length words → length words < 4 → nows words ≡ (get_or words 0 d).now ∷ (get_or words 1 d).now ∷ (get_or words 2 d).now ∷ []
+just_three [] d some few = absurd (omega arith)
+just_three (a ∷ []) d some few = absurd (omega arith)
+just_three (a ∷ b ∷ []) d some few = absurd (omega arith)
+just_three (a ∷ b ∷ c ∷ []) d some few = refl
+just_three (a ∷ b ∷ c ∷ e ∷ more) d some few = absurd (omega arith)
+
 pub split-short : (words : List (Bor (List ℕ))) → length words < 2 → split_says (nows words) ≡ Err 3
 split-short [] few = refl
 split-short (a ∷ []) few = refl

@@ -1,5 +1,5 @@
 -- Multipliers from the first one on, and the numbers of cuts.
-use Rattle.std.proofs.Common.{◌≡◌, ℕ, ◌+◌, ◌-◌, ◌^◌, ◌≤◌, ◌<◌, ◌++◌, ◌&&◌, List, [], ◌∷◌, length, get_or, take, drop, arith, sym, ap, subst, refl, ◌∙◌, append_assoc, Bor, Bool, true, false, if◌then◌else◌}
+use Rattle.std.proofs.Common.{◌≡◌, ℕ, ◌-◌, ◌^◌, ◌≤◌, ◌<◌, ◌++◌, ◌&&◌, List, [], ◌∷◌, length, get_or, take, drop, arith, sym, ap, subst, refl, ◌∙◌, append_assoc, Bor, Bool, true, false, if◌then◌else◌}
 use Rattle.std.specs.Prelude.{map, codes, bytes_eq, not, ◌==◌, nat_lt, min, Option, Some, None, Result, Ok, Err}
 use Rattle.std.specs.List.{list_all}
 use Rattle.std.proofs.lemmas.Bool.Decides.{nat_tests}

@@ -1,15 +1,15 @@
 -- The lines of a certificate's text, and what each says by itself, or the least code of its own faults:
 --     2   its first word is unknown, or it begins with a blank
---     3   its form: the words behind the first one, a blank at its end, or a split's number that is not whole
+--     3   its form: the words behind the first one, a blank at its end, a split's number that is not whole, or a gap below 0
 --     4   no number stands where one is due
 --     5   a number is too wide, or a split's is 2^127 - 1
-use Rattle.std.specs.Prelude.{ℕ, ◌-◌, ◌^◌, Bool, ◌||◌, if◌then◌else◌, ◌==◌, List, [], ◌∷◌, length, get_or, codes, pos, bytes_eq, Option, None, Some, Result, Ok, Err}
+use Rattle.std.specs.Prelude.{ℕ, ◌-◌, ◌^◌, min, Bool, ◌||◌, if◌then◌else◌, ◌==◌, List, [], ◌∷◌, length, get_or, codes, pos, bytes_eq, Option, None, Some, Result, Ok, Err}
 use Rattle.std.specs.Ordering.{int_eq}
 use Rattle.text_lines.specs.Words.{is_blank, words_of}
-use Rattle.frac128.specs.Rational.{ℚ, den}
+use Rattle.frac128.specs.Rational.{ℚ, den, int, rational_le}
 use Rattle.frac_text.specs.declared.parsing.NumFault.{NumFault}
 use Rattle.lp_model.specs.Edits.{Named}
-use Rattle.cert_text.specs.declared.cert.Claim.TheVariants.{Optimal, Infeasible, Unbounded}
+use Rattle.cert_text.specs.declared.cert.Claim.TheVariants.{Optimal, Within, Infeasible, Unbounded}
 use Rattle.cert_text.specs.declared.cert.CertMult.{CertMult}
 use Rattle.cert_text.specs.declared.cert.NamedCut.{NamedCut}
 use Rattle.cert_text.specs.declared.cert.CertNode.{CertNode}
@@ -67,10 +67,26 @@ claim_word kind =
     else if bytes_eq kind (codes "unbounded") then Ok (says.Claims Unbounded)
     else Err 3
 
--- these, and `claim optimal V`
+-- a gap is at least 0
+abbrev pub is_gap : ℚ → Bool
+is_gap g = rational_le (int (pos 0)) g
+
+-- a value with a gap
+abbrev pub gap_claimed : ℚ → Result ℚ NumFault → Result Statement ℕ
+gap_claimed g (Ok v) = Ok (says.Claims (Within g v))
+gap_claimed g (Err fault) = Err (number_code fault)
+
+-- a gap and a value
+abbrev pub within_claimed : Result ℚ NumFault → Result ℚ NumFault → Result Statement ℕ
+within_claimed (Ok g) value = if is_gap g then gap_claimed g value else Err 3
+within_claimed (Err fault) (Ok v) = Err (number_code fault)
+within_claimed (Err fault) (Err other) = Err (min (number_code fault) (number_code other))
+
+-- these, `claim optimal V` and `claim within G V`
 abbrev pub claim_says : List (List ℕ) → Result Statement ℕ
 claim_says (kind ∷ []) = claim_word kind
 claim_says (kind ∷ number ∷ []) = if bytes_eq kind (codes "optimal") then claimed (spelled_number number) else Err 3
+claim_says (kind ∷ gap ∷ number ∷ []) = if bytes_eq kind (codes "within") then within_claimed (spelled_number gap) (spelled_number number) else Err 3
 claim_says words = Err 3
 
 abbrev pub as_point : Result Named ℕ → Result Statement ℕ

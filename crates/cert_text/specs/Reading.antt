@@ -6,7 +6,7 @@ use Rattle.cert_text.specs.declared.cert.Claim.{Claim}
 use Rattle.cert_text.specs.declared.cert.NamedCut.{NamedCut}
 use Rattle.cert_text.specs.declared.cert.CertNode.{CertNode}
 use Rattle.cert_text.specs.Lines.{line_says}
-use Rattle.cert_text.specs.Whole.{TakesAll, IsPointed, IsDirected, AreCutsDue, IsRooted, IsNarrowNode}
+use Rattle.cert_text.specs.Whole.{TakesAll, IsPointed, IsDirected, AreCutsDue, IsRooted, IsGapped, IsNarrowNode}
 use Rattle.cert_text.specs.Text.{claim_in, point_in, ray_in, cut_in, node_in, takes_ray, is_end_statement, StatedCertificate, stated, code_in, code_at, AreClean, MeantCertificate, FaultyCertificate}
 use Rattle.cert_text.specs.declared.line.Statement.{Statement}
 use Rattle.cert_text.specs.declared.reader.CertFault.{CertFault}
@@ -70,7 +70,7 @@ IsCertificateAnswer text (Err (Bad line code)) = FaultyCertificate text line cod
 IsCertificateAnswer text (Err NoMemory) = Unit {0}
 
 -- what is read so far: parts stand only where the claim has them, nodes only where a tree is due, none is due at the end
--- where the claim has nodes, and splits have room
+-- where the claim has nodes, a gap is at least 0, and splits have room
 pub record AreKept (claim : Option Claim) (point ray : Option Named) (cuts : List NamedCut) (nodes : List CertNode) (ended : Bool) (due : ℕ) : Type 0 where
   pub takes : TakesAll 1 nodes
   pub whole : ended ≡ true → takes_ray (option_to_list claim) ≡ false → due ≡ 0
@@ -79,6 +79,7 @@ pub record AreKept (claim : Option Claim) (point ray : Option Named) (cuts : Lis
   pub directed : IsDirected claim ray
   pub cuts_due : AreCutsDue claim cuts
   pub rooted : IsRooted claim nodes
+  pub gapped : IsGapped claim
 
 abbrev pub IsReadable : Reading → Type 0
 IsReadable r = AreKept r.claim r.point r.ray r.cuts r.nodes r.ended r.due

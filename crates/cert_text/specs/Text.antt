@@ -10,7 +10,7 @@ use Rattle.std.specs.Prelude.{◌≡◌, ℕ, suc, ◌-◌, ◌<◌, Bool, true,
 use Rattle.std.specs.List.{filter_map, list_any}
 use Rattle.lp_model.specs.Edits.{Named}
 use Rattle.cert_text.specs.declared.cert.Claim.{Claim}
-use Rattle.cert_text.specs.declared.cert.Claim.TheVariants.{Optimal, Infeasible, Unbounded}
+use Rattle.cert_text.specs.declared.cert.Claim.TheVariants.{Optimal, Within, Infeasible, Unbounded}
 use Rattle.cert_text.specs.declared.cert.NamedCut.{NamedCut}
 use Rattle.cert_text.specs.declared.cert.CertNode.{CertNode}
 use Rattle.cert_text.specs.declared.cert.CertNode.TheVariants.{Split, Bound, Farkas, Empty}
@@ -91,6 +91,7 @@ are_none (x ∷ xs) = false
 -- a point is due where a value is claimed, or that the model is unbounded
 abbrev pub takes_point : List Claim → Bool
 takes_point (Optimal v ∷ claims) = true
+takes_point (Within g v ∷ claims) = true
 takes_point (Unbounded ∷ claims) = true
 takes_point claims = false
 

@@ -8,6 +8,9 @@ use lp_model::{List, Name, Side};
 pub enum Claim {
     /// A feasible point has this value in objective 1, in the model's own sense, and none beats it.
     Optimal(Frac),
+    /// A feasible point has this value in objective 1, in the model's own sense, and none beats it by more than the gap, which is at
+    /// least 0.
+    Within { gap: Frac, value: Frac },
     /// No point is feasible.
     Infeasible,
     /// Some point is feasible, and whatever number is named, some feasible point has a better value in objective 1.
@@ -24,12 +27,12 @@ pub enum CertMult {
 }
 
 /// A node of a certificate's tree, without its children. A leaf says why no feasible point of its region beats the claimed
-/// value.
+/// value, by more than the gap where one is claimed.
 #[derive(Drop)]
 pub enum CertNode {
     /// The left child has the named column at most at `v`, the right one at least at `v + 1`.
     Split { col: Name, v: i128 },
-    /// The number of the multipliers reaches the value.
+    /// The number of the multipliers reaches the value, or, in least form, the value less the gap.
     Bound(List<CertMult>),
     /// The number of the multipliers with all costs 0 is above 0: the region has no feasible point.
     Farkas(List<CertMult>),

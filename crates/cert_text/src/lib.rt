@@ -1,19 +1,19 @@
 //! Certificates and their text.
 //!
-//! A certificate claims a best value `V`, that no point is feasible, or that the model is unbounded, and gives its reasons.
-//! For the first two these are a point and a branching tree whose leaves each say why no feasible point of their region beats
-//! `V`, by the rows of the model and by cuts, each with the row that it comes from; for the last a feasible point and a ray,
+//! A certificate claims a best value `V`, a value `V` that no feasible point beats by more than a gap `G`, that no point is feasible, or
+//! that the model is unbounded, and gives its reasons. For the first three these are a point, where a value is claimed, and a branching
+//! tree whose leaves each say why no feasible point of their region beats `V`, by more than `G` with a gap, by the rows of the model and by cuts, each with the row that it comes from; for the last a feasible point and a ray,
 //! along which points stay feasible and improve without end. Its text has a line for each part, the nodes of the tree each
 //! before those below it, the left ones first:
 //!
 //! ```text
 //! cert 1
-//! claim optimal V | claim infeasible | claim unbounded
+//! claim optimal V | claim within G V | claim infeasible | claim unbounded
 //! point [NAME V]..                         for a value, and for unbounded
 //! ray [NAME V]..                           for unbounded, which has no cuts and no nodes
 //! cut ROW hi LIT.. | cut ROW lo LIT..      literals, +NAME or -NAME, that this side of the row does not allow to be 1 all together
 //! split NAME V                             NAME <= V below it on the left, NAME >= V + 1 on the right
-//! leaf bound [row NAME V | cut K V]..      multipliers whose number reaches V, those of cuts by the cut's number from 1
+//! leaf bound [row NAME V | cut K V]..      multipliers whose number reaches V, or V less G, those of cuts by the cut's number from 1
 //! leaf farkas [row NAME V | cut K V]..     multipliers whose number with all costs 0 is above 0
 //! leaf empty                               an empty region
 //! end

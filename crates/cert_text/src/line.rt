@@ -1,14 +1,17 @@
 // What one line of a certificate's text says.
-ghost use Rattle.std.specs.Prelude.{◌≡◌, map, IfOk, Ok};
+ghost use Rattle.std.specs.Prelude.{◌≡◌, ◌↔◌, map, pos, IfOk, IsTrue, Ok, Err};
+ghost use Rattle.frac128.specs.Rational.{int, ◌≤ℚ◌};
 ghost use Rattle.cert_text.specs.CutLines.{cut_line_in};
-ghost use Rattle.cert_text.specs.Lines.{begins_blank, ends_blank, is_whole, word_of, word_behind_leaf, named_in, as_point, as_ray, as_cut, cert_says, claim_word, claim_says, split_at, split_says, leaf_says, end_says, word_says, words_say, line_says};
+ghost use Rattle.cert_text.specs.Lines.{begins_blank, ends_blank, is_whole, word_of, word_behind_leaf, named_in, as_point, as_ray, as_cut, cert_says, claim_word, is_gap, within_claimed, claim_says, split_at, split_says, leaf_says, end_says, word_says, words_say, line_says};
 ghost use Rattle.cert_text.specs.Reading.{Says};
-ghost use Rattle.cert_text.specs.Whole.{IsNarrowStatement};
+ghost use Rattle.frac_text.specs.Parsing.{spelled_number};
+ghost use Rattle.cert_text.specs.Whole.{IsLawfulStatement};
 
 use crate::cert::{CertNode, Claim, NamedCut};
 use crate::cut_line::cut_in;
 use crate::mults::mults_in;
 use crate::named::{named_in, number_code};
+use frac_text::NumFault;
 use frac128::Frac;
 use lp_model::{List, Name};
 use std::alloc::Global;
@@ -110,7 +113,7 @@ fn word_behind_leaf(word: &[u8]) -> Option<LineWord>
 /// What `cert` with these further words says.
 fn cert_says(words: &[&[u8]]) -> Result<Statement, LineFault>
     ensures says { Says (cert_says (map (λ word. word.now) words.now)) result }
-    ensures narrow { IfOk result IsNarrowStatement }
+    ensures narrow { IfOk result IsLawfulStatement }
 {
     match words {
         [version] if is_word(b"1", version) => Ok(Statement::Header),
@@ -121,7 +124,7 @@ fn cert_says(words: &[&[u8]]) -> Result<Statement, LineFault>
 /// What `claim` with this one word says.
 fn claim_word(kind: &[u8]) -> Result<Statement, LineFault>
     ensures says { Says (claim_word kind.now) result }
-    ensures narrow { IfOk result IsNarrowStatement }
+    ensures narrow { IfOk result IsLawfulStatement }
 {
     if is_word(b"infeasible", kind) {
         Ok(Statement::Claims(Claim::Infeasible))
@@ -132,10 +135,48 @@ fn claim_word(kind: &[u8]) -> Result<Statement, LineFault>
     }
 }
 
+/// Whether a number may be a gap: it is at least 0.
+fn is_gap(number: &Frac) -> bool
+    ensures test { result ≡ is_gap number.now }
+    ensures decides { IsTrue result ↔ (int (pos 0) ≤ℚ number.now) }
+{
+    Frac::whole(0).is_at_most(number)
+}
+
+/// The least code of the line where the word for its gap is no number, and this word stands for its value.
+fn gap_code(fault: NumFault, number: &[u8]) -> u8
+    ensures { within_claimed (Err fault) (spelled_number number.now) ≡ Err result }
+{
+    let code = number_code(fault);
+    match frac_text::parse(number) {
+        Ok(_) => code,
+        Err(other) => code.min(number_code(other)),
+    }
+}
+
+/// What `claim within` with these two words says.
+fn within_says(gap: &[u8], number: &[u8]) -> Result<Statement, LineFault>
+    ensures says { Says (within_claimed (spelled_number gap.now) (spelled_number number.now)) result }
+    ensures narrow { IfOk result IsLawfulStatement }
+{
+    match frac_text::parse(gap) {
+        Err(fault) => Err(LineFault::Code(gap_code(fault, number))),
+        Ok(gap) => {
+            if !is_gap(&gap) {
+                return Err(LineFault::Code(3));
+            }
+            match frac_text::parse(number) {
+                Ok(value) => Ok(Statement::Claims(Claim::Within { gap, value })),
+                Err(fault) => Err(LineFault::Code(number_code(fault))),
+            }
+        }
+    }
+}
+
 /// What `claim` with these further words says.
 fn claim_says(words: &[&[u8]]) -> Result<Statement, LineFault>
     ensures says { Says (claim_says (map (λ word. word.now) words.now)) result }
-    ensures narrow { IfOk result IsNarrowStatement }
+    ensures narrow { IfOk result IsLawfulStatement }
 {
     match words {
         [kind] => claim_word(kind),
@@ -143,6 +184,7 @@ fn claim_says(words: &[&[u8]]) -> Result<Statement, LineFault>
             Ok(value) => Ok(Statement::Claims(Claim::Optimal(value))),
             Err(fault) => Err(LineFault::Code(number_code(fault))),
         },
+        [kind, gap, number] if is_word(b"within", kind) => within_says(gap, number),
         _ => Err(LineFault::Code(3)),
     }
 }
@@ -150,7 +192,7 @@ fn claim_says(words: &[&[u8]]) -> Result<Statement, LineFault>
 /// What `end` with these further words says.
 fn end_says(words: &[&[u8]]) -> Result<Statement, LineFault>
     ensures says { Says (end_says (map (λ word. word.now) words.now)) result }
-    ensures narrow { IfOk result IsNarrowStatement }
+    ensures narrow { IfOk result IsLawfulStatement }
 {
     match words {
         [] => Ok(Statement::End),
@@ -161,7 +203,7 @@ fn end_says(words: &[&[u8]]) -> Result<Statement, LineFault>
 /// What `split` with these further words says.
 fn split_says(alloc: Global, words: &[&[u8]]) -> Result<Statement, LineFault>
     ensures says { Says (split_says (map (λ word. word.now) words.now)) result }
-    ensures narrow { IfOk result IsNarrowStatement }
+    ensures narrow { IfOk result IsLawfulStatement }
 {
     let [name, number] = words else {
         return Err(LineFault::Code(3));
@@ -175,7 +217,7 @@ fn split_says(alloc: Global, words: &[&[u8]]) -> Result<Statement, LineFault>
 /// The split of a column at a number.
 fn split_at(alloc: Global, name: &[u8], value: &Frac) -> Result<Statement, LineFault>
     ensures says { Says (split_at name.now (Ok value.now)) result }
-    ensures narrow { IfOk result IsNarrowStatement }
+    ensures narrow { IfOk result IsLawfulStatement }
 {
     if !is_whole(value) {
         return Err(LineFault::Code(3));
@@ -200,7 +242,7 @@ fn is_whole(value: &Frac) -> bool
 /// What `leaf` with these further words says.
 fn leaf_says(alloc: Global, words: &[&[u8]]) -> Result<Statement, LineFault>
     ensures says { Says (leaf_says (map (λ word. word.now) words.now)) result }
-    ensures narrow { IfOk result IsNarrowStatement }
+    ensures narrow { IfOk result IsLawfulStatement }
 {
     let [kind, more @ ..] = words else {
         return Err(LineFault::Code(3));
@@ -226,7 +268,7 @@ fn leaf_says(alloc: Global, words: &[&[u8]]) -> Result<Statement, LineFault>
 /// What `point` with these further words says.
 fn point_says(alloc: Global, words: &[&[u8]]) -> Result<Statement, LineFault>
     ensures says { Says (as_point (named_in (map (λ word. word.now) words.now))) result }
-    ensures narrow { IfOk result IsNarrowStatement }
+    ensures narrow { IfOk result IsLawfulStatement }
 {
     match named_in(alloc, words) {
         Ok(named) => Ok(Statement::Point(named)),
@@ -237,7 +279,7 @@ fn point_says(alloc: Global, words: &[&[u8]]) -> Result<Statement, LineFault>
 /// What `ray` with these further words says.
 fn ray_says(alloc: Global, words: &[&[u8]]) -> Result<Statement, LineFault>
     ensures says { Says (as_ray (named_in (map (λ word. word.now) words.now))) result }
-    ensures narrow { IfOk result IsNarrowStatement }
+    ensures narrow { IfOk result IsLawfulStatement }
 {
     match named_in(alloc, words) {
         Ok(named) => Ok(Statement::Ray(named)),
@@ -248,7 +290,7 @@ fn ray_says(alloc: Global, words: &[&[u8]]) -> Result<Statement, LineFault>
 /// What `cut` with these further words says.
 fn cut_says(alloc: Global, words: &[&[u8]]) -> Result<Statement, LineFault>
     ensures says { Says (as_cut (cut_line_in (map (λ word. word.now) words.now))) result }
-    ensures narrow { IfOk result IsNarrowStatement }
+    ensures narrow { IfOk result IsLawfulStatement }
 {
     match cut_in(alloc, words) {
         Ok(cut) => Ok(Statement::Cut(cut)),
@@ -259,7 +301,7 @@ fn cut_says(alloc: Global, words: &[&[u8]]) -> Result<Statement, LineFault>
 /// What a known first word with these further words says.
 fn word_says(alloc: Global, word: LineWord, words: &[&[u8]]) -> Result<Statement, LineFault>
     ensures says { Says (word_says word (map (λ word. word.now) words.now)) result }
-    ensures narrow { IfOk result IsNarrowStatement }
+    ensures narrow { IfOk result IsLawfulStatement }
 {
     match word {
         LineWord::Cert => cert_says(words),
@@ -277,7 +319,7 @@ fn word_says(alloc: Global, word: LineWord, words: &[&[u8]]) -> Result<Statement
 /// What words say, in a line that ends with a blank or not.
 fn words_say(alloc: Global, blank: bool, words: &[&[u8]]) -> Result<Statement, LineFault>
     ensures says { Says (words_say blank (map (λ word. word.now) words.now)) result }
-    ensures narrow { IfOk result IsNarrowStatement }
+    ensures narrow { IfOk result IsLawfulStatement }
 {
     let [first, more @ ..] = words else {
         return Err(LineFault::Code(2));
@@ -292,7 +334,7 @@ fn words_say(alloc: Global, blank: bool, words: &[&[u8]]) -> Result<Statement, L
 /// What a line says by itself.
 pub fn line_says(alloc: Global, line: &[u8]) -> Result<Statement, LineFault>
     ensures says { Says (line_says line.now) result }
-    ensures narrow { IfOk result IsNarrowStatement }
+    ensures narrow { IfOk result IsLawfulStatement }
 {
     if begins_blank(line) {
         return Err(LineFault::Code(2));

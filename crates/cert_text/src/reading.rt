@@ -1,6 +1,6 @@
 // What the lines of a certificate's text state so far.
 ghost use Rattle.std.specs.Prelude.{◌≡◌, ◌+◌, ◌<◌, ◌≤◌, ◌^◌, ◌++◌, ◌∷◌, [], length, option_to_list, IfOk, Ok, Err, Some, None};
-ghost use Rattle.cert_text.specs.Whole.{IsNarrowStatement, IsCertificate};
+ghost use Rattle.cert_text.specs.Whole.{IsLawfulStatement, IsCertificate};
 ghost use Rattle.cert_text.specs.Text.{stated, takes_point, takes_ray, lacks_point, lacks_ray, lacks_numbers, lacks_part, cut_code, node_code, end_tree_code, place_code, code_in, end_code, first_claim, first_named, cert_of, due_after};
 
 use crate::cert::{Cert, CertNode, Claim, NamedCut};
@@ -94,6 +94,7 @@ impl Reading {
     {
         match &self.claim {
             Some(Claim::Optimal(_)) => true,
+            Some(Claim::Within { .. }) => true,
             Some(Claim::Unbounded) => true,
             Some(Claim::Infeasible) => false,
             None => false,
@@ -262,7 +263,7 @@ impl Reading {
     pub(crate) fn note(&mut self, statement: Statement) -> Result<(), AllocError>
         requires clean { code_in (held self.old) (Ok statement) ≡ None }
         requires room { self.old.count + 1 < 2 ^ 64 }
-        requires narrow { IsNarrowStatement statement }
+        requires narrow { IsLawfulStatement statement }
         requires kept { IsReadable self.old }
         ensures stated { IfOk result (λ _. held self.new ≡ after (held self.old) (Ok statement)) }
         ensures kept { IfOk result (λ _. IsReadable self.new) }

@@ -6,7 +6,7 @@ use Rattle.std.proofs.lemmas.List.{take_all}
 use Rattle.std.proofs.lemmas.List.Elements.{All-nil, All-cons, All-head, All-append}
 use Rattle.lp_model.specs.Edits.{Named}
 use Rattle.cert_text.specs.declared.cert.Claim.{Claim}
-use Rattle.cert_text.specs.declared.cert.Claim.TheVariants.{Optimal, Infeasible, Unbounded}
+use Rattle.cert_text.specs.declared.cert.Claim.TheVariants.{Optimal, Within, Infeasible, Unbounded}
 use Rattle.cert_text.specs.declared.cert.NamedCut.{NamedCut}
 use Rattle.cert_text.specs.declared.cert.CertNode.{CertNode}
 use Rattle.cert_text.specs.declared.cert.Cert.{Cert}
@@ -22,8 +22,8 @@ use Rattle.cert_text.specs.Whole.{TakesAll, IsNarrowNode, HasNoPoint, HasNoRay, 
 use Rattle.cert_text.proofs.DueLemmas.{takes-more, whole_tree}
 use Rattle.cert_text.proofs.TextLemmas.{taken_more}
 use Rattle.cert_writer.specs.CertText.{HasCutWords, HasNodeWords, HasCertWords, cert_text}
-use Rattle.cert_writer.specs.Room.{HasFractions, HasClaimRoom, HasPointRoom, HasRayRoom, HasNodeRoom, HasCertRoom}
-use Rattle.cert_writer.proofs.SaidLaws.{GoodNamed, GoodNode, Good, line-good}
+use Rattle.cert_writer.specs.Room.{HasFractions, HasPointRoom, HasRayRoom, HasNodeRoom, HasCertRoom}
+use Rattle.cert_writer.proofs.SaidLaws.{GoodClaim, GoodNamed, GoodNode, Good, line-good}
 use Rattle.cert_writer.proofs.PrintedLaws.{printed_states}
 
 nil_right : {A : Type 0} (l : List A) → l ++ [] ≡ l
@@ -34,13 +34,14 @@ nil_right (x ∷ l) = ap (λ m. x ∷ m) (nil_right l)
 abbrev AreBehind : List Claim → List Named → List Named → List NamedCut → List CertNode → Type 0
 AreBehind [] points rays cuts nodes = (points ≡ []) × ((rays ≡ []) × ((cuts ≡ []) × (nodes ≡ [])))
 AreBehind (Optimal v ∷ claims) points rays cuts nodes = rays ≡ []
+AreBehind (Within g v ∷ claims) points rays cuts nodes = rays ≡ []
 AreBehind (Infeasible ∷ claims) points rays cuts nodes = (points ≡ []) × (rays ≡ [])
 AreBehind (Unbounded ∷ claims) points rays cuts nodes = (cuts ≡ []) × (nodes ≡ [])
 
 record Keeps (claims : List Claim) (points rays : List Named) (cuts : List NamedCut) (nodes : List CertNode) (ended : Bool) : Type 0 where
   takes : TakesAll 1 nodes
   nodes_good : All GoodNode nodes
-  claims_room : All HasClaimRoom claims
+  claims_good : All GoodClaim claims
   points_good : All GoodNamed points
   rays_good : All GoodNamed rays
   cuts_good : All HasCutWords cuts
@@ -110,6 +111,7 @@ point_clean s named = by s.claims (are_none s.points)
     by : (claims : List Claim) (b : Bool) → point_test (not (are_none claims) && (takes_point claims && b)) ≡ None → AreBehind claims s.points s.rays s.cuts s.nodes → AreBehind claims (s.points ++ named ∷ []) s.rays s.cuts s.nodes
     by [] b e h = absurd cc
     by (Optimal v ∷ claims) b e h = h
+    by (Within g v ∷ claims) b e h = h
     by (Infeasible ∷ claims) b e h = absurd cc
     by (Unbounded ∷ claims) b e h = h
 
@@ -121,6 +123,7 @@ ray_clean s named = by s.claims (lacks_point s) (are_none s.rays)
     by claims true b e h = absurd cc
     by [] false b e h = absurd cc
     by (Optimal v ∷ claims) false b e h = absurd cc
+    by (Within g v ∷ claims) false b e h = absurd cc
     by (Infeasible ∷ claims) false b e h = absurd cc
     by (Unbounded ∷ claims) false b e h = h
 
@@ -128,6 +131,7 @@ ray_clean s named = by s.claims (lacks_point s) (are_none s.rays)
 rooted-more : (claims : List Claim) (lacks : Bool) (points rays : List Named) (cuts more_cuts : List NamedCut) (nodes more : List CertNode) → ((are_none claims || lacks) || takes_ray claims) ≡ false → AreBehind claims points rays cuts nodes → AreBehind claims points rays more_cuts more
 rooted-more [] lacks points rays cuts more_cuts nodes more e h = absurd cc
 rooted-more (Optimal v ∷ claims) lacks points rays cuts more_cuts nodes more e h = h
+rooted-more (Within g v ∷ claims) lacks points rays cuts more_cuts nodes more e h = h
 rooted-more (Infeasible ∷ claims) lacks points rays cuts more_cuts nodes more e h = h
 rooted-more (Unbounded ∷ claims) true points rays cuts more_cuts nodes more e h = absurd cc
 rooted-more (Unbounded ∷ claims) false points rays cuts more_cuts nodes more e h = absurd cc
@@ -144,9 +148,11 @@ unchanged s k =
 
 behind-more : (claims : List Claim) (points rays : List Named) (cuts : List NamedCut) (nodes : List CertNode) (claim : Claim) → AreBehind claims points rays cuts nodes → AreBehind (claims ++ claim ∷ []) points rays cuts nodes
 behind-more [] points rays cuts nodes (Optimal v) h = h.1.0
+behind-more [] points rays cuts nodes (Within g v) h = h.1.0
 behind-more [] points rays cuts nodes Infeasible h = (h.0, h.1.0)
 behind-more [] points rays cuts nodes Unbounded h = h.1.1
 behind-more (Optimal v ∷ claims) points rays cuts nodes claim h = h
+behind-more (Within g v ∷ claims) points rays cuts nodes claim h = h
 behind-more (Infeasible ∷ claims) points rays cuts nodes claim h = h
 behind-more (Unbounded ∷ claims) points rays cuts nodes claim h = h
 
@@ -159,7 +165,7 @@ keeps_more s (Ok (says.Claims claim)) k good clean =
     subst (λ T. T) (λ i. Keeps (s.claims ++ claim ∷ []) (sym (nil_right s.points) i) (sym (nil_right s.rays) i) (sym (nil_right s.cuts) i) (sym (nil_right s.nodes) i) (sym (same_ended s.ended) i)) (record {
       takes = k.takes;
       nodes_good = k.nodes_good;
-      claims_room = All-append HasClaimRoom s.claims (claim ∷ []) k.claims_room (one HasClaimRoom claim good);
+      claims_good = All-append GoodClaim s.claims (claim ∷ []) k.claims_good (one GoodClaim claim good);
       points_good = k.points_good;
       rays_good = k.rays_good;
       cuts_good = k.cuts_good;
@@ -170,7 +176,7 @@ keeps_more s (Ok (says.Point named)) k good clean =
     subst (λ T. T) (λ i. Keeps (sym (nil_right s.claims) i) (s.points ++ named ∷ []) (sym (nil_right s.rays) i) (sym (nil_right s.cuts) i) (sym (nil_right s.nodes) i) (sym (same_ended s.ended) i)) (record {
       takes = k.takes;
       nodes_good = k.nodes_good;
-      claims_room = k.claims_room;
+      claims_good = k.claims_good;
       points_good = All-append GoodNamed s.points (named ∷ []) k.points_good (one GoodNamed named good);
       rays_good = k.rays_good;
       cuts_good = k.cuts_good;
@@ -181,7 +187,7 @@ keeps_more s (Ok (says.Ray named)) k good clean =
     subst (λ T. T) (λ i. Keeps (sym (nil_right s.claims) i) (sym (nil_right s.points) i) (s.rays ++ named ∷ []) (sym (nil_right s.cuts) i) (sym (nil_right s.nodes) i) (sym (same_ended s.ended) i)) (record {
       takes = k.takes;
       nodes_good = k.nodes_good;
-      claims_room = k.claims_room;
+      claims_good = k.claims_good;
       points_good = k.points_good;
       rays_good = All-append GoodNamed s.rays (named ∷ []) k.rays_good (one GoodNamed named good);
       cuts_good = k.cuts_good;
@@ -194,7 +200,7 @@ keeps_more s (Ok (says.Cut cut)) k good clean =
     subst (λ T. T) (λ i. Keeps (sym (nil_right s.claims) i) (sym (nil_right s.points) i) (sym (nil_right s.rays) i) (s.cuts ++ cut ∷ []) (sym (nil_right s.nodes) i) (sym (same_ended s.ended) i)) (record {
       takes = k.takes;
       nodes_good = k.nodes_good;
-      claims_room = k.claims_room;
+      claims_good = k.claims_good;
       points_good = k.points_good;
       rays_good = k.rays_good;
       cuts_good = All-append HasCutWords s.cuts (cut ∷ []) k.cuts_good (one HasCutWords cut good);
@@ -208,7 +214,7 @@ keeps_more s (Ok (says.Node n)) k good clean =
     subst (λ T. T) (λ i. Keeps (sym (nil_right s.claims) i) (sym (nil_right s.points) i) (sym (nil_right s.rays) i) (sym (nil_right s.cuts) i) (s.nodes ++ n ∷ []) (sym (same_ended s.ended) i)) (record {
       takes = takes-more 1 s.nodes n k.takes due;
       nodes_good = All-append GoodNode s.nodes (n ∷ []) k.nodes_good (one GoodNode n good);
-      claims_room = k.claims_room;
+      claims_good = k.claims_good;
       points_good = k.points_good;
       rays_good = k.rays_good;
       cuts_good = k.cuts_good;
@@ -221,7 +227,7 @@ keeps_more s (Ok says.End) k good clean =
     subst (λ T. T) (λ i. Keeps (sym (nil_right s.claims) i) (sym (nil_right s.points) i) (sym (nil_right s.rays) i) (sym (nil_right s.cuts) i) (sym (nil_right s.nodes) i) (s.ended || true)) (record {
       takes = k.takes;
       nodes_good = k.nodes_good;
-      claims_room = k.claims_room;
+      claims_good = k.claims_good;
       points_good = k.points_good;
       rays_good = k.rays_good;
       cuts_good = k.cuts_good;
@@ -234,7 +240,7 @@ unfolding stated
 keeps_none = record {
   takes = tt;
   nodes_good = All-nil GoodNode;
-  claims_room = All-nil HasClaimRoom;
+  claims_good = All-nil GoodClaim;
   points_good = All-nil GoodNamed;
   rays_good = All-nil GoodNamed;
   cuts_good = All-nil HasCutWords;
@@ -270,18 +276,21 @@ module _ (points rays : List Named) (cuts : List NamedCut) (nodes : List CertNod
   no_point : (claims : List Claim) → AreBehind claims points rays cuts nodes → HasNoPoint (first_claim claims) (first_named points)
   no_point [] h = ap first_named h.0
   no_point (Optimal v ∷ claims) h = tt
+  no_point (Within g v ∷ claims) h = tt
   no_point (Infeasible ∷ claims) h = ap first_named h.0
   no_point (Unbounded ∷ claims) h = tt
 
   no_ray : (claims : List Claim) → AreBehind claims points rays cuts nodes → HasNoRay (first_claim claims) (first_named rays)
   no_ray [] h = ap first_named h.1.0
   no_ray (Optimal v ∷ claims) h = ap first_named h
+  no_ray (Within g v ∷ claims) h = ap first_named h
   no_ray (Infeasible ∷ claims) h = ap first_named h.1
   no_ray (Unbounded ∷ claims) h = tt
 
   no_cuts : (claims : List Claim) → AreBehind claims points rays cuts nodes → HasNoCuts (first_claim claims) cuts
   no_cuts [] h = tt
   no_cuts (Optimal v ∷ claims) h = tt
+  no_cuts (Within g v ∷ claims) h = tt
   no_cuts (Infeasible ∷ claims) h = tt
   no_cuts (Unbounded ∷ claims) h = h.0
 
@@ -291,12 +300,13 @@ module _ (points rays : List Named) (cuts : List NamedCut) (nodes : List CertNod
   has_tree : (claims : List Claim) → AreBehind claims points rays cuts nodes → TakesAll 1 nodes → (takes_ray claims ≡ false → due_after 1 nodes ≡ 0) → HasTree (first_claim claims) nodes
   has_tree [] h takes done = one_tree takes (done refl)
   has_tree (Optimal v ∷ claims) h takes done = one_tree takes (done refl)
+  has_tree (Within g v ∷ claims) h takes done = one_tree takes (done refl)
   has_tree (Infeasible ∷ claims) h takes done = one_tree takes (done refl)
   has_tree (Unbounded ∷ claims) h takes done = h.1
 
-claim_room : (claims : List Claim) → All HasClaimRoom claims → HasClaimRoom (first_claim claims)
-claim_room [] all = tt
-claim_room (claim ∷ claims) all = All-head HasClaimRoom claim claims all
+claim_good : (claims : List Claim) → All GoodClaim claims → GoodClaim (first_claim claims)
+claim_good [] all = record { room = tt; gap = tt }
+claim_good (claim ∷ claims) all = All-head GoodClaim claim claims all
 
 point_good : (points : List Named) → All GoodNamed points → GoodNamed (first_named points)
 point_good [] all = record { words = All-nil (λ (e : List ℕ × Rattle.frac128.specs.Rational.ℚ). IsWord e.0); room = All-nil (λ (e : List ℕ × Rattle.frac128.specs.Rational.ℚ). Rattle.frac128.specs.Range.Fits e.1) }
@@ -304,11 +314,13 @@ point_good (named ∷ points) all = All-head GoodNamed named points all
 
 point_room : (claim : Claim) (named : Named) → HasFractions named → HasPointRoom claim named
 point_room (Optimal v) named room = room
+point_room (Within g v) named room = room
 point_room Infeasible named room = tt
 point_room Unbounded named room = room
 
 ray_room : (claim : Claim) (named : Named) → HasFractions named → HasRayRoom claim named
 ray_room (Optimal v) named room = tt
+ray_room (Within g v) named room = tt
 ray_room Infeasible named room = tt
 ray_room Unbounded named room = room
 
@@ -322,6 +334,7 @@ record Whole (cert : Cert) : Type 0 where
 
 whole_by : (s : StatedCertificate) → KeepsIn s → end_code s ≡ None → Whole (cert_of s)
 whole_by s k ended =
+    let claim = claim_good s.claims k.claims_good in
     let point = point_good s.points k.points_good in
     let ray = point_good s.rays k.rays_good in
     record {
@@ -331,9 +344,10 @@ whole_by s k ended =
         point = no_point s.points s.rays s.cuts s.nodes s.claims k.behind;
         ray = no_ray s.points s.rays s.cuts s.nodes s.claims k.behind;
         cuts = no_cuts s.points s.rays s.cuts s.nodes s.claims k.behind;
+        gap = claim.gap;
       };
       words = record { point = point.words; ray = ray.words; cuts = k.cuts_good; nodes = all_weaker GoodNode HasNodeWords (λ n g. g.words) s.nodes k.nodes_good };
-      room = record { claim = claim_room s.claims k.claims_room; point = point_room (first_claim s.claims) (first_named s.points) point.room; ray = ray_room (first_claim s.claims) (first_named s.rays) ray.room; nodes = all_weaker GoodNode HasNodeRoom (λ n g. g.room) s.nodes k.nodes_good };
+      room = record { claim = claim.room; point = point_room (first_claim s.claims) (first_named s.points) point.room; ray = ray_room (first_claim s.claims) (first_named s.rays) ray.room; nodes = all_weaker GoodNode HasNodeRoom (λ n g. g.room) s.nodes k.nodes_good };
     }
 
 pub print_again : (text : List ℕ) (cert : Cert) → MeantCertificate text cert → MeantCertificate (cert_text cert) cert

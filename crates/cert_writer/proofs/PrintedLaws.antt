@@ -7,7 +7,8 @@ use Rattle.std.proofs.lemmas.Bool.{false_from_ne_true}
 use Rattle.std.proofs.lemmas.Bool.Decides.{Decides-int_eq}
 use Rattle.std.proofs.lemmas.Int.{ints}
 use Rattle.std.proofs.lemmas.List.Elements.{All-nil, All-cons, All-head, All-tail}
-use Rattle.frac128.specs.Rational.{ℚ, int}
+use Rattle.frac128.specs.Rational.{ℚ, int, ◌≤ℚ◌}
+use Rattle.frac128.proofs.Comparison.{rational_le-decides}
 use Rattle.frac128.specs.Range.{Fits, IsNarrow}
 use Rattle.frac_text.specs.Parsing.{parsed}
 use Rattle.frac128.specs.Printing.{printed}
@@ -19,7 +20,7 @@ use Rattle.lp_model.specs.Sides.{side_of_word}
 use Rattle.lp_model.specs.declared.types.Side.{Side}
 use Rattle.lp_model.specs.declared.types.Side.TheVariants.{Lo, Hi}
 use Rattle.cert_text.specs.declared.cert.Claim.{Claim}
-use Rattle.cert_text.specs.declared.cert.Claim.TheVariants.{Optimal, Infeasible, Unbounded}
+use Rattle.cert_text.specs.declared.cert.Claim.TheVariants.{Optimal, Within, Infeasible, Unbounded}
 use Rattle.cert_text.specs.declared.cert.CertMult.{CertMult}
 use Rattle.cert_text.specs.declared.cert.CertMult.TheVariants.{Row, Cut}
 use Rattle.cert_text.specs.declared.cert.NamedCut.{NamedCut}
@@ -30,10 +31,10 @@ use Rattle.cert_text.specs.declared.line.Statement.{Statement}
 use Rattle.cert_text.specs.declared.line.Statement.TheVariants as says
 use Rattle.cert_text.specs.CutLines.{literal_in, with_literal, literals_in, cut_by, cut_line_in}
 use Rattle.cert_text.specs.Mults.{row_mult, cut_mult, with_mult, mults_in}
-use Rattle.cert_text.specs.Lines.{beside, named_in, claimed, split_at, as_leaf, as_point, as_ray, as_cut, words_say, line_says}
+use Rattle.cert_text.specs.Lines.{beside, named_in, claimed, gap_claimed, within_claimed, split_at, as_leaf, as_point, as_ray, as_cut, words_say, line_says}
 use Rattle.frac_text.specs.Parsing.{spelled_number}
 use Rattle.cert_text.specs.Text.{MeantCertificate}
-use Rattle.cert_text.specs.Whole.{IsNarrowNode, IsCertificate}
+use Rattle.cert_text.specs.Whole.{HasLawfulGap, IsNarrowNode, IsCertificate}
 use Rattle.text_lines.specs.Words.{IsWord, Words}
 use Rattle.cert_writer.specs.CertText.{named_words, all_mult_words, literal_word, literal_words, side_word, cut_words, claim_words, node_words, point_lines, ray_lines, cert_lines, line_text, lines_text, cert_text, HasNameWords, IsMultWord, HasCutWords, HasNodeWords, HasCertWords}
 use Rattle.cert_writer.specs.Room.{HasFractions, MultFits, HasClaimRoom, HasPointRoom, HasRayRoom, HasNodeRoom, HasCertRoom}
@@ -145,12 +146,23 @@ header_line = line_by (codes "cert") (codes "1" ∷ []) says.Header (plain_word 
 pub end_line : Line (codes "end" ∷ []) says.End
 end_line = line_by (codes "end") [] says.End (plain_word (codes "end") refl) (All-nil IsWord) refl
 
-claim_line : (claim : Claim) → HasClaimRoom claim → Line (claim_words claim) (says.Claims claim)
-claim_line (Optimal v) room =
+pub three : (a b c : List ℕ) → IsWord a → IsWord b → IsWord c → All IsWord (a ∷ b ∷ c ∷ [])
+three a b c p q r = All-cons IsWord a (b ∷ c ∷ []) p (two b c q r)
+
+within_read : (g v : ℚ) → Fits g → Fits v → int (pos 0) ≤ℚ g → within_claimed (spelled_number (printed g)) (spelled_number (printed v)) ≡ Ok (says.Claims (Within g v))
+within_read g v gap room some =
+    (λ i. within_claimed (number_read g gap i) (number_read v room i))
+    ∙ ap (λ (b : Bool). if b then gap_claimed g (Ok v) else Err 3) ((rational_le-decides (int (pos 0)) g).1 some)
+
+claim_line : (claim : Claim) → HasClaimRoom claim → HasLawfulGap claim → Line (claim_words claim) (says.Claims claim)
+claim_line (Optimal v) room gap =
     line_by (codes "claim") (codes "optimal" ∷ printed v ∷ []) (says.Claims (Optimal v)) (plain_word (codes "claim") refl) (two (codes "optimal") (printed v) (plain_word (codes "optimal") refl) (number_word v room)) (ap claimed (number_read v room))
-claim_line Infeasible room =
+claim_line (Within g v) room gap =
+    line_by (codes "claim") (codes "within" ∷ printed g ∷ printed v ∷ []) (says.Claims (Within g v)) (plain_word (codes "claim") refl)
+    (three (codes "within") (printed g) (printed v) (plain_word (codes "within") refl) (number_word g room.0) (number_word v room.1)) (within_read g v room.0 room.1 gap)
+claim_line Infeasible room gap =
     line_by (codes "claim") (codes "infeasible" ∷ []) (says.Claims Infeasible) (plain_word (codes "claim") refl) (All-cons IsWord (codes "infeasible") [] (plain_word (codes "infeasible") refl) (All-nil IsWord)) refl
-claim_line Unbounded room =
+claim_line Unbounded room gap =
     line_by (codes "claim") (codes "unbounded" ∷ []) (says.Claims Unbounded) (plain_word (codes "claim") refl) (All-cons IsWord (codes "unbounded") [] (plain_word (codes "unbounded") refl) (All-nil IsWord)) refl
 
 pub point_line : (named : Named) → HasNameWords named → HasFractions named → Line (codes "point" ∷ named_words named) (says.Point named)
@@ -213,11 +225,13 @@ cuts_behind (cut ∷ cuts) lines xs words rest =
 
 point_behind : (claim : Claim) (point : Named) (lines : List Words) (xs : List Statement) → HasNameWords point → HasPointRoom claim point → Lines lines xs → Lines (point_lines claim point ++ lines) (point_statements claim point ++ xs)
 point_behind (Optimal v) point lines xs words room rest = lines_cons (codes "point" ∷ named_words point) (says.Point point) lines xs (point_line point words room) rest
+point_behind (Within g v) point lines xs words room rest = lines_cons (codes "point" ∷ named_words point) (says.Point point) lines xs (point_line point words room) rest
 point_behind Infeasible point lines xs words room rest = rest
 point_behind Unbounded point lines xs words room rest = lines_cons (codes "point" ∷ named_words point) (says.Point point) lines xs (point_line point words room) rest
 
 ray_behind : (claim : Claim) (ray : Named) (lines : List Words) (xs : List Statement) → HasNameWords ray → HasRayRoom claim ray → Lines lines xs → Lines (ray_lines claim ray ++ lines) (ray_statements claim ray ++ xs)
 ray_behind (Optimal v) ray lines xs words room rest = rest
+ray_behind (Within g v) ray lines xs words room rest = rest
 ray_behind Infeasible ray lines xs words room rest = rest
 ray_behind Unbounded ray lines xs words room rest = lines_cons (codes "ray" ∷ named_words ray) (says.Ray ray) lines xs (ray_line ray words room) rest
 
@@ -231,6 +245,6 @@ printed_states cert whole words room =
     let point = point_behind cert.claim cert.point _ _ words.point room.point ray in
     let all : Lines (cert_lines cert) (cert_statements cert) =
     lines_cons (codes "cert" ∷ codes "1" ∷ []) says.Header (claim_words cert.claim ∷ _) (says.Claims cert.claim ∷ _) header_line
-    (lines_cons (claim_words cert.claim) (says.Claims cert.claim) _ _ (claim_line cert.claim room.claim) point) in
+    (lines_cons (claim_words cert.claim) (says.Claims cert.claim) _ _ (claim_line cert.claim room.claim whole.gap) point) in
     states (lines_text (cert_lines cert)) cert.claim cert.point cert.ray cert.cuts cert.nodes whole.tree whole.point whole.ray whole.cuts
     (subst (λ ls. SayAll ls (cert_statements cert)) (sym (lines-cut (cert_lines cert) all.are)) all.say)

@@ -6,13 +6,15 @@ use Rattle.std.specs.Ordering.{int_eq}
 use Rattle.std.proofs.lemmas.Bool.Decides.{nat_tests, Decides-int_eq}
 use Rattle.std.proofs.lemmas.Int.{ints}
 use Rattle.std.proofs.lemmas.List.Elements.{All-nil, All-cons, All-head, All-tail}
-use Rattle.frac128.specs.Rational.{ℚ}
+use Rattle.frac128.specs.Rational.{ℚ, int}
+use Rattle.frac128.proofs.Comparison.{rational_le-decides}
 use Rattle.frac128.specs.Range.{Fits, IsNarrow}
 use Rattle.frac_text.specs.declared.parsing.NumFault.{NumFault}
 use Rattle.frac_text.specs.Spelling.{value_of}
 use Rattle.lp_model.specs.Edits.{Named}
 use Rattle.lp_model.specs.Sides.{side_of_word}
 use Rattle.lp_model.specs.declared.types.Side.{Side}
+use Rattle.cert_text.specs.declared.cert.Claim.{Claim}
 use Rattle.cert_text.specs.declared.cert.Claim.TheVariants.{Infeasible, Unbounded}
 use Rattle.cert_text.specs.declared.cert.CertMult.{CertMult}
 use Rattle.cert_text.specs.declared.cert.CertNode.{CertNode}
@@ -26,9 +28,9 @@ use Rattle.text_lines.specs.Words.{is_blank, words_of, IsWord}
 use Rattle.text_lines.proofs.CleanLemmas.{words-are}
 use Rattle.cert_text.specs.CutLines.{literal_in, with_literal, literals_in, cut_by, cut_line_in}
 use Rattle.cert_text.specs.Mults.{are_plain_digits, number_of_cut, row_mult, cut_mult, mult_in, with_mult, mults_in}
-use Rattle.cert_text.specs.Lines.{begins_blank, ends_blank, with_named, beside, named_in, cert_says, claimed, claim_says, as_point, as_ray, as_cut, is_whole, split_at, split_says, as_leaf, empty_says, leaf_says, end_says, word_of, word_says, known_says, words_say, line_says}
+use Rattle.cert_text.specs.Lines.{begins_blank, ends_blank, with_named, beside, named_in, cert_says, claimed, is_gap, gap_claimed, within_claimed, claim_says, as_point, as_ray, as_cut, is_whole, split_at, split_says, as_leaf, empty_says, leaf_says, end_says, word_of, word_says, known_says, words_say, line_says}
 use Rattle.frac_text.specs.Parsing.{spelled_number}
-use Rattle.cert_text.specs.Whole.{IsNarrowNode}
+use Rattle.cert_text.specs.Whole.{HasLawfulGap, IsNarrowNode}
 use Rattle.cert_writer.specs.CertText.{HasNameWords, IsMultWord, HasCutWords, HasNodeWords}
 use Rattle.cert_writer.specs.Room.{HasFractions, MultFits, HasClaimRoom, HasNodeRoom}
 use Rattle.cert_writer.proofs.FitLaws.{FitsOk, number-fits}
@@ -42,9 +44,13 @@ pub record GoodNode (n : CertNode) : Type 0 where
   pub words : HasNodeWords n
   pub room : HasNodeRoom n
 
+pub record GoodClaim (claim : Claim) : Type 0 where
+  pub room : HasClaimRoom claim
+  pub gap : HasLawfulGap claim
+
 abbrev pub GoodStatement : Statement → Type 0
 GoodStatement says.Header = Unit {0}
-GoodStatement (says.Claims claim) = HasClaimRoom claim
+GoodStatement (says.Claims claim) = GoodClaim claim
 GoodStatement (says.Point named) = GoodNamed named
 GoodStatement (says.Node n) = GoodNode n
 GoodStatement says.End = Unit {0}
@@ -213,23 +219,41 @@ cert-good (version ∷ []) = by (bytes_eq version (codes "1"))
 cert-good (a ∷ b ∷ more) = tt
 
 claimed-good : (r : Result ℚ NumFault) → FitsOk r → Good (claimed r)
-claimed-good (Ok v) fits = fits
+claimed-good (Ok v) fits = record { room = fits; gap = tt }
 claimed-good (Err fault) fits = tt
+
+gap-good : (g : ℚ) (r : Result ℚ NumFault) → is_gap g ≡ true → Fits g → FitsOk r → Good (gap_claimed g r)
+gap-good g (Ok v) e gap fits = record { room = (gap, fits); gap = (rational_le-decides (int (pos 0)) g).0 e }
+gap-good g (Err fault) e gap fits = tt
+
+within-good : (g r : Result ℚ NumFault) → FitsOk g → FitsOk r → Good (within_claimed g r)
+within-good (Ok g) r gap fits = by (is_gap g) refl
+  where
+    by : (b : Bool) → is_gap g ≡ b → Good (if b then gap_claimed g r else Err 3)
+    by true e = gap-good g r e gap fits
+    by false e = tt
+within-good (Err fault) (Ok v) gap fits = tt
+within-good (Err fault) (Err other) gap fits = tt
 
 claim-good : (words : List (List ℕ)) → Good (claim_says words)
 claim-good [] = tt
 claim-good (kind ∷ []) = by (bytes_eq kind (codes "infeasible")) (bytes_eq kind (codes "unbounded"))
   where
     by : (a b : Bool) → Good (if a then Ok (says.Claims Infeasible) else if b then Ok (says.Claims Unbounded) else Err 3)
-    by true b = tt
-    by false true = tt
+    by true b = record { room = tt; gap = tt }
+    by false true = record { room = tt; gap = tt }
     by false false = tt
 claim-good (kind ∷ number ∷ []) = by (bytes_eq kind (codes "optimal")) (claimed-good (spelled_number number) (number-fits number))
   where
     by : (b : Bool) → Good (claimed (spelled_number number)) → Good (if b then claimed (spelled_number number) else Err 3)
     by true good = good
     by false good = tt
-claim-good (a ∷ b ∷ c ∷ more) = tt
+claim-good (kind ∷ gap ∷ number ∷ []) = by (bytes_eq kind (codes "within")) (within-good (spelled_number gap) (spelled_number number) (number-fits gap) (number-fits number))
+  where
+    by : (b : Bool) → Good (within_claimed (spelled_number gap) (spelled_number number)) → Good (if b then within_claimed (spelled_number gap) (spelled_number number) else Err 3)
+    by true good = good
+    by false good = tt
+claim-good (a ∷ b ∷ c ∷ d ∷ more) = tt
 
 point-good : (r : Result Named ℕ) → GoodOk r → Good (as_point r)
 point-good (Ok named) good = good

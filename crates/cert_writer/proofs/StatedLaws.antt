@@ -7,7 +7,7 @@ use Rattle.std.proofs.lemmas.Bool.{false_from_ne_true}
 use Rattle.std.proofs.lemmas.Bool.Decides.{Decides-eqb}
 use Rattle.lp_model.specs.Edits.{Named}
 use Rattle.cert_text.specs.declared.cert.Claim.{Claim}
-use Rattle.cert_text.specs.declared.cert.Claim.TheVariants.{Optimal, Infeasible, Unbounded}
+use Rattle.cert_text.specs.declared.cert.Claim.TheVariants.{Optimal, Within, Infeasible, Unbounded}
 use Rattle.cert_text.specs.declared.cert.NamedCut.{NamedCut}
 use Rattle.cert_text.specs.declared.cert.CertNode.{CertNode}
 use Rattle.cert_text.specs.declared.cert.CertNode.TheVariants as node
@@ -81,17 +81,22 @@ with_nodes count claim points cuts nodes = record { count = suc count; claims = 
 abbrev pub HasPart : Claim → List Named → Type 0
 HasPart (Optimal v) [] = ⊥
 HasPart (Optimal v) (named ∷ points) = Unit {0}
+HasPart (Within g v) [] = ⊥
+HasPart (Within g v) (named ∷ points) = Unit {0}
 HasPart Infeasible points = Unit {0}
 HasPart Unbounded points = ⊥
 
 no_part : (count : ℕ) (claim : Claim) (points : List Named) (cuts : List NamedCut) (nodes : List CertNode) → HasPart claim points → lacks_part (with_nodes count claim points cuts nodes) ≡ false
 no_part count (Optimal v) [] cuts nodes h = absurd h
 no_part count (Optimal v) (named ∷ points) cuts nodes h = refl
+no_part count (Within g v) [] cuts nodes h = absurd h
+no_part count (Within g v) (named ∷ points) cuts nodes h = refl
 no_part count Infeasible points cuts nodes h = refl
 no_part count Unbounded points cuts nodes h = absurd h
 
 no_ray : (claim : Claim) (points : List Named) → HasPart claim points → takes_ray (claim ∷ []) ≡ false
 no_ray (Optimal v) points h = refl
+no_ray (Within g v) points h = refl
 no_ray Infeasible points h = refl
 no_ray Unbounded points h = absurd h
 
@@ -202,11 +207,13 @@ module _ (nodes : List CertNode) (tree : CertTree) (whole : certificate_nodes tr
 
 abbrev pub point_statements : Claim → Named → List Statement
 point_statements (Optimal v) named = says.Point named ∷ []
+point_statements (Within g v) named = says.Point named ∷ []
 point_statements Infeasible named = []
 point_statements Unbounded named = says.Point named ∷ []
 
 abbrev pub ray_statements : Claim → Named → List Statement
 ray_statements (Optimal v) named = []
+ray_statements (Within g v) named = []
 ray_statements Infeasible named = []
 ray_statements Unbounded named = says.Ray named ∷ []
 
@@ -263,6 +270,11 @@ states text (Optimal v) point ray cuts nodes t none no_ray any say =
     meant_by text cuts nodes t.tree t.nodes_are (Optimal v) point ray (point ∷ []) count refl no_ray
     (taken [] (line_bytes text) (cert_statements (record { claim = Optimal v; point = point; ray = ray; cuts = cuts; nodes = nodes })) (final count (Optimal v) (point ∷ []) cuts nodes) (no_line text) say
     (refl, (refl, (refl, behind text cuts nodes t.tree t.nodes_are (Optimal v) (point ∷ []) tt 2))))
+states text (Within g v) point ray cuts nodes t none no_ray any say =
+    let count = length nodes + (length cuts + 2) in
+    meant_by text cuts nodes t.tree t.nodes_are (Within g v) point ray (point ∷ []) count refl no_ray
+    (taken [] (line_bytes text) (cert_statements (record { claim = Within g v; point = point; ray = ray; cuts = cuts; nodes = nodes })) (final count (Within g v) (point ∷ []) cuts nodes) (no_line text) say
+    (refl, (refl, (refl, behind text cuts nodes t.tree t.nodes_are (Within g v) (point ∷ []) tt 2))))
 states text Infeasible point ray cuts nodes t none no_ray any say =
     let count = length nodes + (length cuts + 1) in
     meant_by text cuts nodes t.tree t.nodes_are Infeasible point ray [] count (sym none) no_ray

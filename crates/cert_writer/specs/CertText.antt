@@ -6,7 +6,7 @@ use Rattle.lp_model.specs.Edits.{Named}
 use Rattle.lp_model.specs.declared.types.Side.{Side}
 use Rattle.lp_model.specs.declared.types.Side.TheVariants.{Lo, Hi}
 use Rattle.cert_text.specs.declared.cert.Claim.{Claim}
-use Rattle.cert_text.specs.declared.cert.Claim.TheVariants.{Optimal, Infeasible, Unbounded}
+use Rattle.cert_text.specs.declared.cert.Claim.TheVariants.{Optimal, Within, Infeasible, Unbounded}
 use Rattle.cert_text.specs.declared.cert.CertMult.{CertMult}
 use Rattle.cert_text.specs.declared.cert.CertMult.TheVariants.{Row, Cut}
 use Rattle.cert_text.specs.declared.cert.NamedCut.{NamedCut}
@@ -52,6 +52,7 @@ cut_words cut = codes "cut" ∷ cut.row ∷ side_word cut.side ∷ literal_words
 
 abbrev pub claim_words : Claim → Words
 claim_words (Optimal v) = codes "claim" ∷ codes "optimal" ∷ printed v ∷ []
+claim_words (Within g v) = codes "claim" ∷ codes "within" ∷ printed g ∷ printed v ∷ []
 claim_words Infeasible = codes "claim" ∷ codes "infeasible" ∷ []
 claim_words Unbounded = codes "claim" ∷ codes "unbounded" ∷ []
 
@@ -64,12 +65,14 @@ node_words Empty = codes "leaf" ∷ codes "empty" ∷ []
 -- a point has a line where a value is claimed, or that the model is unbounded
 abbrev pub point_lines : Claim → Named → List Words
 point_lines (Optimal v) named = (codes "point" ∷ named_words named) ∷ []
+point_lines (Within g v) named = (codes "point" ∷ named_words named) ∷ []
 point_lines Infeasible named = []
 point_lines Unbounded named = (codes "point" ∷ named_words named) ∷ []
 
 -- a ray has one where the model is claimed unbounded
 abbrev pub ray_lines : Claim → Named → List Words
 ray_lines (Optimal v) named = []
+ray_lines (Within g v) named = []
 ray_lines Infeasible named = []
 ray_lines Unbounded named = (codes "ray" ∷ named_words named) ∷ []
 

@@ -4,7 +4,7 @@ use Rattle.std.specs.Prelude.{◌<◌, ◌^◌, All}
 use Rattle.frac128.specs.Range.{Fits}
 use Rattle.lp_model.specs.Edits.{Named}
 use Rattle.cert_text.specs.declared.cert.Claim.{Claim}
-use Rattle.cert_text.specs.declared.cert.Claim.TheVariants.{Optimal, Infeasible, Unbounded}
+use Rattle.cert_text.specs.declared.cert.Claim.TheVariants.{Optimal, Within, Infeasible, Unbounded}
 use Rattle.cert_text.specs.declared.cert.CertMult.{CertMult}
 use Rattle.cert_text.specs.declared.cert.CertMult.TheVariants.{Row, Cut}
 use Rattle.cert_text.specs.declared.cert.CertNode.{CertNode}
@@ -16,18 +16,21 @@ HasFractions named = All (λ e. Fits e.1) named
 
 abbrev pub HasClaimRoom : Claim → Type 0
 HasClaimRoom (Optimal v) = Fits v
+HasClaimRoom (Within g v) = Fits g × Fits v
 HasClaimRoom Infeasible = Unit {0}
 HasClaimRoom Unbounded = Unit {0}
 
 -- the numbers of a point that is printed
 abbrev pub HasPointRoom : Claim → Named → Type 0
 HasPointRoom (Optimal v) named = HasFractions named
+HasPointRoom (Within g v) named = HasFractions named
 HasPointRoom Infeasible named = Unit {0}
 HasPointRoom Unbounded named = HasFractions named
 
 -- the numbers of a ray that is printed
 abbrev pub HasRayRoom : Claim → Named → Type 0
 HasRayRoom (Optimal v) named = Unit {0}
+HasRayRoom (Within g v) named = Unit {0}
 HasRayRoom Infeasible named = Unit {0}
 HasRayRoom Unbounded named = HasFractions named
 

@@ -5,6 +5,7 @@ ghost use Rattle.frac128.specs.Range.{Fits};
 ghost use Rattle.frac128.specs.Printing.{printed};
 ghost use Rattle.cert_text.specs.Text.{MeantCertificate};
 ghost use Rattle.cert_text.specs.Whole.{IsCertificate};
+ghost use Rattle.cert_text.specs.declared.cert.Claim.TheVariants.{Within};
 ghost use Rattle.cert_writer.specs.CertText.{named_words, mult_words, all_mult_words, sign_of, literal_word, literal_words, side_word, cut_words, claim_words, node_words, point_lines, ray_lines, line_text, lines_text, cert_text, HasCertWords};
 ghost use Rattle.text_lines.specs.Words.{spaced};
 ghost use Rattle.cert_writer.specs.Room.{HasFractions, MultFits, HasNodeRoom, HasClaimRoom, HasPointRoom, HasRayRoom, HasCertRoom};
@@ -175,6 +176,20 @@ pub fn put_cuts(text: &mut Vec<u8>, cuts: &[NamedCut]) -> Result<(), AllocError>
     Ok(())
 }
 
+/// The line of a value that is claimed with a gap.
+fn put_within(text: &mut Vec<u8>, gap: &Frac, value: &Frac) -> Result<(), AllocError>
+    ensures text { IfOk result (λ _. text.new.items ≡ text.old.items ++ line_text (claim_words (Within gap.now value.now))) }
+    ensures room { IfOk result (λ _. HasClaimRoom (Within gap.now value.now)) }
+{
+    let Ok(()) = text.extend_from_slice(b"claim within") else {
+        return Err(AllocError);
+    };
+    let Ok(()) = put_number(text, gap) else {
+        return Err(AllocError);
+    };
+    put_number(text, value)
+}
+
 /// The claim's line.
 fn put_claim(text: &mut Vec<u8>, claim: &Claim) -> Result<(), AllocError>
     ensures text { IfOk result (λ _. text.new.items ≡ text.old.items ++ line_text (claim_words claim.now)) }
@@ -185,6 +200,7 @@ fn put_claim(text: &mut Vec<u8>, claim: &Claim) -> Result<(), AllocError>
             Ok(()) => put_number(text, value),
             Err(error) => Err(error),
         },
+        Claim::Within { gap, value } => put_within(text, gap, value),
         Claim::Infeasible => text.extend_from_slice(b"claim infeasible"),
         Claim::Unbounded => text.extend_from_slice(b"claim unbounded"),
     }
@@ -265,6 +281,7 @@ fn put_point(text: &mut Vec<u8>, cert: &Cert) -> Result<(), AllocError>
     match cert.claim {
         Claim::Infeasible => Ok(()),
         Claim::Optimal(_) => put_named_line(text, b"point", cert.point.as_slice()),
+        Claim::Within { .. } => put_named_line(text, b"point", cert.point.as_slice()),
         Claim::Unbounded => put_named_line(text, b"point", cert.point.as_slice()),
     }
 }
@@ -276,6 +293,7 @@ fn put_ray(text: &mut Vec<u8>, cert: &Cert) -> Result<(), AllocError>
 {
     match cert.claim {
         Claim::Optimal(_) => Ok(()),
+        Claim::Within { .. } => Ok(()),
         Claim::Infeasible => Ok(()),
         Claim::Unbounded => put_named_line(text, b"ray", cert.ray.as_slice()),
     }

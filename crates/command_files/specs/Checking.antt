@@ -26,7 +26,7 @@ use Rattle.front_check.specs.declared.verdict.FrontVerdict.{FrontVerdict}
 use Rattle.front_check.specs.declared.verdict.FrontVerdict.TheVariants as front
 use Rattle.cert_check.specs.Laws.{IsTrueClaim}
 use Rattle.cert_text.specs.declared.cert.Claim.{Claim}
-use Rattle.cert_text.specs.declared.cert.Claim.TheVariants.{Optimal, Infeasible, Unbounded}
+use Rattle.cert_text.specs.declared.cert.Claim.TheVariants.{Optimal, Within, Infeasible, Unbounded}
 use Rattle.cert_text.specs.declared.cert.Cert.{Cert}
 use Rattle.cert_check.specs.declared.verdict.Verdict.{Verdict}
 use Rattle.cert_check.specs.declared.verdict.Verdict.TheVariants.{Accepted, Rejected, Wide}
@@ -70,8 +70,13 @@ cert_refusal_text refusal.Memory = memory_text
 abbrev pub accepted_value_text : ℚ → List ℕ
 accepted_value_text v = codes "accepted optimal " ++ printed v ++ codes "\n"
 
+-- a gap, then the value
+abbrev pub accepted_within_text : ℚ → ℚ → List ℕ
+accepted_within_text g v = codes "accepted within " ++ printed g ++ codes " " ++ printed v ++ codes "\n"
+
 abbrev pub claim_text : Claim → List ℕ
 claim_text (Optimal v) = accepted_value_text v
+claim_text (Within g v) = accepted_within_text g v
 claim_text Infeasible = codes "accepted infeasible\n"
 claim_text Unbounded = codes "accepted unbounded\n"
 

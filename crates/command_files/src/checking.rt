@@ -5,7 +5,7 @@ ghost use Rattle.cert_text.specs.Whole.{IsCertificate};
 ghost use Rattle.cert_check.specs.Verdict.{IsVerdict};
 ghost use Rattle.front_text.specs.Whole.{IsFrontCertificate};
 ghost use Rattle.front_text.specs.Reading.{IsAnyCertificate};
-ghost use Rattle.command_files.specs.Checking.{ReadsCert, accepted_value_text, claim_text, rejected_text, wide_text, verdict_text, accepted_front_text, front_verdict_text, ChecksFiles, Checks};
+ghost use Rattle.command_files.specs.Checking.{ReadsCert, accepted_value_text, accepted_within_text, claim_text, rejected_text, wide_text, verdict_text, accepted_front_text, front_verdict_text, ChecksFiles, Checks};
 ghost use Rattle.command_files.specs.private.Checking.{WritesVerdict, WritesFrontVerdict, WritesAnyVerdict, ChecksFor};
 
 use crate::inner::inner_model;
@@ -71,12 +71,23 @@ fn write_accepted_value(reply: &mut Vec<u8>, value: &Frac) -> Result<(), AllocEr
     reply.extend_from_slice(b"\n")
 }
 
+fn write_accepted_within(reply: &mut Vec<u8>, gap: &Frac, value: &Frac) -> Result<(), AllocError>
+    ensures { IfOk result (λ _. reply.new.items ≡ reply.old.items ++ accepted_within_text gap.now value.now) }
+{
+    reply.extend_from_slice(b"accepted within ")?;
+    gap.write_to(reply)?;
+    reply.extend_from_slice(b" ")?;
+    value.write_to(reply)?;
+    reply.extend_from_slice(b"\n")
+}
+
 /// The claim that is accepted.
 fn write_accepted(reply: &mut Vec<u8>, claim: &Claim) -> Result<(), AllocError>
     ensures { IfOk result (λ _. reply.new.items ≡ reply.old.items ++ claim_text claim.now) }
 {
     match claim {
         Claim::Optimal(value) => write_accepted_value(reply, value),
+        Claim::Within { gap, value } => write_accepted_within(reply, gap, value),
         Claim::Infeasible => reply.extend_from_slice(b"accepted infeasible\n"),
         Claim::Unbounded => reply.extend_from_slice(b"accepted unbounded\n"),
     }

@@ -1,9 +1,10 @@
 // Answers in words.
 use anyhow::Result;
 use frac128::Frac;
-use lp_model::{Answer, Basis, Model, Region, StopWhy};
+use lp_model::{Basis, Model, Region, StopWhy};
 use model_calls::push_step;
 use model_texts::{push_basis, push_point};
+use search_answers::Answer;
 
 /// Writes a number, and `none` where there is none.
 fn push_some(got: &mut String, number: &Option<Frac>) -> Result<()> {

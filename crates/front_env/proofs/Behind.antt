@@ -2,8 +2,8 @@
 use Rattle.std.specs.Prelude.{ℕ, ◌-◌, ◌<◌, ◌≤◌, ◌^◌}
 use Rattle.std.proofs.Common.{◌≡◌, refl, arith}
 use Rattle.lp_model.specs.Program.{Program}
-use Rattle.lp_model.specs.declared.answers.Answer.{Answer}
-use Rattle.lp_model.specs.declared.answers.Answer.TheVariants.{Optimal, Infeasible, Unbounded, Stopped, Memory}
+use Rattle.search_answers.specs.declared.answers.Answer.{Answer}
+use Rattle.search_answers.specs.declared.answers.Answer.TheVariants.{Optimal, Infeasible, Unbounded, Stopped, Memory}
 use Rattle.tree_search.specs.declared.limits.Limits.{Limits}
 use Rattle.front_solver.specs.Truth.{IsTrueOf, IsStop, shown_claim}
 use Rattle.front_env.specs.FrontEnvs.{with_results, behind, IsStopBy, IsStopBehind}

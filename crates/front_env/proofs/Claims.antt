@@ -1,6 +1,6 @@
 -- What is true of a model is claimed of it in one way.
 use Rattle.std.proofs.Common.{◌≡◌, refl, sym, ap, subst, ◌∙◌}
-use Rattle.std.specs.Prelude.{◌≢◌, Option, Some, None, IsSome, Result, Ok, Err, IfOk}
+use Rattle.std.specs.Prelude.{Option, Some, None, IsSome, Result, Ok, Err, IfOk}
 use Rattle.std.specs.Ordering.{MatchOrdering}
 use Rattle.std.specs.declared.cmp.Ordering.{Ordering}
 use Rattle.std.specs.declared.cmp.Ordering.TheVariants.{Less, Equal, Greater}
@@ -9,7 +9,7 @@ use Rattle.frac128.proofs.Comparison.{compared}
 use Rattle.lp_model.specs.Program.{Program, Point, IsOptimum, value, least_value, in_own_sense}
 use Rattle.lp_model.proofs.SenseLemmas.{own-least}
 use Rattle.cert_text.specs.declared.cert.Claim.{Claim}
-use Rattle.cert_text.specs.declared.cert.Claim.TheVariants.{Optimal, Infeasible, Unbounded}
+use Rattle.cert_text.specs.declared.cert.Claim.TheVariants.{Optimal, Within, Infeasible, Unbounded}
 use Rattle.cert_text.specs.declared.cert.Cert.{Cert}
 use Rattle.cert_text.specs.Whole.{IsCertificate}
 use Rattle.cert_check.specs.Laws.{IsTrueClaim, AcceptedLaw, VerdictLaw}
@@ -19,7 +19,7 @@ use Rattle.sound_searches.specs.Sound.{PlainSearch}
 use Rattle.kept_env.specs.Env.{PlainEnv}
 use Rattle.tree_cert.specs.Certificates.{claim_of, IsCertificateOf}
 use Rattle.front_solver.specs.Truth.{IsCertifiedAs}
-use Rattle.front_env.specs.FrontEnvs.{program_in, IsProvedIn}
+use Rattle.front_env.specs.FrontEnvs.{program_in, IsExactClaim, IsProvedIn}
 
 not_ranked : (x y : ℚ) → ¬ (x <ℚ y) → ¬ (y <ℚ x) → x ≡ y
 not_ranked x y below above = by (rational_cmp x y) (compared x y).1
@@ -35,18 +35,21 @@ one_value M x y first second =
     not_ranked (least_value M 1 x) (least_value M 1 y) (λ h. second.unbeaten x first.feasible (record { better = h })) (λ h. first.unbeaten y second.feasible (record { better = h })) in
     sym (own-least M.sense (value M 1 x)) ∙ ap (in_own_sense M.sense) least ∙ own-least M.sense (value M 1 y)
 
-one_claim : (M : Program) (a b : Claim) → IsTrueClaim M a → IsTrueClaim M b → a ≢ Unbounded → b ≢ Unbounded → a ≡ b
-one_claim M (Optimal v) (Optimal w) first second no_a no_b = ap Optimal (sym first.1.1 ∙ one_value M first.0 second.0 first.1.0 second.1.0 ∙ second.1.1)
-one_claim M (Optimal v) Infeasible first second no_a no_b = absurd (second first.0 first.1.0.feasible)
-one_claim M (Optimal v) Unbounded first second no_a no_b = absurd (no_b refl)
-one_claim M Infeasible (Optimal w) first second no_a no_b = absurd (first second.0 second.1.0.feasible)
-one_claim M Infeasible Infeasible first second no_a no_b = refl
-one_claim M Infeasible Unbounded first second no_a no_b = absurd (no_b refl)
-one_claim M Unbounded b first second no_a no_b = absurd (no_a refl)
+one_claim : (M : Program) (a b : Claim) → IsTrueClaim M a → IsTrueClaim M b → IsExactClaim a → IsExactClaim b → a ≡ b
+one_claim M (Optimal v) (Optimal w) first second exact_a exact_b = ap Optimal (sym first.1.1 ∙ one_value M first.0 second.0 first.1.0 second.1.0 ∙ second.1.1)
+one_claim M (Optimal v) (Within g w) first second exact_a exact_b = absurd exact_b
+one_claim M (Optimal v) Infeasible first second exact_a exact_b = absurd (second first.0 first.1.0.feasible)
+one_claim M (Optimal v) Unbounded first second exact_a exact_b = absurd exact_b
+one_claim M Infeasible (Optimal w) first second exact_a exact_b = absurd (first second.0 second.1.0.feasible)
+one_claim M Infeasible (Within g w) first second exact_a exact_b = absurd exact_b
+one_claim M Infeasible Infeasible first second exact_a exact_b = refl
+one_claim M Infeasible Unbounded first second exact_a exact_b = absurd exact_b
+one_claim M (Within g v) b first second exact_a exact_b = absurd exact_a
+one_claim M Unbounded b first second exact_a exact_b = absurd exact_a
 
-by_tree : (M : Program) (best : Option Point) → claim_of M best ≢ Unbounded
-by_tree M None e = cc
-by_tree M (Some x) e = cc
+claimed-exact : (M : Program) (best : Option Point) → IsExactClaim (claim_of M best)
+claimed-exact M None = tt
+claimed-exact M (Some x) = tt
 
 -- the certificate of a search claims what is shown of its model
 pub certified : (S : PlainSearch) (env : PlainEnv) (shown : Option Claim) (cert : Cert) → env.search ≡ Some S → IsProvedIn env shown → IsSome shown → IsCertificateOf S cert → IsCertificate cert → IsVerdict S.model cert (Accepted cert.claim) →
@@ -54,8 +57,8 @@ pub certified : (S : PlainSearch) (env : PlainEnv) (shown : Option Claim) (cert 
 certified S env None cert there proved some exact whole accepted verdicts truths = absurd cc
 certified S env (Some claim) cert there proved some exact whole accepted verdicts truths =
     let meant = (verdicts S.model cert cert.claim whole accepted).1 in
-    let tree : cert.claim ≢ Unbounded = λ e. by_tree S.model exact.incumbent (sym exact.claim ∙ e) in
-    let same = one_claim S.model claim cert.claim (subst (λ s. IsTrueClaim (program_in s) claim) there proved.true_claim) (truths S.model cert meant) proved.by_tree tree in
+    let plain : IsExactClaim cert.claim = subst IsExactClaim (sym exact.claim) (claimed-exact S.model exact.incumbent) in
+    let same = one_claim S.model claim cert.claim (subst (λ s. IsTrueClaim (program_in s) claim) there proved.true_claim) (truths S.model cert meant) proved.exact plain in
     subst (λ s. IsCertifiedAs (program_in s) (Some claim) cert) (sym there) (record { claims = ap Some same; accepted = accepted; whole = whole })
 
 -- where the last call may have had no memory

@@ -4,8 +4,8 @@ use Rattle.std.specs.Prelude.{Option, Some, None, Ok, Err, IsSome, IfSome}
 use Rattle.lp_model.specs.Program.{Program, Point}
 use Rattle.lp_model.specs.declared.answers.StopWhy.{StopWhy}
 use Rattle.lp_model.specs.declared.answers.StopWhy.TheVariants.{Nodes, Tree, Pivots, Wide}
-use Rattle.lp_model.specs.declared.answers.Answer.{Answer}
-use Rattle.lp_model.specs.declared.answers.Answer.TheVariants.{Optimal, Infeasible, Unbounded, Stopped, Memory}
+use Rattle.search_answers.specs.declared.answers.Answer.{Answer}
+use Rattle.search_answers.specs.declared.answers.Answer.TheVariants.{Optimal, Infeasible, Unbounded, Stopped, Memory}
 use Rattle.sound_searches.specs.Sound.{PlainSearch, IsSound}
 use Rattle.kept_env.specs.Env.{PlainEnv, with_answer, pool_in}
 use Rattle.kept_env.specs.declared.env.EnvFault.{EnvFault}
@@ -40,8 +40,8 @@ true_within Small S l Memory sound oldest h = tt
 
 -- what is shown is true of the search's model, and its tree proves it
 proved : (Small : Type 0) (l : Limits) (answer : Answer) (S : PlainSearch) (direction : Option Point) → IsTrueBy Small S.model l answer → IsProvedIn (with_answer S (held_by answer direction)) (shown_claim answer)
-proved Small l (Optimal v x n) S direction h = record { held = refl; true_claim = (x, (h.0.0, sym h.0.1)); by_tree = λ e. cc }
-proved Small l (Infeasible n) S direction h = record { held = refl; true_claim = h.0; by_tree = λ e. cc }
+proved Small l (Optimal v x n) S direction h = record { held = refl; true_claim = (x, (h.0.0, sym h.0.1)); exact = tt }
+proved Small l (Infeasible n) S direction h = record { held = refl; true_claim = h.0; exact = tt }
 proved Small l (Unbounded n) S direction h = tt
 proved Small l (Stopped why n bound best) S direction h = tt
 proved Small l Memory S direction h = tt

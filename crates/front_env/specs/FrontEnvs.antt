@@ -1,12 +1,12 @@
 -- An environment that solves inner models of a front: a model with a search of its own, the limits, and what its last solve has shown.
 --     program_of e           the model that it has
 --     stops_of e M n answer  it may stop so with the model M and at most n results
-use Rattle.std.specs.Prelude.{◌≡◌, ◌≢◌, ℕ, ◌+◌, ◌-◌, ◌≤◌, false, [], Option, Some, None, IsSome, refl}
+use Rattle.std.specs.Prelude.{◌≡◌, ℕ, ◌+◌, ◌-◌, ◌≤◌, false, [], Option, Some, None, IsSome, refl}
 use Rattle.std.specs.Coded.{Coded, code_by, coded×, coded_option}
 use Rattle.lp_model.specs.Program.{Program}
 use Rattle.lp_model.specs.declared.types.Sense.TheVariants.{Min}
-use Rattle.lp_model.specs.declared.answers.Answer.{Answer}
-use Rattle.lp_model.specs.declared.answers.Answer.TheVariants.{Optimal, Infeasible, Unbounded, Stopped, Memory}
+use Rattle.search_answers.specs.declared.answers.Answer.{Answer}
+use Rattle.search_answers.specs.declared.answers.Answer.TheVariants.{Optimal, Infeasible, Unbounded, Stopped, Memory}
 use Rattle.sound_searches.specs.Sound.{PlainSearch}
 use Rattle.kept_env.specs.Env.{PlainEnv, env_code}
 use Rattle.kept_env.specs.declared.held.Held.TheVariants.{Finished}
@@ -40,11 +40,18 @@ program_of e = program_in e.env.search
 
 -- ---- what is shown
 
+-- an optimum, or that no point is feasible: at most one such claim is true of a model
+abbrev pub IsExactClaim : Claim → Type 0
+IsExactClaim (claim.Optimal v) = Unit {0}
+IsExactClaim (claim.Within g v) = ⊥
+IsExactClaim claim.Infeasible = Unit {0}
+IsExactClaim claim.Unbounded = ⊥
+
 -- the claim is true of the model, and the search's tree proves it
 pub record IsProvedClaim (env : PlainEnv) (shown : Claim) : Type 0 where
   pub held : env.held ≡ Finished
   pub true_claim : IsTrueClaim (program_in env.search) shown
-  pub by_tree : shown ≢ claim.Unbounded
+  pub exact : IsExactClaim shown
 
 abbrev pub IsProvedIn : PlainEnv → Option Claim → Type 0
 IsProvedIn env None = Unit {0}

@@ -5,7 +5,7 @@ ghost use Rattle.front_env.specs.FrontEnvs.{with_results, behind};
 ghost use Rattle.front_env.specs.private.Going.{CountsBehind};
 
 use cert_text::Claim;
-use lp_model::Answer;
+use search_answers::Answer;
 use tree_search::Limits;
 
 /// What an answer claims that a tree proves.

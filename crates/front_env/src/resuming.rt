@@ -6,7 +6,7 @@ ghost use Rattle.front_env.specs.private.Going.{IsGoneBy, IsGoneOn};
 
 use crate::kept::{KeptSearches, moved_to};
 use kept_env::Env;
-use lp_model::Answer;
+use search_answers::Answer;
 use std::alloc::Global;
 use sym_env::{solve, warm_solve};
 use tree_edit::Search;

@@ -1,7 +1,7 @@
 -- A script of which the last solve was taken.
 use Rattle.std.specs.Prelude.{◌≡◌, ℕ, List, [], ◌∷◌, ◌++◌}
 use Rattle.std.proofs.Common.{ap, ◌∙◌, append_assoc}
-use Rattle.lp_model.specs.declared.answers.Answer.{Answer}
+use Rattle.search_answers.specs.declared.answers.Answer.{Answer}
 use Rattle.front_rows.specs.declared.scripted.Step.{Step}
 use Rattle.front_rows.specs.Scripts.{TellsStop, IsScriptedStop}
 

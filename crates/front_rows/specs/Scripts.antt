@@ -2,8 +2,8 @@
 --     TellsStop e k n answer          a solve that ends so after k results, of n that may be placed, stops so
 --     IsScriptedStop steps n answer   some solve of the script does
 use Rattle.std.specs.Prelude.{◌≡◌, ℕ, ◌≤◌, List, ◌∷◌, ◌++◌}
-use Rattle.lp_model.specs.declared.answers.Answer.{Answer}
-use Rattle.lp_model.specs.declared.answers.Answer.TheVariants as solve
+use Rattle.search_answers.specs.declared.answers.Answer.{Answer}
+use Rattle.search_answers.specs.declared.answers.Answer.TheVariants as solve
 use Rattle.front_rows.specs.declared.scripted.Ending.{Ending}
 use Rattle.front_rows.specs.declared.scripted.Ending.TheVariants.{Finished, Stopped}
 use Rattle.front_rows.specs.declared.scripted.Step.{Step}

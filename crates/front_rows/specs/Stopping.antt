@@ -1,8 +1,8 @@
 -- What a solver that stops at one of its solves adds to the one in it.
 use Rattle.std.specs.Prelude.{◌≡◌, Bool, true, false, Option, Some, None}
 use Rattle.lp_model.specs.declared.answers.StopWhy.{StopWhy}
-use Rattle.lp_model.specs.declared.answers.Answer.{Answer}
-use Rattle.lp_model.specs.declared.answers.Answer.TheVariants as solve
+use Rattle.search_answers.specs.declared.answers.Answer.{Answer}
+use Rattle.search_answers.specs.declared.answers.Answer.TheVariants as solve
 use Rattle.cert_text.specs.declared.cert.Claim.{Claim}
 
 -- nothing is shown where the last solve was the stop

@@ -14,8 +14,9 @@ use cert_check::{RegionBuf, Verdict, accepted_law, check, point, verdict_law};
 use cert_text::{Cert, Claim, read_cert};
 use frac128::Frac;
 use front_solver::Solver;
-use lp_model::{Answer, Edit, Model, StopWhy};
+use lp_model::{Edit, Model, StopWhy};
 use model_edits::{EditFault, apply};
+use search_answers::Answer;
 use std::alloc::{AllocError, Global};
 
 /// How a solve of a script ends.
@@ -98,6 +99,8 @@ fn claimed(alloc: Global, model: &Model, cert: &Cert, results: u64, nodes: u64) 
             },
             _ => Answer::Memory,
         },
+        // no solver that is driven to an optimum answers this
+        Claim::Within { .. } => Answer::Memory,
         Claim::Infeasible => Answer::Infeasible { results },
         Claim::Unbounded => Answer::Unbounded { results },
     }
@@ -146,6 +149,7 @@ fn shows_bound(model: &Model, cert: &Cert, bound: &Option<Frac>) -> bool
     };
     match cert.claim {
         Claim::Optimal(value) => is_within(model, &value, bound),
+        Claim::Within { .. } => false,
         Claim::Infeasible => true,
         Claim::Unbounded => false,
     }
@@ -162,7 +166,7 @@ fn shows_best(model: &Model, cert: &Cert, best: &Option<Frac>) -> bool
     };
     match cert.claim {
         Claim::Optimal(value) => is_equal(&value, best),
-        Claim::Infeasible | Claim::Unbounded => false,
+        Claim::Within { .. } | Claim::Infeasible | Claim::Unbounded => false,
     }
 }
 

@@ -4,8 +4,9 @@ ghost use Rattle.front_rows.specs.Stopping.{claim_unless, IsAddedStop};
 
 use cert_text::Cert;
 use front_solver::Solver;
-use lp_model::{Answer, Edit, Model, StopWhy};
+use lp_model::{Edit, Model, StopWhy};
 use model_edits::EditFault;
+use search_answers::Answer;
 use std::alloc::AllocError;
 use std::mem::replace;
 

@@ -7,8 +7,8 @@ use Rattle.frac128.specs.Range.{IsNarrow}
 use Rattle.lp_model.specs.Program.{Program, Point, HasWholeObjective}
 use Rattle.lp_model.specs.declared.types.ColId.{ColId}
 use Rattle.lp_model.specs.declared.answers.StopWhy.{StopWhy}
-use Rattle.lp_model.specs.declared.answers.Answer.{Answer}
-use Rattle.lp_model.specs.declared.answers.Answer.TheVariants as solve
+use Rattle.search_answers.specs.declared.answers.Answer.{Answer}
+use Rattle.search_answers.specs.declared.answers.Answer.TheVariants as solve
 use Rattle.model_points.specs.Answers.{IsFirstNotWhole}
 use Rattle.word_names.proofs.ScriptNames.{all-unmapped}
 use Rattle.cert_text.specs.declared.cert.Claim.TheVariants as claim

@@ -1,7 +1,7 @@
 -- When looking for a front comes to its end.
 use Rattle.std.specs.Prelude.{ℕ, ◌-◌, ◌≤◌, List}
 use Rattle.lp_model.specs.Program.{Program, HasWholeObjective}
-use Rattle.lp_model.specs.declared.answers.Answer.{Answer}
+use Rattle.search_answers.specs.declared.answers.Answer.{Answer}
 use Rattle.sound_searches.specs.Sound.{PlainSearch}
 use Rattle.frontier.specs.declared.outcomes.Outcome.{Outcome}
 use Rattle.inner_models.specs.Inner.{bare_model}

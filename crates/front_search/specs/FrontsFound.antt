@@ -9,8 +9,8 @@ use Rattle.frac128.specs.Range.{IsNarrow}
 use Rattle.lp_model.specs.Program.{Program, Point, IsEmpty, HasWholeObjective}
 use Rattle.lp_model.specs.declared.types.ColId.{ColId}
 use Rattle.lp_model.specs.declared.answers.StopWhy.{StopWhy}
-use Rattle.lp_model.specs.declared.answers.Answer.{Answer}
-use Rattle.lp_model.specs.declared.answers.Answer.TheVariants as solve
+use Rattle.search_answers.specs.declared.answers.Answer.{Answer}
+use Rattle.search_answers.specs.declared.answers.Answer.TheVariants as solve
 use Rattle.model_points.specs.Answers.{IsWholeAnswer}
 use Rattle.model_points.specs.Bounds.{IsBound, IsFoundValue}
 use Rattle.sound_searches.specs.Sound.{PlainSearch}

@@ -5,7 +5,7 @@ use Rattle.frac128.specs.Rational.{ℚ, int}
 use Rattle.lp_model.specs.Program.{Program}
 use Rattle.lp_model.specs.Lawful.{IsLawful, column_names}
 use Rattle.lp_model.specs.Edits.{Named, only_row_names, edited}
-use Rattle.lp_model.specs.declared.answers.Answer.{Answer}
+use Rattle.search_answers.specs.declared.answers.Answer.{Answer}
 use Rattle.lp_model.specs.declared.types.Edit.TheVariants.{DelRow, DelCol}
 use Rattle.inner_models.specs.Inner.{capped}
 use Rattle.inner_models.proofs.Undone.{undone}

@@ -3,7 +3,7 @@ use Rattle.std.specs.Prelude.{◌≡◌, ℕ, List, length, None, MatchOption}
 use Rattle.frac128.specs.Rational.{ℚ}
 use Rattle.lp_model.specs.Program.{Program}
 use Rattle.lp_model.specs.Lawful.{IsLawful}
-use Rattle.lp_model.specs.declared.answers.Answer.{Answer}
+use Rattle.search_answers.specs.declared.answers.Answer.{Answer}
 use Rattle.inner_models.specs.Undone.{with_costs}
 use Rattle.front_solver.specs.declared.solved.Solved.{Solved}
 use Rattle.front_solver.specs.Truth.{IsTrueOf, IsStop, shown_claim, IsCertifiedAs}

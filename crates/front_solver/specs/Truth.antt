@@ -4,8 +4,8 @@
 --     IsCertifiedAs M c cert     the certificate claims c, and the checker accepts it for M, each step having room
 use Rattle.std.specs.Prelude.{◌≡◌, ℕ, ◌≤◌, true, Option, Some, None, Ok}
 use Rattle.lp_model.specs.Program.{Program, IsOptimum, IsEmpty, value}
-use Rattle.lp_model.specs.declared.answers.Answer.{Answer}
-use Rattle.lp_model.specs.declared.answers.Answer.TheVariants.{Optimal, Infeasible, Unbounded, Stopped, Memory}
+use Rattle.search_answers.specs.declared.answers.Answer.{Answer}
+use Rattle.search_answers.specs.declared.answers.Answer.TheVariants.{Optimal, Infeasible, Unbounded, Stopped, Memory}
 use Rattle.model_points.specs.Answers.{IsFeasibilityAnswer}
 use Rattle.model_points.specs.Bounds.{IsBound, IsFoundValue}
 use Rattle.model_points.specs.Rays.{IsUnbounded}

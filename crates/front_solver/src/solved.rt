@@ -11,7 +11,8 @@ use crate::editing::{Cap, add_cap, add_column, lawful_model, take_column, take_r
 use crate::solver::Solver;
 use cert_text::Cert;
 use frac128::Frac;
-use lp_model::{Answer, Name, copy_name};
+use lp_model::{Name, copy_name};
+use search_answers::Answer;
 use std::alloc::{AllocError, Global};
 
 /// What a solver answers of a model, and where the answer is an optimum or that no point is feasible, its certificate.

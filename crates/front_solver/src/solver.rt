@@ -2,15 +2,16 @@
 ghost use Rattle.std.specs.Prelude.{◌≡◌, ℕ, Option, OnOk, OnErr, IfOk, IfErr, IsSome};
 ghost use Rattle.lp_model.specs.Program.{Program};
 ghost use Rattle.lp_model.specs.Edits.{edited, EditFits};
-ghost use Rattle.lp_model.specs.declared.answers.Answer.{Answer as AnAnswer};
+ghost use Rattle.search_answers.specs.declared.answers.Answer.{Answer as AnAnswer};
 ghost use Rattle.model_edits.specs.Faults.{IsEditFault};
 ghost use Rattle.cert_text.specs.declared.cert.Claim.{Claim};
 ghost use Rattle.front_solver.specs.Truth.{IsTrueOf, IsStop, shown_claim, IsCertifiedAs};
 ghost use Rattle.front_solver.specs.Stops.{AddsNoStop};
 
 use cert_text::Cert;
-use lp_model::{Answer, Edit, Model};
+use lp_model::{Edit, Model};
 use model_edits::EditFault;
+use search_answers::Answer;
 use std::alloc::AllocError;
 
 /// A model with one objective that can be edited and solved. Whatever it does, and wherever it does it, what it answers is

@@ -9,7 +9,7 @@ use Rattle.cert_text.specs.declared.line.LineFault.TheVariants.{Code, Memory}
 use Rattle.cert_text.specs.declared.line.Statement.{Statement}
 use Rattle.cert_text.specs.declared.line.Statement.TheVariants.{Header, Claims, Point, Node, End, Ray, Cut, Foreign}
 use Rattle.cert_text.specs.Reading.{Says}
-use Rattle.cert_text.specs.Whole.{IsNarrowStatement}
+use Rattle.cert_text.specs.Whole.{IsLawfulStatement}
 use Rattle.front_text.specs.declared.front_line.FrontWord.{FrontWord}
 use Rattle.front_text.specs.declared.front_line.FrontStatement.{FrontStatement}
 use Rattle.front_text.specs.Reading.{IsNarrowFrontStatement}
@@ -27,7 +27,7 @@ pub common-faulty : (said : Result Statement ℕ) (fault : LineFault) → Says s
 common-faulty said (Code code) e = ap common_says e
 common-faulty said Memory e = tt
 
-pub narrow-common : (statement : Statement) → IsNarrowStatement statement → IsNarrowFrontStatement (common_statement statement)
+pub narrow-common : (statement : Statement) → IsLawfulStatement statement → IsNarrowFrontStatement (common_statement statement)
 narrow-common Header narrow = tt
 narrow-common (Claims claim) narrow = tt
 narrow-common (Point named) narrow = tt

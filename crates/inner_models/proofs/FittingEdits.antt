@@ -5,6 +5,7 @@ use Rattle.std.proofs.lemmas.List.{length-map, length_push, map-append, map_push
 use Rattle.std.proofs.lemmas.List.Elements.{All-push, Contains-get_or, Contains-push, Contains-push_cases, Contains-append_left}
 use Rattle.std.proofs.lemmas.List.Sums.{sum_by-cons, sum_by_push}
 use Rattle.frac128.specs.Rational.{ℚ, int}
+use Rattle.lp_model.specs.Limits.{col_limit, entry_limit, row_limit}
 use Rattle.lp_model.specs.Program.{Program}
 use Rattle.lp_model.specs.Lawful.{AreWithinLimits, IsLawful, row_names, column_names, entry_count}
 use Rattle.lp_model.specs.Edits.{Named, number_beside, entries_beside, is_zero, with_entry, edited, EditFits}
@@ -74,7 +75,7 @@ module _ (B : Program) (name : List ℕ) (side : ℚ) (named : Named) where
   row_rows = let more = length_push B.rows (record { name = name; lo = None; hi = Some side }) in omega arith
 
   row_fits : B.wide ≡ true → All (Contains (column_names B)) (map (λ (e : List ℕ × ℚ). e.0) named) → ¬ Contains (row_names B) name
-      → length B.rows < 502 → length B.cols ≤ 1001 → entry_count B + length B.cols ≤ 52002 → EditFits B (capped name side named)
+      → length B.rows < row_limit true → length B.cols ≤ col_limit true → entry_count B + length B.cols ≤ entry_limit true → EditFits B (capped name side named)
   row_fits wide known free rows cols entries = record {
     known = (tt, known);
     free = free;

@@ -4,8 +4,8 @@
 -- What is found, and which ray is told, those who work it say (`SolvesModel`, `WarmsFrom` and `HasRayFor` of `tree_search`).
 use Rattle.std.specs.Prelude.{◌≡◌, Option, Some, None, Result, Ok, Err}
 use Rattle.lp_model.specs.Program.{Point}
-use Rattle.lp_model.specs.declared.answers.Answer.{Answer}
-use Rattle.lp_model.specs.declared.answers.Answer.TheVariants.{Optimal, Infeasible, Unbounded, Stopped, Memory}
+use Rattle.search_answers.specs.declared.answers.Answer.{Answer}
+use Rattle.search_answers.specs.declared.answers.Answer.TheVariants.{Optimal, Infeasible, Unbounded, Stopped, Memory}
 use Rattle.search_parts.specs.Points.{IsIncumbent}
 use Rattle.sound_searches.specs.Sound.{PlainSearch}
 use Rattle.kept_env.specs.Env.{PlainEnv, with_answer}

@@ -4,7 +4,8 @@ ghost use Rattle.kept_env.specs.Worked.{held_beside, held_by};
 
 use cert_text::Cert;
 use front_text::FrontCert;
-use lp_model::{Answer, Point};
+use lp_model::Point;
+use search_answers::Answer;
 
 /// Which answer an environment holds.
 #[derive(Drop)]

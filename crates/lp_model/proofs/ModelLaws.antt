@@ -14,19 +14,19 @@ use Rattle.lp_model.proofs.ElementLemmas.{of_element-get, element}
 
 -- ---- lawful models, by place
 
-row_limit-le : (wide : Bool) → row_limit wide ≤ 502
+row_limit-le : (wide : Bool) → row_limit wide ≤ row_limit true
 row_limit-le true = omega arith
 row_limit-le false = omega arith
 
-col_limit-le : (wide : Bool) → col_limit wide ≤ 1001
+col_limit-le : (wide : Bool) → col_limit wide ≤ col_limit true
 col_limit-le true = omega arith
 col_limit-le false = omega arith
 
 module _ (M : Program) (lawful : IsLawful M) where
-  pub few_columns : length M.cols ≤ 1001
+  pub few_columns : length M.cols ≤ col_limit true
   few_columns = let few = lawful.limits.few_columns in let limit = col_limit-le M.wide in omega arith
 
-  pub few_rows : length M.rows ≤ 502
+  pub few_rows : length M.rows ≤ row_limit true
   few_rows = let few = lawful.limits.few_rows in let limit = row_limit-le M.wide in omega arith
 
   pub lawful_row : (i : ℕ) → i < length M.rows → IsRange (low_side M i) (high_side M i)

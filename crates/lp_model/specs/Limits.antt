@@ -5,13 +5,13 @@
 use Rattle.std.specs.Prelude.{ℕ, Bool, if◌then◌else◌}
 
 abbrev pub row_limit : Bool → ℕ
-row_limit wide = if wide then 502 else 500
+row_limit wide = if wide then 1002 else 1000
 
 abbrev pub col_limit : Bool → ℕ
-col_limit wide = if wide then 1001 else 1000
+col_limit wide = if wide then 4001 else 4000
 
 abbrev pub entry_limit : Bool → ℕ
-entry_limit wide = if wide then 52002 else 50000
+entry_limit wide = if wide then 58002 else 50000
 
 abbrev pub name_limit : ℕ
 name_limit = 255

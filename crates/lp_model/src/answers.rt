@@ -1,7 +1,6 @@
-// What a solve of a model answers, and where it stopped.
+// Where a search stopped, and why.
 use crate::list::List;
 use crate::types::{Basis, Derivation, Point, Region, WideStep};
-use frac128::Frac;
 
 /// The relaxation whose moves reached the limit, and the basis that they led to.
 #[derive(Drop)]
@@ -38,32 +37,4 @@ pub enum StopWhy {
     Pivots(PivotPlace),
     /// A step of arithmetic has no room.
     Wide(WideAt),
-}
-
-/// What is found of a model. `results` counts the results that were placed.
-#[derive(Drop)]
-pub enum Answer {
-    /// No feasible point beats this one, whose value in objective 1 is given.
-    Optimal {
-        value: Frac,
-        point: Point,
-        results: u64,
-    },
-    /// There is no feasible point.
-    Infeasible {
-        results: u64,
-    },
-    /// There is a feasible point, and objective 1 has no end.
-    Unbounded {
-        results: u64,
-    },
-    /// The search stopped. No feasible point is better than the bound; the best value is that of a feasible point.
-    Stopped {
-        why: StopWhy,
-        results: u64,
-        bound: Option<Frac>,
-        best: Option<Frac>,
-    },
-    /// There is no memory.
-    Memory,
 }

@@ -1,10 +1,10 @@
 // How large a model, its names and a search of it may be: the numbers of specs/Limits, which no contract takes from here.
 
 /// The most rows of a model.
-pub const ROW_LIMIT: usize = 500;
+pub const ROW_LIMIT: usize = 1_000;
 
 /// The most columns of a model.
-pub const COL_LIMIT: usize = 1_000;
+pub const COL_LIMIT: usize = 4_000;
 
 /// The most coefficients of a model.
 pub const ENTRY_LIMIT: usize = 50_000;

@@ -141,7 +141,7 @@ pub(crate) fn passed_limit(wide: bool, rows: usize, columns: usize, entries: usi
         return Some(col_limit as u64);
     }
     let entry_limit = if wide {
-        ENTRY_LIMIT + 2002
+        ENTRY_LIMIT + 8_002
     } else {
         ENTRY_LIMIT
     };

@@ -10,6 +10,7 @@ use Rattle.std.proofs.lemmas.List.Folds.{list_any-append}
 use Rattle.std.proofs.lemmas.List.Sums.{sum_by-cons}
 use Rattle.std.proofs.lemmas.Slice.Eq.{bytes_eq-Decides}
 use Rattle.frac128.specs.Rational.{ℚ, int, neg_ℚ}
+use Rattle.lp_model.specs.Limits.{row_limit}
 use Rattle.lp_model.specs.Lawful.{IsRange, AreEntries, IsLawfulColumn, IsLawful}
 use Rattle.lp_model.specs.declared.types.RowId.{RowId}
 use Rattle.lp_model.specs.declared.types.Row.{Row}
@@ -34,7 +35,7 @@ use Rattle.mps_model.proofs.BoundedColumns.{is_bounded_column, flawless}
 
 -- ---- names
 
-few_names : (sided : List RowLine) → length sided ≤ 500 → length (stated_row_names sided) ≤ 500
+few_names : (sided : List RowLine) → length sided ≤ row_limit false → length (stated_row_names sided) ≤ row_limit false
 few_names sided few = omega (arith, length-map sided (λ (r : RowLine). r.name))
 
 objective_new : (s : Sections) → StatesWithinLimits s → among (stated_row_names s.rows) (objective_name s) ≡ false

@@ -15,6 +15,7 @@ use Rattle.frac128.specs.Rational.{ℚ, int, neg_ℚ, rational_le, ◌≤ℚ◌}
 use Rattle.frac128.proofs.Comparison.{rational_le-decides}
 use Rattle.frac128.specs.RationalRing.{int-neg_ℤ}
 use Rattle.frac128.proofs.Integers.{int-≤ℚ-int}
+use Rattle.lp_model.specs.Limits.{row_limit}
 use Rattle.lp_model.specs.Program.{Program}
 use Rattle.lp_model.specs.Lawful.{row_names}
 use Rattle.lp_model.specs.declared.types.Col.{Col}
@@ -58,7 +59,7 @@ digits-seen = decimal_by_steps (λ m ds. IsSeen ds) (λ m l. one m l) (λ m ds l
     one d below = and_from (is_name_byte (48 + d)) true (digit-seen d below) refl
 
 module _ (base : List ℕ) (some : 0 < length base) (short : length base ≤ 100) (seen : IsSeen base) where
-  candidate-lawful : (j : ℕ) → j ≤ 600 → IsLawfulName (candidate base j)
+  candidate-lawful : (j : ℕ) → j ≤ 1100 → IsLawfulName (candidate base j)
   candidate-lawful zero few = lawful-by base some (omega (arith, short)) seen
   candidate-lawful (suc j) few =
       let digits = length-decimal-le 4 (suc j) (omega arith) (omega (arith, few)) (omega (arith, few)) in
@@ -67,7 +68,7 @@ module _ (base : List ℕ) (some : 0 < length base) (short : length base ≤ 100
       lawful-by (base ++ codes "_" ++ decimal (suc j)) (omega (arith, front, whole, some)) (omega (arith, front, whole, digits, short))
       (both-seen (base ++ codes "_") (decimal (suc j)) (both-seen base (codes "_") seen refl) (digits-seen (suc j) (omega (arith, few))))
 
-  free-from : (taken : List (List ℕ)) (k n : ℕ) → k + n ≤ 600 → IsLawfulName (free_from taken base k n)
+  free-from : (taken : List (List ℕ)) (k n : ℕ) → k + n ≤ 1100 → IsLawfulName (free_from taken base k n)
   free-from taken k zero few = candidate-lawful k (omega (arith, few))
   free-from taken k (suc n) few = by (among taken (candidate base k)) (free-from taken (suc k) n (omega (arith, few)))
     where
@@ -75,7 +76,7 @@ module _ (base : List ℕ) (some : 0 < length base) (short : length base ≤ 100
       by true rest = rest
       by false rest = candidate-lawful k (omega (arith, few))
 
-  free-lawful : (taken : List (List ℕ)) → length taken ≤ 600 → IsLawfulName (free_name taken base)
+  free-lawful : (taken : List (List ℕ)) → length taken ≤ 1100 → IsLawfulName (free_name taken base)
   unfolding free_name
   free-lawful taken few = free-from taken 0 (length taken) (omega (arith, few))
 
@@ -88,8 +89,8 @@ second-lawful [] missing h k = k
 second-lawful (first ∷ []) missing h k = k
 second-lawful (first ∷ name ∷ ignored) missing h k = All-head IsLawfulName name ignored (All-tail IsLawfulName first (name ∷ ignored) h)
 
-module _ (s : Sections) (few : length s.rows ≤ 500) (names : All IsLawfulName s.objectives) where
-  few-names : length (stated_row_names s.rows) ≤ 500
+module _ (s : Sections) (few : length s.rows ≤ row_limit false) (names : All IsLawfulName s.objectives) where
+  few-names : length (stated_row_names s.rows) ≤ row_limit false
   few-names = omega (arith, few, length-map s.rows (λ (r : RowLine). r.name))
 
   first-name : IsLawfulName (objective_name s)
@@ -181,7 +182,7 @@ near-column s intupper c below near =
 
 -- ---- the model
 
-meant-parts : (s : Sections) (intupper : Option ℕ) → IfSome intupper (λ n. n < 10 ^ 20) → length s.rows ≤ 500 → HasLawfulParts s.objectives s.rows s.columns s.bounds → IsScriptModel (model_of s intupper)
+meant-parts : (s : Sections) (intupper : Option ℕ) → IfSome intupper (λ n. n < 10 ^ 20) → length s.rows ≤ row_limit false → HasLawfulParts s.objectives s.rows s.columns s.bounds → IsScriptModel (model_of s intupper)
 unfolding model_of
 meant-parts s intupper below few h =
     let rows : All IsLawfulName (map (λ (r : Row). r.name) (map (row_of s) s.rows)) =

@@ -8,6 +8,7 @@ use Rattle.std.proofs.lemmas.List.Folds.{list_any-append}
 use Rattle.std.proofs.lemmas.List.Quantifiers.{all_pairs_push}
 use Rattle.std.proofs.lemmas.Slice.Eq.{bytes_eq-Decides}
 use Rattle.mps_text.specs.Text.{Entry, Item}
+use Rattle.lp_model.specs.Limits.{col_limit, row_limit}
 use Rattle.lp_model.proofs.NameLemmas.{contains_cases}
 use Rattle.mps_fields.specs.Words.{among, word, row_kind, line_kind}
 use Rattle.mps_sections.specs.Statements.{StatedModel, stated, sections_in, stated_sections, gathered_behind, is_row_name, is_column, as_row, as_objective, read_pair, stated_row_names}
@@ -59,8 +60,8 @@ column_names-more (d ∷ found) c = ap (λ names. d.name ∷ names) (column_name
 -- ---- what lines without fault keep
 
 record KeepsTests (s : StatedModel) : Type 0 where
-  few_rows : length s.rows ≤ 500
-  few_columns : length s.columns ≤ 1000
+  few_rows : length s.rows ≤ row_limit false
+  few_columns : length s.columns ≤ col_limit false
   few_numbers : s.count ≤ 50000
   rows_apart : AreNamesApart (stated_row_names s.rows)
   columns_apart : AreNamesApart (names_of_columns s.columns)
@@ -71,12 +72,12 @@ record KeepsTests (s : StatedModel) : Type 0 where
 -- ---- a line of ROWS
 
 record KeepsRows (objectives : List (List ℕ)) (sided : List RowLine) : Type 0 where
-  few : length sided ≤ 500
+  few : length sided ≤ row_limit false
   apart : AreNamesApart (stated_row_names sided)
   objectives_differ : AreNamesApart objectives
   objectives_apart : IsNoRow objectives sided
 
-with_row : (objectives : List (List ℕ)) (sided : List RowLine) (r : RowLine) → among objectives r.name ≡ false → is_row_name sided r.name ≡ false → length sided < 500 → KeepsRows objectives sided → KeepsRows (objectives ++ []) (sided ++ r ∷ [])
+with_row : (objectives : List (List ℕ)) (sided : List RowLine) (r : RowLine) → among objectives r.name ≡ false → is_row_name sided r.name ≡ false → length sided < row_limit false → KeepsRows objectives sided → KeepsRows (objectives ++ []) (sided ++ r ∷ [])
 with_row objectives sided r free new room keeps = record {
   few = omega (arith, length-append sided (r ∷ []));
   apart = subst AreNamesApart (sym (row_names-more sided r)) (apart_push (stated_row_names sided) r.name keeps.apart (row_among sided r.name ∙ new));
@@ -106,20 +107,20 @@ no_row : (objectives : List (List ℕ)) (sided : List RowLine) → KeepsRows obj
 no_row objectives sided keeps = subst (KeepsRows (objectives ++ [])) (sym (nothing_more sided)) (subst (λ (names : List (List ℕ)). KeepsRows names sided) (sym (nothing_more objectives)) keeps)
 
 row_kept : (kind : Option RowKind) (name : List ℕ) (objectives : List (List ℕ)) (sided : List RowLine)
-    → (is_row_name sided name || among objectives name) ≡ false → (has_sides kind && nat_le 500 (length sided)) ≡ false → KeepsRows objectives sided → KeepsRows (objectives ++ as_objective kind name) (sided ++ as_row kind name)
+    → (is_row_name sided name || among objectives name) ≡ false → (has_sides kind && nat_le (row_limit false) (length sided)) ≡ false → KeepsRows objectives sided → KeepsRows (objectives ++ as_objective kind name) (sided ++ as_row kind name)
 row_kept None name objectives sided new room keeps = no_row objectives sided keeps
 row_kept (Some Free) name objectives sided new room keeps =
     let parts = or_parts (is_row_name sided name) (among objectives name) new in
     with_objective objectives sided name parts.0 parts.1 keeps
 row_kept (Some AtMost) name objectives sided new room keeps =
     let parts = or_parts (is_row_name sided name) (among objectives name) new in
-    with_row objectives sided (record { name = name; kind = AtMost }) parts.1 parts.0 (leb-false 500 (length sided) room) keeps
+    with_row objectives sided (record { name = name; kind = AtMost }) parts.1 parts.0 (leb-false (row_limit false) (length sided) room) keeps
 row_kept (Some AtLeast) name objectives sided new room keeps =
     let parts = or_parts (is_row_name sided name) (among objectives name) new in
-    with_row objectives sided (record { name = name; kind = AtLeast }) parts.1 parts.0 (leb-false 500 (length sided) room) keeps
+    with_row objectives sided (record { name = name; kind = AtLeast }) parts.1 parts.0 (leb-false (row_limit false) (length sided) room) keeps
 row_kept (Some Equal) name objectives sided new room keeps =
     let parts = or_parts (is_row_name sided name) (among objectives name) new in
-    with_row objectives sided (record { name = name; kind = Equal }) parts.1 parts.0 (leb-false 500 (length sided) room) keeps
+    with_row objectives sided (record { name = name; kind = Equal }) parts.1 parts.0 (leb-false (row_limit false) (length sided) room) keeps
 
 row_step : (s : StatedModel) (e : Entry) → KeepsTests s → least (row_tests s e) ≡ None → KeepsTests (after_kind Row s e)
 row_step s e keeps h =
@@ -140,17 +141,17 @@ with_more-length (c ∷ []) more = refl
 with_more-length (c ∷ next ∷ others) more = ap suc (with_more-length (next ∷ others) more)
 
 record KeepsColumns (found : List ColumnLines) : Type 0 where
-  few : length found ≤ 1000
+  few : length found ≤ col_limit false
   apart : AreNamesApart (names_of_columns found)
 
 column_kept : (found : List ColumnLines) (c : ColumnLines) (more : List RowNumber) (last known : Bool)
-    → is_column found c.name ≡ known → (known && not last) ≡ false → (not known && nat_le 1000 (length found)) ≡ false → KeepsColumns found → KeepsColumns (if last then with_more found more else found ++ c ∷ [])
+    → is_column found c.name ≡ known → (known && not last) ≡ false → (not known && nat_le (col_limit false) (length found)) ≡ false → KeepsColumns found → KeepsColumns (if last then with_more found more else found ++ c ∷ [])
 column_kept found c more true known is returns room keeps = record {
-  few = subst (λ n. n ≤ 1000) (sym (with_more-length found more)) keeps.few;
+  few = subst (λ n. n ≤ col_limit false) (sym (with_more-length found more)) keeps.few;
   apart = subst AreNamesApart (sym (with_more-names found more)) keeps.apart;
 }
 column_kept found c more false true is returns room keeps = absurd (true≢false returns)
-column_kept found c more false false is returns room keeps = let below = leb-false 1000 (length found) room in record {
+column_kept found c more false false is returns room keeps = let below = leb-false (col_limit false) (length found) room in record {
   few = omega (arith, length-append found (c ∷ []));
   apart = subst AreNamesApart (sym (column_names-more found c)) (apart_push (names_of_columns found) c.name keeps.apart (column_among found c.name ∙ is));
 }
@@ -167,8 +168,8 @@ column_step s e keeps h =
 
 as_before : (s t : StatedModel) → t.rows ≡ s.rows → t.columns ≡ s.columns → t.count ≡ s.count → t.objectives ≡ s.objectives → KeepsTests s → KeepsTests t
 as_before s t r c n o keeps = record {
-  few_rows = subst (λ (rows : List RowLine). length rows ≤ 500) (sym r) keeps.few_rows;
-  few_columns = subst (λ (columns : List ColumnLines). length columns ≤ 1000) (sym c) keeps.few_columns;
+  few_rows = subst (λ (rows : List RowLine). length rows ≤ row_limit false) (sym r) keeps.few_rows;
+  few_columns = subst (λ (columns : List ColumnLines). length columns ≤ col_limit false) (sym c) keeps.few_columns;
   few_numbers = let few = keeps.few_numbers in omega arith;
   rows_apart = subst (λ (rows : List RowLine). AreNamesApart (stated_row_names rows)) (sym r) keeps.rows_apart;
   columns_apart = subst (λ (columns : List ColumnLines). AreNamesApart (names_of_columns columns)) (sym c) keeps.columns_apart;

@@ -6,7 +6,7 @@
 //! list by itself from all of them. `Faults` has for each kind of line one test a code over what the lines before it state, of
 //! which the least counts. A text is whole up to ENDATA, has a first fault, or is cut.
 //!
-//! `read_sections` answers exactly the lists that a whole text states, or its first fault. They have at most 500 rows, 1,000
+//! `read_sections` answers exactly the lists that a whole text states, or its first fault. They have at most 1,000 rows, 4,000
 //! columns and 50,000 non-zero numbers beside rows, and names that differ.
 //!
 //! Below stand `mps_text` (lines and fields) and `mps_fields` (what one line says by itself); `mps_model` makes models of the

@@ -10,6 +10,7 @@ use Rattle.mps_sections.specs.Shown.{after}
 use Rattle.mps_fields.specs.Fields.{is_end}
 use Rattle.mps_fields.specs.declared.words.Section.TheVariants.{Columns}
 use Rattle.mps_sections.specs.declared.statements.ColumnLines.{ColumnLines}
+use Rattle.lp_model.specs.Limits.{col_limit}
 use Rattle.lp_model.specs.Program.{Program}
 use Rattle.lp_model.specs.declared.types.Col.{Col}
 use Rattle.mps_writer.specs.Canonical.{WrittenLine, marker_line, own_lines, column_lines}
@@ -32,7 +33,7 @@ pub record MayStand (s : StatedModel) (name : List ℕ) (pairs : List Named) : T
   pub there : s.section ≡ Some Columns
   pub short : length name ≤ 255
   pub new : is_column s.columns name ≡ false
-  pub few : length s.columns < 1000
+  pub few : length s.columns < col_limit false
   pub each : All (IsPair s) pairs
   pub apart : AllPairs (λ (a b : Named). a.0 ≢ b.0) pairs
   pub room : s.count + counted s pairs ≤ 50000

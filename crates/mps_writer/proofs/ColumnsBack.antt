@@ -25,6 +25,7 @@ use Rattle.mps_writer.specs.Canonical.{entry_line, marker_line}
 use Rattle.mps_writer.proofs.RecordLaws.{entry_of}
 use Rattle.mps_writer.proofs.RowsBack.{none_from}
 use Rattle.mps_writer.proofs.SetsBack.{number_read}
+use Rattle.lp_model.specs.Limits.{col_limit}
 
 -- ---- markers
 
@@ -99,18 +100,18 @@ module _ (s : StatedModel) (number : ℕ) (name row : List ℕ) (x : ℚ) (fits 
   -- where the four tests of its place fail
   placed : (is_column s.columns name && not (is_last s.columns name)) ≡ false
       → (false || (is_last s.columns name && (is_numbered (numbers_of_last s.columns) row || false))) ≡ false
-      → (not (is_column s.columns name) && nat_le 1000 (length s.columns)) ≡ false → code_in s line ≡ None
+      → (not (is_column s.columns name) && nat_le (col_limit false) (length s.columns)) ≡ false → code_in s line ≡ None
   unfolding code_in
   placed returns again full =
       ap (λ (k : LineKind). least (tests_of k s line)) kind
       ∙ none_from (column_tests s line) (refl, (long, (unknown, (wrong, (wide, (returns, (again, (full, (many, tt)))))))))
 
   -- the first line of a column
-  pub first_clean : is_column s.columns name ≡ false → length s.columns < 1000 → code_in s line ≡ None
+  pub first_clean : is_column s.columns name ≡ false → length s.columns < col_limit false → code_in s line ≡ None
   first_clean new few =
       let last = no_last s.columns name new in
       placed (and_left (is_column s.columns name) (not (is_last s.columns name)) new) (and_left (is_last s.columns name) (is_numbered (numbers_of_last s.columns) row || false) last)
-      (and_right (not (is_column s.columns name)) (nat_le 1000 (length s.columns)) (lt-leb 1000 (length s.columns) few))
+      (and_right (not (is_column s.columns name)) (nat_le (col_limit false) (length s.columns)) (lt-leb (col_limit false) (length s.columns) few))
 
   pub first_after : is_column s.columns name ≡ false
       → after s line ≡ record s { columns = s.columns ++ record { name = name; line = number; marked = s.marked; numbers = beside row x ∷ [] } ∷ []; count = s.count + length (coefficients_in s.rows (beside row x ∷ [])) }
@@ -133,7 +134,7 @@ module _ (s : StatedModel) (number : ℕ) (name row : List ℕ) (x : ℚ) (fits 
         let none : is_numbered (numbers_of_last s.columns) row ≡ false = ap (λ found. is_numbered found row) (ap numbers_of_last is ∙ numbers_of_last-more done c) ∙ new in
         placed (and_right (is_column s.columns name) (not (is_last s.columns name)) (not_from_true (is_last s.columns name) last))
         (and_right (is_last s.columns name) (is_numbered (numbers_of_last s.columns) row || false) (or_from (is_numbered (numbers_of_last s.columns) row) false none refl))
-        (and_left (not (is_column s.columns name)) (nat_le 1000 (length s.columns)) (not_from_true (is_column s.columns name) stands))
+        (and_left (not (is_column s.columns name)) (nat_le (col_limit false) (length s.columns)) (not_from_true (is_column s.columns name) stands))
 
     pub more_after : after s line ≡ record s { columns = done ++ with_numbers c (beside row x ∷ []) ∷ []; count = s.count + length (coefficients_in s.rows (beside row x ∷ [])) }
     unfolding after

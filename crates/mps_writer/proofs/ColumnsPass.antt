@@ -5,6 +5,7 @@ use Rattle.std.proofs.lemmas.Bool.{or_from, false_from_ne_true}
 use Rattle.std.proofs.lemmas.List.Elements.{All-head}
 use Rattle.std.proofs.lemmas.List.Folds.{list_any-append}
 use Rattle.std.proofs.lemmas.Slice.Eq.{bytes_eq-Decides}
+use Rattle.lp_model.specs.Limits.{col_limit}
 use Rattle.lp_model.specs.Program.{Program}
 use Rattle.lp_model.specs.declared.types.Col.{Col}
 use Rattle.mps_text.specs.Text.{Entry}
@@ -42,7 +43,7 @@ pub record AreWritten (M : Program) (s : StatedModel) (cols : List Col) : Type 0
   pub each : All (IsWritten M s) cols
   pub new : All (λ (c : Col). is_column s.columns c.name ≡ false) cols
   pub apart : AllPairs (λ (a b : Col). a.name ≢ b.name) cols
-  pub few : length s.columns + length cols ≤ 1000
+  pub few : length s.columns + length cols ≤ col_limit false
   pub room : s.count + total M s cols ≤ 50000
 
 module _ (M : Program) where

@@ -194,7 +194,7 @@ module _ (M : Program) (h : IsLawful M) (w : IsWritableMps M) where
   columns_written f =
       let few = subst (λ wide. length M.cols ≤ col_limit wide) w.plain h.limits.few_columns in
       let entries = subst (λ wide. sum_by (λ (c : Col). length c.rows) M.cols ≤ entry_limit wide) w.plain h.limits.few_entries in
-      let within : 0 + length M.cols ≤ 1000 = omega (arith, few) in
+      let within : 0 + length M.cols ≤ col_limit false = omega (arith, few) in
       let room : 0 + total M (at_columns M) M.cols ≤ 50000 = omega (arith, entries, total_few M.cols) in
       record {
         there = refl;

@@ -7,6 +7,7 @@ use Rattle.std.proofs.lemmas.List.Elements.{All-head, All-tail}
 use Rattle.std.proofs.lemmas.List.Folds.{list_any-append}
 use Rattle.std.proofs.lemmas.Slice.Eq.{bytes_eq-Decides}
 use Rattle.frac128.specs.Rational.{ℚ, rational_cmp}
+use Rattle.lp_model.specs.Limits.{row_limit}
 use Rattle.lp_model.specs.Lawful.{IsRange}
 use Rattle.lp_model.specs.declared.types.Sense.{Sense}
 use Rattle.lp_model.specs.declared.types.Sense.TheVariants.{Min, Max}
@@ -63,13 +64,13 @@ module _ (s : StatedModel) (number : ℕ) (w name : List ℕ) (kind : RowKind) (
   abbrev pub line : Entry
   line = entry_of number (Data (w ∷ name ∷ []))
 
-  pub row_clean : length name ≤ 255 → is_known s name ≡ false → (has_sides (Some kind) && nat_le 500 (length s.rows)) ≡ false → code_in s line ≡ None
+  pub row_clean : length name ≤ 255 → is_known s name ≡ false → (has_sides (Some kind) && nat_le (row_limit false) (length s.rows)) ≡ false → code_in s line ≡ None
   unfolding code_in
   row_clean short new room =
       ap (λ section. least (tests_of (line_kind section line) s line)) there
       ∙ none_from (row_tests s line) (
         refl,
-        (le-ltb 255 (length name) short, (ap is_unknown_kind is, (new, (ap (λ (k : Option RowKind). has_sides k && nat_le 500 (length s.rows)) is ∙ room, tt)))),
+        (le-ltb 255 (length name) short, (ap is_unknown_kind is, (new, (ap (λ (k : Option RowKind). has_sides k && nat_le (row_limit false) (length s.rows)) is ∙ room, tt)))),
       )
 
   pub row_after : after s line ≡ with_row kind name s
@@ -139,14 +140,14 @@ all_still_new s r rows h = record {
   apart = λ i j d below later. h.apart (suc i) (suc j) d (omega (arith, below)) (omega (arith, later));
 }
 
-pub rows_pass : (s : StatedModel) (number : ℕ) (rows : List Row) → s.section ≡ Some Rows → All (λ (r : Row). IsRange r.lo r.hi) rows → All (λ (r : Row). length r.name ≤ 255) rows → AreNew s rows → length s.rows + length rows ≤ 500
+pub rows_pass : (s : StatedModel) (number : ℕ) (rows : List Row) → s.section ≡ Some Rows → All (λ (r : Row). IsRange r.lo r.hi) rows → All (λ (r : Row). length r.name ≤ 255) rows → AreNew s rows → length s.rows + length rows ≤ row_limit false
     → Passes s (entries_from number (map row_line rows)) (with_sided (map stated_row rows) s)
 rows_pass s number [] there ranges short new few = ap (λ (found : List RowLine). record s { rows = found }) (sym (nothing_more s.rows))
 rows_pass s number (r ∷ rows) there ranges short new few =
     let range = All-head (λ (q : Row). IsRange q.lo q.hi) r rows ranges in
     let kind = kind_of r.lo r.hi in
     let typed = type_kind r.lo r.hi range in
-    let room : (has_sides (Some kind) && nat_le 500 (length s.rows)) ≡ false = ap (λ b. b && nat_le 500 (length s.rows)) (as_sided r.lo r.hi r.name range).2 ∙ lt-leb 500 (length s.rows) (omega (arith, few)) in
+    let room : (has_sides (Some kind) && nat_le (row_limit false) (length s.rows)) ≡ false = ap (λ b. b && nat_le (row_limit false) (length s.rows)) (as_sided r.lo r.hi r.name range).2 ∙ lt-leb (row_limit false) (length s.rows) (omega (arith, few)) in
     let next = row_after s number (row_type r.lo r.hi) r.name kind there typed ∙ one_more s r range in
     let rest = rows_pass (with_sided (stated_row r ∷ []) s) (suc number) rows there (All-tail (λ (q : Row). IsRange q.lo q.hi) r rows ranges) (All-tail (λ (q : Row). length q.name ≤ 255) r rows short) (all_still_new s r rows new) (omega (arith, few, length-append s.rows (stated_row r ∷ []))) in (
       row_clean s number (row_type r.lo r.hi) r.name kind there typed (All-head (λ (q : Row). length q.name ≤ 255) r rows short) (All-head (λ (q : Row). is_known s q.name ≡ false) r rows new.new) room,

@@ -2,6 +2,7 @@
 use Rattle.std.proofs.Common.{◌≡◌, ℕ, suc, ◌+◌, ◌≤◌, false, true, List, [], ◌∷◌, ◌++◌, map, length, refl, sym, ◌∙◌, ap, subst, arith, append_assoc}
 use Rattle.std.specs.Prelude.{flat_map, codes, bytes_eq, None, Some, All}
 use Rattle.std.proofs.lemmas.Bool.{or_from}
+use Rattle.lp_model.specs.Limits.{row_limit}
 use Rattle.lp_model.specs.Program.{Program}
 use Rattle.lp_model.specs.Lawful.{IsRange}
 use Rattle.lp_model.specs.declared.types.Sense.{Sense}
@@ -111,7 +112,7 @@ pub record MayPass (M : Program) : Type 0 where
   pub rows_ranged : All (λ (r : Row). IsRange r.lo r.hi) M.rows
   pub rows_short : All (λ (r : Row). length r.name ≤ 255) M.rows
   pub rows_new : AreNew (objectives_stated M) M.rows
-  pub rows_few : length M.rows ≤ 500
+  pub rows_few : length M.rows ≤ row_limit false
   pub columns : AreWritten M (at_columns M) M.cols
   pub sides : All (IsSetPair (at_rhs M)) (rhs_pairs M)
   pub sides_apart : AreApart (rhs_pairs M)

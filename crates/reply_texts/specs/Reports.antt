@@ -3,8 +3,8 @@ use Rattle.std.specs.Prelude.{◌≡◌, ◌<◌, ◌^◌, length}
 use Rattle.std.specs.List.{All}
 use Rattle.frac128.specs.Range.{Fits}
 use Rattle.lp_model.specs.Program.{Program, value}
-use Rattle.lp_model.specs.declared.answers.Answer.{Answer}
-use Rattle.lp_model.specs.declared.answers.Answer.TheVariants.{Optimal, Infeasible, Unbounded, Stopped, Memory}
+use Rattle.search_answers.specs.declared.answers.Answer.{Answer}
+use Rattle.search_answers.specs.declared.answers.Answer.TheVariants.{Optimal, Infeasible, Unbounded, Stopped, Memory}
 
 -- an optimum has a number for each column, and its value
 abbrev pub AnswerIsShaped : Program → Answer → Type 0

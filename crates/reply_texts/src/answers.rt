@@ -10,7 +10,8 @@ use crate::blocks::{write_block, write_step_line};
 use crate::fixed::MEMORY_REPLY;
 use crate::pieces::{write_count_line, write_two};
 use frac128::Frac;
-use lp_model::{Answer, Col, Model, PivotPlace, Point, StopWhy, WideAt};
+use lp_model::{Col, Model, PivotPlace, Point, StopWhy, WideAt};
+use search_answers::Answer;
 use std::alloc::AllocError;
 
 /// No point is feasible, and how many results were placed.

@@ -37,12 +37,12 @@ use Rattle.list_order.specs.Order.{IsBefore, Rise, AreInOrder, IsBasisInOrder}
 use Rattle.list_order.specs.Ordered.{IsLeafInOrder, HasListsInOrder, IsCutInOrder, AreCutsInOrder}
 use Rattle.list_order.proofs.LeftLemmas.{none-order}
 use Rattle.list_order.proofs.TreeOrder.{judged-order, judged-count, judged-limit}
-use Rattle.warm_file.specs.Faults.{fault, at_key, at_item}
+use Rattle.warm_file.specs.Faults.{fault, behind, at_key, at_item}
 use Rattle.warm_file.specs.Values.{truth_of, place_below, member, list_of, at_most_items}
 use Rattle.warm_file.specs.Rising.{is_past, stated_literal, literal_of, variable_rank}
 use Rattle.warm_file.specs.declared.rising.Counts.{Counts}
 use Rattle.warm_file.specs.Models.{model_of}
-use Rattle.warm_file.specs.Searches.{row_side_of, derivation_in, cut_of, cuts_of, points_of, nodes_of, node_of, counts, whole_search, tree_of, search_in, search_of}
+use Rattle.warm_file.specs.Searches.{row_side_of, derivation_in, cut_of, cuts_of, points_of, is_told, nodes_of, nodes_told, with_nodes, node_of, counts, whole_search, tree_of, search_in, search_of}
 use Rattle.warm_file.proofs.Inversions.{next-ok, key-ok, test-ok, member-ok, list-keeps, at_most-ok}
 use Rattle.warm_writer.specs.Writable.{ArePlacesRising, IsVariableThere, IsActivity, AreWritableVariables, AreWritableMultipliers, IsWritableBasis, IsWritableNode, IsWritableCut}
 use Rattle.search_file.specs.Lawful.{lawful_tree}
@@ -50,7 +50,10 @@ use Rattle.search_file.specs.Laws.{StatedOrderLaw, WritableLaw}
 use Rattle.search_file.proofs.LawfulLemmas.{all-lawful}
 use Rattle.search_file.proofs.RestorableLaws.{text-restorable}
 use Rattle.search_file.proofs.StatedLists.{placed, rising-push}
-use Rattle.search_file.proofs.StatedNodes.{nodes-stated}
+use Rattle.search_file.proofs.StatedNodes.{AreStatedNodes, nodes-stated}
+use Rattle.warm_file.proofs.StatedModels.{model-few}
+use Rattle.warm_file.proofs.SearchLaws.{few-cuts}
+use Rattle.warm_writer.proofs.RankOrder.{AreFew}
 
 -- ---- cuts that are stated
 
@@ -95,11 +98,11 @@ cuts-stated rows columns d cuts e =
     (λ before w c p said. All-push (IsCutInOrder rows columns) before c p (cut-stated rows columns w c (at_most-ok pool_limit (λ b. cut_of rows columns) before w c said).1))
     d cuts (All-nil (IsCutInOrder rows columns)) e
 
-few-nodes : (n : Counts) (d : Data) (nodes : List NodeData) → nodes_of n d ≡ Ok nodes → length nodes ≤ node_limit
+few-nodes : (version : ℕ) (n : Counts) (d : Data) (nodes : List NodeData) → nodes_of version n d ≡ Ok nodes → length nodes ≤ node_limit
 unfolding nodes_of
-few-nodes n d nodes e =
-    list-keeps (at_most_items node_limit (λ before. node_of n)) (λ l. length l ≤ node_limit)
-    (λ before w x p said. let m = (at_most-ok node_limit (λ b. node_of n) before w x said).0 in omega (arith, m, length_push before x))
+few-nodes version n d nodes e =
+    list-keeps (at_most_items node_limit (λ before. node_of (is_told version before) n)) (λ l. length l ≤ node_limit)
+    (λ before w x p said. let m = (at_most-ok node_limit (λ b. node_of (is_told version b) n) before w x said).0 in omega (arith, m, length_push before x))
     d nodes (omega arith) e
 
 -- ---- the whole
@@ -109,15 +112,17 @@ pub record IsStatedInOrder (s : SearchData) : Type 0 where
   pub nodes : All (IsWritableNode (counts s.model s.cuts)) s.nodes
   pub few : length s.nodes ≤ node_limit
 
-whole-order : (M : Program) (cuts : List Derivation) (points : List (List ℚ)) (nodes : List NodeData) (s : SearchData) → AreCutsInOrder M cuts → All (IsWritableNode (counts M cuts)) nodes → length nodes ≤ node_limit
-    → whole_search M cuts points nodes ≡ Ok s → IsStatedInOrder s
-whole-order M cuts points nodes s c n few e = by (is_one_tree nodes) e
+whole-order : (version : ℕ) (M : Program) (cuts : List Derivation) (points : List (List ℚ)) (nodes : List NodeData) (s : SearchData) → AreCutsInOrder M cuts
+    → ((out : List NodeData) → nodes_told version nodes ≡ Ok out → AreStatedNodes (counts M cuts) nodes out) → length nodes ≤ node_limit → whole_search version M cuts points nodes ≡ Ok s → IsStatedInOrder s
+whole-order version M cuts points nodes s c n few e = by (is_one_tree nodes) e
   where
-    by : (b : Bool) → (if b then Ok (record { model = M; cuts = cuts; points = points; nodes = nodes }) else at_key (codes "nodes") (fault 12)) ≡ Ok s → IsStatedInOrder s
+    by : (b : Bool) → (if b then behind (nodes_told version nodes) (with_nodes M cuts points) else at_key (codes "nodes") (fault 12)) ≡ Ok s → IsStatedInOrder s
     by true h =
-        let made : SearchData = record { model = M; cuts = cuts; points = points; nodes = nodes } in
-        let same : made ≡ s = cc in
-        subst IsStatedInOrder same (record { cuts = c; nodes = n; few = few })
+        let told = next-ok (nodes_told version nodes) (with_nodes M cuts points) s h in
+        let stated = n told.0 told.1.0 in
+        let made : SearchData = record { model = M; cuts = cuts; points = points; nodes = told.0 } in
+        let same : made ≡ s = let g = told.1.1 in cc in
+        subst IsStatedInOrder same (record { cuts = c; nodes = stated.writable; few = (let many = stated.many in omega (arith, many, few)) })
     by false h = let none = key-ok (codes "nodes") (fault {A = SearchData} 12) s h in absurd (cc)
 
 data-order : (d : Data) (s : SearchData) → search_of d ≡ Ok s → IsStatedInOrder s
@@ -129,11 +134,15 @@ data-order d s e =
     let M = model.0 in
     let cuts = next-ok (member (codes "cuts") (cuts_of (length M.rows) (length M.cols)) d) _ s model.1.1 in
     let points = next-ok (member (codes "points") (points_of (length M.cols)) d) _ s cuts.1.1 in
-    let nodes = next-ok (member (codes "nodes") (nodes_of (counts M cuts.0)) d) _ s points.1.1 in
+    let nodes = next-ok (member (codes "nodes") (nodes_of version.0 (counts M cuts.0)) d) _ s points.1.1 in
     let c = member-ok (codes "cuts") (cuts_of (length M.rows) (length M.cols)) d cuts.0 cuts.1.0 in
-    let v = member-ok (codes "nodes") (nodes_of (counts M cuts.0)) d nodes.0 nodes.1.0 in
-    whole-order M cuts.0 points.0 nodes.0 s (cuts-stated (length M.rows) (length M.cols) c.0 cuts.0 c.1)
-    (nodes-stated (counts M cuts.0) v.0 nodes.0 v.1) (few-nodes (counts M cuts.0) v.0 nodes.0 v.1) nodes.1.1
+    let v = member-ok (codes "nodes") (nodes_of version.0 (counts M cuts.0)) d nodes.0 nodes.1.0 in
+    let m = member-ok (codes "model") model_of d M model.1.0 in
+    let few = model-few m.0 M m.1 in
+    let few_cuts = few-cuts (length M.rows) (length M.cols) d cuts.0 cuts.1.0 in
+    let small : AreFew (counts M cuts.0) = record { columns = (let c = few.1 in omega (arith, c)); rows = (let r = few.0 in omega (arith, r)); cuts = omega (arith, few_cuts) } in
+    whole-order version.0 M cuts.0 points.0 nodes.0 s (cuts-stated (length M.rows) (length M.cols) c.0 cuts.0 c.1)
+    (λ out told. nodes-stated version.0 (counts M cuts.0) v.0 nodes.0 out small v.1 told) (few-nodes version.0 (counts M cuts.0) v.0 nodes.0 v.1) nodes.1.1
 
 -- ---- ranks
 

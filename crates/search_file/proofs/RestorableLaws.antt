@@ -25,17 +25,19 @@ use Rattle.search_parts.specs.Lists.{IsThere, IsActivityThere, NamesOnce, AreMul
 use Rattle.sound_searches.specs.Sound.{PlainSearch}
 use Rattle.search_file.specs.Saved.{saved_data, uncounted, IsRestorableNode, IsRestorable, Restores}
 use Rattle.search_file.proofs.SavedLaws.{saved}
-use Rattle.warm_file.specs.Faults.{fault, at_key}
+use Rattle.warm_file.specs.Faults.{fault, behind, at_key}
 use Rattle.warm_file.specs.Values.{member}
 use Rattle.warm_file.specs.Rising.{variable_rank}
 use Rattle.warm_file.proofs.Inversions.{next-ok, key-ok, test-ok, member-ok}
 use Rattle.warm_file.specs.Models.{model_of}
-use Rattle.warm_file.specs.Searches.{counts, cuts_of, points_of, nodes_of, whole_search, tree_of, search_in, search_of, States}
+use Rattle.warm_file.specs.Searches.{counts, cuts_of, points_of, nodes_of, nodes_told, with_nodes, whole_search, tree_of, search_in, search_of, States}
 use Rattle.warm_file.proofs.SearchLaws.{few-cuts, one_search-law}
 use Rattle.warm_writer.specs.Writable.{IsVariableThere, IsActivity, AreWritableVariables, AreWritableMultipliers, IsWritableBasis, IsWritableNode}
 use Rattle.search_file.specs.Files.{IsTextOf, IsStatedBy}
 use Rattle.search_file.specs.Laws.{FileLaw}
-use Rattle.search_file.proofs.StatedNodes.{nodes-stated, few-points}
+use Rattle.search_file.proofs.StatedNodes.{AreStatedNodes, nodes-stated, few-points}
+use Rattle.warm_file.proofs.StatedModels.{model-few}
+use Rattle.warm_writer.proofs.RankOrder.{AreFew}
 
 -- ---- lists in order name each once
 
@@ -88,19 +90,21 @@ module _ (M : Program) (cuts : List Derivation) where
 
 -- ---- what is stated
 
-made-restorable : (M : Program) (cuts : List Derivation) (points : List (List ℚ)) (nodes : List NodeData) (s : SearchData) → length cuts ≤ 10000 → length points ≤ 100
-    → All (IsWritableNode (counts M cuts)) nodes → whole_search M cuts points nodes ≡ Ok s → IsRestorable s
-made-restorable M cuts points nodes s few_cuts few_points all e = by (is_one_tree nodes) refl e
+made-restorable : (version : ℕ) (M : Program) (cuts : List Derivation) (points : List (List ℚ)) (nodes : List NodeData) (s : SearchData) → length cuts ≤ 10000 → length points ≤ 100
+    → ((out : List NodeData) → nodes_told version nodes ≡ Ok out → AreStatedNodes (counts M cuts) nodes out) → whole_search version M cuts points nodes ≡ Ok s → IsRestorable s
+made-restorable version M cuts points nodes s few_cuts few_points all e = by (is_one_tree nodes) refl e
   where
-    by : (b : Bool) → is_one_tree nodes ≡ b → (if b then Ok (record { model = M; cuts = cuts; points = points; nodes = nodes }) else at_key (codes "nodes") (fault 12)) ≡ Ok s → IsRestorable s
+    by : (b : Bool) → is_one_tree nodes ≡ b → (if b then behind (nodes_told version nodes) (with_nodes M cuts points) else at_key (codes "nodes") (fault 12)) ≡ Ok s → IsRestorable s
     by true whole h =
-        let made : SearchData = record { model = M; cuts = cuts; points = points; nodes = nodes } in
-        let same : made ≡ s = cc in
+        let told = next-ok (nodes_told version nodes) (with_nodes M cuts points) s h in
+        let stated = all told.0 told.1.0 in
+        let made : SearchData = record { model = M; cuts = cuts; points = points; nodes = told.0 } in
+        let same : made ≡ s = let g = told.1.1 in cc in
         subst IsRestorable same (record {
           few_cuts = few_cuts;
           few_points = few_points;
-          tree = (one_tree-decides nodes).0 whole;
-          nodes = All-weaker (IsWritableNode (counts M cuts)) (IsRestorableNode (formulation M (map uncounted cuts))) (writable-restorable M cuts) nodes all;
+          tree = (one_tree-decides told.0).0 (stated.whole ∙ whole);
+          nodes = All-weaker (IsWritableNode (counts M cuts)) (IsRestorableNode (formulation M (map uncounted cuts))) (writable-restorable M cuts) told.0 stated.writable;
         })
     by false whole h = let none = key-ok (codes "nodes") (fault {A = SearchData} 12) s h in absurd (cc)
 
@@ -113,11 +117,15 @@ stated-restorable d s e =
     let M = model.0 in
     let cuts = next-ok (member (codes "cuts") (cuts_of (length M.rows) (length M.cols)) d) _ s model.1.1 in
     let points = next-ok (member (codes "points") (points_of (length M.cols)) d) _ s cuts.1.1 in
-    let nodes = next-ok (member (codes "nodes") (nodes_of (counts M cuts.0)) d) _ s points.1.1 in
-    let v = member-ok (codes "nodes") (nodes_of (counts M cuts.0)) d nodes.0 nodes.1.0 in
-    made-restorable M cuts.0 points.0 nodes.0 s
-    (few-cuts (length M.rows) (length M.cols) d cuts.0 cuts.1.0) (few-points (length M.cols) d points.0 points.1.0)
-    (nodes-stated (counts M cuts.0) v.0 nodes.0 v.1) nodes.1.1
+    let nodes = next-ok (member (codes "nodes") (nodes_of version.0 (counts M cuts.0)) d) _ s points.1.1 in
+    let v = member-ok (codes "nodes") (nodes_of version.0 (counts M cuts.0)) d nodes.0 nodes.1.0 in
+    let m = member-ok (codes "model") model_of d M model.1.0 in
+    let few = model-few m.0 M m.1 in
+    let few_cuts = few-cuts (length M.rows) (length M.cols) d cuts.0 cuts.1.0 in
+    let small : AreFew (counts M cuts.0) = record { columns = (let c = few.1 in omega (arith, c)); rows = (let r = few.0 in omega (arith, r)); cuts = omega (arith, few_cuts) } in
+    made-restorable version.0 M cuts.0 points.0 nodes.0 s
+    few_cuts (few-points (length M.cols) d points.0 points.1.0)
+    (λ out told. nodes-stated version.0 (counts M cuts.0) v.0 nodes.0 out small v.1 told) nodes.1.1
 
 pub text-restorable : (text : List ℕ) (s : SearchData) → States text s → IsRestorable s
 text-restorable text s h = stated-restorable h.value s h.stated

@@ -1,5 +1,5 @@
 -- Lists of variables and of multipliers that are stated without fault: they name what is there, each once, in order.
-use Rattle.std.specs.Prelude.{◌≡◌, ◌≢◌, ℕ, zero, suc, ◌<◌, Bool, true, false, if◌then◌else◌, nat_lt, List, [], ◌∷◌, ◌++◌, length, get_or, pos, Ok}
+use Rattle.std.specs.Prelude.{◌≡◌, ◌≢◌, ℕ, zero, suc, ◌<◌, Bool, true, false, if◌then◌else◌, nat_lt, List, [], ◌∷◌, ◌++◌, length, get_or, pos, All, Result, Ok}
 use Rattle.std.proofs.Common.{refl, subst, arith}
 use Rattle.std.proofs.lemmas.Bool.Decides.{nat_tests}
 use Rattle.std.proofs.lemmas.List.Elements.{All-nil, All-push}
@@ -9,16 +9,17 @@ use Rattle.frac128.proofs.Comparison.{eq_by_cmp-decides}
 use Rattle.lp_model.specs.Edits.{is_zero}
 use Rattle.lp_model.specs.declared.types.Var.{Var}
 use Rattle.serde_json.specs.Data.{Data}
-use Rattle.warm_file.specs.Faults.{fault, at_item}
-use Rattle.warm_file.specs.Values.{count_of, place_below}
+use Rattle.warm_file.specs.Faults.{Fault, fault, at_item}
+use Rattle.warm_file.specs.Values.{count_of, place_below, list_of}
 use Rattle.warm_file.specs.Numbers.{number_of, nonzero_of}
-use Rattle.warm_file.specs.Rising.{is_past, kind_of, row_or_cut, dual_kind_of, count_of_kind, var_of, variable_rank, variable_of, multiplier_at, multiplier_of}
+use Rattle.warm_file.specs.Rising.{is_past, kind_of, row_or_cut, dual_kind_of, count_of_kind, var_of, variable_rank, variable_of, multiplier_at, multiplier_by}
 use Rattle.warm_file.specs.declared.rising.Counts.{Counts}
 use Rattle.warm_file.specs.declared.rising.Kind.{Kind}
 use Rattle.warm_file.specs.declared.rising.Kind.TheVariants as kind
 use Rattle.warm_file.proofs.Inversions.{next-ok, key-ok, test-ok, list-keeps}
-use Rattle.warm_file.specs.Searches.{variables_of, multipliers_of}
-use Rattle.warm_writer.specs.Writable.{ArePlacesRising, IsVariableThere, IsActivity, AreWritableVariables, IsWritableMultiplier, AreWritableMultipliers}
+use Rattle.warm_file.specs.Searches.{variables_of, multipliers_of, node_multipliers_of}
+use Rattle.warm_writer.specs.Writable.{ArePlacesRising, IsVariableThere, IsActivity, AreWritableVariables, AreWritableMultipliers}
+use Rattle.warm_writer.proofs.NodesBack.{AreWritableChanges, IsRawMult}
 
 less : (k m : ℕ) → nat_lt k m ≡ true → k < m
 less k m h = grind (arith, nat_tests)
@@ -97,27 +98,49 @@ nonzero d x e =
     by y true z h = absurd (cc)
     by y false z h = let same : y ≡ x = cc in subst (λ v. v ≢ int (pos 0)) same (not_zero y z)
 
-multiplier-next : (n : Counts) (before : List (Var × ℚ)) (d : Data) (m : Var × ℚ) → AreWritableMultipliers n before → multiplier_of n before d ≡ Ok m → AreWritableMultipliers n (before ++ m ∷ [])
-unfolding multiplier_of
-multiplier-next n before d m p said =
-    let three = next-ok _ _ m said in
-    let k = next-ok (at_item 0 (dual_kind_of three.0.0)) _ m three.1.1 in
-    let place = next-ok (at_item 1 (place_below (count_of_kind n k.0) three.0.1)) _ m k.1.1 in
-    let past = test-ok (is_past (λ (e : Var × ℚ). variable_rank e.0) before (variable_rank (var_of k.0 place.0))) (multiplier_at (var_of k.0 place.0) three.0.2) 8 m place.1.1 in
-    let number = next-ok (at_item 2 (nonzero_of three.0.2)) _ m past.1 in
-    let same : (var_of k.0 place.0, number.0) ≡ m = let h = number.1.1 in cc in
-    let below = placed (count_of_kind n k.0) three.0.1 place.0 (key-ok _ (place_below (count_of_kind n k.0) three.0.1) place.0 place.1.0) in
-    let made : Var × ℚ = (var_of k.0 place.0, number.0) in
-    subst (λ (w : Var × ℚ). AreWritableMultipliers n (before ++ w ∷ [])) same (record {
-      each = All-push (IsWritableMultiplier n) before made p.each (record {
-        there = there-of n k.0 place.0 below;
-        dual = dual-of three.0.0 k.0 place.0 (key-ok _ (dual_kind_of three.0.0) k.0 k.1.0);
-        nonzero = nonzero three.0.2 number.0 (key-ok _ (nonzero_of three.0.2) number.0 number.1.0);
-      });
-      rising = rising-push (λ (e : Var × ℚ). variable_rank e.0) before made p.rising past.0;
-    })
+-- what the rule of the numbers says of each
+record AreStated (N : ℚ → Type 0) (n : Counts) (es : List (Var × ℚ)) : Type 0 where
+  changes : AreWritableChanges n es
+  numbers : All (λ (e : Var × ℚ). N e.1) es
+
+module _ (numbers : Data → Result ℚ Fault) (N : ℚ → Type 0) (says : (d : Data) (x : ℚ) → numbers d ≡ Ok x → N x) (n : Counts) where
+  multiplier-next : (before : List (Var × ℚ)) (d : Data) (m : Var × ℚ) → AreStated N n before → multiplier_by numbers n before d ≡ Ok m → AreStated N n (before ++ m ∷ [])
+  unfolding multiplier_by
+  multiplier-next before d m p said =
+      let three = next-ok _ _ m said in
+      let k = next-ok (at_item 0 (dual_kind_of three.0.0)) _ m three.1.1 in
+      let place = next-ok (at_item 1 (place_below (count_of_kind n k.0) three.0.1)) _ m k.1.1 in
+      let past = test-ok (is_past (λ (e : Var × ℚ). variable_rank e.0) before (variable_rank (var_of k.0 place.0))) (multiplier_at numbers (var_of k.0 place.0) three.0.2) 8 m place.1.1 in
+      let number = next-ok (at_item 2 (numbers three.0.2)) _ m past.1 in
+      let same : (var_of k.0 place.0, number.0) ≡ m = let h = number.1.1 in cc in
+      let below = placed (count_of_kind n k.0) three.0.1 place.0 (key-ok _ (place_below (count_of_kind n k.0) three.0.1) place.0 place.1.0) in
+      let made : Var × ℚ = (var_of k.0 place.0, number.0) in
+      subst (λ (w : Var × ℚ). AreStated N n (before ++ w ∷ [])) same (record {
+        changes = record {
+          there = All-push (λ (e : Var × ℚ). IsVariableThere n e.0) before made p.changes.there (there-of n k.0 place.0 below);
+          dual = All-push (λ (e : Var × ℚ). IsActivity e.0) before made p.changes.dual (dual-of three.0.0 k.0 place.0 (key-ok _ (dual_kind_of three.0.0) k.0 k.1.0));
+          rising = rising-push (λ (e : Var × ℚ). variable_rank e.0) before made p.changes.rising past.0;
+        };
+        numbers = All-push (λ (e : Var × ℚ). N e.1) before made p.numbers (says three.0.2 number.0 (key-ok _ (numbers three.0.2) number.0 number.1.0));
+      })
+
+  by-stated : (d : Data) (es : List (Var × ℚ)) → list_of (multiplier_by numbers n) d ≡ Ok es → AreStated N n es
+  by-stated d es e =
+      list-keeps (multiplier_by numbers n) (AreStated N n) (λ before w m p said. multiplier-next before w m p said) d es
+      (record {
+        changes = record { there = All-nil (λ (x : Var × ℚ). IsVariableThere n x.0); dual = All-nil (λ (x : Var × ℚ). IsActivity x.0); rising = λ i j x lt within. absurd (omega arith) };
+        numbers = All-nil (λ (x : Var × ℚ). N x.1);
+      }) e
+
+abbrev IsNonzero : ℚ → Type 0
+IsNonzero x = x ≢ int (pos 0)
 
 pub multipliers-stated : (n : Counts) (d : Data) (es : List (Var × ℚ)) → multipliers_of n d ≡ Ok es → AreWritableMultipliers n es
 multipliers-stated n d es e =
-    list-keeps (multiplier_of n) (AreWritableMultipliers n) (λ before w m p said. multiplier-next n before w m p said) d es
-    (record { each = All-nil (IsWritableMultiplier n); rising = λ i j x lt within. absurd (omega arith) }) e
+    let h = by-stated nonzero_of IsNonzero nonzero n d es e in
+    record { each = λ k x lt. record { there = h.changes.there k x lt; dual = h.changes.dual k x lt; nonzero = h.numbers k x lt }; rising = h.changes.rising }
+
+-- those of a node, whole or told
+pub mult-stated : (told : Bool) (n : Counts) (d : Data) (es : List (Var × ℚ)) → node_multipliers_of told n d ≡ Ok es → IsRawMult told n es
+mult-stated true n d es e = (by-stated number_of (λ x. Unit {0}) (λ v x said. tt) n d es e).changes
+mult-stated false n d es e = multipliers-stated n d es e

@@ -2,7 +2,7 @@
 use Rattle.std.specs.Prelude.{ℕ, ◌≤◌}
 use Rattle.lp_model.specs.Program.{Program}
 use Rattle.lp_model.specs.declared.types.Basis.{Basis}
-use Rattle.lp_model.specs.declared.answers.Answer.{Answer}
+use Rattle.search_answers.specs.declared.answers.Answer.{Answer}
 use Rattle.lp_model.specs.Limits.{node_limit}
 use Rattle.branch_tree.specs.Numbered.{IsNumbered}
 use Rattle.list_order.specs.Ordered.{IsInOrder}

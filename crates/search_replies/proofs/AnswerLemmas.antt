@@ -1,7 +1,7 @@
 -- What is told of an answer and of the model that is there.
 use Rattle.std.proofs.Common.{◌≡◌, subst, Option, Result}
 use Rattle.lp_model.specs.Program.{Program}
-use Rattle.lp_model.specs.declared.answers.Answer.{Answer}
+use Rattle.search_answers.specs.declared.answers.Answer.{Answer}
 use Rattle.kept_env.specs.declared.env.EnvFault.{EnvFault}
 
 -- of both as they are

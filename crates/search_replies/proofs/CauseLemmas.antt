@@ -6,8 +6,8 @@ use Rattle.frac128.specs.Rational.{ℚ}
 use Rattle.frac128.specs.Printing.{printed}
 use Rattle.command_words.specs.declared.options.SearchOptions.{SearchOptions}
 use Rattle.lp_model.specs.Program.{Program, value}
-use Rattle.lp_model.specs.declared.answers.Answer.{Answer}
-use Rattle.lp_model.specs.declared.answers.Answer.TheVariants.{Memory}
+use Rattle.search_answers.specs.declared.answers.Answer.{Answer}
+use Rattle.search_answers.specs.declared.answers.Answer.TheVariants.{Memory}
 use Rattle.sound_searches.specs.Sound.{PlainSearch}
 use Rattle.tree_search.specs.Truth.{IsTooSmall}
 use Rattle.tree_search.specs.Enough.{IsEnough, IsKeptEnough}

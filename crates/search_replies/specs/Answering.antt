@@ -2,7 +2,7 @@
 use Rattle.std.specs.Prelude.{ℕ, List, Option, Some, None, Result, Ok, Err}
 use Rattle.lp_model.specs.Lawful.{IsLawful}
 use Rattle.lp_model.specs.Program.{Program}
-use Rattle.lp_model.specs.declared.answers.Answer.{Answer}
+use Rattle.search_answers.specs.declared.answers.Answer.{Answer}
 use Rattle.kept_env.specs.declared.env.EnvFault.{EnvFault}
 use Rattle.reply_texts.specs.Reports.{AnswerIsShaped, AnswerHasRoom}
 use Rattle.reply_texts.specs.Texts.{answer_text, no_model_text}

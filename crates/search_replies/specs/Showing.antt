@@ -10,8 +10,8 @@ use Rattle.lp_model.specs.declared.answers.PivotPlace.{PivotPlace}
 use Rattle.lp_model.specs.declared.answers.WideAt.{WideAt}
 use Rattle.lp_model.specs.declared.answers.StopWhy.{StopWhy}
 use Rattle.lp_model.specs.declared.answers.StopWhy.TheVariants.{Nodes, Tree, Pivots, Wide}
-use Rattle.lp_model.specs.declared.answers.Answer.{Answer}
-use Rattle.lp_model.specs.declared.answers.Answer.TheVariants.{Optimal, Infeasible, Unbounded, Stopped}
+use Rattle.search_answers.specs.declared.answers.Answer.{Answer}
+use Rattle.search_answers.specs.declared.answers.Answer.TheVariants.{Optimal, Infeasible, Unbounded, Stopped}
 use Rattle.model_points.specs.Rays.{IsRay, IsUnbounded}
 use Rattle.ray_phase.specs.Answers.{IsRayAnswer}
 use Rattle.ray_phase.specs.declared.phase.RayAnswer.TheVariants as phase

@@ -2,8 +2,8 @@
 use Rattle.std.specs.Prelude.{◌≡◌, ◌⊎◌, ◌<◌, ℕ, List, Option, Some, None, Result, IfOk, IfSome}
 use Rattle.command_words.specs.declared.options.SearchOptions.{SearchOptions}
 use Rattle.lp_model.specs.Program.{Program}
-use Rattle.lp_model.specs.declared.answers.Answer.{Answer}
-use Rattle.lp_model.specs.declared.answers.Answer.TheVariants.{Memory}
+use Rattle.search_answers.specs.declared.answers.Answer.{Answer}
+use Rattle.search_answers.specs.declared.answers.Answer.TheVariants.{Memory}
 use Rattle.lp_model.specs.Limits.{node_limit}
 use Rattle.search_counting.specs.Work.{cap_of}
 use Rattle.sound_searches.specs.Sound.{PlainSearch}

@@ -1,8 +1,8 @@
 -- What `warm` may answer of the search that is kept.
 use Rattle.std.specs.Prelude.{◌≡◌, ◌⊎◌, ◌<◌, ℕ, List, length, Option, Some, None, Result, IfOk, IfSome}
 use Rattle.command_words.specs.declared.options.SearchOptions.{SearchOptions}
-use Rattle.lp_model.specs.declared.answers.Answer.{Answer}
-use Rattle.lp_model.specs.declared.answers.Answer.TheVariants.{Memory}
+use Rattle.search_answers.specs.declared.answers.Answer.{Answer}
+use Rattle.search_answers.specs.declared.answers.Answer.TheVariants.{Memory}
 use Rattle.ray_phase.specs.Beginnings.{FindsRay}
 use Rattle.sound_searches.specs.Calls.{search_with_limit}
 use Rattle.sound_searches.specs.Laws.{HasNoOpenLeaf}

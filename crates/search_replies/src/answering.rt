@@ -11,8 +11,8 @@ ghost use Rattle.search_replies.specs.Warming.{IsWarmed, RepliesToWarm};
 
 use crate::limits::WORKER_LIMIT;
 use kept_env::{Env, EnvFault};
-use lp_model::Answer;
 use reply_texts::{NO_MODEL_REPLY, answer_has_room, write_answer, write_limit};
+use search_answers::Answer;
 use std::alloc::AllocError;
 
 /// What a search of the environment's model has answered, or that there is no model.

@@ -6,8 +6,8 @@ use Rattle.lp_model.specs.declared.types.Basis.{Basis}
 use Rattle.lp_model.specs.declared.types.CutRow.{CutRow}
 use Rattle.lp_model.specs.declared.answers.StopWhy.{StopWhy}
 use Rattle.lp_model.specs.declared.answers.StopWhy.TheVariants as stop
-use Rattle.lp_model.specs.declared.answers.Answer.{Answer}
-use Rattle.lp_model.specs.declared.answers.Answer.TheVariants.{Optimal, Infeasible, Unbounded, Stopped, Memory}
+use Rattle.search_answers.specs.declared.answers.Answer.{Answer}
+use Rattle.search_answers.specs.declared.answers.Answer.TheVariants.{Optimal, Infeasible, Unbounded, Stopped, Memory}
 use Rattle.model_points.specs.Rays.{without_costs}
 use Rattle.branch_tree.specs.Tree.{node_count, split_count}
 use Rattle.sound_searches.specs.Calls.{IsFresh, search_with_limit}

@@ -2,8 +2,8 @@
 use Rattle.std.proofs.Common.{◌≡◌, ℕ, refl, sym, ap, subst, ◌∙◌, inl, inr}
 use Rattle.std.specs.Prelude.{take}
 use Rattle.lp_model.specs.declared.types.Basis.{Basis}
-use Rattle.lp_model.specs.declared.answers.Answer.{Answer}
-use Rattle.lp_model.specs.declared.answers.Answer.TheVariants.{Memory}
+use Rattle.search_answers.specs.declared.answers.Answer.{Answer}
+use Rattle.search_answers.specs.declared.answers.Answer.TheVariants.{Memory}
 use Rattle.lp_model.specs.declared.answers.StopWhy.{StopWhy}
 use Rattle.sound_searches.specs.Calls.{IsFresh}
 use Rattle.sound_searches.specs.Sound.{PlainSearch, IsSound}

@@ -8,8 +8,8 @@ use Rattle.lp_model.specs.Program.{Program, Point, least_value, IsOptimum}
 use Rattle.lp_model.specs.declared.types.Basis.{Basis}
 use Rattle.lp_model.specs.declared.answers.StopWhy.{StopWhy}
 use Rattle.lp_model.specs.declared.answers.StopWhy.TheVariants as stop
-use Rattle.lp_model.specs.declared.answers.Answer.{Answer}
-use Rattle.lp_model.specs.declared.answers.Answer.TheVariants.{Optimal, Infeasible, Unbounded, Stopped, Memory}
+use Rattle.search_answers.specs.declared.answers.Answer.{Answer}
+use Rattle.search_answers.specs.declared.answers.Answer.TheVariants.{Optimal, Infeasible, Unbounded, Stopped, Memory}
 use Rattle.model_points.specs.Rays.{IsRay, IsRayJudged, IsUnbounded}
 use Rattle.model_points.proofs.UnboundedLemmas.{unbounded}
 use Rattle.sound_searches.specs.Calls.{search_with_limit}

@@ -10,7 +10,7 @@ ghost use Rattle.tree_search.specs.Warm.{WarmsFrom};
 use crate::solving::{Solution, solve_search};
 use crate::warming::warm_search;
 use kept_env::{Env, EnvFault, held_by};
-use lp_model::Answer;
+use search_answers::Answer;
 use std::alloc::Global;
 use tree_search::Limits;
 

@@ -11,8 +11,9 @@ ghost use Rattle.tree_search.specs.Solves.{Solved, SolvesModel, SaysUnbounded, H
 ghost use Rattle.tree_search.specs.Truth.{IsTrueAnswer, HasEnded};
 ghost use Rattle.tree_search.specs.Warm.{Went};
 
-use lp_model::{Answer, Basis, Model, Point};
+use lp_model::{Basis, Model, Point};
 use ray_phase::{Beginning, find_beginning, no_ray_law, root_law};
+use search_answers::Answer;
 use search_counting::{cap_law, left_law, roomy_law, too_small_law};
 use sound_searches::empty_law;
 use std::alloc::{AllocError, Global};

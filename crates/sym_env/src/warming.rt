@@ -11,8 +11,9 @@ ghost use Rattle.tree_search.specs.Extends.{Extends};
 
 use crate::solving::{Solution, search_own, search_without_point};
 use dual_simplex::slack_basis;
-use lp_model::{Answer, StopWhy};
+use lp_model::StopWhy;
 use ray_phase::{RayAnswer, out_of_moves, ray};
+use search_answers::Answer;
 use search_counting::{cap_law, left_law};
 use sound_searches::empty_law;
 use std::alloc::{AllocError, Global};

@@ -1,10 +1,11 @@
--- The certificate of a finished search passes: its point is kept, and each of its leaves is judged closed by the very
+-- The certificate of a search that is finished, or within a gap, passes: its point is kept, and each of its leaves closes by the very
 -- numbers that the certificate gives.
 use Rattle.std.proofs.Common.{◌≡◌, ◌≢◌, ℕ, ◌<◌, List, [], ◌∷◌, ◌++◌, length, get_or, refl, sym, ap, subst, ◌∙◌, inl, inr}
-use Rattle.std.specs.Prelude.{All, AllPairs, IsTrue, true, Option, Some, None, Ok}
+use Rattle.std.specs.Prelude.{All, AllPairs, IsTrue, true, pos, Option, Some, None, Ok}
 use Rattle.std.proofs.lemmas.List.Elements.{All-append}
 use Rattle.std.proofs.lemmas.List.Elements.{All-get_or}
-use Rattle.frac128.specs.Rational.{ℚ}
+use Rattle.frac128.specs.Rational.{ℚ, int, ◌-ℚ◌, neg_ℚ, ◌≤ℚ◌}
+use Rattle.frac128.specs.Range.{SumFits}
 use Rattle.lp_model.specs.Program.{Program, Point, value, least_value, in_least_form, is_integer}
 use Rattle.lp_model.specs.Lawful.{IsLawful as IsLawfulModel, column_names}
 use Rattle.lp_model.specs.Regions.{Path, IsEmptyRegion}
@@ -13,19 +14,20 @@ use Rattle.lp_model.specs.Cuts.{is_live}
 use Rattle.lp_model.specs.declared.types.CutRow.{CutRow}
 use Rattle.leaf_dual.specs.Dual.{Multipliers}
 use Rattle.branch_tree.specs.Tree.{Leaf, Split, left_path, right_path, SplitsLawfully, HasNarrowSplits, EachLeaf}
-use Rattle.branch_tree.specs.Plain.{Plain}
+use Rattle.branch_tree.specs.Plain.{LeafKept, Plain}
 use Rattle.branch_tree.specs.declared.node.LeafState.TheVariants.{IsClosed}
 use Rattle.branch_tree.specs.declared.node.LeafData.{LeafData}
 use Rattle.leaf_judging.specs.declared.closing.LeafNumber.{LeafNumber}
 use Rattle.leaf_judging.specs.declared.closing.LeafNumber.TheVariants as number
-use Rattle.leaf_judging.specs.Closing.{IsRefuted, IsNumber, NumberCloses, StateSays, IsJudgedLeaf}
+use Rattle.leaf_judging.specs.Closing.{IsRefuted, IsNumber, NumberCloses, StateSays, IsJudgedLeaf, ClosesBy}
 use Rattle.sound_searches.specs.Laws.{HasNoOpenLeaf}
+use Rattle.search_gaps.specs.Within.{IsGapTarget, AllClose, AreLeavesWithin}
 use Rattle.search_parts.specs.Lists.{AreMultipliers, HasLists, HasNodeLists}
 use Rattle.search_parts.specs.Points.{IsKeepable, target, IsIncumbent, IsIncumbentAt}
 use Rattle.sound_searches.specs.Sound.{PlainSearch, formulation_of, IsSound}
 use Rattle.search_parts.proofs.PointLemmas.{target-at}
 use Rattle.cert_text.specs.declared.cert.Claim.{Claim}
-use Rattle.cert_text.specs.declared.cert.Claim.TheVariants.{Optimal, Infeasible, Unbounded}
+use Rattle.cert_text.specs.declared.cert.Claim.TheVariants.{Optimal, Within, Infeasible, Unbounded}
 use Rattle.cert_text.specs.declared.cert.CertMult.{CertMult}
 use Rattle.cert_text.specs.declared.cert.NamedCut.{NamedCut}
 use Rattle.cert_text.specs.declared.cert.CertNode.{CertNode}
@@ -39,9 +41,10 @@ use Rattle.lp_model.specs.Edits.{Named, only_row_names, place_in}
 use Rattle.cert_check.specs.Cuts.{rows_of, formulation_by, IsCutJudged, AreCutsJudged}
 use Rattle.cert_check.specs.Mults.{AreMults}
 use Rattle.cert_check.specs.Verdict.{IsNumberJudged, IsFarkasJudged, IsNodeJudged, IsPointJudged, IsFeasibleJudged, IsDirectionJudged, IsClaimJudged, visits, AreVisits, IsVisitJudged, IsVerdict}
-use Rattle.cert_text.specs.Whole.{IsNarrowNode, HasNoPoint, HasNoRay, HasNoCuts, AreOneTree, HasTree, IsCertificate}
+use Rattle.cert_text.specs.Whole.{IsNarrowNode, HasLawfulGap, HasNoPoint, HasNoRay, HasNoCuts, AreOneTree, HasTree, IsCertificate}
 use Rattle.cert_check.proofs.PlaceLemmas.{rows_differ}
-use Rattle.tree_cert.specs.Certificates.{claim_of, point_numbers, IsReason, IsTreeOf, IsProofOf, IsCertificateOf, unbounded_certificate}
+use Rattle.tree_cert.specs.Certificates.{claim_of, point_numbers, IsReason, IsTreeOf, IsProofOf, IsCertificateOf, IsCertificateWithin, nonzero_numbers, unbounded_certificate}
+use Rattle.tree_cert.specs.private.Parts.{HasPartsOf}
 use Rattle.tree_cert.specs.Cuts.{named_cuts, used_number, mults_named, node_mults, IsOfFirst}
 use Rattle.tree_cert.specs.private.Marked.{NodeNamesFirst}
 use Rattle.lp_model.specs.Lawful.{column_name}
@@ -55,9 +58,10 @@ use Rattle.tree_cert.proofs.CutNames.{used_pass, used_size, used_rows}
 
 -- ---- values
 
--- the claim is that of the target against which leaves are judged
+-- the claim is that of the target against which leaves close
 abbrev pub IsClaimFor : Program → Option ℚ → Claim → Type 0
 IsClaimFor M t (Optimal v) = t ≡ Some (in_least_form M.sense v)
+IsClaimFor M t (Within g v) = (t ≡ Some (in_least_form M.sense v -ℚ g)) × SumFits (in_least_form M.sense v) (neg_ℚ g)
 IsClaimFor M t Infeasible = t ≡ None
 IsClaimFor M t Unbounded = ⊥
 
@@ -65,12 +69,16 @@ pub claim_for : (S : PlainSearch) (best : Option Point) → IsIncumbent S.model 
 claim_for S None none = ap (target S.model) none
 claim_for S (Some x) (k, at) = target-at S.model S.points x k at
 
+pub value_some : (M : Program) (points : List Point) (x : Point) (t : ℚ) → Some t ≡ target M points → IsIncumbent M points (Some x) → in_least_form M.sense t ≡ value M 1 x
+value_some M points x t e (k, at) =
+    let f : Some t ≡ Some (least_value M 1 x) = e ∙ target-at M points x k at in
+    let g : t ≡ least_value M 1 x = cc in
+    ap (in_least_form M.sense) g ∙ own-least M.sense (value M 1 x)
+
 pub claim_some : (M : Program) (points : List Point) (best : Option Point) (t : ℚ) → Some t ≡ target M points → IsIncumbent M points best → Optimal (in_least_form M.sense t) ≡ claim_of M best
 claim_some M points None t e none = absurd (let f : Some t ≡ None = e ∙ ap (target M) none in cc)
 claim_some M points (Some x) t e (k, at) =
-    let f : Some t ≡ Some (least_value M 1 x) = e ∙ target-at M points x k at in
-    let g : t ≡ least_value M 1 x = cc in
-    ap (λ v. Optimal v) (ap (in_least_form M.sense) g ∙ own-least M.sense (value M 1 x))
+    ap (λ v. Optimal v) (value_some M points x t e (k, at))
 
 pub claim_none : (M : Program) (points : List Point) (best : Option Point) → None ≡ target M points → IsIncumbent M points best → Infeasible ≡ claim_of M best
 claim_none M points None e none = refl
@@ -88,17 +96,17 @@ module _ (F : Formulation) (lawful_model : IsLawfulModel F.model) (used : List �
   rows_once = rows_differ F.model lawful_model.rows_distinct
 
   -- its numbers are those of cuts that are used
-  abbrev Within : List CertMult → Type 0
-  Within mults = All (IsOfFirst (length used)) mults
+  abbrev NamesUsed : List CertMult → Type 0
+  NamesUsed mults = All (IsOfFirst (length used)) mults
 
-  mults-stand : (list : Multipliers) → AreMultipliers F list → Within (mults_named F (used_number used) list) → AreMults F.model (length chosen) (mults_named F (used_number used) list)
+  mults-stand : (list : Multipliers) → AreMultipliers F list → NamesUsed (mults_named F (used_number used) list) → AreMults F.model (length chosen) (mults_named F (used_number used) list)
   mults-stand list lists within = subst (λ n. AreMults F.model n (mults_named F (used_number used) list)) (sym size) (mults_are F rows_once used list lists within)
 
-  refuted-passes : (path : Path) (list : Multipliers) → Within (mults_named F (used_number used) list) → IsRefuted F path list → IsFarkasJudged G path (renamed F used list) Passes
+  refuted-passes : (path : Path) (list : Multipliers) → NamesUsed (mults_named F (used_number used) list) → IsRefuted F path list → IsFarkasJudged G path (renamed F used list) Passes
   refuted-passes path [] within h = absurd h
   refuted-passes path (m ∷ list) within (v, (answer, positive)) = (v, (farkas_chosen F used rising live chosen size are (m ∷ list) within path v answer, positive))
 
-  number-passes : (t : Option ℚ) (claim : Claim) → IsClaimFor F.model t claim → (path : Path) (kept : LeafData) → Within (mults_named F (used_number used) kept.mult) → (n : LeafNumber) → IsNumber F path kept.mult kept.farkas n → NumberCloses F.model t n →
+  number-passes : (t : Option ℚ) (claim : Claim) → IsClaimFor F.model t claim → (path : Path) (kept : LeafData) → NamesUsed (mults_named F (used_number used) kept.mult) → (n : LeafNumber) → IsNumber F path kept.mult kept.farkas n → NumberCloses F.model t n →
       (¬ IsEmptyRegion F.model path) → (¬ IsRefuted F path kept.farkas) → IsNumberJudged G claim path (renamed F used kept.mult) Passes
   number-passes t claim for path kept within number.Empty is closes some stands =
       absurd (
@@ -109,27 +117,28 @@ module _ (F : Formulation) (lawful_model : IsLawfulModel F.model) (used : List �
       )
   number-passes t (Optimal v) for path kept within (number.Lag q) is closes some stands =
       (q, (lag_chosen F used rising live chosen size are kept.mult within path q is.1, subst (λ u. NumberCloses F.model u (number.Lag q)) for closes))
+  number-passes t (Within g v) for path kept within (number.Lag q) is closes some stands =
+      inl (for.1, (q, (lag_chosen F used rising live chosen size are kept.mult within path q is.1, subst (λ u. NumberCloses F.model u (number.Lag q)) for.0 closes)))
   number-passes t Infeasible for path kept within (number.Lag q) is closes some stands = absurd (subst (λ u. NumberCloses F.model u (number.Lag q)) for closes)
   number-passes t Unbounded for path kept within (number.Lag q) is closes some stands = absurd for
   number-passes t claim for path kept within (number.Wide step) is closes some stands = absurd closes
 
-  leaf-passes : (t : Option ℚ) (claim : Claim) → IsClaimFor F.model t claim → (path : Path) (kept : LeafData) (n : CertNode) → Within (node_mults n) → HasLists F kept → IsJudgedLeaf F t path kept → kept.state ≡ IsClosed → IsReason F (used_number used) path kept n → IsNodeJudged G claim path n Passes
-  leaf-passes t claim for path kept (node.Split col w) within lists judged closed reason = absurd reason
-  leaf-passes t claim for path kept node.Empty within lists judged closed reason = reason
-  leaf-passes t claim for path kept (node.Farkas mults) within lists judged closed reason =
-      let inside : Within (mults_named F (used_number used) kept.farkas) = subst Within reason.1.1 within in
+  leaf-passes : (t : Option ℚ) (claim : Claim) → IsClaimFor F.model t claim → (path : Path) (kept : LeafData) (n : CertNode) → NamesUsed (node_mults n) → HasLists F kept → ClosesBy F t path kept → IsReason F (used_number used) path kept n → IsNodeJudged G claim path n Passes
+  leaf-passes t claim for path kept (node.Split col w) within lists closes reason = absurd reason
+  leaf-passes t claim for path kept node.Empty within lists closes reason = reason
+  leaf-passes t claim for path kept (node.Farkas mults) within lists closes reason =
+      let inside : NamesUsed (mults_named F (used_number used) kept.farkas) = subst NamesUsed reason.1.1 within in
       subst (λ ms. IsNodeJudged G claim path (node.Farkas ms) Passes) (sym reason.1.1)
       (inl (
         mults-stand kept.farkas lists.farkas inside,
         subst (λ list. IsFarkasJudged G path list Passes) (sym (mults_read F rows_once used kept.farkas lists.farkas.each)) (refuted-passes path kept.farkas inside reason.1.0),
       ))
-  leaf-passes t claim for path kept (node.Bound mults) within lists judged closed reason =
-      let inside : Within (mults_named F (used_number used) kept.mult) = subst Within reason.1.1 within in
-      let closes = subst (λ s. StateSays s (NumberCloses F.model t judged.number)) closed judged.says in
+  leaf-passes t claim for path kept (node.Bound mults) within lists closes reason =
+      let inside : NamesUsed (mults_named F (used_number used) kept.mult) = subst NamesUsed reason.1.1 within in
       subst (λ ms. IsNodeJudged G claim path (node.Bound ms) Passes) (sym reason.1.1)
       (inl (
         mults-stand kept.mult lists.mult inside,
-        subst (λ list. IsNumberJudged G claim path list Passes) (sym (mults_read F rows_once used kept.mult lists.mult.each)) (number-passes t claim for path kept inside judged.number judged.number_is closes reason.0 reason.1.0),
+        subst (λ list. IsNumberJudged G claim path list Passes) (sym (mults_read F rows_once used kept.mult lists.mult.each)) (number-passes t claim for path kept inside closes.0 closes.1.0 closes.1.1 reason.0 reason.1.0),
       ))
 
   -- ---- the tree
@@ -138,26 +147,26 @@ module _ (F : Formulation) (lawful_model : IsLawfulModel F.model) (used : List �
     abbrev P : (Path × CertNode) → Type 0
     P p = IsVisitJudged G claim p Passes
 
-    leaf-node : (path : Path) (kept : LeafData) (n : CertNode) → Within (node_mults n) → HasLists F kept → IsJudgedLeaf F t path kept → kept.state ≡ IsClosed → IsReason F (used_number used) path kept n → All P ((path, n) ∷ [])
-    leaf-node path kept n within lists judged closed reason = all_cons P (path, n) [] (leaf-passes t claim for path kept n within lists judged closed reason) (all_none P)
+    leaf-node : (path : Path) (kept : LeafData) (n : CertNode) → NamesUsed (node_mults n) → HasLists F kept → ClosesBy F t path kept → IsReason F (used_number used) path kept n → All P ((path, n) ∷ [])
+    leaf-node path kept n within lists closes reason = all_cons P (path, n) [] (leaf-passes t claim for path kept n within lists closes reason) (all_none P)
 
-    pub tree-passes : (path : Path) (s : Plain) (tree : CertTree) → All (λ c. Within (node_mults c)) (certificate_nodes tree) → SplitsLawfully F.model s → HasNodeLists F s → EachLeaf (λ p l. IsJudgedLeaf F t p l.kept) path s → EachLeaf (λ p l. l.kept.state ≡ IsClosed) path s
+    pub tree-passes : (path : Path) (s : Plain) (tree : CertTree) → All (λ c. NamesUsed (node_mults c)) (certificate_nodes tree) → SplitsLawfully F.model s → HasNodeLists F s → EachLeaf (λ p l. ClosesBy F t p l.kept) path s
         → IsTreeOf F (used_number used) path s tree → All P (visits F.model path tree)
-    tree-passes path (Leaf l) (CertBound mults) within lawful lists judged closed like = leaf-node path l.kept (node.Bound mults) (all_first (λ c. Within (node_mults c)) (node.Bound mults) [] within) lists judged closed like
-    tree-passes path (Leaf l) (CertFarkas mults) within lawful lists judged closed like = leaf-node path l.kept (node.Farkas mults) (all_first (λ c. Within (node_mults c)) (node.Farkas mults) [] within) lists judged closed like
-    tree-passes path (Leaf l) CertEmpty within lawful lists judged closed like = leaf-node path l.kept node.Empty (all_none (IsOfFirst (length used))) lists judged closed like
-    tree-passes path (Leaf l) (CertSplit col w first second) within lawful lists judged closed like = absurd like
-    tree-passes path (Split kept j v left right) (CertBound mults) within lawful lists judged closed like = absurd like
-    tree-passes path (Split kept j v left right) (CertFarkas mults) within lawful lists judged closed like = absurd like
-    tree-passes path (Split kept j v left right) CertEmpty within lawful lists judged closed like = absurd like
-    tree-passes path (Split kept j v left right) (CertSplit col w first second) within lawful lists judged closed like =
+    tree-passes path (Leaf l) (CertBound mults) within lawful lists closes like = leaf-node path l.kept (node.Bound mults) (all_first (λ c. NamesUsed (node_mults c)) (node.Bound mults) [] within) lists closes like
+    tree-passes path (Leaf l) (CertFarkas mults) within lawful lists closes like = leaf-node path l.kept (node.Farkas mults) (all_first (λ c. NamesUsed (node_mults c)) (node.Farkas mults) [] within) lists closes like
+    tree-passes path (Leaf l) CertEmpty within lawful lists closes like = leaf-node path l.kept node.Empty (all_none (IsOfFirst (length used))) lists closes like
+    tree-passes path (Leaf l) (CertSplit col w first second) within lawful lists closes like = absurd like
+    tree-passes path (Split kept j v left right) (CertBound mults) within lawful lists closes like = absurd like
+    tree-passes path (Split kept j v left right) (CertFarkas mults) within lawful lists closes like = absurd like
+    tree-passes path (Split kept j v left right) CertEmpty within lawful lists closes like = absurd like
+    tree-passes path (Split kept j v left right) (CertSplit col w first second) within lawful lists closes like =
         subst (λ name. All P (visits F.model path (CertSplit name w first second))) (sym like.0)
         (subst (λ u. All P (visits F.model path (CertSplit (column_name F.model j) u first second))) (sym like.1.0)
         (all_cons P (path, node.Split (column_name F.model j) v) (below (place_in (column_names F.model) (column_name F.model j)))
         (inl (column_there F.model columns_once j lawful.0.0, subst (λ k. IsTrue (is_integer F.model k)) (sym place) lawful.0.1))
         (subst (λ k. All P (below k)) (sym place)
-        (All-append P (visits F.model (left_path path j v) first) (visits F.model (right_path path j v) second) (tree-passes (left_path path j v) left first parts.0 lawful.1.0 lists.1.0 judged.0 closed.0 like.1.1.0)
-        (tree-passes (right_path path j v) right second parts.1 lawful.1.1 lists.1.1 judged.1 closed.1 like.1.1.1)))))
+        (All-append P (visits F.model (left_path path j v) first) (visits F.model (right_path path j v) second) (tree-passes (left_path path j v) left first parts.0 lawful.1.0 lists.1.0 closes.0 like.1.1.0)
+        (tree-passes (right_path path j v) right second parts.1 lawful.1.1 lists.1.1 closes.1 like.1.1.1)))))
       where
         columns_once : AllPairs (λ a b. a ≢ b) (column_names F.model)
         columns_once = lawful_model.columns_distinct
@@ -168,10 +177,15 @@ module _ (F : Formulation) (lawful_model : IsLawfulModel F.model) (used : List �
         place : place_in (column_names F.model) (column_name F.model j) ≡ j
         place = column_place F.model columns_once j lawful.0.0
 
-        parts : All (λ c. Within (node_mults c)) (certificate_nodes first) × All (λ c. Within (node_mults c)) (certificate_nodes second)
+        parts : All (λ c. NamesUsed (node_mults c)) (certificate_nodes first) × All (λ c. NamesUsed (node_mults c)) (certificate_nodes second)
         parts =
-            all_split (λ c. Within (node_mults c)) (certificate_nodes first) (certificate_nodes second)
-            (all_rest (λ c. Within (node_mults c)) (node.Split col w) (certificate_nodes first ++ certificate_nodes second) within)
+            all_split (λ c. NamesUsed (node_mults c)) (certificate_nodes first) (certificate_nodes second)
+            (all_rest (λ c. NamesUsed (node_mults c)) (node.Split col w) (certificate_nodes first ++ certificate_nodes second) within)
+
+-- a leaf that is judged, and marked closed, closes
+closed-closes : (F : Formulation) (t : Option ℚ) (path : Path) (s : Plain) → EachLeaf (λ p l. IsJudgedLeaf F t p l.kept) path s → EachLeaf (λ p l. l.kept.state ≡ IsClosed) path s → EachLeaf (λ p l. ClosesBy F t p l.kept) path s
+closed-closes F t path (Leaf l) judged closed = (judged.number, (judged.number_is, subst (λ s. StateSays s (NumberCloses F.model t judged.number)) closed judged.says))
+closed-closes F t path (Split kept j v left right) judged closed = (closed-closes F t (left_path path j v) left judged.0 closed.0, closed-closes F t (right_path path j v) right judged.1 closed.1)
 
 narrow-tree : (F : Formulation) (number : ℕ → ℕ) (path : Path) (s : Plain) (tree : CertTree) → HasNarrowSplits s → IsTreeOf F number path s tree → All IsNarrowNode (certificate_nodes tree)
 narrow-tree F number path (Leaf l) (CertBound mults) narrow like = all_cons IsNarrowNode (node.Bound mults) [] tt (all_none IsNarrowNode)
@@ -223,45 +237,105 @@ visits-claimed : (M : Program) (best : Option Point) (nodes : List CertNode) (t 
 visits-claimed M None nodes t are = record { tree = t; nodes_are = are; are = refl }
 visits-claimed M (Some x) nodes t are = record { tree = t; nodes_are = are; are = refl }
 
-module _ (S : PlainSearch) (cert : Cert) (sound : IsSound S) (of : IsCertificateOf S cert) where
+-- ---- certificates
+
+no_gap-claimed : (M : Program) (best : Option Point) → HasLawfulGap (claim_of M best)
+no_gap-claimed M None = tt
+no_gap-claimed M (Some x) = tt
+
+-- a certificate with these parts, whose claim has the tree, the point and the target t
+module _ (S : PlainSearch) (claim : Claim) (t : Option ℚ) (cert : Cert) (sound : IsSound S) (of : HasPartsOf S claim cert) where
   abbrev proof : IsProofOf S cert.cuts cert.nodes
   proof = of.proof
 
-  pub is_certificate : IsCertificate cert
-  is_certificate = record {
-    tree = subst (λ claim. HasTree claim cert.nodes) (sym of.claim) (tree-claimed S.model of.incumbent cert.nodes (record { tree = proof.tree; nodes_are = proof.nodes_are }));
+  pub parts_certificate : ((nodes : List CertNode) → AreOneTree nodes → HasTree claim nodes) → HasNoPoint claim (point_numbers S.model of.incumbent) → HasNoRay claim [] → HasNoCuts claim cert.cuts → HasLawfulGap claim → IsCertificate cert
+  parts_certificate tree point ray cuts gap = record {
+    tree = subst (λ c. HasTree c cert.nodes) (sym of.claims) (tree cert.nodes (record { tree = proof.tree; nodes_are = proof.nodes_are }));
     narrow = subst (All IsNarrowNode) proof.nodes_are (narrow-tree (formulation_of S) (used_number proof.used) [] S.tree.root proof.tree sound.tree.narrow proof.like);
-    point = subst (λ T. T) (λ i. HasNoPoint (sym of.claim i) (sym of.point i)) (none-claimed S.model of.incumbent);
-    ray = subst (λ T. T) (λ i. HasNoRay (sym of.claim i) (sym of.ray i)) (no_ray-claimed S.model of.incumbent);
-    cuts = subst (λ claim. HasNoCuts claim cert.cuts) (sym of.claim) (cuts-claimed S.model of.incumbent cert.cuts);
+    point = subst (λ T. T) (λ i. HasNoPoint (sym of.claims i) (sym of.point i)) point;
+    ray = subst (λ T. T) (λ i. HasNoRay (sym of.claims i) (sym of.ray i)) ray;
+    cuts = subst (λ c. HasNoCuts c cert.cuts) (sym of.claims) cuts;
+    gap = subst HasLawfulGap (sym of.claims) gap;
   }
 
-  nodes_pass : IsLawfulModel S.model → HasNoOpenLeaf S → All (λ p. IsVisitJudged (formulation_by S.model (named_cuts S.model S.cuts proof.used)) cert.claim p Passes) (visits S.model [] proof.tree)
-  nodes_pass lawful closed =
+  nodes_pass : IsLawfulModel S.model → IsClaimFor S.model t claim → EachLeaf (λ p l. ClosesBy (formulation_of S) t p l.kept) [] S.tree.root → All (λ p. IsVisitJudged (formulation_by S.model (named_cuts S.model S.cuts proof.used)) claim p Passes) (visits S.model [] proof.tree)
+  nodes_pass lawful for closes =
       let cuts : List NamedCut = named_cuts S.model S.cuts proof.used in
       tree-passes (formulation_of S) lawful proof.used proof.rising proof.live (rows_of S.model cuts) (used_size S.model lawful S.cuts sound.pool proof.used) (used_rows S.model lawful S.cuts sound.pool proof.used proof.live)
-      (target S.model S.points) cert.claim (subst (IsClaimFor S.model (target S.model S.points)) (sym of.claim) (claim_for S of.incumbent of.best)) [] S.tree.root proof.tree
-      (subst (All (NodeNamesFirst (length proof.used))) (sym proof.nodes_are) proof.named.within) sound.tree.lawful sound.tree.lists sound.judged closed proof.like
+      t claim for [] S.tree.root proof.tree
+      (subst (All (NodeNamesFirst (length proof.used))) (sym proof.nodes_are) proof.named.within) sound.tree.lawful sound.tree.lists closes proof.like
 
-  pub is_accepted : IsLawfulModel S.model → HasNoOpenLeaf S → IsVerdict S.model cert (Accepted cert.claim)
-  is_accepted lawful closed = record {
+  pub parts_accepted : IsLawfulModel S.model → ((nodes : List CertNode) (s : CertTree) → certificate_nodes s ≡ nodes → AreVisits S.model claim nodes (visits S.model [] s)) → IsClaimJudged S.model claim (point_numbers S.model of.incumbent) cert.ray Passes → IsClaimFor S.model t claim →
+      EachLeaf (λ p l. ClosesBy (formulation_of S) t p l.kept) [] S.tree.root → IsVerdict S.model cert (Accepted cert.claim)
+  parts_accepted lawful visited passes for closes = record {
     visited = visits S.model [] proof.tree;
-    are = subst (λ claim. AreVisits S.model claim cert.nodes (visits S.model [] proof.tree)) (sym of.claim) (visits-claimed S.model of.incumbent cert.nodes proof.tree proof.nodes_are);
+    are = subst (λ c. AreVisits S.model c cert.nodes (visits S.model [] proof.tree)) (sym of.claims) (visited cert.nodes proof.tree proof.nodes_are);
     is = (
       refl,
       inl (
-        subst (λ T. T) (λ i. IsClaimJudged S.model (sym of.claim i) (sym of.point i) cert.ray Passes) (claim-passes S of.incumbent cert.ray sound lawful of.best),
+        subst (λ T. T) (λ i. IsClaimJudged S.model (sym of.claims i) (sym of.point i) cert.ray Passes) passes,
         subst (λ cuts. AreCutsJudged S.model cuts Passes) (sym proof.cuts_are) (used_pass S.model lawful S.cuts sound.pool proof.used proof.live),
       ),
-      subst (λ cuts. All (λ p. IsVisitJudged (formulation_by S.model cuts) cert.claim p Passes) (visits S.model [] proof.tree)) (sym proof.cuts_are) (nodes_pass lawful closed),
+      subst (λ T. T) (λ i. All (λ p. IsVisitJudged (formulation_by S.model (sym proof.cuts_are i)) (sym of.claims i) p Passes) (visits S.model [] proof.tree)) (nodes_pass lawful for closes),
     );
   }
+
+-- a finished search
+module _ (S : PlainSearch) (cert : Cert) (sound : IsSound S) (of : IsCertificateOf S cert) where
+  abbrev of_parts : HasPartsOf S (claim_of S.model of.incumbent) cert
+  of_parts = record { claims = of.claim; incumbent = of.incumbent; best = of.best; point = of.point; ray = of.ray; proof = of.proof }
+
+  pub is_certificate : IsCertificate cert
+  is_certificate =
+      parts_certificate S (claim_of S.model of.incumbent) (target S.model S.points) cert sound of_parts (tree-claimed S.model of.incumbent) (none-claimed S.model of.incumbent) (no_ray-claimed S.model of.incumbent)
+      (cuts-claimed S.model of.incumbent cert.cuts) (no_gap-claimed S.model of.incumbent)
+
+  pub is_accepted : IsLawfulModel S.model → HasNoOpenLeaf S → IsVerdict S.model cert (Accepted cert.claim)
+  is_accepted lawful closed =
+      parts_accepted S (claim_of S.model of.incumbent) (target S.model S.points) cert sound of_parts lawful (visits-claimed S.model of.incumbent) (claim-passes S of.incumbent cert.ray sound lawful of.best) (claim_for S of.incumbent of.best)
+      (closed-closes (formulation_of S) (target S.model S.points) [] S.tree.root sound.judged closed)
+
+-- the parts of a certificate with the claim of a finished search
+pub certificate_from : (S : PlainSearch) (claim : Claim) (cert : Cert) → HasPartsOf S claim cert → ((best : Option Point) → IsIncumbent S.model S.points best → claim ≡ claim_of S.model best) → IsCertificateOf S cert
+certificate_from S claim cert of claims = record { incumbent = of.incumbent; best = of.best; claim = of.claims ∙ claims of.incumbent of.best; point = of.point; ray = of.ray; proof = of.proof }
+
+-- a search within a gap
+module _ (S : PlainSearch) (g : ℚ) (within : AreLeavesWithin S g) where
+  -- a point is kept
+  pub within_parts : (claim : Claim) (cert : Cert) → HasPartsOf S claim cert → ((x : Point) → IsIncumbent S.model S.points (Some x) → claim ≡ Within g (value S.model 1 x)) → IsCertificateWithin S g cert
+  within_parts claim cert of claims = by of.incumbent of.best of.point
+    where
+      by : (best : Option Point) → IsIncumbent S.model S.points best → cert.point ≡ point_numbers S.model best → IsCertificateWithin S g cert
+      by None none point = absurd (let f : Some within.is.best ≡ None = sym within.is.best_is ∙ ap (target S.model) none in cc)
+      by (Some x) best point = record { best = x; incumbent = best; claim = of.claims ∙ claims x best; point = point; ray = of.ray; proof = of.proof }
+
+module _ (S : PlainSearch) (g : ℚ) (cert : Cert) (sound : IsSound S) (gap : int (pos 0) ≤ℚ g) (within : AreLeavesWithin S g) (of : IsCertificateWithin S g cert) where
+  abbrev best_value : ℚ
+  best_value = value S.model 1 of.best
+
+  abbrev of_within : HasPartsOf S (Within g best_value) cert
+  of_within = record { claims = of.claim; incumbent = Some of.best; best = of.incumbent; point = of.point; ray = of.ray; proof = of.proof }
+
+  pub is_certificate_within : IsCertificate cert
+  is_certificate_within = parts_certificate S (Within g best_value) (Some within.against) cert sound of_within (λ nodes t. t) tt refl tt gap
+
+  best-is : within.is.best ≡ in_least_form S.model.sense best_value
+  best-is = let f : Some within.is.best ≡ Some (least_value S.model 1 of.best) = sym within.is.best_is ∙ target-at S.model S.points of.best of.incumbent.0 of.incumbent.1 in cc
+
+  fits : SumFits (in_least_form S.model.sense best_value) (neg_ℚ g)
+  fits = subst (λ b. SumFits b (neg_ℚ g)) best-is within.is.fits
+
+  pub is_accepted_within : IsLawfulModel S.model → IsVerdict S.model cert (Accepted cert.claim)
+  is_accepted_within lawful =
+      parts_accepted S (Within g best_value) (Some within.against) cert sound of_within lawful (λ nodes s are. record { tree = s; nodes_are = are; are = refl })
+      (inl (claim-passes S (Some of.best) cert.ray sound lawful of.incumbent, fits))
+      (ap Some (within.is.is ∙ ap (λ b. b -ℚ g) best-is), fits) within.close
 
 -- ---- models with a ray
 
 module _ (M : Program) (x d : Point) where
   pub unbounded-whole : IsCertificate (unbounded_certificate M x d)
-  unbounded-whole = record { tree = refl; narrow = all_none IsNarrowNode; point = tt; ray = tt; cuts = refl }
+  unbounded-whole = record { tree = refl; narrow = all_none IsNarrowNode; point = tt; ray = tt; cuts = refl; gap = tt }
 
   -- the written point and ray are read as they were, and so they pass
   pub unbounded-accepted : IsLawfulModel M → IsFeasibilityAnswer M x (Ok true) → IsRayJudged M d (Ok true) → IsVerdict M (unbounded_certificate M x d) (Accepted Unbounded)

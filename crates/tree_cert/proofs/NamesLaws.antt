@@ -30,7 +30,7 @@ use Rattle.cert_text.specs.declared.cert.CertNode.TheVariants as node
 use Rattle.cert_text.specs.declared.cert.Cert.{Cert}
 use Rattle.cert_text.specs.Tree.{CertTree, certificate_nodes}
 use Rattle.cert_text.specs.Tree.{Bound as CertBound, Farkas as CertFarkas, Empty as CertEmpty, Split as CertSplit}
-use Rattle.tree_cert.specs.Certificates.{nonzero_numbers, point_numbers, IsReason, IsTreeOf, IsCertificateOf, unbounded_certificate}
+use Rattle.tree_cert.specs.Certificates.{nonzero_numbers, point_numbers, IsReason, IsTreeOf, IsCertificateOf, IsCertificateWithin, unbounded_certificate}
 use Rattle.tree_cert.specs.Cuts.{named_literal, named_cut, derivation_at, named_cuts, used_number, mult_named, mults_named}
 use Rattle.tree_cert.specs.private.Marked.{IsDerivationThere}
 use Rattle.lp_model.specs.Lawful.{row_name, column_name}
@@ -132,6 +132,16 @@ certificate_words S cert sound of plain =
     let proof = of.proof in
     record {
       point = subst HasNameWords (sym of.point) (point-words S.model of.incumbent plain);
+      ray = subst HasNameWords (sym of.ray) (All-nil Worded);
+      cuts = subst (All HasCutWords) (sym proof.cuts_are) (cuts-words S.model plain S.cuts sound.pool proof.used proof.live);
+      nodes = subst (All HasNodeWords) proof.nodes_are (tree-words S.model plain S.cuts (used_number proof.used) [] S.tree.root proof.tree sound.tree.lawful sound.tree.lists proof.like);
+    }
+
+pub within_words : (S : PlainSearch) (g : ℚ) (cert : Cert) → IsSound S → IsCertificateWithin S g cert → HasWordNames S.model → HasCertWords cert
+within_words S g cert sound of plain =
+    let proof = of.proof in
+    record {
+      point = subst HasNameWords (sym of.point) (numbers-words S.model.cols of.best plain.columns);
       ray = subst HasNameWords (sym of.ray) (All-nil Worded);
       cuts = subst (All HasCutWords) (sym proof.cuts_are) (cuts-words S.model plain S.cuts sound.pool proof.used proof.live);
       nodes = subst (All HasNodeWords) proof.nodes_are (tree-words S.model plain S.cuts (used_number proof.used) [] S.tree.root proof.tree sound.tree.lawful sound.tree.lists proof.like);

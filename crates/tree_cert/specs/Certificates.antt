@@ -2,6 +2,7 @@
 --     IsCertificateOf S cert     its claim and its point are the incumbent's, its cuts are those that count and that its nodes
 --                                name, in the order of the pool, and its tree is the search's tree, split by split and leaf by
 --                                leaf, with names in the place of places
+--     IsCertificateWithin S g cert   the same of a search whose leaves are within the gap g, with the incumbent's value and that gap
 --     unbounded_certificate M x d  the model is unbounded, by the point x and the ray d
 use Rattle.std.specs.Prelude.{◌≡◌, ℕ, ◌<◌, if◌then◌else◌, IsTrue, List, [], ◌∷◌, length, All, AllPairs, Option, Some, None}
 use Rattle.frac128.specs.Rational.{ℚ}
@@ -18,7 +19,7 @@ use Rattle.leaf_judging.specs.Closing.{IsRefuted}
 use Rattle.search_parts.specs.Points.{IsIncumbent}
 use Rattle.sound_searches.specs.Sound.{PlainSearch, formulation_of}
 use Rattle.cert_text.specs.declared.cert.Claim.{Claim}
-use Rattle.cert_text.specs.declared.cert.Claim.TheVariants.{Optimal, Infeasible, Unbounded}
+use Rattle.cert_text.specs.declared.cert.Claim.TheVariants.{Optimal, Within, Infeasible, Unbounded}
 use Rattle.cert_text.specs.declared.cert.NamedCut.{NamedCut}
 use Rattle.cert_text.specs.declared.cert.CertNode.{CertNode}
 use Rattle.cert_text.specs.declared.cert.CertNode.TheVariants as node
@@ -50,7 +51,7 @@ point_numbers M (Some x) = nonzero_numbers M.cols x
 
 -- ---- the tree
 
--- Why the leaf of a region is closed: the region is empty, or else the leaf's Farkas multipliers refute it, or else its
+-- Why the leaf of a region closes: the region is empty, or else the leaf's Farkas multipliers refute it, or else its
 -- multipliers bound it. Cuts are named by their numbers.
 abbrev pub IsReason : Formulation → (ℕ → ℕ) → Path → LeafData → CertNode → Type 0
 IsReason F number path kept node.Empty = IsEmptyRegion F.model path
@@ -88,6 +89,15 @@ pub record IsCertificateOf (S : PlainSearch) (cert : Cert) : Type 0 where
   pub best : IsIncumbent S.model S.points incumbent
   pub claim : cert.claim ≡ claim_of S.model incumbent
   pub point : cert.point ≡ point_numbers S.model incumbent
+  pub ray : cert.ray ≡ []
+  pub proof : IsProofOf S cert.cuts cert.nodes
+
+-- leaves may be open: each says why it closes against the incumbent's value less the gap
+pub record IsCertificateWithin (S : PlainSearch) (g : ℚ) (cert : Cert) : Type 0 where
+  pub best : Point
+  pub incumbent : IsIncumbent S.model S.points (Some best)
+  pub claim : cert.claim ≡ Within g (value S.model 1 best)
+  pub point : cert.point ≡ nonzero_numbers S.model.cols best
   pub ray : cert.ray ≡ []
   pub proof : IsProofOf S cert.cuts cert.nodes
 

@@ -1,4 +1,4 @@
-//! Certificates of finished searches.
+//! Certificates of searches that are finished, or within a gap.
 //!
 //! A search without an open leaf proves its answer, and a certificate writes that proof down, so that it can be checked
 //! without the search. The search's tree in preorder becomes the certificate's:
@@ -14,12 +14,15 @@
 //! no kept point                 claim infeasible
 //! ```
 //!
+//! So does a search whose leaves are all within a gap `G`: `certificate_within` writes `claim within G V` with the incumbent, and each leaf, open or
+//! closed, says why it closes against `V` in least form less `G`.
+//!
 //! A model with a ray has no such tree: `unbounded_certificate` writes `claim unbounded` with a feasible point and a ray, each by
 //! its numbers that are not 0.
 //!
 //! Public contract: `certificate` is exactly this of a finished search (`IsCertificateOf` in specs/Certificates), and
-//! `check` accepts it for the search's model: no step lacks room, since each leaf was closed by the same steps. Its names are
-//! words where the model's are (`names_law`, `unbounded_names_law`), cuts among them, so that its text states it. A cut that does
+//! `check` accepts it for the search's model, and `certificate_within` that of a search within a gap (`IsCertificateWithin`): no step lacks room, since each leaf was closed by the same steps. Its names are
+//! words where the model's are (`names_law`, `within_names_law`, `unbounded_names_law`), cuts among them, so that its text states it. A cut that does
 //! not count is left out, and so is its multiplier.
 //!
 //! The walk keeps the path to a node and no stack of its own, and memory is linear in the tree. Beside the path it keeps the
@@ -38,5 +41,5 @@ mod used;
 mod walk;
 mod writing;
 
-pub use laws::{names_law, unbounded_names_law};
-pub use writing::{certificate, unbounded_certificate};
+pub use laws::{names_law, unbounded_names_law, within_names_law};
+pub use writing::{certificate, certificate_within, unbounded_certificate};

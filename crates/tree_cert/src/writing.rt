@@ -1,17 +1,20 @@
-// The certificate of a finished search, and that of a model with a ray.
-ghost use Rattle.std.specs.Prelude.{◌≡◌, suc, true, IfOk, length, Option, Ok};
-ghost use Rattle.lp_model.specs.Program.{Point};
+// The certificate of a finished search, that of a search within a gap, and that of a model with a ray.
+ghost use Rattle.std.specs.Prelude.{◌≡◌, suc, true, pos, IfOk, length, Option, Some, Ok};
+ghost use Rattle.frac128.specs.Rational.{int, ◌≤ℚ◌};
+ghost use Rattle.lp_model.specs.Program.{Point, value};
 ghost use Rattle.model_points.specs.Answers.{IsFeasibilityAnswer};
 ghost use Rattle.model_points.specs.Rays.{IsRayJudged};
 ghost use Rattle.sound_searches.specs.Laws.{HasNoOpenLeaf};
 ghost use Rattle.sound_searches.specs.Sound.{IsSound, formulation_of};
 ghost use Rattle.search_parts.specs.Points.{IsIncumbent};
+ghost use Rattle.search_gaps.specs.Within.{AreLeavesWithin};
 ghost use Rattle.cert_check.specs.Verdict.{IsVerdict};
 ghost use Rattle.cert_text.specs.Whole.{IsCertificate};
-ghost use Rattle.cert_text.specs.declared.cert.Claim.TheVariants.{Unbounded};
+ghost use Rattle.cert_text.specs.declared.cert.Claim.TheVariants.{Within, Unbounded};
 ghost use Rattle.cert_check.specs.declared.verdict.Verdict.TheVariants.{Accepted};
 ghost use Rattle.tree_cert.specs.private.Walked.{AreOfTree};
-ghost use Rattle.tree_cert.specs.Certificates.{claim_of, point_numbers, IsProofOf, IsCertificateOf, unbounded_certificate};
+ghost use Rattle.tree_cert.specs.private.Parts.{HasPartsOf};
+ghost use Rattle.tree_cert.specs.Certificates.{claim_of, point_numbers, IsProofOf, IsCertificateOf, IsCertificateWithin, unbounded_certificate};
 
 use crate::names::{named_cuts, nonzero_numbers};
 use crate::used::{renumbered_nodes, used_by};
@@ -29,6 +32,20 @@ fn claim(search: &Search) -> Claim
     match search.target() {
         Some(value) => Claim::Optimal(search.model().sense().own_sense(&value)),
         None => Claim::Infeasible,
+    }
+}
+
+/// The incumbent's value with a gap.
+fn claim_within(search: &Search, gap: &Frac) -> Claim
+    requires { AreLeavesWithin search.now gap.now }
+    ensures { (best : Point) → IsIncumbent search.now.model search.now.points (Some best) → result ≡ Within gap.now (value search.now.model 1 best) }
+{
+    match search.target() {
+        Some(value) => Claim::Within {
+            gap: *gap,
+            value: search.model().sense().own_sense(&value),
+        },
+        None => unreachable!(),
     }
 }
 
@@ -90,16 +107,10 @@ fn proof(alloc: Global, search: &Search) -> Result<Reasoning, AllocError>
     Ok(Reasoning { cuts, nodes })
 }
 
-/// The certificate of a search without an open leaf. `check` accepts it for the search's model.
-pub fn certificate(alloc: Global, search: &Search) -> Result<Cert, AllocError>
-    requires finished { HasNoOpenLeaf search.now }
-    ensures exact { IfOk result (λ cert. IsCertificateOf search.now cert) }
-    ensures certificate { IfOk result IsCertificate }
-    ensures accepted { IfOk result (λ cert. IsVerdict search.now.model cert (Accepted cert.claim)) }
+/// The certificate of a search with this claim.
+fn certificate_of(alloc: Global, search: &Search, claim: Claim) -> Result<Cert, AllocError>
+    ensures { IfOk result (λ cert. HasPartsOf search.now claim cert) }
 {
-    let _sound = search.points();
-    let _lawful = search.model().rows();
-    let claim = claim(search);
     let Ok(point) = point(alloc, search) else {
         return Err(AllocError);
     };
@@ -116,6 +127,32 @@ pub fn certificate(alloc: Global, search: &Search) -> Result<Cert, AllocError>
         cuts,
         nodes,
     })
+}
+
+/// The certificate of a search without an open leaf. `check` accepts it for the search's model.
+pub fn certificate(alloc: Global, search: &Search) -> Result<Cert, AllocError>
+    requires finished { HasNoOpenLeaf search.now }
+    ensures exact { IfOk result (λ cert. IsCertificateOf search.now cert) }
+    ensures certificate { IfOk result IsCertificate }
+    ensures accepted { IfOk result (λ cert. IsVerdict search.now.model cert (Accepted cert.claim)) }
+{
+    let _sound = search.points();
+    let _lawful = search.model().rows();
+    certificate_of(alloc, search, claim(search))
+}
+
+/// The certificate of a search whose leaves, open or closed, all close against the incumbent's value less a gap. `check` accepts it for the
+/// search's model.
+pub fn certificate_within(alloc: Global, search: &Search, gap: &Frac) -> Result<Cert, AllocError>
+    requires gap { int (pos 0) ≤ℚ gap.now }
+    requires within { AreLeavesWithin search.now gap.now }
+    ensures exact { IfOk result (λ cert. IsCertificateWithin search.now gap.now cert) }
+    ensures certificate { IfOk result IsCertificate }
+    ensures accepted { IfOk result (λ cert. IsVerdict search.now.model cert (Accepted cert.claim)) }
+{
+    let _sound = search.points();
+    let _lawful = search.model().rows();
+    certificate_of(alloc, search, claim_within(search, gap))
 }
 
 /// The certificate that a model is unbounded, by a feasible point and a ray. `check` accepts it for the model.

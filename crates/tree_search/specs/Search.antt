@@ -9,8 +9,8 @@ use Rattle.lp_model.specs.declared.types.Basis.{Basis}
 use Rattle.lp_model.specs.declared.answers.WideAt.{WideAt}
 use Rattle.lp_model.specs.declared.answers.StopWhy.{StopWhy}
 use Rattle.lp_model.specs.declared.answers.StopWhy.TheVariants as why
-use Rattle.lp_model.specs.declared.answers.Answer.{Answer}
-use Rattle.lp_model.specs.declared.answers.Answer.TheVariants as answer
+use Rattle.search_answers.specs.declared.answers.Answer.{Answer}
+use Rattle.search_answers.specs.declared.answers.Answer.TheVariants as answer
 use Rattle.model_points.specs.Rays.{IsUnbounded}
 use Rattle.search_parts.specs.Points.{target, IsIncumbent}
 use Rattle.sound_searches.specs.Calls.{IsOpenLeaf}

@@ -9,7 +9,8 @@ use crate::bounds::least_number;
 use crate::searching::{Ended, Searched};
 use crate::sound::show_sound;
 use frac128::Frac;
-use lp_model::{Answer, Point, StopWhy};
+use lp_model::{Point, StopWhy};
+use search_answers::Answer;
 use std::alloc::{AllocError, Global};
 use tree_edit::Search;
 

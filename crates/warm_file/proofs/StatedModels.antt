@@ -1,8 +1,10 @@
 -- The model that a text states is one that scripts may have.
-use Rattle.std.proofs.Common.{◌≡◌, ℕ, Bool, true, false, ◌&&◌, if◌then◌else◌, List, [], ◌∷◌, map, refl, subst, sym, ap, Option, Ok}
-use Rattle.std.specs.Prelude.{length, not, codes, is_some, All}
+use Rattle.std.proofs.Common.{◌≡◌, ℕ, Bool, true, false, ◌&&◌, if◌then◌else◌, List, [], ◌∷◌, map, refl, subst, sym, ap, arith, Option, Result, Ok}
+use Rattle.std.specs.Prelude.{◌≤◌, length, not, codes, is_some, All}
+use Rattle.std.proofs.lemmas.List.{length_push}
 use Rattle.std.proofs.lemmas.List.Elements.{All-nil, All-cons, All-push, All-map}
 use Rattle.frac128.specs.Rational.{ℚ}
+use Rattle.lp_model.specs.Limits.{col_limit, row_limit}
 use Rattle.lp_model.specs.Program.{Program}
 use Rattle.lp_model.specs.declared.types.Col.{Col}
 use Rattle.lp_model.specs.declared.types.Derivation.{Derivation}
@@ -15,12 +17,12 @@ use Rattle.serde_json.specs.Data.{Data}
 use Rattle.serde_json.specs.Find.{as_object}
 use Rattle.search_data.specs.Trees.{is_one_tree}
 use Rattle.search_data.specs.declared.data.SearchData.{SearchData}
-use Rattle.warm_file.specs.Faults.{fault, at_key}
+use Rattle.warm_file.specs.Faults.{Fault, fault, behind, at_key}
 use Rattle.warm_file.specs.Laws.{StatedModelLaw}
 use Rattle.warm_file.specs.Models.{is_among, name_of, row_in, row_of, col_in, col_of, room_behind, entries_of, is_bounded, costed_of, bounded_of, sense_of, rows_of, cols_of, program_of, lists_of, model_of as read_model}
 use Rattle.warm_file.specs.Numbers.{side_of, number_of, near_of, bound_of}
 use Rattle.warm_file.specs.Ranges.{are_sides}
-use Rattle.warm_file.specs.Searches.{search_in, search_of, whole_search, cuts_of, points_of, nodes_of, counts, tree_of}
+use Rattle.warm_file.specs.Searches.{search_in, search_of, whole_search, cuts_of, points_of, nodes_of, nodes_told, with_nodes, counts, tree_of}
 use Rattle.warm_file.specs.Values.{text_in, truth_of, member, at_most_items}
 use Rattle.warm_file.proofs.Inversions.{next-ok, key-ok, test-ok, member-ok, list-keeps, at_most-ok}
 
@@ -102,15 +104,15 @@ col-lawful rows before d c e =
 rows-lawful : (obj obj2 : List ℕ) (d : Data) (rows : List Row) → rows_of obj obj2 d ≡ Ok rows → All (λ (r : Row). IsLawfulName r.name) rows
 unfolding rows_of
 rows-lawful obj obj2 d rows e =
-    list-keeps (at_most_items 500 (row_of obj obj2)) (All (λ (r : Row). IsLawfulName r.name))
-    (λ before w r p said. All-push (λ (q : Row). IsLawfulName q.name) before r p (row-lawful obj obj2 before w r (at_most-ok 500 (row_of obj obj2) before w r said).1))
+    list-keeps (at_most_items (row_limit false) (row_of obj obj2)) (All (λ (r : Row). IsLawfulName r.name))
+    (λ before w r p said. All-push (λ (q : Row). IsLawfulName q.name) before r p (row-lawful obj obj2 before w r (at_most-ok (row_limit false) (row_of obj obj2) before w r said).1))
     d rows (All-nil (λ (r : Row). IsLawfulName r.name)) e
 
 cols-lawful : (n : ℕ) (d : Data) (cols : List Col) → cols_of n d ≡ Ok cols → All IsScriptColumn cols
 unfolding cols_of
 cols-lawful n d cols e =
-    list-keeps (at_most_items 1000 (col_of n)) (All IsScriptColumn)
-    (λ before w c p said. All-push IsScriptColumn before c p (col-lawful n before w c (at_most-ok 1000 (col_of n) before w c said).1))
+    list-keeps (at_most_items (col_limit false) (col_of n)) (All IsScriptColumn)
+    (λ before w c p said. All-push IsScriptColumn before c p (col-lawful n before w c (at_most-ok (col_limit false) (col_of n) before w c said).1))
     d cols (All-nil IsScriptColumn) e
 
 lists-script : (sense : Sense) (obj obj2 : List ℕ) (consts : List ℚ) (d : Data) (M : Program) → IsLawfulName obj → IsLawfulName obj2 → lists_of sense obj obj2 consts d ≡ Ok M → IsScriptModel M
@@ -145,11 +147,15 @@ model-script d M e =
     let other = member-ok (codes "obj2") (name_of (obj.0 ∷ [])) d obj2.0 obj2.1.0 in
     lists-script sense.0 obj.0 obj2.0 (first.0 ∷ second.0 ∷ []) d M (name-lawful [] one.0 obj.0 one.1) (name-lawful (obj.0 ∷ []) other.0 obj2.0 other.1) second.1.1
 
-whole-model : (M : Program) (cuts : List Derivation) (points : List (List ℚ)) (nodes : List NodeData) (s : SearchData) → whole_search M cuts points nodes ≡ Ok s → s.model ≡ M
-whole-model M cuts points nodes s e = by (is_one_tree nodes) e
+whole-model : (version : ℕ) (M : Program) (cuts : List Derivation) (points : List (List ℚ)) (nodes : List NodeData) (s : SearchData) → whole_search version M cuts points nodes ≡ Ok s → s.model ≡ M
+whole-model version M cuts points nodes s e = by (is_one_tree nodes) e
   where
-    by : (b : Bool) → (if b then Ok (record { model = M; cuts = cuts; points = points; nodes = nodes }) else at_key (codes "nodes") (fault 12)) ≡ Ok s → s.model ≡ M
-    by true h = let made : SearchData = record { model = M; cuts = cuts; points = points; nodes = nodes } in let same : made ≡ s = cc in ap (λ (t : SearchData). t.model) (sym same)
+    by : (b : Bool) → (if b then behind (nodes_told version nodes) (with_nodes M cuts points) else at_key (codes "nodes") (fault 12)) ≡ Ok s → s.model ≡ M
+    by true h =
+        let told = next-ok (nodes_told version nodes) (with_nodes M cuts points) s h in
+        let made : SearchData = record { model = M; cuts = cuts; points = points; nodes = told.0 } in
+        let same : made ≡ s = let g = told.1.1 in cc in
+        ap (λ (t : SearchData). t.model) (sym same)
     by false h = let none = key-ok (codes "nodes") (fault {A = SearchData} 12) s h in absurd (cc)
 
 stated-script : (d : Data) (s : SearchData) → search_of d ≡ Ok s → IsScriptModel s.model
@@ -161,9 +167,48 @@ stated-script d s e =
     let M = model.0 in
     let cuts = next-ok (member (codes "cuts") (cuts_of (length M.rows) (length M.cols)) d) _ s model.1.1 in
     let points = next-ok (member (codes "points") (points_of (length M.cols)) d) _ s cuts.1.1 in
-    let nodes = next-ok (member (codes "nodes") (nodes_of (counts M cuts.0)) d) _ s points.1.1 in
+    let nodes = next-ok (member (codes "nodes") (nodes_of version.0 (counts M cuts.0)) d) _ s points.1.1 in
     let v = member-ok (codes "model") read_model d M model.1.0 in
-    subst IsScriptModel (sym (whole-model M cuts.0 points.0 nodes.0 s nodes.1.1)) (model-script v.0 M v.1)
+    subst IsScriptModel (sym (whole-model version.0 M cuts.0 points.0 nodes.0 s nodes.1.1)) (model-script v.0 M v.1)
 
 pub stated-model : StatedModelLaw
 stated-model text s h = stated-script h.value s h.stated
+
+-- ---- a stated model is within the limits
+
+rows-few : (obj obj2 : List ℕ) (d : Data) (rows : List Row) → rows_of obj obj2 d ≡ Ok rows → length rows ≤ row_limit false
+unfolding rows_of
+rows-few obj obj2 d rows e =
+    list-keeps (at_most_items (row_limit false) (row_of obj obj2)) (λ l. length l ≤ row_limit false)
+    (λ before w r p said. let below = (at_most-ok (row_limit false) (row_of obj obj2) before w r said).0 in omega (arith, below, length_push before r))
+    d rows (omega arith) e
+
+cols-few : (n : ℕ) (d : Data) (cols : List Col) → cols_of n d ≡ Ok cols → length cols ≤ col_limit false
+unfolding cols_of
+cols-few n d cols e =
+    list-keeps (at_most_items (col_limit false) (col_of n)) (λ l. length l ≤ col_limit false)
+    (λ before w c p said. let below = (at_most-ok (col_limit false) (col_of n) before w c said).0 in omega (arith, below, length_push before c))
+    d cols (omega arith) e
+
+abbrev stated_model : Program → Result Program Fault
+stated_model M = Ok M
+
+one-model : (M N : Program) → stated_model M ≡ stated_model N → M ≡ N
+one-model M N e = cc
+
+pub model-few : (d : Data) (M : Program) → read_model d ≡ Ok M → (length M.rows ≤ row_limit false) × (length M.cols ≤ col_limit false)
+unfolding read_model program_of lists_of
+model-few d M e =
+    let o = test-ok (is_some (as_object d)) _ 3 M e in
+    let sense = next-ok (member (codes "sense") sense_of d) _ M o.1 in
+    let obj = next-ok (member (codes "obj") (name_of []) d) _ M sense.1.1 in
+    let obj2 = next-ok (member (codes "obj2") (name_of (obj.0 ∷ [])) d) _ M obj.1.1 in
+    let first = next-ok (member (codes "const") number_of d) _ M obj2.1.1 in
+    let second = next-ok (member (codes "const2") number_of d) _ M first.1.1 in
+    let rows = next-ok (member (codes "rows") (rows_of obj.0 obj2.0) d) _ M second.1.1 in
+    let cols = next-ok (member (codes "cols") (cols_of (length rows.0)) d) _ M rows.1.1 in
+    let v = member-ok (codes "rows") (rows_of obj.0 obj2.0) d rows.0 rows.1.0 in
+    let w = member-ok (codes "cols") (cols_of (length rows.0)) d cols.0 cols.1.0 in
+    let made : Program = record { sense = sense.0; obj = obj.0; obj2 = obj2.0; consts = first.0 ∷ second.0 ∷ []; rows = rows.0; cols = cols.0; wide = false } in
+    let same : made ≡ M = one-model made M cols.1.1 in
+    subst (λ (N : Program). (length N.rows ≤ row_limit false) × (length N.cols ≤ col_limit false)) same (rows-few obj.0 obj2.0 v.0 rows.0 v.1, cols-few (length rows.0) w.0 cols.0 w.1)

@@ -10,6 +10,7 @@
 //! change OLD => NEW             puts NEW in place of the first OLD among the bytes, both as they stand in the line
 //! place /model/rows/0 code 11   reading is refused there, with that code
 //! again                         it is read, and written as it was
+//! older                         it is a text of the first version, and written as it was but for its version: no list has a difference
 //! written                       and a text: it is read, and written so
 //! ```
 //!

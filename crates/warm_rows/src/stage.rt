@@ -146,6 +146,17 @@ impl WarmStage {
         judged
     }
 
+    /// Compares what is written with the text that stands, as a file of the second version.
+    fn judge_older(&mut self) -> Result<()> {
+        let second = changed(self.alloc, &self.bytes, "\"warm\":1", "\"warm\":2")?;
+        let lines = lines_of(self.alloc, &second);
+        drop(second);
+        let lines = lines?;
+        let judged = self.judge_written(&lines);
+        drop(lines);
+        judged
+    }
+
     /// Compares the first fault with what stands behind `place`.
     fn judge_fault(&mut self, words: &str) -> Result<()> {
         self.is_judged = true;
@@ -159,6 +170,7 @@ impl WarmStage {
     fn judge(&mut self, word: &str, rest: &str) -> Result<()> {
         match word {
             "place" => self.judge_fault(rest),
+            "older" => self.judge_older(),
             "again" => self.judge_again(),
             _ => bail!("no heading `{word}`"),
         }
@@ -197,7 +209,7 @@ impl Stage for WarmStage {
     }
 
     fn end(&self) -> Result<&str> {
-        ensure!(self.is_judged, "no `again`, `written` or `place`");
+        ensure!(self.is_judged, "no `again`, `older`, `written` or `place`");
         Ok(self.report.as_str())
     }
 }

@@ -27,6 +27,9 @@ alone-next {A} {B} said next a x first rest y e =
     let n = next-ok said next y e in
     rest y (subst (λ b. next b ≡ Ok y) (first n.0 n.1.0) n.1.1)
 
+pub alone-known : {A B : Type 0} (said : Result A Fault) (next : A → Result B Fault) (x : B) → ((a : A) → said ≡ Ok a → IsAlone (next a) x) → IsAlone (behind said next) x
+alone-known said next x h y e = let n = next-ok said next y e in h n.0 n.1.0 y n.1.1
+
 pub alone-then : {A : Type 0} (b : Bool) (said : Result A Fault) (f : Fault) (x : A) → IsAlone said x → IsAlone (if b then said else Err f) x
 alone-then true said f x h y e = h y e
 alone-then false said f x h y e = absurd (cc)

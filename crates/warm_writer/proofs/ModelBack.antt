@@ -98,15 +98,15 @@ two-items (a ∷ b ∷ c ∷ l) z e = absurd (omega arith)
 pub rows-back : (M : Program) → IsWritableModel M → ModelFits M → rows_of M.obj M.obj2 (list_json row_json M.rows) ≡ Ok M.rows
 unfolding rows_of
 rows-back M w f =
-    let few : length M.rows ≤ 500 = subst (λ wide. length M.rows ≤ row_limit wide) w.script.plain w.lawful.limits.few_rows in
-    list-splits (at_most_items 500 (row_of M.obj M.obj2)) row_json M.rows
+    let few : length M.rows ≤ row_limit false = subst (λ wide. length M.rows ≤ row_limit wide) w.script.plain w.lawful.limits.few_rows in
+    list-splits (at_most_items (row_limit false) (row_of M.obj M.obj2)) row_json M.rows
     (λ before after r e.
     let names : M.obj ∷ M.obj2 ∷ (map (λ (s : Row). s.name) before ++ r.name ∷ map (λ (s : Row). s.name) after) ≡ row_names M =
     ap (λ l. M.obj ∷ M.obj2 ∷ l) (sym (map-append (λ (s : Row). s.name) before (r ∷ after)) ∙ ap (λ l. map (λ (s : Row). s.name) l) e) in
     let taken = M.obj ∷ M.obj2 ∷ map (λ (s : Row). s.name) before in
     let fit = all-here M.rows before after r e SidesFit f.rows in
     let below = long M.rows before after r e in
-    few-back 500 (row_of M.obj M.obj2) before (row_json r) r (omega arith)
+    few-back (row_limit false) (row_of M.obj M.obj2) before (row_json r) r (omega arith)
     (row-back M.obj M.obj2 before r (all-here (row_names M) taken (map (λ (s : Row). s.name) after) r.name names (λ (name : List ℕ). is_lawful_name name ≡ true) w.script.row_names)
     (names-free (row_names M) taken (map (λ (s : Row). s.name) after) r.name names w.lawful.rows_distinct) fit.lo fit.hi
     ((are_sides-decides r.lo r.hi).1 (all-here M.rows before after r e (λ (s : Row). IsRange s.lo s.hi) w.lawful.ranges))))
@@ -114,9 +114,9 @@ rows-back M w f =
 pub cols-back : (M : Program) → IsWritableModel M → ModelFits M → cols_of (length M.rows) (list_json col_json M.cols) ≡ Ok M.cols
 unfolding cols_of
 cols-back M w f =
-    let few : length M.cols ≤ 1000 = subst (λ wide. length M.cols ≤ col_limit wide) w.script.plain w.lawful.limits.few_columns in
+    let few : length M.cols ≤ col_limit false = subst (λ wide. length M.cols ≤ col_limit wide) w.script.plain w.lawful.limits.few_columns in
     let entries : sum_by (λ (c : Col). length c.rows) M.cols ≤ 50000 = subst (λ wide. sum_by (λ (c : Col). length c.rows) M.cols ≤ entry_limit wide) w.script.plain w.lawful.limits.few_entries in
-    list-splits (at_most_items 1000 (col_of (length M.rows))) col_json M.cols
+    list-splits (at_most_items (col_limit false) (col_of (length M.rows))) col_json M.cols
     (λ before after c e.
     let names : map (λ (s : Col). s.name) before ++ c.name ∷ map (λ (s : Col). s.name) after ≡ map (λ (s : Col). s.name) M.cols =
     sym (map-append (λ (s : Col). s.name) before (c ∷ after)) ∙ ap (λ l. map (λ (s : Col). s.name) l) e in
@@ -125,7 +125,7 @@ cols-back M w f =
     let first : sum_by (λ (s : Col). length s.rows) (before ++ c ∷ []) ≡ entries_in before + length c.rows = sum_by_push (λ (s : Col). length s.rows) before c in
     let total : sum_by (λ (s : Col). length s.rows) ((before ++ c ∷ []) ++ after) ≡ sum_by (λ (s : Col). length s.rows) (before ++ c ∷ []) + entries_in after = sum_by-append (λ (s : Col). length s.rows) (before ++ c ∷ []) after in
     let whole : sum_by (λ (s : Col). length s.rows) ((before ++ c ∷ []) ++ after) ≡ sum_by (λ (s : Col). length s.rows) M.cols = ap (λ l. sum_by (λ (s : Col). length s.rows) l) (append_assoc before (c ∷ []) after ∙ e) in
-    few-back 1000 (col_of (length M.rows)) before (col_json c) c (omega arith)
+    few-back (col_limit false) (col_of (length M.rows)) before (col_json c) c (omega arith)
     (col-back (length M.rows) before c (all-here M.cols before after c e (λ (s : Col). is_lawful_name s.name ≡ true) w.script.column_names)
     (names-free (map (λ (s : Col). s.name) M.cols) (map (λ (s : Col). s.name) before) (map (λ (s : Col). s.name) after) c.name names w.lawful.columns_distinct)
     (all-here M.cols before after c e (IsLawfulColumn (length M.rows)) w.lawful.columns) (all-here M.cols before after c e ColumnNumbersFit f.columns) near.0 near.1 (omega arith)))

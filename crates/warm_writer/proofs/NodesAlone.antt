@@ -1,5 +1,5 @@
 -- Where what is written of a node, a cut or a point is read without fault, it is read back.
-use Rattle.std.specs.Prelude.{◌≡◌, ℕ, if◌then◌else◌, nat_lt, List, ℤ, pos, codes, All, Some, Ok}
+use Rattle.std.specs.Prelude.{◌≡◌, ℕ, Bool, true, false, if◌then◌else◌, nat_lt, List, ℤ, pos, codes, All, Some, Result, Ok}
 use Rattle.std.specs.Fmt.{signed_decimal}
 use Rattle.std.specs.Ordering.{int_eq}
 use Rattle.std.proofs.Common.{refl, sym, ap, ◌∙◌, arith}
@@ -17,12 +17,12 @@ use Rattle.branch_tree.specs.declared.node.NodeData.{NodeData}
 use Rattle.branch_tree.specs.declared.node.NodeData.TheVariants.{Split, Leaf}
 use Rattle.serde_json.specs.Data.{Data, string}
 use Rattle.serde_json.specs.Find.{get}
-use Rattle.warm_file.specs.Faults.{fault, or_fault, behind, at_key}
+use Rattle.warm_file.specs.Faults.{Fault, fault, or_fault, behind, at_key}
 use Rattle.warm_file.specs.Values.{place_below, list_of}
 use Rattle.warm_file.specs.Numbers.{number_of, nonzero_of, whole_of}
-use Rattle.warm_file.specs.Rising.{kind_of, dual_kind_of, variable_of, multiplier_of, literal_of}
+use Rattle.warm_file.specs.Rising.{kind_of, dual_kind_of, variable_of, multiplier_by, literal_of}
 use Rattle.warm_file.specs.declared.rising.Counts.{Counts}
-use Rattle.warm_file.specs.Searches.{row_side_of, cut_of, variables_of, multipliers_of, basis_of, branching_of, split_of, state_of, leaf_of, node_of}
+use Rattle.warm_file.specs.Searches.{row_side_of, cut_of, variables_of, multipliers_of, node_multipliers_of, basis_of, branching_of, split_of, state_of, leaf_of, node_of}
 use Rattle.warm_writer.specs.Written.{number_json, place_json, list_json, two_json, variable_json, multiplier_json, state_word, row_side_word, literal_json, cut_json, split_json, leaf_json, node_json}
 use Rattle.warm_writer.specs.Writable.{HasNarrowSplit, NodeFits}
 use Rattle.warm_writer.proofs.Alone.{IsAlone, alone-ok, alone-is, alone-err, alone-next, alone-then, alone-else, alone-key, alone-member, list-alone}
@@ -52,18 +52,26 @@ variables-alone n vs = list-alone (variable_of n) variable_json vs (λ before af
 
 -- ---- multipliers
 
-multiplier-alone : (n : Counts) (before : List (Var × ℚ)) (v : Var) (x : ℚ) → Fits x → IsAlone (multiplier_of n before (multiplier_json (v, x))) (v, x)
-unfolding multiplier_of dual_kind_of kind_of behind or_fault at_key
-multiplier-alone n before (var.Col j) x fits = alone-err _ (var.Col j, x)
-multiplier-alone n before (var.Row i) x fits =
+multiplier-alone : (numbers : Data → Result ℚ Fault) (n : Counts) (before : List (Var × ℚ)) (v : Var) (x : ℚ) → IsAlone (numbers (number_json x)) x → IsAlone (multiplier_by numbers n before (multiplier_json (v, x))) (v, x)
+unfolding multiplier_by dual_kind_of kind_of behind or_fault at_key
+multiplier-alone numbers n before (var.Col j) x read = alone-err _ (var.Col j, x)
+multiplier-alone numbers n before (var.Row i) x read =
     let made : Var × ℚ = (var.Row i, x) in
-    alone-next _ _ i.0 made (alone-key _ _ i.0 (place-alone n.rows i.0)) (alone-then _ _ _ made (alone-next _ _ x made (alone-key _ _ x (nonzero-alone x fits)) (alone-ok made)))
-multiplier-alone n before (var.Cut k) x fits =
+    alone-next _ _ i.0 made (alone-key _ _ i.0 (place-alone n.rows i.0)) (alone-then _ _ _ made (alone-next _ _ x made (alone-key _ _ x read) (alone-ok made)))
+multiplier-alone numbers n before (var.Cut k) x read =
     let made : Var × ℚ = (var.Cut k, x) in
-    alone-next _ _ k.0 made (alone-key _ _ k.0 (place-alone n.cuts k.0)) (alone-then _ _ _ made (alone-next _ _ x made (alone-key _ _ x (nonzero-alone x fits)) (alone-ok made)))
+    alone-next _ _ k.0 made (alone-key _ _ k.0 (place-alone n.cuts k.0)) (alone-then _ _ _ made (alone-next _ _ x made (alone-key _ _ x read) (alone-ok made)))
 
 multipliers-alone : (n : Counts) (es : List (Var × ℚ)) → All (λ (e : Var × ℚ). Fits e.1) es → IsAlone (multipliers_of n (list_json multiplier_json es)) es
-multipliers-alone n es fits = list-alone (multiplier_of n) multiplier_json es (λ before after e is. multiplier-alone n before e.0 e.1 (all-here es before after e is (λ (d : Var × ℚ). Fits d.1) fits))
+multipliers-alone n es fits =
+    list-alone (multiplier_by nonzero_of n) multiplier_json es (λ before after e is. multiplier-alone nonzero_of n before e.0 e.1 (nonzero-alone e.1 (all-here es before after e is (λ (d : Var × ℚ). Fits d.1) fits)))
+
+-- of a node, whole or told
+mult-alone : (told : Bool) (n : Counts) (es : List (Var × ℚ)) → All (λ (e : Var × ℚ). Fits e.1) es → IsAlone (node_multipliers_of told n (list_json multiplier_json es)) es
+mult-alone true n es fits =
+    list-alone (multiplier_by number_of n) multiplier_json es
+    (λ before after e is. multiplier-alone number_of n before e.0 e.1 (alone-is (number_of (number_json e.1)) e.1 (number-back e.1 (all-here es before after e is (λ (d : Var × ℚ). Fits d.1) fits))))
+mult-alone false n es fits = multipliers-alone n es fits
 
 -- ---- splits and leaves
 
@@ -85,17 +93,17 @@ branching-alone columns col v narrow =
     let made : ColId × ℚ = (col, int v) in
     alone-next _ _ col.0 made (alone-key _ _ col.0 (place-alone columns col.0)) (alone-next _ _ (int v) made (alone-key _ _ (int v) (whole-alone v narrow)) (alone-ok made))
 
-pub node-alone : (n : Counts) (d : NodeData) → HasNarrowSplit d → NodeFits d → IsAlone (node_of n (node_json d)) d
+pub node-alone : (told : Bool) (n : Counts) (d : NodeData) → HasNarrowSplit d → NodeFits d → IsAlone (node_of told n (node_json d)) d
 unfolding node_of split_of leaf_of int
-node-alone n (Split col v mult basis) narrow fits =
+node-alone told n (Split col v mult basis) narrow fits =
     let made : ColId × ℚ = (col, int v) in
     alone-next _ _ made (Split col v mult basis)
     (alone-member (codes "split") (branching_of n.columns) (split_json col v mult basis) (two_json (place_json col.0) (string (signed_decimal v))) made refl (branching-alone n.columns col v narrow))
-    (alone-next _ _ mult (Split col v mult basis) (alone-member (codes "mult") (multipliers_of n) (split_json col v mult basis) (list_json multiplier_json mult) mult refl (multipliers-alone n mult fits))
+    (alone-next _ _ mult (Split col v mult basis) (alone-member (codes "mult") (node_multipliers_of told n) (split_json col v mult basis) (list_json multiplier_json mult) mult refl (mult-alone told n mult fits))
     (alone-next _ _ basis (Split col v mult basis) (basis-alone n (split_json col v mult basis) basis refl refl) (alone-ok (Split col v mult basis))))
-node-alone n (Leaf kept) narrow fits =
+node-alone told n (Leaf kept) narrow fits =
     alone-next _ _ kept.state (Leaf kept) (alone-member (codes "leaf") state_of (leaf_json kept) (state_word kept.state) kept.state refl (alone-is _ kept.state (state-back kept.state)))
-    (alone-next _ _ kept.mult (Leaf kept) (alone-member (codes "mult") (multipliers_of n) (leaf_json kept) (list_json multiplier_json kept.mult) kept.mult refl (multipliers-alone n kept.mult fits.0))
+    (alone-next _ _ kept.mult (Leaf kept) (alone-member (codes "mult") (node_multipliers_of told n) (leaf_json kept) (list_json multiplier_json kept.mult) kept.mult refl (mult-alone told n kept.mult fits.0))
     (alone-next _ _ kept.farkas (Leaf kept) (alone-member (codes "farkas") (multipliers_of n) (leaf_json kept) (list_json multiplier_json kept.farkas) kept.farkas refl (multipliers-alone n kept.farkas fits.1))
     (alone-next _ _ kept.basis (Leaf kept) (basis-alone n (leaf_json kept) kept.basis refl refl) (alone-ok (Leaf kept)))))
 

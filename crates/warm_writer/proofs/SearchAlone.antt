@@ -1,33 +1,36 @@
 -- Where what is written of a search is read without fault, it is read back.
 use Rattle.std.specs.Option.{ForSome}
-use Rattle.std.specs.Prelude.{◌≡◌, ℕ, Bool, true, false, not, ◌&&◌, if◌then◌else◌, List, [], ◌∷◌, length, get_or, map, pos, codes, All, Option, Ok}
+use Rattle.std.specs.Prelude.{◌≡◌, ℕ, Bool, true, false, not, ◌&&◌, if◌then◌else◌, List, [], ◌∷◌, length, get_or, map, pos, codes, All, Option, Some, Result, Ok}
 use Rattle.std.specs.Str.{is_utf8}
-use Rattle.std.proofs.Common.{refl, sym, ap, ap₂, ◌∙◌, arith}
+use Rattle.std.proofs.Common.{refl, sym, ap, ap₂, subst, ◌∙◌, arith}
 use Rattle.frac128.specs.Rational.{ℚ, int}
 use Rattle.frac128.specs.Range.{Fits}
+use Rattle.lp_model.specs.Limits.{col_limit, row_limit}
 use Rattle.lp_model.specs.Program.{Program}
 use Rattle.lp_model.specs.Fitting.{SidesFit, ColumnNumbersFit, ModelFits}
 use Rattle.lp_model.specs.declared.types.RowId.{RowId}
 use Rattle.lp_model.specs.declared.types.Row.{Row}
 use Rattle.lp_model.specs.declared.types.Col.{Col}
 use Rattle.branch_tree.specs.declared.node.NodeData.{NodeData}
+use Rattle.serde_json.specs.Find.{get}
 use Rattle.search_data.specs.declared.data.SearchData.{SearchData}
-use Rattle.search_data.specs.Trees.{is_one_tree}
 use Rattle.lp_model.specs.declared.types.Derivation.{Derivation}
-use Rattle.serde_json.specs.Data.{boolean, null, string}
-use Rattle.warm_file.specs.Faults.{or_fault, behind, at_key}
-use Rattle.warm_file.specs.Values.{truth_of, at_most_items}
+use Rattle.serde_json.specs.Data.{Data, boolean, null, string}
+use Rattle.warm_file.specs.Faults.{Fault, or_fault, behind, at_key}
+use Rattle.warm_file.specs.Values.{truth_of, member, at_most_items}
+use Rattle.warm_file.proofs.Inversions.{next-ok, key-ok, there-ok}
 use Rattle.warm_file.specs.Numbers.{number_of, is_far, side_of, near_of, bound_of}
 use Rattle.warm_file.specs.Rising.{row_entry_of}
 use Rattle.warm_file.specs.Ranges.{are_sides}
 use Rattle.lp_model.specs.Names.{is_lawful_name}
 use Rattle.warm_file.specs.Models.{is_among, name_of, row_of, room_behind, entries_of, is_bounded, costed_of, bounded_of, col_of, sense_of, rows_of, cols_of, lists_of, program_of, model_of}
-use Rattle.warm_file.specs.Searches.{version_of, cut_of, point_of, node_of, cuts_of, points_of, nodes_of, counts, whole_search, tree_of, search_of}
-use Rattle.warm_writer.specs.Written.{place_json, number_json, name_json, side_json, list_json, row_json, row_entry_json, col_json, sense_json, model_json, cut_json, point_json, node_json, search_json}
+use Rattle.warm_file.specs.Searches.{version_of, cut_of, point_of, cuts_of, points_of, nodes_of, counts, tree_of, search_of}
+use Rattle.warm_writer.specs.Written.{place_json, number_json, name_json, side_json, list_json, row_json, row_entry_json, col_json, sense_json, model_json, cut_json, point_json, tree_json, search_json}
 use Rattle.warm_writer.specs.Writable.{HasNarrowSplit, NodeFits, SearchFits, HasSearchShape}
-use Rattle.warm_writer.proofs.Alone.{IsAlone, alone-ok, alone-is, alone-err, alone-next, alone-then, alone-else, alone-key, alone-member, alone-few, list-alone}
+use Rattle.warm_writer.proofs.Alone.{IsAlone, alone-ok, alone-is, alone-err, alone-next, alone-then, alone-else, alone-key, alone-member, alone-known, alone-few, list-alone}
 use Rattle.warm_writer.proofs.ModelBack.{sense-back, two-items}
-use Rattle.warm_writer.proofs.NodesAlone.{place-alone, nonzero-alone, cut-alone, node-alone}
+use Rattle.warm_writer.proofs.NodesAlone.{place-alone, nonzero-alone, cut-alone}
+use Rattle.warm_writer.proofs.TreeAlone.{tree-read, whole-alone}
 use Rattle.warm_writer.proofs.PartsBack.{number-back, side-back}
 use Rattle.warm_writer.proofs.PointBack.{point-back}
 use Rattle.warm_writer.proofs.Splits.{all-here}
@@ -86,14 +89,14 @@ col-alone n before c fits =
 rows-alone : (M : Program) → ModelFits M → IsAlone (rows_of M.obj M.obj2 (list_json row_json M.rows)) M.rows
 unfolding rows_of
 rows-alone M f =
-    list-alone (at_most_items 500 (row_of M.obj M.obj2)) row_json M.rows
-    (λ before after r e. alone-few 500 (row_of M.obj M.obj2) before (row_json r) r (row-alone M.obj M.obj2 before r (all-here M.rows before after r e SidesFit f.rows)))
+    list-alone (at_most_items (row_limit false) (row_of M.obj M.obj2)) row_json M.rows
+    (λ before after r e. alone-few (row_limit false) (row_of M.obj M.obj2) before (row_json r) r (row-alone M.obj M.obj2 before r (all-here M.rows before after r e SidesFit f.rows)))
 
 cols-alone : (M : Program) → ModelFits M → IsAlone (cols_of (length M.rows) (list_json col_json M.cols)) M.cols
 unfolding cols_of
 cols-alone M f =
-    list-alone (at_most_items 1000 (col_of (length M.rows))) col_json M.cols
-    (λ before after c e. alone-few 1000 (col_of (length M.rows)) before (col_json c) c (col-alone (length M.rows) before c (all-here M.cols before after c e ColumnNumbersFit f.columns)))
+    list-alone (at_most_items (col_limit false) (col_of (length M.rows))) col_json M.cols
+    (λ before after c e. alone-few (col_limit false) (col_of (length M.rows)) before (col_json c) c (col-alone (length M.rows) before c (all-here M.cols before after c e ColumnNumbersFit f.columns)))
 
 model-alone : (M : Program) → M.wide ≡ false → length M.consts ≡ 2 → ModelFits M → IsAlone (model_of (model_json M)) M
 unfolding model_of program_of lists_of
@@ -113,13 +116,17 @@ model-alone M plain two f =
 
 -- ---- the whole
 
-version-alone : IsAlone (version_of (place_json 1)) 1
+version-alone : IsAlone (version_of (place_json 2)) 2
 unfolding version_of behind or_fault
-version-alone = alone-ok 1
+version-alone = alone-ok 2
 
-whole-alone : (M : Program) (cuts : List Derivation) (points : List (List ℚ)) (nodes : List NodeData) → IsAlone (whole_search M cuts points nodes) (record { model = M; cuts = cuts; points = points; nodes = nodes })
-unfolding at_key
-whole-alone M cuts points nodes = alone-then (is_one_tree nodes) _ _ _ (alone-ok _)
+-- the value of a key of what is written
+there-alone : {A : Type 0} (key : List ℕ) (states : Data → Result A Fault) (d v : Data) (a : A) → Some v ≡ get key d → member key states d ≡ Ok a → states v ≡ Ok a
+there-alone key states d v a there e =
+    let n = next-ok (or_fault 2 (get key d)) (λ w. at_key key (states w)) a e in
+    let found : get key d ≡ Some n.0 = there-ok 2 (get key d) n.0 n.1.0 in
+    let same : n.0 ≡ v = cc in
+    subst (λ w. states w ≡ Ok a) same (key-ok key (states n.0) a n.1.1)
 
 pub search-alone : (s : SearchData) → HasSearchShape s → SearchFits s → IsAlone (search_of (search_json s)) s
 unfolding search_of search_json tree_of cuts_of points_of nodes_of
@@ -136,13 +143,11 @@ search-alone s w f =
     let shape = all-here s.points before after x e (λ (y : List ℚ). length y ≡ columns) w.points in
     alone-few 100 (λ b. point_of columns) before (point_json x) x
     (alone-is _ x (ap (λ m. point_of m (point_json x)) (sym shape) ∙ point-back x (all-here s.points before after x e (λ (y : List ℚ). All Fits y) f.points)))) in
-    let nodes =
-    list-alone (at_most_items 1000000 (λ before. node_of n)) node_json s.nodes
-    (λ before after d e. alone-few 1000000 (λ b. node_of n) before (node_json d) d
-    (node-alone n d (all-here s.nodes before after d e HasNarrowSplit w.splits) (all-here s.nodes before after d e NodeFits f.nodes))) in
-    alone-next _ _ 1 s (alone-member (codes "warm") version_of (search_json s) (place_json 1) 1 refl version-alone)
+    let plain : All (λ (d : NodeData). HasNarrowSplit d × NodeFits d) s.nodes = λ k d lt. (w.splits k d lt, f.nodes k d lt) in
+    alone-next _ _ 2 s (alone-member (codes "warm") version_of (search_json s) (place_json 2) 2 refl version-alone)
     (alone-next _ _ s.model s (alone-member (codes "model") model_of (search_json s) (model_json s.model) s.model refl (model-alone s.model w.plain w.constants f.model))
     (alone-next _ _ s.cuts s (alone-member (codes "cuts") (cuts_of rows columns) (search_json s) (list_json cut_json s.cuts) s.cuts refl cuts)
     (alone-next _ _ s.points s (alone-member (codes "points") (points_of columns) (search_json s) (list_json point_json s.points) s.points refl points)
-    (alone-next _ _ s.nodes s (alone-member (codes "nodes") (nodes_of n) (search_json s) (list_json node_json s.nodes) s.nodes refl nodes)
-    (whole-alone s.model s.cuts s.points s.nodes)))))
+    (alone-known _ _ s (λ read e.
+    let r = tree-read n s.nodes read plain (there-alone (codes "nodes") (nodes_of 2 n) (search_json s) (tree_json s.nodes) read refl e) in
+    whole-alone s.model s.cuts s.points s.nodes read r.0 r.1)))))

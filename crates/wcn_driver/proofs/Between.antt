@@ -26,7 +26,7 @@ use Rattle.gap_models.specs.Gaps.{FitsGap}
 use Rattle.front_check.specs.Accepted.{TargetedModel, gap_part, gap_names}
 use Rattle.front_check.specs.Passing.{IsPassingTree}
 use Rattle.inner_models.specs.Inner.{least2_model}
-use Rattle.lp_model.specs.declared.answers.Answer.{Answer}
+use Rattle.search_answers.specs.declared.answers.Answer.{Answer}
 use Rattle.wcn_driver.specs.declared.settling.Halt.{Halt}
 use Rattle.wcn_driver.specs.declared.answers.Part.TheVariants.{Gap, Pull}
 use Rattle.wcn_driver.specs.declared.task.Task.{Task}

@@ -1,7 +1,7 @@
 -- Why a sweep ends at an end of the front.
 use Rattle.std.specs.Prelude.{ℕ, ℤ, Result, Ok, Err, OnOk, IfErr}
 use Rattle.lp_model.specs.Program.{Program, Point, IsOptimum}
-use Rattle.lp_model.specs.declared.answers.Answer.{Answer}
+use Rattle.search_answers.specs.declared.answers.Answer.{Answer}
 use Rattle.inner_models.specs.Inner.{left_model, right_model}
 use Rattle.wcn_driver.specs.declared.answers.Part.TheVariants.{Left, Right}
 use Rattle.wcn_driver.specs.declared.settling.Halt.{Halt}

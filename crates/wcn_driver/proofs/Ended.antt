@@ -6,7 +6,7 @@ use Rattle.std.proofs.lemmas.List.Elements.{All-head, All-tail, All-cons, All-ni
 use Rattle.std.proofs.lemmas.List.Kept.{AllPairs-cons}
 use Rattle.frac128.specs.Range.{IsNarrow}
 use Rattle.lp_model.specs.Program.{Program, Point}
-use Rattle.lp_model.specs.declared.answers.Answer.{Answer}
+use Rattle.search_answers.specs.declared.answers.Answer.{Answer}
 use Rattle.frontier.specs.declared.outcomes.Outcome.{Outcome}
 use Rattle.frontier.specs.Covers.{IsAhead, IsFront}
 use Rattle.frontier.specs.Outcomes.{HasLeastOutcome}

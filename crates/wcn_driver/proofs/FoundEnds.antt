@@ -2,7 +2,7 @@
 use Rattle.std.specs.Prelude.{ℕ, ◌-◌, ◌≤◌, ℤ, pos, true, All, Ok}
 use Rattle.std.proofs.Common.{sym, subst, inl, inr}
 use Rattle.lp_model.specs.Program.{Program, Point, IsFeasible}
-use Rattle.lp_model.specs.declared.answers.Answer.{Answer}
+use Rattle.search_answers.specs.declared.answers.Answer.{Answer}
 use Rattle.model_points.specs.Answers.{IsFeasibilityAnswer}
 use Rattle.frontier.specs.declared.outcomes.Outcome.{Outcome}
 use Rattle.frontier.specs.Outcomes.{HasOutcome}

@@ -2,7 +2,7 @@
 use Rattle.std.specs.Prelude.{◌≡◌, ℕ, ◌≤◌, ℤ, ◌+ℤ◌, ◌-ℤ◌, ◌<ℤ◌, length, take, All, Some}
 use Rattle.std.proofs.Common.{refl, sym, subst, ◌∙◌, arith}
 use Rattle.std.proofs.lemmas.List.{length-take}
-use Rattle.lp_model.specs.declared.answers.Answer.{Answer}
+use Rattle.search_answers.specs.declared.answers.Answer.{Answer}
 use Rattle.cert_text.specs.declared.cert.Claim.TheVariants.{Optimal}
 use Rattle.gap_models.specs.declared.gaps.GapPlace.{GapPlace}
 use Rattle.gap_models.specs.declared.gaps.GapPlace.TheVariants as gap

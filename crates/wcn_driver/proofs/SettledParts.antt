@@ -4,8 +4,8 @@ use Rattle.std.proofs.Common.{refl, sym, subst, ◌∙◌, arith}
 use Rattle.frac128.specs.Rational.{ℚ, int}
 use Rattle.lp_model.specs.Program.{Program, value, IsEmpty, HasWholeObjective}
 use Rattle.lp_model.specs.Lawful.{IsLawful}
-use Rattle.lp_model.specs.declared.answers.Answer.{Answer}
-use Rattle.lp_model.specs.declared.answers.Answer.TheVariants as solve
+use Rattle.search_answers.specs.declared.answers.Answer.{Answer}
+use Rattle.search_answers.specs.declared.answers.Answer.TheVariants as solve
 use Rattle.cert_text.specs.declared.cert.Claim.{Claim}
 use Rattle.cert_text.specs.declared.cert.Claim.TheVariants as claim
 use Rattle.cert_text.specs.declared.cert.Cert.{Cert}

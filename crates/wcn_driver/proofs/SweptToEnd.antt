@@ -3,8 +3,8 @@ use Rattle.std.specs.Prelude.{◌≡◌, ◌⊎◌, ℕ, ◌≤◌, Option, Some
 use Rattle.std.proofs.Common.{arith, inl, inr}
 use Rattle.lp_model.specs.Program.{Program, HasWholeObjective}
 use Rattle.lp_model.specs.declared.types.ColId.{ColId}
-use Rattle.lp_model.specs.declared.answers.Answer.{Answer}
-use Rattle.lp_model.specs.declared.answers.Answer.TheVariants as solve
+use Rattle.search_answers.specs.declared.answers.Answer.{Answer}
+use Rattle.search_answers.specs.declared.answers.Answer.TheVariants as solve
 use Rattle.model_points.specs.Answers.{IsFirstNotWhole, IsWholeAnswer}
 use Rattle.wcn_driver.specs.declared.answers.Mc.TheVariants as mc
 use Rattle.wcn_driver.specs.Laws.{SweptToEndLaw}

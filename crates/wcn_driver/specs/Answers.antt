@@ -3,8 +3,8 @@ use Rattle.std.specs.Prelude.{◌≡◌, ◌⊎◌, ℕ, ◌+◌, ◌-◌, ◌�
 use Rattle.frac128.specs.Range.{IsNarrow}
 use Rattle.lp_model.specs.Program.{Program, Point, IsOptimum, IsEmpty, HasWholeObjective}
 use Rattle.lp_model.specs.declared.types.WideStep.{WideStep}
-use Rattle.lp_model.specs.declared.answers.Answer.{Answer}
-use Rattle.lp_model.specs.declared.answers.Answer.TheVariants as solve
+use Rattle.search_answers.specs.declared.answers.Answer.{Answer}
+use Rattle.search_answers.specs.declared.answers.Answer.TheVariants as solve
 use Rattle.model_points.specs.Answers.{IsValueAnswer, IsWholeAnswer}
 use Rattle.cert_text.specs.declared.cert.Claim.TheVariants as claim
 use Rattle.frontier.specs.declared.outcomes.Outcome.{Outcome}

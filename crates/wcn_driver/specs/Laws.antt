@@ -1,7 +1,7 @@
 -- When a sweep comes to its end.
 use Rattle.std.specs.Prelude.{ℕ, ◌-◌, ◌≤◌, ℤ, List}
 use Rattle.lp_model.specs.Program.{Program, HasWholeObjective}
-use Rattle.lp_model.specs.declared.answers.Answer.{Answer}
+use Rattle.search_answers.specs.declared.answers.Answer.{Answer}
 use Rattle.frontier.specs.declared.outcomes.Outcome.{Outcome}
 use Rattle.front_solver.specs.Truth.{IsStop}
 use Rattle.wcn_driver.specs.declared.answers.Part.{Part}

@@ -5,7 +5,8 @@ use crate::answers::ScalePlace;
 use cert_text::Cert;
 use frac128::Frac;
 use front_solver::Solved;
-use lp_model::{Answer, Point, StopWhy};
+use lp_model::{Point, StopWhy};
+use search_answers::Answer;
 
 /// The optimum of an inner model, and the results of all parts until then.
 #[derive(Drop)]

@@ -1,8 +1,8 @@
 -- What is written of an environment whose model was solved.
 use Rattle.std.specs.Prelude.{◌≡◌, ℕ, Bool, true, false, List, ◌++◌, Option, Some, None, Result, Ok, Err}
 use Rattle.lp_model.specs.Program.{Program}
-use Rattle.lp_model.specs.declared.answers.Answer.{Answer}
-use Rattle.lp_model.specs.declared.answers.Answer.TheVariants.{Memory}
+use Rattle.search_answers.specs.declared.answers.Answer.{Answer}
+use Rattle.search_answers.specs.declared.answers.Answer.TheVariants.{Memory}
 use Rattle.sound_searches.specs.Sound.{PlainSearch}
 use Rattle.kept_env.specs.Env.{PlainEnv, model_of}
 use Rattle.kept_env.specs.declared.env.EnvFault.{EnvFault}

@@ -7,7 +7,7 @@ use Rattle.lp_model.specs.declared.types.Side.{Side}
 use Rattle.lp_model.specs.declared.types.Side.TheVariants.{Hi}
 use Rattle.lp_model.specs.declared.types.BoundChange.{BoundChange}
 use Rattle.cert_text.specs.declared.cert.Claim.{Claim}
-use Rattle.cert_text.specs.declared.cert.Claim.TheVariants.{Optimal, Infeasible, Unbounded}
+use Rattle.cert_text.specs.declared.cert.Claim.TheVariants.{Optimal, Within, Infeasible, Unbounded}
 use Rattle.cert_text.specs.declared.cert.CertNode.{CertNode}
 use Rattle.cert_check.specs.declared.verdict.Judgement.{Judgement}
 use Rattle.cert_check.specs.declared.verdict.Judgement.TheVariants.{Breaks}
@@ -43,6 +43,7 @@ after_node Empty path = after_leaf path
 -- whether the claim is proved by a tree; where the model is claimed unbounded a point and a ray prove it
 abbrev pub has_tree : Claim → Bool
 has_tree (Optimal v) = true
+has_tree (Within g v) = true
 has_tree Infeasible = true
 has_tree Unbounded = false
 

@@ -1,8 +1,8 @@
 -- What going on with a kept search comes to.
 use Rattle.std.specs.Prelude.{◌≡◌, ℕ, ◌+◌, ◌<◌, ◌≤◌, ◌^◌, length}
 use Rattle.lp_model.specs.Program.{Program}
-use Rattle.lp_model.specs.declared.answers.Answer.{Answer}
-use Rattle.lp_model.specs.declared.answers.Answer.TheVariants.{Optimal, Infeasible, Unbounded, Stopped, Memory}
+use Rattle.search_answers.specs.declared.answers.Answer.{Answer}
+use Rattle.search_answers.specs.declared.answers.Answer.TheVariants.{Optimal, Infeasible, Unbounded, Stopped, Memory}
 use Rattle.kept_env.specs.Env.{PlainEnv}
 use Rattle.tree_search.specs.declared.limits.Limits.{Limits}
 use Rattle.front_solver.specs.Truth.{IsTrueOf, IsStop, shown_claim}

@@ -24,5 +24,5 @@ abbrev pub behind_name : Sense → List ℕ → Data → Result Program Fault
 behind_name sense obj d = behind (member (codes "obj2") (name_of (obj ∷ [])) d) (λ obj2. program_of sense obj obj2 d)
 
 -- the cuts behind the model, and what stands behind them
-abbrev pub behind_model : Program → Data → Result SearchData Fault
-behind_model M d = behind (member (codes "cuts") (cuts_of (length M.rows) (length M.cols)) d) (λ cuts. tree_of M cuts d)
+abbrev pub behind_model : ℕ → Program → Data → Result SearchData Fault
+behind_model version M d = behind (member (codes "cuts") (cuts_of (length M.rows) (length M.cols)) d) (λ cuts. tree_of version M cuts d)

@@ -2,7 +2,7 @@
 use Rattle.std.specs.Prelude.{◌≡◌, ◌⊎◌, ℕ, ◌≤◌, ℤ, pos, Some}
 use Rattle.frac128.specs.Range.{IsNarrow}
 use Rattle.lp_model.specs.Program.{Program, Point, IsEmpty}
-use Rattle.lp_model.specs.declared.answers.Answer.{Answer}
+use Rattle.search_answers.specs.declared.answers.Answer.{Answer}
 use Rattle.cert_text.specs.declared.cert.Claim.TheVariants as claim
 use Rattle.inner_models.specs.Inner.{least2_model}
 use Rattle.front_sweeps.specs.Steps.{IsNondominatedOutcome}

@@ -1,7 +1,7 @@
 -- What is kept of a solver through a part.
 use Rattle.std.specs.Prelude.{ℕ}
 use Rattle.lp_model.specs.Program.{Program}
-use Rattle.lp_model.specs.declared.answers.Answer.{Answer}
+use Rattle.search_answers.specs.declared.answers.Answer.{Answer}
 use Rattle.front_solver.specs.Stops.{AddsNoStop}
 use Rattle.front_solver.specs.Solved.{IsRecosted}
 use Rattle.wcn_driver.specs.declared.settling.Halt.{Halt}

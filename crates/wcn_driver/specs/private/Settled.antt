@@ -1,8 +1,8 @@
 -- What an inner model is solved to, and why a sweep ends at a part.
 use Rattle.std.specs.Prelude.{◌≡◌, ℕ, ◌+◌, ◌<◌, ◌≤◌, ◌^◌, ℤ, true, Option, Some, IsSome, Result, Ok, Err}
 use Rattle.lp_model.specs.Program.{Program, value, IsOptimum}
-use Rattle.lp_model.specs.declared.answers.Answer.{Answer}
-use Rattle.lp_model.specs.declared.answers.Answer.TheVariants as solve
+use Rattle.search_answers.specs.declared.answers.Answer.{Answer}
+use Rattle.search_answers.specs.declared.answers.Answer.TheVariants as solve
 use Rattle.model_points.specs.Answers.{IsFeasibilityAnswer}
 use Rattle.model_points.specs.Bounds.{IsBound, IsFoundValue}
 use Rattle.cert_text.specs.declared.cert.Claim.TheVariants.{Optimal}

@@ -3,7 +3,7 @@ use Rattle.std.specs.Prelude.{◌≡◌, ◌⊎◌, ℕ, ◌+◌, ◌≤◌, ℤ
 use Rattle.std.specs.List.{AllZip}
 use Rattle.frac128.specs.Range.{IsNarrow}
 use Rattle.lp_model.specs.Program.{Program}
-use Rattle.lp_model.specs.declared.answers.Answer.{Answer}
+use Rattle.search_answers.specs.declared.answers.Answer.{Answer}
 use Rattle.frontier.specs.declared.outcomes.Outcome.{Outcome}
 use Rattle.frontier.specs.Covers.{IsFront}
 use Rattle.frontier.specs.Laws.{last_of}

@@ -1,4 +1,4 @@
-use Rattle.std.proofs.Common.{◌≡◌, [], sym, ap, subst, ◌∙◌, get_or, arith, Bor, List, ℕ}
+use Rattle.std.proofs.Common.{[], sym, ap, subst, ◌∙◌, get_or, arith, Bor, List, ℕ}
 use Rattle.std.specs.Prelude.{Err}
 use Rattle.cert_text.specs.Lines.{split_at, split_says}
 use Rattle.cert_text.specs.Reading.{Says}

@@ -1,4 +1,4 @@
-use Rattle.std.proofs.Common.{◌≡◌, ◌-◌, [], sym, ap, subst, ◌∙◌, map, take, drop, length, Bor, Bool, List, ℕ, if◌then◌else◌}
+use Rattle.std.proofs.Common.{◌-◌, [], sym, ap, subst, ◌∙◌, map, take, drop, length, Bor, Bool, List, ℕ, if◌then◌else◌}
 use Rattle.std.specs.Prelude.{Some, None, Err}
 use Rattle.cert_text.specs.Lines.{word_says}
 use Rattle.cert_text.specs.Reading.{Says}

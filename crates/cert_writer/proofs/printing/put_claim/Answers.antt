@@ -16,6 +16,14 @@ returns-in-Ok-clause-text c =
 pub returns-in-Ok-clause-room : goal.returns-in-Ok-clause-room
 returns-in-Ok-clause-room c = if_ok c.put_number.result (subst HasClaimRoom (sym c.in-Optimal.is) c.put_number.ensures.room)
 
+pub returns-in-Within-clause-text : goal.returns-in-Within-clause-text
+returns-in-Within-clause-text c =
+    let old = c.args.text.now.items in
+    subst (λ (claim : Claim). IfOk c.put_within.result (λ _. c.put_within.new.text.items ≡ old ++ line_text (claim_words claim))) (sym c.in-Within.is) c.put_within.ensures.text
+
+pub returns-in-Within-clause-room : goal.returns-in-Within-clause-room
+returns-in-Within-clause-room c = subst (λ (claim : Claim). IfOk c.put_within.result (λ _. HasClaimRoom claim)) (sym c.in-Within.is) c.put_within.ensures.room
+
 pub returns-in-Infeasible-clause-text : goal.returns-in-Infeasible-clause-text
 returns-in-Infeasible-clause-text c =
     let old = c.args.text.now.items in

@@ -10,6 +10,12 @@ returns-in-Optimal c =
     let after = c.write_accepted_value.new.reply.items in
     subst (λ claim. IfOk c.write_accepted_value.result (λ _. after ≡ before ++ claim_text claim)) (sym c.in-Optimal.is) c.write_accepted_value.ensures
 
+pub returns-in-Within : goal.returns-in-Within
+returns-in-Within c =
+    let before = c.args.reply.now.items in
+    let after = c.write_accepted_within.new.reply.items in
+    subst (λ claim. IfOk c.write_accepted_within.result (λ _. after ≡ before ++ claim_text claim)) (sym c.in-Within.is) c.write_accepted_within.ensures
+
 pub returns-in-Infeasible : goal.returns-in-Infeasible
 returns-in-Infeasible c =
     let before = c.args.reply.now.items in

@@ -1,6 +1,6 @@
 use Rattle.std.proofs.Common.{◌≡◌, ◌++◌, sym, subst}
 use Rattle.std.specs.Prelude.{IfOk}
-use Rattle.lp_model.specs.declared.answers.Answer.{Answer}
+use Rattle.search_answers.specs.declared.answers.Answer.{Answer}
 use Rattle.reply_texts.specs.Reports.{AnswerIsShaped}
 use Rattle.reply_texts.specs.Texts.{answer_text}
 use Rattle.reply_texts.proofs.answers.write_answer.Goals as goal

@@ -1,29 +1,32 @@
-use Rattle.std.proofs.Common.{subst}
+use Rattle.std.specs.Prelude.{Result, Ok, Err, IfOk}
+use Rattle.std.proofs.Common.{subst, ◌∙◌}
 use Rattle.lp_model.specs.Lawful.{IsLawful}
 use Rattle.cert_text.specs.declared.cert.Cert.{Cert}
+use Rattle.cert_text.specs.Whole.{IsCertificate}
+use Rattle.cert_check.specs.Verdict.{IsVerdict}
+use Rattle.cert_check.specs.declared.verdict.Verdict.TheVariants.{Accepted}
+use Rattle.sound_searches.specs.Sound.{PlainSearch}
 use Rattle.tree_cert.specs.Certificates.{IsCertificateOf}
-use Rattle.tree_cert.proofs.AcceptedLaws.{is_certificate, is_accepted}
+use Rattle.tree_cert.specs.private.Parts.{HasPartsOf}
+use Rattle.tree_cert.proofs.AcceptedLaws.{is_certificate, is_accepted, certificate_from}
 use Rattle.tree_cert.proofs.writing.certificate.Goals as goal
+
+if_more : {E : Type 0} (P Q : Cert → Type 0) (r : Result Cert E) → ((cert : Cert) → P cert → Q cert) → IfOk r P → IfOk r Q
+if_more P Q (Ok cert) w h = w cert h
+if_more P Q (Err e) w h = tt
 
 pub returns-clause-exact : goal.returns-clause-exact
 returns-clause-exact c =
-    let p = c.in-Ok.ensures in
-    record { incumbent = p.0; best = p.1.0; claim = c.claim-claim.ensures p.0 p.1.0; point = p.1.1; ray = c.new-ray.ensures; proof = c.in-Ok-proof.ensures }
+    let S = c.args.search.now in
+    if_more (HasPartsOf S c.claim.result) (IsCertificateOf S) c.certificate_of.result (λ cert of. certificate_from S c.claim.result cert of c.claim.ensures) c.certificate_of.ensures
 
 pub returns-clause-certificate : goal.returns-clause-certificate
 returns-clause-certificate c =
     let S = c.args.search.now in
-    let p = c.in-Ok.ensures in
-    let found = c.in-Ok-proof.found in
-    let cert : Cert = record { claim = c.claim-claim.result; point = c.in-Ok.point; ray = c.new-ray.result; cuts = found.cuts; nodes = found.nodes } in
-    let of : IsCertificateOf S cert = record { incumbent = p.0; best = p.1.0; claim = c.claim-claim.ensures p.0 p.1.0; point = p.1.1; ray = c.new-ray.ensures; proof = c.in-Ok-proof.ensures } in
-    is_certificate S cert c.points-sound.ensures.sound of
+    if_more (IsCertificateOf S) IsCertificate c.certificate_of.result (λ cert of. is_certificate S cert c.points-sound.ensures.sound of) (returns-clause-exact c)
 
 pub returns-clause-accepted : goal.returns-clause-accepted
 returns-clause-accepted c =
     let S = c.args.search.now in
-    let p = c.in-Ok.ensures in
-    let found = c.in-Ok-proof.found in
-    let cert : Cert = record { claim = c.claim-claim.result; point = c.in-Ok.point; ray = c.new-ray.result; cuts = found.cuts; nodes = found.nodes } in
-    let of : IsCertificateOf S cert = record { incumbent = p.0; best = p.1.0; claim = c.claim-claim.ensures p.0 p.1.0; point = p.1.1; ray = c.new-ray.ensures; proof = c.in-Ok-proof.ensures } in
-    is_accepted S cert c.points-sound.ensures.sound of (subst IsLawful c.model.ensures c.rows-lawful.ensures.lawful) c.requires.finished
+    if_more (IsCertificateOf S) (λ cert. IsVerdict S.model cert (Accepted cert.claim)) c.certificate_of.result
+    (λ cert of. is_accepted S cert c.points-sound.ensures.sound of (subst IsLawful c.model.ensures c.rows-lawful.ensures.lawful) c.requires.finished) (returns-clause-exact c)

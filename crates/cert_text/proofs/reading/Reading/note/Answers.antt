@@ -2,7 +2,7 @@ use Rattle.std.proofs.Common.{ap, sym, subst, ◌∙◌}
 use Rattle.std.specs.Prelude.{Ok, None, ◌≡◌}
 use Rattle.cert_text.specs.Text.{code_in}
 use Rattle.cert_text.specs.Reading.{held, after}
-use Rattle.cert_text.specs.Whole.{IsNarrowStatement}
+use Rattle.cert_text.specs.Whole.{IsLawfulStatement}
 use Rattle.cert_text.proofs.KeptLemmas.{handed_on, both_handed_on, node_kept, node_noted, claim_kept, claim_noted, point_kept, point_noted, ray_kept, ray_noted, cut_kept, cut_noted, last_kept}
 use Rattle.cert_text.proofs.reading.Reading.note.Goals as goal
 
@@ -14,7 +14,7 @@ returns-in-Claims-clause-stated c =
 pub returns-in-Claims-clause-kept : goal.returns-in-Claims-clause-kept
 returns-in-Claims-clause-kept c =
     let old = c.args.self.now in
-    claim_kept old c.in-Claims.claim (subst (λ s. code_in (held old) (Ok s) ≡ None) c.in-Claims.is c.requires.clean) c.requires.kept
+    claim_kept old c.in-Claims.claim (subst (λ s. code_in (held old) (Ok s) ≡ None) c.in-Claims.is c.requires.clean) (subst IsLawfulStatement c.in-Claims.is c.requires.narrow) c.requires.kept
 
 pub returns-in-Point-clause-stated : goal.returns-in-Point-clause-stated
 returns-in-Point-clause-stated c =
@@ -57,7 +57,7 @@ returns-in-Node-clause-kept c =
     (λ nodes parts.
     node_kept c.args.self.now c.add_node.new.self c.in-Node.node
     (subst (λ s. code_in (held c.args.self.now) (Ok s) ≡ None) c.in-Node.is c.requires.clean)
-    (subst IsNarrowStatement c.in-Node.is c.requires.narrow) c.requires.kept
+    (subst IsLawfulStatement c.in-Node.is c.requires.narrow) c.requires.kept
     nodes parts.0 parts.1 parts.2 parts.3 parts.4) c.add_node.ensures.nodes c.add_node.ensures.parts
 
 pub returns-in-End-clause-kept : goal.returns-in-End-clause-kept

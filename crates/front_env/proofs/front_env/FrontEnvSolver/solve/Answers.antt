@@ -1,7 +1,7 @@
 use Rattle.std.specs.Prelude.{ℕ, ◌-◌, ◌≤◌}
 use Rattle.std.proofs.Common.{sym, ap, subst}
 use Rattle.lp_model.specs.Program.{Program}
-use Rattle.lp_model.specs.declared.answers.Answer.{Answer}
+use Rattle.search_answers.specs.declared.answers.Answer.{Answer}
 use Rattle.tree_search.specs.declared.limits.Limits.{Limits}
 use Rattle.front_solver.specs.Truth.{IsTrueOf, IsStop}
 use Rattle.front_env.specs.FrontEnvs.{PlainFrontEnv, program_in, program_of, with_results, behind, IsStopBy, IsStopBehind}

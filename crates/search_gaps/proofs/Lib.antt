@@ -1,0 +1,3 @@
+pub mod Rounded
+pub mod FirstOpen
+pub mod WithinBound
