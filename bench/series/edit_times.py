@@ -2,7 +2,7 @@
 
     python3 bench/series/edit_times.py BEFORE AFTER MODEL [EDITS [RUNS]]
 
-BEFORE and AFTER are two built `symphony`, MODEL is an MPS file (free MPS, no RANGES) whose tree is to be edited. AFTER solves it once and
+BEFORE and AFTER are two built `symphony`, MODEL is an MPS file (free MPS, no RANGES) whose tree is to be edited. BEFORE solves it once and
 saves the search. Then, for each kind, each program reads the model and the search and makes EDITS edits of that kind, drawn with
 one seed. It tells the milliseconds of processor time an edit, the least of RUNS runs, less that of a run with no edit; it stops
 where the replies of the two programs differ in a byte.
@@ -83,7 +83,7 @@ def main(before, after, model, count=60, runs=3):
     with tempfile.TemporaryDirectory() as folder:
         with open(os.path.join(folder, "M"), "w") as file:
             file.write(open(model).read())
-        print(run(programs[1], folder, ["load M", "solve", "save W"])[0], end="")
+        print(run(programs[0], folder, ["load M", "solve", "save W"])[0], end="")
         begin = ["load M", "restore W"]
         begun = [least(program, folder, begin, int(runs))[1] for program in programs]
         for kind in KINDS:
