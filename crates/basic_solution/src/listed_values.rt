@@ -55,7 +55,7 @@ impl SidedBasis<'_> {
         if let Some(total) = self.standing_total(row, denominator, places, numbers, count) {
             return Ok(quotient(total, denominator));
         }
-        self.standing_value(row, places, numbers, count)
+        self.standing_value(row, places, count)
     }
 
     /// The value of the basic variable of a row, by the variables that stand at other numbers than 0 where they are listed.

@@ -1,5 +1,5 @@
 // The value of a basic variable times the denominator of the table, place by place.
-ghost use Rattle.std.specs.Prelude.{◌≡◌, ◌<◌, ◌<ℤ◌, ◌+ℤ◌, ◌*ℤ◌, pos, IfSome};
+ghost use Rattle.std.specs.Prelude.{◌≡◌, ◌<◌, ◌<ℤ◌, ◌+ℤ◌, ◌*ℤ◌, pos, IsTrue, IfSome};
 ghost use Rattle.frac128.specs.Rational.{int};
 ghost use Rattle.table_entries.specs.WholeSteps.{IsShort};
 ghost use Rattle.whole_sums.specs.Wholes.{HasMargin, IsWholeTerm};
@@ -39,6 +39,26 @@ pub fn small_number(fraction: &Frac) -> Option<i64>
     } else {
         None
     }
+}
+
+/// The number that a fraction is in 64 bits, if it is whole and small, and else one that is not small.
+#[inline]
+pub fn marked_number(fraction: &Frac) -> i64
+    ensures short { IsShort result }
+    ensures value { IsSmallNumber result → fraction.now ≡ int result }
+{
+    match small_number(fraction) {
+        Some(number) => number,
+        None => SMALL,
+    }
+}
+
+/// Whether the number is small.
+#[inline]
+pub fn is_small(number: i64) -> bool
+    ensures { IsTrue result → IsSmallNumber number }
+{
+    -SMALL < number && number < SMALL
 }
 
 /// The total with one more product.

@@ -1,15 +1,13 @@
 // The variables that stand at other numbers than 0: few, where most stand at 0. Values are sums over them alone.
 ghost use Rattle.std.specs.Prelude.{◌≡◌, ◌<◌, ◌≤◌, ◌<ℤ◌, ℕ, pos, get_or, length, IfSome};
-ghost use Rattle.frac128.specs.Rational.{int};
-ghost use Rattle.table_entries.specs.WholeSteps.{IsShort, whole_number_at};
-ghost use Rattle.basic_solution.specs.Held.{table};
+ghost use Rattle.table_entries.specs.WholeSteps.{IsShort};
+ghost use Rattle.basic_solution.specs.Held.{table, variables};
 ghost use Rattle.basic_solution.specs.Numbers.{IsRowBreach};
-ghost use Rattle.basic_solution.specs.RowTotals.{IsSmallNumber};
-ghost use Rattle.basic_solution.specs.Standing.{AreStanding};
+ghost use Rattle.basic_solution.specs.Standing.{AreStanding, AreStandingTo, listed_number};
 ghost use Rattle.basic_solution.specs.private.Numbers.{IsBasicValueAnswer};
 ghost use Rattle.basic_solution.specs.private.RowTotals.{IsRowTotal};
 
-use crate::row_totals::{small_number, with_product};
+use crate::row_totals::{is_small, marked_number, with_product};
 use crate::sided::SidedBasis;
 use crate::sides::breach;
 use crate::total_sides::total_breach;
@@ -25,13 +23,10 @@ struct StandingTerms<'a, 'b> {
     state: &'b SidedBasis<'a>,
     row: usize,
     places: &'b [usize],
-    numbers: &'b [i64],
     count: usize,
     ghost within: { row < state.now.tableau.activities },
     ghost places_size: { count ≤ length places.now },
-    ghost numbers_size: { count ≤ length numbers.now },
     ghost places_within: { (j : ℕ) → j < count → get_or places.now j 0 < state.now.tableau.columns },
-    ghost small: { (j : ℕ) → j < count → IsSmallNumber (whole_number_at numbers.now j) },
 }
 
 impl Terms for StandingTerms<'_, '_> {
@@ -39,14 +34,14 @@ impl Terms for StandingTerms<'_, '_> {
 
     ghost factor = { λ t j. (table t.state.now).entry t.row (get_or t.places.now j 0) };
 
-    ghost number = { λ t j. int (whole_number_at t.numbers.now j) };
+    ghost number = { λ t. listed_number t.state.now t.places.now };
 
     fn count(&self) -> usize {
         self.count
     }
 
     fn number(&self, index: usize) -> Frac {
-        Frac::whole(self.numbers[index])
+        self.state.place_number(self.places[index])
     }
 
     fn factor(&self, index: usize) -> Frac {
@@ -55,8 +50,8 @@ impl Terms for StandingTerms<'_, '_> {
 }
 
 impl SidedBasis<'_> {
-    /// Writes the places of the variables that stand at other numbers than 0 and these numbers, by variable, and answers how many
-    /// there are. None where a number is no small whole one, or a list is too short; then the lists are of no meaning.
+    /// Writes the places of the variables that stand at other numbers than 0, by variable, beside them these numbers where they are
+    /// small whole ones, and answers how many there are. None where a list is too short; then the lists are of no meaning.
     pub fn write_standing(&self, places: &mut [usize], numbers: &mut [i64]) -> Option<usize>
         ensures { IfSome result (λ n. AreStanding self.now places.new numbers.new n) }
     {
@@ -65,15 +60,13 @@ impl SidedBasis<'_> {
             match self.tableau.find(variable) {
                 Position::Row(_) => {}
                 Position::Place(place) => {
-                    let Some(number) = small_number(&self.place_number(place)) else {
-                        return None;
-                    };
-                    if number != 0 {
+                    let number = self.place_number(place);
+                    if !number.is_zero() {
                         if places.len() <= count || numbers.len() <= count {
                             return None;
                         }
                         places[count] = place;
-                        numbers[count] = number;
+                        numbers[count] = marked_number(&number);
                         count += 1;
                     }
                 }
@@ -83,7 +76,8 @@ impl SidedBasis<'_> {
     }
 
     /// The value of the basic variable of a row times the denominator, by the variables that stand at other numbers than 0, where
-    /// the entries are numbers over it: then each sum of the terms has room, in any order. None says nothing of the value.
+    /// the entries are numbers over it and those numbers small: then each sum of the terms has room, in any order. None says nothing
+    /// of the value.
     pub(crate) fn standing_total(
         &self,
         row: usize,
@@ -101,10 +95,14 @@ impl SidedBasis<'_> {
         let _few = self.tableau.columns();
         let mut total: i128 = 0;
         for turn in 0..count {
+            let number = numbers[turn];
+            if !is_small(number) {
+                return None;
+            }
             let Some(factor) = self.tableau.number_over(row, places[turn], denominator) else {
                 return None;
             };
-            total = with_product(total, factor, numbers[turn]);
+            total = with_product(total, factor, number);
         }
         Some(total)
     }
@@ -115,11 +113,10 @@ impl SidedBasis<'_> {
         &self,
         row: usize,
         places: &[usize],
-        numbers: &[i64],
         count: usize,
     ) -> Result<Frac, WideStep>
         requires row { row < self.now.tableau.activities }
-        requires standing { AreStanding self.now places.now numbers.now count }
+        requires standing { AreStandingTo self.now (variables self.now) places.now count }
         ensures { IsBasicValueAnswer self.now row result }
     {
         let _few = self.tableau.columns();
@@ -127,7 +124,6 @@ impl SidedBasis<'_> {
             state: self,
             row,
             places,
-            numbers,
             count,
         };
         match checked_sum(&Frac::whole(0), &terms) {
@@ -157,7 +153,7 @@ impl SidedBasis<'_> {
                 return Ok(total_breach(low, high, total, denominator));
             }
         }
-        match self.standing_value(row, places, numbers, count) {
+        match self.standing_value(row, places, count) {
             Err(step) => Err(step),
             Ok(value) => Ok(breach(low, high, &value)),
         }

@@ -80,8 +80,8 @@ fn high_along(region: &[BoundChange], col: usize, bound: Bound) -> Bound
     high
 }
 
-/// Whether there are two bounds and they cross.
-fn is_crossed(low: &Bound, high: &Bound) -> bool
+/// Whether there are two bounds and they cross: no number is at least `low` and at most `high`.
+pub fn is_crossed(low: &Bound, high: &Bound) -> bool
     ensures { IsTrue result ↔ IsCrossed low.now high.now }
 {
     match low {

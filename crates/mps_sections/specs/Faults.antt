@@ -93,7 +93,7 @@ row_tests s e =
     ∷ (8, is_unknown_kind (row_kind (word 0 e)))
     -- a row name twice
     ∷ (9, is_known s (word 1 e))
-    -- the 501st row
+    -- the 1,001st row
     ∷ (10, has_sides (row_kind (word 0 e)) && nat_le (row_limit false) (length s.rows))
     ∷ []
 
@@ -139,7 +139,7 @@ place_tests s name found =
     (14, is_column s.columns name && not (is_last s.columns name))
     -- one row twice in one column, whose earlier lines are the last ones
     ∷ (15, has_twice found || (is_last s.columns name && has_again (numbers_of_last s.columns) found))
-    -- the 1,001st column
+    -- the 4,001st column
     ∷ (16, not (is_column s.columns name) && nat_le (col_limit false) (length s.columns))
     -- the 50,001st non-zero number beside a row with sides
     ∷ (17, nat_lt (entry_limit false) (s.count + length (coefficients_in s.rows (map read_pair found))))

@@ -15,7 +15,7 @@ ghost use Rattle.spared_leaves.specs.Spared.{IsCrossedIn};
 ghost use Rattle.spared_leaves.specs.private.Sums.{is_at, IsLeftOf};
 
 use frac128::{Frac, Wide};
-use lp_model::{Bound, BoundChange, ColId, CutRow, Model, Var, needed_side};
+use lp_model::{Bound, BoundChange, ColId, CutRow, Model, Var, is_crossed, needed_side};
 
 /// A model with its cuts.
 #[derive(Clone, Copy, Drop)]
@@ -68,19 +68,6 @@ fn term_of(terms: &[(ColId, Frac)], col: usize) -> Frac
         }
     }
     Frac::whole(0)
-}
-
-/// Whether there are two bounds and they cross.
-fn is_crossed(low: &Bound, high: &Bound) -> bool
-    ensures { IsTrue result ↔ IsCrossed low.now high.now }
-{
-    match low {
-        None => false,
-        Some(low) => match high {
-            None => false,
-            Some(high) => high.is_below(low),
-        },
-    }
 }
 
 /// Whether there is a bound and it is 0.

@@ -29,3 +29,10 @@ returns-clause-fit c =
     let items : length c.cols-col-items.result.now ≡ length cols = ap length c.cols-col-items.ensures.items in
     let past : length cols ≤ c.loop-index.index = omega arith in
     subst (All HasCostSum) (take_all c.loop-index.index cols past) c.loop-index.invariant.1
+
+pub returns-clause-sums : goal.returns-clause-sums
+returns-clause-sums c =
+    let cols : List Col = c.args.model.now.cols in
+    let items : length c.cols-col-items.result.now ≡ length cols = ap length c.cols-col-items.ensures.items in
+    let past : length cols ≤ c.loop-index.index = omega arith in
+    c.loop-index.invariant.0 ∙ ap (map sum) (take_all c.loop-index.index cols past)

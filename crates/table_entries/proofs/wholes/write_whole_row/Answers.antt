@@ -135,3 +135,24 @@ returns-then-in_place-eq0-clause-written c = λ t at less flag.
     let a = c.args in
     let d1 = short_read a.denominator c.requires.denominator in
     subst (λ d. WholeAt a.columns a.row a.place d a.numbers.now (whole_number_at c.write_scaled_row.new.next at) at) d1 (c.write_scaled_row.ensures.written t at less flag)
+
+pub write_scaled_row-requires-clause-positive : goal.write_scaled_row-requires-clause-positive
+write_scaled_row-requires-clause-positive c = positive_again c.args.denominator c.requires.denominator c.requires.positive
+
+pub write_scaled_row-requires-clause-denominator : goal.write_scaled_row-requires-clause-denominator
+write_scaled_row-requires-clause-denominator c = short_again c.args.denominator c.requires.denominator
+
+pub write_scaled_row-requires-clause-nothing : goal.write_scaled_row-requires-clause-nothing
+write_scaled_row-requires-clause-nothing c =
+    let numbers = c.args.numbers.now in
+    let q = c.flat_index-2.result in
+    let wq : q < length numbers = let w = c.flat_index-2.ensures.within in let e = c.requires.size in omega (arith, w, e) in
+    let read_q = short_read (whole_number_at numbers q) (c.requires.short q wq) in
+    let nothing : whole_number_at numbers q ≡ pos 0 = sym read_q ∙ ap (to_z w64) c.if-in_place-eq0.true in
+    sym (ap (whole_number_at numbers) c.flat_index-2.ensures.value) ∙ nothing
+
+pub write_scaled_row-requires-clause-earlier : goal.write_scaled_row-requires-clause-earlier
+write_scaled_row-requires-clause-earlier c = λ at less flag.
+    let a = c.args in
+    let d1 = short_read a.denominator c.requires.denominator in
+    subst (λ d. WholeAt a.columns a.row a.place d a.numbers.now (whole_number_at a.next.now at) at) (sym d1) (c.requires.earlier at less flag)

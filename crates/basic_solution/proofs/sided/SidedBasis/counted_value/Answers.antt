@@ -30,3 +30,6 @@ quotient-requires-clause-positive c = positive_again c.denominator-denominator.r
 
 pub quotient-requires-clause-denominator : goal.quotient-requires-clause-denominator
 quotient-requires-clause-denominator c = short_again c.denominator-denominator.result c.denominator-denominator.ensures.short
+
+pub standing_value-requires-clause-standing : goal.standing_value-requires-clause-standing
+standing_value-requires-clause-standing c = c.requires.standing.listed

@@ -51,3 +51,6 @@ total_breach-requires-clause-positive c = positive_again c.in-Some.denominator c
 
 pub total_breach-requires-clause-denominator : goal.total_breach-requires-clause-denominator
 total_breach-requires-clause-denominator c = short_again c.in-Some.denominator c.in-Some.ensures.short
+
+pub standing_value-requires-clause-standing : goal.standing_value-requires-clause-standing
+standing_value-requires-clause-standing c = c.requires.standing.listed
